@@ -1,0 +1,4 @@
+pub mod Cuts
+pub mod Decimals
+pub mod Headers
+pub mod Rows

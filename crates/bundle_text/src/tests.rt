@@ -1,0 +1,67 @@
+use super::*;
+use std::test::Fail;
+
+#[test]
+fn lines_and_their_words(rt: HostRuntime) -> Result<(), Fail> {
+    let text = b"%bundle 1\r\n\nfixed  osc\t5\r\n%regs 1\nlast\r";
+    let lines = TextLines::new(rt.alloc(), text)?;
+    assert_eq!(rt; lines.len(), 5);
+    assert!(rt; !lines.is_empty());
+    assert_eq!(rt; lines.line(0), b"%bundle 1".as_slice());
+    assert_eq!(rt; lines.line(1), b"".as_slice());
+    assert_eq!(rt; lines.line(4), b"last\r".as_slice());
+    assert_eq!(rt; lines.line(5), b"".as_slice());
+    assert_eq!(rt;
+        lines.words(rt.alloc(), 2)?.as_slice(),
+        ["fixed", "", "osc\t5"].as_slice()
+    );
+    assert!(rt; lines.next_header(1) == 3);
+    assert_eq!(rt; line_feeds(text), 4);
+    Ok(())
+}
+
+#[test]
+fn a_line_that_is_not_utf_8_has_no_words(rt: HostRuntime) -> Result<(), Fail> {
+    let lines = TextLines::new(rt.alloc(), b"a\xc3\nb\n")?;
+    assert_eq!(rt; lines.len(), 2);
+    assert_eq!(rt; lines.words(rt.alloc(), 0)?.len(), 0);
+    assert_eq!(rt; lines.words(rt.alloc(), 1)?.len(), 1);
+    Ok(())
+}
+
+#[test]
+fn numbers_are_decimal_and_bounded(rt: HostRuntime) {
+    for (most, word, wanted) in [
+        (31, "31", Some(31)),
+        (31, "32", None),
+        (31, "007", Some(7)),
+        (31, "", None),
+        (31, "+5", None),
+        (31, "0x5", None),
+        (u64::MAX, "18446744073709551615", Some(u64::MAX)),
+        (u64::MAX, "18446744073709551616", None),
+    ] {
+        assert_eq!(rt; number_up_to(most, word), wanted, "at {word}");
+    }
+    assert_eq!(rt; small_number_up_to(u32::MAX, "4294967295"), Some(u32::MAX));
+    assert_eq!(rt; small_number_up_to(u32::MAX, "4294967296"), None);
+}
+
+#[test]
+fn names_have_their_characters(rt: HostRuntime) {
+    for (word, clock, driver, variable, any) in [
+        ("osc24M", true, true, false, true),
+        ("%x#", true, false, false, true),
+        ("a_1", true, true, true, true),
+        ("boot", true, false, true, true),
+        ("1a-B", true, true, false, true),
+        ("", false, false, false, false),
+        ("a\tb", false, false, false, false),
+        ("é", false, false, false, true),
+    ] {
+        assert_eq!(rt; is_clock_name(word), clock, "clock {word}");
+        assert_eq!(rt; is_driver_name(word), driver, "driver {word}");
+        assert_eq!(rt; is_variable(word), variable, "variable {word}");
+        assert_eq!(rt; is_word(word), any, "word {word}");
+    }
+}

@@ -1,0 +1,155 @@
+ghost use Rattle.std.specs.Prelude.{◌≡◌, ◌==◌, ◌+◌, ◌<◌, ◌≤◌, length, take, position, count_by, IfOk};
+ghost use Rattle.std.specs.List.{slice_split};
+ghost use Rattle.std.specs.Str.Lines.{lines, strip_carriage_return};
+ghost use Rattle.bundle_text.specs.Lines.{line_at, is_header, header_from};
+ghost use Rattle.bundle_text.specs.Words.{texts, spaced_words};
+
+use clk_io::NoMemory;
+use std::alloc::{AllocError, Global};
+use std::marker::Model;
+
+/// The lines of a text, in order, seen by contracts as the list of their bytes.
+#[derive(Drop)]
+pub struct TextLines<'a> {
+    lines: Vec<&'a [u8]>,
+}
+
+impl<'a> Model for TextLines<'a> {
+    ghost use Rattle.std.specs.Prelude.{List, ℕ};
+    ghost use Rattle.bundle_text.specs.Words.{texts};
+
+    ghost Value = { List (List ℕ) };
+
+    ghost view = { λ ls. texts ls.lines.items };
+}
+
+/// Where the first line feed stands.
+fn feed_at(bytes: &[u8]) -> Option<usize>
+    ensures { result ≡ position (λ b. b == 10) bytes.now }
+{
+    bytes.iter().position(|byte| *byte == b'\n')
+}
+
+/// A line without the carriage return at its end, if it has one.
+fn without_return(line: &[u8]) -> &[u8]
+    ensures { result.now ≡ strip_carriage_return line.now }
+{
+    match line {
+        [front @ .., b'\r'] => front,
+        _ => line,
+    }
+}
+
+/// The line begins with `%`.
+fn begins_section(line: &[u8]) -> bool
+    ensures { result ≡ is_header line.now }
+{
+    match line {
+        [b'%', ..] => true,
+        _ => false,
+    }
+}
+
+/// The parts of a text between single spaces.
+fn parts_of(alloc: Global, text: &str) -> Result<Vec<&str>, AllocError>
+    ensures { IfOk result (λ parts. texts parts.items ≡ slice_split (λ b. b == 32) text.now) }
+{
+    text.split(' ').collect(alloc)
+}
+
+/// The parts of a line between single spaces, or none where the line isn't UTF-8.
+#[tactic(auto, unfolding(crate::specs::Words::spaced_words))]
+fn words_of<'a>(alloc: Global, line: &'a [u8]) -> Result<Vec<&'a str>, NoMemory>
+    ensures { IfOk result (λ words. texts words.items ≡ spaced_words line.now) }
+{
+    let Ok(text) = str::from_utf8(line) else {
+        return Ok(Vec::new(alloc));
+    };
+    Ok(parts_of(alloc, text)?)
+}
+
+/// How many line feeds the text has.
+pub fn line_feeds(bytes: &[u8]) -> usize
+    ensures count { result ≡ count_by (λ b. b == 10) bytes.now }
+    ensures few { result ≤ length bytes.now }
+{
+    bytes.iter().filter(|byte| **byte == b'\n').count()
+}
+
+impl<'a> TextLines<'a> {
+    /// The lines of the bytes. A carriage return before a line feed is dropped, and the last line
+    /// may lack its line feed.
+    pub fn new(alloc: Global, bytes: &'a [u8]) -> Result<TextLines<'a>, NoMemory>
+        ensures lines { IfOk result (λ ls. ls ≡ lines bytes.now) }
+        ensures few { IfOk result (λ ls. length ls ≤ length bytes.now) }
+    {
+        let lines = lines_of(alloc, bytes)?;
+        Ok(TextLines { lines })
+    }
+
+    /// How many lines there are.
+    pub fn len(&self) -> usize
+        ensures { result ≡ length self.now }
+    {
+        self.lines.len()
+    }
+
+    /// No line is there.
+    pub fn is_empty(&self) -> bool
+        ensures { result ≡ (length self.now == 0) }
+    {
+        self.lines.is_empty()
+    }
+
+    /// The line at a place; there is nothing on a line past the last.
+    pub fn line(&self, at: usize) -> &'a [u8]
+        ensures { result.now ≡ line_at self.now at }
+    {
+        match self.lines.get(at) {
+            Some(line) => line,
+            None => &[],
+        }
+    }
+
+    /// The words of the line at a place, separated by single spaces. A line that isn't UTF-8 has
+    /// none.
+    pub fn words(&self, alloc: Global, at: usize) -> Result<Vec<&'a str>, NoMemory>
+        ensures { IfOk result (λ words. texts words.items ≡ spaced_words (line_at self.now at)) }
+    {
+        words_of(alloc, self.line(at))
+    }
+
+    /// The place of the first header at this place or behind it, else the number of lines.
+    pub fn next_header(&self, from: usize) -> usize
+        requires { from ≤ length self.now }
+        ensures at { result ≡ header_from self.now from }
+        ensures bound { result ≤ length self.now }
+        ensures behind { from ≤ result }
+    {
+        let len = self.len();
+        for at in from..len {
+            if begins_section(self.line(at)) {
+                return at;
+            }
+        }
+        len
+    }
+}
+
+/// The lines of the bytes, one after another.
+fn lines_of(alloc: Global, bytes: &[u8]) -> Result<Vec<&[u8]>, NoMemory>
+    ensures lines { IfOk result (λ found. texts found.items ≡ lines bytes.now) }
+    ensures few { IfOk result (λ found. length found.items ≤ length bytes.now) }
+{
+    let mut found = Vec::new(alloc);
+    let mut rest = bytes;
+    while let Some(at) = feed_at(rest) {
+        found.push(without_return(&rest[..at]))?;
+        rest = &rest[at + 1..];
+    }
+    if rest.is_empty() {
+        return Ok(found);
+    }
+    found.push(rest)?;
+    Ok(found)
+}

@@ -1,0 +1,9 @@
+pub mod Bits
+pub mod Kept
+pub mod Lines
+pub mod Names
+pub mod PlainKinds
+pub mod PlainLines
+pub mod Pushed
+pub mod Shares
+pub mod Valid

@@ -1,0 +1,191 @@
+-- What a valid description promises: parents in it, lines that end, fields in the bank that share no
+-- bit, and names that differ.
+use Rattle.std.proofs.Common.{◌≡◌, ℕ, ◌+◌, ◌<◌, ◌≤◌, true, false, List, [], ◌∷◌, length, Some, refl, ap, sym, ◌∙◌, inl, inr, arith}
+use Rattle.std.specs.Prelude.{◌==◌, nat_lt, slice_get}
+use Rattle.std.specs.List.{list_all, list_any}
+use Rattle.std.proofs.lemmas.Bool.{false≢true, both_ways, cases_lt, cases_order, and_parts, and_from, ltb-true, leb-true, eqb-true, lt-ltb, eq-eqb}
+use Rattle.std.proofs.lemmas.List.{get_or_past}
+use Rattle.std.proofs.lemmas.Option.{none-some, same_Some}
+use Rattle.clk_base.specs.declared.clock.ClockDef.{ClockDef}
+use Rattle.clk_base.specs.declared.clock.Kind.{Kind}
+use Rattle.clk_base.specs.declared.clock.Kind.TheVariants.{FixedRate, Factor, Gate, Mux, Divider, Pll}
+use Rattle.clk_base.specs.declared.fault.DescFault.{DescFault}
+use Rattle.clk_base.specs.declared.fault.DescFault.TheVariants as faults
+use Rattle.clk_base.specs.Checked.{IsFault, IsRefusal}
+use Rattle.clk_base.specs.Description.{Description, nobody, kind_of, parents_of}
+use Rattle.clk_base.specs.Fields.{Field, GateBit, PowerBit, gate_of, power_of, field_of, fields_of, bit_field, is_in_bank, share_bit}
+use Rattle.clk_base.specs.Levels.{depth, ends_within, reaches_within}
+use Rattle.clk_base.specs.Plain.{IsPlain}
+use Rattle.clk_base.specs.Valid.{Rule, counts, ranges, bank, apart, acyclic, levels, bounded, can_have_parents, IsValid, IsFirstBroken}
+use Rattle.clk_base.proofs.Lines.{passes_among, not_own_ancestor}
+use Rattle.clk_base.proofs.Shares.{passes_at, some_passes, passes_before, apart_at, apart_own, share_bit-sym}
+
+-- ## Counts and parents
+
+-- a valid description has at most 4,096 clocks
+pub length-valid : (words : ℕ) (defs : Description) → IsValid words defs → length defs ≤ 4096
+length-valid words defs valid =
+    elim (cases_lt 4096 (length defs)) [
+      | inl many ↦ absurd (false≢true (valid.rules counts 4096 many))
+      | inr few ↦ few
+    ]
+
+-- a clock has at most 64 possible parents
+pub parents-few : (words : ℕ) (defs : Description) → IsValid words defs → (c : ℕ) → c < length defs → length (parents_of defs c) ≤ 64
+parents-few words defs valid c lt = leb-true _ 64 (and_parts _ _ (valid.rules counts c lt)).1
+
+-- each possible parent is a clock of the description
+pub parents-within : (words : ℕ) (defs : Description) → IsValid words defs → (c p : ℕ) → c < length defs → list_any (λ q. q == p) (parents_of defs c) ≡ true → p < length defs
+parents-within words defs valid c p lt parent =
+    ltb-true p (length defs) (passes_among (λ q. nat_lt q (length defs)) (parents_of defs c) p (and_parts _ _ (valid.parents c lt)).1 parent)
+
+-- the parent at a place of the list
+pub parent-at : (words : ℕ) (defs : Description) → IsValid words defs → (c k p : ℕ) → c < length defs → slice_get (parents_of defs c) k ≡ Some p → p < length defs
+parent-at words defs valid c k p lt at =
+    ltb-true p (length defs) (passes_at (λ q. nat_lt q (length defs)) (parents_of defs c) k p (and_parts _ _ (valid.parents c lt)).1 at)
+
+none_of : (xs : List ℕ) → length xs ≡ 0 → xs ≡ []
+none_of [] e = refl
+none_of (x ∷ xs) e = absurd (omega arith)
+
+single : (xs : List ℕ) → length xs ≡ 1 → (x : ℕ) × (xs ≡ x ∷ [])
+single [] e = absurd (omega arith)
+single (x ∷ []) e = (x, refl)
+single (x ∷ y ∷ xs) e = absurd (omega arith)
+
+-- a fixed clock has no parent
+pub fixed-parents : (words : ℕ) (defs : Description) → IsValid words defs → (c rate : ℕ) → c < length defs → kind_of defs c ≡ FixedRate rate → parents_of defs c ≡ []
+fixed-parents words defs valid c rate lt kind =
+    let fits : can_have_parents (FixedRate rate) (length (parents_of defs c)) ≡ true =
+    ap (λ k. can_have_parents k (length (parents_of defs c))) (sym kind) ∙ (and_parts _ _ (valid.parents c lt)).0 in
+    none_of (parents_of defs c) (eqb-true _ 0 fits)
+
+gate-single : (kind : Kind) (gate : GateBit) (parents : ℕ) → gate_of kind ≡ Some gate → can_have_parents kind parents ≡ true → parents ≡ 1
+gate-single (FixedRate rate) gate parents at fits = absurd (none-some gate at)
+gate-single (Factor mult div) gate parents at fits = absurd (none-some gate at)
+gate-single (Gate word bit set_to_disable) gate parents at fits = eqb-true parents 1 fits
+gate-single (Mux word shift width read_only) gate parents at fits = absurd (none-some gate at)
+gate-single (Divider word shift width one_based power_of_two) gate parents at fits = absurd (none-some gate at)
+gate-single (Pll word shift width power_word power_bit least most m) gate parents at fits = absurd (none-some gate at)
+
+-- a gate has one parent
+pub gate-parent : (words : ℕ) (defs : Description) → IsValid words defs → (c : ℕ) (gate : GateBit) → c < length defs → gate_of (kind_of defs c) ≡ Some gate → (p : ℕ) × (parents_of defs c ≡ p ∷ []) × (p < length defs)
+gate-parent words defs valid c gate lt at =
+    let is = and_parts _ _ (valid.parents c lt) in
+    let one = single (parents_of defs c) (gate-single (kind_of defs c) gate (length (parents_of defs c)) at is.0) in
+    (one.0, one.1, parent-at words defs valid c 0 one.0 lt (ap (λ ps. slice_get ps 0) one.1))
+
+-- ## Lines of possible parents
+
+-- following possible parents ends within `depth` levels
+pub lines_end : (words : ℕ) (defs : Description) → IsValid words defs → (c : ℕ) → ends_within (parents_of defs) depth c ≡ true
+unfolding depth
+lines_end words defs valid c =
+    elim (cases_lt c (length defs)) [
+      | inl inside ↦ valid.rules levels c inside
+      | inr outside ↦ ap (λ (d : ClockDef). list_all (ends_within (parents_of defs) 63) d.parents) (get_or_past defs c nobody outside)
+    ]
+
+-- no clock is among its own possible ancestors, however far up
+pub no_cycle : (words : ℕ) (defs : Description) → IsValid words defs → (c steps : ℕ) → reaches_within (parents_of defs) steps c c ≡ false
+no_cycle words defs valid c steps = not_own_ancestor (parents_of defs) depth c steps (lines_end words defs valid c)
+
+-- ## Fields
+
+-- the gate's bit, the power bit and the field stand among the fields of a kind
+pub gate-field : (kind : Kind) (gate : GateBit) → gate_of kind ≡ Some gate → slice_get (fields_of kind) 0 ≡ Some (bit_field gate.word gate.bit)
+gate-field (FixedRate rate) gate at = absurd (none-some gate at)
+gate-field (Factor mult div) gate at = absurd (none-some gate at)
+gate-field (Gate word bit set_to_disable) gate at = ap (λ g. Some (bit_field g.word g.bit)) (same_Some _ gate at)
+gate-field (Mux word shift width read_only) gate at = absurd (none-some gate at)
+gate-field (Divider word shift width one_based power_of_two) gate at = absurd (none-some gate at)
+gate-field (Pll word shift width power_word power_bit least most m) gate at = absurd (none-some gate at)
+
+pub power-field : (kind : Kind) (power : PowerBit) → power_of kind ≡ Some power → slice_get (fields_of kind) 1 ≡ Some (bit_field power.word power.bit)
+power-field (FixedRate rate) power at = absurd (none-some power at)
+power-field (Factor mult div) power at = absurd (none-some power at)
+power-field (Gate word bit set_to_disable) power at = absurd (none-some power at)
+power-field (Mux word shift width read_only) power at = absurd (none-some power at)
+power-field (Divider word shift width one_based power_of_two) power at = absurd (none-some power at)
+power-field (Pll word shift width power_word power_bit least most m) power at = ap (λ p. Some (bit_field p.word p.bit)) (same_Some _ power at)
+
+pub field-field : (kind : Kind) (f : Field) → field_of kind ≡ Some f → slice_get (fields_of kind) 0 ≡ Some f
+field-field (FixedRate rate) f at = absurd (none-some f at)
+field-field (Factor mult div) f at = absurd (none-some f at)
+field-field (Gate word bit set_to_disable) f at = absurd (none-some f at)
+field-field (Mux word shift width read_only) f at = at
+field-field (Divider word shift width one_based power_of_two) f at = at
+field-field (Pll word shift width power_word power_bit least most m) f at = at
+
+-- each field lies in the bank
+pub fields-within : (words : ℕ) (defs : Description) → IsValid words defs → (c j : ℕ) (f : Field) → c < length defs → slice_get (fields_of (kind_of defs c)) j ≡ Some f → (f.word < words) × (f.shift + f.width ≤ 32)
+fields-within words defs valid c j f lt at =
+    let is = and_parts _ _ (passes_at (is_in_bank words) (fields_of (kind_of defs c)) j f (valid.rules bank c lt) at) in
+    (ltb-true f.word words is.0, leb-true (f.shift + f.width) 32 is.1)
+
+-- a gate's word is in the bank, and its bit in the word
+pub gate-within : (words : ℕ) (defs : Description) → IsValid words defs → (c : ℕ) (gate : GateBit) → c < length defs → gate_of (kind_of defs c) ≡ Some gate → (gate.word < words) × (gate.bit < 32)
+gate-within words defs valid c gate lt at =
+    let is = fields-within words defs valid c 0 (bit_field gate.word gate.bit) lt (gate-field (kind_of defs c) gate at) in
+    (is.0, (let le : gate.bit + 1 ≤ 32 = is.1 in omega arith))
+
+-- so is a power bit
+pub power-within : (words : ℕ) (defs : Description) → IsValid words defs → (c : ℕ) (power : PowerBit) → c < length defs → power_of (kind_of defs c) ≡ Some power → (power.word < words) × (power.bit < 32)
+power-within words defs valid c power lt at =
+    let is = fields-within words defs valid c 1 (bit_field power.word power.bit) lt (power-field (kind_of defs c) power at) in
+    (is.0, (let le : power.bit + 1 ≤ 32 = is.1 in omega arith))
+
+earlier_apart : (words : ℕ) (defs : Description) → IsValid words defs → (a b i j : ℕ) (f g : Field) → a < b → b < length defs → slice_get (fields_of (kind_of defs a)) i ≡ Some f → slice_get (fields_of (kind_of defs b)) j ≡ Some g → share_bit g f ≡ true → ⊥
+earlier_apart words defs valid a b i j f g lt inside first second shared =
+    let free = apart_at _ (fields_of (kind_of defs b)) j g (valid.rules apart b inside) second in
+    both_ways _ free (passes_before (share_bit g) defs a b lt (omega arith) (some_passes (share_bit g) (fields_of (kind_of defs a)) i f first shared))
+
+-- two fields that share a bit are fields of one clock
+pub fields-once : (words : ℕ) (defs : Description) → IsValid words defs → (a b i j : ℕ) (f g : Field) → a < length defs → b < length defs → slice_get (fields_of (kind_of defs a)) i ≡ Some f → slice_get (fields_of (kind_of defs b)) j ≡ Some g → share_bit f g ≡ true → a ≡ b
+fields-once words defs valid a b i j f g ha hb first second shared =
+    elim (cases_order a b) [
+      | inl same ↦ same
+      | inr differ ↦ elim differ [
+        | inl below ↦ absurd (earlier_apart words defs valid a b i j f g below hb first second (share_bit-sym g f ∙ shared))
+        | inr above ↦ absurd (earlier_apart words defs valid b a j i g f above ha second first shared)
+      ]
+    ]
+
+-- two fields of one clock share no bit
+pub fields-own : (words : ℕ) (defs : Description) → IsValid words defs → (c i j : ℕ) (f g : Field) → c < length defs → i < j → slice_get (fields_of (kind_of defs c)) i ≡ Some f → slice_get (fields_of (kind_of defs c)) j ≡ Some g → share_bit g f ≡ false
+fields-own words defs valid c i j f g lt order first second =
+    apart_own _ (fields_of (kind_of defs c)) i j f g (valid.rules apart c lt) order first second
+
+-- two gates at one bit are one clock
+pub gates-once : (words : ℕ) (defs : Description) → IsValid words defs → (a b : ℕ) (g h : GateBit) → a < length defs → b < length defs → gate_of (kind_of defs a) ≡ Some g → gate_of (kind_of defs b) ≡ Some h → g.word ≡ h.word → g.bit ≡ h.bit → a ≡ b
+gates-once words defs valid a b g h ha hb first second word bit =
+    fields-once words defs valid a b 0 0 (bit_field g.word g.bit) (bit_field h.word h.bit) ha hb (gate-field (kind_of defs a) g first) (gate-field (kind_of defs b) h second)
+    (and_from _ _ (eq-eqb g.word h.word word) (lt-ltb _ _ (omega arith)))
+
+-- ## Refusals
+
+broken : (words : ℕ) (defs : Description) (rule : Rule) (c : ℕ) → IsValid words defs → IsFirstBroken words defs rule c → ⊥
+broken words defs rule c valid first = both_ways _ first.clock.fails (valid.rules rule c first.clock.within)
+
+-- a valid description has no fault
+pub valid-no_fault : (words : ℕ) (defs : Description) (fault : DescFault) → IsValid words defs → IsFault words defs fault → ⊥
+valid-no_fault words defs (faults.TooMany c) valid (inl first) = broken words defs counts c.0 valid first
+valid-no_fault words defs (faults.TooMany c) valid (inr first) = broken words defs levels c.0 valid first
+valid-no_fault words defs (faults.BadRange c) valid first = broken words defs ranges c.0 valid first
+valid-no_fault words defs (faults.FieldOutOfBank c) valid first = broken words defs bank c.0 valid first
+valid-no_fault words defs (faults.FieldOverlap c) valid first = broken words defs apart c.0 valid first
+valid-no_fault words defs (faults.Cycle c) valid first = broken words defs acyclic c.0 valid first
+valid-no_fault words defs (faults.TooMuchWork c) valid first = broken words defs bounded c.0 valid first
+valid-no_fault words defs (faults.NotYet c) valid first = first
+valid-no_fault words defs faults.NoMemory valid first = first
+
+-- a plain, valid description is refused for want of memory alone
+pub refusal-valid : (words : ℕ) (defs : Description) (fault : DescFault) → IsPlain defs → IsValid words defs → IsRefusal words defs fault → fault ≡ faults.NoMemory
+refusal-valid words defs (faults.TooMany c) plain valid why = absurd (valid-no_fault words defs (faults.TooMany c) valid why.1)
+refusal-valid words defs (faults.BadRange c) plain valid why = absurd (valid-no_fault words defs (faults.BadRange c) valid why.1)
+refusal-valid words defs (faults.FieldOutOfBank c) plain valid why = absurd (valid-no_fault words defs (faults.FieldOutOfBank c) valid why.1)
+refusal-valid words defs (faults.FieldOverlap c) plain valid why = absurd (valid-no_fault words defs (faults.FieldOverlap c) valid why.1)
+refusal-valid words defs (faults.Cycle c) plain valid why = absurd (valid-no_fault words defs (faults.Cycle c) valid why.1)
+refusal-valid words defs (faults.TooMuchWork c) plain valid why = absurd (valid-no_fault words defs (faults.TooMuchWork c) valid why.1)
+refusal-valid words defs (faults.NotYet c) plain valid why = absurd (both_ways _ why.fails (plain c.0 why.within))
+refusal-valid words defs faults.NoMemory plain valid why = refl

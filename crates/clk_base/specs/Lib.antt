@@ -1,0 +1,11 @@
+pub mod Places
+pub mod Description
+pub mod Flags
+pub mod Fields
+pub mod Levels
+pub mod Work
+pub mod Valid
+pub mod Plain
+pub mod Checked
+pub mod Named
+pub mod Examples

@@ -1,0 +1,2 @@
+-- The text of the program is the text of the definition.
+pub mod UsageText

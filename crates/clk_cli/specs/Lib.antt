@@ -1,0 +1,3 @@
+-- What the words of the command line mean, and the line that answers words that mean nothing.
+pub mod Usage
+pub mod Meaning

@@ -1,0 +1,18 @@
+-- What the words behind the program's name mean.
+use Rattle.std.specs.Prelude.{ℕ, List, [], ◌∷◌, Option, Some, None, false, map, codes, if◌then◌else◌}
+use Rattle.std.specs.Borrow.{Bor}
+use Rattle.std.specs.Str.{bytes_eq}
+use Rattle.clk_cli.specs.declared.cli.Cli.{Cli}
+use Rattle.clk_cli.specs.declared.cli.Mode.TheVariants.{Sim}
+
+-- the words' bytes
+abbrev pub texts : List (Bor (List ℕ)) → List (List ℕ)
+texts words = map (λ word. word.now) words
+
+-- what the words mean, or none where they mean nothing: the word `sim` alone is the mode of this name
+unfoldable pub meaning : List (List ℕ) → Option Cli
+meaning (word ∷ []) =
+    if bytes_eq word (codes "sim")
+    then Some (record { mode = Sim; journal = false; ignore_unused = false })
+    else None
+meaning _ = None

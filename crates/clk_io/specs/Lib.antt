@@ -1,0 +1,4 @@
+pub mod Causes
+pub mod Streams
+pub mod Prints
+pub mod Memory

@@ -1,0 +1,30 @@
+//! Where bytes come from, where they go, and what each fault on the way is caused by.
+//!
+//! A [`Source`] gives bytes and a [`Sink`] takes them. To contracts a source is the bytes that are
+//! left in it, where it tells them, and a count of its faults; a sink is the bytes that were
+//! written, where it tells them, and a count of its faults. `read_all` and `write_all` are the two
+//! loops over them. Printers above promise what they wrote in the words of `specs/Prints.antt`.
+#![tactic(auto)]
+
+mod faults;
+mod mem_sink;
+mod mem_source;
+mod reading;
+mod sinks;
+mod sources;
+mod std_in;
+mod std_out;
+mod writing;
+
+pub use faults::{Failed, NoMemory, PrintFault, ReadFault, WriteFault};
+pub use mem_sink::MemSink;
+pub use mem_source::MemSource;
+pub use reading::{MOST_BYTES, read_all};
+pub use sinks::Sink;
+pub use sources::Source;
+pub use std_in::StdIn;
+pub use std_out::StdOut;
+pub use writing::write_all;
+
+#[cfg(test)]
+mod tests;

@@ -1,0 +1,112 @@
+-- Entering an event that the machine has taken into the journal.
+use Rattle.std.proofs.Common.{◌≡◌, ℕ, zero, suc, ◌+◌, ◌<◌, ◌&&◌, ◌||◌, Bool, true, false, cond, List, [], ◌∷◌, ◌++◌, Option, Some, None, refl, sym, ap, subst, ◌∙◌, arith, length}
+use Rattle.std.proofs.lemmas.List.Sums.{sum_by-append}
+use Rattle.std.specs.List.{list_any, list_all}
+use Rattle.clk_base.specs.declared.call.Sleeping.{Sleeping}
+use Rattle.clk_base.specs.declared.call.Sleeping.TheVariants as call
+use Rattle.std.proofs.lemmas.List.Folds.{list_any-append}
+use Rattle.clk_base.specs.declared.event.Entry.{Entry}
+use Rattle.clk_base.specs.declared.event.Event.{Event}
+use Rattle.clk_base.specs.declared.event.Event.TheVariants as event
+use Rattle.clk_base.specs.declared.event.Reply.{Reply}
+use Rattle.clk_base.specs.declared.event.Turn.{Turn}
+use Rattle.clk_base.specs.declared.event.Turn.TheVariants as turn
+use Rattle.clk_base.specs.Description.{Description, parents_of}
+use Rattle.clk_model.specs.State.{State, registered}
+use Rattle.clk_model.specs.Machine.{next}
+use Rattle.clk_model.specs.Journal.{slotless, replay, Legal, opening, is_paid, cost}
+use Rattle.clk_model.proofs.JournalLaws.{replay-append, Legal-append}
+use Rattle.clk_machine.specs.Held.{Held, Stays, registers, Takes, CanBegin}
+use Rattle.clk_machine.specs.Run.{Run, now_of, is_built, was_probed, Logged, start_of, IsRun, Appends}
+
+-- a paid entry more costs one more
+cost-append : (journal : List Entry) (e : Entry) → is_paid e.event ≡ true → cost (journal ++ e ∷ []) ≡ cost journal + 1
+cost-append journal e paid =
+    sum_by-append (λ f. cond (is_paid f.event) 1 0) journal (e ∷ []) ∙ ap (λ (n : ℕ). cost journal + n) (ap (λ (b : Bool). 0 + cond b 1 0) paid)
+
+-- the opening is that of what stays
+start_stays : (old new : Held) (words : List ℕ) → Stays old.state new.state → start_of new words ≡ start_of old words
+start_stays old new words stays =
+    ap (λ (d : Description). opening d words new.state.ignore_unused new.state.credits) stays.defs
+    ∙ ap (λ (b : Bool). opening old.state.defs words b new.state.credits) stays.ignore_unused
+    ∙ ap (λ (n : ℕ). opening old.state.defs words old.state.ignore_unused n) stays.credits
+
+-- the entry of an event
+abbrev pub entry_of : ℕ → Event → Reply → Entry
+entry_of d e r = record { driver = d; event = e; turn = turn.Done r }
+
+or_none : (a : Bool) → (a || false) ≡ a
+or_none true = refl
+or_none false = refl
+
+-- a core keeps what it keeps when an event is taken and entered
+pub entered : (old new : Held) (words : List ℕ) (log log' : Logged) (d : ℕ) (e : Event) (r : Reply) → IsRun old words log → Takes old d e r new → is_paid e ≡ true
+    → log'.entries ≡ log.entries ++ entry_of d e r ∷ [] → log'.room + 1 ≡ log.room
+    → IsRun new words log'
+entered old new words log log' d e r run takes paid entries room =
+    let same = start_stays old new words takes.stays in
+    let step : old.told ≡ true → next (replay (start_of new words) log.entries) d e ≡ Some (new.state, slotless (turn.Done r)) =
+      (λ told. ap (λ (s : State). next (replay s log.entries) d e) same ∙ ap (λ (s : State). next s d e) (run.stands told) ∙ takes.step told) in
+    record {
+      stands = λ told.
+        let was : old.told ≡ true = sym takes.told ∙ told in
+        ap (replay (start_of new words)) entries ∙ replay-append (start_of new words) new.state (slotless (turn.Done r)) log.entries (entry_of d e r) (step was);
+      legal = λ told.
+        let was : old.told ≡ true = sym takes.told ∙ told in
+        subst (λ (j : List Entry). Legal (start_of new words) j) (sym entries)
+          (Legal-append (start_of new words) new.state log.entries (entry_of d e r) (subst (λ (s : State). Legal s log.entries) (sym same) (run.legal was)) (step was));
+      spent = ap cost entries ∙ cost-append log.entries (entry_of d e r) paid ∙ ap (λ (n : ℕ). n + 1) run.spent ∙ sym takes.spent;
+      room = let was = run.room in let more = takes.spent in let credits = takes.stays.credits in omega arith;
+      size = takes.size ∙ run.size;
+      probed = λ c.
+        takes.registered_ c ∙ ap (λ (b : Bool). b || registers e c) (run.probed c)
+        ∙ ap (λ (b : Bool). was_probed log.entries c || b) (sym (or_none (registers e c)))
+        ∙ sym (ap (λ (j : List Entry). was_probed j c) entries ∙ list_any-append (λ f. registers f.event c) log.entries (entry_of d e r ∷ [])) }
+
+-- and then the entry was appended
+pub appended : (old new : Held) (words : List ℕ) (log log' : Logged) (d : ℕ) (e : Event) (r : Reply) → IsRun old words log → Takes old d e r new → is_paid e ≡ true
+    → log'.entries ≡ log.entries ++ entry_of d e r ∷ [] → log'.room + 1 ≡ log.room
+    → Appends (record { start = start_of old words; journal = log.entries; told = old.told }) d e (turn.Done r)
+        (record { start = start_of new words; journal = log'.entries; told = new.told })
+appended old new words log log' d e r run takes paid entries room =
+    let after = entered old new words log log' d e r run takes paid entries room in
+    record {
+      start = start_stays old new words takes.stays;
+      told = takes.told;
+      entry = entries;
+      step = λ told.
+        ap (λ (s : State). next s d e) (run.stands told) ∙ takes.step told
+        ∙ ap (λ (s : State). let x : State × Turn = (s, slotless (turn.Done r)) in Some x) (sym (after.stands (takes.told ∙ told)));
+      legal = λ told. after.legal (takes.told ∙ told) }
+
+-- there is room for the entry of an event that can be paid for
+pub has_room : (m : Held) (words : List ℕ) (log : Logged) → IsRun m words log → m.state.spent < m.state.credits → 0 < log.room
+has_room m words log run left = let room = run.room in omega arith
+
+-- ---- which calls can begin
+
+list_all-agree : (p q : ℕ → Bool) (xs : List ℕ) → ((x : ℕ) → p x ≡ q x) → list_all p xs ≡ list_all q xs
+list_all-agree p q [] same = refl
+list_all-agree p q (x ∷ xs) same = ap (λ (b : Bool). b && list_all p xs) (same x) ∙ ap (λ (b : Bool). q x && b) (list_all-agree p q xs same)
+
+-- a clock is registered where it was probed, so a call that is built can begin
+pub can_begin : (m : Held) (words : List ℕ) (log : Logged) (what : Sleeping) → IsRun m words log
+    → is_built (record { start = start_of m words; journal = log.entries; told = m.told }) what ≡ true → CanBegin m.state what
+can_begin m words log (call.Get found) run built = tt
+can_begin m words log (call.Prepare h) run built = tt
+can_begin m words log (call.GetRate h) run built = tt
+can_begin m words log (call.Probe c) run built =
+    list_all-agree (registered m.state.clocks) (was_probed log.entries) (parents_of m.state.defs c.0) run.probed ∙ built
+can_begin m words log (call.Put h) run built = absurd cc
+can_begin m words log (call.Unprepare h) run built = absurd cc
+can_begin m words log (call.RoundRate h x) run built = absurd cc
+can_begin m words log (call.SetRate h x) run built = absurd cc
+can_begin m words log (call.SetRateExclusive h x) run built = absurd cc
+can_begin m words log (call.SetRange h least most) run built = absurd cc
+can_begin m words log (call.SetParent h p) run built = absurd cc
+can_begin m words log (call.GetParent h) run built = absurd cc
+can_begin m words log (call.ExclusiveGet h) run built = absurd cc
+can_begin m words log (call.ExclusivePut h) run built = absurd cc
+can_begin m words log (call.NotifierAdd h id priority policy) run built = absurd cc
+can_begin m words log (call.NotifierRemove h id) run built = absurd cc
+can_begin m words log call.Sweep run built = absurd cc

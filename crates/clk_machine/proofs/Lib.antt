@@ -1,0 +1,9 @@
+pub mod WindowLaws
+pub mod Opening
+pub mod Opened
+pub mod Shapes
+pub mod Taking
+pub mod Enabling
+pub mod Registering
+pub mod RegisteredShape
+pub mod Entering

@@ -1,0 +1,46 @@
+-- Laws on the first words of a bank.
+use Rattle.std.proofs.Common.{◌≡◌, ℕ, zero, suc, ◌+◌, ◌<◌, ◌≤◌, ◌^◌, Bool, List, [], ◌∷◌, Option, Some, None, refl, sym, ap, ◌∙◌, arith, length, take, set, get_or, inl, inr}
+use Rattle.std.specs.Prelude.{IfSome, slice_index, slice_set, ◌==◌, if◌then◌else◌}
+use Rattle.std.specs.Option.{option_map}
+use Rattle.std.specs.List.{All}
+use Rattle.std.proofs.lemmas.Bool.{cases_lt}
+use Rattle.std.proofs.lemmas.List.{get_or-take, length-take, set_past}
+use Rattle.reg_bank.specs.Registers.{Registers, AreWords, bits_of, with_bits, field, put, is_set, put_bit}
+use Rattle.reg_bank.proofs.BitLaws.{length-put_bit, AreWords-put_bit}
+use Rattle.clk_machine.specs.Window.{AreTold}
+
+take_set : (n : ℕ) (words : List ℕ) (i value : ℕ) → take n (set words i value) ≡ set (take n words) i value
+take_set zero words i value = refl
+take_set (suc n) [] i value = refl
+take_set (suc n) (w ∷ words) zero value = refl
+take_set (suc n) (w ∷ words) (suc i) value = ap (λ (ws : List ℕ). w ∷ ws) (take_set n words i value)
+
+-- a bit of the first words is that of all words
+pub is_set-take : (n : ℕ) (words : Registers) (word bit : ℕ) → word < n → is_set (take n words) word bit ≡ is_set words word bit
+unfolding is_set field
+is_set-take n words word bit within = ap (λ (value : ℕ). bits_of value bit 1 == 1) (get_or-take n words word 0 within)
+
+-- putting a bit of the first words puts that of all words
+pub put_bit-take : (n : ℕ) (words : Registers) (word bit : ℕ) (value : Bool) → word < n → put_bit (take n words) word bit value ≡ take n (put_bit words word bit value)
+unfolding put_bit put
+put_bit-take n words word bit value within =
+    ap (λ (old : ℕ). set (take n words) word (with_bits old bit 1 (if value then 1 else 0))) (get_or-take n words word 0 within)
+    ∙ sym (take_set n words word _)
+
+-- where the words are told, so is the bit
+pub told_bit : (n : ℕ) (told : Option (List ℕ)) (word bit : ℕ) (answer : Bool) → word < n → IfSome told (λ words. answer ≡ is_set words word bit)
+    → IfSome (option_map (take n) told) (λ words. answer ≡ is_set words word bit)
+told_bit n None word bit answer within h = tt
+told_bit n (Some words) word bit answer within h = h ∙ sym (is_set-take n words word bit within)
+
+pub told_put : (n : ℕ) (told new : Option (List ℕ)) (word bit : ℕ) (value : Bool) → word < n → new ≡ option_map (λ words. put_bit words word bit value) told
+    → option_map (take n) new ≡ option_map (λ words. put_bit words word bit value) (option_map (take n) told)
+told_put n None new word bit value within h = ap (option_map (take n)) h
+told_put n (Some words) new word bit value within h =
+    ap (option_map (take n)) h ∙ ap (λ (ws : List ℕ). Some ws) (sym (put_bit-take n words word bit value within))
+
+-- told words stay words
+pub told_words : (n : ℕ) (told : Option (List ℕ)) (word bit : ℕ) (value : Bool) → bit < 32 → AreTold n told
+    → AreTold n (option_map (λ words. put_bit words word bit value) told)
+told_words n None word bit value small are = tt
+told_words n (Some words) word bit value small are = (AreWords-put_bit words word bit value small are.0, length-put_bit words word bit value ∙ are.1)

@@ -1,0 +1,48 @@
+use Rattle.std.proofs.Common.{◌≡◌, ◌<◌, true, false, sym, subst, ap, ◌∙◌, arith, Option, List, ℕ, ◌-◌}
+use Rattle.std.specs.Prelude.{IfSome}
+use Rattle.clk_base.specs.declared.clock.Kind.{Kind}
+use Rattle.clk_base.specs.Description.{kind_of}
+use Rattle.clk_base.specs.Fields.{gate_of}
+use Rattle.clk_model.specs.State.{link_in}
+use Rattle.clk_model.specs.Holders.{clocks_of, is_held, is_enabled}
+use Rattle.clk_model.proofs.PathLaws.{above}
+use Rattle.clk_machine.proofs.Opening.{gate_fits}
+use Rattle.clk_machine.proofs.Opening.{opened, opened_above, opened_none, opened_own, opened_already}
+use Rattle.clk_machine.proofs.gates.+open_path.Goals as goal
+use Rattle.clk_machine.proofs.gates.+open_path.Goals.{in-Some, in_default}
+
+pub open_gate-requires : goal.open_gate-requires
+open_gate-requires g t c =
+    let size : c.match-link_of.window.size ≡ c.args.desc.now.words =
+      elim c.match-link_of.branch [
+        in-Some w ↦ ap (λ window. window.size) w.window-is ∙ w.open_path.ensures.size ∙ c.requires.words
+      | in_default w ↦ ap (λ window. window.size) w.window-is ∙ c.requires.words ] in
+    subst (λ (n : ℕ). IfSome (gate_of c.def.result.now.kind) (λ gate. (gate.word < n) × (gate.bit < 32))) (sym size)
+      (subst (λ (kind : Kind). IfSome (gate_of kind) (λ gate. (gate.word < c.args.desc.now.words) × (gate.bit < 32))) (sym (ap (λ def. def.kind) c.def.ensures.def))
+        (gate_fits c.args.desc.now.words c.args.desc.now.defs c.args.clock.0 c.def.ensures.valid c.requires.place))
+
+pub returns-then-not-is_enabled_above-clause-words : goal.returns-then-not-is_enabled_above-clause-words
+returns-then-not-is_enabled_above-clause-words g t c =
+    let defs = c.args.desc.now.defs in
+    let before : ℕ → _ = is_held c.args.clocks.now (clocks_of is_enabled c.args.handles.now) in
+    let up : ℕ → Option ℕ = link_in c.args.clocks.now in
+    let some : 0 < c.args.levels = omega arith in
+    let first : c.match-link_of.window.words ≡ opened defs before (above up (c.args.levels - 1) (up c.args.clock.0)) c.args.window.now.words =
+      elim c.match-link_of.branch [
+        in-Some w ↦ ap (λ window. window.words) w.window-is ∙ opened_above defs before up (c.args.levels - 1) c.args.clock.0 c.link_of.result _ _ _ c.link_of.ensures w.in-Some.is w.open_path.ensures.words
+      | in_default w ↦ ap (λ window. window.words) w.window-is ∙ opened_none defs before up (c.args.levels - 1) c.args.clock.0 c.link_of.result _ c.link_of.ensures (cc) ] in
+    opened_own defs before up c.args.levels c.args.clock.0 c.def.result.now.kind c.args.window.now.words c.match-link_of.window.words c.open_gate.new.window.words
+      some (ap (λ def. def.kind) c.def.ensures.def) (sym c.is_enabled_above.ensures ∙ c.if-not-is_enabled_above.true) first c.open_gate.ensures.words
+
+pub returns-else-not-is_enabled_above-clause-words : goal.returns-else-not-is_enabled_above-clause-words
+returns-else-not-is_enabled_above-clause-words g t c =
+    let defs = c.args.desc.now.defs in
+    let before : ℕ → _ = is_held c.args.clocks.now (clocks_of is_enabled c.args.handles.now) in
+    let up : ℕ → Option ℕ = link_in c.args.clocks.now in
+    let some : 0 < c.args.levels = omega arith in
+    let first : c.match-link_of.window.words ≡ opened defs before (above up (c.args.levels - 1) (up c.args.clock.0)) c.args.window.now.words =
+      elim c.match-link_of.branch [
+        in-Some w ↦ ap (λ window. window.words) w.window-is ∙ opened_above defs before up (c.args.levels - 1) c.args.clock.0 c.link_of.result _ _ _ c.link_of.ensures w.in-Some.is w.open_path.ensures.words
+      | in_default w ↦ ap (λ window. window.words) w.window-is ∙ opened_none defs before up (c.args.levels - 1) c.args.clock.0 c.link_of.result _ c.link_of.ensures (cc) ] in
+    opened_already defs before up c.args.levels c.args.clock.0 c.args.window.now.words c.match-link_of.window.words some
+      (sym c.is_enabled_above.ensures ∙ c.if-not-is_enabled_above.false) first

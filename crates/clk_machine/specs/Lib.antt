@@ -1,0 +1,4 @@
+pub mod Window
+pub mod Shape
+pub mod Held
+pub mod Run

@@ -1,0 +1,61 @@
+-- What contracts see of a core: where it began, and its journal.
+use Rattle.std.specs.Prelude.{◌≡◌, ℕ, ◌+◌, ◌<◌, ◌==◌, List, [], ◌∷◌, ◌++◌, Bool, true, false, Option, Some, None, length}
+use Rattle.std.specs.List.{list_any, list_all}
+use Rattle.clk_base.specs.Description.{Description, parents_of}
+use Rattle.clk_base.specs.declared.call.Sleeping.{Sleeping}
+use Rattle.clk_base.specs.declared.call.Sleeping.TheVariants as call
+use Rattle.clk_base.specs.declared.event.Entry.{Entry}
+use Rattle.clk_base.specs.declared.event.Event.{Event}
+use Rattle.clk_base.specs.declared.event.Turn.{Turn}
+use Rattle.clk_model.specs.State.{State, registered}
+use Rattle.clk_model.specs.Machine.{next}
+use Rattle.clk_model.specs.Journal.{slotless, replay, Legal, opening, cost}
+use Rattle.clk_machine.specs.Held.{Held, registers}
+
+-- a core as its opening, its journal, and whether its bank tells its words
+pub record Run : Type 0 where
+  pub start : State
+  pub journal : List Entry
+  pub told : Bool
+
+-- the state of a core: its opening with its journal replayed
+abbrev pub now_of : Run → State
+now_of run = replay run.start run.journal
+
+-- whether the clock was probed
+abbrev pub was_probed : List Entry → ℕ → Bool
+was_probed journal c = list_any (λ e. registers e.event c) journal
+
+-- whether a call can be made so far: get, prepare and rate, and the probe of a clock whose possible parents were probed
+abbrev pub is_built : Run → Sleeping → Bool
+is_built run (call.Get found) = true
+is_built run (call.Prepare h) = true
+is_built run (call.GetRate h) = true
+is_built run (call.Probe c) = list_all (was_probed run.journal) (parents_of run.start.defs c.0)
+is_built run _ = false
+
+-- an event of a driver answers the machine's turn, and its entry is appended
+pub record Appends (old : Run) (driver : ℕ) (event : Event) (turn : Turn) (new : Run) : Type 0 where
+  pub start : new.start ≡ old.start
+  pub told : new.told ≡ old.told
+  pub entry : new.journal ≡ old.journal ++ record { driver = driver; event = event; turn = turn } ∷ []
+  pub step : old.told ≡ true → next (now_of old) driver event ≡ Some (now_of new, slotless turn)
+  pub legal : old.told ≡ true → Legal new.start new.journal
+
+-- a journal, and how many entries it has room for
+pub record Logged : Type 0 where
+  pub entries : List Entry
+  pub room : ℕ
+
+-- the opening of a machine that was made with these words
+abbrev pub start_of : Held → List ℕ → State
+start_of m words = opening m.state.defs words m.state.ignore_unused m.state.credits
+
+-- the journal is a legal run of the machine, and the state stands for its replay
+pub record IsRun (m : Held) (words : List ℕ) (log : Logged) : Type 0 where
+  pub stands : m.told ≡ true → replay (start_of m words) log.entries ≡ m.state
+  pub legal : m.told ≡ true → Legal (start_of m words) log.entries
+  pub spent : cost log.entries ≡ m.state.spent
+  pub room : m.state.spent + log.room ≡ m.state.credits
+  pub size : m.size ≡ length words
+  pub probed : (c : ℕ) → registered m.state.clocks c ≡ was_probed log.entries c

@@ -1,0 +1,27 @@
+//! The handles of a core.
+
+ghost use Rattle.std.specs.Prelude.{◌≡◌, ◌==◌, if◌then◌else◌, Some, None};
+ghost use Rattle.std.specs.Option.{option_map_or};
+ghost use Rattle.clk_model.specs.State.{handle_at};
+
+use clk_model::HandleRow;
+
+/// The row of a driver's own live handle.
+pub(crate) fn own_row(
+    handles: &[Option<HandleRow>],
+    driver: u32,
+    number: u32,
+) -> Option<HandleRow>
+    ensures { result ≡ option_map_or (λ h. if h.driver == driver then Some h else None) (handle_at handles.now number) None }
+{
+    match handles.get(number as usize) {
+        Some(Some(row)) => {
+            if row.driver == driver {
+                Some(*row)
+            } else {
+                None
+            }
+        }
+        _ => None,
+    }
+}

@@ -1,0 +1,93 @@
+//! The words of a bank that a description uses.
+
+ghost use Rattle.std.specs.Prelude.{◌≡◌, ◌<◌, ◌≤◌, IfSome, is_some, length, take, slice_index};
+ghost use Rattle.std.specs.Option.{option_map};
+ghost use Rattle.reg_bank.specs.Registers.{is_set, put_bit};
+ghost use Rattle.clk_machine.specs.Window.{AreTold};
+
+use reg_bank::{Bank, read_bit, write_bit};
+use std::marker::Model;
+
+/// The first words of a bank, as many as a description was checked for. The words behind them are
+/// left alone.
+#[derive(Drop)]
+pub struct Window<B: Bank> {
+    bank: B,
+    size: usize,
+}
+
+impl<B: Bank> Model for Window<B> {
+    ghost use Rattle.std.specs.Prelude.{◌≤◌, take};
+    ghost use Rattle.std.specs.Option.{option_map};
+    ghost use Rattle.clk_machine.specs.Window.{Shown, AreTold};
+
+    ghost Value = { Shown };
+
+    ghost view = { λ w. record { size = w.size; words = option_map (take w.size) (B.contents w.bank) } };
+
+    ghost invariant = {
+        λ w. (w.size ≤ B.size w.bank) × AreTold w.size (option_map (take w.size) (B.contents w.bank))
+    };
+}
+
+impl<B: Bank> Window<B> {
+    /// The window with these words, which are written to the bank.
+    pub fn create(mut bank: B, words: &[u32]) -> Window<B>
+        requires { length words.now ≤ B.size bank }
+        ensures size { result.size ≡ length words.now }
+        ensures words { result.words ≡ option_map (λ _. words.now) (B.contents bank) }
+        ensures told { AreTold result.size result.words }
+    {
+        for (place, word) in words.iter().enumerate() {
+            bank.write(place, *word);
+        }
+        Window {
+            bank,
+            size: words.len(),
+        }
+    }
+
+    /// The number of words.
+    pub fn len(&self) -> usize
+        ensures size { result ≡ self.now.size }
+        ensures words { AreTold self.now.size self.now.words }
+    {
+        let _ = &self.bank;
+        self.size
+    }
+
+    /// The word at this place.
+    pub fn word(&self, place: usize) -> u32
+        requires { place < self.now.size }
+        ensures { IfSome self.now.words (λ words. result ≡ slice_index words place) }
+    {
+        self.bank.read(place)
+    }
+
+    /// Whether a bit is 1.
+    pub fn is_set(&self, word: u32, bit: u32) -> bool
+        requires word { word < self.now.size }
+        requires bit { bit < 32 }
+        ensures { IfSome self.now.words (λ words. result ≡ is_set words word bit) }
+    {
+        read_bit(&self.bank, word as usize, bit)
+    }
+
+    /// Makes a bit 1 or 0.
+    pub fn put_bit(&mut self, word: u32, bit: u32, value: bool)
+        requires word { word < self.old.size }
+        requires bit { bit < 32 }
+        ensures size { self.new.size ≡ self.old.size }
+        ensures words { self.new.words ≡ option_map (λ words. put_bit words word bit value) self.old.words }
+    {
+        write_bit(&mut self.bank, word as usize, bit, value);
+    }
+
+    /// The whole bank.
+    pub fn into_bank(self) -> B
+        ensures { option_map (take self.size) (B.contents result) ≡ self.words }
+    {
+        let Window { bank, size: _ } = self;
+        bank
+    }
+}

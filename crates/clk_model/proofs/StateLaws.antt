@@ -1,0 +1,189 @@
+-- Laws on whole states: when the gates stay, and what an event leaves.
+use Rattle.std.proofs.Common.{◌≡◌, ◌≢◌, ℕ, zero, suc, ◌+◌, ◌<◌, ◌≤◌, ◌&&◌, ◌||◌, Bool, true, false, not, cond, List, [], ◌∷◌, ◌++◌, Option, Some, None, refl, sym, ap, subst, ◌∙◌, ◌⊎◌, inl, inr, arith, length, set, nat_eq, nat_lt, map}
+use Rattle.std.specs.Prelude.{slice_get, slice_set, filter, is_none, is_some}
+use Rattle.std.specs.Option.{option_map, option_map_or}
+use Rattle.std.specs.List.{list_any}
+use Rattle.std.proofs.lemmas.Bool.Decides.{nat_tests}
+use Rattle.clk_base.specs.declared.event.Turn.{Turn}
+use Rattle.clk_base.specs.Description.{Description, kind_of}
+use Rattle.clk_base.specs.Flags.{is_critical}
+use Rattle.clk_base.specs.Levels.{depth}
+use Rattle.reg_bank.specs.Registers.{Registers, AreWords}
+use Rattle.clk_model.specs.declared.row.ClockRow.{ClockRow}
+use Rattle.clk_model.specs.declared.row.HandleRow.{HandleRow}
+use Rattle.clk_model.specs.Lists.{is_in, count_from, present}
+use Rattle.clk_model.specs.State.{State, row_of, registered, link_in, handle_at}
+use Rattle.clk_model.specs.Tree.{path, path_within}
+use Rattle.clk_model.specs.Holders.{clocks_of, is_held, is_enabled, enable_holders, critical_clocks, active}
+use Rattle.clk_model.specs.Gates.{gates_moved, settled}
+use Rattle.clk_model.specs.Begin.{put_handle}
+use Rattle.clk_model.specs.Machine.{paid}
+use Rattle.clk_model.proofs.Members.{is_in_head, is_in_tail, is_in_cases, is_in-count_from, count_from-below}
+use Rattle.clk_model.proofs.PathLaws.{path_all, path_agree}
+use Rattle.clk_model.proofs.HolderLaws.{is_under, held_by, held_by-append, held_by-set_same, held_by-set_more, active_parts}
+use Rattle.clk_model.proofs.GateLaws.{GatesLie, gates_moved-still, gates_moved-alike, gates_moved-lists}
+
+-- ---- when the gates stay
+
+-- where each clock is active as it was, no gate moves
+pub settled-still : (old new : State) → ((c : ℕ) → active old c ≡ active new c) → settled old new ≡ new
+unfolding settled
+settled-still old new same =
+    ap (λ (regs : Registers). let s : State = record new { regs = regs } in s)
+      (gates_moved-still new.defs (active old) (active new) (count_from 0 (length new.defs)) new.regs same)
+
+-- such an event spends a credit and leaves what it leaves
+pub paid-still : (s t : State) (turn : Turn) → s.spent < s.credits → ((c : ℕ) → active s c ≡ active t c) → paid s (t, turn) ≡ Some (record t { spent = s.spent + 1 }, turn)
+paid-still s t turn left same =
+    let lt : nat_lt s.spent s.credits ≡ true = grind (arith, nat_tests) in
+    ap (λ (b : Bool). cond b (Some (record (settled s t) { spent = s.spent + 1 }, turn)) None) lt
+    ∙ ap (λ (u : State). let x : State × Turn = (record u { spent = s.spent + 1 }, turn) in Some x) (settled-still s t same)
+
+-- a paid event in any case
+pub paid-left : (s t : State) (turn : Turn) → s.spent < s.credits → paid s (t, turn) ≡ Some (record (settled s t) { spent = s.spent + 1 }, turn)
+paid-left s t turn left =
+    let lt : nat_lt s.spent s.credits ≡ true = grind (arith, nat_tests) in
+    ap (λ (b : Bool). cond b (Some (record (settled s t) { spent = s.spent + 1 }, turn)) None) lt
+
+-- ---- who is active
+
+-- a handle that changes and is enabled as it was, on the same clock, keeps active what was
+pub active-put_same : (s : State) (n : ℕ) (old new : HandleRow) (c : ℕ) → handle_at s.handles n ≡ Some old → new.clock ≡ old.clock → is_enabled new ≡ is_enabled old
+    → active s c ≡ active (put_handle s n (Some new)) c
+active-put_same s n old new c at clock same =
+    active_parts s c
+    ∙ ap (λ (t : Bool). (t || is_held s.clocks (critical_clocks s) c) || is_held s.clocks s.enable_holds c) (sym (held_by-set_same s.clocks is_enabled s.handles n old new c at clock same))
+    ∙ sym (active_parts (put_handle s n (Some new)) c)
+
+-- a new handle without an enable keeps nothing active
+pub active-append : (s : State) (h : HandleRow) (c : ℕ) → is_enabled h ≡ false → active s c ≡ active (record s { handles = s.handles ++ Some h ∷ [] }) c
+active-append s h c idle =
+    active_parts s c
+    ∙ ap (λ (t : Bool). (t || is_held s.clocks (critical_clocks s) c) || is_held s.clocks s.enable_holds c) (sym (held_by-append s.clocks is_enabled s.handles h c idle))
+    ∙ sym (active_parts (record s { handles = s.handles ++ Some h ∷ [] }) c)
+
+or_swap : (a b c u : Bool) → (((a || u) || b) || c) ≡ (((a || b) || c) || u)
+or_swap true b c u = refl
+or_swap false true c true = refl
+or_swap false true c false = refl
+or_swap false false true true = refl
+or_swap false false true false = refl
+or_swap false false false true = refl
+or_swap false false false false = refl
+
+-- a handle that is enabled keeps active what is under it, beside what was
+pub active-put_more : (s : State) (n : ℕ) (old new : HandleRow) (c : ℕ) → handle_at s.handles n ≡ Some old → new.clock ≡ old.clock → is_enabled new ≡ true
+    → active (put_handle s n (Some new)) c ≡ (active s c || is_under s.clocks old c)
+active-put_more s n old new c at clock enabled =
+    active_parts (put_handle s n (Some new)) c
+    ∙ ap (λ (t : Bool). (t || is_held s.clocks (critical_clocks s) c) || is_held s.clocks s.enable_holds c) (held_by-set_more s.clocks is_enabled s.handles n old new c at clock enabled)
+    ∙ or_swap (held_by s.clocks is_enabled s.handles c) (is_held s.clocks (critical_clocks s) c) (is_held s.clocks s.enable_holds c) (is_under s.clocks old c)
+    ∙ ap (λ (t : Bool). t || is_under s.clocks old c) (sym (active_parts s c))
+
+-- ---- opening gates
+
+either_more : (a u : Bool) → a ≢ (a || u) → u ≡ true
+either_more true u other = absurd (other refl)
+either_more false true other = refl
+either_more false false other = absurd (other refl)
+
+-- the gates that an enable opens are those of the path of its clock that nothing keeps active
+pub settled-put_more : (s : State) (n : ℕ) (old new : HandleRow) → handle_at s.handles n ≡ Some old → new.clock ≡ old.clock → is_enabled new ≡ true
+    → AreWords s.regs → GatesLie s.defs (count_from 0 (length s.defs)) (length s.regs)
+    → ((c : ℕ) → is_in c (path s.clocks old.clock.0) ≡ true → c < length s.defs)
+    → settled s (put_handle s n (Some new)) ≡ record (put_handle s n (Some new)) { regs = gates_moved s.defs (active s) (λ _. true) (path s.clocks old.clock.0) s.regs }
+unfolding settled
+settled-put_more s n old new at clock enabled words lie within =
+    let after : ℕ → Bool = active (put_handle s n (Some new)) in
+    let more = (λ (c : ℕ). active-put_more s n old new c at clock enabled) in
+    ap (λ (regs : Registers). let t : State = record (put_handle s n (Some new)) { regs = regs } in t)
+      (gates_moved-lists s.defs (active s) after (count_from 0 (length s.defs)) (path s.clocks old.clock.0) s.regs words lie
+        (λ c m. is_in-count_from c 0 (length s.defs) (omega arith) (let below : c < length s.defs = within c m in omega arith))
+        (λ c m other. either_more (active s c) (is_under s.clocks old c) (λ same. other (same ∙ sym (more c))))
+      ∙ gates_moved-alike s.defs (active s) after (λ _. true) (path s.clocks old.clock.0) s.regs
+        (λ c m. more c ∙ ap (λ (u : Bool). active s c || u) m ∙ or_true (active s c))) where
+  or_true : (a : Bool) → (a || true) ≡ true
+  or_true true = refl
+  or_true false = refl
+
+-- ---- registering a clock
+
+pub row_of-set_same : (clocks : List ClockRow) (c : ℕ) (row : ClockRow) → c < length clocks → row_of (slice_set clocks c row) c ≡ row
+row_of-set_same [] c row within = absurd (omega arith)
+row_of-set_same (r ∷ clocks) zero row within = refl
+row_of-set_same (r ∷ clocks) (suc c) row within = row_of-set_same clocks c row (omega arith)
+
+pub row_of-set_other : (clocks : List ClockRow) (c : ℕ) (row : ClockRow) (d : ℕ) → (c ≡ d → ⊥) → row_of (slice_set clocks c row) d ≡ row_of clocks d
+row_of-set_other [] c row d other = refl
+row_of-set_other (r ∷ clocks) zero row zero other = absurd (other refl)
+row_of-set_other (r ∷ clocks) zero row (suc d) other = refl
+row_of-set_other (r ∷ clocks) (suc c) row zero other = refl
+row_of-set_other (r ∷ clocks) (suc c) row (suc d) other = row_of-set_other clocks c row d (λ same. other (ap (λ (n : ℕ). suc n) same))
+
+-- the path of a registered clock stays where a clock that isn't registered gets a row, as links lead to registered clocks
+pub path-set_unregistered : (clocks : List ClockRow) (c : ℕ) (row : ClockRow) (h : ℕ)
+    → ((d p : ℕ) → link_in clocks d ≡ Some p → registered clocks p ≡ true) → registered clocks c ≡ false → registered clocks h ≡ true
+    → path (slice_set clocks c row) h ≡ path clocks h
+path-set_unregistered clocks c row h links free here =
+    path_agree (link_in clocks) (link_in (slice_set clocks c row)) depth h
+      (λ a m.
+        let there : registered clocks a ≡ true = path_all (λ b. registered clocks b ≡ true) (link_in clocks) depth h a (λ d p _ e. links d p e) here m in
+        ap (λ (r : ClockRow). option_map (λ p. p.0) r.link) (row_of-set_other clocks c row a (λ same. distinct same there)))
+  where
+  distinct : {a : ℕ} → c ≡ a → registered clocks a ≡ true → ⊥
+  distinct {a = a} same there = let gone : registered clocks a ≡ false = ap (registered clocks) (sym same) ∙ free in cc
+
+-- what holders hold depends on their paths alone
+is_held-agree : (clocks clocks' : List ClockRow) (holders : List ℕ) (c : ℕ) → ((h : ℕ) → is_in h holders ≡ true → path clocks' h ≡ path clocks h)
+    → is_held clocks' holders c ≡ is_held clocks holders c
+is_held-agree clocks clocks' [] c same = refl
+is_held-agree clocks clocks' (h ∷ holders) c same =
+    ap (λ (p : List ℕ). is_in c p || is_held clocks' holders c) (same h (is_in_head h holders))
+    ∙ ap (λ (t : Bool). is_in c (path clocks h) || t) (is_held-agree clocks clocks' holders c (λ k m. same k (is_in_tail k h holders m)))
+
+-- a clock of a handle is the clock of a live one
+pub in_clocks_of : (test : HandleRow → Bool) (handles : List (Option HandleRow)) (c : ℕ) → is_in c (clocks_of test handles) ≡ true
+    → (n : ℕ) × (h : HandleRow) × (handle_at handles n ≡ Some h) × (h.clock.0 ≡ c)
+in_clocks_of test [] c m = absurd cc
+in_clocks_of test (None ∷ handles) c m = let found = in_clocks_of test handles c m in (suc found.0, found.1, found.2, found.3)
+in_clocks_of test (Some h ∷ handles) c m =
+    elim (test h) as (λ t. is_in c (map (λ r. r.clock.0) (cond t (h ∷ filter test (present handles)) (filter test (present handles)))) ≡ true → (n : ℕ) × (g : HandleRow) × (handle_at (Some h ∷ handles) n ≡ Some g) × (g.clock.0 ≡ c)) [
+      | true ↦ λ m'. elim (is_in_cases c h.clock.0 (clocks_of test handles) m') [
+          | inl e ↦ (0, h, refl, e)
+          | inr r ↦ let found = in_clocks_of test handles c r in (suc found.0, found.1, found.2, found.3)
+        ]
+      | false ↦ λ m'. let found = in_clocks_of test handles c m' in (suc found.0, found.1, found.2, found.3)
+    ] m
+
+-- the path of each handle's clock stays so too, and with it what handles hold
+pub held_by-set_unregistered : (clocks : List ClockRow) (c : ℕ) (row : ClockRow) (test : HandleRow → Bool) (handles : List (Option HandleRow)) (x : ℕ)
+    → ((d p : ℕ) → link_in clocks d ≡ Some p → registered clocks p ≡ true) → registered clocks c ≡ false
+    → ((n : ℕ) (h : HandleRow) → handle_at handles n ≡ Some h → registered clocks h.clock.0 ≡ true)
+    → held_by (slice_set clocks c row) test handles x ≡ held_by clocks test handles x
+held_by-set_unregistered clocks c row test handles x links free handled =
+    is_held-agree clocks (slice_set clocks c row) (clocks_of test handles) x
+      (λ h m. let found = in_clocks_of test handles h m in
+        path-set_unregistered clocks c row h links free (ap (registered clocks) (sym found.3) ∙ handled found.0 found.1 found.2))
+
+filter_none : (p : ℕ → Bool) (xs : List ℕ) → ((x : ℕ) → is_in x xs ≡ true → p x ≡ false) → filter p xs ≡ []
+filter_none p [] fails = refl
+filter_none p (x ∷ xs) fails =
+    ap (λ (t : Bool). cond t (x ∷ filter p xs) (filter p xs)) (fails x (is_in_head x xs)) ∙ filter_none p xs (λ y m. fails y (is_in_tail y x xs m))
+
+-- without critical clocks none holds itself
+pub critical_clocks-none : (s : State) → ((c : ℕ) → c < length s.defs → is_critical s.defs c ≡ false) → critical_clocks s ≡ []
+critical_clocks-none s none =
+    filter_none (λ c. is_critical s.defs c && registered s.clocks c) (count_from 0 (length s.defs))
+      (λ c m. let below : c < 0 + length s.defs = count_from-below c 0 (length s.defs) m in
+        ap (λ (t : Bool). t && registered s.clocks c) (none c (omega arith)))
+
+-- then only handles keep a clock active
+pub active_by_handles : (s : State) (c : ℕ) → critical_clocks s ≡ [] → s.enable_holds ≡ [] → active s c ≡ held_by s.clocks is_enabled s.handles c
+active_by_handles s c none holds =
+    active_parts s c
+    ∙ ap (λ (cs : List ℕ). (held_by s.clocks is_enabled s.handles c || is_held s.clocks cs c) || is_held s.clocks s.enable_holds c) none
+    ∙ ap (λ (cs : List ℕ). (held_by s.clocks is_enabled s.handles c || false) || is_held s.clocks cs c) holds
+    ∙ or_none (held_by s.clocks is_enabled s.handles c) where
+  or_none : (a : Bool) → ((a || false) || false) ≡ a
+  or_none true = refl
+  or_none false = refl

@@ -1,0 +1,6 @@
+-- Lemmas on the formulas, which crates above cite too.
+pub mod Chosen
+pub mod Ranges
+pub mod Quotients
+pub mod DivisorLaws
+pub mod MultiplierLaws

@@ -1,0 +1,18 @@
+ghost use Rattle.std.specs.Prelude.{◌≡◌, ◌<◌};
+ghost use Rattle.kind_math.specs.Rates as rates;
+
+// The rate, or the greatest 64-bit number where it is above it.
+pub(crate) fn capped(rate: u128) -> u64
+    ensures { result ≡ rates.capped rate }
+{
+    rate.min(u128::from(u64::MAX)) as u64
+}
+
+/// The rate of a factor clock: its parent's rate times `mult`, divided by `div`.
+#[tactic(auto, unfolding(crate::specs::Rates::factor_rate))]
+pub fn factor_rate(parent: u64, mult: u32, div: u32) -> u64
+    requires { 0 < div }
+    ensures { result ≡ rates.factor_rate parent mult div }
+{
+    capped(u128::from(parent) * u128::from(mult) / u128::from(div))
+}
