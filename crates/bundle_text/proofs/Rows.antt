@@ -1,5 +1,5 @@
 -- What is said at places in a row, and tests over them.
-use Rattle.std.proofs.Common.{◌≡◌, ℕ, zero, suc, ◌+◌, List, [], ◌∷◌, ◌++◌, ◌<◌, ◌≤◌, Option, Some, None, refl, ap, sym, ◌∙◌, inl, inr, arith, below_more}
+use Rattle.std.proofs.Common.{◌≡◌, ◌⊎◌, ℕ, zero, suc, ◌+◌, List, [], ◌∷◌, ◌++◌, Option, Some, None, refl, ap, sym, ◌∙◌, inl, inr, arith, below_more}
 use Rattle.std.proofs.lemmas.Bool.{cases_lt}
 use Rattle.bundle_text.specs.Firsts.{First, KeepsBelow, onto, said_from}
 
@@ -36,8 +36,22 @@ First-kept test n place fault kept first = none_some fault (sym (kept place firs
 pub First-unique : {R : Type 0} (test : ℕ → Option R) (n a b : ℕ) (r s : R) → First test n a r → First test n b s → (a ≡ b) × (r ≡ s)
 First-unique test n a b r s first other =
     elim (cases_lt a b) [
-      inl below ↦ absurd (none_some r (sym (other.before a below) ∙ first.found))
-    | inr above ↦ elim (cases_lt b a) [
-        inl below ↦ absurd (none_some s (sym (first.before b below) ∙ other.found))
-      | inr least ↦ (let same : a ≡ b = omega arith in (same, some_of r s (sym first.found ∙ (ap test same ∙ other.found)))) ]
+      | inl below ↦ absurd (none_some r (sym (other.before a below) ∙ first.found))
+      | inr above ↦ elim (cases_lt b a) [
+        | inl below ↦ absurd (none_some s (sym (first.before b below) ∙ other.found))
+        | inr least ↦ (let same : a ≡ b = omega arith in (same, some_of r s (sym first.found ∙ (ap test same ∙ other.found))))
+      ]
+    ]
+
+-- below n the test finds no fault, or a first one
+pub kept_or_first : {R : Type 0} (test : ℕ → Option R) (n : ℕ) → KeepsBelow test n ⊎ ((place : ℕ) × (fault : R) × First test n place fault)
+kept_or_first test zero = inl (λ k lt. absurd (omega arith))
+kept_or_first {R} test (suc n) =
+    elim (kept_or_first test n) [
+      | inl kept ↦
+          elim (test n) as (λ o. test n ≡ o → KeepsBelow test (suc n) ⊎ ((place : ℕ) × (fault : R) × First test (suc n) place fault)) [
+            | None ↦ λ e. inl (λ k lt. elim (cases_lt k n) [ inl below ↦ kept k below | inr here ↦ (let same : k ≡ n = omega arith in ap test same ∙ e) ])
+            | Some fault ↦ λ e. inr (n, fault, record { within = omega arith; before = kept; found = e })
+          ] refl
+      | inr first ↦ inr (first.0, first.1, record { within = omega (arith, first.2.within); before = first.2.before; found = first.2.found })
     ]

@@ -1,5 +1,7 @@
 -- Entering an event that the machine has taken into the journal.
-use Rattle.std.proofs.Common.{◌≡◌, ℕ, zero, suc, ◌+◌, ◌<◌, ◌&&◌, ◌||◌, Bool, true, false, cond, List, [], ◌∷◌, ◌++◌, Option, Some, None, refl, sym, ap, subst, ◌∙◌, arith, length}
+use Rattle.std.proofs.Common.{◌≡◌, ℕ, zero, suc, ◌+◌, ◌<◌, ◌&&◌, ◌||◌, Bool, true, false, cond, List, [], ◌∷◌, ◌++◌, Option, Some, None, refl, sym, ap, subst, ◌∙◌, arith, length, take, nat_le, ◌≤◌}
+use Rattle.std.proofs.lemmas.Bool.Decides.{nat_tests}
+use Rattle.std.proofs.lemmas.List.{length-append, take-append-le, take_all}
 use Rattle.std.proofs.lemmas.List.Sums.{sum_by-append}
 use Rattle.std.specs.List.{list_any, list_all}
 use Rattle.clk_base.specs.declared.call.Sleeping.{Sleeping}
@@ -16,7 +18,10 @@ use Rattle.clk_model.specs.State.{State, registered}
 use Rattle.clk_model.specs.Machine.{next}
 use Rattle.clk_model.specs.Journal.{slotless, replay, Legal, opening, is_paid, cost}
 use Rattle.clk_model.proofs.JournalLaws.{replay-append, Legal-append}
-use Rattle.clk_machine.specs.Held.{Held, Stays, registers, Takes, CanBegin}
+use Rattle.clk_machine.specs.Held.{Held, CanRun, IsSound, Stays, registers, Takes, CanBegin}
+use Rattle.clk_base.specs.Valid.{IsValid}
+use Rattle.clk_model.specs.Fed.{Fed}
+use Rattle.clk_machine.proofs.Sound.{Fed-sound, IsSound-opening}
 use Rattle.clk_machine.specs.Run.{Run, now_of, is_built, was_probed, Logged, start_of, IsRun, Appends}
 
 -- a paid entry more costs one more
@@ -39,6 +44,22 @@ or_none : (a : Bool) → (a || false) ≡ a
 or_none true = refl
 or_none false = refl
 
+-- a journal with an entry more, after which the active clocks are fed, as they were after every prefix
+fed-append : (start t : State) (turn : Turn) (entries entries' : List Entry) (e : Entry) → entries' ≡ entries ++ e ∷ [] → next (replay start entries) e.driver e.event ≡ Some (t, turn)
+    → ((n : ℕ) → Fed (replay start (take n entries))) → Fed t → (n : ℕ) → Fed (replay start (take n entries'))
+fed-append start t turn entries entries' e is step before after n =
+    subst (λ (es : List Entry). Fed (replay start (take n es))) (sym is)
+    (elim (nat_le n (length entries)) as (λ b. nat_le n (length entries) ≡ b → Fed (replay start (take n (entries ++ e ∷ [])))) [
+      | true ↦ λ low.
+          let within : n ≤ length entries = grind (arith, nat_tests) in
+          subst (λ (es : List Entry). Fed (replay start es)) (sym (take-append-le n entries (e ∷ []) within)) (before n)
+      | false ↦ λ high.
+          let past : length entries < n = grind (arith, nat_tests) in
+          let len = length-append entries (e ∷ []) in
+          subst (λ (es : List Entry). Fed (replay start es)) (sym (take_all n (entries ++ e ∷ []) (omega arith)))
+          (subst (λ (s : State). Fed s) (sym (replay-append start t turn entries e step)) after)
+    ] refl)
+
 -- a core keeps what it keeps when an event is taken and entered
 pub entered : (old new : Held) (words : List ℕ) (log log' : Logged) (d : ℕ) (e : Event) (r : Reply) → IsRun old words log → Takes old d e r new → is_paid e ≡ true
     → log'.entries ≡ log.entries ++ entry_of d e r ∷ [] → log'.room + 1 ≡ log.room
@@ -46,28 +67,35 @@ pub entered : (old new : Held) (words : List ℕ) (log log' : Logged) (d : ℕ) 
 entered old new words log log' d e r run takes paid entries room =
     let same = start_stays old new words takes.stays in
     let step : old.told ≡ true → next (replay (start_of new words) log.entries) d e ≡ Some (new.state, slotless (turn.Done r)) =
-      (λ told. ap (λ (s : State). next (replay s log.entries) d e) same ∙ ap (λ (s : State). next s d e) (run.stands told) ∙ takes.step told) in
+    (λ told. ap (λ (s : State). next (replay s log.entries) d e) same ∙ ap (λ (s : State). next s d e) (run.stands told) ∙ takes.step told) in
     record {
       stands = λ told.
-        let was : old.told ≡ true = sym takes.told ∙ told in
-        ap (replay (start_of new words)) entries ∙ replay-append (start_of new words) new.state (slotless (turn.Done r)) log.entries (entry_of d e r) (step was);
+          let was : old.told ≡ true = sym takes.told ∙ told in
+          ap (replay (start_of new words)) entries ∙ replay-append (start_of new words) new.state (slotless (turn.Done r)) log.entries (entry_of d e r) (step was);
       legal = λ told.
-        let was : old.told ≡ true = sym takes.told ∙ told in
-        subst (λ (j : List Entry). Legal (start_of new words) j) (sym entries)
+          let was : old.told ≡ true = sym takes.told ∙ told in
+          subst (λ (j : List Entry). Legal (start_of new words) j) (sym entries)
           (Legal-append (start_of new words) new.state log.entries (entry_of d e r) (subst (λ (s : State). Legal s log.entries) (sym same) (run.legal was)) (step was));
+      sound = λ told. takes.sound (sym takes.told ∙ told) (length words) (run.sound (sym takes.told ∙ told));
+      fed = λ told n.
+          let was : old.told ≡ true = sym takes.told ∙ told in
+          fed-append (start_of new words) new.state (slotless (turn.Done r)) log.entries log'.entries (entry_of d e r) entries (step was)
+          (λ k. subst (λ (s : State). Fed (replay s (take k log.entries))) (sym same) (run.fed was k))
+          (Fed-sound (length words) new.state (takes.sound was (length words) (run.sound was))) n;
       spent = ap cost entries ∙ cost-append log.entries (entry_of d e r) paid ∙ ap (λ (n : ℕ). n + 1) run.spent ∙ sym takes.spent;
       room = let was = run.room in let more = takes.spent in let credits = takes.stays.credits in omega arith;
       size = takes.size ∙ run.size;
       probed = λ c.
-        takes.registered_ c ∙ ap (λ (b : Bool). b || registers e c) (run.probed c)
-        ∙ ap (λ (b : Bool). was_probed log.entries c || b) (sym (or_none (registers e c)))
-        ∙ sym (ap (λ (j : List Entry). was_probed j c) entries ∙ list_any-append (λ f. registers f.event c) log.entries (entry_of d e r ∷ [])) }
+          takes.registered_ c ∙ ap (λ (b : Bool). b || registers e c) (run.probed c)
+          ∙ ap (λ (b : Bool). was_probed log.entries c || b) (sym (or_none (registers e c)))
+          ∙ sym (ap (λ (j : List Entry). was_probed j c) entries ∙ list_any-append (λ f. registers f.event c) log.entries (entry_of d e r ∷ []));
+    }
 
 -- and then the entry was appended
 pub appended : (old new : Held) (words : List ℕ) (log log' : Logged) (d : ℕ) (e : Event) (r : Reply) → IsRun old words log → Takes old d e r new → is_paid e ≡ true
     → log'.entries ≡ log.entries ++ entry_of d e r ∷ [] → log'.room + 1 ≡ log.room
     → Appends (record { start = start_of old words; journal = log.entries; told = old.told }) d e (turn.Done r)
-        (record { start = start_of new words; journal = log'.entries; told = new.told })
+    (record { start = start_of new words; journal = log'.entries; told = new.told })
 appended old new words log log' d e r run takes paid entries room =
     let after = entered old new words log log' d e r run takes paid entries room in
     record {
@@ -75,9 +103,10 @@ appended old new words log log' d e r run takes paid entries room =
       told = takes.told;
       entry = entries;
       step = λ told.
-        ap (λ (s : State). next s d e) (run.stands told) ∙ takes.step told
-        ∙ ap (λ (s : State). let x : State × Turn = (s, slotless (turn.Done r)) in Some x) (sym (after.stands (takes.told ∙ told)));
-      legal = λ told. after.legal (takes.told ∙ told) }
+          ap (λ (s : State). next s d e) (run.stands told) ∙ takes.step told
+          ∙ ap (λ (s : State). let x : State × Turn = (s, slotless (turn.Done r)) in Some x) (sym (after.stands (takes.told ∙ told)));
+      legal = λ told. after.legal (takes.told ∙ told);
+    }
 
 -- there is room for the entry of an event that can be paid for
 pub has_room : (m : Held) (words : List ℕ) (log : Logged) → IsRun m words log → m.state.spent < m.state.credits → 0 < log.room
@@ -98,7 +127,7 @@ can_begin m words log (call.GetRate h) run built = tt
 can_begin m words log (call.Probe c) run built =
     list_all-agree (registered m.state.clocks) (was_probed log.entries) (parents_of m.state.defs c.0) run.probed ∙ built
 can_begin m words log (call.Put h) run built = absurd cc
-can_begin m words log (call.Unprepare h) run built = absurd cc
+can_begin m words log (call.Unprepare h) run built = tt
 can_begin m words log (call.RoundRate h x) run built = absurd cc
 can_begin m words log (call.SetRate h x) run built = absurd cc
 can_begin m words log (call.SetRateExclusive h x) run built = absurd cc
@@ -110,3 +139,33 @@ can_begin m words log (call.ExclusivePut h) run built = absurd cc
 can_begin m words log (call.NotifierAdd h id priority policy) run built = absurd cc
 can_begin m words log (call.NotifierRemove h id) run built = absurd cc
 can_begin m words log call.Sweep run built = absurd cc
+
+-- ---- the beginning
+
+-- a core without an entry is a run
+pub begins : (m : Held) (words given : List ℕ) (log : Logged) (defs : Description) (ignore_unused : Bool) (credits : ℕ)
+    → words ≡ given → log.entries ≡ [] → log.room ≡ credits → (m.told ≡ true → m.state ≡ opening defs given ignore_unused credits)
+    → m.state.defs ≡ defs → m.state.credits ≡ credits → m.state.ignore_unused ≡ ignore_unused → m.state.spent ≡ 0
+    → ((c : ℕ) → registered m.state.clocks c ≡ false) → m.size ≡ length given → IsValid (length given) defs → CanRun defs
+    → IsRun m words log
+begins m words given log defs ignore_unused credits same empty room state at credit unused spent none size valid runs =
+    let start : start_of m words ≡ opening defs given ignore_unused credits =
+    ap (λ (d : Description). opening d words m.state.ignore_unused m.state.credits) at
+    ∙ ap (λ (ws : List ℕ). opening defs ws m.state.ignore_unused m.state.credits) same
+    ∙ ap (λ (b : Bool). opening defs given b m.state.credits) unused
+    ∙ ap (λ (n : ℕ). opening defs given ignore_unused n) credit in
+    let sound : IsSound (length given) (opening defs given ignore_unused credits) = IsSound-opening given defs ignore_unused credits valid runs in
+    record {
+      stands = λ told. ap (replay (start_of m words)) empty ∙ start ∙ sym (state told);
+      legal = λ told. subst (λ (j : List Entry). Legal (start_of m words) j) (sym empty) tt;
+      sound = λ told.
+          subst (λ (ws : List ℕ). IsSound (length ws) m.state) (sym same) (subst (λ (s : State). IsSound (length given) s) (sym (state told)) sound);
+      fed = λ told n.
+          subst (λ (j : List Entry). Fed (replay (start_of m words) (take n j))) (sym empty)
+          (subst (λ (j : List Entry). Fed (replay (start_of m words) j)) (sym (take_all n [] (omega arith)))
+          (subst (λ (s : State). Fed s) (sym start) (Fed-sound (length given) (opening defs given ignore_unused credits) sound)));
+      spent = ap cost empty ∙ sym spent;
+      room = omega arith;
+      size = size ∙ sym (ap (λ (ws : List ℕ). length ws) same);
+      probed = λ c. none c ∙ sym (ap (λ (j : List Entry). was_probed j c) empty);
+    }

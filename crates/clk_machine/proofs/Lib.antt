@@ -1,9 +1,13 @@
 pub mod WindowLaws
 pub mod Opening
+pub mod Closing
 pub mod Opened
 pub mod Shapes
+pub mod Sound
 pub mod Taking
 pub mod Enabling
+pub mod Disabling
 pub mod Registering
 pub mod RegisteredShape
 pub mod Entering
+pub mod Rows

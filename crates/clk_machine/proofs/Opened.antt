@@ -18,7 +18,7 @@ blank_row (suc n) (suc c) = blank_row n c
 pub blank_registered : (clocks : List ClockRow) (n c : ℕ) → clocks ≡ replicate n unregistered_row → registered clocks c ≡ false
 blank_registered clocks n c is = ap (λ (rows : List ClockRow). registered rows c) is ∙ ap (λ (row : ClockRow). row.registered) (blank_row n c)
 
-blank_link : (clocks : List ClockRow) (n c : ℕ) → clocks ≡ replicate n unregistered_row → link_in clocks c ≡ None
+pub blank_link : (clocks : List ClockRow) (n c : ℕ) → clocks ≡ replicate n unregistered_row → link_in clocks c ≡ None
 blank_link clocks n c is = ap (λ (rows : List ClockRow). link_in rows c) is ∙ ap (λ (row : ClockRow). option_map (λ p. p.0) row.link) (blank_row n c)
 
 pub shaped_opening : (desc : Checked) (window : Shown) (clocks : List ClockRow) (credits : ℕ)
@@ -35,12 +35,15 @@ shaped_opening desc window clocks credits valid runs size told blank few = recor
   linked = λ c h. absurd (unregistered c h);
   attached = λ c h. absurd cc;
   handled = λ n h e. absurd cc;
+  unguarded = λ n h e. absurd cc;
   few_credits = few;
   spent_within = omega arith;
+  few_attached = omega arith;
   few_handles = omega arith;
   few_holds = omega arith;
 } where
   none_some : (c p : ℕ) → link_in clocks c ≡ Some p → ⊥
   none_some c p e = let none = blank_link clocks (length desc.defs) c blank in cc
+
   unregistered : (c : ℕ) → registered clocks c ≡ true → ⊥
   unregistered c h = let none = blank_registered clocks (length desc.defs) c blank in cc

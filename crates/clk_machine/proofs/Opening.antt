@@ -28,9 +28,9 @@ pub opened_none : (defs : Description) (before : ℕ → Bool) (up : ℕ → Opt
     → option_map (λ p. p.0) link ≡ up c → link ≡ None → old ≡ opened defs before (above up levels (up c)) old
 opened_none defs before up levels c link old is at =
     same old ∙ ap (λ (o : Option ℕ). opened defs before (above up levels o) old) (sym (ap (option_map (λ p. p.0)) at) ∙ is) where
-  same : (old : Option (List ℕ)) → old ≡ opened defs before [] old
-  same None = refl
-  same (Some regs) = refl
+      same : (old : Option (List ℕ)) → old ≡ opened defs before [] old
+      same None = refl
+      same (Some regs) = refl
 
 -- the clock's own gate behind those of its parents
 pub opened_own : (defs : Description) (before : ℕ → Bool) (up : ℕ → Option ℕ) (levels c : ℕ) (kind : Kind) (old mid new : Option (List ℕ))
@@ -43,10 +43,10 @@ opened_own defs before up levels c kind old mid new some is idle first then =
     ∙ ap (λ (b : Bool). option_map (λ regs. option_map_or (follow regs b true) (gate_of (kind_of defs c)) regs) (opened defs before (above up (levels - 1) (up c)) old)) (sym idle)
     ∙ join old
     ∙ ap (λ (cs : List ℕ). opened defs before cs old) (sym (path_cons up levels c some)) where
-  join : (old : Option (List ℕ)) → option_map (λ regs. option_map_or (follow regs (before c) true) (gate_of (kind_of defs c)) regs) (opened defs before (above up (levels - 1) (up c)) old)
-      ≡ opened defs before (c ∷ above up (levels - 1) (up c)) old
-  join None = refl
-  join (Some regs) = refl
+      join : (old : Option (List ℕ)) → option_map (λ regs. option_map_or (follow regs (before c) true) (gate_of (kind_of defs c)) regs) (opened defs before (above up (levels - 1) (up c)) old)
+          ≡ opened defs before (c ∷ above up (levels - 1) (up c)) old
+      join None = refl
+      join (Some regs) = refl
 
 -- a clock that is active already
 pub opened_already : (defs : Description) (before : ℕ → Bool) (up : ℕ → Option ℕ) (levels c : ℕ) (old mid : Option (List ℕ))
@@ -54,12 +54,13 @@ pub opened_already : (defs : Description) (before : ℕ → Bool) (up : ℕ → 
     → mid ≡ opened defs before (path_within up levels c) old
 opened_already defs before up levels c old mid some active first =
     first ∙ stays old ∙ ap (λ (cs : List ℕ). opened defs before cs old) (sym (path_cons up levels c some)) where
-  own : (regs : List ℕ) (o : Option GateBit) → regs ≡ option_map_or (follow regs (before c) true) o regs
-  own regs None = refl
-  own regs (Some gate) = sym (follow-same regs (before c) true gate active)
-  stays : (old : Option (List ℕ)) → opened defs before (above up (levels - 1) (up c)) old ≡ opened defs before (c ∷ above up (levels - 1) (up c)) old
-  stays None = refl
-  stays (Some regs) = ap (λ (rs : List ℕ). Some rs) (own (gates_moved defs before (λ _. true) (above up (levels - 1) (up c)) regs) (gate_of (kind_of defs c)))
+      own : (regs : List ℕ) (o : Option GateBit) → regs ≡ option_map_or (follow regs (before c) true) o regs
+      own regs None = refl
+      own regs (Some gate) = sym (follow-same regs (before c) true gate active)
+
+      stays : (old : Option (List ℕ)) → opened defs before (above up (levels - 1) (up c)) old ≡ opened defs before (c ∷ above up (levels - 1) (up c)) old
+      stays None = refl
+      stays (Some regs) = ap (λ (rs : List ℕ). Some rs) (own (gates_moved defs before (λ _. true) (above up (levels - 1) (up c)) regs) (gate_of (kind_of defs c)))
 
 -- a gate of a valid description lies in the bank
 pub gate_fits : (words : ℕ) (defs : Description) (c : ℕ) → IsValid words defs → c < length defs → IfSome (gate_of (kind_of defs c)) (λ gate. (gate.word < words) × (gate.bit < 32))

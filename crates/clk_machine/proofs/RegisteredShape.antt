@@ -27,7 +27,7 @@ use Rattle.clk_model.specs.Begin.{registered_row, registered_rows, register}
 use Rattle.clk_model.proofs.Members.{is_in_cases, is_in_head, is_in_tail, same_from_test, test_other, test_same}
 use Rattle.clk_model.proofs.StateLaws.{row_of-set_same, row_of-set_other, active_by_handles, held_by-set_unregistered}
 use Rattle.clk_machine.specs.Window.{Shown}
-use Rattle.clk_machine.specs.Held.{state_of, held_in_all, CanRun, IsShaped, RegistersAtOnce}
+use Rattle.clk_machine.specs.Held.{state_of, held_in_all, CanRun, IsShaped, AreLinks, RegistersAtOnce}
 use Rattle.clk_machine.proofs.Shapes.{plain_everywhere, not_critical, no_critical, registered-lt, handle_at-append, sum_by-append}
 use Rattle.clk_machine.proofs.Registering.{link_given-first}
 
@@ -75,6 +75,7 @@ first_registered clocks [] p h e = absurd cc
 first_registered clocks (q ∷ ps) p h e = ap (registered clocks) (sym (the_same q p e)) ∙ first (registered clocks q) _ h where
   the_same : (q p : ℕ) → Some q ≡ Some p → q ≡ p
   the_same q p e = cc
+
   first : (a b : Bool) → (a && b) ≡ true → a ≡ true
   first true b h = refl
   first false b h = h
@@ -105,32 +106,39 @@ shaped-registered desc window clocks order handles credits spent c regs shape wi
     let own : link_in rows c ≡ slice_get (parents_of desc.defs c) 0 = link_in-registered desc.defs regs clocks c inside shape.runs parents in
     let other : (d : ℕ) → (c ≡ d → ⊥) → row_of rows d ≡ row_of clocks d = (λ d away. row_of-set_other clocks c _ d away) in
     record {
-      valid = shape.valid; runs = shape.runs; words = shape.words; told = shape.told;
+      valid = shape.valid;
+      runs = shape.runs;
+      words = shape.words;
+      told = shape.told;
       clocks_len = length-set clocks c _ ∙ shape.clocks_len;
       links = λ d p e.
-        elim (nat_eq c d) as (λ t. nat_eq c d ≡ t → registered rows p ≡ true) [
-          | true ↦ λ same. more p (first_registered clocks (parents_of desc.defs c) p parents
-              (sym own ∙ ap (link_in rows) (same_from_test c d same) ∙ e))
-          | false ↦ λ away. more p (shape.links d p (sym (ap (λ (r : ClockRow). option_map (λ q. q.0) r.link) (other d (λ same. test_other c d away same))) ∙ e))
-        ] refl;
+          elim (nat_eq c d) as (λ t. nat_eq c d ≡ t → registered rows p ≡ true) [
+            | true ↦ λ same. more p (first_registered clocks (parents_of desc.defs c) p parents
+                (sym own ∙ ap (link_in rows) (same_from_test c d same) ∙ e))
+            | false ↦ λ away. more p (shape.links d p (sym (ap (λ (r : ClockRow). option_map (λ q. q.0) r.link) (other d (λ same. test_other c d away same))) ∙ e))
+          ] refl;
       linked = λ d h.
-        elim (nat_eq c d) as (λ t. nat_eq c d ≡ t → (is_fixed (kind_of desc.defs d) || is_some (link_in rows d)) ≡ true) [
-          | true ↦ λ same.
-              subst (λ (k : ℕ). (is_fixed (kind_of desc.defs k) || is_some (link_in rows k)) ≡ true) (same_from_test c d same)
+          elim (nat_eq c d) as (λ t. nat_eq c d ≡ t → (is_fixed (kind_of desc.defs d) || is_some (link_in rows d)) ≡ true) [
+            | true ↦ λ same.
+                subst (λ (k : ℕ). (is_fixed (kind_of desc.defs k) || is_some (link_in rows k)) ≡ true) (same_from_test c d same)
                 (ap (λ (o : Option ℕ). is_fixed (kind_of desc.defs c) || is_some o) own ∙ root_or_parent desc.words desc.defs c shape.valid shape.runs within)
-          | false ↦ λ away.
-              let stays = other d (λ same. test_other c d away same) in
-              ap (λ (r : ClockRow). is_fixed (kind_of desc.defs d) || is_some (option_map (λ q. q.0) r.link)) stays
-              ∙ shape.linked d (sym (ap (λ (r : ClockRow). r.registered) stays) ∙ h)
-        ] refl;
+            | false ↦ λ away.
+                let stays = other d (λ same. test_other c d away same) in
+                ap (λ (r : ClockRow). is_fixed (kind_of desc.defs d) || is_some (option_map (λ q. q.0) r.link)) stays
+                ∙ shape.linked d (sym (ap (λ (r : ClockRow). r.registered) stays) ∙ h)
+          ] refl;
       attached = λ d m. elim (is_in_cases d c order m) [
-          | inl same ↦ ap (registered rows) (sym same) ∙ registered-set clocks c _ c inside refl ∙ ap (λ (b : Bool). registered clocks c || b) (test_same c) ∙ or_true (registered clocks c)
-          | inr there ↦ more d (shape.attached d there)
-        ];
+        | inl same ↦ ap (registered rows) (sym same) ∙ registered-set clocks c _ c inside refl ∙ ap (λ (b : Bool). registered clocks c || b) (test_same c) ∙ or_true (registered clocks c)
+        | inr there ↦ more d (shape.attached d there)
+      ];
       handled = λ n h e. more h.clock.0 (shape.handled n h e);
-      few_credits = shape.few_credits; spent_within = omega arith;
+      unguarded = shape.unguarded;
+      few_credits = shape.few_credits;
+      spent_within = omega arith;
+      few_attached = let few = shape.few_attached in omega arith;
       few_handles = let few = shape.few_handles in omega arith;
-      few_holds = let few = shape.few_holds in omega arith }
+      few_holds = let few = shape.few_holds in omega arith;
+    }
 
 -- ---- the registration is all
 
@@ -145,11 +153,11 @@ pub front-new : (desc : Checked) (window : Shown) (clocks : List ClockRow) (orde
     → IsShaped desc window clocks order handles credits spent → registered clocks c ≡ false → to_front c order ≡ c ∷ order
 front-new desc window clocks order handles credits spent c shape free =
     ap (λ (xs : List ℕ). c ∷ xs) (without-absent c order (λ x m. apart x (shape.attached x m))) where
-  apart : (x : ℕ) → registered clocks x ≡ true → nat_eq c x ≡ false
-  apart x there = elim (nat_eq c x) as (λ t. nat_eq c x ≡ t → nat_eq c x ≡ false) [
-      | true ↦ λ same. let gone = ap (registered clocks) (same_from_test c x same) in absurd cc
-      | false ↦ λ other. other
-    ] refl
+      apart : (x : ℕ) → registered clocks x ≡ true → nat_eq c x ≡ false
+      apart x there = elim (nat_eq c x) as (λ t. nat_eq c x ≡ t → nat_eq c x ≡ false) [
+        | true ↦ λ same. let gone = ap (registered clocks) (same_from_test c x same) in absurd cc
+        | false ↦ λ other. other
+      ] refl
 
 filter_none : (p : ℕ → Bool) (xs : List ℕ) → ((x : ℕ) → is_in x xs ≡ true → p x ≡ false) → filter p xs ≡ []
 filter_none p [] fails = refl
@@ -166,11 +174,28 @@ pub none_adoptable : (desc : Checked) (window : Shown) (clocks : List ClockRow) 
     → IsShaped desc window clocks order handles credits spent → s.defs ≡ desc.defs → s.clocks ≡ clocks → s.order ≡ order → adoptable s ≡ []
 none_adoptable desc window clocks order handles credits spent s shape defs rows attached =
     ap (λ (os : List ℕ). filter (λ a. option_map_or (λ p. true) (link_given s.defs s.regs s.clocks a) false) os)
-      (filter_none (is_orphan s.defs s.clocks) s.order
-        (λ x m.
-          let there : registered clocks x ≡ true = shape.attached x (ap (is_in x) (sym attached) ∙ m) in
-          ap (λ (d : Description). is_orphan d s.clocks x) defs ∙ ap (λ (r : List ClockRow). is_orphan desc.defs r x) rows
-          ∙ no_orphan (is_fixed (kind_of desc.defs x)) (link_in clocks x) (shape.linked x there)))
+    (filter_none (is_orphan s.defs s.clocks) s.order
+    (λ x m.
+    let there : registered clocks x ≡ true = shape.attached x (ap (is_in x) (sym attached) ∙ m) in
+    ap (λ (d : Description). is_orphan d s.clocks x) defs ∙ ap (λ (r : List ClockRow). is_orphan desc.defs r x) rows
+    ∙ no_orphan (is_fixed (kind_of desc.defs x)) (link_in clocks x) (shape.linked x there)))
+
+first_in : (ps : List ℕ) (p : ℕ) → slice_get ps 0 ≡ Some p → is_in p ps ≡ true
+first_in [] p e = absurd cc
+first_in (q ∷ ps) p e = let same : p ≡ q = cc in ap (λ (k : ℕ). is_in k (q ∷ ps)) same ∙ is_in_head q ps
+
+-- the link that a registration gives leads to a possible parent
+links-registered : (defs : Description) (regs : Registers) (clocks : List ClockRow) (c : ℕ) → c < length clocks → CanRun defs → list_all (registered clocks) (parents_of defs c) ≡ true
+    → AreLinks defs clocks → AreLinks defs (registered_rows defs regs clocks c)
+links-registered defs regs clocks c within runs parents links d p e =
+    elim (nat_eq c d) as (λ t. nat_eq c d ≡ t → is_in p (parents_of defs d) ≡ true) [
+      | true ↦ λ same.
+          let here : c ≡ d = same_from_test c d same in
+          first_in (parents_of defs d) p
+          (sym (ap (λ (k : ℕ). slice_get (parents_of defs k) 0) here) ∙ sym (link_in-registered defs regs clocks c within runs parents) ∙ ap (link_in (registered_rows defs regs clocks c)) here ∙ e)
+      | false ↦ λ other.
+          links d p (sym (ap (λ (r : ClockRow). option_map (λ q. q.0) r.link) (row_of-set_other clocks c _ d (λ same. test_other c d other same))) ∙ e)
+    ] refl
 
 pub registers_at_once : (desc : Checked) (window : Shown) (clocks : List ClockRow) (order : List ℕ) (handles : List (Option HandleRow)) (credits spent c : ℕ) (words : Option (List ℕ)) (ignore_unused : Bool)
     → IsShaped desc window clocks order handles credits spent → c < length desc.defs → registered clocks c ≡ false
@@ -185,41 +210,57 @@ registers_at_once desc window clocks order handles credits spent c words ignore_
       quiet = refl;
       uncritical = not_critical desc.defs shape.runs c within;
       none = none_adoptable desc window rows (c ∷ order) handles credits (spent + 1) (register s c)
-        (shaped-registered desc window clocks order handles credits spent c s.regs shape within free parents left) refl refl
-        (front-new desc window clocks order handles credits spent c shape free);
+          (shaped-registered desc window clocks order handles credits spent c s.regs shape within free parents left) refl refl
+          (front-new desc window clocks order handles credits spent c shape free);
       same = λ x.
-        active_by_handles s x (no_critical s shape.runs) refl
-        ∙ sym (held_by-set_unregistered clocks c _ is_enabled handles x shape.links free shape.handled)
-        ∙ sym (active_by_handles (register s c) x (no_critical (register s c) shape.runs) refl);
+          active_by_handles s x (no_critical s shape.runs) refl
+          ∙ sym (held_by-set_unregistered clocks c _ is_enabled handles x shape.links free shape.handled)
+          ∙ sym (active_by_handles (register s c) x (no_critical (register s c) shape.runs) refl);
       stays = record { defs = refl; credits = refl; ignore_unused = refl };
-      rows = λ k. registered-set clocks c _ k inside refl }
+      regs = refl;
+      links = λ links. links-registered desc.defs s.regs clocks c inside shape.runs parents links;
+      rows = λ k. registered-set clocks c _ k inside refl;
+    }
 
 -- ---- a new handle
 
 pub shaped-given : (desc : Checked) (window : Shown) (clocks : List ClockRow) (order : List ℕ) (handles handles' : List (Option HandleRow)) (credits spent : ℕ) (new : HandleRow)
-    → IsShaped desc window clocks order handles credits spent → handles' ≡ handles ++ Some new ∷ [] → registered clocks new.clock.0 ≡ true → held_in_all new ≡ 0 → spent < credits
+    → IsShaped desc window clocks order handles credits spent → handles' ≡ handles ++ Some new ∷ [] → registered clocks new.clock.0 ≡ true → new.exclusives ≡ 0 → held_in_all new ≡ 0 → spent < credits
     → IsShaped desc window clocks order handles' credits (spent + 1)
-shaped-given desc window clocks order handles handles' credits spent new shape is there none left = record {
-  valid = shape.valid; runs = shape.runs; words = shape.words; told = shape.told; clocks_len = shape.clocks_len;
-  links = shape.links; linked = shape.linked; attached = shape.attached;
+shaped-given desc window clocks order handles handles' credits spent new shape is there free none left = record {
+  valid = shape.valid;
+  runs = shape.runs;
+  words = shape.words;
+  told = shape.told;
+  clocks_len = shape.clocks_len;
+  links = shape.links;
+  linked = shape.linked;
+  attached = shape.attached;
   handled = λ k h e. elim (handle_at-append handles new k h (sym (ap (λ (hs : List (Option HandleRow)). handle_at hs k) is) ∙ e)) [
-      | inl same ↦ ap (λ (r : HandleRow). registered clocks r.clock.0) same ∙ there
-      | inr was ↦ shape.handled k h was
-    ];
-  few_credits = shape.few_credits; spent_within = omega arith;
+    | inl same ↦ ap (λ (r : HandleRow). registered clocks r.clock.0) same ∙ there
+    | inr was ↦ shape.handled k h was
+  ];
+  unguarded = λ k h e. elim (handle_at-append handles new k h (sym (ap (λ (hs : List (Option HandleRow)). handle_at hs k) is) ∙ e)) [
+    | inl same ↦ ap (λ (r : HandleRow). r.exclusives) same ∙ free
+    | inr was ↦ shape.unguarded k h was
+  ];
+  few_credits = shape.few_credits;
+  spent_within = omega arith;
+  few_attached = let few = shape.few_attached in omega arith;
   few_handles = let few = shape.few_handles in let len = ap (λ (hs : List (Option HandleRow)). length hs) is in omega (arith, length-append handles (Some new ∷ []));
   few_holds =
-    let few = shape.few_holds in
-    let sums = ap (λ (hs : List (Option HandleRow)). sum_by held_in_all (present hs)) is in
-    let more = sum_by-append held_in_all handles new in omega arith }
+      let few = shape.few_holds in
+      let sums = ap (λ (hs : List (Option HandleRow)). sum_by held_in_all (present hs)) is in
+      let more = sum_by-append held_in_all handles new in omega arith;
+}
 
 -- ---- the state after a registration
 
 pub state-registered : (defs : Description) (words : Option (List ℕ)) (clocks clocks' : List ClockRow) (order order' : List ℕ) (handles : List (Option HandleRow)) (credits spent : ℕ) (ignore_unused : Bool) (c : ℕ)
     → clocks' ≡ registered_rows defs (unwrap_or words []) clocks c → order' ≡ to_front c order
     → (let old : State = state_of defs words clocks order handles credits spent ignore_unused in
-       let new : State = state_of defs words clocks' order' handles credits (spent + 1) ignore_unused in
-       let after : State = record (register old c) { spent = spent + 1 } in new ≡ after)
+    let new : State = state_of defs words clocks' order' handles credits (spent + 1) ignore_unused in
+    let after : State = record (register old c) { spent = spent + 1 } in new ≡ after)
 unfolding register
 state-registered defs words clocks clocks' order order' handles credits spent ignore_unused c rows front =
     ap (λ (r : List ClockRow). state_of defs words r order' handles credits (spent + 1) ignore_unused) rows

@@ -56,7 +56,7 @@ pub link_given-first : (defs : Description) (regs : Registers) (clocks : List Cl
 unfolding link_given
 link_given-first defs regs clocks c runs parents =
     ap (λ (o : Option Field). option_and_then (if_registered clocks) (option_map_or (λ f. slice_get (parents_of defs c) (field regs f.word f.shift f.width)) o (slice_get (parents_of defs c) 0)))
-      (plain_mux (kind_of defs c) (plain_everywhere defs runs c))
+    (plain_mux (kind_of defs c) (plain_everywhere defs runs c))
     ∙ if_there clocks (parents_of defs c) parents
 
 -- a clock by its place is the clock
@@ -70,7 +70,7 @@ pub row_linked : (defs : Description) (regs : Registers) (clocks : List ClockRow
     → (let row : ClockRow = record { registered = true; link = link; last_request = 0 } in row) ≡ registered_row defs regs clocks c
 row_linked defs regs clocks c link runs parents first =
     ap (λ (l : Option ClockId). let row : ClockRow = record { registered = true; link = l; last_request = 0 } in row)
-      (sym (by_place link) ∙ ap (option_map clock_id) (first ∙ sym (link_given-first defs regs clocks c runs parents)))
+    (sym (by_place link) ∙ ap (option_map clock_id) (first ∙ sym (link_given-first defs regs clocks c runs parents)))
 
 -- the first possible parent is a clock of the description
 pub first_lies : (words : ℕ) (defs : Description) (c : ℕ) (link : Option ClockId) → IsValid words defs → c < length defs → option_map (λ p. p.0) link ≡ slice_get (parents_of defs c) 0
@@ -87,11 +87,12 @@ pub links-set : (defs : Description) (clocks : List ClockRow) (c : ℕ) (row : C
     → IfSome row.link (λ p. p.0 < length defs) → LinksLie defs (slice_set clocks c row)
 links-set defs clocks c row links within lies = record {
   lie = λ d p e.
-    elim (nat_eq c d) as (λ t. nat_eq c d ≡ t → p < length defs) [
-      | true ↦ λ same. link_within defs row.link p lies
-          (sym (ap (λ (r : ClockRow). option_map (λ q. q.0) r.link) (row_of-set_same clocks c row within)) ∙ ap (λ (k : ℕ). link_in (slice_set clocks c row) k) (same_from_test c d same) ∙ e)
-      | false ↦ λ other. links.lie d p (sym (ap (λ (r : ClockRow). option_map (λ q. q.0) r.link) (row_of-set_other clocks c row d (λ same. test_other c d other same))) ∙ e)
-    ] refl }
+      elim (nat_eq c d) as (λ t. nat_eq c d ≡ t → p < length defs) [
+        | true ↦ λ same. link_within defs row.link p lies
+            (sym (ap (λ (r : ClockRow). option_map (λ q. q.0) r.link) (row_of-set_same clocks c row within)) ∙ ap (λ (k : ℕ). link_in (slice_set clocks c row) k) (same_from_test c d same) ∙ e)
+        | false ↦ λ other. links.lie d p (sym (ap (λ (r : ClockRow). option_map (λ q. q.0) r.link) (row_of-set_other clocks c row d (λ same. test_other c d other same))) ∙ e)
+      ] refl;
+}
 
 set-twice : (clocks : List ClockRow) (c : ℕ) (a b : ClockRow) → slice_set (slice_set clocks c a) c b ≡ slice_set clocks c b
 set-twice [] c a b = refl
@@ -103,15 +104,15 @@ pub rows_registered : (defs : Description) (regs : Registers) (clocks : List Clo
     → list_all (registered clocks) (parents_of defs c) ≡ true → option_map (λ p. p.0) link ≡ slice_get (parents_of defs c) 0 → levels ≡ depth
     → found ≡ rate_within defs regs (slice_set clocks c (record { registered = true; link = link; last_request = 0 })) levels c
     → slice_set (slice_set clocks c (record { registered = true; link = link; last_request = 0 })) c (record { registered = true; link = link; last_request = found })
-      ≡ registered_rows defs regs clocks c
+    ≡ registered_rows defs regs clocks c
 unfolding rate
 rows_registered defs regs clocks c levels found link runs parents first deep is =
     let row : ClockRow = record { registered = true; link = link; last_request = 0 } in
     set-twice clocks c row (record { registered = true; link = link; last_request = found })
     ∙ ap (λ (n : ℕ). slice_set clocks c (record { registered = true; link = link; last_request = n }))
-        (is ∙ ap (λ (n : ℕ). rate_within defs regs (slice_set clocks c row) n c) deep)
+    (is ∙ ap (λ (n : ℕ). rate_within defs regs (slice_set clocks c row) n c) deep)
     ∙ ap (λ (r : ClockRow). slice_set clocks c (record r { last_request = rate defs regs (slice_set clocks c r) c }))
-        (row_linked defs regs clocks c link runs parents first)
+    (row_linked defs regs clocks c link runs parents first)
 
 pub first_of-places : (clocks : List ClockId) → option_map (λ p. p.0) (slice_get clocks 0) ≡ slice_get (places clocks) 0
 first_of-places [] = refl

@@ -91,7 +91,8 @@ no_plls s (c ∷ cs) runs =
 pub gates_lie : (words : ℕ) (defs : Description) → IsValid words defs → GatesLie defs (count_from 0 (length defs)) words
 gates_lie words defs valid = record {
   within = λ c gate m e. gate-within words defs valid c gate (below c m) e;
-  apart = λ c d gate other m n e f word bit. gates-once words defs valid d c other gate (below d n) (below c m) f e word bit } where
+  apart = λ c d gate other m n e f word bit. gates-once words defs valid d c other gate (below d n) (below c m) f e word bit;
+} where
   below : (c : ℕ) → is_in c (count_from 0 (length defs)) ≡ true → c < length defs
   below c m = let lt : c < 0 + length defs = count_from-below c 0 (length defs) m in omega arith
 
@@ -129,8 +130,8 @@ sum_by-set count (Some h ∷ handles) zero old new at =
     let one = sum_by-cons count new (present handles) in
     let two = sum_by-cons count h (present handles) in
     omega arith where
-  the_same : (h old : HandleRow) → Some h ≡ Some old → h ≡ old
-  the_same h old at = cc
+      the_same : (h old : HandleRow) → Some h ≡ Some old → h ≡ old
+      the_same h old at = cc
 sum_by-set count (None ∷ handles) (suc n) old new at = sum_by-set count handles n old new at
 sum_by-set count (Some h ∷ handles) (suc n) old new at =
     let rest = sum_by-set count handles n old new at in
@@ -145,8 +146,8 @@ count-le count (Some g ∷ handles) zero h at =
     let is : count g ≡ count h = ap count (the_same g h at) in
     let one = sum_by-cons count g (present handles) in
     omega arith where
-  the_same : (h old : HandleRow) → Some h ≡ Some old → h ≡ old
-  the_same h old at = cc
+      the_same : (h old : HandleRow) → Some h ≡ Some old → h ≡ old
+      the_same h old at = cc
 count-le count (None ∷ handles) (suc n) h at = count-le count handles n h at
 count-le count (Some g ∷ handles) (suc n) h at =
     let rest = count-le count handles n h at in

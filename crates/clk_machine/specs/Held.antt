@@ -15,7 +15,8 @@ use Rattle.clk_base.specs.declared.event.Turn.TheVariants as turn
 use Rattle.clk_model.specs.declared.row.ClockRow.{ClockRow}
 use Rattle.clk_model.specs.declared.row.HandleRow.{HandleRow}
 use Rattle.clk_model.specs.Lists.{is_in, present}
-use Rattle.clk_model.specs.Kinds.{is_fixed}
+use Rattle.clk_base.specs.Fields.{GateBit, gate_of}
+use Rattle.clk_model.specs.Kinds.{is_fixed, is_open}
 use Rattle.clk_model.specs.State.{State, registered, link_in, handle_at}
 use Rattle.reg_bank.specs.Registers.{Registers}
 use Rattle.clk_base.specs.declared.clock.ClockId.{ClockId}
@@ -38,8 +39,20 @@ pub record Held : Type 0 where
 -- the state of these rows: no notifier, no hold and no change in flight
 abbrev pub state_of : Description → Option (List ℕ) → List ClockRow → List ℕ → List (Option HandleRow) → ℕ → ℕ → Bool → State
 state_of defs words clocks order handles credits spent ignore_unused = record {
-  defs = defs; regs = unwrap_or words []; clocks = clocks; order = order; handles = handles; notifiers = [];
-  prepare_holds = []; enable_holds = []; change = None; credits = credits; spent = spent; steps = 0; ignore_unused = ignore_unused }
+  defs = defs;
+  regs = unwrap_or words [];
+  clocks = clocks;
+  order = order;
+  handles = handles;
+  notifiers = [];
+  prepare_holds = [];
+  enable_holds = [];
+  change = None;
+  credits = credits;
+  spent = spent;
+  steps = 0;
+  ignore_unused = ignore_unused;
+}
 
 -- a clock that this core can run: a fixed rate or a gate over an earlier clock, neither critical nor protecting its rate while it is prepared
 abbrev pub can_run : Description → ℕ → Bool
@@ -67,21 +80,42 @@ pub record IsShaped (desc : Checked) (window : Shown) (clocks : List ClockRow) (
   pub attached : (c : ℕ) → is_in c order ≡ true → registered clocks c ≡ true
   -- the clock of a handle is registered
   pub handled : (n : ℕ) (h : HandleRow) → handle_at handles n ≡ Some h → registered clocks h.clock.0 ≡ true
+  -- no handle holds a rate
+  pub unguarded : (n : ℕ) (h : HandleRow) → handle_at handles n ≡ Some h → h.exclusives ≡ 0
   pub few_credits : credits ≤ 4194304
   pub spent_within : spent ≤ credits
+  pub few_attached : length order ≤ spent
   pub few_handles : length handles ≤ spent
   pub few_holds : sum_by held_in_all (present handles) ≤ spent
 
 -- the registers are as the machine leaves them where a handle of the clock gets its enable
 pub record OpensFor (old : State) (clock : ClockId) (regs : Registers) : Type 0 where
   pub opens : (n : ℕ) (row new : HandleRow) → handle_at old.handles n ≡ Some row → row.clock ≡ clock → new.clock ≡ row.clock → is_enabled new ≡ true
-    → settled old (put_handle old n (Some new)) ≡ record (put_handle old n (Some new)) { regs = regs }
+      → settled old (put_handle old n (Some new)) ≡ record (put_handle old n (Some new)) { regs = regs }
+
+-- the registers are as the machine leaves them where a handle of the clock gave up an enable, which led to this state
+pub record ClosesFor (new : State) (clock : ClockId) (regs : Registers) : Type 0 where
+  pub closes : (old : State) (n : ℕ) (row less : HandleRow) → handle_at old.handles n ≡ Some row → row.clock ≡ clock → less.clock ≡ row.clock → is_enabled row ≡ true
+      → new ≡ record (put_handle old n (Some less)) { spent = old.spent + 1 }
+      → settled old (put_handle old n (Some less)) ≡ record (put_handle old n (Some less)) { regs = regs }
 
 -- what stays in every event
 pub record Stays (old new : State) : Type 0 where
   pub defs : new.defs ≡ old.defs
   pub credits : new.credits ≡ old.credits
   pub ignore_unused : new.ignore_unused ≡ old.ignore_unused
+
+-- each link leads to a possible parent
+abbrev pub AreLinks : Description → List ClockRow → Type 0
+AreLinks defs clocks = (c p : ℕ) → link_in clocks c ≡ Some p → is_in p (parents_of defs c) ≡ true
+
+-- the description is valid for the words and can be run, links lead to possible parents, and the gates of active clocks are open
+pub record IsSound (words : ℕ) (s : State) : Type 0 where
+  pub valid : IsValid words s.defs
+  pub runs : CanRun s.defs
+  pub size : length s.regs ≡ words
+  pub links : AreLinks s.defs s.clocks
+  pub open_ : (c : ℕ) (gate : GateBit) → active s c ≡ true → gate_of (kind_of s.defs c) ≡ Some gate → is_open s.regs gate ≡ true
 
 -- a clock is registered with nothing else to do: it isn't critical, no orphan can be adopted, and no clock becomes active
 pub record RegistersAtOnce (old : State) (c : ℕ) : Type 0 where
@@ -90,6 +124,8 @@ pub record RegistersAtOnce (old : State) (c : ℕ) : Type 0 where
   pub none : adoptable (register old c) ≡ []
   pub same : (x : ℕ) → active old x ≡ active (register old c) x
   pub stays : Stays old (register old c)
+  pub regs : (register old c).regs ≡ old.regs
+  pub links : AreLinks old.defs old.clocks → AreLinks old.defs (register old c).clocks
   pub rows : (k : ℕ) → registered (register old c).clocks k ≡ (registered old.clocks k || c == k)
 
 -- whether an event registers the clock
@@ -104,6 +140,7 @@ pub record Takes (old : Held) (driver : ℕ) (event : Event) (reply : Reply) (ne
   pub stays : Stays old.state new.state
   pub spent : new.state.spent ≡ old.state.spent + 1
   pub registered_ : (c : ℕ) → registered new.state.clocks c ≡ (registered old.state.clocks c || registers event c)
+  pub sound : old.told ≡ true → (words : ℕ) → IsSound words old.state → IsSound words new.state
   pub step : old.told ≡ true → next old.state driver event ≡ Some (new.state, slotless (turn.Done reply))
 
 -- the clocks that a call names are clocks of the description
@@ -113,10 +150,11 @@ IsPlaced defs (call.SetParent h p) = p.0 < length defs
 IsPlaced defs (call.Probe c) = c.0 < length defs
 IsPlaced defs _ = Unit {0}
 
--- a call that this core can begin: get, prepare and rate, and the probe of a clock whose possible parents are registered
+-- a call that this core can begin: get, prepare, unprepare and rate, and the probe of a clock whose possible parents are registered
 abbrev pub CanBegin : State → Sleeping → Type 0
 CanBegin s (call.Get found) = Unit {0}
 CanBegin s (call.Prepare h) = Unit {0}
+CanBegin s (call.Unprepare h) = Unit {0}
 CanBegin s (call.GetRate h) = Unit {0}
 CanBegin s (call.Probe c) = list_all (registered s.clocks) (parents_of s.defs c.0) ≡ true
 CanBegin s _ = ⊥

@@ -2,3 +2,5 @@ pub mod Window
 pub mod Shape
 pub mod Held
 pub mod Run
+pub mod Hold
+pub mod Row

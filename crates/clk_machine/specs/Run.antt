@@ -1,5 +1,5 @@
 -- What contracts see of a core: where it began, and its journal.
-use Rattle.std.specs.Prelude.{◌≡◌, ℕ, ◌+◌, ◌<◌, ◌==◌, List, [], ◌∷◌, ◌++◌, Bool, true, false, Option, Some, None, length}
+use Rattle.std.specs.Prelude.{◌≡◌, ℕ, ◌+◌, ◌<◌, ◌==◌, List, [], ◌∷◌, ◌++◌, Bool, true, false, Option, Some, None, length, take}
 use Rattle.std.specs.List.{list_any, list_all}
 use Rattle.clk_base.specs.Description.{Description, parents_of}
 use Rattle.clk_base.specs.declared.call.Sleeping.{Sleeping}
@@ -7,10 +7,12 @@ use Rattle.clk_base.specs.declared.call.Sleeping.TheVariants as call
 use Rattle.clk_base.specs.declared.event.Entry.{Entry}
 use Rattle.clk_base.specs.declared.event.Event.{Event}
 use Rattle.clk_base.specs.declared.event.Turn.{Turn}
+use Rattle.clk_base.specs.declared.event.Turn.TheVariants as turn
 use Rattle.clk_model.specs.State.{State, registered}
 use Rattle.clk_model.specs.Machine.{next}
 use Rattle.clk_model.specs.Journal.{slotless, replay, Legal, opening, cost}
-use Rattle.clk_machine.specs.Held.{Held, registers}
+use Rattle.clk_model.specs.Fed.{Fed}
+use Rattle.clk_machine.specs.Held.{Held, registers, IsSound}
 
 -- a core as its opening, its journal, and whether its bank tells its words
 pub record Run : Type 0 where
@@ -26,13 +28,19 @@ now_of run = replay run.start run.journal
 abbrev pub was_probed : List Entry → ℕ → Bool
 was_probed journal c = list_any (λ e. registers e.event c) journal
 
--- whether a call can be made so far: get, prepare and rate, and the probe of a clock whose possible parents were probed
+-- whether a call can be made so far: get, prepare, unprepare and rate, and the probe of a clock whose possible parents were probed
 abbrev pub is_built : Run → Sleeping → Bool
 is_built run (call.Get found) = true
 is_built run (call.Prepare h) = true
+is_built run (call.Unprepare h) = true
 is_built run (call.GetRate h) = true
 is_built run (call.Probe c) = list_all (was_probed run.journal) (parents_of run.start.defs c.0)
 is_built run _ = false
+
+-- the event is answered, and no call goes on
+abbrev pub IsDone : Turn → Type 0
+IsDone turn.Going = ⊥
+IsDone (turn.Done r) = Unit {0}
 
 -- an event of a driver answers the machine's turn, and its entry is appended
 pub record Appends (old : Run) (driver : ℕ) (event : Event) (turn : Turn) (new : Run) : Type 0 where
@@ -55,6 +63,9 @@ start_of m words = opening m.state.defs words m.state.ignore_unused m.state.cred
 pub record IsRun (m : Held) (words : List ℕ) (log : Logged) : Type 0 where
   pub stands : m.told ≡ true → replay (start_of m words) log.entries ≡ m.state
   pub legal : m.told ≡ true → Legal (start_of m words) log.entries
+  pub sound : m.told ≡ true → IsSound (length words) m.state
+  -- after every prefix the active clocks are fed
+  pub fed : m.told ≡ true → (n : ℕ) → Fed (replay (start_of m words) (take n log.entries))
   pub spent : cost log.entries ≡ m.state.spent
   pub room : m.state.spent + log.room ≡ m.state.credits
   pub size : m.size ≡ length words

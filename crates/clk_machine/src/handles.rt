@@ -1,17 +1,13 @@
 //! The handles of a core.
 
-ghost use Rattle.std.specs.Prelude.{◌≡◌, ◌==◌, if◌then◌else◌, Some, None};
+ghost use Rattle.std.specs.Prelude.{◌≡◌, ◌==◌, ◌&&◌, ◌||◌, nat_lt, if◌then◌else◌, Some, None};
 ghost use Rattle.std.specs.Option.{option_map_or};
 ghost use Rattle.clk_model.specs.State.{handle_at};
 
 use clk_model::HandleRow;
 
 /// The row of a driver's own live handle.
-pub(crate) fn own_row(
-    handles: &[Option<HandleRow>],
-    driver: u32,
-    number: u32,
-) -> Option<HandleRow>
+pub(crate) fn own_row(handles: &[Option<HandleRow>], driver: u32, number: u32) -> Option<HandleRow>
     ensures { result ≡ option_map_or (λ h. if h.driver == driver then Some h else None) (handle_at handles.now number) None }
 {
     match handles.get(number as usize) {
@@ -24,4 +20,11 @@ pub(crate) fn own_row(
         }
         _ => None,
     }
+}
+
+/// Whether a handle has no prepare to give up, or only one while it is enabled.
+pub(crate) fn keeps_prepare(row: HandleRow) -> bool
+    ensures { result ≡ (row.prepares == 0 || (row.prepares == 1 && nat_lt 0 row.enables)) }
+{
+    row.prepares == 0 || (row.prepares == 1 && row.enables > 0)
 }

@@ -1,13 +1,21 @@
 //! The core of the clock framework: the state of the machine with its journal.
 #![tactic(auto)]
 
-mod core;
+mod counts;
+mod fit;
+mod framework;
 mod gates;
 mod handles;
 mod log;
 mod machine;
 mod path;
 mod register;
+mod row;
 mod window;
 
-pub use core::Core;
+pub use fit::first_unfit;
+pub use framework::Core;
+pub use row::Row;
+
+#[cfg(test)]
+mod tests;

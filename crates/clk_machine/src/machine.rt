@@ -4,8 +4,12 @@ ghost use Rattle.std.specs.Prelude.{◌≡◌, ℕ, ◌+◌, ◌<◌, ◌≤◌,
 ghost use Rattle.std.specs.Option.{ForSome};
 ghost use Rattle.std.specs.List.{list_all};
 ghost use Rattle.clk_base.specs.Description.{parents_of};
+ghost use Rattle.clk_base.specs.Valid.{IsValid};
 ghost use Rattle.clk_model.specs.State.{registered};
 ghost use Rattle.clk_model.specs.Journal.{opening};
+
+mod closing;
+mod rows;
 
 use crate::gates::open_path;
 use crate::handles::own_row;
@@ -42,16 +46,13 @@ impl<B: Bank> Model for Machine<B> {
 
     ghost Value = { Held };
 
-    ghost view = {
-        λ m. record {
-            state = state_of m.desc.defs m.window.words m.clocks.items (places m.order.items) m.handles.items m.credits m.spent m.ignore_unused;
-            told = is_some m.window.words;
-            size = m.window.size }
-    };
+    ghost view = { λ m. record {
+      state = state_of m.desc.defs m.window.words m.clocks.items (places m.order.items) m.handles.items m.credits m.spent m.ignore_unused;
+      told = is_some m.window.words;
+      size = m.window.size;
+    } };
 
-    ghost invariant = {
-        λ m. IsShaped m.desc m.window m.clocks.items (places m.order.items) m.handles.items m.credits m.spent
-    };
+    ghost invariant = { λ m. IsShaped m.desc m.window m.clocks.items (places m.order.items) m.handles.items m.credits m.spent };
 }
 
 impl<B: Bank> Machine<B> {
@@ -81,6 +82,7 @@ impl<B: Bank> Machine<B> {
         ensures fixed { IfOk result (λ m. (m.state.defs ≡ desc.defs) × (m.state.credits ≡ credits) × (m.state.ignore_unused ≡ ignore_unused) × (m.state.spent ≡ 0)) }
         ensures none { IfOk result (λ m. (c : ℕ) → registered m.state.clocks c ≡ false) }
         ensures size { IfOk result (λ m. m.size ≡ length words.now) }
+        ensures valid { IsValid (length words.now) desc.defs }
     {
         let unregistered = ClockRow {
             registered: false,
@@ -155,12 +157,13 @@ impl<B: Bank> Machine<B> {
         );
     }
 
-    // Puts a row that holds one thing more in a handle's place, and spends a credit.
-    fn hold_more(&mut self, number: u32, old: HandleRow, new: HandleRow)
+    // Puts a row that holds at most one thing more in a handle's place, and spends a credit.
+    fn put_row(&mut self, number: u32, old: HandleRow, new: HandleRow)
         requires credit { self.old.state.spent < self.old.state.credits }
         requires live { handle_at self.old.state.handles number ≡ Some old }
         requires clock { new.clock ≡ old.clock }
-        requires more { new.prepares + new.enables ≡ old.prepares + old.enables + 1 }
+        requires exclusives { new.exclusives ≡ old.exclusives }
+        requires held { new.prepares + new.enables ≤ old.prepares + old.enables + 1 }
         ensures { self.new ≡ record self.old { state = record (put_handle self.old.state number (Some new)) { spent = self.old.state.spent + 1 } } }
     {
         self.handles[number as usize] = Some(new);
@@ -185,7 +188,7 @@ impl<B: Bank> Machine<B> {
             enables: row.enables + 1,
             ..row
         };
-        self.hold_more(number, row, enabled);
+        self.put_row(number, row, enabled);
         Reply::Fine
     }
 
@@ -202,7 +205,7 @@ impl<B: Bank> Machine<B> {
             prepares: row.prepares + 1,
             ..row
         };
-        self.hold_more(handle.number, row, prepared);
+        self.put_row(handle.number, row, prepared);
         Reply::Fine
     }
 
@@ -341,6 +344,7 @@ impl<B: Bank> Machine<B> {
         match what {
             Sleeping::Get(found) => self.get(driver, found),
             Sleeping::Prepare(handle) => Ok(self.prepare(driver, handle)),
+            Sleeping::Unprepare(handle) => Ok(self.unprepare(driver, handle)),
             Sleeping::GetRate(handle) => Ok(self.rate(driver, handle)),
             Sleeping::Probe(clock) => self.probe(clock),
             _ => unreachable!(),
@@ -360,6 +364,14 @@ impl<B: Bank> Machine<B> {
         ensures { result + self.now.state.spent ≡ self.now.state.credits }
     {
         self.credits - self.spent
+    }
+
+    /// How many words the registers are.
+    pub(crate) fn word_count(&self) -> usize
+        ensures size { result ≡ self.now.size }
+        ensures registers { self.now.told ≡ true → length self.now.state.regs ≡ self.now.size }
+    {
+        self.window.len()
     }
 
     /// The word at this place.

@@ -6,7 +6,7 @@ ghost use Rattle.std.specs.List.{list_all, list_any};
 ghost use Rattle.clk_base.specs.Places.{places};
 ghost use Rattle.clk_base.specs.Description.{kind_of};
 ghost use Rattle.clk_base.specs.Plain.{IsPlain};
-ghost use Rattle.clk_model.specs.Lists.{is_in};
+ghost use Rattle.clk_model.specs.Lists.{is_in, is_at};
 ghost use Rattle.clk_model.specs.Kinds.{is_fixed};
 ghost use Rattle.clk_model.specs.State.{registered, link_in};
 ghost use Rattle.clk_model.specs.Tree.{path_within};
@@ -45,6 +45,16 @@ pub(crate) fn link_of(clocks: &[ClockRow], clock: ClockId) -> Option<ClockId>
     match clocks.get(clock.0 as usize) {
         Some(row) => row.link,
         None => None,
+    }
+}
+
+/// Whether a clock is attached to this parent.
+pub(crate) fn is_attached(clocks: &[ClockRow], clock: ClockId, parent: ClockId) -> bool
+    ensures { result ≡ is_at parent.0 (link_in clocks.now clock.0) }
+{
+    match link_of(clocks, clock) {
+        Some(link) => link.0 == parent.0,
+        None => false,
     }
 }
 

@@ -25,9 +25,7 @@ impl<B: Bank> Model for Window<B> {
 
     ghost view = { λ w. record { size = w.size; words = option_map (take w.size) (B.contents w.bank) } };
 
-    ghost invariant = {
-        λ w. (w.size ≤ B.size w.bank) × AreTold w.size (option_map (take w.size) (B.contents w.bank))
-    };
+    ghost invariant = { λ w. (w.size ≤ B.size w.bank) × AreTold w.size (option_map (take w.size) (B.contents w.bank)) };
 }
 
 impl<B: Bank> Window<B> {

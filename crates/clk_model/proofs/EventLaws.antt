@@ -1,27 +1,26 @@
 -- What each event comes to, case by case.
-use Rattle.std.proofs.Common.{◌≡◌, ℕ, zero, suc, ◌+◌, ◌<◌, ◌&&◌, ◌||◌, Bool, true, false, not, cond, List, [], ◌∷◌, ◌++◌, Option, Some, None, refl, sym, ap, ◌∙◌, arith, length, nat_eq, nat_lt}
-use Rattle.std.specs.Prelude.{slice_get, is_none}
-use Rattle.std.specs.Option.{option_map, option_map_or}
+use Rattle.std.proofs.Common.{◌≡◌, ℕ, ◌+◌, ◌-◌, ◌<◌, ◌&&◌, ◌||◌, Bool, true, false, not, cond, List, [], Option, Some, None, refl, ap, ◌∙◌, arith, nat_eq, nat_lt}
+use Rattle.std.specs.Prelude.{slice_get, is_none, filter, if◌then◌else◌}
+use Rattle.std.specs.Option.{option_map_or}
 use Rattle.std.proofs.lemmas.Bool.Decides.{nat_tests}
 use Rattle.clk_base.specs.declared.clock.ClockId.{ClockId}
 use Rattle.clk_base.specs.declared.call.Sleeping.{Sleeping}
 use Rattle.clk_base.specs.declared.call.Sleeping.TheVariants as call
 use Rattle.clk_base.specs.declared.event.Event.TheVariants as event
 use Rattle.clk_base.specs.declared.event.Errno.TheVariants as errno
-use Rattle.clk_base.specs.declared.event.Reply.{Reply}
 use Rattle.clk_base.specs.declared.event.Reply.TheVariants as reply
 use Rattle.clk_base.specs.declared.event.Turn.{Turn}
 use Rattle.clk_base.specs.declared.event.Turn.TheVariants as turn
 use Rattle.clk_base.specs.declared.handle.Handle.{Handle}
-use Rattle.clk_base.specs.Description.{kind_of}
 use Rattle.clk_base.specs.Flags.{is_critical}
 use Rattle.clk_model.specs.declared.row.HandleRow.{HandleRow}
 use Rattle.clk_model.specs.State.{State, Change, is_quiet, registered, handle_at}
 use Rattle.clk_model.specs.Tree.{rooted, path}
+use Rattle.clk_model.specs.Holders.{active}
 use Rattle.clk_model.specs.Rate.{rate}
-use Rattle.clk_model.specs.Script.{unprepared_plls, adoptable}
-use Rattle.clk_model.specs.Begin.{done, refused, pick, put_handle, own_handle, with_handle, got, given, prepare, prepared_once_more, probed, register, begun}
-use Rattle.clk_model.specs.Machine.{enabled, paid, next}
+use Rattle.clk_model.specs.Script.{unprepared_plls, runs, adoptable}
+use Rattle.clk_model.specs.Begin.{done, refused, pick, put_handle, own_handle, with_handle, given, prepare, prepared_once_more, unprepare, register, begun}
+use Rattle.clk_model.specs.Machine.{enabled, disabled, running, paid, next}
 
 pub pick-true : (b : Bool) (f g : Unit {0} → State × Turn) → b ≡ true → pick b f g ≡ f tt
 unfolding pick
@@ -47,6 +46,7 @@ own_is_live s d n h own = live (handle_at s.handles n) own where
   same : (g : HandleRow) (b : Bool) → cond b (Some g) None ≡ Some h → Some g ≡ Some h
   same g true e = e
   same g false e = absurd cc
+
   live : (o : Option HandleRow) → option_map_or (λ g. cond (nat_eq g.driver d) (Some g) None) o None ≡ Some h → o ≡ Some h
   live None e = e
   live (Some g) e = same g (nat_eq g.driver d) e
@@ -61,14 +61,44 @@ pub enable-unprepared : (s : State) (d n : ℕ) (h : HandleRow) → own_handle s
 unfolding next
 enable-unprepared s d n h own idle =
     ap (paid s) (with-some s d n (enabled s n) h own
-      ∙ pick-true (nat_eq h.prepares 0) (λ t. refused s errno.ESHUTDOWN) (λ t. done (put_handle s n (Some (record h { enables = h.enables + 1 }))) reply.Fine) (grind (arith, nat_tests)))
+    ∙ pick-true (nat_eq h.prepares 0) (λ t. refused s errno.ESHUTDOWN) (λ t. done (put_handle s n (Some (record h { enables = h.enables + 1 }))) reply.Fine) (grind (arith, nat_tests)))
 
 pub enable-fine : (s : State) (d n : ℕ) (h : HandleRow) → own_handle s d n ≡ Some h → 0 < h.prepares
     → next s d (event.Enable n) ≡ paid s (put_handle s n (Some (record h { enables = h.enables + 1 })), turn.Done reply.Fine)
 unfolding next
 enable-fine s d n h own some =
     ap (paid s) (with-some s d n (enabled s n) h own
-      ∙ pick-false (nat_eq h.prepares 0) (λ t. refused s errno.ESHUTDOWN) (λ t. done (put_handle s n (Some (record h { enables = h.enables + 1 }))) reply.Fine) (grind (arith, nat_tests)))
+    ∙ pick-false (nat_eq h.prepares 0) (λ t. refused s errno.ESHUTDOWN) (λ t. done (put_handle s n (Some (record h { enables = h.enables + 1 }))) reply.Fine) (grind (arith, nat_tests)))
+
+-- ---- disable
+
+pub disable-unknown : (s : State) (d n : ℕ) → own_handle s d n ≡ None → next s d (event.Disable n) ≡ paid s (refused s errno.ENOENT)
+unfolding next
+disable-unknown s d n none = ap (paid s) (with-none s d n (disabled s n) none)
+
+pub disable-warned : (s : State) (d n : ℕ) (h : HandleRow) → own_handle s d n ≡ Some h → h.enables ≡ 0 → next s d (event.Disable n) ≡ paid s (s, turn.Done reply.Warn)
+unfolding next
+disable-warned s d n h own idle =
+    ap (paid s) (with-some s d n (disabled s n) h own
+    ∙ pick-true (nat_eq h.enables 0) (λ t. done s reply.Warn) (λ t. done (put_handle s n (Some (record h { enables = h.enables - 1 }))) reply.Fine) (grind (arith, nat_tests)))
+
+pub disable-fine : (s : State) (d n : ℕ) (h : HandleRow) → own_handle s d n ≡ Some h → 0 < h.enables
+    → next s d (event.Disable n) ≡ paid s (put_handle s n (Some (record h { enables = h.enables - 1 })), turn.Done reply.Fine)
+unfolding next
+disable-fine s d n h own some =
+    ap (paid s) (with-some s d n (disabled s n) h own
+    ∙ pick-false (nat_eq h.enables 0) (λ t. done s reply.Warn) (λ t. done (put_handle s n (Some (record h { enables = h.enables - 1 }))) reply.Fine) (grind (arith, nat_tests)))
+
+-- ---- running
+
+pub running-unknown : (s : State) (d n : ℕ) → own_handle s d n ≡ None → next s d (event.Running n) ≡ paid s (refused s errno.ENOENT)
+unfolding next
+running-unknown s d n none = ap (paid s) (with-none s d n (running s) none)
+
+pub running-told : (s : State) (d n : ℕ) (h : HandleRow) → own_handle s d n ≡ Some h
+    → next s d (event.Running n) ≡ paid s (s, turn.Done (if active s h.clock.0 then reply.Yes else reply.No))
+unfolding next
+running-told s d n h own = ap (paid s) (with-some s d n (running s) h own)
 
 -- ---- calls
 
@@ -109,7 +139,40 @@ unfolding begun
 prepare-fine s d h row quiet own none =
     begin_quiet s d (call.Prepare h) quiet
     ∙ ap (paid s) (with-some s d h.number (prepare s d (call.Prepare h) h.number) row own
-      ∙ pick-true (is_none (slice_get (unprepared_plls s (path s.clocks row.clock.0)) 0)) _ _ (ap (λ (cs : List ℕ). is_none (slice_get cs 0)) none))
+    ∙ pick-true (is_none (slice_get (unprepared_plls s (path s.clocks row.clock.0)) 0)) _ _ (ap (λ (cs : List ℕ). is_none (slice_get cs 0)) none))
+
+pub unprepare-unknown : (s : State) (d : ℕ) (h : Handle) → s.change ≡ None → own_handle s d h.number ≡ None
+    → next s d (event.Begin (call.Unprepare h)) ≡ paid s (refused s errno.ENOENT)
+unfolding begun
+unprepare-unknown s d h quiet none =
+    begin_quiet s d (call.Unprepare h) quiet ∙ ap (paid s) (with-none s d h.number (unprepare s d (call.Unprepare h) h.number) none)
+
+-- a handle that has no prepare to give up, or only one while it is enabled
+abbrev pub keeps_prepare : HandleRow → Bool
+keeps_prepare h = nat_eq h.prepares 0 || (nat_eq h.prepares 1 && nat_lt 0 h.enables)
+
+pub unprepare-warned : (s : State) (d : ℕ) (h : Handle) (row : HandleRow) → s.change ≡ None → own_handle s d h.number ≡ Some row → keeps_prepare row ≡ true
+    → next s d (event.Begin (call.Unprepare h)) ≡ paid s (s, turn.Done reply.Warn)
+unfolding begun
+unprepare-warned s d h row quiet own keeps =
+    begin_quiet s d (call.Unprepare h) quiet
+    ∙ ap (paid s) (with-some s d h.number (unprepare s d (call.Unprepare h) h.number) row own ∙ pick-true (keeps_prepare row) _ _ keeps)
+
+-- a handle with one prepare less
+abbrev pub prepared_once_less : State → ℕ → HandleRow → State
+prepared_once_less s number h = put_handle s number (Some (record h { prepares = h.prepares - 1 }))
+
+-- an unprepare is done at once where no PLL above is unprepared then
+pub unprepare-fine : (s : State) (d : ℕ) (h : Handle) (row : HandleRow) → s.change ≡ None → own_handle s d h.number ≡ Some row → keeps_prepare row ≡ false
+    → unprepared_plls (prepared_once_less s h.number row) (path s.clocks row.clock.0) ≡ []
+    → next s d (event.Begin (call.Unprepare h)) ≡ paid s (prepared_once_less s h.number row, turn.Done reply.Fine)
+unfolding begun
+unprepare-fine s d h row quiet own keeps none =
+    begin_quiet s d (call.Unprepare h) quiet
+    ∙ ap (paid s) (with-some s d h.number (unprepare s d (call.Unprepare h) h.number) row own
+    ∙ pick-false (keeps_prepare row) _ _ keeps
+    ∙ pick-true (is_none (slice_get (filter (runs s.defs s.regs) (unprepared_plls (prepared_once_less s h.number row) (path s.clocks row.clock.0))) 0)) _ _
+    (ap (λ (cs : List ℕ). is_none (slice_get (filter (runs s.defs s.regs) cs) 0)) none))
 
 pub rate-unknown : (s : State) (d : ℕ) (h : Handle) → s.change ≡ None → own_handle s d h.number ≡ None
     → next s d (event.Begin (call.GetRate h)) ≡ paid s (refused s errno.ENOENT)
@@ -137,6 +200,6 @@ unfolding begun
 probe-fine s d c quiet free none plain =
     begin_quiet s d (call.Probe c) quiet
     ∙ ap (paid s) (pick-false (registered s.clocks c.0) _ _ free
-      ∙ pick-true _ _ _ (both _ _ _ (ap (λ (cs : List ℕ). is_none (slice_get cs 0)) none) (ap not plain))) where
-  both : (a b e : Bool) → a ≡ true → b ≡ true → (a && (b || e)) ≡ true
-  both a b e p q = rw (p, q) refl
+    ∙ pick-true _ _ _ (both _ _ _ (ap (λ (cs : List ℕ). is_none (slice_get cs 0)) none) (ap not plain))) where
+      both : (a b e : Bool) → a ≡ true → b ≡ true → (a && (b || e)) ≡ true
+      both a b e p q = rw (p, q) refl

@@ -1,15 +1,14 @@
 -- Laws on holders: what a changed or a new handle does to the clocks that are held.
-use Rattle.std.proofs.Common.{◌≡◌, ℕ, zero, suc, ◌<◌, ◌&&◌, ◌||◌, Bool, true, false, cond, map, List, [], ◌∷◌, ◌++◌, Option, Some, None, refl, sym, ap, subst, ◌∙◌, arith, set}
+use Rattle.std.proofs.Common.{◌≡◌, ℕ, zero, suc, ◌&&◌, ◌||◌, Bool, true, false, cond, map, List, [], ◌∷◌, ◌++◌, Option, Some, None, refl, sym, ap, ◌∙◌, set}
 use Rattle.std.specs.Prelude.{filter}
 use Rattle.std.specs.List.{list_any}
-use Rattle.std.specs.Prelude.{slice_set}
 use Rattle.std.proofs.lemmas.List.Folds.{list_any-append}
 use Rattle.clk_model.specs.declared.row.ClockRow.{ClockRow}
 use Rattle.clk_model.specs.declared.row.HandleRow.{HandleRow}
 use Rattle.clk_model.specs.Lists.{is_in, present}
 use Rattle.clk_model.specs.State.{State, handle_at}
 use Rattle.clk_model.specs.Tree.{path}
-use Rattle.clk_model.specs.Holders.{clocks_of, is_held, is_enabled, enable_holders, critical_clocks, active}
+use Rattle.clk_model.specs.Holders.{clocks_of, is_held, is_enabled, critical_clocks, active}
 
 -- whether the clock is on the path of a handle
 abbrev pub is_under : List ClockRow → HandleRow → ℕ → Bool
@@ -24,7 +23,7 @@ pub held_by-cons : (clocks : List ClockRow) (test : HandleRow → Bool) (h : Han
     → held_by clocks test (Some h ∷ handles) c ≡ ((test h && is_under clocks h c) || held_by clocks test handles c)
 held_by-cons clocks test h handles c =
     elim (test h) as (λ t. list_any (λ x. is_in c (path clocks x)) (map (λ r. r.clock.0) (cond t (h ∷ filter test (present handles)) (filter test (present handles))))
-        ≡ ((t && is_under clocks h c) || held_by clocks test handles c)) [
+    ≡ ((t && is_under clocks h c) || held_by clocks test handles c)) [
       | true ↦ refl
       | false ↦ refl
     ]
@@ -79,14 +78,14 @@ held_by-set_more clocks test (Some h ∷ handles) zero old new c at clock passes
     ∙ absorb (test h) (is_under clocks old c) (held_by clocks test handles c)
     ∙ ap (λ (r : HandleRow). ((test h && is_under clocks r c) || held_by clocks test handles c) || is_under clocks old c) (sym is)
     ∙ ap (λ (t : Bool). t || is_under clocks old c) (sym (held_by-cons clocks test h handles c)) where
-  absorb : (t u r : Bool) → (u || r) ≡ (((t && u) || r) || u)
-  absorb true true r = refl
-  absorb true false true = refl
-  absorb true false false = refl
-  absorb false true true = refl
-  absorb false true false = refl
-  absorb false false true = refl
-  absorb false false false = refl
+      absorb : (t u r : Bool) → (u || r) ≡ (((t && u) || r) || u)
+      absorb true true r = refl
+      absorb true false true = refl
+      absorb true false false = refl
+      absorb false true true = refl
+      absorb false true false = refl
+      absorb false false true = refl
+      absorb false false false = refl
 held_by-set_more clocks test (None ∷ handles) (suc n) old new c at clock passes = held_by-set_more clocks test handles n old new c at clock passes
 held_by-set_more clocks test (Some h ∷ handles) (suc n) old new c at clock passes =
     held_by-cons clocks test h (set handles n (Some new)) c

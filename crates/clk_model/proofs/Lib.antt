@@ -5,3 +5,8 @@ pub mod HolderLaws
 pub mod StateLaws
 pub mod EventLaws
 pub mod JournalLaws
+pub mod CallLaws
+pub mod FollowLaws
+pub mod OrderLaws
+pub mod CountLaws
+pub mod FedLaws

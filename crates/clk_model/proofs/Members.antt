@@ -1,7 +1,10 @@
 -- Laws on whether a number is in a list.
-use Rattle.std.proofs.Common.{◌≡◌, ℕ, zero, suc, ◌+◌, ◌<◌, ◌≤◌, ◌||◌, ◌&&◌, Bool, true, false, List, [], ◌∷◌, ◌++◌, refl, sym, ap, ◌∙◌, ◌⊎◌, inl, inr, arith, nat_eq}
+use Rattle.std.proofs.Common.{◌≡◌, ℕ, zero, suc, ◌+◌, ◌<◌, ◌≤◌, ◌||◌, ◌&&◌, Bool, true, false, List, [], ◌∷◌, refl, sym, ap, ◌∙◌, ◌⊎◌, inl, inr, arith, nat_eq}
 use Rattle.std.proofs.lemmas.Bool.Decides.{nat_tests}
 use Rattle.std.specs.List.{list_any}
+use Rattle.std.specs.Prelude.{reverse}
+use Rattle.std.proofs.lemmas.List.Folds.{list_any-append}
+use mathlib.Core.List.{reverse-cons}
 use Rattle.clk_model.specs.Lists.{is_in, count_from}
 
 -- one of two tests passes
@@ -97,3 +100,17 @@ both_left false b h = h
 pub both_right : (a b : Bool) → (a && b) ≡ true → b ≡ true
 both_right true b h = h
 both_right false b h = absurd cc
+
+-- what is in a list is in its reverse, and back
+pub is_in-reverse : (x : ℕ) (xs : List ℕ) → is_in x (reverse xs) ≡ is_in x xs
+is_in-reverse x [] = refl
+is_in-reverse x (y ∷ xs) =
+    ap (is_in x) (reverse-cons y xs)
+    ∙ list_any-append (λ z. nat_eq z x) (reverse xs) (y ∷ [])
+    ∙ ap (λ (b : Bool). b || is_in x (y ∷ [])) (is_in-reverse x xs)
+    ∙ or_swap (is_in x xs) (nat_eq y x) where
+      or_swap : (a b : Bool) → (a || (b || false)) ≡ (b || a)
+      or_swap true true = refl
+      or_swap true false = refl
+      or_swap false true = refl
+      or_swap false false = refl

@@ -1,5 +1,5 @@
 -- Laws on paths.
-use Rattle.std.proofs.Common.{◌≡◌, ℕ, zero, suc, ◌-◌, ◌<◌, Bool, true, false, List, [], ◌∷◌, Option, Some, None, refl, sym, ap, subst, ◌∙◌, ◌⊎◌, inl, inr, arith}
+use Rattle.std.proofs.Common.{◌≡◌, ℕ, zero, suc, ◌-◌, ◌<◌, true, List, [], ◌∷◌, Option, Some, None, refl, ap, subst, ◌∙◌, inl, inr, arith}
 use Rattle.std.specs.Option.{option_map_or}
 use Rattle.clk_model.specs.Lists.{is_in}
 use Rattle.clk_model.specs.Tree.{path_within}
@@ -10,7 +10,7 @@ abbrev pub above : (ℕ → Option ℕ) → ℕ → Option ℕ → List ℕ
 above up levels o = option_map_or (path_within up levels) o []
 
 -- what is above a link is above that parent
-in_above : (up : ℕ → Option ℕ) (levels a : ℕ) (o : Option ℕ) → is_in a (above up levels o) ≡ true
+pub in_above : (up : ℕ → Option ℕ) (levels a : ℕ) (o : Option ℕ) → is_in a (above up levels o) ≡ true
     → (p : ℕ) × (o ≡ Some p) × (is_in a (path_within up levels p) ≡ true)
 in_above up levels a None m = absurd cc
 in_above up levels a (Some p) m = (p, refl, m)
@@ -38,8 +38,8 @@ path_agree up up' zero c same = refl
 path_agree up up' (suc levels) c same =
     ap (λ (o : Option ℕ). c ∷ above up' levels o) (same c (is_in_head c (above up levels (up c))))
     ∙ ap (λ (ps : List ℕ). c ∷ ps)
-        (above_agree up up' levels (up c) (λ p e. path_agree up up' levels p
-          (λ a m. same a (is_in_tail a c (above up levels (up c)) (ap (λ (o : Option ℕ). is_in a (above up levels o)) e ∙ m)))))
+    (above_agree up up' levels (up c) (λ p e. path_agree up up' levels p
+    (λ a m. same a (is_in_tail a c (above up levels (up c)) (ap (λ (o : Option ℕ). is_in a (above up levels o)) e ∙ m)))))
 
 -- a path is its clock, and the path of the parent that the clock is linked to
 pub path_cons : (up : ℕ → Option ℕ) (levels c : ℕ) → 0 < levels → path_within up levels c ≡ c ∷ above up (levels - 1) (up c)

@@ -1,6 +1,6 @@
 -- How each call begins: answered at once, refused, or going on with a script.
-use Rattle.std.specs.Prelude.{ℕ, ℤ, zero, suc, ◌+◌, ◌-◌, ◌==◌, ◌&&◌, ◌||◌, List, [], ◌∷◌, ◌++◌, Bool, true, false, not, nat_lt, nat_le, Option, Some, None, filter, map, min, max, if◌then◌else◌, length, sum_by, option_map, is_some, is_none, slice_get, slice_set}
-use Rattle.std.specs.List.{list_any, enumerate_from}
+use Rattle.std.specs.Prelude.{ℕ, ℤ, ◌+◌, ◌-◌, ◌==◌, ◌&&◌, ◌||◌, List, [], ◌∷◌, ◌++◌, Bool, true, false, not, nat_lt, nat_le, Option, Some, None, filter, min, max, if◌then◌else◌, length, sum_by, option_map, is_some, is_none, slice_get, slice_set}
+use Rattle.std.specs.List.{list_any}
 use Rattle.std.specs.Option.{option_map_or}
 use Rattle.clk_base.specs.declared.call.Sleeping.{Sleeping}
 use Rattle.clk_base.specs.declared.call.Sleeping.TheVariants as call
@@ -18,24 +18,26 @@ use Rattle.reg_bank.specs.Registers.{Registers}
 use Rattle.clk_base.specs.Flags.{is_critical, sets_parent_gate}
 use Rattle.clk_model.specs.declared.row.HandleRow.{HandleRow}
 use Rattle.clk_model.specs.declared.row.ClockRow.{ClockRow}
-use Rattle.clk_model.specs.Lists.{is_in, is_at, present, to_front}
+use Rattle.clk_model.specs.Lists.{is_in, is_at, to_front}
 use Rattle.clk_model.specs.Kinds.{mux_field, is_read_only}
-use Rattle.clk_model.specs.State.{State, Change, ChainStep, NotifierRow, registered, link_in, handle_at}
+use Rattle.clk_model.specs.State.{State, Change, ChainStep, registered, link_in, handle_at}
 use Rattle.clk_model.specs.Tree.{rooted, path_to_be, path, link_given}
 use Rattle.clk_model.specs.Rate.{rate}
 use Rattle.clk_model.specs.Holders.{guarded, prepared}
-use Rattle.clk_model.specs.Round.{View, wiring, most_rate, round_rate}
+use Rattle.clk_model.specs.Round.{wiring, rate_in, most_rate, round_rate}
 use Rattle.clk_model.specs.Chain.{clock_id, chain, outcome}
 use Rattle.clk_model.specs.Walk.{rates_in}
 use Rattle.clk_model.specs.Notices.{notifiers_of}
 use Rattle.clk_model.specs.Views.{view, free_view, lift, handles_on}
-use Rattle.clk_model.specs.Script.{Planned, planned, unprepared_plls, runs, probe_script, sweep_script, adoptable, weight, is_raise, notices_of}
+use Rattle.clk_model.specs.Script.{planned, unprepared_plls, runs, probe_script, sweep_script, adoptable, weight, is_raise, notices_of}
 
 -- ---- answers
 
+-- the call is answered
 abbrev pub done : State → Reply → State × Turn
 done s r = (s, turn.Done r)
 
+-- the call is refused, and nothing changes
 abbrev pub refused : State → Errno → State × Turn
 refused s e = (s, turn.Done (reply.Refused e))
 
@@ -58,15 +60,28 @@ weight_of s k = sum_by (weight s) k.left + k.extra
 abbrev pub starts : State → State → Change → State × Turn
 starts old new k =
     pick (nat_lt most_credits (new.credits + new.steps + weight_of new k))
-      (λ t. refused old errno.ENOSPC)
-      (λ t. (record new { change = Some k }, turn.Going))
+    (λ t. refused old errno.ENOSPC)
+    (λ t. (record new { change = Some k }, turn.Going))
 
 -- a change with this script, and nothing else
 abbrev pub change_of : State → ℕ → Sleeping → List Micro → Change
 change_of s driver what steps = record {
-  driver = driver; call = what; front = []; left = steps; polls = 0; again = 0; raised = [];
-  before = rates_in (wiring s); outcome = rates_in (wiring s); chain = []; changing = [];
-  range = None; extra = 0; vetoed = false; timed_out = false }
+  driver = driver;
+  call = what;
+  front = [];
+  left = steps;
+  polls = 0;
+  again = 0;
+  raised = [];
+  before = rates_in (wiring s);
+  outcome = rates_in (wiring s);
+  chain = [];
+  changing = [];
+  range = None;
+  extra = 0;
+  vetoed = false;
+  timed_out = false;
+}
 
 -- a change of rates or of a parent by a planned chain
 abbrev pub change_along : State → ℕ → Sleeping → List ChainStep → List Micro → Option (ℕ × ℕ) → Change
@@ -76,6 +91,7 @@ change_along s driver what ks settles range =
 
 -- ---- handles
 
+-- the state with a handle in the place of this number, or none
 abbrev pub put_handle : State → ℕ → Option HandleRow → State
 put_handle s number h = record s { handles = slice_set s.handles number h }
 
@@ -89,9 +105,10 @@ with_handle s driver number f = option_map_or f (own_handle s driver number) (re
 
 -- a new handle, which allows every rate; what is given has its number, and the slot is no part of it
 abbrev pub given : State → ℕ → ℕ → State × Turn
-given s driver c =
-    (record s { handles = s.handles ++ Some (record { driver = driver; clock = clock_id c; prepares = 0; enables = 0; exclusives = 0; min = 0; max = most_rate }) ∷ [] },
-     turn.Done (reply.Handle (record { number = length s.handles; slot = 0; driver = driver })))
+given s driver c = (
+  record s { handles = s.handles ++ Some (record { driver = driver; clock = clock_id c; prepares = 0; enables = 0; exclusives = 0; min = 0; max = most_rate }) ∷ [] },
+  turn.Done (reply.Handle (record { number = length s.handles; slot = 0; driver = driver })),
+)
 
 -- Get: the clock must be found, registered and rooted
 abbrev pub got : State → ℕ → Option ℕ → State × Turn
@@ -102,11 +119,12 @@ got s driver (Some c) = pick (rooted s.defs s.clocks c) (λ t. given s driver c)
 abbrev pub put_back : State → ℕ → HandleRow → State × Turn
 put_back s number h =
     pick (nat_lt 0 h.prepares || nat_lt 0 h.enables || nat_lt 0 h.exclusives)
-      (λ t. refused s errno.EBUSY)
-      (λ t. done (put_handle s number None) reply.Fine)
+    (λ t. refused s errno.EBUSY)
+    (λ t. done (put_handle s number None) reply.Fine)
 
 -- ---- prepares
 
+-- one prepare more
 abbrev pub prepared_once_more : State → ℕ → HandleRow → State
 prepared_once_more s number h = put_handle s number (Some (record h { prepares = h.prepares + 1 }))
 
@@ -114,18 +132,18 @@ prepared_once_more s number h = put_handle s number (Some (record h { prepares =
 abbrev pub prepare : State → ℕ → Sleeping → ℕ → HandleRow → State × Turn
 prepare s driver what number h =
     pick (is_none (slice_get (unprepared_plls s (path s.clocks h.clock.0)) 0))
-      (λ t. done (prepared_once_more s number h) reply.Fine)
-      (λ t. starts s s (change_of s driver what (micro.Raise h.clock ∷ micro.End ∷ [])))
+    (λ t. done (prepared_once_more s number h) reply.Fine)
+    (λ t. starts s s (change_of s driver what (micro.Raise h.clock ∷ micro.End ∷ [])))
 
 -- Unprepare: at once where no PLL above has to be lowered
 abbrev pub unprepare : State → ℕ → Sleeping → ℕ → HandleRow → State × Turn
 unprepare s driver what number h =
     pick (h.prepares == 0 || (h.prepares == 1 && nat_lt 0 h.enables))
-      (λ t. done s reply.Warn)
-      (λ t. let less = put_handle s number (Some (record h { prepares = h.prepares - 1 })) in
-        pick (is_none (slice_get (filter (runs s.defs s.regs) (unprepared_plls less (path s.clocks h.clock.0))) 0))
-          (λ t. done less reply.Fine)
-          (λ t. starts s less (change_of s driver what (micro.Lower h.clock ∷ micro.End ∷ []))))
+    (λ t. done s reply.Warn)
+    (λ t. let less = put_handle s number (Some (record h { prepares = h.prepares - 1 })) in
+    pick (is_none (slice_get (filter (runs s.defs s.regs) (unprepared_plls less (path s.clocks h.clock.0))) 0))
+    (λ t. done less reply.Fine)
+    (λ t. starts s less (change_of s driver what (micro.Lower h.clock ∷ micro.End ∷ []))))
 
 -- ---- rates
 
@@ -134,17 +152,19 @@ abbrev pub rounded : State → ℕ → HandleRow → ℕ → State × Turn
 rounded s number h x =
     option_map_or (λ r. done s (reply.Rate r)) (round_rate (wiring s) (view (lift s number)) h.clock.0 x) (refused s errno.EINVAL)
 
--- a request for a rate: nothing to do where the clock would give its rate anyway, refused where it is guarded or there is no plan;
--- old is the state that a refusal leaves, new the one with a new range, fine the one after an answer at once, lifted the one that is planned over
+-- a request for a rate: nothing to do where the clock would give its rate anyway, refused where it is guarded or there is no
+-- plan;
+-- old is the state that a refusal leaves, new the one with a new range, fine the one after an answer at once, lifted the one
+-- that is planned over
 abbrev pub request : State → State → State → State → ℕ → Sleeping → ℕ → ℕ → Option (ℕ × ℕ) → State × Turn
 request old new fine lifted driver what c x range =
     pick (is_at (rate new.defs new.regs new.clocks c) (round_rate (wiring new) (free_view lifted c) c x))
-      (λ t. done fine reply.Fine)
-      (λ t. pick (guarded lifted c)
-        (λ t. refused old errno.EBUSY)
-        (λ t. option_map_or (λ ks. starts old new (change_along new driver what ks [] range)) (chain (wiring new) (view lifted) c x) (refused old errno.EINVAL)))
+    (λ t. done fine reply.Fine)
+    (λ t. pick (guarded lifted c)
+    (λ t. refused old errno.EBUSY)
+    (λ t. option_map_or (λ ks. starts old new (change_along new driver what ks [] range)) (chain (wiring new) (view lifted) c x) (refused old errno.EINVAL)))
 
--- one exclusive more
+-- one exclusive hold more
 abbrev pub held_once_more : State → ℕ → HandleRow → State
 held_once_more s number h = put_handle s number (Some (record h { exclusives = h.exclusives + 1 }))
 
@@ -163,58 +183,64 @@ abbrev pub range_set : State → ℕ → Sleeping → ℕ → HandleRow → ℕ 
 range_set s driver what number h least most =
     let new = put_handle s number (Some (record h { min = least; max = most })) in
     pick (misses s number h least most)
-      (λ t. refused s errno.EINVAL)
-      (λ t. request s new new (lift new number) driver what h.clock.0 (request_between s.clocks h.clock.0 least most) (Some (h.min, h.max)))
+    (λ t. refused s errno.EINVAL)
+    (λ t. request s new new (lift new number) driver what h.clock.0 (request_between s.clocks h.clock.0 least most) (Some (h.min, h.max)))
 
 -- ---- parents
 
--- SetParent, where lifted is the state without one exclusive of the handle
+-- SetParent: nothing to do for the parent that the clock has; refused where the field is only read, where a prepared clock
+-- keeps its
+-- parent, where the clock is guarded in lifted, the state with one exclusive of the handle less, and where p is no candidate
 abbrev pub parent_set : State → State → ℕ → Sleeping → ℕ → ℕ → State × Turn
 parent_set s lifted driver what c p =
     pick (is_at p (link_in s.clocks c))
-      (λ t. done s reply.Fine)
-      (λ t. pick (is_read_only (kind_of s.defs c) && nat_le 2 (length (parents_of s.defs c)))
-        (λ t. refused s errno.EPERM)
-        (λ t. pick ((sets_parent_gate s.defs c && prepared s c) || guarded lifted c)
-          (λ t. refused s errno.EBUSY)
-          (λ t. pick (is_some (mux_field (kind_of s.defs c)) && is_in p (parents_of s.defs c) && rooted s.defs s.clocks p)
-            (λ t. starts s s (reparenting s driver what c p))
-            (λ t. refused s errno.EINVAL)))) where
-  reparenting : State → ℕ → Sleeping → ℕ → ℕ → Change
-  reparenting s driver what c p =
-    let bare : List ChainStep = record { clock = c; rate = 0; parent = Some p } ∷ [] in
-    let ks : List ChainStep = record { clock = c; rate = rate (outcome bare (wiring s)).defs (outcome bare (wiring s)).regs (outcome bare (wiring s)).clocks c; parent = Some p } ∷ [] in
-    let k = change_along s driver what ks (micro.Settle (clock_id c) ∷ []) None in
-    record k { extra = if list_any is_raise k.left then notices_of s k.changing else 0 }
+    (λ t. done s reply.Fine)
+    (λ t. pick (is_read_only (kind_of s.defs c) && nat_le 2 (length (parents_of s.defs c)))
+    (λ t. refused s errno.EPERM)
+    (λ t. pick ((sets_parent_gate s.defs c && prepared s c) || guarded lifted c)
+    (λ t. refused s errno.EBUSY)
+    (λ t. pick (is_some (mux_field (kind_of s.defs c)) && is_in p (parents_of s.defs c) && rooted s.defs s.clocks p)
+    (λ t. starts s s (reparenting s driver what c p))
+    (λ t. refused s errno.EINVAL)))) where
+      reparenting : State → ℕ → Sleeping → ℕ → ℕ → Change
+      reparenting s driver what c p =
+          let bare : List ChainStep = record { clock = c; rate = 0; parent = Some p } ∷ [] in
+          let ks : List ChainStep = record { clock = c; rate = rate_in (outcome bare (wiring s)) c; parent = Some p } ∷ [] in
+          let k = change_along s driver what ks (micro.Settle (clock_id c) ∷ []) None in
+          record k { extra = if list_any is_raise k.left then notices_of s k.changing else 0 }
 
 -- ---- exclusives and notifiers
 
+-- ExclusivePut: the handle must have an exclusive hold, else a warning
 abbrev pub exclusive_put : State → ℕ → HandleRow → State × Turn
 exclusive_put s number h =
     pick (h.exclusives == 0)
-      (λ t. done s reply.Warn)
-      (λ t. done (put_handle s number (Some (record h { exclusives = h.exclusives - 1 }))) reply.Fine)
+    (λ t. done s reply.Warn)
+    (λ t. done (put_handle s number (Some (record h { exclusives = h.exclusives - 1 }))) reply.Fine)
 
 -- how many notifiers a clock may have
 abbrev pub most_notifiers : ℕ
 most_notifiers = 256
 
+-- whether the clock has a notifier of this id
 abbrev pub has_notifier : State → ℕ → ℕ → Bool
 has_notifier s c id = list_any (λ n. (n.clock == c) && (n.id == id)) s.notifiers
 
+-- NotifierAdd: refused where the clock has the id or as many notifiers as it may have
 abbrev pub notifier_added : State → ℕ → ℕ → ℤ → Policy → State × Turn
 notifier_added s c id priority policy =
     pick (has_notifier s c id)
-      (λ t. refused s errno.EEXIST)
-      (λ t. pick (nat_le most_notifiers (length (notifiers_of s.notifiers c)))
-        (λ t. refused s errno.ENOSPC)
-        (λ t. done (record s { notifiers = s.notifiers ++ record { clock = c; id = id; priority = priority; policy = policy } ∷ [] }) reply.Fine))
+    (λ t. refused s errno.EEXIST)
+    (λ t. pick (nat_le most_notifiers (length (notifiers_of s.notifiers c)))
+    (λ t. refused s errno.ENOSPC)
+    (λ t. done (record s { notifiers = s.notifiers ++ record { clock = c; id = id; priority = priority; policy = policy } ∷ [] }) reply.Fine))
 
+-- NotifierRemove: refused where the clock hasn't the id
 abbrev pub notifier_removed : State → ℕ → ℕ → State × Turn
 notifier_removed s c id =
     pick (has_notifier s c id)
-      (λ t. done (record s { notifiers = filter (λ n. not ((n.clock == c) && (n.id == id))) s.notifiers }) reply.Fine)
-      (λ t. refused s errno.ENOENT)
+    (λ t. done (record s { notifiers = filter (λ n. not ((n.clock == c) && (n.id == id))) s.notifiers }) reply.Fine)
+    (λ t. refused s errno.ENOENT)
 
 -- ---- registration and the sweep
 
@@ -226,7 +252,8 @@ registered_row defs regs clocks c = record { registered = true; link = option_ma
 abbrev pub registered_rows : Description → Registers → List ClockRow → ℕ → List ClockRow
 registered_rows defs regs clocks c =
     slice_set clocks c (record (registered_row defs regs clocks c) {
-      last_request = rate defs regs (slice_set clocks c (registered_row defs regs clocks c)) c })
+      last_request = rate defs regs (slice_set clocks c (registered_row defs regs clocks c)) c;
+    })
 
 -- the state with the clock registered and the newest attach number
 unfoldable pub register : State → ℕ → State
@@ -236,20 +263,22 @@ register s c = record s { clocks = registered_rows s.defs s.regs s.clocks c; ord
 abbrev pub probed : State → ℕ → Sleeping → ℕ → State × Turn
 probed s driver what c =
     pick (registered s.clocks c)
-      (λ t. refused s errno.EEXIST)
-      (λ t. pick (is_none (slice_get (adoptable (register s c)) 0)
-          && (not (is_critical s.defs c) || is_none (slice_get (unprepared_plls s (path_to_be s.defs s.regs s.clocks c)) 0)))
-        (λ t. done (register s c) reply.Fine)
-        (λ t. starts s s (change_of s driver what (probe_script (register s c) c))))
+    (λ t. refused s errno.EEXIST)
+    (λ t. pick (is_none (slice_get (adoptable (register s c)) 0)
+    && (not (is_critical s.defs c) || is_none (slice_get (unprepared_plls s (path_to_be s.defs s.regs s.clocks c)) 0)))
+    (λ t. done (register s c) reply.Fine)
+    (λ t. starts s s (change_of s driver what (probe_script (register s c) c))))
 
+-- Sweep: nothing to do where it is switched off
 abbrev pub swept : State → ℕ → Sleeping → State × Turn
 swept s driver what =
     pick s.ignore_unused
-      (λ t. done s reply.Fine)
-      (λ t. starts s s (change_of s driver what (sweep_script s)))
+    (λ t. done s reply.Fine)
+    (λ t. starts s s (change_of s driver what (sweep_script s)))
 
 -- ---- each call
 
+-- how a call of a driver begins
 unfoldable pub begun : State → ℕ → Sleeping → State × Turn
 begun s d (call.Get found) = got s d (option_map (λ c. c.0) found)
 begun s d (call.Put h) = with_handle s d h.number (put_back s h.number)

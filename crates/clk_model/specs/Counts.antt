@@ -1,5 +1,5 @@
 -- The three counts, as sums over holders and children.
-use Rattle.std.specs.Prelude.{ℕ, ◌+◌, List, Bool, ◌&&◌, ◌==◌, filter, sum_by, count_by, if◌then◌else◌}
+use Rattle.std.specs.Prelude.{ℕ, ◌+◌, ◌&&◌, ◌==◌, filter, sum_by, count_by, if◌then◌else◌}
 use Rattle.clk_base.specs.Flags.{is_critical, sets_rate_gate}
 use Rattle.clk_model.specs.declared.row.HandleRow.{HandleRow}
 use Rattle.clk_model.specs.Lists.{present}

@@ -1,7 +1,7 @@
 -- When the active clocks are fed.
-use Rattle.std.specs.Prelude.{◌≡◌, ℕ, ◌<◌, List, Bool, true, Option, Some, None, length, IfSome, IsSome, slice_get, option_and_then}
+use Rattle.std.specs.Prelude.{◌≡◌, ℕ, List, Bool, true, Option, Some, IfSome, IsSome, option_and_then}
 use Rattle.std.specs.Option.{option_map_or}
-use Rattle.clk_base.specs.Description.{Description, kind_of, parents_of}
+use Rattle.clk_base.specs.Description.{Description, kind_of}
 use Rattle.reg_bank.specs.Registers.{Registers}
 use Rattle.clk_model.specs.declared.row.ClockRow.{ClockRow}
 use Rattle.clk_base.specs.Fields.{gate_of, power_of}
@@ -10,12 +10,14 @@ use Rattle.clk_model.specs.State.{State, link_in}
 use Rattle.clk_model.specs.Tree.{selected}
 use Rattle.clk_model.specs.Holders.{active}
 
--- the clock that feeds another through the registers: of an attached mux the parent that its field selects, of another clock the one that it is attached to
+-- the clock that feeds another through the registers: of an attached mux the parent that its field selects, of another clock
+-- the one that it is attached to
 abbrev pub feeds : Description → Registers → List ClockRow → ℕ → Option ℕ
 feeds defs regs clocks c =
     option_and_then (λ p. option_map_or (λ f. selected defs regs c) (mux_field (kind_of defs c)) (Some p)) (link_in clocks c)
 
--- a clock is fed: its gate is open, its PLL is powered, its link and its feeding clock are active, and where it is attached it has a feeding clock
+-- a clock is fed: its gate is open, its PLL is powered, its link and its feeding clock are active, and where it is attached
+-- it has a feeding clock
 pub record IsFed (defs : Description) (regs : Registers) (clocks : List ClockRow) (active : ℕ → Bool) (c : ℕ) : Type 0 where
   pub open_ : IfSome (gate_of (kind_of defs c)) (λ gate. is_open regs gate ≡ true)
   pub powered : IfSome (power_of (kind_of defs c)) (λ power. is_powered regs power ≡ true)

@@ -1,7 +1,6 @@
 -- The commands of a driver, the calls that they make and what is answered to them.
 use Rattle.std.specs.Prelude.{◌≡◌, ℕ, ◌+◌, max, List, [], ◌∷◌, Option, Some, None, replicate, slice_get, slice_set, option_and_then, unwrap_or}
 use Rattle.std.specs.Option.{option_map_or}
-use Rattle.clk_base.specs.declared.call.Sleeping.{Sleeping}
 use Rattle.clk_base.specs.declared.call.Sleeping.TheVariants as call
 use Rattle.clk_base.specs.declared.command.Act.{Act}
 use Rattle.clk_base.specs.declared.command.Act.TheVariants as act
@@ -74,17 +73,20 @@ held_after held c (act.Get found) (reply.Handle h) = with_variable held c (Some 
 held_after held c act.Put reply.Fine = with_variable held c None
 held_after held c a r = held
 
--- a command makes the next call and has that call's reply as its answer, or it is skipped and makes no call; then the rest follows
+-- a command that makes this call, or none, where rest is what is said of the commands behind it: the call is the next one and its
+-- reply the answer, or the command is skipped and makes no call
+abbrev pub NextFollows : (Variables → List Answered → Type 0) → Variables → Command → Option Event → List Answered → Answer → Type 0
+NextFollows rest held c None calls a = (a ≡ answer.Skip) × rest held calls
+NextFollows rest held c (Some event) [] a = ⊥
+NextFollows rest held c (Some event) (l ∷ ls) a = (l.call ≡ event) × (a ≡ answer.Reply l.reply) × rest (held_after held c c.act l.reply) ls
+
+-- commands, taken in order where the variables hold these handles, make these calls and no other, and have these answers
 abbrev pub FollowsFrom : Variables → List Command → List Answered → List Answer → Type 0
 FollowsFrom held [] [] [] = Unit {0}
 FollowsFrom held [] _ _ = ⊥
 FollowsFrom held (c ∷ cs) calls [] = ⊥
 FollowsFrom held (c ∷ cs) calls (a ∷ answers) =
-    elim (call_of (handle_of held c) c.act) [
-      None ↦ (a ≡ answer.Skip) × FollowsFrom held cs calls answers
-    | Some event ↦ elim calls [
-        [] ↦ ⊥
-      | l ∷ ls ↦ (l.call ≡ event) × (a ≡ answer.Reply l.reply) × FollowsFrom (held_after held c c.act l.reply) cs ls answers ] ]
+    NextFollows (λ after ls. FollowsFrom after cs ls answers) held c (call_of (handle_of held c) c.act) calls a
 
 -- a driver's commands, taken in order, make these calls and no other, and have these answers
 abbrev pub Follows : List Command → List Answered → List Answer → Type 0

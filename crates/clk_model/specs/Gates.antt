@@ -1,5 +1,5 @@
 -- The gates follow the active clocks.
-use Rattle.std.specs.Prelude.{ℕ, List, [], ◌∷◌, Bool, true, false, Option, Some, None, length}
+use Rattle.std.specs.Prelude.{ℕ, List, [], ◌∷◌, Bool, true, false, length}
 use Rattle.std.specs.Option.{option_map_or}
 use Rattle.clk_base.specs.Description.{Description, kind_of}
 use Rattle.reg_bank.specs.Registers.{Registers}

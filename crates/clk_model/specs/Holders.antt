@@ -1,7 +1,6 @@
 -- Who keeps a clock active, prepared or guarded.
 use Rattle.std.specs.Prelude.{ℕ, ◌++◌, List, Bool, Option, ◌&&◌, nat_lt, map, filter, length}
 use Rattle.std.specs.List.{list_any}
-use Rattle.clk_base.specs.Description.{Description}
 use Rattle.clk_base.specs.Flags.{is_critical, sets_rate_gate}
 use Rattle.clk_model.specs.declared.row.ClockRow.{ClockRow}
 use Rattle.clk_model.specs.declared.row.HandleRow.{HandleRow}

@@ -1,7 +1,6 @@
 -- Journals: which are legal, what a driver finds in one, and the state that one begins from.
 use Rattle.std.specs.Prelude.{◌≡◌, ℕ, ◌+◌, ◌==◌, List, [], ◌∷◌, ◌++◌, Bool, true, false, Option, Some, None, filter, length, replicate, count_by, nat_le}
 use Rattle.std.specs.Option.{option_map_or}
-use Rattle.clk_base.specs.declared.call.Micro.{Micro}
 use Rattle.clk_base.specs.declared.call.Micro.TheVariants as micro
 use Rattle.clk_base.specs.declared.event.Event.{Event}
 use Rattle.clk_base.specs.declared.event.Event.TheVariants as event
@@ -33,8 +32,20 @@ Legal s (e ∷ es) = (t : State) × (next s e.driver e.event ≡ Some (t, slotle
 -- the state with a description, words and credits, in which nothing is registered and nothing is held
 abbrev pub opening : Description → Registers → Bool → ℕ → State
 opening defs words ignore_unused credits = record {
-  defs = defs; regs = words; clocks = replicate (length defs) unregistered_row; order = []; handles = []; notifiers = [];
-  prepare_holds = []; enable_holds = []; change = None; credits = credits; spent = 0; steps = 0; ignore_unused = ignore_unused }
+  defs = defs;
+  regs = words;
+  clocks = replicate (length defs) unregistered_row;
+  order = [];
+  handles = [];
+  notifiers = [];
+  prepare_holds = [];
+  enable_holds = [];
+  change = None;
+  credits = credits;
+  spent = 0;
+  steps = 0;
+  ignore_unused = ignore_unused;
+}
 
 -- ---- what a driver finds in a journal
 
@@ -79,6 +90,7 @@ abbrev pub AnswersByDelay : (ℕ → ℕ) → List ℕ → Event → Type 0
 AnswersByDelay delay asked (event.Step (micro.Poll y) (Some locked)) = locked ≡ nat_le (delay y.0) (count_by (λ z. z == y.0) asked + 1)
 AnswersByDelay delay asked _ = Unit {0}
 
+-- the same of each entry, where these PLLs were polled since the last raise
 abbrev pub PolledFrom : (ℕ → ℕ) → List ℕ → List Entry → Type 0
 PolledFrom delay asked [] = Unit {0}
 PolledFrom delay asked (e ∷ es) = AnswersByDelay delay asked e.event × PolledFrom delay (asked_after asked e.event) es

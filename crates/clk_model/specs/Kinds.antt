@@ -1,7 +1,7 @@
 -- What the definitions ask of a clock's kind, one question each.
-use Rattle.std.specs.Prelude.{ℕ, Bool, true, false, not, if◌then◌else◌, Option, Some, None}
+use Rattle.std.specs.Prelude.{Bool, true, false, not, if◌then◌else◌, Option, Some, None}
 use Rattle.clk_base.specs.declared.clock.Kind.{Kind}
-use Rattle.clk_base.specs.declared.clock.Kind.TheVariants.{FixedRate, Factor, Gate, Mux, Divider, Pll}
+use Rattle.clk_base.specs.declared.clock.Kind.TheVariants.{FixedRate, Gate, Mux, Pll}
 use Rattle.clk_base.specs.Fields.{Field, GateBit, PowerBit}
 use Rattle.reg_bank.specs.Registers.{Registers, is_set, put_bit}
 
@@ -10,6 +10,7 @@ abbrev pub is_fixed : Kind → Bool
 is_fixed (FixedRate rate) = true
 is_fixed _ = false
 
+-- whether the clock is a PLL
 abbrev pub is_pll : Kind → Bool
 is_pll (Pll word shift width power_word power_bit least most m) = true
 is_pll _ = false

@@ -17,6 +17,10 @@ pub mod Begin
 pub mod Step
 pub mod Machine
 pub mod Journal
-pub mod Examples
 pub mod Text
 pub mod Follows
+pub mod Ordered
+pub mod Prep
+pub mod Summary
+pub mod Weight
+pub mod Examples

@@ -1,7 +1,5 @@
 -- The machine: what each event does, and where it is defined.
-use Rattle.std.specs.Prelude.{ℕ, zero, suc, ◌+◌, ◌-◌, ◌==◌, ◌&&◌, List, [], ◌∷◌, ◌++◌, Bool, true, false, not, nat_lt, Option, Some, None, if◌then◌else◌, option_map, option_and_then, unwrap_or, is_some, is_none}
-use Rattle.std.specs.Option.{option_map_or}
-use Rattle.clk_base.specs.declared.call.Sleeping.{Sleeping}
+use Rattle.std.specs.Prelude.{ℕ, ◌+◌, ◌-◌, ◌==◌, ◌&&◌, List, [], ◌∷◌, Bool, true, false, not, nat_lt, Option, Some, None, if◌then◌else◌, option_and_then, is_some}
 use Rattle.clk_base.specs.declared.call.Micro.{Micro}
 use Rattle.clk_base.specs.declared.call.Micro.TheVariants as micro
 use Rattle.clk_base.specs.declared.call.Notice.{Notice}
@@ -9,10 +7,8 @@ use Rattle.clk_base.specs.declared.call.Notice.TheVariants as notice
 use Rattle.clk_base.specs.declared.event.Errno.TheVariants as errno
 use Rattle.clk_base.specs.declared.event.Event.{Event}
 use Rattle.clk_base.specs.declared.event.Event.TheVariants as event
-use Rattle.clk_base.specs.declared.event.Reply.{Reply}
 use Rattle.clk_base.specs.declared.event.Reply.TheVariants as reply
 use Rattle.clk_base.specs.declared.event.Turn.{Turn}
-use Rattle.clk_base.specs.declared.event.Turn.TheVariants as turn
 use Rattle.clk_model.specs.declared.row.HandleRow.{HandleRow}
 use Rattle.clk_model.specs.State.{State, Change, is_quiet}
 use Rattle.clk_model.specs.Holders.{active}
@@ -26,15 +22,15 @@ use Rattle.clk_model.specs.Step.{taken, stepped, todo}
 abbrev pub enabled : State → ℕ → HandleRow → State × Turn
 enabled s number h =
     pick (h.prepares == 0)
-      (λ t. refused s errno.ESHUTDOWN)
-      (λ t. done (put_handle s number (Some (record h { enables = h.enables + 1 }))) reply.Fine)
+    (λ t. refused s errno.ESHUTDOWN)
+    (λ t. done (put_handle s number (Some (record h { enables = h.enables + 1 }))) reply.Fine)
 
 -- Disable: the handle must have an enable, else a warning
 abbrev pub disabled : State → ℕ → HandleRow → State × Turn
 disabled s number h =
     pick (h.enables == 0)
-      (λ t. done s reply.Warn)
-      (λ t. done (put_handle s number (Some (record h { enables = h.enables - 1 }))) reply.Fine)
+    (λ t. done s reply.Warn)
+    (λ t. done (put_handle s number (Some (record h { enables = h.enables - 1 }))) reply.Fine)
 
 -- Running: whether the clock of the handle is active
 abbrev pub running : State → HandleRow → State × Turn
@@ -48,6 +44,7 @@ same_list [] [] = true
 same_list (x ∷ xs) (y ∷ ys) = (x == y) && same_list xs ys
 same_list _ _ = false
 
+-- a kind of notice as a list of numbers
 abbrev pub notice_code : Notice → List ℕ
 notice_code (notice.Pre veto) = 0 ∷ (if veto then 1 else 0) ∷ []
 notice_code notice.Abort = 1 ∷ []
@@ -73,6 +70,7 @@ micro_code (micro.Close c) = 14 ∷ c.0 ∷ []
 micro_code (micro.Unpower c) = 15 ∷ c.0 ∷ []
 micro_code micro.End = 16 ∷ []
 
+-- whether a step asks the bank for a lock
 abbrev pub is_poll : Micro → Bool
 is_poll (micro.Poll y) = true
 is_poll _ = false

@@ -1,6 +1,5 @@
 -- The notices of a change.
-use Rattle.std.specs.Prelude.{ℕ, ◌==◌, List, [], ◌∷◌, ◌++◌, Bool, true, false, filter, map, if◌then◌else◌, flat_map, nat_lt, slice_index}
-use Rattle.std.specs.List.{list_any}
+use Rattle.std.specs.Prelude.{ℕ, ◌==◌, List, [], ◌∷◌, Bool, true, false, filter, map, if◌then◌else◌, flat_map, nat_lt, slice_index}
 use Rattle.std.specs.Int.RustNames.{int_lt}
 use Rattle.clk_base.specs.declared.call.Micro.{Micro}
 use Rattle.clk_base.specs.declared.call.Micro.TheVariants as micro

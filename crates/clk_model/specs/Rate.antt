@@ -1,5 +1,5 @@
 -- The rate that the registers give.
-use Rattle.std.specs.Prelude.{ℕ, zero, suc, List, Bool, true, false, Option, Some, None}
+use Rattle.std.specs.Prelude.{ℕ, zero, suc, List, Bool, true, false}
 use Rattle.std.specs.Option.{option_map_or}
 use Rattle.clk_base.specs.declared.clock.Kind.{Kind}
 use Rattle.clk_base.specs.declared.clock.Kind.TheVariants as kinds
@@ -28,6 +28,7 @@ rate_over (kinds.Divider word shift width one_based power_of_two) regs parent =
     div_rate parent (field regs word shift width) (style_of one_based power_of_two)
 rate_over (kinds.Pll word shift width power_word power_bit least most m) regs parent = pll_rate parent (field regs word shift width) m
 
+-- the rate of a clock over at most so many levels
 abbrev pub rate_within : Description → Registers → List ClockRow → ℕ → ℕ → ℕ
 rate_within defs regs clocks zero c = 0
 rate_within defs regs clocks (suc levels) c =

@@ -1,5 +1,5 @@
 -- The scripts of the calls that go on, and what they weigh.
-use Rattle.std.specs.Prelude.{ℕ, zero, suc, ◌+◌, ◌*◌, List, [], ◌∷◌, ◌++◌, Bool, true, false, not, ◌&&◌, ◌||◌, ◌==◌, Option, Some, None, filter, map, max, fold, if◌then◌else◌, flat_map, length, sum_by, option_map, unwrap_or, find, reverse}
+use Rattle.std.specs.Prelude.{ℕ, zero, suc, ◌+◌, ◌*◌, List, [], ◌∷◌, ◌++◌, Bool, true, false, not, ◌&&◌, ◌==◌, filter, map, if◌then◌else◌, flat_map, length, sum_by, find}
 use Rattle.std.specs.List.{list_any}
 use Rattle.std.specs.Option.{option_map_or}
 use Rattle.clk_base.specs.declared.call.Micro.{Micro}
@@ -8,14 +8,15 @@ use Rattle.clk_base.specs.Description.{Description, kind_of, parents_of}
 use Rattle.clk_base.specs.Levels.{depth}
 use Rattle.clk_base.specs.Flags.{ignores_unused, is_critical}
 use Rattle.reg_bank.specs.Registers.{Registers}
+use Rattle.kind_math.specs.Choices.{greatest_of}
 use Rattle.clk_model.specs.declared.row.ClockRow.{ClockRow}
-use Rattle.clk_model.specs.Lists.{is_in, is_at, count_from, without_one}
+use Rattle.clk_model.specs.Lists.{is_in, count_from, without_one}
 use Rattle.clk_base.specs.Fields.{gate_of, power_of}
 use Rattle.clk_model.specs.Kinds.{is_pll, is_open, is_powered}
-use Rattle.clk_model.specs.State.{State, ChainStep, NotifierRow, link_in}
-use Rattle.clk_model.specs.Tree.{path, path_to_be, children, roots, orphans, link_given}
+use Rattle.clk_model.specs.State.{State, ChainStep, link_in}
+use Rattle.clk_model.specs.Tree.{path, children, roots, orphans, link_given}
 use Rattle.clk_model.specs.Holders.{active, prepared}
-use Rattle.clk_model.specs.Round.{Wiring, View, wiring}
+use Rattle.clk_model.specs.Round.{wiring}
 use Rattle.clk_model.specs.Chain.{clock_id, moves, outcome, place_of}
 use Rattle.clk_model.specs.Walk.{walk, changing, rates_in}
 use Rattle.clk_model.specs.Notices.{Rates, notifiers_of, is_veto, pre_list, abort_list}
@@ -39,13 +40,14 @@ pub record Planned : Type 0 where
   pub changing : List ℕ
   pub outcome : List ℕ
 
--- the steps that move a clock: a mux that isn't prepared is only relinked; under a prepared one the new parent runs before and the old one after
+-- the steps that move a clock: a mux that isn't prepared is only relinked; under a prepared one the new parent runs before
+-- and the old one after
 abbrev pub move : Description → List ClockRow → (ℕ → Bool) → ℕ → ℕ → List Micro
 move defs clocks prepared c p =
     if prepared c
     then micro.Raise (clock_id p) ∷ micro.HoldPrepare (clock_id p) ∷ micro.HoldEnable (clock_id p) ∷ micro.HoldEnable (clock_id c)
-      ∷ micro.Relink (clock_id c) (clock_id p) ∷ micro.WriteMux (clock_id c) (place_of defs c p) ∷ micro.DropEnable (clock_id c)
-      ∷ option_map_or (λ o. micro.DropEnable (clock_id o) ∷ micro.DropPrepare (clock_id o) ∷ micro.Lower (clock_id o) ∷ []) (link_in clocks c) []
+    ∷ micro.Relink (clock_id c) (clock_id p) ∷ micro.WriteMux (clock_id c) (place_of defs c p) ∷ micro.DropEnable (clock_id c)
+    ∷ option_map_or (λ o. micro.DropEnable (clock_id o) ∷ micro.DropPrepare (clock_id o) ∷ micro.Lower (clock_id o) ∷ []) (link_in clocks c) []
     else micro.Relink (clock_id c) (clock_id p) ∷ micro.WriteMux (clock_id c) (place_of defs c p) ∷ []
 
 -- the move of a clock, where the chain moves it
@@ -53,7 +55,8 @@ abbrev pub move_of : Description → List ClockRow → (ℕ → Bool) → List C
 move_of defs clocks prepared ks c =
     flat_map (λ k. option_map_or (move defs clocks prepared c) k.parent []) (filter (λ k. (k.clock == c) && moves clocks k) ks)
 
--- the script of a plan: all notices before it; then where one vetoes the notices that it is called off, else each clock of the walk with its move; and the end
+-- the script of a plan: all notices before it; then where one vetoes the notices that it is called off, else each clock of
+-- the walk with its move; and the end
 unfoldable pub planned : State → List ChainStep → List Micro → Planned
 planned s ks settles =
     let w = wiring s in
@@ -63,12 +66,13 @@ planned s ks settles =
     let vetoed = list_any is_veto notices in
     record {
       steps = notices
-        ++ (if vetoed then abort_list rates s.notifiers clocks
-            else flat_map (λ c. move_of s.defs s.clocks (prepared s) ks c ++ micro.Visit (clock_id c) ∷ []) (walk s.order w ks) ++ settles)
-        ++ micro.End ∷ [];
+          ++ (if vetoed then abort_list rates s.notifiers clocks
+          else flat_map (λ c. move_of s.defs s.clocks (prepared s) ks c ++ micro.Visit (clock_id c) ∷ []) (walk s.order w ks) ++ settles)
+          ++ micro.End ∷ [];
       vetoed = vetoed;
       changing = clocks;
-      outcome = rates.outcome }
+      outcome = rates.outcome;
+    }
 
 -- ---- registration
 
@@ -90,10 +94,10 @@ adoption_order (suc n) s left = option_map_or (λ a. a ∷ adoption_order n s (w
 abbrev pub adoption : State → ℕ → List Micro
 adoption s a =
     option_map_or (λ p.
-      if prepared s a
-      then micro.Raise (clock_id p) ∷ micro.HoldPrepare (clock_id p) ∷ micro.HoldEnable (clock_id p) ∷ micro.HoldEnable (clock_id a)
-        ∷ micro.Relink (clock_id a) (clock_id p) ∷ micro.DropEnable (clock_id a) ∷ micro.Settle (clock_id a) ∷ []
-      else micro.Relink (clock_id a) (clock_id p) ∷ micro.Settle (clock_id a) ∷ [])
+    if prepared s a
+    then micro.Raise (clock_id p) ∷ micro.HoldPrepare (clock_id p) ∷ micro.HoldEnable (clock_id p) ∷ micro.HoldEnable (clock_id a)
+    ∷ micro.Relink (clock_id a) (clock_id p) ∷ micro.DropEnable (clock_id a) ∷ micro.Settle (clock_id a) ∷ []
+    else micro.Relink (clock_id a) (clock_id p) ∷ micro.Settle (clock_id a) ∷ [])
     (link_given s.defs s.regs s.clocks a) []
 
 -- the script of a registration, where s is the state with the clock registered
@@ -129,19 +133,15 @@ sweep_script s =
 
 -- ---- weights
 
--- the greatest of some numbers
-abbrev pub greatest : List ℕ → ℕ
-greatest xs = fold max 0 xs
-
 -- the greatest number of PLLs on a line of possible parents from a clock on
 abbrev pub plls_within : Description → ℕ → ℕ → ℕ
 plls_within defs zero c = 0
 plls_within defs (suc levels) c =
-    (if is_pll (kind_of defs c) then 1 else 0) + greatest (map (plls_within defs levels) (parents_of defs c))
+    (if is_pll (kind_of defs c) then 1 else 0) + greatest_of (map (plls_within defs levels) (parents_of defs c))
 
 -- the greatest number of PLLs on one path of possible parents
 unfoldable pub plls : Description → ℕ
-plls defs = greatest (map (plls_within defs depth) (count_from 0 (length defs)))
+plls defs = greatest_of (map (plls_within defs depth) (count_from 0 (length defs)))
 
 -- what a step weighs: how many steps it may become
 abbrev pub weight : State → Micro → ℕ
@@ -150,6 +150,7 @@ weight s (micro.Lower x) = plls s.defs + 1
 weight s (micro.Visit c) = 1 + length (notifiers_of s.notifiers c.0)
 weight s _ = 1
 
+-- whether a step raises PLLs
 abbrev pub is_raise : Micro → Bool
 is_raise (micro.Raise x) = true
 is_raise _ = false

@@ -1,5 +1,5 @@
 -- The state of the machine: plain data, a list of rows for each part.
-use Rattle.std.specs.Prelude.{ℕ, ℤ, List, Bool, Option, Some, None, true, false, slice_get, slice_set, unwrap_or, option_map}
+use Rattle.std.specs.Prelude.{ℕ, ℤ, List, Bool, Option, Some, None, true, false, slice_get, unwrap_or, option_map}
 use Rattle.clk_base.specs.declared.call.Sleeping.{Sleeping}
 use Rattle.clk_base.specs.declared.call.Micro.{Micro}
 use Rattle.clk_base.specs.declared.handle.Policy.{Policy}
@@ -48,6 +48,7 @@ pub record Change : Type 0 where
   pub vetoed : Bool
   pub timed_out : Bool
 
+-- the state of the machine
 pub record State : Type 0 where
   -- the description, and the words of the bank
   pub defs : Description
@@ -79,6 +80,7 @@ is_quiet (Some k) = false
 abbrev pub unregistered_row : ClockRow
 unregistered_row = record { registered = false; link = None; last_request = 0 }
 
+-- the row of a clock
 abbrev pub row_of : List ClockRow → ℕ → ClockRow
 row_of clocks c = unwrap_or (slice_get clocks c) unregistered_row
 

@@ -1,5 +1,5 @@
 -- What each step of a call that goes on does.
-use Rattle.std.specs.Prelude.{ℕ, zero, suc, ◌+◌, ◌-◌, ◌==◌, ◌&&◌, ◌||◌, List, [], ◌∷◌, ◌++◌, Bool, true, false, not, nat_le, Option, Some, None, filter, map, if◌then◌else◌, length, option_map, is_some, is_none, slice_get, slice_set, slice_index, find, reverse, flat_map}
+use Rattle.std.specs.Prelude.{ℕ, ◌+◌, ◌-◌, ◌==◌, ◌||◌, List, [], ◌∷◌, ◌++◌, Bool, true, false, not, nat_le, Option, Some, None, filter, map, if◌then◌else◌, length, option_map, slice_get, slice_set, slice_index, find, reverse}
 use Rattle.std.specs.List.{list_any}
 use Rattle.std.specs.Option.{option_map_or}
 use Rattle.clk_base.specs.declared.call.Sleeping.{Sleeping}
@@ -7,28 +7,27 @@ use Rattle.clk_base.specs.declared.call.Sleeping.TheVariants as call
 use Rattle.clk_base.specs.declared.call.Micro.{Micro}
 use Rattle.clk_base.specs.declared.call.Micro.TheVariants as micro
 use Rattle.clk_base.specs.declared.event.Errno.TheVariants as errno
-use Rattle.clk_base.specs.declared.event.Reply.{Reply}
 use Rattle.clk_base.specs.declared.event.Reply.TheVariants as reply
 use Rattle.clk_base.specs.declared.event.Turn.{Turn}
 use Rattle.clk_base.specs.declared.event.Turn.TheVariants as turn
-use Rattle.clk_base.specs.Description.{Description, kind_of}
+use Rattle.clk_base.specs.Description.{kind_of}
 use Rattle.clk_base.specs.Levels.{depth}
 use Rattle.reg_bank.specs.Registers.{Registers, put}
 use Rattle.clk_model.specs.declared.row.ClockRow.{ClockRow}
 use Rattle.clk_model.specs.declared.row.HandleRow.{HandleRow}
-use Rattle.clk_model.specs.Lists.{is_in, is_at, without_one, without, to_front, present}
+use Rattle.clk_model.specs.Lists.{is_in, without_one, without, to_front}
 use Rattle.clk_base.specs.Fields.{gate_of, power_of}
 use Rattle.clk_model.specs.Kinds.{mux_field, with_gate, with_power}
 use Rattle.clk_model.specs.State.{State, Change, row_of, link_in, handle_at}
 use Rattle.clk_model.specs.Tree.{path, path_to_be, children}
 use Rattle.clk_model.specs.Rate.{rate}
-use Rattle.clk_model.specs.Holders.{active, prepared}
+use Rattle.clk_model.specs.Holders.{active}
 use Rattle.clk_model.specs.Round.{wiring, parent_rate_in}
-use Rattle.clk_model.specs.Chain.{clock_id, linked, select, setting}
+use Rattle.clk_model.specs.Chain.{clock_id, linked, setting}
 use Rattle.clk_model.specs.Walk.{below_within}
-use Rattle.clk_model.specs.Notices.{Rates, abort_list, post_list}
+use Rattle.clk_model.specs.Notices.{abort_list, post_list}
 use Rattle.clk_model.specs.Script.{unprepared_plls, runs}
-use Rattle.clk_model.specs.Begin.{register, prepared_once_more, held_once_more, put_handle, request_between}
+use Rattle.clk_model.specs.Begin.{register, prepared_once_more, held_once_more, request_between}
 
 -- what is left of a change: what stands in front, and then the script
 abbrev pub todo : Change → List Micro
@@ -40,6 +39,7 @@ taken k = record k { front = rest_of k.front; left = after k.front k.left } wher
   rest_of : List Micro → List Micro
   rest_of [] = []
   rest_of (m ∷ ms) = ms
+
   after : List Micro → List Micro → List Micro
   after [] [] = []
   after [] (m ∷ ms) = ms
@@ -55,6 +55,7 @@ powered s y up = record s { regs = option_map_or (λ power. with_power s.regs po
 
 -- ---- timing out
 
+-- which step it is
 abbrev pub is_end : Micro → Bool
 is_end micro.End = true
 is_end _ = false
@@ -90,6 +91,7 @@ cut_short (call.Probe c) ms = if list_any is_register ms then from_first is_end 
 cut_short call.Sweep ms = ms
 cut_short _ ms = from_first is_visit ms
 
+-- whether the call changes a parent
 abbrev pub sets_parent : Sleeping → Bool
 sets_parent (call.SetParent h p) = true
 sets_parent _ = false
@@ -102,8 +104,12 @@ aborts_of s k =
 -- the raised PLLs fall, the last raised first, and the script is cut short
 abbrev pub timed_out : State → Change → State
 timed_out s k = on s (record k {
-  timed_out = true; again = 0; extra = 0;
-  front = map (λ y. micro.Fall (clock_id y)) k.raised ++ aborts_of s k; left = cut_short k.call k.left })
+  timed_out = true;
+  again = 0;
+  extra = 0;
+  front = map (λ y. micro.Fall (clock_id y)) k.raised ++ aborts_of s k;
+  left = cut_short k.call k.left;
+})
 
 -- ---- PLLs
 
@@ -122,8 +128,11 @@ raise s k x = option_map_or raised_one (slice_get (reverse (to_raise s k x)) 0) 
   raised_one y =
       let more = nat_le 2 (length (to_raise s k x)) in
       on (powered s y true) (record k {
-        raised = y ∷ k.raised; polls = most_polls; again = if more then k.again + 1 else 0;
-        front = micro.Poll (clock_id y) ∷ (if more then micro.Raise (clock_id x) ∷ [] else []) ++ k.front })
+        raised = y ∷ k.raised;
+        polls = most_polls;
+        again = if more then k.again + 1 else 0;
+        front = micro.Poll (clock_id y) ∷ (if more then micro.Raise (clock_id x) ∷ [] else []) ++ k.front;
+      })
 
 -- Poll: on a no it comes again, until it has asked often enough
 abbrev pub poll : State → Change → ℕ → Bool → State
@@ -148,7 +157,8 @@ lower s k x = option_map_or lowered_one (slice_get (to_lower s x) 0) (on s (reco
       let more = nat_le 2 (length (to_lower s x)) in
       on (powered s y false) (record k {
         again = if more then k.again + 1 else 0;
-        front = (if more then micro.Lower (clock_id x) ∷ [] else []) ++ k.front })
+        front = (if more then micro.Lower (clock_id x) ∷ [] else []) ++ k.front;
+      })
 
 -- ---- holds and links
 
@@ -157,6 +167,7 @@ abbrev pub hold_prepare : State → Change → ℕ → State
 hold_prepare s k x =
     on (record s { prepare_holds = x ∷ s.prepare_holds }) (record k { raised = without (path s.clocks x) k.raised })
 
+-- HoldEnable: one enable hold more
 abbrev pub hold_enable : State → Change → ℕ → State
 hold_enable s k x = on (record s { enable_holds = x ∷ s.enable_holds }) k
 
@@ -169,15 +180,18 @@ passed_over p (Some o) holds = map (λ h. if h == p then o else h) holds
 abbrev pub relink : State → Change → ℕ → ℕ → State
 relink s k c p =
     on (record s {
-      clocks = linked s.clocks c p; order = to_front c s.order;
+      clocks = linked s.clocks c p;
+      order = to_front c s.order;
       prepare_holds = passed_over p (link_in s.clocks c) s.prepare_holds;
-      enable_holds = passed_over p (link_in s.clocks c) s.enable_holds }) k
+      enable_holds = passed_over p (link_in s.clocks c) s.enable_holds;
+    }) k
 
 -- WriteMux: the field selects the parent at this place
 abbrev pub write_mux : State → Change → ℕ → ℕ → State
 write_mux s k c place =
     on (record s { regs = option_map_or (λ f. put s.regs f.word f.shift f.width place) (mux_field (kind_of s.defs c)) s.regs }) k
 
+-- DropEnable and DropPrepare: the hold ends
 abbrev pub drop_enable : State → Change → ℕ → State
 drop_enable s k x = on (record s { enable_holds = without_one x s.enable_holds }) k
 
@@ -201,7 +215,8 @@ visit s k c =
     let regs = set_in_chain s k c in
     on (record s { regs = regs }) (record k {
       front = (if rate s.defs regs s.clocks c == slice_index k.before c then []
-               else post_list (record { before = k.before; outcome = k.outcome }) s.notifiers c) ++ k.front })
+          else post_list (record { before = k.before; outcome = k.outcome }) s.notifiers c) ++ k.front;
+    })
 
 -- Register: the clock is registered, and the PLLs above are held from now on where it is critical
 abbrev pub register_in : State → Change → ℕ → State
@@ -254,9 +269,10 @@ unranged s k = record s { handles = range_back k.call k.range s.handles }
 
 -- End: the final effect where nothing vetoed and nothing timed out, and the answer
 abbrev pub end_of : State → Change → State × Turn
-end_of s k =
-    (record (if k.vetoed || k.timed_out then unranged s k else ended_well s k.driver k.call) { change = None },
-     turn.Done (if k.vetoed then reply.Refused errno.EBUSY else if k.timed_out then reply.Refused errno.ETIMEDOUT else reply.Fine))
+end_of s k = (
+  record (if k.vetoed || k.timed_out then unranged s k else ended_well s k.driver k.call) { change = None },
+  turn.Done (if k.vetoed then reply.Refused errno.EBUSY else if k.timed_out then reply.Refused errno.ETIMEDOUT else reply.Fine),
+)
 
 -- ---- each step
 

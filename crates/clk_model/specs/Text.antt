@@ -1,6 +1,5 @@
 -- The texts of replies, answers, journal entries and register lines, as bytes.
 use Rattle.std.specs.Prelude.{ℕ, zero, suc, ◌+◌, ◌/◌, ◌%◌, ◌==◌, List, [], ◌∷◌, ◌++◌, Bool, true, false, Option, Some, None, codes, decimal, if◌then◌else◌, slice_index_or}
-use Rattle.std.specs.Option.{option_map_or}
 use Rattle.std.specs.Fmt.{digit_glyph, signed_decimal}
 use Rattle.clk_base.specs.declared.call.Micro.{Micro}
 use Rattle.clk_base.specs.declared.call.Micro.TheVariants as micro
@@ -40,6 +39,7 @@ line ws = spaced ws ++ codes "\n"
 
 -- ---- replies
 
+-- the name of a refusal
 abbrev pub errno_name : Errno → Word
 errno_name errno.EPERM = codes "EPERM"
 errno_name errno.ENOENT = codes "ENOENT"
@@ -56,6 +56,7 @@ abbrev pub clock_word : Description → Option ClockId → Word
 clock_word defs None = codes "-"
 clock_word defs (Some c) = name_of defs c.0
 
+-- the words of a reply
 abbrev pub reply_words : Description → Reply → List Word
 reply_words defs reply.Fine = codes "ok" ∷ []
 reply_words defs reply.Warn = codes "warn" ∷ []
@@ -72,6 +73,7 @@ reply_text defs r = spaced (reply_words defs r)
 
 -- ---- answers
 
+-- the words of an answer: a reply, or that the command was skipped
 abbrev pub answer_words : Description → Answer → List Word
 answer_words defs answer.Skip = codes "skip" ∷ []
 answer_words defs (answer.Reply r) = reply_words defs r
@@ -89,8 +91,15 @@ answers_from defs driver k (a ∷ more) = answer_line defs driver k a ++ answers
 abbrev pub answers_text : Description → Word → List Answer → List ℕ
 answers_text defs driver answers = answers_from defs driver 1 answers
 
+-- the lines of boot's answers and of each driver's in order, where names are those of the drivers, boot's first
+abbrev pub all_answers_text : Description → List Word → List (List Answer) → List ℕ
+all_answers_text defs [] _ = []
+all_answers_text defs (name ∷ names) [] = []
+all_answers_text defs (name ∷ names) (answers ∷ more) = answers_text defs name answers ++ all_answers_text defs names more
+
 -- ---- entries
 
+-- the words of a notifier's policy
 abbrev pub policy_words : Policy → List Word
 policy_words policy.Accept = codes "accept" ∷ []
 policy_words (policy.VetoAbove r) = codes "above" ∷ decimal r ∷ []
@@ -150,6 +159,7 @@ step_words defs (micro.Close c) locked = codes "close" ∷ name_of defs c.0 ∷ 
 step_words defs (micro.Unpower c) locked = codes "unpower" ∷ name_of defs c.0 ∷ []
 step_words defs micro.End locked = codes "end" ∷ []
 
+-- the words of an event
 abbrev pub event_words : Description → Event → List Word
 event_words defs (event.Enable number) = codes "enable" ∷ decimal number ∷ []
 event_words defs (event.Disable number) = codes "disable" ∷ decimal number ∷ []
@@ -157,6 +167,7 @@ event_words defs (event.Running number) = codes "running" ∷ decimal number ∷
 event_words defs (event.Begin what) = codes "begin" ∷ call_words defs what
 event_words defs (event.Step m locked) = codes "step" ∷ step_words defs m locked
 
+-- what an entry answers: that the call goes on, or a reply
 abbrev pub turn_words : Description → Turn → List Word
 turn_words defs turn.Going = codes "going" ∷ []
 turn_words defs (turn.Done r) = reply_words defs r

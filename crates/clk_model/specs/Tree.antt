@@ -1,12 +1,12 @@
 -- The tree: paths, roots, children, orphans, and the parent that a registration gives.
-use Rattle.std.specs.Prelude.{ℕ, zero, suc, List, [], ◌∷◌, ◌++◌, Bool, true, false, not, ◌&&◌, Option, Some, None, slice_get, filter, if◌then◌else◌, option_map, option_and_then, is_none}
+use Rattle.std.specs.Prelude.{ℕ, zero, suc, List, [], ◌∷◌, Bool, not, ◌&&◌, Option, Some, None, slice_get, filter, if◌then◌else◌, option_and_then, is_none}
 use Rattle.std.specs.List.{list_any}
 use Rattle.std.specs.Option.{option_map_or}
 use Rattle.clk_base.specs.Description.{Description, kind_of, parents_of}
 use Rattle.clk_base.specs.Levels.{depth}
 use Rattle.reg_bank.specs.Registers.{Registers, field}
 use Rattle.clk_model.specs.declared.row.ClockRow.{ClockRow}
-use Rattle.clk_model.specs.Lists.{is_in, is_at}
+use Rattle.clk_model.specs.Lists.{is_at}
 use Rattle.clk_model.specs.Kinds.{is_fixed, mux_field}
 use Rattle.clk_model.specs.State.{registered, link_in}
 

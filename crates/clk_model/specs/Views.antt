@@ -1,5 +1,5 @@
 -- What planning sees of a state: boundaries, guarded and prepared clocks, and exclusives that are lifted or freed.
-use Rattle.std.specs.Prelude.{ℕ, zero, suc, ◌-◌, ◌==◌, ◌&&◌, List, [], ◌∷◌, Bool, true, false, not, Option, Some, None, filter, map, min, max, fold, if◌then◌else◌, option_map, slice_set, take_while}
+use Rattle.std.specs.Prelude.{ℕ, ◌-◌, ◌==◌, List, Bool, not, filter, map, min, max, fold, option_map, slice_set, take_while}
 use Rattle.std.specs.List.{list_any}
 use Rattle.clk_model.specs.declared.row.HandleRow.{HandleRow}
 use Rattle.clk_model.specs.Lists.{is_in, present}
@@ -20,6 +20,7 @@ low_of s c = fold max 0 (map (λ h. h.min) (handles_on s c))
 abbrev pub high_of : State → ℕ → ℕ
 high_of s c = fold min most_rate (map (λ h. h.max) (handles_on s c))
 
+-- what planning sees of a state
 abbrev pub view : State → View
 view s = record { low = low_of s; high = high_of s; guarded = guarded s; prepared = prepared s }
 

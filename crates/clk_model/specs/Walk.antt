@@ -1,10 +1,10 @@
 -- The walk from the top of a chain, and the clocks whose rate a plan changes.
-use Rattle.std.specs.Prelude.{ℕ, zero, suc, ◌==◌, ◌&&◌, ◌++◌, List, [], ◌∷◌, Bool, true, false, not, Option, Some, None, filter, map, if◌then◌else◌, flat_map, length}
+use Rattle.std.specs.Prelude.{ℕ, zero, suc, ◌==◌, ◌&&◌, ◌++◌, List, [], ◌∷◌, Bool, not, filter, map, if◌then◌else◌, flat_map, length}
 use Rattle.std.specs.List.{list_any}
 use Rattle.clk_base.specs.Levels.{depth}
 use Rattle.clk_model.specs.declared.row.ClockRow.{ClockRow}
 use Rattle.clk_model.specs.Lists.{is_at, count_from}
-use Rattle.clk_model.specs.State.{ChainStep, link_in}
+use Rattle.clk_model.specs.State.{ChainStep}
 use Rattle.clk_model.specs.Tree.{children}
 use Rattle.clk_model.specs.Round.{Wiring, rate_in}
 use Rattle.clk_model.specs.Chain.{moves, outcome}

@@ -14,12 +14,13 @@ use Rattle.clk_machine.proofs.gates.+open_path.Goals.{in-Some, in_default}
 pub open_gate-requires : goal.open_gate-requires
 open_gate-requires g t c =
     let size : c.match-link_of.window.size ≡ c.args.desc.now.words =
-      elim c.match-link_of.branch [
-        in-Some w ↦ ap (λ window. window.size) w.window-is ∙ w.open_path.ensures.size ∙ c.requires.words
-      | in_default w ↦ ap (λ window. window.size) w.window-is ∙ c.requires.words ] in
+    elim c.match-link_of.branch [
+      | in-Some w ↦ ap (λ window. window.size) w.window-is ∙ w.open_path.ensures.size ∙ c.requires.words
+      | in_default w ↦ ap (λ window. window.size) w.window-is ∙ c.requires.words
+    ] in
     subst (λ (n : ℕ). IfSome (gate_of c.def.result.now.kind) (λ gate. (gate.word < n) × (gate.bit < 32))) (sym size)
-      (subst (λ (kind : Kind). IfSome (gate_of kind) (λ gate. (gate.word < c.args.desc.now.words) × (gate.bit < 32))) (sym (ap (λ def. def.kind) c.def.ensures.def))
-        (gate_fits c.args.desc.now.words c.args.desc.now.defs c.args.clock.0 c.def.ensures.valid c.requires.place))
+    (subst (λ (kind : Kind). IfSome (gate_of kind) (λ gate. (gate.word < c.args.desc.now.words) × (gate.bit < 32))) (sym (ap (λ def. def.kind) c.def.ensures.def))
+    (gate_fits c.args.desc.now.words c.args.desc.now.defs c.args.clock.0 c.def.ensures.valid c.requires.place))
 
 pub returns-then-not-is_enabled_above-clause-words : goal.returns-then-not-is_enabled_above-clause-words
 returns-then-not-is_enabled_above-clause-words g t c =
@@ -28,11 +29,12 @@ returns-then-not-is_enabled_above-clause-words g t c =
     let up : ℕ → Option ℕ = link_in c.args.clocks.now in
     let some : 0 < c.args.levels = omega arith in
     let first : c.match-link_of.window.words ≡ opened defs before (above up (c.args.levels - 1) (up c.args.clock.0)) c.args.window.now.words =
-      elim c.match-link_of.branch [
-        in-Some w ↦ ap (λ window. window.words) w.window-is ∙ opened_above defs before up (c.args.levels - 1) c.args.clock.0 c.link_of.result _ _ _ c.link_of.ensures w.in-Some.is w.open_path.ensures.words
-      | in_default w ↦ ap (λ window. window.words) w.window-is ∙ opened_none defs before up (c.args.levels - 1) c.args.clock.0 c.link_of.result _ c.link_of.ensures (cc) ] in
+    elim c.match-link_of.branch [
+      | in-Some w ↦ ap (λ window. window.words) w.window-is ∙ opened_above defs before up (c.args.levels - 1) c.args.clock.0 c.link_of.result _ _ _ c.link_of.ensures w.in-Some.is w.open_path.ensures.words
+      | in_default w ↦ ap (λ window. window.words) w.window-is ∙ opened_none defs before up (c.args.levels - 1) c.args.clock.0 c.link_of.result _ c.link_of.ensures (cc)
+    ] in
     opened_own defs before up c.args.levels c.args.clock.0 c.def.result.now.kind c.args.window.now.words c.match-link_of.window.words c.open_gate.new.window.words
-      some (ap (λ def. def.kind) c.def.ensures.def) (sym c.is_enabled_above.ensures ∙ c.if-not-is_enabled_above.true) first c.open_gate.ensures.words
+    some (ap (λ def. def.kind) c.def.ensures.def) (sym c.is_enabled_above.ensures ∙ c.if-not-is_enabled_above.true) first c.open_gate.ensures.words
 
 pub returns-else-not-is_enabled_above-clause-words : goal.returns-else-not-is_enabled_above-clause-words
 returns-else-not-is_enabled_above-clause-words g t c =
@@ -41,8 +43,9 @@ returns-else-not-is_enabled_above-clause-words g t c =
     let up : ℕ → Option ℕ = link_in c.args.clocks.now in
     let some : 0 < c.args.levels = omega arith in
     let first : c.match-link_of.window.words ≡ opened defs before (above up (c.args.levels - 1) (up c.args.clock.0)) c.args.window.now.words =
-      elim c.match-link_of.branch [
-        in-Some w ↦ ap (λ window. window.words) w.window-is ∙ opened_above defs before up (c.args.levels - 1) c.args.clock.0 c.link_of.result _ _ _ c.link_of.ensures w.in-Some.is w.open_path.ensures.words
-      | in_default w ↦ ap (λ window. window.words) w.window-is ∙ opened_none defs before up (c.args.levels - 1) c.args.clock.0 c.link_of.result _ c.link_of.ensures (cc) ] in
+    elim c.match-link_of.branch [
+      | in-Some w ↦ ap (λ window. window.words) w.window-is ∙ opened_above defs before up (c.args.levels - 1) c.args.clock.0 c.link_of.result _ _ _ c.link_of.ensures w.in-Some.is w.open_path.ensures.words
+      | in_default w ↦ ap (λ window. window.words) w.window-is ∙ opened_none defs before up (c.args.levels - 1) c.args.clock.0 c.link_of.result _ c.link_of.ensures (cc)
+    ] in
     opened_already defs before up c.args.levels c.args.clock.0 c.args.window.now.words c.match-link_of.window.words some
-      (sym c.is_enabled_above.ensures ∙ c.if-not-is_enabled_above.false) first
+    (sym c.is_enabled_above.ensures ∙ c.if-not-is_enabled_above.false) first

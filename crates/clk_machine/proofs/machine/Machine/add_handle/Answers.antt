@@ -10,5 +10,5 @@ invariant_of-self-2 g c =
     let there : registered m.clocks.items c.args.clock.0 ≡ true = rw (← c.self.view_is) at c.requires.there in
     let left : m.spent < m.credits = rw (← c.self.view_is) at c.requires.credit in
     shaped-given m.desc m.window m.clocks.items (places m.order.items) m.handles.items c.push.new.self.items m.credits m.spent
-      (record { driver = c.args.driver; clock = c.args.clock; prepares = 0; enables = 0; exclusives = 0; min = 0; max = 18446744073709551615 })
-      c.self.invariant c.in_ok-push.ensures.items there refl left
+    (record { driver = c.args.driver; clock = c.args.clock; prepares = 0; enables = 0; exclusives = 0; min = 0; max = 18446744073709551615 })
+    c.self.invariant c.in_ok-push.ensures.items there refl refl left

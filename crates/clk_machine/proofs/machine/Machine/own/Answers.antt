@@ -11,6 +11,6 @@ pub returns-clause-few : goal.returns-clause-few
 returns-clause-few g c =
     let m = c.self.inside in
     rw (← c.self.view_is)
-      (own_holds (state_of m.desc.defs m.window.words m.clocks.items (places m.order.items) m.handles.items m.credits m.spent m.ignore_unused) c.args.driver c.args.number c.own_row.result
-        (c.own_row.ensures ∙ ap (λ (hs : List (Option HandleRow)). option_map_or (λ h. cond (nat_eq h.driver c.args.driver) (Some h) None) (handle_at hs c.args.number) None) c.deref.ensures.value)
-        c.self.invariant.few_holds)
+    (own_holds (state_of m.desc.defs m.window.words m.clocks.items (places m.order.items) m.handles.items m.credits m.spent m.ignore_unused) c.args.driver c.args.number c.own_row.result
+    (c.own_row.ensures ∙ ap (λ (hs : List (Option HandleRow)). option_map_or (λ h. cond (nat_eq h.driver c.args.driver) (Some h) None) (handle_at hs c.args.number) None) c.deref.ensures.value)
+    c.self.invariant.few_holds)

@@ -16,6 +16,6 @@ unfolding rate
 returns g c =
     let m = c.self.inside in
     rw (← c.self.view_is)
-      (c.rate_above.ensures (unwrap_or m.window.words [])
-       ∙ ap (λ (n : ℕ). rate_within m.desc.defs (unwrap_or m.window.words []) c.deref.result.now n c.args.clock.0) c.depth.ensures
-       ∙ ap (λ (rows : List ClockRow). rate m.desc.defs (unwrap_or m.window.words []) rows c.args.clock.0) c.deref.ensures.value)
+    (c.rate_above.ensures (unwrap_or m.window.words [])
+    ∙ ap (λ (n : ℕ). rate_within m.desc.defs (unwrap_or m.window.words []) c.deref.result.now n c.args.clock.0) c.depth.ensures
+    ∙ ap (λ (rows : List ClockRow). rate m.desc.defs (unwrap_or m.window.words []) rows c.args.clock.0) c.deref.ensures.value)

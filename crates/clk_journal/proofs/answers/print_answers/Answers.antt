@@ -1,0 +1,23 @@
+use Rattle.std.proofs.Common.{◌+◌, ◌∙◌, ap, ◌++◌, arith}
+use Rattle.std.proofs.KnownBytes.{Appends-trans}
+use Rattle.clk_base.specs.declared.command.Answer.TheVariants.{Skip}
+use Rattle.clk_io.proofs.Chains.{front_of}
+use Rattle.clk_journal.proofs.Lines.{Prints-fault, answers_at, one_more}
+use Rattle.clk_journal.proofs.answers.print_answers.Goals as goal
+
+pub returns-in_err-print_answer-clause-prints : goal.returns-in_err-print_answer-clause-prints
+returns-in_err-print_answer-clause-prints g c =
+    let was = c.loop-index.invariant.printed in
+    let at = answers_at c.args.desc.now.defs c.args.driver.now c.args.answers.now (c.loop-index.index + 1) c.loop-index.index Skip c.loop-index-test.true in
+    Prints-fault _ _ _ _ c.from_residual.ensures.0
+    (front_of _ _ _ was.0 _ _ _ was.1 c.in_err-print_answer.ensures.prints (was.2 ∙ ap (λ rest. was.0 ++ rest) at))
+
+pub loop-index-preserved : goal.loop-index-preserved
+loop-index-preserved g c =
+    let was = c.loop-index.invariant.printed in
+    let at = answers_at c.args.desc.now.defs c.args.driver.now c.args.answers.now (c.loop-index.index + 1) c.loop-index.index Skip c.loop-index-test.true in
+    record {
+      printed = (_, Appends-trans _ _ _ _ _ was.1 c.in_ok-print_answer.ensures.prints, one_more _ _ _ _ _ was.2 at);
+      tells = cc;
+      later = omega (arith, c.in_ok-print_answer.ensures.later);
+    }

@@ -1,0 +1,15 @@
+//! The printed text of the clock framework: the answers of a driver's commands, and the registers.
+//!
+//! Each place where text is made has a type of its own whose `Display` states the bytes that it
+//! writes. A printer formats one line at a time and hands it to a `Sink`.
+#![tactic(auto)]
+
+mod answers;
+mod registers;
+mod reply;
+
+pub use answers::print_answers;
+pub use registers::print_registers;
+
+#[cfg(test)]
+mod tests;

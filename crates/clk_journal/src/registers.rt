@@ -1,0 +1,76 @@
+//! Prints the words of a register bank.
+
+ghost use Rattle.std.specs.Prelude.{◌≡◌, ◌≤◌, ◌==◌, Some, [], if◌then◌else◌, is_some};
+ghost use Rattle.clk_io.specs.Causes.{PrintHasCause};
+ghost use Rattle.clk_io.specs.Prints.{Prints};
+ghost use Rattle.clk_model.specs.Text.{hex_digits, register_line, registers_text};
+
+use clk_io::{PrintFault, Sink, write_all};
+use std::alloc::Global;
+use std::fmt;
+
+/// Prints a line for each word that isn't 0, as `reg W 0xXXXXXXXX`: W is the word's place, from 0.
+pub fn print_registers<K: Sink>(alloc: Global, words: &[u32], out: &mut K) -> Result<(), PrintFault>
+    ensures prints { Prints (K.written out.old) (K.written out.new)
+        (registers_text words.now) result }
+    ensures cause { PrintHasCause (K.faults out.old) (K.faults out.new) result }
+    ensures tells { is_some (K.written out.new) ≡ is_some (K.written out.old) }
+    ensures later { K.faults out.old ≤ K.faults out.new }
+{
+    for (place, value) in words.iter().enumerate() {
+        print_word(alloc, place, *value, out)?;
+    }
+    Ok(())
+}
+
+/// The value of a word, printed as eight hexadecimal digits.
+#[derive(Drop)]
+struct HexWord(u32);
+
+impl fmt::Display for HexWord {
+    ghost output = { λ word. Some (hex_digits 8 word.0) };
+
+    #[tactic(auto, using(crate::proofs::Hexadecimal::hex_word))]
+    fn fmt<W: fmt::Write>(&self, f: &mut fmt::Formatter<W>) -> fmt::Result {
+        let value = self.0;
+        write!(f, "{value:08x}")
+    }
+}
+
+// Prints the line of a word that isn't 0, and nothing of one that is.
+fn print_word<K: Sink>(
+    alloc: Global,
+    place: usize,
+    value: u32,
+    out: &mut K,
+) -> Result<(), PrintFault>
+    ensures prints { Prints (K.written out.old) (K.written out.new)
+        (if value == 0 then [] else register_line place value) result }
+    ensures cause { PrintHasCause (K.faults out.old) (K.faults out.new) result }
+    ensures tells { is_some (K.written out.new) ≡ is_some (K.written out.old) }
+    ensures later { K.faults out.old ≤ K.faults out.new }
+{
+    if value == 0 {
+        return Ok(());
+    }
+    print_register(alloc, place, value, out)
+}
+
+// Prints the line of the word at this place.
+fn print_register<K: Sink>(
+    alloc: Global,
+    place: usize,
+    value: u32,
+    out: &mut K,
+) -> Result<(), PrintFault>
+    ensures prints { Prints (K.written out.old) (K.written out.new)
+        (register_line place value) result }
+    ensures cause { PrintHasCause (K.faults out.old) (K.faults out.new) result }
+    ensures tells { is_some (K.written out.new) ≡ is_some (K.written out.old) }
+    ensures later { K.faults out.old ≤ K.faults out.new }
+{
+    let value = HexWord(value);
+    let line = format!(in alloc; "reg {place} 0x{value}\n")?;
+    write_all(out, line.as_bytes())?;
+    Ok(())
+}

@@ -1,0 +1,15 @@
+use Rattle.std.proofs.Common.{◌≡◌, ◌<◌, refl, sym, ◌∙◌, arith}
+use Rattle.clk_base.specs.declared.event.Event.TheVariants.{Enable}
+use Rattle.clk_machine.proofs.Entering.{entered, appended, has_room}
+use Rattle.clk_machine.proofs.framework.Core.enable.Goals as goal
+
+pub invariant_of-self : goal.invariant_of-self
+invariant_of-self g c =
+    entered c.self.inside.machine c.enable-reply.new.self c.self.inside.words.items c.self.inside.log c.push.new.self c.args.driver (Enable c.args.handle.number) c.enable-reply.result
+    c.self.invariant c.enable-reply.ensures refl c.push.ensures.entries c.push.ensures.room
+
+pub returns : goal.returns
+returns g c =
+    rw (← c.self.view_is)
+    (appended c.self.inside.machine c.enable-reply.new.self c.self.inside.words.items c.self.inside.log c.push.new.self c.args.driver (Enable c.args.handle.number) c.enable-reply.result
+    c.self.invariant c.enable-reply.ensures refl c.push.ensures.entries c.push.ensures.room)

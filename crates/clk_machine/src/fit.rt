@@ -1,0 +1,56 @@
+//! The clocks that this core can run.
+
+ghost use Rattle.std.specs.Prelude.{◌≡◌, ◌<◌, length, nat_lt};
+ghost use Rattle.std.specs.List.{list_all};
+ghost use Rattle.clk_base.specs.Description.{FindsFirst};
+ghost use Rattle.clk_base.specs.Plain.{is_plain_kind};
+ghost use Rattle.clk_base.specs.Places.{places};
+ghost use Rattle.clk_machine.specs.Held.{can_run};
+
+use bitflags::Flags;
+use clk_base::{ClkFlags, ClockId, Kind, ValidDesc};
+
+/// The first clock that a core can't run, if there is one: it runs fixed clocks and gates over
+/// earlier clocks that are neither critical nor protect their rate while they are prepared.
+pub fn first_unfit(desc: &ValidDesc) -> Option<ClockId>
+    ensures { FindsFirst desc.now.defs (can_run desc.now.defs) result }
+{
+    for place in 0..desc.len() {
+        let clock = ClockId(place as u32);
+        if !is_fit(desc, clock) {
+            return Some(clock);
+        }
+    }
+    None
+}
+
+// Whether a core can run the clock.
+fn is_fit(desc: &ValidDesc, clock: ClockId) -> bool
+    requires { clock.0 < length desc.now.defs }
+    ensures { result ≡ can_run desc.now.defs clock.0 }
+{
+    let def = desc.def(clock);
+    is_known(def.kind)
+        && are_before(def.parents.as_slice(), clock)
+        && !Flags::contains(&def.flags, ClkFlags::CRITICAL)
+        && !Flags::contains(&def.flags, ClkFlags::SET_RATE_GATE)
+}
+
+// Whether it is a fixed clock or a gate.
+fn is_known(kind: Kind) -> bool
+    ensures { result ≡ is_plain_kind kind }
+{
+    matches!(kind, Kind::FixedRate { .. } | Kind::Gate { .. })
+}
+
+// Whether all of these clocks stand before the clock.
+fn are_before(parents: &[ClockId], clock: ClockId) -> bool
+    ensures { result ≡ list_all (λ p. nat_lt p clock.0) (places parents.now) }
+{
+    for parent in parents {
+        if parent.0 >= clock.0 {
+            return false;
+        }
+    }
+    true
+}

@@ -1,0 +1,217 @@
+//! The core: the machine with its journal.
+
+ghost use Rattle.std.specs.Prelude.{◌≡◌, ℕ, ◌+◌, ◌<◌, ◌≤◌, true, [], ◌∷◌, ◌++◌, List, length, take, is_some, slice_index, IfSome, IfOk, OnErr, IsTrue};
+ghost use Rattle.clk_model.specs.State.{is_quiet};
+ghost use Rattle.clk_model.specs.Journal.{opening, replay, Legal, cost};
+ghost use Rattle.clk_model.specs.Fed.{Fed};
+
+use crate::log::Log;
+use crate::machine::Machine;
+use crate::row::Row;
+use clk_base::{ClockId, Entry, Event, Handle, Reply, Sleeping, Turn, ValidDesc};
+use clk_io::NoMemory;
+use reg_bank::Bank;
+use std::alloc::Global;
+use std::marker::Model;
+
+/// The whole state of the clock framework over a bank, with the journal of all that happened.
+///
+/// Contracts see a core as its opening and its journal. Its state is the journal's replay from the
+/// opening, by the definitions of `clk_model`, wherever the bank tells its words.
+#[derive(Drop)]
+pub struct Core<B: Bank> {
+    machine: Machine<B>,
+    words: Vec<u32>,
+    log: Log,
+}
+
+impl<B: Bank> Model for Core<B> {
+    ghost use Rattle.clk_machine.specs.Run.{Run, start_of, IsRun};
+
+    ghost Value = { Run };
+
+    ghost view = { λ c. record { start = start_of c.machine c.words.items; journal = c.log.entries; told = c.machine.told } };
+
+    ghost invariant = { λ c. IsRun c.machine c.words.items c.log };
+}
+
+impl<B: Bank> Core<B> {
+    ghost use Rattle.clk_base.specs.declared.event.Event.TheVariants.{Enable, Disable, Running, Begin};
+    ghost use Rattle.clk_base.specs.declared.event.Turn.TheVariants.{Done};
+    ghost use Rattle.clk_machine.specs.Held.{CanRun, IsPlaced};
+    ghost use Rattle.clk_machine.specs.Run.{Run, now_of, was_probed, is_built, IsDone, Appends};
+    ghost use Rattle.clk_machine.specs.Row.{IsRowOf};
+
+    /// A core at its opening: the words are written to the bank, nothing is registered, and the
+    /// journal is empty with room for all credits.
+    pub fn create(
+        alloc: Global,
+        desc: ValidDesc,
+        bank: B,
+        words: &[u32],
+        ignore_unused: bool,
+        credits: u32,
+    ) -> Result<Core<B>, NoMemory>
+        requires runs { CanRun desc.defs }
+        requires words { length words.now ≡ desc.words }
+        requires bank { length words.now ≤ B.size bank }
+        requires credits { credits ≤ 4194304 }
+        ensures start { IfOk result (λ core. core.start ≡ opening desc.defs words.now ignore_unused credits) }
+        ensures journal { IfOk result (λ core. core.journal ≡ []) }
+        ensures told { IfOk result (λ core. core.told ≡ is_some (B.contents bank)) }
+    {
+        let log = Log::create(alloc, credits)?;
+        let kept = Vec::from_slice(alloc, words)?;
+        let machine = Machine::create(alloc, desc, bank, words, ignore_unused, credits)?;
+        Ok(Core {
+            machine,
+            words: kept,
+            log,
+        })
+    }
+
+    /// Enables a handle. Takes no memory.
+    pub fn enable(&mut self, driver: u32, handle: Handle) -> Reply
+        requires { cost self.old.journal < self.old.start.credits }
+        ensures { Appends self.old driver (Enable handle.number) (Done result) self.new }
+    {
+        let reply = self.machine.enable(driver, handle.number);
+        self.log.push(Entry {
+            driver,
+            event: Event::Enable(handle.number),
+            turn: Turn::Done(reply),
+        });
+        reply
+    }
+
+    /// Disables a handle. Takes no memory.
+    pub fn disable(&mut self, driver: u32, handle: Handle) -> Reply
+        requires { cost self.old.journal < self.old.start.credits }
+        ensures { Appends self.old driver (Disable handle.number) (Done result) self.new }
+    {
+        let reply = self.machine.disable(driver, handle.number);
+        self.log.push(Entry {
+            driver,
+            event: Event::Disable(handle.number),
+            turn: Turn::Done(reply),
+        });
+        reply
+    }
+
+    /// Tells whether a handle's clock is active. Takes no memory.
+    pub fn running(&mut self, driver: u32, handle: Handle) -> Reply
+        requires { cost self.old.journal < self.old.start.credits }
+        ensures { Appends self.old driver (Running handle.number) (Done result) self.new }
+    {
+        let reply = self.machine.running(driver, handle.number);
+        self.log.push(Entry {
+            driver,
+            event: Event::Running(handle.number),
+            turn: Turn::Done(reply),
+        });
+        reply
+    }
+
+    /// Whether this call can be made so far.
+    pub fn built(&self, what: &Sleeping) -> bool
+        requires { IsPlaced self.now.start.defs what.now }
+        ensures { result ≡ is_built self.now what.now }
+    {
+        match what {
+            Sleeping::Get(_)
+            | Sleeping::Prepare(_)
+            | Sleeping::Unprepare(_)
+            | Sleeping::GetRate(_) => true,
+            Sleeping::Probe(clock) => self.machine.has_parents(*clock),
+            _ => false,
+        }
+    }
+
+    /// Begins a call of a driver. The calls that are built answer at once.
+    ///
+    /// After `NoMemory` the core is as it was, without an entry.
+    pub fn begin(&mut self, driver: u32, what: &Sleeping) -> Result<Turn, NoMemory>
+        requires credit { cost self.old.journal < self.old.start.credits }
+        requires place { IsPlaced self.old.start.defs what.now }
+        requires built { is_built self.old what.now ≡ true }
+        ensures ok { IfOk result (λ turn. Appends self.old driver (Begin what.now) turn self.new) }
+        ensures at_once { IfOk result IsDone }
+        ensures err { OnErr result (self.new ≡ self.old) }
+    {
+        let reply = self.machine.begin(driver, *what)?;
+        self.log.push(Entry {
+            driver,
+            event: Event::Begin(*what),
+            turn: Turn::Done(reply),
+        });
+        Ok(Turn::Done(reply))
+    }
+
+    /// The entries so far. After each prefix of them, the clocks that are active are fed.
+    pub fn journal(&self) -> &[Entry]
+        ensures entries { result.now ≡ self.now.journal }
+        ensures legal { self.now.told ≡ true → Legal self.now.start self.now.journal }
+        ensures fed { self.now.told ≡ true → (n : ℕ) → Fed (replay self.now.start (take n self.now.journal)) }
+    {
+        self.log.as_slice()
+    }
+
+    /// The description.
+    pub fn desc(&self) -> &ValidDesc
+        ensures { result.now.defs ≡ self.now.start.defs }
+    {
+        self.machine.desc()
+    }
+
+    /// Whether no change is in flight. The calls that are built leave none.
+    pub fn quiet(&self) -> bool
+        ensures { self.now.told ≡ true → result ≡ is_quiet (now_of self.now).change }
+    {
+        self.machine.is_quiet()
+    }
+
+    /// What keeps a clock running, and how it runs. None of a clock that isn't registered.
+    pub fn row(&self, c: ClockId) -> Option<Row>
+        requires { c.0 < length self.now.start.defs }
+        ensures found { is_some result ≡ was_probed self.now.journal c.0 }
+        ensures row { self.now.told ≡ true → IsRowOf (now_of self.now) c.0 result }
+    {
+        self.machine.row(c)
+    }
+
+    /// How many events can still be paid for.
+    pub fn credits_left(&self) -> u32
+        ensures { result + cost self.now.journal ≡ self.now.start.credits }
+    {
+        self.machine.credits_left()
+    }
+
+    /// How many words of the bank the registers are.
+    pub fn word_count(&self) -> usize
+        ensures size { result ≡ length self.now.start.regs }
+        ensures registers { self.now.told ≡ true → length (now_of self.now).regs ≡ result }
+    {
+        self.machine.word_count()
+    }
+
+    /// The word of the bank at this place.
+    pub fn word(&self, place: usize) -> u32
+        requires { place < length self.now.start.regs }
+        ensures { self.now.told ≡ true → result ≡ slice_index (now_of self.now).regs place }
+    {
+        self.machine.word(place)
+    }
+
+    /// The bank. Where it tells its words, the first ones are the registers of the core's state.
+    pub fn into_bank(self) -> B
+        ensures told { is_some (B.contents result) ≡ self.told }
+        ensures words { IfSome (B.contents result) (λ words. take (length self.start.regs) words ≡ (now_of self).regs) }
+    {
+        let Core {
+            machine,
+            words: _,
+            log: _,
+        } = self;
+        machine.into_bank()
+    }
+}

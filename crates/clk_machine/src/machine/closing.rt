@@ -1,0 +1,100 @@
+//! Giving up what a handle holds, and asking whether its clock runs.
+
+ghost use Rattle.std.specs.Prelude.{◌≡◌, ◌<◌, true};
+ghost use Rattle.clk_base.specs.declared.event.Event.TheVariants.{Disable, Running, Begin};
+ghost use Rattle.clk_base.specs.declared.call.Sleeping.TheVariants.{Unprepare};
+ghost use Rattle.clk_model.specs.State.{registered};
+ghost use Rattle.clk_model.specs.Holders.{active};
+ghost use Rattle.clk_machine.specs.Held.{Takes, ClosesFor};
+
+use super::Machine;
+use crate::gates::{close_path, is_enabled_above};
+use crate::handles::keeps_prepare;
+use clk_base::{ClockId, Errno, Handle, Reply, depth};
+use clk_model::HandleRow;
+use reg_bank::Bank;
+
+impl<B: Bank> Machine<B> {
+    // Closes the gates above a registered clock that no handle keeps active, the clock's own first.
+    fn close_above(&mut self, clock: ClockId)
+        requires { registered self.old.state.clocks clock.0 ≡ true }
+        ensures told { self.new.told ≡ self.old.told }
+        ensures size { self.new.size ≡ self.old.size }
+        ensures stays { self.new.state ≡ record self.old.state { regs = self.new.state.regs } }
+        ensures closes { self.old.told ≡ true → ClosesFor self.old.state clock self.new.state.regs }
+    {
+        close_path(
+            depth(),
+            &self.desc,
+            &self.clocks,
+            &self.handles,
+            &mut self.window,
+            clock,
+        );
+    }
+
+    /// Disables a handle: the gates close above its clock that nothing else keeps open, its own
+    /// first.
+    pub(crate) fn disable(&mut self, driver: u32, number: u32) -> Reply
+        requires { self.old.state.spent < self.old.state.credits }
+        ensures { Takes self.old driver (Disable number) result self.new }
+    {
+        let Some(row) = self.own(driver, number) else {
+            self.spend();
+            return Reply::Refused(Errno::ENOENT);
+        };
+        if row.enables == 0 {
+            self.spend();
+            return Reply::Warn;
+        }
+        let disabled = HandleRow {
+            enables: row.enables - 1,
+            ..row
+        };
+        self.put_row(number, row, disabled);
+        self.close_above(row.clock);
+        Reply::Fine
+    }
+
+    // Whether a handle keeps a clock active.
+    fn is_active(&self, clock: ClockId) -> bool
+        ensures { result ≡ active self.now.state clock.0 }
+    {
+        is_enabled_above(&self.clocks, &self.handles, clock)
+    }
+
+    /// Tells whether a handle's clock is active.
+    pub(crate) fn running(&mut self, driver: u32, number: u32) -> Reply
+        requires { self.old.state.spent < self.old.state.credits }
+        ensures { Takes self.old driver (Running number) result self.new }
+    {
+        let Some(row) = self.own(driver, number) else {
+            self.spend();
+            return Reply::Refused(Errno::ENOENT);
+        };
+        let runs = self.is_active(row.clock);
+        self.spend();
+        if runs { Reply::Yes } else { Reply::No }
+    }
+
+    /// Takes a prepare from a handle. No PLL has to be lowered.
+    pub(crate) fn unprepare(&mut self, driver: u32, handle: Handle) -> Reply
+        requires { self.old.state.spent < self.old.state.credits }
+        ensures { Takes self.old driver (Begin (Unprepare handle)) result self.new }
+    {
+        let Some(row) = self.own(driver, handle.number) else {
+            self.spend();
+            return Reply::Refused(Errno::ENOENT);
+        };
+        if keeps_prepare(row) {
+            self.spend();
+            return Reply::Warn;
+        }
+        let unprepared = HandleRow {
+            prepares: row.prepares - 1,
+            ..row
+        };
+        self.put_row(handle.number, row, unprepared);
+        Reply::Fine
+    }
+}

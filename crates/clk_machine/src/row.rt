@@ -1,0 +1,16 @@
+//! What a core tells of a clock.
+
+/// A row of the table of clocks: what keeps a registered clock running, and how it runs.
+#[derive(Clone, Copy, Debug, PartialEq, Eq)]
+pub struct Row {
+    /// The enables of its handles, with one for each active child.
+    pub enable: u32,
+    /// The prepares of its handles, with one for each prepared child.
+    pub prepare: u32,
+    /// The exclusive holds of its handles, with one for each guarded child.
+    pub protect: u32,
+    /// The rate in Hz.
+    pub rate: u64,
+    /// Whether the gate is open. A clock without a gate has none.
+    pub on: Option<bool>,
+}

@@ -1,0 +1,232 @@
+//! What no contract says: that the calls get on where there is memory, and what a run looks like
+//! that was worked out by hand.
+
+ghost use Rattle.std.specs.Prelude.{◌≡◌, ◌≤◌, ◌<◌, true, length, [], ◌∷◌, IfOk};
+ghost use Rattle.clk_machine.specs.Held.{CanRun, IsPlaced};
+
+use super::*;
+use bitflags::Flags;
+use clk_base::{
+    ClkFlags, ClockDef, ClockId, ClockName, Desc, Handle, Kind, Parents, Reply, Sleeping, Turn,
+    ValidDesc,
+};
+use clk_io::NoMemory;
+use reg_bank::{Bank, MemBank};
+use std::alloc::Global;
+use std::process::Abort;
+use std::test::Fail;
+
+// A clock without flags.
+fn clock(alloc: Global, name: &str, kind: Kind, parents: Parents) -> Result<ClockDef, NoMemory>
+    ensures kind { IfOk result (λ def. def.kind ≡ kind) }
+    ensures parents { IfOk result (λ def. def.parents ≡ parents) }
+{
+    Ok(ClockDef {
+        name: ClockName::new(String::from_str(alloc, name)?),
+        kind,
+        flags: ClkFlags::empty(),
+        parents,
+    })
+}
+
+// A fixed clock of 24 MHz, and a gate over it at bit 3 of word 0.
+fn two_clocks(alloc: Global) -> Result<ValidDesc, Fail>
+    ensures { IfOk result (λ desc. desc.words ≡ 1) }
+{
+    let mut desc = Desc::new(alloc);
+    let rate = 24_000_000;
+    let osc = desc.add(clock(
+        alloc,
+        "osc",
+        Kind::FixedRate { rate },
+        Parents::new(Vec::new(alloc)),
+    )?)?;
+    let kind = Kind::Gate {
+        word: 0,
+        bit: 3,
+        set_to_disable: false,
+    };
+    desc.add(clock(alloc, "uart", kind, Parents::new(vec![in alloc; osc]?))?)?;
+    Ok(desc.check(alloc, 1)?)
+}
+
+// The core at its opening, over a bank of its own.
+fn core_of_two(rt: &impl Abort, alloc: Global) -> Result<Core<MemBank>, Fail>
+    ensures told { IfOk result (λ core. core.told ≡ true) }
+    ensures words { IfOk result (λ core. length core.start.regs ≡ 1) }
+{
+    let desc = two_clocks(alloc)?;
+    assert_eq!(rt; first_unfit(&desc), None);
+    let bank = MemBank::new(alloc)?;
+    Ok(Core::create(alloc, desc, bank, &[0], false, 100)?)
+}
+
+// Whether a call names clocks of the description alone.
+fn is_placed(core: &Core<MemBank>, what: &Sleeping) -> bool
+    ensures { result ≡ true → IsPlaced core.now.start.defs what.now }
+{
+    match what {
+        Sleeping::Get(Some(clock)) | Sleeping::Probe(clock) => (clock.0 as usize)
+            < core.desc().len(),
+        Sleeping::Get(None)
+        | Sleeping::Prepare(_)
+        | Sleeping::Unprepare(_)
+        | Sleeping::GetRate(_) => true,
+        _ => false,
+    }
+}
+
+// Begins calls of driver 1, each with the reply that it must have.
+fn begin_all(
+    rt: &impl Abort,
+    core: &mut Core<MemBank>,
+    calls: &[(Sleeping, Reply)],
+) -> Result<(), NoMemory>
+    ensures start { core.new.start ≡ core.old.start }
+    ensures told { core.new.told ≡ core.old.told }
+{
+    for (what, wanted) in calls {
+        assert!(rt; is_placed(core, what));
+        assert!(rt; core.built(what));
+        assert!(rt; core.credits_left() > 0);
+        assert_eq!(rt; core.begin(1, what)?, Turn::Done(*wanted));
+    }
+    Ok(())
+}
+
+const FIRST: Handle = Handle {
+    number: 0,
+    slot: 0,
+    driver: 1,
+};
+
+#[test]
+fn the_ordinary_path(rt: HostRuntime) -> Result<(), Fail> {
+    let (osc, uart) = (ClockId(0), ClockId(1));
+    let mut core = core_of_two(&rt, rt.alloc())?;
+    begin_all(
+        &rt,
+        &mut core,
+        &[
+            (Sleeping::Probe(osc), Reply::Fine),
+            (Sleeping::Probe(uart), Reply::Fine),
+            (Sleeping::Get(Some(uart)), Reply::Handle(FIRST)),
+            (Sleeping::Prepare(FIRST), Reply::Fine),
+        ],
+    )?;
+    assert_eq!(rt; core.word(0), 0);
+    assert!(rt; core.credits_left() > 0);
+    assert_eq!(rt; core.enable(1, FIRST), Reply::Fine);
+    assert_eq!(rt; core.word(0), 8);
+    begin_all(
+        &rt,
+        &mut core,
+        &[(Sleeping::GetRate(FIRST), Reply::Rate(24_000_000))],
+    )?;
+    assert_eq!(rt; core.journal().len(), 6);
+    assert_eq!(rt; core.credits_left(), 94);
+    let bank = core.into_bank();
+    assert!(rt; bank.words() > 0);
+    assert_eq!(rt; bank.read(0), 8);
+    Ok(())
+}
+
+#[test]
+fn rows_of_an_enabled_gate_and_its_parent(rt: HostRuntime) -> Result<(), Fail> {
+    let (osc, uart) = (ClockId(0), ClockId(1));
+    let mut core = core_of_two(&rt, rt.alloc())?;
+    assert_eq!(rt; core.desc().len(), 2);
+    assert_eq!(rt; core.row(osc), None);
+    begin_all(
+        &rt,
+        &mut core,
+        &[
+            (Sleeping::Probe(osc), Reply::Fine),
+            (Sleeping::Probe(uart), Reply::Fine),
+            (Sleeping::Get(Some(uart)), Reply::Handle(FIRST)),
+            (Sleeping::Prepare(FIRST), Reply::Fine),
+            (Sleeping::Prepare(FIRST), Reply::Fine),
+        ],
+    )?;
+    assert!(rt; core.quiet());
+    let rate = 24_000_000;
+    assert_eq!(rt; core.desc().len(), 2);
+    assert_eq!(rt;
+        core.row(uart),
+        Some(Row {
+            enable: 0,
+            prepare: 2,
+            protect: 0,
+            rate,
+            on: Some(false)
+        })
+    );
+    assert_eq!(rt;
+        core.row(osc),
+        Some(Row {
+            enable: 0,
+            prepare: 1,
+            protect: 0,
+            rate,
+            on: None
+        })
+    );
+    assert!(rt; core.credits_left() > 0);
+    assert_eq!(rt; core.enable(1, FIRST), Reply::Fine);
+    assert_eq!(rt; core.desc().len(), 2);
+    assert_eq!(rt;
+        core.row(uart),
+        Some(Row {
+            enable: 1,
+            prepare: 2,
+            protect: 0,
+            rate,
+            on: Some(true)
+        })
+    );
+    assert_eq!(rt;
+        core.row(osc),
+        Some(Row {
+            enable: 1,
+            prepare: 1,
+            protect: 0,
+            rate,
+            on: None
+        })
+    );
+    Ok(())
+}
+
+#[test]
+fn the_way_back(rt: HostRuntime) -> Result<(), Fail> {
+    let (osc, uart) = (ClockId(0), ClockId(1));
+    let mut core = core_of_two(&rt, rt.alloc())?;
+    begin_all(
+        &rt,
+        &mut core,
+        &[
+            (Sleeping::Probe(osc), Reply::Fine),
+            (Sleeping::Probe(uart), Reply::Fine),
+            (Sleeping::Get(Some(uart)), Reply::Handle(FIRST)),
+            (Sleeping::Prepare(FIRST), Reply::Fine),
+        ],
+    )?;
+    assert!(rt; core.credits_left() > 0);
+    assert_eq!(rt; core.enable(1, FIRST), Reply::Fine);
+    assert!(rt; core.credits_left() > 0);
+    assert_eq!(rt; core.running(1, FIRST), Reply::Yes);
+    assert!(rt; core.credits_left() > 0);
+    assert_eq!(rt; core.disable(1, FIRST), Reply::Fine);
+    assert_eq!(rt; core.word(0), 0);
+    assert!(rt; core.credits_left() > 0);
+    assert_eq!(rt; core.running(1, FIRST), Reply::No);
+    begin_all(
+        &rt,
+        &mut core,
+        &[
+            (Sleeping::Unprepare(FIRST), Reply::Fine),
+            (Sleeping::Unprepare(FIRST), Reply::Warn),
+        ],
+    )?;
+    Ok(())
+}

@@ -1,0 +1,82 @@
+-- Runs of two drivers in a stated order.
+use Rattle.std.specs.Prelude.{◌≡◌, ℕ, List, [], ◌∷◌, ◌++◌, Some, pos, refl}
+use Rattle.clk_base.specs.declared.command.Act.TheVariants as act
+use Rattle.clk_base.specs.declared.command.Command.{Command}
+use Rattle.clk_base.specs.declared.call.Micro.TheVariants as micro
+use Rattle.clk_base.specs.declared.call.Sleeping.TheVariants as call
+use Rattle.clk_base.specs.declared.event.Entry.{Entry}
+use Rattle.clk_base.specs.declared.event.Reply.TheVariants as reply
+use Rattle.clk_base.specs.declared.handle.Policy.TheVariants as policy
+use Rattle.clk_model.specs.Chain.{clock_id}
+use Rattle.clk_model.specs.Ordered.{Ordered}
+use Rattle.clk_model.specs.Examples.Rows.{turns, stated, handle, begins, goes_on, step, ends, boot, gets}
+use Rattle.clk_model.specs.Examples.Commands.{on}
+use Rattle.clk_model.specs.Examples.Migrations.{migration_start, gb, m, g, before_move, move}
+use Rattle.clk_model.specs.Examples.Notices.{one_veto}
+
+-- ---- a move, with enables and disables of another driver in every window
+
+-- `get h m`, `prepare h`, `set h 30000000`
+abbrev mover : List Command
+mover = on 0 (act.Get (Some m)) ∷ on 0 act.Prepare ∷ on 0 (act.SetRate 30000000) ∷ []
+
+-- `get k g`, `prepare k`, and then enable, disable, enable, disable, enable, disable, enable of k
+abbrev enabler : List Command
+enabler =
+    on 0 (act.Get (Some g)) ∷ on 0 act.Prepare
+    ∷ on 0 act.Enable ∷ on 0 act.Disable ∷ on 0 act.Enable ∷ on 0 act.Disable ∷ on 0 act.Enable ∷ on 0 act.Disable ∷ on 0 act.Enable ∷ []
+
+-- `%order` `A A B B A B A A B A B A B A B A B A B A`
+abbrev windows : List ℕ
+windows = 1 ∷ 1 ∷ 2 ∷ 2 ∷ 1 ∷ 2 ∷ 1 ∷ 1 ∷ 2 ∷ 1 ∷ 2 ∷ 1 ∷ 2 ∷ 1 ∷ 2 ∷ 1 ∷ 2 ∷ 1 ∷ 2 ∷ 1 ∷ []
+
+pub move_ordered : Ordered ([] ∷ mover ∷ enabler ∷ []) windows (before_move ++ move)
+move_ordered = (refl, (refl, (refl, (refl, (refl, (refl, (refl, (refl, (refl, (refl, (refl, (refl, (refl, (refl, (refl, (refl, (refl, (refl, (refl, (refl, (refl, (refl, (refl, (refl, (refl, tt)))))))))))))))))))))))))
+
+-- ---- a veto, with an enable of another driver between two notices
+
+-- `get hs s`, `get hw w`, `get hu u`, `notify hw 1 10 accept`, `notify hw 2 5 veto`, `notify hw 3 1 accept`, `notify hu 4 0 accept`, `set hs 50`
+abbrev setter : List Command
+setter =
+    on 0 (act.Get (Some (clock_id 1))) ∷ on 1 (act.Get (Some (clock_id 3))) ∷ on 2 (act.Get (Some (clock_id 2)))
+    ∷ on 1 (act.NotifierAdd 1 (pos 10) policy.Accept) ∷ on 1 (act.NotifierAdd 2 (pos 5) policy.VetoAll)
+    ∷ on 1 (act.NotifierAdd 3 (pos 1) policy.Accept) ∷ on 2 (act.NotifierAdd 4 (pos 0) policy.Accept)
+    ∷ on 0 (act.SetRate 50) ∷ []
+
+-- `get k q`, `prepare k`, `enable k`
+abbrev other : List Command
+other = on 0 (act.Get (Some (clock_id 4))) ∷ on 0 act.Prepare ∷ on 0 act.Enable ∷ []
+
+-- `%order` `B B A A A A A A A A A B`
+abbrev between_notices : List ℕ
+between_notices = 2 ∷ 2 ∷ 1 ∷ 1 ∷ 1 ∷ 1 ∷ 1 ∷ 1 ∷ 1 ∷ 1 ∷ 1 ∷ 2 ∷ []
+
+pub one_veto_ordered : Ordered ([] ∷ setter ∷ other ∷ []) between_notices one_veto
+one_veto_ordered = (refl, (refl, (refl, (refl, (refl, (refl, (refl, (refl, (refl, (refl, (refl, (refl, (refl, (refl, (refl, (refl, (refl, (refl, (refl, tt)))))))))))))))))))
+
+-- ---- a driver that waits
+
+-- `get h m`, `put j`, `set h 30000000`
+abbrev rater : List Command
+rater = on 0 (act.Get (Some m)) ∷ on 1 act.Put ∷ on 0 (act.SetRate 30000000) ∷ []
+
+-- `get k g`, `prepare k`
+abbrev preparer : List Command
+preparer = on 0 (act.Get (Some g)) ∷ on 0 act.Prepare ∷ []
+
+-- the second driver's prepare waits for the change of the first; the first goes on at its turns, and behind the order as the
+-- lowest numbered one; what is skipped makes no entry
+abbrev waiting : List Entry
+waiting =
+    boot 6 ++ gets 1 m 0 ∷ gets 2 g 1
+    ∷ goes_on 1 (call.SetRate (handle 0 1) 30000000)
+    ∷ step 1 (micro.Relink m gb) ∷ step 1 (micro.WriteMux m 1) ∷ step 1 (micro.Visit m) ∷ step 1 (micro.Visit g) ∷ ends 1 reply.Fine
+    ∷ begins 2 (call.Prepare (handle 1 2)) reply.Fine
+    ∷ []
+
+pub waiting_turns : turns migration_start waiting ≡ stated waiting
+unfolding turns
+waiting_turns = refl
+
+pub waiting_ordered : Ordered ([] ∷ rater ∷ preparer ∷ []) (1 ∷ 2 ∷ 1 ∷ 2 ∷ 2 ∷ 1 ∷ []) waiting
+waiting_ordered = (refl, (refl, (refl, (refl, (refl, (refl, (refl, (refl, (refl, tt)))))))))

@@ -1,0 +1,181 @@
+-- Requests that are passed on to the parent.
+use Rattle.std.specs.Prelude.{◌≡◌, List, [], ◌∷◌, ◌++◌, false, codes, refl}
+use Rattle.clk_base.specs.declared.clock.ClockId.{ClockId}
+use Rattle.clk_base.specs.declared.clock.Kind.TheVariants as kinds
+use Rattle.clk_base.specs.declared.call.Micro.TheVariants as micro
+use Rattle.clk_base.specs.declared.call.Sleeping.TheVariants as call
+use Rattle.clk_base.specs.declared.event.Entry.{Entry}
+use Rattle.clk_base.specs.declared.event.Errno.TheVariants as errno
+use Rattle.clk_base.specs.declared.event.Reply.TheVariants as reply
+use Rattle.clk_base.specs.declared.handle.Handle.{Handle}
+use Rattle.clk_base.specs.Description.{Description}
+use Rattle.clk_model.specs.State.{State}
+use Rattle.clk_model.specs.Chain.{clock_id}
+use Rattle.clk_model.specs.Journal.{opening, replay}
+use Rattle.clk_model.specs.Examples.Rows.{turns, stated, clock, flagged, set_rate_parent, handle, begins, goes_on, step, ends, boot, gets}
+
+abbrev a : Handle
+a = handle 0 1
+
+abbrev b : Handle
+b = handle 1 1
+
+-- the clock below the root, and the clock below that
+abbrev upper : ClockId
+upper = clock_id 1
+
+abbrev lower : ClockId
+lower = clock_id 2
+
+-- ---- a factor
+
+-- `fixed ref 1000`, `divider s ref 0 0 3`, `factor x s 3 2 set-rate-parent`
+abbrev factored : Description
+factored =
+    clock (codes "ref") (kinds.FixedRate 1000) [] ∷ clock (codes "s") (kinds.Divider 0 0 3 false false) (0 ∷ [])
+    ∷ flagged set_rate_parent (codes "x") (kinds.Factor 3 2) (1 ∷ []) ∷ []
+
+abbrev factored_start : State
+factored_start = opening factored (0 ∷ []) false 100
+
+-- for 251 the factor asks for 166: it divides by 3, drops the fraction, and multiplies by 2. The divider gives 143, three halves
+-- of which are 214
+abbrev factor_passes : List Entry
+factor_passes =
+    boot 3 ++ gets 1 lower 0
+    ∷ begins 1 (call.RoundRate a 251) (reply.Rate 214)
+    ∷ goes_on 1 (call.SetRate a 251) ∷ step 1 (micro.Visit upper) ∷ step 1 (micro.Visit lower) ∷ ends 1 reply.Fine
+    ∷ begins 1 (call.GetRate a) (reply.Rate 214)
+    ∷ []
+
+pub factor_passes_turns : turns factored_start factor_passes ≡ stated factor_passes
+unfolding turns
+factor_passes_turns = refl
+
+pub factor_passes_registers : (replay factored_start factor_passes).regs ≡ 6 ∷ []
+unfolding turns
+factor_passes_registers = refl
+
+-- ---- a gate below a factor
+
+-- the same with `gate g x 1 0 set-rate-parent`
+abbrev three_levels : Description
+three_levels = factored ++ flagged set_rate_parent (codes "g") (kinds.Gate 1 0 false) (2 ∷ []) ∷ []
+
+abbrev lowest : ClockId
+lowest = clock_id 3
+
+-- the gate passes 251 on as it is, and not the 214 that the factor gives for it, for which the factor would give 187
+abbrev request_as_it_is : List Entry
+request_as_it_is =
+    boot 4 ++ gets 1 lowest 0
+    ∷ goes_on 1 (call.SetRate a 251) ∷ step 1 (micro.Visit upper) ∷ step 1 (micro.Visit lower) ∷ step 1 (micro.Visit lowest) ∷ ends 1 reply.Fine
+    ∷ begins 1 (call.GetRate a) (reply.Rate 214)
+    ∷ []
+
+pub request_as_it_is_turns : turns (opening three_levels (0 ∷ 0 ∷ []) false 100) request_as_it_is ≡ stated request_as_it_is
+unfolding turns
+request_as_it_is_turns = refl
+
+-- ---- a divider below a divider
+
+-- `fixed ref 1000`, `divider s ref 0 0 3`, `divider d s 0 4 2 set-rate-parent`
+abbrev two_dividers : Description
+two_dividers =
+    clock (codes "ref") (kinds.FixedRate 1000) [] ∷ clock (codes "s") (kinds.Divider 0 0 3 false false) (0 ∷ [])
+    ∷ flagged set_rate_parent (codes "d") (kinds.Divider 0 4 2 false false) (1 ∷ []) ∷ []
+
+-- the upper divider's field is 3, so its rate is 250
+abbrev two_dividers_start : State
+two_dividers_start = opening two_dividers (3 ∷ []) false 100
+
+-- for 125 the upper divider could give 125, but twice 125 is the rate that it has, so it stays. For 1 no divisor will do, so the
+-- greatest, 4, is taken over the least rate of the upper divider
+abbrev divider_passes : List Entry
+divider_passes =
+    boot 3 ++ gets 1 lower 0
+    ∷ begins 1 (call.RoundRate a 1) (reply.Rate 32)
+    ∷ goes_on 1 (call.SetRate a 125) ∷ step 1 (micro.Visit lower) ∷ ends 1 reply.Fine
+    ∷ begins 1 (call.GetRate a) (reply.Rate 125)
+    ∷ []
+
+pub divider_passes_turns : turns two_dividers_start divider_passes ≡ stated divider_passes
+unfolding turns
+divider_passes_turns = refl
+
+pub divider_passes_registers : (replay two_dividers_start divider_passes).regs ≡ 0x13 ∷ []
+unfolding turns
+divider_passes_registers = refl
+
+-- ---- a gate
+
+-- `fixed ref 1000`, `divider s ref 0 0 3`, `gate g s 1 0 set-rate-parent`
+abbrev gated : Description
+gated =
+    clock (codes "ref") (kinds.FixedRate 1000) [] ∷ clock (codes "s") (kinds.Divider 0 0 3 false false) (0 ∷ [])
+    ∷ flagged set_rate_parent (codes "g") (kinds.Gate 1 0 false) (1 ∷ []) ∷ []
+
+abbrev gated_start : State
+gated_start = opening gated (0 ∷ 0 ∷ []) false 100
+
+-- a gate passes a request on as it is, but a change that leaves its range is refused
+abbrev gate_passes : List Entry
+gate_passes =
+    boot 3 ++ gets 1 lower 0 ∷ gets 1 lower 1
+    ∷ begins 1 (call.SetRange a 200 1000) reply.Fine
+    ∷ begins 1 (call.RoundRate b 150) (reply.Rate 143)
+    ∷ begins 1 (call.SetRate b 150) (reply.Refused errno.EINVAL)
+    ∷ goes_on 1 (call.SetRate b 250) ∷ step 1 (micro.Visit upper) ∷ step 1 (micro.Visit lower) ∷ ends 1 reply.Fine
+    ∷ begins 1 (call.GetRate a) (reply.Rate 250)
+    ∷ []
+
+pub gate_passes_turns : turns gated_start gate_passes ≡ stated gate_passes
+unfolding turns
+gate_passes_turns = refl
+
+pub gate_passes_registers : (replay gated_start gate_passes).regs ≡ 3 ∷ 0 ∷ []
+unfolding turns
+gate_passes_registers = refl
+
+-- ---- a mux that moves below the clock that changes
+
+-- `fixed ref 1000`, `divider s ref 0 0 3`, `factor u s 1 2 set-rate-parent`, `factor w s 1 5 set-rate-parent`,
+-- `mux m 1 0 1 2 u w set-rate-parent`
+abbrev shared_source : Description
+shared_source =
+    clock (codes "ref") (kinds.FixedRate 1000) [] ∷ clock (codes "s") (kinds.Divider 0 0 3 false false) (0 ∷ [])
+    ∷ flagged set_rate_parent (codes "u") (kinds.Factor 1 2) (1 ∷ []) ∷ flagged set_rate_parent (codes "w") (kinds.Factor 1 5) (1 ∷ [])
+    ∷ flagged set_rate_parent (codes "m") (kinds.Mux 1 0 1 false) (2 ∷ 3 ∷ []) ∷ []
+
+abbrev half : ClockId
+half = clock_id 2
+
+abbrev fifth : ClockId
+fifth = clock_id 3
+
+abbrev mux : ClockId
+mux = clock_id 4
+
+abbrev shared_source_start : State
+shared_source_start = opening shared_source (0 ∷ 0 ∷ []) false 100
+
+-- for 60 the half can't be had, since the divider's least rate is 125; the fifth of 250 is 50. The walk meets the mux below its
+-- new parent, and no more below its old one
+abbrev moving_below : List Entry
+moving_below =
+    boot 5 ++ gets 1 mux 0
+    ∷ goes_on 1 (call.SetRate a 60)
+    ∷ step 1 (micro.Visit upper)
+    ∷ step 1 (micro.Visit fifth) ∷ step 1 (micro.Relink mux fifth) ∷ step 1 (micro.WriteMux mux 1) ∷ step 1 (micro.Visit mux)
+    ∷ step 1 (micro.Visit half)
+    ∷ ends 1 reply.Fine
+    ∷ begins 1 (call.GetRate a) (reply.Rate 50)
+    ∷ []
+
+pub moving_below_turns : turns shared_source_start moving_below ≡ stated moving_below
+unfolding turns
+moving_below_turns = refl
+
+pub moving_below_registers : (replay shared_source_start moving_below).regs ≡ 3 ∷ 1 ∷ []
+unfolding turns
+moving_below_registers = refl

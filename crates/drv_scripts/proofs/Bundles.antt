@@ -1,0 +1,199 @@
+-- The bundle that lines spell, and what holds of it.
+use Rattle.std.proofs.Common.{◌≡◌, ℕ, zero, suc, ◌+◌, ◌-◌, ◌<◌, ◌≤◌, Bool, true, false, ◌&&◌, cond, List, [], ◌∷◌, map, length, Option, Some, None, IfSome, refl, ap, sym, ◌∙◌, subst, inl, inr, nat_lt, arith}
+use Rattle.std.specs.List.{range_with_len, AllByRecursion}
+use Rattle.std.specs.Option.{option_map, option_to_list, unwrap_or}
+use Rattle.std.specs.Str.{bytes_eq}
+use Rattle.std.proofs.lemmas.Bool.{cases_lt, and_parts, ltb-true, lt-ltb, le-ltb, cond-true, cond-false}
+use Rattle.clk_base.specs.declared.clock.ClockId.{ClockId}
+use Rattle.clk_base.specs.declared.command.Act.{Act}
+use Rattle.clk_base.specs.declared.command.Act.TheVariants.{Get, Prepare, Unprepare, Enable, Disable, Running, GetRate}
+use Rattle.clk_base.specs.declared.command.Command.{Command}
+use Rattle.clk_base.specs.Checked.{Checked}
+use Rattle.clk_base.specs.Description.{Description, clock_named}
+use Rattle.clk_base.proofs.Names.{clock_named-Some}
+use Rattle.bundle_text.specs.Firsts.{KeepsBelow, said_from, onto}
+use Rattle.bundle_text.specs.Lines.{line_at}
+use Rattle.bundle_text.specs.Words.{spaced_words, is_word}
+use Rattle.std.specs.Prelude.{codes}
+use Rattle.bundle_text.proofs.Headers.{header_from-ge}
+use Rattle.drv_scripts.specs.declared.bundle.Script.{Script}
+use Rattle.drv_scripts.specs.declared.reason.Reason.TheVariants.{NotYet}
+use Rattle.drv_scripts.specs.CommandLines.{CommandLine, gets, acts, act_of, act_in, driver_line, command_line, command_in}
+use Rattle.bundle_text.specs.Names.{is_variable}
+use Rattle.drv_scripts.specs.Form.{clocks_end, words_end, bank_size, clocks_before, words_before, variables_before, keeps_form, keeps_command, fault_at, unless, command_at}
+use Rattle.drv_scripts.specs.Placed.{NamesPlace, NamePlaces, IsScript, IsSound}
+use Rattle.drv_scripts.specs.Sections.{SpellsDesc}
+use Rattle.drv_scripts.specs.Spelled.{probe, boot_of, commands_from, script_at, scripts_of, bundle_of}
+use Rattle.drv_scripts.proofs.Places.{form-command}
+
+some_none : {X : Type 0} (x : X) → Some x ≡ None → ⊥
+some_none x h = cc
+
+-- ## Boot
+
+probes_placed : (from count clocks : ℕ) → from + count ≤ clocks → NamePlaces clocks (map probe (range_with_len from count))
+probes_placed from zero clocks le = tt
+probes_placed from (suc count) clocks le = (omega arith, probes_placed (from + 1) count clocks (omega arith))
+
+boot_placed : (clocks : ℕ) → NamePlaces clocks (boot_of clocks)
+unfolding boot_of
+boot_placed clocks = probes_placed 0 clocks clocks (omega arith)
+
+-- ## Commands
+
+known_acts : (clocks : ℕ) (a b c d e f : Bool)
+    → IfSome (cond a (Some Prepare) (cond b (Some Unprepare) (cond c (Some Enable) (cond d (Some Disable) (cond e (Some Running) (cond f (Some GetRate) None)))))) (NamesPlace clocks)
+known_acts clocks true b c d e f = tt
+known_acts clocks false true c d e f = tt
+known_acts clocks false false true d e f = tt
+known_acts clocks false false false true e f = tt
+known_acts clocks false false false false true f = tt
+known_acts clocks false false false false false true = tt
+known_acts clocks false false false false false false = tt
+
+act_of-placed : (clocks : ℕ) (verb : List ℕ) → IfSome (act_of verb) (NamesPlace clocks)
+unfolding act_of
+act_of-placed clocks verb = known_acts clocks _ _ _ _ _ _
+
+get_placed : (clocks : ℕ) (found : Option ClockId) → ((c : ClockId) → found ≡ Some c → c.0 < clocks) → NamesPlace clocks (Get found)
+get_placed clocks None inside = tt
+get_placed clocks (Some c) inside = inside c refl
+
+acts_placed : (defs : Description) (var : List ℕ) (found : Option Act) → IfSome found (NamesPlace (length defs)) → IfSome (option_map (λ act. acts act var) found) (λ said. NamesPlace (length defs) (act_in defs said))
+acts_placed defs var None h = tt
+acts_placed defs var (Some act) h = h
+
+-- what a command line says names a clock of the description, if it names one
+command_line-placed : (defs : Description) (words : List (List ℕ)) → IfSome (command_line words) (λ said. NamesPlace (length defs) (act_in defs said))
+unfolding command_line
+command_line-placed defs [] = tt
+command_line-placed defs (verb ∷ []) = tt
+command_line-placed defs (verb ∷ var ∷ []) =
+    elim (is_variable var) as (λ b. IfSome (cond b (option_map (λ act. acts act var) (act_of verb)) None) (λ said. NamesPlace (length defs) (act_in defs said)))
+    [ true ↦ acts_placed defs var (act_of verb) (act_of-placed (length defs) verb) | false ↦ tt ]
+command_line-placed defs (verb ∷ var ∷ name ∷ []) =
+    elim (bytes_eq verb (codes "get") && is_variable var && is_word name) as (λ b. IfSome (cond b (Some (gets var name)) None) (λ said. NamesPlace (length defs) (act_in defs said)))
+    [ true ↦ get_placed (length defs) (clock_named defs name) (λ c e. (clock_named-Some defs name c e).0) | false ↦ tt ]
+command_line-placed defs (verb ∷ var ∷ name ∷ more ∷ rest) = tt
+
+command_placed : (defs : Description) (vars : List (List ℕ)) (line : ℕ) (said : Option CommandLine) → IfSome said (λ s. NamesPlace (length defs) (act_in defs s))
+    → IfSome (option_map (command_in defs vars line) said) (λ command. NamesPlace (length defs) command.act)
+unfolding command_in
+command_placed defs vars line None h = tt
+command_placed defs vars line (Some said) h = h
+
+command_at-placed : (ls : List (List ℕ)) (k : ℕ) → IfSome (command_at ls k) (λ command. NamesPlace (length (clocks_before ls (clocks_end ls))) command.act)
+unfolding command_at
+command_at-placed ls k =
+    let defs = clocks_before ls (clocks_end ls) in
+    command_placed defs (variables_before ls k) (k + 1) (command_line (spaced_words (line_at ls k))) (command_line-placed defs (spaced_words (line_at ls k)))
+
+onto_placed : (clocks : ℕ) (found : Option Command) (commands : List Command) → IfSome found (λ command. NamesPlace clocks command.act) → NamePlaces clocks commands → NamePlaces clocks (onto found commands)
+onto_placed clocks None commands h rest = rest
+onto_placed clocks (Some command) commands h rest = (h, rest)
+
+said_placed : (clocks : ℕ) (said : ℕ → Option Command) → ((k : ℕ) → IfSome (said k) (λ command. NamesPlace clocks command.act)) → (from count : ℕ) → NamePlaces clocks (said_from said from count)
+said_placed clocks said each from zero = tt
+said_placed clocks said each from (suc count) = onto_placed clocks (said from) (said_from said (from + 1) count) (each from) (said_placed clocks said each (from + 1) count)
+
+commands_placed : (ls : List (List ℕ)) (from : ℕ) → NamePlaces (length (clocks_before ls (clocks_end ls))) (commands_from ls from)
+unfolding commands_from
+commands_placed ls from = said_placed (length (clocks_before ls (clocks_end ls))) (command_at ls) (command_at-placed ls) from (length ls - from)
+
+-- ## How many commands there are
+
+length-onto : {X : Type 0} (found : Option X) (xs : List X) → length (onto found xs) ≤ length xs + 1
+length-onto None xs = omega arith
+length-onto (Some x) xs = omega arith
+
+length-said_from : {X : Type 0} (said : ℕ → Option X) (from count : ℕ) → length (said_from said from count) ≤ count
+length-said_from said from zero = omega arith
+length-said_from said from (suc count) = omega (arith, length-onto (said from) (said_from said (from + 1) count), length-said_from said (from + 1) count)
+
+unless_none : (b : Bool) → unless b NotYet ≡ None → b ≡ true
+unless_none true h = refl
+unless_none false h = absurd (some_none NotYet h)
+
+-- a command is among the first where it has no fault
+command_few : (ls : List (List ℕ)) (k : ℕ) → 2 ≤ clocks_end ls → clocks_end ls < words_end ls → words_end ls < k → fault_at ls k ≡ None → k - (words_end ls + 1) < 65536
+unfolding keeps_command
+command_few ls k low order behind kept =
+    let holds : keeps_command ls k ≡ true = sym (form-command ls k (omega arith) order behind) ∙ unless_none (keeps_form ls k) kept in
+    ltb-true _ 65536 (and_parts _ _ holds).0
+
+rows_few : (ls : List (List ℕ)) → 2 ≤ clocks_end ls → clocks_end ls < words_end ls → KeepsBelow (fault_at ls) (length ls) → length ls - (words_end ls + 1) ≤ 65536
+rows_few ls low order kept =
+    elim (cases_lt (words_end ls + 1) (length ls)) [
+      | inl some ↦
+          (let last = length ls - 1 in
+          let few : last - (words_end ls + 1) < 65536 = command_few ls last low order (omega arith) (kept last (omega arith)) in
+          omega arith)
+      | inr none ↦ omega arith
+    ]
+
+commands_few : (ls : List (List ℕ)) → 2 ≤ clocks_end ls → clocks_end ls < words_end ls → KeepsBelow (fault_at ls) (length ls) → length (commands_from ls (words_end ls + 1)) ≤ 65536
+unfolding commands_from
+commands_few ls low order kept =
+    omega (arith, length-said_from (command_at ls) (words_end ls + 1) (length ls - (words_end ls + 1)), rows_few ls low order kept)
+
+-- ## The driver
+
+named_script : (clocks : ℕ) (commands : List Command) (name : Option (List ℕ)) → NamePlaces clocks commands → length commands ≤ 65536
+    → AllByRecursion (IsScript clocks) (option_to_list (option_map (λ n. record { name = n; commands = commands }) name))
+named_script clocks commands None placed few = tt
+named_script clocks commands (Some name) placed few = (record { placed = placed; few = few }, tt)
+
+script_sound : (ls : List (List ℕ)) → 2 ≤ clocks_end ls → clocks_end ls < words_end ls → KeepsBelow (fault_at ls) (length ls)
+    → AllByRecursion (IsScript (length (clocks_before ls (clocks_end ls)))) (script_at ls (words_end ls))
+unfolding script_at
+script_sound ls low order kept =
+    named_script (length (clocks_before ls (clocks_end ls))) (commands_from ls (words_end ls + 1)) (driver_line (spaced_words (line_at ls (words_end ls)))) (commands_placed ls (words_end ls + 1)) (commands_few ls low order kept)
+
+scripts_sound : (ls : List (List ℕ)) → KeepsBelow (fault_at ls) (length ls) → AllByRecursion (IsScript (length (clocks_before ls (clocks_end ls)))) (scripts_of ls)
+unfolding scripts_of
+scripts_sound ls kept =
+    let low = header_from-ge ls 2 in
+    let order = header_from-ge ls (clocks_end ls + 1) in
+    elim (nat_lt (words_end ls) (length ls)) as (λ b. AllByRecursion (IsScript (length (clocks_before ls (clocks_end ls)))) (cond b (script_at ls (words_end ls)) []))
+    [ true ↦ script_sound ls low (omega arith) kept | false ↦ tt ]
+
+pub scripts_of-some : (ls : List (List ℕ)) (at : ℕ) → at ≡ words_end ls → at < length ls → scripts_of ls ≡ script_at ls at
+unfolding scripts_of
+scripts_of-some ls at here inside =
+    cond-true _ _ _ (lt-ltb (words_end ls) (length ls) (omega arith)) ∙ ap (script_at ls) (sym here)
+
+pub scripts_of-none : (ls : List (List ℕ)) (at : ℕ) → at ≡ words_end ls → length ls ≤ at → scripts_of ls ≡ []
+unfolding scripts_of
+scripts_of-none ls at here outside = cond-false _ _ _ (le-ltb (words_end ls) (length ls) (omega arith))
+
+-- ## The bundle
+
+pub desc_is : (ls : List (List ℕ)) (desc : Checked) → SpellsDesc ls desc → desc ≡ record { defs = clocks_before ls (clocks_end ls); words = unwrap_or (bank_size ls) 0 }
+desc_is ls desc read =
+    ap (λ defs. record { defs = defs; words = desc.words }) read.defs
+    ∙ ap (λ size. record { defs = clocks_before ls (clocks_end ls); words = unwrap_or size 0 }) (sym read.size)
+
+-- the parts that were read are those that the lines spell
+pub bundle_is : (ls : List (List ℕ)) (desc : Checked) (numbers words : List ℕ) (boot : List Command) (drivers : List Script)
+    → SpellsDesc ls desc → numbers ≡ range_with_len 3 (clocks_end ls - 2) → words ≡ words_before ls (words_end ls) → boot ≡ boot_of (length desc.defs) → drivers ≡ scripts_of ls
+    → record { desc = desc; clock_lines = numbers; assigned_lines = []; words = words; locks = []; late = []; boot = boot; drivers = drivers; order = [] } ≡ bundle_of ls
+unfolding bundle_of
+bundle_is ls desc numbers words boot drivers read a b c d =
+    let defs_are = desc_is ls desc read in
+    let boot_is : boot ≡ boot_of (length (clocks_before ls (clocks_end ls))) = c ∙ ap (λ defs. boot_of (length defs)) read.defs in
+    cc
+
+-- and they fit together
+pub bundle_sound : (ls : List (List ℕ)) (desc : Checked) (numbers words : List ℕ) (boot : List Command) (drivers : List Script)
+    → SpellsDesc ls desc → KeepsBelow (fault_at ls) (length ls) → length words ≡ desc.words → boot ≡ boot_of (length desc.defs) → drivers ≡ scripts_of ls
+    → IsSound (record { desc = desc; clock_lines = numbers; assigned_lines = []; words = words; locks = []; late = []; boot = boot; drivers = drivers; order = [] })
+bundle_sound ls desc numbers words boot drivers read kept a b c = record {
+  valid = read.valid;
+  plain = read.plain;
+  unflagged = read.unflagged;
+  some = read.some;
+  few = read.few;
+  words = a;
+  boot = subst (NamePlaces (length desc.defs)) (sym b) (boot_placed (length desc.defs));
+  scripts = subst (λ ds. AllByRecursion (IsScript (length ds)) drivers) (sym read.defs) (subst (AllByRecursion (IsScript (length (clocks_before ls (clocks_end ls))))) (sym c) (scripts_sound ls kept));
+}

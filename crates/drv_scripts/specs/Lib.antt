@@ -1,0 +1,11 @@
+pub mod ClockLines
+pub mod Description
+pub mod BankLines
+pub mod CommandLines
+pub mod Form
+pub mod Said
+pub mod Gathered
+pub mod Sections
+pub mod Spelled
+pub mod Placed
+pub mod Verdict

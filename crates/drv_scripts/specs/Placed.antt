@@ -1,0 +1,39 @@
+-- What holds of every bundle that is read, for those who run it.
+use Rattle.std.specs.Prelude.{◌≡◌, ℕ, ◌<◌, ◌≤◌, List, length, Some, None}
+use Rattle.std.specs.List.{AllByRecursion}
+use Rattle.clk_base.specs.declared.command.Act.{Act}
+use Rattle.clk_base.specs.declared.command.Act.TheVariants.{Get, SetParent, Probe}
+use Rattle.clk_base.specs.declared.command.Command.{Command}
+use Rattle.clk_base.specs.Plain.{IsPlain}
+use Rattle.clk_base.specs.Valid.{IsValid}
+use Rattle.drv_scripts.specs.declared.bundle.Bundle.{Bundle}
+use Rattle.drv_scripts.specs.declared.bundle.Script.{Script}
+use Rattle.drv_scripts.specs.Gathered.{HasNoFlags}
+
+-- the clock that an act names is one of so many
+abbrev pub NamesPlace : ℕ → Act → Type 0
+NamesPlace clocks (Get None) = Unit {0}
+NamesPlace clocks (Get (Some c)) = c.0 < clocks
+NamesPlace clocks (SetParent c) = c.0 < clocks
+NamesPlace clocks (Probe c) = c.0 < clocks
+NamesPlace clocks _ = Unit {0}
+
+-- the clocks that commands name are clocks of the description
+abbrev pub NamePlaces : ℕ → List Command → Type 0
+NamePlaces clocks commands = AllByRecursion (λ command. NamesPlace clocks command.act) commands
+
+-- a driver's commands name clocks of the description, and there are at most 65,536
+pub record IsScript (clocks : ℕ) (script : Script) : Type 0 where
+  pub placed : NamePlaces clocks script.commands
+  pub few : length script.commands ≤ 65536
+
+-- the bundle's parts fit together
+pub record IsSound (b : Bundle) : Type 0 where
+  pub valid : IsValid b.desc.words b.desc.defs
+  pub plain : IsPlain b.desc.defs
+  pub unflagged : HasNoFlags b.desc.defs
+  pub some : 0 < b.desc.words
+  pub few : b.desc.words ≤ 65536
+  pub words : length b.words ≡ b.desc.words
+  pub boot : NamePlaces (length b.desc.defs) b.boot
+  pub scripts : AllByRecursion (IsScript (length b.desc.defs)) b.drivers

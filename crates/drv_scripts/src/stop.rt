@@ -1,0 +1,53 @@
+//! Why the lines of a bundle were not read to their end.
+
+ghost use Rattle.std.specs.Prelude.{◌≡◌};
+ghost use Rattle.drv_scripts.specs.declared.stop.Stop.TheVariants as stops;
+
+use crate::reason::Reason;
+use clk_io::NoMemory;
+use std::alloc::{AllocError, AllocFailed};
+
+/// Why the lines of a bundle were not read to their end.
+#[derive(Drop)]
+pub(crate) enum Stop {
+    /// The line at this place, from 0, is the first with a fault.
+    At { place: usize, reason: Reason },
+    /// No line has a fault, and no header states the number of words.
+    NoBank,
+    /// Memory ran out.
+    NoMemory,
+}
+
+impl From<NoMemory> for Stop {
+    ghost from_gives = { λ _ e. e ≡ stops.NoMemory };
+
+    fn from(_none: NoMemory) -> Stop {
+        Stop::NoMemory
+    }
+}
+
+impl From<AllocError> for Stop {
+    ghost from_gives = { λ _ e. e ≡ stops.NoMemory };
+
+    fn from(_refused: AllocError) -> Stop {
+        Stop::NoMemory
+    }
+}
+
+impl<T: Drop> From<AllocFailed<T>> for Stop {
+    ghost from_gives = { λ _ e. e ≡ stops.NoMemory };
+
+    fn from(_refused: AllocFailed<T>) -> Stop {
+        Stop::NoMemory
+    }
+}
+
+/// The line at this place breaks the form that is read so far.
+pub(crate) fn not_yet(place: usize) -> Stop
+    ensures { result ≡ Stop.At place Reason.NotYet }
+{
+    Stop::At {
+        place,
+        reason: Reason::NotYet,
+    }
+}
