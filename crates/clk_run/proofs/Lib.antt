@@ -1,4 +1,0 @@
-pub mod Going
-pub mod Following
-pub mod RunTexts
-pub mod Readiness
