@@ -1,0 +1,75 @@
+#!/bin/sh
+# Times `clkbench sim` on generated bundles, and prints nanoseconds a command.
+#
+# A bundle has one fixed clock and gates in a binary tree below it, each gate with a bit of its own.
+# One driver gets and prepares some of the deepest gates, and then repeats enable, rate and prepare
+# on them. Each line is the best of five runs, from the start of the process to its end. It needs a
+# `date` that knows %N.
+
+root=$(dirname -- "$(dirname -- "$(readlink -f -- "$0")")") || exit 1
+program=$root/crates/clkbench/out/clkbench
+bundle=$(mktemp) || exit 1
+trap 'rm -f "$bundle"' EXIT
+
+# Prints a bundle of so many clocks, with one driver of so many commands.
+make_bundle() {
+    awk -v clocks="$1" -v commands="$2" 'BEGIN {
+        gates = clocks - 1
+        print "%bundle 1"
+        print "%clocks"
+        print "fixed g0 24000000"
+        for (i = 1; i <= gates; i++)
+            printf "gate g%d g%d %d %d\n", i, int(i / 2), int((i - 1) / 32), (i - 1) % 32
+        printf "%%regs %d\n", int((gates + 31) / 32)
+        print "%driver bench"
+        handles = gates < 16 ? gates : 16
+        split("enable rate prepare", verbs, " ")
+        for (k = 0; k < commands; k++) {
+            if (k < 2 * handles) {
+                j = int(k / 2)
+                if (k % 2 == 0)
+                    printf "get v%d g%d\n", j, gates - j
+                else
+                    printf "prepare v%d\n", j
+            } else
+                printf "%s v%d\n", verbs[k % 3 + 1], int(k / 3) % handles
+        }
+    }'
+}
+
+# The nanoseconds of the fastest of five runs on the bundle.
+best_of_five() {
+    best=
+    for run in 1 2 3 4 5; do
+        before=$(date +%s%N)
+        "$program" sim <"$bundle" >/dev/null || return 1
+        after=$(date +%s%N)
+        taken=$((after - before))
+        if [ -z "$best" ] || [ "$taken" -lt "$best" ]; then
+            best=$taken
+        fi
+    done
+    echo "$best"
+}
+
+# Times one bundle, and prints its line.
+measure() {
+    make_bundle "$1" "$2" >"$bundle"
+    if ! taken=$(best_of_five); then
+        echo "sim.sh: the program failed on $1 clocks and $2 commands" >&2
+        exit 1
+    fi
+    printf '%8d %10d %14d %12d %12d\n' "$1" "$2" "$taken" $((taken / $2)) $((taken / ($1 + $2)))
+}
+
+# Builds the program where it isn't built.
+"$root/clkbench" sim <"$root/examples/uart.bundle" >/dev/null || exit 1
+
+echo "Boot registers each clock by a command of its own: the last column counts these commands too."
+printf '%8s %10s %14s %12s %12s\n' clocks commands nanoseconds a-command of-all
+for clocks in 10 100 1000 4096; do
+    measure "$clocks" 1000
+done
+for commands in 1000 65536; do
+    measure 100 "$commands"
+done

@@ -1,0 +1,303 @@
+-- Going through commands: one after the other.
+use Rattle.std.proofs.Common.{◌≡◌, ℕ, zero, suc, ◌+◌, ◌<◌, ◌≤◌, ◌&&◌, ◌||◌, Bool, true, false, cond, List, [], ◌∷◌, ◌++◌, Option, Some, None, refl, sym, ap, subst, ◌∙◌, arith, length, take, get_or, add-zero, nat_lt, nat_eq, append_assoc, map, max}
+use Rattle.std.proofs.lemmas.Bool.Decides.{nat_tests}
+use Rattle.std.specs.List.{AllByRecursion, list_all, list_any}
+use Rattle.std.proofs.lemmas.List.{append-nil, length-append, length-take, take_more, take_all}
+use Rattle.std.proofs.lemmas.List.Folds.{list_any-append}
+use Rattle.std.proofs.lemmas.List.Sums.{sum_by-append}
+use Rattle.clk_base.specs.declared.command.Act.{Act}
+use Rattle.clk_base.specs.declared.command.Act.TheVariants as act
+use Rattle.clk_base.specs.declared.command.Answer.{Answer}
+use Rattle.clk_base.specs.declared.command.Answer.TheVariants as answer
+use Rattle.clk_base.specs.declared.command.Command.{Command}
+use Rattle.clk_base.specs.declared.call.Sleeping.TheVariants as call
+use Rattle.clk_base.specs.declared.event.Entry.{Entry}
+use Rattle.clk_base.specs.declared.event.Event.{Event}
+use Rattle.clk_base.specs.declared.event.Event.TheVariants as event
+use Rattle.clk_base.specs.declared.event.Reply.{Reply}
+use Rattle.clk_base.specs.declared.event.Turn.{Turn}
+use Rattle.clk_base.specs.declared.event.Turn.TheVariants as turn
+use Rattle.clk_base.specs.declared.handle.Handle.{Handle}
+use Rattle.clk_model.specs.Journal.{Answered, is_paid, call_at, answer_at, calls_from, cost, Legal}
+use Rattle.std.specs.List.{range_with_len}
+use Rattle.std.specs.Option.{option_map_or}
+use Rattle.std.proofs.lemmas.List.FromFn.{length-map-range_with_len}
+use Rattle.drv_scripts.specs.Spelled.{boot_of, probe}
+use Rattle.clk_model.specs.Follows.{Variables, variable_count, handle_of, call_of, held_after, NextFollows, FollowsFrom}
+use Rattle.clk_model.specs.State.{State}
+use Rattle.clk_machine.specs.Held.{registers}
+use Rattle.clk_machine.specs.Run.{Run, was_probed, Appends}
+use Rattle.clk_base.specs.Description.{Description, parents_of}
+use Rattle.clk_base.specs.Plain.{IsPlain}
+use Rattle.drv_scripts.specs.Placed.{NamesPlace}
+use Rattle.clk_run.specs.Scripts.{is_built_act, is_answer, is_answered, AreProbes, CanCall, MakesCall, GoesThrough}
+
+-- ---- calls of entries
+
+-- a paid event is a call of its own
+call_at-paid : (going : Option Event) (e : Event) → is_paid e ≡ true → call_at going e ≡ Some e
+call_at-paid going (event.Enable n) h = refl
+call_at-paid going (event.Disable n) h = refl
+call_at-paid going (event.Running n) h = refl
+call_at-paid going (event.Begin what) h = refl
+call_at-paid going (event.Step m answer) h = absurd cc
+
+pub and_left : (a b : Bool) → (a && b) ≡ true → a ≡ true
+and_left true b h = refl
+and_left false b h = h
+
+pub and_right : (a b : Bool) → (a && b) ≡ true → b ≡ true
+and_right true b h = h
+and_right false b h = absurd cc
+
+pub both : (a b : Bool) → a ≡ true → b ≡ true → (a && b) ≡ true
+both a b p q = rw (p, q) refl
+
+answered_paid : (d : ℕ) (e : Entry) → is_answered d e ≡ true → is_paid e.event ≡ true
+answered_paid d e h = and_right _ _ (and_left _ _ h)
+
+-- what goes on before doesn't matter to entries that are all answered at once
+calls_from-going : (d : ℕ) (going : Option Event) (es : List Entry) → list_all (is_answered d) es ≡ true → calls_from going es ≡ calls_from None es
+calls_from-going d going [] own = refl
+calls_from-going d going (e ∷ es) own =
+    let paid = answered_paid d e (and_left _ _ own) in
+    ap (λ (o : Option Event). answer_at o e.turn ++ calls_from o es) (call_at-paid going e.event paid ∙ sym (call_at-paid None e.event paid))
+
+pub calls_from-append : (d : ℕ) (going : Option Event) (xs ys : List Entry) → list_all (is_answered d) ys ≡ true
+    → calls_from going (xs ++ ys) ≡ calls_from going xs ++ calls_from None ys
+calls_from-append d going [] ys own = calls_from-going d going ys own
+calls_from-append d going (x ∷ xs) ys own =
+    ap (λ (ls : List Answered). answer_at (call_at going x.event) x.turn ++ ls) (calls_from-append d (call_at going x.event) xs ys own)
+    ∙ sym (append_assoc (answer_at (call_at going x.event) x.turn) (calls_from (call_at going x.event) xs) (calls_from None ys))
+
+pub list_all-append : {X : Type 0} (p : X → Bool) (xs ys : List X) → list_all p xs ≡ true → list_all p ys ≡ true → list_all p (xs ++ ys) ≡ true
+list_all-append p [] ys h k = k
+list_all-append p (x ∷ xs) ys h k = both (p x) (list_all p (xs ++ ys)) (and_left _ _ h) (list_all-append p xs ys (and_right (p x) (list_all p xs) h) k)
+
+-- ---- going
+
+pub goes_none : (run : Run) (d : ℕ) (held : Variables) → GoesThrough run d held [] [] held run
+goes_none run d held = record {
+  entries = [];
+  start = refl;
+  told = refl;
+  journal = sym (append-nil run.journal);
+  own = refl;
+  few = omega arith;
+  legal = λ told was. was;
+  follows = λ cs ls as_ f. f;
+}
+
+pub goes_trans : (first mid last : Run) (d : ℕ) (held held' held'' : Variables) (xs ys : List Command) (as_ bs : List Answer)
+    → GoesThrough first d held xs as_ held' mid → GoesThrough mid d held' ys bs held'' last → GoesThrough first d held (xs ++ ys) (as_ ++ bs) held'' last
+goes_trans first mid last d held held' held'' xs ys as_ bs one two = record {
+  entries = one.entries ++ two.entries;
+  start = two.start ∙ one.start;
+  told = two.told ∙ one.told;
+  journal = two.journal ∙ ap (λ (j : List Entry). j ++ two.entries) one.journal ∙ append_assoc first.journal one.entries two.entries;
+  own = list_all-append (is_answered d) one.entries two.entries one.own two.own;
+  few = let a = one.few in let b = two.few in omega (arith, length-append one.entries two.entries, length-append xs ys);
+  legal = λ told was. two.legal (one.told ∙ told) (one.legal told was);
+  follows = λ cs ls cs' f.
+      let whole = one.follows (ys ++ cs) (calls_from None two.entries ++ ls) (bs ++ cs') (two.follows cs ls cs' f) in
+      subst (λ (commands : List Command). FollowsFrom held commands (calls_from None (one.entries ++ two.entries) ++ ls) ((as_ ++ bs) ++ cs')) (sym (append_assoc xs ys cs))
+      (subst (λ (calls : List Answered). FollowsFrom held (xs ++ (ys ++ cs)) calls ((as_ ++ bs) ++ cs'))
+      (sym (append_assoc (calls_from None one.entries) (calls_from None two.entries) ls) ∙ ap (λ (c : List Answered). c ++ ls) (sym (calls_from-append d None one.entries two.entries two.own)))
+      (subst (λ (answers : List Answer). FollowsFrom held (xs ++ (ys ++ cs)) (calls_from None one.entries ++ (calls_from None two.entries ++ ls)) answers) (sym (append_assoc as_ bs cs')) whole));
+}
+
+-- ---- one command
+
+pub goes_skipped : (old new : Run) (d : ℕ) (held : Variables) (c : Command) → call_of (handle_of held c) c.act ≡ None → new ≡ old
+    → GoesThrough old d held (c ∷ []) (answer.Skip ∷ []) held new
+goes_skipped old new d held c none is = record {
+  entries = [];
+  start = ap (λ (r : Run). r.start) is;
+  told = ap (λ (r : Run). r.told) is;
+  journal = ap (λ (r : Run). r.journal) is ∙ sym (append-nil old.journal);
+  own = refl;
+  few = omega arith;
+  legal = λ told was. subst (λ (r : Run). Legal r.start r.journal) (sym is) was;
+  follows = λ cs ls as_ f. subst (λ (o : Option Event). NextFollows (λ after ls2. FollowsFrom after cs ls2 as_) held c o ls answer.Skip) (sym none) (refl, f);
+}
+
+-- the entry of a call
+abbrev pub entry_of : ℕ → Event → Reply → Entry
+entry_of d e r = record { driver = d; event = e; turn = turn.Done r }
+
+test_same : (d : ℕ) → nat_eq d d ≡ true
+test_same d = grind (arith, nat_tests)
+
+pub goes_called : (old new : Run) (d : ℕ) (held : Variables) (c : Command) (e : Event) (r : Reply) → call_of (handle_of held c) c.act ≡ Some e → is_paid e ≡ true
+    → Appends old d e (turn.Done r) new → GoesThrough old d held (c ∷ []) (answer.Reply r ∷ []) (held_after held c c.act r) new
+goes_called old new d held c e r some paid appends = record {
+  entries = entry_of d e r ∷ [];
+  start = appends.start;
+  told = appends.told;
+  journal = appends.entry;
+  own = both _ true (both _ true (both (nat_eq d d) (is_paid e) (test_same d) paid) refl) refl;
+  few = omega arith;
+  legal = λ told was. appends.legal told;
+  follows = λ cs ls as_ f.
+      let calls : calls_from None (entry_of d e r ∷ []) ++ ls ≡ (record { call = e; reply = r }) ∷ ls =
+      ap (λ (o : Option Event). (answer_at o (turn.Done r) ++ []) ++ ls) (call_at-paid None e paid) in
+      subst (λ (called : List Answered). FollowsFrom held (c ∷ cs) called (answer.Reply r ∷ as_)) (sym calls)
+      (subst (λ (o : Option Event). NextFollows (λ after ls2. FollowsFrom after cs ls2 as_) held c o ((record { call = e; reply = r }) ∷ ls) (answer.Reply r)) (sym some) (refl, refl, f));
+}
+
+-- ---- credits and probes
+
+-- entries that are answered at once cost a credit each
+cost-answered : (d : ℕ) (es : List Entry) → list_all (is_answered d) es ≡ true → cost es ≡ length es
+cost-answered d [] own = refl
+cost-answered d (e ∷ es) own =
+    sum_by-append (λ f. cond (is_paid f.event) 1 0) (e ∷ []) es
+    ∙ ap (λ (b : Bool). (0 + cond b 1 0) + cost es) (answered_paid d e (and_left _ _ own))
+    ∙ ap (λ (n : ℕ). 1 + n) (cost-answered d es (and_right (is_answered d e) _ own)) ∙ (omega arith)
+
+-- so the credits that are spent are at most one a command
+pub goes_cost : (old new : Run) (d : ℕ) (held held' : Variables) (commands : List Command) (answers : List Answer) → GoesThrough old d held commands answers held' new
+    → cost new.journal ≤ cost old.journal + length commands
+goes_cost old new d held held' commands answers goes =
+    let few = goes.few in
+    let all = ap cost goes.journal ∙ sum_by-append (λ f. cond (is_paid f.event) 1 0) old.journal goes.entries ∙ ap (λ (n : ℕ). cost old.journal + n) (cost-answered d goes.entries goes.own) in
+    omega arith
+
+-- what was probed stays probed
+pub goes_probed : (old new : Run) (d : ℕ) (held held' : Variables) (commands : List Command) (answers : List Answer) (c : ℕ) → GoesThrough old d held commands answers held' new
+    → was_probed old.journal c ≡ true → was_probed new.journal c ≡ true
+goes_probed old new d held held' commands answers c goes was =
+    ap (λ (j : List Entry). was_probed j c) goes.journal ∙ list_any-append (λ e. registers e.event c) old.journal goes.entries
+    ∙ ap (λ (b : Bool). b || list_any (λ e. registers e.event c) goes.entries) was
+
+-- and a probe that was entered is among them
+pub probe_entered : (old new : Run) (d c : ℕ) (r : Reply) → Appends old d (event.Begin (call.Probe (record { 0 = c }))) (turn.Done r) new → was_probed new.journal c ≡ true
+probe_entered old new d c r appends =
+    ap (λ (j : List Entry). was_probed j c) appends.entry ∙ list_any-append (λ e. registers e.event c) old.journal (_ ∷ [])
+    ∙ ap (λ (b : Bool). was_probed old.journal c || (b || false)) (test_same c) ∙ or_true (was_probed old.journal c) where
+      or_true : (a : Bool) → (a || true) ≡ true
+      or_true true = refl
+      or_true false = refl
+
+-- ---- several commands
+
+-- one command more
+pub goes_more : (first mid last : Run) (d : ℕ) (held held' held'' : Variables) (commands : List Command) (i : ℕ) (x : Command) (answers answers' : List Answer) (a : Answer)
+    → i < length commands → GoesThrough first d held (take i commands) answers held' mid → GoesThrough mid d held' (get_or commands i x ∷ []) (a ∷ []) held'' last
+    → answers' ≡ answers ++ a ∷ []
+    → GoesThrough first d held (take (i + 1) commands) answers' held'' last
+goes_more first mid last d held held' held'' commands i x answers answers' a within one two more =
+    subst (λ (cs : List Command). GoesThrough first d held cs answers' held'' last) (sym (take_more commands i x within))
+    (subst (λ (as_ : List Answer). GoesThrough first d held (take i commands ++ get_or commands i x ∷ []) as_ held'' last) (sym more)
+    (goes_trans first mid last d held held' held'' (take i commands) (get_or commands i x ∷ []) answers (a ∷ []) one two))
+
+-- all commands
+pub goes_all : (first last : Run) (d : ℕ) (held held' : Variables) (commands : List Command) (i : ℕ) (answers : List Answer) → length commands ≤ i
+    → GoesThrough first d held (take i commands) answers held' last → GoesThrough first d held commands answers held' last
+goes_all first last d held held' commands i answers end goes =
+    subst (λ (cs : List Command). GoesThrough first d held cs answers held' last) (take_all i commands end) goes
+
+-- what is left of the credits pays for the next command
+pub credit_left : (first mid : Run) (d : ℕ) (held held' : Variables) (commands : List Command) (i : ℕ) (answers : List Answer) → i < length commands
+    → GoesThrough first d held (take i commands) answers held' mid → cost first.journal + length commands ≤ first.start.credits → cost mid.journal < mid.start.credits
+credit_left first mid d held held' commands i answers within goes paid =
+    let spent = goes_cost first mid d held held' (take i commands) answers goes in
+    let same : mid.start.credits ≡ first.start.credits = ap (λ (s : State). s.credits) goes.start in
+    omega (arith, length-take i commands)
+
+-- a command that can be run so far can be run now
+pub can_built : (run : Run) (a : Act) → is_built_act a ≡ true → CanCall run a
+can_built run (act.Get found) h = h
+can_built run act.Put h = h
+can_built run act.Prepare h = h
+can_built run act.Unprepare h = h
+can_built run act.Enable h = h
+can_built run act.Disable h = h
+can_built run act.Running h = h
+can_built run act.GetRate h = h
+can_built run (act.RoundRate x) h = h
+can_built run (act.SetRate x) h = h
+can_built run (act.SetRateExclusive x) h = h
+can_built run (act.SetRange least most) h = h
+can_built run (act.SetParent p) h = h
+can_built run act.GetParent h = h
+can_built run act.ExclusiveGet h = h
+can_built run act.ExclusivePut h = h
+can_built run (act.NotifierAdd id priority policy) h = h
+can_built run (act.NotifierRemove id) h = h
+can_built run (act.Probe c) h = absurd cc
+can_built run act.Sweep h = h
+
+-- what holds of each element holds of the one at a place
+pub element : {X : Type 0} (P : X → Type 0) (xs : List X) (i : ℕ) (d : X) → AllByRecursion P xs → i < length xs → P (get_or xs i d)
+element P [] i d all within = absurd (omega arith)
+element P (x ∷ xs) zero d all within = all.0
+element P (x ∷ xs) (suc i) d all within = element P xs i d all.1 (omega arith)
+
+pub element_true : {X : Type 0} (p : X → Bool) (xs : List X) (i : ℕ) (d : X) → list_all p xs ≡ true → i < length xs → p (get_or xs i d) ≡ true
+element_true p [] i d all within = absurd (omega arith)
+element_true p (x ∷ xs) zero d all within = and_left _ _ all
+element_true p (x ∷ xs) (suc i) d all within = element_true p xs i d (and_right (p x) _ all) (omega arith)
+
+-- ---- boot
+
+-- the command at a place registers the clock of that place
+pub probe_at : (from i : ℕ) (commands : List Command) (d : Command) → AreProbes from commands → i < length commands → (get_or commands i d).act ≡ act.Probe (record { 0 = from + i })
+probe_at from i [] d probes within = absurd (omega arith)
+probe_at from zero (c ∷ commands) d probes within = ap (λ (x : Command). x.act) probes.0 ∙ ap (λ (n : ℕ). act.Probe (record { 0 = n })) (sym (add-zero from))
+probe_at from (suc i) (c ∷ commands) d probes within =
+    let sum : from + 1 + i ≡ from + suc i = omega arith in
+    probe_at (from + 1) i commands d probes.1 (omega arith) ∙ ap (λ (n : ℕ). act.Probe (record { 0 = n })) sum
+
+-- where they register the clocks from the first on, it is the clock of the same place
+pub probe_first : (i : ℕ) (commands : List Command) (d : Command) → AreProbes 0 commands → i < length commands → (get_or commands i d).act ≡ act.Probe (record { 0 = i })
+probe_first i commands d probes within =
+    let same : 0 + i ≡ i = omega arith in
+    probe_at 0 i commands d probes within ∙ ap (λ (n : ℕ). act.Probe (record { 0 = n })) same
+
+-- boot's commands do that
+pub boot_probes : (clocks : ℕ) → AreProbes 0 (boot_of clocks)
+unfolding boot_of
+boot_probes clocks = from 0 clocks where
+  from : (first n : ℕ) → AreProbes first (map probe (range_with_len first n))
+  from first zero = tt
+  from first (suc n) = (refl, from (first + 1) n)
+
+pub length-boot_of : (clocks : ℕ) → length (boot_of clocks) ≡ clocks
+unfolding boot_of
+length-boot_of clocks = length-map-range_with_len probe 0 clocks
+
+-- and use no variable
+pub no_variables : (first : ℕ) (commands : List Command) → AreProbes first commands → variable_count commands ≡ 0
+no_variables first [] probes = refl
+no_variables first (c ∷ commands) probes =
+    let none : option_map_or (λ v. v + 1) c.var 0 ≡ 0 = ap (λ (x : Command). option_map_or (λ v. v + 1) x.var 0) probes.0 in
+    ap (λ (n : ℕ). max n (variable_count commands)) none ∙ ap (λ (n : ℕ). max 0 n) (no_variables (first + 1) commands probes.1) ∙ refl
+
+-- where each possible parent is an earlier clock and the earlier clocks were probed, the clock can be probed
+pub parents_probed : (run : Run) (defs : Description) (c : ℕ) → run.start.defs ≡ defs → IsPlain defs → c < length defs → ((k : ℕ) → k < c → was_probed run.journal k ≡ true)
+    → list_all (was_probed run.journal) (parents_of run.start.defs c) ≡ true
+parents_probed run defs c same plain within earlier =
+    ap (λ (d : Description). list_all (was_probed run.journal) (parents_of d c)) same ∙ weaker (parents_of defs c) (and_right _ _ (plain c within)) where
+      weaker : (ps : List ℕ) → list_all (λ p. nat_lt p c) ps ≡ true → list_all (was_probed run.journal) ps ≡ true
+      weaker [] h = refl
+      weaker (p ∷ ps) h = both _ _ (earlier p (below p (and_left _ _ h))) (weaker ps (and_right _ _ h)) where
+        below : (p : ℕ) → nat_lt p c ≡ true → p < c
+        below p h = grind (arith, nat_tests)
+
+-- the clock that it registers is a clock of the description
+pub probe_placed : (clocks i : ℕ) (a : Act) → i < clocks → a ≡ act.Probe (record { 0 = i }) → NamesPlace clocks a
+probe_placed clocks i a within is = subst (NamesPlace clocks) (sym is) within
+
+-- and can be registered, where the earlier ones were
+pub probe_can : (run : Run) (defs : Description) (i : ℕ) (a : Act) → run.start.defs ≡ defs → IsPlain defs → i < length defs → ((k : ℕ) → k < i → was_probed run.journal k ≡ true)
+    → a ≡ act.Probe (record { 0 = i }) → CanCall run a
+probe_can run defs i a same plain within earlier is = subst (CanCall run) (sym is) (parents_probed run defs i same plain within earlier)
+
+-- the clocks before the next place were probed, where those before this one were and this one is
+pub probed_more : (run run' : Run) (i : ℕ) → ((k : ℕ) → k < i → was_probed run.journal k ≡ true) → ((k : ℕ) → was_probed run.journal k ≡ true → was_probed run'.journal k ≡ true)
+    → was_probed run'.journal i ≡ true → (k : ℕ) → k < i + 1 → was_probed run'.journal k ≡ true
+probed_more run run' i earlier keeps this k within = pick (nat_lt k i) refl where
+  pick : (b : Bool) → nat_lt k i ≡ b → was_probed run'.journal k ≡ true
+  pick true h = keeps k (earlier k (grind (arith, nat_tests)))
+  pick false h = let same : k ≡ i = grind (arith, nat_tests) in subst (λ (n : ℕ). was_probed run'.journal n ≡ true) (sym same) this

@@ -1,0 +1,45 @@
+-- What a run leaves: its text, and the registers in the bank.
+use Rattle.std.proofs.Common.{◌≡◌, ℕ, Bool, true, List, Option, Some, None, Result, Ok, Err, refl, sym, ap, subst, ◌∙◌, inr}
+use Rattle.std.specs.Prelude.{is_some, take, IfSome, IfErr}
+use Rattle.clk_io.specs.declared.faults.PrintFault.{PrintFault}
+use Rattle.clk_io.specs.declared.faults.PrintFault.TheVariants as print_fault
+use Rattle.clk_base.specs.declared.command.Answer.{Answer}
+use Rattle.clk_model.specs.State.{State}
+use Rattle.clk_model.specs.Fed.{Fed}
+use Rattle.clk_model.specs.Journal.{replay, Legal}
+use Rattle.drv_scripts.specs.declared.bundle.Bundle.{Bundle}
+use Rattle.clk_machine.specs.Run.{Run}
+use Rattle.clk_run.specs.Runs.{opening_of, run_text, IsTextOf, HasRun, PrintedFront, LeftByFault}
+
+-- a core that has run a bundle from its opening gives the text of a run of it
+pub text_of : (b : Bundle) (ignore_unused told : Bool) (begun core : Run) (answers : List (List Answer)) (words : List ℕ)
+    → begun.start ≡ opening_of b ignore_unused → begun.told ≡ told → HasRun b answers begun core
+    → (core.told ≡ true → (n : ℕ) → Fed (replay core.start (take n core.journal))) → (core.told ≡ true → words ≡ (replay core.start core.journal).regs)
+    → IsTextOf b ignore_unused told words (run_text b.desc.defs b.drivers answers words)
+text_of b ignore_unused told begun core answers words opens same ran fed means =
+    let start : core.start ≡ opening_of b ignore_unused = ran.start ∙ opens in
+    record {
+      journal = core.journal;
+      answers = answers;
+      run = record {
+        legal = λ tells. subst (λ (s : State). Legal s core.journal) start (ran.legal (same ∙ tells));
+        fed = λ tells n. subst (λ (s : State). Fed (replay s (take n core.journal))) start (fed (ran.told ∙ same ∙ tells) n);
+        follow = ran.follow;
+        among = ran.among;
+      };
+      registers = λ tells. means (ran.told ∙ same ∙ tells) ∙ ap (λ (s : State). (replay s core.journal).regs) start;
+      text_is = refl;
+    }
+
+-- a bank that tells its words has the printed registers in front, where those are the words that it was left with
+pub bank_back : (contents : Option (List ℕ)) (size words : ℕ) (told : Bool) (regs printed : List ℕ) → is_some contents ≡ told → words ≡ size
+    → IfSome contents (λ found. take size found ≡ regs) → (told ≡ true → printed ≡ regs) → IfSome contents (λ found. take words found ≡ printed)
+bank_back None size words told regs printed is same has means = tt
+bank_back (Some found) size words told regs printed is same has means = ap (λ (n : ℕ). take n found) same ∙ has ∙ sym (means (sym is))
+
+-- a front of the text is what each fault of printing may leave
+pub left_by : {T : Type 0} (b : Bundle) (ignore_unused told : Bool) (old new : Option (List ℕ)) (r : Result T PrintFault) → PrintedFront b ignore_unused told old new
+    → IfErr r (LeftByFault b ignore_unused told old new)
+left_by b ignore_unused told old new (Ok x) front = tt
+left_by b ignore_unused told old new (Err print_fault.Write) front = front
+left_by b ignore_unused told old new (Err print_fault.NoMemory) front = inr front

@@ -1,0 +1,69 @@
+-- A bundle that was read is ready to be run.
+use Rattle.std.proofs.Common.{◌≡◌, ℕ, zero, suc, ◌+◌, ◌-◌, ◌<◌, ◌≤◌, Bool, true, false, List, [], ◌∷◌, Option, Some, None, refl, sym, ap, subst, ◌∙◌, arith, length, sum_by, nat_lt, cond, take, drop}
+use Rattle.std.proofs.lemmas.List.{length-map, take_all, length-drop}
+use Rattle.std.specs.List.{AllByRecursion}
+use Rattle.std.specs.Option.{option_to_list}
+use Rattle.std.specs.Str.Lines.{lines}
+use Rattle.clk_base.specs.declared.command.Command.{Command}
+use Rattle.clk_base.specs.Description.{Description}
+use Rattle.clk_base.specs.Plain.{IsPlain}
+use Rattle.clk_base.proofs.Valid.{length-valid}
+use Rattle.clk_machine.specs.Held.{CanRun}
+use Rattle.drv_scripts.specs.declared.bundle.Bundle.{Bundle}
+use Rattle.drv_scripts.specs.declared.bundle.Script.{Script}
+use Rattle.drv_scripts.specs.Form.{words_end}
+use Rattle.drv_scripts.specs.Gathered.{HasNoFlags}
+use Rattle.drv_scripts.specs.Placed.{IsSound, IsScript}
+use Rattle.drv_scripts.specs.Spelled.{boot_of, commands_from, script_at, scripts_of, bundle_of}
+use Rattle.drv_scripts.specs.Verdict.{Accepts}
+use Rattle.clk_run.specs.Runs.{are_built, credits_of, IsReady}
+use Rattle.clk_run.proofs.Acts.{spelled_built}
+use Rattle.clk_run.proofs.Going.{length-boot_of}
+
+-- ---- few drivers
+
+few_of : (o : Option Script) → length (option_to_list o) ≤ 1
+few_of None = omega arith
+few_of (Some s) = omega arith
+
+script_few : (ls : List (List ℕ)) (at : ℕ) → length (script_at ls at) ≤ 1
+unfolding script_at
+script_few ls at = few_of _
+
+scripts_few : (ls : List (List ℕ)) → length (scripts_of ls) ≤ 1
+unfolding scripts_of
+scripts_few ls = pick (nat_lt (words_end ls) (length ls)) where
+  pick : (b : Bool) → length (cond b (script_at ls (words_end ls)) []) ≤ 1
+  pick true = script_few ls (words_end ls)
+  pick false = omega arith
+
+-- ---- ready
+
+pub ready : (bytes : List ℕ) (b : Bundle) → Accepts bytes b → IsSound b → IsReady b
+unfolding bundle_of
+ready bytes b spelled sound = record {
+  sound = sound;
+  boot = ap (λ (x : Bundle). x.boot) spelled.content ∙ ap (λ (x : Bundle). boot_of (length x.desc.defs)) (sym spelled.content);
+  few = subst (λ (drivers : List Script). length drivers ≤ 1) (ap (λ (x : Bundle). x.drivers) (sym spelled.content)) (scripts_few _);
+  built = subst (λ (drivers : List Script). AllByRecursion (λ s. are_built s.commands ≡ true) drivers) (ap (λ (x : Bundle). x.drivers) (sym spelled.content)) (spelled_built (lines bytes));
+}
+
+sum_few : (clocks : ℕ) (drivers : List Script) → length drivers ≤ 1 → AllByRecursion (IsScript clocks) drivers → sum_by (λ s. length s.commands) drivers ≤ 65536
+sum_few clocks [] few all = omega arith
+sum_few clocks (s ∷ []) few all = let most = all.0.few in omega arith
+sum_few clocks (s ∷ t ∷ drivers) few all = absurd (omega arith)
+
+-- its commands are few enough for the credits
+pub few_credits : (b : Bundle) → IsReady b → credits_of b ≤ 4194304
+few_credits b is =
+    let clocks = length-valid b.desc.words b.desc.defs is.sound.valid in
+    let boot = ap (λ (cs : List Command). length cs) is.boot ∙ length-boot_of (length b.desc.defs) in
+    let sum = sum_few (length b.desc.defs) b.drivers is.few is.sound.scripts in
+    omega arith
+
+-- all behind the first
+pub behind_first : {X : Type 0} (xs : List X) → take (length xs - 1) (drop 1 xs) ≡ drop 1 xs
+behind_first [] = refl
+behind_first (x ∷ xs) =
+    let same : suc (length xs) - 1 ≡ length xs = omega arith in
+    ap (λ (n : ℕ). take n xs) same ∙ take_all (length xs) xs (omega arith)

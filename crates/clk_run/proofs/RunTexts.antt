@@ -1,0 +1,33 @@
+-- The text of a run: driver after driver.
+use Rattle.std.proofs.Common.{◌≡◌, ℕ, zero, suc, ◌+◌, ◌<◌, List, [], ◌∷◌, ◌++◌, refl, sym, ap, ◌∙◌, arith, length, map, take, drop, get_or, codes, append_assoc}
+use Rattle.std.proofs.lemmas.List.{drop_more}
+use Rattle.clk_base.specs.Description.{Description}
+use Rattle.clk_base.specs.declared.command.Answer.{Answer}
+use Rattle.clk_base.specs.declared.command.Command.{Command}
+use Rattle.clk_base.specs.declared.event.Entry.{Entry}
+use Rattle.clk_model.specs.Text.{answers_text}
+use Rattle.drv_scripts.specs.declared.bundle.Script.{Script}
+use Rattle.clk_run.specs.Runs.{FollowAll, scripts_text}
+
+-- the answers of the drivers from a place on are those of the driver there, and the rest
+pub texts_at : (defs : Description) (drivers : List Script) (answers : List (List Answer)) (i : ℕ) (s : Script) (own : List Answer) → i < length drivers → i < length answers
+    → s ≡ get_or drivers i s → own ≡ get_or answers i own
+    → scripts_text defs (map (λ x. x.name) (drop i drivers)) (drop i answers) ≡ answers_text defs s.name own ++ scripts_text defs (map (λ x. x.name) (drop (i + 1) drivers)) (drop (i + 1) answers)
+texts_at defs drivers answers i s own in_drivers in_answers is mine =
+    ap (λ (xs : List Script). scripts_text defs (map (λ x. x.name) xs) (drop i answers)) (drop_more drivers i s in_drivers)
+    ∙ ap (λ (ys : List (List Answer)). scripts_text defs (map (λ x. x.name) (get_or drivers i s ∷ drop (i + 1) drivers)) ys) (drop_more answers i own in_answers)
+    ∙ ap (λ (x : Script). answers_text defs x.name (get_or answers i own) ++ scripts_text defs (map (λ x. x.name) (drop (i + 1) drivers)) (drop (i + 1) answers)) (sym is)
+    ∙ ap (λ (x : List Answer). answers_text defs s.name x ++ scripts_text defs (map (λ x. x.name) (drop (i + 1) drivers)) (drop (i + 1) answers)) (sym mine)
+
+-- the answers of boot come first
+pub boot_first : (defs : Description) (name : List ℕ) (names : List (List ℕ)) (answers : List (List Answer)) (own : List Answer) → 0 < length answers → own ≡ get_or answers 0 own
+    → scripts_text defs (name ∷ names) answers ≡ answers_text defs name own ++ scripts_text defs names (drop 1 answers)
+boot_first defs name names [] own some is = absurd (omega arith)
+boot_first defs name names (a ∷ answers) own some is = ap (λ (x : List Answer). answers_text defs name x ++ scripts_text defs names answers) (sym is)
+
+-- drivers that follow have an answer list each
+pub follow_many : (d : ℕ) (scripts : List (List Command)) (answers : List (List Answer)) (journal : List Entry) → FollowAll d scripts answers journal → length answers ≡ length scripts
+follow_many d [] [] journal follow = refl
+follow_many d [] (a ∷ answers) journal follow = absurd follow
+follow_many d (c ∷ scripts) [] journal follow = absurd follow
+follow_many d (c ∷ scripts) (a ∷ answers) journal follow = ap suc (follow_many (d + 1) scripts answers journal follow.1)

@@ -1,0 +1,113 @@
+use Rattle.std.proofs.Common.{◌≡◌, ℕ, ◌+◌, ◌<◌, ◌≤◌, [], ◌∷◌, ◌++◌, List, length, get_or, map, take, drop, refl, sym, ap, subst, ◌∙◌, arith, sum_by, None, replicate}
+use Rattle.std.proofs.lemmas.List.{take_more, length-take, map-append, length-map}
+use Rattle.std.proofs.lemmas.List.Sums.{sum_by-drop_more}
+use Rattle.clk_base.specs.declared.command.Answer.{Answer}
+use Rattle.clk_base.specs.declared.command.Command.{Command}
+use Rattle.clk_base.specs.declared.event.Entry.{Entry}
+use Rattle.clk_base.specs.Description.{Description}
+use Rattle.clk_model.specs.Journal.{cost, Legal}
+use Rattle.clk_model.specs.State.{State}
+use Rattle.clk_model.specs.Follows.{Variables, no_handles}
+use Rattle.drv_scripts.specs.declared.bundle.Script.{Script}
+use Rattle.drv_scripts.specs.Placed.{IsScript}
+use Rattle.clk_run.specs.Scripts.{AreProbes, GoesThrough}
+use Rattle.clk_run.specs.Runs.{FollowAll, are_among, are_built}
+use Rattle.clk_run.proofs.Going.{boot_probes, length-boot_of, no_variables, goes_cost, element}
+use Rattle.clk_run.proofs.Following.{follow_next}
+use Rattle.clk_run.proofs.scripts.run_scripts.Goals as goal
+
+pub run_boot-requires-clause-credits : goal.run_boot-requires-clause-credits
+run_boot-requires-clause-credits g c =
+    let many = ap (λ (cs : List Command). length cs) c.as_slice.ensures in
+    let spent = ap cost c.requires.begins in
+    let paid = c.requires.credits in
+    omega arith
+
+pub run_boot-requires-clause-plain : goal.run_boot-requires-clause-plain
+run_boot-requires-clause-plain g c = rw c.requires.defs c.requires.plain
+
+pub run_boot-requires-clause-clocks : goal.run_boot-requires-clause-clocks
+run_boot-requires-clause-clocks g c =
+    let many = ap (λ (cs : List Command). length cs) (c.as_slice.ensures ∙ c.requires.boot) ∙ length-boot_of (length c.args.bundle.now.desc.defs) in
+    let same = ap (λ (defs : Description). length defs) c.requires.defs in
+    omega arith
+
+pub run_boot-requires-clause-probes : goal.run_boot-requires-clause-probes
+run_boot-requires-clause-probes g c = subst (AreProbes 0) (sym (c.as_slice.ensures ∙ c.requires.boot)) (boot_probes (length c.args.bundle.now.desc.defs))
+
+pub loop-script-init : goal.loop-script-init
+loop-script-init g c =
+    let boot = c.as_slice.result.now in
+    let first = c.args.core.now in
+    let mid = c.run_boot.new.core in
+    let held' = c.in_ok-boot.ensures.0 in
+    let probes = subst (AreProbes 0) (sym (c.as_slice.ensures ∙ c.requires.boot)) (boot_probes (length c.args.bundle.now.desc.defs)) in
+    let none : no_handles boot ≡ [] = ap (λ (n : ℕ). replicate n None) (no_variables 0 boot probes) in
+    let goes = c.in_ok-boot.ensures.1 in
+    let mine = subst (λ (held : Variables). GoesThrough first 0 held boot c.in_ok-boot.boot.items held' mid) (sym none) goes in
+    let next = follow_next first mid 0 held' [] [] boot c.in_ok-boot.boot.items refl (subst (FollowAll 0 [] []) (sym c.requires.begins) tt) (ap (are_among 0) c.requires.begins) mine in
+    let spent = goes_cost first mid 0 [] held' boot c.in_ok-boot.boot.items goes in
+    let nothing = ap cost c.requires.begins in
+    let paid = c.requires.credits in
+    let many = ap (λ (cs : List Command). length cs) c.as_slice.ensures in
+    let told = c.in_ok-push.ensures.items ∙ ap (λ (xs : List (List Answer)). xs ++ c.new.result ∷ []) c.new-answers.ensures.items ∙ ap (λ (x : List Answer). x ∷ []) c.new.ensures in
+    record {
+      start = goes.start;
+      told = goes.told;
+      legal = λ told_. goes.legal told_ (subst (Legal first.start) (sym c.requires.begins) tt);
+      number = refl;
+      follow = subst (λ commands. FollowAll 0 (commands ∷ []) c.push.new.self.items mid.journal) c.as_slice.ensures
+          (subst (λ answers. FollowAll 0 (boot ∷ []) answers mid.journal) (sym told) next.0);
+      among = next.1;
+      credits = omega arith;
+    }
+
+pub run_script-requires-clause-credits : goal.run_script-requires-clause-credits
+run_script-requires-clause-credits g c =
+    let drivers = c.args.bundle.now.drivers in
+    let i = c.loop-script.script-index in
+    let s = c.script-item.result in
+    let within = subst (λ (xs : List Script). i < length xs) c.as_slice-script-items.ensures c.loop-script-test.true in
+    let is = c.script-item.is ∙ ap (λ (xs : List Script). get_or xs i s) c.as_slice-script-items.ensures in
+    let left = sum_by-drop_more (λ (x : Script). length x.commands) drivers i s within in
+    let this = ap (λ (x : Script). length x.commands) is in
+    let these = ap (λ (cs : List Command). length cs) c.as_slice-in-loop-script.ensures in
+    let enough = c.loop-script.invariant.credits in
+    let same = ap (λ (x : State). x.credits) c.loop-script.invariant.start in
+    omega arith
+
+pub loop-script-preserved : goal.loop-script-preserved
+loop-script-preserved g c =
+    let drivers = c.args.bundle.now.drivers in
+    let i = c.loop-script.script-index in
+    let mid = c.loop-script.core in
+    let last = c.run_script.new.core in
+    let s = c.script-item.result in
+    let own' = c.in_ok-own.own.items in
+    let held' = c.in_ok-own.ensures.0 in
+    let driver = c.loop-script.driver in
+    let done = map (λ (x : Script). x.commands) (take i drivers) in
+    let within = subst (λ (xs : List Script). i < length xs) c.as_slice-script-items.ensures c.loop-script-test.true in
+    let is = c.script-item.is ∙ ap (λ (xs : List Script). get_or xs i s) c.as_slice-script-items.ensures in
+    let taken = take_more drivers i s within ∙ ap (λ (x : Script). take i drivers ++ x ∷ []) (sym is) in
+    let mapped : map (λ (x : Script). x.commands) (take (i + 1) drivers) ≡ done ++ s.commands ∷ [] =
+    ap (map (λ (x : Script). x.commands)) taken ∙ map-append (λ (x : Script). x.commands) (take i drivers) (s ∷ []) in
+    let goes = subst (λ commands. GoesThrough mid driver (no_handles commands) commands own' held' last) c.as_slice-in-loop-script.ensures c.in_ok-own.ensures.1 in
+    let number = c.loop-script.invariant.number in
+    let many : driver ≡ length (c.args.bundle.now.boot ∷ done) = omega (arith, length-map (take i drivers) (λ (x : Script). x.commands), length-take i drivers) in
+    let next = follow_next mid last driver held' (c.args.bundle.now.boot ∷ done) c.loop-script.answers.items s.commands own' many c.loop-script.invariant.follow c.loop-script.invariant.among goes in
+    let told = c.in_ok-push-2.ensures.items ∙ ap (λ (x : List Answer). c.loop-script.answers.items ++ x ∷ []) c.new-in-loop-script.ensures in
+    let left = sum_by-drop_more (λ (x : Script). length x.commands) drivers i s within in
+    let this = ap (λ (x : Script). length x.commands) is in
+    let spent = goes_cost mid last driver (no_handles s.commands) held' s.commands own' goes in
+    let enough = c.loop-script.invariant.credits in
+    record {
+      start = goes.start ∙ c.loop-script.invariant.start;
+      told = goes.told ∙ c.loop-script.invariant.told;
+      legal = λ told_. goes.legal (c.loop-script.invariant.told ∙ told_) (c.loop-script.invariant.legal told_);
+      number = ap (λ (n : ℕ). n + 1) number;
+      follow = subst (λ scripts. FollowAll 0 (c.args.bundle.now.boot ∷ scripts) c.push-in-loop-script.new.self.items last.journal) (sym mapped)
+          (subst (λ answers. FollowAll 0 ((c.args.bundle.now.boot ∷ done) ++ s.commands ∷ []) answers last.journal) (sym told) next.0);
+      among = next.1;
+      credits = omega arith;
+    }

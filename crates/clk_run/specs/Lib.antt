@@ -1,0 +1,4 @@
+pub mod Scripts
+pub mod Runs
+pub mod Refusals
+pub mod Outcomes

@@ -1,0 +1,118 @@
+-- What a program that ran a bundle did, and why.
+use Rattle.std.specs.Prelude.{◌≡◌, ◌⊎◌, ℕ, List, Bool, Option, Some, None}
+use Rattle.std.specs.Io.KnownBytes.{Appends}
+use Rattle.clk_cli.specs.declared.cli.Cli.{Cli}
+use Rattle.clk_cli.specs.Usage.{usage_line}
+use Rattle.clk_io.specs.Causes.{Rose}
+use Rattle.clk_io.specs.Streams.{TakesAll, TakesMore, AppendsFront}
+use Rattle.clk_io.specs.declared.faults.PrintFault.{PrintFault}
+use Rattle.clk_io.specs.declared.faults.PrintFault.TheVariants as print_fault
+use Rattle.drv_scripts.specs.declared.bundle.Bundle.{Bundle}
+use Rattle.drv_scripts.specs.declared.reason.Reason.{Reason}
+use Rattle.drv_scripts.specs.declared.reason.Reason.TheVariants.{TooLong}
+use Rattle.drv_scripts.specs.Verdict.{most_bytes, Accepts, Refuses}
+use Rattle.clk_run.specs.declared.sim.Stop.{Stop}
+use Rattle.clk_run.specs.declared.sim.Stop.TheVariants as stop
+use Rattle.clk_run.specs.Refusals.{refusal_text}
+use Rattle.clk_run.specs.Runs.{Printed, PrintedFront}
+
+-- ---- reading
+
+-- all that was left of the source spells this bundle
+abbrev pub GivesBundle : Option (List ℕ) → Option (List ℕ) → Bundle → Type 0
+GivesBundle old new b = (bytes : List ℕ) × TakesAll most_bytes old new bytes × Accepts bytes b
+
+-- what was left of the source is refused at this line for this reason: it is too much, or it spells no bundle that can be run
+abbrev pub RefusesInput : Option (List ℕ) → Option (List ℕ) → ℕ → Reason → Type 0
+RefusesInput old new line reason =
+    (TakesMore most_bytes old new × (line ≡ 0) × (reason ≡ TooLong)) ⊎ ((bytes : List ℕ) × TakesAll most_bytes old new bytes × Refuses bytes line reason)
+
+-- why no bundle came from a source: its bytes are refused, or its count of faults rose; want of memory has no cause
+abbrev pub StopsReading : Option (List ℕ) → Option (List ℕ) → ℕ → ℕ → Stop → Type 0
+StopsReading old new before now (stop.Refused line reason) = RefusesInput old new line reason
+StopsReading old new before now stop.Read = Rose before now
+StopsReading old new before now stop.NoMemory = Unit {0}
+
+-- ---- statuses
+
+-- the status after a fault of printing
+abbrev pub status_of : PrintFault → ℕ
+status_of print_fault.Write = 5
+status_of print_fault.NoMemory = 3
+
+-- the statuses of a program that could read its words
+abbrev pub IsRunStatus : ℕ → Type 0
+IsRunStatus status = (status ≡ 0) ⊎ ((status ≡ 2) ⊎ ((status ≡ 3) ⊎ ((status ≡ 4) ⊎ (status ≡ 5))))
+
+-- status 0: all that was left of the source spells a bundle, the text of a run of it was printed, and the bank came back with the registers
+-- that the run leaves, where it tells its words
+abbrev pub Done : Bool → Bool → Option (List ℕ) → Option (List ℕ) → Option (List ℕ) → Option (List ℕ) → Option (Option (List ℕ)) → Type 0
+Done ignore_unused told left left' written written' back =
+    (b : Bundle) × GivesBundle left left' b × (contents : Option (List ℕ)) × (back ≡ Some contents) × Printed b ignore_unused told written written' contents
+
+-- status 2: what was left of the source is refused, and the line was printed that says where and why
+abbrev pub Refused : Option (List ℕ) → Option (List ℕ) → Option (List ℕ) → Option (List ℕ) → Type 0
+Refused left left' written written' =
+    (line : ℕ) × (reason : Reason) × RefusesInput left left' line reason × Appends written written' (refusal_text line reason)
+
+-- status 5: a front of the text of a run was printed, or of the line of a refusal
+abbrev pub Unwritten : Bool → Bool → Option (List ℕ) → Option (List ℕ) → Option (List ℕ) → Option (List ℕ) → Type 0
+Unwritten ignore_unused told left left' written written' =
+    ((b : Bundle) × GivesBundle left left' b × PrintedFront b ignore_unused told written written')
+    ⊎ ((line : ℕ) × (reason : Reason) × RefusesInput left left' line reason × AppendsFront written written' (refusal_text line reason))
+
+-- status 3: nothing was printed, or a front of what would have been
+abbrev pub Short : Bool → Bool → Option (List ℕ) → Option (List ℕ) → Option (List ℕ) → Option (List ℕ) → Type 0
+Short ignore_unused told left left' written written' = (written' ≡ written) ⊎ Unwritten ignore_unused told left left' written written'
+
+-- ---- completeness
+
+-- no count of faults rose, neither the source's nor the sink's
+abbrev pub NoFault : ℕ → ℕ → ℕ → ℕ → Type 0
+NoFault before now before' now' = (Rose before now → ⊥) × (Rose before' now' → ⊥)
+
+-- the status is this one, unless memory ran out
+abbrev pub EndsWith : ℕ → ℕ → Type 0
+EndsWith wanted status = (status ≡ wanted) ⊎ (status ≡ 3)
+
+-- bytes that were left of the source and spell a bundle end in status 0, and those that are refused in status 2
+pub record Decides (left : Option (List ℕ)) (status : ℕ) : Type 0 where
+  pub accepts : (bytes : List ℕ) (b : Bundle) → left ≡ Some bytes → Accepts bytes b → EndsWith 0 status
+  pub refuses : (bytes : List ℕ) (line : ℕ) (reason : Reason) → left ≡ Some bytes → Refuses bytes line reason → EndsWith 2 status
+
+-- ---- the program, by what its words mean
+
+-- the statuses of the program
+abbrev pub IsStatus : ℕ → Type 0
+IsStatus status = (status ≡ 1) ⊎ IsRunStatus status
+
+-- status 1: the words mean nothing, and the line was printed that says how the program is called
+abbrev pub MeansNothing : Option Cli → Option (List ℕ) → Option (List ℕ) → Type 0
+MeansNothing meant written written' = (meant ≡ None) × Appends written written' usage_line
+
+-- status 0: the words mean a run, and it was done
+abbrev pub MeansDone : Option Cli → Bool → Option (List ℕ) → Option (List ℕ) → Option (List ℕ) → Option (List ℕ) → Option (Option (List ℕ)) → Type 0
+MeansDone meant told left left' written written' back = (cli : Cli) × (meant ≡ Some cli) × Done cli.ignore_unused told left left' written written' back
+
+-- status 2: the words mean a run, and the bundle is refused
+abbrev pub MeansRefused : Option Cli → Option (List ℕ) → Option (List ℕ) → Option (List ℕ) → Option (List ℕ) → Type 0
+MeansRefused meant left left' written written' = (cli : Cli) × (meant ≡ Some cli) × Refused left left' written written'
+
+-- status 4: the words mean a run, and nothing was printed
+abbrev pub MeansUnread : Option Cli → Option (List ℕ) → Option (List ℕ) → Type 0
+MeansUnread meant written written' = (cli : Cli) × (meant ≡ Some cli) × (written' ≡ written)
+
+-- status 5: a front of the line that says how the program is called was printed, or of what a run prints
+abbrev pub MeansUnwritten : Option Cli → Bool → Option (List ℕ) → Option (List ℕ) → Option (List ℕ) → Option (List ℕ) → Type 0
+MeansUnwritten meant told left left' written written' =
+    ((meant ≡ None) × AppendsFront written written' usage_line)
+    ⊎ ((cli : Cli) × (meant ≡ Some cli) × Unwritten cli.ignore_unused told left left' written written')
+
+-- status 3: nothing was printed, or a front of what would have been
+abbrev pub MeansShort : Option Cli → Bool → Option (List ℕ) → Option (List ℕ) → Option (List ℕ) → Option (List ℕ) → Type 0
+MeansShort meant told left left' written written' = (written' ≡ written) ⊎ MeansUnwritten meant told left left' written written'
+
+-- words that mean nothing end in status 1, and for the others the bytes decide
+abbrev pub MeansDecided : Option Cli → Option (List ℕ) → ℕ → Type 0
+MeansDecided None left status = EndsWith 1 status
+MeansDecided (Some cli) left status = Decides left status

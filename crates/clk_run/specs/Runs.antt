@@ -1,0 +1,129 @@
+-- Runs of a bundle: which journals they have, and what they print.
+use Rattle.std.specs.Prelude.{◌≡◌, ◌≤◌, ◌⊎◌, IfSome, take, ℕ, ◌+◌, List, [], ◌∷◌, ◌++◌, Bool, true, Option, nat_lt, length, map, codes, sum_by}
+use Rattle.std.specs.List.{list_all, AllByRecursion}
+use Rattle.clk_base.specs.Description.{Description}
+use Rattle.clk_base.specs.declared.command.Answer.{Answer}
+use Rattle.clk_base.specs.declared.command.Command.{Command}
+use Rattle.clk_base.specs.declared.event.Entry.{Entry}
+use Rattle.reg_bank.specs.Registers.{Registers}
+use Rattle.clk_model.specs.State.{State}
+use Rattle.clk_model.specs.Journal.{opening, replay, Legal, calls}
+use Rattle.clk_model.specs.Fed.{Fed}
+use Rattle.clk_model.specs.Follows.{Follows}
+use Rattle.clk_model.specs.Text.{answers_text, registers_text}
+use Rattle.drv_scripts.specs.declared.bundle.Bundle.{Bundle}
+use Rattle.drv_scripts.specs.declared.bundle.Script.{Script}
+use Rattle.std.specs.Io.KnownBytes.{Appends}
+use Rattle.clk_io.specs.Streams.{AppendsFront}
+use Rattle.clk_io.specs.declared.faults.PrintFault.{PrintFault}
+use Rattle.clk_io.specs.declared.faults.PrintFault.TheVariants as print_fault
+use Rattle.drv_scripts.specs.Placed.{IsSound}
+use Rattle.drv_scripts.specs.Spelled.{boot_of}
+use Rattle.clk_machine.specs.Run.{Run}
+use Rattle.clk_run.specs.Scripts.{is_built_act}
+
+-- ---- what a run begins from
+
+-- the commands of boot, and then those of each driver
+abbrev pub scripts_of : Bundle → List (List Command)
+scripts_of b = b.boot ∷ map (λ s. s.commands) b.drivers
+
+-- a credit for each command
+abbrev pub credits_of : Bundle → ℕ
+credits_of b = length b.boot + sum_by (λ s. length s.commands) b.drivers
+
+-- the state in which the clocks of a bundle wait to be registered
+abbrev pub opening_of : Bundle → Bool → State
+opening_of b ignore_unused = opening b.desc.defs b.words ignore_unused (credits_of b)
+
+-- ---- runs
+
+-- drivers, numbered from this one on, have their calls once, in their order, and these answers
+abbrev pub FollowAll : ℕ → List (List Command) → List (List Answer) → List Entry → Type 0
+FollowAll d [] [] journal = Unit {0}
+FollowAll d [] (own ∷ answers) journal = ⊥
+FollowAll d (commands ∷ scripts) [] journal = ⊥
+FollowAll d (commands ∷ scripts) (own ∷ answers) journal = Follows commands (calls journal d) own × FollowAll (d + 1) scripts answers journal
+
+-- each entry is of one of so many drivers
+abbrev pub are_among : ℕ → List Entry → Bool
+are_among drivers journal = list_all (λ e. nat_lt e.driver drivers) journal
+
+-- a run of a bundle: its journal, where the bank tells its words, is a legal run of the machine, after each of its entries the active
+-- clocks are fed, and in it boot and each driver, and nobody else, have their calls once, in their order, answered so
+pub record IsRunOf (b : Bundle) (ignore_unused told : Bool) (journal : List Entry) (answers : List (List Answer)) : Type 0 where
+  pub legal : told ≡ true → Legal (opening_of b ignore_unused) journal
+  pub fed : told ≡ true → (n : ℕ) → Fed (replay (opening_of b ignore_unused) (take n journal))
+  pub follow : FollowAll 0 (scripts_of b) answers journal
+  pub among : are_among (length (scripts_of b)) journal ≡ true
+
+-- ---- what a run prints
+
+-- the answers of boot, and then those of each driver
+abbrev pub scripts_text : Description → List (List ℕ) → List (List Answer) → List ℕ
+scripts_text defs [] answers = []
+scripts_text defs (name ∷ names) [] = []
+scripts_text defs (name ∷ names) (own ∷ answers) = answers_text defs name own ++ scripts_text defs names answers
+
+-- the names of boot and of the drivers
+abbrev pub names_of : List Script → List (List ℕ)
+names_of drivers = codes "boot" ∷ map (λ s. s.name) drivers
+
+-- the answers, and then the registers
+abbrev pub run_text : Description → List Script → List (List Answer) → Registers → List ℕ
+run_text defs drivers answers words = scripts_text defs (names_of drivers) answers ++ registers_text words
+
+-- a text that a run of a bundle prints: its registers are those that its journal leaves, where the bank tells its words
+pub record IsTextOf (b : Bundle) (ignore_unused told : Bool) (words : Registers) (text : List ℕ) : Type 0 where
+  pub journal : List Entry
+  pub answers : List (List Answer)
+  pub run : IsRunOf b ignore_unused told journal answers
+  pub registers : told ≡ true → words ≡ (replay (opening_of b ignore_unused) journal).regs
+  pub text_is : text ≡ run_text b.desc.defs b.drivers answers words
+
+-- ---- what can be run so far
+
+-- whether each of these commands can be run so far
+abbrev pub are_built : List Command → Bool
+are_built commands = list_all (λ c. is_built_act c.act) commands
+
+-- ---- cores
+
+-- a core that had an empty journal has run a bundle
+pub record HasRun (b : Bundle) (answers : List (List Answer)) (old new : Run) : Type 0 where
+  pub start : new.start ≡ old.start
+  pub told : new.told ≡ old.told
+  pub legal : old.told ≡ true → Legal new.start new.journal
+  pub follow : FollowAll 0 (scripts_of b) answers new.journal
+  pub among : are_among (length (scripts_of b)) new.journal ≡ true
+
+-- ---- bundles
+
+-- a bundle that can be run: its parts fit together, boot registers each clock, and each command of its driver can be run so far
+pub record IsReady (b : Bundle) : Type 0 where
+  pub sound : IsSound b
+  pub boot : b.boot ≡ boot_of (length b.desc.defs)
+  pub few : length b.drivers ≤ 1
+  pub built : AllByRecursion (λ s. are_built s.commands ≡ true) b.drivers
+
+-- ---- what is left behind
+
+-- the text of a run was printed, and the bank, where it tells its words, has the registers that the run leaves
+pub record Printed (b : Bundle) (ignore_unused told : Bool) (old new : Option (List ℕ)) (contents : Option (List ℕ)) : Type 0 where
+  pub words : Registers
+  pub text : List ℕ
+  pub run : IsTextOf b ignore_unused told words text
+  pub printed : Appends old new text
+  pub registers : IfSome contents (λ found. take (length b.words) found ≡ words)
+
+-- a front of the text of a run was printed
+pub record PrintedFront (b : Bundle) (ignore_unused told : Bool) (old new : Option (List ℕ)) : Type 0 where
+  pub words : Registers
+  pub text : List ℕ
+  pub run : IsTextOf b ignore_unused told words text
+  pub printed : AppendsFront old new text
+
+-- after a fault of writing a front of the text of a run was printed; where memory ran out, that or nothing
+abbrev pub LeftByFault : Bundle → Bool → Bool → Option (List ℕ) → Option (List ℕ) → PrintFault → Type 0
+LeftByFault b ignore_unused told old new print_fault.Write = PrintedFront b ignore_unused told old new
+LeftByFault b ignore_unused told old new print_fault.NoMemory = (new ≡ old) ⊎ PrintedFront b ignore_unused told old new

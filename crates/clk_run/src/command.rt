@@ -1,0 +1,135 @@
+//! The call of one command.
+
+ghost use Rattle.std.specs.Prelude.{◌≡◌, ℕ, ◌<◌, true, [], ◌∷◌, length, IfOk, OnErr};
+ghost use Rattle.clk_model.specs.Journal.{cost};
+ghost use Rattle.clk_base.specs.declared.event.Event.TheVariants.{Begin};
+ghost use Rattle.clk_base.specs.declared.event.Turn.TheVariants.{Done};
+ghost use Rattle.clk_base.specs.declared.command.Act.TheVariants.{Probe};
+ghost use Rattle.clk_model.specs.Follows.{handle_of, with_variable, held_after};
+ghost use Rattle.clk_machine.specs.Held.{IsPlaced};
+ghost use Rattle.clk_machine.specs.Run.{is_built, was_probed, Appends};
+ghost use Rattle.drv_scripts.specs.Placed.{NamesPlace};
+ghost use Rattle.clk_run.specs.Scripts.{CanCall, MakesCall, GoesThrough};
+
+use clk_base::{Act, Answer, Command, Handle, Reply, Sleeping, Turn};
+use clk_io::NoMemory;
+use clk_machine::Core;
+use reg_bank::Bank;
+
+// Begins a call that is answered at once.
+fn begin_at_once<B: Bank>(
+    core: &mut Core<B>,
+    driver: u32,
+    what: &Sleeping,
+) -> Result<Reply, NoMemory>
+    requires credit { cost core.old.journal < core.old.start.credits }
+    requires place { IsPlaced core.old.start.defs what.now }
+    requires built { is_built core.old what.now ≡ true }
+    ensures ok { IfOk result (λ reply. Appends core.old driver (Begin what.now) (Done reply) core.new) }
+    ensures err { OnErr result (core.new ≡ core.old) }
+{
+    match core.begin(driver, what)? {
+        Turn::Done(reply) => Ok(reply),
+        Turn::Going => unreachable!(),
+    }
+}
+
+/// Makes the call of a driver's command, where its variable holds this handle or none. A command
+/// that lacks what it needs makes no call.
+pub(crate) fn make_call<B: Bank>(
+    core: &mut Core<B>,
+    driver: u32,
+    held: Option<Handle>,
+    act: Act,
+) -> Result<Option<Reply>, NoMemory>
+    requires credit { cost core.old.journal < core.old.start.credits }
+    requires place { NamesPlace (length core.old.start.defs) act }
+    requires can { CanCall core.old act }
+    ensures ok { IfOk result (λ reply. MakesCall core.old driver held act reply core.new) }
+    ensures err { OnErr result (core.new ≡ core.old) }
+{
+    match (act, held) {
+        (Act::Get(found), None) => {
+            let reply = begin_at_once(core, driver, &Sleeping::Get(found))?;
+            Ok(Some(reply))
+        }
+        (Act::Prepare, Some(handle)) => {
+            let reply = begin_at_once(core, driver, &Sleeping::Prepare(handle))?;
+            Ok(Some(reply))
+        }
+        (Act::GetRate, Some(handle)) => {
+            let reply = begin_at_once(core, driver, &Sleeping::GetRate(handle))?;
+            Ok(Some(reply))
+        }
+        (Act::Probe(clock), _) => {
+            let reply = begin_at_once(core, driver, &Sleeping::Probe(clock))?;
+            Ok(Some(reply))
+        }
+        (Act::Unprepare, Some(handle)) => {
+            let reply = begin_at_once(core, driver, &Sleeping::Unprepare(handle))?;
+            Ok(Some(reply))
+        }
+        (Act::Enable, Some(handle)) => Ok(Some(core.enable(driver, handle))),
+        (Act::Disable, Some(handle)) => Ok(Some(core.disable(driver, handle))),
+        (Act::Running, Some(handle)) => Ok(Some(core.running(driver, handle))),
+        _ => Ok(None),
+    }
+}
+
+// The handle that a command's variable holds.
+fn handle_of(held: &[Option<Handle>], command: &Command) -> Option<Handle>
+    ensures { result ≡ handle_of held.now command.now }
+{
+    match command.var {
+        Some(var) => match held.get(var as usize) {
+            Some(handle) => *handle,
+            None => None,
+        },
+        None => None,
+    }
+}
+
+// Gives a command's variable a handle or none.
+fn set_variable(held: &mut [Option<Handle>], command: &Command, handle: Option<Handle>)
+    ensures { held.new ≡ with_variable held.old command.now handle }
+{
+    if let Some(var) = command.var {
+        if (var as usize) < held.len() {
+            held[var as usize] = handle;
+        }
+    }
+}
+
+// Leaves in the variables what a command's reply leaves there.
+fn keep_reply(held: &mut [Option<Handle>], command: &Command, reply: Reply)
+    ensures { held.new ≡ held_after held.old command.now command.now.act reply }
+{
+    match (command.act, reply) {
+        (Act::Get(_), Reply::Handle(handle)) => set_variable(held, command, Some(handle)),
+        (Act::Put, Reply::Fine) => set_variable(held, command, None),
+        _ => {}
+    }
+}
+
+/// Runs one command of a driver.
+pub(crate) fn run_command<B: Bank>(
+    core: &mut Core<B>,
+    driver: u32,
+    held: &mut [Option<Handle>],
+    command: &Command,
+) -> Result<Answer, NoMemory>
+    requires credit { cost core.old.journal < core.old.start.credits }
+    requires place { NamesPlace (length core.old.start.defs) command.now.act }
+    requires can { CanCall core.old command.now.act }
+    ensures goes { IfOk result (λ answer. GoesThrough core.old driver held.old (command.now ∷ []) (answer ∷ []) held.new core.new) }
+    ensures probed { IfOk result (λ _. (c : ℕ) → command.now.act ≡ Probe (record { 0 = c }) → was_probed core.new.journal c ≡ true) }
+{
+    let before = handle_of(held, command);
+    match make_call(core, driver, before, command.act)? {
+        Some(reply) => {
+            keep_reply(held, command, reply);
+            Ok(Answer::Reply(reply))
+        }
+        None => Ok(Answer::Skip),
+    }
+}

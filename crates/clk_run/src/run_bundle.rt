@@ -1,0 +1,62 @@
+//! Running a bundle over a bank, and printing what it answered.
+
+ghost use Rattle.std.specs.Prelude.{◌≡◌, ◌≤◌, is_some, IfOk, IfErr};
+ghost use Rattle.clk_io.specs.Causes.{PrintHasCause};
+ghost use Rattle.clk_run.specs.Runs.{credits_of, IsReady, Printed, LeftByFault};
+
+use crate::printing::print_run;
+use crate::scripts::run_scripts;
+use crate::words::registers_of;
+use clk_io::{PrintFault, Sink};
+use clk_machine::Core;
+use drv_scripts::Bundle;
+use reg_bank::Bank;
+use std::alloc::Global;
+
+// One credit for each command.
+fn credits_of(bundle: &Bundle) -> u32
+    requires { credits_of bundle.now ≤ 4194304 }
+    ensures { result ≡ credits_of bundle.now }
+{
+    let mut credits = bundle.boot.as_slice().len();
+    for script in bundle.drivers.as_slice() {
+        credits += script.commands.as_slice().len();
+    }
+    credits as u32
+}
+
+/// Runs a bundle over a bank and prints its answers and registers. The bank comes back.
+pub(crate) fn run_bundle<K: Sink, B: Bank>(
+    alloc: Global,
+    bundle: &Bundle,
+    ignore_unused: bool,
+    out: &mut K,
+    bank: B,
+) -> Result<B, PrintFault>
+    requires ready { IsReady bundle.now }
+    requires room { 65536 ≤ B.size bank }
+    ensures done { IfOk result (λ left. Printed bundle.now ignore_unused (is_some (B.contents bank)) (K.written out.old) (K.written out.new) (B.contents left)) }
+    ensures told { IfOk result (λ left. is_some (B.contents left) ≡ is_some (B.contents bank)) }
+    ensures fault { IfErr result (LeftByFault bundle.now ignore_unused (is_some (B.contents bank)) (K.written out.old) (K.written out.new)) }
+    ensures cause { PrintHasCause (K.faults out.old) (K.faults out.new) result }
+    ensures tells { is_some (K.written out.new) ≡ is_some (K.written out.old) }
+    ensures later { K.faults out.old ≤ K.faults out.new }
+{
+    let desc = bundle.desc.copy(alloc)?;
+    let words = bundle.words.as_slice();
+    let credits = credits_of(bundle);
+    let mut core = Core::create(alloc, desc, bank, words, ignore_unused, credits)?;
+    let answers = run_scripts(alloc, &mut core, bundle)?;
+    let journal = core.journal();
+    let registers = registers_of(alloc, &core)?;
+    let drivers = bundle.drivers.as_slice();
+    print_run(
+        alloc,
+        &bundle.desc,
+        drivers,
+        answers.as_slice(),
+        registers.as_slice(),
+        out,
+    )?;
+    Ok(core.into_bank())
+}

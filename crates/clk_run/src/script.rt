@@ -1,0 +1,72 @@
+//! Running the commands of a driver, one after the other.
+
+ghost use Rattle.std.specs.Prelude.{◌≡◌, ◌+◌, ◌≤◌, true, [], List, length, IfOk};
+ghost use Rattle.clk_model.specs.Journal.{cost};
+ghost use Rattle.clk_model.specs.Follows.{Variables, variable_count, no_handles};
+ghost use Rattle.drv_scripts.specs.Placed.{NamePlaces};
+ghost use Rattle.clk_run.specs.Scripts.{AreProbes, GoesThrough};
+ghost use Rattle.clk_run.specs.Runs.{are_built};
+ghost use Rattle.clk_base.specs.Plain.{IsPlain};
+
+use crate::command::run_command;
+use clk_base::{Answer, Command, Handle};
+use clk_io::NoMemory;
+use clk_machine::Core;
+use reg_bank::Bank;
+use std::alloc::Global;
+
+// How many variables commands use.
+fn variable_count(commands: &[Command]) -> usize
+    ensures { result ≡ variable_count commands.now }
+{
+    let mut count = 0usize;
+    for command in commands {
+        if let Some(var) = command.var {
+            count = count.max(var as usize + 1);
+        }
+    }
+    count
+}
+
+/// Runs the commands of a driver. Its variables hold nothing at first.
+pub(crate) fn run_script<B: Bank>(
+    alloc: Global,
+    core: &mut Core<B>,
+    driver: u32,
+    commands: &[Command],
+) -> Result<Vec<Answer>, NoMemory>
+    requires credits { cost core.old.journal + length commands.now ≤ core.old.start.credits }
+    requires places { NamePlaces (length core.old.start.defs) commands.now }
+    requires built { are_built commands.now ≡ true }
+    ensures { IfOk result (λ answers. (held : Variables) × GoesThrough core.old driver (no_handles commands.now) commands.now answers.items held core.new) }
+{
+    let mut variables = vec![in alloc; None; variable_count(commands)]?;
+    let held = variables.as_mut_slice();
+    let mut answers = Vec::new(alloc);
+    for command in commands {
+        let answer = run_command(core, driver, held, command)?;
+        answers.push(answer)?;
+    }
+    Ok(answers)
+}
+
+/// Registers the clocks of the description, each by a command of boot in its turn.
+pub(crate) fn run_boot<B: Bank>(
+    alloc: Global,
+    core: &mut Core<B>,
+    commands: &[Command],
+) -> Result<Vec<Answer>, NoMemory>
+    requires credits { cost core.old.journal + length commands.now ≤ core.old.start.credits }
+    requires plain { IsPlain core.old.start.defs }
+    requires clocks { length commands.now ≤ length core.old.start.defs }
+    requires probes { AreProbes 0 commands.now }
+    ensures { IfOk result (λ answers. (held : Variables) × GoesThrough core.old 0 [] commands.now answers.items held core.new) }
+{
+    let held: &mut [Option<Handle>] = &mut [];
+    let mut answers = Vec::new(alloc);
+    for command in commands {
+        let answer = run_command(core, 0, held, command)?;
+        answers.push(answer)?;
+    }
+    Ok(answers)
+}

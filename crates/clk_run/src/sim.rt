@@ -1,0 +1,103 @@
+//! From a source's bytes to what is printed of their run.
+
+ghost use Rattle.std.specs.Prelude.{◌≡◌, ◌≤◌, ◌==◌, is_some, IfOk, IfErr};
+ghost use Rattle.std.specs.Option.{option_map};
+ghost use Rattle.clk_io.specs.Causes.{Rose};
+ghost use Rattle.clk_run.specs.Runs.{IsReady};
+ghost use Rattle.clk_run.specs.Outcomes.{GivesBundle, StopsReading, IsRunStatus, Done, Refused, Unwritten, Short, NoFault, Decides, status_of};
+
+use crate::reading::check_bundle;
+use crate::refusal::print_refusal;
+use crate::run_bundle::run_bundle;
+use clk_cli::Cli;
+use clk_io::{PrintFault, ReadFault, Sink, Source, read_all};
+use drv_scripts::{Bundle, BundleFault, Reason};
+use reg_bank::Bank;
+use std::alloc::Global;
+
+/// Why no bundle came from a source.
+#[derive(Clone, Copy, Debug, PartialEq, Eq)]
+pub(crate) enum Stop {
+    Refused { line: u32, reason: Reason },
+    Read,
+    NoMemory,
+}
+
+// The bundle that a source's bytes spell.
+fn take_bundle<S: Source>(alloc: Global, input: &mut S) -> Result<Bundle, Stop>
+    ensures gives { IfOk result (GivesBundle (S.left input.old) (S.left input.new)) }
+    ensures ready { IfOk result IsReady }
+    ensures stops { IfErr result (StopsReading (S.left input.old) (S.left input.new) (S.faults input.old) (S.faults input.new)) }
+    ensures tells { is_some (S.left input.new) ≡ is_some (S.left input.old) }
+    ensures later { S.faults input.old ≤ S.faults input.new }
+{
+    let bytes = match read_all(alloc, input) {
+        Ok(bytes) => bytes,
+        Err(ReadFault::Read) => return Err(Stop::Read),
+        Err(ReadFault::NoMemory) => return Err(Stop::NoMemory),
+        Err(ReadFault::TooLong) => {
+            return Err(Stop::Refused {
+                line: 0,
+                reason: Reason::TooLong,
+            });
+        }
+    };
+    match check_bundle(alloc, bytes.as_slice()) {
+        Ok(bundle) => Ok(bundle),
+        Err(BundleFault::Refused { line, reason }) => Err(Stop::Refused { line, reason }),
+        Err(BundleFault::NoMemory) => Err(Stop::NoMemory),
+    }
+}
+
+// The status after a fault of printing.
+fn status_of(fault: PrintFault) -> u8
+    ensures { result ≡ status_of fault }
+{
+    match fault {
+        PrintFault::Write => 5,
+        PrintFault::NoMemory => 3,
+    }
+}
+
+/// Reads a bundle, runs it on one thread and prints its answers and registers. Answers the status,
+/// and with 0 the bank:
+///
+/// - 0: the bundle ran and its text was printed;
+/// - 2: the bundle is refused, and the line that says why was printed;
+/// - 3: memory ran out;
+/// - 4: a read failed, and nothing was printed;
+/// - 5: a write failed, and a front of the text was printed.
+pub fn simulate<S: Source, K: Sink, B: Bank>(
+    alloc: Global,
+    cli: &Cli,
+    input: &mut S,
+    out: &mut K,
+    bank: B,
+) -> (u8, Option<B>)
+    requires room { 65536 ≤ B.size bank }
+    ensures known { IsRunStatus result.0 }
+    ensures done { result.0 ≡ 0 → Done cli.now.ignore_unused (is_some (B.contents bank)) (S.left input.old) (S.left input.new) (K.written out.old) (K.written out.new) (option_map B.contents result.1) }
+    ensures back { is_some result.1 ≡ (result.0 == 0) }
+    ensures refused { result.0 ≡ 2 → Refused (S.left input.old) (S.left input.new) (K.written out.old) (K.written out.new) }
+    ensures read { result.0 ≡ 4 → Rose (S.faults input.old) (S.faults input.new) }
+    ensures unread { result.0 ≡ 4 → K.written out.new ≡ K.written out.old }
+    ensures write { result.0 ≡ 5 → Rose (K.faults out.old) (K.faults out.new) }
+    ensures unwritten { result.0 ≡ 5 → Unwritten cli.now.ignore_unused (is_some (B.contents bank)) (S.left input.old) (S.left input.new) (K.written out.old) (K.written out.new) }
+    ensures short { result.0 ≡ 3 → Short cli.now.ignore_unused (is_some (B.contents bank)) (S.left input.old) (S.left input.new) (K.written out.old) (K.written out.new) }
+    ensures decided { NoFault (S.faults input.old) (S.faults input.new) (K.faults out.old) (K.faults out.new) → Decides (S.left input.old) result.0 }
+    ensures tells { is_some (K.written out.new) ≡ is_some (K.written out.old) }
+    ensures later { (S.faults input.old ≤ S.faults input.new) × (K.faults out.old ≤ K.faults out.new) }
+{
+    match take_bundle(alloc, input) {
+        Ok(bundle) => match run_bundle(alloc, &bundle, cli.ignore_unused, out, bank) {
+            Ok(bank) => (0, Some(bank)),
+            Err(fault) => (status_of(fault), None),
+        },
+        Err(Stop::Refused { line, reason }) => match print_refusal(alloc, line, reason, out) {
+            Ok(()) => (2, None),
+            Err(fault) => (status_of(fault), None),
+        },
+        Err(Stop::Read) => (4, None),
+        Err(Stop::NoMemory) => (3, None),
+    }
+}

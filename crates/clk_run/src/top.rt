@@ -1,0 +1,56 @@
+//! The program, as a call.
+
+ghost use Rattle.std.specs.Prelude.{◌≡◌, ◌≤◌, ◌==◌, is_some};
+ghost use Rattle.std.specs.Option.{option_map};
+ghost use Rattle.clk_io.specs.Causes.{Rose};
+ghost use Rattle.clk_cli.specs.Meaning.{texts, meaning};
+ghost use Rattle.clk_run.specs.Outcomes.{IsStatus, MeansNothing, MeansDone, MeansRefused, MeansUnread, MeansUnwritten, MeansShort, MeansDecided, NoFault};
+
+use crate::sim::simulate;
+use clk_base::Pause;
+use clk_cli::{CliFault, USAGE_LINE};
+use clk_io::{Sink, Source, write_all};
+use reg_bank::Bank;
+
+/// Does what the words behind the program's name mean. Answers the status, and with 0 the bank:
+///
+/// - 0: the bundle ran and its text was printed;
+/// - 1: the words mean nothing, and the line was printed that says how the program is called;
+/// - 2: the bundle is refused, and the line was printed that says where and why;
+/// - 3: memory ran out;
+/// - 4: a read failed, and nothing was printed;
+/// - 5: a write failed, and a front of the text was printed.
+///
+/// For now the one word `sim` has a meaning: the run on one thread, which pauses nowhere.
+pub fn clkbench<R: AllocGlobal, S: Source, K: Sink, B: Bank, Q: Pause>(
+    rt: &R,
+    words: &[&str],
+    input: &mut S,
+    out: &mut K,
+    bank: B,
+    _pause: &Q,
+) -> (u8, Option<B>)
+    requires room { 65536 ≤ B.size bank }
+    ensures known { IsStatus result.0 }
+    ensures usage { result.0 ≡ 1 → MeansNothing (meaning (texts words.now)) (K.written out.old) (K.written out.new) }
+    ensures done { result.0 ≡ 0 → MeansDone (meaning (texts words.now)) (is_some (B.contents bank)) (S.left input.old) (S.left input.new) (K.written out.old) (K.written out.new) (option_map B.contents result.1) }
+    ensures back { is_some result.1 ≡ (result.0 == 0) }
+    ensures refused { result.0 ≡ 2 → MeansRefused (meaning (texts words.now)) (S.left input.old) (S.left input.new) (K.written out.old) (K.written out.new) }
+    ensures read { result.0 ≡ 4 → Rose (S.faults input.old) (S.faults input.new) }
+    ensures unread { result.0 ≡ 4 → MeansUnread (meaning (texts words.now)) (K.written out.old) (K.written out.new) }
+    ensures write { result.0 ≡ 5 → Rose (K.faults out.old) (K.faults out.new) }
+    ensures unwritten { result.0 ≡ 5 → MeansUnwritten (meaning (texts words.now)) (is_some (B.contents bank)) (S.left input.old) (S.left input.new) (K.written out.old) (K.written out.new) }
+    ensures short { result.0 ≡ 3 → MeansShort (meaning (texts words.now)) (is_some (B.contents bank)) (S.left input.old) (S.left input.new) (K.written out.old) (K.written out.new) }
+    ensures decided { NoFault (S.faults input.old) (S.faults input.new) (K.faults out.old) (K.faults out.new) → MeansDecided (meaning (texts words.now)) (S.left input.old) result.0 }
+    ensures tells { is_some (K.written out.new) ≡ is_some (K.written out.old) }
+{
+    let alloc = rt.alloc();
+    match clk_cli::words(alloc, words) {
+        Ok(cli) => simulate(alloc, &cli, input, out, bank),
+        Err(CliFault::NoMemory) => (3, None),
+        Err(CliFault::Usage) => match write_all(out, USAGE_LINE.as_bytes()) {
+            Ok(()) => (1, None),
+            Err(_) => (5, None),
+        },
+    }
+}
