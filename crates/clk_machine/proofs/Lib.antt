@@ -11,3 +11,4 @@ pub mod Registering
 pub mod RegisteredShape
 pub mod Entering
 pub mod Rows
+pub mod Causing

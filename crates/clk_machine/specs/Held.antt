@@ -128,6 +128,13 @@ pub record RegistersAtOnce (old : State) (c : ℕ) : Type 0 where
   pub links : AreLinks old.defs old.clocks → AreLinks old.defs (register old c).clocks
   pub rows : (k : ℕ) → registered (register old c).clocks k ≡ (registered old.clocks k || c == k)
 
+-- no change is in flight, each clock can be run, and a registration whose possible parents were registered leaves no orphan to adopt
+pub record IsResting (s : State) : Type 0 where
+  pub quiet : s.change ≡ None
+  pub runs : CanRun s.defs
+  pub alone : (c : ℕ) → c < length s.defs → registered s.clocks c ≡ false → list_all (registered s.clocks) (parents_of s.defs c) ≡ true
+      → s.spent < s.credits → adoptable (register s c) ≡ []
+
 -- whether an event registers the clock
 abbrev pub registers : Event → ℕ → Bool
 registers (event.Begin (call.Probe k)) c = k.0 == c

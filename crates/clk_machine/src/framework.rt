@@ -39,6 +39,7 @@ impl<B: Bank> Core<B> {
     ghost use Rattle.clk_base.specs.declared.event.Event.TheVariants.{Enable, Disable, Running, Begin};
     ghost use Rattle.clk_base.specs.declared.event.Turn.TheVariants.{Done};
     ghost use Rattle.clk_machine.specs.Held.{CanRun, IsPlaced};
+    ghost use Rattle.clk_model.specs.Causes.{EnableCauses, DisableCauses, RunningCauses, TurnHasCause, LeavesRefused};
     ghost use Rattle.clk_machine.specs.Run.{Run, now_of, was_probed, is_built, IsDone, Appends};
     ghost use Rattle.clk_machine.specs.Row.{IsRowOf};
 
@@ -73,7 +74,9 @@ impl<B: Bank> Core<B> {
     /// Enables a handle. Takes no memory.
     pub fn enable(&mut self, driver: u32, handle: Handle) -> Reply
         requires { cost self.old.journal < self.old.start.credits }
-        ensures { Appends self.old driver (Enable handle.number) (Done result) self.new }
+        ensures entry { Appends self.old driver (Enable handle.number) (Done result) self.new }
+        ensures causes { self.old.told ≡ true → EnableCauses (now_of self.old) driver handle.number result }
+        ensures refused { self.old.told ≡ true → LeavesRefused (Done result) (now_of self.old) (now_of self.new) }
     {
         let reply = self.machine.enable(driver, handle.number);
         self.log.push(Entry {
@@ -87,7 +90,9 @@ impl<B: Bank> Core<B> {
     /// Disables a handle. Takes no memory.
     pub fn disable(&mut self, driver: u32, handle: Handle) -> Reply
         requires { cost self.old.journal < self.old.start.credits }
-        ensures { Appends self.old driver (Disable handle.number) (Done result) self.new }
+        ensures entry { Appends self.old driver (Disable handle.number) (Done result) self.new }
+        ensures causes { self.old.told ≡ true → DisableCauses (now_of self.old) driver handle.number result }
+        ensures refused { self.old.told ≡ true → LeavesRefused (Done result) (now_of self.old) (now_of self.new) }
     {
         let reply = self.machine.disable(driver, handle.number);
         self.log.push(Entry {
@@ -101,7 +106,9 @@ impl<B: Bank> Core<B> {
     /// Tells whether a handle's clock is active. Takes no memory.
     pub fn running(&mut self, driver: u32, handle: Handle) -> Reply
         requires { cost self.old.journal < self.old.start.credits }
-        ensures { Appends self.old driver (Running handle.number) (Done result) self.new }
+        ensures entry { Appends self.old driver (Running handle.number) (Done result) self.new }
+        ensures causes { self.old.told ≡ true → RunningCauses (now_of self.old) driver handle.number result }
+        ensures refused { self.old.told ≡ true → LeavesRefused (Done result) (now_of self.old) (now_of self.new) }
     {
         let reply = self.machine.running(driver, handle.number);
         self.log.push(Entry {
@@ -136,6 +143,8 @@ impl<B: Bank> Core<B> {
         requires built { is_built self.old what.now ≡ true }
         ensures ok { IfOk result (λ turn. Appends self.old driver (Begin what.now) turn self.new) }
         ensures at_once { IfOk result IsDone }
+        ensures causes { self.old.told ≡ true → IfOk result (TurnHasCause (now_of self.old) driver what.now) }
+        ensures refused { self.old.told ≡ true → IfOk result (λ turn. LeavesRefused turn (now_of self.old) (now_of self.new)) }
         ensures err { OnErr result (self.new ≡ self.old) }
     {
         let reply = self.machine.begin(driver, *what)?;

@@ -62,7 +62,7 @@ impl<B: Bank> Machine<B> {
     ghost use Rattle.clk_model.specs.Tree.{rooted};
     ghost use Rattle.clk_model.specs.Rate.{rate};
     ghost use Rattle.clk_model.specs.Begin.{own_handle, put_handle, given, register};
-    ghost use Rattle.clk_machine.specs.Held.{CanRun, Takes, OpensFor, RegistersAtOnce, IsPlaced, CanBegin};
+    ghost use Rattle.clk_machine.specs.Held.{CanRun, Takes, OpensFor, RegistersAtOnce, IsResting, IsPlaced, CanBegin};
 
     /// The machine at its opening. The words are written to the bank.
     pub(crate) fn create(
@@ -333,6 +333,13 @@ impl<B: Bank> Machine<B> {
         are_registered(&self.clocks, self.desc.def(clock).parents.as_slice())
     }
 
+    // What stays true between two calls.
+    fn rest(&self)
+        ensures { IsResting self.now.state }
+    {
+        let _ = &self.desc;
+    }
+
     /// Begins one of the calls that are built.
     pub(crate) fn begin(&mut self, driver: u32, what: Sleeping) -> Result<Reply, NoMemory>
         requires credit { self.old.state.spent < self.old.state.credits }
@@ -340,7 +347,9 @@ impl<B: Bank> Machine<B> {
         requires built { CanBegin self.old.state what }
         ensures ok { IfOk result (λ reply. Takes self.old driver (Begin what) reply self.new) }
         ensures err { OnErr result (self.new ≡ self.old) }
+        ensures rests { IsResting self.old.state }
     {
+        self.rest();
         match what {
             Sleeping::Get(found) => self.get(driver, found),
             Sleeping::Prepare(handle) => Ok(self.prepare(driver, handle)),

@@ -10,3 +10,5 @@ pub mod FollowLaws
 pub mod OrderLaws
 pub mod CountLaws
 pub mod FedLaws
+pub mod CauseLaws
+pub mod RefusalLaws

@@ -22,5 +22,6 @@ pub mod Follows
 pub mod Ordered
 pub mod Prep
 pub mod Summary
+pub mod Causes
 pub mod Weight
 pub mod Examples

@@ -4,6 +4,8 @@
 //! The definitions stand in `specs/`. Nothing here runs but the rows that a state is made of.
 #![tactic(auto)]
 
+mod laws;
 mod row;
 
+pub use laws::refusals_change_nothing;
 pub use row::{ClockRow, HandleRow};

@@ -1,6 +1,8 @@
 use Rattle.std.proofs.Common.{◌≡◌, ◌<◌, refl, sym, ◌∙◌, arith}
 use Rattle.clk_base.specs.declared.event.Event.TheVariants.{Enable}
 use Rattle.clk_machine.proofs.Entering.{entered, appended, has_room}
+use Rattle.clk_model.proofs.CauseLaws.{enable_causes}
+use Rattle.clk_machine.proofs.Causing.{appends_refused}
 use Rattle.clk_machine.proofs.framework.Core.enable.Goals as goal
 
 pub invariant_of-self : goal.invariant_of-self
@@ -8,8 +10,14 @@ invariant_of-self g c =
     entered c.self.inside.machine c.enable-reply.new.self c.self.inside.words.items c.self.inside.log c.push.new.self c.args.driver (Enable c.args.handle.number) c.enable-reply.result
     c.self.invariant c.enable-reply.ensures refl c.push.ensures.entries c.push.ensures.room
 
-pub returns : goal.returns
-returns g c =
+pub returns-clause-entry : goal.returns-clause-entry
+returns-clause-entry g c =
     rw (← c.self.view_is)
     (appended c.self.inside.machine c.enable-reply.new.self c.self.inside.words.items c.self.inside.log c.push.new.self c.args.driver (Enable c.args.handle.number) c.enable-reply.result
     c.self.invariant c.enable-reply.ensures refl c.push.ensures.entries c.push.ensures.room)
+
+pub returns-clause-causes : goal.returns-clause-causes
+returns-clause-causes g c = λ told. enable_causes _ _ c.args.driver c.args.handle.number c.enable-reply.result ((returns-clause-entry g c).step told)
+
+pub returns-clause-refused : goal.returns-clause-refused
+returns-clause-refused g c = λ told. appends_refused _ _ c.args.driver (Enable c.args.handle.number) c.enable-reply.result (returns-clause-entry g c) refl told
