@@ -12,3 +12,4 @@ pub mod RegisteredShape
 pub mod Entering
 pub mod Rows
 pub mod Causing
+pub mod Standing

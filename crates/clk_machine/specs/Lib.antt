@@ -4,3 +4,4 @@ pub mod Held
 pub mod Run
 pub mod Hold
 pub mod Row
+pub mod Taken

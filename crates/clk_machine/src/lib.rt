@@ -6,6 +6,7 @@ mod fit;
 mod framework;
 mod gates;
 mod handles;
+mod laws;
 mod log;
 mod machine;
 mod path;
@@ -15,6 +16,7 @@ mod window;
 
 pub use fit::first_unfit;
 pub use framework::Core;
+pub use laws::always_fed;
 pub use row::Row;
 
 #[cfg(test)]
