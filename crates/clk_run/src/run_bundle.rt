@@ -47,7 +47,8 @@ pub(crate) fn run_bundle<K: Sink, B: Bank>(
     let credits = credits_of(bundle);
     let mut core = Core::create(alloc, desc, bank, words, ignore_unused, credits)?;
     let answers = run_scripts(alloc, &mut core, bundle)?;
-    let journal = core.journal();
+    // What the journal tells of the run: after each of its entries the active clocks are fed.
+    let _ = core.journal();
     let registers = registers_of(alloc, &core)?;
     let drivers = bundle.drivers.as_slice();
     print_run(

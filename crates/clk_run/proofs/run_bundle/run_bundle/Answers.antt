@@ -54,7 +54,7 @@ returns-clause-done g c =
       words = printed;
       text = run_text b.desc.defs b.drivers c.in_ok-answers.answers.items printed;
       run = text_of b c.args.ignore_unused (is_some (g.B.Bank.contents c.args.bank)) _ core c.in_ok-answers.answers.items printed start begun.told c.in_ok-answers.ensures
-          c.journal-journal.ensures.fed c.in_ok-registers.ensures;
+          c.journal.ensures.fed c.in_ok-registers.ensures;
       printed = subst (Appends (g.K.Sink.written c.args.out.now) (g.K.Sink.written c.print_run.new.out)) text c.in_ok-print_run.ensures.prints;
       registers = bank_back _ _ _ _ _ _ c.into_bank.ensures.told (ap (λ (s : State). length s.regs) (sym (c.in_ok-answers.ensures.start ∙ start))) c.into_bank.ensures.words
           (λ tells. c.in_ok-registers.ensures tells);
@@ -74,6 +74,6 @@ returns-in_err-print_run-clause-fault g c =
     left_by b c.args.ignore_unused told (g.K.Sink.written c.args.out.now) (g.K.Sink.written c.print_run.new.out) c.from_residual-in_err-print_run.result (record {
       words = printed;
       text = run_text b.desc.defs b.drivers answers printed;
-      run = text_of b c.args.ignore_unused told _ c.run_scripts.new.core answers printed start begun.told c.in_ok-answers.ensures c.journal-journal.ensures.fed c.in_ok-registers.ensures;
+      run = text_of b c.args.ignore_unused told _ c.run_scripts.new.core answers printed start begun.told c.in_ok-answers.ensures c.journal.ensures.fed c.in_ok-registers.ensures;
       printed = subst (AppendsFront (g.K.Sink.written c.args.out.now) (g.K.Sink.written c.print_run.new.out)) text c.in_err-print_run.ensures.prints;
     })
