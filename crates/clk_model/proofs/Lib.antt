@@ -10,3 +10,17 @@ pub mod FollowLaws
 pub mod OrderLaws
 pub mod CountLaws
 pub mod FedLaws
+pub mod PrepLaws
+pub mod TierLaws
+pub mod MicroLaws
+pub mod NoneLaws
+pub mod StepLaws
+pub mod BeginLaws
+pub mod FrontLaws
+pub mod FlightLaws
+pub mod VetoLaws
+pub mod InFlightLaws
+pub mod HoldSteps
+pub mod BalancedScripts
+pub mod HoldLaws
+pub mod BalanceLaws

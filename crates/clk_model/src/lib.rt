@@ -4,6 +4,11 @@
 //! The definitions stand in `specs/`. Nothing here runs but the rows that a state is made of.
 #![tactic(auto)]
 
+mod laws;
 mod row;
 
+pub use laws::{
+    enable_tier_leaves_prep, enable_tier_never_waits, quiet_or_in_flight, script_left,
+    veto_leaves_nothing,
+};
 pub use row::{ClockRow, HandleRow};
