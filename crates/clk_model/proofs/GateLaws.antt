@@ -48,7 +48,7 @@ is_set-follow_other regs true true gate word bit apart = refl
 -- ---- several gates
 
 -- a gate is at a bit, or it differs in the word or in the bit
-at_or_apart : (gate : GateBit) (word bit : ℕ) → ((gate.word ≡ word) × (gate.bit ≡ bit)) ⊎ ((word ≢ gate.word) ⊎ (bit ≢ gate.bit))
+pub at_or_apart : (gate : GateBit) (word bit : ℕ) → ((gate.word ≡ word) × (gate.bit ≡ bit)) ⊎ ((word ≢ gate.word) ⊎ (bit ≢ gate.bit))
 at_or_apart gate word bit =
     elim (nat_eq gate.word word) as (λ t. nat_eq gate.word word ≡ t → ((gate.word ≡ word) × (gate.bit ≡ bit)) ⊎ ((word ≢ gate.word) ⊎ (bit ≢ gate.bit))) [
       | false ↦ λ e. inr (inl (λ same. test_other gate.word word e (sym same)))
@@ -172,7 +172,7 @@ found_at None word bit h = absurd cc
 found_at (Some gate) word bit h =
     (gate, refl, same_from_test gate.word word (both_left (nat_eq gate.word word) (nat_eq gate.bit bit) h), same_from_test gate.bit bit (both_right (nat_eq gate.word word) (nat_eq gate.bit bit) h))
 
-test_at : (gate : GateBit) (word bit : ℕ) → gate.word ≡ word → gate.bit ≡ bit → (nat_eq gate.word word && nat_eq gate.bit bit) ≡ true
+pub test_at : (gate : GateBit) (word bit : ℕ) → gate.word ≡ word → gate.bit ≡ bit → (nat_eq gate.word word && nat_eq gate.bit bit) ≡ true
 test_at gate word bit e f = rw (e, f) (both_true (test_same word) (test_same bit)) where
   both_true : {a b : Bool} → a ≡ true → b ≡ true → (a && b) ≡ true
   both_true {a = a} {b = b} p q = rw (p, q) refl

@@ -12,3 +12,17 @@ pub mod CountLaws
 pub mod FedLaws
 pub mod CauseLaws
 pub mod RefusalLaws
+pub mod PrepLaws
+pub mod TierLaws
+pub mod MicroLaws
+pub mod NoneLaws
+pub mod StepLaws
+pub mod BeginLaws
+pub mod FrontLaws
+pub mod FlightLaws
+pub mod VetoLaws
+pub mod InFlightLaws
+pub mod HoldSteps
+pub mod BalancedScripts
+pub mod HoldLaws
+pub mod BalanceLaws

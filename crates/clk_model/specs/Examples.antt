@@ -13,6 +13,7 @@ pub mod Orphans
 pub mod Sweeps
 pub mod Parents
 pub mod Plls
+pub mod Polls
 pub mod Timeouts
 pub mod Room
 pub mod Orders

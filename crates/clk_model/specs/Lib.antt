@@ -21,6 +21,8 @@ pub mod Text
 pub mod Follows
 pub mod Ordered
 pub mod Prep
+pub mod Tier
+pub mod Flight
 pub mod Summary
 pub mod Causes
 pub mod Weight

@@ -33,17 +33,19 @@ use Rattle.clk_model.specs.Begin.{register, prepared_once_more, held_once_more, 
 abbrev pub todo : Change → List Micro
 todo k = k.front ++ k.left
 
+-- steps without the first
+abbrev pub rest_of : List Micro → List Micro
+rest_of [] = []
+rest_of (m ∷ ms) = ms
+
+-- what is left of the script behind the next step: that step is taken from what stands in front, or else from the script
+abbrev pub left_behind : List Micro → List Micro → List Micro
+left_behind [] left = rest_of left
+left_behind (m ∷ ms) left = left
+
 -- the change without its first step
 abbrev pub taken : Change → Change
-taken k = record k { front = rest_of k.front; left = after k.front k.left } where
-  rest_of : List Micro → List Micro
-  rest_of [] = []
-  rest_of (m ∷ ms) = ms
-
-  after : List Micro → List Micro → List Micro
-  after [] [] = []
-  after [] (m ∷ ms) = ms
-  after (m ∷ ms) left = left
+taken k = record k { front = rest_of k.front; left = left_behind k.front k.left }
 
 -- the state with the change as it is now
 abbrev pub on : State → Change → State
@@ -121,18 +123,20 @@ to_raise s k x = filter (λ y. not (is_in y k.raised)) (unprepared_plls s (path_
 abbrev pub most_polls : ℕ
 most_polls = 32
 
--- Raise: the highest such PLL is powered and then polled, and the raise comes again while another remains
+-- a PLL is powered and then polled, and the raise comes again while another remains
+abbrev pub raise_one : State → Change → ℕ → ℕ → State
+raise_one s k x y =
+    let more = nat_le 2 (length (to_raise s k x)) in
+    on (powered s y true) (record k {
+      raised = y ∷ k.raised;
+      polls = most_polls;
+      again = if more then k.again + 1 else 0;
+      front = micro.Poll (clock_id y) ∷ (if more then micro.Raise (clock_id x) ∷ [] else []) ++ k.front;
+    })
+
+-- Raise: the highest such PLL is raised
 abbrev pub raise : State → Change → ℕ → State
-raise s k x = option_map_or raised_one (slice_get (reverse (to_raise s k x)) 0) (on s (record k { again = 0 })) where
-  raised_one : ℕ → State
-  raised_one y =
-      let more = nat_le 2 (length (to_raise s k x)) in
-      on (powered s y true) (record k {
-        raised = y ∷ k.raised;
-        polls = most_polls;
-        again = if more then k.again + 1 else 0;
-        front = micro.Poll (clock_id y) ∷ (if more then micro.Raise (clock_id x) ∷ [] else []) ++ k.front;
-      })
+raise s k x = option_map_or (raise_one s k x) (slice_get (reverse (to_raise s k x)) 0) (on s (record k { again = 0 }))
 
 -- Poll: on a no it comes again, until it has asked often enough
 abbrev pub poll : State → Change → ℕ → Bool → State
@@ -149,16 +153,18 @@ fall s k y = on (powered s y false) (record k { raised = without_one y k.raised 
 abbrev pub to_lower : State → ℕ → List ℕ
 to_lower s x = filter (runs s.defs s.regs) (unprepared_plls s (path s.clocks x))
 
--- Lower: the lowest such PLL loses its power, and the lowering stays while another remains
+-- a PLL loses its power, and the lowering stays while another remains
+abbrev pub lower_one : State → Change → ℕ → ℕ → State
+lower_one s k x y =
+    let more = nat_le 2 (length (to_lower s x)) in
+    on (powered s y false) (record k {
+      again = if more then k.again + 1 else 0;
+      front = (if more then micro.Lower (clock_id x) ∷ [] else []) ++ k.front;
+    })
+
+-- Lower: the lowest such PLL is lowered
 abbrev pub lower : State → Change → ℕ → State
-lower s k x = option_map_or lowered_one (slice_get (to_lower s x) 0) (on s (record k { again = 0 })) where
-  lowered_one : ℕ → State
-  lowered_one y =
-      let more = nat_le 2 (length (to_lower s x)) in
-      on (powered s y false) (record k {
-        again = if more then k.again + 1 else 0;
-        front = (if more then micro.Lower (clock_id x) ∷ [] else []) ++ k.front;
-      })
+lower s k x = option_map_or (lower_one s k x) (slice_get (to_lower s x) 0) (on s (record k { again = 0 }))
 
 -- ---- holds and links
 
@@ -276,14 +282,16 @@ end_of s k = (
 
 -- ---- each step
 
+-- whether a poll is answered by yes
+abbrev pub is_yes : Option Bool → Bool
+is_yes None = false
+is_yes (Some b) = b
+
 -- what a step does, where k is the change without it, and whether the call goes on
 unfoldable pub stepped : State → Change → Option Bool → Micro → State × Turn
 stepped s k answer (micro.Notify kind c id old new) = (on s k, turn.Going)
 stepped s k answer (micro.Raise x) = (raise s k x.0, turn.Going)
-stepped s k answer (micro.Poll y) = (poll s k y.0 (is_yes answer), turn.Going) where
-  is_yes : Option Bool → Bool
-  is_yes None = false
-  is_yes (Some b) = b
+stepped s k answer (micro.Poll y) = (poll s k y.0 (is_yes answer), turn.Going)
 stepped s k answer (micro.Fall y) = (fall s k y.0, turn.Going)
 stepped s k answer (micro.HoldPrepare x) = (hold_prepare s k x.0, turn.Going)
 stepped s k answer (micro.HoldEnable x) = (hold_enable s k x.0, turn.Going)

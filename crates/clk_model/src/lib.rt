@@ -7,5 +7,8 @@
 mod laws;
 mod row;
 
-pub use laws::refusals_change_nothing;
+pub use laws::{
+    enable_tier_leaves_prep, enable_tier_never_waits, quiet_or_in_flight, refusals_change_nothing,
+    script_left, veto_leaves_nothing,
+};
 pub use row::{ClockRow, HandleRow};

@@ -1,5 +1,5 @@
 -- Commands of a driver with the calls that they make and their answers.
-use Rattle.std.specs.Prelude.{ℕ, [], ◌∷◌, Some, None, refl}
+use Rattle.std.specs.Prelude.{◌≡◌, ℕ, [], ◌∷◌, ◌++◌, Some, None, refl}
 use Rattle.clk_base.specs.declared.call.Sleeping.TheVariants as call
 use Rattle.clk_base.specs.declared.command.Act.{Act}
 use Rattle.clk_base.specs.declared.command.Act.TheVariants as act
@@ -11,10 +11,12 @@ use Rattle.clk_base.specs.declared.event.Errno.TheVariants as errno
 use Rattle.clk_base.specs.declared.event.Reply.{Reply}
 use Rattle.clk_base.specs.declared.event.Reply.TheVariants as reply
 use Rattle.clk_model.specs.Chain.{clock_id}
-use Rattle.clk_model.specs.Journal.{Answered, calls}
+use Rattle.clk_model.specs.Journal.{Answered, calls, replay, Legal}
 use Rattle.clk_model.specs.Follows.{Follows}
-use Rattle.clk_model.specs.Examples.Rows.{handle}
-use Rattle.clk_model.specs.Examples.OneDriver.{ordinary_path}
+use Rattle.clk_model.specs.Examples.Rows.{turns, handle, answers, boot, gets}
+use Rattle.clk_model.specs.Examples.OneDriver.{uart_start, ordinary_path}
+use Rattle.clk_model.specs.Examples.Plls.{raised}
+use Rattle.clk_model.specs.Examples.Notices.{one_veto}
 
 -- a command on the variable of this number
 abbrev pub on : ℕ → Act → Command
@@ -39,3 +41,20 @@ pub skipping_follows :
     ∷ called (event.Begin (call.Put (handle 0 1))) reply.Fine ∷ [])
     (answer.Reply (reply.Refused errno.ENOENT) ∷ answer.Skip ∷ answer.Reply (reply.Handle (handle 0 1)) ∷ answer.Skip ∷ answer.Reply reply.Fine ∷ answer.Skip ∷ [])
 skipping_follows = (refl, refl, (refl, (refl, refl, (refl, (refl, refl, (refl, tt))))))
+
+-- a call that goes on is one call, whose reply is that of its end
+pub raised_calls : calls raised 1 ≡ called (event.Begin (call.Prepare (handle 0 1))) reply.Fine ∷ []
+raised_calls = refl
+
+-- the calls of one driver, while another's call goes on
+pub enabler_calls : calls one_veto 2 ≡
+    called (event.Begin (call.Get (Some (clock_id 4)))) (reply.Handle (handle 0 2))
+    ∷ called (event.Begin (call.Prepare (handle 0 2))) reply.Fine
+    ∷ called (event.Enable 0) reply.Fine ∷ []
+enabler_calls = refl
+
+-- the slot of a handle that is given may be any
+pub any_slot :
+    Legal (replay uart_start (boot 2)) (answers 1 (event.Begin (call.Get (Some (clock_id 1)))) (reply.Handle (record { number = 0; slot = 7; driver = 1 })) ∷ [])
+unfolding turns
+any_slot = (replay uart_start (boot 2 ++ gets 1 (clock_id 1) 0 ∷ []), refl, tt)

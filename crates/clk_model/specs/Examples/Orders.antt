@@ -13,6 +13,7 @@ use Rattle.clk_model.specs.Examples.Rows.{turns, stated, handle, begins, goes_on
 use Rattle.clk_model.specs.Examples.Commands.{on}
 use Rattle.clk_model.specs.Examples.Migrations.{migration_start, gb, m, g, before_move, move}
 use Rattle.clk_model.specs.Examples.Notices.{one_veto}
+use Rattle.clk_model.specs.Examples.OneDriver.{ordinary_path}
 
 -- ---- a move, with enables and disables of another driver in every window
 
@@ -80,3 +81,13 @@ waiting_turns = refl
 
 pub waiting_ordered : Ordered ([] ∷ rater ∷ preparer ∷ []) (1 ∷ 2 ∷ 1 ∷ 2 ∷ 2 ∷ 1 ∷ []) waiting
 waiting_ordered = (refl, (refl, (refl, (refl, (refl, (refl, (refl, (refl, (refl, tt)))))))))
+
+-- ---- boot
+
+-- boot's commands come before the order, also where the order names nobody: behind them the one driver makes each event
+pub ordinary_path_ordered :
+    Ordered
+    ((on 0 (act.Probe (clock_id 0)) ∷ on 0 (act.Probe (clock_id 1)) ∷ [])
+    ∷ (on 0 (act.Get (Some (clock_id 1))) ∷ on 0 act.Prepare ∷ on 0 act.Enable ∷ on 0 act.GetRate ∷ []) ∷ [])
+    [] ordinary_path
+ordinary_path_ordered = (refl, (refl, (refl, (refl, tt))))

@@ -98,15 +98,18 @@ astray =
     clock (codes "f") (kinds.FixedRate 5) [] ∷ clock (codes "e") (kinds.FixedRate 6) []
     ∷ clock (codes "m") (kinds.Mux 0 0 2 false) (0 ∷ 1 ∷ []) ∷ []
 
+abbrev pub astray_start : State
+astray_start = opening astray (3 ∷ []) false 100
+
 -- a mux whose field is past its parents is an orphan
-abbrev no_such_parent : List Entry
+abbrev pub no_such_parent : List Entry
 no_such_parent = boot 3 ++ begins 1 (call.Get (Some (clock_id 2))) (reply.Refused errno.EPROBE_DEFER) ∷ []
 
-pub no_such_parent_turns : turns (opening astray (3 ∷ []) false 100) no_such_parent ≡ stated no_such_parent
+pub no_such_parent_turns : turns astray_start no_such_parent ≡ stated no_such_parent
 unfolding turns
 no_such_parent_turns = refl
 
-pub no_such_parent_link : link_in (replay (opening astray (3 ∷ []) false 100) no_such_parent).clocks 2 ≡ None
+pub no_such_parent_link : link_in (replay astray_start no_such_parent).clocks 2 ≡ None
 unfolding turns
 no_such_parent_link = refl
 

@@ -134,6 +134,15 @@ pub lower_too_late_registers : (replay two_plls_start (two_plls_get ++ lower_too
 unfolding turns
 lower_too_late_registers = refl
 
+-- the upper PLL locks at its second poll, and the raise of the lower one comes behind
+abbrev one_after_the_other : List Entry
+one_after_the_other =
+    goes_on 1 (call.Prepare a) ∷ step 1 (micro.Raise gq) ∷ poll 1 p false ∷ poll 1 p true ∷ step 1 (micro.Raise gq) ∷ poll 1 q true ∷ ends 1 reply.Fine ∷ []
+
+pub one_after_the_other_turns : turns two_plls_start (two_plls_get ++ one_after_the_other) ≡ stated (two_plls_get ++ one_after_the_other)
+unfolding turns
+one_after_the_other_turns = refl
+
 -- ---- a PLL above a critical clock
 
 -- `fixed osc 24000000`, `pll p osc 0 0 9 0 31 100 400 24`, `gate c p 1 0 critical`

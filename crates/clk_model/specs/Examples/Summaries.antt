@@ -5,7 +5,7 @@ use Rattle.clk_model.specs.Journal.{replay}
 use Rattle.clk_model.specs.Summary.{summary}
 use Rattle.clk_model.specs.Examples.Rows.{turns, boot}
 use Rattle.clk_model.specs.Examples.OneDriver.{uart_start, ordinary_path}
-use Rattle.clk_model.specs.Examples.Orphans.{late_start, adoption}
+use Rattle.clk_model.specs.Examples.Orphans.{late_start, adoption, astray_start, no_such_parent}
 
 -- a gate that is held open, with its counts and those of its parent
 pub ordinary_path_summary : summary (replay uart_start ordinary_path) ≡
@@ -33,3 +33,12 @@ pub adoption_summary : summary (replay late_start adoption) ≡
     ++ codes "osc                                    0       0       0             24000000    -\n"
 unfolding turns digits summary
 adoption_summary = refl
+
+-- a clock without a parent stands behind the trees of the roots
+pub orphan_summary : summary (replay astray_start no_such_parent) ≡
+    codes "clock                             enable prepare protect                 rate   hw\n"
+    ++ codes "e                                      0       0       0                    6    -\n"
+    ++ codes "f                                      0       0       0                    5    -\n"
+    ++ codes "m                                      0       0       0                    0    -\n"
+unfolding turns digits summary
+orphan_summary = refl

@@ -29,11 +29,11 @@ abbrev p : ClockId
 p = clock_id 4
 
 -- the gates of g1 and g2 are open and the PLL is powered, though nobody uses them
-abbrev unused_start : Bool → State
+abbrev pub unused_start : Bool → State
 unused_start ignored = opening unused (3 ∷ 0x80000064 ∷ []) ignored 100
 
 -- the sweep closes g1 and powers the PLL off; it leaves a clock that is to be ignored, and a critical one
-abbrev sweep : List Entry
+abbrev pub sweep : List Entry
 sweep = boot 5 ++ goes_on 1 call.Sweep ∷ step 1 (micro.Close g1) ∷ step 1 (micro.Unpower p) ∷ ends 1 reply.Fine ∷ []
 
 pub sweep_turns : turns (unused_start false) sweep ≡ stated sweep

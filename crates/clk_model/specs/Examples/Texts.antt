@@ -1,5 +1,5 @@
 -- Texts of journals, answers and registers, computed.
-use Rattle.std.specs.Prelude.{◌≡◌, List, [], ◌∷◌, ◌++◌, true, false, None, neg_ℤ, pos, codes, refl}
+use Rattle.std.specs.Prelude.{◌≡◌, List, [], ◌∷◌, ◌++◌, true, false, Some, None, map, neg_ℤ, pos, codes, refl}
 use Rattle.std.specs.Fmt.{digits}
 use Rattle.clk_base.specs.declared.call.Micro.TheVariants as micro
 use Rattle.clk_base.specs.declared.call.Notice.TheVariants as notice
@@ -9,11 +9,12 @@ use Rattle.clk_base.specs.declared.command.Answer.TheVariants as answer
 use Rattle.clk_base.specs.declared.event.Entry.{Entry}
 use Rattle.clk_base.specs.declared.event.Event.TheVariants as event
 use Rattle.clk_base.specs.declared.event.Errno.TheVariants as errno
+use Rattle.clk_base.specs.declared.event.Reply.{Reply}
 use Rattle.clk_base.specs.declared.event.Reply.TheVariants as reply
 use Rattle.clk_base.specs.declared.event.Turn.TheVariants as turn
 use Rattle.clk_base.specs.declared.handle.Policy.TheVariants as policy
 use Rattle.clk_model.specs.Chain.{clock_id}
-use Rattle.clk_model.specs.Text.{Word, answers_text, journal_text, registers_text}
+use Rattle.clk_model.specs.Text.{Word, reply_text, answers_text, journal_text, registers_text}
 use Rattle.clk_model.specs.Examples.Rows.{handle, entry, answers, step, poll, ends}
 use Rattle.clk_model.specs.Examples.OneDriver.{uart, ordinary_path}
 
@@ -73,3 +74,15 @@ some_answers_text = refl
 pub some_registers_text : registers_text (8 ∷ 0 ∷ 0x800000c8 ∷ []) ≡ codes "reg 0 0x00000008\n" ++ codes "reg 2 0x800000c8\n"
 unfolding digits
 some_registers_text = refl
+
+-- each kind of reply
+abbrev some_replies : List Reply
+some_replies =
+    reply.Fine ∷ reply.Warn ∷ reply.Yes ∷ reply.No ∷ reply.Handle (handle 12 1) ∷ reply.Rate 0 ∷ reply.Clock None ∷ reply.Clock (Some (clock_id 1))
+    ∷ reply.Refused errno.ETIMEDOUT ∷ []
+
+pub some_replies_text : map (reply_text uart) some_replies ≡
+    codes "ok" ∷ codes "warn" ∷ codes "yes" ∷ codes "no" ∷ codes "handle 12" ∷ codes "rate 0" ∷ codes "clock -" ∷ codes "clock uart_gate"
+    ∷ codes "err ETIMEDOUT" ∷ []
+unfolding digits
+some_replies_text = refl

@@ -1,0 +1,27 @@
+//! What the two tiers of events leave to each other.
+
+ghost use Rattle.std.specs.Prelude.{◌≡◌, ◌<◌, ◌⊎◌, ℕ, Some, IsTrue, IsSome};
+ghost use Rattle.clk_base.specs.declared.event.Event.{Event};
+ghost use Rattle.clk_base.specs.declared.event.Turn.{Turn};
+ghost use Rattle.clk_model.specs.State.{State, Change};
+ghost use Rattle.clk_model.specs.Machine.{next};
+ghost use Rattle.clk_model.specs.Prep.{prep};
+ghost use Rattle.clk_model.specs.Tier.{is_enable_tier, is_step};
+
+/// What planning reads of a state isn't changed by an enable, a disable or the question whether a
+/// clock runs, in whatever state they come: also in the middle of a change.
+pub fn enable_tier_leaves_prep()
+    ensures leaves { (s t : State) (driver : ℕ) (e : Event) (turn : Turn) →
+        IsTrue (is_enable_tier e) → next s driver e ≡ Some (t, turn) → prep t ≡ prep s }
+{}
+
+/// The enable tier never waits for a call in flight, and everything else does: an enable, a disable or
+/// the question whether a clock runs is defined wherever a credit is left; while a call is in flight,
+/// beside them only its own driver's steps are.
+pub fn enable_tier_never_waits()
+    ensures defined { (s : State) (driver : ℕ) (e : Event) →
+        IsTrue (is_enable_tier e) → s.spent < s.credits → IsSome (next s driver e) }
+    ensures others_wait { (s : State) (k : Change) (driver : ℕ) (e : Event) →
+        s.change ≡ Some k → IsSome (next s driver e) →
+        IsTrue (is_enable_tier e) ⊎ (IsTrue (is_step e) × (driver ≡ k.driver)) }
+{}
