@@ -48,7 +48,7 @@ is_set-follow_other regs true true gate word bit apart = refl
 -- ---- several gates
 
 -- a gate is at a bit, or it differs in the word or in the bit
-at_or_apart : (gate : GateBit) (word bit : ℕ) → ((gate.word ≡ word) × (gate.bit ≡ bit)) ⊎ ((word ≢ gate.word) ⊎ (bit ≢ gate.bit))
+pub at_or_apart : (gate : GateBit) (word bit : ℕ) → ((gate.word ≡ word) × (gate.bit ≡ bit)) ⊎ ((word ≢ gate.word) ⊎ (bit ≢ gate.bit))
 at_or_apart gate word bit =
     elim (nat_eq gate.word word) as (λ t. nat_eq gate.word word ≡ t → ((gate.word ≡ word) × (gate.bit ≡ bit)) ⊎ ((word ≢ gate.word) ⊎ (bit ≢ gate.bit))) [
       | false ↦ λ e. inr (inl (λ same. test_other gate.word word e (sym same)))

@@ -188,6 +188,14 @@ range_set s driver what number h least most =
 
 -- ---- parents
 
+-- the change that gives a clock another parent, with its rate over that parent
+abbrev pub reparenting : State → ℕ → Sleeping → ℕ → ℕ → Change
+reparenting s driver what c p =
+    let bare : List ChainStep = record { clock = c; rate = 0; parent = Some p } ∷ [] in
+    let ks : List ChainStep = record { clock = c; rate = rate_in (outcome bare (wiring s)) c; parent = Some p } ∷ [] in
+    let k = change_along s driver what ks (micro.Settle (clock_id c) ∷ []) None in
+    record k { extra = if list_any is_raise k.left then notices_of s k.changing else 0 }
+
 -- SetParent: nothing to do for the parent that the clock has; refused where the field is only read, where a prepared clock
 -- keeps its
 -- parent, where the clock is guarded in lifted, the state with one exclusive of the handle less, and where p is no candidate
@@ -201,13 +209,7 @@ parent_set s lifted driver what c p =
     (λ t. refused s errno.EBUSY)
     (λ t. pick (is_some (mux_field (kind_of s.defs c)) && is_in p (parents_of s.defs c) && rooted s.defs s.clocks p)
     (λ t. starts s s (reparenting s driver what c p))
-    (λ t. refused s errno.EINVAL)))) where
-      reparenting : State → ℕ → Sleeping → ℕ → ℕ → Change
-      reparenting s driver what c p =
-          let bare : List ChainStep = record { clock = c; rate = 0; parent = Some p } ∷ [] in
-          let ks : List ChainStep = record { clock = c; rate = rate_in (outcome bare (wiring s)) c; parent = Some p } ∷ [] in
-          let k = change_along s driver what ks (micro.Settle (clock_id c) ∷ []) None in
-          record k { extra = if list_any is_raise k.left then notices_of s k.changing else 0 }
+    (λ t. refused s errno.EINVAL))))
 
 -- ---- exclusives and notifiers
 

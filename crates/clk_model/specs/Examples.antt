@@ -23,3 +23,4 @@ pub mod Preps
 pub mod Descriptions
 pub mod Weights
 pub mod Defined
+pub mod Feeds

@@ -121,18 +121,20 @@ to_raise s k x = filter (λ y. not (is_in y k.raised)) (unprepared_plls s (path_
 abbrev pub most_polls : ℕ
 most_polls = 32
 
--- Raise: the highest such PLL is powered and then polled, and the raise comes again while another remains
+-- one PLL is powered and then polled, and the raise comes again while another remains
+abbrev pub raised_one : State → Change → ℕ → ℕ → State
+raised_one s k x y =
+    let more = nat_le 2 (length (to_raise s k x)) in
+    on (powered s y true) (record k {
+      raised = y ∷ k.raised;
+      polls = most_polls;
+      again = if more then k.again + 1 else 0;
+      front = micro.Poll (clock_id y) ∷ (if more then micro.Raise (clock_id x) ∷ [] else []) ++ k.front;
+    })
+
+-- Raise: the highest such PLL is raised
 abbrev pub raise : State → Change → ℕ → State
-raise s k x = option_map_or raised_one (slice_get (reverse (to_raise s k x)) 0) (on s (record k { again = 0 })) where
-  raised_one : ℕ → State
-  raised_one y =
-      let more = nat_le 2 (length (to_raise s k x)) in
-      on (powered s y true) (record k {
-        raised = y ∷ k.raised;
-        polls = most_polls;
-        again = if more then k.again + 1 else 0;
-        front = micro.Poll (clock_id y) ∷ (if more then micro.Raise (clock_id x) ∷ [] else []) ++ k.front;
-      })
+raise s k x = option_map_or (raised_one s k x) (slice_get (reverse (to_raise s k x)) 0) (on s (record k { again = 0 }))
 
 -- Poll: on a no it comes again, until it has asked often enough
 abbrev pub poll : State → Change → ℕ → Bool → State
@@ -149,16 +151,18 @@ fall s k y = on (powered s y false) (record k { raised = without_one y k.raised 
 abbrev pub to_lower : State → ℕ → List ℕ
 to_lower s x = filter (runs s.defs s.regs) (unprepared_plls s (path s.clocks x))
 
--- Lower: the lowest such PLL loses its power, and the lowering stays while another remains
+-- one PLL loses its power, and the lowering stays while another remains
+abbrev pub lowered_one : State → Change → ℕ → ℕ → State
+lowered_one s k x y =
+    let more = nat_le 2 (length (to_lower s x)) in
+    on (powered s y false) (record k {
+      again = if more then k.again + 1 else 0;
+      front = (if more then micro.Lower (clock_id x) ∷ [] else []) ++ k.front;
+    })
+
+-- Lower: the lowest such PLL is lowered
 abbrev pub lower : State → Change → ℕ → State
-lower s k x = option_map_or lowered_one (slice_get (to_lower s x) 0) (on s (record k { again = 0 })) where
-  lowered_one : ℕ → State
-  lowered_one y =
-      let more = nat_le 2 (length (to_lower s x)) in
-      on (powered s y false) (record k {
-        again = if more then k.again + 1 else 0;
-        front = (if more then micro.Lower (clock_id x) ∷ [] else []) ++ k.front;
-      })
+lower s k x = option_map_or (lowered_one s k x) (slice_get (to_lower s x) 0) (on s (record k { again = 0 }))
 
 -- ---- holds and links
 
@@ -276,14 +280,16 @@ end_of s k = (
 
 -- ---- each step
 
+-- whether a poll is answered by a yes
+abbrev pub is_yes : Option Bool → Bool
+is_yes None = false
+is_yes (Some b) = b
+
 -- what a step does, where k is the change without it, and whether the call goes on
 unfoldable pub stepped : State → Change → Option Bool → Micro → State × Turn
 stepped s k answer (micro.Notify kind c id old new) = (on s k, turn.Going)
 stepped s k answer (micro.Raise x) = (raise s k x.0, turn.Going)
-stepped s k answer (micro.Poll y) = (poll s k y.0 (is_yes answer), turn.Going) where
-  is_yes : Option Bool → Bool
-  is_yes None = false
-  is_yes (Some b) = b
+stepped s k answer (micro.Poll y) = (poll s k y.0 (is_yes answer), turn.Going)
 stepped s k answer (micro.Fall y) = (fall s k y.0, turn.Going)
 stepped s k answer (micro.HoldPrepare x) = (hold_prepare s k x.0, turn.Going)
 stepped s k answer (micro.HoldEnable x) = (hold_enable s k x.0, turn.Going)

@@ -4,6 +4,7 @@
 //! The definitions stand in `specs/`. Nothing here runs but the rows that a state is made of.
 #![tactic(auto)]
 
+pub mod laws;
 mod row;
 
 pub use row::{ClockRow, HandleRow};

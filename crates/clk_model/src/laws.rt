@@ -1,0 +1,6 @@
+//! Laws of the definitions: each is the contract of a function that does nothing.
+
+pub mod feeding;
+pub mod plans;
+pub mod walks;
+pub mod weight;
