@@ -26,7 +26,7 @@ use Rattle.clk_model.specs.Step.{sets_parent}
 use Rattle.clk_model.specs.Machine.{next}
 use Rattle.clk_model.specs.Weight.{front_weight, weight_left}
 use Rattle.clk_model.specs.Paced.{left_of, may_time_out, winds_down, tells, BeginsWith, CallsBeginPaced}
-use Rattle.clk_model.proofs.BeginLaws.{script_probe, script_sweep, Fresh, Begins, begins_done, begins_pick, begins_starts, begins_handle, fresh_change, fresh_along, fresh_reparenting}
+use Rattle.clk_model.proofs.FreshLaws.{script_probe, script_sweep, Fresh, Begins, begins_done, begins_pick, begins_starts, begins_handle, fresh_change, fresh_along, fresh_reparenting}
 
 begins_got : (s : State) (d : ℕ) (found : Option ℕ) → Begins (got s d found)
 begins_got s d None = begins_done s (reply.Refused errno.ENOENT)

@@ -17,7 +17,7 @@ use Rattle.clk_model.specs.Script.{plls}
 use Rattle.clk_model.specs.Step.{sets_parent, cut_short, on, powered, aborts_of, to_raise, most_polls, raised_one, raise, poll, to_lower, lowered_one, lower}
 use Rattle.clk_model.specs.Paced.{may_time_out, is_scripted, ends_last, StillToRaise, tells, polls, polls_to_raise, raises, lowers, IsPaced}
 use Rattle.clk_model.proofs.WeightLaws.{changed, aborts_notices}
-use Rattle.clk_model.proofs.StepLaws.{raise_again}
+use Rattle.clk_model.proofs.PacedStepLaws.{raise_again}
 use Rattle.clk_model.proofs.PowerLaws.{settled_raise, lowered_fewer}
 use Rattle.clk_model.proofs.PacedLaws.{falls_wind, notices_calm, falls_calm, CutsWell, cut_behind, cuts_well, cut_calm, after, HasExtra, tells_on, raised_on}
 

@@ -21,8 +21,8 @@ pub mod SupplyLaws
 pub mod StepCodes
 pub mod PllLaws
 pub mod WeightLaws
-pub mod StepLaws
-pub mod BeginLaws
+pub mod PacedStepLaws
+pub mod FreshLaws
 pub mod CallBeginLaws
 pub mod PowerLaws
 pub mod PacedLaws

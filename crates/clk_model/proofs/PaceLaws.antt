@@ -26,7 +26,7 @@ use Rattle.clk_model.proofs.Members.{both_left, both_right}
 use Rattle.clk_model.proofs.PllLaws.{to_raise_few, to_lower_few}
 use Rattle.clk_model.proofs.StepCodes.{same_steps}
 use Rattle.clk_model.proofs.WeightLaws.{changed, posts_notices}
-use Rattle.clk_model.proofs.StepLaws.{raise_again, step_defined}
+use Rattle.clk_model.proofs.PacedStepLaws.{raise_again, step_defined}
 use Rattle.clk_model.proofs.PacedLaws.{notices_wind, notices_calm, CutsWell, after, HasExtra}
 use Rattle.clk_model.proofs.KeepsPacedLaws.{well_of, raise_on, lower_on, poll_on}
 

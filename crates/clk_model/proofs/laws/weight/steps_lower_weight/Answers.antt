@@ -1,4 +1,4 @@
-use Rattle.clk_model.proofs.StepLaws.{steps_lower_weight}
+use Rattle.clk_model.proofs.PacedStepLaws.{steps_lower_weight}
 use Rattle.clk_model.proofs.laws.weight.steps_lower_weight.Goals as goal
 
 pub returns : goal.returns
