@@ -188,7 +188,7 @@ range_set s driver what number h least most =
 
 -- ---- parents
 
--- the change by which a clock gets another parent
+-- the change that gives a clock another parent, with its rate over that parent
 abbrev pub reparenting : State → ℕ → Sleeping → ℕ → ℕ → Change
 reparenting s driver what c p =
     let bare : List ChainStep = record { clock = c; rate = 0; parent = Some p } ∷ [] in

@@ -24,3 +24,4 @@ pub mod Preps
 pub mod Descriptions
 pub mod Weights
 pub mod Defined
+pub mod Feeds

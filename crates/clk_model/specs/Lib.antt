@@ -20,6 +20,10 @@ pub mod Journal
 pub mod Text
 pub mod Follows
 pub mod Ordered
+pub mod Plans
+pub mod Walks
+pub mod Supplied
+pub mod Paced
 pub mod Prep
 pub mod Tier
 pub mod Flight

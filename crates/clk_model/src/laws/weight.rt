@@ -1,0 +1,24 @@
+//! Laws of weight.
+
+ghost use Rattle.clk_model.specs.Paced.{CallsBeginPaced, EnableTierKeepsPaced, StepsKeepPaced, StepsLowerWeight};
+
+/// A call that goes on begins with a paced change, which weighs what its script weighs, with the notices that a timeout may
+/// bring, and for which there is room.
+pub fn calls_begin_paced()
+    ensures law { CallsBeginPaced }
+{}
+
+/// Each step of a paced change lowers the weight that is left, so that the change ends.
+pub fn steps_lower_weight()
+    ensures law { StepsLowerWeight }
+{}
+
+/// Each step of a paced change leaves it paced, where it goes on.
+pub fn steps_keep_paced()
+    ensures law { StepsKeepPaced }
+{}
+
+/// An event of the enable tier, at any moment of a change, leaves the change, paced as it was, and the weight that is left.
+pub fn enable_tier_keeps_paced()
+    ensures law { EnableTierKeepsPaced }
+{}
