@@ -1,8 +1,6 @@
 -- Each reply of an event has its cause.
-use Rattle.std.proofs.Common.{◌≡◌, ◌≢◌, ◌⊎◌, ℕ, zero, suc, ◌+◌, ◌<◌, ◌&&◌, ◌||◌, Bool, true, false, cond, List, [], Option, Some, None, refl, sym, ap, subst, ◌∙◌, inl, inr, arith, length, nat_eq, nat_lt}
+use Rattle.std.proofs.Common.{◌≡◌, ℕ, zero, suc, ◌+◌, ◌<◌, ◌&&◌, ◌||◌, Bool, true, false, cond, [], Option, Some, None, refl, sym, ap, subst, ◌∙◌, inl, inr, arith, nat_eq, nat_lt}
 use Rattle.std.proofs.lemmas.Bool.Decides.{nat_tests}
-use Rattle.std.specs.Option.{option_map}
-use Rattle.clk_base.specs.declared.call.Sleeping.{Sleeping}
 use Rattle.clk_base.specs.declared.call.Sleeping.TheVariants as call
 use Rattle.clk_base.specs.declared.clock.ClockId.{ClockId}
 use Rattle.clk_base.specs.declared.event.Event.{Event}
@@ -21,7 +19,7 @@ use Rattle.clk_model.specs.Rate.{rate}
 use Rattle.clk_model.specs.Holders.{active}
 use Rattle.clk_model.specs.Gates.{settled}
 use Rattle.clk_model.specs.Script.{unprepared_plls, adoptable}
-use Rattle.clk_model.specs.Begin.{refused, own_handle, given, register}
+use Rattle.clk_model.specs.Begin.{own_handle, register}
 use Rattle.clk_model.specs.Machine.{paid, next}
 use Rattle.clk_model.specs.Journal.{slotless}
 use Rattle.clk_model.specs.Causes.{Exactly, Lacks, Has, KeepsPrepare, EnableCauses, DisableCauses, RunningCauses, GetCauses, PrepareCauses, UnprepareCauses, GetRateCauses, ProbeCauses}

@@ -1,7 +1,6 @@
 -- When a state has all that its clocks need to be fed, and that the enable tier keeps it so: the laws of feeding.
 use Rattle.std.specs.Prelude.{◌≡◌, ◌⊎◌, ℕ, Bool, true, false, Option, Some, None, IfSome, length, slice_get}
 use Rattle.clk_base.specs.declared.event.Event.{Event}
-use Rattle.clk_base.specs.declared.event.Event.TheVariants as event
 use Rattle.clk_base.specs.declared.event.Turn.{Turn}
 use Rattle.clk_base.specs.Description.{Description, kind_of}
 use Rattle.clk_base.specs.Fields.{Field, GateBit, fields_of, gate_of, power_of}
