@@ -1,5 +1,5 @@
 -- Disabling a handle.
-use Rattle.std.proofs.Common.{◌≡◌, ℕ, zero, suc, ◌+◌, ◌-◌, ◌<◌, ◌≤◌, ◌||◌, Bool, true, false, List, [], ◌∷◌, Option, Some, None, refl, sym, ap, subst, ◌∙◌, arith, length, nat_lt}
+use Rattle.std.proofs.Common.{◌≡◌, ℕ, ◌+◌, ◌-◌, ◌<◌, ◌||◌, Bool, true, false, List, [], Option, Some, refl, sym, ap, subst, ◌∙◌, arith, length, nat_lt}
 use Rattle.std.specs.Prelude.{is_some, unwrap_or, reverse}
 use Rattle.std.proofs.lemmas.Bool.Decides.{nat_tests}
 use Rattle.clk_base.specs.declared.event.Event.TheVariants as event
@@ -11,17 +11,16 @@ use Rattle.reg_bank.specs.Registers.{AreWords}
 use Rattle.clk_model.specs.declared.row.ClockRow.{ClockRow}
 use Rattle.clk_model.specs.declared.row.HandleRow.{HandleRow}
 use Rattle.clk_model.specs.Lists.{is_in, count_from}
-use Rattle.clk_model.specs.State.{State, registered, handle_at}
+use Rattle.clk_model.specs.State.{State, registered}
 use Rattle.clk_model.specs.Tree.{path}
 use Rattle.clk_model.specs.Holders.{clocks_of, is_held, is_enabled, critical_clocks, active}
-use Rattle.clk_model.specs.Gates.{gates_moved, settled}
+use Rattle.clk_model.specs.Gates.{gates_moved}
 use Rattle.clk_model.specs.Begin.{put_handle, own_handle}
-use Rattle.clk_model.proofs.Members.{is_in-reverse}
 use Rattle.clk_model.proofs.GateLaws.{GatesLie, gates_moved-alike}
 use Rattle.clk_model.proofs.StateLaws.{settled-put_less, paid-left, active_by_handles}
 use Rattle.clk_model.proofs.EventLaws.{disable-fine, own_is_live}
-use Rattle.clk_machine.specs.Window.{Shown, AreTold}
-use Rattle.clk_machine.specs.Held.{Held, state_of, IsShaped, ClosesFor, Stays, Takes, IsSound}
+use Rattle.clk_machine.specs.Window.{Shown}
+use Rattle.clk_machine.specs.Held.{Held, state_of, IsShaped, ClosesFor, Takes, IsSound}
 use Rattle.clk_machine.proofs.Sound.{IsSound-put}
 use Rattle.clk_machine.proofs.Closing.{closed}
 use Rattle.clk_machine.proofs.Shapes.{no_critical, gates_lie}

@@ -1,6 +1,6 @@
 -- Enabling a handle.
-use Rattle.std.proofs.Common.{◌≡◌, ℕ, zero, suc, ◌+◌, ◌<◌, ◌≤◌, ◌||◌, Bool, true, false, List, [], ◌∷◌, Option, Some, None, refl, sym, ap, subst, ◌∙◌, ◌⊎◌, inl, inr, arith, length, set, nat_lt}
-use Rattle.std.specs.Prelude.{IfSome, is_some, slice_set, unwrap_or, sum_by}
+use Rattle.std.proofs.Common.{◌≡◌, ℕ, ◌+◌, ◌<◌, ◌≤◌, ◌||◌, Bool, true, false, List, [], Option, Some, None, refl, sym, ap, subst, ◌∙◌, inl, inr, arith, length, set, nat_lt}
+use Rattle.std.specs.Prelude.{IfSome, is_some, unwrap_or, sum_by}
 use Rattle.std.specs.Option.{option_map}
 use Rattle.std.proofs.lemmas.Bool.Decides.{nat_tests}
 use Rattle.std.proofs.lemmas.List.{length-set}
@@ -17,22 +17,20 @@ use Rattle.clk_model.specs.declared.row.ClockRow.{ClockRow}
 use Rattle.clk_model.specs.declared.row.HandleRow.{HandleRow}
 use Rattle.clk_model.specs.Lists.{is_in, present, count_from}
 use Rattle.clk_model.specs.State.{State, registered, link_in, handle_at}
-use Rattle.clk_model.specs.Tree.{path, path_within}
+use Rattle.clk_model.specs.Tree.{path}
 use Rattle.clk_model.specs.Holders.{clocks_of, is_held, is_enabled, active}
-use Rattle.clk_model.specs.Gates.{gates_moved, settled}
+use Rattle.clk_model.specs.Gates.{gates_moved}
 use Rattle.clk_model.specs.Begin.{put_handle, own_handle}
-use Rattle.clk_model.specs.Machine.{paid, next}
 use Rattle.clk_model.proofs.PathLaws.{path_all}
 use Rattle.clk_model.proofs.Members.{is_in-count_from}
 use Rattle.clk_model.proofs.GateLaws.{GatesLie, GatesLie-part, AreWords-gates_moved, length-gates_moved, gates_moved-before}
 use Rattle.clk_model.proofs.StateLaws.{settled-put_more, paid-left, active_by_handles}
 use Rattle.clk_model.proofs.EventLaws.{enable-fine, own_is_live}
-use Rattle.clk_machine.specs.Shape.{LinksLie}
 use Rattle.clk_machine.specs.Window.{Shown, AreTold}
-use Rattle.clk_machine.specs.Held.{Held, state_of, held_in_all, IsShaped, OpensFor, Stays, registers, Takes, IsSound}
+use Rattle.clk_machine.specs.Held.{Held, state_of, held_in_all, IsShaped, OpensFor, Takes, IsSound}
 use Rattle.clk_machine.proofs.Sound.{IsSound-put}
 use Rattle.clk_machine.proofs.Opening.{opened}
-use Rattle.clk_machine.proofs.Shapes.{registered-lt, links_lie, no_critical, gates_lie, handle-lt, handle_at-set, sum_by-set, count-le}
+use Rattle.clk_machine.proofs.Shapes.{registered-lt, no_critical, gates_lie, handle_at-set, sum_by-set, count-le}
 
 -- a handle with one enable more
 abbrev pub more_enabled : HandleRow → HandleRow

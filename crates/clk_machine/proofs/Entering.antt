@@ -1,15 +1,14 @@
 -- Entering an event that the machine has taken into the journal.
-use Rattle.std.proofs.Common.{◌≡◌, ℕ, zero, suc, ◌+◌, ◌<◌, ◌&&◌, ◌||◌, Bool, true, false, cond, List, [], ◌∷◌, ◌++◌, Option, Some, None, refl, sym, ap, subst, ◌∙◌, arith, length, take, nat_le, ◌≤◌}
+use Rattle.std.proofs.Common.{◌≡◌, ℕ, ◌+◌, ◌<◌, ◌&&◌, ◌||◌, Bool, true, false, cond, List, [], ◌∷◌, ◌++◌, Some, refl, sym, ap, subst, ◌∙◌, arith, length, take, nat_le, ◌≤◌}
 use Rattle.std.proofs.lemmas.Bool.Decides.{nat_tests}
 use Rattle.std.proofs.lemmas.List.{length-append, take-append-le, take_all}
 use Rattle.std.proofs.lemmas.List.Sums.{sum_by-append}
-use Rattle.std.specs.List.{list_any, list_all}
+use Rattle.std.specs.List.{list_all}
 use Rattle.clk_base.specs.declared.call.Sleeping.{Sleeping}
 use Rattle.clk_base.specs.declared.call.Sleeping.TheVariants as call
 use Rattle.std.proofs.lemmas.List.Folds.{list_any-append}
 use Rattle.clk_base.specs.declared.event.Entry.{Entry}
 use Rattle.clk_base.specs.declared.event.Event.{Event}
-use Rattle.clk_base.specs.declared.event.Event.TheVariants as event
 use Rattle.clk_base.specs.declared.event.Reply.{Reply}
 use Rattle.clk_base.specs.declared.event.Turn.{Turn}
 use Rattle.clk_base.specs.declared.event.Turn.TheVariants as turn
@@ -22,7 +21,7 @@ use Rattle.clk_machine.specs.Held.{Held, CanRun, IsSound, Stays, registers, Take
 use Rattle.clk_base.specs.Valid.{IsValid}
 use Rattle.clk_model.specs.Fed.{Fed}
 use Rattle.clk_machine.proofs.Sound.{Fed-sound, IsSound-opening}
-use Rattle.clk_machine.specs.Run.{Run, now_of, is_built, was_probed, Logged, start_of, IsRun, Appends}
+use Rattle.clk_machine.specs.Run.{is_built, was_probed, Logged, start_of, IsRun, Appends}
 
 -- a paid entry more costs one more
 cost-append : (journal : List Entry) (e : Entry) → is_paid e.event ≡ true → cost (journal ++ e ∷ []) ≡ cost journal + 1

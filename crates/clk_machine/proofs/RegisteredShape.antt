@@ -1,10 +1,9 @@
 -- The rows of a core after a registration.
-use Rattle.std.proofs.Common.{◌≡◌, ℕ, zero, suc, ◌+◌, ◌<◌, ◌≤◌, ◌&&◌, ◌||◌, Bool, true, false, not, cond, List, [], ◌∷◌, ◌++◌, Option, Some, None, refl, sym, ap, subst, ◌∙◌, ◌⊎◌, inl, inr, arith, length, set, nat_eq}
+use Rattle.std.proofs.Common.{◌≡◌, ℕ, ◌+◌, ◌<◌, ◌&&◌, ◌||◌, Bool, true, false, not, cond, List, [], ◌∷◌, ◌++◌, Option, Some, None, refl, sym, ap, subst, ◌∙◌, inl, inr, arith, length, nat_eq}
 use Rattle.std.specs.Prelude.{slice_get, slice_set, filter, is_some, is_none, sum_by, unwrap_or}
 use Rattle.std.specs.List.{list_all}
 use Rattle.std.specs.Option.{option_map, option_map_or}
 use Rattle.std.proofs.lemmas.List.{length-set, length-append}
-use Rattle.clk_base.specs.declared.clock.ClockId.{ClockId}
 use Rattle.clk_base.specs.declared.clock.Kind.{Kind}
 use Rattle.clk_base.specs.declared.clock.Kind.TheVariants.{FixedRate, Factor, Gate, Mux, Divider, Pll}
 use Rattle.clk_base.specs.Checked.{Checked}
@@ -19,16 +18,16 @@ use Rattle.clk_model.specs.declared.row.HandleRow.{HandleRow}
 use Rattle.clk_model.specs.Lists.{is_in, without, to_front, present}
 use Rattle.clk_model.specs.Kinds.{is_fixed}
 use Rattle.clk_model.specs.State.{State, row_of, registered, link_in, handle_at}
-use Rattle.clk_model.specs.Tree.{is_orphan, orphans, link_given}
-use Rattle.clk_model.specs.Holders.{is_enabled, active}
+use Rattle.clk_model.specs.Tree.{is_orphan, link_given}
+use Rattle.clk_model.specs.Holders.{is_enabled}
 use Rattle.clk_model.specs.Chain.{clock_id}
 use Rattle.clk_model.specs.Script.{adoptable}
-use Rattle.clk_model.specs.Begin.{registered_row, registered_rows, register}
+use Rattle.clk_model.specs.Begin.{registered_rows, register}
 use Rattle.clk_model.proofs.Members.{is_in_cases, is_in_head, is_in_tail, same_from_test, test_other, test_same}
 use Rattle.clk_model.proofs.StateLaws.{row_of-set_same, row_of-set_other, active_by_handles, held_by-set_unregistered}
 use Rattle.clk_machine.specs.Window.{Shown}
 use Rattle.clk_machine.specs.Held.{state_of, held_in_all, CanRun, IsShaped, AreLinks, RegistersAtOnce}
-use Rattle.clk_machine.proofs.Shapes.{plain_everywhere, not_critical, no_critical, registered-lt, handle_at-append, sum_by-append}
+use Rattle.clk_machine.proofs.Shapes.{plain_everywhere, not_critical, no_critical, handle_at-append, sum_by-append}
 use Rattle.clk_machine.proofs.Registering.{link_given-first}
 
 -- ---- rows

@@ -1,15 +1,12 @@
 -- Registering a clock whose possible parents are registered.
-use Rattle.std.proofs.Common.{◌≡◌, ℕ, zero, suc, ◌+◌, ◌<◌, ◌≤◌, ◌&&◌, ◌||◌, Bool, true, false, not, cond, List, [], ◌∷◌, ◌++◌, Option, Some, None, refl, sym, ap, subst, ◌∙◌, ◌⊎◌, inl, inr, arith, length, set, nat_eq, nat_lt}
-use Rattle.std.specs.Prelude.{IfSome, slice_get, slice_set, filter, is_some, is_none}
+use Rattle.std.proofs.Common.{◌≡◌, ℕ, zero, suc, ◌<◌, ◌&&◌, Bool, true, false, cond, List, [], ◌∷◌, Option, Some, None, refl, sym, ap, ◌∙◌, arith, length, nat_eq}
+use Rattle.std.specs.Prelude.{IfSome, slice_get, slice_set}
 use Rattle.std.specs.List.{list_all}
 use Rattle.std.specs.Option.{option_map, option_map_or, option_and_then}
 use Rattle.clk_base.specs.Fields.{Field}
-use Rattle.std.proofs.lemmas.Bool.Decides.{nat_tests}
-use Rattle.std.proofs.lemmas.List.{length-set}
 use Rattle.clk_base.specs.declared.clock.ClockId.{ClockId}
 use Rattle.clk_base.specs.declared.clock.Kind.{Kind}
 use Rattle.clk_base.specs.declared.clock.Kind.TheVariants.{FixedRate, Factor, Gate, Mux, Divider, Pll}
-use Rattle.clk_base.specs.Checked.{Checked}
 use Rattle.clk_base.specs.Places.{places}
 use Rattle.clk_base.specs.Description.{Description, kind_of, parents_of}
 use Rattle.clk_base.specs.Levels.{depth}
@@ -18,20 +15,17 @@ use Rattle.clk_base.specs.Valid.{IsValid}
 use Rattle.clk_base.proofs.Valid.{parent-at}
 use Rattle.reg_bank.specs.Registers.{Registers, field}
 use Rattle.clk_model.specs.declared.row.ClockRow.{ClockRow}
-use Rattle.clk_model.specs.declared.row.HandleRow.{HandleRow}
-use Rattle.clk_model.specs.Lists.{is_in, without, to_front}
-use Rattle.clk_model.specs.Kinds.{is_fixed, mux_field}
-use Rattle.clk_model.specs.State.{State, row_of, registered, link_in, handle_at}
-use Rattle.clk_model.specs.Tree.{selected, if_registered, link_given, is_orphan, orphans}
+use Rattle.clk_model.specs.Kinds.{mux_field}
+use Rattle.clk_model.specs.State.{registered, link_in}
+use Rattle.clk_model.specs.Tree.{if_registered, link_given}
 use Rattle.clk_model.specs.Rate.{rate, rate_within}
 use Rattle.clk_model.specs.Chain.{clock_id}
-use Rattle.clk_model.specs.Script.{adoptable}
-use Rattle.clk_model.specs.Begin.{registered_row, registered_rows, register}
+use Rattle.clk_model.specs.Begin.{registered_row, registered_rows}
 use Rattle.clk_model.proofs.Members.{same_from_test, test_other}
 use Rattle.clk_model.proofs.StateLaws.{row_of-set_same, row_of-set_other}
 use Rattle.clk_machine.specs.Shape.{LinksLie}
 use Rattle.clk_machine.specs.Held.{CanRun}
-use Rattle.clk_machine.proofs.Shapes.{plain_everywhere, registered-lt}
+use Rattle.clk_machine.proofs.Shapes.{plain_everywhere}
 
 -- ---- the link
 

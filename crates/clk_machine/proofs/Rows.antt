@@ -1,8 +1,7 @@
 -- The counts of a clock by what a core holds.
-use Rattle.std.proofs.Common.{◌≡◌, ℕ, ◌+◌, ◌<◌, ◌≤◌, ◌&&◌, Bool, true, false, not, List, [], Option, Some, None, refl, sym, ap, ◌∙◌, arith, length, nat_eq}
+use Rattle.std.proofs.Common.{◌≡◌, ℕ, ◌+◌, ◌<◌, ◌≤◌, ◌&&◌, Bool, true, false, not, List, [], Option, Some, None, refl, arith, length, nat_eq}
 use Rattle.std.specs.Prelude.{IfSome, is_some, unwrap_or, filter, sum_by, count_by}
 use Rattle.clk_base.specs.Checked.{Checked}
-use Rattle.clk_base.specs.Description.{Description}
 use Rattle.clk_base.specs.Flags.{sets_rate_gate}
 use Rattle.clk_model.specs.declared.row.ClockRow.{ClockRow}
 use Rattle.clk_model.specs.declared.row.HandleRow.{HandleRow}
@@ -16,7 +15,7 @@ use Rattle.clk_machine.specs.declared.counts.Hold.{Hold}
 use Rattle.clk_machine.specs.declared.counts.Hold.TheVariants.{Prepare, Enable}
 use Rattle.clk_machine.specs.Window.{Shown}
 use Rattle.clk_machine.specs.Hold.{held, has, count_of}
-use Rattle.clk_machine.specs.Held.{state_of, held_in_all, CanRun, IsShaped}
+use Rattle.clk_machine.specs.Held.{state_of, held_in_all, IsShaped}
 use Rattle.clk_machine.proofs.Shapes.{no_critical, not_critical}
 
 -- the holds of a clock's handles

@@ -1,23 +1,22 @@
 -- What the rows of a core say of each clock and each handle.
-use Rattle.std.proofs.Common.{◌≡◌, ℕ, zero, suc, ◌+◌, ◌<◌, ◌≤◌, ◌&&◌, ◌||◌, Bool, true, false, not, cond, List, [], ◌∷◌, ◌++◌, Option, Some, None, refl, sym, ap, subst, ◌∙◌, ◌⊎◌, inl, inr, arith, length, set, get_or, nat_eq, nat_lt}
+use Rattle.std.proofs.Common.{◌≡◌, ℕ, zero, suc, ◌+◌, ◌<◌, ◌≤◌, ◌&&◌, Bool, true, false, not, cond, List, [], ◌∷◌, ◌++◌, Option, Some, None, refl, ap, ◌∙◌, ◌⊎◌, inl, inr, arith, length, set, nat_lt}
 use Rattle.std.proofs.lemmas.List.Sums.{sum_by-cons}
-use Rattle.std.specs.Prelude.{sum_by, slice_get, filter, IfSome}
+use Rattle.std.specs.Prelude.{sum_by}
 use Rattle.std.proofs.lemmas.Bool.Decides.{nat_tests}
 use Rattle.std.proofs.lemmas.List.{get_or_past}
 use Rattle.clk_base.specs.declared.clock.Kind.{Kind}
 use Rattle.clk_base.specs.declared.clock.Kind.TheVariants.{FixedRate, Factor, Gate, Mux, Divider, Pll}
 use Rattle.clk_base.specs.Checked.{Checked}
-use Rattle.clk_base.specs.Description.{Description, nobody, def_of, kind_of, parents_of}
-use Rattle.clk_base.specs.Flags.{is_critical, sets_rate_gate}
-use Rattle.clk_base.specs.Fields.{GateBit, gate_of}
-use Rattle.clk_base.specs.Plain.{is_plain_kind, is_plain, IsPlain}
+use Rattle.clk_base.specs.Description.{Description, nobody, kind_of}
+use Rattle.clk_base.specs.Flags.{is_critical}
+use Rattle.clk_base.specs.Plain.{is_plain_kind, IsPlain}
 use Rattle.clk_base.specs.Valid.{IsValid}
 use Rattle.clk_base.proofs.Valid.{gate-within, gates-once}
 use Rattle.clk_model.specs.declared.row.ClockRow.{ClockRow}
 use Rattle.clk_model.specs.declared.row.HandleRow.{HandleRow}
 use Rattle.clk_model.specs.Lists.{is_in, present, count_from}
 use Rattle.clk_model.specs.Kinds.{is_pll}
-use Rattle.clk_model.specs.State.{State, registered, link_in, handle_at}
+use Rattle.clk_model.specs.State.{State, registered, handle_at}
 use Rattle.clk_model.specs.Holders.{critical_clocks, prepared}
 use Rattle.clk_model.specs.Script.{unprepared_plls}
 use Rattle.clk_model.proofs.Members.{count_from-below}
@@ -25,7 +24,7 @@ use Rattle.clk_model.proofs.StateLaws.{critical_clocks-none}
 use Rattle.clk_model.proofs.GateLaws.{GatesLie}
 use Rattle.clk_machine.specs.Shape.{LinksLie}
 use Rattle.clk_machine.specs.Window.{Shown}
-use Rattle.clk_machine.specs.Held.{can_run, CanRun, IsShaped}
+use Rattle.clk_machine.specs.Held.{CanRun, IsShaped}
 
 -- ---- clocks
 

@@ -1,5 +1,5 @@
 -- What every state of a core keeps, and that its active clocks are fed.
-use Rattle.std.proofs.Common.{◌≡◌, ℕ, ◌+◌, ◌<◌, ◌≤◌, ◌||◌, Bool, true, false, List, [], ◌∷◌, ◌++◌, Option, Some, None, refl, sym, ap, subst, ◌∙◌, arith, length, take, replicate, nat_lt}
+use Rattle.std.proofs.Common.{◌≡◌, ℕ, ◌<◌, ◌≤◌, Bool, true, false, List, Option, Some, None, refl, sym, ap, subst, ◌∙◌, arith, length, nat_lt}
 use Rattle.std.specs.Prelude.{IfSome, IsSome}
 use Rattle.std.specs.Option.{option_map_or, option_and_then}
 use Rattle.std.proofs.lemmas.Bool.Decides.{nat_tests}
@@ -11,15 +11,14 @@ use Rattle.clk_base.specs.Fields.{Field, GateBit, PowerBit, gate_of, power_of}
 use Rattle.clk_base.specs.Plain.{is_plain_kind}
 use Rattle.clk_base.specs.Valid.{IsValid}
 use Rattle.clk_base.proofs.Valid.{lines_end}
-use Rattle.clk_model.specs.declared.row.ClockRow.{ClockRow}
 use Rattle.clk_model.specs.declared.row.HandleRow.{HandleRow}
 use Rattle.clk_model.specs.Lists.{is_in, count_from}
 use Rattle.clk_model.specs.Kinds.{mux_field, is_open, is_powered}
-use Rattle.clk_model.specs.State.{State, unregistered_row, link_in}
+use Rattle.clk_model.specs.State.{State, link_in}
 use Rattle.clk_model.specs.Tree.{selected}
 use Rattle.clk_model.specs.Holders.{enable_holders, active}
-use Rattle.clk_model.specs.Gates.{gates_moved, settled}
-use Rattle.clk_model.specs.Fed.{feeds, IsFed, Fed}
+use Rattle.clk_model.specs.Gates.{settled}
+use Rattle.clk_model.specs.Fed.{feeds, Fed}
 use Rattle.clk_model.specs.Begin.{put_handle}
 use Rattle.clk_model.specs.Journal.{opening}
 use Rattle.clk_model.proofs.Members.{is_in-count_from}

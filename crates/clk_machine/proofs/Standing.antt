@@ -1,6 +1,5 @@
 -- What stays true in a legal journal of calls that can be made so far: its active clocks are fed after each entry.
-use Rattle.std.proofs.Common.{◌≡◌, ℕ, zero, suc, ◌+◌, ◌-◌, ◌<◌, ◌≤◌, ◌&&◌, ◌||◌, Bool, true, false, cond, List, [], ◌∷◌, Option, Some, None, refl, sym, ap, subst, ◌∙◌, arith, length, take, nat_eq, nat_lt}
-use Rattle.std.specs.Prelude.{replicate}
+use Rattle.std.proofs.Common.{◌≡◌, ℕ, zero, suc, ◌+◌, ◌-◌, ◌<◌, ◌≤◌, ◌&&◌, Bool, true, false, cond, List, [], ◌∷◌, Option, Some, None, refl, sym, ap, subst, ◌∙◌, arith, length, take, nat_lt}
 use Rattle.std.specs.Option.{option_map_or}
 use Rattle.std.proofs.lemmas.Bool.Decides.{nat_tests}
 use Rattle.clk_base.specs.Checked.{Checked}
@@ -8,12 +7,10 @@ use Rattle.clk_base.specs.Description.{Description}
 use Rattle.clk_base.specs.Valid.{IsValid}
 use Rattle.clk_base.specs.declared.call.Sleeping.{Sleeping}
 use Rattle.clk_base.specs.declared.call.Sleeping.TheVariants as call
-use Rattle.clk_base.specs.declared.clock.ClockId.{ClockId}
 use Rattle.clk_base.specs.declared.event.Entry.{Entry}
 use Rattle.clk_base.specs.declared.event.Event.{Event}
 use Rattle.clk_base.specs.declared.event.Event.TheVariants as event
 use Rattle.clk_base.specs.declared.event.Turn.{Turn}
-use Rattle.clk_model.specs.declared.row.ClockRow.{ClockRow}
 use Rattle.clk_model.specs.declared.row.HandleRow.{HandleRow}
 use Rattle.clk_model.specs.State.{State, NotifierRow, Change, is_quiet, registered, handle_at}
 use Rattle.clk_model.specs.Tree.{rooted, path}
@@ -25,7 +22,7 @@ use Rattle.clk_model.specs.Journal.{replay, Legal, opening, slotless}
 use Rattle.clk_model.specs.Machine.{paid, next}
 use Rattle.clk_model.proofs.StateLaws.{settled-still, active-append}
 use Rattle.clk_model.proofs.EventLaws.{own_is_live, keeps_prepare, enable-unknown, enable-unprepared, enable-fine, disable-unknown, disable-warned, disable-fine, running-unknown, running-told, get-not_found, get-deferred, get-given, prepare-unknown, prepare-fine, unprepare-unknown, unprepare-warned, unprepare-fine, rate-unknown, rate-told, probe-twice, probe-fine, prepared_once_less}
-use Rattle.clk_machine.specs.Held.{CanRun, CanBegin, IsPlaced, IsShaped, IsSound, RegistersAtOnce, state_of, held_in_all}
+use Rattle.clk_machine.specs.Held.{CanRun, IsShaped, IsSound, RegistersAtOnce, state_of, held_in_all}
 use Rattle.clk_machine.specs.Taken.{CanTake, CanTakeAll}
 use Rattle.clk_machine.specs.Window.{Shown}
 use Rattle.clk_machine.proofs.Enabling.{shaped-put}

@@ -1,5 +1,5 @@
 -- Taking an event: what is left to show where no gate moves.
-use Rattle.std.proofs.Common.{◌≡◌, ℕ, ◌+◌, ◌<◌, ◌||◌, Bool, true, false, Option, Some, None, refl, sym, ap, ◌∙◌, nat_eq}
+use Rattle.std.proofs.Common.{◌≡◌, ℕ, ◌+◌, ◌<◌, ◌||◌, Bool, true, false, Some, refl, sym, ap, ◌∙◌, nat_eq}
 use Rattle.clk_model.proofs.Members.{same_from_test}
 use Rattle.clk_base.specs.declared.event.Errno.{Errno}
 use Rattle.clk_base.specs.declared.clock.ClockId.{ClockId}

@@ -1,11 +1,9 @@
 -- Laws on the first words of a bank.
-use Rattle.std.proofs.Common.{◌≡◌, ℕ, zero, suc, ◌+◌, ◌<◌, ◌≤◌, ◌^◌, Bool, List, [], ◌∷◌, Option, Some, None, refl, sym, ap, ◌∙◌, arith, length, take, set, get_or, inl, inr}
-use Rattle.std.specs.Prelude.{IfSome, slice_index, slice_set, ◌==◌, if◌then◌else◌}
+use Rattle.std.proofs.Common.{◌≡◌, ℕ, zero, suc, ◌<◌, Bool, List, [], ◌∷◌, Option, Some, None, refl, sym, ap, ◌∙◌, take, set}
+use Rattle.std.specs.Prelude.{IfSome, ◌==◌, if◌then◌else◌}
 use Rattle.std.specs.Option.{option_map}
-use Rattle.std.specs.List.{All}
-use Rattle.std.proofs.lemmas.Bool.{cases_lt}
-use Rattle.std.proofs.lemmas.List.{get_or-take, length-take, set_past}
-use Rattle.reg_bank.specs.Registers.{Registers, AreWords, bits_of, with_bits, field, put, is_set, put_bit}
+use Rattle.std.proofs.lemmas.List.{get_or-take}
+use Rattle.reg_bank.specs.Registers.{Registers, bits_of, with_bits, field, put, is_set, put_bit}
 use Rattle.reg_bank.proofs.BitLaws.{length-put_bit, AreWords-put_bit}
 use Rattle.clk_machine.specs.Window.{AreTold}
 

@@ -1,5 +1,5 @@
 -- What a core holds of the machine, and what its rows keep.
-use Rattle.std.specs.Prelude.{◌≡◌, ℕ, ◌+◌, ◌<◌, ◌≤◌, ◌&&◌, ◌||◌, ◌==◌, List, [], ◌∷◌, Bool, true, false, not, Option, Some, None, length, reverse, sum_by, is_some, unwrap_or, map}
+use Rattle.std.specs.Prelude.{◌≡◌, ℕ, ◌+◌, ◌<◌, ◌≤◌, ◌&&◌, ◌||◌, ◌==◌, List, [], Bool, true, false, not, Option, Some, None, length, sum_by, is_some, unwrap_or}
 use Rattle.std.specs.List.{list_all}
 use Rattle.clk_base.specs.Description.{Description, kind_of, parents_of, EachClock}
 use Rattle.clk_base.specs.Flags.{is_critical, sets_rate_gate}
@@ -26,7 +26,6 @@ use Rattle.clk_model.specs.Begin.{put_handle, register}
 use Rattle.clk_model.specs.Script.{adoptable}
 use Rattle.clk_model.specs.Machine.{next}
 use Rattle.clk_model.specs.Journal.{slotless}
-use Rattle.clk_machine.specs.Shape.{LinksLie}
 use Rattle.clk_machine.specs.Window.{Shown, AreTold}
 
 -- the state that the rows of a core stand for, whether the bank tells its words, and how many of them

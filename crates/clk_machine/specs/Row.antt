@@ -1,5 +1,5 @@
 -- What a row says of a clock.
-use Rattle.std.specs.Prelude.{◌≡◌, ℕ, Bool, true, false, Option, Some, None}
+use Rattle.std.specs.Prelude.{◌≡◌, ℕ, true, false, Option, Some, None}
 use Rattle.std.specs.Option.{option_map}
 use Rattle.clk_base.specs.Description.{kind_of}
 use Rattle.clk_base.specs.Fields.{gate_of}

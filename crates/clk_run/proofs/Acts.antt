@@ -1,7 +1,7 @@
 -- The commands that lines spell can all be run.
-use Rattle.std.proofs.Common.{◌≡◌, ℕ, zero, suc, ◌+◌, ◌-◌, ◌&&◌, Bool, true, false, cond, List, [], ◌∷◌, Option, Some, None, refl, sym, ap, subst, length, nat_lt}
+use Rattle.std.proofs.Common.{◌≡◌, ℕ, zero, suc, ◌+◌, ◌-◌, ◌&&◌, Bool, true, false, cond, List, [], ◌∷◌, Option, Some, None, refl, length, nat_lt}
 use Rattle.std.specs.Prelude.{IfSome, codes}
-use Rattle.std.specs.List.{AllByRecursion, list_all}
+use Rattle.std.specs.List.{AllByRecursion}
 use Rattle.std.specs.Option.{option_map, option_to_list}
 use Rattle.std.specs.Str.{bytes_eq}
 use Rattle.clk_base.specs.declared.command.Act.{Act}
@@ -11,12 +11,10 @@ use Rattle.bundle_text.specs.Firsts.{onto, said_from}
 use Rattle.bundle_text.specs.Lines.{line_at}
 use Rattle.bundle_text.specs.Names.{is_variable}
 use Rattle.bundle_text.specs.Words.{spaced_words, is_word}
-use Rattle.drv_scripts.specs.declared.bundle.Bundle.{Bundle}
 use Rattle.drv_scripts.specs.declared.bundle.Script.{Script}
-use Rattle.drv_scripts.specs.CommandLines.{CommandLine, act_of, command_line, act_in, command_in, driver_line}
-use Rattle.drv_scripts.specs.Form.{clocks_end, words_end, clocks_before, variables_before, command_at}
+use Rattle.drv_scripts.specs.CommandLines.{act_of, command_line, act_in, command_in, driver_line}
+use Rattle.drv_scripts.specs.Form.{clocks_end, words_end, clocks_before, command_at}
 use Rattle.drv_scripts.specs.Spelled.{commands_from, script_at, scripts_of, bundle_of}
-use Rattle.drv_scripts.specs.Verdict.{Accepts}
 use Rattle.clk_run.specs.Scripts.{is_built_act}
 use Rattle.clk_run.specs.Runs.{are_built}
 use Rattle.clk_run.proofs.Going.{both}

@@ -1,10 +1,9 @@
 -- The bytes alone decide the status, where memory suffices and no fault comes.
-use Rattle.std.proofs.Common.{◌≡◌, ℕ, ◌+◌, ◌<◌, ◌≤◌, List, [], ◌++◌, Option, Some, None, refl, sym, ap, subst, ◌∙◌, arith, length, inl, inr}
-use Rattle.std.specs.Prelude.{◌⊎◌}
+use Rattle.std.proofs.Common.{◌≡◌, ℕ, ◌+◌, ◌≤◌, List, ◌++◌, Option, Some, None, refl, sym, ap, subst, ◌∙◌, arith, length, inl, inr}
 use Rattle.std.specs.Io.KnownBytes.{Consumes}
 use Rattle.std.proofs.lemmas.List.{append-nil, length-append}
 use Rattle.clk_io.specs.Causes.{Rose, IsCaused}
-use Rattle.clk_io.specs.Streams.{TakesAll, TakesMore}
+use Rattle.clk_io.specs.Streams.{TakesAll}
 use Rattle.clk_io.specs.declared.faults.PrintFault.{PrintFault}
 use Rattle.clk_io.specs.declared.faults.PrintFault.TheVariants as print_fault
 use Rattle.drv_scripts.specs.declared.bundle.Bundle.{Bundle}

@@ -15,9 +15,7 @@ use Rattle.clk_base.specs.declared.event.Entry.{Entry}
 use Rattle.clk_base.specs.declared.event.Event.{Event}
 use Rattle.clk_base.specs.declared.event.Event.TheVariants as event
 use Rattle.clk_base.specs.declared.event.Reply.{Reply}
-use Rattle.clk_base.specs.declared.event.Turn.{Turn}
 use Rattle.clk_base.specs.declared.event.Turn.TheVariants as turn
-use Rattle.clk_base.specs.declared.handle.Handle.{Handle}
 use Rattle.clk_model.specs.Journal.{Answered, is_paid, call_at, answer_at, calls_from, cost, Legal}
 use Rattle.std.specs.List.{range_with_len}
 use Rattle.std.specs.Option.{option_map_or}
@@ -30,7 +28,7 @@ use Rattle.clk_machine.specs.Run.{Run, was_probed, Appends}
 use Rattle.clk_base.specs.Description.{Description, parents_of}
 use Rattle.clk_base.specs.Plain.{IsPlain}
 use Rattle.drv_scripts.specs.Placed.{NamesPlace}
-use Rattle.clk_run.specs.Scripts.{is_built_act, is_answer, is_answered, AreProbes, CanCall, MakesCall, GoesThrough}
+use Rattle.clk_run.specs.Scripts.{is_built_act, is_answered, AreProbes, CanCall, GoesThrough}
 
 -- ---- calls of entries
 

@@ -1,20 +1,16 @@
 -- A bundle that was read is ready to be run.
-use Rattle.std.proofs.Common.{◌≡◌, ℕ, zero, suc, ◌+◌, ◌-◌, ◌<◌, ◌≤◌, Bool, true, false, List, [], ◌∷◌, Option, Some, None, refl, sym, ap, subst, ◌∙◌, arith, length, sum_by, nat_lt, cond, take, drop}
-use Rattle.std.proofs.lemmas.List.{length-map, take_all, length-drop}
+use Rattle.std.proofs.Common.{◌≡◌, ℕ, suc, ◌-◌, ◌≤◌, Bool, true, false, List, [], ◌∷◌, Option, Some, None, refl, sym, ap, subst, ◌∙◌, arith, length, sum_by, nat_lt, cond, take, drop}
+use Rattle.std.proofs.lemmas.List.{take_all}
 use Rattle.std.specs.List.{AllByRecursion}
 use Rattle.std.specs.Option.{option_to_list}
 use Rattle.std.specs.Str.Lines.{lines}
 use Rattle.clk_base.specs.declared.command.Command.{Command}
-use Rattle.clk_base.specs.Description.{Description}
-use Rattle.clk_base.specs.Plain.{IsPlain}
 use Rattle.clk_base.proofs.Valid.{length-valid}
-use Rattle.clk_machine.specs.Held.{CanRun}
 use Rattle.drv_scripts.specs.declared.bundle.Bundle.{Bundle}
 use Rattle.drv_scripts.specs.declared.bundle.Script.{Script}
 use Rattle.drv_scripts.specs.Form.{words_end}
-use Rattle.drv_scripts.specs.Gathered.{HasNoFlags}
 use Rattle.drv_scripts.specs.Placed.{IsSound, IsScript}
-use Rattle.drv_scripts.specs.Spelled.{boot_of, commands_from, script_at, scripts_of, bundle_of}
+use Rattle.drv_scripts.specs.Spelled.{boot_of, script_at, scripts_of, bundle_of}
 use Rattle.drv_scripts.specs.Verdict.{Accepts}
 use Rattle.clk_run.specs.Runs.{are_built, credits_of, IsReady}
 use Rattle.clk_run.proofs.Acts.{spelled_built}

@@ -1,5 +1,5 @@
 -- How a refused bundle is told.
-use Rattle.std.specs.Prelude.{ℕ, List, [], ◌∷◌, ◌++◌, codes}
+use Rattle.std.specs.Prelude.{ℕ, List, ◌++◌, codes}
 use Rattle.std.specs.Fmt.{decimal}
 use Rattle.drv_scripts.specs.declared.reason.Reason.{Reason}
 use Rattle.drv_scripts.specs.declared.reason.Reason.TheVariants as reason

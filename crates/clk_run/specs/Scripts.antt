@@ -1,5 +1,5 @@
 -- What a core has gone through when it has run the commands of a driver.
-use Rattle.std.specs.Prelude.{◌≡◌, ℕ, ◌+◌, ◌<◌, ◌≤◌, ◌==◌, ◌&&◌, List, [], ◌∷◌, ◌++◌, Bool, true, false, Option, Some, None, length}
+use Rattle.std.specs.Prelude.{◌≡◌, ℕ, ◌+◌, ◌≤◌, ◌==◌, ◌&&◌, List, [], ◌∷◌, ◌++◌, Bool, true, false, Option, Some, None, length}
 use Rattle.std.specs.List.{list_all}
 use Rattle.clk_base.specs.Description.{parents_of}
 use Rattle.clk_base.specs.declared.command.Act.{Act}

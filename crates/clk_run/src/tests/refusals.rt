@@ -30,7 +30,14 @@ fn the_first_line_states_the_version(rt: HostRuntime) -> Result<(), Fail> {
     assert!(rt; refused(&rt, b"%bundle\t1\n%clocks\n", 1, "BadVersion")?);
     assert!(rt; refused(&rt, b"%bundle 2\n%clocks\n", 1, "BadVersion")?);
     assert!(rt; refused(&rt, b"%bundle 1\r", 1, "BadVersion")?);
-    assert!(rt; refused(&rt, b"%bundle 1\r%clocks\rfixed f 5\r%regs 1\r", 1, "BadVersion")?);
+    assert!(rt;
+        refused(
+            &rt,
+            b"%bundle 1\r%clocks\rfixed f 5\r%regs 1\r",
+            1,
+            "BadVersion"
+        )?
+    );
     assert!(rt; refused(&rt, b"%bundle \xff1\n%clocks\n", 1, "BadVersion")?);
     assert!(rt; refused(&rt, b"\xef\xbb\xbf%bundle 1\n%clocks\n", 1, "BadVersion")?);
     Ok(())
@@ -109,7 +116,10 @@ fn each_header_has_its_form_and_place(rt: HostRuntime) -> Result<(), Fail> {
         ("%bundle 1\n%clocks\nfixed f 5\n%regs 1\n%driver\n", 5),
         ("%bundle 1\n%clocks\nfixed f 5\n%regs 1\n%driver boot\n", 5),
         ("%bundle 1\n%clocks\nfixed f 5\n%regs 1\n%driver a/b\n", 5),
-        ("%bundle 1\n%clocks\nfixed f 5\n%regs 1\n%driver A /serial@400\n", 5),
+        (
+            "%bundle 1\n%clocks\nfixed f 5\n%regs 1\n%driver A /serial@400\n",
+            5,
+        ),
     ] {
         assert!(rt; refused(&rt, text.as_bytes(), line, "NotYet")?);
     }

@@ -1,8 +1,7 @@
-use Rattle.std.proofs.Common.{◌≡◌, ◌∙◌, ◌<◌, ◌-◌, true, false, sym, subst, ap, arith, Option, None, List, ℕ, [], ◌∷◌}
+use Rattle.std.proofs.Common.{◌≡◌, ◌∙◌, ◌<◌, sym, subst, ap, arith, Option, None, ℕ, [], ◌∷◌}
 use Rattle.std.specs.Prelude.{IfSome}
 use Rattle.clk_base.specs.declared.clock.Kind.{Kind}
 use Rattle.clk_base.specs.declared.clock.ClockDef.{ClockDef}
-use Rattle.clk_base.specs.declared.clock.ClockId.{ClockId}
 use Rattle.clk_base.specs.Fields.{gate_of}
 use Rattle.clk_model.specs.State.{link_in}
 use Rattle.clk_model.specs.Holders.{clocks_of, is_held, is_enabled}

@@ -1,4 +1,4 @@
-use Rattle.std.proofs.Common.{◌≡◌, ◌<◌, ◌∙◌, ap, true, List, arith}
+use Rattle.std.proofs.Common.{◌∙◌, ap, true, List, arith}
 use Rattle.clk_model.specs.declared.row.ClockRow.{ClockRow}
 use Rattle.clk_model.specs.Rate.{rate_within}
 use Rattle.clk_machine.proofs.Registering.{links-set, rows_registered}

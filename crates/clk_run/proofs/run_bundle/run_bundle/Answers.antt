@@ -1,4 +1,4 @@
-use Rattle.std.proofs.Common.{◌≡◌, ℕ, ◌+◌, ◌≤◌, ap, subst, sym, ◌∙◌, arith, length, List, map}
+use Rattle.std.proofs.Common.{◌≡◌, ℕ, ◌≤◌, ap, subst, sym, ◌∙◌, arith, length, List}
 use Rattle.std.specs.Prelude.{is_some, Bool, refl}
 use Rattle.std.proofs.lemmas.List.{length-map}
 use Rattle.clk_base.specs.declared.command.Answer.{Answer}

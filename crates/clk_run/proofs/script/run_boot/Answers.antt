@@ -1,6 +1,4 @@
-use Rattle.std.proofs.Common.{◌≡◌, ℕ, ◌+◌, ◌<◌, [], length, get_or, sym, ap, subst, ◌∙◌, arith}
-use Rattle.clk_base.specs.declared.command.Act.{Act}
-use Rattle.clk_base.specs.declared.command.Act.TheVariants as act
+use Rattle.std.proofs.Common.{◌<◌, [], length, sym, ap, subst, arith}
 use Rattle.clk_model.specs.State.{State}
 use Rattle.clk_run.proofs.Going.{goes_more, goes_probed, probe_first, probe_placed, probe_can, probed_more}
 use Rattle.clk_run.proofs.script.run_boot.Goals as goal

@@ -1,18 +1,16 @@
-use Rattle.std.proofs.Common.{◌≡◌, ℕ, ◌+◌, ◌<◌, ◌≤◌, [], ◌∷◌, ◌++◌, List, length, get_or, map, take, drop, refl, sym, ap, subst, ◌∙◌, arith, sum_by, None, replicate}
+use Rattle.std.proofs.Common.{◌≡◌, ℕ, ◌+◌, ◌<◌, [], ◌∷◌, ◌++◌, List, length, get_or, map, take, refl, sym, ap, subst, ◌∙◌, arith, None, replicate}
 use Rattle.std.proofs.lemmas.List.{take_more, length-take, map-append, length-map}
 use Rattle.std.proofs.lemmas.List.Sums.{sum_by-drop_more}
 use Rattle.clk_base.specs.declared.command.Answer.{Answer}
 use Rattle.clk_base.specs.declared.command.Command.{Command}
-use Rattle.clk_base.specs.declared.event.Entry.{Entry}
 use Rattle.clk_base.specs.Description.{Description}
 use Rattle.clk_model.specs.Journal.{cost, Legal}
 use Rattle.clk_model.specs.State.{State}
 use Rattle.clk_model.specs.Follows.{Variables, no_handles}
 use Rattle.drv_scripts.specs.declared.bundle.Script.{Script}
-use Rattle.drv_scripts.specs.Placed.{IsScript}
 use Rattle.clk_run.specs.Scripts.{AreProbes, GoesThrough}
-use Rattle.clk_run.specs.Runs.{FollowAll, are_among, are_built}
-use Rattle.clk_run.proofs.Going.{boot_probes, length-boot_of, no_variables, goes_cost, element}
+use Rattle.clk_run.specs.Runs.{FollowAll, are_among}
+use Rattle.clk_run.proofs.Going.{boot_probes, length-boot_of, no_variables, goes_cost}
 use Rattle.clk_run.proofs.Following.{follow_next}
 use Rattle.clk_run.proofs.scripts.run_scripts.Goals as goal
 

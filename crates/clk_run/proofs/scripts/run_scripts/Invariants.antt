@@ -1,5 +1,4 @@
 use Rattle.std.proofs.Common.{◌≡◌, ◌+◌, ◌≤◌, true, ◌∷◌, take, drop, length, map, sum_by}
-use Rattle.drv_scripts.specs.declared.bundle.Script.{Script}
 use Rattle.clk_model.specs.Journal.{cost, Legal}
 use Rattle.clk_run.specs.Runs.{FollowAll, are_among}
 use Rattle.clk_run.proofs.scripts.run_scripts.Given as goal

@@ -1,4 +1,4 @@
-use Rattle.std.proofs.Common.{◌≡◌, ◌∙◌, Err, ap, inl, subst}
+use Rattle.std.proofs.Common.{◌∙◌, Err, ap, inl, subst}
 use Rattle.std.specs.Io.KnownBytes.{Appends}
 use Rattle.clk_io.specs.Streams.{AppendsFront}
 use Rattle.clk_cli.proofs.UsageText.{USAGE_LINE-spells}

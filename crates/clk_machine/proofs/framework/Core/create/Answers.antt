@@ -1,4 +1,3 @@
-use Rattle.std.proofs.Common.{◌≡◌}
 use Rattle.clk_machine.proofs.Entering.{begins}
 use Rattle.clk_machine.proofs.framework.Core.create.Goals as goal
 

@@ -1,6 +1,6 @@
-use Rattle.std.proofs.Common.{◌≡◌, ◌<◌, refl, sym, ◌∙◌, arith}
+use Rattle.std.proofs.Common.{refl}
 use Rattle.clk_base.specs.declared.event.Event.TheVariants.{Disable}
-use Rattle.clk_machine.proofs.Entering.{entered, appended, has_room}
+use Rattle.clk_machine.proofs.Entering.{entered, appended}
 use Rattle.clk_model.proofs.CauseLaws.{disable_causes}
 use Rattle.clk_machine.proofs.Causing.{appends_refused}
 use Rattle.clk_machine.proofs.framework.Core.disable.Goals as goal

@@ -1,4 +1,4 @@
-use Rattle.std.proofs.Common.{rules, ◌≡◌, ◌∙◌, ap, subst, sym, List, ℕ, Option, [], replicate, arith}
+use Rattle.std.proofs.Common.{rules, ◌≡◌, ◌∙◌, ap, ℕ, replicate}
 use Rattle.clk_model.specs.State.{unregistered_row}
 use Rattle.clk_machine.proofs.Opened.{blank_registered, shaped_opening}
 use Rattle.clk_machine.proofs.machine.Machine.create.Goals as goal

@@ -1,8 +1,7 @@
-use Rattle.std.proofs.Common.{◌≡◌, refl, ◌∙◌, sym, ap, arith}
+use Rattle.std.proofs.Common.{refl, ◌∙◌, sym, arith}
 use Rattle.clk_base.specs.declared.event.Event.TheVariants.{Disable}
 use Rattle.clk_base.specs.declared.event.Errno.TheVariants.{ENOENT}
 use Rattle.clk_base.specs.declared.event.Reply.TheVariants.{Warn}
-use Rattle.clk_model.specs.State.{State}
 use Rattle.clk_model.proofs.EventLaws.{disable-unknown, disable-warned}
 use Rattle.clk_machine.proofs.Taking.{takes_refused, takes_unchanged}
 use Rattle.clk_machine.proofs.Disabling.{takes_disabled}

@@ -1,7 +1,6 @@
-use Rattle.std.proofs.Common.{◌≡◌, None, Some, refl, rules, ◌∙◌, sym}
+use Rattle.std.proofs.Common.{refl, ◌∙◌, sym}
 use Rattle.clk_base.specs.declared.event.Event.TheVariants.{Enable}
 use Rattle.clk_base.specs.declared.event.Errno.TheVariants.{ENOENT, ESHUTDOWN}
-use Rattle.clk_model.specs.Begin.{own_handle}
 use Rattle.clk_model.proofs.EventLaws.{enable-unknown, enable-unprepared}
 use Rattle.std.proofs.Common.{arith}
 use Rattle.clk_machine.proofs.Taking.{takes_refused}

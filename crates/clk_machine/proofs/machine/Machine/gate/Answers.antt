@@ -1,9 +1,8 @@
-use Rattle.std.proofs.Common.{◌≡◌, ◌<◌, true, ap, sym, subst, ◌∙◌, ℕ, List, Option, Bool, [], length}
+use Rattle.std.proofs.Common.{◌≡◌, ◌<◌, true, ap, sym, subst, ◌∙◌, ℕ, [], length}
 use Rattle.std.specs.Prelude.{IfSome, is_some, unwrap_or}
 use Rattle.std.specs.Option.{option_map}
 use Rattle.clk_base.specs.declared.clock.Kind.{Kind}
 use Rattle.clk_base.specs.declared.clock.ClockDef.{ClockDef}
-use Rattle.clk_base.specs.Description.{kind_of}
 use Rattle.clk_base.specs.Fields.{gate_of}
 use Rattle.clk_model.specs.Kinds.{is_open}
 use Rattle.clk_machine.proofs.Opening.{gate_fits}

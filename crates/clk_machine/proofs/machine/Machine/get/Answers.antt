@@ -1,4 +1,4 @@
-use Rattle.std.proofs.Common.{◌≡◌, ◌+◌, refl, ◌∙◌, sym, ap, subst, ℕ, Option, None, Some, length, ◌++◌, ◌∷◌, []}
+use Rattle.std.proofs.Common.{refl, ◌∙◌, sym, ap, ℕ, Option}
 use Rattle.clk_base.specs.declared.clock.ClockId.{ClockId}
 use Rattle.clk_base.specs.declared.event.Event.TheVariants.{Begin}
 use Rattle.clk_base.specs.declared.event.Errno.TheVariants.{ENOENT, EPROBE_DEFER}
@@ -6,7 +6,7 @@ use Rattle.clk_base.specs.declared.event.Reply.TheVariants as reply
 use Rattle.clk_base.specs.declared.event.Turn.TheVariants.{Done}
 use Rattle.clk_base.specs.declared.call.Sleeping.TheVariants.{Get}
 use Rattle.clk_model.specs.Machine.{paid, next}
-use Rattle.clk_model.specs.Begin.{refused, given}
+use Rattle.clk_model.specs.Begin.{given}
 use Rattle.clk_model.proofs.StateLaws.{active-append}
 use Rattle.clk_model.proofs.EventLaws.{get-not_found, get-deferred, get-given}
 use Rattle.clk_machine.specs.Held.{Held}

@@ -1,4 +1,4 @@
-use Rattle.std.proofs.Common.{◌≡◌, ◌∙◌, ap, sym, refl, List, Option, ℕ}
+use Rattle.std.proofs.Common.{◌∙◌, ap, sym, refl, List, Option}
 use Rattle.clk_base.specs.Places.{places}
 use Rattle.clk_model.specs.declared.row.ClockRow.{ClockRow}
 use Rattle.clk_model.specs.declared.row.HandleRow.{HandleRow}

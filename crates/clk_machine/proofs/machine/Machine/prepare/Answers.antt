@@ -1,4 +1,4 @@
-use Rattle.std.proofs.Common.{◌≡◌, ◌+◌, refl, ◌∙◌, sym, ap}
+use Rattle.std.proofs.Common.{◌+◌, refl, ◌∙◌, sym, ap}
 use Rattle.clk_base.specs.declared.event.Event.TheVariants.{Begin}
 use Rattle.clk_base.specs.declared.event.Errno.TheVariants.{ENOENT}
 use Rattle.clk_base.specs.declared.event.Reply.TheVariants.{Fine}

@@ -1,6 +1,6 @@
-use Rattle.std.proofs.Common.{◌≡◌, refl, ◌∙◌, sym, ap}
+use Rattle.std.proofs.Common.{◌∙◌, sym, ap}
 use Rattle.clk_base.specs.declared.event.Event.TheVariants.{Begin}
-use Rattle.clk_base.specs.declared.event.Reply.TheVariants.{Fine, Refused}
+use Rattle.clk_base.specs.declared.event.Reply.TheVariants.{Fine}
 use Rattle.clk_base.specs.declared.event.Errno.TheVariants.{EEXIST}
 use Rattle.clk_base.specs.declared.call.Sleeping.TheVariants.{Probe}
 use Rattle.clk_model.specs.Begin.{register}

@@ -1,4 +1,4 @@
-use Rattle.std.proofs.Common.{◌≡◌, ◌<◌, sym, length}
+use Rattle.std.proofs.Common.{sym}
 use Rattle.clk_base.specs.Places.{places}
 use Rattle.clk_machine.proofs.Rows.{protects_none}
 use Rattle.clk_machine.proofs.machine.Machine.protect_count.Goals as goal

@@ -1,4 +1,4 @@
-use Rattle.std.proofs.Common.{◌≡◌, refl, ◌∙◌, sym, ap, ℕ, Some}
+use Rattle.std.proofs.Common.{refl, ◌∙◌, sym, ap, ℕ}
 use Rattle.clk_base.specs.declared.event.Event.TheVariants.{Begin}
 use Rattle.clk_base.specs.declared.event.Errno.TheVariants.{ENOENT}
 use Rattle.clk_base.specs.declared.event.Reply.TheVariants.{Rate}

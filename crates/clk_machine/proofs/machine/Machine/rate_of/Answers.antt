@@ -1,4 +1,4 @@
-use Rattle.std.proofs.Common.{◌≡◌, ◌∙◌, ap, List, [], ℕ}
+use Rattle.std.proofs.Common.{◌∙◌, ap, List, [], ℕ}
 use Rattle.std.specs.Prelude.{unwrap_or}
 use Rattle.clk_base.specs.Places.{places}
 use Rattle.clk_model.specs.declared.row.ClockRow.{ClockRow}

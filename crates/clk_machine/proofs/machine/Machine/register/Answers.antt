@@ -1,4 +1,4 @@
-use Rattle.std.proofs.Common.{◌≡◌, ◌<◌, true, false, refl, ◌∙◌, ap, sym, List, ℕ, [], length}
+use Rattle.std.proofs.Common.{◌≡◌, ◌<◌, true, false, ◌∙◌, ap, sym, List, [], length}
 use Rattle.std.specs.Prelude.{unwrap_or, is_some}
 use Rattle.std.specs.List.{list_all}
 use Rattle.clk_base.specs.declared.clock.ClockId.{ClockId}

@@ -1,4 +1,4 @@
-use Rattle.std.proofs.Common.{◌≡◌, refl}
+use Rattle.std.proofs.Common.{refl}
 use Rattle.clk_base.specs.Places.{places}
 use Rattle.clk_machine.proofs.RegisteredShape.{registers_at_once}
 use Rattle.clk_machine.proofs.machine.Machine.rest.Goals as goal

@@ -1,4 +1,4 @@
-use Rattle.std.proofs.Common.{◌≡◌, refl, ◌∙◌, sym, ap, Bool}
+use Rattle.std.proofs.Common.{refl, ◌∙◌, sym, ap, Bool}
 use Rattle.std.specs.Prelude.{if◌then◌else◌}
 use Rattle.clk_base.specs.declared.event.Event.TheVariants.{Running}
 use Rattle.clk_base.specs.declared.event.Errno.TheVariants.{ENOENT}

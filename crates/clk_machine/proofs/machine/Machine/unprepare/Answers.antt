@@ -1,11 +1,11 @@
-use Rattle.std.proofs.Common.{◌≡◌, ◌-◌, refl, ◌∙◌, sym, ap}
+use Rattle.std.proofs.Common.{◌-◌, refl, ◌∙◌, sym, ap}
 use Rattle.clk_base.specs.declared.event.Event.TheVariants.{Begin}
 use Rattle.clk_base.specs.declared.event.Errno.TheVariants.{ENOENT}
 use Rattle.clk_base.specs.declared.event.Reply.TheVariants.{Fine, Warn}
 use Rattle.clk_base.specs.declared.call.Sleeping.TheVariants.{Unprepare}
 use Rattle.clk_model.specs.Tree.{path}
 use Rattle.clk_model.proofs.StateLaws.{active-put_same}
-use Rattle.clk_model.proofs.EventLaws.{own_is_live, keeps_prepare, prepared_once_less, unprepare-unknown, unprepare-warned, unprepare-fine}
+use Rattle.clk_model.proofs.EventLaws.{own_is_live, prepared_once_less, unprepare-unknown, unprepare-warned, unprepare-fine}
 use Rattle.clk_machine.specs.Held.{Held}
 use Rattle.clk_machine.proofs.Shapes.{no_plls}
 use Rattle.clk_machine.proofs.Taking.{takes_refused, takes_unchanged, takes_beside}

@@ -1,9 +1,8 @@
-use Rattle.std.proofs.Common.{◌<◌, ◌≡◌, ap}
+use Rattle.std.proofs.Common.{◌<◌}
 use Rattle.std.specs.Option.{option_map}
 use Rattle.clk_machine.proofs.WindowLaws.{told_put, told_words}
 use Rattle.clk_machine.specs.Window.{AreTold}
 use Rattle.std.proofs.Common.{take, subst, sym, Option, List, ℕ}
-use Rattle.reg_bank.specs.Registers.{put_bit}
 use Rattle.clk_machine.proofs.window.Window.put_bit.Goals as goal
 
 pub invariant_of-self : goal.invariant_of-self
