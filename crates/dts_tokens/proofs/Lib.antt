@@ -1,0 +1,7 @@
+pub mod Scans
+pub mod Digits
+pub mod Opened
+pub mod Cutting
+pub mod OneReading
+pub mod Fitting
+pub mod Decided

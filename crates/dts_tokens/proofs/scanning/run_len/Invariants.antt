@@ -1,0 +1,7 @@
+use Rattle.std.proofs.Common.{◌≡◌, ℕ, ◌<◌, true, get_or}
+use Rattle.dts_tokens.specs.Characters.{is_word_character}
+use Rattle.dts_tokens.proofs.scanning.run_len.Given as goal
+
+-- each character so far passes
+abbrev pub invariant-loop-index : goal.invariant-loop-index
+invariant-loop-index l = (k : ℕ) → k < l.index → is_word_character (get_or l.text k 0) ≡ true

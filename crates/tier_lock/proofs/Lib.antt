@@ -1,0 +1,11 @@
+pub mod Fronts
+pub mod Seats
+pub mod Keeping
+pub mod Turning
+pub mod Cutting
+pub mod Joining
+pub mod Ending
+pub mod Opening
+pub mod Hands
+pub mod Lent
+pub mod AllPasses

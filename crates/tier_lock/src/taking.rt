@@ -1,0 +1,77 @@
+//! A turn begins.
+ghost use Rattle.std.specs.Prelude.{◌≡◌, ℕ, ◌+◌, ◌≤◌, true, false, Some, IfSome, IfNone, sum_by};
+ghost use Rattle.tier_lock.specs.Entries.{reading, own, IsPrefix, AddsEnablesOnly, AreBelow};
+ghost use Rattle.tier_lock.specs.Sits.{IsOf, IsFree, Took};
+
+use crate::guard::Guard;
+use crate::kept::Kept;
+use crate::lock::Lock;
+use crate::pass::Pass;
+use crate::plays::Win;
+use crate::rule::{SeatOf, SharedOf};
+use crossbeam_utils::Backoff;
+use std::sync::Wait;
+
+// Threads sleep on the low half of the word.
+const LOW_HALF: u64 = 0xffff_ffff;
+
+// One try, at the word that was just read. It fails where the lock is taken, or where another pass came first.
+fn try_take<T: Kept>(shared: &SharedOf<T>, seat: &mut SeatOf<T>, word: u64) -> Option<T>
+    requires table { IsOf shared.now.table_id seat.old.table_id }
+    requires free { IsFree seat.old.me }
+    ensures same { (seat.new.table_id ≡ seat.old.table_id) × (seat.new.id ≡ seat.old.id) }
+    ensures taken { IfSome result (λ value. Took (reading T.entries T.fixed T.by T.prep T.cost T.most) value seat.old.me seat.new.me) }
+    ensures missed { IfNone result (seat.new.me ≡ seat.old.me) }
+{
+    if word % 2 != 0 {
+        return None;
+    }
+    let found = shared.compare_exchange::<Win<T>>(seat, 0, word, word + 1);
+    if found != word {
+        return None;
+    }
+    let Some(value) = shared.exchange(seat, 0, None) else {
+        unreachable!()
+    };
+    Some(value)
+}
+
+// Until this seat is the one that wins. It sleeps only while the lock is taken, since who took it wakes a sleeper as it gives.
+fn take_value<T: Kept, R: Wait>(rt: &R, shared: &SharedOf<T>, seat: &mut SeatOf<T>) -> T
+    requires table { IsOf shared.now.table_id seat.old.table_id }
+    requires free { IsFree seat.old.me }
+    ensures same { (seat.new.table_id ≡ seat.old.table_id) × (seat.new.id ≡ seat.old.id) }
+    ensures taken { Took (reading T.entries T.fixed T.by T.prep T.cost T.most) result seat.old.me seat.new.me }
+{
+    let backoff = Backoff::new();
+    for _ in rt.forever() {
+        let word = shared.peek(0);
+        if let Some(value) = try_take(shared, seat, word) {
+            return value;
+        }
+        if backoff.is_completed() && word % 2 == 1 {
+            shared.park(rt, 0, (word & LOW_HALF) as u32);
+        } else {
+            backoff.snooze();
+        }
+    }
+    unreachable!()
+}
+
+impl<T: Kept> Lock<T> {
+    /// Waits for the turn, and has the value until the turn ends.
+    pub fn take<R: Wait>(&self, rt: &R, pass: &mut Pass<T>) -> Guard<T>
+        requires lock { pass.old.table ≡ self.now.table }
+        requires idle { pass.old.turn ≡ false }
+        ensures turn { pass.new ≡ record pass.old { turn = true; seen = T.entries result.value } }
+        ensures seen { IsPrefix pass.old.seen (T.entries result.value) }
+        ensures fixed { pass.old.fixed ≡ Some (T.fixed result.value) }
+        ensures mine { own T.by pass.old.number (T.entries result.value) ≡ pass.old.mine }
+        ensures room { pass.old.room + sum_by T.cost (T.entries result.value) ≤ T.most (T.fixed result.value) }
+        ensures numbers { pass.old.number ≡ 0 → AreBelow T.by pass.old.made (T.entries result.value) }
+        ensures baton { pass.old.baton ≡ true → AddsEnablesOnly T.prep pass.old.seen (T.entries result.value) }
+    {
+        let value = take_value(rt, &self.table.shared, &mut pass.seat);
+        Guard { value }
+    }
+}

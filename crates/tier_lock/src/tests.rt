@@ -1,0 +1,5 @@
+//! Drivers in threads over one list of numbers.
+mod append;
+mod desk;
+mod roll;
+mod turns;
