@@ -1,0 +1,59 @@
+//! The chain of a plan.
+
+ghost use Rattle.std.specs.Prelude.{◌≡◌};
+
+use clk_base::ClockId;
+use std::marker::Model;
+
+/// A clock of a planned chain.
+#[derive(Clone, Copy, Debug, PartialEq, Eq)]
+pub struct ChainStep {
+    pub clock: ClockId,
+    /// The planned rate in Hz.
+    pub rate: u64,
+    /// The parent that the clock will have.
+    pub parent: Option<ClockId>,
+}
+
+/// A planned chain from the clock of a request to the top, seen by contracts as the list of the
+/// definitions' steps.
+#[derive(Debug, Drop)]
+pub struct PlannedChain {
+    steps: Vec<ChainStep>,
+}
+
+impl Model for PlannedChain {
+    ghost use Rattle.std.specs.Prelude.{List};
+    ghost use Rattle.clk_model.specs.State as state;
+    ghost use Rattle.clk_tree.specs.Plans.{chain_of};
+
+    ghost Value = { List state.ChainStep };
+
+    ghost view = { λ c. chain_of c.steps.items };
+}
+
+impl PlannedChain {
+    ghost use Rattle.clk_tree.specs.Plans.{chain_of};
+
+    /// These steps as a chain. Takes no memory.
+    pub fn new(steps: Vec<ChainStep>) -> PlannedChain
+        ensures { result ≡ chain_of steps.items }
+    {
+        PlannedChain { steps }
+    }
+
+    /// The steps, from the clock of the request up.
+    pub fn as_slice(&self) -> &[ChainStep]
+        ensures { chain_of result.now ≡ self.now }
+    {
+        self.steps.as_slice()
+    }
+
+    /// The steps by themselves. Takes no memory.
+    pub fn into_steps(self) -> Vec<ChainStep>
+        ensures { chain_of result.items ≡ self }
+    {
+        let PlannedChain { steps } = self;
+        steps
+    }
+}

@@ -1,0 +1,26 @@
+//! The clock tree: which clocks are registered, which parent each is attached to, in which order
+//! they were attached, and the rate that is kept of each.
+//!
+//! [`Tree`] answers for the links and the kept rates. [`View`] is what planning asks of the clocks
+//! beside them, and [`Plan`] what planning gives.
+#![tactic(auto)]
+
+mod chain;
+mod group;
+mod kind;
+mod order;
+mod path;
+mod plan;
+mod refresh;
+mod tree;
+mod view;
+mod walk_rates;
+
+pub use chain::{ChainStep, PlannedChain};
+pub use plan::Plan;
+pub use tree::Tree;
+pub use view::View;
+pub use walk_rates::{WalkRate, WalkRates};
+
+#[cfg(test)]
+mod tests;

@@ -1,0 +1,54 @@
+//! The rates that a plan gives the clocks of its walk.
+
+ghost use Rattle.std.specs.Prelude.{◌≡◌};
+
+use clk_base::ClockId;
+use std::marker::Model;
+
+/// A clock of a walk, and the rate in Hz that it will have.
+#[derive(Clone, Copy, Debug, PartialEq, Eq)]
+pub struct WalkRate {
+    pub clock: ClockId,
+    pub rate: u64,
+}
+
+/// The clocks of a walk in its order with their rates, seen by contracts as a list.
+#[derive(Debug, Drop)]
+pub struct WalkRates {
+    rates: Vec<WalkRate>,
+}
+
+impl Model for WalkRates {
+    ghost use Rattle.std.specs.Prelude.{List};
+    ghost use Rattle.clk_tree.specs.Plans.{ClockRate, rates_of};
+
+    ghost Value = { List ClockRate };
+
+    ghost view = { λ w. rates_of w.rates.items };
+}
+
+impl WalkRates {
+    ghost use Rattle.clk_tree.specs.Plans.{rates_of};
+
+    /// These rates in the walk's order. Takes no memory.
+    pub fn new(rates: Vec<WalkRate>) -> WalkRates
+        ensures { result ≡ rates_of rates.items }
+    {
+        WalkRates { rates }
+    }
+
+    /// The clocks with their rates, in the walk's order.
+    pub fn as_slice(&self) -> &[WalkRate]
+        ensures { rates_of result.now ≡ self.now }
+    {
+        self.rates.as_slice()
+    }
+
+    /// The rates by themselves. Takes no memory.
+    pub fn into_rates(self) -> Vec<WalkRate>
+        ensures { rates_of result.items ≡ self }
+    {
+        let WalkRates { rates } = self;
+        rates
+    }
+}
