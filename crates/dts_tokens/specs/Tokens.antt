@@ -1,5 +1,5 @@
 -- The tokens of a text, or the first place at which it can't be cut.
-use Rattle.std.specs.Prelude.{◌≡◌, ℕ, ◌+◌, ◌<◌, ◌≤◌, ◌==◌, List, [], ◌∷◌, ◌++◌, length, drop, take, map, count_by, slice_range, if◌then◌else◌}
+use Rattle.std.specs.Prelude.{◌≡◌, ℕ, ◌+◌, ◌-◌, ◌<◌, ◌≤◌, ◌==◌, List, [], ◌∷◌, ◌++◌, length, drop, take, map, count_by, slice_index, slice_range, IsUtf8, if◌then◌else◌}
 use Rattle.dts_tokens.specs.declared.flaw.Flaw.{Flaw}
 use Rattle.dts_tokens.specs.declared.flaw.Flaw.TheVariants as flaws
 use Rattle.dts_tokens.specs.declared.piece.Piece.{Piece}
@@ -65,3 +65,7 @@ IsFaultOf text faults.NoMemory = Unit {0}
 abbrev pub Rises : ℕ → List Token → ℕ → Type 0
 Rises from [] end = from ≤ end
 Rises from (token ∷ tokens) end = (from ≤ token.from) × (token.from < token.to) × Rises token.to tokens end
+
+-- a token is of whole characters, and one that begins with a quote also between its first byte and its last
+abbrev pub IsWhole : List ℕ → Token → Type 0
+IsWhole text token = IsUtf8 (text_of text token) × (slice_index (text_of text token) 0 ≡ 34 → IsUtf8 (slice_range text (token.from + 1) (token.to - 1)))

@@ -1,7 +1,7 @@
 //! From a text to its tokens.
 
 ghost use Rattle.std.specs.Prelude.{◌≡◌, ◌≤◌, ◌==◌, length, count_by, IfOk, IfErr, All};
-ghost use Rattle.dts_tokens.specs.Tokens.{Tokens, IsFaultOf, Rises, line_of};
+ghost use Rattle.dts_tokens.specs.Tokens.{Tokens, IsFaultOf, IsWhole, Rises, line_of};
 
 use crate::flaw::{Flaw, fault_on};
 use crate::piece::{Piece, piece_at};
@@ -36,6 +36,7 @@ pub fn tokens(alloc: Global, text: &str) -> Result<Vec<Token>, TokenFault>
     ensures fault { IfErr result (λ fault. IsFaultOf text.now fault) }
     ensures rises { IfOk result (λ found. Rises 0 found.items (length text.now)) }
     ensures lines { IfOk result (λ found. All (λ t. t.line ≡ line_of text.now t.from) found.items) }
+    ensures whole { IfOk result (λ found. All (IsWhole text.now) found.items) }
 {
     let bytes = text.as_bytes();
     let mut found = Vec::new(alloc);

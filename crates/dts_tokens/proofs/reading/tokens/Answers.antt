@@ -1,8 +1,10 @@
-use Rattle.std.proofs.Common.{◌∙◌, map, length-drop, ap, sym, arith}
+use Rattle.std.proofs.Common.{◌≡◌, ◌∙◌, [], length, map, length-drop, ap, sym, subst, arith}
 use Rattle.std.proofs.lemmas.List.{take_rest}
 use Rattle.dts_tokens.specs.Pieces.{piece_at}
-use Rattle.dts_tokens.specs.Tokens.{text_of}
+use Rattle.std.proofs.lemmas.List.Elements.{All-nil}
+use Rattle.dts_tokens.specs.Tokens.{Cuts, IsWhole, text_of}
 use Rattle.dts_tokens.proofs.Cutting.{Reached-gap, Reached-lexeme, Reached-wrong, Reached-big}
+use Rattle.dts_tokens.proofs.Wholes.{Cuts-whole}
 use Rattle.dts_tokens.proofs.reading.tokens.Goals as goal
 use Rattle.dts_tokens.proofs.reading.tokens.Goals.{in-Gap, in-Lexeme+else-is_too_big+in_ok-push-in-Lexeme}
 
@@ -38,3 +40,11 @@ loop-at-preserved c =
           let passed = simp take_rest at (w.pass.ensures words c.loop-at.invariant.scope) in
           simp (w.found-is, w.scope-is, w.len-is, w.in_ok-push-in-Lexeme.ensures.items) (Reached-lexeme text c.loop-at.found.items c.loop-at.scope w.pass.new.self at c.loop-at.line w.in-Lexeme.len c.line_feeds-line.result c.loop-at.invariant (omega arith) w.in-Lexeme.ensures.fits.0 (omega (arith, fits)) here (sym weighs ∙ w.if-is_too_big.false) passed fed)
     ]
+
+pub returns-clause-whole : goal.returns-clause-whole
+returns-clause-whole c =
+    let text = c.args.text.now in
+    let found = c.loop-at.found.items in
+    let reached = rw c.as_bytes-bytes.ensures.value at c.loop-at.invariant.cut in
+    let end : c.loop-at.at ≡ length text = grind (arith, c.loop-at.invariant.within, c.as_bytes-bytes.ensures.value) in
+    Cuts-whole text [] 0 reached.0 found c.utf8.text (subst (λ e. Cuts text [] 0 reached.0 found e) end reached.1) (All-nil (IsWhole text))

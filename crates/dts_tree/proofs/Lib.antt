@@ -1,0 +1,10 @@
+pub mod Taking
+pub mod Going
+pub mod References
+pub mod Shown
+pub mod Whole
+pub mod Quoted
+pub mod Holding
+pub mod Remaining
+pub mod Spelling
+pub mod Refusing

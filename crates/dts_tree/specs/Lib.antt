@@ -1,0 +1,12 @@
+pub mod Marks
+pub mod Taken
+pub mod Grown
+pub mod State
+pub mod Steps
+pub mod Done
+pub mod Read
+pub mod Tree
+pub mod Held
+pub mod Parsed
+pub mod Grammar
+pub mod Meaning
