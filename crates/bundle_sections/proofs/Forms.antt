@@ -4,12 +4,13 @@ use Rattle.std.specs.List.{AllByRecursion}
 use Rattle.std.specs.Option.{option_map, option_map_or, option_and_then}
 use Rattle.std.proofs.lemmas.Bool.{cases_Bool}
 use Rattle.std.proofs.lemmas.Bool.Decides.{nat_tests}
-use Rattle.bundle_text.specs.Lines.{line_at, is_header}
+use Rattle.bundle_text.specs.Lines.{line_at, is_header, header_from}
 use Rattle.bundle_text.specs.Names.{is_driver_name}
 use Rattle.bundle_text.specs.Numbers.{number_up_to, hexadecimal_up_to, behind_0x, written_up_to, number_within}
 use Rattle.bundle_text.specs.Words.{blank_words}
 use Rattle.bundle_sections.specs.declared.fault.FormReason.{FormReason}
 use Rattle.bundle_sections.specs.Headers.{Said, device_tree, clocks, bank, lock, late, driver, order, alone, bank_words, driver_words, well_formed, header_of, read_header, HasForm}
+use Rattle.bundle_sections.specs.Verdict.{IsSection}
 use Rattle.bundle_sections.specs.Sections.{SaidSection, section_at, section_of, sections_before, sections_of}
 use Rattle.bundle_sections.proofs.Places.{section_none, section_header, sections-none, sections-more, sections_first}
 
@@ -96,40 +97,50 @@ unfolding read_header
 read_forms [] = refused _
 read_forms (first ∷ more) = header_forms first more
 
-abbrev Formed : SaidSection → Type 0
-Formed s = HasForm s.says
-
-section_forms : (ls : List (List ℕ)) (k : ℕ) (read : Result Said FormReason) (s : SaidSection) → Forms read → section_of ls k read ≡ Some s → Formed s
-section_forms ls k (Ok said) s forms h =
+form_of : (ls : List (List ℕ)) (k : ℕ) (read : Result Said FormReason) (s : SaidSection) → Forms read → section_of ls k read ≡ Some s → HasForm s.says
+form_of ls k (Ok said) s forms h =
     let same : said ≡ s.says = cc in
     subst HasForm same (forms said refl)
-section_forms ls k (Err reason) s forms h = absurd (cc)
+form_of ls k (Err reason) s forms h = absurd (cc)
+
+place_of : (ls : List (List ℕ)) (k : ℕ) (read : Result Said FormReason) (s : SaidSection) → section_of ls k read ≡ Some s → (s.place ≡ k) × (s.end ≡ header_from ls (k + 1))
+place_of ls k (Ok said) s h = (cc, cc)
+place_of ls k (Err reason) s h = absurd (cc)
 
 none_some : {X : Type 0} (x : X) → None ≡ Some x → ⊥
 none_some x h = cc
 
-section_formed : (ls : List (List ℕ)) (k : ℕ) (s : SaidSection) → section_at ls k ≡ Some s → Formed s
+-- a section begins at a header
+pub header_of_section : (ls : List (List ℕ)) (k : ℕ) (s : SaidSection) → section_at ls k ≡ Some s → is_header (line_at ls k) ≡ true
+header_of_section ls k s h =
+    elim (cases_Bool (is_header (line_at ls k))) [ inl header ↦ header | inr none ↦ absurd (none_some s (sym (section_none ls k none) ∙ h)) ]
+
+-- it has the header's place, and ends at the next header
+pub bounds_of_section : (ls : List (List ℕ)) (k : ℕ) (s : SaidSection) → section_at ls k ≡ Some s → (s.place ≡ k) × (s.end ≡ header_from ls (k + 1))
+bounds_of_section ls k s h = place_of ls k _ s (sym (section_header ls k (header_of_section ls k s h)) ∙ h)
+
+section_formed : (ls : List (List ℕ)) (k : ℕ) (s : SaidSection) → section_at ls k ≡ Some s → IsSection ls s
 section_formed ls k s h =
-    elim (cases_Bool (is_header (line_at ls k))) [
-      | inl header ↦ section_forms ls k _ s (read_forms (blank_words (line_at ls k))) (sym (section_header ls k header) ∙ h)
-      | inr none ↦ absurd (none_some s (sym (section_none ls k none) ∙ h))
-    ]
+    record {
+      begins = ap (section_at ls) (bounds_of_section ls k s h).0 ∙ h;
+      form = form_of ls k _ s (read_forms (blank_words (line_at ls k))) (sym (section_header ls k (header_of_section ls k s h)) ∙ h);
+    }
 
-all_more : (xs : List SaidSection) (s : SaidSection) → AllByRecursion Formed xs → Formed s → AllByRecursion Formed (xs ++ s ∷ [])
-all_more [] s all here = (here, tt)
-all_more (x ∷ xs) s all here = (all.0, all_more xs s all.1 here)
+all_more : (P : SaidSection → Type 0) (xs : List SaidSection) (s : SaidSection) → AllByRecursion P xs → P s → AllByRecursion P (xs ++ s ∷ [])
+all_more P [] s all here = (here, tt)
+all_more P (x ∷ xs) s all here = (all.0, all_more P xs s all.1 here)
 
-formed_behind : (ls : List (List ℕ)) (count : ℕ) → AllByRecursion Formed (sections_before ls (count + 1))
-formed_behind ls zero = subst (AllByRecursion Formed) (sym (sections_first ls)) tt
+formed_behind : (ls : List (List ℕ)) (count : ℕ) → AllByRecursion (IsSection ls) (sections_before ls (count + 1))
+formed_behind ls zero = subst (AllByRecursion (IsSection ls)) (sym (sections_first ls)) tt
 formed_behind ls (suc count) =
     let next : count + 1 + 1 ≡ suc count + 1 = omega arith in
-    subst (λ n. AllByRecursion Formed (sections_before ls n)) next (elim (section_at ls (count + 1)) as (λ o. section_at ls (count + 1) ≡ o → AllByRecursion Formed (sections_before ls (count + 1 + 1))) [
-      | None ↦ λ e. subst (AllByRecursion Formed) (sym (sections-none ls (count + 1) (omega arith) e)) (formed_behind ls count)
-      | Some s ↦ λ e. subst (AllByRecursion Formed) (sym (sections-more ls (count + 1) s (omega arith) e)) (all_more (sections_before ls (count + 1)) s (formed_behind ls count) (section_formed ls (count + 1) s e))
+    subst (λ n. AllByRecursion (IsSection ls) (sections_before ls n)) next (elim (section_at ls (count + 1)) as (λ o. section_at ls (count + 1) ≡ o → AllByRecursion (IsSection ls) (sections_before ls (count + 1 + 1))) [
+      | None ↦ λ e. subst (AllByRecursion (IsSection ls)) (sym (sections-none ls (count + 1) (omega arith) e)) (formed_behind ls count)
+      | Some s ↦ λ e. subst (AllByRecursion (IsSection ls)) (sym (sections-more ls (count + 1) s (omega arith) e)) (all_more (IsSection ls) (sections_before ls (count + 1)) s (formed_behind ls count) (section_formed ls (count + 1) s e))
     ] refl)
 
--- the headers of all sections
-pub all_formed : (ls : List (List ℕ)) (sections : List SaidSection) → 0 < length ls → sections_of ls ≡ sections → AllByRecursion (λ section. HasForm section.says) sections
+-- each section is the one that begins at its place
+pub all_formed : (ls : List (List ℕ)) (sections : List SaidSection) → 0 < length ls → sections_of ls ≡ sections → AllByRecursion (IsSection ls) sections
 all_formed ls sections some e =
     let count : length ls - 1 + 1 ≡ length ls = omega arith in
-    subst (AllByRecursion Formed) (ap (sections_before ls) count ∙ e) (formed_behind ls (length ls - 1))
+    subst (AllByRecursion (IsSection ls)) (ap (sections_before ls) count ∙ e) (formed_behind ls (length ls - 1))

@@ -249,3 +249,8 @@ at_end ls first at found some here past tiled =
 pub tiles-more : (from at : ℕ) (found : List SaidSection) (s : SaidSection) → Tiles from found at → s.place ≡ at → at < s.end → Tiles from (found ++ s ∷ []) s.end
 tiles-more from at [] s e place longer = (place ∙ sym e, omega arith, refl)
 tiles-more from at (x ∷ xs) s tiled place longer = (tiled.0, tiled.1, tiles-more x.end at xs s tiled.2 place longer)
+
+-- sections end no earlier than they begin
+pub tiles-le : (from to : ℕ) (sections : List SaidSection) → Tiles from sections to → from ≤ to
+tiles-le from to [] tiled = omega (arith, tiled)
+tiles-le from to (s ∷ more) tiled = omega (arith, tiled.0, tiled.1, tiles-le s.end to more tiled.2)

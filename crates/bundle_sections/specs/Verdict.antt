@@ -1,12 +1,13 @@
 -- Which lines stand in which sections, and why others stand in none.
-use Rattle.std.specs.Prelude.{◌≡◌, ℕ, ◌+◌, ◌<◌, ◌⊎◌, false, List, [], ◌∷◌, length, Option}
+use Rattle.std.specs.Prelude.{◌≡◌, ℕ, ◌+◌, ◌<◌, ◌⊎◌, false, List, [], ◌∷◌, length, Option, Some}
 use Rattle.bundle_text.specs.Firsts.{First, KeepsBelow}
 use Rattle.bundle_sections.specs.declared.fault.FormFault.{FormFault}
 use Rattle.bundle_sections.specs.declared.fault.FormFault.TheVariants.{Refused, NoMemory}
 use Rattle.bundle_sections.specs.declared.fault.FormReason.{FormReason}
 use Rattle.bundle_sections.specs.declared.fault.FormReason.TheVariants.{MissingSection}
+use Rattle.bundle_sections.specs.Headers.{HasForm}
 use Rattle.bundle_sections.specs.Said.{Parts, in_order}
-use Rattle.bundle_sections.specs.Sections.{SaidSection, text_fault, fault_at, sections_of, has_needed}
+use Rattle.bundle_sections.specs.Sections.{SaidSection, section_at, text_fault, fault_at, sections_of, has_needed}
 
 -- every line is UTF-8
 abbrev pub IsText : List (List ℕ) → Type 0
@@ -54,3 +55,8 @@ IsFaultOf ls end NoMemory = Unit {0}
 abbrev pub Tiles : ℕ → List SaidSection → ℕ → Type 0
 Tiles from [] to = from ≡ to
 Tiles from (s ∷ more) to = (s.place ≡ from) × (s.place < s.end) × Tiles s.end more to
+
+-- the section is the one that begins at its place, and its header has its form
+pub record IsSection (ls : List (List ℕ)) (s : SaidSection) : Type 0 where
+  pub begins : section_at ls s.place ≡ Some s
+  pub form : HasForm s.says

@@ -6,10 +6,9 @@ ghost use Rattle.std.specs.Str.{is_utf8};
 ghost use Rattle.bundle_text.specs.Firsts.{KeepsBelow};
 ghost use Rattle.bundle_text.specs.Lines.{line_at, header_from};
 ghost use Rattle.bundle_text.specs.Words.{said_words};
-ghost use Rattle.bundle_sections.specs.Headers.{HasForm};
 ghost use Rattle.bundle_sections.specs.Said.{said_section, in_order};
 ghost use Rattle.bundle_sections.specs.Sections.{text_fault, fault_at, has_version, sections_of, section_at, sections_before, is_passed_over};
-ghost use Rattle.bundle_sections.specs.Verdict.{Accepts, IsFaultOf, Tiles, IsText, IsPlaced};
+ghost use Rattle.bundle_sections.specs.Verdict.{Accepts, IsFaultOf, Tiles, IsText, IsPlaced, IsSection};
 ghost use Rattle.bundle_sections.specs.Reads.{Stops, Reads, AtHeader, IsNext, clock_part, bank_part, first_parts, parts_of};
 
 use crate::fault::{FormFault, FormReason, refused};
@@ -194,7 +193,7 @@ pub fn read_sections<'a>(
     requires few { length lines.now + 1 < 2 ^ 32 }
     ensures accepted { IfOk result (Accepts lines.now) }
     ensures tiled { IfOk result (λ s. Tiles (header_from lines.now 1) (in_order s) (length lines.now)) }
-    ensures formed { IfOk result (λ s. AllByRecursion (λ section. HasForm section.says) (in_order s)) }
+    ensures each { IfOk result (λ s. AllByRecursion (IsSection lines.now) (in_order s)) }
     ensures refused { IfErr result (IsFaultOf lines.now end) }
 {
     check_text(lines)?;

@@ -24,6 +24,6 @@ returns-clause-accepted c =
       sections = sym c.in_ok-found.ensures.1.0 ∙ parts_found _ c.in-Some.sections (sym c.in-Some.ensures);
     }
 
-pub returns-clause-formed : goal.returns-clause-formed
-returns-clause-formed c =
+pub returns-clause-each : goal.returns-clause-each
+returns-clause-each c =
     all_formed c.args.lines.now (in_order c.in-Some.sections) c.in_ok-first.ensures.1.1 (sym c.in_ok-found.ensures.1.0 ∙ parts_found _ c.in-Some.sections (sym c.in-Some.ensures))
