@@ -3,8 +3,7 @@
 ghost use Rattle.std.specs.Prelude.{◌≡◌, ◌<◌, ◌^◌, length, OnOk, IfOk, IfErr};
 ghost use Rattle.clk_base.specs.Description.{Description, EachClock, HasDistinctNames};
 ghost use Rattle.clk_base.specs.Valid.{has_its_parents, IsValid};
-ghost use Rattle.clk_base.specs.Plain.{IsPlain};
-ghost use Rattle.clk_base.specs.Checked.{Checked, IsRefusal};
+ghost use Rattle.clk_base.specs.Checked.{Checked, IsFault};
 
 use crate::desc::Desc;
 use crate::fault::DescFault;
@@ -15,15 +14,11 @@ use std::alloc::Global;
 impl Desc {
     /// The description as a valid one for a register bank of so many words, or the first clock that
     /// breaks the first of the rules that is broken. After a refusal the description is gone.
-    ///
-    /// So far a clock that is neither a fixed clock nor a gate, or that has a later clock as a
-    /// possible parent, is refused with `NotYet` before all rules.
     pub fn check(self, alloc: Global, words: u32) -> Result<ValidDesc, DescFault>
         requires { EachClock self (has_its_parents self) }
         ensures ok { IfOk result (λ desc. desc ≡ record { defs = self; words = words }) }
         ensures valid { OnOk result (IsValid words self) }
-        ensures plain { OnOk result (IsPlain self) }
-        ensures err { IfErr result (IsRefusal words self) }
+        ensures err { IfErr result (IsFault words self) }
     {
         refuse_broken(alloc, self.as_slice(), words)?;
         Ok(ValidDesc::new(self, words))
