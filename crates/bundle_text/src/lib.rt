@@ -10,7 +10,7 @@ mod numbers;
 mod text_lines;
 
 pub use names::{is_clock_name, is_driver_name, is_variable, is_word};
-pub use numbers::{number_up_to, small_number_up_to};
+pub use numbers::{number_up_to, number_within, small_number_up_to, small_number_within};
 pub use text_lines::{TextLines, line_feeds};
 
 #[cfg(test)]

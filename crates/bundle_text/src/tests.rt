@@ -30,6 +30,48 @@ fn a_line_that_is_not_utf_8_has_no_words(rt: HostRuntime) -> Result<(), Fail> {
 }
 
 #[test]
+fn words_between_blanks_and_comments(rt: HostRuntime) -> Result<(), Fail> {
+    let text = b"\t fixed  osc\t5 \n # gate\n#\n \t\ngate #g\na\xc3 b\n";
+    let lines = TextLines::new(rt.alloc(), text)?;
+    assert_eq!(rt;
+        lines.blank_words(rt.alloc(), 0)?.as_slice(),
+        ["fixed", "osc", "5"].as_slice()
+    );
+    assert_eq!(rt;
+        lines.blank_words(rt.alloc(), 1)?.as_slice(),
+        ["#", "gate"].as_slice()
+    );
+    for (at, words) in [(0, 3), (1, 0), (2, 0), (3, 0), (4, 2), (5, 1), (6, 0)] {
+        assert_eq!(rt; lines.said_words(rt.alloc(), at)?.len(), words, "line {at}");
+    }
+    Ok(())
+}
+
+#[test]
+fn numbers_are_decimal_or_hexadecimal(rt: HostRuntime) {
+    for (least, most, word, wanted) in [
+        (1, 65536, "0", None),
+        (1, 65536, "1", Some(1)),
+        (1, 65536, "0x10000", Some(65536)),
+        (1, 65536, "65537", None),
+        (0, 255, "0xfF", Some(255)),
+        (0, 255, "0x100", None),
+        (0, 255, "0x", None),
+        (0, 255, "0X1", None),
+        (0, 255, "0x+1", None),
+        (0, 255, "0xg", None),
+        (0, 255, "007", Some(7)),
+        (0, 255, "-1", None),
+        (0, u64::MAX, "0xffffffffffffffff", Some(u64::MAX)),
+        (0, u64::MAX, "0x10000000000000000", None),
+    ] {
+        assert_eq!(rt; number_within(least, most, word), wanted, "at {word}");
+    }
+    assert_eq!(rt; small_number_within(1, 5, "0x5"), Some(5));
+    assert_eq!(rt; small_number_within(1, 5, "6"), None);
+}
+
+#[test]
 fn numbers_are_decimal_and_bounded(rt: HostRuntime) {
     for (most, word, wanted) in [
         (31, "31", Some(31)),

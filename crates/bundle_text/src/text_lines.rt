@@ -1,8 +1,9 @@
-ghost use Rattle.std.specs.Prelude.{◌≡◌, ◌==◌, ◌+◌, ◌<◌, ◌≤◌, length, take, position, count_by, IfOk};
+ghost use Rattle.std.specs.Prelude.{◌≡◌, ◌==◌, ◌+◌, ◌<◌, ◌≤◌, length, take, position, count_by, slice_index, ◌++◌, IfOk, OnOk};
 ghost use Rattle.std.specs.List.{slice_split};
 ghost use Rattle.std.specs.Str.Lines.{lines, strip_carriage_return};
 ghost use Rattle.bundle_text.specs.Lines.{line_at, is_header, header_from};
-ghost use Rattle.bundle_text.specs.Words.{texts, spaced_words};
+ghost use Rattle.std.specs.Option.{option_map, option_to_list};
+ghost use Rattle.bundle_text.specs.Words.{texts, spaced_words, is_blank, is_comment, as_word, blank_words, said_words};
 
 use clk_io::NoMemory;
 use std::alloc::{AllocError, Global};
@@ -68,6 +69,70 @@ fn words_of<'a>(alloc: Global, line: &'a [u8]) -> Result<Vec<&'a str>, NoMemory>
     Ok(parts_of(alloc, text)?)
 }
 
+/// The parts of a line between blanks.
+fn parts_between_blanks(alloc: Global, line: &[u8]) -> Result<Vec<&[u8]>, AllocError>
+    ensures { IfOk result (λ parts. texts parts.items ≡ slice_split is_blank line.now) }
+{
+    line.split(|byte| *byte == b' ' || *byte == b'\t')
+        .collect(alloc)
+}
+
+/// A part of a line as a word, where it isn't empty and is UTF-8.
+#[tactic(auto, unfolding(crate::specs::Words::as_word))]
+fn as_word(part: &[u8]) -> Option<&str>
+    ensures { option_map (λ word. word.now) result ≡ as_word part.now }
+{
+    if part.is_empty() {
+        return None;
+    }
+    match str::from_utf8(part) {
+        Ok(word) => Some(word),
+        Err(_) => None,
+    }
+}
+
+/// A word more, where there is one.
+fn push_some<'a>(words: &mut Vec<&'a str>, word: Option<&'a str>) -> Result<(), NoMemory>
+    ensures { OnOk result (texts words.new.items ≡ texts words.old.items ++ option_to_list (option_map (λ w. w.now) word.entry)) }
+{
+    match word {
+        Some(word) => Ok(words.push(word)?),
+        None => Ok(()),
+    }
+}
+
+/// The words of a line between blanks.
+fn words_between_blanks<'a>(alloc: Global, line: &'a [u8]) -> Result<Vec<&'a str>, NoMemory>
+    ensures { IfOk result (λ words. texts words.items ≡ blank_words line.now) }
+{
+    let parts = parts_between_blanks(alloc, line)?;
+    let mut words = Vec::new(alloc);
+    for part in &parts {
+        push_some(&mut words, as_word(part))?;
+    }
+    Ok(words)
+}
+
+/// The first word begins with `#`.
+fn is_comment(words: &[&str]) -> bool
+    ensures { result ≡ is_comment (texts words.now) }
+{
+    match words {
+        [word, ..] => begins_with_hash(word.as_bytes()),
+        [] => false,
+    }
+}
+
+/// The word begins with `#`.
+fn begins_with_hash(word: &[u8]) -> bool
+    ensures { result ≡ (slice_index word.now 0 == 35) }
+{
+    match word {
+        [b'#', ..] => true,
+        _ => false,
+    }
+}
+
 /// How many line feeds the text has.
 pub fn line_feeds(bytes: &[u8]) -> usize
     ensures count { result ≡ count_by (λ b. b == 10) bytes.now }
@@ -117,6 +182,26 @@ impl<'a> TextLines<'a> {
         ensures { IfOk result (λ words. texts words.items ≡ spaced_words (line_at self.now at)) }
     {
         words_of(alloc, self.line(at))
+    }
+
+    /// The words of the line at a place, separated by any blanks. A part that isn't UTF-8 is no
+    /// word.
+    pub fn blank_words(&self, alloc: Global, at: usize) -> Result<Vec<&'a str>, NoMemory>
+        ensures { IfOk result (λ words. texts words.items ≡ blank_words (line_at self.now at)) }
+    {
+        words_between_blanks(alloc, self.line(at))
+    }
+
+    /// The same, where the line is no comment; a comment says no words.
+    #[tactic(auto, unfolding(crate::specs::Words::said_words))]
+    pub fn said_words(&self, alloc: Global, at: usize) -> Result<Vec<&'a str>, NoMemory>
+        ensures { IfOk result (λ words. texts words.items ≡ said_words (line_at self.now at)) }
+    {
+        let words = self.blank_words(alloc, at)?;
+        if is_comment(&words) {
+            return Ok(Vec::new(alloc));
+        }
+        Ok(words)
     }
 
     /// The place of the first header at this place or behind it, else the number of lines.
