@@ -1,3 +1,6 @@
 pub mod Borrowed
 pub mod Grown
 pub mod Looked
+pub mod Fine
+pub mod Turns
+pub mod Indices
