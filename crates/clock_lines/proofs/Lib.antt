@@ -4,3 +4,5 @@ pub mod Looked
 pub mod Fine
 pub mod Turns
 pub mod Indices
+pub mod Whole
+pub mod Verdicts
