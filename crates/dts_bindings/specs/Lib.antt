@@ -1,2 +1,7 @@
 pub mod Properties
 pub mod Nodes
+pub mod Formed
+pub mod Table
+pub mod Kinds
+pub mod Clocks
+pub mod Binding
