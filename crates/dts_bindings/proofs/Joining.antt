@@ -9,7 +9,8 @@ use Rattle.dts_tree.specs.declared.tree.Cell.{Cell}
 use Rattle.dts_tree.specs.declared.tree.Cell.TheVariants as cells
 use Rattle.dts_tree.specs.declared.tree.DtsValue.{DtsValue}
 use Rattle.dts_tree.specs.Tree.{SeenValue, seen_value}
-use Rattle.dts_bindings.specs.Properties.{is_cells, cells_of, cells_in, text_of, is_number, number_of, numbers_in, all_numbers, only, only_two, one_number, two_numbers, alone, two_alone}
+use Rattle.dts_bindings.specs.Alone.{alone, two_alone}
+use Rattle.dts_bindings.specs.Properties.{is_cells, cells_of, cells_in, text_of, is_number, number_of, numbers_in, all_numbers, only, only_two, one_number, two_numbers}
 
 filter_map-single : {X Y : Type 0} (f : X → Option Y) (x : X) (o : Option Y) → f x ≡ o → filter_map f (x ∷ []) ≡ option_to_list o
 filter_map-single f x None e = rw e refl

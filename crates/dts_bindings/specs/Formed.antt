@@ -4,7 +4,7 @@ use Rattle.std.specs.List.{list_all}
 use Rattle.std.specs.Option.{is_some, option_map_or}
 use Rattle.dts_tree.specs.Tree.{SeenValue, SeenCells, SeenNode}
 use Rattle.dts_bindings.specs.Properties.{property_named, values_of, is_cells, is_number, is_plain, one_number}
-use Rattle.dts_bindings.specs.Nodes.{is_consumer}
+use Rattle.dts_bindings.specs.Properties.{is_consumer}
 
 -- a value is number cells
 abbrev pub is_numbers : SeenValue → Bool

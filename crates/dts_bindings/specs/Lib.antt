@@ -1,5 +1,5 @@
 pub mod Properties
-pub mod Nodes
+pub mod Alone
 pub mod Formed
 pub mod Table
 pub mod Kinds

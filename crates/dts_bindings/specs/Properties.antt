@@ -1,4 +1,4 @@
--- The properties of a node, and what their values are.
+-- What values are, the properties of a node by their names, and what these make of a node.
 use Rattle.std.specs.Prelude.{ℕ, ◌==◌, ◌&&◌, ◌||◌, not, Bool, true, false, Option, Some, None, List, [], ◌∷◌, length, codes, if◌then◌else◌}
 use Rattle.std.specs.List.{find, list_all, list_any, flat_map, filter_map}
 use Rattle.std.specs.Option.{is_some, option_map, option_map_or, option_and_then}
@@ -6,18 +6,6 @@ use Rattle.std.specs.Str.{bytes_eq}
 use Rattle.dts_tree.specs.declared.tree.Cell.{Cell}
 use Rattle.dts_tree.specs.declared.tree.Cell.TheVariants as cells
 use Rattle.dts_tree.specs.Tree.{SeenValue, SeenText, SeenCells, SeenProperty, SeenNode}
-
--- the first property of this name
-unfoldable pub property_named : List ℕ → SeenNode → Option SeenProperty
-property_named name node = find (λ p. bytes_eq p.name name) node.properties
-
--- whether a node has a property of this name
-unfoldable pub has_property : List ℕ → SeenNode → Bool
-has_property name node = is_some (property_named name node)
-
--- the values of the property of this name; none where it is missing
-unfoldable pub values_of : List ℕ → SeenNode → List SeenValue
-values_of name node = option_map_or (λ p. p.values) (property_named name node) []
 
 -- a value is cells, and which
 abbrev pub is_cells : SeenValue → Bool
@@ -88,11 +76,39 @@ abbrev pub is_plain : SeenValue → Bool
 is_plain (SeenText text) = not (has_backslash text)
 is_plain other = false
 
--- the number that the first of the cells is, where there is no second, and the two that the first two are, where there is no third
-abbrev pub alone : Option Cell → Option Cell → Option ℕ
-alone (Some (cells.Number n)) None = Some n
-alone first second = None
+-- the first property of this name
+unfoldable pub property_named : List ℕ → SeenNode → Option SeenProperty
+property_named name node = find (λ p. bytes_eq p.name name) node.properties
 
-abbrev pub two_alone : Option Cell → Option Cell → Option Cell → Option (ℕ × ℕ)
-two_alone (Some (cells.Number n)) (Some (cells.Number m)) None = Some (n, m)
-two_alone first second third = None
+-- whether a node has a property of this name
+unfoldable pub has_property : List ℕ → SeenNode → Bool
+has_property name node = is_some (property_named name node)
+
+-- the values of the property of this name; none where it is missing
+unfoldable pub values_of : List ℕ → SeenNode → List SeenValue
+values_of name node = option_map_or (λ p. p.values) (property_named name node) []
+
+-- the values are the one string `okay` or `ok`
+abbrev pub says_okay : List SeenValue → Bool
+says_okay (SeenText text ∷ []) = bytes_eq text (codes "okay") || bytes_eq text (codes "ok")
+says_okay others = false
+
+-- a node's own `status` doesn't pass it over
+unfoldable pub is_okay : SeenNode → Bool
+is_okay node = option_map_or (λ p. says_okay p.values) (property_named (codes "status") node) true
+
+-- a provider states how many cells its clocks' specifiers have
+unfoldable pub is_provider : SeenNode → Bool
+is_provider node = has_property (codes "#clock-cells") node
+
+-- a consumer uses clocks and provides none
+unfoldable pub is_consumer : SeenNode → Bool
+is_consumer node = has_property (codes "clocks") node && not (is_provider node)
+
+-- the number by which cells name the node
+unfoldable pub phandle_of : SeenNode → Option ℕ
+phandle_of node = one_number (values_of (codes "phandle") node)
+
+-- how many cells stand behind the node in a specifier
+unfoldable pub clock_cells_of : SeenNode → Option ℕ
+clock_cells_of node = one_number (values_of (codes "#clock-cells") node)

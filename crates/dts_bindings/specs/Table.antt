@@ -9,7 +9,7 @@ use Rattle.dts_bindings.specs.declared.table.Row.TheVariants.{Fixed, Factor, Gat
 use Rattle.dts_bindings.specs.declared.bound.Wants.{Wants}
 use Rattle.dts_bindings.specs.declared.bound.Wants.TheVariants as wants
 use Rattle.dts_bindings.specs.Properties.{values_of}
-use Rattle.dts_bindings.specs.Nodes.{clock_cells_of}
+use Rattle.dts_bindings.specs.Properties.{clock_cells_of}
 
 -- the row that a string names
 unfoldable pub row_named : List ℕ → Option Row

@@ -1,7 +1,7 @@
 //! What a node is to the clocks.
 
 ghost use Rattle.std.specs.Prelude.{◌≡◌, map};
-ghost use Rattle.dts_bindings.specs.Nodes.{says_okay, is_okay, is_provider, is_consumer, phandle_of, clock_cells_of};
+ghost use Rattle.dts_bindings.specs.Properties.{says_okay, is_okay, is_provider, is_consumer, phandle_of, clock_cells_of};
 ghost use Rattle.dts_tree.specs.Tree.{seen_value, seen_node};
 
 use crate::properties::{has_property, property, values};
@@ -19,7 +19,7 @@ fn says_okay(values: &[DtsValue]) -> bool
 }
 
 /// A node whose own `status` doesn't pass it over.
-#[tactic(auto, unfolding(crate::specs::Nodes::is_okay))]
+#[tactic(auto, unfolding(crate::specs::Properties::is_okay))]
 pub fn is_okay(node: &DtsNode) -> bool
     ensures { result ≡ is_okay (seen_node node.now) }
 {
@@ -30,7 +30,7 @@ pub fn is_okay(node: &DtsNode) -> bool
 }
 
 /// A node that provides clocks.
-#[tactic(auto, unfolding(crate::specs::Nodes::is_provider))]
+#[tactic(auto, unfolding(crate::specs::Properties::is_provider))]
 pub fn is_provider(node: &DtsNode) -> bool
     ensures { result ≡ is_provider (seen_node node.now) }
 {
@@ -38,7 +38,7 @@ pub fn is_provider(node: &DtsNode) -> bool
 }
 
 /// A node that uses clocks and provides none.
-#[tactic(auto, unfolding(crate::specs::Nodes::is_consumer))]
+#[tactic(auto, unfolding(crate::specs::Properties::is_consumer))]
 pub fn is_consumer(node: &DtsNode) -> bool
     ensures { result ≡ is_consumer (seen_node node.now) }
 {
@@ -46,7 +46,7 @@ pub fn is_consumer(node: &DtsNode) -> bool
 }
 
 /// The number by which cells name the node.
-#[tactic(auto, unfolding(crate::specs::Nodes::phandle_of))]
+#[tactic(auto, unfolding(crate::specs::Properties::phandle_of))]
 pub fn phandle(node: &DtsNode) -> Option<u32>
     ensures { result ≡ phandle_of (seen_node node.now) }
 {
@@ -54,7 +54,7 @@ pub fn phandle(node: &DtsNode) -> Option<u32>
 }
 
 /// How many cells stand behind the node in a specifier.
-#[tactic(auto, unfolding(crate::specs::Nodes::clock_cells_of))]
+#[tactic(auto, unfolding(crate::specs::Properties::clock_cells_of))]
 pub fn clock_cells(node: &DtsNode) -> Option<u32>
     ensures { result ≡ clock_cells_of (seen_node node.now) }
 {
