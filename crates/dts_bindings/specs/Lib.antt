@@ -5,3 +5,4 @@ pub mod Table
 pub mod Kinds
 pub mod Clocks
 pub mod Binding
+pub mod Examples
