@@ -29,19 +29,24 @@ const fn optional(good: &'static str, bad: &'static str) -> Case {
     }
 }
 
+/// The last node of a source.
+fn last_node(alloc: Global, source: &str) -> Option<DtsNode> {
+    if source.len() > MOST_BYTES {
+        return None;
+    }
+    let Ok(found) = tokens(alloc, source) else {
+        return None;
+    };
+    let Ok(mut tree) = parse(alloc, source, &found) else {
+        return None;
+    };
+    tree.nodes.pop()
+}
+
 /// The node `clk@10` of these properties.
 fn node(alloc: Global, properties: &str) -> Result<Option<DtsNode>, Fail> {
     let source = format!(in alloc; "/dts-v1/;/{{ l: clk@10 {{ {properties} }}; }};")?;
-    if source.len() > MOST_BYTES {
-        return Ok(None);
-    }
-    let Ok(found) = tokens(alloc, source.as_str()) else {
-        return Ok(None);
-    };
-    let Ok(mut tree) = parse(alloc, source.as_str(), &found) else {
-        return Ok(None);
-    };
-    Ok(tree.nodes.pop())
+    Ok(last_node(alloc, source.as_str()))
 }
 
 /// The debug text of what a node of these properties says.
