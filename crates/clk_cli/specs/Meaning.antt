@@ -3,16 +3,21 @@ use Rattle.std.specs.Prelude.{ℕ, List, [], ◌∷◌, Option, Some, None, fals
 use Rattle.std.specs.Borrow.{Bor}
 use Rattle.std.specs.Str.{bytes_eq}
 use Rattle.clk_cli.specs.declared.cli.Cli.{Cli}
-use Rattle.clk_cli.specs.declared.cli.Mode.TheVariants.{Sim}
+use Rattle.clk_cli.specs.declared.cli.Mode.{Mode}
+use Rattle.clk_cli.specs.declared.cli.Mode.TheVariants.{Check, Sim}
 
 -- the words' bytes
 abbrev pub texts : List (Bor (List ℕ)) → List (List ℕ)
 texts words = map (λ word. word.now) words
 
--- what the words mean, or none where they mean nothing: the word `sim` alone is the mode of this name
+-- the mode of this name, without flags
+abbrev pub plain : Mode → Cli
+plain mode = record { mode = mode; journal = false; ignore_unused = false }
+
+-- what the words mean, or none where they mean nothing: the word `check` or `sim` alone is the mode of this name
 unfoldable pub meaning : List (List ℕ) → Option Cli
 meaning (word ∷ []) =
-    if bytes_eq word (codes "sim")
-    then Some (record { mode = Sim; journal = false; ignore_unused = false })
+    if bytes_eq word (codes "check") then Some (plain Check)
+    else if bytes_eq word (codes "sim") then Some (plain Sim)
     else None
 meaning _ = None

@@ -1,16 +1,18 @@
 use super::*;
 
 #[test]
-fn reads_sim_and_nothing_else(rt: HostRuntime) {
-    assert!(rt;
-        words(rt.alloc(), &["sim"])
-            == Ok(Cli {
-                mode: Mode::Sim,
-                journal: false,
-                ignore_unused: false
-            })
-    );
-    let refused: [&[&str]; 5] = [&[], &["fly"], &["sim", "1"], &["bench"], &["Sim"]];
+fn reads_check_and_sim_and_nothing_else(rt: HostRuntime) {
+    for (word, mode) in [("check", Mode::Check), ("sim", Mode::Sim)] {
+        assert!(rt;
+            words(rt.alloc(), &[word])
+                == Ok(Cli {
+                    mode,
+                    journal: false,
+                    ignore_unused: false
+                })
+        );
+    }
+    let refused: [&[&str]; 6] = [&[], &["fly"], &["sim", "1"], &["check", "1"], &["bench"], &["Sim"]];
     for given in refused {
         assert!(rt; words(rt.alloc(), given) == Err(CliFault::Usage));
     }

@@ -8,16 +8,17 @@ use Rattle.clk_model.specs.State.{State}
 use Rattle.clk_model.specs.Fed.{Fed}
 use Rattle.clk_model.specs.Journal.{replay, Legal}
 use Rattle.drv_scripts.specs.declared.bundle.Bundle.{Bundle}
+use Rattle.clk_cli.specs.declared.cli.Cli.{Cli}
 use Rattle.clk_machine.specs.Run.{Run}
-use Rattle.clk_run.specs.Runs.{opening_of, run_text, IsTextOf, HasRun, PrintedFront, LeftByFault}
+use Rattle.clk_run.specs.Runs.{drivers_in, opening_of, run_text, IsTextOf, HasRun, PrintedFront, LeftByFault}
 
 -- a core that has run a bundle from its opening gives the text of a run of it
-pub text_of : (b : Bundle) (ignore_unused told : Bool) (begun core : Run) (answers : List (List Answer)) (words : List ℕ)
-    → begun.start ≡ opening_of b ignore_unused → begun.told ≡ told → HasRun b answers begun core
+pub text_of : (b : Bundle) (cli : Cli) (told : Bool) (begun core : Run) (answers : List (List Answer)) (words : List ℕ)
+    → begun.start ≡ opening_of b cli.ignore_unused → begun.told ≡ told → HasRun b.boot (drivers_in cli.mode b) answers begun core
     → (core.told ≡ true → (n : ℕ) → Fed (replay core.start (take n core.journal))) → (core.told ≡ true → words ≡ (replay core.start core.journal).regs)
-    → IsTextOf b ignore_unused told words (run_text b.desc.defs b.drivers answers words)
-text_of b ignore_unused told begun core answers words opens same ran fed means =
-    let start : core.start ≡ opening_of b ignore_unused = ran.start ∙ opens in
+    → IsTextOf b cli told words (run_text b.desc.defs (drivers_in cli.mode b) answers words)
+text_of b cli told begun core answers words opens same ran fed means =
+    let start : core.start ≡ opening_of b cli.ignore_unused = ran.start ∙ opens in
     record {
       journal = core.journal;
       answers = answers;
@@ -38,8 +39,8 @@ bank_back None size words told regs printed is same has means = tt
 bank_back (Some found) size words told regs printed is same has means = ap (λ (n : ℕ). take n found) same ∙ has ∙ sym (means (sym is))
 
 -- a front of the text is what each fault of printing may leave
-pub left_by : {T : Type 0} (b : Bundle) (ignore_unused told : Bool) (old new : Option (List ℕ)) (r : Result T PrintFault) → PrintedFront b ignore_unused told old new
-    → IfErr r (LeftByFault b ignore_unused told old new)
-left_by b ignore_unused told old new (Ok x) front = tt
-left_by b ignore_unused told old new (Err print_fault.Write) front = front
-left_by b ignore_unused told old new (Err print_fault.NoMemory) front = inr front
+pub left_by : {T : Type 0} (b : Bundle) (cli : Cli) (told : Bool) (old new : Option (List ℕ)) (r : Result T PrintFault) → PrintedFront b cli told old new
+    → IfErr r (LeftByFault b cli told old new)
+left_by b cli told old new (Ok x) front = tt
+left_by b cli told old new (Err print_fault.Write) front = front
+left_by b cli told old new (Err print_fault.NoMemory) front = inr front

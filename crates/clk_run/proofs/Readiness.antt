@@ -12,7 +12,9 @@ use Rattle.drv_scripts.specs.Form.{words_end}
 use Rattle.drv_scripts.specs.Placed.{IsSound, IsScript}
 use Rattle.drv_scripts.specs.Spelled.{boot_of, script_at, scripts_of, bundle_of}
 use Rattle.drv_scripts.specs.Verdict.{Accepts}
-use Rattle.clk_run.specs.Runs.{are_built, credits_of, IsReady}
+use Rattle.clk_cli.specs.declared.cli.Mode.{Mode}
+use Rattle.clk_cli.specs.declared.cli.Mode.TheVariants.{Check, Sim, Run, Bench}
+use Rattle.clk_run.specs.Runs.{are_built, credits_of, drivers_in, IsReady}
 use Rattle.clk_run.proofs.Acts.{spelled_built}
 use Rattle.clk_run.proofs.Going.{length-boot_of}
 
@@ -56,6 +58,31 @@ few_credits b is =
     let boot = ap (λ (cs : List Command). length cs) is.boot ∙ length-boot_of (length b.desc.defs) in
     let sum = sum_few (length b.desc.defs) b.drivers is.few is.sound.scripts in
     omega arith
+
+-- ---- the drivers that run
+
+-- what holds of each driver of a bundle holds of those that run
+pub drivers_keep : (P : Script → Type 0) (mode : Mode) (b : Bundle) → AllByRecursion P b.drivers → AllByRecursion P (drivers_in mode b)
+drivers_keep P Check b all = tt
+drivers_keep P Sim b all = all
+drivers_keep P Run b all = all
+drivers_keep P (Bench n) b all = all
+
+-- no more drivers run than there are
+pub drivers_few : (mode : Mode) (b : Bundle) → length (drivers_in mode b) ≤ length b.drivers
+drivers_few Check b = omega arith
+drivers_few Sim b = omega arith
+drivers_few Run b = omega arith
+drivers_few (Bench n) b = omega arith
+
+-- and no more commands
+pub commands_few : (mode : Mode) (b : Bundle) → sum_by (λ s. length s.commands) (drivers_in mode b) ≤ sum_by (λ s. length s.commands) b.drivers
+commands_few Check b = omega arith
+commands_few Sim b = omega arith
+commands_few Run b = omega arith
+commands_few (Bench n) b = omega arith
+
+-- ---- lists
 
 -- all behind the first
 pub behind_first : {X : Type 0} (xs : List X) → take (length xs - 1) (drop 1 xs) ≡ drop 1 xs

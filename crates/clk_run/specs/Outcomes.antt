@@ -46,9 +46,9 @@ IsRunStatus status = (status ≡ 0) ⊎ ((status ≡ 2) ⊎ ((status ≡ 3) ⊎ 
 
 -- status 0: all that was left of the source spells a bundle, the text of a run of it was printed, and the bank came back with the registers
 -- that the run leaves, where it tells its words
-abbrev pub Done : Bool → Bool → Option (List ℕ) → Option (List ℕ) → Option (List ℕ) → Option (List ℕ) → Option (Option (List ℕ)) → Type 0
-Done ignore_unused told left left' written written' back =
-    (b : Bundle) × GivesBundle left left' b × (contents : Option (List ℕ)) × (back ≡ Some contents) × Printed b ignore_unused told written written' contents
+abbrev pub Done : Cli → Bool → Option (List ℕ) → Option (List ℕ) → Option (List ℕ) → Option (List ℕ) → Option (Option (List ℕ)) → Type 0
+Done cli told left left' written written' back =
+    (b : Bundle) × GivesBundle left left' b × (contents : Option (List ℕ)) × (back ≡ Some contents) × Printed b cli told written written' contents
 
 -- status 2: what was left of the source is refused, and the line was printed that says where and why
 abbrev pub Refused : Option (List ℕ) → Option (List ℕ) → Option (List ℕ) → Option (List ℕ) → Type 0
@@ -56,14 +56,14 @@ Refused left left' written written' =
     (line : ℕ) × (reason : Reason) × RefusesInput left left' line reason × Appends written written' (refusal_text line reason)
 
 -- status 5: a front of the text of a run was printed, or of the line of a refusal
-abbrev pub Unwritten : Bool → Bool → Option (List ℕ) → Option (List ℕ) → Option (List ℕ) → Option (List ℕ) → Type 0
-Unwritten ignore_unused told left left' written written' =
-    ((b : Bundle) × GivesBundle left left' b × PrintedFront b ignore_unused told written written')
+abbrev pub Unwritten : Cli → Bool → Option (List ℕ) → Option (List ℕ) → Option (List ℕ) → Option (List ℕ) → Type 0
+Unwritten cli told left left' written written' =
+    ((b : Bundle) × GivesBundle left left' b × PrintedFront b cli told written written')
     ⊎ ((line : ℕ) × (reason : Reason) × RefusesInput left left' line reason × AppendsFront written written' (refusal_text line reason))
 
 -- status 3: nothing was printed, or a front of what would have been
-abbrev pub Short : Bool → Bool → Option (List ℕ) → Option (List ℕ) → Option (List ℕ) → Option (List ℕ) → Type 0
-Short ignore_unused told left left' written written' = (written' ≡ written) ⊎ Unwritten ignore_unused told left left' written written'
+abbrev pub Short : Cli → Bool → Option (List ℕ) → Option (List ℕ) → Option (List ℕ) → Option (List ℕ) → Type 0
+Short cli told left left' written written' = (written' ≡ written) ⊎ Unwritten cli told left left' written written'
 
 -- ---- completeness
 
@@ -92,7 +92,7 @@ MeansNothing meant written written' = (meant ≡ None) × Appends written writte
 
 -- status 0: the words mean a run, and it was done
 abbrev pub MeansDone : Option Cli → Bool → Option (List ℕ) → Option (List ℕ) → Option (List ℕ) → Option (List ℕ) → Option (Option (List ℕ)) → Type 0
-MeansDone meant told left left' written written' back = (cli : Cli) × (meant ≡ Some cli) × Done cli.ignore_unused told left left' written written' back
+MeansDone meant told left left' written written' back = (cli : Cli) × (meant ≡ Some cli) × Done cli told left left' written written' back
 
 -- status 2: the words mean a run, and the bundle is refused
 abbrev pub MeansRefused : Option Cli → Option (List ℕ) → Option (List ℕ) → Option (List ℕ) → Option (List ℕ) → Type 0
@@ -106,7 +106,7 @@ MeansUnread meant written written' = (cli : Cli) × (meant ≡ Some cli) × (wri
 abbrev pub MeansUnwritten : Option Cli → Bool → Option (List ℕ) → Option (List ℕ) → Option (List ℕ) → Option (List ℕ) → Type 0
 MeansUnwritten meant told left left' written written' =
     ((meant ≡ None) × AppendsFront written written' usage_line)
-    ⊎ ((cli : Cli) × (meant ≡ Some cli) × Unwritten cli.ignore_unused told left left' written written')
+    ⊎ ((cli : Cli) × (meant ≡ Some cli) × Unwritten cli told left left' written written')
 
 -- status 3: nothing was printed, or a front of what would have been
 abbrev pub MeansShort : Option Cli → Bool → Option (List ℕ) → Option (List ℕ) → Option (List ℕ) → Option (List ℕ) → Type 0

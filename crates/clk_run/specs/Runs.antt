@@ -19,14 +19,28 @@ use Rattle.clk_io.specs.declared.faults.PrintFault.{PrintFault}
 use Rattle.clk_io.specs.declared.faults.PrintFault.TheVariants as print_fault
 use Rattle.drv_scripts.specs.Placed.{IsSound}
 use Rattle.drv_scripts.specs.Spelled.{boot_of}
-use Rattle.clk_machine.specs.Run.{Run}
+use Rattle.clk_cli.specs.declared.cli.Cli.{Cli}
+use Rattle.clk_cli.specs.declared.cli.Mode.{Mode}
+use Rattle.clk_cli.specs.declared.cli.Mode.TheVariants.{Check, Sim, Run, Bench}
+use Rattle.clk_machine.specs.Run as cores
 use Rattle.clk_run.specs.Scripts.{is_built_act}
 
 -- ---- what a run begins from
 
--- the commands of boot, and then those of each driver
-abbrev pub scripts_of : Bundle → List (List Command)
-scripts_of b = b.boot ∷ map (λ s. s.commands) b.drivers
+-- the drivers that run: under `check` none does
+abbrev pub drivers_in : Mode → Bundle → List Script
+drivers_in Check b = []
+drivers_in Sim b = b.drivers
+drivers_in Run b = b.drivers
+drivers_in (Bench n) b = b.drivers
+
+-- the commands of boot, and then those of each of these drivers
+abbrev pub scripts_with : List Command → List Script → List (List Command)
+scripts_with boot drivers = boot ∷ map (λ s. s.commands) drivers
+
+-- the commands of boot, and then those of each driver that runs
+abbrev pub scripts_of : Mode → Bundle → List (List Command)
+scripts_of mode b = scripts_with b.boot (drivers_in mode b)
 
 -- a credit for each command
 abbrev pub credits_of : Bundle → ℕ
@@ -49,13 +63,13 @@ FollowAll d (commands ∷ scripts) (own ∷ answers) journal = Follows commands 
 abbrev pub are_among : ℕ → List Entry → Bool
 are_among drivers journal = list_all (λ e. nat_lt e.driver drivers) journal
 
--- a run of a bundle: its journal, where the bank tells its words, is a legal run of the machine, after each of its entries the active
+-- a run of a bundle, as the words ask for it: its journal, where the bank tells its words, is a legal run of the machine, after each of its entries the active
 -- clocks are fed, and in it boot and each driver, and nobody else, have their calls once, in their order, answered so
-pub record IsRunOf (b : Bundle) (ignore_unused told : Bool) (journal : List Entry) (answers : List (List Answer)) : Type 0 where
-  pub legal : told ≡ true → Legal (opening_of b ignore_unused) journal
-  pub fed : told ≡ true → (n : ℕ) → Fed (replay (opening_of b ignore_unused) (take n journal))
-  pub follow : FollowAll 0 (scripts_of b) answers journal
-  pub among : are_among (length (scripts_of b)) journal ≡ true
+pub record IsRunOf (b : Bundle) (cli : Cli) (told : Bool) (journal : List Entry) (answers : List (List Answer)) : Type 0 where
+  pub legal : told ≡ true → Legal (opening_of b cli.ignore_unused) journal
+  pub fed : told ≡ true → (n : ℕ) → Fed (replay (opening_of b cli.ignore_unused) (take n journal))
+  pub follow : FollowAll 0 (scripts_of cli.mode b) answers journal
+  pub among : are_among (length (scripts_of cli.mode b)) journal ≡ true
 
 -- ---- what a run prints
 
@@ -74,12 +88,12 @@ abbrev pub run_text : Description → List Script → List (List Answer) → Reg
 run_text defs drivers answers words = scripts_text defs (names_of drivers) answers ++ registers_text words
 
 -- a text that a run of a bundle prints: its registers are those that its journal leaves, where the bank tells its words
-pub record IsTextOf (b : Bundle) (ignore_unused told : Bool) (words : Registers) (text : List ℕ) : Type 0 where
+pub record IsTextOf (b : Bundle) (cli : Cli) (told : Bool) (words : Registers) (text : List ℕ) : Type 0 where
   pub journal : List Entry
   pub answers : List (List Answer)
-  pub run : IsRunOf b ignore_unused told journal answers
-  pub registers : told ≡ true → words ≡ (replay (opening_of b ignore_unused) journal).regs
-  pub text_is : text ≡ run_text b.desc.defs b.drivers answers words
+  pub run : IsRunOf b cli told journal answers
+  pub registers : told ≡ true → words ≡ (replay (opening_of b cli.ignore_unused) journal).regs
+  pub text_is : text ≡ run_text b.desc.defs (drivers_in cli.mode b) answers words
 
 -- ---- what can be run so far
 
@@ -89,13 +103,13 @@ are_built commands = list_all (λ c. is_built_act c.act) commands
 
 -- ---- cores
 
--- a core that had an empty journal has run a bundle
-pub record HasRun (b : Bundle) (answers : List (List Answer)) (old new : Run) : Type 0 where
+-- a core that had an empty journal has run the commands of boot and of these drivers
+pub record HasRun (boot : List Command) (drivers : List Script) (answers : List (List Answer)) (old new : cores.Run) : Type 0 where
   pub start : new.start ≡ old.start
   pub told : new.told ≡ old.told
   pub legal : old.told ≡ true → Legal new.start new.journal
-  pub follow : FollowAll 0 (scripts_of b) answers new.journal
-  pub among : are_among (length (scripts_of b)) new.journal ≡ true
+  pub follow : FollowAll 0 (scripts_with boot drivers) answers new.journal
+  pub among : are_among (length (scripts_with boot drivers)) new.journal ≡ true
 
 -- ---- bundles
 
@@ -109,21 +123,21 @@ pub record IsReady (b : Bundle) : Type 0 where
 -- ---- what is left behind
 
 -- the text of a run was printed, and the bank, where it tells its words, has the registers that the run leaves
-pub record Printed (b : Bundle) (ignore_unused told : Bool) (old new : Option (List ℕ)) (contents : Option (List ℕ)) : Type 0 where
+pub record Printed (b : Bundle) (cli : Cli) (told : Bool) (old new : Option (List ℕ)) (contents : Option (List ℕ)) : Type 0 where
   pub words : Registers
   pub text : List ℕ
-  pub run : IsTextOf b ignore_unused told words text
+  pub run : IsTextOf b cli told words text
   pub printed : Appends old new text
   pub registers : IfSome contents (λ found. take (length b.words) found ≡ words)
 
 -- a front of the text of a run was printed
-pub record PrintedFront (b : Bundle) (ignore_unused told : Bool) (old new : Option (List ℕ)) : Type 0 where
+pub record PrintedFront (b : Bundle) (cli : Cli) (told : Bool) (old new : Option (List ℕ)) : Type 0 where
   pub words : Registers
   pub text : List ℕ
-  pub run : IsTextOf b ignore_unused told words text
+  pub run : IsTextOf b cli told words text
   pub printed : AppendsFront old new text
 
 -- after a fault of writing a front of the text of a run was printed; where memory ran out, that or nothing
-abbrev pub LeftByFault : Bundle → Bool → Bool → Option (List ℕ) → Option (List ℕ) → PrintFault → Type 0
-LeftByFault b ignore_unused told old new print_fault.Write = PrintedFront b ignore_unused told old new
-LeftByFault b ignore_unused told old new print_fault.NoMemory = (new ≡ old) ⊎ PrintedFront b ignore_unused told old new
+abbrev pub LeftByFault : Bundle → Cli → Bool → Option (List ℕ) → Option (List ℕ) → PrintFault → Type 0
+LeftByFault b cli told old new print_fault.Write = PrintedFront b cli told old new
+LeftByFault b cli told old new print_fault.NoMemory = (new ≡ old) ⊎ PrintedFront b cli told old new

@@ -2,14 +2,15 @@
 
 ghost use Rattle.std.specs.Prelude.{◌≡◌, ◌≤◌, is_some, IfOk, IfErr};
 ghost use Rattle.clk_io.specs.Causes.{PrintHasCause};
-ghost use Rattle.clk_run.specs.Runs.{credits_of, IsReady, Printed, LeftByFault};
+ghost use Rattle.clk_run.specs.Runs.{credits_of, drivers_in, IsReady, Printed, LeftByFault};
 
 use crate::printing::print_run;
 use crate::scripts::run_scripts;
 use crate::words::registers_of;
+use clk_cli::{Cli, Mode};
 use clk_io::{PrintFault, Sink};
 use clk_machine::Core;
-use drv_scripts::Bundle;
+use drv_scripts::{Bundle, Script};
 use reg_bank::Bank;
 use std::alloc::Global;
 
@@ -25,19 +26,29 @@ fn credits_of(bundle: &Bundle) -> u32
     credits as u32
 }
 
+// The drivers that run: under `check` none does.
+fn drivers_in(mode: Mode, bundle: &Bundle) -> &[Script]
+    ensures { result.now ≡ drivers_in mode bundle.now }
+{
+    match mode {
+        Mode::Check => &[],
+        Mode::Sim | Mode::Run | Mode::Bench(_) => bundle.drivers.as_slice(),
+    }
+}
+
 /// Runs a bundle over a bank and prints its answers and registers. The bank comes back.
 pub(crate) fn run_bundle<K: Sink, B: Bank>(
     alloc: Global,
     bundle: &Bundle,
-    ignore_unused: bool,
+    cli: &Cli,
     out: &mut K,
     bank: B,
 ) -> Result<B, PrintFault>
     requires ready { IsReady bundle.now }
     requires room { 65536 ≤ B.size bank }
-    ensures done { IfOk result (λ left. Printed bundle.now ignore_unused (is_some (B.contents bank)) (K.written out.old) (K.written out.new) (B.contents left)) }
+    ensures done { IfOk result (λ left. Printed bundle.now cli.now (is_some (B.contents bank)) (K.written out.old) (K.written out.new) (B.contents left)) }
     ensures told { IfOk result (λ left. is_some (B.contents left) ≡ is_some (B.contents bank)) }
-    ensures fault { IfErr result (LeftByFault bundle.now ignore_unused (is_some (B.contents bank)) (K.written out.old) (K.written out.new)) }
+    ensures fault { IfErr result (LeftByFault bundle.now cli.now (is_some (B.contents bank)) (K.written out.old) (K.written out.new)) }
     ensures cause { PrintHasCause (K.faults out.old) (K.faults out.new) result }
     ensures tells { is_some (K.written out.new) ≡ is_some (K.written out.old) }
     ensures later { K.faults out.old ≤ K.faults out.new }
@@ -45,12 +56,12 @@ pub(crate) fn run_bundle<K: Sink, B: Bank>(
     let desc = bundle.desc.copy(alloc)?;
     let words = bundle.words.as_slice();
     let credits = credits_of(bundle);
-    let mut core = Core::create(alloc, desc, bank, words, ignore_unused, credits)?;
-    let answers = run_scripts(alloc, &mut core, bundle)?;
+    let mut core = Core::create(alloc, desc, bank, words, cli.ignore_unused, credits)?;
+    let drivers = drivers_in(cli.mode, bundle);
+    let answers = run_scripts(alloc, &mut core, bundle.boot.as_slice(), drivers)?;
     // What the journal tells of the run: after each of its entries the active clocks are fed.
     let _ = core.journal();
     let registers = registers_of(alloc, &core)?;
-    let drivers = bundle.drivers.as_slice();
     print_run(
         alloc,
         &bundle.desc,

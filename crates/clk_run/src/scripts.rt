@@ -1,17 +1,17 @@
 //! Running a bundle: boot, and then each driver.
 
-ghost use Rattle.std.specs.Prelude.{◌≡◌, ◌≤◌, [], true, length, IfOk};
+ghost use Rattle.std.specs.Prelude.{◌≡◌, ◌≤◌, ◌+◌, [], true, length, sum_by, IfOk};
 ghost use Rattle.std.specs.List.{AllByRecursion};
 ghost use Rattle.clk_base.specs.Plain.{IsPlain};
 ghost use Rattle.drv_scripts.specs.Placed.{IsScript};
 ghost use Rattle.drv_scripts.specs.Spelled.{boot_of};
-ghost use Rattle.clk_run.specs.Runs.{are_built, credits_of, HasRun};
+ghost use Rattle.clk_run.specs.Runs.{are_built, HasRun};
 
 use crate::script::{run_boot, run_script};
-use clk_base::Answer;
+use clk_base::{Answer, Command};
 use clk_io::NoMemory;
 use clk_machine::Core;
-use drv_scripts::{Bundle, Listed};
+use drv_scripts::{Listed, Script};
 use reg_bank::Bank;
 use std::alloc::Global;
 
@@ -20,23 +20,23 @@ use std::alloc::Global;
 pub(crate) fn run_scripts<B: Bank>(
     alloc: Global,
     core: &mut Core<B>,
-    bundle: &Bundle,
+    boot: &[Command],
+    drivers: &[Script],
 ) -> Result<Vec<Listed<Answer>>, NoMemory>
     requires begins { core.old.journal ≡ [] }
-    requires credits { core.old.start.credits ≡ credits_of bundle.now }
-    requires defs { core.old.start.defs ≡ bundle.now.desc.defs }
-    requires plain { IsPlain bundle.now.desc.defs }
-    requires boot { bundle.now.boot ≡ boot_of (length bundle.now.desc.defs) }
-    requires few { length bundle.now.drivers ≤ 65536 }
-    requires placed { AllByRecursion (IsScript (length bundle.now.desc.defs)) bundle.now.drivers }
-    requires built { AllByRecursion (λ s. are_built s.commands ≡ true) bundle.now.drivers }
-    ensures { IfOk result (λ answers. HasRun bundle.now answers.items core.old core.new) }
+    requires credits { length boot.now + sum_by (λ s. length s.commands) drivers.now ≤ core.old.start.credits }
+    requires plain { IsPlain core.old.start.defs }
+    requires boot { boot.now ≡ boot_of (length core.old.start.defs) }
+    requires few { length drivers.now ≤ 65536 }
+    requires placed { AllByRecursion (IsScript (length core.old.start.defs)) drivers.now }
+    requires built { AllByRecursion (λ s. are_built s.commands ≡ true) drivers.now }
+    ensures { IfOk result (λ answers. HasRun boot.now drivers.now answers.items core.old core.new) }
 {
-    let boot = run_boot(alloc, core, bundle.boot.as_slice())?;
+    let first = run_boot(alloc, core, boot)?;
     let mut answers = Vec::new(alloc);
-    answers.push(Listed::new(boot))?;
+    answers.push(Listed::new(first))?;
     let mut driver = 1u32;
-    for script in bundle.drivers.as_slice() {
+    for script in drivers {
         let own = run_script(alloc, core, driver, script.commands.as_slice())?;
         answers.push(Listed::new(own))?;
         driver += 1;

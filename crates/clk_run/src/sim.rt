@@ -59,8 +59,8 @@ fn status_of(fault: PrintFault) -> u8
     }
 }
 
-/// Reads a bundle, runs it on one thread and prints its answers and registers. Answers the status,
-/// and with 0 the bank:
+/// Reads a bundle, runs it on one thread and prints its answers and registers; under `check` boot
+/// alone runs. Answers the status, and with 0 the bank:
 ///
 /// - 0: the bundle ran and its text was printed;
 /// - 2: the bundle is refused, and the line that says why was printed;
@@ -76,20 +76,20 @@ pub fn simulate<S: Source, K: Sink, B: Bank>(
 ) -> (u8, Option<B>)
     requires room { 65536 ≤ B.size bank }
     ensures known { IsRunStatus result.0 }
-    ensures done { result.0 ≡ 0 → Done cli.now.ignore_unused (is_some (B.contents bank)) (S.left input.old) (S.left input.new) (K.written out.old) (K.written out.new) (option_map B.contents result.1) }
+    ensures done { result.0 ≡ 0 → Done cli.now (is_some (B.contents bank)) (S.left input.old) (S.left input.new) (K.written out.old) (K.written out.new) (option_map B.contents result.1) }
     ensures back { is_some result.1 ≡ (result.0 == 0) }
     ensures refused { result.0 ≡ 2 → Refused (S.left input.old) (S.left input.new) (K.written out.old) (K.written out.new) }
     ensures read { result.0 ≡ 4 → Rose (S.faults input.old) (S.faults input.new) }
     ensures unread { result.0 ≡ 4 → K.written out.new ≡ K.written out.old }
     ensures write { result.0 ≡ 5 → Rose (K.faults out.old) (K.faults out.new) }
-    ensures unwritten { result.0 ≡ 5 → Unwritten cli.now.ignore_unused (is_some (B.contents bank)) (S.left input.old) (S.left input.new) (K.written out.old) (K.written out.new) }
-    ensures short { result.0 ≡ 3 → Short cli.now.ignore_unused (is_some (B.contents bank)) (S.left input.old) (S.left input.new) (K.written out.old) (K.written out.new) }
+    ensures unwritten { result.0 ≡ 5 → Unwritten cli.now (is_some (B.contents bank)) (S.left input.old) (S.left input.new) (K.written out.old) (K.written out.new) }
+    ensures short { result.0 ≡ 3 → Short cli.now (is_some (B.contents bank)) (S.left input.old) (S.left input.new) (K.written out.old) (K.written out.new) }
     ensures decided { NoFault (S.faults input.old) (S.faults input.new) (K.faults out.old) (K.faults out.new) → Decides (S.left input.old) result.0 }
     ensures tells { is_some (K.written out.new) ≡ is_some (K.written out.old) }
     ensures later { (S.faults input.old ≤ S.faults input.new) × (K.faults out.old ≤ K.faults out.new) }
 {
     match take_bundle(alloc, input) {
-        Ok(bundle) => match run_bundle(alloc, &bundle, cli.ignore_unused, out, bank) {
+        Ok(bundle) => match run_bundle(alloc, &bundle, cli, out, bank) {
             Ok(bank) => (0, Some(bank)),
             Err(fault) => (status_of(fault), None),
         },

@@ -21,7 +21,8 @@ use reg_bank::Bank;
 /// - 4: a read failed, and nothing was printed;
 /// - 5: a write failed, and a front of the text was printed.
 ///
-/// For now the one word `sim` has a meaning: the run on one thread, which pauses nowhere.
+/// For now the words `check` and `sim` have a meaning: boot alone, or the run on one thread, which
+/// pauses nowhere.
 pub fn clkbench<R: AllocGlobal, S: Source, K: Sink, B: Bank, Q: Pause>(
     rt: &R,
     words: &[&str],

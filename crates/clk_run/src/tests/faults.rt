@@ -1,6 +1,6 @@
 //! Sources and sinks that fail.
 
-use super::running::{UART, UART_PRINTED, run};
+use super::running::{CLOCKS, UART, UART_PRINTED, run};
 use clk_cli::USAGE_LINE;
 use std::test::Fail;
 
@@ -35,6 +35,17 @@ fn a_write_that_fails_leaves_a_front(rt: HostRuntime) -> Result<(), Fail> {
         assert!(rt; whole.starts_with(written));
     }
     assert!(rt; false);
+    Ok(())
+}
+
+#[test]
+fn boots_answers_may_be_cut(rt: HostRuntime) -> Result<(), Fail> {
+    let (status, out) = run(&rt, "check", CLOCKS.as_bytes(), &[], &[2])?;
+    assert_eq!(rt; status, 5);
+    assert_eq!(rt; out.written(), b"boot.1 o".as_slice());
+    let (status, out) = run(&rt, "check", CLOCKS.as_bytes(), &[1], &[])?;
+    assert_eq!(rt; status, 4);
+    assert_eq!(rt; out.written(), b"".as_slice());
     Ok(())
 }
 

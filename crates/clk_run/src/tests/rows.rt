@@ -1,6 +1,6 @@
 //! Bundles that run.
 
-use super::running::{CLOCKS, UART, UART_PRINTED, ends, run};
+use super::running::{CLOCKS, UART, UART_PRINTED, ends, ends_under, run};
 use clk_cli::USAGE_LINE;
 use std::test::Fail;
 
@@ -14,6 +14,15 @@ fn answers(rt: &HostRuntime, commands: &str, printed: &str) -> Result<bool, Fail
 #[test]
 fn a_bundle_runs_and_its_text_is_printed(rt: HostRuntime) {
     assert!(rt; ends(&rt, UART.as_bytes(), 0, UART_PRINTED));
+}
+
+#[test]
+fn under_check_boot_alone_runs(rt: HostRuntime) {
+    assert!(rt; ends_under(&rt, "check", CLOCKS.as_bytes(), 0, "boot.1 ok\nboot.2 ok\n"));
+    assert!(rt; ends_under(&rt, "check", UART.as_bytes(), 0, "boot.1 ok\nboot.2 ok\n"));
+    let text = b"%bundle 1\n%clocks\nfixed f 5\n%regs 2\n1 255\n%driver A\nget a f\n";
+    assert!(rt; ends_under(&rt, "check", text, 0, "boot.1 ok\nreg 1 0x000000ff\n"));
+    assert!(rt; ends_under(&rt, "check", b"", 2, "error: line 1: BadVersion\n"));
 }
 
 #[test]
@@ -81,7 +90,7 @@ fn a_bundle_may_end_behind_each_section(rt: HostRuntime) {
 
 #[test]
 fn other_words_print_how_the_program_is_called(rt: HostRuntime) -> Result<(), Fail> {
-    for word in ["fly", "", "SIM", "sim ", "check", "run", "bench", "-h"] {
+    for word in ["fly", "", "SIM", "sim ", "checks", "run", "bench", "-h"] {
         let (status, out) = run(&rt, word, UART.as_bytes(), &[], &[])?;
         assert_eq!(rt; status, 1);
         assert_eq!(rt; out.written(), USAGE_LINE.as_bytes());

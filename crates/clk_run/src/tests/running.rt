@@ -42,9 +42,20 @@ pub(crate) fn run(
     Ok((status, out))
 }
 
-/// Whether a run without faults ends with this status and has written exactly this.
+/// Whether a run under `sim` without faults ends with this status and has written exactly this.
 pub(crate) fn ends(rt: &HostRuntime, text: &[u8], status: u8, printed: &str) -> bool {
-    match run(rt, "sim", text, &[], &[]) {
+    ends_under(rt, "sim", text, status, printed)
+}
+
+/// Whether a run under this word without faults ends with this status and has written exactly this.
+pub(crate) fn ends_under(
+    rt: &HostRuntime,
+    word: &str,
+    text: &[u8],
+    status: u8,
+    printed: &str,
+) -> bool {
+    match run(rt, word, text, &[], &[]) {
         Ok((found, out)) => found == status && out.written() == printed.as_bytes(),
         Err(_) => false,
     }

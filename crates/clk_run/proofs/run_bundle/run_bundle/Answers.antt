@@ -1,4 +1,4 @@
-use Rattle.std.proofs.Common.{◌≡◌, ℕ, ◌≤◌, ap, subst, sym, ◌∙◌, arith, length, List}
+use Rattle.std.proofs.Common.{◌≡◌, ℕ, ◌≤◌, true, sum_by, ap, subst, sym, ◌∙◌, arith, length, List}
 use Rattle.std.specs.Prelude.{is_some, Bool, refl}
 use Rattle.std.proofs.lemmas.List.{length-map}
 use Rattle.clk_base.specs.declared.command.Answer.{Answer}
@@ -7,11 +7,18 @@ use Rattle.std.specs.Io.KnownBytes.{Appends}
 use Rattle.clk_io.specs.Streams.{AppendsFront}
 use Rattle.drv_scripts.specs.declared.bundle.Bundle.{Bundle}
 use Rattle.clk_base.specs.Checked.{Checked}
+use Rattle.clk_base.specs.Description.{Description}
+use Rattle.clk_base.specs.Plain.{IsPlain}
+use Rattle.clk_base.specs.declared.command.Command.{Command}
+use Rattle.clk_machine.specs.Run.{Run}
+use Rattle.drv_scripts.specs.Placed.{IsScript}
+use Rattle.drv_scripts.specs.Spelled.{boot_of}
+use Rattle.std.specs.List.{AllByRecursion}
 use Rattle.clk_model.specs.Journal.{opening}
 use Rattle.clk_model.specs.State.{State}
-use Rattle.clk_run.specs.Runs.{scripts_of, opening_of, credits_of, run_text}
+use Rattle.clk_run.specs.Runs.{scripts_with, drivers_in, are_built, opening_of, credits_of, run_text, HasRun}
 use Rattle.clk_run.proofs.RunTexts.{follow_many}
-use Rattle.clk_run.proofs.Readiness.{few_credits}
+use Rattle.clk_run.proofs.Readiness.{few_credits, drivers_keep, drivers_few, commands_few}
 use Rattle.clk_run.proofs.Leaving.{text_of, bank_back, left_by}
 use Rattle.clk_run.proofs.run_bundle.run_bundle.Goals as goal
 
@@ -21,16 +28,40 @@ credits_of-credits-requires g c = few_credits c.args.bundle.now c.requires.ready
 pub create-requires-clause-credits : goal.create-requires-clause-credits
 create-requires-clause-credits g c = subst (λ (n : ℕ). n ≤ 4194304) (sym c.credits_of-credits.ensures) (few_credits c.args.bundle.now c.requires.ready)
 
-pub run_scripts-requires-clause-built : goal.run_scripts-requires-clause-built
-run_scripts-requires-clause-built g c = c.requires.ready.built
+pub run_scripts-requires : goal.run_scripts-requires
+run_scripts-requires g c =
+    let b = c.args.bundle.now in
+    let mode = c.args.cli.now.mode in
+    let begun = c.in_ok-core.ensures in
+    let ready = c.requires.ready in
+    let boot = c.as_slice.ensures in
+    let run = c.drivers_in-drivers.result.now in
+    let drivers : drivers_in mode b ≡ run = sym c.drivers_in-drivers.ensures in
+    let credits = ap (λ (s : State). s.credits) begun.start ∙ c.credits_of-credits.ensures in
+    let defs : b.desc.defs ≡ c.in_ok-core.core.start.defs = ap (λ (d : Checked). d.defs) (sym c.in_ok-desc.ensures) ∙ sym (ap (λ (s : State). s.defs) begun.start) in
+    let many = ap (λ (cs : List Command). length cs) boot in
+    let sum = ap (λ (xs : List Script). sum_by (λ (s : Script). length s.commands) xs) drivers in
+    let few = ap (λ (xs : List Script). length xs) drivers in
+    let fewer = commands_few mode b in
+    let no_more = drivers_few mode b in
+    let one = ready.few in
+    record {
+      begins = begun.journal;
+      credits = omega arith;
+      plain = subst IsPlain defs ready.sound.plain;
+      boot = boot ∙ ready.boot ∙ ap (λ (ds : Description). boot_of (length ds)) defs;
+      few = omega arith;
+      placed = subst (λ (ds : Description). AllByRecursion (IsScript (length ds)) run) defs
+          (subst (λ (xs : List Script). AllByRecursion (IsScript (length b.desc.defs)) xs) drivers (drivers_keep (IsScript (length b.desc.defs)) mode b ready.sound.scripts));
+      built = subst (λ (xs : List Script). AllByRecursion (λ s. are_built s.commands ≡ true) xs) drivers (drivers_keep (λ s. are_built s.commands ≡ true) mode b ready.built);
+    }
 
 pub print_run-requires : goal.print_run-requires
 print_run-requires g c =
-    let b = c.args.bundle.now in
-    let many = follow_many 0 (scripts_of b) _ _ c.in_ok-answers.ensures.follow in
-    let mine = ap (λ (xs : List (List Answer)). length xs) c.as_slice.ensures.value in
-    let drivers = ap (λ (xs : List Script). length xs) c.as_slice-drivers.ensures in
-    let same = length-map b.drivers (λ (s : Script). s.commands) in
+    let drivers = c.drivers_in-drivers.result.now in
+    let many = follow_many 0 (scripts_with c.as_slice.result.now drivers) _ _ c.in_ok-answers.ensures.follow in
+    let mine = ap (λ (xs : List (List Answer)). length xs) c.as_slice-2.ensures.value in
+    let same = length-map drivers (λ (s : Script). s.commands) in
     record { many = omega arith }
 
 -- where the core begins
@@ -40,20 +71,27 @@ Opens b desc words ignore_unused credits = opening desc.defs words ignore_unused
 opens : (b : Bundle) (desc : Checked) (words : List ℕ) (ignore_unused : Bool) (credits : ℕ) → desc ≡ b.desc → words ≡ b.words → credits ≡ credits_of b → Opens b desc words ignore_unused credits
 opens b desc words ignore_unused credits same these paid = rw (same, these, paid) refl
 
+-- the commands that were run are those of the bundle
+ran_of : (b : Bundle) (boot : List Command) (drivers run : List Script) (answers : List (List Answer)) (old new : Run) → boot ≡ b.boot → run ≡ drivers
+    → HasRun boot run answers old new → HasRun b.boot drivers answers old new
+ran_of b boot drivers run answers old new these those ran = subst (λ (xs : List Script). HasRun b.boot xs answers old new) those (subst (λ (cs : List Command). HasRun cs run answers old new) these ran)
+
 pub returns-clause-done : goal.returns-clause-done
 returns-clause-done g c =
     let b = c.args.bundle.now in
     let core = c.run_scripts.new.core in
     let begun = c.in_ok-core.ensures in
     let printed = c.in_ok-registers.registers.items in
-    let text = ap (λ (drivers : List Script). run_text b.desc.defs drivers c.as_slice.result.now c.as_slice-2.result.now) c.as_slice-drivers.ensures
-    ∙ ap (λ (xs : List (List Answer)). run_text b.desc.defs b.drivers xs c.as_slice-2.result.now) c.as_slice.ensures.value
-    ∙ ap (λ (ws : List ℕ). run_text b.desc.defs b.drivers c.in_ok-answers.answers.items ws) c.as_slice-2.ensures.value in
-    let start = begun.start ∙ opens b _ _ c.args.ignore_unused _ c.in_ok-desc.ensures c.as_slice-words.ensures c.credits_of-credits.ensures in
+    let drivers = drivers_in c.args.cli.now.mode b in
+    let text = ap (λ (xs : List Script). run_text b.desc.defs xs c.as_slice-2.result.now c.as_slice-3.result.now) c.drivers_in-drivers.ensures
+    ∙ ap (λ (xs : List (List Answer)). run_text b.desc.defs drivers xs c.as_slice-3.result.now) c.as_slice-2.ensures.value
+    ∙ ap (λ (ws : List ℕ). run_text b.desc.defs drivers c.in_ok-answers.answers.items ws) c.as_slice-3.ensures.value in
+    let ran = ran_of b _ drivers _ c.in_ok-answers.answers.items _ c.run_scripts.new.core c.as_slice.ensures c.drivers_in-drivers.ensures c.in_ok-answers.ensures in
+    let start = begun.start ∙ opens b _ _ c.args.cli.now.ignore_unused _ c.in_ok-desc.ensures c.as_slice-words.ensures c.credits_of-credits.ensures in
     record {
       words = printed;
-      text = run_text b.desc.defs b.drivers c.in_ok-answers.answers.items printed;
-      run = text_of b c.args.ignore_unused (is_some (g.B.Bank.contents c.args.bank)) _ core c.in_ok-answers.answers.items printed start begun.told c.in_ok-answers.ensures
+      text = run_text b.desc.defs drivers c.in_ok-answers.answers.items printed;
+      run = text_of b c.args.cli.now (is_some (g.B.Bank.contents c.args.bank)) _ core c.in_ok-answers.answers.items printed start begun.told ran
           c.journal.ensures.fed c.in_ok-registers.ensures;
       printed = subst (Appends (g.K.Sink.written c.args.out.now) (g.K.Sink.written c.print_run.new.out)) text c.in_ok-print_run.ensures.prints;
       registers = bank_back _ _ _ _ _ _ c.into_bank.ensures.told (ap (λ (s : State). length s.regs) (sym (c.in_ok-answers.ensures.start ∙ start))) c.into_bank.ensures.words
@@ -66,14 +104,16 @@ returns-in_err-print_run-clause-fault g c =
     let begun = c.in_ok-core.ensures in
     let answers = c.in_ok-answers.answers.items in
     let printed = c.in_ok-registers.registers.items in
-    let text = ap (λ (drivers : List Script). run_text b.desc.defs drivers c.as_slice.result.now c.as_slice-2.result.now) c.as_slice-drivers.ensures
-    ∙ ap (λ (xs : List (List Answer)). run_text b.desc.defs b.drivers xs c.as_slice-2.result.now) c.as_slice.ensures.value
-    ∙ ap (λ (ws : List ℕ). run_text b.desc.defs b.drivers answers ws) c.as_slice-2.ensures.value in
-    let start = begun.start ∙ opens b _ _ c.args.ignore_unused _ c.in_ok-desc.ensures c.as_slice-words.ensures c.credits_of-credits.ensures in
+    let drivers = drivers_in c.args.cli.now.mode b in
+    let text = ap (λ (xs : List Script). run_text b.desc.defs xs c.as_slice-2.result.now c.as_slice-3.result.now) c.drivers_in-drivers.ensures
+    ∙ ap (λ (xs : List (List Answer)). run_text b.desc.defs drivers xs c.as_slice-3.result.now) c.as_slice-2.ensures.value
+    ∙ ap (λ (ws : List ℕ). run_text b.desc.defs drivers answers ws) c.as_slice-3.ensures.value in
+    let ran = ran_of b _ drivers _ answers _ c.run_scripts.new.core c.as_slice.ensures c.drivers_in-drivers.ensures c.in_ok-answers.ensures in
+    let start = begun.start ∙ opens b _ _ c.args.cli.now.ignore_unused _ c.in_ok-desc.ensures c.as_slice-words.ensures c.credits_of-credits.ensures in
     let told = is_some (g.B.Bank.contents c.args.bank) in
-    left_by b c.args.ignore_unused told (g.K.Sink.written c.args.out.now) (g.K.Sink.written c.print_run.new.out) c.from_residual-in_err-print_run.result (record {
+    left_by b c.args.cli.now told (g.K.Sink.written c.args.out.now) (g.K.Sink.written c.print_run.new.out) c.from_residual-in_err-print_run.result (record {
       words = printed;
-      text = run_text b.desc.defs b.drivers answers printed;
-      run = text_of b c.args.ignore_unused told _ c.run_scripts.new.core answers printed start begun.told c.in_ok-answers.ensures c.journal.ensures.fed c.in_ok-registers.ensures;
+      text = run_text b.desc.defs drivers answers printed;
+      run = text_of b c.args.cli.now told _ c.run_scripts.new.core answers printed start begun.told ran c.journal.ensures.fed c.in_ok-registers.ensures;
       printed = subst (AppendsFront (g.K.Sink.written c.args.out.now) (g.K.Sink.written c.print_run.new.out)) text c.in_err-print_run.ensures.prints;
     })

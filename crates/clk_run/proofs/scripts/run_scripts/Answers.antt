@@ -16,67 +16,60 @@ use Rattle.clk_run.proofs.scripts.run_scripts.Goals as goal
 
 pub run_boot-requires-clause-credits : goal.run_boot-requires-clause-credits
 run_boot-requires-clause-credits g c =
-    let many = ap (λ (cs : List Command). length cs) c.as_slice.ensures in
     let spent = ap cost c.requires.begins in
     let paid = c.requires.credits in
     omega arith
 
-pub run_boot-requires-clause-plain : goal.run_boot-requires-clause-plain
-run_boot-requires-clause-plain g c = rw c.requires.defs c.requires.plain
-
 pub run_boot-requires-clause-clocks : goal.run_boot-requires-clause-clocks
 run_boot-requires-clause-clocks g c =
-    let many = ap (λ (cs : List Command). length cs) (c.as_slice.ensures ∙ c.requires.boot) ∙ length-boot_of (length c.args.bundle.now.desc.defs) in
-    let same = ap (λ (defs : Description). length defs) c.requires.defs in
+    let many = ap (λ (cs : List Command). length cs) c.requires.boot ∙ length-boot_of (length c.args.core.now.start.defs) in
     omega arith
 
 pub run_boot-requires-clause-probes : goal.run_boot-requires-clause-probes
-run_boot-requires-clause-probes g c = subst (AreProbes 0) (sym (c.as_slice.ensures ∙ c.requires.boot)) (boot_probes (length c.args.bundle.now.desc.defs))
+run_boot-requires-clause-probes g c = subst (AreProbes 0) (sym c.requires.boot) (boot_probes (length c.args.core.now.start.defs))
 
 pub loop-script-init : goal.loop-script-init
 loop-script-init g c =
-    let boot = c.as_slice.result.now in
+    let boot = c.args.boot.now in
     let first = c.args.core.now in
     let mid = c.run_boot.new.core in
-    let held' = c.in_ok-boot.ensures.0 in
-    let probes = subst (AreProbes 0) (sym (c.as_slice.ensures ∙ c.requires.boot)) (boot_probes (length c.args.bundle.now.desc.defs)) in
+    let held' = c.in_ok-first.ensures.0 in
+    let probes = subst (AreProbes 0) (sym c.requires.boot) (boot_probes (length first.start.defs)) in
     let none : no_handles boot ≡ [] = ap (λ (n : ℕ). replicate n None) (no_variables 0 boot probes) in
-    let goes = c.in_ok-boot.ensures.1 in
-    let mine = subst (λ (held : Variables). GoesThrough first 0 held boot c.in_ok-boot.boot.items held' mid) (sym none) goes in
-    let next = follow_next first mid 0 held' [] [] boot c.in_ok-boot.boot.items refl (subst (FollowAll 0 [] []) (sym c.requires.begins) tt) (ap (are_among 0) c.requires.begins) mine in
-    let spent = goes_cost first mid 0 [] held' boot c.in_ok-boot.boot.items goes in
+    let goes = c.in_ok-first.ensures.1 in
+    let mine = subst (λ (held : Variables). GoesThrough first 0 held boot c.in_ok-first.first.items held' mid) (sym none) goes in
+    let next = follow_next first mid 0 held' [] [] boot c.in_ok-first.first.items refl (subst (FollowAll 0 [] []) (sym c.requires.begins) tt) (ap (are_among 0) c.requires.begins) mine in
+    let spent = goes_cost first mid 0 [] held' boot c.in_ok-first.first.items goes in
     let nothing = ap cost c.requires.begins in
     let paid = c.requires.credits in
-    let many = ap (λ (cs : List Command). length cs) c.as_slice.ensures in
     let told = c.in_ok-push.ensures.items ∙ ap (λ (xs : List (List Answer)). xs ++ c.new.result ∷ []) c.new-answers.ensures.items ∙ ap (λ (x : List Answer). x ∷ []) c.new.ensures in
     record {
       start = goes.start;
       told = goes.told;
       legal = λ told_. goes.legal told_ (subst (Legal first.start) (sym c.requires.begins) tt);
       number = refl;
-      follow = subst (λ commands. FollowAll 0 (commands ∷ []) c.push.new.self.items mid.journal) c.as_slice.ensures
-          (subst (λ answers. FollowAll 0 (boot ∷ []) answers mid.journal) (sym told) next.0);
+      follow = subst (λ answers. FollowAll 0 (boot ∷ []) answers mid.journal) (sym told) next.0;
       among = next.1;
       credits = omega arith;
     }
 
 pub run_script-requires-clause-credits : goal.run_script-requires-clause-credits
 run_script-requires-clause-credits g c =
-    let drivers = c.args.bundle.now.drivers in
+    let drivers = c.args.drivers.now in
     let i = c.loop-script.script-index in
     let s = c.script-item.result in
-    let within = subst (λ (xs : List Script). i < length xs) c.as_slice-script-items.ensures c.loop-script-test.true in
-    let is = c.script-item.is ∙ ap (λ (xs : List Script). get_or xs i s) c.as_slice-script-items.ensures in
+    let within = c.loop-script-test.true in
+    let is = c.script-item.is in
     let left = sum_by-drop_more (λ (x : Script). length x.commands) drivers i s within in
     let this = ap (λ (x : Script). length x.commands) is in
-    let these = ap (λ (cs : List Command). length cs) c.as_slice-in-loop-script.ensures in
+    let these = ap (λ (cs : List Command). length cs) c.as_slice.ensures in
     let enough = c.loop-script.invariant.credits in
     let same = ap (λ (x : State). x.credits) c.loop-script.invariant.start in
     omega arith
 
 pub loop-script-preserved : goal.loop-script-preserved
 loop-script-preserved g c =
-    let drivers = c.args.bundle.now.drivers in
+    let drivers = c.args.drivers.now in
     let i = c.loop-script.script-index in
     let mid = c.loop-script.core in
     let last = c.run_script.new.core in
@@ -85,15 +78,15 @@ loop-script-preserved g c =
     let held' = c.in_ok-own.ensures.0 in
     let driver = c.loop-script.driver in
     let done = map (λ (x : Script). x.commands) (take i drivers) in
-    let within = subst (λ (xs : List Script). i < length xs) c.as_slice-script-items.ensures c.loop-script-test.true in
-    let is = c.script-item.is ∙ ap (λ (xs : List Script). get_or xs i s) c.as_slice-script-items.ensures in
+    let within = c.loop-script-test.true in
+    let is = c.script-item.is in
     let taken = take_more drivers i s within ∙ ap (λ (x : Script). take i drivers ++ x ∷ []) (sym is) in
     let mapped : map (λ (x : Script). x.commands) (take (i + 1) drivers) ≡ done ++ s.commands ∷ [] =
     ap (map (λ (x : Script). x.commands)) taken ∙ map-append (λ (x : Script). x.commands) (take i drivers) (s ∷ []) in
-    let goes = subst (λ commands. GoesThrough mid driver (no_handles commands) commands own' held' last) c.as_slice-in-loop-script.ensures c.in_ok-own.ensures.1 in
+    let goes = subst (λ commands. GoesThrough mid driver (no_handles commands) commands own' held' last) c.as_slice.ensures c.in_ok-own.ensures.1 in
     let number = c.loop-script.invariant.number in
-    let many : driver ≡ length (c.args.bundle.now.boot ∷ done) = omega (arith, length-map (take i drivers) (λ (x : Script). x.commands), length-take i drivers) in
-    let next = follow_next mid last driver held' (c.args.bundle.now.boot ∷ done) c.loop-script.answers.items s.commands own' many c.loop-script.invariant.follow c.loop-script.invariant.among goes in
+    let many : driver ≡ length (c.args.boot.now ∷ done) = omega (arith, length-map (take i drivers) (λ (x : Script). x.commands), length-take i drivers) in
+    let next = follow_next mid last driver held' (c.args.boot.now ∷ done) c.loop-script.answers.items s.commands own' many c.loop-script.invariant.follow c.loop-script.invariant.among goes in
     let told = c.in_ok-push-2.ensures.items ∙ ap (λ (x : List Answer). c.loop-script.answers.items ++ x ∷ []) c.new-in-loop-script.ensures in
     let left = sum_by-drop_more (λ (x : Script). length x.commands) drivers i s within in
     let this = ap (λ (x : Script). length x.commands) is in
@@ -104,8 +97,8 @@ loop-script-preserved g c =
       told = goes.told ∙ c.loop-script.invariant.told;
       legal = λ told_. goes.legal (c.loop-script.invariant.told ∙ told_) (c.loop-script.invariant.legal told_);
       number = ap (λ (n : ℕ). n + 1) number;
-      follow = subst (λ scripts. FollowAll 0 (c.args.bundle.now.boot ∷ scripts) c.push-in-loop-script.new.self.items last.journal) (sym mapped)
-          (subst (λ answers. FollowAll 0 ((c.args.bundle.now.boot ∷ done) ++ s.commands ∷ []) answers last.journal) (sym told) next.0);
+      follow = subst (λ scripts. FollowAll 0 (c.args.boot.now ∷ scripts) c.push-in-loop-script.new.self.items last.journal) (sym mapped)
+          (subst (λ answers. FollowAll 0 ((c.args.boot.now ∷ done) ++ s.commands ∷ []) answers last.journal) (sym told) next.0);
       among = next.1;
       credits = omega arith;
     }

@@ -10,7 +10,7 @@ invariant-loop-script g l = record {
   told : l.core.told ≡ l.fn.core.told;
   legal : l.fn.core.told ≡ true → Legal l.core.start l.core.journal;
   number : l.driver ≡ l.script-index + 1;
-  follow : FollowAll 0 (l.bundle.boot ∷ map (λ s. s.commands) (take l.script-index l.bundle.drivers)) l.answers.items l.core.journal;
+  follow : FollowAll 0 (l.boot ∷ map (λ s. s.commands) (take l.script-index l.drivers)) l.answers.items l.core.journal;
   among : are_among l.driver l.core.journal ≡ true;
-  credits : cost l.core.journal + sum_by (λ s. length s.commands) (drop l.script-index l.bundle.drivers) ≤ l.fn.core.start.credits;
+  credits : cost l.core.journal + sum_by (λ s. length s.commands) (drop l.script-index l.drivers) ≤ l.fn.core.start.credits;
 }
