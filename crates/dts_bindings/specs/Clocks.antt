@@ -1,5 +1,5 @@
 -- The clocks of a provider: their names, their identifiers and their kinds.
-use Rattle.std.specs.Prelude.{ℕ, ◌==◌, ◌&&◌, not, nat_lt, Bool, true, false, Option, Some, None, List, [], ◌∷◌, length, map, codes, string_bytes, if◌then◌else◌}
+use Rattle.std.specs.Prelude.{ℕ, ◌==◌, ◌&&◌, not, false, Option, Some, None, List, [], ◌∷◌, length, map, codes, string_bytes, if◌then◌else◌}
 use Rattle.std.specs.List.{list_all, filter_map, before_first, zip, range_with_len}
 use Rattle.std.specs.Option.{option_map_or}
 use Rattle.std.specs.declared.vec.Vec.{Vec}

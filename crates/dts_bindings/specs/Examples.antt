@@ -1,20 +1,16 @@
 -- Small nodes, and what they say of clocks, computed.
-use Rattle.std.specs.Prelude.{◌≡◌, ℕ, Bool, true, false, Option, Some, None, Result, Ok, Err, List, [], ◌∷◌, ◌++◌, map, codes, refl}
-use Rattle.clk_base.specs.declared.clock.Kind.{Kind}
+use Rattle.std.specs.Prelude.{◌≡◌, ℕ, true, false, Some, Ok, Err, List, [], ◌∷◌, codes, refl}
 use Rattle.clk_base.specs.declared.clock.Kind.TheVariants as kinds
-use Rattle.dts_tree.specs.declared.tree.Cell.{Cell}
 use Rattle.dts_tree.specs.declared.tree.Cell.TheVariants as cells
-use Rattle.dts_tree.specs.Tree.{SeenValue, SeenText, SeenCells, SeenBytes, SeenTarget, SeenProperty, SeenNode}
-use Rattle.dts_bindings.specs.declared.bound.Wants.{Wants}
+use Rattle.dts_tree.specs.Tree.{SeenValue, SeenText, SeenCells, SeenProperty, SeenNode}
 use Rattle.dts_bindings.specs.declared.bound.Wants.TheVariants as wants
-use Rattle.dts_bindings.specs.declared.fault.BindingFault.{BindingFault}
 use Rattle.dts_bindings.specs.declared.fault.BindingFault.TheVariants as faults
 use Rattle.dts_bindings.specs.Properties.{cells_in, numbers_in, all_numbers, one_number, has_backslash, property_named, has_property, values_of, is_provider, is_consumer, clock_cells_of}
 use Rattle.dts_bindings.specs.Formed.{has_good_phandle, has_good_assigned, is_sound, has_good_clocks, is_formed}
 use Rattle.dts_bindings.specs.Table.{row_named, row_of, states_cells}
 use Rattle.dts_bindings.specs.Kinds.{number, mark, fixed_kind, flag, flags_in}
-use Rattle.dts_bindings.specs.Clocks.{SeenClock, names_in, own_name, one_clock, as_many, identifiers, gates, clocks_in}
-use Rattle.dts_bindings.specs.Binding.{SeenBinding, inputs_in, row_flags, filled, binding_as, binding_of}
+use Rattle.dts_bindings.specs.Clocks.{names_in, own_name, one_clock, as_many, identifiers, gates, clocks_in}
+use Rattle.dts_bindings.specs.Binding.{inputs_in, row_flags, filled, binding_as, binding_of}
 
 -- a property of these values, of one number cell, and of one string
 abbrev pub property : List ℕ → List SeenValue → SeenProperty

@@ -1,5 +1,5 @@
 -- What is asked of every node that isn't passed over.
-use Rattle.std.specs.Prelude.{◌&&◌, ◌||◌, not, Bool, true, false, List, codes}
+use Rattle.std.specs.Prelude.{◌&&◌, ◌||◌, not, Bool, true, false, codes}
 use Rattle.std.specs.List.{list_all}
 use Rattle.std.specs.Option.{is_some, option_map_or}
 use Rattle.dts_tree.specs.Tree.{SeenValue, SeenCells, SeenNode}
