@@ -81,11 +81,20 @@ fn flag_of(flag: ClkFlags, word: &str, words: &[&str]) -> ClkFlags
 pub(crate) fn flags_of_words(words: &[&str]) -> ClkFlags
     ensures { result ≡ flags_of_words (texts words.now) }
 {
-    let gates = flag_of(ClkFlags::SET_RATE_GATE, "set-rate-gate", words)
-        .union(flag_of(ClkFlags::SET_PARENT_GATE, "set-parent-gate", words));
-    let rates = flag_of(ClkFlags::SET_RATE_PARENT, "set-rate-parent", words)
-        .union(flag_of(ClkFlags::IGNORE_UNUSED, "ignore-unused", words));
-    let rest = flag_of(ClkFlags::NO_REPARENT, "no-reparent", words)
-        .union(flag_of(ClkFlags::CRITICAL, "critical", words));
+    let gates = flag_of(ClkFlags::SET_RATE_GATE, "set-rate-gate", words).union(flag_of(
+        ClkFlags::SET_PARENT_GATE,
+        "set-parent-gate",
+        words,
+    ));
+    let rates = flag_of(ClkFlags::SET_RATE_PARENT, "set-rate-parent", words).union(flag_of(
+        ClkFlags::IGNORE_UNUSED,
+        "ignore-unused",
+        words,
+    ));
+    let rest = flag_of(ClkFlags::NO_REPARENT, "no-reparent", words).union(flag_of(
+        ClkFlags::CRITICAL,
+        "critical",
+        words,
+    ));
     gates.union(rates).union(rest)
 }
