@@ -1,5 +1,5 @@
 -- Worked rows: what lines say, by computation.
-use Rattle.std.specs.Prelude.{◌≡◌, ℕ, Bool, true, false, List, [], ◌∷◌, Some, None, Ok, Err, codes, refl}
+use Rattle.std.specs.Prelude.{◌≡◌, ℕ, Bool, true, false, List, [], ◌∷◌, map, Some, None, take, Ok, Err, codes, refl}
 use Rattle.clk_base.specs.declared.clock.Kind.TheVariants.{FixedRate, Gate, Mux}
 use Rattle.bundle_text.specs.Names.{is_clock_name}
 use Rattle.bundle_text.specs.Numbers.{number_up_to, hexadecimal_up_to, behind_0x, written_up_to, number_within}
@@ -7,6 +7,8 @@ use Rattle.clock_lines.specs.declared.fault.LineReason.TheVariants.{UnknownKind,
 use Rattle.clock_lines.specs.FlagWords.{is_common_flag, is_own_flag, are_flags, flags_of_words}
 use Rattle.clock_lines.specs.Kinds.{field_said, fixed_kind, gate_kind, mux_kind}
 use Rattle.clock_lines.specs.ClockLines.{with_flags, clock_said, fixed_line, gate_line, mux_rest, mux_counted, mux_line, clock_line}
+use Rattle.clock_lines.specs.Said.{PlacedClock}
+use Rattle.clock_lines.specs.Section.{fault_behind, finds_parents, clock_in}
 
 -- `fixed osc 0x10` says a fixed clock of 16 Hz
 pub fixed-row : clock_line false (codes "fixed" ∷ codes "osc" ∷ codes "0x10" ∷ []) ≡ Ok (record { name = codes "osc"; kind = FixedRate 16; flags = record { 0 = 0 }; parents = [] })
@@ -53,3 +55,33 @@ flag-row = refl
 pub kind-row : clock_line false (codes "clock" ∷ codes "osc" ∷ codes "5" ∷ []) ≡ Err UnknownKind
 unfolding clock_line
 kind-row = refl
+
+-- a gate over a clock of a later line, and that clock, behind an empty line
+abbrev forward : List PlacedClock
+forward =
+    record { place = 0; clock = record { name = codes "g"; kind = Gate 0 1 false; flags = record { 0 = 0 }; parents = codes "osc" ∷ [] } }
+    ∷ record { place = 2; clock = record { name = codes "osc"; kind = FixedRate 5; flags = record { 0 = 0 }; parents = [] } } ∷ []
+
+-- the gate's parent is the second clock
+pub forward-row : map (clock_in forward) forward
+    ≡ record { name = codes "g"; kind = Gate 0 1 false; flags = record { 0 = 0 }; parents = 1 ∷ [] } ∷ record { name = codes "osc"; kind = FixedRate 5; flags = record { 0 = 0 }; parents = [] } ∷ []
+unfolding clock_in
+forward-row = refl
+
+-- all parents are found, and without the second clock one isn't
+pub found-row : map (finds_parents forward) forward ≡ true ∷ true ∷ []
+unfolding finds_parents
+found-row = refl
+
+pub lacking-row : map (finds_parents (take 1 forward)) forward ≡ false ∷ true ∷ []
+unfolding finds_parents
+lacking-row = refl
+
+-- behind them a third clock has a fault where it has one of their names, and no words have none
+pub twice-row : fault_behind forward (codes "fixed" ∷ codes "g" ∷ codes "6" ∷ []) ≡ Some TwiceNamed
+unfolding fault_behind clock_line fixed_line clock_said is_clock_name
+twice-row = refl
+
+pub empty-row : fault_behind forward [] ≡ None
+unfolding fault_behind
+empty-row = refl

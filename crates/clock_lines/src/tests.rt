@@ -435,14 +435,3 @@ fn lines_outside_of_the_section_are_not_read(rt: HostRuntime) -> Result<(), Fail
     assert!(rt; read_clocks(rt.alloc(), &lines, 3, 5).is_err_and(|fault| fault == unknown));
     Ok(())
 }
-
-#[test]
-fn faults_are_told_in_words(rt: HostRuntime) -> Result<(), Fail> {
-    let fault = LinesFault::Refused {
-        line: 12,
-        reason: LineReason::TwiceNamed,
-    };
-    let text = format!(in rt.alloc(); "{fault}")?;
-    assert_eq!(rt; text.as_str(), "line 12: an earlier line has this name");
-    Ok(())
-}
