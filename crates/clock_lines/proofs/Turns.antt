@@ -90,8 +90,8 @@ read-more section place clocks after words read said none more =
     record {
       kept = KeepsBelow-more (fault_at section) place read.kept here;
       clocks_are =
-        more ∙ (ap (λ cs. cs ++ option_to_list (placed_clock place words)) read.clocks_are
-        ∙ (ap (λ ws. clocks_before section place ++ option_to_list (placed_clock place ws)) said ∙ sym (said_from-next (clock_at section) 0 place place (omega arith))));
+          more ∙ (ap (λ cs. cs ++ option_to_list (placed_clock place words)) read.clocks_are
+          ∙ (ap (λ ws. clocks_before section place ++ option_to_list (placed_clock place ws)) said ∙ sym (said_from-next (clock_at section) 0 place place (omega arith))));
     }
 
 -- the line at the next place has this fault

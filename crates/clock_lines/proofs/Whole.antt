@@ -145,10 +145,10 @@ pub lines-find : (section : List (List ℕ)) (n j : ℕ) → n ≤ length sectio
 lines-find section n j within found earlier k lt =
     let all = all_clocks section in
     line-finds section k (λ x here.
-      let of = number-at section n k x lt here in
-      let low : of.0 < j = omega (arith, of.1, ap length earlier, length-take j all) in
-      let same : clock_number all of.0 ≡ x = sym (get_or-take j all of.0 no_clock low) ∙ (sym (ap (λ cs. clock_number cs of.0) earlier) ∙ of.2) in
-      ap (finds_parents all) (sym same) ∙ found of.0 low)
+    let of = number-at section n k x lt here in
+    let low : of.0 < j = omega (arith, of.1, ap length earlier, length-take j all) in
+    let same : clock_number all of.0 ≡ x = sym (get_or-take j all of.0 no_clock low) ∙ (sym (ap (λ cs. clock_number cs of.0) earlier) ∙ of.2) in
+    ap (finds_parents all) (sym same) ∙ found of.0 low)
 
 -- the first clock that lacks a parent has the first line that does
 pub lacks-parent : (from : ℕ) (section : List (List ℕ)) (line : ℕ) (reason : LineReason) → KeepsBelow (fault_at section) (length section) → IsFirstLacking from (all_clocks section) line reason → LacksParent from section line reason

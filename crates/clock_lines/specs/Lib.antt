@@ -6,3 +6,4 @@ pub mod Shown
 pub mod Section
 pub mod Verdict
 pub mod Steps
+pub mod Examples

@@ -165,7 +165,19 @@ fn pll_line<'w, 'a>(taken: bool, rest: &'w [&'a str]) -> Said<'w, 'a>
     ensures { shown_line result ≡ pll_line taken (texts rest.now) }
 {
     match rest {
-        [name, parent, word, shift, width, pword, pbit, nmin, nmax, m, flags @ ..] => {
+        [
+            name,
+            parent,
+            word,
+            shift,
+            width,
+            pword,
+            pbit,
+            nmin,
+            nmax,
+            m,
+            flags @ ..,
+        ] => {
             let kind = pll_kind(field_said(word, shift, width), pword, pbit, nmin, nmax, m);
             clock_said(taken, name, kind, from_ref(parent), flags)
         }

@@ -5,8 +5,6 @@ ghost use Rattle.clock_lines.specs.declared.fault.LinesFault.TheVariants as faul
 
 use clk_io::NoMemory;
 use std::alloc::{AllocError, AllocFailed};
-use std::error::Error;
-use std::fmt;
 
 /// What is wrong with a clock line.
 #[derive(Clone, Copy, Debug, PartialEq, Eq)]
@@ -59,28 +57,3 @@ impl<T: Drop> From<AllocFailed<T>> for LinesFault {
         LinesFault::NoMemory
     }
 }
-
-impl fmt::Display for LineReason {
-    fn fmt<W: fmt::Write>(&self, f: &mut fmt::Formatter<W>) -> fmt::Result {
-        match self {
-            LineReason::UnknownKind => write!(f, "no kind of clock"),
-            LineReason::BadWords => write!(f, "too few words"),
-            LineReason::BadName => write!(f, "no clock name"),
-            LineReason::TwiceNamed => write!(f, "an earlier line has this name"),
-            LineReason::BadNumber => write!(f, "no number, or one outside its range"),
-            LineReason::BadFlag => write!(f, "no flag of this kind, or one that stands twice"),
-            LineReason::UnknownName => write!(f, "no clock has this name"),
-        }
-    }
-}
-
-impl fmt::Display for LinesFault {
-    fn fmt<W: fmt::Write>(&self, f: &mut fmt::Formatter<W>) -> fmt::Result {
-        match self {
-            LinesFault::Refused { line, reason } => write!(f, "line {line}: {reason}"),
-            LinesFault::NoMemory => write!(f, "out of memory"),
-        }
-    }
-}
-
-impl Error for LinesFault {}

@@ -81,11 +81,14 @@ fn flag_of(flag: ClkFlags, word: &str, words: &[&str]) -> ClkFlags
 pub(crate) fn flags_of_words(words: &[&str]) -> ClkFlags
     ensures { result ≡ flags_of_words (texts words.now) }
 {
-    let gates = flag_of(ClkFlags::SET_RATE_GATE, "set-rate-gate", words)
-        .union(flag_of(ClkFlags::SET_PARENT_GATE, "set-parent-gate", words));
-    let rates = flag_of(ClkFlags::SET_RATE_PARENT, "set-rate-parent", words)
-        .union(flag_of(ClkFlags::IGNORE_UNUSED, "ignore-unused", words));
-    let rest = flag_of(ClkFlags::NO_REPARENT, "no-reparent", words)
-        .union(flag_of(ClkFlags::CRITICAL, "critical", words));
+    let rate_gate = flag_of(ClkFlags::SET_RATE_GATE, "set-rate-gate", words);
+    let parent_gate = flag_of(ClkFlags::SET_PARENT_GATE, "set-parent-gate", words);
+    let rate_parent = flag_of(ClkFlags::SET_RATE_PARENT, "set-rate-parent", words);
+    let unused = flag_of(ClkFlags::IGNORE_UNUSED, "ignore-unused", words);
+    let no_reparent = flag_of(ClkFlags::NO_REPARENT, "no-reparent", words);
+    let critical = flag_of(ClkFlags::CRITICAL, "critical", words);
+    let gates = rate_gate.union(parent_gate);
+    let rates = rate_parent.union(unused);
+    let rest = no_reparent.union(critical);
     gates.union(rates).union(rest)
 }

@@ -31,8 +31,8 @@ impl<'a> Model for PlacedLine<'a> {
     ghost Value = { PlacedClock };
 
     ghost view = { λ p. record {
-        place = p.place;
-        clock = record { name = p.name.now; kind = p.kind; flags = p.flags; parents = texts p.parents.items };
+      place = p.place;
+      clock = record { name = p.name.now; kind = p.kind; flags = p.flags; parents = texts p.parents.items };
     } };
 }
 
@@ -54,10 +54,10 @@ impl<'a> PlacedLine<'a> {
     /// The clock with these parents.
     pub(crate) fn def(&self, alloc: Global, parents: Parents) -> Result<ClockDef, NoMemory>
         ensures { IfOk result (λ def. def ≡ record {
-            name = self.now.clock.name;
-            kind = self.now.clock.kind;
-            flags = self.now.clock.flags;
-            parents = parents;
+          name = self.now.clock.name;
+          kind = self.now.clock.kind;
+          flags = self.now.clock.flags;
+          parents = parents;
         }) }
     {
         let name = ClockName::new(String::from_str(alloc, self.name)?);

@@ -23,3 +23,5 @@ pub use list::ClockList;
 pub use reading::read_clocks;
 pub use verdict::one_verdict;
 
+#[cfg(test)]
+mod tests;
