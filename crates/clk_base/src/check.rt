@@ -40,12 +40,19 @@ fn have_parents(defs: &[ClockDef]) -> bool
     ensures { IsTrue result ↔ EachClock defs.now (has_its_parents defs.now) }
 {
     for def in defs {
-        let parents = def.parents.as_slice();
-        if !(can_have_parents(def.kind, parents.len()) && are_below(parents, defs.len())) {
+        if !has_its_parents(def, defs.len()) {
             return false;
         }
     }
     true
+}
+
+// Whether a clock has as many possible parents as its kind can have, each with a place below a number.
+fn has_its_parents(def: &ClockDef, clocks: usize) -> bool
+    ensures { result ≡ (can_have_parents def.now.kind (length def.now.parents) && list_all (λ p. nat_lt p clocks) def.now.parents) }
+{
+    let parents = def.parents.as_slice();
+    can_have_parents(def.kind, parents.len()) && are_below(parents, clocks)
 }
 
 // Whether a clock of this kind can have so many possible parents.
