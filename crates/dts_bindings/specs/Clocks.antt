@@ -22,6 +22,7 @@ pub record SeenClock : Type 0 where
 abbrev pub seen_clock : BoundClock → SeenClock
 seen_clock c = record { name = string_bytes c.name; identifier = c.identifier; kind = c.kind }
 
+-- the clocks of a list
 abbrev pub seen_clocks : Vec BoundClock Global → List SeenClock
 seen_clocks v = map seen_clock v.items
 

@@ -1,7 +1,7 @@
 //! The clocks of a provider.
 
-ghost use Rattle.std.specs.Prelude.{◌≡◌, ◌==◌, ◌++◌, ◌∷◌, [], length, map, string_bytes, IfOk, OnOk};
-ghost use Rattle.std.specs.List.{before_first, filter_map, range_with_len, zip};
+ghost use Rattle.std.specs.Prelude.{◌≡◌, ◌==◌, map, IfOk};
+ghost use Rattle.std.specs.List.{before_first, range_with_len, zip};
 ghost use Rattle.std.specs.Option.{option_map};
 ghost use Rattle.dts_bindings.specs.Clocks.{seen_clock, seen_clocks, names_in, only_name, own_name, one_clock, as_many, identifiers, gate_at, gates, clocks_in};
 ghost use Rattle.dts_tree.specs.Tree.{seen_value, seen_node};

@@ -1,6 +1,6 @@
 //! The kinds of clocks, row by row of the table.
 
-ghost use Rattle.std.specs.Prelude.{◌≡◌, map};
+ghost use Rattle.std.specs.Prelude.{◌≡◌};
 ghost use Rattle.std.specs.Option.{option_map};
 ghost use Rattle.dts_bindings.specs.Kinds.{number, pair, mark, fixed_kind, factor_kind, gate_kind, mux_kind, divider_kind, pll_kind, flag, flags_in};
 ghost use Rattle.dts_tree.specs.Tree.{seen_node};

@@ -1,10 +1,10 @@
 //! What the values of a property are.
 
-ghost use Rattle.std.specs.Prelude.{◌≡◌, ◌++◌, ℕ, List, map, slice_get, IfOk, OnOk};
+ghost use Rattle.std.specs.Prelude.{◌≡◌, ◌++◌, map, slice_get, IfOk, OnOk};
 ghost use Rattle.std.specs.List.{list_all, flat_map, filter_map};
 ghost use Rattle.std.specs.Option.{option_map, option_to_list};
 ghost use Rattle.dts_bindings.specs.Alone.{alone, two_alone};
-ghost use Rattle.dts_bindings.specs.Properties.{is_cells, cells_of, cells_in, is_text, text_of, texts_in, is_number, number_of, numbers_in, all_numbers, one_number, two_numbers};
+ghost use Rattle.dts_bindings.specs.Properties.{is_cells, cells_of, cells_in, is_text, text_of, texts_in, is_number, number_of, all_numbers, one_number, two_numbers};
 ghost use Rattle.dts_tree.specs.Tree.{seen_value};
 
 use clk_io::NoMemory;
