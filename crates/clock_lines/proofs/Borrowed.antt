@@ -1,5 +1,5 @@
 -- Tests over words that are borrowed.
-use Rattle.std.proofs.Common.{◌≡◌, ℕ, ◌+◌, ◌<◌, Bool, ◌||◌, ◌&&◌, not, cond, ltb, arith, ◌≤◌, List, [], ◌∷◌, length, get_or, take, subst, Some, None, refl, ap, sym, ◌∙◌}
+use Rattle.std.proofs.Common.{◌≡◌, ℕ, ◌+◌, ◌<◌, Bool, ◌||◌, ◌&&◌, not, cond, ltb, arith, ◌≤◌, List, [], ◌∷◌, length, get_or, take, Some, None, refl, ap, sym, ◌∙◌}
 use Rattle.std.specs.Borrow.{Bor}
 use Rattle.std.specs.List.{list_any, list_all, position, position_or_len, prefix_len}
 use Rattle.std.proofs.lemmas.List.{length-map, get_or-map, take_all}

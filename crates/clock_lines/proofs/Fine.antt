@@ -1,6 +1,6 @@
 -- What is known of a line that says a clock: its name is no one's, and it has as many parents as its
 -- kind can have.
-use Rattle.std.proofs.Common.{◌≡◌, ℕ, ◌<◌, ◌≤◌, Bool, true, false, not, List, [], ◌∷◌, length, take, drop, Option, Some, None, refl, ap, sym, ◌∙◌, subst, arith}
+use Rattle.std.proofs.Common.{◌≡◌, ℕ, ◌<◌, ◌≤◌, Bool, true, false, not, List, [], ◌∷◌, length, take, drop, Option, Some, None, refl, ap, sym, subst, arith}
 use Rattle.std.specs.Prelude.{Result, Ok, Err, codes, nat_lt, nat_le, slice_index_or, if◌then◌else◌}
 use Rattle.std.specs.Option.{option_and_then}
 use Rattle.std.specs.Str.{bytes_eq}
@@ -12,7 +12,6 @@ use Rattle.clk_base.specs.declared.clock.Kind.TheVariants.{FixedRate, Factor, Ga
 use Rattle.clk_base.specs.Valid.{can_have_parents}
 use Rattle.bundle_text.specs.Names.{is_clock_name}
 use Rattle.bundle_text.specs.Numbers.{number_within, written_up_to}
-use Rattle.clock_lines.specs.declared.fault.LineReason.{LineReason}
 use Rattle.clock_lines.specs.declared.fault.LineReason.TheVariants.{UnknownKind, BadWords, BadName, TwiceNamed, BadNumber, BadFlag}
 use Rattle.clock_lines.specs.declared.field.Field.{Field}
 use Rattle.clock_lines.specs.Said.{SaidClock}

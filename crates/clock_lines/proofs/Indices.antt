@@ -1,5 +1,5 @@
 -- What is said at places in a row, by its number in the list of what is said.
-use Rattle.std.proofs.Common.{◌≡◌, ℕ, zero, suc, ◌+◌, ◌<◌, ◌≤◌, List, [], ◌∷◌, length, get_or, take, Option, Some, None, refl, ap, sym, ◌∙◌, arith}
+use Rattle.std.proofs.Common.{◌≡◌, ℕ, zero, suc, ◌+◌, ◌<◌, ◌∷◌, length, get_or, take, Option, Some, None, refl, ap, sym, ◌∙◌, arith}
 use Rattle.bundle_text.specs.Firsts.{onto, said_from}
 
 -- the thing of this number is said at a place, and those of lower numbers at the places before it

@@ -1,11 +1,10 @@
 -- What the words of one line, and then the line at one place, add to the clocks.
-use Rattle.std.proofs.Common.{◌≡◌, ℕ, zero, suc, ◌+◌, ◌-◌, ◌<◌, ◌≤◌, Bool, true, false, List, [], ◌∷◌, ◌++◌, length, get_or, take, drop, Option, Some, None, refl, ap, sym, ◌∙◌, subst, arith, cond, append_assoc, length-take, length-drop}
-use Rattle.std.specs.Prelude.{Result, Ok, Err, slice_range}
+use Rattle.std.proofs.Common.{◌≡◌, ℕ, zero, suc, ◌+◌, ◌-◌, ◌<◌, ◌≤◌, Bool, true, false, List, [], ◌∷◌, ◌++◌, length, drop, Option, Some, None, refl, ap, sym, ◌∙◌, arith, cond, length-take, length-drop}
+use Rattle.std.specs.Prelude.{Ok, slice_range}
 use Rattle.std.specs.Option.{option_map, option_to_list}
 use Rattle.std.specs.Result.{result_ok, result_err}
-use Rattle.std.proofs.lemmas.Bool.{cases_lt}
 use Rattle.std.proofs.lemmas.List.{append-nil, get_or-drop, get_or-take}
-use Rattle.bundle_text.specs.Firsts.{First, KeepsBelow, onto, said_from}
+use Rattle.bundle_text.specs.Firsts.{onto, said_from}
 use Rattle.bundle_text.specs.Lines.{line_at}
 use Rattle.bundle_text.specs.Words.{said_words}
 use Rattle.bundle_text.proofs.Rows.{KeepsBelow-more}

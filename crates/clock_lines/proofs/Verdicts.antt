@@ -1,5 +1,5 @@
 -- Lines spell a description, or are refused.
-use Rattle.std.proofs.Common.{◌≡◌, ◌⊎◌, ℕ, ◌+◌, List, length, refl, inl, inr}
+use Rattle.std.proofs.Common.{◌⊎◌, ℕ, ◌+◌, List, length, refl, inl, inr}
 use Rattle.clk_base.specs.Description.{Description}
 use Rattle.bundle_text.proofs.Rows.{kept_or_first}
 use Rattle.clock_lines.specs.declared.fault.LineReason.{LineReason}

@@ -1,14 +1,14 @@
 -- What is known of the clocks of lines without a fault.
-use Rattle.std.proofs.Common.{◌≡◌, ℕ, zero, suc, ◌+◌, ◌-◌, ◌<◌, ◌≤◌, ◌^◌, Bool, true, false, ◌&&◌, List, [], ◌∷◌, map, length, get_or, take, Option, Some, None, refl, ap, sym, ◌∙◌, subst, arith, cond, eqb, inl, inr, length-take}
-use Rattle.std.specs.Prelude.{Result, Ok, Err, IsTrue, nat_lt, slice_range}
-use Rattle.std.specs.List.{list_all, position_or_len}
+use Rattle.std.proofs.Common.{◌≡◌, ℕ, zero, suc, ◌+◌, ◌<◌, ◌≤◌, true, false, ◌&&◌, List, [], ◌∷◌, map, length, take, Option, Some, None, refl, ap, sym, ◌∙◌, subst, arith, eqb, inr, length-take}
+use Rattle.std.specs.Prelude.{Result, Ok, Err, IsTrue, nat_lt}
+use Rattle.std.specs.List.{list_all}
 use Rattle.std.specs.Option.{option_map, option_map_or}
 use Rattle.std.specs.Result.{result_ok, result_err}
 use Rattle.std.specs.Str.{bytes_eq}
 use Rattle.std.proofs.lemmas.Bool.{and_from, and_parts, lt-ltb, cond-true, cond-false, false_from_ne_true, eqb-true}
 use Rattle.std.proofs.lemmas.List.{length-map, get_or-map, get_or-take, take_all}
 use Rattle.std.proofs.lemmas.Option.{none-some, same_Some}
-use Rattle.bundle_text.specs.Firsts.{First, KeepsBelow, onto, said_from}
+use Rattle.bundle_text.specs.Firsts.{KeepsBelow, onto, said_from}
 use Rattle.bundle_text.specs.Lines.{line_at}
 use Rattle.bundle_text.specs.Words.{said_words}
 use Rattle.clk_base.specs.declared.clock.ClockDef.{ClockDef}
@@ -24,7 +24,7 @@ use Rattle.clock_lines.specs.Section.{placed_clock, clock_at, clocks_before, all
 use Rattle.clock_lines.specs.Steps.{IsRead, no_clock, clock_number, StandApart, HaveLines, FindParents, IsFirstLacking, Lacks}
 use Rattle.clock_lines.specs.Verdict.{Spells, LacksParent, IsFaultOf}
 use Rattle.clock_lines.proofs.Fine.{line-fine}
-use Rattle.clock_lines.proofs.Indices.{SaidAt, NumberOf, said-at, number-of}
+use Rattle.clock_lines.proofs.Indices.{said-at, number-of}
 use Rattle.clock_lines.proofs.Looked.{any_within}
 
 -- ## One line

@@ -46,7 +46,7 @@ mux_rest taken name word shift width count rest =
     if nat_lt (length rest) count then Err BadWords
     else clock_said taken name (mux_kind word shift width (drop count rest)) (take count rest) (drop count rest)
 
--- the words behind a mux's name, shift and width: where COUNT isn't a number from 1 to 64, no parents are told from flags
+-- a mux with its COUNT, where that is a number from 1 to 64; else parents can't be told from flags
 unfoldable pub mux_counted : Bool → List ℕ → List ℕ → List ℕ → List ℕ → Option ℕ → List (List ℕ) → Result SaidClock LineReason
 mux_counted taken name word shift width None rest = clock_said taken name None [] rest
 mux_counted taken name word shift width (Some count) rest = mux_rest taken name word shift width count rest

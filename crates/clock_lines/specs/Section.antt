@@ -11,7 +11,7 @@ use Rattle.bundle_text.specs.Lines.{line_at}
 use Rattle.bundle_text.specs.Words.{said_words}
 use Rattle.clock_lines.specs.declared.fault.LineReason.{LineReason}
 use Rattle.clock_lines.specs.declared.fault.LineReason.TheVariants.{UnknownName}
-use Rattle.clock_lines.specs.Said.{SaidClock, PlacedClock}
+use Rattle.clock_lines.specs.Said.{PlacedClock}
 use Rattle.clock_lines.specs.ClockLines.{clock_line}
 
 -- the clock that the words of a line say where they have a form, with the place of the line

@@ -4,7 +4,6 @@ use Rattle.std.specs.List.{list_all}
 use Rattle.std.specs.Option.{option_to_list}
 use Rattle.bundle_text.specs.Firsts.{KeepsBelow}
 use Rattle.clk_base.specs.declared.clock.Kind.TheVariants.{FixedRate}
-use Rattle.clk_base.specs.Description.{Description}
 use Rattle.clock_lines.specs.declared.fault.LineReason.{LineReason}
 use Rattle.clock_lines.specs.declared.fault.LineReason.TheVariants.{UnknownName}
 use Rattle.clock_lines.specs.declared.fault.LinesFault.{LinesFault}

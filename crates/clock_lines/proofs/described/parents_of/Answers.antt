@@ -1,5 +1,5 @@
 -- Each name that is looked up is a clock's, or one is not.
-use Rattle.std.proofs.Common.{ap, sym, ◌∙◌, subst, true, ◌≡◌, ℕ, List, map, Some}
+use Rattle.std.proofs.Common.{ap, ◌∙◌, subst, true, ◌≡◌, ℕ, List, map, Some}
 use Rattle.std.specs.List.{list_all}
 use Rattle.bundle_text.specs.Words.{texts}
 use Rattle.clk_base.specs.Places.{places}

@@ -1,5 +1,5 @@
 -- What was read without a fault spells a description, or lacks a parent.
-use Rattle.std.proofs.Common.{◌≡◌, ◌<◌, ◌+◌, length, arith, ap, sym, ◌∙◌, map, subst}
+use Rattle.std.proofs.Common.{length, arith, ap, sym, subst}
 use Rattle.std.specs.Prelude.{slice_range}
 use Rattle.std.proofs.lemmas.List.{length-map}
 use Rattle.std.proofs.lemmas.Result.{err_from_is_err_and}

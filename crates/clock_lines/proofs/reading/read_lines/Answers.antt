@@ -1,7 +1,5 @@
 -- At first no line was read.
-use Rattle.std.proofs.Common.{subst, sym}
 use Rattle.std.specs.Prelude.{slice_range}
-use Rattle.clock_lines.specs.Steps.{IsRead}
 use Rattle.clock_lines.proofs.Turns.{read-none}
 use Rattle.clock_lines.proofs.reading.read_lines.Goals as goal
 

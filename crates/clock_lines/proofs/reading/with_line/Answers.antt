@@ -1,5 +1,5 @@
 -- The line of the section is the one of the text.
-use Rattle.std.proofs.Common.{ap, sym, ◌∙◌, ◌≡◌, ◌<◌, length, arith}
+use Rattle.std.proofs.Common.{ap, sym, ◌∙◌, ◌<◌, length, arith}
 use Rattle.std.specs.Prelude.{slice_range}
 use Rattle.bundle_text.specs.Words.{texts, said_words}
 use Rattle.clock_lines.proofs.Turns.{line-at, length-section, read-more, read-fault}

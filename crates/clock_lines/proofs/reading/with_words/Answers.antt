@@ -4,7 +4,7 @@ use Rattle.std.specs.Borrow.{Bor}
 use Rattle.std.proofs.lemmas.Bool.{eqb-true}
 use Rattle.std.proofs.lemmas.List.{length-map}
 use Rattle.bundle_text.specs.Words.{texts}
-use Rattle.clock_lines.specs.Section.{is_named, name_word}
+use Rattle.clock_lines.specs.Section.{is_named}
 use Rattle.clock_lines.specs.Shown.{shown}
 use Rattle.clock_lines.proofs.Turns.{empty-taken, fresh-name, said-taken}
 use Rattle.clock_lines.proofs.reading.with_words.Goals as goal

@@ -1,5 +1,5 @@
 -- The set's index of a name is the place of the clock.
-use Rattle.std.proofs.Common.{ap, sym, ◌∙◌}
+use Rattle.std.proofs.Common.{ap, ◌∙◌}
 use Rattle.std.specs.List.{position}
 use Rattle.std.specs.Str.{bytes_eq}
 use Rattle.clock_lines.specs.Section.{names_of}

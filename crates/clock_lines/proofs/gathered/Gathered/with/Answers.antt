@@ -1,5 +1,5 @@
 -- The set gets the name with the clock.
-use Rattle.std.proofs.Common.{refl, ap, sym, ◌∙◌}
+use Rattle.std.proofs.Common.{refl, ap, ◌∙◌}
 use Rattle.clock_lines.specs.Section.{is_named}
 use Rattle.clock_lines.proofs.Grown.{names-push}
 use Rattle.clock_lines.proofs.gathered.Gathered.with.Goals as goal
