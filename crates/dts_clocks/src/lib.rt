@@ -1,0 +1,12 @@
+//! What a device tree says of clocks: a description, the lines of its clocks, the consumers, and
+//! the clocks that are assigned.
+#![tactic(auto)]
+
+mod fault;
+mod loaded;
+mod reference;
+mod verdict;
+
+pub use fault::DtsFault;
+pub use verdict::one_verdict;
+pub use loaded::{Assigned, AssignedStep, Consumer, ConsumerName, Loaded};
