@@ -1,12 +1,9 @@
 -- The assigned clocks of a node, with their new parents and rates.
 use Rattle.std.specs.Prelude.{ℕ, ◌+◌, ◌==◌, ◌&&◌, ◌||◌, Bool, not, nat_lt, if◌then◌else◌, Option, Some, None, List, [], ◌∷◌, ◌++◌, length, slice_get, codes}
-use Rattle.std.specs.List.{filter_map}
 use Rattle.std.specs.Option.{option_and_then, option_map, option_flatten, unwrap_or}
 use Rattle.clk_base.specs.declared.clock.ClockId.{ClockId}
-use Rattle.dts_tree.specs.declared.tree.Cell.{Cell}
-use Rattle.dts_tree.specs.declared.tree.Cell.TheVariants as cells
 use Rattle.dts_tree.specs.Tree.{SeenNode}
-use Rattle.dts_bindings.specs.Properties.{has_property, values_of, cells_in}
+use Rattle.dts_bindings.specs.Properties.{has_property, values_of, all_numbers}
 use Rattle.dts_clocks.specs.declared.loaded.Assigned.{Assigned}
 use Rattle.dts_clocks.specs.declared.loaded.AssignedStep.{AssignedStep}
 use Rattle.dts_clocks.specs.declared.loaded.AssignedStep.TheVariants.{Parent, Rate}
@@ -27,13 +24,9 @@ pub record SeenAssigned : Type 0 where
 abbrev pub seen_assigned : Assigned → SeenAssigned
 seen_assigned a = record { line = a.line; steps = a.steps.items }
 
-abbrev pub number_in : Cell → Option ℕ
-number_in (cells.Number n) = Some n
-number_in (cells.Node n) = None
-
 -- the numbers of `assigned-clock-rates`
 unfoldable pub rates_of : SeenNode → List ℕ
-rates_of node = filter_map number_in (unwrap_or (cells_in (values_of (codes "assigned-clock-rates") node)) [])
+rates_of node = unwrap_or (all_numbers (values_of (codes "assigned-clock-rates") node)) []
 
 -- the three lists; None where a specifier is bad
 unfoldable pub lists_of : List SeenNode → SeenNode → Option Lists

@@ -1,10 +1,11 @@
 -- The consumers: the nodes that name clocks and are no providers.
-use Rattle.std.specs.Prelude.{ℕ, ◌+◌, ◌&&◌, Bool, not, nat_le, if◌then◌else◌, Option, Some, None, List, [], ◌∷◌, length, map, slice_get, codes, string_bytes}
+use Rattle.std.specs.Prelude.{ℕ, ◌+◌, nat_le, if◌then◌else◌, Option, Some, None, List, [], ◌∷◌, length, map, slice_get, codes, string_bytes}
 use Rattle.std.specs.Fmt.{decimal}
 use Rattle.std.specs.Option.{option_and_then, option_map, unwrap_or}
 use Rattle.clk_base.specs.declared.clock.ClockId.{ClockId}
 use Rattle.dts_tree.specs.Tree.{SeenNode}
-use Rattle.dts_bindings.specs.Properties.{is_provider, has_property, values_of, cells_in, texts_in}
+use Rattle.dts_bindings.specs.Nodes.{is_consumer}
+use Rattle.dts_bindings.specs.Properties.{values_of, cells_in, texts_in}
 use Rattle.dts_clocks.specs.declared.loaded.Consumer.{Consumer}
 use Rattle.dts_clocks.specs.declared.loaded.ConsumerName.{ConsumerName}
 use Rattle.dts_clocks.specs.Above.{path_of}
@@ -47,10 +48,6 @@ named_by clocks texts = if nat_le (length texts) (length clocks) then Some (name
 unfoldable pub names_of : List SeenNode → SeenNode → Option (List SeenName)
 names_of nodes node =
     option_and_then (λ clocks. option_and_then (named_by clocks) (texts_in (values_of (codes "clock-names") node))) (clocks_in nodes (codes "clocks") node)
-
--- a node that names clocks and is no provider
-unfoldable pub is_consumer : SeenNode → Bool
-is_consumer node = has_property (codes "clocks") node && not (is_provider node)
 
 -- the consumer that a node is, if it is one; None where a specifier is bad, or names are left over
 unfoldable pub consumer_of : List SeenNode → ℕ → SeenNode → Option (List SeenConsumer)

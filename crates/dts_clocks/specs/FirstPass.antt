@@ -5,12 +5,12 @@ use Rattle.std.specs.Option.{option_and_then}
 use Rattle.std.specs.Str.{bytes_eq}
 use Rattle.bundle_text.specs.Names.{is_clock_name}
 use Rattle.dts_tree.specs.Tree.{SeenNode}
-use Rattle.dts_bindings.specs.declared.Wants.{Wants}
-use Rattle.dts_bindings.specs.declared.Wants.TheVariants as wants
-use Rattle.dts_bindings.specs.declared.BindingFault.{BindingFault}
-use Rattle.dts_bindings.specs.declared.BindingFault.TheVariants as alone
-use Rattle.dts_bindings.specs.Properties.{is_provider, is_formed}
-use Rattle.dts_bindings.specs.Binding.{SeenBinding, binding_of}
+use Rattle.dts_bindings.specs.declared.bound.Wants.{Wants}
+use Rattle.dts_bindings.specs.declared.bound.Wants.TheVariants as wants
+use Rattle.dts_bindings.specs.declared.bound.BindingFault.{BindingFault}
+use Rattle.dts_bindings.specs.declared.bound.BindingFault.TheVariants as alone
+use Rattle.dts_bindings.specs.Nodes.{is_provider}
+use Rattle.dts_bindings.specs.Binding.{SeenBinding, binding_of, is_formed}
 use Rattle.dts_clocks.specs.declared.fault.DtsFault.{DtsFault}
 use Rattle.dts_clocks.specs.declared.fault.DtsFault.TheVariants as faults
 use Rattle.dts_clocks.specs.Above.{is_passed}

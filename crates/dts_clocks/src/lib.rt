@@ -2,6 +2,7 @@
 //! the clocks that are assigned.
 #![tactic(auto)]
 
+mod above;
 mod fault;
 mod loaded;
 mod reference;

@@ -1,0 +1,4 @@
+pub mod Joins
+pub mod Uplines
+pub mod Verdicts
+pub mod Places
