@@ -1,6 +1,7 @@
 -- What is said at one more place.
-use Rattle.std.proofs.Common.{◌≡◌, ℕ, zero, suc, ◌+◌, ◌<◌, List, [], ◌∷◌, ◌++◌, length, get_or, Option, Some, refl, ap, sym, ◌∙◌, arith, add-one, inl, inr}
+use Rattle.std.proofs.Common.{◌≡◌, ℕ, zero, suc, ◌+◌, ◌<◌, ◌≤◌, List, [], ◌∷◌, ◌++◌, length, get_or, Option, Some, None, refl, ap, sym, ◌∙◌, arith, add-one, inl, inr}
 use Rattle.std.specs.Prelude.{slice_get}
+use Rattle.std.specs.Option.{unwrap_or}
 use Rattle.std.proofs.lemmas.Bool.{cases_lt}
 use Rattle.std.proofs.lemmas.List.{length-append, length_push, get_or_append_left, get_or_push}
 use Rattle.dts_clocks.specs.Joined.{joined, listed, total}
@@ -41,3 +42,26 @@ listed_none f xs none = none ∙ sym (joined-none (λ k. f k ∷ []))
 
 pub listed_push : {X : Type 0} (f : ℕ → X) (xs ys : List X) (n : ℕ) (x : X) → xs ≡ listed f n → x ≡ f n → ys ≡ xs ++ x ∷ [] → ys ≡ listed f (n + 1)
 listed_push f xs ys n x so_far here pushed = pushed ∙ (ap (λ zs. zs ++ x ∷ []) so_far ∙ (ap (λ z. listed f n ++ z ∷ []) here ∙ sym (joined-more (λ k. f k ∷ []) n)))
+
+pub listed_within : {X : Type 0} (f : ℕ → X) (xs : List X) (n k : ℕ) → xs ≡ listed f n → k < n → k < length xs
+listed_within f xs n k all low = omega (arith, ap length all, length-listed f n)
+
+pub listed_read : {X : Type 0} (f : ℕ → X) (xs : List X) (n k : ℕ) (x : X) → xs ≡ listed f n → k < n → x ≡ get_or xs k x → x ≡ f k
+listed_read f xs n k x all low read = read ∙ (ap (λ ys. get_or ys k x) all ∙ get-listed f n k x low)
+
+slice_get-within : {X : Type 0} (xs : List X) (k : ℕ) (d : X) → k < length xs → slice_get xs k ≡ Some (get_or xs k d)
+slice_get-within [] k d h = absurd (omega arith)
+slice_get-within (x ∷ xs) zero d h = refl
+slice_get-within (x ∷ xs) (suc k) d h = slice_get-within xs k d (omega arith)
+
+slice_get-behind : {X : Type 0} (xs : List X) (k : ℕ) → length xs ≤ k → slice_get xs k ≡ None
+slice_get-behind [] k h = refl
+slice_get-behind (x ∷ xs) zero h = absurd (omega arith)
+slice_get-behind (x ∷ xs) (suc k) h = slice_get-behind xs k (omega arith)
+
+-- a table that is asked also behind its end, where the function gives the same
+pub listed_or : {X : Type 0} (f : ℕ → X) (xs : List X) (n k : ℕ) (d : X) → xs ≡ listed f n → (n ≤ k → f k ≡ d) → unwrap_or (slice_get xs k) d ≡ f k
+listed_or f xs n k d all past = rw all (elim (cases_lt k n) [
+    | inl low ↦ rw (slice_get-within (listed f n) k d (listed_within f (listed f n) n k refl low)) (get-listed f n k d low)
+    | inr high ↦ rw (slice_get-behind (listed f n) k (omega (arith, length-listed f n))) (sym (past high))
+  ])

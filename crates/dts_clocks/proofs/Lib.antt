@@ -1,4 +1,6 @@
 pub mod Joins
+pub mod Phandles
+pub mod Sources
 pub mod Uplines
 pub mod Verdicts
 pub mod Places

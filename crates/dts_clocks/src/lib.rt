@@ -3,6 +3,7 @@
 #![tactic(auto)]
 
 mod above;
+mod chart;
 mod fault;
 mod loaded;
 mod reference;
