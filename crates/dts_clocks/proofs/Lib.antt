@@ -1,6 +1,7 @@
 pub mod Joins
 pub mod Phandles
 pub mod Sources
+pub mod Twins
 pub mod Uplines
 pub mod Verdicts
 pub mod Places

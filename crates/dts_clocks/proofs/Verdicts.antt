@@ -14,7 +14,7 @@ each_decided nodes =
       | inl kept ↦
           elim (kept_or_first (second_fault nodes) (length nodes)) [
             | inl second ↦ inl (loaded_of nodes, record { first = kept; second = second; content = refl })
-            | inr fault ↦ inr (fault.1, inr (record { kept = kept; place = fault.0; first = fault.2 }))
+            | inr fault ↦ inr (fault.1, inr (record { kept = kept; found = record { place = fault.0; first = fault.2 } }))
           ]
       | inr fault ↦ inr (fault.1, inl (record { place = fault.0; first = fault.2 }))
     ]

@@ -8,7 +8,8 @@ use Rattle.dts_tree.specs.declared.tree.Cell.{Cell}
 use Rattle.dts_tree.specs.declared.tree.Cell.TheVariants as cells
 use Rattle.dts_tree.specs.Tree.{SeenNode}
 use Rattle.dts_bindings.specs.Nodes.{is_provider}
-use Rattle.dts_bindings.specs.Binding.{SeenBinding, SeenClock, binding_of}
+use Rattle.dts_bindings.specs.Binding.{SeenBinding, binding_of}
+use Rattle.dts_bindings.specs.Clocks.{SeenClock}
 use Rattle.dts_clocks.specs.declared.reference.Reference.{Reference}
 use Rattle.dts_clocks.specs.declared.reference.Reference.TheVariants.{Null, Whole, Begun, Lacking}
 use Rattle.dts_clocks.specs.declared.reference.Specifier.{Specifier}
@@ -16,10 +17,13 @@ use Rattle.dts_clocks.specs.Above.{is_passed}
 use Rattle.dts_clocks.specs.Joined.{joined}
 use Rattle.dts_clocks.specs.References.{reference}
 
+-- the binding of a provider by itself
+unfoldable pub own_binding : SeenNode → Option SeenBinding
+own_binding node = if is_provider node then result_ok (binding_of node) else None
+
 -- the binding of a node that is a provider and isn't passed over
 unfoldable pub binding_at : List SeenNode → ℕ → Option SeenBinding
-binding_at nodes k =
-    option_and_then (λ node. if is_provider node && not (is_passed nodes k) then result_ok (binding_of node) else None) (slice_get nodes k)
+binding_at nodes k = if is_passed nodes k then None else option_and_then own_binding (slice_get nodes k)
 
 -- a clock with the node of its provider
 pub record Held : Type 0 where

@@ -7,10 +7,11 @@ use Rattle.bundle_text.specs.Names.{is_clock_name}
 use Rattle.dts_tree.specs.Tree.{SeenNode}
 use Rattle.dts_bindings.specs.declared.bound.Wants.{Wants}
 use Rattle.dts_bindings.specs.declared.bound.Wants.TheVariants as wants
-use Rattle.dts_bindings.specs.declared.bound.BindingFault.{BindingFault}
-use Rattle.dts_bindings.specs.declared.bound.BindingFault.TheVariants as alone
+use Rattle.dts_bindings.specs.declared.fault.BindingFault.{BindingFault}
+use Rattle.dts_bindings.specs.declared.fault.BindingFault.TheVariants as alone
 use Rattle.dts_bindings.specs.Nodes.{is_provider}
-use Rattle.dts_bindings.specs.Binding.{SeenBinding, binding_of, is_formed}
+use Rattle.dts_bindings.specs.Binding.{SeenBinding, binding_of}
+use Rattle.dts_bindings.specs.Formed.{is_formed}
 use Rattle.dts_clocks.specs.declared.fault.DtsFault.{DtsFault}
 use Rattle.dts_clocks.specs.declared.fault.DtsFault.TheVariants as faults
 use Rattle.dts_clocks.specs.Above.{is_passed}
@@ -45,25 +46,25 @@ own_fault line alone.MissingProperty = faults.MissingProperty line
 own_fault line alone.NoMemory = faults.NoMemory
 
 -- the fault of a provider that has a binding: one specifier is wanted and more stands there; a name is none; a name is taken
-unfoldable pub binding_fault : List SeenNode → ℕ → ℕ → SeenBinding → Option DtsFault
-binding_fault nodes k line b =
+unfoldable pub binding_fault : List SeenNode → List (List ℕ) → ℕ → SeenBinding → Option DtsFault
+binding_fault nodes taken line b =
     if wants_one b.wants && leaves_over nodes b.inputs then Some (faults.MissingProperty line)
     else if not (list_all is_clock_name (names_in b)) then Some (faults.BadName line)
-    else if has_twin (names_before nodes k) (names_in b) then Some (faults.TwiceNamed line)
+    else if has_twin taken (names_in b) then Some (faults.TwiceNamed line)
     else None
 
 -- the fault of a provider
-abbrev pub provider_fault : List SeenNode → ℕ → ℕ → Result SeenBinding BindingFault → Option DtsFault
-provider_fault nodes k line (Ok b) = binding_fault nodes k line b
-provider_fault nodes k line (Err fault) = Some (own_fault line fault)
+abbrev pub provider_fault : List SeenNode → List (List ℕ) → ℕ → Result SeenBinding BindingFault → Option DtsFault
+provider_fault nodes taken line (Ok b) = binding_fault nodes taken line b
+provider_fault nodes taken line (Err fault) = Some (own_fault line fault)
 
--- the fault of a node that isn't passed over
-unfoldable pub node_fault : List SeenNode → ℕ → SeenNode → Option DtsFault
-node_fault nodes k node =
-    if is_provider node then provider_fault nodes k node.line (binding_of node)
+-- the fault of a node that isn't passed over, where these names are taken
+unfoldable pub node_fault : List SeenNode → List (List ℕ) → SeenNode → Option DtsFault
+node_fault nodes taken node =
+    if is_provider node then provider_fault nodes taken node.line (binding_of node)
     else if is_formed node then None
     else Some (faults.MissingProperty node.line)
 
 -- the fault that the first look at the node of a place finds; a node that is passed over isn't looked at
 unfoldable pub first_fault : List SeenNode → ℕ → Option DtsFault
-first_fault nodes k = if is_passed nodes k then None else option_and_then (node_fault nodes k) (slice_get nodes k)
+first_fault nodes k = if is_passed nodes k then None else option_and_then (node_fault nodes (names_before nodes k)) (slice_get nodes k)

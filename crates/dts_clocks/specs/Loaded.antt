@@ -7,7 +7,8 @@ use Rattle.clk_base.specs.declared.flags.ClkFlags.{ClkFlags}
 use Rattle.clk_base.specs.Description.{Description}
 use Rattle.clk_base.specs.Places.{places}
 use Rattle.dts_tree.specs.Tree.{SeenNode}
-use Rattle.dts_bindings.specs.Binding.{SeenBinding, SeenClock}
+use Rattle.dts_bindings.specs.Binding.{SeenBinding}
+use Rattle.dts_bindings.specs.Clocks.{SeenClock}
 use Rattle.dts_clocks.specs.declared.loaded.Loaded.{Loaded}
 use Rattle.dts_clocks.specs.Assigned.{SeenAssigned, seen_assigned, assigned_of}
 use Rattle.dts_clocks.specs.Clocks.{binding_at}

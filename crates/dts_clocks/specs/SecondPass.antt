@@ -5,7 +5,8 @@ use Rattle.std.specs.Option.{option_and_then, option_map, option_map_or}
 use Rattle.clk_base.specs.declared.clock.ClockId.{ClockId}
 use Rattle.clk_base.specs.Valid.{can_have_parents}
 use Rattle.dts_tree.specs.Tree.{SeenNode}
-use Rattle.dts_bindings.specs.Binding.{SeenBinding, SeenClock}
+use Rattle.dts_bindings.specs.Binding.{SeenBinding}
+use Rattle.dts_bindings.specs.Clocks.{SeenClock}
 use Rattle.dts_clocks.specs.declared.fault.DtsFault.{DtsFault}
 use Rattle.dts_clocks.specs.declared.fault.DtsFault.TheVariants.{BadSpecifier, BadAssigned}
 use Rattle.dts_clocks.specs.Above.{is_passed}

@@ -5,6 +5,7 @@
 mod above;
 mod chart;
 mod fault;
+mod first_pass;
 mod loaded;
 mod reference;
 mod verdict;
