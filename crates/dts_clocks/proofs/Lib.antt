@@ -1,4 +1,5 @@
 pub mod Joins
+pub mod Looks
 pub mod Phandles
 pub mod Sources
 pub mod Twins
