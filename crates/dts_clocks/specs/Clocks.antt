@@ -13,6 +13,8 @@ use Rattle.dts_bindings.specs.Clocks.{SeenClock}
 use Rattle.dts_clocks.specs.declared.reference.Reference.{Reference}
 use Rattle.dts_clocks.specs.declared.reference.Reference.TheVariants.{Null, Whole, Begun, Lacking}
 use Rattle.dts_clocks.specs.declared.reference.Specifier.{Specifier}
+use Rattle.dts_clocks.specs.declared.reference.Step.{Step}
+use Rattle.dts_clocks.specs.declared.reference.Step.TheVariants.{Bad, Begins, Names}
 use Rattle.dts_clocks.specs.Above.{is_passed}
 use Rattle.dts_clocks.specs.Joined.{joined}
 use Rattle.dts_clocks.specs.References.{reference}
@@ -43,7 +45,7 @@ clocks_of nodes = joined (clocks_at nodes) (length nodes)
 
 -- a specifier names a clock of its provider, by the identifier where it has one
 unfoldable pub names_clock : Specifier → Held → Bool
-names_clock s c = (s.node == c.node) && option_map_or (λ i. i == c.clock.identifier) s.identifier true
+names_clock s c = (c.node == s.node) && option_map_or (λ i. c.clock.identifier == i) s.identifier true
 
 -- a clock by its place
 abbrev pub clock_id : ℕ → ClockId
@@ -57,27 +59,38 @@ clock_of nodes s = option_map clock_id (position (names_clock s) (clocks_of node
 abbrev pub specifier : ℕ → Option ℕ → Specifier
 specifier p identifier = record { node = p; identifier = identifier }
 
+-- a specifier ends, and names this clock, if any
+abbrev pub ends_with : Option ClockId → Step
+ends_with None = Bad
+ends_with (Some clock) = Names (Some clock)
+
+-- what a cell does where a specifier begins
+abbrev pub begins : List SeenNode → Reference → Step
+begins nodes Null = Names None
+begins nodes (Whole p) = ends_with (clock_of nodes (specifier p None))
+begins nodes (Begun p) = Begins p
+begins nodes Lacking = Bad
+
+-- what a cell does: behind the reference to a provider it is the identifier of one of its clocks, else it begins a specifier
+unfoldable pub step : List SeenNode → Option ℕ → Cell → Step
+step nodes None cell = begins nodes (reference nodes cell)
+step nodes (Some p) (cells.Number i) = ends_with (clock_of nodes (specifier p (Some i)))
+step nodes (Some p) (cells.Node n) = Bad
+
 -- one more in front
 abbrev pub onto : Option ClockId → Option (List (Option ClockId)) → Option (List (Option ClockId))
 onto clock rest = option_map (λ clocks. clock ∷ clocks) rest
-
--- the clock in front, where there is one
-abbrev pub found_onto : Option ClockId → Option (List (Option ClockId)) → Option (List (Option ClockId))
-found_onto clock rest = option_and_then (λ c. onto (Some c) rest) clock
 
 -- the clocks that cells name one after another, a null as None; `begun` is the provider whose
 -- identifier comes next. None where a specifier can't be read, or names no clock
 unfoldable pub named_from : List SeenNode → Option ℕ → List Cell → Option (List (Option ClockId))
 named_from nodes None [] = Some []
 named_from nodes (Some p) [] = None
-named_from nodes (Some p) (cells.Node n ∷ rest) = None
-named_from nodes (Some p) (cells.Number i ∷ rest) = found_onto (clock_of nodes (specifier p (Some i))) (named_from nodes None rest)
-named_from nodes None (cell ∷ rest) =
-    elim (reference nodes cell) [
-      | Null ↦ onto None (named_from nodes None rest)
-      | Whole p ↦ found_onto (clock_of nodes (specifier p None)) (named_from nodes None rest)
-      | Begun p ↦ named_from nodes (Some p) rest
-      | Lacking ↦ None
+named_from nodes begun (cell ∷ rest) =
+    elim (step nodes begun cell) [
+      | Bad ↦ None
+      | Begins p ↦ named_from nodes (Some p) rest
+      | Names clock ↦ onto clock (named_from nodes None rest)
     ]
 
 -- the clocks that cells name

@@ -2,6 +2,8 @@ pub mod Joined
 pub mod Above
 pub mod References
 pub mod Clocks
+pub mod Steps
+pub mod Heads
 pub mod Faults
 pub mod FirstPass
 pub mod Consumers

@@ -7,7 +7,9 @@ mod chart;
 mod fault;
 mod first_pass;
 mod loaded;
+mod numbers;
 mod reference;
+mod specifiers;
 mod verdict;
 
 pub use fault::DtsFault;

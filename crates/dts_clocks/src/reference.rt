@@ -1,5 +1,7 @@
 //! What the first cell of a specifier refers to, and specifiers.
 
+use clk_base::ClockId;
+
 /// What the first cell of a specifier refers to. A provider is the place of its node.
 #[derive(Clone, Copy, Debug, PartialEq, Eq)]
 pub(crate) enum Reference {
@@ -18,4 +20,15 @@ pub(crate) enum Reference {
 pub(crate) struct Specifier {
     pub(crate) node: usize,
     pub(crate) identifier: Option<u32>,
+}
+
+/// What a cell does among specifiers.
+#[derive(Clone, Copy, Debug, PartialEq, Eq)]
+pub(crate) enum Step {
+    /// No specifier can be read, or it names no clock.
+    Bad,
+    /// The identifier of this provider's clock comes next.
+    Begins(usize),
+    /// A specifier ends. A null names no clock.
+    Names(Option<ClockId>),
 }
