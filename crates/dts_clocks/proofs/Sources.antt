@@ -5,7 +5,7 @@ use Rattle.std.specs.Option.{option_map_or}
 use Rattle.std.proofs.lemmas.List.{length-map}
 use Rattle.dts_tree.specs.declared.tree.DtsNode.{DtsNode}
 use Rattle.dts_tree.specs.Tree.{SeenNode, seen_node}
-use Rattle.dts_bindings.specs.Nodes.{is_provider, clock_cells_of}
+use Rattle.dts_bindings.specs.Properties.{is_provider, clock_cells_of}
 use Rattle.dts_clocks.specs.declared.reference.Reference.{Reference}
 use Rattle.dts_clocks.specs.declared.reference.Reference.TheVariants.{Lacking}
 use Rattle.dts_clocks.specs.Above.{is_passed}

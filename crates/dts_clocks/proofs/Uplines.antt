@@ -6,7 +6,7 @@ use Rattle.std.specs.Option.{option_map_or, option_and_then}
 use Rattle.std.proofs.lemmas.Bool.Decides.{nat_tests}
 use Rattle.dts_tree.specs.declared.tree.DtsNode.{DtsNode}
 use Rattle.dts_tree.specs.Tree.{SeenNode, seen_node}
-use Rattle.dts_bindings.specs.Nodes.{is_okay}
+use Rattle.dts_bindings.specs.Properties.{is_okay}
 use Rattle.dts_clocks.specs.Above.{parent_of, line_within, line_of, is_off, is_passed}
 use Rattle.dts_clocks.proofs.Places.{get_seen}
 

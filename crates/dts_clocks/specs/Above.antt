@@ -3,7 +3,7 @@ use Rattle.std.specs.Prelude.{ℕ, zero, suc, ◌+◌, Bool, true, not, nat_lt, 
 use Rattle.std.specs.List.{list_any, flat_map}
 use Rattle.std.specs.Option.{option_map_or, option_and_then}
 use Rattle.dts_tree.specs.Tree.{SeenNode}
-use Rattle.dts_bindings.specs.Nodes.{is_okay}
+use Rattle.dts_bindings.specs.Properties.{is_okay}
 
 -- the parent of a node; it stands before the node
 unfoldable pub parent_of : List SeenNode → ℕ → Option ℕ

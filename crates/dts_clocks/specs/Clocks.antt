@@ -7,7 +7,7 @@ use Rattle.clk_base.specs.declared.clock.ClockId.{ClockId}
 use Rattle.dts_tree.specs.declared.tree.Cell.{Cell}
 use Rattle.dts_tree.specs.declared.tree.Cell.TheVariants as cells
 use Rattle.dts_tree.specs.Tree.{SeenNode}
-use Rattle.dts_bindings.specs.Nodes.{is_provider}
+use Rattle.dts_bindings.specs.Properties.{is_provider}
 use Rattle.dts_bindings.specs.Binding.{SeenBinding, binding_of}
 use Rattle.dts_bindings.specs.Clocks.{SeenClock}
 use Rattle.dts_clocks.specs.declared.reference.Reference.{Reference}

@@ -4,7 +4,7 @@ use Rattle.std.specs.Fmt.{decimal}
 use Rattle.std.specs.Option.{option_and_then, option_map, unwrap_or}
 use Rattle.clk_base.specs.declared.clock.ClockId.{ClockId}
 use Rattle.dts_tree.specs.Tree.{SeenNode}
-use Rattle.dts_bindings.specs.Nodes.{is_consumer}
+use Rattle.dts_bindings.specs.Properties.{is_consumer}
 use Rattle.dts_bindings.specs.Properties.{values_of, cells_in, texts_in}
 use Rattle.dts_clocks.specs.declared.loaded.Consumer.{Consumer}
 use Rattle.dts_clocks.specs.declared.loaded.ConsumerName.{ConsumerName}

@@ -9,7 +9,7 @@ use Rattle.dts_bindings.specs.declared.bound.Wants.{Wants}
 use Rattle.dts_bindings.specs.declared.bound.Wants.TheVariants as wants
 use Rattle.dts_bindings.specs.declared.fault.BindingFault.{BindingFault}
 use Rattle.dts_bindings.specs.declared.fault.BindingFault.TheVariants as alone
-use Rattle.dts_bindings.specs.Nodes.{is_provider}
+use Rattle.dts_bindings.specs.Properties.{is_provider}
 use Rattle.dts_bindings.specs.Binding.{SeenBinding, binding_of}
 use Rattle.dts_bindings.specs.Formed.{is_formed}
 use Rattle.dts_clocks.specs.declared.fault.DtsFault.{DtsFault}

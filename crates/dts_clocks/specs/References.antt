@@ -5,7 +5,7 @@ use Rattle.std.specs.Option.{option_map_or, option_and_then}
 use Rattle.dts_tree.specs.declared.tree.Cell.{Cell}
 use Rattle.dts_tree.specs.declared.tree.Cell.TheVariants as cells
 use Rattle.dts_tree.specs.Tree.{SeenNode}
-use Rattle.dts_bindings.specs.Nodes.{is_provider, phandle_of, clock_cells_of}
+use Rattle.dts_bindings.specs.Properties.{is_provider, phandle_of, clock_cells_of}
 use Rattle.dts_clocks.specs.declared.reference.Reference.{Reference}
 use Rattle.dts_clocks.specs.declared.reference.Reference.TheVariants.{Null, Whole, Begun, Lacking}
 use Rattle.dts_clocks.specs.Above.{is_passed}

@@ -9,7 +9,7 @@ ghost use Rattle.bundle_text.specs.Names.{is_clock_name};
 ghost use Rattle.dts_tree.specs.Tree.{seen_node};
 ghost use Rattle.dts_bindings.specs.Binding.{seen_binding, binding_of};
 ghost use Rattle.dts_bindings.specs.Clocks.{seen_clock};
-ghost use Rattle.dts_bindings.specs.Nodes.{is_provider};
+ghost use Rattle.dts_bindings.specs.Properties.{is_provider};
 ghost use Rattle.dts_clocks.specs.Clocks.{own_binding, binding_at};
 ghost use Rattle.dts_clocks.specs.Faults.{Tells, Finds};
 ghost use Rattle.dts_clocks.specs.FirstPass.{names_in, names_before, has_twin, wants_one, own_fault, binding_fault, provider_fault, node_fault, first_fault};
@@ -21,7 +21,7 @@ use crate::fault::DtsFault;
 use crate::reference::Reference;
 use bundle_text::is_clock_name;
 use clk_io::NoMemory;
-use dts_bindings::{Binding, BindingFault, BoundClock, Wants, is_formed, is_provider, read_binding};
+use dts_bindings::{Binding, BindingFault, BoundClock, Wants, binding, is_formed, is_provider};
 use dts_tree::{Cell, DtsNode};
 use indexmap::IndexSet;
 use std::alloc::Global;
@@ -147,7 +147,7 @@ fn provider(
     ensures taken { IfOk result (λ b. map string_bytes taken.new.keys ≡ map string_bytes taken.old.keys ++ names_in (seen_binding b)) }
     ensures err { IfErr result (λ e. Tells e (provider_fault (map seen_node chart.now.nodes.now) (map string_bytes taken.old.keys) node.now.line (binding_of (seen_node node.now)))) }
 {
-    match read_binding(alloc, node) {
+    match binding(alloc, node) {
         Ok(binding) => {
             judge(alloc, chart, taken, node.line, &binding)?;
             Ok(binding)
