@@ -3,7 +3,7 @@ use Rattle.std.proofs.Common.{◌≡◌, ℕ, zero, suc, ◌+◌, ◌<◌, ◌�
 use Rattle.std.specs.Prelude.{slice_get}
 use Rattle.std.specs.Option.{unwrap_or}
 use Rattle.std.proofs.lemmas.Bool.{cases_lt}
-use Rattle.std.proofs.lemmas.List.{length-append, length_push, get_or_append_left, get_or_push}
+use Rattle.std.proofs.lemmas.List.{append-nil, append_assoc, length-append, length_push, get_or_append_left, get_or_push}
 use Rattle.dts_clocks.specs.Joined.{joined, listed, total}
 
 pub joined-more : {X : Type 0} (f : ℕ → List X) (n : ℕ) → joined f (n + 1) ≡ joined f n ++ f n
@@ -65,3 +65,13 @@ listed_or f xs n k d all past = rw all (elim (cases_lt k n) [
     | inl low ↦ rw (slice_get-within (listed f n) k d (listed_within f (listed f n) n k refl low)) (get-listed f n k d low)
     | inr high ↦ rw (slice_get-behind (listed f n) k (omega (arith, length-listed f n))) (sym (past high))
   ])
+
+pub joined_start : {X : Type 0} (f : ℕ → List X) (xs : List X) → xs ≡ xs ++ joined f 0
+joined_start f xs = sym (ap (λ ys. xs ++ ys) (joined-none f) ∙ append-nil xs)
+
+pub joined_push : {X : Type 0} (f : ℕ → List X) (start old new here : List X) (n : ℕ) → old ≡ start ++ joined f n → here ≡ f n → new ≡ old ++ here → new ≡ start ++ joined f (n + 1)
+joined_push f start old new here n so_far is pushed =
+    pushed ∙ (ap (λ xs. xs ++ here) so_far ∙ (append_assoc start (joined f n) here ∙ ap (λ xs. start ++ xs) (ap (λ ys. joined f n ++ ys) is ∙ sym (joined-more f n))))
+
+pub slice_get-is : {X : Type 0} (xs : List X) (k : ℕ) (x : X) → k < length xs → x ≡ get_or xs k x → Some x ≡ slice_get xs k
+slice_get-is {X = X} xs k x low is = let P : X → Option X = λ y. Some y in ap P is ∙ sym (slice_get-within xs k x low)

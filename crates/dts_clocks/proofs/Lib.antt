@@ -1,5 +1,7 @@
 pub mod Joins
 pub mod Looks
+pub mod Linking
+pub mod Listing
 pub mod Naming
 pub mod Numbering
 pub mod Phandles

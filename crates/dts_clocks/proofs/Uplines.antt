@@ -1,13 +1,14 @@
 -- The nodes above a node, one step up.
-use Rattle.std.proofs.Common.{◌≡◌, ℕ, zero, suc, ◌+◌, ◌<◌, Bool, true, false, not, List, [], ◌∷◌, Option, Some, None, refl, ap, sym, ◌∙◌, arith, add-one, cond, map, length, get_or}
-use Rattle.std.specs.Prelude.{slice_get, nat_lt, ◌||◌}
-use Rattle.std.specs.List.{list_any}
+use Rattle.std.proofs.Common.{◌≡◌, ℕ, zero, suc, ◌+◌, ◌<◌, Bool, true, false, not, List, [], ◌∷◌, Option, Some, None, refl, ap, sym, ◌∙◌, arith, add-one, cond, map, length, get_or, reverse, ◌++◌, string_bytes}
+use Rattle.std.specs.Prelude.{slice_get, nat_lt, ◌||◌, ◌==◌}
+use Rattle.std.specs.List.{list_any, flat_map}
+use Rattle.std.proofs.lemmas.List.{reverse-append, flat_map_more, append_assoc}
 use Rattle.std.specs.Option.{option_map_or, option_and_then}
 use Rattle.std.proofs.lemmas.Bool.Decides.{nat_tests}
 use Rattle.dts_tree.specs.declared.tree.DtsNode.{DtsNode}
 use Rattle.dts_tree.specs.Tree.{SeenNode, seen_node}
 use Rattle.dts_bindings.specs.Properties.{is_okay}
-use Rattle.dts_clocks.specs.Above.{parent_of, line_within, line_of, is_off, is_passed}
+use Rattle.dts_clocks.specs.Above.{parent_of, line_within, line_of, is_off, is_passed, path_part, or_slash, path_of}
 use Rattle.dts_clocks.proofs.Places.{get_seen}
 
 -- a parent stands before
@@ -73,3 +74,42 @@ passed_by_parent ns k node okay parent lt is told good above =
     let up = is_passed-up (map seen_node ns) k in
     let here : is_off (map seen_node ns) k ≡ false = off ∙ ap not good in
     ap (λ o. option_map_or (is_passed (map seen_node ns)) o false) above ∙ sym (up ∙ ap (λ b. b || option_map_or (is_passed (map seen_node ns)) (parent_of (map seen_node ns) k) false) here)
+
+-- the names from below the root to a node, each behind a slash
+abbrev pub trail : List SeenNode → ℕ → List ℕ
+trail nodes k = flat_map (path_part nodes) (reverse (line_of nodes k))
+
+trail-line : (f : ℕ → List ℕ) (k : ℕ) (above : List ℕ) → flat_map f (reverse (k ∷ above)) ≡ flat_map f (reverse above) ++ f k
+trail-line f k above = ap (flat_map f) (reverse-append (k ∷ []) above) ∙ sym (flat_map_more f [] (reverse above) k)
+
+pub trail-up : (nodes : List SeenNode) (k p : ℕ) → parent_of nodes k ≡ Some p → trail nodes k ≡ trail nodes p ++ path_part nodes k
+trail-up nodes k p above =
+    ap (λ l. flat_map (path_part nodes) (reverse l)) (line_of-up nodes k ∙ ap (λ o. k ∷ option_map_or (line_of nodes) o []) above) ∙ trail-line (path_part nodes) k (line_of nodes p)
+
+pub trail-root : (nodes : List SeenNode) (k : ℕ) → parent_of nodes k ≡ None → trail nodes k ≡ []
+unfolding path_part
+trail-root nodes k none =
+    ap (λ l. flat_map (path_part nodes) (reverse l)) (line_of-up nodes k ∙ ap (λ o. k ∷ option_map_or (line_of nodes) o []) none) ∙ (trail-line (path_part nodes) k [] ∙ rw none refl)
+
+path_part-node : (ns : List DtsNode) (k p : ℕ) (d : DtsNode) → k < length ns → parent_of (map seen_node ns) k ≡ Some p → path_part (map seen_node ns) k ≡ 47 ∷ string_bytes (get_or ns k d).name
+unfolding path_part
+path_part-node ns k p d low above = rw (above, get_seen seen_node ns k d low) refl
+
+-- one node more in front of a path
+pub path_more : (ns : List DtsNode) (k p : ℕ) (d : DtsNode) (all name path longer : List ℕ) → k < length ns → Some p ≡ parent_of (map seen_node ns) k → name ≡ string_bytes (get_or ns k d).name → longer ≡ 47 ∷ name ++ path
+    → all ≡ trail (map seen_node ns) k ++ path → all ≡ trail (map seen_node ns) p ++ longer
+path_more ns k p d all name path longer low above named made was =
+    was ∙ (ap (λ t. t ++ path) (trail-up (map seen_node ns) k p (sym above)) ∙ (append_assoc (trail (map seen_node ns) p) (path_part (map seen_node ns) k) path
+    ∙ ap (λ t. trail (map seen_node ns) p ++ t) (ap (λ t. t ++ path) (path_part-node ns k p d low (sym above) ∙ ap (λ n. 47 ∷ n) (sym named)) ∙ sym made)))
+
+pub path_whole : (nodes : List SeenNode) (k at : ℕ) (path : List ℕ) → None ≡ parent_of nodes k → trail nodes at ≡ trail nodes k ++ path → or_slash path ≡ path_of nodes at
+unfolding path_of
+path_whole nodes k at path none was = ap or_slash (sym (was ∙ ap (λ t. t ++ path) (trail-root nodes k (sym none))))
+
+pub slash_for : (path slash : List ℕ) (b : Bool) → b ≡ (length path == 0) → b ≡ true → slash ≡ 47 ∷ [] → slash ≡ or_slash path
+slash_for [] slash b is so made = made
+slash_for (x ∷ xs) slash b is so made = absurd (grind arith)
+
+pub path_for : (path : List ℕ) (b : Bool) → b ≡ (length path == 0) → b ≡ false → path ≡ or_slash path
+path_for [] b is so = absurd (cc)
+path_for (x ∷ xs) b is so = refl

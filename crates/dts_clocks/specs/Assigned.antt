@@ -4,6 +4,7 @@ use Rattle.std.specs.Option.{option_and_then, option_map, option_flatten, unwrap
 use Rattle.clk_base.specs.declared.clock.ClockId.{ClockId}
 use Rattle.dts_tree.specs.Tree.{SeenNode}
 use Rattle.dts_bindings.specs.Properties.{has_property, values_of, all_numbers}
+use Rattle.dts_clocks.specs.declared.assigned.Lists as read
 use Rattle.dts_clocks.specs.declared.loaded.Assigned.{Assigned}
 use Rattle.dts_clocks.specs.declared.loaded.AssignedStep.{AssignedStep}
 use Rattle.dts_clocks.specs.declared.loaded.AssignedStep.TheVariants.{Parent, Rate}
@@ -20,6 +21,10 @@ pub record Lists : Type 0 where
 pub record SeenAssigned : Type 0 where
   pub line : ℕ
   pub steps : List AssignedStep
+
+-- the lists that a program has read
+abbrev pub seen_lists : read.Lists → Lists
+seen_lists l = record { clocks = l.clocks.items; parents = l.parents.items; rates = l.rates.items }
 
 abbrev pub seen_assigned : Assigned → SeenAssigned
 seen_assigned a = record { line = a.line; steps = a.steps.items }
@@ -71,5 +76,5 @@ steps_of l =
     ++ joined (λ i. rate_step (clock_at l.clocks i) (slice_get l.rates i)) (length l.rates)
 
 -- what a node with `assigned-clocks` asks for
-unfoldable pub assigned_of : SeenNode → Lists → List SeenAssigned
-assigned_of node l = if has_property (codes "assigned-clocks") node then record { line = node.line; steps = steps_of l } ∷ [] else []
+unfoldable pub assigned_of : SeenNode → Lists → Option SeenAssigned
+assigned_of node l = if has_property (codes "assigned-clocks") node then Some (record { line = node.line; steps = steps_of l }) else None

@@ -50,6 +50,6 @@ names_of nodes node =
     option_and_then (λ clocks. option_and_then (named_by clocks) (texts_in (values_of (codes "clock-names") node))) (clocks_in nodes (codes "clocks") node)
 
 -- the consumer that a node is, if it is one; None where a specifier is bad, or names are left over
-unfoldable pub consumer_of : List SeenNode → ℕ → SeenNode → Option (List SeenConsumer)
+unfoldable pub consumer_of : List SeenNode → ℕ → SeenNode → Option (Option SeenConsumer)
 consumer_of nodes k node =
-    if is_consumer node then option_map (λ names. record { path = path_of nodes k; names = names } ∷ []) (names_of nodes node) else Some []
+    if is_consumer node then option_map (λ names. Some (record { path = path_of nodes k; names = names })) (names_of nodes node) else Some None

@@ -1,6 +1,6 @@
 -- What a tree without a fault says: the description, the lines of its clocks, the consumers, and what is assigned.
 use Rattle.std.specs.Prelude.{ℕ, Option, Some, None, List, [], ◌∷◌, length, map, slice_get}
-use Rattle.std.specs.Option.{option_map_or}
+use Rattle.std.specs.Option.{option_map_or, option_to_list}
 use Rattle.clk_base.specs.declared.clock.ClockDef.{ClockDef}
 use Rattle.clk_base.specs.declared.clock.ClockId.{ClockId}
 use Rattle.clk_base.specs.declared.flags.ClkFlags.{ClkFlags}
@@ -31,24 +31,29 @@ abbrev pub def_with : ClkFlags → List ClockId → SeenClock → ClockDef
 def_with flags parents c = record { name = c.name; kind = c.kind; flags = flags; parents = places parents }
 
 -- the records of the clocks of a binding
-abbrev pub defs_with : SeenBinding → Links → List ClockDef
-defs_with b l = map (def_with b.flags l.parents) b.clocks
+abbrev pub defs_with : List ClockId → SeenBinding → List ClockDef
+defs_with parents b = map (def_with b.flags parents) b.clocks
 
 -- the records of the clocks of the node of a place
 unfoldable pub defs_at : List SeenNode → ℕ → List ClockDef
-defs_at nodes k = option_map_or (λ l. option_map_or (λ b. defs_with b l) (binding_at nodes k) []) (links_at nodes k) []
+defs_at nodes k = option_map_or (λ l. option_map_or (defs_with l.parents) (binding_at nodes k) []) (links_at nodes k) []
+
+-- the line of each of these clocks
+abbrev pub lines_with : ℕ → SeenBinding → List ℕ
+lines_with line b = map (λ c. line) b.clocks
 
 -- the line of each of the clocks of the node of a place
 unfoldable pub lines_at : List SeenNode → ℕ → List ℕ
-lines_at nodes k = option_map_or (λ node. option_map_or (λ b. map (λ c. node.line) b.clocks) (binding_at nodes k) []) (slice_get nodes k) []
+lines_at nodes k =
+    option_map_or (λ node. option_map_or (λ l. option_map_or (lines_with node.line) (binding_at nodes k) []) (links_at nodes k) []) (slice_get nodes k) []
 
 -- the consumer that the node of a place is
 unfoldable pub consumers_at : List SeenNode → ℕ → List SeenConsumer
-consumers_at nodes k = option_map_or (λ l. l.consumers) (links_at nodes k) []
+consumers_at nodes k = option_map_or (λ l. option_to_list l.consumer) (links_at nodes k) []
 
 -- what the node of a place assigns
 unfoldable pub assigned_at : List SeenNode → ℕ → List SeenAssigned
-assigned_at nodes k = option_map_or (λ node. option_map_or (λ l. assigned_of node l.lists) (links_at nodes k) []) (slice_get nodes k) []
+assigned_at nodes k = option_map_or (λ node. option_map_or (λ l. option_to_list (assigned_of node l.lists)) (links_at nodes k) []) (slice_get nodes k) []
 
 -- what the nodes before a place say
 unfoldable pub loaded_before : List SeenNode → ℕ → SeenLoaded

@@ -9,10 +9,11 @@ use Rattle.dts_bindings.specs.Binding.{SeenBinding}
 use Rattle.dts_bindings.specs.Clocks.{SeenClock}
 use Rattle.dts_clocks.specs.declared.fault.DtsFault.{DtsFault}
 use Rattle.dts_clocks.specs.declared.fault.DtsFault.TheVariants.{BadSpecifier, BadAssigned}
+use Rattle.dts_clocks.specs.declared.second_pass.Links as read
 use Rattle.dts_clocks.specs.Above.{is_passed}
-use Rattle.dts_clocks.specs.Assigned.{Lists, lists_of, entries, is_too_long, lacks_clocks}
+use Rattle.dts_clocks.specs.Assigned.{Lists, seen_lists, lists_of, entries, is_too_long, lacks_clocks}
 use Rattle.dts_clocks.specs.Clocks.{binding_at, clocks_named}
-use Rattle.dts_clocks.specs.Consumers.{SeenConsumer, consumer_of}
+use Rattle.dts_clocks.specs.Consumers.{SeenConsumer, seen_consumer, consumer_of}
 use Rattle.dts_clocks.specs.Joined.{total}
 
 -- the most entries of assigned clocks
@@ -40,13 +41,17 @@ parents_at nodes k = option_map_or (parents_of nodes) (binding_at nodes k) (Some
 -- what the specifiers of a node say
 pub record Links : Type 0 where
   pub parents : List ClockId
-  pub consumers : List SeenConsumer
+  pub consumer : Option SeenConsumer
   pub lists : Lists
+
+-- what a program has read of them
+abbrev pub seen_links : read.Links → Links
+seen_links l = record { parents = l.parents.items; consumer = option_map seen_consumer l.consumer; lists = seen_lists l.lists }
 
 -- what the specifiers of a node say; None where one of them is bad
 unfoldable pub links_of : List SeenNode → ℕ → SeenNode → Option Links
 links_of nodes k node =
-    option_and_then (λ parents. option_and_then (λ consumers. option_map (λ lists. record { parents = parents; consumers = consumers; lists = lists }) (lists_of nodes node)) (consumer_of nodes k node))
+    option_and_then (λ parents. option_and_then (λ consumer. option_map (λ lists. record { parents = parents; consumer = consumer; lists = lists }) (lists_of nodes node)) (consumer_of nodes k node))
     (parents_at nodes k)
 
 -- the same for the node of a place; None where it is passed over, too

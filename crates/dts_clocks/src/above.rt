@@ -1,8 +1,8 @@
 //! The nodes above a node.
 
-ghost use Rattle.std.specs.Prelude.{◌≡◌, ◌<◌, ℕ, map, length, IfOk, slice_get};
+ghost use Rattle.std.specs.Prelude.{◌≡◌, ◌<◌, ◌++◌, ◌∷◌, ℕ, map, length, IfOk, slice_get, string_bytes};
 ghost use Rattle.dts_tree.specs.Tree.{seen_node};
-ghost use Rattle.dts_clocks.specs.Above.{parent_of, is_off, is_passed};
+ghost use Rattle.dts_clocks.specs.Above.{parent_of, is_off, is_passed, path_of};
 ghost use Rattle.dts_clocks.specs.Joined.{listed};
 
 use clk_io::NoMemory;
@@ -53,4 +53,34 @@ pub(crate) fn passed_nodes(alloc: Global, nodes: &[DtsNode]) -> Result<Vec<bool>
         passed.push(is_passed)?;
     }
     Ok(passed)
+}
+
+// A slash and the name, in front of a path.
+fn below(alloc: Global, name: &str, path: &str) -> Result<String, NoMemory>
+    ensures { IfOk result (λ longer. string_bytes longer ≡ 47 ∷ name.now ++ path.now) }
+{
+    let mut longer = String::new(alloc);
+    longer.push_str("/")?;
+    longer.push_str(name)?;
+    longer.push_str(path)?;
+    Ok(longer)
+}
+
+/// The path of a node: the names from below the root to the node, each behind a slash; for the root
+/// a slash.
+pub(crate) fn path_of(alloc: Global, nodes: &[DtsNode], at: usize) -> Result<String, NoMemory>
+    requires { at < length nodes.now }
+    ensures { IfOk result (λ path. string_bytes path ≡ path_of (map seen_node nodes.now) at) }
+{
+    let mut path = String::new(alloc);
+    let mut place = at;
+    while let Some(parent) = parent_of(nodes, place) {
+        path = below(alloc, nodes[place].name.as_str(), path.as_str())?;
+        place = parent;
+    }
+    if path.is_empty() {
+        let slash = String::from_str(alloc, "/")?;
+        return Ok(slash);
+    }
+    Ok(path)
 }

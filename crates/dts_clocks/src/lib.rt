@@ -3,12 +3,16 @@
 #![tactic(auto)]
 
 mod above;
+mod assigned;
 mod chart;
+mod consumers;
 mod fault;
 mod first_pass;
 mod loaded;
+mod loading;
 mod numbers;
 mod reference;
+mod second_pass;
 mod specifiers;
 mod verdict;
 
