@@ -1,3 +1,4 @@
+pub mod Gathering
 pub mod Joins
 pub mod Looks
 pub mod Linking

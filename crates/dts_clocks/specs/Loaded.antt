@@ -45,7 +45,7 @@ lines_with line b = map (λ c. line) b.clocks
 -- the line of each of the clocks of the node of a place
 unfoldable pub lines_at : List SeenNode → ℕ → List ℕ
 lines_at nodes k =
-    option_map_or (λ node. option_map_or (λ l. option_map_or (lines_with node.line) (binding_at nodes k) []) (links_at nodes k) []) (slice_get nodes k) []
+    option_map_or (λ l. option_map_or (λ node. option_map_or (lines_with node.line) (binding_at nodes k) []) (slice_get nodes k) []) (links_at nodes k) []
 
 -- the consumer that the node of a place is
 unfoldable pub consumers_at : List SeenNode → ℕ → List SeenConsumer
@@ -53,7 +53,7 @@ consumers_at nodes k = option_map_or (λ l. option_to_list l.consumer) (links_at
 
 -- what the node of a place assigns
 unfoldable pub assigned_at : List SeenNode → ℕ → List SeenAssigned
-assigned_at nodes k = option_map_or (λ node. option_map_or (λ l. option_to_list (assigned_of node l.lists)) (links_at nodes k) []) (slice_get nodes k) []
+assigned_at nodes k = option_map_or (λ l. option_map_or (λ node. option_to_list (assigned_of node l.lists)) (slice_get nodes k) []) (links_at nodes k) []
 
 -- what the nodes before a place say
 unfoldable pub loaded_before : List SeenNode → ℕ → SeenLoaded

@@ -11,11 +11,13 @@ mod first_pass;
 mod loaded;
 mod loading;
 mod numbers;
+mod reading;
 mod reference;
 mod second_pass;
 mod specifiers;
 mod verdict;
 
 pub use fault::DtsFault;
+pub use reading::read_desc;
 pub use verdict::one_verdict;
 pub use loaded::{Assigned, AssignedStep, Consumer, ConsumerName, Loaded};

@@ -6,7 +6,7 @@ ghost use Rattle.bundle_text.specs.Firsts.{KeepsBelow};
 ghost use Rattle.dts_tree.specs.Tree.{seen_node};
 ghost use Rattle.dts_bindings.specs.Binding.{seen_binding};
 ghost use Rattle.dts_bindings.specs.Clocks.{seen_clock};
-ghost use Rattle.dts_clocks.specs.Assigned.{seen_lists, seen_assigned, assigned_of};
+ghost use Rattle.dts_clocks.specs.Assigned.{seen_lists, seen_assigned, assigned_of, entries};
 ghost use Rattle.dts_clocks.specs.Clocks.{binding_at};
 ghost use Rattle.dts_clocks.specs.Consumers.{seen_consumer};
 ghost use Rattle.dts_clocks.specs.Faults.{Tells, Finds};
@@ -14,7 +14,7 @@ ghost use Rattle.dts_clocks.specs.Joined.{listed, total};
 ghost use Rattle.dts_clocks.specs.Loaded.{seen_loaded, def_with, defs_with, lines_with, loaded_before, loaded_of};
 ghost use Rattle.dts_clocks.specs.SecondPass.{entries_at, second_fault};
 
-use crate::assigned::assigned_of;
+use crate::assigned::{Lists, assigned_of};
 use crate::fault::DtsFault;
 use crate::loaded::{Assigned, Consumer, Loaded};
 use crate::second_pass::{Links, look};
@@ -147,4 +147,64 @@ fn add(
     push_some(&mut loaded.assigned, assigned)?;
     push_some(&mut loaded.consumers, consumer)?;
     Ok(())
+}
+
+// The entries so far, with those of a node.
+fn entries_with(before: usize, lists: &Lists) -> usize
+    requires { before + entries (seen_lists lists.now) ≤ 4096 }
+    ensures { result ≡ before + entries (seen_lists lists.now) }
+{
+    before + lists.parents.len() + lists.rates.len()
+}
+
+// What the node of a place says more. Gives the entries up to it.
+fn add_at(
+    alloc: Global,
+    chart: &Named<'_>,
+    binding: &Option<Binding>,
+    before: usize,
+    at: usize,
+    loaded: &mut Loaded,
+) -> Result<usize, DtsFault>
+    requires within { at < length chart.now.chart.nodes.now }
+    requires bound { option_map seen_binding binding.now ≡ binding_at (map seen_node chart.now.chart.nodes.now) at }
+    requires before { before ≡ total (entries_at (map seen_node chart.now.chart.nodes.now)) at }
+    requires few { before ≤ 4096 }
+    requires so_far { seen_loaded loaded.old ≡ loaded_before (map seen_node chart.now.chart.nodes.now) at }
+    ensures loaded { OnOk result (seen_loaded loaded.new ≡ loaded_before (map seen_node chart.now.chart.nodes.now) (at + 1)) }
+    ensures entries { IfOk result (λ n. n ≡ total (entries_at (map seen_node chart.now.chart.nodes.now)) (at + 1)) }
+    ensures few { IfOk result (λ n. n ≤ 4096) }
+    ensures none { OnOk result (second_fault (map seen_node chart.now.chart.nodes.now) at ≡ None) }
+    ensures err { IfErr result (λ e. Tells e (second_fault (map seen_node chart.now.chart.nodes.now) at)) }
+{
+    let Some(links) = look(alloc, chart, binding, before, at)? else {
+        return Ok(before);
+    };
+    let entries = entries_with(before, &links.lists);
+    add(alloc, loaded, &chart.chart.nodes[at], binding, links)?;
+    Ok(entries)
+}
+
+/// What the nodes say.
+pub(crate) fn load(
+    alloc: Global,
+    chart: &Named<'_>,
+    bindings: &[Option<Binding>],
+) -> Result<Loaded, DtsFault>
+    requires { map (option_map seen_binding) bindings.now ≡ listed (binding_at (map seen_node chart.now.chart.nodes.now)) (length chart.now.chart.nodes.now) }
+    ensures loaded { IfOk result (λ l. seen_loaded l ≡ loaded_of (map seen_node chart.now.chart.nodes.now)) }
+    ensures none { OnOk result (KeepsBelow (second_fault (map seen_node chart.now.chart.nodes.now)) (length chart.now.chart.nodes.now)) }
+    ensures err { IfErr result (λ e. Finds (second_fault (map seen_node chart.now.chart.nodes.now)) (length chart.now.chart.nodes.now) e) }
+{
+    let mut loaded = Loaded {
+        desc: Desc::new(alloc),
+        lines: Vec::new(alloc),
+        consumers: Vec::new(alloc),
+        assigned: Vec::new(alloc),
+    };
+    let mut entries = 0;
+    for at in 0..chart.chart.nodes.len() {
+        entries = add_at(alloc, chart, &bindings[at], entries, at, &mut loaded)?;
+    }
+    Ok(loaded)
 }
