@@ -4,4 +4,4 @@ use Rattle.dts_clocks.proofs.loading.push_lines.Given as goal
 
 -- the clocks so far
 abbrev pub invariant-loop-clock : goal.invariant-loop-clock
-invariant-loop-clock l = l.lines.items ≡ l.initial.lines.items ++ map (λ c. l.line) (map seen_clock (take l.clock-index l.clocks))
+invariant-loop-clock l = l.lines.items ≡ l.initial.lines.items ++ map (λ c. l.line) (map seen_clock (take l._clock-index l.clocks))
