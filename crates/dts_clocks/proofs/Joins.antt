@@ -62,9 +62,9 @@ slice_get-behind (x ∷ xs) (suc k) h = slice_get-behind xs k (omega arith)
 -- a table that is asked also behind its end, where the function gives the same
 pub listed_or : {X : Type 0} (f : ℕ → X) (xs : List X) (n k : ℕ) (d : X) → xs ≡ listed f n → (n ≤ k → f k ≡ d) → unwrap_or (slice_get xs k) d ≡ f k
 listed_or f xs n k d all past = rw all (elim (cases_lt k n) [
-    | inl low ↦ rw (slice_get-within (listed f n) k d (listed_within f (listed f n) n k refl low)) (get-listed f n k d low)
-    | inr high ↦ rw (slice_get-behind (listed f n) k (omega (arith, length-listed f n))) (sym (past high))
-  ])
+  | inl low ↦ rw (slice_get-within (listed f n) k d (listed_within f (listed f n) n k refl low)) (get-listed f n k d low)
+  | inr high ↦ rw (slice_get-behind (listed f n) k (omega (arith, length-listed f n))) (sym (past high))
+])
 
 pub joined_start : {X : Type 0} (f : ℕ → List X) (xs : List X) → xs ≡ xs ++ joined f 0
 joined_start f xs = sym (ap (λ ys. xs ++ ys) (joined-none f) ∙ append-nil xs)

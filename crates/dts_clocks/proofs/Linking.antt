@@ -131,5 +131,5 @@ pub parents_fit : (nodes : List SeenNode) (b : Binding) (clocks : List (Option C
 unfolding parents_of
 parents_fit nodes b clocks parents n fits named there count is =
     let each : fits ≡ list_all (λ (c : SeenClock). can_have_parents c.kind (length parents)) (map seen_clock b.clocks.items) =
-        is ∙ (ap (λ m. list_all (λ (c : BoundClock). can_have_parents c.kind m) b.clocks.items) count ∙ sym (each_seen (λ k. can_have_parents k (length parents)) b.clocks.items)) in
+    is ∙ (ap (λ m. list_all (λ (c : BoundClock). can_have_parents c.kind m) b.clocks.items) count ∙ sym (each_seen (λ k. can_have_parents k (length parents)) b.clocks.items)) in
     rw (← named, ← there, ← each) refl

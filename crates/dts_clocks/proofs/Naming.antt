@@ -46,7 +46,7 @@ pub named_more : (nodes : List SeenNode) (cells : List Cell) (i : ℕ) (d : Cell
     → named_from nodes None cells ≡ option_map (λ more. new ++ more) (named_from nodes after (drop (i + 1) cells))
 named_more nodes cells i d begun after found new s low stepped fine next more was =
     let here : named_from nodes begun (drop i cells) ≡ option_map (λ more. clocks_of_step s ++ more) (named_from nodes (begun_after s) (drop (i + 1) cells)) =
-        at_drop_more (named_from nodes begun) cells i d low ∙ named_cons nodes begun (get_or cells i d) (drop (i + 1) cells) s (sym stepped) fine in
+    at_drop_more (named_from nodes begun) cells i d low ∙ named_cons nodes begun (get_or cells i d) (drop (i + 1) cells) s (sym stepped) fine in
     was ∙ (ap (option_map (λ more. found ++ more)) here ∙ (join_ahead found (clocks_of_step s) (named_from nodes (begun_after s) (drop (i + 1) cells))
     ∙ (ap (λ (xs : List (Option ClockId)). option_map (λ more. xs ++ more) (named_from nodes (begun_after s) (drop (i + 1) cells))) (sym more) ∙ ap (λ b. option_map (λ more. new ++ more) (named_from nodes b (drop (i + 1) cells))) (sym next))))
 

@@ -51,7 +51,7 @@ twin_found texts cs i clock text had low is named found yes' =
     ap (has_twin (map string_bytes texts)) (left cs i clock low is)
     ∙ (twin_cons (map string_bytes texts) (string_bytes clock.name) (names (drop (i + 1) cs))
     ∙ ap (λ b. b || has_twin (map string_bytes texts ++ string_bytes clock.name ∷ []) (names (drop (i + 1) cs)))
-      (ap (λ n. list_any (bytes_eq n) (map string_bytes texts)) (sym named) ∙ (sym (among texts text) ∙ (sym found ∙ yes'))))
+    (ap (λ n. list_any (bytes_eq n) (map string_bytes texts)) (sym named) ∙ (sym (among texts text) ∙ (sym found ∙ yes'))))
 
 -- the next name isn't, and is taken now
 pub texts_more : (texts new : List (String Global)) (name : String Global) (text : List ℕ) (had : Bool) → string_bytes name ≡ text → had ≡ list_any (λ k. bytes_eq text (string_bytes k)) texts → had ≡ false → new ≡ insert_key string_eq texts name
@@ -69,7 +69,7 @@ twin_next texts new cs i clock text had low is named found absent more =
     ap (has_twin (map string_bytes texts)) (left cs i clock low is)
     ∙ (twin_cons (map string_bytes texts) (string_bytes clock.name) (names (drop (i + 1) cs))
     ∙ (ap (λ b. b || has_twin (map string_bytes texts ++ string_bytes clock.name ∷ []) (names (drop (i + 1) cs)))
-      (ap (λ n. list_any (bytes_eq n) (map string_bytes texts)) (sym named) ∙ (sym (among texts text) ∙ (sym found ∙ absent)))
+    (ap (λ n. list_any (bytes_eq n) (map string_bytes texts)) (sym named) ∙ (sym (among texts text) ∙ (sym found ∙ absent)))
     ∙ ap (λ ts. has_twin ts (names (drop (i + 1) cs))) (ap (λ n. map string_bytes texts ++ n ∷ []) (sym named) ∙ sym more)))
 
 pub names_more : (start : List (List ℕ)) (texts new : List (String Global)) (cs : List BoundClock) (i : ℕ) (clock : BoundClock) (text : List ℕ) → i < length cs → clock ≡ get_or cs i clock → text ≡ string_bytes clock.name
@@ -77,8 +77,8 @@ pub names_more : (start : List (List ℕ)) (texts new : List (String Global)) (c
 unfolding names
 names_more start texts new cs i clock text low is named more so_far =
     let last : names (take (i + 1) cs) ≡ names (take i cs) ++ text ∷ [] =
-        ap names (take_more cs i clock low) ∙ (ap (map (λ (c : SeenClock). c.name)) (map-append seen_clock (take i cs) (get_or cs i clock ∷ []))
-        ∙ (map-append (λ (c : SeenClock). c.name) (map seen_clock (take i cs)) (seen_clock (get_or cs i clock) ∷ []) ∙ ap (λ n. names (take i cs) ++ n ∷ []) (ap (λ (c : BoundClock). string_bytes c.name) (sym is) ∙ sym named))) in
+    ap names (take_more cs i clock low) ∙ (ap (map (λ (c : SeenClock). c.name)) (map-append seen_clock (take i cs) (get_or cs i clock ∷ []))
+    ∙ (map-append (λ (c : SeenClock). c.name) (map seen_clock (take i cs)) (seen_clock (get_or cs i clock) ∷ []) ∙ ap (λ n. names (take i cs) ++ n ∷ []) (ap (λ (c : BoundClock). string_bytes c.name) (sym is) ∙ sym named))) in
     more ∙ (ap (λ ts. ts ++ text ∷ []) so_far ∙ (append_assoc start (names (take i cs)) (text ∷ []) ∙ ap (λ ts. start ++ ts) (sym last)))
 
 pub twin_none : (T : List (List ℕ)) (cs : List BoundClock) (i : ℕ) → length cs ≤ i → has_twin T (map (λ c. c.name) (map seen_clock (drop i cs))) ≡ false

@@ -61,5 +61,5 @@ accepted one other items loaded a b first second content =
     record {
       first = subst (λ n. KeepsBelow (first_fault (map seen_node items)) n) (sym (length-map items seen_node)) (subst (λ ns. KeepsBelow (first_fault (map seen_node ns)) (length ns)) a first);
       second = subst (λ n. KeepsBelow (second_fault (map seen_node items)) n) (sym (length-map items seen_node)) (subst (λ ns. KeepsBelow (second_fault (map seen_node ns)) (length ns)) b second);
-      content = content ∙ ap (λ ns. loaded_of (map seen_node ns)) b
+      content = content ∙ ap (λ ns. loaded_of (map seen_node ns)) b;
     }

@@ -30,11 +30,7 @@ pub(crate) struct Chart<'a> {
 }
 
 // Notes the node of a phandle, where it has one and no earlier node has it.
-fn note(
-    places: &mut HashMap<u32, usize>,
-    phandle: Option<u32>,
-    at: usize,
-) -> Result<(), NoMemory>
+fn note(places: &mut HashMap<u32, usize>, phandle: Option<u32>, at: usize) -> Result<(), NoMemory>
     ensures { OnOk result ((v : ℕ) → get nat_eq places.new v
         ≡ option_or (get nat_eq places.old v) (if option_map_or (λ p. p == v) phandle false then Some at else None)) }
 {
@@ -97,11 +93,7 @@ fn source_in(sources: &[Reference], at: usize) -> Reference
 }
 
 // Each node as a provider that a specifier may refer to.
-fn sources(
-    alloc: Global,
-    nodes: &[DtsNode],
-    passed: &[bool],
-) -> Result<Vec<Reference>, NoMemory>
+fn sources(alloc: Global, nodes: &[DtsNode], passed: &[bool]) -> Result<Vec<Reference>, NoMemory>
     requires { passed.now ≡ listed (is_passed (map seen_node nodes.now)) (length nodes.now) }
     ensures { IfOk result (λ sources. sources.items ≡ listed (source_at (map seen_node nodes.now)) (length nodes.now)) }
 {

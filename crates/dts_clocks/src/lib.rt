@@ -18,6 +18,9 @@ mod specifiers;
 mod verdict;
 
 pub use fault::DtsFault;
+pub use loaded::{Assigned, AssignedStep, Consumer, ConsumerName, Loaded};
 pub use reading::read_desc;
 pub use verdict::one_verdict;
-pub use loaded::{Assigned, AssignedStep, Consumer, ConsumerName, Loaded};
+
+#[cfg(test)]
+mod tests;

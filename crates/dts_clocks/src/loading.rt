@@ -83,11 +83,7 @@ fn push_clocks(
 }
 
 // The line of each of these clocks more.
-fn push_lines(
-    lines: &mut Vec<u32>,
-    line: u32,
-    clocks: &[BoundClock],
-) -> Result<(), NoMemory>
+fn push_lines(lines: &mut Vec<u32>, line: u32, clocks: &[BoundClock]) -> Result<(), NoMemory>
     ensures { OnOk result (lines.new.items ≡ lines.old.items ++ map (λ c. line) (map seen_clock clocks.now)) }
 {
     for _clock in clocks {

@@ -28,11 +28,7 @@ pub(crate) struct Head {
 }
 
 // The heads of these clocks of a node, behind those so far.
-fn push_heads(
-    heads: &mut Vec<Head>,
-    node: usize,
-    clocks: &[BoundClock],
-) -> Result<(), NoMemory>
+fn push_heads(heads: &mut Vec<Head>, node: usize, clocks: &[BoundClock]) -> Result<(), NoMemory>
     ensures { OnOk result (heads.new.items ≡ heads.old.items ++ map (head_by node) clocks.now) }
 {
     for clock in clocks {
@@ -45,11 +41,7 @@ fn push_heads(
 }
 
 // The heads of the clocks of a node's binding, if it has one, behind those so far.
-fn push_bound(
-    heads: &mut Vec<Head>,
-    node: usize,
-    binding: &Option<Binding>,
-) -> Result<(), NoMemory>
+fn push_bound(heads: &mut Vec<Head>, node: usize, binding: &Option<Binding>) -> Result<(), NoMemory>
     ensures { OnOk result (heads.new.items ≡ heads.old.items ++ heads_by node binding.now) }
 {
     match binding {

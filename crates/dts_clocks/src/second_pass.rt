@@ -35,10 +35,7 @@ pub(crate) struct Links {
 }
 
 // The clocks, where none is a null.
-fn all_there(
-    alloc: Global,
-    clocks: &[Option<ClockId>],
-) -> Result<Option<Vec<ClockId>>, NoMemory>
+fn all_there(alloc: Global, clocks: &[Option<ClockId>]) -> Result<Option<Vec<ClockId>>, NoMemory>
     ensures { IfOk result (λ there. option_map (λ v. v.items) there ≡ all_there clocks.now) }
 {
     let mut there = Vec::new(alloc);

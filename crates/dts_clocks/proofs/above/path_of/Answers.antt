@@ -13,7 +13,7 @@ loop-parent-preserved c =
     record {
       within = omega (arith, before, c.loop-parent.invariant.within);
       so_far = path_more c.args.nodes.now c.loop-parent.place c.in-Some.parent c.index-nodes-place.result _ c.as_str.result.now (string_bytes c.loop-parent.path) (string_bytes c.in_ok-path.path) c.loop-parent.invariant.within (sym c.in-Some.is ∙ c.parent_of.ensures) c.as_str.ensures.value
-        (c.in_ok-path.ensures ∙ ap (λ t. (47 ∷ c.as_str.result.now) ++ t) c.as_str-in-Some.ensures.value) c.loop-parent.invariant.so_far
+          (c.in_ok-path.ensures ∙ ap (λ t. (47 ∷ c.as_str.result.now) ++ t) c.as_str-in-Some.ensures.value) c.loop-parent.invariant.so_far;
     }
 
 pub returns-then-is_empty : goal.returns-then-is_empty

@@ -8,7 +8,7 @@ abbrev pub invariant-loop-parent : goal.invariant-loop-parent
 invariant-loop-parent l =
     record {
       within : l.place < length l.nodes;
-      so_far : trail (map seen_node l.nodes) l.at ≡ trail (map seen_node l.nodes) l.place ++ string_bytes l.path
+      so_far : trail (map seen_node l.nodes) l.at ≡ trail (map seen_node l.nodes) l.place ++ string_bytes l.path;
     }
 
 abbrev pub decreases-loop-parent : goal.decreases-loop-parent

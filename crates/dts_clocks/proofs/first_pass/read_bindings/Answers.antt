@@ -15,7 +15,7 @@ loop-at-init c =
     record {
       found = listed_none (binding_at (map seen_node c.args.chart.now.nodes.now)) _ (ap (map (option_map seen_binding)) c.new-found.ensures.items);
       taken = ap (map string_bytes) (nil_from_length c.new-taken.result.keys c.new-taken.ensures.len) ∙ sym (names_before-none (map seen_node c.args.chart.now.nodes.now));
-      kept = kept_none (first_fault (map seen_node c.args.chart.now.nodes.now))
+      kept = kept_none (first_fault (map seen_node c.args.chart.now.nodes.now));
     }
 
 pub returns-in_err-binding-clause-err : goal.returns-in_err-binding-clause-err
@@ -28,5 +28,5 @@ loop-at-preserved c =
     record {
       found = listed_push (binding_at (map seen_node c.args.chart.now.nodes.now)) _ _ c.loop-at.at _ c.loop-at.invariant.found c.in_ok-binding.ensures.binding (ap (map (option_map seen_binding)) c.in_ok-push.ensures.items ∙ map_push (option_map seen_binding) c.loop-at.found.items c.in_ok-binding.binding);
       taken = c.in_ok-binding.ensures.taken;
-      kept = kept_more (first_fault (map seen_node c.args.chart.now.nodes.now)) c.loop-at.at c.loop-at.invariant.kept c.in_ok-binding.ensures.none
+      kept = kept_more (first_fault (map seen_node c.args.chart.now.nodes.now)) c.loop-at.at c.loop-at.invariant.kept c.in_ok-binding.ensures.none;
     }

@@ -14,5 +14,5 @@ invariant-loop-at l =
     record {
       found : map (option_map seen_binding) l.found.items ≡ listed (binding_at (map seen_node l.chart.nodes.now)) l.at;
       taken : map string_bytes l.taken.keys ≡ names_before (map seen_node l.chart.nodes.now) l.at;
-      kept : KeepsBelow (first_fault (map seen_node l.chart.nodes.now)) l.at
+      kept : KeepsBelow (first_fault (map seen_node l.chart.nodes.now)) l.at;
     }

@@ -8,5 +8,5 @@ abbrev pub invariant-loop-clock : goal.invariant-loop-clock
 invariant-loop-clock l =
     record {
       taken : map string_bytes l.taken.keys ≡ map string_bytes l.initial.taken.keys ++ map (λ c. c.name) (map seen_clock (take l.clock-index l.clocks));
-      twins : has_twin (map string_bytes l.initial.taken.keys) (map (λ c. c.name) (map seen_clock l.clocks)) ≡ has_twin (map string_bytes l.taken.keys) (map (λ c. c.name) (map seen_clock (drop l.clock-index l.clocks)))
+      twins : has_twin (map string_bytes l.initial.taken.keys) (map (λ c. c.name) (map seen_clock l.clocks)) ≡ has_twin (map string_bytes l.taken.keys) (map (λ c. c.name) (map seen_clock (drop l.clock-index l.clocks)));
     }

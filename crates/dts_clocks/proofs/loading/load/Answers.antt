@@ -18,7 +18,7 @@ loop-at-init c =
       loaded = loaded_none (map seen_node c.args.chart.now.chart.nodes.now) _ c.new.ensures c.new-2.ensures.items (ap (map seen_consumer) c.new-3.ensures.items) (ap (map seen_assigned) c.new-4.ensures.items);
       entries = sym (total-none (entries_at (map seen_node c.args.chart.now.chart.nodes.now)));
       few = omega arith;
-      kept = kept_none (second_fault (map seen_node c.args.chart.now.chart.nodes.now))
+      kept = kept_none (second_fault (map seen_node c.args.chart.now.chart.nodes.now));
     }
 
 pub bounds-bindings-at : goal.bounds-bindings-at

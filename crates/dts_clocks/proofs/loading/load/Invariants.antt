@@ -13,5 +13,5 @@ invariant-loop-at l =
       loaded : seen_loaded l.loaded ≡ loaded_before (map seen_node l.chart.chart.nodes.now) l.at;
       entries : l.entries ≡ total (entries_at (map seen_node l.chart.chart.nodes.now)) l.at;
       few : l.entries ≤ 4096;
-      kept : KeepsBelow (second_fault (map seen_node l.chart.chart.nodes.now)) l.at
+      kept : KeepsBelow (second_fault (map seen_node l.chart.chart.nodes.now)) l.at;
     }
