@@ -1,13 +1,11 @@
 -- What is loaded, one node more.
-use Rattle.std.proofs.Common.{◌≡◌, ℕ, ◌+◌, ◌<◌, List, [], ◌∷◌, ◌++◌, map, length, get_or, Option, Some, None, refl, sym, ap, ◌∙◌, arith}
+use Rattle.std.proofs.Common.{◌≡◌, ℕ, ◌+◌, List, [], ◌∷◌, ◌++◌, map, Option, Some, None, refl, sym, ap, ◌∙◌}
 use Rattle.std.specs.Prelude.{slice_get}
 use Rattle.std.specs.Option.{option_map, option_map_or, option_to_list}
 use Rattle.std.proofs.lemmas.List.{append-nil, map-append}
 use Rattle.clk_base.specs.Description.{Description}
 use Rattle.dts_tree.specs.Tree.{SeenNode}
 use Rattle.dts_bindings.specs.Binding.{SeenBinding}
-use Rattle.dts_clocks.specs.declared.loaded.Assigned.{Assigned}
-use Rattle.dts_clocks.specs.declared.loaded.Consumer.{Consumer}
 use Rattle.dts_clocks.specs.Assigned.{SeenAssigned, assigned_of}
 use Rattle.dts_clocks.specs.Clocks.{binding_at}
 use Rattle.dts_clocks.specs.Consumers.{SeenConsumer}

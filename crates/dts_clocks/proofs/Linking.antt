@@ -2,7 +2,7 @@
 use Rattle.std.proofs.Common.{◌≡◌, ℕ, ◌+◌, ◌<◌, ◌≤◌, Bool, true, false, cond, List, [], ◌∷◌, ◌++◌, map, length, get_or, drop, Option, Some, None, refl, sym, ap, ◌∙◌, arith, append_assoc}
 use Rattle.std.specs.Prelude.{◌||◌, ◌&&◌, nat_lt}
 use Rattle.std.specs.List.{list_all}
-use Rattle.std.specs.Option.{option_map, option_map_or, option_and_then}
+use Rattle.std.specs.Option.{option_map, option_map_or}
 use Rattle.std.proofs.lemmas.List.{at_drop_more, at_drop_all, append-nil}
 use Rattle.clk_base.specs.declared.clock.ClockId.{ClockId}
 use Rattle.dts_tree.specs.declared.tree.DtsNode.{DtsNode}
@@ -13,7 +13,6 @@ use Rattle.dts_bindings.specs.declared.bound.Binding.{Binding}
 use Rattle.dts_bindings.specs.declared.bound.BoundClock.{BoundClock}
 use Rattle.dts_bindings.specs.Binding.{SeenBinding, seen_binding}
 use Rattle.dts_bindings.specs.Clocks.{SeenClock, seen_clock}
-use Rattle.dts_clocks.specs.declared.fault.DtsFault.{DtsFault}
 use Rattle.dts_clocks.specs.declared.fault.DtsFault.TheVariants.{BadSpecifier, BadAssigned}
 use Rattle.dts_clocks.specs.Above.{is_passed}
 use Rattle.dts_clocks.specs.Assigned.{Lists, lists_of, entries, is_too_long, lacks_clocks}

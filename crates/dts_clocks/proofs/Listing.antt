@@ -1,9 +1,8 @@
 -- The lists of a node, put together.
-use Rattle.std.proofs.Common.{◌≡◌, ℕ, List, Option, Some, None, codes, refl, sym}
-use Rattle.std.specs.Option.{option_map, option_and_then}
+use Rattle.std.proofs.Common.{◌≡◌, ℕ, List, Option, Some, codes, refl}
 use Rattle.clk_base.specs.declared.clock.ClockId.{ClockId}
 use Rattle.dts_tree.specs.Tree.{SeenNode}
-use Rattle.dts_clocks.specs.Assigned.{Lists, rates_of, lists_of}
+use Rattle.dts_clocks.specs.Assigned.{rates_of, lists_of}
 use Rattle.dts_clocks.specs.Consumers.{clocks_in}
 
 pub lists_made : (nodes : List SeenNode) (node : SeenNode) (clocks parents : List (Option ClockId)) (rates : List ℕ) → Some clocks ≡ clocks_in nodes (codes "assigned-clocks") node → Some parents ≡ clocks_in nodes (codes "assigned-clock-parents") node

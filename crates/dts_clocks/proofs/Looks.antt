@@ -1,9 +1,8 @@
 -- The first look at one node.
-use Rattle.std.proofs.Common.{◌≡◌, ℕ, suc, ◌+◌, ◌<◌, Bool, true, false, cond, List, [], ◌∷◌, ◌++◌, map, length, get_or, Option, Some, None, Result, Ok, Err, refl, sym, ap, ◌∙◌, arith, below_more, string_bytes, OnOk, IfOk}
-use Rattle.std.specs.Prelude.{slice_get}
-use Rattle.std.specs.Option.{option_map, option_map_or, option_and_then}
+use Rattle.std.proofs.Common.{◌≡◌, ℕ, ◌+◌, ◌<◌, true, false, List, [], ◌∷◌, ◌++◌, map, length, get_or, Option, Some, None, Result, Ok, Err, refl, sym, ap, ◌∙◌, arith, below_more, OnOk, IfOk}
+use Rattle.std.specs.Option.{option_map, option_map_or}
 use Rattle.std.proofs.lemmas.List.{map-append, append-nil}
-use Rattle.bundle_text.specs.Firsts.{First, KeepsBelow}
+use Rattle.bundle_text.specs.Firsts.{KeepsBelow}
 use Rattle.dts_tree.specs.declared.tree.DtsNode.{DtsNode}
 use Rattle.dts_tree.specs.Tree.{SeenNode, seen_node}
 use Rattle.dts_bindings.specs.declared.bound.Binding.{Binding}
@@ -13,7 +12,7 @@ use Rattle.dts_clocks.specs.declared.fault.DtsFault.{DtsFault}
 use Rattle.dts_clocks.specs.declared.fault.DtsFault.TheVariants.{UnknownCompatible, NoCells, MissingProperty, BadName, TwiceNamed, BadSpecifier, BadAssigned, NoMemory}
 use Rattle.dts_clocks.specs.Above.{is_passed}
 use Rattle.dts_clocks.specs.Clocks.{Held, held_by, own_binding, binding_at, clocks_at}
-use Rattle.dts_clocks.specs.Faults.{IsFirstOf, Tells, Finds}
+use Rattle.dts_clocks.specs.Faults.{Tells, Finds}
 use Rattle.dts_clocks.specs.FirstPass.{names_in, names_before, node_fault, first_fault}
 use Rattle.dts_clocks.specs.Joined.{joined}
 use Rattle.dts_clocks.proofs.Joins.{joined-more, joined-none}

@@ -1,18 +1,18 @@
 -- The clocks that specifiers name, one clock more.
-use Rattle.std.proofs.Common.{◌≡◌, ℕ, ◌+◌, ◌<◌, ◌≤◌, Bool, true, false, cond, nat_eq, List, [], ◌∷◌, ◌++◌, map, length, get_or, take, Option, Some, None, refl, sym, ap, ◌∙◌, arith}
+use Rattle.std.proofs.Common.{◌≡◌, ℕ, ◌+◌, ◌<◌, Bool, true, false, cond, nat_eq, List, [], ◌∷◌, ◌++◌, map, length, get_or, take, Option, Some, None, refl, sym, ap, ◌∙◌, arith}
 use Rattle.std.specs.Prelude.{◌&&◌, ◌==◌, nat_lt}
 use Rattle.std.specs.List.{position, position_or_len, prefix_len}
 use Rattle.std.specs.Option.{option_map, option_map_or, option_or, option_eq}
-use Rattle.std.proofs.lemmas.List.{map-append, length-map, get_or-map, get_or_default, take_all}
+use Rattle.std.proofs.lemmas.List.{map-append, length-map, get_or-map}
 use Rattle.clk_base.specs.declared.clock.ClockId.{ClockId}
 use Rattle.dts_tree.specs.Tree.{SeenNode}
 use Rattle.dts_bindings.specs.declared.bound.Binding.{Binding}
 use Rattle.dts_bindings.specs.declared.bound.BoundClock.{BoundClock}
-use Rattle.dts_bindings.specs.Binding.{SeenBinding, seen_binding}
+use Rattle.dts_bindings.specs.Binding.{seen_binding}
 use Rattle.dts_bindings.specs.Clocks.{seen_clock}
 use Rattle.dts_clocks.specs.declared.numbers.Head.{Head}
 use Rattle.dts_clocks.specs.declared.reference.Specifier.{Specifier}
-use Rattle.dts_clocks.specs.Clocks.{Held, held_by, binding_at, clocks_at, clocks_of, names_clock, clock_id, clock_of, specifier}
+use Rattle.dts_clocks.specs.Clocks.{held_by, binding_at, clocks_at, clocks_of, names_clock, clock_id, clock_of, specifier}
 use Rattle.dts_clocks.specs.Heads.{same_specifier, head_by, head_of, heads_by, names_head}
 use Rattle.dts_clocks.specs.Joined.{joined, listed}
 use Rattle.dts_clocks.proofs.Joins.{joined-more, joined-none, length-listed, get-listed}

@@ -1,10 +1,10 @@
 -- Nodes by their phandles.
-use Rattle.std.proofs.Common.{◌≡◌, ℕ, ◌+◌, ◌<◌, ◌≤◌, Bool, false, cond, nat_eq, List, length, get_or, map, take, Option, Some, None, refl, ap, sym, ◌∙◌, arith}
+use Rattle.std.proofs.Common.{◌≡◌, ℕ, ◌+◌, ◌<◌, ◌≤◌, false, cond, List, length, get_or, map, take, Option, Some, None, ap, sym, ◌∙◌, arith}
 use Rattle.std.specs.Prelude.{◌==◌}
 use Rattle.std.specs.Option.{option_or, option_map_or}
 use Rattle.std.proofs.lemmas.List.{length-map, get_or-map, take_all}
 use Rattle.dts_tree.specs.declared.tree.DtsNode.{DtsNode}
-use Rattle.dts_tree.specs.Tree.{SeenNode, seen_node}
+use Rattle.dts_tree.specs.Tree.{seen_node}
 use Rattle.dts_bindings.specs.Properties.{phandle_of}
 use Rattle.dts_clocks.specs.References.{has_phandle, node_of_phandle}
 use Rattle.dts_clocks.proofs.Places.{position_more}

@@ -1,10 +1,9 @@
 -- Nodes as providers that a specifier may refer to.
-use Rattle.std.proofs.Common.{◌≡◌, ℕ, ◌<◌, ◌≤◌, Bool, true, false, not, cond, List, length, get_or, map, Option, Some, None, refl, ap, sym, ◌∙◌, arith}
-use Rattle.std.specs.Prelude.{◌&&◌, slice_get}
-use Rattle.std.specs.Option.{option_map_or}
+use Rattle.std.proofs.Common.{◌≡◌, ℕ, ◌<◌, ◌≤◌, Bool, true, false, not, cond, List, length, get_or, map, Option, refl, ap, sym, ◌∙◌, arith}
+use Rattle.std.specs.Prelude.{◌&&◌}
 use Rattle.std.proofs.lemmas.List.{length-map}
 use Rattle.dts_tree.specs.declared.tree.DtsNode.{DtsNode}
-use Rattle.dts_tree.specs.Tree.{SeenNode, seen_node}
+use Rattle.dts_tree.specs.Tree.{seen_node}
 use Rattle.dts_bindings.specs.Properties.{is_provider, clock_cells_of}
 use Rattle.dts_clocks.specs.declared.reference.Reference.{Reference}
 use Rattle.dts_clocks.specs.declared.reference.Reference.TheVariants.{Lacking}

@@ -1,5 +1,5 @@
 -- Names of clocks: whether they are names, and whether one is taken.
-use Rattle.std.proofs.Common.{◌≡◌, ℕ, ◌+◌, ◌<◌, ◌≤◌, Bool, true, false, not, cond, List, [], ◌∷◌, ◌++◌, map, length, get_or, take, drop, Option, Some, None, refl, sym, ap, ◌∙◌, arith, string_bytes, Global, append_assoc}
+use Rattle.std.proofs.Common.{◌≡◌, ℕ, ◌+◌, ◌<◌, ◌≤◌, Bool, true, false, not, cond, List, [], ◌∷◌, ◌++◌, map, length, get_or, take, drop, Some, None, refl, sym, ap, ◌∙◌, string_bytes, Global, append_assoc}
 use Rattle.std.specs.Prelude.{◌&&◌, ◌||◌}
 use Rattle.std.specs.List.{list_any, list_all}
 use Rattle.std.specs.Str.{bytes_eq}
@@ -13,7 +13,6 @@ use Rattle.dts_tree.specs.Tree.{SeenNode}
 use Rattle.dts_bindings.specs.declared.bound.BoundClock.{BoundClock}
 use Rattle.dts_bindings.specs.Binding.{SeenBinding}
 use Rattle.dts_bindings.specs.Clocks.{SeenClock, seen_clock}
-use Rattle.dts_clocks.specs.declared.fault.DtsFault.{DtsFault}
 use Rattle.dts_clocks.specs.declared.fault.DtsFault.TheVariants.{MissingProperty, BadName, TwiceNamed}
 use Rattle.dts_clocks.specs.FirstPass.{has_twin, names_in, wants_one, binding_fault}
 use Rattle.dts_clocks.specs.References.{leaves_over}

@@ -1,5 +1,5 @@
 -- What a tree without a fault says: the description, the lines of its clocks, the consumers, and what is assigned.
-use Rattle.std.specs.Prelude.{ℕ, Option, Some, None, List, [], ◌∷◌, length, map, slice_get}
+use Rattle.std.specs.Prelude.{ℕ, List, [], length, map, slice_get}
 use Rattle.std.specs.Option.{option_map_or, option_to_list}
 use Rattle.clk_base.specs.declared.clock.ClockDef.{ClockDef}
 use Rattle.clk_base.specs.declared.clock.ClockId.{ClockId}
@@ -14,7 +14,7 @@ use Rattle.dts_clocks.specs.Assigned.{SeenAssigned, seen_assigned, assigned_of}
 use Rattle.dts_clocks.specs.Clocks.{binding_at}
 use Rattle.dts_clocks.specs.Consumers.{SeenConsumer, seen_consumer}
 use Rattle.dts_clocks.specs.Joined.{joined}
-use Rattle.dts_clocks.specs.SecondPass.{Links, links_at}
+use Rattle.dts_clocks.specs.SecondPass.{links_at}
 
 -- what was read of a tree
 pub record SeenLoaded : Type 0 where

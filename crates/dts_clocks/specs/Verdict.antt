@@ -1,5 +1,5 @@
 -- Which trees say what, and why the others are refused.
-use Rattle.std.specs.Prelude.{◌≡◌, ℕ, ◌⊎◌, List, length}
+use Rattle.std.specs.Prelude.{◌≡◌, ◌⊎◌, List, length}
 use Rattle.bundle_text.specs.Firsts.{KeepsBelow}
 use Rattle.dts_tree.specs.Tree.{SeenNode}
 use Rattle.dts_clocks.specs.declared.fault.DtsFault.{DtsFault}

@@ -1,7 +1,6 @@
-use Rattle.std.proofs.Common.{◌≡◌, refl, sym, ◌∙◌, map, length, arith, ap, false}
+use Rattle.std.proofs.Common.{sym, ◌∙◌, map, false}
 use Rattle.dts_tree.specs.Tree.{seen_node}
-use Rattle.dts_clocks.specs.Above.{parent_of, is_passed}
-use Rattle.dts_clocks.specs.Joined.{listed}
+use Rattle.dts_clocks.specs.Above.{is_passed}
 use Rattle.dts_clocks.proofs.Joins.{length-listed, get-listed}
 use Rattle.dts_clocks.proofs.Uplines.{passed_when_off, passed_by_parent, parent_of-before}
 use Rattle.dts_clocks.proofs.above.is_passed.Goals as goal

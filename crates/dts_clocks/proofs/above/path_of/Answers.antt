@@ -1,4 +1,4 @@
-use Rattle.std.proofs.Common.{map, length, sym, ◌∙◌, arith, string_bytes, refl, ap, ◌∷◌, ◌++◌}
+use Rattle.std.proofs.Common.{map, sym, ◌∙◌, arith, string_bytes, ap, ◌∷◌, ◌++◌}
 use Rattle.std.specs.Prelude.{◌==◌}
 use Rattle.dts_tree.specs.Tree.{seen_node}
 use Rattle.dts_clocks.proofs.Uplines.{parent_of-before, path_more, path_whole, slash_for, path_for}

@@ -1,6 +1,5 @@
 use Rattle.std.proofs.Common.{map, ap, sym, ◌∙◌}
 use Rattle.std.specs.Option.{option_map}
-use Rattle.std.specs.declared.vec.Vec.{Vec}
 use Rattle.dts_tree.specs.Tree.{seen_node}
 use Rattle.dts_clocks.proofs.Listing.{lists_made}
 use Rattle.dts_clocks.proofs.assigned.lists_of.Goals as goal

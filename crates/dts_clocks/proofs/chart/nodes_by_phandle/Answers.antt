@@ -1,6 +1,4 @@
-use Rattle.std.proofs.Common.{map, nat_eq, ◌∙◌, refl, rules, arith}
-use Rattle.std.specs.HashMap.{get}
-use Rattle.dts_tree.specs.Tree.{seen_node}
+use Rattle.std.proofs.Common.{rules, arith}
 use Rattle.dts_clocks.specs.References.{node_of_phandle}
 use Rattle.dts_clocks.proofs.Phandles.{phandle_more, phandle_all}
 use Rattle.dts_clocks.proofs.chart.nodes_by_phandle.Goals as goal

@@ -1,4 +1,4 @@
-use Rattle.std.proofs.Common.{map, length, refl, get_or, false}
+use Rattle.std.proofs.Common.{map, length, get_or, false}
 use Rattle.std.proofs.lemmas.List.{get_or_default}
 use Rattle.dts_tree.specs.Tree.{seen_node}
 use Rattle.dts_clocks.specs.Above.{is_passed}

@@ -1,4 +1,4 @@
-use Rattle.std.proofs.Common.{ap, not, sym, ◌∙◌, map, string_bytes, cond, Some, None}
+use Rattle.std.proofs.Common.{ap, not, ◌∙◌, map, string_bytes, cond, Some, None}
 use Rattle.std.specs.List.{list_all}
 use Rattle.bundle_text.specs.Names.{is_clock_name}
 use Rattle.dts_tree.specs.Tree.{seen_node}
@@ -6,7 +6,7 @@ use Rattle.dts_bindings.specs.declared.bound.BoundClock.{BoundClock}
 use Rattle.dts_bindings.specs.Binding.{seen_binding}
 use Rattle.dts_bindings.specs.Clocks.{SeenClock, seen_clock}
 use Rattle.dts_clocks.specs.declared.fault.DtsFault.TheVariants.{TwiceNamed}
-use Rattle.dts_clocks.specs.FirstPass.{has_twin, binding_fault}
+use Rattle.dts_clocks.specs.FirstPass.{has_twin}
 use Rattle.dts_clocks.proofs.Twins.{named_all, fault_over, fault_named, fault_twin}
 use Rattle.dts_clocks.proofs.first_pass.judge.Goals as goal
 

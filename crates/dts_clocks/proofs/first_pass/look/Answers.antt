@@ -1,4 +1,4 @@
-use Rattle.std.proofs.Common.{◌≡◌, sym, ◌∙◌, ap, subst, map, string_bytes, IfOk, OnOk, IfErr, None}
+use Rattle.std.proofs.Common.{◌≡◌, sym, ◌∙◌, subst, map, string_bytes, IfOk, OnOk, IfErr, None}
 use Rattle.std.specs.Option.{option_map}
 use Rattle.dts_tree.specs.Tree.{seen_node}
 use Rattle.dts_bindings.specs.Binding.{seen_binding}

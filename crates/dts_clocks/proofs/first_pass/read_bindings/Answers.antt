@@ -1,4 +1,4 @@
-use Rattle.std.proofs.Common.{◌≡◌, sym, ◌∙◌, ap, map, string_bytes, refl, length, arith}
+use Rattle.std.proofs.Common.{sym, ◌∙◌, ap, map, string_bytes, length}
 use Rattle.std.specs.Option.{option_map}
 use Rattle.std.proofs.lemmas.List.{map_push, nil_from_length}
 use Rattle.std.proofs.lemmas.Result.{err_from_is_err_and}

@@ -1,4 +1,4 @@
-use Rattle.std.proofs.Common.{map, length, arith, sym}
+use Rattle.std.proofs.Common.{map, length, arith}
 use Rattle.std.proofs.lemmas.List.{length-map}
 use Rattle.dts_tree.specs.Tree.{seen_node}
 use Rattle.dts_clocks.proofs.Numbering.{bound_within, heads_more, heads_none, heads_all}

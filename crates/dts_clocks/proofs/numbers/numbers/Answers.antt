@@ -1,4 +1,4 @@
-use Rattle.std.proofs.Common.{refl, ap, rules}
+use Rattle.std.proofs.Common.{ap, rules}
 use Rattle.dts_clocks.specs.Clocks.{clock_id}
 use Rattle.dts_clocks.proofs.Numbering.{number_more}
 use Rattle.dts_clocks.proofs.numbers.numbers.Goals as goal

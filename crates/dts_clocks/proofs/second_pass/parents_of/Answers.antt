@@ -1,4 +1,4 @@
-use Rattle.std.proofs.Common.{map, ap, sym, ◌∙◌, cond, Some, None, arith, length}
+use Rattle.std.proofs.Common.{map, ap, sym, ◌∙◌, cond, Some, None}
 use Rattle.std.specs.List.{list_all}
 use Rattle.std.specs.Option.{option_map}
 use Rattle.clk_base.specs.Valid.{can_have_parents}

@@ -1,4 +1,4 @@
-use Rattle.std.proofs.Common.{map, length, refl, arith}
+use Rattle.std.proofs.Common.{map, length, arith}
 use Rattle.dts_tree.specs.Tree.{seen_node}
 use Rattle.dts_clocks.specs.Above.{is_passed}
 use Rattle.dts_clocks.proofs.Joins.{listed_within, listed_read}

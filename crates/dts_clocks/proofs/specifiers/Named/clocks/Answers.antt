@@ -1,6 +1,6 @@
 use Rattle.std.proofs.Common.{map, arith, sym, ◌∙◌}
 use Rattle.dts_tree.specs.Tree.{seen_node}
-use Rattle.dts_clocks.proofs.Naming.{named_none, named_more, named_bad, named_short, named_all}
+use Rattle.dts_clocks.proofs.Naming.{named_more, named_bad, named_short, named_all}
 use Rattle.dts_clocks.proofs.specifiers.Named.clocks.Goals as goal
 
 pub returns-then-is_bad : goal.returns-then-is_bad
