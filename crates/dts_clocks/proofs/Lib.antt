@@ -5,6 +5,7 @@ pub mod Linking
 pub mod Listing
 pub mod Naming
 pub mod Numbering
+pub mod Parented
 pub mod Phandles
 pub mod Sources
 pub mod Twins
