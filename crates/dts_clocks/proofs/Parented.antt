@@ -1,10 +1,10 @@
 -- Each clock that is loaded has its parents.
-use Rattle.std.proofs.Common.{◌≡◌, ℕ, zero, suc, ◌<◌, Bool, true, false, cond, List, [], ◌∷◌, ◌++◌, map, length, get_or, Option, Some, None, refl, sym, ap, ◌∙◌, arith, inl, inr, subst, length-append}
+use Rattle.std.proofs.Common.{◌≡◌, ℕ, zero, suc, ◌<◌, Bool, true, false, cond, List, [], ◌∷◌, ◌++◌, map, length, get_or, Option, Some, None, refl, sym, ap, ◌∙◌, arith, inl, inr, subst}
 use Rattle.std.specs.Prelude.{◌&&◌, nat_lt, slice_get}
 use Rattle.std.specs.List.{list_all, position}
 use Rattle.std.specs.Option.{option_map, option_map_or, option_and_then}
 use Rattle.std.proofs.lemmas.Bool.{both_ways, cases_Bool, lt-ltb}
-use Rattle.std.proofs.lemmas.List.{length-map}
+use Rattle.std.proofs.lemmas.List.{length-map, map-append}
 use Rattle.std.proofs.lemmas.List.Folds.{list_all-append, list_all_at}
 use Rattle.std.proofs.lemmas.List.Quantifiers.{position-Some}
 use Rattle.std.proofs.lemmas.Option.{none-some, same_Some}
@@ -28,6 +28,7 @@ use Rattle.dts_clocks.specs.Above.{is_passed}
 use Rattle.dts_clocks.specs.Assigned.{Lists, lists_of}
 use Rattle.dts_clocks.specs.Clocks.{Held, held_by, binding_at, clocks_at, clocks_of, clock_id, clock_of, names_clock, specifier, ends_with, begins, step, named_from, clocks_named}
 use Rattle.dts_clocks.specs.Consumers.{SeenConsumer, consumer_of}
+use Rattle.dts_clocks.specs.FirstPass.{names_before}
 use Rattle.dts_clocks.specs.Joined.{joined}
 use Rattle.dts_clocks.specs.Loaded.{SeenLoaded, def_with, defs_with, defs_at, loaded_before}
 use Rattle.dts_clocks.specs.References.{reference}
@@ -36,7 +37,7 @@ use Rattle.dts_clocks.specs.Steps.{is_bad, begun_after, clocks_of_step}
 use Rattle.dts_clocks.specs.Verdict.{Accepts}
 use Rattle.dts_clocks.proofs.Gathering.{defs_here}
 use Rattle.dts_clocks.proofs.Linking.{parents_bound}
-use Rattle.dts_clocks.proofs.Looks.{binding_at-passed}
+use Rattle.dts_clocks.proofs.Looks.{binding_at-passed, names_held}
 use Rattle.dts_clocks.proofs.Naming.{named_cons, named_wrong}
 
 -- two tests that pass
@@ -56,13 +57,12 @@ unfolding joined
 all_joined f p zero each = refl
 all_joined f p (suc n) each = all_append p (joined f n) (f n) (all_joined f p n (λ k low. each k (omega arith))) (each n (omega arith))
 
-length_joined : {X Y : Type 0} (f : ℕ → List X) (g : ℕ → List Y) (n : ℕ) → ((k : ℕ) → k < n → length (f k) ≡ length (g k)) → length (joined f n) ≡ length (joined g n)
+map_joined : {X Y Z : Type 0} (f : X → Z) (g : Y → Z) (xs : ℕ → List X) (ys : ℕ → List Y) (n : ℕ) → ((k : ℕ) → k < n → map f (xs k) ≡ map g (ys k)) → map f (joined xs n) ≡ map g (joined ys n)
 unfolding joined
-length_joined f g zero each = refl
-length_joined f g (suc n) each =
-    let before = length_joined f g n (λ k low. each k (omega arith)) in
-    let here = each n (omega arith) in
-    omega (arith, length-append (joined f n) (f n), length-append (joined g n) (g n), before, here)
+map_joined f g xs ys zero each = refl
+map_joined f g xs ys (suc n) each =
+    let before = map_joined f g xs ys n (λ k low. each k (omega arith)) in
+    map-append f (joined xs n) (xs n) ∙ (ap (λ zs. zs ++ map f (xs n)) before ∙ (ap (λ zs. map g (joined ys n) ++ zs) (each n (omega arith)) ∙ sym (map-append g (joined ys n) (ys n))))
 
 -- a clock among the first n, if there is one
 abbrev pub is_below : ℕ → Option ClockId → Bool
@@ -178,7 +178,7 @@ second_fault-is : (nodes : List SeenNode) (k : ℕ) (node : SeenNode) → is_pas
 unfolding second_fault
 second_fault-is nodes k node e at = rw (e, at) refl
 
-binding_at-behind : (nodes : List SeenNode) (k : ℕ) → is_passed nodes k ≡ false → slice_get nodes k ≡ None → binding_at nodes k ≡ None
+pub binding_at-behind : (nodes : List SeenNode) (k : ℕ) → is_passed nodes k ≡ false → slice_get nodes k ≡ None → binding_at nodes k ≡ None
 unfolding binding_at
 binding_at-behind nodes k e none = rw (e, none) refl
 
@@ -233,22 +233,40 @@ clocks_unbound : (nodes : List SeenNode) (k : ℕ) → binding_at nodes k ≡ No
 unfolding clocks_at
 clocks_unbound nodes k none = rw none refl
 
--- as many records as clocks, and all have their parents
+-- a record has its clock's name
+defs_named : (flags : ClkFlags) (parents : List ClockId) (clocks : List SeenClock) → map (λ (d : ClockDef). d.name) (map (def_with flags parents) clocks) ≡ map (λ (c : SeenClock). c.name) clocks
+defs_named flags parents [] = refl
+defs_named flags parents (c ∷ cs) = ap (λ names. c.name ∷ names) (defs_named flags parents cs)
+
+-- the records have the clocks' names, and all have their parents
 abbrev pub Whole_at : List SeenNode → ℕ → Type 0
-Whole_at nodes k = (length (defs_at nodes k) ≡ length (clocks_at nodes k)) × (list_all (has_parents (length (clocks_of nodes))) (defs_at nodes k) ≡ true)
+Whole_at nodes k = (map (λ (d : ClockDef). d.name) (defs_at nodes k) ≡ map (λ (c : Held). c.clock.name) (clocks_at nodes k)) × (list_all (has_parents (length (clocks_of nodes))) (defs_at nodes k) ≡ true)
 
 whole_bound : (nodes : List SeenNode) (k : ℕ) (b : SeenBinding) (l : Links) → binding_at nodes k ≡ Some b → IsLinked nodes k l → Whole_at nodes k
 whole_bound nodes k b l bound linked =
     let defs = defs_bound nodes k b l bound linked.0 in
     let fit = parents_of-fit nodes b l.parents (parents_bound nodes k (Some b) (sym bound) ∙ linked.1) in (
-      ap length defs ∙ (length-map b.clocks (def_with b.flags l.parents) ∙ (sym (length-map b.clocks (held_by k)) ∙ sym (ap length (clocks_bound nodes k b bound)))),
+      ap (map (λ (d : ClockDef). d.name)) defs ∙ (defs_named b.flags l.parents b.clocks ∙ (sym (names_held k b.clocks) ∙ sym (ap (map (λ (c : Held). c.clock.name)) (clocks_bound nodes k b bound)))),
       ap (list_all (has_parents (length (clocks_of nodes)))) defs ∙ defs_pass (length (clocks_of nodes)) b.flags l.parents b.clocks fit,
     )
 
 whole_by : (nodes : List SeenNode) (k : ℕ) (o : Option SeenBinding) → binding_at nodes k ≡ o → second_fault nodes k ≡ None → Whole_at nodes k
 whole_by nodes k None bound kept =
-    (ap length (defs_unbound nodes k bound) ∙ sym (ap length (clocks_unbound nodes k bound)), ap (list_all (has_parents (length (clocks_of nodes)))) (defs_unbound nodes k bound))
+    (ap (map (λ (d : ClockDef). d.name)) (defs_unbound nodes k bound) ∙ sym (ap (map (λ (c : Held). c.clock.name)) (clocks_unbound nodes k bound)), ap (list_all (has_parents (length (clocks_of nodes)))) (defs_unbound nodes k bound))
 whole_by nodes k (Some b) bound kept = let l = bound_linked nodes k b bound kept in whole_bound nodes k b l.0 bound l.1
+
+whole : (nodes : List SeenNode) (k : ℕ) → second_fault nodes k ≡ None → Whole_at nodes k
+whole nodes k kept = whole_by nodes k (binding_at nodes k) refl kept
+
+-- the names of the records are those of the clocks
+pub names_defined : (nodes : List SeenNode) (n : ℕ) → KeepsBelow (second_fault nodes) n → map (λ (d : ClockDef). d.name) (joined (defs_at nodes) n) ≡ names_before nodes n
+unfolding names_before
+names_defined nodes n kept = map_joined (λ (d : ClockDef). d.name) (λ (c : Held). c.clock.name) (defs_at nodes) (clocks_at nodes) n (λ k low. (whole nodes k (kept k low)).0)
+
+count_defined : (nodes : List SeenNode) (n : ℕ) → KeepsBelow (second_fault nodes) n → length (joined (clocks_at nodes) n) ≡ length (joined (defs_at nodes) n)
+unfolding names_before
+count_defined nodes n kept =
+    sym (length-map (joined (clocks_at nodes) n) (λ (c : Held). c.clock.name)) ∙ (sym (ap length (names_defined nodes n kept)) ∙ length-map (joined (defs_at nodes) n) (λ (d : ClockDef). d.name))
 
 -- all clocks
 each_of : (defs : Description) → list_all (has_parents (length defs)) defs ≡ true → EachClock defs (has_its_parents defs)
@@ -261,10 +279,9 @@ each_of defs all c low =
 all_parented : (nodes : List SeenNode) → KeepsBelow (second_fault nodes) (length nodes) → EachClock (joined (defs_at nodes) (length nodes)) (has_its_parents (joined (defs_at nodes) (length nodes)))
 unfolding clocks_of
 all_parented nodes kept =
-    let whole = λ (k : ℕ) (low : k < length nodes). whole_by nodes k (binding_at nodes k) refl (kept k low) in
-    let count : length (clocks_of nodes) ≡ length (joined (defs_at nodes) (length nodes)) = sym (length_joined (defs_at nodes) (clocks_at nodes) (length nodes) (λ k low. (whole k low).0)) in
     each_of (joined (defs_at nodes) (length nodes))
-    (subst (λ n. list_all (has_parents n) (joined (defs_at nodes) (length nodes)) ≡ true) count (all_joined (defs_at nodes) (has_parents (length (clocks_of nodes))) (length nodes) (λ k low. (whole k low).1)))
+    (subst (λ n. list_all (has_parents n) (joined (defs_at nodes) (length nodes)) ≡ true) (count_defined nodes (length nodes) kept)
+    (all_joined (defs_at nodes) (has_parents (length (clocks_of nodes))) (length nodes) (λ k low. (whole nodes k (kept k low)).1)))
 
 pub parented : (nodes : List SeenNode) (loaded : SeenLoaded) → Accepts nodes loaded → EachClock loaded.defs (has_its_parents loaded.defs)
 unfolding loaded_before
