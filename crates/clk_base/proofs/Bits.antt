@@ -1,15 +1,12 @@
 -- Plain clocks share no bit where no two of them have one gate bit.
-use Rattle.std.proofs.Common.{◌≡◌, ℕ, zero, suc, ◌+◌, ◌<◌, ◌≤◌, min, max, Bool, true, false, not, ◌&&◌, ◌||◌, List, [], ◌∷◌, ◌++◌, take, length, get_or, Option, Some, None, refl, ap, sym, ◌∙◌, inl, inr, arith, ltb, eqb, add-one, append-nil}
+use Rattle.std.proofs.Common.{◌≡◌, ℕ, zero, suc, ◌+◌, ◌<◌, ◌≤◌, min, max, Bool, true, false, not, ◌&&◌, ◌||◌, List, [], ◌∷◌, take, length, Option, Some, None, refl, ap, sym, ◌∙◌, inl, inr, arith, ltb, eqb, add-one}
 use Rattle.std.specs.Prelude.{◌==◌}
 use Rattle.std.specs.List.{list_all, list_any, flat_map}
 use Rattle.std.specs.Option.{option_to_list}
-use Rattle.std.proofs.lemmas.Bool.{cond-false, not-true, and_parts, and_from, cases_eq, lt-ltb, le-ltb, eq-eqb, ne_eqb}
-use Rattle.std.proofs.lemmas.List.{take_more, get_or_read}
+use Rattle.std.proofs.lemmas.Bool.{and_parts, and_from, cases_eq, lt-ltb, le-ltb, eq-eqb, ne_eqb}
 use Rattle.std.proofs.lemmas.List.Folds.{list_any-append, list_all_more}
-use Rattle.std.proofs.lemmas.Grind.{flat_map-append}
-use Rattle.indexmap.specs.IndexSet.{insert_key}
 use Rattle.clk_base.specs.declared.clock.ClockDef.{ClockDef}
-use Rattle.clk_base.specs.Description.{Description, nobody, def_of, kind_of}
+use Rattle.clk_base.specs.Description.{Description, nobody, kind_of}
 use Rattle.clk_base.specs.Fields.{fields_of, bit_field, share_bit}
 use Rattle.clk_base.specs.Plain.{is_plain_kind, IsPlain}
 use Rattle.clk_base.specs.Valid.{keeps_apart, stand_apart, fields_before}
@@ -60,11 +57,6 @@ apart-field_at : (words : ℕ) (defs : Description) (c : ℕ) (o : Option (ℕ �
 apart-field_at words defs c o plain lt e =
     ap (stand_apart (fields_before defs c)) (fields_of-plain (kind_of defs c) (and_parts _ _ (plain c lt)).0 ∙ ap field_at e)
 
--- the bit of the clock that was read
-pub bit_at : (defs : Description) (i : ℕ) (item : ClockDef) (found o : Option (ℕ × ℕ)) → i < length defs → item ≡ get_or defs i item → found ≡ bit_of item.kind → found ≡ o → bit_of (kind_of defs i) ≡ o
-bit_at defs i item found o lt at told e =
-    ap (λ (d : ClockDef). bit_of d.kind) (sym (get_or_read defs i item lt at nobody)) ∙ (sym told ∙ e)
-
 -- a clock without a gate bit keeps the rule
 pub apart-none : (words : ℕ) (defs : Description) (c : ℕ) → IsPlain defs → c < length defs → bit_of (kind_of defs c) ≡ None → keeps_apart words defs c ≡ true
 apart-none words defs c plain lt e = apart-field_at words defs c None plain lt e
@@ -78,29 +70,3 @@ pub apart-some : (words : ℕ) (defs : Description) (c : ℕ) (bit : ℕ × ℕ)
 apart-some words defs c bit plain lt e =
     apart-field_at words defs c (Some bit) plain lt e
     ∙ (and_true _ ∙ ap not (shares-gate_bits bit (take c defs) (plain_before defs plain c (omega arith))))
-
--- one clock more
-pub gate_bits-more : (defs : Description) (c : ℕ) (o : Option (ℕ × ℕ)) → c < length defs → bit_of (kind_of defs c) ≡ o → gate_bits (take (c + 1) defs) ≡ gate_bits (take c defs) ++ option_to_list o
-gate_bits-more defs c o lt e =
-    let bits = λ (d : ClockDef). option_to_list (bit_of d.kind) in
-    ap gate_bits (take_more defs c nobody lt)
-    ∙ (flat_map-append bits (take c defs) (def_of defs c ∷ [])
-    ∙ (ap (λ xs. gate_bits (take c defs) ++ (xs ++ [])) (ap option_to_list e) ∙ ap (λ xs. gate_bits (take c defs) ++ xs) (append-nil (option_to_list o))))
-
--- whether the next clock's bit was new tells whether the clock keeps the rule
-pub apart_here : (words : ℕ) (defs : Description) (i : ℕ) (item : ClockDef) (found : Option (ℕ × ℕ)) (bit : ℕ × ℕ) (keys : List (ℕ × ℕ)) (added : Bool) → IsPlain defs → i < length defs → item ≡ get_or defs i item → found ≡ bit_of item.kind → found ≡ Some bit → keys ≡ gate_bits (take i defs) → added ≡ not (list_any (same_bit bit) keys) → keeps_apart words defs i ≡ added
-apart_here words defs i item found bit keys added plain lt at told some taken e =
-    apart-some words defs i bit plain lt (bit_at defs i item found (Some bit) lt at told some)
-    ∙ (ap (λ ks. not (list_any (same_bit bit) ks)) (sym taken) ∙ sym e)
-
--- the keys with a new bit at their end are the bits of one clock more
-pub keys-inserted : (defs : Description) (i : ℕ) (bit : ℕ × ℕ) (keys new : List (ℕ × ℕ)) (added : Bool) → i < length defs → bit_of (kind_of defs i) ≡ Some bit → keys ≡ gate_bits (take i defs) → added ≡ not (list_any (same_bit bit) keys) → added ≡ true → new ≡ insert_key same_bit keys bit → new ≡ gate_bits (take (i + 1) defs)
-keys-inserted defs i bit keys new added lt some taken e fresh put =
-    let absent : list_any (same_bit bit) keys ≡ false = not-true _ (sym e ∙ fresh) in
-    put ∙ (cond-false _ _ _ absent
-    ∙ (ap (λ ks. ks ++ bit ∷ []) taken ∙ sym (gate_bits-more defs i (Some bit) lt some)))
-
--- and without one they are the same
-pub keys-kept : (defs : Description) (i : ℕ) (keys new : List (ℕ × ℕ)) → i < length defs → bit_of (kind_of defs i) ≡ None → keys ≡ gate_bits (take i defs) → new ≡ keys → new ≡ gate_bits (take (i + 1) defs)
-keys-kept defs i keys new lt none taken same =
-    same ∙ (taken ∙ sym (gate_bits-more defs i None lt none ∙ append-nil (gate_bits (take i defs))))

@@ -1,4 +1,5 @@
 pub mod Bits
+pub mod Covered
 pub mod Kept
 pub mod Lines
 pub mod Names
@@ -6,4 +7,7 @@ pub mod PlainKinds
 pub mod PlainLines
 pub mod Pushed
 pub mod Shares
+pub mod Tabled
+pub mod Walked
+pub mod Worked
 pub mod Valid

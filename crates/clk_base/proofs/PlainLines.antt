@@ -2,10 +2,9 @@
 use Rattle.std.proofs.Common.{◌≡◌, ℕ, zero, suc, ◌+◌, ◌<◌, ◌≤◌, Bool, true, false, ◌&&◌, List, [], ◌∷◌, length, get_or, refl, ap, sym, ◌∙◌, inl, inr, ◌⊎◌, arith, leb}
 use Rattle.std.specs.Prelude.{nat_lt, nat_le}
 use Rattle.std.specs.List.{list_all, sum_by}
-use Rattle.std.proofs.lemmas.Bool.{false≢true, and_parts, cases_lt, cases_Bool, or_cases, ltb-true, eqb-true, le-leb, lt-leb, not_from_false, true_from_ne_false, both_ways}
+use Rattle.std.proofs.lemmas.Bool.{false≢true, and_parts, cases_lt, cases_Bool, or_cases, ltb-true, eqb-true, le-leb, lt-leb, not_from_false}
 use Rattle.std.proofs.lemmas.Bool.Decides.{leb_tells}
-use Rattle.std.proofs.lemmas.List.{get_or_past, get_or_read, get_or_default, get_or_append_left, get_or_push}
-use Rattle.std.proofs.lemmas.List.Folds.{list_all-map, list_all_at}
+use Rattle.std.proofs.lemmas.List.{get_or_past, get_or_default, get_or_append_left, get_or_push}
 use Rattle.std.proofs.Common.{below_more, length-append, ◌++◌, ◌^◌}
 use Rattle.std.specs.Prelude.{slice_get}
 use Rattle.std.specs.Option.{option_map_or}
@@ -16,7 +15,7 @@ use Rattle.clk_base.specs.Description.{Description, nobody, kind_of, parents_of,
 use Rattle.clk_base.specs.Flags.{sets_rate_parent}
 use Rattle.clk_base.specs.Levels.{depth, ends_within, reaches_within}
 use Rattle.clk_base.specs.Plain.{is_plain_kind, IsPlain}
-use Rattle.clk_base.specs.Valid.{has_its_parents, keeps_acyclic, keeps_levels, keeps_work, most_work}
+use Rattle.clk_base.specs.Valid.{has_its_parents, keeps_acyclic, keeps_work, most_work}
 use Rattle.clk_base.specs.Work.{work_within, work_of}
 use Rattle.clk_base.proofs.Lines.{both_pass}
 use Rattle.clk_base.proofs.PlainKinds.{plain_parents, work_of-plain}
@@ -102,10 +101,6 @@ pub record Tells (defs : Description) (levels : List ℕ) (i : ℕ) : Type 0 whe
   pub few : (k : ℕ) → k < i → get_or levels k 0 ≤ depth
   pub told : (k : ℕ) → k < i → (n : ℕ) → ends_within (parents_of defs) n k ≡ nat_le (get_or levels k 0) n
 
--- the parents of the clock that was read
-pub read_parents : (defs : Description) (i : ℕ) (item : ClockDef) (parents : List ClockId) → i < length defs → item ≡ get_or defs i item → places parents ≡ item.parents → places parents ≡ parents_of defs i
-read_parents defs i item parents lt at same = same ∙ ap (λ (d : ClockDef). d.parents) (get_or_read defs i item lt at nobody)
-
 -- the level of the next clock, over its parent's
 pub level_told : (defs : Description) (i : ℕ) (levels : List ℕ) (level : ℕ) (parents : List ClockId) → IsPlain defs → EachClock defs (has_its_parents defs) → i < length defs → places parents ≡ parents_of defs i → Tells defs levels i → level ≡ option_map_or (λ p. get_or levels p.0 0 + 1) (slice_get parents 0) 1 → (n : ℕ) → ends_within (parents_of defs) n i ≡ nat_le level n
 level_told defs i levels level [] plain has lt same tells e n =
@@ -120,23 +115,6 @@ level_told defs i levels level (q ∷ qs) plain has lt same tells e n =
           ∙ ap (λ l. nat_le l n) (sym e)
     ]
 
--- the level that was computed over the levels and the parents that were read
-pub level_here : (defs : Description) (i : ℕ) (item : ClockDef) (levels read : List ℕ) (level : ℕ) (parents : List ClockId) → IsPlain defs → EachClock defs (has_its_parents defs) → i < length defs → item ≡ get_or defs i item → places parents ≡ item.parents → Tells defs levels i → read ≡ levels → level ≡ option_map_or (λ p. get_or read p.0 0 + 1) (slice_get parents 0) 1 → (n : ℕ) → ends_within (parents_of defs) n i ≡ nat_le level n
-level_here defs i item levels read level parents plain has lt at same tells equal e =
-    level_told defs i levels level parents plain has lt (read_parents defs i item parents lt at same) tells
-    (e ∙ ap (λ ls. option_map_or (λ (p : ClockId). get_or ls p.0 0 + 1) (slice_get parents 0) 1) equal)
-
--- the parents stand before the clock
-pub earlier_at : (c : ℕ) (xs : List ClockId) → list_all (λ p. nat_lt p c) (places xs) ≡ true → (k : ℕ) (d : ClockId) → k < length xs → (get_or xs k d).0 < c
-earlier_at c xs all k d lt =
-    let each : list_all (λ (p : ClockId). nat_lt p.0 c) xs ≡ true = sym (list_all-map (λ p. nat_lt p c) (λ (p : ClockId). p.0) xs) ∙ all in
-    ltb-true _ c (true_from_ne_false _ (λ (fails : nat_lt (get_or xs k d).0 c ≡ false). both_ways _ (list_all_at (λ (p : ClockId). nat_lt p.0 c) xs k d lt fails) each))
-
--- the parents of the next clock have their levels
-pub parents_told : (defs : Description) (i : ℕ) (levels : List ℕ) (parents : List ClockId) → IsPlain defs → places parents ≡ parents_of defs i → length levels ≡ i → (k : ℕ) (d : ClockId) → k < length parents → (get_or parents k d).0 < length levels
-parents_told defs i levels parents plain same count k d lt =
-    omega (arith, earlier_at i parents (ap (list_all (λ p. nat_lt p i)) same ∙ earlier_parents defs plain i) k d lt)
-
 -- levels are small numbers
 pub levels_small : (defs : Description) (i : ℕ) (levels : List ℕ) → Tells defs levels i → (k d : ℕ) → k < length levels → get_or levels k d < 2 ^ 31
 unfolding depth
@@ -144,10 +122,6 @@ levels_small defs i levels tells k d lt =
     let at : get_or levels k d ≡ get_or levels k 0 = get_or_default levels k d 0 lt in
     let small : get_or levels k 0 ≤ depth = tells.few k (omega (arith, tells.count)) in
     omega arith
-
--- a clock whose level is in reach keeps the rule, and one whose level isn't breaks it
-pub levels_kept : (words : ℕ) (defs : Description) (levels : List ℕ) (i : ℕ) → Tells defs levels i → (k : ℕ) → k < i → keeps_levels words defs k ≡ true
-levels_kept words defs levels i tells k lt = tells.told k lt depth ∙ le-leb _ depth (tells.few k lt)
 
 -- one level more
 pub Tells-push : (defs : Description) (levels new : List ℕ) (i level : ℕ) → Tells defs levels i → new ≡ levels ++ level ∷ [] → level ≤ depth → ((n : ℕ) → ends_within (parents_of defs) n i ≡ nat_le level n) → Tells defs new (i + 1)

@@ -11,11 +11,10 @@ use Rattle.clk_base.specs.declared.clock.Kind.{Kind}
 use Rattle.clk_base.specs.declared.clock.Kind.TheVariants.{FixedRate, Factor, Gate, Mux, Divider, Pll}
 use Rattle.clk_base.specs.declared.fault.DescFault.{DescFault}
 use Rattle.clk_base.specs.declared.fault.DescFault.TheVariants as faults
-use Rattle.clk_base.specs.Checked.{IsFault, IsRefusal}
+use Rattle.clk_base.specs.Checked.{IsFault}
 use Rattle.clk_base.specs.Description.{Description, nobody, kind_of, parents_of}
 use Rattle.clk_base.specs.Fields.{Field, GateBit, PowerBit, gate_of, power_of, field_of, fields_of, bit_field, is_in_bank, share_bit}
 use Rattle.clk_base.specs.Levels.{depth, ends_within, reaches_within}
-use Rattle.clk_base.specs.Plain.{IsPlain}
 use Rattle.clk_base.specs.Valid.{Rule, counts, ranges, bank, apart, acyclic, levels, bounded, can_have_parents, IsValid, IsFirstBroken}
 use Rattle.clk_base.proofs.Lines.{passes_among, not_own_ancestor}
 use Rattle.clk_base.proofs.Shares.{passes_at, some_passes, passes_before, apart_at, apart_own, share_bit-sym}
@@ -167,25 +166,13 @@ gates-once words defs valid a b g h ha hb first second word bit =
 broken : (words : ℕ) (defs : Description) (rule : Rule) (c : ℕ) → IsValid words defs → IsFirstBroken words defs rule c → ⊥
 broken words defs rule c valid first = both_ways _ first.clock.fails (valid.rules rule c first.clock.within)
 
--- a valid description has no fault
-pub valid-no_fault : (words : ℕ) (defs : Description) (fault : DescFault) → IsValid words defs → IsFault words defs fault → ⊥
-valid-no_fault words defs (faults.TooMany c) valid (inl first) = broken words defs counts c.0 valid first
-valid-no_fault words defs (faults.TooMany c) valid (inr first) = broken words defs levels c.0 valid first
-valid-no_fault words defs (faults.BadRange c) valid first = broken words defs ranges c.0 valid first
-valid-no_fault words defs (faults.FieldOutOfBank c) valid first = broken words defs bank c.0 valid first
-valid-no_fault words defs (faults.FieldOverlap c) valid first = broken words defs apart c.0 valid first
-valid-no_fault words defs (faults.Cycle c) valid first = broken words defs acyclic c.0 valid first
-valid-no_fault words defs (faults.TooMuchWork c) valid first = broken words defs bounded c.0 valid first
-valid-no_fault words defs (faults.NotYet c) valid first = first
-valid-no_fault words defs faults.NoMemory valid first = first
-
--- a plain, valid description is refused for want of memory alone
-pub refusal-valid : (words : ℕ) (defs : Description) (fault : DescFault) → IsPlain defs → IsValid words defs → IsRefusal words defs fault → fault ≡ faults.NoMemory
-refusal-valid words defs (faults.TooMany c) plain valid why = absurd (valid-no_fault words defs (faults.TooMany c) valid why.1)
-refusal-valid words defs (faults.BadRange c) plain valid why = absurd (valid-no_fault words defs (faults.BadRange c) valid why.1)
-refusal-valid words defs (faults.FieldOutOfBank c) plain valid why = absurd (valid-no_fault words defs (faults.FieldOutOfBank c) valid why.1)
-refusal-valid words defs (faults.FieldOverlap c) plain valid why = absurd (valid-no_fault words defs (faults.FieldOverlap c) valid why.1)
-refusal-valid words defs (faults.Cycle c) plain valid why = absurd (valid-no_fault words defs (faults.Cycle c) valid why.1)
-refusal-valid words defs (faults.TooMuchWork c) plain valid why = absurd (valid-no_fault words defs (faults.TooMuchWork c) valid why.1)
-refusal-valid words defs (faults.NotYet c) plain valid why = absurd (both_ways _ why.fails (plain c.0 why.within))
-refusal-valid words defs faults.NoMemory plain valid why = refl
+-- a valid description is refused for want of memory alone
+pub refusal-valid : (words : ℕ) (defs : Description) (fault : DescFault) → IsValid words defs → IsFault words defs fault → fault ≡ faults.NoMemory
+refusal-valid words defs (faults.TooMany c) valid (inl first) = absurd (broken words defs counts c.0 valid first)
+refusal-valid words defs (faults.TooMany c) valid (inr first) = absurd (broken words defs levels c.0 valid first)
+refusal-valid words defs (faults.BadRange c) valid first = absurd (broken words defs ranges c.0 valid first)
+refusal-valid words defs (faults.FieldOutOfBank c) valid first = absurd (broken words defs bank c.0 valid first)
+refusal-valid words defs (faults.FieldOverlap c) valid first = absurd (broken words defs apart c.0 valid first)
+refusal-valid words defs (faults.Cycle c) valid first = absurd (broken words defs acyclic c.0 valid first)
+refusal-valid words defs (faults.TooMuchWork c) valid first = absurd (broken words defs bounded c.0 valid first)
+refusal-valid words defs faults.NoMemory valid first = refl

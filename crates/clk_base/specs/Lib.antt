@@ -5,6 +5,7 @@ pub mod Fields
 pub mod Levels
 pub mod Work
 pub mod Valid
+pub mod Tables
 pub mod Plain
 pub mod Checked
 pub mod Named

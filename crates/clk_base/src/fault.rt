@@ -35,9 +35,6 @@ pub enum DescFault {
     Cycle(ClockId),
     /// The clock's work is above 1,048,576.
     TooMuchWork(ClockId),
-    /// The clock is neither a fixed clock nor a gate, or has a later clock as a possible parent.
-    /// Such descriptions are not read yet.
-    NotYet(ClockId),
     /// Memory ran out.
     NoMemory,
 }
@@ -100,7 +97,6 @@ impl fmt::Display for DescFault {
             DescFault::FieldOverlap(_) => write!(f, "two fields share a bit"),
             DescFault::Cycle(_) => write!(f, "a clock is its own possible ancestor"),
             DescFault::TooMuchWork(_) => write!(f, "rounding takes too much work"),
-            DescFault::NotYet(_) => write!(f, "not read yet"),
             DescFault::NoMemory => write!(f, "out of memory"),
         }
     }

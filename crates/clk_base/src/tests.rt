@@ -5,6 +5,8 @@ ghost use Rattle.clk_base.specs.Description.{EachClock};
 ghost use Rattle.clk_base.specs.Valid.{has_its_parents};
 ghost use Rattle.clk_base.specs.declared.clock.Kind.TheVariants as kinds;
 
+mod rules;
+
 use super::*;
 use bitflags::Flags;
 use clk_io::NoMemory;

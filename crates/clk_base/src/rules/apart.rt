@@ -1,44 +1,84 @@
 //! The rule that fields share no bit.
 
-ghost use Rattle.std.specs.Prelude.{◌≡◌, ℕ, ◌<◌, ◌^◌, length, IfOk};
-ghost use Rattle.std.specs.Option.{option_map};
-ghost use Rattle.clk_base.specs.Description.{FindsFirst};
-ghost use Rattle.clk_base.specs.Fields.{gate_of};
-ghost use Rattle.clk_base.specs.Valid.{keeps_apart};
-ghost use Rattle.clk_base.specs.Plain.{IsPlain};
+ghost use Rattle.std.specs.Prelude.{◌≡◌, ℕ, ◌+◌, ◌<◌, ◌≤◌, ◌^◌, ◌++◌, ◌∷◌, not, List, length, IsTrue, IfOk};
+ghost use Rattle.std.specs.List.{list_all, list_any};
+ghost use Rattle.clk_base.specs.Description.{EachClock, FindsFirst};
+ghost use Rattle.clk_base.specs.Fields.{Field, fields_of, is_in_bank, share_bit};
+ghost use Rattle.clk_base.specs.Valid.{keeps_apart, keeps_bank, stand_apart};
+ghost use Rattle.clk_base.specs.Tables.{IsTaken};
 
 use crate::clock::{ClockDef, ClockId, Kind};
 use clk_io::NoMemory;
-use indexmap::IndexSet;
+use reg_bank::TakenBits;
 use std::alloc::Global;
 
-// The first of plain clocks whose bit an earlier clock has.
-pub(super) fn first_overlap(alloc: Global, defs: &[ClockDef]) -> Result<Option<ClockId>, NoMemory>
+// The first clock of which a field shares a bit with another field of it or of an earlier clock.
+pub(super) fn first_overlap(
+    alloc: Global,
+    defs: &[ClockDef],
+    words: u32,
+) -> Result<Option<ClockId>, NoMemory>
     requires fits { length defs.now < 2 ^ 32 }
-    requires plain { IsPlain defs.now }
-    ensures { IfOk result (λ found. (words : ℕ) → FindsFirst defs.now (keeps_apart words defs.now) found) }
+    requires inside { EachClock defs.now (keeps_bank words defs.now) }
+    ensures { IfOk result (FindsFirst defs.now (keeps_apart words defs.now)) }
 {
-    let mut taken: IndexSet<(u32, u32)> = IndexSet::new(alloc);
+    let mut taken = TakenBits::create(alloc, words)?;
     for (i, def) in defs.iter().enumerate() {
-        if let Some(bit) = gate_bit(&def.kind) {
-            if !taken.insert(bit)? {
-                return Ok(Some(ClockId(i as u32)));
-            }
+        if !take_fields(&mut taken, def.kind) {
+            return Ok(Some(ClockId(i as u32)));
         }
     }
     Ok(None)
 }
 
-// The word and the bit of a gate.
-fn gate_bit(kind: &Kind) -> Option<(u32, u32)>
-    ensures { result ≡ option_map (λ g. (g.word, g.bit)) (gate_of kind.now) }
+// Takes the bits of the fields of a kind. True exactly where they were free and share none.
+fn take_fields(taken: &mut TakenBits, kind: Kind) -> bool
+    requires { IsTrue (list_all (is_in_bank (length taken.old)) (fields_of kind)) }
+    ensures words { length taken.new ≡ length taken.old }
+    ensures free { (fields : List Field) → IsTaken taken.old fields → result ≡ stand_apart fields (fields_of kind) }
+    ensures taken { (fields : List Field) → IsTaken taken.old fields → IsTrue result → IsTaken taken.new (fields ++ fields_of kind) }
 {
-    match *kind {
-        Kind::Gate { word, bit, .. } => Some((word, bit)),
-        Kind::FixedRate { .. }
-        | Kind::Factor { .. }
-        | Kind::Mux { .. }
-        | Kind::Divider { .. }
-        | Kind::Pll { .. } => None,
+    match kind {
+        Kind::FixedRate { .. } | Kind::Factor { .. } => true,
+        Kind::Gate { word, bit, .. } => take_field(taken, word, bit, 1),
+        Kind::Mux {
+            word,
+            shift,
+            width,
+            ..
+        } => take_field(taken, word, shift, width),
+        Kind::Divider {
+            word,
+            shift,
+            width,
+            ..
+        } => take_field(taken, word, shift, width),
+        Kind::Pll {
+            word,
+            shift,
+            width,
+            power_word,
+            power_bit,
+            ..
+        } => {
+            take_field(taken, word, shift, width) && take_field(taken, power_word, power_bit, 1)
+        }
     }
+}
+
+// Takes the bits of a field. True exactly where they were free.
+fn take_field(taken: &mut TakenBits, word: u32, shift: u32, width: u32) -> bool
+    requires { IsTrue (is_in_bank (length taken.old) (record { word = word; shift = shift; width = width })) }
+    ensures words { length taken.new ≡ length taken.old }
+    ensures free { (fields : List Field) → IsTaken taken.old fields
+        → result ≡ not (list_any (share_bit (record { word = word; shift = shift; width = width })) fields) }
+    ensures taken { (fields : List Field) → IsTaken taken.old fields → IsTrue result
+        → IsTaken taken.new (record { word = word; shift = shift; width = width } ∷ fields) }
+{
+    for bit in shift..shift + width {
+        if !taken.take(word, bit) {
+            return false;
+        }
+    }
+    true
 }

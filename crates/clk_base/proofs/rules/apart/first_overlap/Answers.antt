@@ -1,34 +1,25 @@
--- A gate's bit is new exactly where it is among no earlier gates' bits.
-use Rattle.std.proofs.Common.{◌≡◌, true, ◌∙◌, ap, below_more, None}
-use Rattle.clk_base.specs.Valid.{keeps_apart}
-use Rattle.clk_base.proofs.Bits.{apart-none, apart_here, bit_at, keys-inserted, keys-kept}
+-- A clock's fields were free exactly where it keeps the rule, and are taken with it.
+use Rattle.std.proofs.Common.{◌≡◌, ◌+◌, ◌++◌, true, sym, ap, subst, ◌∙◌, below_more}
+use Rattle.std.proofs.lemmas.List.{get_or_read}
+use Rattle.clk_base.specs.declared.clock.ClockDef.{ClockDef}
+use Rattle.clk_base.specs.Description.{nobody, def_of}
+use Rattle.clk_base.specs.Fields.{fields_of}
+use Rattle.clk_base.specs.Tables.{IsTaken}
+use Rattle.clk_base.specs.Valid.{keeps_apart, fields_before, stand_apart}
+use Rattle.clk_base.proofs.Covered.{fields_before-more}
 use Rattle.clk_base.proofs.rules.apart.first_overlap.Goals as goal
-use Rattle.clk_base.proofs.rules.apart.first_overlap.Goals.{in-Some+in_ok-insert+else-not-branch, in_default}
-
-pub returns-then-not-branch : goal.returns-then-not-branch
-returns-then-not-branch c = λ words. record {
-  within = c.loop-i-test.true;
-  fails =
-      apart_here words c.args.defs.now c.loop-i.i c.index-defs-i.result c.gate_bit.result c.in-Some.bit c.loop-i.taken.keys c.in_ok-insert.field-0 c.requires.plain c.loop-i-test.true c.index-defs-i.is c.gate_bit.ensures c.in-Some.is c.loop-i.invariant.taken c.in_ok-insert.ensures.added
-      ∙ c.if-not-branch.true;
-  before = c.loop-i.invariant.kept;
-}
 
 pub loop-i-preserved : goal.loop-i-preserved
 loop-i-preserved c =
-    elim c.match-gate_bit.branch [
-      | in-Some+in_ok-insert+else-not-branch w ↦
-          let bit = bit_at c.args.defs.now c.loop-i.i c.index-defs-i.result c.gate_bit.result _ c.loop-i-test.true c.index-defs-i.is c.gate_bit.ensures w.in-Some.is in
-          record {
-            taken = keys-inserted c.args.defs.now c.loop-i.i w.in-Some.bit c.loop-i.taken.keys c.match-gate_bit.taken.keys w.in_ok-insert.field-0 c.loop-i-test.true bit c.loop-i.invariant.taken w.in_ok-insert.ensures.added w.if-not-branch.false (ap (λ s. s.keys) w.taken-is ∙ w.in_ok-insert.ensures.keys);
-            kept = below_more (λ k. keeps_apart 0 c.args.defs.now k ≡ true) c.loop-i.i c.loop-i.invariant.kept
-                (apart_here 0 c.args.defs.now c.loop-i.i c.index-defs-i.result c.gate_bit.result w.in-Some.bit c.loop-i.taken.keys w.in_ok-insert.field-0 c.requires.plain c.loop-i-test.true c.index-defs-i.is c.gate_bit.ensures w.in-Some.is c.loop-i.invariant.taken w.in_ok-insert.ensures.added ∙ w.if-not-branch.false);
-          }
-      | in_default w ↦
-          let bit = bit_at c.args.defs.now c.loop-i.i c.index-defs-i.result c.gate_bit.result None c.loop-i-test.true c.index-defs-i.is c.gate_bit.ensures w.in_default.is in
-          record {
-            taken = keys-kept c.args.defs.now c.loop-i.i c.loop-i.taken.keys c.match-gate_bit.taken.keys c.loop-i-test.true bit c.loop-i.invariant.taken (ap (λ s. s.keys) w.taken-is);
-            kept = below_more (λ k. keeps_apart 0 c.args.defs.now k ≡ true) c.loop-i.i c.loop-i.invariant.kept
-                (apart-none 0 c.args.defs.now c.loop-i.i c.requires.plain c.loop-i-test.true bit);
-          }
-    ]
+    let before = fields_before c.args.defs.now c.loop-i.i in
+    let read : c.index-defs-i.result ≡ def_of c.args.defs.now c.loop-i.i = get_or_read c.args.defs.now c.loop-i.i c.index-defs-i.result c.loop-i-test.true c.index-defs-i.is nobody in
+    let fields : before ++ fields_of c.index-defs-i.result.kind ≡ fields_before c.args.defs.now (c.loop-i.i + 1) =
+    ap (λ (d : ClockDef). before ++ fields_of d.kind) read ∙ sym (fields_before-more c.args.defs.now c.loop-i.i c.loop-i-test.true) in
+    let here : keeps_apart c.args.words c.args.defs.now c.loop-i.i ≡ true =
+    ap (λ (d : ClockDef). stand_apart before (fields_of d.kind)) (sym read)
+    ∙ (sym (c.take_fields.ensures.free before c.loop-i.invariant.taken) ∙ c.if-not-take_fields.false) in
+    record {
+      words = c.take_fields.ensures.words ∙ c.loop-i.invariant.words;
+      taken = subst (IsTaken c.take_fields.new.taken) fields (c.take_fields.ensures.taken before c.loop-i.invariant.taken c.if-not-take_fields.false);
+      kept = below_more (λ k. keeps_apart c.args.words c.args.defs.now k ≡ true) c.loop-i.i c.loop-i.invariant.kept here;
+    }

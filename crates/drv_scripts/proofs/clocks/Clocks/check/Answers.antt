@@ -9,4 +9,4 @@ want_of_memory-requires c =
     let defs = c.self.inside.desc in
     let known = ap (λ g. g.size) c.self.view_is ∙ c.requires in
     let was : IsGathered defs (Some c.args.words) = subst (IsGathered defs) known c.self.invariant.0 in
-    refusal-valid c.args.words defs c.in-Err.fault was.plain (valid-gathered c.args.words defs was) c.in-Err.ensures.err
+    refusal-valid c.args.words defs c.in-Err.fault (valid-gathered c.args.words defs was) c.in-Err.ensures.err
