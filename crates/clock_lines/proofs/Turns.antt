@@ -1,0 +1,107 @@
+-- What the words of one line, and then the line at one place, add to the clocks.
+use Rattle.std.proofs.Common.{◌≡◌, ℕ, zero, suc, ◌+◌, ◌-◌, ◌<◌, ◌≤◌, Bool, true, false, List, [], ◌∷◌, ◌++◌, length, drop, Option, Some, None, refl, ap, sym, ◌∙◌, arith, cond, length-take, length-drop}
+use Rattle.std.specs.Prelude.{Ok, slice_range}
+use Rattle.std.specs.Option.{option_map, option_to_list}
+use Rattle.std.specs.Result.{result_ok, result_err}
+use Rattle.std.proofs.lemmas.List.{append-nil, get_or-drop, get_or-take}
+use Rattle.bundle_text.specs.Firsts.{onto, said_from}
+use Rattle.bundle_text.specs.Lines.{line_at}
+use Rattle.bundle_text.specs.Words.{said_words}
+use Rattle.bundle_text.proofs.Rows.{KeepsBelow-more}
+use Rattle.clock_lines.specs.declared.fault.LineReason.{LineReason}
+use Rattle.clock_lines.specs.Said.{SaidClock, PlacedClock}
+use Rattle.clock_lines.specs.ClockLines.{clock_line}
+use Rattle.clock_lines.specs.Section.{placed_clock, clock_at, clocks_before, is_named, name_word, fault_behind, fault_at}
+use Rattle.clock_lines.specs.Steps.{IsRead}
+use Rattle.clock_lines.specs.Verdict.{HasFault}
+use Rattle.clock_lines.proofs.Fine.{line-fine}
+
+-- ## Words
+
+-- no words say no clock, and have no fault
+pub empty-taken : (clocks : List PlacedClock) (place : ℕ) (words : List (List ℕ)) → length words ≡ 0
+    → (fault_behind clocks words ≡ None) × (clocks ≡ clocks ++ option_to_list (placed_clock place words))
+unfolding fault_behind placed_clock clock_line
+empty-taken clocks place [] h = (refl, sym (append-nil clocks))
+empty-taken clocks place (word ∷ words) h = absurd (omega arith)
+
+-- a line that says a clock has a name that no earlier clock has
+pub fresh-name : (clocks : List PlacedClock) (words : List (List ℕ)) (taken : Bool) (c : SaidClock) → taken ≡ is_named clocks (name_word words)
+    → clock_line taken words ≡ Ok c → is_named clocks c.name ≡ false
+fresh-name clocks words taken c e said =
+    let fine = line-fine taken words c said in
+    ap (is_named clocks) fine.name_is ∙ (sym e ∙ fine.fresh)
+
+none_either : {R : Type 0} (b : Bool) (o : Option R) → o ≡ None → cond b None o ≡ None
+none_either true o h = refl
+none_either false o h = h
+
+-- such a line has no fault, and its clock goes last
+pub said-taken : (clocks after : List PlacedClock) (place : ℕ) (words : List (List ℕ)) (taken : Bool) (c : SaidClock) → taken ≡ is_named clocks (name_word words)
+    → clock_line taken words ≡ Ok c → after ≡ clocks ++ record { place = place; clock = c } ∷ []
+    → (fault_behind clocks words ≡ None) × (after ≡ clocks ++ option_to_list (placed_clock place words))
+unfolding fault_behind placed_clock
+said-taken clocks after place words taken c e said more =
+    let fine = line-fine taken words c said in
+    let here : clock_line (is_named clocks (name_word words)) words ≡ Ok c = ap (λ b. clock_line b words) (sym e) ∙ said in
+    let free : clock_line false words ≡ Ok c = ap (λ b. clock_line b words) (sym fine.fresh) ∙ said in (
+      none_either _ _ (ap result_err here),
+      more ∙ ap (λ r. clocks ++ option_to_list (option_map (λ (clock : SaidClock). record { place = place; clock = clock }) (result_ok r))) (sym free),
+    )
+
+-- ## Places
+
+onto-append : {X : Type 0} (o : Option X) (xs ys : List X) → onto o (xs ++ ys) ≡ onto o xs ++ ys
+onto-append None xs ys = refl
+onto-append (Some x) xs ys = refl
+
+onto-nil : {X : Type 0} (o : Option X) → onto o [] ≡ option_to_list o
+onto-nil None = refl
+onto-nil (Some x) = refl
+
+-- what is said at one place more
+pub said_from-next : {X : Type 0} (said : ℕ → Option X) (from count place : ℕ) → from + count ≡ place → said_from said from (count + 1) ≡ said_from said from count ++ option_to_list (said place)
+said_from-next said from zero place there =
+    let same : from ≡ place = omega arith in
+    onto-nil (said from) ∙ ap (λ k. option_to_list (said k)) same
+said_from-next said from (suc count) place there =
+    let later : from + 1 + count ≡ place = omega arith in
+    let next : suc count + 1 ≡ suc (count + 1) = omega arith in
+    ap (said_from said from) next
+    ∙ (ap (onto (said from)) (said_from-next said (from + 1) count place later) ∙ onto-append (said from) (said_from said (from + 1) count) (option_to_list (said place)))
+
+-- the line of a section stands in the text
+pub line-at : (ls : List (List ℕ)) (from to place : ℕ) → from + place < to → line_at (slice_range ls from to) place ≡ line_at ls (from + place)
+line-at ls from to place within =
+    let low : place < to - from = omega arith in
+    get_or-take (to - from) (drop from ls) place [] low ∙ get_or-drop from ls place []
+
+-- a section has as many lines as lie between its ends
+pub length-section : (ls : List (List ℕ)) (from to : ℕ) → from ≤ to → to ≤ length ls → length (slice_range ls from to) ≡ to - from
+length-section ls from to order within = omega (arith, length-take (to - from) (drop from ls), length-drop from ls)
+
+-- the line at the next place has no fault, and its clock goes last
+pub read-more : (section : List (List ℕ)) (place : ℕ) (clocks after : List PlacedClock) (words : List (List ℕ)) → IsRead section place clocks → words ≡ said_words (line_at section place)
+    → fault_behind clocks words ≡ None → after ≡ clocks ++ option_to_list (placed_clock place words) → IsRead section (place + 1) after
+unfolding fault_at clocks_before clock_at
+read-more section place clocks after words read said none more =
+    let here : fault_at section place ≡ None = ap (λ cs. fault_behind cs (said_words (line_at section place))) (sym read.clocks_are) ∙ (ap (fault_behind clocks) (sym said) ∙ none) in
+    record {
+      kept = KeepsBelow-more (fault_at section) place read.kept here;
+      clocks_are =
+          more ∙ (ap (λ cs. cs ++ option_to_list (placed_clock place words)) read.clocks_are
+          ∙ (ap (λ ws. clocks_before section place ++ option_to_list (placed_clock place ws)) said ∙ sym (said_from-next (clock_at section) 0 place place (omega arith))));
+    }
+
+-- the line at the next place has this fault
+pub read-fault : (from : ℕ) (section : List (List ℕ)) (place : ℕ) (clocks : List PlacedClock) (words : List (List ℕ)) (reason : LineReason) → place < length section → IsRead section place clocks
+    → words ≡ said_words (line_at section place) → fault_behind clocks words ≡ Some reason → HasFault from section (from + place + 1) reason
+unfolding fault_at
+read-fault from section place clocks words reason within read said wrong =
+    let here : fault_at section place ≡ Some reason = ap (λ cs. fault_behind cs (said_words (line_at section place))) (sym read.clocks_are) ∙ (ap (fault_behind clocks) (sym said) ∙ wrong) in
+    record { place = place; first = record { within = within; before = read.kept; found = here }; line_is = refl }
+
+-- no line was read
+pub read-none : (section : List (List ℕ)) → IsRead section 0 []
+unfolding clocks_before
+read-none section = record { kept = λ k lt. absurd (omega arith); clocks_are = refl }
