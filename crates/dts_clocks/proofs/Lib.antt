@@ -1,0 +1,13 @@
+pub mod Gathering
+pub mod Joins
+pub mod Looks
+pub mod Linking
+pub mod Listing
+pub mod Naming
+pub mod Numbering
+pub mod Phandles
+pub mod Sources
+pub mod Twins
+pub mod Uplines
+pub mod Verdicts
+pub mod Places

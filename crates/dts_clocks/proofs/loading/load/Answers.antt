@@ -1,0 +1,34 @@
+use Rattle.std.proofs.Common.{map, ap, sym, ◌∙◌, length, arith}
+use Rattle.std.specs.Option.{option_map}
+use Rattle.std.proofs.lemmas.Result.{err_from_is_err_and}
+use Rattle.dts_tree.specs.Tree.{seen_node}
+use Rattle.dts_bindings.specs.Binding.{seen_binding}
+use Rattle.dts_clocks.specs.Assigned.{seen_assigned}
+use Rattle.dts_clocks.specs.Consumers.{seen_consumer}
+use Rattle.dts_clocks.specs.SecondPass.{entries_at, second_fault}
+use Rattle.dts_clocks.proofs.Gathering.{loaded_none}
+use Rattle.dts_clocks.proofs.Joins.{total-none}
+use Rattle.dts_clocks.proofs.Looks.{finds, kept_none}
+use Rattle.dts_clocks.proofs.Numbering.{bound_within, bound_at}
+use Rattle.dts_clocks.proofs.loading.load.Goals as goal
+
+pub loop-at-init : goal.loop-at-init
+loop-at-init c =
+    record {
+      loaded = loaded_none (map seen_node c.args.chart.now.chart.nodes.now) _ c.new.ensures c.new-2.ensures.items (ap (map seen_consumer) c.new-3.ensures.items) (ap (map seen_assigned) c.new-4.ensures.items);
+      entries = sym (total-none (entries_at (map seen_node c.args.chart.now.chart.nodes.now)));
+      few = omega arith;
+      kept = kept_none (second_fault (map seen_node c.args.chart.now.chart.nodes.now));
+    }
+
+pub bounds-bindings-at : goal.bounds-bindings-at
+bounds-bindings-at c = bound_within (map seen_node c.args.chart.now.chart.nodes.now) (length c.args.chart.now.chart.nodes.now) c.loop-at.at c.args.bindings.now c.requires c.loop-at-test.true
+
+pub add_at-requires-clause-bound : goal.add_at-requires-clause-bound
+add_at-requires-clause-bound c =
+    ap (option_map seen_binding) c.index-bindings-at.is ∙ bound_at (map seen_node c.args.chart.now.chart.nodes.now) (length c.args.chart.now.chart.nodes.now) c.loop-at.at c.args.bindings.now c.index-bindings-at.result c.requires c.loop-at-test.true
+
+pub returns-in_err-entries-clause-err : goal.returns-in_err-entries-clause-err
+returns-in_err-entries-clause-err c =
+    let p = err_from_is_err_and c.from_residual.result c.from_residual.ensures.1 in
+    rw (p.1, p.2) (finds (second_fault (map seen_node c.args.chart.now.chart.nodes.now)) (length c.args.chart.now.chart.nodes.now) c.loop-at.at c.in_err-entries.field-0.0 c.loop-at-test.true c.loop-at.invariant.kept c.in_err-entries.ensures.err)

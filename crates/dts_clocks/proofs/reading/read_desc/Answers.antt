@@ -1,0 +1,16 @@
+use Rattle.std.proofs.Common.{◌∙◌}
+use Rattle.std.proofs.lemmas.Result.{err_from_is_err_and}
+use Rattle.dts_clocks.specs.Loaded.{seen_loaded}
+use Rattle.dts_clocks.proofs.Verdicts.{second_told, accepted}
+use Rattle.dts_clocks.proofs.reading.read_desc.Goals as goal
+
+pub returns-in_err-loaded-clause-fault : goal.returns-in_err-loaded-clause-fault
+returns-in_err-loaded-clause-fault c =
+    let first = c.in_ok-chart.ensures ∙ c.deref.ensures.value in
+    let p = err_from_is_err_and c.from_residual-in_err-loaded.result c.from_residual-in_err-loaded.ensures.1 in
+    rw (p.1, p.2) (second_told c.in_ok-chart.chart.nodes.now c.in_ok-chart-2.chart.chart.nodes.now c.args.tree.now.nodes.items c.in_err-loaded.field-0.0 first (c.in_ok-chart-2.ensures ∙ first) c.in_ok-bindings.ensures.none c.in_err-loaded.ensures.err)
+
+pub returns-clause-loaded : goal.returns-clause-loaded
+returns-clause-loaded c =
+    let first = c.in_ok-chart.ensures ∙ c.deref.ensures.value in
+    accepted c.in_ok-chart.chart.nodes.now c.in_ok-chart-2.chart.chart.nodes.now c.args.tree.now.nodes.items (seen_loaded c.in_ok-loaded.loaded) first (c.in_ok-chart-2.ensures ∙ first) c.in_ok-bindings.ensures.none c.in_ok-loaded.ensures.none c.in_ok-loaded.ensures.loaded

@@ -1,0 +1,13 @@
+pub mod Joined
+pub mod Above
+pub mod References
+pub mod Clocks
+pub mod Steps
+pub mod Heads
+pub mod Faults
+pub mod FirstPass
+pub mod Consumers
+pub mod Assigned
+pub mod SecondPass
+pub mod Loaded
+pub mod Verdict

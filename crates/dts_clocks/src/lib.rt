@@ -1,0 +1,26 @@
+//! What a device tree says of clocks: a description, the lines of its clocks, the consumers, and
+//! the clocks that are assigned.
+#![tactic(auto)]
+
+mod above;
+mod assigned;
+mod chart;
+mod consumers;
+mod fault;
+mod first_pass;
+mod loaded;
+mod loading;
+mod numbers;
+mod reading;
+mod reference;
+mod second_pass;
+mod specifiers;
+mod verdict;
+
+pub use fault::DtsFault;
+pub use loaded::{Assigned, AssignedStep, Consumer, ConsumerName, Loaded};
+pub use reading::read_desc;
+pub use verdict::one_verdict;
+
+#[cfg(test)]
+mod tests;

@@ -1,0 +1,27 @@
+//! From a tree to what it says of clocks.
+
+ghost use Rattle.std.specs.Prelude.{◌≡◌, IfOk, IfErr};
+ghost use Rattle.dts_tree.specs.Tree.{seen};
+ghost use Rattle.dts_clocks.specs.Loaded.{seen_loaded};
+ghost use Rattle.dts_clocks.specs.Verdict.{Accepts, IsFaultOf};
+
+use crate::chart::Chart;
+use crate::fault::DtsFault;
+use crate::first_pass::read_bindings;
+use crate::loaded::Loaded;
+use crate::loading::load;
+use crate::specifiers::Named;
+use dts_tree::DtsTree;
+use std::alloc::Global;
+
+/// Reads what a tree says of clocks, or why it is refused.
+pub fn read_desc(alloc: Global, tree: &DtsTree) -> Result<Loaded, DtsFault>
+    ensures loaded { IfOk result (λ loaded. Accepts (seen tree.now) (seen_loaded loaded)) }
+    ensures fault { IfErr result (λ fault. IsFaultOf (seen tree.now) fault) }
+{
+    let chart = Chart::new(alloc, &tree.nodes)?;
+    let bindings = read_bindings(alloc, &chart)?;
+    let chart = Named::new(alloc, chart, &bindings)?;
+    let loaded = load(alloc, &chart, &bindings)?;
+    Ok(loaded)
+}

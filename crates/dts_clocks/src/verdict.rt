@@ -1,0 +1,15 @@
+//! Laws of what a tree says.
+
+ghost use Rattle.std.specs.Prelude.{◌≡◌, ◌⊎◌, ℕ, List};
+ghost use Rattle.dts_tree.specs.Tree.{SeenNode};
+ghost use Rattle.dts_clocks.specs.declared.fault.DtsFault.{DtsFault};
+ghost use Rattle.dts_clocks.specs.Loaded.{SeenLoaded};
+ghost use Rattle.dts_clocks.specs.Verdict.{Accepts, Refuses};
+
+/// A tree has one verdict: it says one thing, or is refused for one fault.
+pub fn one_verdict()
+    ensures one_meaning { (nodes : List SeenNode) (a b : SeenLoaded) → Accepts nodes a → Accepts nodes b → a ≡ b }
+    ensures one_refusal { (nodes : List SeenNode) (fault other : DtsFault) → Refuses nodes fault → Refuses nodes other → fault ≡ other }
+    ensures not_both { (nodes : List SeenNode) (a : SeenLoaded) (fault : DtsFault) → Accepts nodes a → Refuses nodes fault → ⊥ }
+    ensures decided { (nodes : List SeenNode) → ((a : SeenLoaded) × Accepts nodes a) ⊎ ((fault : DtsFault) × Refuses nodes fault) }
+{}
