@@ -1,0 +1,4 @@
+pub mod Places
+pub mod Needed
+pub mod Verdicts
+pub mod Forms

@@ -1,0 +1,5 @@
+pub mod Headers
+pub mod Said
+pub mod Sections
+pub mod Verdict
+pub mod Reads

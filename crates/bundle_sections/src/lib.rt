@@ -1,0 +1,23 @@
+//! The sections of a bundle: which header each line stands under, or the first line that is out of
+//! place.
+//!
+//! `read_sections` judges the lines as text, their first line, and the headers in their order. What
+//! the lines of a section say is not read here. `specs/` says which lines have a fault, by their
+//! places in the whole text; `one_verdict` is the law that lines have one verdict.
+#![tactic(auto)]
+
+mod fault;
+mod header;
+mod order;
+mod reading;
+mod section;
+mod verdict;
+
+pub use fault::{FormFault, FormReason};
+pub use header::Header;
+pub use reading::read_sections;
+pub use section::{BankSection, ClockSection, ClockText, Section, Sections};
+pub use verdict::one_verdict;
+
+#[cfg(test)]
+mod tests;
