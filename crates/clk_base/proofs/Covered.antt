@@ -35,9 +35,12 @@ pub covered-shares : (f g : Field) → share_bit f g ≡ true → (bit : ℕ) ×
 covered-shares f g both =
     let parts = and_parts _ _ both in
     let word : f.word ≡ g.word = eqb-true f.word g.word parts.0 in
-    let common : max f.shift g.shift < min (f.shift + f.width) (g.shift + g.width) = ltb-true _ _ parts.1 in
-    (max f.shift g.shift, omega arith, omega arith,
-    and_from _ _ (eq-eqb g.word f.word (sym word)) (and_from _ _ (le-leb g.shift (max f.shift g.shift) (omega arith)) (lt-ltb (max f.shift g.shift) (g.shift + g.width) (omega arith))))
+    let common : max f.shift g.shift < min (f.shift + f.width) (g.shift + g.width) = ltb-true _ _ parts.1 in (
+      max f.shift g.shift,
+      omega arith,
+      omega arith,
+      and_from _ _ (eq-eqb g.word f.word (sym word)) (and_from _ _ (le-leb g.shift (max f.shift g.shift) (omega arith)) (lt-ltb (max f.shift g.shift) (g.shift + g.width) (omega arith))),
+    )
 
 -- the same with one of many fields
 pub any_shares : (f : Field) (fields : List Field) (bit : ℕ) → f.shift ≤ bit → bit < f.shift + f.width → list_any (covers f.word bit) fields ≡ true → list_any (share_bit f) fields ≡ true

@@ -44,11 +44,19 @@ fn is_own_ancestor(alloc: Global, defs: &[ClockDef], c: ClockId) -> Result<bool,
 {
     let mut marked = vec![in alloc; false; defs.len()]?;
     let mut reached: Vec<ClockId> = Vec::new(alloc);
-    mark_all(&mut marked, &mut reached, defs[c.0 as usize].parents.as_slice())?;
+    mark_all(
+        &mut marked,
+        &mut reached,
+        defs[c.0 as usize].parents.as_slice(),
+    )?;
     let mut at = 0;
     while at < reached.len() {
         let next = reached[at];
-        mark_all(&mut marked, &mut reached, defs[next.0 as usize].parents.as_slice())?;
+        mark_all(
+            &mut marked,
+            &mut reached,
+            defs[next.0 as usize].parents.as_slice(),
+        )?;
         at += 1;
     }
     Ok(marked[c.0 as usize])
@@ -73,11 +81,7 @@ fn mark_all(
 }
 
 // Marks a clock, unless it is marked, and lists it behind those that are.
-fn mark(
-    marked: &mut Vec<bool>,
-    reached: &mut Vec<ClockId>,
-    clock: ClockId,
-) -> Result<(), NoMemory>
+fn mark(marked: &mut Vec<bool>, reached: &mut Vec<ClockId>, clock: ClockId) -> Result<(), NoMemory>
     requires inside { clock.0 < length marked.old.items }
     requires listed { IsListed marked.old.items (places reached.old.items) }
     ensures each { length marked.new.items ≡ length marked.old.items }

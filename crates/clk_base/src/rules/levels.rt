@@ -32,11 +32,7 @@ pub(super) fn lines_end(alloc: Global, defs: &[ClockDef]) -> Result<Vec<bool>, N
 }
 
 // The same for one clock more, over what is told for fewer.
-fn one_level_more(
-    alloc: Global,
-    defs: &[ClockDef],
-    above: &[bool],
-) -> Result<Vec<bool>, NoMemory>
+fn one_level_more(alloc: Global, defs: &[ClockDef], above: &[bool]) -> Result<Vec<bool>, NoMemory>
     requires parents { EachClock defs.now (has_its_parents defs.now) }
     requires each { length above.now ≡ length defs.now }
     ensures { (levels : ℕ) → TellsEnds defs.now levels above.now → IfOk result (λ ends. TellsEnds defs.now (suc levels) ends.items) }

@@ -100,9 +100,7 @@ fn work_of(kind: Kind, passes_on: bool, parents: usize, above: u64) -> u64
 {
     match kind {
         Kind::FixedRate { .. } | Kind::Pll { .. } => 1,
-        Kind::Factor { .. } | Kind::Gate { .. } => {
-            if passes_on { 1 + above } else { 1 }
-        }
+        Kind::Factor { .. } | Kind::Gate { .. } => { if passes_on { 1 + above } else { 1 } }
         Kind::Mux { read_only, .. } => {
             if passes_on {
                 1 + above
@@ -117,7 +115,11 @@ fn work_of(kind: Kind, passes_on: bool, parents: usize, above: u64) -> u64
             one_based,
             ..
         } => {
-            if passes_on { 1 + divisor_count(width, one_based) * (1 + above) } else { 1 }
+            if passes_on {
+                1 + divisor_count(width, one_based) * (1 + above)
+            } else {
+                1
+            }
         }
     }
 }

@@ -108,7 +108,11 @@ fn add(
     desc.add(ClockDef {
         name: ClockName::new(name),
         kind,
-        flags: if passes_on { ClkFlags::SET_RATE_PARENT } else { ClkFlags::empty() },
+        flags: if passes_on {
+            ClkFlags::SET_RATE_PARENT
+        } else {
+            ClkFlags::empty()
+        },
         parents: Parents::new(parents),
     })?;
     Ok(())
@@ -120,12 +124,7 @@ fn clocks(alloc: Global, places: &[u32]) -> Result<Vec<ClockId>, NoMemory> {
 }
 
 // What the check of a description says, for a bank of so many words.
-fn fault_of(
-    rt: &impl Abort,
-    alloc: Global,
-    desc: Desc,
-    words: u32,
-) -> Option<DescFault> {
+fn fault_of(rt: &impl Abort, alloc: Global, desc: Desc, words: u32) -> Option<DescFault> {
     let complete = desc.has_all_parents();
     assert!(rt; complete);
     desc.check(alloc, words).err()
@@ -158,7 +157,10 @@ fn fault_over_fixed(
 #[test]
 fn at_most_4096_clocks_and_64_parents(rt: HostRuntime) -> Result<(), Fail> {
     let alloc = rt.alloc();
-    for (count, fault) in [(4096, None), (4097, Some(DescFault::TooMany(ClockId(4096))))] {
+    for (count, fault) in [
+        (4096, None),
+        (4097, Some(DescFault::TooMany(ClockId(4096)))),
+    ] {
         let mut desc = Desc::new(alloc);
         for _place in 0..count {
             add(alloc, &mut desc, fixed(), ALONE, Vec::new(alloc))?;
@@ -203,8 +205,16 @@ fn parameters_lie_in_their_ranges(rt: HostRuntime) -> Result<(), Fail> {
         (pll(9, 1, 1, 0), 1, false),
     ];
     for (kind, parents, right) in rows {
-        let fault = if right { None } else { Some(DescFault::BadRange(ClockId(1))) };
-        assert_eq!(rt; fault_over_fixed(&rt, alloc, kind, parents)?, fault, "{kind:?}");
+        let fault = if right {
+            None
+        } else {
+            Some(DescFault::BadRange(ClockId(1)))
+        };
+        assert_eq!(rt;
+            fault_over_fixed(&rt, alloc, kind, parents)?,
+            fault,
+            "{kind:?}"
+        );
     }
     Ok(())
 }
@@ -228,7 +238,11 @@ fn fields_lie_in_the_bank(rt: HostRuntime) -> Result<(), Fail> {
         (powered(2, 0), false),
     ];
     for (kind, right) in rows {
-        let fault = if right { None } else { Some(DescFault::FieldOutOfBank(ClockId(1))) };
+        let fault = if right {
+            None
+        } else {
+            Some(DescFault::FieldOutOfBank(ClockId(1)))
+        };
         assert_eq!(rt; fault_over_fixed(&rt, alloc, kind, 1)?, fault, "{kind:?}");
     }
     Ok(())
@@ -254,13 +268,24 @@ fn fields_share_no_bit(rt: HostRuntime) -> Result<(), Fail> {
         (gate(0, 20), powered(0, 20), false),
     ];
     for (first, second, right) in rows {
-        let desc = described(alloc, &[
-            (fixed(), ALONE, &[]),
-            (first, ALONE, &[0]),
-            (second, ALONE, &[0]),
-        ])?;
-        let fault = if right { None } else { Some(DescFault::FieldOverlap(ClockId(2))) };
-        assert_eq!(rt; fault_of(&rt, alloc, desc, 2), fault, "{first:?} {second:?}");
+        let desc = described(
+            alloc,
+            &[
+                (fixed(), ALONE, &[]),
+                (first, ALONE, &[0]),
+                (second, ALONE, &[0]),
+            ],
+        )?;
+        let fault = if right {
+            None
+        } else {
+            Some(DescFault::FieldOverlap(ClockId(2)))
+        };
+        assert_eq!(rt;
+            fault_of(&rt, alloc, desc, 2),
+            fault,
+            "{first:?} {second:?}"
+        );
     }
     Ok(())
 }
@@ -269,23 +294,41 @@ fn fields_share_no_bit(rt: HostRuntime) -> Result<(), Fail> {
 fn no_clock_is_its_own_possible_ancestor(rt: HostRuntime) -> Result<(), Fail> {
     let alloc = rt.alloc();
     let own = described(alloc, &[(fixed(), ALONE, &[]), (gate(0, 0), ALONE, &[1])])?;
-    assert_eq!(rt; fault_of(&rt, alloc, own, 1), Some(DescFault::Cycle(ClockId(1))));
-    let two = described(alloc, &[(gate(0, 0), ALONE, &[1]), (gate(0, 1), ALONE, &[0])])?;
-    assert_eq!(rt; fault_of(&rt, alloc, two, 1), Some(DescFault::Cycle(ClockId(0))));
+    assert_eq!(rt;
+        fault_of(&rt, alloc, own, 1),
+        Some(DescFault::Cycle(ClockId(1)))
+    );
+    let two = described(
+        alloc,
+        &[(gate(0, 0), ALONE, &[1]), (gate(0, 1), ALONE, &[0])],
+    )?;
+    assert_eq!(rt;
+        fault_of(&rt, alloc, two, 1),
+        Some(DescFault::Cycle(ClockId(0)))
+    );
     // the first clock leads to the others without being among its own possible ancestors
-    let behind = described(alloc, &[
-        (gate(0, 0), ALONE, &[1]),
-        (mux(0, 1, 1), ALONE, &[3, 2]),
-        (gate(0, 3), ALONE, &[1]),
-        (fixed(), ALONE, &[]),
-    ])?;
-    assert_eq!(rt; fault_of(&rt, alloc, behind, 1), Some(DescFault::Cycle(ClockId(1))));
+    let behind = described(
+        alloc,
+        &[
+            (gate(0, 0), ALONE, &[1]),
+            (mux(0, 1, 1), ALONE, &[3, 2]),
+            (gate(0, 3), ALONE, &[1]),
+            (fixed(), ALONE, &[]),
+        ],
+    )?;
+    assert_eq!(rt;
+        fault_of(&rt, alloc, behind, 1),
+        Some(DescFault::Cycle(ClockId(1)))
+    );
     // a later parent is no cycle
-    let later = described(alloc, &[
-        (mux(0, 0, 1), ALONE, &[1, 2]),
-        (gate(0, 1), ALONE, &[2]),
-        (fixed(), ALONE, &[]),
-    ])?;
+    let later = described(
+        alloc,
+        &[
+            (mux(0, 0, 1), ALONE, &[1, 2]),
+            (gate(0, 1), ALONE, &[2]),
+            (fixed(), ALONE, &[]),
+        ],
+    )?;
     assert_eq!(rt; fault_of(&rt, alloc, later, 1), None);
     Ok(())
 }
@@ -331,18 +374,48 @@ fn work_is_at_most_1048576(rt: HostRuntime) -> Result<(), Fail> {
     let mut desc = Desc::new(alloc);
     add(alloc, &mut desc, fixed(), ALONE, Vec::new(alloc))?;
     // 1 + 31, then 1 + 31 * (1 + 32) = 1024, then 1 + 1023 * (1 + 1024) = 1048576
-    add(alloc, &mut desc, mux(0, 0, 5), ALONE, vec![in alloc; ClockId(0); 31]?)?;
-    add(alloc, &mut desc, one_based(0, 5, 5), PASSES_ON, clocks(alloc, &[1])?)?;
-    add(alloc, &mut desc, one_based(0, 10, 10), PASSES_ON, clocks(alloc, &[2])?)?;
+    add(
+        alloc,
+        &mut desc,
+        mux(0, 0, 5),
+        ALONE,
+        vec![in alloc; ClockId(0); 31]?,
+    )?;
+    add(
+        alloc,
+        &mut desc,
+        one_based(0, 5, 5),
+        PASSES_ON,
+        clocks(alloc, &[1])?,
+    )?;
+    add(
+        alloc,
+        &mut desc,
+        one_based(0, 10, 10),
+        PASSES_ON,
+        clocks(alloc, &[2])?,
+    )?;
     let most = desc.copy(alloc)?;
     assert_eq!(rt; fault_of(&rt, alloc, most, 2), None);
     let mut more = desc.copy(alloc)?;
-    add(alloc, &mut more, gate(1, 0), PASSES_ON, clocks(alloc, &[3])?)?;
+    add(
+        alloc,
+        &mut more,
+        gate(1, 0),
+        PASSES_ON,
+        clocks(alloc, &[3])?,
+    )?;
     let much = Some(DescFault::TooMuchWork(ClockId(4)));
     assert_eq!(rt; fault_of(&rt, alloc, more, 2), much);
     // a clock that doesn't pass requests on has work of its own alone
     add(alloc, &mut desc, gate(1, 0), ALONE, clocks(alloc, &[3])?)?;
-    add(alloc, &mut desc, mux(1, 1, 1), ALONE, clocks(alloc, &[3, 4])?)?;
+    add(
+        alloc,
+        &mut desc,
+        mux(1, 1, 1),
+        ALONE,
+        clocks(alloc, &[3, 4])?,
+    )?;
     assert_eq!(rt; fault_of(&rt, alloc, desc, 2), None);
     Ok(())
 }
@@ -355,20 +428,38 @@ fn the_first_rule_that_is_broken_is_named(rt: HostRuntime) -> Result<(), Fail> {
     let nothing = Kind::Factor { mult: 0, div: 1 };
     let one = Kind::Factor { mult: 1, div: 1 };
     let rows = [
-        (gate(0, 32), nothing, gate(0, 1), DescFault::BadRange(ClockId(4))),
-        (gate(0, 32), one, gate(0, 1), DescFault::FieldOutOfBank(ClockId(3))),
-        (gate(0, 1), one, gate(0, 1), DescFault::FieldOverlap(ClockId(5))),
+        (
+            gate(0, 32),
+            nothing,
+            gate(0, 1),
+            DescFault::BadRange(ClockId(4)),
+        ),
+        (
+            gate(0, 32),
+            one,
+            gate(0, 1),
+            DescFault::FieldOutOfBank(ClockId(3)),
+        ),
+        (
+            gate(0, 1),
+            one,
+            gate(0, 1),
+            DescFault::FieldOverlap(ClockId(5)),
+        ),
         (gate(0, 2), one, gate(0, 1), DescFault::Cycle(ClockId(5))),
     ];
     for (third, fourth, last, fault) in rows {
-        let desc = described(alloc, &[
-            (fixed(), ALONE, &[]),
-            (wide, PASSES_ON, &[0]),
-            (wider, PASSES_ON, &[1]),
-            (third, ALONE, &[0]),
-            (fourth, ALONE, &[0]),
-            (last, ALONE, &[5]),
-        ])?;
+        let desc = described(
+            alloc,
+            &[
+                (fixed(), ALONE, &[]),
+                (wide, PASSES_ON, &[0]),
+                (wider, PASSES_ON, &[1]),
+                (third, ALONE, &[0]),
+                (fourth, ALONE, &[0]),
+                (last, ALONE, &[5]),
+            ],
+        )?;
         assert_eq!(rt; fault_of(&rt, alloc, desc, 3), Some(fault));
     }
     // a line of 65 clocks at its end comes before the work at its front, and after a cycle behind it
@@ -376,9 +467,15 @@ fn the_first_rule_that_is_broken_is_named(rt: HostRuntime) -> Result<(), Fail> {
     add(alloc, &mut desc, wide, PASSES_ON, clocks(alloc, &[0])?)?;
     add(alloc, &mut desc, wider, PASSES_ON, clocks(alloc, &[65])?)?;
     let long = desc.copy(alloc)?;
-    assert_eq!(rt; fault_of(&rt, alloc, long, 3), Some(DescFault::TooMany(ClockId(64))));
+    assert_eq!(rt;
+        fault_of(&rt, alloc, long, 3),
+        Some(DescFault::TooMany(ClockId(64)))
+    );
     add(alloc, &mut desc, gate(0, 0), ALONE, clocks(alloc, &[67])?)?;
-    assert_eq!(rt; fault_of(&rt, alloc, desc, 3), Some(DescFault::Cycle(ClockId(67))));
+    assert_eq!(rt;
+        fault_of(&rt, alloc, desc, 3),
+        Some(DescFault::Cycle(ClockId(67)))
+    );
     Ok(())
 }
 
