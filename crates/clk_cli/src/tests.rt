@@ -12,7 +12,14 @@ fn reads_check_and_sim_and_nothing_else(rt: HostRuntime) {
                 })
         );
     }
-    let refused: [&[&str]; 6] = [&[], &["fly"], &["sim", "1"], &["check", "1"], &["bench"], &["Sim"]];
+    let refused: [&[&str]; 6] = [
+        &[],
+        &["fly"],
+        &["sim", "1"],
+        &["check", "1"],
+        &["bench"],
+        &["Sim"],
+    ];
     for given in refused {
         assert!(rt; words(rt.alloc(), given) == Err(CliFault::Usage));
     }
