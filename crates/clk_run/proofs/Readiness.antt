@@ -11,7 +11,8 @@ use Rattle.drv_scripts.specs.declared.bundle.Script.{Script}
 use Rattle.drv_scripts.specs.Form.{words_end}
 use Rattle.drv_scripts.specs.Placed.{IsSound, IsScript}
 use Rattle.drv_scripts.specs.Spelled.{boot_of, script_at, scripts_of, bundle_of}
-use Rattle.drv_scripts.specs.Verdict.{Accepts}
+use Rattle.clk_run.specs.Built.{SpellsRun}
+use Rattle.clk_run.proofs.Fitness.{fit_all}
 use Rattle.clk_cli.specs.declared.cli.Mode.{Mode}
 use Rattle.clk_cli.specs.declared.cli.Mode.TheVariants.{Check, Sim, Run, Bench}
 use Rattle.clk_run.specs.Runs.{are_built, credits_of, drivers_in, IsReady}
@@ -37,10 +38,11 @@ scripts_few ls = pick (nat_lt (words_end ls) (length ls)) where
 
 -- ---- ready
 
-pub ready : (bytes : List ℕ) (b : Bundle) → Accepts bytes b → IsSound b → IsReady b
+pub ready : (bytes : List ℕ) (b : Bundle) → SpellsRun bytes b → IsSound b → IsReady b
 unfolding bundle_of
-ready bytes b spelled sound = record {
+ready bytes b runs sound = let spelled = runs.spelled in record {
   sound = sound;
+  fit = fit_all b.desc.defs b.clock_lines b.assigned_lines runs.built;
   boot = ap (λ (x : Bundle). x.boot) spelled.content ∙ ap (λ (x : Bundle). boot_of (length x.desc.defs)) (sym spelled.content);
   few = subst (λ (drivers : List Script). length drivers ≤ 1) (ap (λ (x : Bundle). x.drivers) (sym spelled.content)) (scripts_few _);
   built = subst (λ (drivers : List Script). AllByRecursion (λ s. are_built s.commands ≡ true) drivers) (ap (λ (x : Bundle). x.drivers) (sym spelled.content)) (spelled_built (lines bytes));
