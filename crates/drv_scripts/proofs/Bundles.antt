@@ -19,10 +19,14 @@ use Rattle.drv_scripts.specs.declared.bundle.Script.{Script}
 use Rattle.drv_scripts.specs.declared.reason.Reason.TheVariants.{NotYet}
 use Rattle.drv_scripts.specs.CommandLines.{CommandLine, gets, acts, act_of, act_in, driver_line, command_line, command_in}
 use Rattle.bundle_text.specs.Names.{is_variable}
-use Rattle.drv_scripts.specs.Form.{clocks_end, words_end, variables_before, keeps_form, keeps_command, fault_at, unless, command_at}
+use Rattle.drv_scripts.specs.Form.{clocks_end, words_end, words_before, variables_before, keeps_form, keeps_command, fault_at, unless, command_at}
 use Rattle.drv_scripts.specs.Placed.{NamesPlace, NamePlaces, IsScript, IsSound}
 use Rattle.bundle_clocks.specs.Said.{SaidClocks}
+use Rattle.clk_base.specs.Checked.{Checked}
 use Rattle.clk_base.specs.Valid.{IsValid}
+use Rattle.bundle_sections.specs.Said.{Parts}
+use Rattle.drv_scripts.specs.declared.bundle.Bundle.{Bundle}
+use Rattle.drv_scripts.proofs.Divided.{Lie}
 use Rattle.drv_scripts.specs.Spelled.{probe, boot_of, commands_from, script_at, scripts_of, bundle_of}
 use Rattle.drv_scripts.proofs.Places.{form-command}
 
@@ -167,6 +171,14 @@ scripts_of-none defs ls at here outside = cond-false _ _ _ (le-ltb (words_end ls
 
 -- ## The bundle
 
+-- the parts that were read are those that the lines spell
+pub bundle_is : (ls : List (List ℕ)) (desc : Checked) (numbers assigned words : List ℕ) (boot : List Command) (drivers : List Script)
+    → words ≡ words_before ls desc.words (words_end ls) → boot ≡ boot_of (length desc.defs) → drivers ≡ scripts_of desc.defs ls
+    → record { desc = desc; clock_lines = numbers; assigned_lines = assigned; words = words; locks = []; late = []; boot = boot; drivers = drivers; order = [] }
+        ≡ bundle_of ls desc.words (record { defs = desc.defs; lines = numbers; assigned = assigned })
+unfolding bundle_of
+bundle_is ls desc numbers assigned words boot drivers a b c = cc
+
 -- a bundle of lines with the form fits together
 pub bundle_sound : (ls : List (List ℕ)) (size : ℕ) (said : SaidClocks) → KeepsBelow (fault_at ls size) (length ls) → IsValid size said.defs → length said.lines ≡ length said.defs → 0 < size → size ≤ 65536
     → length (bundle_of ls size said).words ≡ size → IsSound (bundle_of ls size said)
@@ -193,3 +205,16 @@ boot_commands_of ls size said = refl
 pub desc_of : (ls : List (List ℕ)) (size : ℕ) (said : SaidClocks) → (bundle_of ls size said).desc ≡ record { defs = said.defs; words = size }
 unfolding bundle_of
 desc_of ls size said = refl
+
+-- a bundle that was read fits together
+pub parts_sound : (ls : List (List ℕ)) (parts : Parts) (desc : Checked) (defs : Description) (numbers assigned : List ℕ) (b : Bundle) → Lie ls parts → desc ≡ record { defs = defs; words = parts.bank.words }
+    → IsValid parts.bank.words defs → length numbers ≡ length defs → KeepsBelow (fault_at ls desc.words) (length ls)
+    → b ≡ bundle_of ls desc.words (record { defs = desc.defs; lines = numbers; assigned = assigned }) → length b.words ≡ desc.words → IsSound b
+parts_sound ls parts desc defs numbers assigned b lie same valid count kept content words =
+    let size = parts.bank.words in
+    let said : SaidClocks = record { defs = defs; lines = numbers; assigned = assigned } in
+    let size_is : desc.words ≡ size = ap (λ d. d.words) same in
+    let content_is : b ≡ bundle_of ls size said = content ∙ ap (λ d. bundle_of ls d.words (record { defs = d.defs; lines = numbers; assigned = assigned })) same in
+    let kept_is = subst (λ n. KeepsBelow (fault_at ls n) (length ls)) size_is kept in
+    let words_are : length (bundle_of ls size said).words ≡ size = sym (ap (λ bundle. length bundle.words) content_is) ∙ (words ∙ size_is) in
+    subst IsSound (sym content_is) (bundle_sound ls size said kept_is valid count lie.some lie.few words_are)

@@ -83,6 +83,41 @@ fn read_scripts(
     }
 }
 
+// A bundle with these parts, and with nothing in the others.
+fn plain_bundle(
+    alloc: Global,
+    desc: ValidDesc,
+    lines: (Vec<u32>, Vec<u32>),
+    words: Vec<u32>,
+    boot: Vec<Command>,
+    drivers: Vec<Script>,
+) -> Bundle
+    ensures { result ≡ record {
+      desc = desc;
+      clock_lines = lines.0.items;
+      assigned_lines = lines.1.items;
+      words = words.items;
+      locks = [];
+      late = [];
+      boot = boot.items;
+      drivers = drivers.items;
+      order = [];
+    } }
+{
+    let (clock_lines, assigned_lines) = lines;
+    Bundle {
+        desc,
+        clock_lines: Listed::new(clock_lines),
+        assigned_lines: Listed::new(assigned_lines),
+        words: Listed::new(words),
+        locks: Listed::new(Vec::new(alloc)),
+        late: Listed::new(Vec::new(alloc)),
+        boot: Listed::new(boot),
+        drivers: Listed::new(drivers),
+        order: Listed::new(Vec::new(alloc)),
+    }
+}
+
 // The bundle of lines whose clocks are known, with their lines and those of nodes that assign clocks.
 fn read_form(
     alloc: Global,
@@ -106,17 +141,14 @@ fn read_form(
     let words = read_words(alloc, lines, end + 1, words_end, size)?;
     let drivers = read_scripts(alloc, lines, &desc, words_end)?;
     let boot = boot_commands(alloc, desc.len() as u32)?;
-    Ok(Bundle {
+    Ok(plain_bundle(
+        alloc,
         desc,
-        clock_lines: Listed::new(clock_lines),
-        assigned_lines: Listed::new(assigned),
-        words: Listed::new(words),
-        locks: Listed::new(Vec::new(alloc)),
-        late: Listed::new(Vec::new(alloc)),
-        boot: Listed::new(boot),
-        drivers: Listed::new(drivers),
-        order: Listed::new(Vec::new(alloc)),
-    })
+        (clock_lines, assigned),
+        words,
+        boot,
+        drivers,
+    ))
 }
 
 // The fault of a line at its place.

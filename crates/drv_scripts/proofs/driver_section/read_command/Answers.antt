@@ -22,7 +22,7 @@ pub returns-in_default-2 : goal.returns-in_default-2
 returns-in_default-2 c =
     let read = ap command_line (ap texts c.deref.ensures.value ∙ c.in_ok-words.ensures) in
     let unknown = rw c.in_default-2.is at c.in_ok-command.ensures in
-    rw c.not_yet-in_default-2.ensures (first-unknown c.args.lines.now c.args.at c.args.variables.now (said_command c.in-Some.said) c.requires.at (sym read ∙ sym c.in-Some.ensures) unknown)
+    rw c.not_yet-in_default-2.ensures (first-unknown c.args.lines.now c.args.desc.now.words c.args.at c.args.variables.now (said_command c.in-Some.said) c.requires.at (sym read ∙ sym c.in-Some.ensures) unknown)
 
 pub returns : goal.returns
 returns c =
