@@ -1,5 +1,6 @@
-use Rattle.std.proofs.Common.{◌≡◌, ◌∙◌, ◌<◌, sym, ap, length, arith}
+use Rattle.std.proofs.Common.{◌≡◌, ◌∙◌, ◌<◌, ap, subst, arith}
 use Rattle.bundle_clocks.proofs.Counts.{lines_count}
+use Rattle.clk_base.specs.Valid.{IsValid}
 use Rattle.drv_scripts.proofs.Bundles.{parts_sound}
 use Rattle.drv_scripts.proofs.Divided.{parts_lie, clocks_within}
 use Rattle.drv_scripts.proofs.reading.read_parts.Goals as goal
@@ -23,4 +24,7 @@ returns-in-Ok-read_form-clause-sound c =
     let lie = parts_lie ls c.args.sections.now c.requires.tiled c.requires.each in
     let count = lines_count _ ls _ _ c.in-Ok.ensures.said in
     let read = c.in-Ok-read_form.ensures in
-    parts_sound ls c.args.sections.now c.in_ok-desc.desc _ _ _ c.in-Ok-read_form.bundle lie ? ? count read.0 read.1.0 read.1.1
+    let size = ap (λ s. s.words) c.bank.ensures in
+    let same = c.in_ok-desc.ensures.same ∙ ap (λ words. record { defs = c.in-Ok.clocks.desc; words = words }) size in
+    let valid = subst (λ words. IsValid words c.in-Ok.clocks.desc) size c.in_ok-desc.ensures.valid in
+    parts_sound ls c.args.sections.now c.in_ok-desc.desc _ _ _ c.in-Ok-read_form.bundle lie same valid count read.0 read.1.0 read.1.1
