@@ -49,7 +49,7 @@ refuses_decides left left' line reason refuses = record {
   no bytes b is spelled (inl more) =
       let fits = taken_fits left left' bytes more.0.0 is more.0.2 in
       let over = more.0.1 in
-      let few = spelled.spelled.begins.fits in
+      let few = spelled.spelled.fits in
       omega arith
   no bytes b is spelled (inr all) =
       run_never_both bytes b line reason spelled (subst (λ (xs : List ℕ). RefusesRun xs line reason) (taken_all left left' bytes all.0 is all.1) all.2)
