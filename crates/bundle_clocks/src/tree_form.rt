@@ -57,9 +57,6 @@ fn read_source(alloc: Global, source: &str, first: u32) -> Result<ClocksPart, Cl
         Ok(loaded) => loaded,
         Err(fault) => return Err(nodes_fault(fault)),
     };
-    if !loaded.desc.has_all_parents() {
-        return Err(ClocksFault::NoMemory);
-    }
     let assigned = assigned_lines(alloc, &loaded.assigned)?;
     Ok(ClocksPart {
         desc: loaded.desc,
