@@ -1,20 +1,17 @@
 -- There are as many lines as clocks.
-use Rattle.std.proofs.Common.{◌≡◌, ℕ, zero, suc, ◌+◌, ◌<◌, Bool, true, false, cond, List, [], ◌++◌, length, map, Option, Some, None, refl, ap, subst, sym, ◌∙◌, inl, inr, arith, length-append}
+use Rattle.std.proofs.Common.{◌≡◌, ℕ, zero, suc, ◌+◌, cond, List, [], length, Option, Some, None, refl, ap, subst, sym, ◌∙◌, inl, inr, arith, length-append}
 use Rattle.std.specs.Prelude.{slice_get}
 use Rattle.std.specs.Option.{option_map_or, option_and_then}
 use Rattle.std.proofs.lemmas.Bool.{cases_Bool}
 use Rattle.std.proofs.lemmas.List.{length-map}
-use Rattle.bundle_text.specs.Firsts.{KeepsBelow}
-use Rattle.clk_base.specs.declared.clock.ClockDef.{ClockDef}
 use Rattle.clk_base.specs.Description.{Description}
-use Rattle.clock_lines.specs.Section.{desc_of, lines_of, all_clocks, clock_in}
+use Rattle.clock_lines.specs.Section.{desc_of, lines_of}
 use Rattle.clock_lines.specs.Verdict.{Spells}
 use Rattle.dts_bindings.specs.Binding.{SeenBinding}
-use Rattle.dts_clocks.specs.declared.fault.DtsFault.{DtsFault}
 use Rattle.dts_clocks.specs.Above.{is_passed}
 use Rattle.dts_clocks.specs.Clocks.{binding_at, own_binding}
 use Rattle.dts_clocks.specs.Joined.{joined}
-use Rattle.dts_clocks.specs.Loaded.{SeenLoaded, defs_with, lines_with, defs_at, lines_at, loaded_before, loaded_of}
+use Rattle.dts_clocks.specs.Loaded.{SeenLoaded, defs_with, lines_with, defs_at, lines_at, loaded_before}
 use Rattle.dts_clocks.specs.SecondPass.{Links, links_at}
 use Rattle.dts_clocks.specs.Verdict.{Accepts}
 use Rattle.dts_tree.specs.Tree.{SeenNode}
@@ -63,7 +60,7 @@ node_count : (nodes : List SeenNode) (k : ℕ) → length (lines_at nodes k) ≡
 unfolding lines_at defs_at
 node_count nodes k =
     elim (links_at nodes k) as (λ o. length (option_map_or (λ l. option_map_or (λ node. option_map_or (lines_with node.line) (binding_at nodes k) []) (slice_get nodes k) []) o [])
-        ≡ length (option_map_or (λ l. option_map_or (defs_with l.parents) (binding_at nodes k) []) o [])) [
+    ≡ length (option_map_or (λ l. option_map_or (defs_with l.parents) (binding_at nodes k) []) o [])) [
       | None ↦ refl
       | Some l ↦ linked_count nodes k l _ refl
     ]

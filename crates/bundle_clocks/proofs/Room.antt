@@ -1,5 +1,5 @@
 -- How long texts of lines are.
-use Rattle.std.proofs.Common.{◌≡◌, ℕ, zero, suc, ◌+◌, ◌-◌, ◌<◌, ◌≤◌, ◌==◌, Bool, true, false, cond, List, [], ◌∷◌, ◌++◌, Option, Some, None, length, take, drop, replicate, refl, ap, sym, subst, ◌∙◌, arith, append_assoc, length-append, length-drop, take-append-drop}
+use Rattle.std.proofs.Common.{◌≡◌, ℕ, zero, suc, ◌+◌, ◌-◌, ◌<◌, ◌≤◌, ◌==◌, Bool, true, false, cond, List, [], ◌∷◌, ◌++◌, Some, None, length, take, drop, replicate, refl, ap, sym, subst, ◌∙◌, arith, append_assoc, length-append, length-drop, take-append-drop}
 use Rattle.std.specs.Prelude.{slice_range, slice_index}
 use Rattle.std.specs.List.{position}
 use Rattle.std.specs.Str.Lines.{lines, strip_carriage_return}
@@ -59,7 +59,7 @@ lines-more front ls from k low high =
     let count : k + 1 - from ≡ n + 1 = omega arith in
     let within : n < length (drop from ls) = simp length-drop (omega arith) in
     let more : slice_range ls from (k + 1) ≡ slice_range ls from k ++ line_at ls k ∷ [] =
-        ap (λ c. take c (drop from ls)) count ∙ (take_more (drop from ls) n [] within ∙ ap (λ line. take n (drop from ls) ++ line ∷ []) (get_or-drop from ls n [] ∙ ap (line_at ls) there)) in
+    ap (λ c. take c (drop from ls)) count ∙ (take_more (drop from ls) n [] within ∙ ap (λ line. take n (drop from ls) ++ line ∷ []) (get_or-drop from ls n [] ∙ ap (line_at ls) there)) in
     ap (λ xs. text_of_lines (front ++ xs)) more
     ∙ (ap text_of_lines (sym (append_assoc front (slice_range ls from k) (line_at ls k ∷ []))) ∙ text_of_lines-append (front ++ slice_range ls from k) (line_at ls k ∷ []))
 

@@ -1,5 +1,5 @@
 -- What the readers of a source know.
-use Rattle.std.proofs.Common.{◌≡◌, ℕ, ◌+◌, ◌<◌, ◌≤◌, ◌==◌, Bool, true, false, cond, List, [], length, map, Option, Some, None, Err, refl, ap, sym, ◌∙◌, inl, inr, arith}
+use Rattle.std.proofs.Common.{◌≡◌, ℕ, ◌+◌, ◌<◌, ◌≤◌, ◌==◌, Bool, true, false, cond, List, length, None, Err, refl, ap, inl, inr, arith}
 use Rattle.std.specs.Str.{is_utf8}
 use Rattle.bundle_text.specs.Lines.{line_at}
 use Rattle.bundle_sections.specs.declared.fault.FormReason.{FormReason}
@@ -14,7 +14,6 @@ use Rattle.bundle_clocks.specs.Verdict.{IsSourceFault, nodes_of}
 use Rattle.bundle_clocks.proofs.Room.{room-slice}
 use Rattle.dts_tokens.specs.declared.token.Token.{Token}
 use Rattle.dts_tokens.specs.Tokens.{Tokens}
-use Rattle.dts_tree.specs.declared.fault.TreeFault.{TreeFault}
 use Rattle.dts_tree.specs.declared.fault.TreeFault.TheVariants.{Syntax}
 use Rattle.dts_tree.specs.Parsed.{spelled}
 

@@ -10,7 +10,7 @@ use Rattle.bundle_clocks.specs.declared.fault.ClocksReason.TheVariants.{UnknownK
 use Rattle.bundle_clocks.specs.Reasons.{Told, told, line_reason, token_told, tree_told, nodes_told}
 use Rattle.bundle_clocks.specs.Said.{SaidClocks}
 use Rattle.bundle_clocks.specs.Source.{lines_in, source_of}
-use Rattle.bundle_clocks.specs.Verdict.{LinesSay, LinesRefused, SourceSays, TreeSays, TokensRefused, TreeRefused, NodesRefused, SourceRefused, SaysIn, RefusesIn, nodes_of, clocks_of_tree}
+use Rattle.bundle_clocks.specs.Verdict.{SourceSays, TreeSays, TreeRefused, NodesRefused, SourceRefused, SaysIn, RefusesIn, nodes_of, clocks_of_tree}
 use Rattle.clock_lines.specs.declared.fault.LineReason.{LineReason}
 use Rattle.clock_lines.specs.Section.{fault_at, parent_fault_at}
 use Rattle.clock_lines.specs.Verdict as line_verdict
@@ -27,7 +27,6 @@ use Rattle.dts_tokens.specs.declared.token.TokenFault.{TokenFault}
 use Rattle.dts_tokens.specs.declared.token.TokenFault.TheVariants.{BadChar, OpenString, OpenComment, NumberTooBig, NoMemory}
 use Rattle.dts_tokens.specs.Tokens as cut
 use Rattle.dts_tokens.proofs.OneReading.{one_list, one_flaw, not_both}
-use Rattle.dts_tree.specs.declared.fault.TreeFault.{TreeFault}
 use Rattle.dts_tree.specs.Tree.{SeenNode}
 
 -- ## Tokens

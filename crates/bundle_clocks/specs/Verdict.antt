@@ -1,5 +1,5 @@
 -- Which section of clocks says what, and why others are refused.
-use Rattle.std.specs.Prelude.{◌≡◌, ℕ, ◌+◌, ◌==◌, ◌⊎◌, List, [], length, map, Some, Result, Ok, Err, if◌then◌else◌}
+use Rattle.std.specs.Prelude.{◌≡◌, ℕ, ◌+◌, ◌==◌, ◌⊎◌, List, [], length, map, Result, Ok, Err, if◌then◌else◌}
 use Rattle.bundle_clocks.specs.declared.fault.ClocksFault.{ClocksFault}
 use Rattle.bundle_clocks.specs.declared.fault.ClocksFault.TheVariants.{Refused, NoMemory}
 use Rattle.bundle_clocks.specs.declared.fault.ClocksReason.{ClocksReason}

@@ -18,4 +18,3 @@ pub use fault::{ClocksFault, ClocksReason};
 pub use part::ClocksPart;
 pub use reading::read_clocks_part;
 pub use verdict::one_verdict;
-

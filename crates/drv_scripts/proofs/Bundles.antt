@@ -1,7 +1,7 @@
 -- The bundle that lines spell, and what holds of it.
 use Rattle.std.proofs.Common.{◌≡◌, ℕ, zero, suc, ◌+◌, ◌-◌, ◌<◌, ◌≤◌, Bool, true, false, ◌&&◌, cond, List, [], ◌∷◌, map, length, Option, Some, None, IfSome, refl, ap, sym, ◌∙◌, subst, inl, inr, nat_lt, arith}
 use Rattle.std.specs.List.{range_with_len, AllByRecursion}
-use Rattle.std.specs.Option.{option_map, option_to_list, unwrap_or}
+use Rattle.std.specs.Option.{option_map, option_to_list}
 use Rattle.std.specs.Str.{bytes_eq}
 use Rattle.std.proofs.lemmas.Bool.{cases_lt, and_parts, ltb-true, lt-ltb, le-ltb, cond-true, cond-false}
 use Rattle.clk_base.specs.declared.clock.ClockId.{ClockId}
@@ -175,7 +175,7 @@ scripts_of-none defs ls at here outside = cond-false _ _ _ (le-ltb (words_end ls
 pub bundle_is : (ls : List (List ℕ)) (desc : Checked) (numbers assigned words : List ℕ) (boot : List Command) (drivers : List Script)
     → words ≡ words_before ls desc.words (words_end ls) → boot ≡ boot_of (length desc.defs) → drivers ≡ scripts_of desc.defs ls
     → record { desc = desc; clock_lines = numbers; assigned_lines = assigned; words = words; locks = []; late = []; boot = boot; drivers = drivers; order = [] }
-        ≡ bundle_of ls desc.words (record { defs = desc.defs; lines = numbers; assigned = assigned })
+    ≡ bundle_of ls desc.words (record { defs = desc.defs; lines = numbers; assigned = assigned })
 unfolding bundle_of
 bundle_is ls desc numbers assigned words boot drivers a b c = cc
 

@@ -1,5 +1,5 @@
 -- What the form says of a line by the section that it stands in, and what the lines before a place say.
-use Rattle.std.proofs.Common.{◌≡◌, ℕ, ◌+◌, ◌-◌, ◌<◌, ◌≤◌, true, false, List, [], ◌∷◌, length, take, drop, fold, None, refl, ap, sym, ◌∙◌, subst, inl, inr, arith, length-drop, below_more}
+use Rattle.std.proofs.Common.{◌≡◌, ℕ, ◌+◌, ◌-◌, ◌<◌, ◌≤◌, true, false, List, [], length, take, drop, fold, None, refl, ap, ◌∙◌, inl, inr, arith, length-drop, below_more}
 use Rattle.std.proofs.lemmas.Bool.{cases_lt}
 use Rattle.std.proofs.lemmas.Bool.Decides.{nat_tests}
 use Rattle.std.proofs.lemmas.List.{get_or-drop}

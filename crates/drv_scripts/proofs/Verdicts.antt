@@ -1,25 +1,23 @@
 -- Bytes have one verdict.
-use Rattle.std.proofs.Common.{◌≡◌, Bool, true, false, ◌⊎◌, ℕ, ◌+◌, ◌<◌, ◌≤◌, List, length, refl, ap, subst, sym, ◌∙◌, inl, inr, arith}
+use Rattle.std.proofs.Common.{◌≡◌, Bool, ℕ, ◌+◌, ◌<◌, List, length, refl, ap, subst, sym, ◌∙◌, inl, inr, arith}
 use Rattle.std.specs.Prelude.{◌==◌, if◌then◌else◌, slice_index}
 use Rattle.std.specs.Str.Lines.{lines}
 use Rattle.std.proofs.lemmas.Bool.{both_ways, cases_lt, lt-ltb}
-use Rattle.bundle_text.specs.Firsts.{KeepsBelow}
 use Rattle.bundle_text.proofs.Rows.{First-kept, First-unique}
 use Rattle.bundle_clocks.specs.Said.{SaidClocks}
 use Rattle.bundle_clocks.specs.Verdict as clock_verdict
 use Rattle.bundle_clocks.proofs.Verdicts as clock_laws
-use Rattle.bundle_sections.specs.declared.fault.FormReason.{FormReason}
 use Rattle.bundle_sections.specs.Said.{Parts}
 use Rattle.bundle_sections.specs.Verdict as section_verdict
 use Rattle.bundle_sections.proofs.Verdicts as section_laws
-use Rattle.clk_base.specs.Description.{Description, EachClock, IsFirstFailing}
+use Rattle.clk_base.specs.Description.{Description, IsFirstFailing}
 use Rattle.clk_base.specs.Valid.{Rule, keeps, number, IsFirstBroken, counts, ranges, bank, apart, acyclic, levels, bounded}
 use Rattle.drv_scripts.specs.declared.bundle.Bundle.{Bundle}
 use Rattle.drv_scripts.specs.declared.reason.Reason.{Reason}
 use Rattle.drv_scripts.specs.Form.{fault_at}
 use Rattle.drv_scripts.specs.Reasons.{form_reason, clocks_reason, rule_reason}
 use Rattle.drv_scripts.specs.Spelled.{boot_of, scripts_of, bundle_of}
-use Rattle.drv_scripts.specs.Verdict.{most_bytes, last_line, KeepsRules, PartsSpell, IsUnsaid, Breaks, BreaksRule, LacksForm, PartsRefuse, Accepts, Refuses, IsTooLong, IsUndivided, IsDivided}
+use Rattle.drv_scripts.specs.Verdict.{last_line, KeepsRules, PartsSpell, IsUnsaid, Breaks, BreaksRule, LacksForm, PartsRefuse, Accepts, Refuses, IsUndivided, IsDivided}
 use Rattle.drv_scripts.proofs.Bundles.{drivers_of, boot_commands_of, desc_of}
 
 -- ## Rules

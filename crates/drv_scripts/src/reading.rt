@@ -141,14 +141,7 @@ fn read_form(
     let words = read_words(alloc, lines, end + 1, words_end, size)?;
     let drivers = read_scripts(alloc, lines, &desc, words_end)?;
     let boot = boot_commands(alloc, desc.len() as u32)?;
-    Ok(plain_bundle(
-        alloc,
-        desc,
-        (clock_lines, assigned),
-        words,
-        boot,
-        drivers,
-    ))
+    Ok(plain_bundle(alloc, desc, (clock_lines, assigned), words, boot, drivers))
 }
 
 // The fault of a line at its place.
@@ -166,11 +159,7 @@ fn form_stop(stop: Stop) -> BundleFault
 }
 
 // The bundle of lines in sections.
-fn read_parts(
-    alloc: Global,
-    lines: &TextLines,
-    sections: &Sections,
-) -> Result<Bundle, BundleFault>
+fn read_parts(alloc: Global, lines: &TextLines, sections: &Sections) -> Result<Bundle, BundleFault>
     requires accepted { section_verdict.Accepts lines.now sections.now }
     requires tiled { Tiles (header_from lines.now 1) (in_order sections.now) (length lines.now) }
     requires each { AllByRecursion (IsSection lines.now) (in_order sections.now) }

@@ -93,12 +93,7 @@ fn sections_are_judged_before_what_they_say(rt: HostRuntime) {
         ],
     );
     check_refusal(&rt, b"\xff\n%clocks\n", 1, Reason::NotUtf8);
-    check_refusal(
-        &rt,
-        b"%bundle 2\n%clocks\nget u \xc3\n",
-        3,
-        Reason::NotUtf8,
-    );
+    check_refusal(&rt, b"%bundle 2\n%clocks\nget u \xc3\n", 3, Reason::NotUtf8);
 }
 
 #[test]
@@ -182,7 +177,8 @@ fn other_forms_are_not_read_yet(rt: HostRuntime) {
     }
 }
 
-const BOARD: &str = "%bundle 1\n%dts\n/dts-v1/;\n\n/ {\n\t#address-cells = <0x01>;\n\tmodel = \"board\";\n\n\
+const BOARD: &str =
+    "%bundle 1\n%dts\n/dts-v1/;\n\n/ {\n\t#address-cells = <0x01>;\n\tmodel = \"board\";\n\n\
 \tosc24M {\n\t\tcompatible = \"fixed-clock\";\n\t\t#clock-cells = <0x00>;\n\t\tclock-frequency = <0x16e3600>;\n\
 \t\tphandle = <0x01>;\n\t};\n\n\tclk@10 {\n\t\tcompatible = \"bank,gates-clock\";\n\t\t#clock-cells = <0x01>;\n\
 \t\tclocks = <0x01>;\n\t\tbank,reg = <0x00>;\n\t\tclock-indices = <0x00 0x05>;\n\
@@ -221,7 +217,11 @@ fn sources_are_refused_at_lines_of_the_bundle(rt: HostRuntime) -> Result<(), Fai
         ("/dts-v1/;\n/ {\n!\n};\n", 5, Reason::BadChar),
         ("/dts-v1/;\n/ { a = \"x;\n};\n", 4, Reason::OpenString),
         ("/dts-v1/;\n/* x\n/ { };\n", 4, Reason::OpenComment),
-        ("/dts-v1/;\n/ { a = <4294967296>; };\n", 4, Reason::NumberTooBig),
+        (
+            "/dts-v1/;\n/ { a = <4294967296>; };\n",
+            4,
+            Reason::NumberTooBig,
+        ),
         ("/dts-v1/;\n/ {\na;\na;\n};\n", 6, Reason::TwiceDefined),
         ("/dts-v1/;\n/ {\na = <&b>; };\n", 5, Reason::NoSuchLabel),
         ("/dts-v1/;\n/ {\n", 4, Reason::Syntax),

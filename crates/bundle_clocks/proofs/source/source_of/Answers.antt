@@ -1,4 +1,4 @@
-use Rattle.std.proofs.Common.{◌≡◌, ◌+◌, ◌<◌, ◌∙◌, ◌++◌, ◌∷◌, [], ap, sym, replicate, length, arith}
+use Rattle.std.proofs.Common.{◌+◌, ◌∙◌, ◌++◌, ◌∷◌, [], ap, sym, replicate, arith}
 use Rattle.bundle_text.specs.Lines.{line_at}
 use Rattle.bundle_clocks.specs.Source.{text_of_lines}
 use Rattle.bundle_clocks.proofs.Room.{lines-more}

@@ -1,4 +1,4 @@
-use Rattle.std.proofs.Common.{◌≡◌, ◌+◌, ◌++◌, [], replicate}
+use Rattle.std.proofs.Common.{◌≡◌, ◌++◌, [], replicate}
 use Rattle.std.specs.Prelude.{string_bytes, slice_range}
 use Rattle.bundle_clocks.specs.Source.{text_of_lines}
 use Rattle.bundle_clocks.proofs.source.source_of.Given as goal

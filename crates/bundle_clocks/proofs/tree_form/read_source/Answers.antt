@@ -1,4 +1,4 @@
-use Rattle.std.proofs.Common.{◌≡◌, ◌∙◌, ap, sym, map, refl}
+use Rattle.std.proofs.Common.{◌∙◌, ap, sym, map}
 use Rattle.std.proofs.lemmas.Simd.{map-map}
 use Rattle.dts_clocks.specs.Loaded.{seen_loaded}
 use Rattle.dts_clocks.specs.Assigned.{seen_assigned}

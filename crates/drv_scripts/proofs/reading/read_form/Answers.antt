@@ -1,4 +1,4 @@
-use Rattle.std.proofs.Common.{◌≡◌, ◌∙◌, ◌+◌, sym, ap, length, arith}
+use Rattle.std.proofs.Common.{◌∙◌, ◌+◌, ap, length, arith}
 use Rattle.bundle_text.specs.Lines.{header_from}
 use Rattle.drv_scripts.specs.Form.{words_before, words_end}
 use Rattle.drv_scripts.specs.declared.bundle.Bundle.{Bundle}
@@ -17,8 +17,7 @@ returns c =
     let words = c.in_ok-words.ensures.1 in
     let end = c.next_header-words_end.ensures.at ∙ ap (λ e. header_from ls (e + 1)) c.next_header-end.ensures.at in
     let words_are = words.0 ∙ (ap (words_before ls c.words-size.result) end ∙ ap (λ size. words_before ls size (words_end ls)) c.words-size.ensures.words) in
-    let boot = c.in_ok-boot.ensures ∙ ap boot_of c.len.ensures.len in
-    (
+    let boot = c.in_ok-boot.ensures ∙ ap boot_of c.len.ensures.len in (
       c.in_ok-drivers.ensures.0,
       (
         c.plain_bundle.ensures ∙ bundle_is ls c.args.desc _ _ _ _ _ words_are boot c.in_ok-drivers.ensures.1,

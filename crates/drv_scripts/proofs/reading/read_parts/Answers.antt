@@ -1,4 +1,4 @@
-use Rattle.std.proofs.Common.{◌≡◌, ◌∙◌, ◌<◌, ap, subst, arith}
+use Rattle.std.proofs.Common.{◌∙◌, ap, subst, arith}
 use Rattle.bundle_clocks.proofs.Counts.{lines_count}
 use Rattle.clk_base.specs.Valid.{IsValid}
 use Rattle.drv_scripts.proofs.Bundles.{parts_sound}
