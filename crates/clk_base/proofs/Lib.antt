@@ -11,3 +11,4 @@ pub mod Tabled
 pub mod Walked
 pub mod Worked
 pub mod Valid
+pub mod Decided

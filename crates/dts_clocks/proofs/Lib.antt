@@ -13,3 +13,4 @@ pub mod Twins
 pub mod Uplines
 pub mod Verdicts
 pub mod Places
+pub mod Lasting

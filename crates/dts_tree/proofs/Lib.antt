@@ -8,3 +8,4 @@ pub mod Holding
 pub mod Remaining
 pub mod Spelling
 pub mod Refusing
+pub mod Lasting
