@@ -1,8 +1,8 @@
 -- A tree is refused for what it says, never for want of memory.
-use Rattle.std.specs.Prelude.{◌≡◌, ℕ, ◌&&◌, Bool, true, false, not, inl, inr, Option, Some, None, Result, Ok, Err, List, slice_get, length, IfErr, IfSome, if◌then◌else◌}
+use Rattle.std.proofs.Common.{ℕ, ◌&&◌, Bool, true, false, not, inl, inr, Option, Some, None, Result, Ok, Err, List, length, IfErr, subst, if◌then◌else◌}
+use Rattle.std.specs.Prelude.{slice_get, IfSome}
 use Rattle.std.specs.List.{list_all}
 use Rattle.std.specs.Option.{option_and_then}
-use Rattle.bundle_text.specs.Firsts.{First}
 use Rattle.bundle_text.specs.Names.{is_clock_name}
 use Rattle.dts_tree.specs.Tree.{SeenNode}
 use Rattle.dts_bindings.specs.declared.fault.BindingFault.{BindingFault}
@@ -77,12 +77,8 @@ second nodes k = either (is_passed nodes k) None _ tt (found (slice_get nodes k)
 
 -- ## Trees
 
-told : (o : Option DtsFault) (fault : DtsFault) → Lasts o → o ≡ Some fault → IsNotMemory fault
-told None fault h e = absurd (cc)
-told (Some other) fault h refl = h
-
 first_of : (test : ℕ → Option DtsFault) (n : ℕ) (fault : DtsFault) → ((k : ℕ) → Lasts (test k)) → IsFirstOf test n fault → IsNotMemory fault
-first_of test n fault h x = told (test x.place) fault (h x.place) x.first.found
+first_of test n fault h x = subst Lasts x.first.found (h x.place)
 
 pub refused-lasts : (nodes : List SeenNode) (fault : DtsFault) → Refuses nodes fault → IsNotMemory fault
 refused-lasts nodes fault (inl x) = first_of _ (length nodes) fault (first nodes) x
