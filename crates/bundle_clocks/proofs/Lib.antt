@@ -2,3 +2,4 @@ pub mod Room
 pub mod Sources
 pub mod Verdicts
 pub mod Counts
+pub mod Decided

@@ -1,5 +1,5 @@
 -- A section of clocks has one verdict.
-use Rattle.std.proofs.Common.{◌≡◌, ◌⊎◌, ℕ, ◌+◌, List, [], Option, Some, None, Result, Ok, Err, length, refl, ap, subst, sym, ◌∙◌, inl, inr}
+use Rattle.std.proofs.Common.{◌≡◌, ℕ, ◌+◌, List, Option, Some, None, Result, Ok, Err, length, refl, ap, subst, sym, ◌∙◌, inl, inr}
 use Rattle.bundle_text.specs.Firsts.{First, KeepsBelow}
 use Rattle.bundle_text.proofs.Rows.{First-kept, First-unique}
 use Rattle.bundle_sections.specs.declared.section.ClockSection.{ClockSection}
@@ -14,7 +14,6 @@ use Rattle.bundle_clocks.specs.Verdict.{SourceSays, TreeSays, TreeRefused, Nodes
 use Rattle.clock_lines.specs.declared.fault.LineReason.{LineReason}
 use Rattle.clock_lines.specs.Section.{fault_at, parent_fault_at}
 use Rattle.clock_lines.specs.Verdict as line_verdict
-use Rattle.clock_lines.proofs.Verdicts.{decided}
 use Rattle.clk_base.specs.Description.{Description}
 use Rattle.dts_clocks.specs.declared.fault.DtsFault.{DtsFault}
 use Rattle.dts_clocks.specs.Loaded.{SeenLoaded}
@@ -190,12 +189,3 @@ one_refusal DeviceTree ls s line other reason why x y = source_same (s.place + 2
 pub never_both : (text : ClockText) (ls : List (List ℕ)) (s : ClockSection) (a : SaidClocks) (line : ℕ) (reason : ClocksReason) → SaysIn text ls s a → RefusesIn text ls s line reason → ⊥
 never_both Lines ls s a line reason x y = lines_both (s.place + 1) (lines_in ls s) a.defs a.lines line y.why x.spelled y.first
 never_both DeviceTree ls s a line reason x y = tree_both (s.place + 2) (source_of ls s) a line reason x y
-
--- clock lines say clocks, or are refused
-pub lines_decided : (ls : List (List ℕ)) (s : ClockSection) → s.text ≡ Lines → ((a : SaidClocks) × SaysIn s.text ls s a) ⊎ ((line : ℕ) × (reason : ClocksReason) × RefusesIn s.text ls s line reason)
-lines_decided ls s e =
-    subst (λ text. ((a : SaidClocks) × SaysIn text ls s a) ⊎ ((line : ℕ) × (reason : ClocksReason) × RefusesIn text ls s line reason)) (sym e)
-    (elim (decided (s.place + 1) (lines_in ls s)) [
-      | inl x ↦ inl (record { defs = x.0; lines = x.1; assigned = [] }, record { spelled = x.2; assigned = refl })
-      | inr x ↦ inr (x.0, line_reason x.1, record { why = x.1; first = x.2; reason_is = refl })
-    ])

@@ -6,3 +6,4 @@ pub mod OneReading
 pub mod Wholes
 pub mod Fitting
 pub mod Decided
+pub mod Lasting

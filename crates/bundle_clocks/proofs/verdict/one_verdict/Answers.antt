@@ -1,4 +1,5 @@
-use Rattle.bundle_clocks.proofs.Verdicts.{one_meaning, one_refusal, never_both, lines_decided}
+use Rattle.bundle_clocks.proofs.Decided.{section_decided}
+use Rattle.bundle_clocks.proofs.Verdicts.{one_meaning, one_refusal, never_both}
 use Rattle.bundle_clocks.proofs.verdict.one_verdict.Goals as goal
 
 pub returns-clause-one_meaning : goal.returns-clause-one_meaning
@@ -11,4 +12,4 @@ pub returns-clause-not_both : goal.returns-clause-not_both
 returns-clause-not_both c = λ ls s a line reason x y. never_both s.text ls s a line reason x y
 
 pub returns-clause-decided : goal.returns-clause-decided
-returns-clause-decided c = lines_decided
+returns-clause-decided c = λ ls s. section_decided s.text ls s
