@@ -5,3 +5,4 @@ pub mod Bundles
 pub mod CommandPlaces
 pub mod BankPlaces
 pub mod Numbered
+pub mod Decided

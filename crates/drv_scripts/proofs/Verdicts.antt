@@ -1,5 +1,5 @@
 -- Bytes have one verdict.
-use Rattle.std.proofs.Common.{◌≡◌, Bool, ℕ, ◌+◌, ◌<◌, List, length, refl, ap, subst, sym, ◌∙◌, inl, inr, arith}
+use Rattle.std.proofs.Common.{◌≡◌, ◌⊎◌, Bool, ℕ, ◌+◌, ◌<◌, ◌≤◌, List, length, refl, ap, subst, sym, ◌∙◌, inl, inr, arith}
 use Rattle.std.specs.Prelude.{◌==◌, if◌then◌else◌, slice_index}
 use Rattle.std.specs.Str.Lines.{lines}
 use Rattle.std.proofs.lemmas.Bool.{both_ways, cases_lt, lt-ltb}
@@ -14,11 +14,13 @@ use Rattle.clk_base.specs.Description.{Description, IsFirstFailing}
 use Rattle.clk_base.specs.Valid.{Rule, keeps, number, IsFirstBroken, counts, ranges, bank, apart, acyclic, levels, bounded}
 use Rattle.drv_scripts.specs.declared.bundle.Bundle.{Bundle}
 use Rattle.drv_scripts.specs.declared.reason.Reason.{Reason}
+use Rattle.drv_scripts.specs.declared.reason.Reason.TheVariants.{TooLong}
 use Rattle.drv_scripts.specs.Form.{fault_at}
 use Rattle.drv_scripts.specs.Reasons.{form_reason, clocks_reason, rule_reason}
 use Rattle.drv_scripts.specs.Spelled.{boot_of, scripts_of, bundle_of}
-use Rattle.drv_scripts.specs.Verdict.{last_line, KeepsRules, PartsSpell, IsUnsaid, Breaks, BreaksRule, LacksForm, PartsRefuse, Accepts, Refuses, IsUndivided, IsDivided}
+use Rattle.drv_scripts.specs.Verdict.{most_bytes, last_line, KeepsRules, PartsSpell, IsUnsaid, Breaks, BreaksRule, LacksForm, PartsRefuse, Accepts, Refuses, IsUndivided, IsDivided}
 use Rattle.drv_scripts.proofs.Bundles.{drivers_of, boot_commands_of, desc_of}
+use Rattle.drv_scripts.proofs.Decided.{parts_decided}
 
 -- ## Rules
 
@@ -159,6 +161,32 @@ same_refusal bytes line other reason why (inr (inl x)) (inr (inr y)) = absurd (u
 same_refusal bytes line other reason why (inr (inr x)) (inl y) = absurd (omega (arith, y.over, x.fits))
 same_refusal bytes line other reason why (inr (inr x)) (inr (inl y)) = absurd (undivided_parts bytes x.parts other why x.sections y)
 same_refusal bytes line other reason why (inr (inr x)) (inr (inr y)) = divided_same bytes line other reason why x y
+
+abbrev IsDecided : List ℕ → Type 0
+IsDecided bytes = ((b : Bundle) × Accepts bytes b) ⊎ ((line : ℕ) × (reason : Reason) × Refuses bytes line reason)
+
+-- the lines stand in sections
+divided : (bytes : List ℕ) → length bytes ≤ most_bytes → (parts : Parts) → section_verdict.Accepts (lines bytes) parts → IsDecided bytes
+divided bytes fits parts sections =
+    elim (parts_decided (lines bytes) parts) [
+      | inl x ↦ inl (x.0, record { fits = fits; parts = parts; sections = sections; spelled = x.1 })
+      | inr x ↦ inr (x.0, x.1, inr (inr (record { fits = fits; parts = parts; sections = sections; refused = x.2 })))
+    ]
+
+-- the bytes are few enough
+fitting : (bytes : List ℕ) → length bytes ≤ most_bytes → IsDecided bytes
+fitting bytes fits =
+    elim (section_laws.each_decided (lines bytes) (last_line bytes)) [
+      | inl x ↦ divided bytes fits x.0 x.1
+      | inr x ↦ inr (x.0, form_reason x.1, inr (inl (record { fits = fits; why = x.1; first = x.2; reason_is = refl })))
+    ]
+
+pub each_decided : (bytes : List ℕ) → ((b : Bundle) × Accepts bytes b) ⊎ ((line : ℕ) × (reason : Reason) × Refuses bytes line reason)
+each_decided bytes =
+    elim (cases_lt most_bytes (length bytes)) [
+      | inl over ↦ inr (0, TooLong, inl (record { over = over; line_is = refl; reason_is = refl }))
+      | inr fits ↦ fitting bytes (omega (arith, fits))
+    ]
 
 -- what is accepted has the drivers and boot's commands of its lines
 pub drivers_are : (bytes : List ℕ) (b : Bundle) → Accepts bytes b → b.drivers ≡ scripts_of b.desc.defs (lines bytes)
