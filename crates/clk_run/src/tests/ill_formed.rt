@@ -3,7 +3,7 @@
 use super::running::ends;
 use std::test::Fail;
 
-mod clock_lines;
+mod lines;
 mod nodes;
 mod order;
 mod rules;
