@@ -34,11 +34,7 @@ fn push_line(lines: &mut Vec<u32>, line: Option<u32>) -> Result<(), NoMemory>
 }
 
 // The lines of the clocks that no core can run yet.
-fn unfit_lines(
-    alloc: Global,
-    desc: &ValidDesc,
-    clock_lines: &[u32],
-) -> Result<Vec<u32>, NoMemory>
+fn unfit_lines(alloc: Global, desc: &ValidDesc, clock_lines: &[u32]) -> Result<Vec<u32>, NoMemory>
     requires { length clock_lines.now ≡ length desc.now.defs }
     ensures { IfOk result (λ lines. lines.items ≡ said_from (unfit_line desc.now.defs clock_lines.now) 0 (length desc.now.defs)) }
 {

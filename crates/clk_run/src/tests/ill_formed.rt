@@ -3,7 +3,7 @@
 use super::running::ends;
 use std::test::Fail;
 
-mod clock_lines;
+mod lines;
 mod nodes;
 mod order;
 mod rules;
@@ -40,7 +40,11 @@ fn clocks_are_refused(rt: &HostRuntime, reason: &str, lines: &[(&str, u32)]) -> 
 
 /// Whether each device tree source, which begins on line 3 before a bank of one word, is refused for
 /// this reason at its line.
-fn sources_are_refused(rt: &HostRuntime, reason: &str, sources: &[(&str, u32)]) -> Result<bool, Fail> {
+fn sources_are_refused(
+    rt: &HostRuntime,
+    reason: &str,
+    sources: &[(&str, u32)],
+) -> Result<bool, Fail> {
     for (source, line) in sources {
         let text = format!(in rt.alloc(); "%bundle 1\n%dts\n{source}\n%regs 1\n")?;
         if !is_refused(rt, text.as_bytes(), *line, reason)? {
@@ -54,7 +58,9 @@ fn sources_are_refused(rt: &HostRuntime, reason: &str, sources: &[(&str, u32)]) 
 /// phandle 1 on line 4.
 fn nodes_are_refused(rt: &HostRuntime, reason: &str, nodes: &[(&str, u32)]) -> Result<bool, Fail> {
     for (nodes, line) in nodes {
-        let text = format!(in rt.alloc(); "%bundle 1\n%dts\n/dts-v1/; / {{\nosc {{ compatible = \"fixed-clock\"; #clock-cells = <0>; clock-frequency = <5>; phandle = <1>; }};\n{nodes}\n}};\n%regs 1\n")?;
+        let text = format!(in rt.alloc();
+            "%bundle 1\n%dts\n/dts-v1/; / {{\nosc {{ compatible = \"fixed-clock\"; #clock-cells = <0>; clock-frequency = <5>; phandle = <1>; }};\n{nodes}\n}};\n%regs 1\n"
+        )?;
         if !is_refused(rt, text.as_bytes(), *line, reason)? {
             return Ok(false);
         }

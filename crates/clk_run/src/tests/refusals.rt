@@ -57,7 +57,9 @@ fn letters(rt: &HostRuntime, count: u32) -> Result<String, Fail> {
 fn names_have_their_longest(rt: HostRuntime) -> Result<(), Fail> {
     for (count, line, reason) in [(64, 5, "TwiceNamed"), (65, 3, "BadName")] {
         let name = letters(&rt, count)?;
-        let text = format!(in rt.alloc(); "%bundle 1\n%clocks\nfixed {name} 5\ngate g {name} 0 0\nfixed g 5\n%regs 1\n")?;
+        let text = format!(in rt.alloc();
+            "%bundle 1\n%clocks\nfixed {name} 5\ngate g {name} 0 0\nfixed g 5\n%regs 1\n"
+        )?;
         assert!(rt; refused(&rt, text.as_str(), line, reason)?);
     }
     for (count, line) in [(32, 8), (33, 7)] {
