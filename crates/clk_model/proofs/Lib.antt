@@ -33,6 +33,8 @@ pub mod OutcomeLaws
 pub mod SettingLaws
 pub mod BelowLaws
 pub mod WalkLaws
+pub mod WholePathLaws
+pub mod RateLaws
 pub mod SupplyLaws
 pub mod PllLaws
 pub mod WeightLaws

@@ -22,6 +22,7 @@ pub mod Follows
 pub mod Ordered
 pub mod Plans
 pub mod Walks
+pub mod Paths
 pub mod Supplied
 pub mod Paced
 pub mod Prep

@@ -2,6 +2,7 @@
 
 pub mod feeding;
 pub mod flights;
+pub mod paths;
 pub mod plans;
 pub mod refusals;
 pub mod tiers;

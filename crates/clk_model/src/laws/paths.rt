@@ -1,0 +1,24 @@
+//! Laws of paths.
+
+ghost use Rattle.clk_model.specs.Paths.{PathsEnd, RelinksLeavePaths, RelinksLeaveRates, RelinksStayPossible, RelinksTurnPaths, WritesLeaveRates};
+
+/// A path is the whole line of links from its clock to one that has none, within the levels of the description: no clock
+/// stands twice on it, and each is the first or one of its possible ancestors.
+pub fn paths_end()
+    ensures law { PathsEnd }
+{}
+
+/// A new link of a clock leaves the path of each clock that isn't below it; the path of one that is goes up to the clock as
+/// before, and then on with the path of the new parent. Links still lead to possible parents.
+pub fn relinks_turn_paths()
+    ensures others { RelinksLeavePaths }
+    ensures below { RelinksTurnPaths }
+    ensures possible { RelinksStayPossible }
+{}
+
+/// A rate depends on the path of its clock alone: a new link of a clock that isn't on it leaves the rate, and so does each
+/// write that leaves the fields by which the clocks on it divide and multiply.
+pub fn rates_follow_paths()
+    ensures links { RelinksLeaveRates }
+    ensures fields { WritesLeaveRates }
+{}
