@@ -35,6 +35,7 @@ pub mod BelowLaws
 pub mod WalkLaws
 pub mod WholePathLaws
 pub mod RateLaws
+pub mod SiblingLaws
 pub mod SupplyLaws
 pub mod PllLaws
 pub mod WeightLaws

@@ -23,6 +23,7 @@ pub mod Ordered
 pub mod Plans
 pub mod Walks
 pub mod Paths
+pub mod Siblings
 pub mod Supplied
 pub mod Paced
 pub mod Prep

@@ -5,6 +5,7 @@ pub mod flights;
 pub mod paths;
 pub mod plans;
 pub mod refusals;
+pub mod siblings;
 pub mod tiers;
 pub mod walks;
 pub mod weight;
