@@ -17,8 +17,9 @@ use Rattle.clk_model.specs.State.{State, registered, link_in}
 use Rattle.clk_model.specs.Tree.{link_given, children, roots, is_orphan, orphans}
 use Rattle.clk_model.specs.Chain.{clock_id, linked}
 use Rattle.clk_model.specs.Begin.{registered_rows, register}
+use Rattle.clk_model.specs.Step.{relink}
 use Rattle.clk_model.specs.Plans.{LinksArePossible}
-use Rattle.clk_model.specs.Siblings.{ListsRegistered, HasOnePlace, ChildrenTellLinks, RegistersAttach, RelinksAttach, RegistersAreListed, RelinksAreListed}
+use Rattle.clk_model.specs.Siblings.{IsAttached, front_if, IsUnattached, RegistersUnattached, ListsRegistered, HasOnePlace, ChildrenTellLinks, RegistersAttach, RelinksAttach, RegistersAreListed, RelinksAreListed}
 use Rattle.clk_model.proofs.Members.{is_in_head, is_in_cases, both_left, both_right, same_from_test}
 use Rattle.clk_model.proofs.RoundLaws.{is_in-filter}
 use Rattle.clk_model.proofs.PlanLaws.{once_cons}
@@ -165,19 +166,46 @@ front_fails old new c xs same fail =
 not_at : (o : Option ℕ) (p q : ℕ) → o ≡ Some p → (q ≡ p → ⊥) → is_at q o ≡ false
 not_at o p q at other = refuted (is_at q o) (λ there. let same : o ≡ Some q = is_at_same q o there in other (let e : q ≡ p = cc in e))
 
+-- taking a number to the front of a list, by whether it passes
+front_by : (old new : ℕ → Bool) (c : ℕ) (xs : List ℕ) (t : Bool) → ((d : ℕ) → (c ≡ d → ⊥) → new d ≡ old d) → new c ≡ t
+    → filter new (to_front c xs) ≡ front_if t c (filter old xs)
+front_by old new c xs true same pass = front_passes old new c xs same pass
+front_by old new c xs false same fail = front_fails old new c xs same fail
+
+-- the roots where a clock goes to the front of the order
+roots_front : (defs : Description) (order : List ℕ) (c : ℕ) (t : Bool) → is_fixed (kind_of defs c) ≡ t → roots defs (to_front c order) ≡ front_if t c (roots defs order)
+roots_front defs order c t fixed = front_by (λ d. is_fixed (kind_of defs d)) (λ d. is_fixed (kind_of defs d)) c order t (λ d other. refl) fixed
+
 -- where a clock gets a link and goes to the front of the order, it is attached
-attached : (defs : Description) (order : List ℕ) (old new : List ClockRow) (c p : ℕ) → link_in new c ≡ Some p
-    → ((d : ℕ) → (c ≡ d → ⊥) → link_in new d ≡ link_in old d)
-    → (children (to_front c order) new p ≡ c ∷ without (c ∷ []) (children order old p))
-    × ((q : ℕ) → (q ≡ p → ⊥) → children (to_front c order) new q ≡ without (c ∷ []) (children order old q))
-    × (orphans defs (to_front c order) new ≡ without (c ∷ []) (orphans defs order old))
-attached defs order old new c p at same = (
-  front_passes (λ d. is_at p (link_in old d)) (λ d. is_at p (link_in new d)) c order (λ d other. ap (is_at p) (same d other)) (at_same p (link_in new c) at),
-  (λ q other. front_fails (λ d. is_at q (link_in old d)) (λ d. is_at q (link_in new d)) c order (λ d else_. ap (is_at q) (same d else_)) (not_at (link_in new c) p q at other)),
-  front_fails (is_orphan defs old) (is_orphan defs new) c order
-      (λ d other. ap (λ (o : Option ℕ). not (is_fixed (kind_of defs d)) && is_none o) (same d other))
-      (refuted (is_orphan defs new c) (λ orphan. none_linked (link_in new c) p (both_right (not (is_fixed (kind_of defs c))) (is_none (link_in new c)) orphan) at)),
-)
+attached : (s t : State) (c p : ℕ) → t.defs ≡ s.defs → t.order ≡ to_front c s.order → link_in t.clocks c ≡ Some p
+    → ((d : ℕ) → (c ≡ d → ⊥) → link_in t.clocks d ≡ link_in s.clocks d) → IsAttached c p s t
+attached s t c p defs order at same = record {
+  first = ap (λ (xs : List ℕ). children xs t.clocks p) order
+      ∙ front_passes (λ d. is_at p (link_in s.clocks d)) (λ d. is_at p (link_in t.clocks d)) c s.order (λ d other. ap (is_at p) (same d other)) (at_same p (link_in t.clocks c) at);
+  others = λ q other. ap (λ (xs : List ℕ). children xs t.clocks q) order
+      ∙ front_fails (λ d. is_at q (link_in s.clocks d)) (λ d. is_at q (link_in t.clocks d)) c s.order (λ d else_. ap (is_at q) (same d else_)) (not_at (link_in t.clocks c) p q at other);
+  orphans_left = rw (defs, order)
+      (front_fails (is_orphan s.defs s.clocks) (is_orphan s.defs t.clocks) c s.order
+      (λ d other. ap (λ (o : Option ℕ). not (is_fixed (kind_of s.defs d)) && is_none o) (same d other))
+      (refuted (is_orphan s.defs t.clocks c) (λ orphan. none_linked (link_in t.clocks c) p (both_right (not (is_fixed (kind_of s.defs c))) (is_none (link_in t.clocks c)) orphan) at)));
+  roots_left = λ other. rw (defs, order) (roots_front s.defs s.order c false other);
+}
+
+-- where it gets none, it is unattached
+unattached : (s t : State) (c : ℕ) → t.defs ≡ s.defs → t.order ≡ to_front c s.order → link_in t.clocks c ≡ None
+    → ((d : ℕ) → (c ≡ d → ⊥) → link_in t.clocks d ≡ link_in s.clocks d) → IsUnattached c s t
+unattached s t c defs order at same = record {
+  children_left = λ q. ap (λ (xs : List ℕ). children xs t.clocks q) order
+      ∙ front_fails (λ d. is_at q (link_in s.clocks d)) (λ d. is_at q (link_in t.clocks d)) c s.order (λ d other. ap (is_at q) (same d other)) (ap (is_at q) at);
+  roots_after = rw (defs, order) (roots_front s.defs s.order c (is_fixed (kind_of s.defs c)) refl);
+  orphans_after = rw (defs, order)
+      (front_by (is_orphan s.defs s.clocks) (is_orphan s.defs t.clocks) c s.order (not (is_fixed (kind_of s.defs c)))
+      (λ d other. ap (λ (o : Option ℕ). not (is_fixed (kind_of s.defs d)) && is_none o) (same d other))
+      (ap (λ (o : Option ℕ). not (is_fixed (kind_of s.defs c)) && is_none o) at ∙ and_true (not (is_fixed (kind_of s.defs c)))));
+} where
+  and_true : (b : Bool) → (b && true) ≡ b
+  and_true true = refl
+  and_true false = refl
 
 -- the link that a registration gives
 given_link : (s : State) (c : ℕ) → c < length s.clocks → link_in (registered_rows s.defs s.regs s.clocks c) c ≡ link_given s.defs s.regs s.clocks c
@@ -186,19 +214,23 @@ given_link s c within = ap (λ (r : ClockRow). option_map (λ p. p.0) r.link) (r
   back None = refl
   back (Some p) = refl
 
+-- a registration leaves each other link
+given_others : (s : State) (c d : ℕ) → (c ≡ d → ⊥) → link_in (registered_rows s.defs s.regs s.clocks c) d ≡ link_in s.clocks d
+given_others s c d other = ap (λ (r : ClockRow). option_map (λ q. q.0) r.link) (row_of-set_other s.clocks c _ d other)
+
 -- a registration that gives a link attaches
 pub registers_attach : RegistersAttach
 unfolding register
-registers_attach s c p within given =
-    let parts = attached s.defs s.order s.clocks (registered_rows s.defs s.regs s.clocks c) c p (given_link s c within ∙ given)
-    (λ d other. ap (λ (r : ClockRow). option_map (λ q. q.0) r.link) (row_of-set_other s.clocks c _ d other)) in
-    record { first = parts.0; others = parts.1; orphans_left = parts.2 }
+registers_attach s c p within given = attached s (register s c) c p refl refl (given_link s c within ∙ given) (given_others s c)
 
--- and so does a new link
+-- one that gives none doesn't
+pub registers_unattached : RegistersUnattached
+unfolding register
+registers_unattached s c within given = unattached s (register s c) c refl refl (given_link s c within ∙ given) (given_others s c)
+
+-- and a new link attaches
 pub relinks_attach : RelinksAttach
-relinks_attach s k c p within =
-    let parts = attached s.defs s.order s.clocks (linked s.clocks c p) c p (linked_same s.clocks c p within) (linked_other s.clocks c p) in
-    record { first = parts.0; others = parts.1; orphans_left = parts.2 }
+relinks_attach s k c p within = attached s (relink s k c p) c p refl refl (linked_same s.clocks c p within) (linked_other s.clocks c p)
 
 -- ---- the order
 

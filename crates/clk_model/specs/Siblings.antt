@@ -1,9 +1,10 @@
 -- That children, roots and orphans tell the tree that the links tell, and where an attached clock stands: the laws of siblings.
-use Rattle.std.specs.Prelude.{◌≡◌, ◌≢◌, ◌⊎◌, ◌↔◌, ℕ, ◌<◌, List, [], ◌∷◌, true, false, Some, length}
-use Rattle.clk_base.specs.Description.{Description}
+use Rattle.std.specs.Prelude.{◌≡◌, ◌≢◌, ◌⊎◌, ◌↔◌, ℕ, ◌<◌, List, [], ◌∷◌, Bool, true, false, not, if◌then◌else◌, Some, None, length}
+use Rattle.clk_base.specs.Description.{Description, kind_of}
 use Rattle.clk_base.specs.Valid.{IsValid}
 use Rattle.clk_model.specs.declared.row.ClockRow.{ClockRow}
 use Rattle.clk_model.specs.Lists.{is_in, without}
+use Rattle.clk_model.specs.Kinds.{is_fixed}
 use Rattle.clk_model.specs.State.{State, Change, registered, link_in}
 use Rattle.clk_model.specs.Tree.{link_given, children, roots, orphans}
 use Rattle.clk_model.specs.Begin.{register}
@@ -41,17 +42,33 @@ abbrev pub ChildrenTellLinks : Type 0
 ChildrenTellLinks = (words : ℕ) (defs : Description) (order : List ℕ) (clocks : List ClockRow) → IsValid words defs → LinksArePossible defs clocks
     → ListsRegistered order clocks → TellsTree defs order clocks
 
+-- the list with the clock first where it joins, and else without it
+abbrev pub front_if : Bool → ℕ → List ℕ → List ℕ
+front_if joins c xs = if joins then c ∷ without (c ∷ []) xs else without (c ∷ []) xs
+
 -- a clock is attached to a parent: it is the first of its children and no orphan, and all others stand in their order
 pub record IsAttached (c p : ℕ) (s t : State) : Type 0 where
   pub first : children t.order t.clocks p ≡ c ∷ without (c ∷ []) (children s.order s.clocks p)
   pub others : (q : ℕ) → q ≢ p → children t.order t.clocks q ≡ without (c ∷ []) (children s.order s.clocks q)
   pub orphans_left : orphans t.defs t.order t.clocks ≡ without (c ∷ []) (orphans s.defs s.order s.clocks)
+  pub roots_left : is_fixed (kind_of s.defs c) ≡ false → roots t.defs t.order ≡ without (c ∷ []) (roots s.defs s.order)
+
+-- a clock is put in the tree without a parent: it is the first of the roots if it is fixed, and else of the orphans, and all
+-- others stand in their order
+pub record IsUnattached (c : ℕ) (s t : State) : Type 0 where
+  pub children_left : (q : ℕ) → children t.order t.clocks q ≡ without (c ∷ []) (children s.order s.clocks q)
+  pub roots_after : roots t.defs t.order ≡ front_if (is_fixed (kind_of s.defs c)) c (roots s.defs s.order)
+  pub orphans_after : orphans t.defs t.order t.clocks ≡ front_if (not (is_fixed (kind_of s.defs c))) c (orphans s.defs s.order s.clocks)
 
 -- so attaches a registration that gives a link
 abbrev pub RegistersAttach : Type 0
 RegistersAttach = (s : State) (c p : ℕ) → c < length s.clocks → link_given s.defs s.regs s.clocks c ≡ Some p → IsAttached c p s (register s c)
 
--- and so a new link
+-- one that gives none puts the clock in the tree without a parent
+abbrev pub RegistersUnattached : Type 0
+RegistersUnattached = (s : State) (c : ℕ) → c < length s.clocks → link_given s.defs s.regs s.clocks c ≡ None → IsUnattached c s (register s c)
+
+-- and a new link attaches
 abbrev pub RelinksAttach : Type 0
 RelinksAttach = (s : State) (k : Change) (c p : ℕ) → c < length s.clocks → IsAttached c p s (relink s k c p)
 

@@ -1,6 +1,6 @@
 //! Laws of siblings.
 
-ghost use Rattle.clk_model.specs.Siblings.{ChildrenTellLinks, RegistersAreListed, RegistersAttach, RelinksAreListed, RelinksAttach};
+ghost use Rattle.clk_model.specs.Siblings.{ChildrenTellLinks, RegistersAreListed, RegistersAttach, RegistersUnattached, RelinksAreListed, RelinksAttach};
 
 /// Children and links tell the same tree: a clock is a child of another exactly where it is registered and linked to it, and
 /// each registered clock is a root, an orphan or a child of one clock, and no two of these.
@@ -12,6 +12,8 @@ pub fn children_tell_links()
 /// children and orphans stand in their order.
 pub fn attached_come_first()
     ensures registers { RegistersAttach }
+    // a registered clock without a parent is the first of the roots or of the orphans
+    ensures unattached { RegistersUnattached }
     ensures relinks { RelinksAttach }
 {}
 
