@@ -1,11 +1,12 @@
 -- Laws on rates: a rate depends on the links of the clocks on its path and on the fields by which they divide and multiply, and on nothing else.
-use Rattle.std.proofs.Common.{◌≡◌, ℕ, zero, suc, true, List, Option, Some, None, refl, ap, ◌∙◌}
+use Rattle.std.proofs.Common.{◌≤◌, sym, arith, ◌≡◌, ℕ, zero, suc, true, List, Option, Some, None, refl, ap, ◌∙◌}
 use Rattle.std.specs.Option.{option_map_or}
 use Rattle.clk_base.specs.declared.clock.Kind.{Kind}
 use Rattle.clk_base.specs.declared.clock.Kind.TheVariants.{FixedRate, Factor, Gate, Mux, Divider, Pll}
-use Rattle.clk_base.specs.Description.{Description, kind_of}
+use Rattle.clk_base.specs.Description.{Description, kind_of, parents_of}
 use Rattle.clk_base.specs.Fields.{Field}
-use Rattle.clk_base.specs.Levels.{depth}
+use Rattle.clk_base.specs.Levels.{depth, ends_within}
+use Rattle.clk_base.proofs.Lines.{ends_within-parent}
 use Rattle.kind_math.specs.Rates.{div_rate, pll_rate}
 use Rattle.reg_bank.specs.Registers.{Registers, field}
 use Rattle.clk_model.specs.declared.row.ClockRow.{ClockRow}
@@ -13,7 +14,8 @@ use Rattle.clk_model.specs.Lists.{is_in}
 use Rattle.clk_model.specs.State.{link_in}
 use Rattle.clk_model.specs.Tree.{path_within, path}
 use Rattle.clk_model.specs.Rate.{style_of, rate_over, rate_within, rate}
-use Rattle.clk_model.specs.Paths.{scales_by, RelinksLeaveRates, WritesLeaveRates}
+use Rattle.clk_model.specs.Plans.{LinksArePossible}
+use Rattle.clk_model.specs.Paths.{RatesAreOverLinks, scales_by, RelinksLeaveRates, WritesLeaveRates}
 use Rattle.clk_model.proofs.Members.{is_in_head, is_in_tail}
 use Rattle.clk_model.proofs.PathLaws.{above}
 use Rattle.clk_model.proofs.WholePathLaws.{linked_other, other_member}
@@ -64,3 +66,28 @@ pub writes_leave_rates : WritesLeaveRates
 unfolding rate
 writes_leave_rates defs old new clocks d same =
     rate_agree defs old new clocks clocks depth d (λ a m. record { link = refl; over = over_same (kind_of defs a) old new (same a m) })
+
+-- ---- over links
+
+-- where lines of possible parents end within some levels, more levels give the same rate
+rate_more : (defs : Description) (regs : Registers) (clocks : List ClockRow) (n m c : ℕ) → LinksArePossible defs clocks → ends_within (parents_of defs) n c ≡ true → n ≤ m
+    → rate_within defs regs clocks m c ≡ rate_within defs regs clocks n c
+rate_more defs regs clocks zero m c links ends le = absurd cc
+rate_more defs regs clocks (suc n) zero c links ends le = absurd (omega arith)
+rate_more defs regs clocks (suc n) (suc m) c links ends le =
+    ap (λ (x : ℕ). rate_over (kind_of defs c) regs x)
+    (rate_above (rate_within defs regs clocks m) (rate_within defs regs clocks n) (link_in clocks c)
+    (λ p e. rate_more defs regs clocks n m p links (ends_within-parent (parents_of defs) n c p ends (links c p e)) (omega arith)))
+
+rate_up : (defs : Description) (regs : Registers) (clocks : List ClockRow) (n c : ℕ) → LinksArePossible defs clocks → ends_within (parents_of defs) n c ≡ true
+    → rate_within defs regs clocks n c ≡ rate_over (kind_of defs c) regs (option_map_or (rate_within defs regs clocks n) (link_in clocks c) 0)
+rate_up defs regs clocks zero c links ends = absurd cc
+rate_up defs regs clocks (suc n) c links ends =
+    ap (λ (x : ℕ). rate_over (kind_of defs c) regs x)
+    (rate_above (rate_within defs regs clocks n) (rate_within defs regs clocks (suc n)) (link_in clocks c)
+    (λ p e. sym (rate_more defs regs clocks n (suc n) p links (ends_within-parent (parents_of defs) n c p ends (links c p e)) (omega arith))))
+
+-- a rate is that of its kind over the rate of its link
+pub rates_are_over_links : RatesAreOverLinks
+unfolding rate
+rates_are_over_links defs regs clocks ends links c = rate_up defs regs clocks depth c links (ends c)

@@ -1,5 +1,6 @@
 -- Where paths end, and what a new link leaves of them and of the rates: the laws of paths.
 use Rattle.std.specs.Prelude.{◌≡◌, ◌⊎◌, ℕ, suc, ◌-◌, ◌<◌, ◌≤◌, List, ◌∷◌, ◌++◌, true, false, Option, Some, None, slice_get, length}
+use Rattle.std.specs.Option.{option_map_or}
 use Rattle.clk_base.specs.declared.clock.Kind.{Kind}
 use Rattle.clk_base.specs.declared.clock.Kind.TheVariants.{Divider, Pll}
 use Rattle.clk_base.specs.Description.{Description, kind_of, parents_of}
@@ -10,7 +11,7 @@ use Rattle.clk_model.specs.declared.row.ClockRow.{ClockRow}
 use Rattle.clk_model.specs.Lists.{is_in}
 use Rattle.clk_model.specs.State.{link_in}
 use Rattle.clk_model.specs.Tree.{path_within, path}
-use Rattle.clk_model.specs.Rate.{rate}
+use Rattle.clk_model.specs.Rate.{rate_over, rate}
 use Rattle.clk_model.specs.Chain.{linked}
 use Rattle.clk_model.specs.Plans.{none_twice, LinesEnd, LinksArePossible}
 
@@ -67,6 +68,12 @@ abbrev pub RelinksStayPossible : Type 0
 RelinksStayPossible = (defs : Description) (clocks : List ClockRow) (c p : ℕ) → CanLink defs clocks c p → LinksArePossible defs (linked clocks c p)
 
 -- ---- rates
+
+-- a rate is that of the clock's kind over the rate of the clock that it is linked to, or over 0 without one, whatever the
+-- links, where they lead to possible parents and lines of possible parents end
+abbrev pub RatesAreOverLinks : Type 0
+RatesAreOverLinks = (defs : Description) (regs : Registers) (clocks : List ClockRow) → LinesEnd defs → LinksArePossible defs clocks
+    → (c : ℕ) → rate defs regs clocks c ≡ rate_over (kind_of defs c) regs (option_map_or (rate defs regs clocks) (link_in clocks c) 0)
 
 -- a new link of a clock leaves the rate of each clock that isn't that clock or below it
 abbrev pub RelinksLeaveRates : Type 0

@@ -1,6 +1,6 @@
 //! Laws of paths.
 
-ghost use Rattle.clk_model.specs.Paths.{PathsEnd, RelinksLeavePaths, RelinksLeaveRates, RelinksStayPossible, RelinksTurnPaths, WritesLeaveRates};
+ghost use Rattle.clk_model.specs.Paths.{PathsEnd, RatesAreOverLinks, RelinksLeavePaths, RelinksLeaveRates, RelinksStayPossible, RelinksTurnPaths, WritesLeaveRates};
 
 /// A path is the whole line of links from its clock to one that has none, within the levels of the description: no clock
 /// stands twice on it, and each is the first or one of its possible ancestors.
@@ -16,9 +16,11 @@ pub fn relinks_turn_paths()
     ensures possible { RelinksStayPossible }
 {}
 
-/// A rate depends on the path of its clock alone: a new link of a clock that isn't on it leaves the rate, and so does each
+/// A rate is that of the clock's kind over the rate of the clock that it is linked to, within the levels of the description.
+/// So it depends on the path of its clock alone: a new link of a clock that isn't on it leaves the rate, and so does each
 /// write that leaves the fields by which the clocks on it divide and multiply.
 pub fn rates_follow_paths()
+    ensures over { RatesAreOverLinks }
     ensures links { RelinksLeaveRates }
     ensures fields { WritesLeaveRates }
 {}
