@@ -1,5 +1,5 @@
 -- Laws on rates: a rate depends on the links of the clocks on its path and on the fields by which they divide and multiply, and on nothing else.
-use Rattle.std.proofs.Common.{◌≤◌, sym, arith, ◌≡◌, ℕ, zero, suc, true, List, Option, Some, None, refl, ap, ◌∙◌}
+use Rattle.std.proofs.Common.{◌≤◌, sym, arith, false, ◌≡◌, ℕ, zero, suc, true, List, Option, Some, None, refl, ap, ◌∙◌}
 use Rattle.std.specs.Option.{option_map_or}
 use Rattle.clk_base.specs.declared.clock.Kind.{Kind}
 use Rattle.clk_base.specs.declared.clock.Kind.TheVariants.{FixedRate, Factor, Gate, Mux, Divider, Pll}
@@ -11,14 +11,16 @@ use Rattle.kind_math.specs.Rates.{div_rate, pll_rate}
 use Rattle.reg_bank.specs.Registers.{Registers, field}
 use Rattle.clk_model.specs.declared.row.ClockRow.{ClockRow}
 use Rattle.clk_model.specs.Lists.{is_in}
-use Rattle.clk_model.specs.State.{link_in}
+use Rattle.clk_model.specs.State.{State, link_in}
 use Rattle.clk_model.specs.Tree.{path_within, path}
 use Rattle.clk_model.specs.Rate.{style_of, rate_over, rate_within, rate}
+use Rattle.clk_model.specs.Chain.{linked}
+use Rattle.clk_model.specs.Begin.{registered_rows, register}
 use Rattle.clk_model.specs.Plans.{LinksArePossible}
-use Rattle.clk_model.specs.Paths.{RatesAreOverLinks, scales_by, RelinksLeaveRates, WritesLeaveRates}
+use Rattle.clk_model.specs.Paths.{RegistersLeaveOthers, RatesAreOverLinks, scales_by, RelinksLeaveRates, WritesLeaveRates}
 use Rattle.clk_model.proofs.Members.{is_in_head, is_in_tail}
 use Rattle.clk_model.proofs.PathLaws.{above}
-use Rattle.clk_model.proofs.WholePathLaws.{linked_other, other_member}
+use Rattle.clk_model.proofs.WholePathLaws.{given_others, registers_leave_paths, linked_other, other_member}
 
 -- the rate over a parent's depends on the field by which a clock divides or multiplies
 pub over_same : (kind : Kind) (old new : Registers) → ((f : Field) → scales_by kind ≡ Some f → field new f.word f.shift f.width ≡ field old f.word f.shift f.width)
@@ -55,11 +57,24 @@ rate_agree defs old new before after (suc n) d alike =
     (λ p e. rate_agree defs old new before after n p
     (λ a m. alike a (is_in_tail a d (above (link_in before) n (link_in before d)) (ap (λ (o : Option ℕ). is_in a (above (link_in before) n o)) e ∙ m)))))
 
+-- where all links but that of a clock that isn't on the path are the same, the rate is the same
+rate_leaves : (defs : Description) (regs : Registers) (before after : List ClockRow) (c d : ℕ) → ((a : ℕ) → (c ≡ a → ⊥) → link_in after a ≡ link_in before a)
+    → is_in c (path before d) ≡ false → rate defs regs after d ≡ rate defs regs before d
+unfolding rate
+rate_leaves defs regs before after c d same out =
+    rate_agree defs regs regs before after depth d (λ a m. record { link = same a (other_member c a (path before d) out m); over = λ x. refl })
+
 -- a new link of a clock that isn't on the path leaves the rate
 pub relinks_leave_rates : RelinksLeaveRates
-unfolding rate
-relinks_leave_rates defs regs clocks c p d out =
-    rate_agree defs regs regs clocks _ depth d (λ a m. record { link = linked_other clocks c p a (other_member c a (path clocks d) out m); over = λ x. refl })
+relinks_leave_rates defs regs clocks c p d out = rate_leaves defs regs clocks (linked clocks c p) c d (linked_other clocks c p) out
+
+registers_leave_rates : (s : State) (c d : ℕ) → is_in c (path s.clocks d) ≡ false → rate s.defs s.regs (register s c).clocks d ≡ rate s.defs s.regs s.clocks d
+unfolding register
+registers_leave_rates s c d out = rate_leaves s.defs s.regs s.clocks (registered_rows s.defs s.regs s.clocks c) c d (given_others s c) out
+
+-- and so does its registration, which leaves the path
+pub registers_leave_others : RegistersLeaveOthers
+registers_leave_others s c d out = (registers_leave_paths s c d out, registers_leave_rates s c d out)
 
 -- where the clocks on the path divide and multiply by the same, the rate is the same
 pub writes_leave_rates : WritesLeaveRates

@@ -1,7 +1,6 @@
 -- Laws on siblings: children, roots and orphans against links, and what attaching a clock leaves of their order.
 use Rattle.std.proofs.Common.{◌≡◌, ℕ, zero, suc, ◌<◌, ◌≤◌, Bool, true, false, not, ◌&&◌, ◌||◌, nat_eq, cond, List, [], ◌∷◌, length, Option, Some, None, refl, sym, ap, ◌∙◌, ◌⊎◌, inl, inr, arith}
 use Rattle.std.specs.Prelude.{filter, is_none}
-use Rattle.std.specs.Option.{option_map}
 use Rattle.std.proofs.lemmas.Bool.{cases_lt}
 use Rattle.std.proofs.lemmas.List.{get_or_past}
 use Rattle.clk_base.specs.declared.clock.ClockDef.{ClockDef}
@@ -14,8 +13,8 @@ use Rattle.clk_model.specs.declared.row.ClockRow.{ClockRow}
 use Rattle.clk_model.specs.Lists.{is_in, is_at, without, to_front}
 use Rattle.clk_model.specs.Kinds.{is_fixed}
 use Rattle.clk_model.specs.State.{State, registered, link_in}
-use Rattle.clk_model.specs.Tree.{link_given, children, roots, is_orphan, orphans}
-use Rattle.clk_model.specs.Chain.{clock_id, linked}
+use Rattle.clk_model.specs.Tree.{children, roots, is_orphan, orphans}
+use Rattle.clk_model.specs.Chain.{linked}
 use Rattle.clk_model.specs.Begin.{registered_rows, register}
 use Rattle.clk_model.specs.Step.{relink}
 use Rattle.clk_model.specs.Plans.{LinksArePossible}
@@ -26,7 +25,7 @@ use Rattle.clk_model.proofs.PlanLaws.{once_cons}
 use Rattle.clk_model.proofs.BelowLaws.{once_filter}
 use Rattle.clk_model.proofs.StateLaws.{row_of-set_same, row_of-set_other}
 use Rattle.clk_model.proofs.WalkLaws.{filter_passes, filter_keeps, is_at_same, at_same, turned_off}
-use Rattle.clk_model.proofs.WholePathLaws.{same_or_not, linked_same, linked_other}
+use Rattle.clk_model.proofs.WholePathLaws.{given_link, given_others, same_or_not, linked_same, linked_other}
 
 -- ---- children and links
 
@@ -206,17 +205,6 @@ unattached s t c defs order at same = record {
   and_true : (b : Bool) → (b && true) ≡ b
   and_true true = refl
   and_true false = refl
-
--- the link that a registration gives
-given_link : (s : State) (c : ℕ) → c < length s.clocks → link_in (registered_rows s.defs s.regs s.clocks c) c ≡ link_given s.defs s.regs s.clocks c
-given_link s c within = ap (λ (r : ClockRow). option_map (λ p. p.0) r.link) (row_of-set_same s.clocks c _ within) ∙ back (link_given s.defs s.regs s.clocks c) where
-  back : (o : Option ℕ) → option_map (λ p. p.0) (option_map clock_id o) ≡ o
-  back None = refl
-  back (Some p) = refl
-
--- a registration leaves each other link
-given_others : (s : State) (c d : ℕ) → (c ≡ d → ⊥) → link_in (registered_rows s.defs s.regs s.clocks c) d ≡ link_in s.clocks d
-given_others s c d other = ap (λ (r : ClockRow). option_map (λ q. q.0) r.link) (row_of-set_other s.clocks c _ d other)
 
 -- a registration that gives a link attaches
 pub registers_attach : RegistersAttach

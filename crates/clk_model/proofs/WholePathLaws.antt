@@ -1,21 +1,23 @@
--- Laws on where paths end, and on what a new link leaves of them.
+-- Laws on where paths end, and on what a new link or a registration leaves of them.
 use Rattle.std.proofs.Common.{◌≡◌, ℕ, zero, suc, ◌-◌, ◌<◌, ◌≤◌, Bool, true, false, List, [], ◌∷◌, ◌++◌, length, Option, Some, None, refl, sym, ap, subst, ◌∙◌, ◌⊎◌, inl, inr, arith, nat_eq}
-use Rattle.std.specs.Prelude.{slice_get}
-use Rattle.std.specs.Option.{option_map}
+use Rattle.std.specs.Prelude.{slice_get, if◌then◌else◌}
+use Rattle.std.specs.Option.{option_map, option_map_or}
 use Rattle.clk_base.specs.Description.{Description, parents_of}
 use Rattle.clk_base.specs.Levels.{depth, ends_within}
 use Rattle.clk_base.proofs.Lines.{ends_within-parent}
 use Rattle.clk_model.specs.declared.row.ClockRow.{ClockRow}
 use Rattle.clk_model.specs.Lists.{is_in}
-use Rattle.clk_model.specs.State.{row_of, link_in}
-use Rattle.clk_model.specs.Tree.{path_within, path}
+use Rattle.clk_model.specs.State.{State, row_of, link_in}
+use Rattle.clk_model.specs.Tree.{path_within, path, link_given}
 use Rattle.clk_model.specs.Chain.{clock_id, linked}
-use Rattle.clk_model.specs.Plans.{none_twice}
-use Rattle.clk_model.specs.Paths.{PathsEnd, RelinksLeavePaths, CanLink, RelinksTurnPaths, RelinksStayPossible}
+use Rattle.clk_model.specs.Begin.{registered_rows, register}
+use Rattle.clk_model.specs.Plans.{none_twice, LinesEnd, LinksArePossible}
+use Rattle.clk_model.specs.Paths.{RegistersGivePaths, RegistersStayPossible, PathsEnd, RelinksLeavePaths, CanLink, RelinksTurnPaths, RelinksStayPossible}
 use Rattle.clk_model.proofs.Members.{is_in_head, is_in_tail, same_from_test, test_other}
-use Rattle.clk_model.proofs.PathLaws.{above, in_above, path_agree}
+use Rattle.clk_model.proofs.PathLaws.{above, in_above, path_agree, path_cons}
 use Rattle.clk_model.proofs.PlanLaws.{once_cons, not_above_parent}
 use Rattle.clk_model.proofs.BelowLaws.{IsUp, path_rises, rises_above}
+use Rattle.clk_model.proofs.PllLaws.{link_given_possible}
 use Rattle.clk_model.proofs.StateLaws.{row_of-set_same, row_of-set_other}
 
 -- ---- levels
@@ -217,3 +219,61 @@ turn_within defs clocks c p can (suc n) d (l ∷ low) high ends le at =
 -- a path with the clock goes on with that of the new parent
 pub relinks_turn_paths : RelinksTurnPaths
 relinks_turn_paths defs clocks c p can d low high at = turn_within defs clocks c p can depth d low high (can.ends d) (omega arith) at
+
+-- ---- a registration
+
+-- the link that a registration gives
+pub given_link : (s : State) (c : ℕ) → c < length s.clocks → link_in (registered_rows s.defs s.regs s.clocks c) c ≡ link_given s.defs s.regs s.clocks c
+given_link s c within = ap (λ (r : ClockRow). option_map (λ p. p.0) r.link) (row_of-set_same s.clocks c _ within) ∙ back (link_given s.defs s.regs s.clocks c) where
+  back : (o : Option ℕ) → option_map (λ p. p.0) (option_map clock_id o) ≡ o
+  back None = refl
+  back (Some p) = refl
+
+-- a registration leaves each other link
+pub given_others : (s : State) (c d : ℕ) → (c ≡ d → ⊥) → link_in (registered_rows s.defs s.regs s.clocks c) d ≡ link_in s.clocks d
+given_others s c d other = ap (λ (r : ClockRow). option_map (λ q. q.0) r.link) (row_of-set_other s.clocks c _ d other)
+
+-- links stay possible
+pub registers_stay_possible : RegistersStayPossible
+unfolding register
+registers_stay_possible s c within links d q at = by_clock (same_or_not c d) where
+  by_clock : (c ≡ d) ⊎ (c ≡ d → ⊥) → is_in q (parents_of s.defs d) ≡ true
+  by_clock (inl same) =
+      ap (λ (x : ℕ). is_in q (parents_of s.defs x)) (sym same)
+      ∙ link_given_possible s.defs s.regs s.clocks c q (sym (given_link s c within) ∙ ap (link_in (registered_rows s.defs s.regs s.clocks c)) same ∙ at)
+  by_clock (inr other) = links d q (sym (given_others s c d other) ∙ at)
+
+-- a path without the clock stays
+pub registers_leave_paths : (s : State) (c d : ℕ) → is_in c (path s.clocks d) ≡ false → path (register s c).clocks d ≡ path s.clocks d
+unfolding register
+registers_leave_paths s c d out =
+    path_agree (link_in s.clocks) (link_in (registered_rows s.defs s.regs s.clocks c)) depth d
+    (λ a m. given_others s c a (other_member c a (path s.clocks d) out m))
+
+some_levels : 0 < depth
+unfolding depth
+some_levels = omega arith
+
+-- what is above the link that a registration gives is so behind it
+given_above : (s : State) (c : ℕ) (o : Option ℕ) → LinesEnd s.defs → LinksArePossible s.defs s.clocks → c < length s.clocks
+    → ((p : ℕ) → o ≡ Some p → is_in p (parents_of s.defs c) ≡ true)
+    → above (link_in (registered_rows s.defs s.regs s.clocks c)) (depth - 1) o ≡ option_map_or (path s.clocks) o []
+given_above s c None ends links within is = refl
+given_above s c (Some p) ends links within is =
+    let can : CanLink s.defs s.clocks c p = record { ends = ends; links = links; row = within; parent = is p refl } in
+    let some = some_levels in
+    let one_more : suc (depth - 1) ≡ depth = omega arith in
+    let fewer : depth - 1 ≤ depth = omega arith in
+    path_agree (link_in s.clocks) (link_in (registered_rows s.defs s.regs s.clocks c)) (depth - 1) p
+    (λ a m. given_others s c a (other_member c a (path_within (link_in s.clocks) (depth - 1) p) (free_above s.defs s.clocks c p (depth - 1) can) m))
+    ∙ sym (path_more (parents_of s.defs) (link_in s.clocks) (depth - 1) depth p links
+    (ends_within-parent (parents_of s.defs) (depth - 1) c p (ap (λ (n : ℕ). ends_within (parents_of s.defs) n c) one_more ∙ ends c) can.parent) fewer)
+
+-- a registration gives the path that was to be
+pub registers_give_paths : RegistersGivePaths
+unfolding register
+registers_give_paths s c ends links within free =
+    path_cons (link_in (registered_rows s.defs s.regs s.clocks c)) depth c some_levels
+    ∙ ap (λ (o : Option ℕ). c ∷ above (link_in (registered_rows s.defs s.regs s.clocks c)) (depth - 1) o) (given_link s c within)
+    ∙ ap (λ (ps : List ℕ). c ∷ ps) (given_above s c (link_given s.defs s.regs s.clocks c) ends links within (λ p e. link_given_possible s.defs s.regs s.clocks c p e))
+    ∙ sym (ap (λ (t : Bool). if t then path s.clocks c else c ∷ option_map_or (path s.clocks) (link_given s.defs s.regs s.clocks c) []) free)

@@ -9,10 +9,11 @@ use Rattle.clk_base.specs.Levels.{depth, reaches_within}
 use Rattle.reg_bank.specs.Registers.{Registers, field}
 use Rattle.clk_model.specs.declared.row.ClockRow.{ClockRow}
 use Rattle.clk_model.specs.Lists.{is_in}
-use Rattle.clk_model.specs.State.{link_in}
-use Rattle.clk_model.specs.Tree.{path_within, path}
+use Rattle.clk_model.specs.State.{State, registered, link_in}
+use Rattle.clk_model.specs.Tree.{path_within, path, path_to_be}
 use Rattle.clk_model.specs.Rate.{rate_over, rate}
 use Rattle.clk_model.specs.Chain.{linked}
+use Rattle.clk_model.specs.Begin.{register}
 use Rattle.clk_model.specs.Plans.{none_twice, LinesEnd, LinksArePossible}
 
 -- ---- where a path ends
@@ -66,6 +67,22 @@ RelinksTurnPaths = (defs : Description) (clocks : List ClockRow) (c p : ℕ) →
 -- and links still lead to possible parents
 abbrev pub RelinksStayPossible : Type 0
 RelinksStayPossible = (defs : Description) (clocks : List ClockRow) (c p : ℕ) → CanLink defs clocks c p → LinksArePossible defs (linked clocks c p)
+
+-- ---- a registration
+
+-- a registration gives a clock the path that it was to have
+abbrev pub RegistersGivePaths : Type 0
+RegistersGivePaths = (s : State) (c : ℕ) → LinesEnd s.defs → LinksArePossible s.defs s.clocks → c < length s.clocks → registered s.clocks c ≡ false
+    → path (register s c).clocks c ≡ path_to_be s.defs s.regs s.clocks c
+
+-- it leaves the path and the rate of each clock whose path hasn't it
+abbrev pub RegistersLeaveOthers : Type 0
+RegistersLeaveOthers = (s : State) (c d : ℕ) → is_in c (path s.clocks d) ≡ false
+    → (path (register s c).clocks d ≡ path s.clocks d) × (rate s.defs s.regs (register s c).clocks d ≡ rate s.defs s.regs s.clocks d)
+
+-- and links still lead to possible parents
+abbrev pub RegistersStayPossible : Type 0
+RegistersStayPossible = (s : State) (c : ℕ) → c < length s.clocks → LinksArePossible s.defs s.clocks → LinksArePossible s.defs (register s c).clocks
 
 -- ---- rates
 

@@ -1,6 +1,6 @@
 //! Laws of paths.
 
-ghost use Rattle.clk_model.specs.Paths.{PathsEnd, RatesAreOverLinks, RelinksLeavePaths, RelinksLeaveRates, RelinksStayPossible, RelinksTurnPaths, WritesLeaveRates};
+ghost use Rattle.clk_model.specs.Paths.{PathsEnd, RatesAreOverLinks, RegistersGivePaths, RegistersLeaveOthers, RegistersStayPossible, RelinksLeavePaths, RelinksLeaveRates, RelinksStayPossible, RelinksTurnPaths, WritesLeaveRates};
 
 /// A path is the whole line of links from its clock to one that has none, within the levels of the description: no clock
 /// stands twice on it, and each is the first or one of its possible ancestors.
@@ -14,6 +14,14 @@ pub fn relinks_turn_paths()
     ensures others { RelinksLeavePaths }
     ensures below { RelinksTurnPaths }
     ensures possible { RelinksStayPossible }
+{}
+
+/// A registration gives its clock the path that it was to have, and leaves the path and the rate of each clock whose path
+/// hasn't it. Links still lead to possible parents.
+pub fn registrations_give_paths()
+    ensures own { RegistersGivePaths }
+    ensures others { RegistersLeaveOthers }
+    ensures possible { RegistersStayPossible }
 {}
 
 /// A rate is that of the clock's kind over the rate of the clock that it is linked to, within the levels of the description.
