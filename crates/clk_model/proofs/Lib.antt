@@ -36,6 +36,7 @@ pub mod WalkLaws
 pub mod WholePathLaws
 pub mod RateLaws
 pub mod SiblingLaws
+pub mod RootLaws
 pub mod SupplyLaws
 pub mod PllLaws
 pub mod WeightLaws

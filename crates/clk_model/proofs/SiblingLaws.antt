@@ -55,7 +55,7 @@ fixed_rate (Divider word shift width one_based power_of_two) fixed = absurd cc
 fixed_rate (Pll word shift width power_word power_bit least most m) fixed = absurd cc
 
 -- a fixed clock of a valid description has no link
-fixed_unlinked : (words : ℕ) (defs : Description) (clocks : List ClockRow) (c p : ℕ) → IsValid words defs → LinksArePossible defs clocks
+pub fixed_unlinked : (words : ℕ) (defs : Description) (clocks : List ClockRow) (c p : ℕ) → IsValid words defs → LinksArePossible defs clocks
     → is_fixed (kind_of defs c) ≡ true → link_in clocks c ≡ Some p → ⊥
 fixed_unlinked words defs clocks c p valid links fixed at =
     let none : parents_of defs c ≡ [] = by_place (cases_lt c (length defs)) in

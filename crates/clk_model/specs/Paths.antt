@@ -1,16 +1,18 @@
 -- Where paths end, and what a new link leaves of them and of the rates: the laws of paths.
-use Rattle.std.specs.Prelude.{◌≡◌, ◌⊎◌, ℕ, suc, ◌-◌, ◌<◌, ◌≤◌, List, ◌∷◌, ◌++◌, true, false, Option, Some, None, slice_get, length}
+use Rattle.std.specs.Prelude.{◌≡◌, ◌⊎◌, ◌↔◌, ℕ, suc, ◌-◌, ◌<◌, ◌≤◌, List, ◌∷◌, ◌++◌, true, false, Option, Some, None, slice_get, length}
 use Rattle.std.specs.Option.{option_map_or}
 use Rattle.clk_base.specs.declared.clock.Kind.{Kind}
 use Rattle.clk_base.specs.declared.clock.Kind.TheVariants.{Divider, Pll}
 use Rattle.clk_base.specs.Description.{Description, kind_of, parents_of}
 use Rattle.clk_base.specs.Fields.{Field}
 use Rattle.clk_base.specs.Levels.{depth, reaches_within}
+use Rattle.clk_base.specs.Valid.{IsValid}
 use Rattle.reg_bank.specs.Registers.{Registers, field}
 use Rattle.clk_model.specs.declared.row.ClockRow.{ClockRow}
 use Rattle.clk_model.specs.Lists.{is_in}
+use Rattle.clk_model.specs.Kinds.{is_fixed}
 use Rattle.clk_model.specs.State.{State, registered, link_in}
-use Rattle.clk_model.specs.Tree.{path_within, path, path_to_be}
+use Rattle.clk_model.specs.Tree.{path_within, path, path_to_be, rooted}
 use Rattle.clk_model.specs.Rate.{rate_over, rate}
 use Rattle.clk_model.specs.Chain.{linked}
 use Rattle.clk_model.specs.Begin.{register}
@@ -44,6 +46,12 @@ pub record IsWholePath (defs : Description) (clocks : List ClockRow) (c : ℕ) :
 -- so is each path, whatever the links, where they lead to possible parents and lines of possible parents end
 abbrev pub PathsEnd : Type 0
 PathsEnd = (defs : Description) (clocks : List ClockRow) → LinesEnd defs → LinksArePossible defs clocks → (c : ℕ) → IsWholePath defs clocks c
+
+-- a clock is rooted where it is registered and the last clock of its path is a fixed one
+abbrev pub RootedEndsFixed : Type 0
+RootedEndsFixed = (words : ℕ) (defs : Description) (clocks : List ClockRow) → IsValid words defs → LinksArePossible defs clocks
+    → (c : ℕ) → (rooted defs clocks c ≡ true)
+    ↔ ((registered clocks c ≡ true) × ((a : ℕ) × (slice_get (path clocks c) (length (path clocks c) - 1) ≡ Some a) × (is_fixed (kind_of defs a) ≡ true)))
 
 -- ---- a new link
 

@@ -1,11 +1,16 @@
 //! Laws of paths.
 
-ghost use Rattle.clk_model.specs.Paths.{PathsEnd, RatesAreOverLinks, RegistersGivePaths, RegistersLeaveOthers, RegistersStayPossible, RelinksLeavePaths, RelinksLeaveRates, RelinksStayPossible, RelinksTurnPaths, WritesLeaveRates};
+ghost use Rattle.clk_model.specs.Paths.{PathsEnd, RatesAreOverLinks, RegistersGivePaths, RegistersLeaveOthers, RegistersStayPossible, RelinksLeavePaths, RelinksLeaveRates, RelinksStayPossible, RelinksTurnPaths, RootedEndsFixed, WritesLeaveRates};
 
 /// A path is the whole line of links from its clock to one that has none, within the levels of the description: no clock
 /// stands twice on it, and each is the first or one of its possible ancestors.
 pub fn paths_end()
     ensures law { PathsEnd }
+{}
+
+/// A clock is rooted exactly where it is registered and its path ends in a fixed-rate clock.
+pub fn rooted_ends_fixed()
+    ensures law { RootedEndsFixed }
 {}
 
 /// A new link of a clock leaves the path of each clock that isn't below it; the path of one that is goes up to the clock as
