@@ -37,6 +37,9 @@ pub mod WholePathLaws
 pub mod RateLaws
 pub mod SiblingLaws
 pub mod RootLaws
+pub mod LinkScripts
+pub mod LinkBegins
+pub mod LinkLaws
 pub mod SupplyLaws
 pub mod PllLaws
 pub mod WeightLaws

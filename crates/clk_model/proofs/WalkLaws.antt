@@ -169,7 +169,7 @@ is_at_same p (Some q) e = ap (λ (n : ℕ). Some n) (same_from_test q p e)
 pub at_same : (p : ℕ) (o : Option ℕ) → o ≡ Some p → is_at p o ≡ true
 at_same p o e = ap (is_at p) e ∙ test_same p
 
-linked_lt : (clocks : List ClockRow) (c p : ℕ) → link_in clocks c ≡ Some p → c < length clocks
+pub linked_lt : (clocks : List ClockRow) (c p : ℕ) → link_in clocks c ≡ Some p → c < length clocks
 linked_lt [] c p e = absurd cc
 linked_lt (row ∷ clocks) zero p e = omega arith
 linked_lt (row ∷ clocks) (suc c) p e = let below : c < length clocks = linked_lt clocks c p e in omega arith

@@ -1,6 +1,7 @@
 -- Laws on where paths end, and on what a new link or a registration leaves of them.
-use Rattle.std.proofs.Common.{◌≡◌, ℕ, zero, suc, ◌-◌, ◌<◌, ◌≤◌, Bool, true, false, List, [], ◌∷◌, ◌++◌, length, Option, Some, None, refl, sym, ap, subst, ◌∙◌, ◌⊎◌, inl, inr, arith, nat_eq}
+use Rattle.std.proofs.Common.{set, ◌≡◌, ℕ, zero, suc, ◌-◌, ◌<◌, ◌≤◌, Bool, true, false, List, [], ◌∷◌, ◌++◌, length, Option, Some, None, refl, sym, ap, subst, ◌∙◌, ◌⊎◌, inl, inr, arith, nat_eq}
 use Rattle.std.specs.Prelude.{slice_get, if◌then◌else◌}
+use Rattle.std.proofs.Math.ListN.{length-set}
 use Rattle.std.specs.Option.{option_map, option_map_or}
 use Rattle.clk_base.specs.Description.{Description, parents_of}
 use Rattle.clk_base.specs.Levels.{depth, ends_within}
@@ -18,6 +19,7 @@ use Rattle.clk_model.proofs.PathLaws.{above, in_above, path_agree, path_cons}
 use Rattle.clk_model.proofs.PlanLaws.{once_cons, not_above_parent}
 use Rattle.clk_model.proofs.BelowLaws.{IsUp, path_rises, rises_above}
 use Rattle.clk_model.proofs.PllLaws.{link_given_possible}
+use Rattle.clk_model.proofs.WalkLaws.{linked_lt}
 use Rattle.clk_model.proofs.StateLaws.{row_of-set_same, row_of-set_other}
 
 -- ---- levels
@@ -150,15 +152,26 @@ same_or_not x y = by_test (nat_eq x y) refl where
   by_test true e = inl (same_from_test x y e)
   by_test false e = inr (test_other x y e)
 
--- links stay possible
-pub relinks_stay_possible : RelinksStayPossible
-relinks_stay_possible defs clocks c p can d q at = by_clock (same_or_not c d) where
+-- where a row gets a possible link or none, links stay possible
+pub set_possible : (defs : Description) (clocks : List ClockRow) (c : ℕ) (row : ClockRow) → LinksArePossible defs clocks
+    → ((q : ℕ) → option_map (λ p. p.0) row.link ≡ Some q → is_in q (parents_of defs c) ≡ true) → LinksArePossible defs (set clocks c row)
+set_possible defs clocks c row links possible d q at = by_clock (same_or_not c d) where
   by_clock : (c ≡ d) ⊎ (c ≡ d → ⊥) → is_in q (parents_of defs d) ≡ true
   by_clock (inl same) =
-      let link : link_in (linked clocks c p) d ≡ Some p = ap (link_in (linked clocks c p)) (sym same) ∙ linked_same clocks c p can.row in
-      let parent : p ≡ q = cc in
-      ap (λ (x : ℕ). is_in x (parents_of defs d)) (sym parent) ∙ ap (λ (x : ℕ). is_in p (parents_of defs x)) (sym same) ∙ can.parent
-  by_clock (inr other) = can.links d q (sym (linked_other clocks c p d other) ∙ at)
+      let below : d < length (set clocks c row) = linked_lt (set clocks c row) d q at in
+      let size : length (set clocks c row) ≡ length clocks = simp length-set in
+      let within : c < length clocks = omega arith in
+      let here : link_in (set clocks c row) c ≡ Some q = ap (link_in (set clocks c row)) same ∙ at in
+      ap (λ (x : ℕ). is_in q (parents_of defs x)) (sym same)
+      ∙ possible q (sym (ap (λ (r : ClockRow). option_map (λ p. p.0) r.link) (row_of-set_same clocks c row within)) ∙ here)
+  by_clock (inr other) =
+      links d q (sym (ap (λ (r : ClockRow). option_map (λ p. p.0) r.link) (row_of-set_other clocks c row d other)) ∙ at)
+
+-- so they do with a new link to a possible parent
+pub relinks_stay_possible : RelinksStayPossible
+relinks_stay_possible defs clocks c p links parent =
+    set_possible defs clocks c (record (row_of clocks c) { link = Some (clock_id p) }) links
+    (λ q e. let same : p ≡ q = cc in ap (λ (x : ℕ). is_in x (parents_of defs c)) (sym same) ∙ parent)
 
 -- a possible parent of the clock hasn't it on its path
 free_above : (defs : Description) (clocks : List ClockRow) (c p n : ℕ) → CanLink defs clocks c p → is_in c (path_within (link_in clocks) n p) ≡ false
@@ -236,12 +249,11 @@ given_others s c d other = ap (λ (r : ClockRow). option_map (λ q. q.0) r.link)
 -- links stay possible
 pub registers_stay_possible : RegistersStayPossible
 unfolding register
-registers_stay_possible s c within links d q at = by_clock (same_or_not c d) where
-  by_clock : (c ≡ d) ⊎ (c ≡ d → ⊥) → is_in q (parents_of s.defs d) ≡ true
-  by_clock (inl same) =
-      ap (λ (x : ℕ). is_in q (parents_of s.defs x)) (sym same)
-      ∙ link_given_possible s.defs s.regs s.clocks c q (sym (given_link s c within) ∙ ap (link_in (registered_rows s.defs s.regs s.clocks c)) same ∙ at)
-  by_clock (inr other) = links d q (sym (given_others s c d other) ∙ at)
+registers_stay_possible s c links =
+    set_possible s.defs s.clocks c _ links (λ q e. link_given_possible s.defs s.regs s.clocks c q (sym (back (link_given s.defs s.regs s.clocks c)) ∙ e)) where
+      back : (o : Option ℕ) → option_map (λ p. p.0) (option_map clock_id o) ≡ o
+      back None = refl
+      back (Some p) = refl
 
 -- a path without the clock stays
 pub registers_leave_paths : (s : State) (c d : ℕ) → is_in c (path s.clocks d) ≡ false → path (register s c).clocks d ≡ path s.clocks d

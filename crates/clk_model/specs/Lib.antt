@@ -24,6 +24,7 @@ pub mod Plans
 pub mod Walks
 pub mod Paths
 pub mod Siblings
+pub mod LinksKept
 pub mod Supplied
 pub mod Paced
 pub mod Prep

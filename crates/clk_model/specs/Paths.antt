@@ -72,9 +72,10 @@ abbrev pub RelinksTurnPaths : Type 0
 RelinksTurnPaths = (defs : Description) (clocks : List ClockRow) (c p : ℕ) → CanLink defs clocks c p
     → (d : ℕ) (low high : List ℕ) → path clocks d ≡ low ++ c ∷ high → path (linked clocks c p) d ≡ low ++ c ∷ path clocks p
 
--- and links still lead to possible parents
+-- and links still lead to possible parents, where the new one does
 abbrev pub RelinksStayPossible : Type 0
-RelinksStayPossible = (defs : Description) (clocks : List ClockRow) (c p : ℕ) → CanLink defs clocks c p → LinksArePossible defs (linked clocks c p)
+RelinksStayPossible = (defs : Description) (clocks : List ClockRow) (c p : ℕ) → LinksArePossible defs clocks → is_in p (parents_of defs c) ≡ true
+    → LinksArePossible defs (linked clocks c p)
 
 -- ---- a registration
 
@@ -90,7 +91,7 @@ RegistersLeaveOthers = (s : State) (c d : ℕ) → is_in c (path s.clocks d) ≡
 
 -- and links still lead to possible parents
 abbrev pub RegistersStayPossible : Type 0
-RegistersStayPossible = (s : State) (c : ℕ) → c < length s.clocks → LinksArePossible s.defs s.clocks → LinksArePossible s.defs (register s c).clocks
+RegistersStayPossible = (s : State) (c : ℕ) → LinksArePossible s.defs s.clocks → LinksArePossible s.defs (register s c).clocks
 
 -- ---- rates
 

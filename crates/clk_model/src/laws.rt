@@ -2,6 +2,7 @@
 
 pub mod feeding;
 pub mod flights;
+pub mod links;
 pub mod paths;
 pub mod plans;
 pub mod refusals;

@@ -1,0 +1,42 @@
+-- That links lead to possible parents through each run.
+use Rattle.std.specs.Prelude.{◌≡◌, ℕ, List, Bool, true, Option, Some, None}
+use Rattle.std.specs.List.{list_all}
+use Rattle.clk_base.specs.declared.call.Micro.{Micro}
+use Rattle.clk_base.specs.declared.call.Micro.TheVariants as micro
+use Rattle.clk_base.specs.declared.event.Entry.{Entry}
+use Rattle.clk_base.specs.declared.event.Event.{Event}
+use Rattle.clk_base.specs.declared.event.Turn.{Turn}
+use Rattle.clk_base.specs.Description.{Description, parents_of}
+use Rattle.clk_base.specs.Valid.{IsValid}
+use Rattle.reg_bank.specs.Registers.{Registers}
+use Rattle.clk_model.specs.Lists.{is_in}
+use Rattle.clk_model.specs.State.{State, Change}
+use Rattle.clk_model.specs.Step.{todo}
+use Rattle.clk_model.specs.Machine.{next}
+use Rattle.clk_model.specs.Journal.{replay, opening}
+use Rattle.clk_model.specs.Plans.{LinesEnd, LinksArePossible}
+
+-- whether the parent that a step links, if it links one, is a possible parent
+abbrev pub links_possible : Description → Micro → Bool
+links_possible defs (micro.Relink c p) = is_in p.0 (parents_of defs c.0)
+links_possible defs _ = true
+
+-- so do all steps that a change in flight has left
+abbrev pub WillBePossible : Description → Option Change → Type 0
+WillBePossible defs None = Unit {0}
+WillBePossible defs (Some k) = list_all (links_possible defs) (todo k) ≡ true
+
+-- links lead to possible parents, and so will those of the change in flight; lines of possible parents end
+pub record KeepsLinks (s : State) : Type 0 where
+  pub ends : LinesEnd s.defs
+  pub links : LinksArePossible s.defs s.clocks
+  pub will : WillBePossible s.defs s.change
+
+-- each event leaves it so
+abbrev pub EventsKeepLinks : Type 0
+EventsKeepLinks = (s t : State) (d : ℕ) (e : Event) (x : Turn) → KeepsLinks s → next s d e ≡ Some (t, x) → KeepsLinks t
+
+-- and it is so behind each journal that begins at an opening with a valid description
+abbrev pub RunsKeepLinks : Type 0
+RunsKeepLinks = (words : ℕ) (defs : Description) (regs : Registers) (ignore_unused : Bool) (credits : ℕ) (journal : List Entry) → IsValid words defs
+    → KeepsLinks (replay (opening defs regs ignore_unused credits) journal)
