@@ -23,13 +23,15 @@ use Rattle.clk_model.specs.Round.{wiring, round_rate}
 use Rattle.clk_model.specs.Chain.{clock_id, chain}
 use Rattle.clk_model.specs.Script.{probe_script, sweep_script}
 use Rattle.clk_model.specs.Views.{view, lift}
-use Rattle.clk_model.specs.Begin.{put_handle, request_between, done, refused, pick, most_credits, weight_of, starts, change_of, change_along, own_handle, with_handle, got, put_back, prepare, unprepare, rounded, request, range_set, parent_set, reparenting, exclusive_put, held_once_more, notifier_added, notifier_removed, register, probed, swept, begun}
+use Rattle.clk_model.specs.Begin.{put_handle, request_between, done, refused, pick, most_credits, weight_of, starts, change_of, change_along, own_handle, with_handle, got, put_back, prepare, unprepare, rounded, request, range_set, parent_set, reparenting, exclusive_put, held_once_more, notifier_added, notifier_removed, register, registered_rows, probed, swept, begun}
 use Rattle.clk_model.specs.Machine.{enabled, disabled, running}
 use Rattle.clk_model.specs.Plans.{LinksArePossible}
+use Rattle.clk_model.specs.Walks.{IsOrder}
 use Rattle.clk_model.specs.LinksKept.{links_possible, KeepsLinks}
 use Rattle.clk_model.proofs.Members.{both_left, both_right}
 use Rattle.clk_model.proofs.PlanLaws.{chains_lead}
-use Rattle.clk_model.proofs.WholePathLaws.{registers_stay_possible}
+use Rattle.clk_model.proofs.WholePathLaws.{given_others, registers_stay_possible}
+use Rattle.clk_model.proofs.SiblingLaws.{order_front}
 use Rattle.clk_model.proofs.LinkScripts.{AllLink, link_planned, link_probe, link_sweep}
 
 -- what a call comes to keeps links
@@ -49,6 +51,7 @@ begun_with : (s : State) (k : Change) → KeepsLinks s → k.front ≡ [] → Al
 begun_with s k keeps front all = record {
   ends = keeps.ends;
   links = keeps.links;
+  order = keeps.order;
   will = ap (λ (ms : List Micro). list_all (links_possible s.defs) (ms ++ k.left)) front ∙ all;
 }
 
@@ -65,22 +68,30 @@ comes_handle s d n f keeps each = one (own_handle s d n) where
 
 -- a handle more or less is no link
 pub keeps_handle : (s : State) (n : ℕ) (h : Option HandleRow) → KeepsLinks s → KeepsLinks (put_handle s n h)
-keeps_handle s n h keeps = record { ends = keeps.ends; links = keeps.links; will = keeps.will }
+keeps_handle s n h keeps = record { ends = keeps.ends; links = keeps.links; order = keeps.order; will = keeps.will }
 
-register_keeps : (s : State) (c : ℕ) → LinksArePossible s.defs (register s c).clocks → KeepsLinks s → KeepsLinks (register s c)
+register_order : (s : State) (c : ℕ) → IsOrder s.order s.clocks → IsOrder (register s c).order (register s c).clocks
 unfolding register
-register_keeps s c links keeps = record { ends = keeps.ends; links = links; will = keeps.will }
+register_order s c is = order_front s.order s.clocks (registered_rows s.defs s.regs s.clocks c) c is (given_others s c)
 
--- a registration links a possible parent
+-- a registration links a possible parent, and puts its clock into the order
+pub register_tied : (s : State) (c : ℕ) → LinksArePossible s.defs s.clocks → IsOrder s.order s.clocks
+    → LinksArePossible s.defs (register s c).clocks × IsOrder (register s c).order (register s c).clocks
+register_tied s c links is = (registers_stay_possible s c links, register_order s c is)
+
+register_keeps : (s : State) (c : ℕ) → LinksArePossible s.defs (register s c).clocks → IsOrder (register s c).order (register s c).clocks → KeepsLinks s → KeepsLinks (register s c)
+unfolding register
+register_keeps s c links is keeps = record { ends = keeps.ends; links = links; order = is; will = keeps.will }
+
 pub keeps_register : (s : State) (c : ℕ) → KeepsLinks s → KeepsLinks (register s c)
-keeps_register s c keeps = register_keeps s c (registers_stay_possible s c keeps.links) keeps
+keeps_register s c keeps = let tied = register_tied s c keeps.links keeps.order in register_keeps s c tied.0 tied.1 keeps
 
 -- ---- calls
 
 comes_got : (s : State) (d : ℕ) (found : Option ℕ) → KeepsLinks s → Comes (got s d found)
 comes_got s d None keeps = record { keeps = keeps }
 comes_got s d (Some c) keeps =
-    comes_pick _ _ _ (λ e. record { keeps = record { ends = keeps.ends; links = keeps.links; will = keeps.will } }) (record { keeps = keeps })
+    comes_pick _ _ _ (λ e. record { keeps = record { ends = keeps.ends; links = keeps.links; order = keeps.order; will = keeps.will } }) (record { keeps = keeps })
 
 comes_put : (s : State) (n : ℕ) (h : HandleRow) → KeepsLinks s → Comes (put_back s n h)
 comes_put s n h keeps = comes_pick _ _ _ (λ e. record { keeps = keeps }) (record { keeps = keeps_handle s n None keeps })
@@ -142,11 +153,11 @@ comes_exclusive s n h keeps = comes_pick _ _ _ (λ e. record { keeps = keeps }) 
 comes_added : (s : State) (c id : ℕ) (priority : ℤ) (policy : Policy) → KeepsLinks s → Comes (notifier_added s c id priority policy)
 comes_added s c id priority policy keeps =
     comes_pick _ _ _ (λ e. record { keeps = keeps })
-    (comes_pick _ _ _ (λ e. record { keeps = keeps }) (record { keeps = record { ends = keeps.ends; links = keeps.links; will = keeps.will } }))
+    (comes_pick _ _ _ (λ e. record { keeps = keeps }) (record { keeps = record { ends = keeps.ends; links = keeps.links; order = keeps.order; will = keeps.will } }))
 
 comes_removed : (s : State) (c id : ℕ) → KeepsLinks s → Comes (notifier_removed s c id)
 comes_removed s c id keeps =
-    comes_pick _ _ _ (λ e. record { keeps = record { ends = keeps.ends; links = keeps.links; will = keeps.will } }) (record { keeps = keeps })
+    comes_pick _ _ _ (λ e. record { keeps = record { ends = keeps.ends; links = keeps.links; order = keeps.order; will = keeps.will } }) (record { keeps = keeps })
 
 pub register_defs : (s : State) (c : ℕ) → (register s c).defs ≡ s.defs
 unfolding register

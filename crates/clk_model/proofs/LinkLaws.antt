@@ -11,14 +11,15 @@ use Rattle.clk_base.specs.declared.call.Sleeping.TheVariants as call
 use Rattle.clk_base.specs.declared.event.Entry.{Entry}
 use Rattle.clk_base.specs.declared.event.Event.TheVariants as event
 use Rattle.clk_base.specs.declared.event.Turn.{Turn}
-use Rattle.clk_base.specs.Description.{Description}
+use Rattle.clk_base.specs.Description.{Description, parents_of}
 use Rattle.clk_base.proofs.Valid.{lines_end}
 use Rattle.clk_model.specs.declared.row.ClockRow.{ClockRow}
 use Rattle.clk_model.specs.declared.row.HandleRow.{HandleRow}
 use Rattle.clk_model.specs.State.{State, Change, is_quiet, unregistered_row, row_of, link_in, handle_at}
 use Rattle.clk_model.specs.Rate.{rate}
 use Rattle.clk_model.specs.Gates.{settled}
-use Rattle.clk_model.specs.Chain.{clock_id}
+use Rattle.clk_model.specs.Lists.{is_in, to_front}
+use Rattle.clk_model.specs.Chain.{clock_id, linked}
 use Rattle.clk_model.specs.Notices.{Rates, abort_list, post_list}
 use Rattle.clk_base.specs.Levels.{depth}
 use Rattle.clk_model.specs.Tree.{children}
@@ -28,29 +29,36 @@ use Rattle.clk_model.specs.Step.{todo, rest_of, left_behind, taken, sets_parent,
 use Rattle.clk_model.specs.Machine.{may_step, paid, counted, next}
 use Rattle.clk_model.specs.Journal.{replay, opening}
 use Rattle.clk_model.specs.Plans.{LinesEnd, LinksArePossible}
+use Rattle.clk_model.specs.Walks.{IsOrder}
 use Rattle.clk_model.specs.LinksKept.{links_possible, WillBePossible, KeepsLinks, EventsKeepLinks, RunsKeepLinks}
 use Rattle.clk_model.proofs.Members.{both_left, both_right}
 use Rattle.clk_model.proofs.MicroLaws.{comes_first}
 use Rattle.clk_model.proofs.PacedStepLaws.{step_defined}
-use Rattle.clk_model.proofs.WholePathLaws.{set_possible, relinks_stay_possible, registers_stay_possible}
-use Rattle.clk_model.proofs.LinkBegins.{register_defs, Comes, comes_call, comes_enable, comes_disable, comes_running}
+use Rattle.clk_model.proofs.WholePathLaws.{linked_other, relinks_stay_possible, registers_stay_possible}
+use Rattle.clk_model.proofs.SiblingLaws.{order_front}
+use Rattle.clk_model.proofs.LinkBegins.{register_tied, register_defs, Comes, comes_call, comes_enable, comes_disable, comes_running}
 use Rattle.clk_model.proofs.LinkScripts.{AllLink, link_append, link_front, link_left, link_map, link_aborts, link_posts, link_cut}
 
 -- ---- what a step leaves
 
+-- links and the order as they ought to be
+abbrev AreTied : Description → List ℕ → List ClockRow → Type 0
+AreTied defs order clocks = LinksArePossible defs clocks × IsOrder order clocks
+
 -- a change in flight without the step that is made: links are as they ought to be, and its steps link possible parents
 record Going (s : State) (k : Change) : Type 0 where
   ends : LinesEnd s.defs
-  links : LinksArePossible s.defs s.clocks
+  tied : AreTied s.defs s.order s.clocks
   front : AllLink s.defs k.front
   left : AllLink s.defs k.left
 
 -- a state with such links, and a change with such steps
-made : (s y : State) (k l : Change) → Going s k → y.defs ≡ s.defs → LinksArePossible s.defs y.clocks → y.change ≡ Some l → AllLink s.defs l.front → AllLink s.defs l.left
+made : (s y : State) (k l : Change) → Going s k → y.defs ≡ s.defs → AreTied s.defs y.order y.clocks → y.change ≡ Some l → AllLink s.defs l.front → AllLink s.defs l.left
     → KeepsLinks y
-made s y k l going same links at front left = record {
+made s y k l going same tied at front left = record {
   ends = subst (λ (defs : Description). LinesEnd defs) (sym same) going.ends;
-  links = subst (λ (defs : Description). LinksArePossible defs y.clocks) (sym same) links;
+  links = subst (λ (defs : Description). LinksArePossible defs y.clocks) (sym same) tied.0;
+  order = tied.1;
   will = subst (λ (defs : Description). WillBePossible defs y.change) (sym same)
       (subst (λ (o : Option Change). WillBePossible s.defs o) (sym at) (link_append s.defs l.front l.left front left));
 }
@@ -70,48 +78,69 @@ either defs false xs ys e f = f
 raise_keeps : (s : State) (k : Change) (x : ℕ) → Going s k → KeepsLinks (raise s k x)
 raise_keeps s k x going =
     by_option KeepsLinks (slice_get (reverse (to_raise s k x)) 0) (raise_one s k x) (on s (record k { again = 0 }))
-    (made s _ k (record k { again = 0 }) going refl going.links refl going.front going.left)
+    (made s _ k (record k { again = 0 }) going refl going.tied refl going.front going.left)
     (λ y. let more : Bool = nat_le 2 (length (to_raise s k x)) in
-    made s (raise_one s k x y) k _ going refl going.links refl
+    made s (raise_one s k x y) k _ going refl going.tied refl
     (link_append s.defs (cond more (micro.Raise (clock_id x) ∷ []) []) k.front (either s.defs more (micro.Raise (clock_id x) ∷ []) [] refl refl) going.front) going.left)
 
 lower_keeps : (s : State) (k : Change) (x : ℕ) → Going s k → KeepsLinks (lower s k x)
 lower_keeps s k x going =
     by_option KeepsLinks (slice_get (to_lower s x) 0) (lower_one s k x) (on s (record k { again = 0 }))
-    (made s _ k (record k { again = 0 }) going refl going.links refl going.front going.left)
+    (made s _ k (record k { again = 0 }) going refl going.tied refl going.front going.left)
     (λ y. let more : Bool = nat_le 2 (length (to_lower s x)) in
-    made s (lower_one s k x y) k _ going refl going.links refl
+    made s (lower_one s k x y) k _ going refl going.tied refl
     (link_append s.defs (cond more (micro.Lower (clock_id x) ∷ []) []) k.front (either s.defs more (micro.Lower (clock_id x) ∷ []) [] refl refl) going.front) going.left)
 
 timed_out_keeps : (s : State) (k : Change) → Going s k → KeepsLinks (timed_out s (record k { polls = 0 }))
 timed_out_keeps s k going =
     let rates : Rates = record { before = k.before; outcome = k.outcome } in
-    made s (timed_out s (record k { polls = 0 })) k _ going refl going.links refl
+    made s (timed_out s (record k { polls = 0 })) k _ going refl going.tied refl
     (link_append s.defs (map (λ y. micro.Fall (clock_id y)) k.raised) (aborts_of s k) (link_map s.defs (λ (y : ℕ). micro.Fall (clock_id y)) k.raised (λ y. refl))
     (either s.defs (sets_parent k.call) (abort_list rates s.notifiers k.changing) [] (link_aborts s.defs rates s.notifiers k.changing) refl))
     (link_cut s.defs k.call k.left going.left)
 
 poll_keeps : (s : State) (k : Change) (y : ℕ) (b : Bool) → Going s k → KeepsLinks (poll s k y b)
-poll_keeps s k y true going = made s _ k (record k { polls = 0 }) going refl going.links refl going.front going.left
+poll_keeps s k y true going = made s _ k (record k { polls = 0 }) going refl going.tied refl going.front going.left
 poll_keeps s k y false going =
     by_test KeepsLinks (nat_le k.polls 1) (timed_out s (record k { polls = 0 })) (on s (record k { polls = k.polls - 1; front = micro.Poll (clock_id y) ∷ k.front }))
-    (timed_out_keeps s k going) (made s _ k (record k { polls = k.polls - 1; front = micro.Poll (clock_id y) ∷ k.front }) going refl going.links refl going.front going.left)
+    (timed_out_keeps s k going) (made s _ k (record k { polls = k.polls - 1; front = micro.Poll (clock_id y) ∷ k.front }) going refl going.tied refl going.front going.left)
 
 visit_keeps : (s : State) (k : Change) (c : ℕ) → Going s k → KeepsLinks (visit s k c)
 visit_keeps s k c going =
     let rates : Rates = record { before = k.before; outcome = k.outcome } in
     let same : Bool = rate s.defs (set_in_chain s k c) s.clocks c == slice_index k.before c in
-    made s (visit s k c) k _ going refl going.links refl
+    made s (visit s k c) k _ going refl going.tied refl
     (link_append s.defs (cond same [] (post_list rates s.notifiers c)) k.front (either s.defs same [] (post_list rates s.notifiers c) refl (link_posts s.defs rates s.notifiers c)) going.front)
     going.left
 
 -- a last request is no link
-request_possible : (defs : Description) (clocks : List ClockRow) (c x : ℕ) → LinksArePossible defs clocks → LinksArePossible defs (set clocks c (record (row_of clocks c) { last_request = x }))
-request_possible defs clocks c x links = set_possible defs clocks c (record (row_of clocks c) { last_request = x }) links (λ q e. links c q e)
+request_link : (clocks : List ClockRow) (c x d : ℕ) → link_in (set clocks c (record (row_of clocks c) { last_request = x })) d ≡ link_in clocks d
+request_link [] c x d = refl
+request_link (row ∷ clocks) zero x zero = refl
+request_link (row ∷ clocks) zero x (suc d) = refl
+request_link (row ∷ clocks) (suc c) x zero = refl
+request_link (row ∷ clocks) (suc c) x (suc d) = request_link clocks c x d
 
-settle_possible : (s : State) (cs : List ℕ) → LinksArePossible s.defs s.clocks → LinksArePossible s.defs (settle_all s cs)
-settle_possible s [] links = links
-settle_possible s (c ∷ cs) links = request_possible s.defs (settle_all s cs) c (rate s.defs s.regs s.clocks c) (settle_possible s cs links)
+tied_same : (defs : Description) (order : List ℕ) (old new : List ClockRow) → AreTied defs order old → ((d : ℕ) → link_in new d ≡ link_in old d) → AreTied defs order new
+tied_same defs order old new tied same = (
+  (λ c p at. tied.0 c p (sym (same c) ∙ at)),
+  record { once = tied.1.once; linked = λ c p at. tied.1.linked c p (sym (same c) ∙ at) },
+)
+
+request_tied : (defs : Description) (order : List ℕ) (clocks : List ClockRow) (c x : ℕ) → AreTied defs order clocks
+    → AreTied defs order (set clocks c (record (row_of clocks c) { last_request = x }))
+request_tied defs order clocks c x tied = tied_same defs order clocks (set clocks c (record (row_of clocks c) { last_request = x })) tied (request_link clocks c x)
+
+settle_tied : (s : State) (cs : List ℕ) → AreTied s.defs s.order s.clocks → AreTied s.defs s.order (settle_all s cs)
+settle_tied s [] tied = tied
+settle_tied s (c ∷ cs) tied = request_tied s.defs s.order (settle_all s cs) c (rate s.defs s.regs s.clocks c) (settle_tied s cs tied)
+
+-- a new link to a possible parent
+relink_tied : (s : State) (c p : ℕ) → AreTied s.defs s.order s.clocks → is_in p (parents_of s.defs c) ≡ true → AreTied s.defs (to_front c s.order) (linked s.clocks c p)
+relink_tied s c p tied parent = (
+  relinks_stay_possible s.defs s.clocks c p tied.0 parent,
+  order_front s.order s.clocks (linked s.clocks c p) c tied.1 (linked_other s.clocks c p),
+)
 
 -- ---- the end
 
@@ -124,49 +153,49 @@ by_handle P None f u none some = none
 by_handle P (Some h) f u none some = some h
 
 plain_end : (s : State) (k : Change) → Going s k → EndsWell s
-plain_end s k going = record { ends = going.ends; links = going.links; will = tt }
+plain_end s k going = record { ends = going.ends; links = going.tied.0; order = going.tied.1; will = tt }
 
 -- a range that is put back is no link
 unranged_end : (s : State) (k : Change) → Going s k → EndsWell (unranged s k)
-unranged_end s k going = record { ends = going.ends; links = going.links; will = tt }
+unranged_end s k going = record { ends = going.ends; links = going.tied.0; order = going.tied.1; will = tt }
 
 end_keeps : (s : State) (k : Change) (d : ℕ) (what : Sleeping) → Going s k → EndsWell (ended_well s d what)
 end_keeps s k d (call.Prepare h) going =
-    by_handle EndsWell (handle_at s.handles h.number) (prepared_once_more s h.number) s (plain_end s k going) (λ row. record { ends = going.ends; links = going.links; will = tt })
+    by_handle EndsWell (handle_at s.handles h.number) (prepared_once_more s h.number) s (plain_end s k going) (λ row. record { ends = going.ends; links = going.tied.0; order = going.tied.1; will = tt })
 end_keeps s k d (call.SetRate h x) going =
     by_handle EndsWell (handle_at s.handles h.number) (λ row. record s { clocks = requested s.clocks row.clock.0 x }) s (plain_end s k going)
-    (λ row. record { ends = going.ends; links = request_possible s.defs s.clocks row.clock.0 x going.links; will = tt })
+    (λ row. record { ends = going.ends; links = (request_tied s.defs s.order s.clocks row.clock.0 x going.tied).0; order = (request_tied s.defs s.order s.clocks row.clock.0 x going.tied).1; will = tt })
 end_keeps s k d (call.SetRateExclusive h x) going =
     by_handle EndsWell (handle_at s.handles h.number) (λ row. record (held_once_more s h.number row) { clocks = requested s.clocks row.clock.0 x }) s (plain_end s k going)
-    (λ row. record { ends = going.ends; links = request_possible s.defs s.clocks row.clock.0 x going.links; will = tt })
+    (λ row. record { ends = going.ends; links = (request_tied s.defs s.order s.clocks row.clock.0 x going.tied).0; order = (request_tied s.defs s.order s.clocks row.clock.0 x going.tied).1; will = tt })
 end_keeps s k d (call.SetRange h least most) going =
     by_handle EndsWell (handle_at s.handles h.number) (λ row. record s { clocks = requested s.clocks row.clock.0 (request_between s.clocks row.clock.0 least most) }) s (plain_end s k going)
-    (λ row. record { ends = going.ends; links = request_possible s.defs s.clocks row.clock.0 (request_between s.clocks row.clock.0 least most) going.links; will = tt })
+    (λ row. record { ends = going.ends; links = (request_tied s.defs s.order s.clocks row.clock.0 (request_between s.clocks row.clock.0 least most) going.tied).0; order = (request_tied s.defs s.order s.clocks row.clock.0 (request_between s.clocks row.clock.0 least most) going.tied).1; will = tt })
 end_keeps s k d _ going = plain_end s k going
 
 -- ---- each step
 
 register_made : (s : State) (k l : Change) (c : ℕ) → Going s k → AllLink s.defs l.front → AllLink s.defs l.left → KeepsLinks (on (register s c) l)
-register_made s k l c going front left = made s (on (register s c) l) k l going (register_defs s c) (registers_stay_possible s c going.links) refl front left
+register_made s k l c going front left = made s (on (register s c) l) k l going (register_defs s c) (register_tied s c going.tied.0 going.tied.1) refl front left
 
 step_keeps : (s : State) (k : Change) (answer : Option Bool) (m : Micro) → Going s k → links_possible s.defs m ≡ true → KeepsLinks (stepped s k answer m).0
 unfolding stepped
-step_keeps s k answer (micro.Notify kind c id old new) going will = made s _ k k going refl going.links refl going.front going.left
+step_keeps s k answer (micro.Notify kind c id old new) going will = made s _ k k going refl going.tied refl going.front going.left
 step_keeps s k answer (micro.Raise x) going will = raise_keeps s k x.0 going
 step_keeps s k answer (micro.Poll y) going will = poll_keeps s k y.0 (is_yes answer) going
-step_keeps s k answer (micro.Fall y) going will = made s _ k _ going refl going.links refl going.front going.left
-step_keeps s k answer (micro.HoldPrepare x) going will = made s _ k _ going refl going.links refl going.front going.left
-step_keeps s k answer (micro.HoldEnable x) going will = made s _ k k going refl going.links refl going.front going.left
-step_keeps s k answer (micro.Relink c p) going will = made s _ k k going refl (relinks_stay_possible s.defs s.clocks c.0 p.0 going.links will) refl going.front going.left
-step_keeps s k answer (micro.WriteMux c place) going will = made s _ k k going refl going.links refl going.front going.left
-step_keeps s k answer (micro.DropEnable x) going will = made s _ k k going refl going.links refl going.front going.left
-step_keeps s k answer (micro.DropPrepare x) going will = made s _ k k going refl going.links refl going.front going.left
+step_keeps s k answer (micro.Fall y) going will = made s _ k _ going refl going.tied refl going.front going.left
+step_keeps s k answer (micro.HoldPrepare x) going will = made s _ k _ going refl going.tied refl going.front going.left
+step_keeps s k answer (micro.HoldEnable x) going will = made s _ k k going refl going.tied refl going.front going.left
+step_keeps s k answer (micro.Relink c p) going will = made s _ k k going refl (relink_tied s c.0 p.0 going.tied will) refl going.front going.left
+step_keeps s k answer (micro.WriteMux c place) going will = made s _ k k going refl going.tied refl going.front going.left
+step_keeps s k answer (micro.DropEnable x) going will = made s _ k k going refl going.tied refl going.front going.left
+step_keeps s k answer (micro.DropPrepare x) going will = made s _ k k going refl going.tied refl going.front going.left
 step_keeps s k answer (micro.Lower x) going will = lower_keeps s k x.0 going
 step_keeps s k answer (micro.Visit c) going will = visit_keeps s k c.0 going
 step_keeps s k answer (micro.Register c) going will = register_made s k _ c.0 going going.front going.left
-step_keeps s k answer (micro.Settle c) going will = made s _ k k going refl (settle_possible s (below_within (children s.order s.clocks) depth c.0) going.links) refl going.front going.left
-step_keeps s k answer (micro.Close c) going will = made s _ k k going refl going.links refl going.front going.left
-step_keeps s k answer (micro.Unpower c) going will = made s _ k k going refl going.links refl going.front going.left
+step_keeps s k answer (micro.Settle c) going will = made s _ k k going refl (settle_tied s (below_within (children s.order s.clocks) depth c.0) going.tied) refl going.front going.left
+step_keeps s k answer (micro.Close c) going will = made s _ k k going refl going.tied refl going.front going.left
+step_keeps s k answer (micro.Unpower c) going will = made s _ k k going refl going.tied refl going.front going.left
 step_keeps s k answer micro.End going will =
     by_test EndsWell (k.vetoed || k.timed_out) (unranged s k) (ended_well s k.driver k.call) (unranged_end s k going) (end_keeps s k k.driver k.call going)
 
@@ -174,11 +203,11 @@ step_keeps s k answer micro.End going will =
 
 settled_keeps : (s y : State) (n : ℕ) → KeepsLinks y → KeepsLinks (record (settled s y) { spent = n })
 unfolding settled
-settled_keeps s y n keeps = record { ends = keeps.ends; links = keeps.links; will = keeps.will }
+settled_keeps s y n keeps = record { ends = keeps.ends; links = keeps.links; order = keeps.order; will = keeps.will }
 
 counted_keeps : (s y : State) (n : ℕ) → KeepsLinks y → KeepsLinks (record (settled s y) { steps = n })
 unfolding settled
-counted_keeps s y n keeps = record { ends = keeps.ends; links = keeps.links; will = keeps.will }
+counted_keeps s y n keeps = record { ends = keeps.ends; links = keeps.links; order = keeps.order; will = keeps.will }
 
 -- an event that spends a credit
 paid_keeps : (s t : State) (r : State × Turn) (x : Turn) → Comes r → paid s r ≡ Some (t, x) → KeepsLinks t
@@ -200,7 +229,7 @@ going_first s k m [] left rest keeps all is_front is_left first =
     let whole : AllLink s.defs (m ∷ rest) = ap test (sym first) ∙ all in (
       record {
         ends = keeps.ends;
-        links = keeps.links;
+        tied = (keeps.links, keeps.order);
         front = ap (λ (ms : List Micro). test (rest_of ms)) is_front;
         left = ap (λ (ms : List Micro). test (left_behind ms k.left)) is_front ∙ ap (λ (ms : List Micro). test (rest_of ms)) (is_left ∙ first) ∙ both_right (links_possible s.defs m) (test rest) whole;
       },
@@ -212,7 +241,7 @@ going_first s k m (n ∷ front) left rest keeps all is_front is_left first =
     let same : n ≡ m = cc in (
       record {
         ends = keeps.ends;
-        links = keeps.links;
+        tied = (keeps.links, keeps.order);
         front = ap (λ (ms : List Micro). test (rest_of ms)) is_front ∙ link_front s.defs front left behind;
         left = ap (λ (ms : List Micro). test (left_behind ms k.left)) is_front ∙ ap test is_left ∙ link_left s.defs front left behind;
       },
@@ -264,4 +293,4 @@ replay_keeps (e ∷ es) s keeps = replay_keeps es (option_map_or (λ x. x.0) (ne
 pub runs_keep_links : RunsKeepLinks
 runs_keep_links words defs regs ignore_unused credits journal valid =
     replay_keeps journal (opening defs regs ignore_unused credits)
-    (record { ends = lines_end words defs valid; links = λ c p e. absurd (none_linked (length defs) c p e); will = tt })
+    (record { ends = lines_end words defs valid; links = λ c p e. absurd (none_linked (length defs) c p e); order = record { once = refl; linked = λ c p e. absurd (none_linked (length defs) c p e) }; will = tt })

@@ -18,8 +18,9 @@ use Rattle.clk_model.specs.Chain.{linked}
 use Rattle.clk_model.specs.Begin.{registered_rows, register}
 use Rattle.clk_model.specs.Step.{relink}
 use Rattle.clk_model.specs.Plans.{LinksArePossible}
+use Rattle.clk_model.specs.Walks.{IsOrder}
 use Rattle.clk_model.specs.Siblings.{IsAttached, front_if, IsUnattached, RegistersUnattached, ListsRegistered, HasOnePlace, ChildrenTellLinks, RegistersAttach, RelinksAttach, RegistersAreListed, RelinksAreListed}
-use Rattle.clk_model.proofs.Members.{is_in_head, is_in_cases, both_left, both_right, same_from_test}
+use Rattle.clk_model.proofs.Members.{is_in_head, is_in_tail, is_in_cases, both_left, both_right, same_from_test}
 use Rattle.clk_model.proofs.RoundLaws.{is_in-filter}
 use Rattle.clk_model.proofs.PlanLaws.{once_cons}
 use Rattle.clk_model.proofs.BelowLaws.{once_filter}
@@ -120,7 +121,7 @@ children_tell_links words defs order clocks valid links lists = record {
 -- ---- to the front
 
 -- whether a number stays in a list without another
-abbrev stays : ℕ → ℕ → Bool
+abbrev pub stays : ℕ → ℕ → Bool
 stays c x = not (is_in x (c ∷ []))
 
 stays_other : (c x : ℕ) → stays c x ≡ true → c ≡ x → ⊥
@@ -228,7 +229,7 @@ registered_lt (row ∷ clocks) zero here = omega arith
 registered_lt (row ∷ clocks) (suc c) here = let below : c < length clocks = registered_lt clocks c here in omega arith
 
 -- a number stands in a list without another as in the list
-stays_in : (c d : ℕ) (xs : List ℕ) → (c ≡ d → ⊥) → is_in d (without (c ∷ []) xs) ≡ is_in d xs
+pub stays_in : (c d : ℕ) (xs : List ℕ) → (c ≡ d → ⊥) → is_in d (without (c ∷ []) xs) ≡ is_in d xs
 stays_in c d xs other = by_test (is_in d xs) refl where
   by_test : (t : Bool) → is_in d xs ≡ t → is_in d (without (c ∷ []) xs) ≡ t
   by_test true m = filter_keeps (stays c) d xs (ap not (refuted (is_in d (c ∷ [])) one)) m where
@@ -240,7 +241,7 @@ stays_in c d xs other = by_test (is_in d xs) refl where
   by_test false m = refuted (is_in d (without (c ∷ []) xs)) (λ m'. let there : is_in d xs ≡ true = is_in-filter (stays c) d xs m' in cc)
 
 -- what is taken out of a list isn't in it
-taken_out : (c : ℕ) (xs : List ℕ) → is_in c (without (c ∷ []) xs) ≡ true → ⊥
+pub taken_out : (c : ℕ) (xs : List ℕ) → is_in c (without (c ∷ []) xs) ≡ true → ⊥
 taken_out c xs m = stays_other c c (filter_passes (stays c) c xs m) refl
 
 -- a clock that is registered and goes to the front of the order leaves it a list of the registered clocks
@@ -256,6 +257,17 @@ listed_front order old new c lists here same = record {
   by_clock d (inr other) =
       ap (λ (t : Bool). t || is_in d (without (c ∷ []) order)) (refuted (nat_eq c d) (λ e. other (same_from_test c d e)))
       ∙ stays_in c d order other ∙ lists.listed d ∙ sym (same d other)
+
+-- a clock that goes to the front of the order, whatever its link, leaves each linked clock in it, and none twice
+pub order_front : (order : List ℕ) (old new : List ClockRow) (c : ℕ) → IsOrder order old → ((d : ℕ) → (c ≡ d → ⊥) → link_in new d ≡ link_in old d)
+    → IsOrder (to_front c order) new
+order_front order old new c is same = record {
+  once = once_cons c (without (c ∷ []) order) (taken_out c order) (once_filter (stays c) order is.once);
+  linked = λ d p at. by_clock d p at (same_or_not c d);
+} where
+  by_clock : (d p : ℕ) → link_in new d ≡ Some p → (c ≡ d) ⊎ (c ≡ d → ⊥) → is_in d (to_front c order) ≡ true
+  by_clock d p at (inl here) = ap (λ (x : ℕ). is_in d (x ∷ without (c ∷ []) order)) here ∙ is_in_head d (without (c ∷ []) order)
+  by_clock d p at (inr other) = is_in_tail d c (without (c ∷ []) order) (stays_in c d order other ∙ is.linked d p (sym (same d other) ∙ at))
 
 pub registers_are_listed : RegistersAreListed
 unfolding register

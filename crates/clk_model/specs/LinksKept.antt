@@ -1,4 +1,4 @@
--- That links lead to possible parents through each run.
+-- That links lead to possible parents, and linked clocks stand in the order of attaching, through each run.
 use Rattle.std.specs.Prelude.{◌≡◌, ℕ, List, Bool, true, Option, Some, None}
 use Rattle.std.specs.List.{list_all}
 use Rattle.clk_base.specs.declared.call.Micro.{Micro}
@@ -15,6 +15,7 @@ use Rattle.clk_model.specs.Step.{todo}
 use Rattle.clk_model.specs.Machine.{next}
 use Rattle.clk_model.specs.Journal.{replay, opening}
 use Rattle.clk_model.specs.Plans.{LinesEnd, LinksArePossible}
+use Rattle.clk_model.specs.Walks.{IsOrder}
 
 -- whether the parent that a step links, if it links one, is a possible parent
 abbrev pub links_possible : Description → Micro → Bool
@@ -26,10 +27,12 @@ abbrev pub WillBePossible : Description → Option Change → Type 0
 WillBePossible defs None = Unit {0}
 WillBePossible defs (Some k) = list_all (links_possible defs) (todo k) ≡ true
 
--- links lead to possible parents, and so will those of the change in flight; lines of possible parents end
+-- links lead to possible parents, and so will those of the change in flight; the order lists each clock that has a link, and
+-- none twice; lines of possible parents end
 pub record KeepsLinks (s : State) : Type 0 where
   pub ends : LinesEnd s.defs
   pub links : LinksArePossible s.defs s.clocks
+  pub order : IsOrder s.order s.clocks
   pub will : WillBePossible s.defs s.change
 
 -- each event leaves it so
