@@ -37,6 +37,7 @@ pub mod WholePathLaws
 pub mod RateLaws
 pub mod SiblingLaws
 pub mod RootLaws
+pub mod ShapeLaws
 pub mod LinkScripts
 pub mod LinkBegins
 pub mod LinkLaws

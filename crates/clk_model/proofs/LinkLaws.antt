@@ -1,9 +1,9 @@
 -- Laws on links: they lead to possible parents through each run.
 use Rattle.std.proofs.Common.{◌≡◌, ℕ, zero, suc, ◌+◌, ◌-◌, Bool, true, false, ◌||◌, cond, List, [], ◌∷◌, ◌++◌, map, Option, Some, None, refl, sym, ap, subst, ◌∙◌, length, set, nat_lt}
-use Rattle.std.specs.Prelude.{◌==◌, nat_le, slice_get, slice_index, reverse, option_and_then, replicate, if◌then◌else◌}
+use Rattle.std.specs.Prelude.{◌==◌, nat_le, slice_get, slice_index, reverse, replicate}
 use Rattle.std.specs.List.{list_all}
 use Rattle.std.specs.Option.{option_map_or}
-use Rattle.std.proofs.lemmas.Option.{none-some}
+use Rattle.std.proofs.lemmas.List.{length-replicate}
 use Rattle.clk_base.specs.declared.call.Micro.{Micro}
 use Rattle.clk_base.specs.declared.call.Micro.TheVariants as micro
 use Rattle.clk_base.specs.declared.call.Sleeping.{Sleeping}
@@ -12,6 +12,7 @@ use Rattle.clk_base.specs.declared.event.Entry.{Entry}
 use Rattle.clk_base.specs.declared.event.Event.TheVariants as event
 use Rattle.clk_base.specs.declared.event.Turn.{Turn}
 use Rattle.clk_base.specs.Description.{Description, parents_of}
+use Rattle.clk_base.specs.Valid.{IsValid}
 use Rattle.clk_base.proofs.Valid.{lines_end}
 use Rattle.clk_model.specs.declared.row.ClockRow.{ClockRow}
 use Rattle.clk_model.specs.declared.row.HandleRow.{HandleRow}
@@ -26,16 +27,17 @@ use Rattle.clk_model.specs.Tree.{children}
 use Rattle.clk_model.specs.Walk.{below_within}
 use Rattle.clk_model.specs.Begin.{begun, prepared_once_more, held_once_more, request_between, register}
 use Rattle.clk_model.specs.Step.{todo, rest_of, left_behind, taken, sets_parent, aborts_of, on, timed_out, to_raise, raise_one, raise, poll, is_yes, to_lower, lower_one, lower, set_in_chain, visit, settle_all, requested, ended_well, unranged, stepped}
-use Rattle.clk_model.specs.Machine.{may_step, paid, counted, next}
+use Rattle.clk_model.specs.Machine.{paid, next}
 use Rattle.clk_model.specs.Journal.{replay, opening}
 use Rattle.clk_model.specs.Plans.{LinesEnd, LinksArePossible}
 use Rattle.clk_model.specs.Walks.{IsOrder}
-use Rattle.clk_model.specs.LinksKept.{links_possible, WillBePossible, KeepsLinks, EventsKeepLinks, RunsKeepLinks}
+use Rattle.clk_model.specs.LinksKept.{HasShapeOf, RunsAreWired, links_possible, WillBePossible, KeepsLinks, EventsKeepLinks, RunsKeepLinks}
 use Rattle.clk_model.proofs.Members.{both_left, both_right}
 use Rattle.clk_model.proofs.MicroLaws.{comes_first}
 use Rattle.clk_model.proofs.PacedStepLaws.{step_defined}
-use Rattle.clk_model.proofs.WholePathLaws.{linked_other, relinks_stay_possible, registers_stay_possible}
+use Rattle.clk_model.proofs.WholePathLaws.{linked_other, relinks_stay_possible}
 use Rattle.clk_model.proofs.SiblingLaws.{order_front}
+use Rattle.clk_model.proofs.ShapeLaws.{no_step, events_keep_shape}
 use Rattle.clk_model.proofs.LinkBegins.{register_tied, register_defs, Comes, comes_call, comes_enable, comes_disable, comes_running}
 use Rattle.clk_model.proofs.LinkScripts.{AllLink, link_append, link_front, link_left, link_map, link_aborts, link_posts, link_cut}
 
@@ -257,11 +259,6 @@ step_event s t k d m answer x keeps at e =
     let goes = going_first s k m k.front k.left first.0 keeps will refl refl first.1 in
     subst (λ (z : State × Turn). KeepsLinks z.0) is.1 (counted_keeps s (stepped s (taken k) answer m).0 (s.steps + 1) (step_keeps s (taken k) answer m goes.0 goes.1))
 
-no_step : (s t : State) (d : ℕ) (m : Micro) (answer : Option Bool) (x : Turn) → s.change ≡ None → next s d (event.Step m answer) ≡ Some (t, x) → ⊥
-unfolding next
-no_step s t d m answer x at e =
-    none-some (t, x) (ap (λ (o : Option Change). option_and_then (λ l. if may_step d m answer l then Some (counted s (stepped s (taken l) answer m)) else None) o) (sym at) ∙ e)
-
 pub events_keep_links : EventsKeepLinks
 unfolding next
 events_keep_links s t d (event.Enable n) x keeps e = paid_keeps s t _ x (comes_enable s d n keeps) e
@@ -294,3 +291,30 @@ pub runs_keep_links : RunsKeepLinks
 runs_keep_links words defs regs ignore_unused credits journal valid =
     replay_keeps journal (opening defs regs ignore_unused credits)
     (record { ends = lines_end words defs valid; links = λ c p e. absurd (none_linked (length defs) c p e); order = record { once = refl; linked = λ c p e. absurd (none_linked (length defs) c p e) }; will = tt })
+
+replay_shape : (es : List Entry) (s : State) → HasShapeOf s (replay s es)
+replay_shape [] s = record { defs = refl; rows = refl; words = refl }
+replay_shape (e ∷ es) s =
+    let first = after (next s e.driver e.event) refl in
+    let rest = replay_shape es (option_map_or (λ x. x.0) (next s e.driver e.event) s) in
+    record { defs = rest.defs ∙ first.defs; rows = rest.rows ∙ first.rows; words = rest.words ∙ first.words } where
+      after : (o : Option (State × Turn)) → next s e.driver e.event ≡ o → HasShapeOf s (option_map_or (λ x. x.0) o s)
+      after None at = record { defs = refl; rows = refl; words = refl }
+      after (Some r) at = events_keep_shape s r.0 e.driver e.event r.1 at
+
+-- behind each journal the tree is wired
+pub runs_are_wired : RunsAreWired
+runs_are_wired defs regs ignore_unused credits journal valid =
+    let s : State = opening defs regs ignore_unused credits in
+    let shape = replay_shape journal s in
+    let keeps = runs_keep_links (length regs) defs regs ignore_unused credits journal valid in
+    record {
+      same = shape.defs;
+      size = shape.words;
+      wired = record {
+        valid = subst (λ (ds : Description). IsValid (length regs) ds) (sym shape.defs) valid;
+        rows = shape.rows ∙ length-replicate (length defs) unregistered_row ∙ sym (ap (λ (ds : Description). length ds) shape.defs);
+        links = keeps.links;
+      };
+      order = keeps.order;
+    }

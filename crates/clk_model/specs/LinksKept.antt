@@ -1,5 +1,6 @@
--- That links lead to possible parents, and linked clocks stand in the order of attaching, through each run.
-use Rattle.std.specs.Prelude.{◌≡◌, ℕ, List, Bool, true, Option, Some, None}
+-- That links lead to possible parents, linked clocks stand in the order of attaching, and trees keep their shape, through each
+-- run.
+use Rattle.std.specs.Prelude.{◌≡◌, ℕ, List, Bool, true, Option, Some, None, length}
 use Rattle.std.specs.List.{list_all}
 use Rattle.clk_base.specs.declared.call.Micro.{Micro}
 use Rattle.clk_base.specs.declared.call.Micro.TheVariants as micro
@@ -14,7 +15,8 @@ use Rattle.clk_model.specs.State.{State, Change}
 use Rattle.clk_model.specs.Step.{todo}
 use Rattle.clk_model.specs.Machine.{next}
 use Rattle.clk_model.specs.Journal.{replay, opening}
-use Rattle.clk_model.specs.Plans.{LinesEnd, LinksArePossible}
+use Rattle.clk_model.specs.Round.{wiring}
+use Rattle.clk_model.specs.Plans.{LinesEnd, LinksArePossible, IsWired}
 use Rattle.clk_model.specs.Walks.{IsOrder}
 
 -- whether the parent that a step links, if it links one, is a possible parent
@@ -43,3 +45,25 @@ EventsKeepLinks = (s t : State) (d : ℕ) (e : Event) (x : Turn) → KeepsLinks 
 abbrev pub RunsKeepLinks : Type 0
 RunsKeepLinks = (words : ℕ) (defs : Description) (regs : Registers) (ignore_unused : Bool) (credits : ℕ) (journal : List Entry) → IsValid words defs
     → KeepsLinks (replay (opening defs regs ignore_unused credits) journal)
+
+-- a state has the description, as many rows and as many words as another
+pub record HasShapeOf (q s : State) : Type 0 where
+  pub defs : s.defs ≡ q.defs
+  pub rows : length s.clocks ≡ length q.clocks
+  pub words : length s.regs ≡ length q.regs
+
+-- so has each event's the state before it
+abbrev pub EventsKeepShape : Type 0
+EventsKeepShape = (s t : State) (d : ℕ) (e : Event) (x : Turn) → next s d e ≡ Some (t, x) → HasShapeOf s t
+
+-- a tree is wired over this description, and its order of attaching is one
+pub record IsWiredOver (defs : Description) (words : ℕ) (s : State) : Type 0 where
+  pub same : s.defs ≡ defs
+  pub size : length s.regs ≡ words
+  pub wired : IsWired words (wiring s)
+  pub order : IsOrder s.order s.clocks
+
+-- so it is behind each journal that begins at an opening with a valid description: the laws of plans and walks hold there
+abbrev pub RunsAreWired : Type 0
+RunsAreWired = (defs : Description) (regs : Registers) (ignore_unused : Bool) (credits : ℕ) (journal : List Entry) → IsValid (length regs) defs
+    → IsWiredOver defs (length regs) (replay (opening defs regs ignore_unused credits) journal)
