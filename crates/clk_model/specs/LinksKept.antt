@@ -52,7 +52,7 @@ pub record HasShapeOf (q s : State) : Type 0 where
   pub rows : length s.clocks ≡ length q.clocks
   pub words : length s.regs ≡ length q.regs
 
--- so has each event's the state before it
+-- each event leaves the state that shape
 abbrev pub EventsKeepShape : Type 0
 EventsKeepShape = (s t : State) (d : ℕ) (e : Event) (x : Turn) → next s d e ≡ Some (t, x) → HasShapeOf s t
 
