@@ -41,6 +41,7 @@ pub mod ShapeLaws
 pub mod LinkScripts
 pub mod LinkBegins
 pub mod LinkLaws
+pub mod RoomLaws
 pub mod SupplyLaws
 pub mod PllLaws
 pub mod WeightLaws

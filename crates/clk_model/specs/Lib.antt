@@ -27,6 +27,7 @@ pub mod Siblings
 pub mod LinksKept
 pub mod Supplied
 pub mod Paced
+pub mod RunsEnd
 pub mod Prep
 pub mod Tier
 pub mod Flight
