@@ -1,4 +1,4 @@
--- Where paths end, and what a new link leaves of them and of the rates: the laws of paths.
+-- Where paths end, and what a new link, a registration or a write leaves of paths and rates: the laws of paths.
 use Rattle.std.specs.Prelude.{◌≡◌, ◌⊎◌, ◌↔◌, ℕ, suc, ◌-◌, ◌<◌, ◌≤◌, List, ◌∷◌, ◌++◌, true, false, Option, Some, None, slice_get, length}
 use Rattle.std.specs.Option.{option_map_or}
 use Rattle.clk_base.specs.declared.clock.Kind.{Kind}
