@@ -24,8 +24,8 @@ pub fn first_unfit(desc: &ValidDesc) -> Option<ClockId>
     None
 }
 
-// Whether a core can run the clock.
-fn is_fit(desc: &ValidDesc, clock: ClockId) -> bool
+/// Whether a core can run the clock. Takes no memory.
+pub fn is_fit(desc: &ValidDesc, clock: ClockId) -> bool
     requires { clock.0 < length desc.now.defs }
     ensures { result ≡ can_run desc.now.defs clock.0 }
 {

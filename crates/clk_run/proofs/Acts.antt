@@ -13,8 +13,8 @@ use Rattle.bundle_text.specs.Names.{is_variable}
 use Rattle.bundle_text.specs.Words.{spaced_words, is_word}
 use Rattle.drv_scripts.specs.declared.bundle.Script.{Script}
 use Rattle.drv_scripts.specs.CommandLines.{act_of, command_line, act_in, command_in, driver_line}
-use Rattle.drv_scripts.specs.Form.{clocks_end, words_end, clocks_before, command_at}
-use Rattle.drv_scripts.specs.Spelled.{commands_from, script_at, scripts_of, bundle_of}
+use Rattle.drv_scripts.specs.Form.{words_end, command_at}
+use Rattle.drv_scripts.specs.Spelled.{commands_from, script_at, scripts_of}
 use Rattle.clk_run.specs.Scripts.{is_built_act}
 use Rattle.clk_run.specs.Runs.{are_built}
 use Rattle.clk_run.proofs.Going.{both}
@@ -55,11 +55,11 @@ line_built defs (verb ∷ var ∷ name ∷ []) =
     either (λ said. CanRun (act_in defs said)) (bytes_eq verb (codes "get") && is_variable var && is_word name) _ None refl tt
 line_built defs (verb ∷ var ∷ name ∷ more ∷ words) = tt
 
-command_built : (ls : List (List ℕ)) (k : ℕ) → IfSome (command_at ls k) (λ c. CanRun c.act)
+command_built : (defs : Description) (ls : List (List ℕ)) (k : ℕ) → IfSome (command_at defs ls k) (λ c. CanRun c.act)
 unfolding command_at command_in
-command_built ls k =
-    mapped (λ said. CanRun (act_in (clocks_before ls (clocks_end ls)) said)) (λ c. CanRun c.act) _ (command_line (spaced_words (line_at ls k)))
-    (λ said can. can) (line_built (clocks_before ls (clocks_end ls)) (spaced_words (line_at ls k)))
+command_built defs ls k =
+    mapped (λ said. CanRun (act_in defs said)) (λ c. CanRun c.act) _ (command_line (spaced_words (line_at ls k)))
+    (λ said can. can) (line_built defs (spaced_words (line_at ls k)))
 
 -- ---- scripts
 
@@ -67,26 +67,22 @@ onto_built : (o : Option Command) (commands : List Command) → IfSome o (λ c. 
 onto_built None commands can rest = rest
 onto_built (Some c) commands can rest = both (is_built_act c.act) _ can rest
 
-said_built : (ls : List (List ℕ)) (from count : ℕ) → are_built (said_from (command_at ls) from count) ≡ true
-said_built ls from zero = refl
-said_built ls from (suc count) = onto_built (command_at ls from) _ (command_built ls from) (said_built ls (from + 1) count)
+said_built : (defs : Description) (ls : List (List ℕ)) (from count : ℕ) → are_built (said_from (command_at defs ls) from count) ≡ true
+said_built defs ls from zero = refl
+said_built defs ls from (suc count) = onto_built (command_at defs ls from) _ (command_built defs ls from) (said_built defs ls (from + 1) count)
 
-script_built : (ls : List (List ℕ)) (at : ℕ) → AllByRecursion (λ (s : Script). are_built s.commands ≡ true) (script_at ls at)
+script_built : (defs : Description) (ls : List (List ℕ)) (at : ℕ) → AllByRecursion (λ (s : Script). are_built s.commands ≡ true) (script_at defs ls at)
 unfolding script_at commands_from
-script_built ls at = each (driver_line (spaced_words (line_at ls at))) where
+script_built defs ls at = each (driver_line (spaced_words (line_at ls at))) where
   each : (o : Option (List ℕ)) → AllByRecursion (λ (s : Script). are_built s.commands ≡ true)
-      (option_to_list (option_map (λ name. record { name = name; commands = commands_from ls (at + 1) }) o))
+      (option_to_list (option_map (λ name. record { name = name; commands = commands_from defs ls (at + 1) }) o))
   each None = tt
-  each (Some name) = (said_built ls (at + 1) (length ls - (at + 1)), tt)
-
-scripts_built : (ls : List (List ℕ)) → AllByRecursion (λ (s : Script). are_built s.commands ≡ true) (scripts_of ls)
-unfolding scripts_of
-scripts_built ls = pick (nat_lt (words_end ls) (length ls)) where
-  pick : (b : Bool) → AllByRecursion (λ (s : Script). are_built s.commands ≡ true) (cond b (script_at ls (words_end ls)) [])
-  pick true = script_built ls (words_end ls)
-  pick false = tt
+  each (Some name) = (said_built defs ls (at + 1) (length ls - (at + 1)), tt)
 
 -- so a bundle that bytes spell has no other commands
-pub spelled_built : (ls : List (List ℕ)) → AllByRecursion (λ (s : Script). are_built s.commands ≡ true) (bundle_of ls).drivers
-unfolding bundle_of
-spelled_built ls = scripts_built ls
+pub scripts_built : (defs : Description) (ls : List (List ℕ)) → AllByRecursion (λ (s : Script). are_built s.commands ≡ true) (scripts_of defs ls)
+unfolding scripts_of
+scripts_built defs ls = pick (nat_lt (words_end ls) (length ls)) where
+  pick : (b : Bool) → AllByRecursion (λ (s : Script). are_built s.commands ≡ true) (cond b (script_at defs ls (words_end ls)) [])
+  pick true = script_built defs ls (words_end ls)
+  pick false = tt

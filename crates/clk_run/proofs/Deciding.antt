@@ -8,8 +8,9 @@ use Rattle.clk_io.specs.declared.faults.PrintFault.{PrintFault}
 use Rattle.clk_io.specs.declared.faults.PrintFault.TheVariants as print_fault
 use Rattle.drv_scripts.specs.declared.bundle.Bundle.{Bundle}
 use Rattle.drv_scripts.specs.declared.reason.Reason.{Reason}
-use Rattle.drv_scripts.specs.Verdict.{most_bytes, Accepts, Refuses}
-use Rattle.drv_scripts.proofs.Verdicts.{never_both}
+use Rattle.drv_scripts.specs.Verdict.{most_bytes}
+use Rattle.clk_run.specs.Built.{SpellsRun, RefusesRun}
+use Rattle.clk_run.proofs.RunVerdicts.{run_never_both}
 use Rattle.clk_run.specs.Outcomes.{GivesBundle, RefusesInput, Decides, status_of}
 
 -- what was taken to the end is what was left
@@ -35,7 +36,7 @@ pub gives_decides : (left left' : Option (List ℕ)) (b : Bundle) → GivesBundl
 gives_decides left left' b gives = record {
   accepts = λ bytes c is spelled. inl refl;
   refuses = λ bytes line reason is no.
-      absurd (never_both bytes b line reason (subst (λ (xs : List ℕ). Accepts xs b) (taken_all left left' bytes gives.0 is gives.1) gives.2) no);
+      absurd (run_never_both bytes b line reason (subst (λ (xs : List ℕ). SpellsRun xs b) (taken_all left left' bytes gives.0 is gives.1) gives.2) no);
 }
 
 -- the bytes that were taken are refused
@@ -44,14 +45,14 @@ refuses_decides left left' line reason refuses = record {
   accepts = λ bytes b is spelled. absurd (no bytes b is spelled refuses);
   refuses = λ bytes other why is not. inl refl;
 } where
-  no : (bytes : List ℕ) (b : Bundle) → left ≡ Some bytes → Accepts bytes b → RefusesInput left left' line reason → ⊥
+  no : (bytes : List ℕ) (b : Bundle) → left ≡ Some bytes → SpellsRun bytes b → RefusesInput left left' line reason → ⊥
   no bytes b is spelled (inl more) =
       let fits = taken_fits left left' bytes more.0.0 is more.0.2 in
       let over = more.0.1 in
-      let few = spelled.begins.fits in
+      let few = spelled.spelled.fits in
       omega arith
   no bytes b is spelled (inr all) =
-      never_both bytes b line reason spelled (subst (λ (xs : List ℕ). Refuses xs line reason) (taken_all left left' bytes all.0 is all.1) all.2)
+      run_never_both bytes b line reason spelled (subst (λ (xs : List ℕ). RefusesRun xs line reason) (taken_all left left' bytes all.0 is all.1) all.2)
 
 -- memory ran out
 pub short_decides : (left : Option (List ℕ)) → Decides left 3

@@ -1,5 +1,5 @@
 -- What a run leaves: its text, and the registers in the bank.
-use Rattle.std.proofs.Common.{◌≡◌, ℕ, Bool, true, List, Option, Some, None, Result, Ok, Err, refl, sym, ap, subst, ◌∙◌, inr}
+use Rattle.std.proofs.Common.{◌≡◌, ℕ, Bool, true, List, Option, Some, None, Result, Ok, Err, refl, sym, ap, subst, ◌∙◌, inr, arith}
 use Rattle.std.specs.Prelude.{is_some, take, IfSome, IfErr}
 use Rattle.clk_io.specs.declared.faults.PrintFault.{PrintFault}
 use Rattle.clk_io.specs.declared.faults.PrintFault.TheVariants as print_fault
@@ -10,6 +10,7 @@ use Rattle.clk_model.specs.Journal.{replay, Legal}
 use Rattle.drv_scripts.specs.declared.bundle.Bundle.{Bundle}
 use Rattle.clk_cli.specs.declared.cli.Cli.{Cli}
 use Rattle.clk_machine.specs.Run.{Run}
+use Rattle.clk_run.specs.Outcomes.{status_of}
 use Rattle.clk_run.specs.Runs.{drivers_in, opening_of, run_text, IsTextOf, HasRun, PrintedFront, LeftByFault}
 
 -- a core that has run a bundle from its opening gives the text of a run of it
@@ -44,3 +45,9 @@ pub left_by : {T : Type 0} (b : Bundle) (cli : Cli) (told : Bool) (old new : Opt
 left_by b cli told old new (Ok x) front = tt
 left_by b cli told old new (Err print_fault.Write) front = front
 left_by b cli told old new (Err print_fault.NoMemory) front = inr front
+
+-- a fault with status 5 left a front of the text
+pub front_by : (b : Bundle) (cli : Cli) (told : Bool) (old new : Option (List ℕ)) (fault : PrintFault) (status : ℕ) → LeftByFault b cli told old new fault → status ≡ status_of fault → status ≡ 5
+    → PrintedFront b cli told old new
+front_by b cli told old new print_fault.Write status left is five = left
+front_by b cli told old new print_fault.NoMemory status left is five = absurd (omega (arith, is, five))

@@ -5,3 +5,6 @@ pub mod Acts
 pub mod Readiness
 pub mod Deciding
 pub mod Leaving
+pub mod Saying
+pub mod RunVerdicts
+pub mod Fitness

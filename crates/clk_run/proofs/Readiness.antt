@@ -4,18 +4,21 @@ use Rattle.std.proofs.lemmas.List.{take_all}
 use Rattle.std.specs.List.{AllByRecursion}
 use Rattle.std.specs.Option.{option_to_list}
 use Rattle.std.specs.Str.Lines.{lines}
+use Rattle.clk_base.specs.Description.{Description}
 use Rattle.clk_base.specs.declared.command.Command.{Command}
 use Rattle.clk_base.proofs.Valid.{length-valid}
 use Rattle.drv_scripts.specs.declared.bundle.Bundle.{Bundle}
 use Rattle.drv_scripts.specs.declared.bundle.Script.{Script}
 use Rattle.drv_scripts.specs.Form.{words_end}
 use Rattle.drv_scripts.specs.Placed.{IsSound, IsScript}
-use Rattle.drv_scripts.specs.Spelled.{boot_of, script_at, scripts_of, bundle_of}
-use Rattle.drv_scripts.specs.Verdict.{Accepts}
+use Rattle.drv_scripts.specs.Spelled.{boot_of, script_at, scripts_of}
+use Rattle.clk_run.specs.Built.{SpellsRun}
+use Rattle.clk_run.proofs.Fitness.{fit_all}
 use Rattle.clk_cli.specs.declared.cli.Mode.{Mode}
 use Rattle.clk_cli.specs.declared.cli.Mode.TheVariants.{Check, Sim, Run, Bench}
 use Rattle.clk_run.specs.Runs.{are_built, credits_of, drivers_in, IsReady}
-use Rattle.clk_run.proofs.Acts.{spelled_built}
+use Rattle.clk_run.proofs.Acts.{scripts_built}
+use Rattle.drv_scripts.proofs.Verdicts.{drivers_are, boot_is}
 use Rattle.clk_run.proofs.Going.{length-boot_of}
 
 -- ---- few drivers
@@ -24,27 +27,29 @@ few_of : (o : Option Script) → length (option_to_list o) ≤ 1
 few_of None = omega arith
 few_of (Some s) = omega arith
 
-script_few : (ls : List (List ℕ)) (at : ℕ) → length (script_at ls at) ≤ 1
+script_few : (defs : Description) (ls : List (List ℕ)) (at : ℕ) → length (script_at defs ls at) ≤ 1
 unfolding script_at
-script_few ls at = few_of _
+script_few defs ls at = few_of _
 
-scripts_few : (ls : List (List ℕ)) → length (scripts_of ls) ≤ 1
+scripts_few : (defs : Description) (ls : List (List ℕ)) → length (scripts_of defs ls) ≤ 1
 unfolding scripts_of
-scripts_few ls = pick (nat_lt (words_end ls) (length ls)) where
-  pick : (b : Bool) → length (cond b (script_at ls (words_end ls)) []) ≤ 1
-  pick true = script_few ls (words_end ls)
+scripts_few defs ls = pick (nat_lt (words_end ls) (length ls)) where
+  pick : (b : Bool) → length (cond b (script_at defs ls (words_end ls)) []) ≤ 1
+  pick true = script_few defs ls (words_end ls)
   pick false = omega arith
 
 -- ---- ready
 
-pub ready : (bytes : List ℕ) (b : Bundle) → Accepts bytes b → IsSound b → IsReady b
-unfolding bundle_of
-ready bytes b spelled sound = record {
-  sound = sound;
-  boot = ap (λ (x : Bundle). x.boot) spelled.content ∙ ap (λ (x : Bundle). boot_of (length x.desc.defs)) (sym spelled.content);
-  few = subst (λ (drivers : List Script). length drivers ≤ 1) (ap (λ (x : Bundle). x.drivers) (sym spelled.content)) (scripts_few _);
-  built = subst (λ (drivers : List Script). AllByRecursion (λ s. are_built s.commands ≡ true) drivers) (ap (λ (x : Bundle). x.drivers) (sym spelled.content)) (spelled_built (lines bytes));
-}
+pub ready : (bytes : List ℕ) (b : Bundle) → SpellsRun bytes b → IsSound b → IsReady b
+ready bytes b runs sound =
+    let drivers = sym (drivers_are bytes b runs.spelled) in
+    record {
+      sound = sound;
+      fit = fit_all b.desc.defs b.clock_lines b.assigned_lines runs.built;
+      boot = boot_is bytes b runs.spelled;
+      few = subst (λ (found : List Script). length found ≤ 1) drivers (scripts_few b.desc.defs (lines bytes));
+      built = subst (λ (found : List Script). AllByRecursion (λ s. are_built s.commands ≡ true) found) drivers (scripts_built b.desc.defs (lines bytes));
+    }
 
 sum_few : (clocks : ℕ) (drivers : List Script) → length drivers ≤ 1 → AllByRecursion (IsScript clocks) drivers → sum_by (λ s. length s.commands) drivers ≤ 65536
 sum_few clocks [] few all = omega arith

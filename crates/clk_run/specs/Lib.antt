@@ -2,3 +2,4 @@ pub mod Scripts
 pub mod Runs
 pub mod Refusals
 pub mod Outcomes
+pub mod Built

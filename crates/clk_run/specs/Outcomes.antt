@@ -10,7 +10,8 @@ use Rattle.clk_io.specs.declared.faults.PrintFault.TheVariants as print_fault
 use Rattle.drv_scripts.specs.declared.bundle.Bundle.{Bundle}
 use Rattle.drv_scripts.specs.declared.reason.Reason.{Reason}
 use Rattle.drv_scripts.specs.declared.reason.Reason.TheVariants.{TooLong}
-use Rattle.drv_scripts.specs.Verdict.{most_bytes, Accepts, Refuses}
+use Rattle.drv_scripts.specs.Verdict.{most_bytes}
+use Rattle.clk_run.specs.Built.{SpellsRun, RefusesRun}
 use Rattle.clk_run.specs.declared.sim.Stop.{Stop}
 use Rattle.clk_run.specs.declared.sim.Stop.TheVariants as stop
 use Rattle.clk_run.specs.Refusals.{refusal_text}
@@ -18,14 +19,14 @@ use Rattle.clk_run.specs.Runs.{Printed, PrintedFront}
 
 -- ---- reading
 
--- all that was left of the source spells this bundle
+-- all that was left of the source spells this bundle, and all of it can be run
 abbrev pub GivesBundle : Option (List ℕ) → Option (List ℕ) → Bundle → Type 0
-GivesBundle old new b = (bytes : List ℕ) × TakesAll most_bytes old new bytes × Accepts bytes b
+GivesBundle old new b = (bytes : List ℕ) × TakesAll most_bytes old new bytes × SpellsRun bytes b
 
 -- what was left of the source is refused at this line for this reason: it is too much, or it spells no bundle that can be run
 abbrev pub RefusesInput : Option (List ℕ) → Option (List ℕ) → ℕ → Reason → Type 0
 RefusesInput old new line reason =
-    (TakesMore most_bytes old new × (line ≡ 0) × (reason ≡ TooLong)) ⊎ ((bytes : List ℕ) × TakesAll most_bytes old new bytes × Refuses bytes line reason)
+    (TakesMore most_bytes old new × (line ≡ 0) × (reason ≡ TooLong)) ⊎ ((bytes : List ℕ) × TakesAll most_bytes old new bytes × RefusesRun bytes line reason)
 
 -- why no bundle came from a source: its bytes are refused, or its count of faults rose; want of memory has no cause
 abbrev pub StopsReading : Option (List ℕ) → Option (List ℕ) → ℕ → ℕ → Stop → Type 0
@@ -75,10 +76,10 @@ NoFault before now before' now' = (Rose before now → ⊥) × (Rose before' now
 abbrev pub EndsWith : ℕ → ℕ → Type 0
 EndsWith wanted status = (status ≡ wanted) ⊎ (status ≡ 3)
 
--- bytes that were left of the source and spell a bundle end in status 0, and those that are refused in status 2
+-- bytes that were left of the source and spell a bundle that can be run end in status 0, and those that are refused in status 2
 pub record Decides (left : Option (List ℕ)) (status : ℕ) : Type 0 where
-  pub accepts : (bytes : List ℕ) (b : Bundle) → left ≡ Some bytes → Accepts bytes b → EndsWith 0 status
-  pub refuses : (bytes : List ℕ) (line : ℕ) (reason : Reason) → left ≡ Some bytes → Refuses bytes line reason → EndsWith 2 status
+  pub accepts : (bytes : List ℕ) (b : Bundle) → left ≡ Some bytes → SpellsRun bytes b → EndsWith 0 status
+  pub refuses : (bytes : List ℕ) (line : ℕ) (reason : Reason) → left ≡ Some bytes → RefusesRun bytes line reason → EndsWith 2 status
 
 -- ---- the program, by what its words mean
 

@@ -22,6 +22,7 @@ use Rattle.drv_scripts.specs.Spelled.{boot_of}
 use Rattle.clk_cli.specs.declared.cli.Cli.{Cli}
 use Rattle.clk_cli.specs.declared.cli.Mode.{Mode}
 use Rattle.clk_cli.specs.declared.cli.Mode.TheVariants.{Check, Sim, Run, Bench}
+use Rattle.clk_machine.specs.Held.{CanRun}
 use Rattle.clk_machine.specs.Run as cores
 use Rattle.clk_run.specs.Scripts.{is_built_act}
 
@@ -116,6 +117,7 @@ pub record HasRun (boot : List Command) (drivers : List Script) (answers : List 
 -- a bundle that can be run: its parts fit together, boot registers each clock, and each command of its driver can be run so far
 pub record IsReady (b : Bundle) : Type 0 where
   pub sound : IsSound b
+  pub fit : CanRun b.desc.defs
   pub boot : b.boot ≡ boot_of (length b.desc.defs)
   pub few : length b.drivers ≤ 1
   pub built : AllByRecursion (λ s. are_built s.commands ≡ true) b.drivers

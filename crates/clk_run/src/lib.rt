@@ -13,11 +13,14 @@ mod script;
 mod scripts;
 mod sim;
 mod top;
+mod unbuilt;
+mod verdict;
 mod words;
 
 pub use reading::check_bundle;
 pub use sim::simulate;
 pub use top::clkbench;
+pub use verdict::one_run_verdict;
 
 #[cfg(test)]
 mod tests;

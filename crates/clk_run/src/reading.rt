@@ -2,16 +2,30 @@
 
 ghost use Rattle.std.specs.Prelude.{IfOk, IfErr};
 ghost use Rattle.drv_scripts.specs.Placed.{IsSound};
-ghost use Rattle.drv_scripts.specs.Verdict.{Accepts, IsFaultOf};
+ghost use Rattle.clk_run.specs.Built.{SpellsRun, IsRunFault};
 
-use drv_scripts::{Bundle, BundleFault, read_bundle};
+use crate::unbuilt::least_unbuilt;
+use drv_scripts::{Bundle, BundleFault, Reason, read_bundle};
 use std::alloc::Global;
 
-/// The bundle that bytes spell. So far each bundle that can be read can be run.
+/// The bundle that bytes spell, where all of it can be run so far. Clocks that no core can run and
+/// nodes with assigned clocks are refused with `NotYet`, at the least of their lines.
 pub fn check_bundle(alloc: Global, bytes: &[u8]) -> Result<Bundle, BundleFault>
-    ensures accepted { IfOk result (Accepts bytes.now) }
+    ensures accepted { IfOk result (SpellsRun bytes.now) }
     ensures sound { IfOk result IsSound }
-    ensures refused { IfErr result (IsFaultOf bytes.now) }
+    ensures refused { IfErr result (IsRunFault bytes.now) }
 {
-    read_bundle(alloc, bytes)
+    let bundle = match read_bundle(alloc, bytes) {
+        Ok(bundle) => bundle,
+        Err(fault) => return Err(fault),
+    };
+    let clock_lines = bundle.clock_lines.as_slice();
+    let assigned_lines = bundle.assigned_lines.as_slice();
+    match least_unbuilt(alloc, &bundle.desc, clock_lines, assigned_lines)? {
+        None => Ok(bundle),
+        Some(line) => Err(BundleFault::Refused {
+            line,
+            reason: Reason::NotYet,
+        }),
+    }
 }

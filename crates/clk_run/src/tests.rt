@@ -1,6 +1,8 @@
 //! Runs of the program, each with what it has to print.
 
 mod faults;
+mod ill_formed;
+mod reading;
 mod refusals;
 mod rows;
 mod running;

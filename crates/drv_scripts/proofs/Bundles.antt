@@ -1,14 +1,13 @@
 -- The bundle that lines spell, and what holds of it.
 use Rattle.std.proofs.Common.{◌≡◌, ℕ, zero, suc, ◌+◌, ◌-◌, ◌<◌, ◌≤◌, Bool, true, false, ◌&&◌, cond, List, [], ◌∷◌, map, length, Option, Some, None, IfSome, refl, ap, sym, ◌∙◌, subst, inl, inr, nat_lt, arith}
 use Rattle.std.specs.List.{range_with_len, AllByRecursion}
-use Rattle.std.specs.Option.{option_map, option_to_list, unwrap_or}
+use Rattle.std.specs.Option.{option_map, option_to_list}
 use Rattle.std.specs.Str.{bytes_eq}
 use Rattle.std.proofs.lemmas.Bool.{cases_lt, and_parts, ltb-true, lt-ltb, le-ltb, cond-true, cond-false}
 use Rattle.clk_base.specs.declared.clock.ClockId.{ClockId}
 use Rattle.clk_base.specs.declared.command.Act.{Act}
 use Rattle.clk_base.specs.declared.command.Act.TheVariants.{Get, Prepare, Unprepare, Enable, Disable, Running, GetRate}
 use Rattle.clk_base.specs.declared.command.Command.{Command}
-use Rattle.clk_base.specs.Checked.{Checked}
 use Rattle.clk_base.specs.Description.{Description, clock_named}
 use Rattle.clk_base.proofs.Names.{clock_named-Some}
 use Rattle.bundle_text.specs.Firsts.{KeepsBelow, said_from, onto}
@@ -20,9 +19,14 @@ use Rattle.drv_scripts.specs.declared.bundle.Script.{Script}
 use Rattle.drv_scripts.specs.declared.reason.Reason.TheVariants.{NotYet}
 use Rattle.drv_scripts.specs.CommandLines.{CommandLine, gets, acts, act_of, act_in, driver_line, command_line, command_in}
 use Rattle.bundle_text.specs.Names.{is_variable}
-use Rattle.drv_scripts.specs.Form.{clocks_end, words_end, bank_size, clocks_before, words_before, variables_before, keeps_form, keeps_command, fault_at, unless, command_at}
+use Rattle.drv_scripts.specs.Form.{clocks_end, words_end, words_before, variables_before, keeps_form, keeps_command, fault_at, unless, command_at}
 use Rattle.drv_scripts.specs.Placed.{NamesPlace, NamePlaces, IsScript, IsSound}
-use Rattle.drv_scripts.specs.Sections.{SpellsDesc}
+use Rattle.bundle_clocks.specs.Said.{SaidClocks}
+use Rattle.clk_base.specs.Checked.{Checked}
+use Rattle.clk_base.specs.Valid.{IsValid}
+use Rattle.bundle_sections.specs.Said.{Parts}
+use Rattle.drv_scripts.specs.declared.bundle.Bundle.{Bundle}
+use Rattle.drv_scripts.proofs.Divided.{Lie}
 use Rattle.drv_scripts.specs.Spelled.{probe, boot_of, commands_from, script_at, scripts_of, bundle_of}
 use Rattle.drv_scripts.proofs.Places.{form-command}
 
@@ -82,10 +86,9 @@ unfolding command_in
 command_placed defs vars line None h = tt
 command_placed defs vars line (Some said) h = h
 
-command_at-placed : (ls : List (List ℕ)) (k : ℕ) → IfSome (command_at ls k) (λ command. NamesPlace (length (clocks_before ls (clocks_end ls))) command.act)
+command_at-placed : (defs : Description) (ls : List (List ℕ)) (k : ℕ) → IfSome (command_at defs ls k) (λ command. NamesPlace (length defs) command.act)
 unfolding command_at
-command_at-placed ls k =
-    let defs = clocks_before ls (clocks_end ls) in
+command_at-placed defs ls k =
     command_placed defs (variables_before ls k) (k + 1) (command_line (spaced_words (line_at ls k))) (command_line-placed defs (spaced_words (line_at ls k)))
 
 onto_placed : (clocks : ℕ) (found : Option Command) (commands : List Command) → IfSome found (λ command. NamesPlace clocks command.act) → NamePlaces clocks commands → NamePlaces clocks (onto found commands)
@@ -96,9 +99,9 @@ said_placed : (clocks : ℕ) (said : ℕ → Option Command) → ((k : ℕ) → 
 said_placed clocks said each from zero = tt
 said_placed clocks said each from (suc count) = onto_placed clocks (said from) (said_from said (from + 1) count) (each from) (said_placed clocks said each (from + 1) count)
 
-commands_placed : (ls : List (List ℕ)) (from : ℕ) → NamePlaces (length (clocks_before ls (clocks_end ls))) (commands_from ls from)
+commands_placed : (defs : Description) (ls : List (List ℕ)) (from : ℕ) → NamePlaces (length defs) (commands_from defs ls from)
 unfolding commands_from
-commands_placed ls from = said_placed (length (clocks_before ls (clocks_end ls))) (command_at ls) (command_at-placed ls) from (length ls - from)
+commands_placed defs ls from = said_placed (length defs) (command_at defs ls) (command_at-placed defs ls) from (length ls - from)
 
 -- ## How many commands there are
 
@@ -115,26 +118,26 @@ unless_none true h = refl
 unless_none false h = absurd (some_none NotYet h)
 
 -- a command is among the first where it has no fault
-command_few : (ls : List (List ℕ)) (k : ℕ) → 2 ≤ clocks_end ls → clocks_end ls < words_end ls → words_end ls < k → fault_at ls k ≡ None → k - (words_end ls + 1) < 65536
+command_few : (ls : List (List ℕ)) (size k : ℕ) → 2 ≤ clocks_end ls → clocks_end ls < words_end ls → words_end ls < k → fault_at ls size k ≡ None → k - (words_end ls + 1) < 65536
 unfolding keeps_command
-command_few ls k low order behind kept =
-    let holds : keeps_command ls k ≡ true = sym (form-command ls k (omega arith) order behind) ∙ unless_none (keeps_form ls k) kept in
+command_few ls size k low order behind kept =
+    let holds : keeps_command ls k ≡ true = sym (form-command ls size k (omega arith) order behind) ∙ unless_none (keeps_form ls size k) kept in
     ltb-true _ 65536 (and_parts _ _ holds).0
 
-rows_few : (ls : List (List ℕ)) → 2 ≤ clocks_end ls → clocks_end ls < words_end ls → KeepsBelow (fault_at ls) (length ls) → length ls - (words_end ls + 1) ≤ 65536
-rows_few ls low order kept =
+rows_few : (ls : List (List ℕ)) (size : ℕ) → 2 ≤ clocks_end ls → clocks_end ls < words_end ls → KeepsBelow (fault_at ls size) (length ls) → length ls - (words_end ls + 1) ≤ 65536
+rows_few ls size low order kept =
     elim (cases_lt (words_end ls + 1) (length ls)) [
       | inl some ↦
           (let last = length ls - 1 in
-          let few : last - (words_end ls + 1) < 65536 = command_few ls last low order (omega arith) (kept last (omega arith)) in
+          let few : last - (words_end ls + 1) < 65536 = command_few ls size last low order (omega arith) (kept last (omega arith)) in
           omega arith)
       | inr none ↦ omega arith
     ]
 
-commands_few : (ls : List (List ℕ)) → 2 ≤ clocks_end ls → clocks_end ls < words_end ls → KeepsBelow (fault_at ls) (length ls) → length (commands_from ls (words_end ls + 1)) ≤ 65536
+commands_few : (defs : Description) (ls : List (List ℕ)) (size : ℕ) → 2 ≤ clocks_end ls → clocks_end ls < words_end ls → KeepsBelow (fault_at ls size) (length ls) → length (commands_from defs ls (words_end ls + 1)) ≤ 65536
 unfolding commands_from
-commands_few ls low order kept =
-    omega (arith, length-said_from (command_at ls) (words_end ls + 1) (length ls - (words_end ls + 1)), rows_few ls low order kept)
+commands_few defs ls size low order kept =
+    omega (arith, length-said_from (command_at defs ls) (words_end ls + 1) (length ls - (words_end ls + 1)), rows_few ls size low order kept)
 
 -- ## The driver
 
@@ -143,57 +146,75 @@ named_script : (clocks : ℕ) (commands : List Command) (name : Option (List ℕ
 named_script clocks commands None placed few = tt
 named_script clocks commands (Some name) placed few = (record { placed = placed; few = few }, tt)
 
-script_sound : (ls : List (List ℕ)) → 2 ≤ clocks_end ls → clocks_end ls < words_end ls → KeepsBelow (fault_at ls) (length ls)
-    → AllByRecursion (IsScript (length (clocks_before ls (clocks_end ls)))) (script_at ls (words_end ls))
+script_sound : (defs : Description) (ls : List (List ℕ)) (size : ℕ) → 2 ≤ clocks_end ls → clocks_end ls < words_end ls → KeepsBelow (fault_at ls size) (length ls)
+    → AllByRecursion (IsScript (length defs)) (script_at defs ls (words_end ls))
 unfolding script_at
-script_sound ls low order kept =
-    named_script (length (clocks_before ls (clocks_end ls))) (commands_from ls (words_end ls + 1)) (driver_line (spaced_words (line_at ls (words_end ls)))) (commands_placed ls (words_end ls + 1)) (commands_few ls low order kept)
+script_sound defs ls size low order kept =
+    named_script (length defs) (commands_from defs ls (words_end ls + 1)) (driver_line (spaced_words (line_at ls (words_end ls)))) (commands_placed defs ls (words_end ls + 1)) (commands_few defs ls size low order kept)
 
-scripts_sound : (ls : List (List ℕ)) → KeepsBelow (fault_at ls) (length ls) → AllByRecursion (IsScript (length (clocks_before ls (clocks_end ls)))) (scripts_of ls)
+scripts_sound : (defs : Description) (ls : List (List ℕ)) (size : ℕ) → KeepsBelow (fault_at ls size) (length ls) → AllByRecursion (IsScript (length defs)) (scripts_of defs ls)
 unfolding scripts_of
-scripts_sound ls kept =
+scripts_sound defs ls size kept =
     let low = header_from-ge ls 2 in
     let order = header_from-ge ls (clocks_end ls + 1) in
-    elim (nat_lt (words_end ls) (length ls)) as (λ b. AllByRecursion (IsScript (length (clocks_before ls (clocks_end ls)))) (cond b (script_at ls (words_end ls)) []))
-    [ true ↦ script_sound ls low (omega arith) kept | false ↦ tt ]
+    elim (nat_lt (words_end ls) (length ls)) as (λ b. AllByRecursion (IsScript (length defs)) (cond b (script_at defs ls (words_end ls)) []))
+    [ true ↦ script_sound defs ls size low (omega arith) kept | false ↦ tt ]
 
-pub scripts_of-some : (ls : List (List ℕ)) (at : ℕ) → at ≡ words_end ls → at < length ls → scripts_of ls ≡ script_at ls at
+pub scripts_of-some : (defs : Description) (ls : List (List ℕ)) (at : ℕ) → at ≡ words_end ls → at < length ls → scripts_of defs ls ≡ script_at defs ls at
 unfolding scripts_of
-scripts_of-some ls at here inside =
-    cond-true _ _ _ (lt-ltb (words_end ls) (length ls) (omega arith)) ∙ ap (script_at ls) (sym here)
+scripts_of-some defs ls at here inside =
+    cond-true _ _ _ (lt-ltb (words_end ls) (length ls) (omega arith)) ∙ ap (script_at defs ls) (sym here)
 
-pub scripts_of-none : (ls : List (List ℕ)) (at : ℕ) → at ≡ words_end ls → length ls ≤ at → scripts_of ls ≡ []
+pub scripts_of-none : (defs : Description) (ls : List (List ℕ)) (at : ℕ) → at ≡ words_end ls → length ls ≤ at → scripts_of defs ls ≡ []
 unfolding scripts_of
-scripts_of-none ls at here outside = cond-false _ _ _ (le-ltb (words_end ls) (length ls) (omega arith))
+scripts_of-none defs ls at here outside = cond-false _ _ _ (le-ltb (words_end ls) (length ls) (omega arith))
 
 -- ## The bundle
 
-pub desc_is : (ls : List (List ℕ)) (desc : Checked) → SpellsDesc ls desc → desc ≡ record { defs = clocks_before ls (clocks_end ls); words = unwrap_or (bank_size ls) 0 }
-desc_is ls desc read =
-    ap (λ defs. record { defs = defs; words = desc.words }) read.defs
-    ∙ ap (λ size. record { defs = clocks_before ls (clocks_end ls); words = unwrap_or size 0 }) (sym read.size)
-
 -- the parts that were read are those that the lines spell
-pub bundle_is : (ls : List (List ℕ)) (desc : Checked) (numbers words : List ℕ) (boot : List Command) (drivers : List Script)
-    → SpellsDesc ls desc → numbers ≡ range_with_len 3 (clocks_end ls - 2) → words ≡ words_before ls (words_end ls) → boot ≡ boot_of (length desc.defs) → drivers ≡ scripts_of ls
-    → record { desc = desc; clock_lines = numbers; assigned_lines = []; words = words; locks = []; late = []; boot = boot; drivers = drivers; order = [] } ≡ bundle_of ls
+pub bundle_is : (ls : List (List ℕ)) (desc : Checked) (numbers assigned words : List ℕ) (boot : List Command) (drivers : List Script)
+    → words ≡ words_before ls desc.words (words_end ls) → boot ≡ boot_of (length desc.defs) → drivers ≡ scripts_of desc.defs ls
+    → record { desc = desc; clock_lines = numbers; assigned_lines = assigned; words = words; locks = []; late = []; boot = boot; drivers = drivers; order = [] }
+    ≡ bundle_of ls desc.words (record { defs = desc.defs; lines = numbers; assigned = assigned })
 unfolding bundle_of
-bundle_is ls desc numbers words boot drivers read a b c d =
-    let defs_are = desc_is ls desc read in
-    let boot_is : boot ≡ boot_of (length (clocks_before ls (clocks_end ls))) = c ∙ ap (λ defs. boot_of (length defs)) read.defs in
-    cc
+bundle_is ls desc numbers assigned words boot drivers a b c = cc
 
--- and they fit together
-pub bundle_sound : (ls : List (List ℕ)) (desc : Checked) (numbers words : List ℕ) (boot : List Command) (drivers : List Script)
-    → SpellsDesc ls desc → KeepsBelow (fault_at ls) (length ls) → length words ≡ desc.words → boot ≡ boot_of (length desc.defs) → drivers ≡ scripts_of ls
-    → IsSound (record { desc = desc; clock_lines = numbers; assigned_lines = []; words = words; locks = []; late = []; boot = boot; drivers = drivers; order = [] })
-bundle_sound ls desc numbers words boot drivers read kept a b c = record {
-  valid = read.valid;
-  plain = read.plain;
-  unflagged = read.unflagged;
-  some = read.some;
-  few = read.few;
-  words = a;
-  boot = subst (NamePlaces (length desc.defs)) (sym b) (boot_placed (length desc.defs));
-  scripts = subst (λ ds. AllByRecursion (IsScript (length ds)) drivers) (sym read.defs) (subst (AllByRecursion (IsScript (length (clocks_before ls (clocks_end ls))))) (sym c) (scripts_sound ls kept));
+-- a bundle of lines with the form fits together
+pub bundle_sound : (ls : List (List ℕ)) (size : ℕ) (said : SaidClocks) → KeepsBelow (fault_at ls size) (length ls) → IsValid size said.defs → length said.lines ≡ length said.defs → 0 < size → size ≤ 65536
+    → length (bundle_of ls size said).words ≡ size → IsSound (bundle_of ls size said)
+unfolding bundle_of
+bundle_sound ls size said kept valid count some few words = record {
+  valid = valid;
+  lines = count;
+  some = some;
+  few = few;
+  words = words;
+  boot = boot_placed (length said.defs);
+  scripts = scripts_sound said.defs ls size kept;
 }
+
+-- the parts of a bundle
+pub drivers_of : (ls : List (List ℕ)) (size : ℕ) (said : SaidClocks) → (bundle_of ls size said).drivers ≡ scripts_of said.defs ls
+unfolding bundle_of
+drivers_of ls size said = refl
+
+pub boot_commands_of : (ls : List (List ℕ)) (size : ℕ) (said : SaidClocks) → (bundle_of ls size said).boot ≡ boot_of (length said.defs)
+unfolding bundle_of
+boot_commands_of ls size said = refl
+
+pub desc_of : (ls : List (List ℕ)) (size : ℕ) (said : SaidClocks) → (bundle_of ls size said).desc ≡ record { defs = said.defs; words = size }
+unfolding bundle_of
+desc_of ls size said = refl
+
+-- a bundle that was read fits together
+pub parts_sound : (ls : List (List ℕ)) (parts : Parts) (desc : Checked) (defs : Description) (numbers assigned : List ℕ) (b : Bundle) → Lie ls parts → desc ≡ record { defs = defs; words = parts.bank.words }
+    → IsValid parts.bank.words defs → length numbers ≡ length defs → KeepsBelow (fault_at ls desc.words) (length ls)
+    → b ≡ bundle_of ls desc.words (record { defs = desc.defs; lines = numbers; assigned = assigned }) → length b.words ≡ desc.words → IsSound b
+parts_sound ls parts desc defs numbers assigned b lie same valid count kept content words =
+    let size = parts.bank.words in
+    let said : SaidClocks = record { defs = defs; lines = numbers; assigned = assigned } in
+    let size_is : desc.words ≡ size = ap (λ d. d.words) same in
+    let content_is : b ≡ bundle_of ls size said = content ∙ ap (λ d. bundle_of ls d.words (record { defs = d.defs; lines = numbers; assigned = assigned })) same in
+    let kept_is = subst (λ n. KeepsBelow (fault_at ls n) (length ls)) size_is kept in
+    let words_are : length (bundle_of ls size said).words ≡ size = sym (ap (λ bundle. length bundle.words) content_is) ∙ (words ∙ size_is) in
+    subst IsSound (sym content_is) (bundle_sound ls size said kept_is valid count lie.some lie.few words_are)

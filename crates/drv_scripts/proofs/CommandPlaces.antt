@@ -12,23 +12,23 @@ use Rattle.bundle_text.specs.Lines.{line_at}
 use Rattle.bundle_text.specs.Words.{spaced_words}
 use Rattle.drv_scripts.specs.declared.reason.Reason.TheVariants.{NotYet}
 use Rattle.drv_scripts.specs.CommandLines.{CommandLine, gets, acts, driver_line, command_line, command_in, has_variable, after_command, after_line, with_variable}
-use Rattle.drv_scripts.specs.Form.{clocks_end, words_end, clocks_before, variables_before, lines_between, keeps_driver, keeps_command, keeps_form, fault_at, command_at}
+use Rattle.drv_scripts.specs.Form.{clocks_end, words_end, variables_before, lines_between, keeps_driver, keeps_command, keeps_form, fault_at, command_at}
 use Rattle.drv_scripts.specs.Sections.{AtCommand}
 use Rattle.drv_scripts.proofs.Places.{form-driver, form-command, first_at, kept_more, fold-lines_more, fold-lines_none}
 
 -- ## The header
 
-driver_here : (ls : List (List ℕ)) (k : ℕ) (said : Option (List ℕ)) → 2 ≤ clocks_end ls → clocks_end ls < words_end ls → k ≡ words_end ls → driver_line (spaced_words (line_at ls k)) ≡ said → keeps_form ls k ≡ is_some said
+driver_here : (ls : List (List ℕ)) (size k : ℕ) (said : Option (List ℕ)) → 2 ≤ clocks_end ls → clocks_end ls < words_end ls → k ≡ words_end ls → driver_line (spaced_words (line_at ls k)) ≡ said → keeps_form ls size k ≡ is_some said
 unfolding keeps_driver
-driver_here ls k said low order here e = form-driver ls k (omega arith) (omega arith) here ∙ ap is_some e
+driver_here ls size k said low order here e = form-driver ls size k (omega arith) (omega arith) here ∙ ap is_some e
 
-pub first-unnamed : (ls : List (List ℕ)) (k : ℕ) → 2 ≤ clocks_end ls → clocks_end ls < words_end ls → k ≡ words_end ls → k < length ls → KeepsBelow (fault_at ls) k
-    → driver_line (spaced_words (line_at ls k)) ≡ None → First (fault_at ls) (length ls) k NotYet
-first-unnamed ls k low order here within kept said = first_at ls k within kept (driver_here ls k None low order here said)
+pub first-unnamed : (ls : List (List ℕ)) (size k : ℕ) → 2 ≤ clocks_end ls → clocks_end ls < words_end ls → k ≡ words_end ls → k < length ls → KeepsBelow (fault_at ls size) k
+    → driver_line (spaced_words (line_at ls k)) ≡ None → First (fault_at ls size) (length ls) k NotYet
+first-unnamed ls size k low order here within kept said = first_at ls size k within kept (driver_here ls size k None low order here said)
 
-pub kept-named : (ls : List (List ℕ)) (k : ℕ) (name : List ℕ) → 2 ≤ clocks_end ls → clocks_end ls < words_end ls → k ≡ words_end ls → KeepsBelow (fault_at ls) k
-    → driver_line (spaced_words (line_at ls k)) ≡ Some name → KeepsBelow (fault_at ls) (k + 1)
-kept-named ls k name low order here kept said = kept_more ls k kept (driver_here ls k (Some name) low order here said)
+pub kept-named : (ls : List (List ℕ)) (size k : ℕ) (name : List ℕ) → 2 ≤ clocks_end ls → clocks_end ls < words_end ls → k ≡ words_end ls → KeepsBelow (fault_at ls size) k
+    → driver_line (spaced_words (line_at ls k)) ≡ Some name → KeepsBelow (fault_at ls size) (k + 1)
+kept-named ls size k name low order here kept said = kept_more ls size k kept (driver_here ls size k (Some name) low order here said)
 
 -- ## Variables
 
@@ -72,46 +72,45 @@ keeps_command-said : (ls : List (List ℕ)) (k : ℕ) (said : Option CommandLine
 unfolding keeps_command
 keeps_command-said ls k said e = ap (λ o. nat_lt (k - (words_end ls + 1)) 65536 && option_map_or (has_variable (variables_before ls k)) o false) e
 
-form_here : (ls : List (List ℕ)) (k : ℕ) (before : List (List ℕ)) (said : Option CommandLine) → AtCommand ls k before → command_line (spaced_words (line_at ls k)) ≡ said
-    → keeps_form ls k ≡ (nat_lt (k - (words_end ls + 1)) 65536 && option_map_or (has_variable before) said false)
-form_here ls k before said at e =
-    form-command ls k (omega (arith, at.low, at.order, at.section)) at.order at.section
+form_here : (ls : List (List ℕ)) (size k : ℕ) (before : List (List ℕ)) (said : Option CommandLine) → AtCommand ls size k before → command_line (spaced_words (line_at ls k)) ≡ said
+    → keeps_form ls size k ≡ (nat_lt (k - (words_end ls + 1)) 65536 && option_map_or (has_variable before) said false)
+form_here ls size k before said at e =
+    form-command ls size k (omega (arith, at.low, at.order, at.section)) at.order at.section
     ∙ (keeps_command-said ls k said e ∙ ap (λ vars. nat_lt (k - (words_end ls + 1)) 65536 && option_map_or (has_variable vars) said false) (sym at.variables))
 
 -- one command too many
-pub first-many : (ls : List (List ℕ)) (k : ℕ) (before : List (List ℕ)) → AtCommand ls k before → 65536 ≤ k - (words_end ls + 1) → First (fault_at ls) (length ls) k NotYet
-first-many ls k before at many =
-    first_at ls k at.within at.kept
-    (form_here ls k before (command_line (spaced_words (line_at ls k))) at refl ∙ ap (λ b. b && option_map_or (has_variable before) (command_line (spaced_words (line_at ls k))) false) (le-ltb (k - (words_end ls + 1)) 65536 many))
+pub first-many : (ls : List (List ℕ)) (size k : ℕ) (before : List (List ℕ)) → AtCommand ls size k before → 65536 ≤ k - (words_end ls + 1) → First (fault_at ls size) (length ls) k NotYet
+first-many ls size k before at many =
+    first_at ls size k at.within at.kept
+    (form_here ls size k before (command_line (spaced_words (line_at ls k))) at refl ∙ ap (λ b. b && option_map_or (has_variable before) (command_line (spaced_words (line_at ls k))) false) (le-ltb (k - (words_end ls + 1)) 65536 many))
 
 -- words without the form of a command
-pub first-unsaid : (ls : List (List ℕ)) (k : ℕ) (before : List (List ℕ)) → AtCommand ls k before → command_line (spaced_words (line_at ls k)) ≡ None → First (fault_at ls) (length ls) k NotYet
-first-unsaid ls k before at said =
-    first_at ls k at.within at.kept (form_here ls k before None at said ∙ and_false (nat_lt (k - (words_end ls + 1)) 65536))
+pub first-unsaid : (ls : List (List ℕ)) (size k : ℕ) (before : List (List ℕ)) → AtCommand ls size k before → command_line (spaced_words (line_at ls k)) ≡ None → First (fault_at ls size) (length ls) k NotYet
+first-unsaid ls size k before at said =
+    first_at ls size k at.within at.kept (form_here ls size k before None at said ∙ and_false (nat_lt (k - (words_end ls + 1)) 65536))
 
 -- a command with an unknown variable
-pub first-unknown : (ls : List (List ℕ)) (k : ℕ) (before : List (List ℕ)) (said : CommandLine) → AtCommand ls k before → command_line (spaced_words (line_at ls k)) ≡ Some said → has_variable before said ≡ false
-    → First (fault_at ls) (length ls) k NotYet
-first-unknown ls k before said at e unknown =
-    first_at ls k at.within at.kept
-    (form_here ls k before (Some said) at e ∙ (ap (λ b. nat_lt (k - (words_end ls + 1)) 65536 && b) unknown ∙ and_false (nat_lt (k - (words_end ls + 1)) 65536)))
+pub first-unknown : (ls : List (List ℕ)) (size k : ℕ) (before : List (List ℕ)) (said : CommandLine) → AtCommand ls size k before → command_line (spaced_words (line_at ls k)) ≡ Some said → has_variable before said ≡ false
+    → First (fault_at ls size) (length ls) k NotYet
+first-unknown ls size k before said at e unknown =
+    first_at ls size k at.within at.kept
+    (form_here ls size k before (Some said) at e ∙ (ap (λ b. nat_lt (k - (words_end ls + 1)) 65536 && b) unknown ∙ and_false (nat_lt (k - (words_end ls + 1)) 65536)))
 
-command_at-said : (ls : List (List ℕ)) (k : ℕ) (said : CommandLine) → command_line (spaced_words (line_at ls k)) ≡ Some said
-    → command_at ls k ≡ Some (command_in (clocks_before ls (clocks_end ls)) (variables_before ls k) (k + 1) said)
+command_at-said : (defs : Description) (ls : List (List ℕ)) (k : ℕ) (said : CommandLine) → command_line (spaced_words (line_at ls k)) ≡ Some said
+    → command_at defs ls k ≡ Some (command_in defs (variables_before ls k) (k + 1) said)
 unfolding command_at
-command_at-said ls k said e = ap (option_map (command_in (clocks_before ls (clocks_end ls)) (variables_before ls k) (k + 1))) e
+command_at-said defs ls k said e = ap (option_map (command_in defs (variables_before ls k) (k + 1))) e
 
 -- a command with a known one
-pub section-command : (ls : List (List ℕ)) (k : ℕ) (before after : List (List ℕ)) (said : CommandLine) (defs : Description) (command : Command)
-    → AtCommand ls k before → k - (words_end ls + 1) < 65536 → command_line (spaced_words (line_at ls k)) ≡ Some said → has_variable before said ≡ true
-    → defs ≡ clocks_before ls (clocks_end ls) → command ≡ command_in defs before (k + 1) said → after ≡ after_command before said
-    → KeepsBelow (fault_at ls) (k + 1) × ((command_at ls k ≡ Some command) × (after ≡ variables_before ls (k + 1)))
-section-command ls k before after said defs command at few e known same made grown =
+pub section-command : (ls : List (List ℕ)) (size k : ℕ) (before after : List (List ℕ)) (said : CommandLine) (defs : Description) (command : Command)
+    → AtCommand ls size k before → k - (words_end ls + 1) < 65536 → command_line (spaced_words (line_at ls k)) ≡ Some said → has_variable before said ≡ true
+    → command ≡ command_in defs before (k + 1) said → after ≡ after_command before said
+    → KeepsBelow (fault_at ls size) (k + 1) × ((command_at defs ls k ≡ Some command) × (after ≡ variables_before ls (k + 1)))
+section-command ls size k before after said defs command at few e known made grown =
     let count = lt-ltb (k - (words_end ls + 1)) 65536 few in (
-      kept_more ls k at.kept (form_here ls k before (Some said) at e ∙ (ap (λ b. b && has_variable before said) count ∙ ap (λ b. true && b) known)),
+      kept_more ls size k at.kept (form_here ls size k before (Some said) at e ∙ (ap (λ b. b && has_variable before said) count ∙ ap (λ b. true && b) known)),
       (
-        command_at-said ls k said e
-            ∙ sym (ap Some (made ∙ (ap (λ ds. command_in ds before (k + 1) said) same ∙ ap (λ vars. command_in (clocks_before ls (clocks_end ls)) vars (k + 1) said) at.variables))),
+        command_at-said defs ls k said e ∙ sym (ap Some (made ∙ ap (λ vars. command_in defs vars (k + 1) said) at.variables)),
         grown ∙ (ap (λ vars. after_command vars said) at.variables
             ∙ sym (variables_before-more ls k at.section at.within ∙ ap (λ o. option_map_or (after_command (variables_before ls k)) o (variables_before ls k)) e)),
       ),

@@ -1,9 +1,7 @@
-pub mod Behind
-pub mod Next
 pub mod Places
+pub mod Divided
 pub mod Verdicts
 pub mod Bundles
 pub mod CommandPlaces
 pub mod BankPlaces
 pub mod Numbered
-pub mod ClockPlaces

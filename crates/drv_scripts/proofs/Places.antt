@@ -1,57 +1,51 @@
 -- What the form says of a line by the section that it stands in, and what the lines before a place say.
-use Rattle.std.proofs.Common.{◌≡◌, ℕ, ◌+◌, ◌-◌, ◌<◌, ◌≤◌, true, false, List, [], ◌∷◌, length, take, drop, fold, None, refl, ap, sym, ◌∙◌, subst, arith, length-drop, below_more}
-use Rattle.std.specs.Prelude.{codes}
-use Rattle.std.specs.Str.{bytes_eq}
-use Rattle.std.proofs.lemmas.Bool.{false≢true}
+use Rattle.std.proofs.Common.{◌≡◌, ℕ, ◌+◌, ◌-◌, ◌<◌, ◌≤◌, true, false, List, [], length, take, drop, fold, None, refl, ap, ◌∙◌, inl, inr, arith, length-drop, below_more}
+use Rattle.std.proofs.lemmas.Bool.{cases_lt}
 use Rattle.std.proofs.lemmas.Bool.Decides.{nat_tests}
 use Rattle.std.proofs.lemmas.List.{get_or-drop}
 use Rattle.std.proofs.lemmas.List.Sums.{fold_more}
 use Rattle.bundle_text.specs.Firsts.{First, KeepsBelow}
 use Rattle.bundle_text.specs.Lines.{line_at}
-use Rattle.bundle_text.proofs.Headers.{header_from-ge}
 use Rattle.drv_scripts.specs.declared.reason.Reason.TheVariants.{NotYet}
-use Rattle.drv_scripts.specs.Description.{with_clock}
-use Rattle.drv_scripts.specs.Sections.{LacksBank}
-use Rattle.drv_scripts.specs.Verdict.{has_version}
-use Rattle.drv_scripts.specs.Form.{lines_between, clocks_end, words_end, clocks_before, keeps_form, keeps_clock, keeps_bank_header, keeps_word, keeps_driver, keeps_command, fault_at, unless}
+use Rattle.drv_scripts.specs.Form.{lines_between, clocks_end, words_end, begins_clocks, keeps_form, keeps_bank_header, keeps_word, keeps_driver, keeps_command, fault_at, unless}
 
 -- ## The form at a place
 
-pub form-first : (ls : List (List ℕ)) → keeps_form ls 0 ≡ true
+pub form-first : (ls : List (List ℕ)) (size : ℕ) → keeps_form ls size 0 ≡ true
 unfolding keeps_form
-form-first ls = refl
+form-first ls size = refl
 
-pub form-second : (ls : List (List ℕ)) → keeps_form ls 1 ≡ bytes_eq (line_at ls 1) (codes "%clocks")
+pub form-second : (ls : List (List ℕ)) (size : ℕ) → keeps_form ls size 1 ≡ begins_clocks (line_at ls 1)
 unfolding keeps_form
-form-second ls = refl
+form-second ls size = refl
 
-pub form-clock : (ls : List (List ℕ)) (k : ℕ) → 2 ≤ k → k < clocks_end ls → keeps_form ls k ≡ keeps_clock ls k
+pub form-clocks : (ls : List (List ℕ)) (size k : ℕ) → 2 ≤ k → k < clocks_end ls → keeps_form ls size k ≡ true
 unfolding keeps_form
-form-clock ls k low high = grind (arith, nat_tests)
+form-clocks ls size k low high = grind (arith, nat_tests)
 
-pub form-bank_header : (ls : List (List ℕ)) (k : ℕ) → 2 ≤ k → k ≡ clocks_end ls → keeps_form ls k ≡ keeps_bank_header ls k
+pub form-bank_header : (ls : List (List ℕ)) (size k : ℕ) → 2 ≤ k → k ≡ clocks_end ls → keeps_form ls size k ≡ keeps_bank_header ls k
 unfolding keeps_form
-form-bank_header ls k low here = grind (arith, nat_tests)
+form-bank_header ls size k low here = grind (arith, nat_tests)
 
-pub form-word : (ls : List (List ℕ)) (k : ℕ) → 2 ≤ k → clocks_end ls < k → k < words_end ls → keeps_form ls k ≡ keeps_word ls k
+pub form-word : (ls : List (List ℕ)) (size k : ℕ) → 2 ≤ k → clocks_end ls < k → k < words_end ls → keeps_form ls size k ≡ keeps_word ls size k
 unfolding keeps_form
-form-word ls k low behind high = grind (arith, nat_tests)
+form-word ls size k low behind high = grind (arith, nat_tests)
 
-pub form-driver : (ls : List (List ℕ)) (k : ℕ) → 2 ≤ k → clocks_end ls < k → k ≡ words_end ls → keeps_form ls k ≡ keeps_driver ls k
+pub form-driver : (ls : List (List ℕ)) (size k : ℕ) → 2 ≤ k → clocks_end ls < k → k ≡ words_end ls → keeps_form ls size k ≡ keeps_driver ls k
 unfolding keeps_form
-form-driver ls k low behind here = grind (arith, nat_tests)
+form-driver ls size k low behind here = grind (arith, nat_tests)
 
-pub form-command : (ls : List (List ℕ)) (k : ℕ) → 2 ≤ k → clocks_end ls < words_end ls → words_end ls < k → keeps_form ls k ≡ keeps_command ls k
+pub form-command : (ls : List (List ℕ)) (size k : ℕ) → 2 ≤ k → clocks_end ls < words_end ls → words_end ls < k → keeps_form ls size k ≡ keeps_command ls k
 unfolding keeps_form
-form-command ls k low order behind = grind (arith, nat_tests)
+form-command ls size k low order behind = grind (arith, nat_tests)
 
 -- a line that lacks the form is the first with a fault where the lines before it have none
-pub first_at : (ls : List (List ℕ)) (k : ℕ) → k < length ls → KeepsBelow (fault_at ls) k → keeps_form ls k ≡ false → First (fault_at ls) (length ls) k NotYet
-first_at ls k lt kept fails = record { within = lt; before = kept; found = ap (λ b. unless b NotYet) fails }
+pub first_at : (ls : List (List ℕ)) (size k : ℕ) → k < length ls → KeepsBelow (fault_at ls size) k → keeps_form ls size k ≡ false → First (fault_at ls size) (length ls) k NotYet
+first_at ls size k lt kept fails = record { within = lt; before = kept; found = ap (λ b. unless b NotYet) fails }
 
 -- a line that has the form is one more
-pub kept_more : (ls : List (List ℕ)) (k : ℕ) → KeepsBelow (fault_at ls) k → keeps_form ls k ≡ true → KeepsBelow (fault_at ls) (k + 1)
-kept_more ls k kept holds = below_more (λ j. fault_at ls j ≡ None) k kept (ap (λ b. unless b NotYet) holds)
+pub kept_more : (ls : List (List ℕ)) (size k : ℕ) → KeepsBelow (fault_at ls size) k → keeps_form ls size k ≡ true → KeepsBelow (fault_at ls size) (k + 1)
+kept_more ls size k kept holds = below_more (λ j. fault_at ls size j ≡ None) k kept (ap (λ b. unless b NotYet) holds)
 
 -- ## The lines before a place
 
@@ -72,34 +66,23 @@ fold-lines_none f a ls from =
     let none : from - from ≡ 0 = omega arith in
     ap (λ c. fold f a (take c (drop from ls))) none
 
-pub clocks_before-more : (ls : List (List ℕ)) (k : ℕ) → 2 ≤ k → k < length ls → clocks_before ls (k + 1) ≡ with_clock (clocks_before ls k) (line_at ls k)
-unfolding clocks_before
-clocks_before-more ls k low high = fold-lines_more with_clock [] ls 2 k low high
-
-pub clocks_before-none : (ls : List (List ℕ)) → clocks_before ls 2 ≡ []
-unfolding clocks_before
-clocks_before-none ls = fold-lines_none with_clock [] ls 2
-
 -- ## The first two lines
 
-pub kept-first : (ls : List (List ℕ)) → KeepsBelow (fault_at ls) 1
-kept-first ls k lt =
+pub kept-first : (ls : List (List ℕ)) (size : ℕ) → KeepsBelow (fault_at ls size) 1
+kept-first ls size k lt =
     let zero_is : k ≡ 0 = omega arith in
-    ap (λ n. unless (keeps_form ls n) NotYet) zero_is ∙ ap (λ b. unless b NotYet) (form-first ls)
+    ap (λ n. unless (keeps_form ls size n) NotYet) zero_is ∙ ap (λ b. unless b NotYet) (form-first ls size)
 
-pub lacks_bank : (ls : List (List ℕ)) → 0 < length ls → length ls < 2 → LacksBank ls
-lacks_bank ls some few =
-    let one : length ls ≡ 1 = omega arith in
-    record { kept = subst (KeepsBelow (fault_at ls)) (sym one) (kept-first ls); missing = omega (arith, header_from-ge ls 2) }
+pub first-second : (ls : List (List ℕ)) (size : ℕ) → 1 < length ls → begins_clocks (line_at ls 1) ≡ false → First (fault_at ls size) (length ls) 1 NotYet
+first-second ls size within fails = first_at ls size 1 within (kept-first ls size) (form-second ls size ∙ fails)
 
-pub first-second : (ls : List (List ℕ)) → 2 ≤ length ls → bytes_eq (line_at ls 1) (codes "%clocks") ≡ false → First (fault_at ls) (length ls) 1 NotYet
-first-second ls within fails = first_at ls 1 (omega arith) (kept-first ls) (form-second ls ∙ fails)
+pub kept-second : (ls : List (List ℕ)) (size : ℕ) → begins_clocks (line_at ls 1) ≡ true → KeepsBelow (fault_at ls size) 2
+kept-second ls size holds = kept_more ls size 1 (kept-first ls size) (form-second ls size ∙ holds)
 
-pub kept-second : (ls : List (List ℕ)) → bytes_eq (line_at ls 1) (codes "%clocks") ≡ true → KeepsBelow (fault_at ls) 2
-kept-second ls holds = kept_more ls 1 (kept-first ls) (form-second ls ∙ holds)
-
--- a text whose first line states the version has a line
-pub version_some : (ls : List (List ℕ)) → has_version ls ≡ true → 0 < length ls
-unfolding has_version
-version_some [] h = absurd (false≢true h)
-version_some (line ∷ ls) h = omega arith
+-- the lines of the clocks have their form
+pub kept-clocks : (ls : List (List ℕ)) (size k : ℕ) → KeepsBelow (fault_at ls size) 2 → k ≤ clocks_end ls → KeepsBelow (fault_at ls size) k
+kept-clocks ls size k kept high j lt =
+    elim (cases_lt j 2) [
+      | inl front ↦ kept j front
+      | inr behind ↦ ap (λ b. unless b NotYet) (form-clocks ls size j behind (omega arith))
+    ]

@@ -1,10 +1,13 @@
 -- The section `%regs`: its header, its lines, and the words that they give.
-use Rattle.std.specs.Prelude.{ℕ, ◌==◌, List, [], ◌∷◌, Option, Some, None, codes, if◌then◌else◌, fold, replicate, slice_set}
+use Rattle.std.specs.Prelude.{ℕ, ◌-◌, ◌^◌, ◌==◌, List, [], ◌∷◌, Option, Some, None, codes, if◌then◌else◌, fold, replicate, slice_set}
 use Rattle.std.specs.Option.{option_map, option_map_or, option_and_then}
 use Rattle.std.specs.Str.{bytes_eq}
 use Rattle.bundle_text.specs.Numbers.{number_up_to}
 use Rattle.bundle_text.specs.Words.{spaced_words}
-use Rattle.drv_scripts.specs.ClockLines.{most_number}
+
+-- the greatest number whose range isn't stated
+abbrev pub most_number : ℕ
+most_number = 2 ^ 32 - 1
 
 -- the number that a word writes, from 1 up to the most words of a bank
 unfoldable pub bank_number : List ℕ → Option ℕ

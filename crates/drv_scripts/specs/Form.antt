@@ -1,7 +1,8 @@
--- The form of a bundle: which sections its lines stand in, and which line has a fault. Places count
--- lines from 0, and each is judged by its place in the whole text.
-use Rattle.std.specs.Prelude.{ℕ, ◌+◌, ◌-◌, ◌==◌, ◌&&◌, nat_lt, Bool, true, false, List, Option, Some, None, codes, if◌then◌else◌, drop, take}
-use Rattle.std.specs.Option.{option_map, option_map_or, option_and_then, is_some, unwrap_or}
+-- The form of the lines outside the clocks' section, as far as it is read: which line lacks it. Places
+-- count lines from 0, each is judged by its place in the whole text, and `size` is the bank's number
+-- of words.
+use Rattle.std.specs.Prelude.{ℕ, ◌+◌, ◌-◌, ◌==◌, ◌&&◌, ◌||◌, nat_lt, Bool, true, false, List, Option, Some, None, codes, if◌then◌else◌, drop, take}
+use Rattle.std.specs.Option.{option_map, option_map_or, is_some}
 use Rattle.std.specs.Str.{bytes_eq}
 use Rattle.clk_base.specs.declared.command.Command.{Command}
 use Rattle.clk_base.specs.Description.{Description}
@@ -9,8 +10,6 @@ use Rattle.bundle_text.specs.Lines.{line_at, header_from}
 use Rattle.bundle_text.specs.Words.{spaced_words}
 use Rattle.drv_scripts.specs.declared.reason.Reason.{Reason}
 use Rattle.drv_scripts.specs.declared.reason.Reason.TheVariants.{NotYet}
-use Rattle.drv_scripts.specs.ClockLines.{clock_line}
-use Rattle.drv_scripts.specs.Description.{clock_in, clocks_of, is_clear}
 use Rattle.drv_scripts.specs.BankLines.{bank_line, word_line, words_of}
 use Rattle.drv_scripts.specs.CommandLines.{driver_line, command_line, command_in, variables_of, has_variable}
 
@@ -18,7 +17,7 @@ use Rattle.drv_scripts.specs.CommandLines.{driver_line, command_line, command_in
 abbrev pub lines_between : List (List ℕ) → ℕ → ℕ → List (List ℕ)
 lines_between ls from to = take (to - from) (drop from ls)
 
--- where the clock lines end: the first header behind line 2, else the number of lines
+-- where the clocks' section ends: the first header behind line 2, else the number of lines
 abbrev pub clocks_end : List (List ℕ) → ℕ
 clocks_end ls = header_from ls 2
 
@@ -26,17 +25,9 @@ clocks_end ls = header_from ls 2
 abbrev pub words_end : List (List ℕ) → ℕ
 words_end ls = header_from ls (clocks_end ls + 1)
 
--- the number of words of the bank, where its header states one
-unfoldable pub bank_size : List (List ℕ) → Option ℕ
-bank_size ls = bank_line (spaced_words (line_at ls (clocks_end ls)))
-
--- the clocks of the lines before a place
-unfoldable pub clocks_before : List (List ℕ) → ℕ → Description
-clocks_before ls k = clocks_of (lines_between ls 2 k)
-
 -- the words of the bank after the lines before a place
-unfoldable pub words_before : List (List ℕ) → ℕ → List ℕ
-words_before ls k = words_of (unwrap_or (bank_size ls) 0) (lines_between ls (clocks_end ls + 1) k)
+unfoldable pub words_before : List (List ℕ) → ℕ → ℕ → List ℕ
+words_before ls size k = words_of size (lines_between ls (clocks_end ls + 1) k)
 
 -- the variables of the commands before a place
 unfoldable pub variables_before : List (List ℕ) → ℕ → List (List ℕ)
@@ -47,19 +38,17 @@ abbrev pub unless : Bool → Reason → Option Reason
 unless true reason = None
 unless false reason = Some reason
 
--- a clock line describes a clock that is clear of the clocks before it
-unfoldable pub keeps_clock : List (List ℕ) → ℕ → Bool
-keeps_clock ls k =
-    let before = clocks_before ls k in
-    option_map_or (is_clear (bank_size ls) before) (option_and_then (clock_in before) (clock_line (spaced_words (line_at ls k)))) false
+-- the second line is the header of the clocks and nothing else
+unfoldable pub begins_clocks : List ℕ → Bool
+begins_clocks line = bytes_eq line (codes "%clocks") || bytes_eq line (codes "%dts")
 
--- the header behind the clock lines, of which there is one at least, states the number of words
+-- the header behind the clocks states the number of words, in decimal
 unfoldable pub keeps_bank_header : List (List ℕ) → ℕ → Bool
-keeps_bank_header ls k = nat_lt 2 k && is_some (bank_size ls)
+keeps_bank_header ls k = is_some (bank_line (spaced_words (line_at ls k)))
 
 -- a line of words names one that is in the bank
-unfoldable pub keeps_word : List (List ℕ) → ℕ → Bool
-keeps_word ls k = option_map_or (λ set. nat_lt set.0 (unwrap_or (bank_size ls) 0)) (word_line (spaced_words (line_at ls k))) false
+unfoldable pub keeps_word : List (List ℕ) → ℕ → ℕ → Bool
+keeps_word ls size k = option_map_or (λ set. nat_lt set.0 size) (word_line (spaced_words (line_at ls k))) false
 
 -- the next header names a driver
 unfoldable pub keeps_driver : List (List ℕ) → ℕ → Bool
@@ -71,22 +60,21 @@ keeps_command ls k =
     nat_lt (k - (words_end ls + 1)) 65536
     && option_map_or (has_variable (variables_before ls k)) (command_line (spaced_words (line_at ls k))) false
 
--- whether the line at a place has the form of its section
-unfoldable pub keeps_form : List (List ℕ) → ℕ → Bool
-keeps_form ls k =
+-- whether the line at a place has the form of its section; the lines of the clocks are judged apart
+unfoldable pub keeps_form : List (List ℕ) → ℕ → ℕ → Bool
+keeps_form ls size k =
     if k == 0 then true
-    else if k == 1 then bytes_eq (line_at ls k) (codes "%clocks")
-    else if nat_lt k (clocks_end ls) then keeps_clock ls k
+    else if k == 1 then begins_clocks (line_at ls k)
+    else if nat_lt k (clocks_end ls) then true
     else if k == clocks_end ls then keeps_bank_header ls k
-    else if nat_lt k (words_end ls) then keeps_word ls k
+    else if nat_lt k (words_end ls) then keeps_word ls size k
     else if k == words_end ls then keeps_driver ls k
     else keeps_command ls k
 
--- the fault of the line at a place; the first line is judged by itself
-abbrev pub fault_at : List (List ℕ) → ℕ → Option Reason
-fault_at ls k = unless (keeps_form ls k) NotYet
+-- the fault of the line at a place
+abbrev pub fault_at : List (List ℕ) → ℕ → ℕ → Option Reason
+fault_at ls size k = unless (keeps_form ls size k) NotYet
 
--- the command of the line at a place
-unfoldable pub command_at : List (List ℕ) → ℕ → Option Command
-command_at ls k =
-    option_map (command_in (clocks_before ls (clocks_end ls)) (variables_before ls k) (k + 1)) (command_line (spaced_words (line_at ls k)))
+-- the command of the line at a place, over the clocks of a description
+unfoldable pub command_at : Description → List (List ℕ) → ℕ → Option Command
+command_at defs ls k = option_map (command_in defs (variables_before ls k) (k + 1)) (command_line (spaced_words (line_at ls k)))

@@ -1,10 +1,8 @@
-pub mod ClockLines
-pub mod Description
 pub mod BankLines
 pub mod CommandLines
 pub mod Form
 pub mod Said
-pub mod Gathered
+pub mod Reasons
 pub mod Sections
 pub mod Spelled
 pub mod Placed

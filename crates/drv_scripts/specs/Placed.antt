@@ -4,11 +4,9 @@ use Rattle.std.specs.List.{AllByRecursion}
 use Rattle.clk_base.specs.declared.command.Act.{Act}
 use Rattle.clk_base.specs.declared.command.Act.TheVariants.{Get, SetParent, Probe}
 use Rattle.clk_base.specs.declared.command.Command.{Command}
-use Rattle.clk_base.specs.Plain.{IsPlain}
 use Rattle.clk_base.specs.Valid.{IsValid}
 use Rattle.drv_scripts.specs.declared.bundle.Bundle.{Bundle}
 use Rattle.drv_scripts.specs.declared.bundle.Script.{Script}
-use Rattle.drv_scripts.specs.Gathered.{HasNoFlags}
 
 -- the clock that an act names is one of so many
 abbrev pub NamesPlace : ℕ → Act → Type 0
@@ -30,8 +28,7 @@ pub record IsScript (clocks : ℕ) (script : Script) : Type 0 where
 -- the bundle's parts fit together
 pub record IsSound (b : Bundle) : Type 0 where
   pub valid : IsValid b.desc.words b.desc.defs
-  pub plain : IsPlain b.desc.defs
-  pub unflagged : HasNoFlags b.desc.defs
+  pub lines : length b.clock_lines ≡ length b.desc.defs
   pub some : 0 < b.desc.words
   pub few : b.desc.words ≤ 65536
   pub words : length b.words ≡ b.desc.words

@@ -1,37 +1,84 @@
 -- Which bytes spell which bundle, and why the others spell none.
-use Rattle.std.specs.Prelude.{◌≡◌, ℕ, ◌+◌, ◌<◌, ◌≤◌, ◌==◌, ◌⊎◌, Bool, true, false, List, length, codes, count_by}
-use Rattle.std.specs.Str.{bytes_eq}
+use Rattle.std.specs.Prelude.{◌≡◌, ℕ, ◌+◌, ◌<◌, ◌≤◌, ◌==◌, ◌⊎◌, List, length, slice_index, count_by}
 use Rattle.std.specs.Str.Lines.{lines}
 use Rattle.bundle_text.specs.Firsts.{First, KeepsBelow}
-use Rattle.bundle_text.specs.Lines.{line_at}
+use Rattle.bundle_clocks.specs.declared.fault.ClocksReason.{ClocksReason}
+use Rattle.bundle_clocks.specs.Said.{SaidClocks}
+use Rattle.bundle_clocks.specs.Verdict as clock_verdict
+use Rattle.bundle_sections.specs.declared.fault.FormReason.{FormReason}
+use Rattle.bundle_sections.specs.Said.{Parts}
+use Rattle.bundle_sections.specs.Verdict as section_verdict
+use Rattle.clk_base.specs.Description.{Description, EachClock}
+use Rattle.clk_base.specs.Valid.{Rule, keeps, IsFirstBroken}
 use Rattle.drv_scripts.specs.declared.bundle.Bundle.{Bundle}
 use Rattle.drv_scripts.specs.declared.reason.BundleFault.{BundleFault}
 use Rattle.drv_scripts.specs.declared.reason.BundleFault.TheVariants.{Refused, NoMemory}
 use Rattle.drv_scripts.specs.declared.reason.Reason.{Reason}
-use Rattle.drv_scripts.specs.declared.reason.Reason.TheVariants.{TooLong, BadVersion, NotYet}
-use Rattle.drv_scripts.specs.Form.{fault_at, clocks_end}
-use Rattle.drv_scripts.specs.Sections.{LacksBank}
+use Rattle.drv_scripts.specs.declared.reason.Reason.TheVariants.{TooLong}
+use Rattle.drv_scripts.specs.Form.{fault_at}
+use Rattle.drv_scripts.specs.Reasons.{form_reason, clocks_reason, rule_reason}
 use Rattle.drv_scripts.specs.Spelled.{bundle_of}
 
 -- the most bytes of a bundle
 abbrev pub most_bytes : ℕ
 most_bytes = 16777216
 
--- the first line states the version
-unfoldable pub has_version : List (List ℕ) → Bool
-has_version ls = bytes_eq (line_at ls 0) (codes "%bundle 1")
+-- the line behind the last line feed, counted from 1
+abbrev pub last_line : List ℕ → ℕ
+last_line bytes = count_by (λ b. b == 10) bytes + 1
 
--- the bytes are few enough, and their first line states the version
-pub record Begins (bytes : List ℕ) : Type 0 where
-  pub fits : length bytes ≤ most_bytes
-  pub version : has_version (lines bytes) ≡ true
+-- each clock keeps every rule, for a bank of so many words
+abbrev pub KeepsRules : ℕ → Description → Type 0
+KeepsRules words defs = (rule : Rule) → EachClock defs (keeps rule words defs)
 
--- the bytes spell the bundle: no line has a fault, one states the number of words, and this is what they say
+-- lines in these sections spell the bundle: this is what the section of the clocks says, its clocks
+-- keep every rule, and the other lines have the form that is read so far
+pub record PartsSpell (ls : List (List ℕ)) (parts : Parts) (b : Bundle) : Type 0 where
+  pub said : SaidClocks
+  pub says : clock_verdict.Says ls parts.clocks said
+  pub rules : KeepsRules parts.bank.words said.defs
+  pub kept : KeepsBelow (fault_at ls parts.bank.words) (length ls)
+  pub content : b ≡ bundle_of ls parts.bank.words said
+
+-- the section of the clocks is refused
+pub record IsUnsaid (ls : List (List ℕ)) (parts : Parts) (line : ℕ) (reason : Reason) : Type 0 where
+  pub why : ClocksReason
+  pub first : clock_verdict.Refuses ls parts.clocks line why
+  pub reason_is : reason ≡ clocks_reason why
+
+-- this is the first rule that a clock breaks, and the line of the first clock that breaks it
+pub record Breaks (words : ℕ) (defs : Description) (numbers : List ℕ) (line : ℕ) (reason : Reason) : Type 0 where
+  pub rule : Rule
+  pub clock : ℕ
+  pub first : IsFirstBroken words defs rule clock
+  pub line_is : line ≡ slice_index numbers clock
+  pub reason_is : reason ≡ rule_reason rule
+
+-- the section of the clocks says this, and one of its clocks breaks a rule
+pub record BreaksRule (ls : List (List ℕ)) (parts : Parts) (line : ℕ) (reason : Reason) : Type 0 where
+  pub said : SaidClocks
+  pub says : clock_verdict.Says ls parts.clocks said
+  pub breaks : Breaks parts.bank.words said.defs said.lines line reason
+
+-- its clocks keep every rule, and this is the first line outside the section that lacks the form
+pub record LacksForm (ls : List (List ℕ)) (parts : Parts) (line : ℕ) (reason : Reason) : Type 0 where
+  pub said : SaidClocks
+  pub says : clock_verdict.Says ls parts.clocks said
+  pub rules : KeepsRules parts.bank.words said.defs
+  pub place : ℕ
+  pub first : First (fault_at ls parts.bank.words) (length ls) place reason
+  pub line_is : line ≡ place + 1
+
+-- lines in these sections are refused: for the section of the clocks, else for a rule, else for the form
+abbrev pub PartsRefuse : List (List ℕ) → Parts → ℕ → Reason → Type 0
+PartsRefuse ls parts line reason = IsUnsaid ls parts line reason ⊎ (BreaksRule ls parts line reason ⊎ LacksForm ls parts line reason)
+
+-- the bytes spell the bundle: they are few enough, and their lines stand in sections that spell it
 pub record Accepts (bytes : List ℕ) (b : Bundle) : Type 0 where
-  pub begins : Begins bytes
-  pub kept : KeepsBelow (fault_at (lines bytes)) (length (lines bytes))
-  pub bank : clocks_end (lines bytes) < length (lines bytes)
-  pub content : b ≡ bundle_of (lines bytes)
+  pub fits : length bytes ≤ most_bytes
+  pub parts : Parts
+  pub sections : section_verdict.Accepts (lines bytes) parts
+  pub spelled : PartsSpell (lines bytes) parts b
 
 -- the bytes are too many; this is no line's fault
 pub record IsTooLong (bytes : List ℕ) (line : ℕ) (reason : Reason) : Type 0 where
@@ -39,33 +86,36 @@ pub record IsTooLong (bytes : List ℕ) (line : ℕ) (reason : Reason) : Type 0 
   pub line_is : line ≡ 0
   pub reason_is : reason ≡ TooLong
 
--- the first line doesn't state the version
-pub record LacksVersion (bytes : List ℕ) (line : ℕ) (reason : Reason) : Type 0 where
+-- the lines stand in no sections
+pub record IsUndivided (bytes : List ℕ) (line : ℕ) (reason : Reason) : Type 0 where
   pub fits : length bytes ≤ most_bytes
-  pub version : has_version (lines bytes) ≡ false
-  pub line_is : line ≡ 1
-  pub reason_is : reason ≡ BadVersion
+  pub why : FormReason
+  pub first : section_verdict.Refuses (lines bytes) (last_line bytes) line why
+  pub reason_is : reason ≡ form_reason why
 
--- this line is the first with a fault; lines count from 1
-pub record HasFault (bytes : List ℕ) (line : ℕ) (reason : Reason) : Type 0 where
-  pub begins : Begins bytes
-  pub place : ℕ
-  pub first : First (fault_at (lines bytes)) (length (lines bytes)) place reason
-  pub line_is : line ≡ place + 1
+-- the lines stand in sections that are refused
+pub record IsDivided (bytes : List ℕ) (line : ℕ) (reason : Reason) : Type 0 where
+  pub fits : length bytes ≤ most_bytes
+  pub parts : Parts
+  pub sections : section_verdict.Accepts (lines bytes) parts
+  pub refused : PartsRefuse (lines bytes) parts line reason
 
--- no line has a fault, and none states the number of words: this is told of the line behind the last line feed
-pub record Unfinished (bytes : List ℕ) (line : ℕ) (reason : Reason) : Type 0 where
-  pub begins : Begins bytes
-  pub lacks : LacksBank (lines bytes)
-  pub line_is : line ≡ count_by (λ b. b == 10) bytes + 1
-  pub reason_is : reason ≡ NotYet
-
--- the bytes spell no bundle, for this reason at this line
+-- the bytes spell no bundle, for this reason at this line; the phases stand in their order, and each
+-- begins where the ones before it found nothing
 abbrev pub Refuses : List ℕ → ℕ → Reason → Type 0
-Refuses bytes line reason =
-    IsTooLong bytes line reason ⊎ (LacksVersion bytes line reason ⊎ (HasFault bytes line reason ⊎ Unfinished bytes line reason))
+Refuses bytes line reason = IsTooLong bytes line reason ⊎ (IsUndivided bytes line reason ⊎ IsDivided bytes line reason)
 
 -- the fault says why the bytes spell no bundle; want of memory says nothing of them
 abbrev pub IsFaultOf : List ℕ → BundleFault → Type 0
 IsFaultOf bytes (Refused line reason) = Refuses bytes line reason
 IsFaultOf bytes NoMemory = Unit {0}
+
+-- the same of lines in sections
+abbrev pub IsPartsFault : List (List ℕ) → Parts → BundleFault → Type 0
+IsPartsFault ls parts (Refused line reason) = PartsRefuse ls parts line reason
+IsPartsFault ls parts NoMemory = Unit {0}
+
+-- the same of clocks and their lines
+abbrev pub IsRuleFault : ℕ → Description → List ℕ → BundleFault → Type 0
+IsRuleFault words defs numbers (Refused line reason) = Breaks words defs numbers line reason
+IsRuleFault words defs numbers NoMemory = Unit {0}

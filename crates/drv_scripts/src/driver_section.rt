@@ -6,7 +6,7 @@ ghost use Rattle.bundle_text.specs.Firsts.{KeepsBelow};
 ghost use Rattle.bundle_text.specs.Lines.{line_at};
 ghost use Rattle.bundle_text.specs.Words.{spaced_words};
 ghost use Rattle.drv_scripts.specs.CommandLines.{driver_line, has_variable, command_in, after_command};
-ghost use Rattle.drv_scripts.specs.Form.{fault_at, clocks_end, words_end, clocks_before, command_at, variables_before};
+ghost use Rattle.drv_scripts.specs.Form.{fault_at, clocks_end, words_end, command_at, variables_before};
 ghost use Rattle.drv_scripts.specs.Said.{said_command};
 ghost use Rattle.drv_scripts.specs.Sections.{AtCommand, Section};
 ghost use Rattle.drv_scripts.specs.Spelled.{commands_from, script_at};
@@ -69,11 +69,10 @@ fn read_command<'a>(
     first: usize,
     at: usize,
 ) -> Result<Command, Stop>
-    requires at { AtCommand lines.now at variables.old }
+    requires at { AtCommand lines.now desc.now.words at variables.old }
     requires first { first ≡ words_end lines.now + 1 }
-    requires desc { desc.now.defs ≡ clocks_before lines.now (clocks_end lines.now) }
-    ensures { Section lines.now (at + 1)
-        (λ command. (command_at lines.now at ≡ Some command) × (variables.new ≡ variables_before lines.now (at + 1))) result }
+    ensures { Section lines.now desc.now.words (at + 1)
+        (λ command. (command_at desc.now.defs lines.now at ≡ Some command) × (variables.new ≡ variables_before lines.now (at + 1))) result }
 {
     if at - first >= MOST_COMMANDS {
         return Err(not_yet(at));
@@ -100,9 +99,8 @@ fn read_commands(
     requires low { 2 ≤ clocks_end lines.now }
     requires within { first ≤ length lines.now }
     requires few { length lines.now < 2 ^ 31 }
-    requires desc { desc.now.defs ≡ clocks_before lines.now (clocks_end lines.now) }
-    requires kept { KeepsBelow (fault_at lines.now) first }
-    ensures { Section lines.now (length lines.now) (λ commands. commands.items ≡ commands_from lines.now first) result }
+    requires kept { KeepsBelow (fault_at lines.now desc.now.words) first }
+    ensures { Section lines.now desc.now.words (length lines.now) (λ commands. commands.items ≡ commands_from desc.now.defs lines.now first) result }
 {
     let mut variables = Variables::new(alloc);
     let mut commands = Vec::new(alloc);
@@ -114,13 +112,18 @@ fn read_commands(
 }
 
 // The name that the header at a place states.
-fn read_name(alloc: Global, lines: &TextLines, at: usize) -> Result<DriverName, Stop>
+fn read_name(
+    alloc: Global,
+    lines: &TextLines,
+    desc: &ValidDesc,
+    at: usize,
+) -> Result<DriverName, Stop>
     requires at { at ≡ words_end lines.now }
     requires order { clocks_end lines.now < words_end lines.now }
     requires low { 2 ≤ clocks_end lines.now }
     requires within { at < length lines.now }
-    requires kept { KeepsBelow (fault_at lines.now) at }
-    ensures { Section lines.now (at + 1) (λ name. driver_line (spaced_words (line_at lines.now at)) ≡ Some name) result }
+    requires kept { KeepsBelow (fault_at lines.now desc.now.words) at }
+    ensures { Section lines.now desc.now.words (at + 1) (λ name. driver_line (spaced_words (line_at lines.now at)) ≡ Some name) result }
 {
     let words = lines.words(alloc, at)?;
     let Some(name) = driver_line(&words) else {
@@ -141,11 +144,10 @@ pub(crate) fn read_driver(
     requires low { 2 ≤ clocks_end lines.now }
     requires within { at < length lines.now }
     requires few { length lines.now < 2 ^ 31 }
-    requires desc { desc.now.defs ≡ clocks_before lines.now (clocks_end lines.now) }
-    requires kept { KeepsBelow (fault_at lines.now) at }
-    ensures { Section lines.now (length lines.now) (λ scripts. scripts.items ≡ script_at lines.now at) result }
+    requires kept { KeepsBelow (fault_at lines.now desc.now.words) at }
+    ensures { Section lines.now desc.now.words (length lines.now) (λ scripts. scripts.items ≡ script_at desc.now.defs lines.now at) result }
 {
-    let name = read_name(alloc, lines, at)?;
+    let name = read_name(alloc, lines, desc, at)?;
     let commands = Listed::new(read_commands(alloc, lines, desc, at + 1)?);
     let mut scripts = Vec::new(alloc);
     scripts.push(Script { name, commands })?;

@@ -9,14 +9,12 @@
 mod bank_lines;
 mod bank_section;
 mod bundle;
-mod clock_lines;
-mod clock_section;
-mod clocks;
 mod command_lines;
 mod driver_section;
 mod listed;
 mod reading;
 mod reason;
+mod rules;
 mod stop;
 mod variables;
 mod verdict;

@@ -1,61 +1,52 @@
 //! From bytes to a bundle.
 
-ghost use Rattle.std.specs.Prelude.{◌≡◌, ◌+◌, ◌-◌, ◌<◌, ◌≤◌, ◌^◌, [], length, IfOk, IfErr, Ok, Err};
-ghost use Rattle.std.specs.List.{range_with_len};
+ghost use Rattle.std.specs.Prelude.{◌≡◌, ◌+◌, ◌-◌, ◌<◌, ◌≤◌, ◌^◌, [], true, length, IfOk, IfErr, OnOk};
+ghost use Rattle.std.specs.List.{AllByRecursion};
 ghost use Rattle.std.specs.Str.Lines.{lines};
+ghost use Rattle.bundle_clocks.specs.Source.{text_of_lines};
+ghost use Rattle.bundle_sections.specs.Said.{in_order};
+ghost use Rattle.bundle_sections.specs.Verdict.{IsSection, Tiles};
+ghost use Rattle.bundle_sections.specs.Verdict as section_verdict;
 ghost use Rattle.bundle_text.specs.Firsts.{KeepsBelow};
-ghost use Rattle.drv_scripts.specs.Form.{fault_at, clocks_end, words_end};
+ghost use Rattle.bundle_text.specs.Lines.{line_at, header_from};
+ghost use Rattle.clk_base.specs.Valid.{IsValid};
+ghost use Rattle.drv_scripts.specs.Form.{fault_at, clocks_end, words_end, begins_clocks};
 ghost use Rattle.drv_scripts.specs.Placed.{IsSound};
-ghost use Rattle.drv_scripts.specs.Sections.{Section, SpellsDesc, Stops};
+ghost use Rattle.drv_scripts.specs.Sections.{Section, IsPlaced, stop_told};
 ghost use Rattle.drv_scripts.specs.Spelled.{boot_of, scripts_of, bundle_of};
-ghost use Rattle.drv_scripts.specs.Verdict.{has_version, Begins, Accepts, IsFaultOf};
+ghost use Rattle.drv_scripts.specs.Verdict.{Accepts, PartsSpell, IsFaultOf, IsPartsFault};
 
-use crate::bank_section::{read_bank_header, read_bank_size, read_words};
+use crate::bank_section::{check_bank_header, read_words};
 use crate::bundle::{Bundle, Script};
-use crate::clock_section::read_clocks;
 use crate::driver_section::read_driver;
 use crate::listed::Listed;
-use crate::reason::{BundleFault, Reason};
+use crate::reason::{BundleFault, Reason, clocks_reason, form_reason};
+use crate::rules::check_rules;
 use crate::stop::{Stop, not_yet};
+use bundle_clocks::{ClocksFault, read_clocks_part};
+use bundle_sections::{FormFault, Sections, read_sections};
 use bundle_text::{TextLines, line_feeds};
 use clk_base::{Act, ClockId, Command, ValidDesc};
-use clk_io::{MOST_BYTES, NoMemory};
+use clk_io::MOST_BYTES;
 use std::alloc::{AllocError, Global};
 
-// Whether the first line states the version.
-#[tactic(auto, unfolding(crate::specs::Verdict::has_version))]
-fn has_version(lines: &TextLines) -> bool
-    ensures { result ≡ has_version lines.now }
+// Whether a line is the header of the clocks and nothing else.
+#[tactic(auto, unfolding(crate::specs::Form::begins_clocks))]
+fn begins_clocks(line: &[u8]) -> bool
+    ensures { result ≡ begins_clocks line.now }
 {
-    lines.line(0) == b"%bundle 1".as_slice()
+    line == b"%clocks".as_slice() || line == b"%dts".as_slice()
 }
 
-// Checks that the second line begins the clock lines.
-fn read_clocks_header(lines: &TextLines) -> Result<(), Stop>
-    requires { 0 < length lines.now }
-    ensures { Section lines.now 2 (λ _. 2 ≤ length lines.now) result }
+// Checks that the second line begins the clocks.
+fn check_clocks_header(lines: &TextLines, size: u32) -> Result<(), Stop>
+    requires { 1 < length lines.now }
+    ensures { Section lines.now size 2 (λ _. begins_clocks (line_at lines.now 1) ≡ true) result }
 {
-    if lines.len() < 2 {
-        return Err(Stop::NoBank);
-    }
-    if lines.line(1) != b"%clocks".as_slice() {
+    if !begins_clocks(lines.line(1)) {
         return Err(not_yet(1));
     }
     Ok(())
-}
-
-// Reads the clocks and the header behind them, which stands at a place.
-fn read_desc(alloc: Global, lines: &TextLines, end: usize) -> Result<ValidDesc, Stop>
-    requires end { end ≡ clocks_end lines.now }
-    requires low { 2 ≤ end }
-    requires within { end ≤ length lines.now }
-    requires kept { KeepsBelow (fault_at lines.now) 2 }
-    ensures { Section lines.now (end + 1) (SpellsDesc lines.now) result }
-{
-    let size = read_bank_size(alloc, lines, end)?;
-    let clocks = read_clocks(alloc, lines, end, size)?;
-    let words = read_bank_header(lines, end, size)?;
-    Ok(clocks.check(alloc, words)?)
 }
 
 // Boot's commands: each clock is registered.
@@ -71,14 +62,6 @@ fn boot_commands(alloc: Global, clocks: u32) -> Result<Vec<Command>, AllocError>
         .collect(alloc)
 }
 
-// The numbers of the clocks' lines, which end at a place.
-fn clock_lines(alloc: Global, end: u32) -> Result<Vec<u32>, AllocError>
-    requires { end < 2 ^ 31 }
-    ensures { IfOk result (λ found. found.items ≡ range_with_len 3 (end - 2)) }
-{
-    (3..end + 1).collect(alloc)
-}
-
 // The driver, if a header stands at the place behind the words.
 fn read_scripts(
     alloc: Global,
@@ -90,9 +73,8 @@ fn read_scripts(
     requires within { at ≤ length lines.now }
     requires few { length lines.now < 2 ^ 31 }
     requires low { 2 ≤ clocks_end lines.now }
-    requires desc { SpellsDesc lines.now desc.now }
-    requires kept { KeepsBelow (fault_at lines.now) at }
-    ensures { Section lines.now (length lines.now) (λ scripts. scripts.items ≡ scripts_of lines.now) result }
+    requires kept { KeepsBelow (fault_at lines.now desc.now.words) at }
+    ensures { Section lines.now desc.now.words (length lines.now) (λ scripts. scripts.items ≡ scripts_of desc.now.defs lines.now) result }
 {
     if at < lines.len() {
         read_driver(alloc, lines, desc, at)
@@ -105,15 +87,15 @@ fn read_scripts(
 fn plain_bundle(
     alloc: Global,
     desc: ValidDesc,
-    clock_lines: Vec<u32>,
+    lines: (Vec<u32>, Vec<u32>),
     words: Vec<u32>,
     boot: Vec<Command>,
     drivers: Vec<Script>,
 ) -> Bundle
     ensures { result ≡ record {
       desc = desc;
-      clock_lines = clock_lines.items;
-      assigned_lines = [];
+      clock_lines = lines.0.items;
+      assigned_lines = lines.1.items;
       words = words.items;
       locks = [];
       late = [];
@@ -122,10 +104,11 @@ fn plain_bundle(
       order = [];
     } }
 {
+    let (clock_lines, assigned_lines) = lines;
     Bundle {
         desc,
         clock_lines: Listed::new(clock_lines),
-        assigned_lines: Listed::new(Vec::new(alloc)),
+        assigned_lines: Listed::new(assigned_lines),
         words: Listed::new(words),
         locks: Listed::new(Vec::new(alloc)),
         late: Listed::new(Vec::new(alloc)),
@@ -135,47 +118,78 @@ fn plain_bundle(
     }
 }
 
-// The bundle that the lines spell.
-fn read_lines(alloc: Global, lines: &TextLines) -> Result<Bundle, Stop>
-    requires some { 0 < length lines.now }
+// The bundle of lines whose clocks are known, with their lines and those of nodes that assign clocks.
+fn read_form(
+    alloc: Global,
+    lines: &TextLines,
+    desc: ValidDesc,
+    clock_lines: Vec<u32>,
+    assigned: Vec<u32>,
+) -> Result<Bundle, Stop>
+    requires some { 1 < length lines.now }
+    requires bank { begins_clocks (line_at lines.now 1) ≡ true → clocks_end lines.now < length lines.now }
     requires few { length lines.now < 2 ^ 31 }
-    ensures { Section lines.now (length lines.now)
-        (λ b. (clocks_end lines.now < length lines.now) × (b ≡ bundle_of lines.now) × IsSound b) result }
+    ensures { Section lines.now desc.words (length lines.now)
+        (λ b. (b ≡ bundle_of lines.now desc.words (record { defs = desc.defs; lines = clock_lines.items; assigned = assigned.items }))
+        × (length b.words ≡ desc.words)) result }
 {
-    read_clocks_header(lines)?;
+    let size = desc.words();
+    check_clocks_header(lines, size)?;
     let end = lines.next_header(2);
-    let desc = read_desc(alloc, lines, end)?;
+    check_bank_header(alloc, lines, end, size)?;
     let words_end = lines.next_header(end + 1);
-    let words = read_words(alloc, lines, end + 1, words_end, desc.words())?;
+    let words = read_words(alloc, lines, end + 1, words_end, size)?;
     let drivers = read_scripts(alloc, lines, &desc, words_end)?;
     let boot = boot_commands(alloc, desc.len() as u32)?;
-    let clock_lines = clock_lines(alloc, end as u32)?;
-    Ok(plain_bundle(alloc, desc, clock_lines, words, boot, drivers))
+    Ok(plain_bundle(alloc, desc, (clock_lines, assigned), words, boot, drivers))
 }
 
-// The fault of a stop, over the text whose lines were read.
-fn fault_of(bytes: &[u8], stop: Stop) -> BundleFault
-    requires begins { Begins bytes.now }
-    requires few { length (lines bytes.now) ≤ length bytes.now }
-    requires stops { Stops (lines bytes.now) stop }
-    ensures { IsFaultOf bytes.now result }
+// The fault of a line at its place.
+fn form_stop(stop: Stop) -> BundleFault
+    requires { IsPlaced stop }
+    ensures { result ≡ stop_told stop }
 {
     match stop {
         Stop::At { place, reason } => BundleFault::Refused {
             line: place as u32 + 1,
             reason,
         },
-        Stop::NoBank => BundleFault::Refused {
-            line: line_feeds(bytes) as u32 + 1,
-            reason: Reason::NotYet,
-        },
         Stop::NoMemory => BundleFault::NoMemory,
     }
 }
 
-/// Reads a bundle. So far it has one driver at most, over fixed clocks and gates, in the form that
-/// `specs/Form.antt` states; each other bundle is refused with `NotYet` at the first line that
-/// breaks this form, where it isn't `TooLong` (line 0) or has a `BadVersion` (line 1).
+// The bundle of lines in sections.
+fn read_parts(alloc: Global, lines: &TextLines, sections: &Sections) -> Result<Bundle, BundleFault>
+    requires accepted { section_verdict.Accepts lines.now sections.now }
+    requires tiled { Tiles (header_from lines.now 1) (in_order sections.now) (length lines.now) }
+    requires each { AllByRecursion (IsSection lines.now) (in_order sections.now) }
+    requires few { length lines.now < 2 ^ 31 }
+    requires room { length (text_of_lines lines.now) ≤ 16777217 }
+    ensures spelled { IfOk result (PartsSpell lines.now sections.now) }
+    ensures sound { IfOk result IsSound }
+    ensures fault { IfErr result (IsPartsFault lines.now sections.now) }
+{
+    let clocks = match read_clocks_part(alloc, lines, sections.clocks()) {
+        Ok(clocks) => clocks,
+        Err(ClocksFault::Refused { line, reason }) => {
+            return Err(BundleFault::Refused {
+                line,
+                reason: clocks_reason(reason),
+            });
+        }
+        Err(ClocksFault::NoMemory) => return Err(BundleFault::NoMemory),
+    };
+    let desc = check_rules(alloc, clocks.desc, &clocks.lines, sections.bank().words)?;
+    match read_form(alloc, lines, desc, clocks.lines, clocks.assigned) {
+        Ok(bundle) => Ok(bundle),
+        Err(stop) => Err(form_stop(stop)),
+    }
+}
+
+/// Reads a bundle, phase by phase: too many bytes (line 0); the sections that its lines stand in; the
+/// clocks, from clock lines or a device tree source; the rules of a description. So far the other
+/// sections have the form that `specs/Form.antt` states, and the first line without it is refused with
+/// `NotYet`.
 pub fn read_bundle(alloc: Global, bytes: &[u8]) -> Result<Bundle, BundleFault>
     ensures accepted { IfOk result (Accepts bytes.now) }
     ensures sound { IfOk result IsSound }
@@ -188,14 +202,15 @@ pub fn read_bundle(alloc: Global, bytes: &[u8]) -> Result<Bundle, BundleFault>
         });
     }
     let lines = TextLines::new(alloc, bytes)?;
-    if !has_version(&lines) {
-        return Err(BundleFault::Refused {
-            line: 1,
-            reason: Reason::BadVersion,
-        });
-    }
-    match read_lines(alloc, &lines) {
-        Ok(bundle) => Ok(bundle),
-        Err(stop) => Err(fault_of(bytes, stop)),
-    }
+    let sections = match read_sections(alloc, &lines, line_feeds(bytes) as u32 + 1) {
+        Ok(sections) => sections,
+        Err(FormFault::Refused { line, reason }) => {
+            return Err(BundleFault::Refused {
+                line,
+                reason: form_reason(reason),
+            });
+        }
+        Err(FormFault::NoMemory) => return Err(BundleFault::NoMemory),
+    };
+    read_parts(alloc, &lines, &sections)
 }

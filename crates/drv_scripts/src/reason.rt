@@ -2,7 +2,10 @@
 
 ghost use Rattle.std.specs.Prelude.{◌≡◌};
 ghost use Rattle.drv_scripts.specs.declared.reason.BundleFault.TheVariants as faults;
+ghost use Rattle.drv_scripts.specs.Reasons.{form_reason, clocks_reason};
 
+use bundle_clocks::ClocksReason;
+use bundle_sections::FormReason;
 use clk_io::NoMemory;
 
 /// What is wrong with a line of a bundle.
@@ -102,5 +105,50 @@ impl From<NoMemory> for BundleFault {
 
     fn from(_none: NoMemory) -> BundleFault {
         BundleFault::NoMemory
+    }
+}
+
+/// The reason of a line that stands in no section.
+pub(crate) fn form_reason(reason: FormReason) -> Reason
+    ensures { result ≡ form_reason reason }
+{
+    match reason {
+        FormReason::NotUtf8 => Reason::NotUtf8,
+        FormReason::BadVersion => Reason::BadVersion,
+        FormReason::StrayLine => Reason::StrayLine,
+        FormReason::UnknownSection => Reason::UnknownSection,
+        FormReason::BadHeader => Reason::BadHeader,
+        FormReason::SectionOrder => Reason::SectionOrder,
+        FormReason::TwiceDefined => Reason::TwiceDefined,
+        FormReason::TooManyDrivers => Reason::TooManyDrivers,
+        FormReason::MissingSection => Reason::MissingSection,
+    }
+}
+
+/// The reason of the clocks' section.
+pub(crate) fn clocks_reason(reason: ClocksReason) -> Reason
+    ensures { result ≡ clocks_reason reason }
+{
+    match reason {
+        ClocksReason::UnknownKind => Reason::UnknownKind,
+        ClocksReason::BadWords => Reason::BadWords,
+        ClocksReason::BadName => Reason::BadName,
+        ClocksReason::TwiceNamed => Reason::TwiceNamed,
+        ClocksReason::BadNumber => Reason::BadNumber,
+        ClocksReason::BadFlag => Reason::BadFlag,
+        ClocksReason::UnknownName => Reason::UnknownName,
+        ClocksReason::BadChar => Reason::BadChar,
+        ClocksReason::OpenString => Reason::OpenString,
+        ClocksReason::OpenComment => Reason::OpenComment,
+        ClocksReason::NumberTooBig => Reason::NumberTooBig,
+        ClocksReason::Syntax => Reason::Syntax,
+        ClocksReason::TwiceDefined => Reason::TwiceDefined,
+        ClocksReason::TooDeep => Reason::TooDeep,
+        ClocksReason::NoSuchLabel => Reason::NoSuchLabel,
+        ClocksReason::UnknownCompatible => Reason::UnknownCompatible,
+        ClocksReason::NoCells => Reason::NoCells,
+        ClocksReason::MissingProperty => Reason::MissingProperty,
+        ClocksReason::BadSpecifier => Reason::BadSpecifier,
+        ClocksReason::BadAssigned => Reason::BadAssigned,
     }
 }

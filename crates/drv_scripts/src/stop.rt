@@ -12,8 +12,6 @@ use std::alloc::{AllocError, AllocFailed};
 pub(crate) enum Stop {
     /// The line at this place, from 0, is the first with a fault.
     At { place: usize, reason: Reason },
-    /// No line has a fault, and no header states the number of words.
-    NoBank,
     /// Memory ran out.
     NoMemory,
 }

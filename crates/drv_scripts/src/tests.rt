@@ -63,54 +63,205 @@ fn a_later_word_wins_and_unknown_names_are_kept(rt: HostRuntime) -> Result<(), F
     Ok(())
 }
 
+/// Checks each text against its line and reason.
+fn check_refusals<R: Abort + AllocGlobal>(rt: &R, table: &[(&str, u32, Reason)]) {
+    for (text, line, reason) in table {
+        check_refusal(rt, text.as_bytes(), *line, *reason);
+    }
+}
+
 #[test]
-fn refuses_the_first_line_that_breaks_the_form(rt: HostRuntime) -> Result<(), Fail> {
-    check_refusal(&rt, b"", 1, Reason::BadVersion);
-    check_refusal(&rt, b"%bundle  1\n", 1, Reason::BadVersion);
-    check_refusal(&rt, b"\xff\n%clocks\n", 1, Reason::BadVersion);
+fn sections_are_judged_before_what_they_say(rt: HostRuntime) {
+    check_refusals(
+        &rt,
+        &[
+            ("", 1, Reason::BadVersion),
+            ("%bundle  1\n", 1, Reason::BadVersion),
+            ("%bundle 1", 1, Reason::MissingSection),
+            ("%bundle 1\n%dts\n!\n", 4, Reason::MissingSection),
+            (
+                "%bundle 1\n%clocks\nblink\n%regs 1\n%what\n",
+                5,
+                Reason::UnknownSection,
+            ),
+            ("%bundle 1\n%clocks\nblink\n%regs 0\n", 4, Reason::BadHeader),
+            (
+                "%bundle 1\n# x\n%clocks\n%regs 1\n%lock\n%regs 1\n",
+                6,
+                Reason::SectionOrder,
+            ),
+        ],
+    );
+    check_refusal(&rt, b"\xff\n%clocks\n", 1, Reason::NotUtf8);
+    check_refusal(&rt, b"%bundle 2\n%clocks\nget u \xc3\n", 3, Reason::NotUtf8);
+}
+
+#[test]
+fn clock_lines_are_judged_before_the_rules(rt: HostRuntime) {
+    check_refusals(
+        &rt,
+        &[
+            (
+                "%bundle 1\n%clocks\nblink f 5\nfixed\n%regs 1\n",
+                3,
+                Reason::UnknownKind,
+            ),
+            (
+                "%bundle 1\n%clocks\n# note\nfixed f 5\nfixed f 6\n%regs 1\n",
+                5,
+                Reason::TwiceNamed,
+            ),
+            (
+                "%bundle 1\n%clocks\ngate g h 9 0\nfixed f x\n%regs 1\n",
+                4,
+                Reason::BadNumber,
+            ),
+            (
+                "%bundle 1\n%clocks\nfixed f 5\ngate a f 9 0\ngate g h 0 0\n%regs 1\n",
+                5,
+                Reason::UnknownName,
+            ),
+        ],
+    );
+}
+
+#[test]
+fn rules_are_judged_one_after_another_before_the_form(rt: HostRuntime) {
+    check_refusals(
+        &rt,
+        &[
+            (
+                "%bundle 1\n# x\n%clocks\nfixed f 5\ngate g f 1 0\n%regs 1\n",
+                5,
+                Reason::FieldOutOfBank,
+            ),
+            (
+                "%bundle 1\n%clocks\nfixed f 5\ngate g f 1 0\ndivider d f 0 0 17\n%regs 1\n",
+                5,
+                Reason::BadRange,
+            ),
+            (
+                "%bundle 1\n%clocks\n\nfixed f 5\ngate g f 0 1\ngate h f 0 1\n%regs 1\n",
+                6,
+                Reason::FieldOverlap,
+            ),
+            (
+                "%bundle 1\n%clocks\nfixed f 5\ngate g h 0 0\ngate h g 0 1\n%regs 1\n1 1\n",
+                4,
+                Reason::Cycle,
+            ),
+        ],
+    );
+}
+
+#[test]
+fn other_forms_are_not_read_yet(rt: HostRuntime) {
     for (text, line) in [
-        ("%bundle 1", 1),
-        ("%bundle 1\n", 2),
-        ("%bundle 1\n%dts\n", 2),
-        ("%bundle 1\n%clocks\n%regs 1\n", 3),
-        ("%bundle 1\n%clocks\nfixed f 5\n", 4),
-        ("%bundle 1\n%clocks\nfixed f 5\n\n%regs 1\n", 4),
-        ("%bundle 1\n%clocks\nfixed f  5\n%regs 1\n", 3),
-        ("%bundle 1\n%clocks\nfixed f 5\nfixed f 6\n%regs 1\n", 4),
-        ("%bundle 1\n%clocks\ngate g f 0 0\nfixed f 5\n%regs 1\n", 3),
-        ("%bundle 1\n%clocks\nfixed f 5\ngate g f 1 0\n%regs 1\n", 4),
-        ("%bundle 1\n%clocks\nfixed f 5\ngate g f 1 0\n", 5),
-        (
-            "%bundle 1\n%clocks\nfixed f 5\ngate g f 1 0\ngate h f 1 0\n",
-            5,
-        ),
-        ("%bundle 1\n%clocks\nfixed f 5\ngate g f 0 32\n%regs 1\n", 4),
-        ("%bundle 1\n%clocks\nfixed f 5\n%regs 0\n", 4),
-        ("%bundle 1\n%clocks\nfixed f 5\n%regs 65537\n", 4),
-        ("%bundle 1\n%clocks\nfixed f 5\n%regs 1\n1 0\n", 5),
-        ("%bundle 1\n%clocks\nfixed f 5\n%regs 1\n%driver boot\n", 5),
-        (
-            "%bundle 1\n%clocks\nfixed f 5\n%regs 1\n%driver A\nprepare u\n",
-            6,
-        ),
+        ("%bundle 1\n# x\n%clocks\n%regs 1\n", 2),
+        ("%bundle 1\n%clocks \n%regs 1\n", 2),
+        ("%bundle 1\n%clocks\n%regs  1\n", 3),
+        ("%bundle 1\n%clocks\n%regs 0x1\n", 3),
+        ("%bundle 1\n%clocks\n%regs 1\n1 0\n", 4),
+        ("%bundle 1\n%clocks\n%regs 1\n0 0x1\n", 4),
+        ("%bundle 1\n%clocks\n%regs 1\n\n", 4),
+        ("%bundle 1\n%clocks\n%regs 1\n%lock\n", 4),
+        ("%bundle 1\n%clocks\n%regs 1\n%driver A /x\n", 4),
+        ("%bundle 1\n%clocks\n%regs 1\n%driver A\nprepare u\n", 5),
         (
             "%bundle 1\n%clocks\nfixed f 5\n%regs 1\n%driver A\nget u f\nput u\n",
             7,
         ),
-        (
-            "%bundle 1\n%clocks\nfixed f 5\n%regs 1\n%driver A\n%driver B\n",
-            6,
-        ),
+        ("%bundle 1\n%clocks\n%regs 1\n%driver A\n%driver B\n", 5),
     ] {
         check_refusal(&rt, text.as_bytes(), line, Reason::NotYet);
+    }
+}
+
+const BOARD: &str =
+    "%bundle 1\n%dts\n/dts-v1/;\n\n/ {\n\t#address-cells = <0x01>;\n\tmodel = \"board\";\n\n\
+\tosc24M {\n\t\tcompatible = \"fixed-clock\";\n\t\t#clock-cells = <0x00>;\n\t\tclock-frequency = <0x16e3600>;\n\
+\t\tphandle = <0x01>;\n\t};\n\n\tclk@10 {\n\t\tcompatible = \"bank,gates-clock\";\n\t\t#clock-cells = <0x01>;\n\
+\t\tclocks = <0x01>;\n\t\tbank,reg = <0x00>;\n\t\tclock-indices = <0x00 0x05>;\n\
+\t\tclock-output-names = \"ahb_dma\", \"ahb_uart\";\n\t\tphandle = <0x02>;\n\t};\n};\n%regs 1\n\
+%driver A\nget u ahb_uart\n";
+
+#[test]
+fn reads_a_device_tree_source(rt: HostRuntime) -> Result<(), Fail> {
+    let bundle = read_bundle(rt.alloc(), BOARD.as_bytes())?;
+    assert_eq!(rt; bundle.desc.len(), 3);
+    assert_eq!(rt; bundle.clock_lines.as_slice(), [9, 16, 16].as_slice());
+    assert!(rt; bundle.assigned_lines.as_slice().is_empty());
+    assert_eq!(rt; bundle.boot.as_slice().len(), 3);
+    assert!(rt; bundle.desc.find("ahb_uart") == Some(ClockId(2)));
+    for script in bundle.drivers.as_slice() {
+        let get = Command {
+            line: 28,
+            var: Some(0),
+            act: Act::Get(Some(ClockId(2))),
+        };
+        assert_eq!(rt; script.commands.as_slice().first().copied(), Some(get));
     }
     Ok(())
 }
 
+/// A bundle whose source is this, from line 3 on.
+fn sourced<R: AllocGlobal>(rt: &R, source: &str) -> Result<String, Fail> {
+    Ok(format!(in rt.alloc(); "%bundle 1\n%dts\n{source}%regs 1\n1 1\n")?)
+}
+
 #[test]
-fn a_line_that_is_not_utf_8_breaks_the_form(rt: HostRuntime) {
-    let text = b"%bundle 1\n%clocks\nfixed f 5\n%regs 1\n%driver A\nget u \xc3\nget u f\n";
-    check_refusal(&rt, text, 6, Reason::NotYet);
+fn sources_are_refused_at_lines_of_the_bundle(rt: HostRuntime) -> Result<(), Fail> {
+    for (source, line, reason) in [
+        ("", 3, Reason::Syntax),
+        ("\n// nothing\n", 3, Reason::Syntax),
+        ("/dts-v1/;\n/ {\n!\n};\n", 5, Reason::BadChar),
+        ("/dts-v1/;\n/ { a = \"x;\n};\n", 4, Reason::OpenString),
+        ("/dts-v1/;\n/* x\n/ { };\n", 4, Reason::OpenComment),
+        (
+            "/dts-v1/;\n/ { a = <4294967296>; };\n",
+            4,
+            Reason::NumberTooBig,
+        ),
+        ("/dts-v1/;\n/ {\na;\na;\n};\n", 6, Reason::TwiceDefined),
+        ("/dts-v1/;\n/ {\na = <&b>; };\n", 5, Reason::NoSuchLabel),
+        ("/dts-v1/;\n/ {\n", 4, Reason::Syntax),
+        (
+            "/dts-v1/;\n/ {\nc { #clock-cells = <0>; };\n};\n",
+            5,
+            Reason::UnknownCompatible,
+        ),
+        (
+            "/dts-v1/;\n/ {\nc { compatible = \"fixed-clock\"; #clock-cells = <1>; clock-frequency = <5>; };\n};\n",
+            5,
+            Reason::NoCells,
+        ),
+        (
+            "/dts-v1/;\n/ {\nc { compatible = \"fixed-clock\"; #clock-cells = <0>; };\n};\n",
+            5,
+            Reason::MissingProperty,
+        ),
+        (
+            "/dts-v1/;\n/ {\nu { clocks = <7>; };\n};\n",
+            5,
+            Reason::BadSpecifier,
+        ),
+        (
+            "/dts-v1/;\n/ {\nu { assigned-clock-rates = <7>; };\n};\n",
+            5,
+            Reason::BadAssigned,
+        ),
+        (
+            "/dts-v1/;\n/ {\nc: c { compatible = \"fixed-clock\"; #clock-cells = <0>; clock-frequency = <5>; };\n\
+g { compatible = \"bank,gate-clock\"; #clock-cells = <0>; clocks = <&c>; bank,reg = <1>; bank,bit = <0>; };\n};\n",
+            6,
+            Reason::FieldOutOfBank,
+        ),
+        ("/dts-v1/;\n/ { };\n", 6, Reason::NotYet),
+    ] {
+        let text = sourced(&rt, source)?;
+        check_refusal(&rt, text.as_bytes(), line, reason);
+    }
+    Ok(())
 }
 
 #[test]
@@ -135,7 +286,7 @@ fn chain<R: AllocGlobal>(rt: &R, gates: u32) -> Result<String, Fail> {
 #[test]
 fn sixty_four_levels_are_the_most(rt: HostRuntime) -> Result<(), Fail> {
     assert!(rt; read_bundle(rt.alloc(), chain(&rt, 63)?.as_bytes()).is_ok());
-    check_refusal(&rt, chain(&rt, 64)?.as_bytes(), 67, Reason::NotYet);
+    check_refusal(&rt, chain(&rt, 64)?.as_bytes(), 67, Reason::TooMany);
     Ok(())
 }
 

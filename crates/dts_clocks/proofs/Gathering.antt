@@ -27,7 +27,7 @@ all_same : (a d : Description) (b e : List ℕ) (c f : List SeenConsumer) (g h :
 all_same a d b e c f g h one two three four =
     ap (λ x. loaded_with x b c g) one ∙ (ap (λ x. loaded_with d x c g) two ∙ (ap (λ x. loaded_with d e x g) three ∙ ap (λ x. loaded_with d e f x) four))
 
-defs_here : (nodes : List SeenNode) (k : ℕ) (l : Links) (b : Option SeenBinding) → Some l ≡ links_at nodes k → b ≡ binding_at nodes k → option_map_or (defs_with l.parents) b [] ≡ defs_at nodes k
+pub defs_here : (nodes : List SeenNode) (k : ℕ) (l : Links) (b : Option SeenBinding) → Some l ≡ links_at nodes k → b ≡ binding_at nodes k → option_map_or (defs_with l.parents) b [] ≡ defs_at nodes k
 unfolding defs_at
 defs_here nodes k l b linked bound = rw (← linked, ← bound) refl
 

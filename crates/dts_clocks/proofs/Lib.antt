@@ -1,3 +1,4 @@
+pub mod Fresh
 pub mod Gathering
 pub mod Joins
 pub mod Looks
@@ -5,6 +6,7 @@ pub mod Linking
 pub mod Listing
 pub mod Naming
 pub mod Numbering
+pub mod Parented
 pub mod Phandles
 pub mod Sources
 pub mod Twins

@@ -35,7 +35,7 @@ pub first_fault-node : (ns : List DtsNode) (k : ℕ) (d : DtsNode) (taken : List
 unfolding first_fault
 first_fault-node ns k d taken low e t = rw (e, get_seen seen_node ns k d low) (ap (λ ts. node_fault (map seen_node ns) ts (seen_node (get_or ns k d))) t)
 
-names_held : (k : ℕ) (clocks : List SeenClock) → map (λ (c : Held). c.clock.name) (map (held_by k) clocks) ≡ map (λ (c : SeenClock). c.name) clocks
+pub names_held : (k : ℕ) (clocks : List SeenClock) → map (λ (c : Held). c.clock.name) (map (held_by k) clocks) ≡ map (λ (c : SeenClock). c.name) clocks
 names_held k [] = refl
 names_held k (c ∷ cs) = ap (λ ns. c.name ∷ ns) (names_held k cs)
 

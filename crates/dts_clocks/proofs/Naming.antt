@@ -14,7 +14,7 @@ same_rest : (o : Option (List (Option ClockId))) → o ≡ option_map (λ more. 
 same_rest None = refl
 same_rest (Some xs) = refl
 
-named_cons : (nodes : List SeenNode) (begun : Option ℕ) (cell : Cell) (rest : List Cell) (s : Step) → step nodes begun cell ≡ s → is_bad s ≡ false → named_from nodes begun (cell ∷ rest) ≡ option_map (λ more. clocks_of_step s ++ more) (named_from nodes (begun_after s) rest)
+pub named_cons : (nodes : List SeenNode) (begun : Option ℕ) (cell : Cell) (rest : List Cell) (s : Step) → step nodes begun cell ≡ s → is_bad s ≡ false → named_from nodes begun (cell ∷ rest) ≡ option_map (λ more. clocks_of_step s ++ more) (named_from nodes (begun_after s) rest)
 unfolding named_from
 named_cons nodes None cell rest Bad e fine = absurd (cc)
 named_cons nodes (Some p) cell rest Bad e fine = absurd (cc)
@@ -30,7 +30,7 @@ wrong_at nodes (Some p) cell rest Bad e bad = rw (e, named_from) refl
 wrong_at nodes begun cell rest (Begins p) e bad = absurd (cc)
 wrong_at nodes begun cell rest (Names clock) e bad = absurd (cc)
 
-named_wrong : (nodes : List SeenNode) (begun : Option ℕ) (cell : Cell) (rest : List Cell) → is_bad (step nodes begun cell) ≡ true → named_from nodes begun (cell ∷ rest) ≡ None
+pub named_wrong : (nodes : List SeenNode) (begun : Option ℕ) (cell : Cell) (rest : List Cell) → is_bad (step nodes begun cell) ≡ true → named_from nodes begun (cell ∷ rest) ≡ None
 named_wrong nodes begun cell rest bad = wrong_at nodes begun cell rest (step nodes begun cell) refl bad
 
 join_ahead : (found here : List (Option ClockId)) (o : Option (List (Option ClockId))) → option_map (λ more. found ++ more) (option_map (λ more. here ++ more) o) ≡ option_map (λ more. (found ++ here) ++ more) o

@@ -29,7 +29,7 @@ among : (texts : List (String Global)) (name : List ℕ) → list_any (λ k. byt
 among [] name = refl
 among (t ∷ ts) name = ap (λ b. bytes_eq name (string_bytes t) || b) (among ts name)
 
-twin_cons : (T : List (List ℕ)) (n : List ℕ) (ns : List (List ℕ)) → has_twin T (n ∷ ns) ≡ (list_any (bytes_eq n) T || has_twin (T ++ n ∷ []) ns)
+pub twin_cons : (T : List (List ℕ)) (n : List ℕ) (ns : List (List ℕ)) → has_twin T (n ∷ ns) ≡ (list_any (bytes_eq n) T || has_twin (T ++ n ∷ []) ns)
 unfolding has_twin
 twin_cons T n ns = refl
 

@@ -20,7 +20,7 @@ mod verdict;
 pub use fault::DtsFault;
 pub use loaded::{Assigned, AssignedStep, Consumer, ConsumerName, Loaded};
 pub use reading::read_desc;
-pub use verdict::one_verdict;
+pub use verdict::{each_has_its_parents, one_verdict};
 
 #[cfg(test)]
 mod tests;

@@ -1,8 +1,9 @@
 //! From the nodes and what they say to what is loaded.
 
-ghost use Rattle.std.specs.Prelude.{◌≡◌, ◌<◌, ◌≤◌, ◌+◌, ◌++◌, ◌∷◌, ℕ, List, [], Some, None, map, length, IfOk, IfErr, OnOk};
+ghost use Rattle.std.specs.Prelude.{◌≡◌, ◌<◌, ◌≤◌, ◌+◌, ◌++◌, ◌∷◌, ℕ, List, [], Some, None, map, length, false, string_bytes, IfOk, IfErr, OnOk};
 ghost use Rattle.std.specs.Option.{option_map, option_map_or, option_to_list};
 ghost use Rattle.bundle_text.specs.Firsts.{KeepsBelow};
+ghost use Rattle.clk_base.specs.Description.{has_name};
 ghost use Rattle.dts_tree.specs.Tree.{seen_node};
 ghost use Rattle.dts_bindings.specs.Binding.{seen_binding};
 ghost use Rattle.dts_bindings.specs.Clocks.{seen_clock};
@@ -10,6 +11,7 @@ ghost use Rattle.dts_clocks.specs.Assigned.{seen_lists, seen_assigned, assigned_
 ghost use Rattle.dts_clocks.specs.Clocks.{binding_at};
 ghost use Rattle.dts_clocks.specs.Consumers.{seen_consumer};
 ghost use Rattle.dts_clocks.specs.Faults.{Tells, Finds};
+ghost use Rattle.dts_clocks.specs.FirstPass.{names_in, has_twin, first_fault};
 ghost use Rattle.dts_clocks.specs.Joined.{listed, total};
 ghost use Rattle.dts_clocks.specs.Loaded.{seen_loaded, def_with, defs_with, lines_with, loaded_before, loaded_of};
 ghost use Rattle.dts_clocks.specs.SecondPass.{entries_at, second_fault};
@@ -19,7 +21,7 @@ use crate::fault::DtsFault;
 use crate::loaded::{Assigned, Consumer, Loaded};
 use crate::second_pass::{Links, look};
 use crate::specifiers::Named;
-use clk_base::{ClkFlags, ClockDef, ClockId, ClockName, Desc, Parents};
+use clk_base::{AddFault, ClkFlags, ClockDef, ClockId, ClockName, Desc, Parents};
 use clk_io::NoMemory;
 use dts_bindings::{Binding, BoundClock};
 use dts_tree::DtsNode;
@@ -39,7 +41,7 @@ fn push_some<T: Drop>(found: &mut Vec<T>, more: Option<T>) -> Result<(), NoMemor
     Ok(())
 }
 
-// A clock more.
+// A clock more, with a name that no clock has.
 fn push_clock(
     alloc: Global,
     desc: &mut Desc,
@@ -47,6 +49,7 @@ fn push_clock(
     parents: &[ClockId],
     clock: &BoundClock,
 ) -> Result<(), NoMemory>
+    requires { has_name desc.old (string_bytes clock.now.name) ≡ false }
     ensures { OnOk result (desc.new ≡ desc.old ++ def_with flags parents.now (seen_clock clock.now) ∷ []) }
 {
     if desc.len() > MOST_CLOCKS {
@@ -62,11 +65,12 @@ fn push_clock(
     };
     match desc.add(def) {
         Ok(_) => Ok(()),
-        Err(_) => Err(NoMemory),
+        Err(AddFault::TwiceNamed) => unreachable!(),
+        Err(AddFault::NoMemory) => Err(NoMemory),
     }
 }
 
-// The clocks of a binding more.
+// The clocks of a binding more. None of them has the name of a clock before.
 fn push_clocks(
     alloc: Global,
     desc: &mut Desc,
@@ -74,6 +78,7 @@ fn push_clocks(
     parents: &[ClockId],
     clocks: &[BoundClock],
 ) -> Result<(), NoMemory>
+    requires { has_twin (map (λ d. d.name) desc.old) (map (λ c. c.name) (map seen_clock clocks.now)) ≡ false }
     ensures { OnOk result (desc.new ≡ desc.old ++ map (def_with flags parents.now) (map seen_clock clocks.now)) }
 {
     for clock in clocks {
@@ -101,6 +106,7 @@ fn push_bound(
     binding: &Option<Binding>,
     parents: &[ClockId],
 ) -> Result<(), NoMemory>
+    requires { option_map_or (λ b. has_twin (map (λ d. d.name) desc.old) (names_in b)) (option_map seen_binding binding.now) false ≡ false }
     ensures defs { OnOk result (desc.new ≡ desc.old ++ option_map_or (defs_with parents.now) (option_map seen_binding binding.now) []) }
     ensures lines { OnOk result (lines.new.items ≡ lines.old.items ++ option_map_or (lines_with line) (option_map seen_binding binding.now) []) }
 {
@@ -120,6 +126,7 @@ fn add(
     binding: &Option<Binding>,
     links: Links,
 ) -> Result<(), NoMemory>
+    requires { option_map_or (λ b. has_twin (map (λ d. d.name) loaded.old.desc) (names_in b)) (option_map seen_binding binding.now) false ≡ false }
     ensures defs { OnOk result (loaded.new.desc ≡ loaded.old.desc ++ option_map_or (defs_with links.parents.items) (option_map seen_binding binding.now) []) }
     ensures lines { OnOk result (loaded.new.lines.items ≡ loaded.old.lines.items ++ option_map_or (lines_with node.now.line) (option_map seen_binding binding.now) []) }
     ensures consumers { OnOk result (loaded.new.consumers.items ≡ loaded.old.consumers.items ++ option_to_list links.consumer) }
@@ -166,6 +173,8 @@ fn add_at(
     requires bound { option_map seen_binding binding.now ≡ binding_at (map seen_node chart.now.chart.nodes.now) at }
     requires before { before ≡ total (entries_at (map seen_node chart.now.chart.nodes.now)) at }
     requires few { before ≤ 4096 }
+    requires first { first_fault (map seen_node chart.now.chart.nodes.now) at ≡ None }
+    requires second { KeepsBelow (second_fault (map seen_node chart.now.chart.nodes.now)) at }
     requires so_far { seen_loaded loaded.old ≡ loaded_before (map seen_node chart.now.chart.nodes.now) at }
     ensures loaded { OnOk result (seen_loaded loaded.new ≡ loaded_before (map seen_node chart.now.chart.nodes.now) (at + 1)) }
     ensures entries { IfOk result (λ n. n ≡ total (entries_at (map seen_node chart.now.chart.nodes.now)) (at + 1)) }
@@ -187,7 +196,8 @@ pub(crate) fn load(
     chart: &Named<'_>,
     bindings: &[Option<Binding>],
 ) -> Result<Loaded, DtsFault>
-    requires { map (option_map seen_binding) bindings.now ≡ listed (binding_at (map seen_node chart.now.chart.nodes.now)) (length chart.now.chart.nodes.now) }
+    requires bound { map (option_map seen_binding) bindings.now ≡ listed (binding_at (map seen_node chart.now.chart.nodes.now)) (length chart.now.chart.nodes.now) }
+    requires first { KeepsBelow (first_fault (map seen_node chart.now.chart.nodes.now)) (length chart.now.chart.nodes.now) }
     ensures loaded { IfOk result (λ l. seen_loaded l ≡ loaded_of (map seen_node chart.now.chart.nodes.now)) }
     ensures none { OnOk result (KeepsBelow (second_fault (map seen_node chart.now.chart.nodes.now)) (length chart.now.chart.nodes.now)) }
     ensures err { IfErr result (λ e. Finds (second_fault (map seen_node chart.now.chart.nodes.now)) (length chart.now.chart.nodes.now) e) }

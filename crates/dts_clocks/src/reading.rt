@@ -1,6 +1,8 @@
 //! From a tree to what it says of clocks.
 
 ghost use Rattle.std.specs.Prelude.{◌≡◌, IfOk, IfErr};
+ghost use Rattle.clk_base.specs.Description.{EachClock};
+ghost use Rattle.clk_base.specs.Valid.{has_its_parents};
 ghost use Rattle.dts_tree.specs.Tree.{seen};
 ghost use Rattle.dts_clocks.specs.Loaded.{seen_loaded};
 ghost use Rattle.dts_clocks.specs.Verdict.{Accepts, IsFaultOf};
@@ -17,6 +19,7 @@ use std::alloc::Global;
 /// Reads what a tree says of clocks, or why it is refused.
 pub fn read_desc(alloc: Global, tree: &DtsTree) -> Result<Loaded, DtsFault>
     ensures loaded { IfOk result (λ loaded. Accepts (seen tree.now) (seen_loaded loaded)) }
+    ensures parents { IfOk result (λ loaded. EachClock loaded.desc (has_its_parents loaded.desc)) }
     ensures fault { IfErr result (λ fault. IsFaultOf (seen tree.now) fault) }
 {
     let chart = Chart::new(alloc, &tree.nodes)?;

@@ -135,9 +135,9 @@ impl<'a> Named<'a> {
             }
             begun = take(&mut found, step)?;
         }
-        if begun.is_some() {
-            return Ok(None);
+        match begun {
+            Some(_) => Ok(None),
+            None => Ok(Some(found)),
         }
-        Ok(Some(found))
     }
 }

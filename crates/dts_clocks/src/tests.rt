@@ -1,23 +1,34 @@
 use super::*;
 use clk_base::ClockId;
 use dts_tokens::{MOST_BYTES, tokens};
-use dts_tree::parse;
+use dts_tree::{DtsTree, parse};
 use std::alloc::Global;
 use std::process::Abort;
 use std::test::Fail;
 
-/// What a source says of clocks; `None` where it is no tree.
-fn read(alloc: Global, source: &str) -> Option<Result<Loaded, DtsFault>> {
+/// The tree of a source; `None` where it is none.
+fn tree_of(alloc: Global, source: &str) -> Option<DtsTree> {
     if source.len() > MOST_BYTES {
         return None;
     }
     let Ok(found) = tokens(alloc, source) else {
         return None;
     };
-    let Ok(tree) = parse(alloc, source, &found) else {
-        return None;
-    };
+    parse(alloc, source, &found).ok()
+}
+
+/// What a source says of clocks; `None` where it is no tree.
+fn read(alloc: Global, source: &str) -> Option<Result<Loaded, DtsFault>> {
+    let tree = tree_of(alloc, source)?;
     Some(read_desc(alloc, &tree))
+}
+
+/// Whether a tree is read, and its description is valid for a bank of so many words.
+fn is_valid(alloc: Global, tree: &DtsTree, words: u32) -> bool {
+    match read_desc(alloc, tree) {
+        Ok(loaded) => loaded.desc.check(alloc, words).is_ok(),
+        Err(_) => false,
+    }
 }
 
 /// A board with these nodes beside its oscillator `o` on line 1 is refused for this fault.
@@ -74,6 +85,26 @@ fn a_board_is_read(rt: HostRuntime) -> Result<(), Fail> {
             );
         }
         Some(Err(fault)) => assert!(rt; false, "{fault}"),
+        None => assert!(rt; false, "no tree"),
+    }
+    Ok(())
+}
+
+const GATES: &str = "/dts-v1/;
+/ {
+osc: osc { compatible = \"fixed-clock\"; #clock-cells = <0>; clock-frequency = <24000000>; };
+clk { compatible = \"bank,gates-clock\"; #clock-cells = <1>; clocks = <&osc>; bank,reg = <2>; clock-output-names = \"dma\", \"uart\"; };
+};
+";
+
+#[test]
+fn a_description_that_is_read_can_be_checked(rt: HostRuntime) -> Result<(), Fail> {
+    let alloc = rt.alloc();
+    match tree_of(alloc, GATES) {
+        Some(tree) => {
+            assert!(rt; is_valid(alloc, &tree, 3), "three words");
+            assert!(rt; !is_valid(alloc, &tree, 2), "two words");
+        }
         None => assert!(rt; false, "no tree"),
     }
     Ok(())

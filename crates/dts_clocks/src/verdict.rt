@@ -1,6 +1,8 @@
 //! Laws of what a tree says.
 
 ghost use Rattle.std.specs.Prelude.{◌≡◌, ◌⊎◌, ℕ, List};
+ghost use Rattle.clk_base.specs.Description.{EachClock};
+ghost use Rattle.clk_base.specs.Valid.{has_its_parents};
 ghost use Rattle.dts_tree.specs.Tree.{SeenNode};
 ghost use Rattle.dts_clocks.specs.declared.fault.DtsFault.{DtsFault};
 ghost use Rattle.dts_clocks.specs.Loaded.{SeenLoaded};
@@ -12,4 +14,9 @@ pub fn one_verdict()
     ensures one_refusal { (nodes : List SeenNode) (fault other : DtsFault) → Refuses nodes fault → Refuses nodes other → fault ≡ other }
     ensures not_both { (nodes : List SeenNode) (a : SeenLoaded) (fault : DtsFault) → Accepts nodes a → Refuses nodes fault → ⊥ }
     ensures decided { (nodes : List SeenNode) → ((a : SeenLoaded) × Accepts nodes a) ⊎ ((fault : DtsFault) × Refuses nodes fault) }
+{}
+
+/// Where a tree is accepted, each of its clocks has its parents.
+pub fn each_has_its_parents()
+    ensures { (nodes : List SeenNode) (loaded : SeenLoaded) → Accepts nodes loaded → EachClock loaded.defs (has_its_parents loaded.defs) }
 {}

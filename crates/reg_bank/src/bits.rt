@@ -1,4 +1,4 @@
-ghost use Rattle.std.specs.Prelude.{◌≡◌, ◌<◌, ◌==◌, IfSome, is_some, if◌then◌else◌};
+ghost use Rattle.std.specs.Prelude.{◌≡◌, ℕ, ◌<◌, ◌==◌, IfSome, is_some, if◌then◌else◌};
 ghost use Rattle.std.specs.Option.{option_map};
 ghost use Rattle.reg_bank.specs.Registers.{is_set, put_bit, bits_of, with_bits};
 
@@ -37,6 +37,7 @@ pub fn write_bit<B: Bank>(bank: &mut B, word: usize, bit: u32, value: bool)
     ensures size { B.size bank.new ≡ B.size bank.old }
     ensures tells { is_some (B.contents bank.new) ≡ is_some (B.contents bank.old) }
     ensures words { B.contents bank.new ≡ option_map (λ words. put_bit words word bit value) (B.contents bank.old) }
+    ensures locks { (p : ℕ) → B.lock bank.new p ≡ B.lock bank.old p }
 {
     let old = bank.read(word);
     bank.write(word, with_bit(old, bit, value));

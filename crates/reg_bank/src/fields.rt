@@ -1,4 +1,4 @@
-ghost use Rattle.std.specs.Prelude.{◌≡◌, ◌+◌, ◌^◌, ◌<◌, ◌≤◌, IfSome, is_some};
+ghost use Rattle.std.specs.Prelude.{◌≡◌, ℕ, ◌+◌, ◌^◌, ◌<◌, ◌≤◌, IfSome, is_some};
 ghost use Rattle.std.specs.Option.{option_map};
 ghost use Rattle.reg_bank.specs.Registers.{bits_of, with_bits, field, put};
 
@@ -43,6 +43,7 @@ pub fn write_field<B: Bank>(bank: &mut B, word: usize, shift: u32, width: u32, v
     ensures size { B.size bank.new ≡ B.size bank.old }
     ensures tells { is_some (B.contents bank.new) ≡ is_some (B.contents bank.old) }
     ensures words { B.contents bank.new ≡ option_map (λ words. put words word shift width value) (B.contents bank.old) }
+    ensures locks { (p : ℕ) → B.lock bank.new p ≡ B.lock bank.old p }
 {
     let old = bank.read(word);
     bank.write(word, with_field(old, shift, width, value));

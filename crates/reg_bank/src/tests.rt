@@ -58,3 +58,27 @@ fn field_of_four_bits_stands_apart(rt: HostRuntime) {
         assert_eq!(rt; read_field(&bank, 2, 32, 0), 0);
     }
 }
+
+#[test]
+fn lock_answers_from_its_delay_on(rt: HostRuntime) {
+    let made = MemBank::new(rt.alloc());
+    assert!(rt; made.is_ok());
+    if let Ok(mut bank) = made {
+        bank.start(7);
+        assert!(rt; bank.locked(7));
+        bank.arm(7, 3);
+        bank.start(7);
+        assert!(rt; !bank.locked(7));
+        assert!(rt; !bank.locked(7));
+        assert!(rt; bank.locked(7));
+        assert!(rt; bank.locked(7));
+        // armed again it has had four polls, and another lock none
+        bank.arm(7, 5);
+        assert!(rt; bank.locked(7));
+        bank.arm(4095, 2);
+        assert!(rt; !bank.locked(4095));
+        assert!(rt; bank.locked(0));
+        bank.start(7);
+        assert!(rt; !bank.locked(7));
+    }
+}

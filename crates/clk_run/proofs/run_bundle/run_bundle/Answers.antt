@@ -17,6 +17,7 @@ use Rattle.std.specs.List.{AllByRecursion}
 use Rattle.clk_model.specs.Journal.{opening}
 use Rattle.clk_model.specs.State.{State}
 use Rattle.clk_run.specs.Runs.{scripts_with, drivers_in, are_built, opening_of, credits_of, run_text, HasRun}
+use Rattle.clk_run.proofs.Fitness.{plain_all}
 use Rattle.clk_run.proofs.RunTexts.{follow_many}
 use Rattle.clk_run.proofs.Readiness.{few_credits, drivers_keep, drivers_few, commands_few}
 use Rattle.clk_run.proofs.Leaving.{text_of, bank_back, left_by}
@@ -48,7 +49,7 @@ run_scripts-requires g c =
     record {
       begins = begun.journal;
       credits = omega arith;
-      plain = subst IsPlain defs ready.sound.plain;
+      plain = subst IsPlain defs (plain_all b.desc.defs ready.fit);
       boot = boot ∙ ready.boot ∙ ap (λ (ds : Description). boot_of (length ds)) defs;
       few = omega arith;
       placed = subst (λ (ds : Description). AllByRecursion (IsScript (length ds)) run) defs

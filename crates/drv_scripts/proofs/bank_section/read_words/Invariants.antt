@@ -6,7 +6,7 @@ use Rattle.drv_scripts.proofs.bank_section.read_words.Given as goal
 -- the lines so far have no fault, and the bank is as they say
 abbrev pub invariant-loop-at : goal.invariant-loop-at
 invariant-loop-at l = record {
-  kept : KeepsBelow (fault_at l.lines) l.at;
-  words : l.bank.items ≡ words_before l.lines l.at;
+  kept : KeepsBelow (fault_at l.lines l.size) l.at;
+  words : l.bank.items ≡ words_before l.lines l.size l.at;
   count : length l.bank.items ≡ l.size;
 }

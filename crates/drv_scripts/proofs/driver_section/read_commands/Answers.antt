@@ -13,7 +13,7 @@ loop-at-init c =
     record {
       kept = c.requires.kept;
       variables = c.new-variables.ensures ∙ (sym (variables_before-none ls) ∙ ap (variables_before ls) (sym c.requires.first));
-      commands = c.new-commands.ensures.items ∙ ap (said_from (command_at ls) c.args.first) (sym none);
+      commands = c.new-commands.ensures.items ∙ ap (said_from (command_at c.args.desc.now.defs ls) c.args.first) (sym none);
     }
 
 pub loop-at-preserved : goal.loop-at-preserved
@@ -29,7 +29,7 @@ loop-at-preserved c =
       commands =
           c.in_ok-push.ensures.items
           ∙ (ap (λ commands. commands ++ c.in_ok-command.command ∷ []) c.loop-at.invariant.commands
-          ∙ (sym (said_from-more (command_at ls) c.args.first count c.in_ok-command.command (ap (command_at ls) there ∙ step.1.0)) ∙ ap (said_from (command_at ls) c.args.first) (sym next)));
+          ∙ (sym (said_from-more (command_at c.args.desc.now.defs ls) c.args.first count c.in_ok-command.command (ap (command_at c.args.desc.now.defs ls) there ∙ step.1.0)) ∙ ap (said_from (command_at c.args.desc.now.defs ls) c.args.first) (sym next)));
     }
 
 pub returns : goal.returns
@@ -37,4 +37,4 @@ unfolding commands_from
 returns c =
     let ls = c.args.lines.now in
     let end : c.loop-at.at ≡ length ls = omega arith in
-    (subst (KeepsBelow (fault_at ls)) end c.loop-at.invariant.kept, c.loop-at.invariant.commands ∙ ap (λ at. said_from (command_at ls) c.args.first (at - c.args.first)) end)
+    (subst (KeepsBelow (fault_at ls c.args.desc.now.words)) end c.loop-at.invariant.kept, c.loop-at.invariant.commands ∙ ap (λ at. said_from (command_at c.args.desc.now.defs ls) c.args.first (at - c.args.first)) end)

@@ -13,5 +13,5 @@ returns c =
       c.in_ok-push.ensures.items
           ∙ (ap (λ scripts. scripts ++ record { name = name; commands = c.new-commands.result } ∷ []) c.new-scripts.ensures.items
           ∙ (ap (λ commands. record { name = name; commands = commands } ∷ []) (c.new-commands.ensures ∙ read.1)
-          ∙ ap (λ said. option_to_list (option_map (λ n. record { name = n; commands = commands_from ls (c.args.at + 1) }) said)) (sym c.in_ok-name.ensures.1))),
+          ∙ ap (λ said. option_to_list (option_map (λ n. record { name = n; commands = commands_from c.args.desc.now.defs ls (c.args.at + 1) }) said)) (sym c.in_ok-name.ensures.1))),
     )

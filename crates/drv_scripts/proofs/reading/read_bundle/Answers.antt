@@ -1,6 +1,9 @@
-use Rattle.std.proofs.Common.{◌∙◌, sym}
-use Rattle.drv_scripts.proofs.Places.{version_some}
+use Rattle.std.proofs.Common.{ap, length, arith}
+use Rattle.bundle_clocks.specs.Source.{text_of_lines}
+use Rattle.bundle_clocks.proofs.Room.{lines_room}
 use Rattle.drv_scripts.proofs.reading.read_bundle.Goals as goal
 
-pub read_lines-requires-clause-some : goal.read_lines-requires-clause-some
-read_lines-requires-clause-some c = version_some c.in_ok-lines.lines (sym c.has_version.ensures ∙ c.if-not-has_version.false)
+pub read_parts-requires-clause-room : goal.read_parts-requires-clause-room
+read_parts-requires-clause-room c =
+    let same = ap (λ ls. length (text_of_lines ls)) c.in_ok-lines.ensures.lines in
+    omega (arith, lines_room c.args.bytes.now, same)

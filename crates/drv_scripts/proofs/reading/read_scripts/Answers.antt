@@ -12,10 +12,10 @@ read_driver-requires-clause-order c = omega (arith, header_from-ge c.args.lines.
 pub returns-then-at-len : goal.returns-then-at-len
 returns-then-at-len c =
     let ls = c.args.lines.now in
-    subst (λ spelled. Section ls (length ls) (λ scripts. scripts.items ≡ spelled) c.read_driver.result) (sym (scripts_of-some ls c.args.at c.requires.at (omega arith))) c.read_driver.ensures
+    subst (λ spelled. Section ls c.args.desc.now.words (length ls) (λ scripts. scripts.items ≡ spelled) c.read_driver.result) (sym (scripts_of-some c.args.desc.now.defs ls c.args.at c.requires.at (omega arith))) c.read_driver.ensures
 
 pub returns-else-at-len : goal.returns-else-at-len
 returns-else-at-len c =
     let ls = c.args.lines.now in
     let end : c.args.at ≡ length ls = omega (arith, c.requires.within) in
-    (subst (KeepsBelow (fault_at ls)) end c.requires.kept, c.new.ensures.items ∙ sym (scripts_of-none ls c.args.at c.requires.at (omega arith)))
+    (subst (KeepsBelow (fault_at ls c.args.desc.now.words)) end c.requires.kept, c.new.ensures.items ∙ sym (scripts_of-none c.args.desc.now.defs ls c.args.at c.requires.at (omega arith)))

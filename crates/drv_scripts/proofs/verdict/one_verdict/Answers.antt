@@ -1,4 +1,4 @@
-use Rattle.drv_scripts.proofs.Verdicts.{same_bundle, same_refusal, never_both, each_decided}
+use Rattle.drv_scripts.proofs.Verdicts.{same_bundle, same_refusal, never_both}
 use Rattle.drv_scripts.proofs.verdict.one_verdict.Goals as goal
 
 pub returns-clause-one_bundle : goal.returns-clause-one_bundle
@@ -9,6 +9,3 @@ returns-clause-one_refusal c = same_refusal
 
 pub returns-clause-not_both : goal.returns-clause-not_both
 returns-clause-not_both c = never_both
-
-pub returns-clause-decided : goal.returns-clause-decided
-returns-clause-decided c = each_decided

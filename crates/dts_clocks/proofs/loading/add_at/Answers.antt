@@ -5,10 +5,14 @@ use Rattle.dts_bindings.specs.Binding.{seen_binding}
 use Rattle.dts_clocks.specs.Consumers.{seen_consumer}
 use Rattle.dts_clocks.specs.Loaded.{seen_loaded}
 use Rattle.dts_clocks.specs.SecondPass.{seen_links}
+use Rattle.dts_clocks.proofs.Fresh.{fresh}
 use Rattle.dts_clocks.proofs.Gathering.{loaded_more, loaded_same, map_some}
 use Rattle.dts_clocks.proofs.Linking.{more_entries, no_entries}
 use Rattle.dts_clocks.proofs.Places.{get_seen}
 use Rattle.dts_clocks.proofs.loading.add_at.Goals as goal
+
+pub add-requires : goal.add-requires
+add-requires c = fresh (map seen_node c.args.chart.now.chart.nodes.now) c.args.at (option_map seen_binding c.args.binding.now) (seen_loaded c.args.loaded.now) c.requires.bound c.requires.first c.requires.second c.requires.so_far
 
 pub returns-in_default-clause-loaded : goal.returns-in_default-clause-loaded
 returns-in_default-clause-loaded c =

@@ -22,11 +22,11 @@ loop-at-init c =
     }
 
 pub bounds-bindings-at : goal.bounds-bindings-at
-bounds-bindings-at c = bound_within (map seen_node c.args.chart.now.chart.nodes.now) (length c.args.chart.now.chart.nodes.now) c.loop-at.at c.args.bindings.now c.requires c.loop-at-test.true
+bounds-bindings-at c = bound_within (map seen_node c.args.chart.now.chart.nodes.now) (length c.args.chart.now.chart.nodes.now) c.loop-at.at c.args.bindings.now c.requires.bound c.loop-at-test.true
 
 pub add_at-requires-clause-bound : goal.add_at-requires-clause-bound
 add_at-requires-clause-bound c =
-    ap (option_map seen_binding) c.index-bindings-at.is ∙ bound_at (map seen_node c.args.chart.now.chart.nodes.now) (length c.args.chart.now.chart.nodes.now) c.loop-at.at c.args.bindings.now c.index-bindings-at.result c.requires c.loop-at-test.true
+    ap (option_map seen_binding) c.index-bindings-at.is ∙ bound_at (map seen_node c.args.chart.now.chart.nodes.now) (length c.args.chart.now.chart.nodes.now) c.loop-at.at c.args.bindings.now c.index-bindings-at.result c.requires.bound c.loop-at-test.true
 
 pub returns-in_err-entries-clause-err : goal.returns-in_err-entries-clause-err
 returns-in_err-entries-clause-err c =

@@ -1,6 +1,8 @@
-use Rattle.std.proofs.Common.{◌∙◌}
+use Rattle.std.proofs.Common.{◌∙◌, map}
 use Rattle.std.proofs.lemmas.Result.{err_from_is_err_and}
+use Rattle.dts_tree.specs.Tree.{seen_node}
 use Rattle.dts_clocks.specs.Loaded.{seen_loaded}
+use Rattle.dts_clocks.proofs.Parented.{parented}
 use Rattle.dts_clocks.proofs.Verdicts.{second_told, accepted}
 use Rattle.dts_clocks.proofs.reading.read_desc.Goals as goal
 
@@ -14,3 +16,9 @@ pub returns-clause-loaded : goal.returns-clause-loaded
 returns-clause-loaded c =
     let first = c.in_ok-chart.ensures ∙ c.deref.ensures.value in
     accepted c.in_ok-chart.chart.nodes.now c.in_ok-chart-2.chart.chart.nodes.now c.args.tree.now.nodes.items (seen_loaded c.in_ok-loaded.loaded) first (c.in_ok-chart-2.ensures ∙ first) c.in_ok-bindings.ensures.none c.in_ok-loaded.ensures.none c.in_ok-loaded.ensures.loaded
+
+pub returns-clause-parents : goal.returns-clause-parents
+returns-clause-parents c =
+    let first = c.in_ok-chart.ensures ∙ c.deref.ensures.value in
+    parented (map seen_node c.args.tree.now.nodes.items) (seen_loaded c.in_ok-loaded.loaded)
+    (accepted c.in_ok-chart.chart.nodes.now c.in_ok-chart-2.chart.chart.nodes.now c.args.tree.now.nodes.items (seen_loaded c.in_ok-loaded.loaded) first (c.in_ok-chart-2.ensures ∙ first) c.in_ok-bindings.ensures.none c.in_ok-loaded.ensures.none c.in_ok-loaded.ensures.loaded)

@@ -1,0 +1,4 @@
+pub mod Room
+pub mod Sources
+pub mod Verdicts
+pub mod Counts

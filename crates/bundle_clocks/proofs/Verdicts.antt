@@ -1,0 +1,201 @@
+-- A section of clocks has one verdict.
+use Rattle.std.proofs.Common.{◌≡◌, ◌⊎◌, ℕ, ◌+◌, List, [], Option, Some, None, Result, Ok, Err, length, refl, ap, subst, sym, ◌∙◌, inl, inr}
+use Rattle.bundle_text.specs.Firsts.{First, KeepsBelow}
+use Rattle.bundle_text.proofs.Rows.{First-kept, First-unique}
+use Rattle.bundle_sections.specs.declared.section.ClockSection.{ClockSection}
+use Rattle.bundle_sections.specs.declared.section.ClockText.{ClockText}
+use Rattle.bundle_sections.specs.declared.section.ClockText.TheVariants.{Lines, DeviceTree}
+use Rattle.bundle_clocks.specs.declared.fault.ClocksReason.{ClocksReason}
+use Rattle.bundle_clocks.specs.declared.fault.ClocksReason.TheVariants.{UnknownKind}
+use Rattle.bundle_clocks.specs.Reasons.{Told, told, line_reason, token_told, tree_told, nodes_told}
+use Rattle.bundle_clocks.specs.Said.{SaidClocks}
+use Rattle.bundle_clocks.specs.Source.{lines_in, source_of}
+use Rattle.bundle_clocks.specs.Verdict.{SourceSays, TreeSays, TreeRefused, NodesRefused, SourceRefused, SaysIn, RefusesIn, nodes_of, clocks_of_tree}
+use Rattle.clock_lines.specs.declared.fault.LineReason.{LineReason}
+use Rattle.clock_lines.specs.Section.{fault_at, parent_fault_at}
+use Rattle.clock_lines.specs.Verdict as line_verdict
+use Rattle.clock_lines.proofs.Verdicts.{decided}
+use Rattle.clk_base.specs.Description.{Description}
+use Rattle.dts_clocks.specs.declared.fault.DtsFault.{DtsFault}
+use Rattle.dts_clocks.specs.Loaded.{SeenLoaded}
+use Rattle.dts_clocks.specs.Faults.{IsFirstOf}
+use Rattle.dts_clocks.specs.FirstPass.{first_fault}
+use Rattle.dts_clocks.specs.SecondPass.{second_fault}
+use Rattle.dts_clocks.specs.Verdict as node_verdict
+use Rattle.dts_tokens.specs.declared.token.Token.{Token}
+use Rattle.dts_tokens.specs.declared.token.TokenFault.{TokenFault}
+use Rattle.dts_tokens.specs.declared.token.TokenFault.TheVariants.{BadChar, OpenString, OpenComment, NumberTooBig, NoMemory}
+use Rattle.dts_tokens.specs.Tokens as cut
+use Rattle.dts_tokens.proofs.OneReading.{one_list, one_flaw, not_both}
+use Rattle.dts_tree.specs.Tree.{SeenNode}
+
+-- ## Tokens
+
+line_in : Option Told → ℕ
+line_in None = 0
+line_in (Some t) = t.line
+
+reason_in : Option Told → ClocksReason
+reason_in None = UnknownKind
+reason_in (Some t) = t.reason
+
+told_same : (line other : ℕ) (reason why : ClocksReason) → told line reason ≡ told other why → (line ≡ other) × (reason ≡ why)
+unfolding line_in reason_in
+told_same line other reason why h = (ap line_in h, ap reason_in h)
+
+token_same : (text : List ℕ) (f g : TokenFault) (line other : ℕ) (reason why : ClocksReason) → cut.IsFaultOf text f → cut.IsFaultOf text g → token_told f ≡ told line reason → token_told g ≡ told other why
+    → (line ≡ other) × (reason ≡ why)
+token_same text (BadChar m) (BadChar n) line other reason why x y e f = (let one = told_same _ line _ reason e in let two = told_same _ other _ why f in let same = one_flaw text _ _ m n x y in (cc, cc))
+token_same text (BadChar m) (OpenString n) line other reason why x y e f = (let one = told_same _ line _ reason e in let two = told_same _ other _ why f in let same = one_flaw text _ _ m n x y in (cc, cc))
+token_same text (BadChar m) (OpenComment n) line other reason why x y e f = (let one = told_same _ line _ reason e in let two = told_same _ other _ why f in let same = one_flaw text _ _ m n x y in (cc, cc))
+token_same text (BadChar m) (NumberTooBig n) line other reason why x y e f = (let one = told_same _ line _ reason e in let two = told_same _ other _ why f in let same = one_flaw text _ _ m n x y in (cc, cc))
+token_same text (BadChar m) NoMemory line other reason why x y e f = absurd (cc)
+token_same text (OpenString m) (BadChar n) line other reason why x y e f = (let one = told_same _ line _ reason e in let two = told_same _ other _ why f in let same = one_flaw text _ _ m n x y in (cc, cc))
+token_same text (OpenString m) (OpenString n) line other reason why x y e f = (let one = told_same _ line _ reason e in let two = told_same _ other _ why f in let same = one_flaw text _ _ m n x y in (cc, cc))
+token_same text (OpenString m) (OpenComment n) line other reason why x y e f = (let one = told_same _ line _ reason e in let two = told_same _ other _ why f in let same = one_flaw text _ _ m n x y in (cc, cc))
+token_same text (OpenString m) (NumberTooBig n) line other reason why x y e f = (let one = told_same _ line _ reason e in let two = told_same _ other _ why f in let same = one_flaw text _ _ m n x y in (cc, cc))
+token_same text (OpenString m) NoMemory line other reason why x y e f = absurd (cc)
+token_same text (OpenComment m) (BadChar n) line other reason why x y e f = (let one = told_same _ line _ reason e in let two = told_same _ other _ why f in let same = one_flaw text _ _ m n x y in (cc, cc))
+token_same text (OpenComment m) (OpenString n) line other reason why x y e f = (let one = told_same _ line _ reason e in let two = told_same _ other _ why f in let same = one_flaw text _ _ m n x y in (cc, cc))
+token_same text (OpenComment m) (OpenComment n) line other reason why x y e f = (let one = told_same _ line _ reason e in let two = told_same _ other _ why f in let same = one_flaw text _ _ m n x y in (cc, cc))
+token_same text (OpenComment m) (NumberTooBig n) line other reason why x y e f = (let one = told_same _ line _ reason e in let two = told_same _ other _ why f in let same = one_flaw text _ _ m n x y in (cc, cc))
+token_same text (OpenComment m) NoMemory line other reason why x y e f = absurd (cc)
+token_same text (NumberTooBig m) (BadChar n) line other reason why x y e f = (let one = told_same _ line _ reason e in let two = told_same _ other _ why f in let same = one_flaw text _ _ m n x y in (cc, cc))
+token_same text (NumberTooBig m) (OpenString n) line other reason why x y e f = (let one = told_same _ line _ reason e in let two = told_same _ other _ why f in let same = one_flaw text _ _ m n x y in (cc, cc))
+token_same text (NumberTooBig m) (OpenComment n) line other reason why x y e f = (let one = told_same _ line _ reason e in let two = told_same _ other _ why f in let same = one_flaw text _ _ m n x y in (cc, cc))
+token_same text (NumberTooBig m) (NumberTooBig n) line other reason why x y e f = (let one = told_same _ line _ reason e in let two = told_same _ other _ why f in let same = one_flaw text _ _ m n x y in (cc, cc))
+token_same text (NumberTooBig m) NoMemory line other reason why x y e f = absurd (cc)
+token_same text NoMemory g line other reason why x y e f = absurd (cc)
+
+token_cut : (text : List ℕ) (f : TokenFault) (tokens : List Token) (line : ℕ) (reason : ClocksReason) → cut.IsFaultOf text f → token_told f ≡ told line reason → cut.Tokens text tokens → ⊥
+token_cut text (BadChar m) tokens line reason x e cuts = not_both text tokens _ m cuts x
+token_cut text (OpenString m) tokens line reason x e cuts = not_both text tokens _ m cuts x
+token_cut text (OpenComment m) tokens line reason x e cuts = not_both text tokens _ m cuts x
+token_cut text (NumberTooBig m) tokens line reason x e cuts = not_both text tokens _ m cuts x
+token_cut text NoMemory tokens line reason x e cuts = absurd (cc)
+
+-- ## Sources
+
+ok_same : {A E : Type 0} (a b : A) (r : Result A E) → r ≡ Ok a → r ≡ Ok b → a ≡ b
+ok_same a b r e f = cc
+
+err_same : {A E : Type 0} (a b : E) (r : Result A E) → r ≡ Err a → r ≡ Err b → a ≡ b
+err_same a b r e f = cc
+
+ok_err : {A E : Type 0} (a : A) (b : E) (r : Result A E) → r ≡ Ok a → r ≡ Err b → ⊥
+ok_err a b r e f = cc
+
+-- the nodes of a source
+nodes_same : (first : ℕ) (source : List ℕ) (a b : List SeenNode) → SourceSays first source a → SourceSays first source b → a ≡ b
+nodes_same first source a b x y =
+    let same = one_list source x.tokens y.tokens x.cuts y.cuts in
+    ok_same a b (nodes_of first source y.tokens) (ap (nodes_of first source) (sym same) ∙ x.spells) y.spells
+
+tree_same : (first : ℕ) (source : List ℕ) (line other : ℕ) (reason why : ClocksReason) → TreeRefused first source line reason → TreeRefused first source other why → (line ≡ other) × (reason ≡ why)
+tree_same first source line other reason why x y =
+    let same = one_list source x.tokens y.tokens x.cuts y.cuts in
+    let fault = err_same x.fault y.fault (nodes_of first source y.tokens) (ap (nodes_of first source) (sym same) ∙ x.found) y.found in
+    told_same line other reason why (sym x.told_is ∙ (ap tree_told fault ∙ y.told_is))
+
+tree_says : (first : ℕ) (source : List ℕ) (nodes : List SeenNode) (line : ℕ) (reason : ClocksReason) → SourceSays first source nodes → TreeRefused first source line reason → ⊥
+tree_says first source nodes line reason x y =
+    let same = one_list source x.tokens y.tokens x.cuts y.cuts in
+    ok_err nodes y.fault (nodes_of first source y.tokens) (ap (nodes_of first source) (sym same) ∙ x.spells) y.found
+
+-- ## Nodes
+
+first_same : (test : ℕ → Option DtsFault) (n : ℕ) (fault other : DtsFault) → IsFirstOf test n fault → IsFirstOf test n other → fault ≡ other
+first_same test n fault other x y = (First-unique test n x.place y.place fault other x.first y.first).1
+
+first_kept : (test : ℕ → Option DtsFault) (n : ℕ) (fault : DtsFault) → KeepsBelow test n → IsFirstOf test n fault → ⊥
+first_kept test n fault kept x = First-kept test n x.place fault kept x.first
+
+loaded_same : (nodes : List SeenNode) (a b : SeenLoaded) → node_verdict.Accepts nodes a → node_verdict.Accepts nodes b → a ≡ b
+loaded_same nodes a b x y = x.content ∙ sym y.content
+
+fault_same : (nodes : List SeenNode) (fault other : DtsFault) → node_verdict.Refuses nodes fault → node_verdict.Refuses nodes other → fault ≡ other
+fault_same nodes fault other (inl x) (inl y) = first_same (first_fault nodes) (length nodes) fault other x y
+fault_same nodes fault other (inl x) (inr y) = absurd (first_kept (first_fault nodes) (length nodes) fault y.kept x)
+fault_same nodes fault other (inr x) (inl y) = absurd (first_kept (first_fault nodes) (length nodes) other x.kept y)
+fault_same nodes fault other (inr x) (inr y) = first_same (second_fault nodes) (length nodes) fault other x.found y.found
+
+loaded_fault : (nodes : List SeenNode) (a : SeenLoaded) (fault : DtsFault) → node_verdict.Accepts nodes a → node_verdict.Refuses nodes fault → ⊥
+loaded_fault nodes a fault x (inl y) = first_kept (first_fault nodes) (length nodes) fault x.first y
+loaded_fault nodes a fault x (inr y) = first_kept (second_fault nodes) (length nodes) fault x.second y.found
+
+-- ## Lines
+
+line_same : (from : ℕ) (test : ℕ → Option LineReason) (n : ℕ) (a b line other : ℕ) (reason why : LineReason) → First test n a reason → First test n b why → line ≡ from + a + 1 → other ≡ from + b + 1 → (line ≡ other) × (reason ≡ why)
+line_same from test n a b line other reason why x y e f =
+    let same = First-unique test n a b reason why x y in
+    (e ∙ (ap (λ k. from + k + 1) same.0 ∙ sym f), same.1)
+
+lines_refused_same : (from : ℕ) (section : List (List ℕ)) (line other : ℕ) (reason why : LineReason) → line_verdict.Refuses from section line reason → line_verdict.Refuses from section other why → (line ≡ other) × (reason ≡ why)
+lines_refused_same from section line other reason why (inl x) (inl y) = line_same from (fault_at section) (length section) x.place y.place line other reason why x.first y.first x.line_is y.line_is
+lines_refused_same from section line other reason why (inl x) (inr y) = absurd (First-kept (fault_at section) (length section) x.place reason y.kept x.first)
+lines_refused_same from section line other reason why (inr x) (inl y) = absurd (First-kept (fault_at section) (length section) y.place why x.kept y.first)
+lines_refused_same from section line other reason why (inr x) (inr y) = line_same from (parent_fault_at section) (length section) x.place y.place line other reason why x.first y.first x.line_is y.line_is
+
+lines_both : (from : ℕ) (section : List (List ℕ)) (desc : Description) (lines : List ℕ) (line : ℕ) (reason : LineReason) → line_verdict.Spells from section desc lines → line_verdict.Refuses from section line reason → ⊥
+lines_both from section desc lines line reason x (inl y) = First-kept (fault_at section) (length section) y.place reason x.kept y.first
+lines_both from section desc lines line reason x (inr y) = First-kept (parent_fault_at section) (length section) y.place reason x.found y.first
+
+nodes_refused_same : (first : ℕ) (source : List ℕ) (line other : ℕ) (reason why : ClocksReason) → NodesRefused first source line reason → NodesRefused first source other why → (line ≡ other) × (reason ≡ why)
+nodes_refused_same first source line other reason why x y =
+    let same = nodes_same first source x.nodes y.nodes x.tree y.tree in
+    let fault = fault_same y.nodes x.fault y.fault (subst (λ nodes. node_verdict.Refuses nodes x.fault) same x.found) y.found in
+    told_same line other reason why (sym x.told_is ∙ (ap nodes_told fault ∙ y.told_is))
+
+source_same : (first : ℕ) (source : List ℕ) (line other : ℕ) (reason why : ClocksReason) → SourceRefused first source line reason → SourceRefused first source other why → (line ≡ other) × (reason ≡ why)
+source_same first source line other reason why (inl x) (inl y) = token_same source x.fault y.fault line other reason why x.first y.first x.told_is y.told_is
+source_same first source line other reason why (inl x) (inr (inl y)) = absurd (token_cut source x.fault y.tokens line reason x.first x.told_is y.cuts)
+source_same first source line other reason why (inl x) (inr (inr y)) = absurd (token_cut source x.fault y.tree.tokens line reason x.first x.told_is y.tree.cuts)
+source_same first source line other reason why (inr (inl x)) (inl y) = absurd (token_cut source y.fault x.tokens other why y.first y.told_is x.cuts)
+source_same first source line other reason why (inr (inl x)) (inr (inl y)) = tree_same first source line other reason why x y
+source_same first source line other reason why (inr (inl x)) (inr (inr y)) = absurd (tree_says first source y.nodes line reason y.tree x)
+source_same first source line other reason why (inr (inr x)) (inl y) = absurd (token_cut source y.fault x.tree.tokens other why y.first y.told_is x.tree.cuts)
+source_same first source line other reason why (inr (inr x)) (inr (inl y)) = absurd (tree_says first source x.nodes other why x.tree y)
+source_same first source line other reason why (inr (inr x)) (inr (inr y)) = nodes_refused_same first source line other reason why x y
+
+tree_means : (first : ℕ) (source : List ℕ) (a b : SaidClocks) → TreeSays first source a → TreeSays first source b → a ≡ b
+tree_means first source a b x y =
+    let same = nodes_same first source x.nodes y.nodes x.tree y.tree in
+    let loaded = loaded_same y.nodes x.loaded y.loaded (subst (λ nodes. node_verdict.Accepts nodes x.loaded) same x.accepted) y.accepted in
+    x.content ∙ (ap clocks_of_tree loaded ∙ sym y.content)
+
+tree_both : (first : ℕ) (source : List ℕ) (a : SaidClocks) (line : ℕ) (reason : ClocksReason) → TreeSays first source a → SourceRefused first source line reason → ⊥
+tree_both first source a line reason x (inl y) = token_cut source y.fault x.tree.tokens line reason y.first y.told_is x.tree.cuts
+tree_both first source a line reason x (inr (inl y)) = tree_says first source x.nodes line reason x.tree y
+tree_both first source a line reason x (inr (inr y)) =
+    let same = nodes_same first source x.nodes y.nodes x.tree y.tree in
+    loaded_fault y.nodes x.loaded y.fault (subst (λ nodes. node_verdict.Accepts nodes x.loaded) same x.accepted) y.found
+
+-- ## Sections
+
+pub one_meaning : (text : ClockText) (ls : List (List ℕ)) (s : ClockSection) (a b : SaidClocks) → SaysIn text ls s a → SaysIn text ls s b → a ≡ b
+one_meaning Lines ls s a b x y =
+    let defs = x.spelled.desc_is ∙ sym y.spelled.desc_is in
+    let lines = x.spelled.lines_are ∙ sym y.spelled.lines_are in
+    let assigned = x.assigned ∙ sym y.assigned in
+    ap (λ d. record { defs = d; lines = a.lines; assigned = a.assigned }) defs
+    ∙ (ap (λ l. record { defs = b.defs; lines = l; assigned = a.assigned }) lines ∙ ap (λ n. record { defs = b.defs; lines = b.lines; assigned = n }) assigned)
+one_meaning DeviceTree ls s a b x y = tree_means (s.place + 2) (source_of ls s) a b x y
+
+pub one_refusal : (text : ClockText) (ls : List (List ℕ)) (s : ClockSection) (line other : ℕ) (reason why : ClocksReason) → RefusesIn text ls s line reason → RefusesIn text ls s other why → (line ≡ other) × (reason ≡ why)
+one_refusal Lines ls s line other reason why x y =
+    let same = lines_refused_same (s.place + 1) (lines_in ls s) line other x.why y.why x.first y.first in
+    (same.0, x.reason_is ∙ (ap line_reason same.1 ∙ sym y.reason_is))
+one_refusal DeviceTree ls s line other reason why x y = source_same (s.place + 2) (source_of ls s) line other reason why x y
+
+pub never_both : (text : ClockText) (ls : List (List ℕ)) (s : ClockSection) (a : SaidClocks) (line : ℕ) (reason : ClocksReason) → SaysIn text ls s a → RefusesIn text ls s line reason → ⊥
+never_both Lines ls s a line reason x y = lines_both (s.place + 1) (lines_in ls s) a.defs a.lines line y.why x.spelled y.first
+never_both DeviceTree ls s a line reason x y = tree_both (s.place + 2) (source_of ls s) a line reason x y
+
+-- clock lines say clocks, or are refused
+pub lines_decided : (ls : List (List ℕ)) (s : ClockSection) → s.text ≡ Lines → ((a : SaidClocks) × SaysIn s.text ls s a) ⊎ ((line : ℕ) × (reason : ClocksReason) × RefusesIn s.text ls s line reason)
+lines_decided ls s e =
+    subst (λ text. ((a : SaidClocks) × SaysIn text ls s a) ⊎ ((line : ℕ) × (reason : ClocksReason) × RefusesIn text ls s line reason)) (sym e)
+    (elim (decided (s.place + 1) (lines_in ls s)) [
+      | inl x ↦ inl (record { defs = x.0; lines = x.1; assigned = [] }, record { spelled = x.2; assigned = refl })
+      | inr x ↦ inr (x.0, line_reason x.1, record { why = x.1; first = x.2; reason_is = refl })
+    ])

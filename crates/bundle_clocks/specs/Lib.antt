@@ -1,0 +1,4 @@
+pub mod Reasons
+pub mod Source
+pub mod Said
+pub mod Verdict

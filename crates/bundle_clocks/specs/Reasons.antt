@@ -1,0 +1,61 @@
+-- The reasons of each reader as those of the section, with their lines.
+use Rattle.std.specs.Prelude.{ℕ, Option, Some, None}
+use Rattle.bundle_clocks.specs.declared.fault.ClocksFault.{ClocksFault}
+use Rattle.bundle_clocks.specs.declared.fault.ClocksFault.TheVariants as faults
+use Rattle.bundle_clocks.specs.declared.fault.ClocksReason.{ClocksReason}
+use Rattle.bundle_clocks.specs.declared.fault.ClocksReason.TheVariants as reasons
+use Rattle.clock_lines.specs.declared.fault.LineReason.{LineReason}
+use Rattle.clock_lines.specs.declared.fault.LineReason.TheVariants as lines
+use Rattle.dts_clocks.specs.declared.fault.DtsFault.{DtsFault}
+use Rattle.dts_clocks.specs.declared.fault.DtsFault.TheVariants as nodes
+use Rattle.dts_tokens.specs.declared.token.TokenFault.{TokenFault}
+use Rattle.dts_tokens.specs.declared.token.TokenFault.TheVariants as tokens
+use Rattle.dts_tree.specs.declared.fault.TreeFault.{TreeFault}
+use Rattle.dts_tree.specs.declared.fault.TreeFault.TheVariants as trees
+
+-- a line and what is wrong with it
+pub record Told : Type 0 where
+  pub line : ℕ
+  pub reason : ClocksReason
+
+abbrev pub told : ℕ → ClocksReason → Option Told
+told line reason = Some (record { line = line; reason = reason })
+
+abbrev pub line_reason : LineReason → ClocksReason
+line_reason lines.UnknownKind = reasons.UnknownKind
+line_reason lines.BadWords = reasons.BadWords
+line_reason lines.BadName = reasons.BadName
+line_reason lines.TwiceNamed = reasons.TwiceNamed
+line_reason lines.BadNumber = reasons.BadNumber
+line_reason lines.BadFlag = reasons.BadFlag
+line_reason lines.UnknownName = reasons.UnknownName
+
+-- what a fault tells; want of memory tells nothing
+abbrev pub token_told : TokenFault → Option Told
+token_told (tokens.BadChar line) = told line reasons.BadChar
+token_told (tokens.OpenString line) = told line reasons.OpenString
+token_told (tokens.OpenComment line) = told line reasons.OpenComment
+token_told (tokens.NumberTooBig line) = told line reasons.NumberTooBig
+token_told tokens.NoMemory = None
+
+abbrev pub tree_told : TreeFault → Option Told
+tree_told (trees.Syntax line) = told line reasons.Syntax
+tree_told (trees.TwiceDefined line) = told line reasons.TwiceDefined
+tree_told (trees.NoSuchLabel line) = told line reasons.NoSuchLabel
+tree_told (trees.TooDeep line) = told line reasons.TooDeep
+tree_told trees.NoMemory = None
+
+abbrev pub nodes_told : DtsFault → Option Told
+nodes_told (nodes.UnknownCompatible line) = told line reasons.UnknownCompatible
+nodes_told (nodes.NoCells line) = told line reasons.NoCells
+nodes_told (nodes.MissingProperty line) = told line reasons.MissingProperty
+nodes_told (nodes.BadName line) = told line reasons.BadName
+nodes_told (nodes.TwiceNamed line) = told line reasons.TwiceNamed
+nodes_told (nodes.BadSpecifier line) = told line reasons.BadSpecifier
+nodes_told (nodes.BadAssigned line) = told line reasons.BadAssigned
+nodes_told nodes.NoMemory = None
+
+-- the fault that tells this, or want of memory
+abbrev pub told_fault : Option Told → ClocksFault
+told_fault None = faults.NoMemory
+told_fault (Some t) = faults.Refused t.line t.reason
