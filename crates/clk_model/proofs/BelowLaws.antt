@@ -104,7 +104,7 @@ rises_both up (suc n) zero c a b way other = inr (suc n, subst (λ (x : ℕ). Ri
 rises_both up (suc n) (suc m) c a b way other =
     rises_both up n m way.0 a b way.2 (subst (λ (x : ℕ). Rises up m x b) (same_parent up c other.0 way.0 other.1 way.1) other.2)
 
-rises_above : (parents : ℕ → List ℕ) (up : ℕ → Option ℕ) (n c t : ℕ) → IsUp parents up → Rises up n c t → IsAbove parents c t
+pub rises_above : (parents : ℕ → List ℕ) (up : ℕ → Option ℕ) (n c t : ℕ) → IsUp parents up → Rises up n c t → IsAbove parents c t
 rises_above parents up zero c t is way = inl (sym way)
 rises_above parents up (suc n) c t is way = inr (above_parent parents c way.0 t (is c way.0 way.1) (rises_above parents up n way.0 t is way.2))
 

@@ -33,6 +33,15 @@ pub mod OutcomeLaws
 pub mod SettingLaws
 pub mod BelowLaws
 pub mod WalkLaws
+pub mod WholePathLaws
+pub mod RateLaws
+pub mod SiblingLaws
+pub mod RootLaws
+pub mod ShapeLaws
+pub mod LinkScripts
+pub mod LinkBegins
+pub mod LinkLaws
+pub mod RoomLaws
 pub mod SupplyLaws
 pub mod PllLaws
 pub mod WeightLaws

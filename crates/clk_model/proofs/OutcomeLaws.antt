@@ -34,7 +34,7 @@ pub record FitsKind (kind : Kind) (parents : List ℕ) : Type 0 where
   pub put_ : (parent planned : ℕ) (regs : Registers) (f : Field) → IfSome (field_of kind) (LieApart f)
       → field (setting kind parent planned regs) f.word f.shift f.width ≡ field regs f.word f.shift f.width
 
-length-setting : (kind : Kind) (parent planned : ℕ) (regs : Registers) → length (setting kind parent planned regs) ≡ length regs
+pub length-setting : (kind : Kind) (parent planned : ℕ) (regs : Registers) → length (setting kind parent planned regs) ≡ length regs
 length-setting (FixedRate rate) parent planned regs = refl
 length-setting (Factor mult div) parent planned regs = refl
 length-setting (Gate word bit set_to_disable) parent planned regs = refl
@@ -42,7 +42,7 @@ length-setting (Mux word shift width read_only) parent planned regs = refl
 length-setting (Divider word shift width one_based power_of_two) parent planned regs = length-put regs word shift width _
 length-setting (Pll word shift width power_word power_bit least most m) parent planned regs = length-put regs word shift width _
 
-length-selecting : (o : Option Field) (place : ℕ) (regs : Registers) → length (option_map_or (λ f. put regs f.word f.shift f.width place) o regs) ≡ length regs
+pub length-selecting : (o : Option Field) (place : ℕ) (regs : Registers) → length (option_map_or (λ f. put regs f.word f.shift f.width place) o regs) ≡ length regs
 length-selecting None place regs = refl
 length-selecting (Some f) place regs = length-put regs f.word f.shift f.width place
 

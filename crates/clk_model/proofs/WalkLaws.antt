@@ -54,7 +54,7 @@ stays_here test x y xs false e pass rest m =
     ]
 
 -- what is in a list and passes stays in its filter
-filter_keeps : (test : ℕ → Bool) (x : ℕ) (xs : List ℕ) → test x ≡ true → is_in x xs ≡ true → is_in x (filter test xs) ≡ true
+pub filter_keeps : (test : ℕ → Bool) (x : ℕ) (xs : List ℕ) → test x ≡ true → is_in x xs ≡ true → is_in x (filter test xs) ≡ true
 filter_keeps test x [] pass m = m
 filter_keeps test x (y ∷ xs) pass m = stays_here test x y xs (test y) refl pass (filter_keeps test x xs pass) m
 
@@ -162,14 +162,14 @@ once_steps test (k ∷ ks) once =
 
 -- ---- links after the plan
 
-is_at_same : (p : ℕ) (o : Option ℕ) → is_at p o ≡ true → o ≡ Some p
+pub is_at_same : (p : ℕ) (o : Option ℕ) → is_at p o ≡ true → o ≡ Some p
 is_at_same p None e = absurd cc
 is_at_same p (Some q) e = ap (λ (n : ℕ). Some n) (same_from_test q p e)
 
-at_same : (p : ℕ) (o : Option ℕ) → o ≡ Some p → is_at p o ≡ true
+pub at_same : (p : ℕ) (o : Option ℕ) → o ≡ Some p → is_at p o ≡ true
 at_same p o e = ap (is_at p) e ∙ test_same p
 
-linked_lt : (clocks : List ClockRow) (c p : ℕ) → link_in clocks c ≡ Some p → c < length clocks
+pub linked_lt : (clocks : List ClockRow) (c p : ℕ) → link_in clocks c ≡ Some p → c < length clocks
 linked_lt [] c p e = absurd cc
 linked_lt (row ∷ clocks) zero p e = omega arith
 linked_lt (row ∷ clocks) (suc c) p e = let below : c < length clocks = linked_lt clocks c p e in omega arith
@@ -247,7 +247,7 @@ links_after words order w ks v plan c p e = by_chain (is_in c (clocks_in ks)) re
 abbrev stays_with : List ℕ → Wiring → List ChainStep → ℕ → List ℕ
 stays_with order w ks p = filter (λ c. not (moves_away w.clocks ks c)) (children order w.clocks p)
 
-turned_off : (t : Bool) → not t ≡ true → t ≡ false
+pub turned_off : (t : Bool) → not t ≡ true → t ≡ false
 turned_off true e = absurd cc
 turned_off false e = refl
 

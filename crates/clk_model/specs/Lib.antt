@@ -22,8 +22,12 @@ pub mod Follows
 pub mod Ordered
 pub mod Plans
 pub mod Walks
+pub mod Paths
+pub mod Siblings
+pub mod LinksKept
 pub mod Supplied
 pub mod Paced
+pub mod RunsEnd
 pub mod Prep
 pub mod Tier
 pub mod Flight

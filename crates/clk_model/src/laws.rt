@@ -2,8 +2,11 @@
 
 pub mod feeding;
 pub mod flights;
+pub mod links;
+pub mod paths;
 pub mod plans;
 pub mod refusals;
+pub mod siblings;
 pub mod tiers;
 pub mod walks;
 pub mod weight;

@@ -1,5 +1,6 @@
 //! Laws of weight.
 
+ghost use Rattle.clk_model.specs.RunsEnd.{EventsLeaveRoom, RunsEnd, RunsHaveRoom};
 ghost use Rattle.clk_model.specs.Paced.{CallsBeginPaced, EnableTierKeepsPaced, StepsKeepPaced, StepsLowerWeight};
 
 /// A call that goes on begins with a paced change, which weighs what its script weighs, with the notices that a timeout may
@@ -21,4 +22,12 @@ pub fn steps_keep_paced()
 /// An event of the enable tier, at any moment of a change, leaves the change, paced as it was, and the weight that is left.
 pub fn enable_tier_keeps_paced()
     ensures law { EnableTierKeepsPaced }
+{}
+
+/// Runs end: behind each journal a change in flight is paced and has room for the entries that it may still come to, and no
+/// legal journal has more than 4,194,304 entries.
+pub fn runs_end()
+    ensures events { EventsLeaveRoom }
+    ensures room { RunsHaveRoom }
+    ensures entries { RunsEnd }
 {}
