@@ -4,7 +4,7 @@ use Rattle.drv_scripts.specs.declared.bundle.Bundle.{Bundle}
 use Rattle.drv_scripts.specs.declared.reason.Reason.{Reason}
 use Rattle.drv_scripts.specs.declared.reason.Reason.TheVariants.{NotYet}
 use Rattle.drv_scripts.specs.Verdict.{Accepts, Refuses}
-use Rattle.drv_scripts.proofs.Verdicts.{same_bundle, same_refusal, never_both}
+use Rattle.drv_scripts.proofs.Verdicts.{same_bundle, same_refusal, never_both, each_decided}
 use Rattle.clk_run.specs.Built.{unbuilt_line, SpellsRun, IsUnbuilt, RefusesRun}
 
 none_some : (x : ℕ) → None ≡ Some x → ⊥
@@ -32,3 +32,17 @@ same_run_refusal bytes line other reason why (inr one) (inl two) = absurd (never
 same_run_refusal bytes line other reason why (inr one) (inr two) =
     let same = same_bundle bytes one.bundle two.bundle one.spelled two.spelled in
     (some_of line other (sym one.least ∙ ap unbuilt_line same ∙ two.least), one.reason_is ∙ sym two.reason_is)
+
+-- a bundle that was spelled can be run, or is refused for the least line of what can't
+run_or_refused : (bytes : List ℕ) (b : Bundle) → Accepts bytes b → (found : Option ℕ) → unbuilt_line b ≡ found
+    → ((c : Bundle) × SpellsRun bytes c) ⊎ ((line : ℕ) × (reason : Reason) × RefusesRun bytes line reason)
+run_or_refused bytes b spelled None e = inl (b, record { spelled = spelled; built = e })
+run_or_refused bytes b spelled (Some line) e = inr (line, NotYet, inr (record { bundle = b; spelled = spelled; least = e; reason_is = refl }))
+
+from_decided : (bytes : List ℕ) → ((b : Bundle) × Accepts bytes b) ⊎ ((line : ℕ) × (reason : Reason) × Refuses bytes line reason)
+    → ((b : Bundle) × SpellsRun bytes b) ⊎ ((line : ℕ) × (reason : Reason) × RefusesRun bytes line reason)
+from_decided bytes (inl spelled) = run_or_refused bytes spelled.0 spelled.1 (unbuilt_line spelled.0) refl
+from_decided bytes (inr refused) = inr (refused.0, refused.1, inl refused.2)
+
+pub each_run_decided : (bytes : List ℕ) → ((b : Bundle) × SpellsRun bytes b) ⊎ ((line : ℕ) × (reason : Reason) × RefusesRun bytes line reason)
+each_run_decided bytes = from_decided bytes (each_decided bytes)
