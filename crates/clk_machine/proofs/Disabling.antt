@@ -8,7 +8,6 @@ use Rattle.clk_base.specs.declared.event.Turn.TheVariants as turn
 use Rattle.clk_base.specs.declared.clock.ClockId.{ClockId}
 use Rattle.clk_base.specs.Checked.{Checked}
 use Rattle.reg_bank.specs.Registers.{AreWords}
-use Rattle.clk_model.specs.declared.row.ClockRow.{ClockRow}
 use Rattle.clk_model.specs.declared.row.HandleRow.{HandleRow}
 use Rattle.clk_model.specs.Lists.{is_in, count_from}
 use Rattle.clk_model.specs.State.{State, registered}
@@ -20,11 +19,12 @@ use Rattle.clk_model.proofs.GateLaws.{GatesLie, gates_moved-alike}
 use Rattle.clk_model.proofs.StateLaws.{settled-put_less, paid-left, active_by_handles}
 use Rattle.clk_model.proofs.EventLaws.{disable-fine, own_is_live}
 use Rattle.clk_machine.specs.Window.{Shown}
-use Rattle.clk_machine.specs.Held.{Held, state_of, IsShaped, ClosesFor, Takes, IsSound}
-use Rattle.clk_machine.proofs.Sound.{IsSound-put}
+use Rattle.clk_tree.specs.TreeState.{TreeState}
+use Rattle.clk_machine.specs.Held.{Held, state_of, IsShaped, ClosesFor, Takes}
 use Rattle.clk_machine.proofs.Closing.{closed}
-use Rattle.clk_machine.proofs.Shapes.{no_critical, gates_lie}
-use Rattle.clk_machine.proofs.Enabling.{path_below, words_told, opened_words}
+use Rattle.clk_machine.proofs.Fitting.{no_critical}
+use Rattle.clk_machine.proofs.Shapes.{gates_lie}
+use Rattle.clk_machine.proofs.Moving.{path_within_desc, words_told, moved_words}
 
 -- a handle with one enable less
 abbrev pub less_enabled : HandleRow → HandleRow
@@ -38,16 +38,16 @@ record CanClose (s : State) (clock : ℕ) : Type 0 where
   none : critical_clocks s ≡ []
   holds : s.enable_holds ≡ []
 
-can_close : (desc : Checked) (window : Shown) (clocks : List ClockRow) (order : List ℕ) (handles : List (Option HandleRow)) (credits spent : ℕ) (ignore_unused : Bool) (clock : ℕ)
-    → IsShaped desc window clocks order handles credits spent → registered clocks clock ≡ true → is_some window.words ≡ true
-    → CanClose (state_of desc.defs window.words clocks order handles credits spent ignore_unused) clock
-can_close desc window clocks order handles credits spent ignore_unused clock shape here told =
+can_close : (desc : Checked) (window : Shown) (tree : TreeState) (handles : List (Option HandleRow)) (credits spent : ℕ) (ignore_unused : Bool) (clock : ℕ)
+    → IsShaped desc window tree handles credits spent → registered tree.clocks clock ≡ true → is_some window.words ≡ true
+    → CanClose (state_of desc.defs window.words tree.clocks tree.order handles credits spent ignore_unused) clock
+can_close desc window tree handles credits spent ignore_unused clock shape here told =
     let are = words_told window.size window.words shape.told told in
     record {
       words = are.0;
       lie = subst (λ (k : ℕ). GatesLie desc.defs (count_from 0 (length desc.defs)) k) (sym (are.1 ∙ shape.words)) (gates_lie desc.words desc.defs shape.valid);
-      within = path_below desc window clocks order handles credits spent clock shape here;
-      none = no_critical (state_of desc.defs window.words clocks order handles credits spent ignore_unused) shape.runs;
+      within = path_within_desc desc window tree handles credits spent clock shape here;
+      none = no_critical (state_of desc.defs window.words tree.clocks tree.order handles credits spent ignore_unused) shape.runs;
       holds = refl;
     }
 
@@ -56,19 +56,19 @@ abbrev pub closing : ℕ → State → List ℕ
 closing clock s = gates_moved s.defs (λ _. true) (is_held s.clocks (clocks_of is_enabled s.handles)) (reverse (path s.clocks clock)) s.regs
 
 -- they are as the machine leaves them for a disable
-pub closes_for : (desc : Checked) (window window' : Shown) (clocks : List ClockRow) (order : List ℕ) (handles : List (Option HandleRow)) (credits spent : ℕ) (ignore_unused : Bool) (clock : ClockId)
-    → IsShaped desc window clocks order handles credits spent → registered clocks clock.0 ≡ true → is_some window.words ≡ true
-    → window'.words ≡ closed desc.defs (is_held clocks (clocks_of is_enabled handles)) (reverse (path clocks clock.0)) window.words
-    → ClosesFor (state_of desc.defs window.words clocks order handles credits spent ignore_unused) clock (unwrap_or window'.words [])
-closes_for desc window window' clocks order handles credits spent ignore_unused clock shape here told words = record {
+pub closes_for : (desc : Checked) (window window' : Shown) (tree : TreeState) (handles : List (Option HandleRow)) (credits spent : ℕ) (ignore_unused : Bool) (clock : ClockId)
+    → IsShaped desc window tree handles credits spent → registered tree.clocks clock.0 ≡ true → is_some window.words ≡ true
+    → window'.words ≡ closed desc.defs (is_held tree.clocks (clocks_of is_enabled handles)) (reverse (path tree.clocks clock.0)) window.words
+    → ClosesFor (state_of desc.defs window.words tree.clocks tree.order handles credits spent ignore_unused) clock (unwrap_or window'.words [])
+closes_for desc window window' tree handles credits spent ignore_unused clock shape here told words = record {
   closes = λ old n row less at mine same enabled comes.
-      let s : State = state_of desc.defs window.words clocks order handles credits spent ignore_unused in
+      let s : State = state_of desc.defs window.words tree.clocks tree.order handles credits spent ignore_unused in
       let new : State = put_handle old n (Some less) in
-      let ready = subst (λ (t : State). CanClose t clock.0) comes (can_close desc window clocks order handles credits spent ignore_unused clock.0 shape here told) in
+      let ready = subst (λ (t : State). CanClose t clock.0) comes (can_close desc window tree handles credits spent ignore_unused clock.0 shape here told) in
       let on_path : row.clock.0 ≡ clock.0 = ap (λ (k : ClockId). k.0) mine in
       let regs : unwrap_or window'.words [] ≡ closing clock.0 s =
       ap (λ (o : Option (List ℕ)). unwrap_or o []) words
-      ∙ opened_words window.words (gates_moved desc.defs (λ _. true) (is_held clocks (clocks_of is_enabled handles)) (reverse (path clocks clock.0))) told in
+      ∙ moved_words window.words (gates_moved desc.defs (λ _. true) (is_held tree.clocks (clocks_of is_enabled handles)) (reverse (path tree.clocks clock.0))) told in
       settled-put_less old n row less at same enabled ready.words ready.lie
       (λ c m. ready.within c (ap (λ (k : ℕ). is_in c (path old.clocks k)) (sym on_path) ∙ m))
       ∙ ap (λ (r : List ℕ). let t : State = record new { regs = r } in t)
@@ -97,12 +97,7 @@ takes_disabled old mid new d n row left own some is told size stays closes =
       stays = record { defs = ap (λ (s : State). s.defs) state_is; credits = ap (λ (s : State). s.credits) state_is; ignore_unused = ap (λ (s : State). s.ignore_unused) state_is };
       spent = ap (λ (s : State). s.spent) state_is;
       registered_ = λ c. ap (λ (s : State). registered s.clocks c) state_is ∙ or_none (registered old.state.clocks c);
-      sound = λ tells words s.
-          subst (λ (u : State). IsSound words u)
-          (ap (λ (u : State). let t : State = record u { spent = old.state.spent + 1 } in t)
-          ((closes (ap (λ (h : Held). h.told) is ∙ tells)).closes old.state n row (less_enabled row) (own_is_live old.state d n row own) refl refl (positive row.enables some) mid_is) ∙ sym state_is)
-          (IsSound-put words old.state n (Some (less_enabled row)) (old.state.spent + 1) s);
-      step = λ tells.
+      step = λ tells _.
           disable-fine old.state d n row own some
           ∙ paid-left old.state (put_handle old.state n (Some (less_enabled row))) (turn.Done reply.Fine) left
           ∙ ap (λ (s : State). let x : State × _ = (record s { spent = old.state.spent + 1 }, turn.Done reply.Fine) in Some x)

@@ -1,5 +1,5 @@
 -- Entering an event that the machine has taken into the journal.
-use Rattle.std.proofs.Common.{◌≡◌, ℕ, ◌+◌, ◌<◌, ◌&&◌, ◌||◌, Bool, true, false, cond, List, [], ◌∷◌, ◌++◌, Some, refl, sym, ap, subst, ◌∙◌, arith, length, take, nat_le, ◌≤◌}
+use Rattle.std.proofs.Common.{◌≡◌, ℕ, ◌+◌, ◌<◌, ◌&&◌, ◌||◌, Bool, true, false, not, cond, List, [], ◌∷◌, ◌++◌, Some, refl, sym, ap, subst, ◌∙◌, arith, length, take, nat_le, ◌≤◌}
 use Rattle.std.proofs.lemmas.Bool.Decides.{nat_tests}
 use Rattle.std.proofs.lemmas.List.{length-append, take-append-le, take_all}
 use Rattle.std.proofs.lemmas.List.Sums.{sum_by-append}
@@ -17,10 +17,13 @@ use Rattle.clk_model.specs.State.{State, registered}
 use Rattle.clk_model.specs.Machine.{next}
 use Rattle.clk_model.specs.Journal.{slotless, replay, Legal, opening, is_paid, cost}
 use Rattle.clk_model.proofs.JournalLaws.{replay-append, Legal-append}
-use Rattle.clk_machine.specs.Held.{Held, CanRun, IsSound, Stays, registers, Takes, CanBegin}
+use Rattle.clk_machine.specs.Fit.{CanRun, has_pll}
+use Rattle.clk_machine.specs.Sound.{IsSound, CanBegin, CanTake}
+use Rattle.clk_machine.specs.Held.{Held, Stays, registers, Takes}
 use Rattle.clk_base.specs.Valid.{IsValid}
 use Rattle.clk_model.specs.Fed.{Fed}
-use Rattle.clk_machine.proofs.Sound.{Fed-sound, IsSound-opening}
+use Rattle.clk_machine.proofs.Soundness.{Fed_sound, sound_opening}
+use Rattle.clk_machine.proofs.Events.{sound_next}
 use Rattle.clk_machine.specs.Run.{is_built, was_probed, Logged, start_of, IsRun, Appends}
 
 -- a paid entry more costs one more
@@ -60,13 +63,17 @@ fed-append start t turn entries entries' e is step before after n =
     ] refl)
 
 -- a core keeps what it keeps when an event is taken and entered
-pub entered : (old new : Held) (words : List ℕ) (log log' : Logged) (d : ℕ) (e : Event) (r : Reply) → IsRun old words log → Takes old d e r new → is_paid e ≡ true
+pub entered : (old new : Held) (words : List ℕ) (log log' : Logged) (d : ℕ) (e : Event) (r : Reply) → IsRun old words log → Takes old d e r new → CanTake old.state e → is_paid e ≡ true
     → log'.entries ≡ log.entries ++ entry_of d e r ∷ [] → log'.room + 1 ≡ log.room
     → IsRun new words log'
-entered old new words log log' d e r run takes paid entries room =
+entered old new words log log' d e r run takes can paid entries room =
     let same = start_stays old new words takes.stays in
+    let turned : old.told ≡ true → next old.state d e ≡ Some (new.state, slotless (turn.Done r)) =
+    (λ told. takes.step told (subst (λ (n : ℕ). IsSound n old.state) (sym run.size) (run.sound told))) in
+    let sound : old.told ≡ true → IsSound (length words) new.state =
+    (λ told. sound_next (length words) old.state new.state d e (slotless (turn.Done r)) (run.sound told) can (turned told)) in
     let step : old.told ≡ true → next (replay (start_of new words) log.entries) d e ≡ Some (new.state, slotless (turn.Done r)) =
-    (λ told. ap (λ (s : State). next (replay s log.entries) d e) same ∙ ap (λ (s : State). next s d e) (run.stands told) ∙ takes.step told) in
+    (λ told. ap (λ (s : State). next (replay s log.entries) d e) same ∙ ap (λ (s : State). next s d e) (run.stands told) ∙ turned told) in
     record {
       stands = λ told.
           let was : old.told ≡ true = sym takes.told ∙ told in
@@ -75,12 +82,12 @@ entered old new words log log' d e r run takes paid entries room =
           let was : old.told ≡ true = sym takes.told ∙ told in
           subst (λ (j : List Entry). Legal (start_of new words) j) (sym entries)
           (Legal-append (start_of new words) new.state log.entries (entry_of d e r) (subst (λ (s : State). Legal s log.entries) (sym same) (run.legal was)) (step was));
-      sound = λ told. takes.sound (sym takes.told ∙ told) (length words) (run.sound (sym takes.told ∙ told));
+      sound = λ told. sound (sym takes.told ∙ told);
       fed = λ told n.
           let was : old.told ≡ true = sym takes.told ∙ told in
           fed-append (start_of new words) new.state (slotless (turn.Done r)) log.entries log'.entries (entry_of d e r) entries (step was)
           (λ k. subst (λ (s : State). Fed (replay s (take k log.entries))) (sym same) (run.fed was k))
-          (Fed-sound (length words) new.state (takes.sound was (length words) (run.sound was))) n;
+          (Fed_sound (length words) new.state (sound was)) n;
       spent = ap cost entries ∙ cost-append log.entries (entry_of d e r) paid ∙ ap (λ (n : ℕ). n + 1) run.spent ∙ sym takes.spent;
       room = let was = run.room in let more = takes.spent in let credits = takes.stays.credits in omega arith;
       size = takes.size ∙ run.size;
@@ -91,25 +98,21 @@ entered old new words log log' d e r run takes paid entries room =
     }
 
 -- and then the entry was appended
-pub appended : (old new : Held) (words : List ℕ) (log log' : Logged) (d : ℕ) (e : Event) (r : Reply) → IsRun old words log → Takes old d e r new → is_paid e ≡ true
+pub appended : (old new : Held) (words : List ℕ) (log log' : Logged) (d : ℕ) (e : Event) (r : Reply) → IsRun old words log → Takes old d e r new → CanTake old.state e → is_paid e ≡ true
     → log'.entries ≡ log.entries ++ entry_of d e r ∷ [] → log'.room + 1 ≡ log.room
     → Appends (record { start = start_of old words; journal = log.entries; told = old.told }) d e (turn.Done r)
     (record { start = start_of new words; journal = log'.entries; told = new.told })
-appended old new words log log' d e r run takes paid entries room =
-    let after = entered old new words log log' d e r run takes paid entries room in
+appended old new words log log' d e r run takes can paid entries room =
+    let after = entered old new words log log' d e r run takes can paid entries room in
     record {
       start = start_stays old new words takes.stays;
       told = takes.told;
       entry = entries;
       step = λ told.
-          ap (λ (s : State). next s d e) (run.stands told) ∙ takes.step told
+          ap (λ (s : State). next s d e) (run.stands told) ∙ takes.step told (subst (λ (n : ℕ). IsSound n old.state) (sym run.size) (run.sound told))
           ∙ ap (λ (s : State). let x : State × Turn = (s, slotless (turn.Done r)) in Some x) (sym (after.stands (takes.told ∙ told)));
       legal = λ told. after.legal (takes.told ∙ told);
     }
-
--- there is room for the entry of an event that can be paid for
-pub has_room : (m : Held) (words : List ℕ) (log : Logged) → IsRun m words log → m.state.spent < m.state.credits → 0 < log.room
-has_room m words log run left = let room = run.room in omega arith
 
 -- ---- which calls can begin
 
@@ -121,18 +124,21 @@ list_all-agree p q (x ∷ xs) same = ap (λ (b : Bool). b && list_all p xs) (sam
 pub can_begin : (m : Held) (words : List ℕ) (log : Logged) (what : Sleeping) → IsRun m words log
     → is_built (record { start = start_of m words; journal = log.entries; told = m.told }) what ≡ true → CanBegin m.state what
 can_begin m words log (call.Get found) run built = tt
-can_begin m words log (call.Prepare h) run built = tt
+can_begin m words log (call.Prepare h) run built = not_true (has_pll m.state.defs) built where
+  not_true : (b : Bool) → not b ≡ true → b ≡ false
+  not_true true e = absurd cc
+  not_true false e = refl
 can_begin m words log (call.GetRate h) run built = tt
 can_begin m words log (call.Probe c) run built =
     list_all-agree (registered m.state.clocks) (was_probed log.entries) (parents_of m.state.defs c.0) run.probed ∙ built
-can_begin m words log (call.Put h) run built = absurd cc
+can_begin m words log (call.Put h) run built = tt
 can_begin m words log (call.Unprepare h) run built = tt
 can_begin m words log (call.RoundRate h x) run built = absurd cc
 can_begin m words log (call.SetRate h x) run built = absurd cc
 can_begin m words log (call.SetRateExclusive h x) run built = absurd cc
 can_begin m words log (call.SetRange h least most) run built = absurd cc
 can_begin m words log (call.SetParent h p) run built = absurd cc
-can_begin m words log (call.GetParent h) run built = absurd cc
+can_begin m words log (call.GetParent h) run built = tt
 can_begin m words log (call.ExclusiveGet h) run built = absurd cc
 can_begin m words log (call.ExclusivePut h) run built = absurd cc
 can_begin m words log (call.NotifierAdd h id priority policy) run built = absurd cc
@@ -153,7 +159,7 @@ begins m words given log defs ignore_unused credits same empty room state at cre
     ∙ ap (λ (ws : List ℕ). opening defs ws m.state.ignore_unused m.state.credits) same
     ∙ ap (λ (b : Bool). opening defs given b m.state.credits) unused
     ∙ ap (λ (n : ℕ). opening defs given ignore_unused n) credit in
-    let sound : IsSound (length given) (opening defs given ignore_unused credits) = IsSound-opening given defs ignore_unused credits valid runs in
+    let sound : IsSound (length given) (opening defs given ignore_unused credits) = sound_opening given defs ignore_unused credits valid runs in
     record {
       stands = λ told. ap (replay (start_of m words)) empty ∙ start ∙ sym (state told);
       legal = λ told. subst (λ (j : List Entry). Legal (start_of m words) j) (sym empty) tt;
@@ -162,7 +168,7 @@ begins m words given log defs ignore_unused credits same empty room state at cre
       fed = λ told n.
           subst (λ (j : List Entry). Fed (replay (start_of m words) (take n j))) (sym empty)
           (subst (λ (j : List Entry). Fed (replay (start_of m words) j)) (sym (take_all n [] (omega arith)))
-          (subst (λ (s : State). Fed s) (sym start) (Fed-sound (length given) (opening defs given ignore_unused credits) sound)));
+          (subst (λ (s : State). Fed s) (sym start) (Fed_sound (length given) (opening defs given ignore_unused credits) sound)));
       spent = ap cost empty ∙ sym spent;
       room = omega arith;
       size = size ∙ sym (ap (λ (ws : List ℕ). length ws) same);

@@ -2,12 +2,12 @@
 use Rattle.std.proofs.Common.{◌≡◌, ℕ, ◌-◌, ◌<◌, Bool, true, false, List, [], ◌∷◌, Option, Some, None, refl, sym, ap, ◌∙◌, length}
 use Rattle.std.specs.Prelude.{IfSome}
 use Rattle.clk_base.specs.Valid.{IsValid}
-use Rattle.clk_base.proofs.Valid.{gate-within}
+use Rattle.clk_base.proofs.Valid.{gate-within, power-within}
 use Rattle.std.specs.Option.{option_map, option_map_or}
 use Rattle.clk_base.specs.declared.clock.ClockId.{ClockId}
 use Rattle.clk_base.specs.declared.clock.Kind.{Kind}
 use Rattle.clk_base.specs.Description.{Description, kind_of}
-use Rattle.clk_base.specs.Fields.{GateBit, gate_of}
+use Rattle.clk_base.specs.Fields.{GateBit, PowerBit, gate_of, power_of}
 use Rattle.clk_model.specs.Tree.{path_within}
 use Rattle.clk_model.specs.Gates.{follow, gates_moved}
 use Rattle.clk_model.proofs.PathLaws.{above, path_cons}
@@ -68,3 +68,10 @@ gate_fits words defs c valid within = from (gate_of (kind_of defs c)) (λ gate e
   from : (o : Option GateBit) → ((gate : GateBit) → o ≡ Some gate → (gate.word < words) × (gate.bit < 32)) → IfSome o (λ gate. (gate.word < words) × (gate.bit < 32))
   from None each = tt
   from (Some gate) each = each gate refl
+
+-- and so does a power bit
+pub power_fits : (words : ℕ) (defs : Description) (c : ℕ) → IsValid words defs → c < length defs → IfSome (power_of (kind_of defs c)) (λ power. (power.word < words) × (power.bit < 32))
+power_fits words defs c valid within = from (power_of (kind_of defs c)) (λ power e. power-within words defs valid c power within e) where
+  from : (o : Option PowerBit) → ((power : PowerBit) → o ≡ Some power → (power.word < words) × (power.bit < 32)) → IfSome o (λ power. (power.word < words) × (power.bit < 32))
+  from None each = tt
+  from (Some power) each = each power refl

@@ -1,113 +1,189 @@
 -- Registering a clock whose possible parents are registered.
-use Rattle.std.proofs.Common.{◌≡◌, ℕ, zero, suc, ◌<◌, ◌&&◌, Bool, true, false, cond, List, [], ◌∷◌, Option, Some, None, refl, sym, ap, ◌∙◌, arith, length, nat_eq}
-use Rattle.std.specs.Prelude.{IfSome, slice_get, slice_set}
+use Rattle.std.proofs.Common.{◌≡◌, ℕ, zero, suc, ◌+◌, ◌<◌, ◌≤◌, ◌||◌, Bool, true, false, List, [], ◌∷◌, Option, Some, None, refl, sym, ap, ◌∙◌, inl, inr, arith, length, take, nat_eq}
+use Rattle.std.specs.Prelude.{IfSome, is_some, slice_get, slice_index}
 use Rattle.std.specs.List.{list_all}
-use Rattle.std.specs.Option.{option_map, option_map_or, option_and_then}
-use Rattle.clk_base.specs.Fields.{Field}
+use Rattle.std.specs.Option.{option_map}
+use Rattle.std.proofs.lemmas.Bool.{cases_lt}
+use Rattle.std.proofs.lemmas.List.{get_or_past, length-set}
+use Rattle.clk_base.specs.declared.clock.ClockDef.{ClockDef}
 use Rattle.clk_base.specs.declared.clock.ClockId.{ClockId}
 use Rattle.clk_base.specs.declared.clock.Kind.{Kind}
 use Rattle.clk_base.specs.declared.clock.Kind.TheVariants.{FixedRate, Factor, Gate, Mux, Divider, Pll}
+use Rattle.clk_base.specs.Checked.{Checked}
+use Rattle.clk_base.specs.Description.{Description, nobody, kind_of, parents_of}
+use Rattle.clk_base.specs.Fields.{Field, fields_of}
 use Rattle.clk_base.specs.Places.{places}
-use Rattle.clk_base.specs.Description.{Description, kind_of, parents_of}
-use Rattle.clk_base.specs.Levels.{depth}
-use Rattle.clk_base.specs.Plain.{is_plain_kind}
 use Rattle.clk_base.specs.Valid.{IsValid}
-use Rattle.clk_base.proofs.Valid.{parent-at}
+use Rattle.clk_base.proofs.Valid.{fields-within}
 use Rattle.reg_bank.specs.Registers.{Registers, field}
 use Rattle.clk_model.specs.declared.row.ClockRow.{ClockRow}
-use Rattle.clk_model.specs.Kinds.{mux_field}
-use Rattle.clk_model.specs.State.{registered, link_in}
-use Rattle.clk_model.specs.Tree.{if_registered, link_given}
-use Rattle.clk_model.specs.Rate.{rate, rate_within}
-use Rattle.clk_model.specs.Chain.{clock_id}
-use Rattle.clk_model.specs.Begin.{registered_row, registered_rows}
-use Rattle.clk_model.proofs.Members.{same_from_test, test_other}
-use Rattle.clk_model.proofs.StateLaws.{row_of-set_same, row_of-set_other}
-use Rattle.clk_machine.specs.Shape.{LinksLie}
-use Rattle.clk_machine.specs.Held.{CanRun}
-use Rattle.clk_machine.proofs.Shapes.{plain_everywhere}
+use Rattle.clk_model.specs.declared.row.HandleRow.{HandleRow}
+use Rattle.clk_model.specs.Lists.{is_in, to_front}
+use Rattle.clk_model.specs.State.{State, row_of, registered, link_in}
+use Rattle.clk_model.specs.Tree.{selected}
+use Rattle.clk_model.specs.Rate.{rate}
+use Rattle.clk_model.specs.Begin.{registered_rows, register}
+use Rattle.clk_model.specs.Paths.{scales_by}
+use Rattle.clk_model.proofs.Members.{is_in_head, is_in_tail, test_same}
+use Rattle.clk_model.proofs.RateLaws.{rate-links, writes_leave_rates}
+use Rattle.clk_tree.specs.TreeState.{TreeState, IsTree, attached, requested}
+use Rattle.clk_tree.proofs.Fitting.{attached-registered}
+use Rattle.clk_tree.proofs.Rows.{registered-set, registered-requested, link-requested}
+use Rattle.clk_machine.specs.Held.{AreKept, state_of, IsShaped}
+use Rattle.clk_machine.specs.Window.{Shown}
+use Rattle.clk_machine.proofs.Fitting.{all_in}
+use Rattle.clk_machine.proofs.Attaching.{link_given-selected}
+use Rattle.clk_machine.proofs.WindowLaws.{field-take}
 
--- ---- the link
+-- ---- the parent
 
-plain_mux : (kind : Kind) → is_plain_kind kind ≡ true → mux_field kind ≡ None
-plain_mux (FixedRate rate) h = refl
-plain_mux (Gate word bit set_to_disable) h = refl
-plain_mux (Factor mult div) h = absurd cc
-plain_mux (Mux word shift width read_only) h = absurd cc
-plain_mux (Divider word shift width one_based power_of_two) h = absurd cc
-plain_mux (Pll word shift width power_word power_bit least most m) h = absurd cc
+-- what is at a place of a list is in it
+pub in-at : (xs : List ℕ) (n x : ℕ) → slice_get xs n ≡ Some x → is_in x xs ≡ true
+in-at [] n x e = absurd cc
+in-at (y ∷ xs) zero x e = let same : x ≡ y = cc in ap (λ (k : ℕ). is_in k (y ∷ xs)) same ∙ is_in_head y xs
+in-at (y ∷ xs) (suc n) x e = is_in_tail x y xs (in-at xs n x e)
 
-if_there : (clocks : List ClockRow) (ps : List ℕ) → list_all (registered clocks) ps ≡ true → option_and_then (if_registered clocks) (slice_get ps 0) ≡ slice_get ps 0
-if_there clocks [] h = refl
-if_there clocks (p ∷ ps) h = ap (λ (b : Bool). cond b (Some p) None) (first (registered clocks p) (list_all (registered clocks) ps) h) where
-  first : (a b : Bool) → (a && b) ≡ true → a ≡ true
-  first true b h = refl
-  first false b h = h
+-- a clock at a place, by its number
+pub at-places : (clocks : List ClockId) (n : ℕ) → option_map (λ p. p.0) (slice_get clocks n) ≡ slice_get (places clocks) n
+at-places [] n = refl
+at-places (p ∷ clocks) zero = refl
+at-places (p ∷ clocks) (suc n) = at-places clocks n
 
--- the registration links the first possible parent
-pub link_given-first : (defs : Description) (regs : Registers) (clocks : List ClockRow) (c : ℕ) → CanRun defs → list_all (registered clocks) (parents_of defs c) ≡ true
-    → link_given defs regs clocks c ≡ slice_get (parents_of defs c) 0
-unfolding link_given
-link_given-first defs regs clocks c runs parents =
-    ap (λ (o : Option Field). option_and_then (if_registered clocks) (option_map_or (λ f. slice_get (parents_of defs c) (field regs f.word f.shift f.width)) o (slice_get (parents_of defs c) 0)))
-    (plain_mux (kind_of defs c) (plain_everywhere defs runs c))
-    ∙ if_there clocks (parents_of defs c) parents
+-- what was found at a place is a possible parent
+pub found_possible : (ps : List ℕ) (n : ℕ) (found : Option ClockId) → option_map (λ p. p.0) found ≡ slice_get ps n → IfSome found (λ p. is_in p.0 ps ≡ true)
+found_possible ps n None e = tt
+found_possible ps n (Some p) e = in-at ps n p.0 (sym e)
 
--- a clock by its place is the clock
-by_place : (link : Option ClockId) → option_map clock_id (option_map (λ p. p.0) link) ≡ link
-by_place None = refl
-by_place (Some p) = refl
+-- the place that the registers select
+abbrev pub place_in : Kind → Registers → ℕ
+place_in (Mux word shift width read_only) regs = field regs word shift width
+place_in _ regs = 0
 
--- the row that is written first is the one of the registration
-pub row_linked : (defs : Description) (regs : Registers) (clocks : List ClockRow) (c : ℕ) (link : Option ClockId) → CanRun defs → list_all (registered clocks) (parents_of defs c) ≡ true
-    → option_map (λ p. p.0) link ≡ slice_get (parents_of defs c) 0
-    → (let row : ClockRow = record { registered = true; link = link; last_request = 0 } in row) ≡ registered_row defs regs clocks c
-row_linked defs regs clocks c link runs parents first =
-    ap (λ (l : Option ClockId). let row : ClockRow = record { registered = true; link = l; last_request = 0 } in row)
-    (sym (by_place link) ∙ ap (option_map clock_id) (first ∙ sym (link_given-first defs regs clocks c runs parents)))
+pub selected-place : (defs : Description) (regs : Registers) (c : ℕ) → selected defs regs c ≡ slice_get (parents_of defs c) (place_in (kind_of defs c) regs)
+selected-place defs regs c = by (kind_of defs c) refl where
+  by : (kind : Kind) → kind_of defs c ≡ kind → selected defs regs c ≡ slice_get (parents_of defs c) (place_in (kind_of defs c) regs)
+  by (FixedRate rate) is = rw (is) refl
+  by (Factor mult div) is = rw (is) refl
+  by (Gate word bit set_to_disable) is = rw (is) refl
+  by (Mux word shift width read_only) is = rw (is) refl
+  by (Divider word shift width one_based power_of_two) is = rw (is) refl
+  by (Pll word shift width power_word power_bit least most m) is = rw (is) refl
 
--- the first possible parent is a clock of the description
-pub first_lies : (words : ℕ) (defs : Description) (c : ℕ) (link : Option ClockId) → IsValid words defs → c < length defs → option_map (λ p. p.0) link ≡ slice_get (parents_of defs c) 0
-    → IfSome link (λ p. p.0 < length defs)
-first_lies words defs c None valid within first = tt
-first_lies words defs c (Some p) valid within first = parent-at words defs valid c 0 p.0 within (sym first)
+-- the field of a mux lies in the bank
+pub mux_lies : (words : ℕ) (defs : Description) (c word shift width : ℕ) (read_only : Bool) → IsValid words defs → c < length defs
+    → kind_of defs c ≡ Mux word shift width read_only → (word < words) × (shift + width ≤ 32)
+mux_lies words defs c word shift width read_only valid within is =
+    fields-within words defs valid c 0 (record { word = word; shift = shift; width = width }) within (ap (λ (k : Kind). slice_get (fields_of k) 0) is)
 
-link_within : (defs : Description) (link : Option ClockId) (p : ℕ) → IfSome link (λ q. q.0 < length defs) → option_map (λ q. q.0) link ≡ Some p → p < length defs
-link_within defs None p lies e = absurd cc
-link_within defs (Some q) p lies e = let same : q.0 ≡ p = cc in omega arith
+-- ---- registered parents
 
--- a row with such a link keeps the links in the description
-pub links-set : (defs : Description) (clocks : List ClockRow) (c : ℕ) (row : ClockRow) → LinksLie defs clocks → c < length clocks
-    → IfSome row.link (λ p. p.0 < length defs) → LinksLie defs (slice_set clocks c row)
-links-set defs clocks c row links within lies = record {
-  lie = λ d p e.
-      elim (nat_eq c d) as (λ t. nat_eq c d ≡ t → p < length defs) [
-        | true ↦ λ same. link_within defs row.link p lies
-            (sym (ap (λ (r : ClockRow). option_map (λ q. q.0) r.link) (row_of-set_same clocks c row within)) ∙ ap (λ (k : ℕ). link_in (slice_set clocks c row) k) (same_from_test c d same) ∙ e)
-        | false ↦ λ other. links.lie d p (sym (ap (λ (r : ClockRow). option_map (λ q. q.0) r.link) (row_of-set_other clocks c row d (λ same. test_other c d other same))) ∙ e)
-      ] refl;
+-- a possible parent of a clock whose possible parents are registered
+pub parent_there : (clocks : List ClockRow) (ps : List ℕ) (found : Option ClockId) → list_all (registered clocks) ps ≡ true → IfSome found (λ p. is_in p.0 ps ≡ true)
+    → IfSome found (λ p. registered clocks p.0 ≡ true)
+parent_there clocks ps None all can = tt
+parent_there clocks ps (Some p) all can = all_in (registered clocks) ps p.0 all can
+
+-- ---- the rates of the first words
+
+-- the field by which a clock divides or multiplies lies in the first words
+scales_lies : (words : ℕ) (defs : Description) (c : ℕ) (f : Field) → IsValid words defs → scales_by (kind_of defs c) ≡ Some f → f.word < words
+scales_lies words defs c f valid e = elim (cases_lt c (length defs)) [
+  | inl inside ↦ by (kind_of defs c) e (λ at. (fields-within words defs valid c 0 f inside at).0)
+  | inr outside ↦
+      let none : scales_by (kind_of defs c) ≡ None = ap (λ (d : ClockDef). scales_by d.kind) (get_or_past defs c nobody (omega arith)) in
+      absurd cc
+] where
+  by : (kind : Kind) → scales_by kind ≡ Some f → (slice_get (fields_of kind) 0 ≡ Some f → f.word < words) → f.word < words
+  by (FixedRate rate) e lies = absurd cc
+  by (Factor mult div) e lies = absurd cc
+  by (Gate word bit set_to_disable) e lies = absurd cc
+  by (Mux word shift width read_only) e lies = absurd cc
+  by (Divider word shift width one_based power_of_two) e lies = lies e
+  by (Pll word shift width power_word power_bit least most m) e lies = lies e
+
+-- so the first words give the rates that all words give
+pub rate-take : (words : ℕ) (defs : Description) (regs : Registers) (clocks : List ClockRow) (c : ℕ) → IsValid words defs
+    → rate defs (take words regs) clocks c ≡ rate defs regs clocks c
+rate-take words defs regs clocks c valid =
+    writes_leave_rates defs regs (take words regs) clocks c (λ a m f e. field-take words regs f.word f.shift f.width (scales_lies words defs a f valid e))
+
+-- ---- the tree after a registration
+
+-- rates that were computed anew, before the last request was kept, over the whole bank
+pub kept_registered : (n : ℕ) (told : Option (List ℕ)) (defs : Description) (clocks : List ClockRow) (rates : List ℕ) (c request : ℕ)
+    → IsValid n defs → c < length clocks
+    → IfSome told (λ regs. (k : ℕ) → registered clocks k ≡ true → slice_index rates k ≡ rate defs regs clocks k)
+    → AreKept defs (option_map (take n) told) (requested clocks c request) rates
+kept_registered n None defs clocks rates c request valid within fresh = tt
+kept_registered n (Some regs) defs clocks rates c request valid within fresh =
+    λ k there.
+    fresh k (sym (registered-requested clocks c request k within) ∙ there)
+    ∙ sym (rate-take n defs regs clocks k valid)
+    ∙ sym (rate-links defs (take n regs) clocks (requested clocks c request) k (λ a. link-requested clocks c request a within))
+
+-- the rows are those of the registration
+pub rows_registered : (n : ℕ) (told : Option (List ℕ)) (defs : Description) (clocks : List ClockRow) (rates : List ℕ) (c : ℕ) (parent : Option ClockId)
+    → IsValid n defs → c < length clocks → list_all (registered clocks) (parents_of defs c) ≡ true
+    → IfSome (option_map (take n) told) (λ regs. option_map (λ p. p.0) parent ≡ selected defs regs c)
+    → IfSome told (λ regs. (k : ℕ) → registered (attached clocks c parent) k ≡ true → slice_index rates k ≡ rate defs regs (attached clocks c parent) k)
+    → IfSome (option_map (take n) told) (λ regs. requested (attached clocks c parent) c (slice_index rates c) ≡ registered_rows defs regs clocks c)
+rows_registered n None defs clocks rates c parent valid within parents is fresh = tt
+rows_registered n (Some regs) defs clocks rates c parent valid within parents is fresh =
+    let rows : List ClockRow = attached clocks c parent in
+    let there : registered rows c ≡ true = registered-set clocks c _ c within refl ∙ ap (λ (b : Bool). b || registered clocks c) (test_same c) in
+    ap (λ (r : ℕ). requested rows c r) (fresh c there ∙ sym (rate-take n defs regs rows c valid))
+    ∙ attached-registered defs (take n regs) clocks c parent within (is ∙ sym (link_given-selected defs (take n regs) clocks c parents))
+
+-- who is registered after it
+pub registered-registered : (clocks : List ClockRow) (c : ℕ) (parent : Option ClockId) (request k : ℕ) → c < length clocks → c < length (attached clocks c parent)
+    → registered (requested (attached clocks c parent) c request) k ≡ (registered clocks k || nat_eq c k)
+registered-registered clocks c parent request k within inside =
+    registered-requested (attached clocks c parent) c request k inside ∙ registered-set clocks c _ k within refl ∙ or_turned (nat_eq c k) (registered clocks k) where
+      or_turned : (a b : Bool) → (a || b) ≡ (b || a)
+      or_turned true true = refl
+      or_turned true false = refl
+      or_turned false true = refl
+      or_turned false false = refl
+
+-- a clock of the description has a row, where the tree has as many rows after it was attached
+pub row_within : (clocks new : List ClockRow) (c n : ℕ) (parent : Option ClockId) → new ≡ attached clocks c parent → length new ≡ n → c < n → c < length clocks
+row_within clocks new c n parent is rows within =
+    let len = length-set clocks c (record (row_of clocks c) { registered = true; link = parent }) in
+    let same : length new ≡ length (attached clocks c parent) = ap (λ (rs : List ClockRow). length rs) is in
+    omega arith
+
+-- ---- the parts after it
+
+pub shaped-registered : (desc : Checked) (window : Shown) (tree tree' : TreeState) (handles : List (Option HandleRow)) (credits spent c : ℕ)
+    → IsShaped desc window tree handles credits spent → spent < credits
+    → tree'.defs ≡ tree.defs → IsTree tree'.defs tree'.clocks tree'.order tree'.rates → AreKept desc.defs window.words tree'.clocks tree'.rates
+    → ((k : ℕ) → registered tree'.clocks k ≡ (registered tree.clocks k || nat_eq c k))
+    → IsShaped desc window tree' handles credits (spent + 1)
+shaped-registered desc window tree tree' handles credits spent c shape left defs stands kept rows = record {
+  valid = shape.valid;
+  runs = shape.runs;
+  words = shape.words;
+  told = shape.told;
+  defs = defs ∙ shape.defs;
+  stands = stands;
+  kept = kept;
+  handled = λ n h e. rows h.clock.0 ∙ ap (λ (b : Bool). b || nat_eq c h.clock.0) (shape.handled n h e);
+  unguarded = shape.unguarded;
+  few_credits = shape.few_credits;
+  spent_within = omega arith;
+  few_handles = let few = shape.few_handles in omega arith;
+  few_holds = let few = shape.few_holds in omega arith;
 }
 
-set-twice : (clocks : List ClockRow) (c : ℕ) (a b : ClockRow) → slice_set (slice_set clocks c a) c b ≡ slice_set clocks c b
-set-twice [] c a b = refl
-set-twice (r ∷ clocks) zero a b = refl
-set-twice (r ∷ clocks) (suc c) a b = ap (λ (rows : List ClockRow). r ∷ rows) (set-twice clocks c a b)
+-- ---- the state after it
 
--- the rows that are written are those of the registration
-pub rows_registered : (defs : Description) (regs : Registers) (clocks : List ClockRow) (c levels found : ℕ) (link : Option ClockId) → CanRun defs
-    → list_all (registered clocks) (parents_of defs c) ≡ true → option_map (λ p. p.0) link ≡ slice_get (parents_of defs c) 0 → levels ≡ depth
-    → found ≡ rate_within defs regs (slice_set clocks c (record { registered = true; link = link; last_request = 0 })) levels c
-    → slice_set (slice_set clocks c (record { registered = true; link = link; last_request = 0 })) c (record { registered = true; link = link; last_request = found })
-    ≡ registered_rows defs regs clocks c
-unfolding rate
-rows_registered defs regs clocks c levels found link runs parents first deep is =
-    let row : ClockRow = record { registered = true; link = link; last_request = 0 } in
-    set-twice clocks c row (record { registered = true; link = link; last_request = found })
-    ∙ ap (λ (n : ℕ). slice_set clocks c (record { registered = true; link = link; last_request = n }))
-    (is ∙ ap (λ (n : ℕ). rate_within defs regs (slice_set clocks c row) n c) deep)
-    ∙ ap (λ (r : ClockRow). slice_set clocks c (record r { last_request = rate defs regs (slice_set clocks c r) c }))
-    (row_linked defs regs clocks c link runs parents first)
-
-pub first_of-places : (clocks : List ClockId) → option_map (λ p. p.0) (slice_get clocks 0) ≡ slice_get (places clocks) 0
-first_of-places [] = refl
-first_of-places (p ∷ clocks) = refl
+pub state-registered : (defs : Description) (told : Option (List ℕ)) (clocks clocks' : List ClockRow) (order order' : List ℕ) (handles : List (Option HandleRow)) (credits spent : ℕ) (ignore_unused : Bool) (c : ℕ)
+    → is_some told ≡ true → IfSome told (λ regs. clocks' ≡ registered_rows defs regs clocks c) → order' ≡ to_front c order
+    → (let old : State = state_of defs told clocks order handles credits spent ignore_unused in
+    let new : State = state_of defs told clocks' order' handles credits (spent + 1) ignore_unused in
+    let after : State = record (register old c) { spent = spent + 1 } in new ≡ after)
+unfolding register
+state-registered defs None clocks clocks' order order' handles credits spent ignore_unused c tells rows front = absurd cc
+state-registered defs (Some regs) clocks clocks' order order' handles credits spent ignore_unused c tells rows front =
+    ap (λ (r : List ClockRow). state_of defs (Some regs) r order' handles credits (spent + 1) ignore_unused) rows
+    ∙ ap (λ (o : List ℕ). state_of defs (Some regs) (registered_rows defs regs clocks c) o handles credits (spent + 1) ignore_unused) front

@@ -13,6 +13,11 @@ take_set (suc n) [] i value = refl
 take_set (suc n) (w ∷ words) zero value = refl
 take_set (suc n) (w ∷ words) (suc i) value = ap (λ (ws : List ℕ). w ∷ ws) (take_set n words i value)
 
+-- a field of the first words is that of all words
+pub field-take : (n : ℕ) (words : Registers) (word shift width : ℕ) → word < n → field (take n words) word shift width ≡ field words word shift width
+unfolding field
+field-take n words word shift width within = ap (λ (value : ℕ). bits_of value shift width) (get_or-take n words word 0 within)
+
 -- a bit of the first words is that of all words
 pub is_set-take : (n : ℕ) (words : Registers) (word bit : ℕ) → word < n → is_set (take n words) word bit ≡ is_set words word bit
 unfolding is_set field
@@ -42,3 +47,9 @@ pub told_words : (n : ℕ) (told : Option (List ℕ)) (word bit : ℕ) (value : 
     → AreTold n (option_map (λ words. put_bit words word bit value) told)
 told_words n None word bit value small are = tt
 told_words n (Some words) word bit value small are = (AreWords-put_bit words word bit value small are.0, length-put_bit words word bit value ∙ are.1)
+
+-- where the words are told, so is the field
+pub told_field : (n : ℕ) (told : Option (List ℕ)) (word shift width answer : ℕ) → word < n → IfSome told (λ words. answer ≡ field words word shift width)
+    → IfSome (option_map (take n) told) (λ words. answer ≡ field words word shift width)
+told_field n None word shift width answer within h = tt
+told_field n (Some words) word shift width answer within h = h ∙ sym (field-take n words word shift width within)

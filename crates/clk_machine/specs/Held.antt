@@ -1,32 +1,29 @@
 -- What a core holds of the machine, and what its rows keep.
-use Rattle.std.specs.Prelude.{◌≡◌, ℕ, ◌+◌, ◌<◌, ◌≤◌, ◌&&◌, ◌||◌, ◌==◌, List, [], Bool, true, false, not, Option, Some, None, length, sum_by, is_some, unwrap_or}
-use Rattle.std.specs.List.{list_all}
-use Rattle.clk_base.specs.Description.{Description, kind_of, parents_of, EachClock}
-use Rattle.clk_base.specs.Flags.{is_critical, sets_rate_gate}
-use Rattle.clk_base.specs.Plain.{is_plain}
-use Rattle.clk_base.specs.Valid.{IsValid}
+use Rattle.std.specs.Prelude.{◌≡◌, ℕ, ◌+◌, ◌≤◌, ◌||◌, ◌==◌, List, [], Bool, true, false, Option, Some, None, IfSome, length, sum_by, unwrap_or, slice_index}
 use Rattle.clk_base.specs.Checked.{Checked}
-use Rattle.clk_base.specs.declared.call.Sleeping.{Sleeping}
+use Rattle.clk_base.specs.Description.{Description}
+use Rattle.clk_base.specs.Valid.{IsValid}
 use Rattle.clk_base.specs.declared.call.Sleeping.TheVariants as call
+use Rattle.clk_base.specs.declared.clock.ClockId.{ClockId}
 use Rattle.clk_base.specs.declared.event.Event.{Event}
 use Rattle.clk_base.specs.declared.event.Event.TheVariants as event
 use Rattle.clk_base.specs.declared.event.Reply.{Reply}
 use Rattle.clk_base.specs.declared.event.Turn.TheVariants as turn
+use Rattle.reg_bank.specs.Registers.{Registers}
 use Rattle.clk_model.specs.declared.row.ClockRow.{ClockRow}
 use Rattle.clk_model.specs.declared.row.HandleRow.{HandleRow}
-use Rattle.clk_model.specs.Lists.{is_in, present}
-use Rattle.clk_base.specs.Fields.{GateBit, gate_of}
-use Rattle.clk_model.specs.Kinds.{is_fixed, is_open}
-use Rattle.clk_model.specs.State.{State, registered, link_in, handle_at}
-use Rattle.reg_bank.specs.Registers.{Registers}
-use Rattle.clk_base.specs.declared.clock.ClockId.{ClockId}
-use Rattle.clk_model.specs.Holders.{is_enabled, active}
+use Rattle.clk_model.specs.Lists.{present}
+use Rattle.clk_model.specs.State.{State, registered, handle_at}
+use Rattle.clk_model.specs.Rate.{rate}
+use Rattle.clk_model.specs.Holders.{is_enabled}
 use Rattle.clk_model.specs.Gates.{settled}
 use Rattle.clk_model.specs.Begin.{put_handle, register}
-use Rattle.clk_model.specs.Script.{adoptable}
 use Rattle.clk_model.specs.Machine.{next}
 use Rattle.clk_model.specs.Journal.{slotless}
+use Rattle.clk_tree.specs.TreeState.{TreeState, IsTree}
 use Rattle.clk_machine.specs.Window.{Shown, AreTold}
+use Rattle.clk_machine.specs.Fit.{CanRun}
+use Rattle.clk_machine.specs.Sound.{IsSound}
 
 -- the state that the rows of a core stand for, whether the bank tells its words, and how many of them
 pub record Held : Type 0 where
@@ -53,37 +50,29 @@ state_of defs words clocks order handles credits spent ignore_unused = record {
   ignore_unused = ignore_unused;
 }
 
--- a clock that this core can run: a fixed rate or a gate over an earlier clock, neither critical nor protecting its rate while it is prepared
-abbrev pub can_run : Description → ℕ → Bool
-can_run defs c = is_plain defs c && not (is_critical defs c) && not (sets_rate_gate defs c)
-
-abbrev pub CanRun : Description → Type 0
-CanRun defs = EachClock defs (can_run defs)
+-- the kept rate of each registered clock is the one that the registers give, where they are told
+abbrev pub AreKept : Description → Option (List ℕ) → List ClockRow → List ℕ → Type 0
+AreKept defs words clocks rates = IfSome words (λ regs. (c : ℕ) → registered clocks c ≡ true → slice_index rates c ≡ rate defs regs clocks c)
 
 -- what a handle holds in all
 abbrev pub held_in_all : HandleRow → ℕ
 held_in_all h = h.prepares + h.enables
 
--- what the rows of a core keep
-pub record IsShaped (desc : Checked) (window : Shown) (clocks : List ClockRow) (order : List ℕ) (handles : List (Option HandleRow)) (credits spent : ℕ) : Type 0 where
+-- what the parts of a core keep
+pub record IsShaped (desc : Checked) (window : Shown) (tree : TreeState) (handles : List (Option HandleRow)) (credits spent : ℕ) : Type 0 where
   pub valid : IsValid desc.words desc.defs
   pub runs : CanRun desc.defs
   pub words : window.size ≡ desc.words
   pub told : AreTold window.size window.words
-  pub clocks_len : length clocks ≡ length desc.defs
-  -- a link leads to a registered clock
-  pub links : (c p : ℕ) → link_in clocks c ≡ Some p → registered clocks p ≡ true
-  -- a registered clock but a fixed one has a link
-  pub linked : (c : ℕ) → registered clocks c ≡ true → (is_fixed (kind_of desc.defs c) || is_some (link_in clocks c)) ≡ true
-  -- the newest attached are registered
-  pub attached : (c : ℕ) → is_in c order ≡ true → registered clocks c ≡ true
+  pub defs : tree.defs ≡ desc.defs
+  pub stands : IsTree tree.defs tree.clocks tree.order tree.rates
+  pub kept : AreKept desc.defs window.words tree.clocks tree.rates
   -- the clock of a handle is registered
-  pub handled : (n : ℕ) (h : HandleRow) → handle_at handles n ≡ Some h → registered clocks h.clock.0 ≡ true
+  pub handled : (n : ℕ) (h : HandleRow) → handle_at handles n ≡ Some h → registered tree.clocks h.clock.0 ≡ true
   -- no handle holds a rate
   pub unguarded : (n : ℕ) (h : HandleRow) → handle_at handles n ≡ Some h → h.exclusives ≡ 0
   pub few_credits : credits ≤ 4194304
   pub spent_within : spent ≤ credits
-  pub few_attached : length order ≤ spent
   pub few_handles : length handles ≤ spent
   pub few_holds : sum_by held_in_all (present handles) ≤ spent
 
@@ -104,35 +93,14 @@ pub record Stays (old new : State) : Type 0 where
   pub credits : new.credits ≡ old.credits
   pub ignore_unused : new.ignore_unused ≡ old.ignore_unused
 
--- each link leads to a possible parent
-abbrev pub AreLinks : Description → List ClockRow → Type 0
-AreLinks defs clocks = (c p : ℕ) → link_in clocks c ≡ Some p → is_in p (parents_of defs c) ≡ true
-
--- the description is valid for the words and can be run, links lead to possible parents, and the gates of active clocks are open
-pub record IsSound (words : ℕ) (s : State) : Type 0 where
-  pub valid : IsValid words s.defs
-  pub runs : CanRun s.defs
-  pub size : length s.regs ≡ words
-  pub links : AreLinks s.defs s.clocks
-  pub open_ : (c : ℕ) (gate : GateBit) → active s c ≡ true → gate_of (kind_of s.defs c) ≡ Some gate → is_open s.regs gate ≡ true
-
--- a clock is registered with nothing else to do: it isn't critical, no orphan can be adopted, and no clock becomes active
-pub record RegistersAtOnce (old : State) (c : ℕ) : Type 0 where
-  pub quiet : old.change ≡ None
-  pub uncritical : is_critical old.defs c ≡ false
-  pub none : adoptable (register old c) ≡ []
-  pub same : (x : ℕ) → active old x ≡ active (register old c) x
-  pub stays : Stays old (register old c)
-  pub regs : (register old c).regs ≡ old.regs
-  pub links : AreLinks old.defs old.clocks → AreLinks old.defs (register old c).clocks
-  pub rows : (k : ℕ) → registered (register old c).clocks k ≡ (registered old.clocks k || c == k)
-
--- no change is in flight, each clock can be run, and a registration whose possible parents were registered leaves no orphan to adopt
-pub record IsResting (s : State) : Type 0 where
-  pub quiet : s.change ≡ None
-  pub runs : CanRun s.defs
-  pub alone : (c : ℕ) → c < length s.defs → registered s.clocks c ≡ false → list_all (registered s.clocks) (parents_of s.defs c) ≡ true
-      → s.spent < s.credits → adoptable (register s c) ≡ []
+-- a clock was registered and a credit spent
+pub record RegistersClock (old : Held) (c : ℕ) (new : Held) : Type 0 where
+  pub told : new.told ≡ old.told
+  pub size : new.size ≡ old.size
+  pub stays : Stays old.state new.state
+  pub spent : new.state.spent ≡ old.state.spent + 1
+  pub rows : (k : ℕ) → registered new.state.clocks k ≡ (registered old.state.clocks k || c == k)
+  pub is : old.told ≡ true → new.state ≡ record (register old.state c) { spent = old.state.spent + 1 }
 
 -- whether an event registers the clock
 abbrev pub registers : Event → ℕ → Bool
@@ -146,21 +114,4 @@ pub record Takes (old : Held) (driver : ℕ) (event : Event) (reply : Reply) (ne
   pub stays : Stays old.state new.state
   pub spent : new.state.spent ≡ old.state.spent + 1
   pub registered_ : (c : ℕ) → registered new.state.clocks c ≡ (registered old.state.clocks c || registers event c)
-  pub sound : old.told ≡ true → (words : ℕ) → IsSound words old.state → IsSound words new.state
-  pub step : old.told ≡ true → next old.state driver event ≡ Some (new.state, slotless (turn.Done reply))
-
--- the clocks that a call names are clocks of the description
-abbrev pub IsPlaced : Description → Sleeping → Type 0
-IsPlaced defs (call.Get (Some c)) = c.0 < length defs
-IsPlaced defs (call.SetParent h p) = p.0 < length defs
-IsPlaced defs (call.Probe c) = c.0 < length defs
-IsPlaced defs _ = Unit {0}
-
--- a call that this core can begin: get, prepare, unprepare and rate, and the probe of a clock whose possible parents are registered
-abbrev pub CanBegin : State → Sleeping → Type 0
-CanBegin s (call.Get found) = Unit {0}
-CanBegin s (call.Prepare h) = Unit {0}
-CanBegin s (call.Unprepare h) = Unit {0}
-CanBegin s (call.GetRate h) = Unit {0}
-CanBegin s (call.Probe c) = list_all (registered s.clocks) (parents_of s.defs c.0) ≡ true
-CanBegin s _ = ⊥
+  pub step : old.told ≡ true → IsSound old.size old.state → next old.state driver event ≡ Some (new.state, slotless (turn.Done reply))

@@ -1,7 +1,8 @@
 pub mod Window
 pub mod Shape
+pub mod Fit
 pub mod Held
+pub mod Sound
 pub mod Run
 pub mod Hold
 pub mod Row
-pub mod Taken

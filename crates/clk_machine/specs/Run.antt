@@ -1,5 +1,5 @@
 -- What contracts see of a core: where it began, and its journal.
-use Rattle.std.specs.Prelude.{◌≡◌, ℕ, ◌+◌, List, [], ◌∷◌, ◌++◌, Bool, true, false, Some, length, take}
+use Rattle.std.specs.Prelude.{◌≡◌, ℕ, ◌+◌, List, [], ◌∷◌, ◌++◌, Bool, true, false, not, Some, length, take}
 use Rattle.std.specs.List.{list_any, list_all}
 use Rattle.clk_base.specs.Description.{parents_of}
 use Rattle.clk_base.specs.declared.call.Sleeping.{Sleeping}
@@ -12,7 +12,9 @@ use Rattle.clk_model.specs.State.{State, registered}
 use Rattle.clk_model.specs.Machine.{next}
 use Rattle.clk_model.specs.Journal.{slotless, replay, Legal, opening, cost}
 use Rattle.clk_model.specs.Fed.{Fed}
-use Rattle.clk_machine.specs.Held.{Held, registers, IsSound}
+use Rattle.clk_machine.specs.Fit.{has_pll}
+use Rattle.clk_machine.specs.Held.{Held, registers}
+use Rattle.clk_machine.specs.Sound.{IsSound}
 
 -- a core as its opening, its journal, and whether its bank tells its words
 pub record Run : Type 0 where
@@ -28,12 +30,15 @@ now_of run = replay run.start run.journal
 abbrev pub was_probed : List Entry → ℕ → Bool
 was_probed journal c = list_any (λ e. registers e.event c) journal
 
--- whether a call can be made so far: get, prepare, unprepare and rate, and the probe of a clock whose possible parents were probed
+-- whether a call can be made so far: get, put, unprepare, rate and parent, a prepare where there is no PLL, and the probe of a clock
+-- whose possible parents were probed
 abbrev pub is_built : Run → Sleeping → Bool
 is_built run (call.Get found) = true
-is_built run (call.Prepare h) = true
+is_built run (call.Put h) = true
+is_built run (call.Prepare h) = not (has_pll run.start.defs)
 is_built run (call.Unprepare h) = true
 is_built run (call.GetRate h) = true
+is_built run (call.GetParent h) = true
 is_built run (call.Probe c) = list_all (was_probed run.journal) (parents_of run.start.defs c.0)
 is_built run _ = false
 

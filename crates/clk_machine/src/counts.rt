@@ -1,16 +1,15 @@
 //! Counts over the handles of a clock and over the clocks attached to it.
 
-ghost use Rattle.std.specs.Prelude.{◌≡◌, ℕ, ◌<◌, ◌≤◌, ◌^◌, ◌==◌, length, filter, sum_by, count_by};
-ghost use Rattle.clk_base.specs.Places.{places};
+ghost use Rattle.std.specs.Prelude.{◌≡◌, ◌<◌, ◌≤◌, ◌^◌, ◌==◌, length, filter, sum_by, count_by};
 ghost use Rattle.clk_model.specs.Lists.{present};
 ghost use Rattle.clk_model.specs.Tree.{children};
 ghost use Rattle.clk_model.specs.Holders.{clocks_of, is_held};
 ghost use Rattle.clk_machine.specs.Hold.{held, has};
 
-use crate::path::{is_attached, is_on_path};
-use clk_base::{ClockId, depth};
-use clk_model::{ClockRow, HandleRow};
-use std::collections::VecDeque;
+use crate::path::is_on_path;
+use clk_base::{ClockId, ValidDesc, depth};
+use clk_model::HandleRow;
+use clk_tree::Tree;
 
 /// What a handle can hold of a clock.
 #[derive(Clone, Copy)]
@@ -48,15 +47,15 @@ pub(crate) fn sum_held(hold: Hold, handles: &[Option<HandleRow>], clock: ClockId
 /// Whether a handle with such a hold has the clock on its path.
 pub(crate) fn is_held_above(
     hold: Hold,
-    clocks: &[ClockRow],
+    tree: &Tree,
     handles: &[Option<HandleRow>],
     clock: ClockId,
 ) -> bool
-    ensures { result ≡ is_held clocks.now (clocks_of (has hold) handles.now) clock.0 }
+    ensures { result ≡ is_held tree.now.clocks (clocks_of (has hold) handles.now) clock.0 }
 {
     for handle in handles {
         if let Some(row) = handle {
-            if held(hold, *row) > 0 && is_on_path(depth(), clocks, row.clock, clock) {
+            if held(hold, *row) > 0 && is_on_path(depth(), tree, row.clock, clock) {
                 return true;
             }
         }
@@ -67,19 +66,21 @@ pub(crate) fn is_held_above(
 /// How many of the clocks attached to a clock are held.
 pub(crate) fn count_held_children(
     hold: Hold,
-    order: &VecDeque<ClockId>,
-    clocks: &[ClockRow],
+    desc: &ValidDesc,
+    tree: &Tree,
     handles: &[Option<HandleRow>],
     clock: ClockId,
 ) -> u32
-    requires { length order.now.items < 2 ^ 32 }
-    ensures few { result ≤ length order.now.items }
-    ensures count { result ≡ count_by (is_held clocks.now (clocks_of (has hold) handles.now)) (children (places order.now.items) clocks.now clock.0) }
+    requires { length tree.now.order ≤ length desc.now.defs }
+    ensures few { result ≤ length desc.now.defs }
+    ensures count { result ≡ count_by (is_held tree.now.clocks (clocks_of (has hold) handles.now)) (children tree.now.order tree.now.clocks clock.0) }
 {
     let mut count = 0;
-    for place in 0..order.len() {
-        let child = order[place];
-        if is_attached(clocks, child, clock) && is_held_above(hold, clocks, handles, child) {
+    for k in 0..desc.len() {
+        let Some(child) = tree.child(clock, k) else {
+            return count;
+        };
+        if is_held_above(hold, tree, handles, child) {
             count += 1;
         }
     }

@@ -2,16 +2,16 @@
 
 ghost use Rattle.std.specs.Prelude.{◌≡◌, ◌<◌, length, nat_lt};
 ghost use Rattle.std.specs.List.{list_all};
-ghost use Rattle.clk_base.specs.Description.{FindsFirst};
-ghost use Rattle.clk_base.specs.Plain.{is_plain_kind};
+ghost use Rattle.clk_base.specs.Description.{FindsFirst, kind_of};
 ghost use Rattle.clk_base.specs.Places.{places};
-ghost use Rattle.clk_machine.specs.Held.{can_run};
+ghost use Rattle.clk_model.specs.Kinds.{is_pll};
+ghost use Rattle.clk_machine.specs.Fit.{can_run, has_pll};
 
 use bitflags::Flags;
 use clk_base::{ClkFlags, ClockId, Kind, ValidDesc};
 
-/// The first clock that a core can't run, if there is one: it runs fixed clocks and gates over
-/// earlier clocks that are neither critical nor protect their rate while they are prepared.
+/// The first clock that a core can't run, if there is one: it runs clocks over earlier clocks that
+/// are neither critical nor protect their rate while they are prepared.
 pub fn first_unfit(desc: &ValidDesc) -> Option<ClockId>
     ensures { FindsFirst desc.now.defs (can_run desc.now.defs) result }
 {
@@ -30,17 +30,9 @@ pub fn is_fit(desc: &ValidDesc, clock: ClockId) -> bool
     ensures { result ≡ can_run desc.now.defs clock.0 }
 {
     let def = desc.def(clock);
-    is_known(def.kind)
-        && are_before(def.parents.as_slice(), clock)
+    are_before(def.parents.as_slice(), clock)
         && !Flags::contains(&def.flags, ClkFlags::CRITICAL)
         && !Flags::contains(&def.flags, ClkFlags::SET_RATE_GATE)
-}
-
-// Whether it is a fixed clock or a gate.
-fn is_known(kind: Kind) -> bool
-    ensures { result ≡ is_plain_kind kind }
-{
-    matches!(kind, Kind::FixedRate { .. } | Kind::Gate { .. })
 }
 
 // Whether all of these clocks stand before the clock.
@@ -53,4 +45,24 @@ fn are_before(parents: &[ClockId], clock: ClockId) -> bool
         }
     }
     true
+}
+
+// Whether a clock is a PLL.
+fn is_pll(desc: &ValidDesc, clock: ClockId) -> bool
+    requires { clock.0 < length desc.now.defs }
+    ensures { result ≡ is_pll (kind_of desc.now.defs clock.0) }
+{
+    matches!(desc.def(clock).kind, Kind::Pll { .. })
+}
+
+/// Whether a clock of the description is a PLL. A core prepares clocks only where none is.
+pub fn has_pll(desc: &ValidDesc) -> bool
+    ensures { result ≡ has_pll desc.now.defs }
+{
+    for place in 0..desc.len() {
+        if is_pll(desc, ClockId(place as u32)) {
+            return true;
+        }
+    }
+    false
 }

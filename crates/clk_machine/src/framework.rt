@@ -10,6 +10,7 @@ use crate::machine::Machine;
 use crate::row::Row;
 use clk_base::{ClockId, Entry, Event, Handle, Reply, Sleeping, Turn, ValidDesc};
 use clk_io::NoMemory;
+use clk_tree::Tree;
 use reg_bank::Bank;
 use std::alloc::Global;
 use std::marker::Model;
@@ -38,10 +39,11 @@ impl<B: Bank> Model for Core<B> {
 impl<B: Bank> Core<B> {
     ghost use Rattle.clk_base.specs.declared.event.Event.TheVariants.{Enable, Disable, Running, Begin};
     ghost use Rattle.clk_base.specs.declared.event.Turn.TheVariants.{Done};
-    ghost use Rattle.clk_machine.specs.Held.{CanRun, IsPlaced};
+    ghost use Rattle.clk_machine.specs.Fit.{CanRun};
+    ghost use Rattle.clk_machine.specs.Sound.{IsPlaced};
     ghost use Rattle.clk_model.specs.Causes.{EnableCauses, DisableCauses, RunningCauses, TurnHasCause, LeavesRefused};
     ghost use Rattle.clk_machine.specs.Run.{Run, now_of, was_probed, is_built, IsDone, Appends};
-    ghost use Rattle.clk_machine.specs.Row.{IsRowOf};
+    ghost use Rattle.clk_machine.specs.Row.{IsRowOf, IsTreeOf};
 
     /// A core at its opening: the words are written to the bank, nothing is registered, and the
     /// journal is empty with room for all credits.
@@ -126,9 +128,11 @@ impl<B: Bank> Core<B> {
     {
         match what {
             Sleeping::Get(_)
-            | Sleeping::Prepare(_)
+            | Sleeping::Put(_)
             | Sleeping::Unprepare(_)
-            | Sleeping::GetRate(_) => true,
+            | Sleeping::GetRate(_)
+            | Sleeping::GetParent(_) => true,
+            Sleeping::Prepare(_) => !self.machine.has_pll(),
             Sleeping::Probe(clock) => self.machine.has_parents(*clock),
             _ => false,
         }
@@ -170,6 +174,14 @@ impl<B: Bank> Core<B> {
         ensures { result.now.defs ≡ self.now.start.defs }
     {
         self.machine.desc()
+    }
+
+    /// The clock tree: links, the order of attachment, and the kept rates in Hz.
+    pub fn tree(&self) -> &Tree
+        ensures made { result.now.defs ≡ self.now.start.defs }
+        ensures tree { self.now.told ≡ true → IsTreeOf (now_of self.now) result.now }
+    {
+        self.machine.tree()
     }
 
     /// Whether no change is in flight. The calls that are built leave none.

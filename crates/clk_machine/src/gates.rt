@@ -1,10 +1,10 @@
-//! Gates and the clocks that keep them open.
+//! Gates, the clocks that keep them open, and what is on of a clock.
 
-ghost use Rattle.std.specs.Prelude.{◌≡◌, ℕ, ◌<◌, true, false, length, reverse, IfSome};
+ghost use Rattle.std.specs.Prelude.{◌≡◌, ◌<◌, true, false, length, reverse, IfSome};
 ghost use Rattle.std.specs.Option.{option_map, option_map_or};
 ghost use Rattle.clk_base.specs.Description.{kind_of};
-ghost use Rattle.clk_base.specs.Fields.{gate_of};
-ghost use Rattle.clk_model.specs.Kinds.{is_open};
+ghost use Rattle.clk_base.specs.Fields.{gate_of, power_of};
+ghost use Rattle.clk_model.specs.Summary.{is_on};
 ghost use Rattle.clk_model.specs.State.{link_in};
 ghost use Rattle.clk_model.specs.Tree.{path_within};
 ghost use Rattle.clk_model.specs.Holders.{clocks_of, is_held, is_enabled};
@@ -12,27 +12,24 @@ ghost use Rattle.clk_model.specs.Gates.{follow, gates_moved};
 ghost use Rattle.clk_machine.specs.Shape.{LinksLie};
 
 use crate::counts::{Hold, is_held_above};
-use crate::path::link_of;
 use crate::window::Window;
-use clk_base::{ClockId, Kind, ValidDesc, depth};
-use clk_model::{ClockRow, HandleRow};
+use clk_base::{ClockId, Kind, ValidDesc};
+use clk_model::HandleRow;
+use clk_tree::Tree;
 use reg_bank::Bank;
 
 /// Whether a handle with an enable keeps a clock active.
-pub(crate) fn is_enabled_above(
-    clocks: &[ClockRow],
-    handles: &[Option<HandleRow>],
-    clock: ClockId,
-) -> bool
-    ensures { result ≡ is_held clocks.now (clocks_of is_enabled handles.now) clock.0 }
+pub(crate) fn is_enabled_above(tree: &Tree, handles: &[Option<HandleRow>], clock: ClockId) -> bool
+    ensures { result ≡ is_held tree.now.clocks (clocks_of is_enabled handles.now) clock.0 }
 {
-    is_held_above(Hold::Enable, clocks, handles, clock)
+    is_held_above(Hold::Enable, tree, handles, clock)
 }
 
-/// Whether a gate is open. A clock of another kind has none.
-pub(crate) fn gate_state<B: Bank>(kind: Kind, window: &Window<B>) -> Option<bool>
-    requires { IfSome (gate_of kind) (λ gate. (gate.word < window.now.size) × (gate.bit < 32)) }
-    ensures { IfSome window.now.words (λ regs. result ≡ option_map (is_open regs) (gate_of kind)) }
+/// Whether a gate is open or a PLL powered. A clock of another kind has nothing to switch.
+pub(crate) fn switch_state<B: Bank>(kind: Kind, window: &Window<B>) -> Option<bool>
+    requires gate { IfSome (gate_of kind) (λ gate. (gate.word < window.now.size) × (gate.bit < 32)) }
+    requires power { IfSome (power_of kind) (λ power. (power.word < window.now.size) × (power.bit < 32)) }
+    ensures { IfSome window.now.words (λ regs. result ≡ is_on kind regs) }
 {
     match kind {
         Kind::Gate {
@@ -40,6 +37,11 @@ pub(crate) fn gate_state<B: Bank>(kind: Kind, window: &Window<B>) -> Option<bool
             bit,
             set_to_disable,
         } => Some(window.is_set(word, bit) != set_to_disable),
+        Kind::Pll {
+            power_word,
+            power_bit,
+            ..
+        } => Some(window.is_set(power_word, power_bit)),
         _ => None,
     }
 }
@@ -80,24 +82,24 @@ fn close_gate<B: Bank>(kind: Kind, window: &mut Window<B>)
 pub(crate) fn open_path<B: Bank>(
     levels: u32,
     desc: &ValidDesc,
-    clocks: &[ClockRow],
+    tree: &Tree,
     handles: &[Option<HandleRow>],
     window: &mut Window<B>,
     clock: ClockId,
 )
     requires place { clock.0 < length desc.now.defs }
-    requires links { LinksLie desc.now.defs clocks.now }
+    requires links { LinksLie desc.now.defs tree.now.clocks }
     requires words { window.old.size ≡ desc.now.words }
     ensures size { window.new.size ≡ window.old.size }
-    ensures words { window.new.words ≡ option_map (gates_moved desc.now.defs (is_held clocks.now (clocks_of is_enabled handles.now)) (λ _. true) (path_within (link_in clocks.now) levels clock.0)) window.old.words }
+    ensures words { window.new.words ≡ option_map (gates_moved desc.now.defs (is_held tree.now.clocks (clocks_of is_enabled handles.now)) (λ _. true) (path_within (link_in tree.now.clocks) levels clock.0)) window.old.words }
 {
     if levels == 0 {
         return;
     }
-    if let Some(parent) = link_of(clocks, clock) {
-        open_path(levels - 1, desc, clocks, handles, window, parent);
+    if let Some(parent) = tree.parent(clock) {
+        open_path(levels - 1, desc, tree, handles, window, parent);
     }
-    if !is_enabled_above(clocks, handles, clock) {
+    if !is_enabled_above(tree, handles, clock) {
         open_gate(desc.def(clock).kind, window);
     }
 }
@@ -106,24 +108,24 @@ pub(crate) fn open_path<B: Bank>(
 pub(crate) fn close_path<B: Bank>(
     levels: u32,
     desc: &ValidDesc,
-    clocks: &[ClockRow],
+    tree: &Tree,
     handles: &[Option<HandleRow>],
     window: &mut Window<B>,
     clock: ClockId,
 )
     requires place { clock.0 < length desc.now.defs }
-    requires links { LinksLie desc.now.defs clocks.now }
+    requires links { LinksLie desc.now.defs tree.now.clocks }
     requires words { window.old.size ≡ desc.now.words }
     ensures size { window.new.size ≡ window.old.size }
-    ensures words { window.new.words ≡ option_map (gates_moved desc.now.defs (λ _. true) (is_held clocks.now (clocks_of is_enabled handles.now)) (reverse (path_within (link_in clocks.now) levels clock.0))) window.old.words }
+    ensures words { window.new.words ≡ option_map (gates_moved desc.now.defs (λ _. true) (is_held tree.now.clocks (clocks_of is_enabled handles.now)) (reverse (path_within (link_in tree.now.clocks) levels clock.0))) window.old.words }
 {
     if levels == 0 {
         return;
     }
-    if !is_enabled_above(clocks, handles, clock) {
+    if !is_enabled_above(tree, handles, clock) {
         close_gate(desc.def(clock).kind, window);
     }
-    if let Some(parent) = link_of(clocks, clock) {
-        close_path(levels - 1, desc, clocks, handles, window, parent);
+    if let Some(parent) = tree.parent(clock) {
+        close_path(levels - 1, desc, tree, handles, window, parent);
     }
 }

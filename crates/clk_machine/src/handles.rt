@@ -28,3 +28,10 @@ pub(crate) fn keeps_prepare(row: HandleRow) -> bool
 {
     row.prepares == 0 || (row.prepares == 1 && row.enables > 0)
 }
+
+/// Whether a handle holds a prepare, an enable or a rate.
+pub(crate) fn holds_something(row: HandleRow) -> bool
+    ensures { result ≡ (nat_lt 0 row.prepares || nat_lt 0 row.enables || nat_lt 0 row.exclusives) }
+{
+    row.prepares > 0 || row.enables > 0 || row.exclusives > 0
+}

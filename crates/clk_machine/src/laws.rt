@@ -1,20 +1,20 @@
 //! A law of journals, as the contract of a function that does nothing.
 
-ghost use Rattle.std.specs.Prelude.{ℕ, ◌≤◌, Bool, List, length, take};
+ghost use Rattle.std.specs.Prelude.{ℕ, Bool, List, length, take};
 ghost use Rattle.clk_base.specs.Description.{Description};
 ghost use Rattle.clk_base.specs.Valid.{IsValid};
 ghost use Rattle.clk_base.specs.declared.event.Entry.{Entry};
 ghost use Rattle.clk_model.specs.Fed.{Fed};
 ghost use Rattle.clk_model.specs.Journal.{opening, replay, Legal};
-ghost use Rattle.clk_machine.specs.Held.{CanRun};
-ghost use Rattle.clk_machine.specs.Taken.{CanTakeAll};
+ghost use Rattle.clk_machine.specs.Fit.{CanRun};
+ghost use Rattle.clk_machine.specs.Sound.{CanTakeAll};
 
 /// In each legal journal of the calls that can be made so far, from an opening over clocks that can
 /// be run, the active clocks are fed after every prefix. Whose calls they are and in which order
 /// they come doesn't matter.
 pub fn always_fed()
     ensures { (words : List ℕ) (defs : Description) (ignore_unused : Bool) (credits : ℕ) (journal : List Entry)
-        → IsValid (length words) defs → CanRun defs → credits ≤ 4194304
+        → IsValid (length words) defs → CanRun defs
         → CanTakeAll (opening defs words ignore_unused credits) journal → Legal (opening defs words ignore_unused credits) journal
         → (n : ℕ) → Fed (replay (opening defs words ignore_unused credits) (take n journal)) }
 {}

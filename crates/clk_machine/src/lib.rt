@@ -14,7 +14,7 @@ mod register;
 mod row;
 mod window;
 
-pub use fit::{first_unfit, is_fit};
+pub use fit::{first_unfit, has_pll, is_fit};
 pub use framework::Core;
 pub use laws::always_fed;
 pub use row::Row;

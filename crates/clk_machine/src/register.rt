@@ -1,47 +1,77 @@
 //! Registering a clock.
 
-ghost use Rattle.std.specs.Prelude.{◌≡◌, ℕ, ◌<◌, true, List, length, slice_get, IfSome};
+ghost use Rattle.std.specs.Prelude.{◌≡◌, ℕ, ◌<◌, ◌||◌, ◌==◌, true, length, slice_get, IfSome};
 ghost use Rattle.std.specs.Option.{option_map};
 ghost use Rattle.std.specs.List.{list_all};
 ghost use Rattle.clk_base.specs.Description.{parents_of};
+ghost use Rattle.clk_base.specs.Valid.{IsValid};
+ghost use Rattle.clk_model.specs.Lists.{is_in, to_front};
 ghost use Rattle.clk_model.specs.State.{registered};
+ghost use Rattle.clk_model.specs.Tree.{selected};
 ghost use Rattle.clk_model.specs.Begin.{registered_rows};
-ghost use Rattle.clk_machine.specs.Shape.{LinksLie};
-ghost use Rattle.clk_machine.specs.Held.{CanRun};
+ghost use Rattle.clk_tree.specs.TreeState.{IsTree};
+ghost use Rattle.clk_machine.specs.Held.{AreKept};
 
-use crate::path::rate_above;
-use clk_base::{ClockId, ValidDesc, depth};
-use clk_model::ClockRow;
+use crate::window::Window;
+use clk_base::{ClockId, Kind, ValidDesc};
+use clk_tree::Tree;
+use reg_bank::Bank;
 
-// The first possible parent of a clock.
-fn first_parent(desc: &ValidDesc, clock: ClockId) -> Option<ClockId>
+// The possible parent of a clock at a place.
+fn parent_at(desc: &ValidDesc, clock: ClockId, place: u32) -> Option<ClockId>
     requires { clock.0 < length desc.now.defs }
-    ensures first { option_map (λ p. p.0) result ≡ slice_get (parents_of desc.now.defs clock.0) 0 }
-    ensures lies { IfSome result (λ p. p.0 < length desc.now.defs) }
+    ensures { option_map (λ p. p.0) result ≡ slice_get (parents_of desc.now.defs clock.0) place }
 {
-    desc.def(clock).parents.as_slice().first().copied()
+    desc.def(clock)
+        .parents
+        .as_slice()
+        .get(place as usize)
+        .copied()
 }
 
-/// Registers a clock whose possible parents are registered: it is linked to the first of them, and
-/// its rate is its last request.
-pub(crate) fn register_row(desc: &ValidDesc, clocks: &mut Vec<ClockRow>, clock: ClockId)
+// The parent that the registers select: of a mux the one at the place in its field, of another clock
+// its one possible parent.
+fn selected_parent<B: Bank>(desc: &ValidDesc, window: &Window<B>, clock: ClockId) -> Option<ClockId>
     requires place { clock.0 < length desc.now.defs }
-    requires rows { length clocks.old.items ≡ length desc.now.defs }
-    requires runs { CanRun desc.now.defs }
-    requires links { LinksLie desc.now.defs clocks.old.items }
-    requires parents { list_all (registered clocks.old.items) (parents_of desc.now.defs clock.0) ≡ true }
-    ensures { (regs : List ℕ) → clocks.new.items ≡ registered_rows desc.now.defs regs clocks.old.items clock.0 }
+    requires words { window.now.size ≡ desc.now.words }
+    ensures selected { IfSome window.now.words (λ regs. option_map (λ p. p.0) result ≡ selected desc.now.defs regs clock.0) }
+    ensures possible { IfSome result (λ p. is_in p.0 (parents_of desc.now.defs clock.0) ≡ true) }
+    ensures valid { IsValid desc.now.words desc.now.defs }
 {
-    let place = clock.0 as usize;
-    let linked = ClockRow {
-        registered: true,
-        link: first_parent(desc, clock),
-        last_request: 0,
+    let place = match desc.def(clock).kind {
+        Kind::Mux {
+            word,
+            shift,
+            width,
+            ..
+        } => window.field(word, shift, width),
+        _ => 0,
     };
-    clocks[place] = linked;
-    let rate = rate_above(depth(), desc, clocks, clock);
-    clocks[place] = ClockRow {
-        last_request: rate,
-        ..linked
-    };
+    parent_at(desc, clock, place)
+}
+
+/// Registers a clock whose possible parents are registered: it is linked to the parent that the
+/// registers select, and its rate is its last request.
+pub(crate) fn register_clock<B: Bank>(
+    desc: &ValidDesc,
+    window: &Window<B>,
+    tree: &mut Tree,
+    clock: ClockId,
+)
+    requires place { clock.0 < length desc.now.defs }
+    requires words { window.now.size ≡ desc.now.words }
+    requires made { tree.old.defs ≡ desc.now.defs }
+    requires parents { list_all (registered tree.old.clocks) (parents_of desc.now.defs clock.0) ≡ true }
+    ensures rows { (k : ℕ) → registered tree.new.clocks k ≡ (registered tree.old.clocks k || clock.0 == k) }
+    ensures clocks { IfSome window.now.words (λ regs. tree.new.clocks ≡ registered_rows desc.now.defs regs tree.old.clocks clock.0) }
+    ensures order { tree.new.order ≡ to_front clock.0 tree.old.order }
+    ensures defs { tree.new.defs ≡ tree.old.defs }
+    ensures kept { AreKept desc.now.defs window.now.words tree.new.clocks tree.new.rates }
+    ensures stands { IsTree tree.new.defs tree.new.clocks tree.new.order tree.new.rates }
+{
+    let parent = selected_parent(desc, window, clock);
+    tree.attach(clock, parent);
+    tree.refresh_all(desc, window.bank());
+    let rate = tree.rate(clock);
+    tree.set_last_request(clock, rate);
 }

@@ -11,6 +11,6 @@ pub struct Row {
     pub protect: u32,
     /// The rate in Hz.
     pub rate: u64,
-    /// Whether the gate is open. A clock without a gate has none.
+    /// Whether the gate is open, or the PLL powered. A clock of another kind has none.
     pub on: Option<bool>,
 }

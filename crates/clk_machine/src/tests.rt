@@ -2,7 +2,8 @@
 //! that was worked out by hand.
 
 ghost use Rattle.std.specs.Prelude.{◌≡◌, ◌≤◌, ◌<◌, true, length, [], ◌∷◌, IfOk};
-ghost use Rattle.clk_machine.specs.Held.{CanRun, IsPlaced};
+ghost use Rattle.clk_machine.specs.Fit.{CanRun};
+ghost use Rattle.clk_machine.specs.Sound.{IsPlaced};
 
 use super::*;
 use bitflags::Flags;

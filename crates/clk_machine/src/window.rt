@@ -1,11 +1,11 @@
 //! The words of a bank that a description uses.
 
-ghost use Rattle.std.specs.Prelude.{◌≡◌, ◌<◌, ◌≤◌, IfSome, is_some, length, take, slice_index};
+ghost use Rattle.std.specs.Prelude.{◌≡◌, ◌+◌, ◌<◌, ◌≤◌, IfSome, length, take, slice_index};
 ghost use Rattle.std.specs.Option.{option_map};
-ghost use Rattle.reg_bank.specs.Registers.{is_set, put_bit};
+ghost use Rattle.reg_bank.specs.Registers.{is_set, put_bit, field};
 ghost use Rattle.clk_machine.specs.Window.{AreTold};
 
-use reg_bank::{Bank, read_bit, write_bit};
+use reg_bank::{Bank, read_bit, read_field, write_bit};
 use std::marker::Model;
 
 /// The first words of a bank, as many as a description was checked for. The words behind them are
@@ -69,6 +69,23 @@ impl<B: Bank> Window<B> {
         ensures { IfSome self.now.words (λ words. result ≡ is_set words word bit) }
     {
         read_bit(&self.bank, word as usize, bit)
+    }
+
+    /// The number in a field.
+    pub fn field(&self, word: u32, shift: u32, width: u32) -> u32
+        requires word { word < self.now.size }
+        requires bits { shift + width ≤ 32 }
+        ensures { IfSome self.now.words (λ words. result ≡ field words word shift width) }
+    {
+        read_field(&self.bank, word as usize, shift, width)
+    }
+
+    /// The bank whose first words these are.
+    pub fn bank(&self) -> &B
+        ensures fits { self.now.size ≤ B.size result.now }
+        ensures words { option_map (take self.now.size) (B.contents result.now) ≡ self.now.words }
+    {
+        &self.bank
     }
 
     /// Makes a bit 1 or 0.

@@ -1,5 +1,6 @@
 -- Each reply of an event has its cause.
-use Rattle.std.proofs.Common.{◌≡◌, ℕ, zero, suc, ◌+◌, ◌<◌, ◌&&◌, ◌||◌, Bool, true, false, cond, [], Option, Some, None, refl, sym, ap, subst, ◌∙◌, inl, inr, arith, nat_eq, nat_lt}
+use Rattle.std.proofs.Common.{◌≡◌, ℕ, zero, suc, ◌+◌, ◌<◌, ◌&&◌, ◌||◌, Bool, true, false, cond, [], Option, Some, None, refl, sym, ap, subst, ◌∙◌, ◌⊎◌, inl, inr, arith, nat_eq, nat_lt}
+use Rattle.std.specs.Prelude.{option_map}
 use Rattle.std.proofs.lemmas.Bool.Decides.{nat_tests}
 use Rattle.clk_base.specs.declared.call.Sleeping.TheVariants as call
 use Rattle.clk_base.specs.declared.clock.ClockId.{ClockId}
@@ -13,17 +14,19 @@ use Rattle.clk_base.specs.declared.event.Turn.TheVariants as turn
 use Rattle.clk_base.specs.declared.handle.Handle.{Handle}
 use Rattle.clk_base.specs.Flags.{is_critical}
 use Rattle.clk_model.specs.declared.row.HandleRow.{HandleRow}
-use Rattle.clk_model.specs.State.{State, registered}
+use Rattle.clk_model.specs.State.{State, registered, link_in}
 use Rattle.clk_model.specs.Tree.{rooted, path}
 use Rattle.clk_model.specs.Rate.{rate}
 use Rattle.clk_model.specs.Holders.{active}
 use Rattle.clk_model.specs.Gates.{settled}
+use Rattle.clk_model.specs.Chain.{clock_id}
 use Rattle.clk_model.specs.Script.{unprepared_plls, adoptable}
 use Rattle.clk_model.specs.Begin.{own_handle, register}
 use Rattle.clk_model.specs.Machine.{paid, next}
 use Rattle.clk_model.specs.Journal.{slotless}
-use Rattle.clk_model.specs.Causes.{Exactly, Lacks, Has, KeepsPrepare, EnableCauses, DisableCauses, RunningCauses, GetCauses, PrepareCauses, UnprepareCauses, GetRateCauses, ProbeCauses}
-use Rattle.clk_model.proofs.EventLaws.{keeps_prepare, prepared_once_less, enable-unknown, enable-unprepared, enable-fine, disable-unknown, disable-warned, disable-fine, running-unknown, running-told, get-not_found, get-deferred, get-given, prepare-unknown, prepare-fine, unprepare-unknown, unprepare-warned, unprepare-fine, rate-unknown, rate-told, probe-twice, probe-fine}
+use Rattle.clk_model.specs.Causes.{Exactly, Lacks, Has, KeepsPrepare, HoldsSomething, EnableCauses, DisableCauses, RunningCauses, GetCauses, PutCauses, PrepareCauses, UnprepareCauses, GetRateCauses, GetParentCauses, ProbeCauses}
+use Rattle.clk_model.proofs.Members.{not_either}
+use Rattle.clk_model.proofs.EventLaws.{keeps_prepare, holds_something, prepared_once_less, enable-unknown, enable-unprepared, enable-fine, disable-unknown, disable-warned, disable-fine, running-unknown, running-told, get-not_found, get-deferred, get-given, put-unknown, put-busy, put-fine, prepare-unknown, prepare-fine, unprepare-unknown, unprepare-warned, unprepare-fine, rate-unknown, rate-told, parent-unknown, parent-told, probe-twice, probe-fine}
 
 -- ---- the reply of a turn
 
@@ -219,6 +222,51 @@ get_causes s t d (Some c) r quiet comes = by (rooted s.defs s.clocks c.0) refl w
         given = λ k is_k fast. let no : rooted s.defs s.clocks c.0 ≡ true = ap (λ (x : ClockId). rooted s.defs s.clocks x.0) (same is_k) ∙ fast in absurd cc;
       }
 
+pub put_causes : (s t : State) (d : ℕ) (h : Handle) (r : Reply) → s.change ≡ None → next s d (event.Begin (call.Put h)) ≡ Some (t, slotless (turn.Done r))
+    → PutCauses s d h.number r
+put_causes s t d h r quiet comes = by (own_handle s d h.number) refl where
+  some : (a b c : ℕ) → (nat_lt 0 a || nat_lt 0 b || nat_lt 0 c) ≡ true → (0 < a) ⊎ ((0 < b) ⊎ (0 < c))
+  some zero zero zero e = absurd cc
+  some zero zero (suc c) e = inr (inr (omega arith))
+  some zero (suc b) c e = inr (inl (omega arith))
+  some (suc a) b c e = inl (omega arith)
+
+  zero_from : (a : ℕ) → nat_lt 0 a ≡ false → 0 < a → ⊥
+  zero_from a e more = let is : nat_lt 0 a ≡ true = grind (arith, nat_tests) in let no : true ≡ false = sym is ∙ e in cc
+
+  none : (a b c : ℕ) → (nat_lt 0 a || nat_lt 0 b || nat_lt 0 c) ≡ false → (0 < a) ⊎ ((0 < b) ⊎ (0 < c)) → ⊥
+  none a b c e (inl more) = zero_from a (not_either (nat_lt 0 a) (nat_lt 0 b) (not_either (nat_lt 0 a || nat_lt 0 b) (nat_lt 0 c) e).0).0 more
+  none a b c e (inr (inl more)) = zero_from b (not_either (nat_lt 0 a) (nat_lt 0 b) (not_either (nat_lt 0 a || nat_lt 0 b) (nat_lt 0 c) e).0).1 more
+  none a b c e (inr (inr more)) = zero_from c (not_either (nat_lt 0 a || nat_lt 0 b) (nat_lt 0 c) e).1 more
+
+  told : (row : HandleRow) (b : Bool) → own_handle s d h.number ≡ Some row → holds_something row ≡ b → PutCauses s d h.number r
+  told row true own holds =
+      let is = replies s s t d (event.Begin (call.Put h)) r (reply.Refused errno.EBUSY) comes (put-busy s d h row quiet own holds) refl in
+      let has : HoldsSomething row = some row.prepares row.enables row.exclusives holds in
+      record {
+        unknown = other (λ e. cc) (has_not_lacks s d h.number row own);
+        busy = this is (row, own, has);
+        fine = other (λ e. cc) (has_not s d h.number row (λ g. HoldsSomething g → ⊥) own (λ never. never has));
+      }
+  told row false own free =
+      let is = replies s _ t d (event.Begin (call.Put h)) r reply.Fine comes (put-fine s d h row quiet own free) refl in
+      let never : HoldsSomething row → ⊥ = none row.prepares row.enables row.exclusives free in
+      record {
+        unknown = other (λ e. cc) (has_not_lacks s d h.number row own);
+        busy = other (λ e. cc) (has_not s d h.number row HoldsSomething own never);
+        fine = this is (row, own, never);
+      }
+
+  by : (o : Option HandleRow) → own_handle s d h.number ≡ o → PutCauses s d h.number r
+  by None lacks =
+      let is = replies s s t d (event.Begin (call.Put h)) r (reply.Refused errno.ENOENT) comes (put-unknown s d h quiet lacks) refl in
+      record {
+        unknown = this is lacks;
+        busy = other (λ e. cc) (lacks_not_has s d h.number _ lacks);
+        fine = other (λ e. cc) (lacks_not_has s d h.number _ lacks);
+      }
+  by (Some row) own = told row (holds_something row) own refl
+
 pub prepare_causes : (s t : State) (d : ℕ) (h : Handle) (r : Reply) → s.change ≡ None → ((c : ℕ) → unprepared_plls s (path s.clocks c) ≡ [])
     → next s d (event.Begin (call.Prepare h)) ≡ Some (t, slotless (turn.Done r)) → PrepareCauses s d h.number r
 prepare_causes s t d h r quiet none comes = by (own_handle s d h.number) refl where
@@ -231,7 +279,7 @@ prepare_causes s t d h r quiet none comes = by (own_handle s d h.number) refl wh
       record { unknown = other (λ e. cc) (has_not_lacks s d h.number row own); fine = this is (row, own, tt) }
 
 pub unprepare_causes : (s t : State) (d : ℕ) (h : Handle) (r : Reply) → s.change ≡ None
-    → ((row : HandleRow) (c : ℕ) → unprepared_plls (prepared_once_less s h.number row) (path s.clocks c) ≡ [])
+    → ((row : HandleRow) → own_handle s d h.number ≡ Some row → keeps_prepare row ≡ false → unprepared_plls (prepared_once_less s h.number row) (path s.clocks row.clock.0) ≡ [])
     → next s d (event.Begin (call.Unprepare h)) ≡ Some (t, slotless (turn.Done r)) → UnprepareCauses s d h.number r
 unprepare_causes s t d h r quiet none comes = by (own_handle s d h.number) refl where
   keeps : (row : HandleRow) → keeps_prepare row ≡ true → KeepsPrepare row
@@ -261,7 +309,7 @@ unprepare_causes s t d h r quiet none comes = by (own_handle s d h.number) refl 
         fine = other (λ e. cc) (has_not s d h.number row (λ g. KeepsPrepare g → ⊥) own (λ never. never (keeps row kept)));
       }
   told row false own free =
-      let is = replies s _ t d (event.Begin (call.Unprepare h)) r reply.Fine comes (unprepare-fine s d h row quiet own free (none row row.clock.0)) refl in
+      let is = replies s _ t d (event.Begin (call.Unprepare h)) r reply.Fine comes (unprepare-fine s d h row quiet own free (none row own free)) refl in
       record {
         unknown = other (λ e. cc) (has_not_lacks s d h.number row own);
         kept = other (λ e. cc) (has_not s d h.number row KeepsPrepare own (gives_up row free));
@@ -290,6 +338,22 @@ rate_causes s t d h r quiet comes = by (own_handle s d h.number) refl where
       record {
         unknown = other (λ e. cc) (has_not_lacks s d h.number row own);
         told = λ row' own'. is ∙ ap (λ (x : HandleRow). reply.Rate (rate s.defs s.regs s.clocks x.clock.0)) (same (sym own ∙ own'));
+      } where
+        same : {a b : HandleRow} → Some a ≡ Some b → a ≡ b
+        same e = cc
+
+pub get_parent_causes : (s t : State) (d : ℕ) (h : Handle) (r : Reply) → s.change ≡ None → next s d (event.Begin (call.GetParent h)) ≡ Some (t, slotless (turn.Done r))
+    → GetParentCauses s d h.number r
+get_parent_causes s t d h r quiet comes = by (own_handle s d h.number) refl where
+  by : (o : Option HandleRow) → own_handle s d h.number ≡ o → GetParentCauses s d h.number r
+  by None lacks =
+      let is = replies s s t d (event.Begin (call.GetParent h)) r (reply.Refused errno.ENOENT) comes (parent-unknown s d h quiet lacks) refl in
+      record { unknown = this is lacks; told = λ row own. let no : None ≡ Some row = sym lacks ∙ own in absurd cc }
+  by (Some row) own =
+      let is = replies s s t d (event.Begin (call.GetParent h)) r (reply.Clock (option_map clock_id (link_in s.clocks row.clock.0))) comes (parent-told s d h row quiet own) refl in
+      record {
+        unknown = other (λ e. cc) (has_not_lacks s d h.number row own);
+        told = λ row' own'. is ∙ ap (λ (x : HandleRow). reply.Clock (option_map clock_id (link_in s.clocks x.clock.0))) (same (sym own ∙ own'));
       } where
         same : {a b : HandleRow} → Some a ≡ Some b → a ≡ b
         same e = cc

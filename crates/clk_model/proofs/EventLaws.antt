@@ -1,6 +1,6 @@
 -- What each event comes to, case by case.
 use Rattle.std.proofs.Common.{◌≡◌, ℕ, ◌+◌, ◌-◌, ◌<◌, ◌&&◌, ◌||◌, Bool, true, false, not, cond, List, [], Option, Some, None, refl, ap, ◌∙◌, arith, nat_eq, nat_lt}
-use Rattle.std.specs.Prelude.{slice_get, is_none, filter, if◌then◌else◌}
+use Rattle.std.specs.Prelude.{slice_get, is_none, filter, if◌then◌else◌, option_map}
 use Rattle.std.specs.Option.{option_map_or}
 use Rattle.std.proofs.lemmas.Bool.Decides.{nat_tests}
 use Rattle.clk_base.specs.declared.clock.ClockId.{ClockId}
@@ -14,12 +14,13 @@ use Rattle.clk_base.specs.declared.event.Turn.TheVariants as turn
 use Rattle.clk_base.specs.declared.handle.Handle.{Handle}
 use Rattle.clk_base.specs.Flags.{is_critical}
 use Rattle.clk_model.specs.declared.row.HandleRow.{HandleRow}
-use Rattle.clk_model.specs.State.{State, Change, is_quiet, registered, handle_at}
+use Rattle.clk_model.specs.State.{State, Change, is_quiet, registered, link_in, handle_at}
 use Rattle.clk_model.specs.Tree.{rooted, path}
 use Rattle.clk_model.specs.Holders.{active}
 use Rattle.clk_model.specs.Rate.{rate}
+use Rattle.clk_model.specs.Chain.{clock_id}
 use Rattle.clk_model.specs.Script.{unprepared_plls, runs, adoptable}
-use Rattle.clk_model.specs.Begin.{done, refused, pick, put_handle, own_handle, with_handle, given, prepare, prepared_once_more, unprepare, register, begun}
+use Rattle.clk_model.specs.Begin.{done, refused, pick, put_handle, own_handle, with_handle, given, put_back, prepare, prepared_once_more, unprepare, register, begun}
 use Rattle.clk_model.specs.Machine.{enabled, disabled, running, paid, next}
 
 pub pick-true : (b : Bool) (f g : Unit {0} → State × Turn) → b ≡ true → pick b f g ≡ f tt
@@ -125,6 +126,30 @@ get-given s d c quiet fast =
     begin_quiet s d (call.Get (Some c)) quiet
     ∙ ap (paid s) (pick-true (rooted s.defs s.clocks c.0) (λ t. given s d c.0) (λ t. refused s errno.EPROBE_DEFER) fast)
 
+pub put-unknown : (s : State) (d : ℕ) (h : Handle) → s.change ≡ None → own_handle s d h.number ≡ None
+    → next s d (event.Begin (call.Put h)) ≡ paid s (refused s errno.ENOENT)
+unfolding begun
+put-unknown s d h quiet none =
+    begin_quiet s d (call.Put h) quiet ∙ ap (paid s) (with-none s d h.number (put_back s h.number) none)
+
+-- a handle that holds something
+abbrev pub holds_something : HandleRow → Bool
+holds_something h = nat_lt 0 h.prepares || nat_lt 0 h.enables || nat_lt 0 h.exclusives
+
+pub put-busy : (s : State) (d : ℕ) (h : Handle) (row : HandleRow) → s.change ≡ None → own_handle s d h.number ≡ Some row → holds_something row ≡ true
+    → next s d (event.Begin (call.Put h)) ≡ paid s (refused s errno.EBUSY)
+unfolding begun
+put-busy s d h row quiet own holds =
+    begin_quiet s d (call.Put h) quiet
+    ∙ ap (paid s) (with-some s d h.number (put_back s h.number) row own ∙ pick-true (holds_something row) _ _ holds)
+
+pub put-fine : (s : State) (d : ℕ) (h : Handle) (row : HandleRow) → s.change ≡ None → own_handle s d h.number ≡ Some row → holds_something row ≡ false
+    → next s d (event.Begin (call.Put h)) ≡ paid s (put_handle s h.number None, turn.Done reply.Fine)
+unfolding begun
+put-fine s d h row quiet own free =
+    begin_quiet s d (call.Put h) quiet
+    ∙ ap (paid s) (with-some s d h.number (put_back s h.number) row own ∙ pick-false (holds_something row) _ _ free)
+
 pub prepare-unknown : (s : State) (d : ℕ) (h : Handle) → s.change ≡ None → own_handle s d h.number ≡ None
     → next s d (event.Begin (call.Prepare h)) ≡ paid s (refused s errno.ENOENT)
 unfolding begun
@@ -185,6 +210,20 @@ pub rate-told : (s : State) (d : ℕ) (h : Handle) (row : HandleRow) → s.chang
 unfolding begun
 rate-told s d h row quiet own =
     begin_quiet s d (call.GetRate h) quiet ∙ ap (paid s) (with-some s d h.number (λ row. done s (reply.Rate (rate s.defs s.regs s.clocks row.clock.0))) row own)
+
+pub parent-unknown : (s : State) (d : ℕ) (h : Handle) → s.change ≡ None → own_handle s d h.number ≡ None
+    → next s d (event.Begin (call.GetParent h)) ≡ paid s (refused s errno.ENOENT)
+unfolding begun
+parent-unknown s d h quiet none =
+    begin_quiet s d (call.GetParent h) quiet
+    ∙ ap (paid s) (with-none s d h.number (λ row. done s (reply.Clock (option_map clock_id (link_in s.clocks row.clock.0)))) none)
+
+pub parent-told : (s : State) (d : ℕ) (h : Handle) (row : HandleRow) → s.change ≡ None → own_handle s d h.number ≡ Some row
+    → next s d (event.Begin (call.GetParent h)) ≡ paid s (s, turn.Done (reply.Clock (option_map clock_id (link_in s.clocks row.clock.0))))
+unfolding begun
+parent-told s d h row quiet own =
+    begin_quiet s d (call.GetParent h) quiet
+    ∙ ap (paid s) (with-some s d h.number (λ row. done s (reply.Clock (option_map clock_id (link_in s.clocks row.clock.0)))) row own)
 
 pub probe-twice : (s : State) (d : ℕ) (c : ClockId) → s.change ≡ None → registered s.clocks c.0 ≡ true
     → next s d (event.Begin (call.Probe c)) ≡ paid s (refused s errno.EEXIST)

@@ -65,12 +65,13 @@ settled_follows_gates old new valid =
 
 -- ---- the opening
 
-blank_registered : (n c : ℕ) → registered (replicate n unregistered_row) c ≡ false
+-- no clock is registered there, and none has a link
+pub blank_registered : (n c : ℕ) → registered (replicate n unregistered_row) c ≡ false
 blank_registered zero c = refl
 blank_registered (suc n) zero = refl
 blank_registered (suc n) (suc c) = blank_registered n c
 
-blank_link : (n c : ℕ) → link_in (replicate n unregistered_row) c ≡ None
+pub blank_link : (n c : ℕ) → link_in (replicate n unregistered_row) c ≡ None
 blank_link zero c = refl
 blank_link (suc n) zero = refl
 blank_link (suc n) (suc c) = blank_link n c

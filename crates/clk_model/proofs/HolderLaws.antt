@@ -64,6 +64,22 @@ held_by-set_same clocks test (Some h ∷ handles) (suc n) old new c at clock sam
     ∙ ap (λ (t : Bool). (test h && is_under clocks h c) || t) (held_by-set_same clocks test handles n old new c at clock same)
     ∙ sym (held_by-cons clocks test h handles c)
 
+-- a handle that doesn't pass and is taken away held nothing
+pub held_by-set_none : (clocks : List ClockRow) (test : HandleRow → Bool) (handles : List (Option HandleRow)) (n : ℕ) (old : HandleRow) (c : ℕ)
+    → handle_at handles n ≡ Some old → test old ≡ false
+    → held_by clocks test (set handles n None) c ≡ held_by clocks test handles c
+held_by-set_none clocks test [] n old c at fails = absurd cc
+held_by-set_none clocks test (None ∷ handles) zero old c at fails = absurd cc
+held_by-set_none clocks test (Some h ∷ handles) zero old c at fails =
+    let is : h ≡ old = cc in
+    ap (λ (t : Bool). (t && is_under clocks h c) || held_by clocks test handles c) (sym fails ∙ ap test (sym is))
+    ∙ sym (held_by-cons clocks test h handles c)
+held_by-set_none clocks test (None ∷ handles) (suc n) old c at fails = held_by-set_none clocks test handles n old c at fails
+held_by-set_none clocks test (Some h ∷ handles) (suc n) old c at fails =
+    held_by-cons clocks test h (set handles n None) c
+    ∙ ap (λ (t : Bool). (test h && is_under clocks h c) || t) (held_by-set_none clocks test handles n old c at fails)
+    ∙ sym (held_by-cons clocks test h handles c)
+
 -- a handle that passes from now on holds what is under it beside what was held
 pub held_by-set_more : (clocks : List ClockRow) (test : HandleRow → Bool) (handles : List (Option HandleRow)) (n : ℕ) (old new : HandleRow) (c : ℕ)
     → handle_at handles n ≡ Some old → new.clock ≡ old.clock → test new ≡ true
@@ -92,6 +108,16 @@ held_by-set_more clocks test (Some h ∷ handles) (suc n) old new c at clock pas
     ∙ ap (λ (t : Bool). (test h && is_under clocks h c) || t) (held_by-set_more clocks test handles n old new c at clock passes)
     ∙ or_assoc (test h && is_under clocks h c) (held_by clocks test handles c) (is_under clocks old c)
     ∙ ap (λ (t : Bool). t || is_under clocks old c) (sym (held_by-cons clocks test h handles c))
+
+-- where no handle passes, none holds a clock
+pub held_by-none : (clocks : List ClockRow) (test : HandleRow → Bool) (handles : List (Option HandleRow)) (c : ℕ)
+    → ((n : ℕ) (h : HandleRow) → handle_at handles n ≡ Some h → test h ≡ false) → held_by clocks test handles c ≡ false
+held_by-none clocks test [] c none = refl
+held_by-none clocks test (None ∷ handles) c none = held_by-none clocks test handles c (λ n h at. none (suc n) h at)
+held_by-none clocks test (Some g ∷ handles) c none =
+    held_by-cons clocks test g handles c
+    ∙ ap (λ (t : Bool). (t && is_under clocks g c) || held_by clocks test handles c) (none zero g refl)
+    ∙ held_by-none clocks test handles c (λ n h at. none (suc n) h at)
 
 -- a clock is active where a handle with an enable, a critical clock or the change in flight holds it
 pub active_parts : (s : State) (c : ℕ)

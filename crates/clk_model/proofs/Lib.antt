@@ -43,6 +43,7 @@ pub mod LinkBegins
 pub mod LinkLaws
 pub mod RoomLaws
 pub mod SupplyLaws
+pub mod GateRateLaws
 pub mod PllLaws
 pub mod WeightLaws
 pub mod PacedStepLaws

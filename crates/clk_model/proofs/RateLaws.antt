@@ -57,6 +57,12 @@ rate_agree defs old new before after (suc n) d alike =
     (λ p e. rate_agree defs old new before after n p
     (λ a m. alike a (is_in_tail a d (above (link_in before) n (link_in before d)) (ap (λ (o : Option ℕ). is_in a (above (link_in before) n o)) e ∙ m)))))
 
+-- where all links are the same, so is the rate
+pub rate-links : (defs : Description) (regs : Registers) (before after : List ClockRow) (d : ℕ) → ((a : ℕ) → link_in after a ≡ link_in before a)
+    → rate defs regs after d ≡ rate defs regs before d
+unfolding rate
+rate-links defs regs before after d same = rate_agree defs regs regs before after depth d (λ a m. record { link = same a; over = λ x. refl })
+
 -- where all links but that of a clock that isn't on the path are the same, the rate is the same
 rate_leaves : (defs : Description) (regs : Registers) (before after : List ClockRow) (c d : ℕ) → ((a : ℕ) → (c ≡ a → ⊥) → link_in after a ≡ link_in before a)
     → is_in c (path before d) ≡ false → rate defs regs after d ≡ rate defs regs before d

@@ -18,7 +18,7 @@ use Rattle.clk_model.specs.Begin.{put_handle}
 use Rattle.clk_model.specs.Machine.{paid}
 use Rattle.clk_model.proofs.Members.{is_in_head, is_in_tail, is_in_cases, is_in-count_from, count_from-below, is_in-reverse}
 use Rattle.clk_model.proofs.PathLaws.{path_all, path_agree}
-use Rattle.clk_model.proofs.HolderLaws.{is_under, held_by, held_by-append, held_by-set_same, held_by-set_more, active_parts}
+use Rattle.clk_model.proofs.HolderLaws.{is_under, held_by, held_by-append, held_by-set_none, held_by-set_same, held_by-set_more, active_parts}
 use Rattle.clk_model.proofs.GateLaws.{GatesLie, gates_moved-still, gates_moved-alike, gates_moved-before, gates_moved-lists}
 
 -- ---- when the gates stay
@@ -59,6 +59,13 @@ active-append s h c idle =
     active_parts s c
     ∙ ap (λ (t : Bool). (t || is_held s.clocks (critical_clocks s) c) || is_held s.clocks s.enable_holds c) (sym (held_by-append s.clocks is_enabled s.handles h c idle))
     ∙ sym (active_parts (record s { handles = s.handles ++ Some h ∷ [] }) c)
+
+-- a handle without an enable that is taken away kept nothing active
+pub active-put_none : (s : State) (n : ℕ) (old : HandleRow) (c : ℕ) → handle_at s.handles n ≡ Some old → is_enabled old ≡ false → active s c ≡ active (put_handle s n None) c
+active-put_none s n old c at idle =
+    active_parts s c
+    ∙ ap (λ (t : Bool). (t || is_held s.clocks (critical_clocks s) c) || is_held s.clocks s.enable_holds c) (sym (held_by-set_none s.clocks is_enabled s.handles n old c at idle))
+    ∙ sym (active_parts (put_handle s n None) c)
 
 or_swap : (a b c u : Bool) → (((a || u) || b) || c) ≡ (((a || b) || c) || u)
 or_swap true b c u = refl

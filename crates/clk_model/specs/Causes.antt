@@ -1,5 +1,5 @@
 -- Why each call has its reply: each reply comes exactly where its cause holds.
-use Rattle.std.specs.Prelude.{◌≡◌, ◌⊎◌, ◌<◌, ℕ, ◌+◌, Bool, true, false, Option, Some, None, length}
+use Rattle.std.specs.Prelude.{◌≡◌, ◌⊎◌, ◌<◌, ℕ, ◌+◌, Bool, true, false, Option, Some, None, option_map, length}
 use Rattle.clk_base.specs.declared.call.Sleeping.{Sleeping}
 use Rattle.clk_base.specs.declared.call.Sleeping.TheVariants as call
 use Rattle.clk_base.specs.declared.clock.ClockId.{ClockId}
@@ -10,10 +10,11 @@ use Rattle.clk_base.specs.declared.event.Turn.{Turn}
 use Rattle.clk_base.specs.declared.event.Turn.TheVariants as turn
 use Rattle.clk_base.specs.declared.handle.Handle.{Handle}
 use Rattle.clk_model.specs.declared.row.HandleRow.{HandleRow}
-use Rattle.clk_model.specs.State.{State, registered}
+use Rattle.clk_model.specs.State.{State, registered, link_in}
 use Rattle.clk_model.specs.Tree.{rooted}
 use Rattle.clk_model.specs.Rate.{rate}
 use Rattle.clk_model.specs.Holders.{active}
+use Rattle.clk_model.specs.Chain.{clock_id}
 use Rattle.clk_model.specs.Begin.{own_handle}
 
 -- ---- words
@@ -64,6 +65,16 @@ pub record GetCauses (s : State) (driver : ℕ) (found : Option ClockId) (r : Re
   pub given : (c : ClockId) → found ≡ Some c → rooted s.defs s.clocks c.0 ≡ true
       → (h : Handle) × (r ≡ reply.Handle h) × (h.number ≡ length s.handles) × (h.driver ≡ driver)
 
+-- a handle that has a prepare, an enable or an exclusive hold
+abbrev pub HoldsSomething : HandleRow → Type 0
+HoldsSomething h = (0 < h.prepares) ⊎ ((0 < h.enables) ⊎ (0 < h.exclusives))
+
+-- Put: the driver has the handle, and the handle holds nothing
+pub record PutCauses (s : State) (driver number : ℕ) (r : Reply) : Type 0 where
+  pub unknown : Exactly (reply.Refused errno.ENOENT) r (Lacks s driver number)
+  pub busy : Exactly (reply.Refused errno.EBUSY) r (Has s driver number HoldsSomething)
+  pub fine : Exactly reply.Fine r (Has s driver number (λ h. HoldsSomething h → ⊥))
+
 -- Prepare, where no PLL has to be raised: the driver has the handle
 pub record PrepareCauses (s : State) (driver number : ℕ) (r : Reply) : Type 0 where
   pub unknown : Exactly (reply.Refused errno.ENOENT) r (Lacks s driver number)
@@ -84,6 +95,11 @@ pub record GetRateCauses (s : State) (driver number : ℕ) (r : Reply) : Type 0 
   pub unknown : Exactly (reply.Refused errno.ENOENT) r (Lacks s driver number)
   pub told : (h : HandleRow) → own_handle s driver number ≡ Some h → r ≡ reply.Rate (rate s.defs s.regs s.clocks h.clock.0)
 
+-- GetParent: the driver has the handle, and is told the clock that its clock is attached to, or that there is none
+pub record GetParentCauses (s : State) (driver number : ℕ) (r : Reply) : Type 0 where
+  pub unknown : Exactly (reply.Refused errno.ENOENT) r (Lacks s driver number)
+  pub told : (h : HandleRow) → own_handle s driver number ≡ Some h → r ≡ reply.Clock (option_map clock_id (link_in s.clocks h.clock.0))
+
 -- Probe, where nothing else has to be done: the clock isn't registered yet
 pub record ProbeCauses (s : State) (c : ClockId) (r : Reply) : Type 0 where
   pub known : Exactly (reply.Refused errno.EEXIST) r (registered s.clocks c.0 ≡ true)
@@ -92,9 +108,11 @@ pub record ProbeCauses (s : State) (c : ClockId) (r : Reply) : Type 0 where
 -- the cause of each call's reply, where the call is one of those that are answered at once
 abbrev pub BeginCauses : State → ℕ → Sleeping → Reply → Type 0
 BeginCauses s driver (call.Get found) r = GetCauses s driver found r
+BeginCauses s driver (call.Put h) r = PutCauses s driver h.number r
 BeginCauses s driver (call.Prepare h) r = PrepareCauses s driver h.number r
 BeginCauses s driver (call.Unprepare h) r = UnprepareCauses s driver h.number r
 BeginCauses s driver (call.GetRate h) r = GetRateCauses s driver h.number r
+BeginCauses s driver (call.GetParent h) r = GetParentCauses s driver h.number r
 BeginCauses s driver (call.Probe c) r = ProbeCauses s c r
 BeginCauses s driver what r = Unit {0}
 

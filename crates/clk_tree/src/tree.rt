@@ -60,6 +60,7 @@ impl Tree {
         ensures rows { IfOk result (λ tree. tree.clocks ≡ replicate (length desc.now.defs) unregistered_row) }
         ensures order { IfOk result (λ tree. tree.order ≡ []) }
         ensures rates { IfOk result (λ tree. tree.rates ≡ replicate (length desc.now.defs) 0) }
+        ensures stands { IfOk result (λ tree. IsTree tree.defs tree.clocks tree.order tree.rates) }
     {
         let clocks = vec![in alloc; unregistered(); desc.len()]?;
         let order = VecDeque::with_capacity(alloc, desc.len())?;
@@ -157,6 +158,7 @@ impl Tree {
         ensures newest { self.new.order ≡ to_front c.0 self.old.order }
         ensures rates { self.new.rates ≡ self.old.rates }
         ensures defs { self.new.defs ≡ self.old.defs }
+        ensures stands { IsTree self.new.defs self.new.clocks self.new.order self.new.rates }
     {
         let row = ClockRow {
             registered: true,
@@ -174,6 +176,7 @@ impl Tree {
         ensures order { self.new.order ≡ self.old.order }
         ensures rates { self.new.rates ≡ self.old.rates }
         ensures defs { self.new.defs ≡ self.old.defs }
+        ensures stands { IsTree self.new.defs self.new.clocks self.new.order self.new.rates }
     {
         let row = ClockRow {
             last_request: rate,
@@ -191,6 +194,7 @@ impl Tree {
         ensures rows { self.new.clocks ≡ self.old.clocks }
         ensures order { self.new.order ≡ self.old.order }
         ensures defs { self.new.defs ≡ self.old.defs }
+        ensures stands { IsTree self.new.defs self.new.clocks self.new.order self.new.rates }
     {
         refresh(desc, &self.clocks, bank, &mut self.rates);
     }

@@ -26,7 +26,7 @@ impl<B: Bank> Machine<B> {
         close_path(
             depth(),
             &self.desc,
-            &self.clocks,
+            &self.tree,
             &self.handles,
             &mut self.window,
             clock,
@@ -60,7 +60,7 @@ impl<B: Bank> Machine<B> {
     fn is_active(&self, clock: ClockId) -> bool
         ensures { result ≡ active self.now.state clock.0 }
     {
-        is_enabled_above(&self.clocks, &self.handles, clock)
+        is_enabled_above(&self.tree, &self.handles, clock)
     }
 
     /// Tells whether a handle's clock is active.
@@ -77,7 +77,7 @@ impl<B: Bank> Machine<B> {
         if runs { Reply::Yes } else { Reply::No }
     }
 
-    /// Takes a prepare from a handle. No PLL has to be lowered.
+    /// Takes a prepare from a handle. Where there is a PLL, no handle has one.
     pub(crate) fn unprepare(&mut self, driver: u32, handle: Handle) -> Reply
         requires { self.old.state.spent < self.old.state.credits }
         ensures { Takes self.old driver (Begin (Unprepare handle)) result self.new }

@@ -1,18 +1,16 @@
 //! The rows of the table of clocks.
 
 ghost use Rattle.std.specs.Prelude.{◌≡◌, ℕ, ◌<◌, true, length, is_some};
-ghost use Rattle.std.specs.Option.{option_map};
 ghost use Rattle.clk_base.specs.Description.{kind_of};
-ghost use Rattle.clk_base.specs.Fields.{gate_of};
-ghost use Rattle.clk_model.specs.Kinds.{is_open};
 ghost use Rattle.clk_model.specs.State.{registered};
 ghost use Rattle.clk_model.specs.Counts.{protect_count};
+ghost use Rattle.clk_model.specs.Summary.{is_on};
 ghost use Rattle.clk_machine.specs.Hold.{count_of};
 ghost use Rattle.clk_machine.specs.Row.{IsRowOf};
 
 use super::Machine;
 use crate::counts::{Hold, count_held_children, sum_held};
-use crate::gates::gate_state;
+use crate::gates::switch_state;
 use crate::row::Row;
 use clk_base::ClockId;
 use reg_bank::Bank;
@@ -24,7 +22,7 @@ impl<B: Bank> Machine<B> {
         ensures { result ≡ count_of hold self.now.state clock.0 }
     {
         sum_held(hold, &self.handles, clock)
-            + count_held_children(hold, &self.order, &self.clocks, &self.handles, clock)
+            + count_held_children(hold, &self.desc, &self.tree, &self.handles, clock)
     }
 
     // The protect count of a clock: nobody holds a rate.
@@ -35,12 +33,12 @@ impl<B: Bank> Machine<B> {
         0
     }
 
-    // Whether the gate of a clock is open, if it has one.
-    fn gate(&self, clock: ClockId) -> Option<bool>
+    // Whether the gate of a clock is open or its PLL powered, if it has one.
+    fn switch(&self, clock: ClockId) -> Option<bool>
         requires { clock.0 < length self.now.state.defs }
-        ensures { self.now.told ≡ true → result ≡ option_map (is_open self.now.state.regs) (gate_of (kind_of self.now.state.defs clock.0)) }
+        ensures { self.now.told ≡ true → result ≡ is_on (kind_of self.now.state.defs clock.0) self.now.state.regs }
     {
-        gate_state(self.desc.def(clock).kind, &self.window)
+        switch_state(self.desc.def(clock).kind, &self.window)
     }
 
     /// The row of a clock, if it is registered.
@@ -57,7 +55,7 @@ impl<B: Bank> Machine<B> {
             prepare: self.count(Hold::Prepare, clock),
             protect: self.protect_count(),
             rate: self.rate_of(clock),
-            on: self.gate(clock),
+            on: self.switch(clock),
         })
     }
 }

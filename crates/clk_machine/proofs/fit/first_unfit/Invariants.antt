@@ -1,5 +1,5 @@
 use Rattle.std.proofs.Common.{◌≡◌, ℕ, ◌<◌, true}
-use Rattle.clk_machine.specs.Held.{can_run}
+use Rattle.clk_machine.specs.Fit.{can_run}
 use Rattle.clk_machine.proofs.fit.first_unfit.Given as goal
 
 -- the clocks before the next one pass

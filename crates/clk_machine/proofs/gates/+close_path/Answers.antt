@@ -19,8 +19,8 @@ close_gate-requires g t c =
 pub returns-in-Some-clause-words : goal.returns-in-Some-clause-words
 returns-in-Some-clause-words g t c =
     let defs = c.args.desc.now.defs in
-    let after : ℕ → _ = is_held c.args.clocks.now (clocks_of is_enabled c.args.handles.now) in
-    let up : ℕ → Option ℕ = link_in c.args.clocks.now in
+    let after : ℕ → _ = is_held c.args.tree.now.clocks (clocks_of is_enabled c.args.handles.now) in
+    let up : ℕ → Option ℕ = link_in c.args.tree.now.clocks in
     let own : c.if-not-is_enabled_above.window.words ≡ closed defs after (c.args.clock.0 ∷ []) c.args.window.now.words =
     elim c.if-not-is_enabled_above.branch [
       | then-not-is_enabled_above w ↦ ap (λ window. window.words) w.window-is
@@ -29,14 +29,14 @@ returns-in-Some-clause-words g t c =
       | else-not-is_enabled_above w ↦ closed_kept defs after c.args.clock.0 _ _
           (sym c.is_enabled_above.ensures ∙ w.if-not-is_enabled_above.false) (ap (λ window. window.words) w.window-is)
     ] in
-    closed_above defs after up c.args.levels c.args.clock.0 c.link_of.result c.in-Some.parent c.args.window.now.words c.if-not-is_enabled_above.window.words c.close_path.new.window.words
-    (omega arith) c.link_of.ensures c.in-Some.is own c.close_path.ensures.words
+    closed_above defs after up c.args.levels c.args.clock.0 c.parent.result c.in-Some.parent c.args.window.now.words c.if-not-is_enabled_above.window.words c.close_path.new.window.words
+    (omega arith) c.parent.ensures.link c.in-Some.is own c.close_path.ensures.words
 
 pub returns-in_default-clause-words : goal.returns-in_default-clause-words
 returns-in_default-clause-words g t c =
     let defs = c.args.desc.now.defs in
-    let after : ℕ → _ = is_held c.args.clocks.now (clocks_of is_enabled c.args.handles.now) in
-    let up : ℕ → Option ℕ = link_in c.args.clocks.now in
+    let after : ℕ → _ = is_held c.args.tree.now.clocks (clocks_of is_enabled c.args.handles.now) in
+    let up : ℕ → Option ℕ = link_in c.args.tree.now.clocks in
     let own : c.if-not-is_enabled_above.window.words ≡ closed defs after (c.args.clock.0 ∷ []) c.args.window.now.words =
     elim c.if-not-is_enabled_above.branch [
       | then-not-is_enabled_above w ↦ ap (λ window. window.words) w.window-is
@@ -45,6 +45,6 @@ returns-in_default-clause-words g t c =
       | else-not-is_enabled_above w ↦ closed_kept defs after c.args.clock.0 _ _
           (sym c.is_enabled_above.ensures ∙ w.if-not-is_enabled_above.false) (ap (λ window. window.words) w.window-is)
     ] in
-    let none : c.link_of.result ≡ None = cc in
-    closed_root defs after up c.args.levels c.args.clock.0 c.link_of.result c.args.window.now.words c.if-not-is_enabled_above.window.words
-    (omega arith) c.link_of.ensures none own
+    let none : c.parent.result ≡ None = cc in
+    closed_root defs after up c.args.levels c.args.clock.0 c.parent.result c.args.window.now.words c.if-not-is_enabled_above.window.words
+    (omega arith) c.parent.ensures.link none own

@@ -12,8 +12,8 @@ use Rattle.clk_machine.proofs.gates.+open_path.Goals.{in-Some, in_default}
 
 pub open_gate-requires : goal.open_gate-requires
 open_gate-requires g t c =
-    let size : c.match-link_of.window.size ≡ c.args.desc.now.words =
-    elim c.match-link_of.branch [
+    let size : c.match-parent.window.size ≡ c.args.desc.now.words =
+    elim c.match-parent.branch [
       | in-Some w ↦ ap (λ window. window.size) w.window-is ∙ w.open_path.ensures.size ∙ c.requires.words
       | in_default w ↦ ap (λ window. window.size) w.window-is ∙ c.requires.words
     ] in
@@ -24,27 +24,27 @@ open_gate-requires g t c =
 pub returns-then-not-is_enabled_above-clause-words : goal.returns-then-not-is_enabled_above-clause-words
 returns-then-not-is_enabled_above-clause-words g t c =
     let defs = c.args.desc.now.defs in
-    let before : ℕ → _ = is_held c.args.clocks.now (clocks_of is_enabled c.args.handles.now) in
-    let up : ℕ → Option ℕ = link_in c.args.clocks.now in
+    let before : ℕ → _ = is_held c.args.tree.now.clocks (clocks_of is_enabled c.args.handles.now) in
+    let up : ℕ → Option ℕ = link_in c.args.tree.now.clocks in
     let some : 0 < c.args.levels = omega arith in
-    let first : c.match-link_of.window.words ≡ opened defs before (above up (c.args.levels - 1) (up c.args.clock.0)) c.args.window.now.words =
-    elim c.match-link_of.branch [
-      | in-Some w ↦ ap (λ window. window.words) w.window-is ∙ opened_above defs before up (c.args.levels - 1) c.args.clock.0 c.link_of.result _ _ _ c.link_of.ensures w.in-Some.is w.open_path.ensures.words
-      | in_default w ↦ ap (λ window. window.words) w.window-is ∙ opened_none defs before up (c.args.levels - 1) c.args.clock.0 c.link_of.result _ c.link_of.ensures (cc)
+    let first : c.match-parent.window.words ≡ opened defs before (above up (c.args.levels - 1) (up c.args.clock.0)) c.args.window.now.words =
+    elim c.match-parent.branch [
+      | in-Some w ↦ ap (λ window. window.words) w.window-is ∙ opened_above defs before up (c.args.levels - 1) c.args.clock.0 c.parent.result _ _ _ c.parent.ensures.link w.in-Some.is w.open_path.ensures.words
+      | in_default w ↦ ap (λ window. window.words) w.window-is ∙ opened_none defs before up (c.args.levels - 1) c.args.clock.0 c.parent.result _ c.parent.ensures.link (cc)
     ] in
-    opened_own defs before up c.args.levels c.args.clock.0 c.def.result.now.kind c.args.window.now.words c.match-link_of.window.words c.open_gate.new.window.words
+    opened_own defs before up c.args.levels c.args.clock.0 c.def.result.now.kind c.args.window.now.words c.match-parent.window.words c.open_gate.new.window.words
     some (ap (λ def. def.kind) c.def.ensures.def) (sym c.is_enabled_above.ensures ∙ c.if-not-is_enabled_above.true) first c.open_gate.ensures.words
 
 pub returns-else-not-is_enabled_above-clause-words : goal.returns-else-not-is_enabled_above-clause-words
 returns-else-not-is_enabled_above-clause-words g t c =
     let defs = c.args.desc.now.defs in
-    let before : ℕ → _ = is_held c.args.clocks.now (clocks_of is_enabled c.args.handles.now) in
-    let up : ℕ → Option ℕ = link_in c.args.clocks.now in
+    let before : ℕ → _ = is_held c.args.tree.now.clocks (clocks_of is_enabled c.args.handles.now) in
+    let up : ℕ → Option ℕ = link_in c.args.tree.now.clocks in
     let some : 0 < c.args.levels = omega arith in
-    let first : c.match-link_of.window.words ≡ opened defs before (above up (c.args.levels - 1) (up c.args.clock.0)) c.args.window.now.words =
-    elim c.match-link_of.branch [
-      | in-Some w ↦ ap (λ window. window.words) w.window-is ∙ opened_above defs before up (c.args.levels - 1) c.args.clock.0 c.link_of.result _ _ _ c.link_of.ensures w.in-Some.is w.open_path.ensures.words
-      | in_default w ↦ ap (λ window. window.words) w.window-is ∙ opened_none defs before up (c.args.levels - 1) c.args.clock.0 c.link_of.result _ c.link_of.ensures (cc)
+    let first : c.match-parent.window.words ≡ opened defs before (above up (c.args.levels - 1) (up c.args.clock.0)) c.args.window.now.words =
+    elim c.match-parent.branch [
+      | in-Some w ↦ ap (λ window. window.words) w.window-is ∙ opened_above defs before up (c.args.levels - 1) c.args.clock.0 c.parent.result _ _ _ c.parent.ensures.link w.in-Some.is w.open_path.ensures.words
+      | in_default w ↦ ap (λ window. window.words) w.window-is ∙ opened_none defs before up (c.args.levels - 1) c.args.clock.0 c.parent.result _ c.parent.ensures.link (cc)
     ] in
-    opened_already defs before up c.args.levels c.args.clock.0 c.args.window.now.words c.match-link_of.window.words some
+    opened_already defs before up c.args.levels c.args.clock.0 c.args.window.now.words c.match-parent.window.words some
     (sym c.is_enabled_above.ensures ∙ c.if-not-is_enabled_above.false) first

@@ -1,5 +1,5 @@
-use Rattle.clk_machine.proofs.Standing.{fed_everywhere}
+use Rattle.clk_machine.proofs.AlwaysFed.{always_fed_by}
 use Rattle.clk_machine.proofs.laws.always_fed.Goals as goal
 
 pub returns : goal.returns
-returns c = fed_everywhere
+returns c = always_fed_by

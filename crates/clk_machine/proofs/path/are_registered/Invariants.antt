@@ -7,4 +7,4 @@ use Rattle.clk_machine.proofs.path.are_registered.Given as goal
 -- whether all are registered is up to those that are left
 abbrev pub invariant-loop-clock : goal.invariant-loop-clock
 invariant-loop-clock l =
-    list_all (registered l.clocks) (places l.wanted) ≡ list_all (registered l.clocks) (places (drop l.clock-index l.wanted))
+    list_all (registered l.tree.clocks) (places l.wanted) ≡ list_all (registered l.tree.clocks) (places (drop l.clock-index l.wanted))

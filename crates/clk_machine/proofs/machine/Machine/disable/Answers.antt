@@ -15,7 +15,7 @@ returns-in_default g c =
 pub returns-then-row-eq0 : goal.returns-then-row-eq0
 returns-then-row-eq0 g c =
     takes_unchanged c.args.self.now c.spend-then-row-eq0.new.self c.args.driver (Disable c.args.number) Warn c.requires
-    (disable-warned c.args.self.now.state c.args.driver c.args.number c.in-Some.row (sym c.own.ensures.row ∙ c.in-Some.is) c.if-row-eq0.true) c.spend-then-row-eq0.ensures.spends (λ k. refl)
+    (λ _ _. disable-warned c.args.self.now.state c.args.driver c.args.number c.in-Some.row (sym c.own.ensures.row ∙ c.in-Some.is) c.if-row-eq0.true) c.spend-then-row-eq0.ensures.spends (λ k. refl)
 
 pub returns : goal.returns
 returns g c =

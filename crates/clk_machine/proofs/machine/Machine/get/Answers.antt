@@ -33,9 +33,9 @@ returns-clause-ok g c =
     let s = c.args.self.now.state in
     takes_beside c.args.self.now c.add_handle.new.self c.args.driver (Begin (Get c.args.found))
     (reply.Handle (record { number = c.in_ok-number.number; slot = c.in_ok-number.number; driver = c.args.driver })) (given s c.args.driver c.in-Some.clock.0).0 c.requires.credit
-    (ap (λ (found : Option ClockId). next s c.args.driver (Begin (Get found))) c.in-Some.is
+    (λ _ _. ap (λ (found : Option ClockId). next s c.args.driver (Begin (Get found))) c.in-Some.is
     ∙ get-given s c.args.driver c.in-Some.clock c.is_rooted.ensures.quiet (sym c.is_rooted.ensures.rooted ∙ c.if-not-is_rooted.false)
     ∙ ap (λ (n : ℕ). paid s ((given s c.args.driver c.in-Some.clock.0).0, Done (reply.Handle (record { number = n; slot = 0; driver = c.args.driver })))) (sym c.in_ok-number.ensures.number))
     (λ k. active-append s _ k refl)
     (ap (λ (h : Held). h.told) c.in_ok-number.ensures.ok) (ap (λ (h : Held). h.size) c.in_ok-number.ensures.ok) (ap (λ (h : Held). h.state) c.in_ok-number.ensures.ok)
-    (record { defs = refl; credits = refl; ignore_unused = refl }) refl refl (λ k. refl)
+    (record { defs = refl; credits = refl; ignore_unused = refl }) refl (λ k. refl)

@@ -1,5 +1,4 @@
 use Rattle.std.proofs.Common.{sym}
-use Rattle.clk_base.specs.Places.{places}
 use Rattle.clk_machine.proofs.Rows.{protects_none}
 use Rattle.clk_machine.proofs.machine.Machine.protect_count.Goals as goal
 
@@ -7,4 +6,4 @@ pub returns : goal.returns
 returns g c =
     let m = c.self.inside in
     rw (← c.self.view_is) (λ k within.
-    sym (protects_none m.desc m.window m.clocks.items (places m.order.items) m.handles.items m.credits m.spent m.ignore_unused k c.self.invariant within))
+    sym (protects_none m.desc m.window m.tree m.handles.items m.credits m.spent m.ignore_unused k c.self.invariant within))

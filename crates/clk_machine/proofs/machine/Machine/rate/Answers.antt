@@ -19,7 +19,7 @@ pub returns : goal.returns
 returns g c =
     let s = c.args.self.now.state in
     takes_beside c.args.self.now c.spend-2.new.self c.args.driver (Begin (GetRate c.args.handle)) (Rate c.rate_of-rate.result) s c.requires
-    (rate-told s c.args.driver c.args.handle c.in-Some.row c.own.ensures.quiet (sym c.own.ensures.row ∙ c.in-Some.is)
-    ∙ ap (λ (r : ℕ). paid s (s, Done (Rate r))) (sym c.rate_of-rate.ensures))
+    (λ tells _. rate-told s c.args.driver c.args.handle c.in-Some.row c.own.ensures.quiet (sym c.own.ensures.row ∙ c.in-Some.is)
+    ∙ ap (λ (r : ℕ). paid s (s, Done (Rate r))) (sym (c.rate_of-rate.ensures tells)))
     (λ k. refl) (ap (λ (h : Held). h.told) c.spend-2.ensures.spends) (ap (λ (h : Held). h.size) c.spend-2.ensures.spends) (ap (λ (h : Held). h.state) c.spend-2.ensures.spends)
-    (record { defs = refl; credits = refl; ignore_unused = refl }) refl refl (λ k. refl)
+    (record { defs = refl; credits = refl; ignore_unused = refl }) refl (λ k. refl)

@@ -1,21 +1,11 @@
-use Rattle.std.proofs.Common.{◌∙◌, ap, List, [], ℕ}
-use Rattle.std.specs.Prelude.{unwrap_or}
-use Rattle.clk_base.specs.Places.{places}
-use Rattle.clk_model.specs.declared.row.ClockRow.{ClockRow}
-use Rattle.clk_model.specs.Rate.{rate, rate_within}
-use Rattle.clk_machine.proofs.Shapes.{links_lie}
+use Rattle.std.proofs.Common.{◌≡◌, ◌∙◌, true}
+use Rattle.std.specs.Prelude.{is_some}
+use Rattle.clk_model.specs.State.{registered}
+use Rattle.clk_machine.proofs.Rows.{kept_at}
 use Rattle.clk_machine.proofs.machine.Machine.rate_of.Goals as goal
 
-pub rate_above-requires-clause-links : goal.rate_above-requires-clause-links
-rate_above-requires-clause-links g c =
-    let m = c.self.inside in
-    rw c.deref.ensures.value (links_lie m.desc m.window m.clocks.items (places m.order.items) m.handles.items m.credits m.spent c.self.invariant)
-
 pub returns : goal.returns
-unfolding rate
 returns g c =
     let m = c.self.inside in
-    rw (← c.self.view_is)
-    (c.rate_above.ensures (unwrap_or m.window.words [])
-    ∙ ap (λ (n : ℕ). rate_within m.desc.defs (unwrap_or m.window.words []) c.deref.result.now n c.args.clock.0) c.depth.ensures
-    ∙ ap (λ (rows : List ClockRow). rate m.desc.defs (unwrap_or m.window.words []) rows c.args.clock.0) c.deref.ensures.value)
+    let here : registered m.tree.clocks c.args.clock.0 ≡ true = rw (← c.self.view_is) at c.requires in
+    rw (← c.self.view_is) (λ told. c.rate.ensures.rate ∙ kept_at m.desc.defs m.window.words m.tree.clocks m.tree.rates c.args.clock.0 c.self.invariant.kept here told)

@@ -18,7 +18,7 @@ pub returns-then-runs : goal.returns-then-runs
 returns-then-runs g c =
     let s = c.args.self.now.state in
     takes_unchanged c.args.self.now c.spend-2.new.self c.args.driver (Running c.args.number) Yes c.requires
-    (running-told s c.args.driver c.args.number c.in-Some.row (sym c.own.ensures.row ∙ c.in-Some.is)
+    (λ _ _. running-told s c.args.driver c.args.number c.in-Some.row (sym c.own.ensures.row ∙ c.in-Some.is)
     ∙ ap (λ (b : Bool). paid s (s, Done (if b then Yes else No))) (sym c.is_active-runs.ensures ∙ c.if-runs.true))
     c.spend-2.ensures.spends (λ k. refl)
 
@@ -26,6 +26,6 @@ pub returns-else-runs : goal.returns-else-runs
 returns-else-runs g c =
     let s = c.args.self.now.state in
     takes_unchanged c.args.self.now c.spend-2.new.self c.args.driver (Running c.args.number) No c.requires
-    (running-told s c.args.driver c.args.number c.in-Some.row (sym c.own.ensures.row ∙ c.in-Some.is)
+    (λ _ _. running-told s c.args.driver c.args.number c.in-Some.row (sym c.own.ensures.row ∙ c.in-Some.is)
     ∙ ap (λ (b : Bool). paid s (s, Done (if b then Yes else No))) (sym c.is_active-runs.ensures ∙ c.if-runs.false))
     c.spend-2.ensures.spends (λ k. refl)

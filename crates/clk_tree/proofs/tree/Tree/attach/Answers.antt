@@ -23,3 +23,6 @@ invariant_of-self c =
     held_attached m.desc.defs m.clocks.items c.deref.result.now (places m.order.items) (places c.move_to_front.new.order.items) m.rates.items
     (deque_capacity m.order) (deque_capacity c.move_to_front.new.order) c.args.c.0 c.args.p c.row_of.result
     c.self.invariant place there can c.row_of.ensures c.deref.ensures.value c.move_to_front.ensures.order c.move_to_front.ensures.capacity
+
+pub returns-clause-stands : goal.returns-clause-stands
+returns-clause-stands c = (invariant_of-self c).tree

@@ -24,3 +24,6 @@ invariant_of-result c =
     (subst (λ (rs : List ClockRow). IsHeld defs rs (places c.in_ok-order.order.items) c.in_ok-rates.rates.items (deque_capacity c.in_ok-order.order)) (sym rows)
     (subst (λ (cs : List ℕ). IsHeld defs (replicate (length defs) unregistered_row) cs c.in_ok-rates.rates.items (deque_capacity c.in_ok-order.order)) (sym order)
     (tree_made defs c.in_ok-rates.rates.items (deque_capacity c.in_ok-order.order) rated fits)))
+
+pub returns-clause-stands : goal.returns-clause-stands
+returns-clause-stands c = (invariant_of-result c).tree

@@ -10,3 +10,6 @@ invariant_of-self c =
     let place : c.args.c.0 < length m.desc.defs = rw (← c.self.view_is) at c.requires.place in
     held_requested m.desc.defs m.clocks.items c.deref.result.now (places m.order.items) m.rates.items (deque_capacity m.order)
     c.args.c.0 c.args.rate c.row_of.result c.self.invariant place c.row_of.ensures c.deref.ensures.value
+
+pub returns-clause-stands : goal.returns-clause-stands
+returns-clause-stands c = (invariant_of-self c).tree

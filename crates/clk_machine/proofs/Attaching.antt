@@ -1,0 +1,181 @@
+-- A registration whose possible parents are registered: it is all that is done, and the state stays sound.
+use Rattle.std.proofs.Common.{◌≡◌, ℕ, ◌<◌, ◌&&◌, ◌||◌, Bool, true, false, cond, not, List, [], ◌∷◌, Option, Some, None, refl, sym, ap, subst, ◌∙◌, ◌⊎◌, inl, inr, arith, length, nat_eq}
+use Rattle.std.specs.Prelude.{filter, slice_set, is_none, option_and_then}
+use Rattle.std.specs.List.{list_all}
+use Rattle.std.specs.Option.{option_map_or}
+use Rattle.std.proofs.lemmas.List.{length-set}
+use Rattle.clk_base.specs.Description.{Description, kind_of, parents_of}
+use Rattle.clk_base.specs.Flags.{is_critical}
+use Rattle.reg_bank.specs.Registers.{Registers}
+use Rattle.clk_model.specs.declared.row.ClockRow.{ClockRow}
+use Rattle.clk_model.specs.Lists.{is_in, without}
+use Rattle.clk_model.specs.Kinds.{is_fixed}
+use Rattle.clk_model.specs.State.{State, row_of, registered, link_in}
+use Rattle.clk_model.specs.Tree.{selected, if_registered, link_given, is_orphan}
+use Rattle.clk_model.specs.Holders.{is_enabled, active}
+use Rattle.clk_model.specs.Begin.{registered_rows, register}
+use Rattle.clk_model.specs.Script.{adoptable}
+use Rattle.clk_model.proofs.Members.{both_right, is_in_cases, same_from_test, test_other, test_same}
+use Rattle.clk_model.proofs.RoundLaws.{is_in-filter}
+use Rattle.clk_model.proofs.WalkLaws.{filter_passes}
+use Rattle.clk_model.proofs.StateLaws.{row_of-set_same, row_of-set_other, filter_none, active_by_handles, held_by-set_unregistered}
+use Rattle.clk_model.proofs.PllLaws.{selected_possible}
+use Rattle.clk_model.proofs.WholePathLaws.{same_or_not, given_link, given_others}
+use Rattle.clk_machine.specs.Sound.{IsSound}
+use Rattle.clk_machine.proofs.Fitting.{all_in, all_from_in, not_critical, no_critical}
+use Rattle.clk_machine.proofs.Soundness.{link_is_registered}
+
+-- ---- rows
+
+or_true : (a : Bool) → (a || true) ≡ true
+or_true true = refl
+or_true false = refl
+
+or_false : (a : Bool) → (a || false) ≡ a
+or_false true = refl
+or_false false = refl
+
+-- a clock that is registered, or was
+pub registered-register : (s : State) (c k : ℕ) → c < length s.clocks → registered (register s c).clocks k ≡ (registered s.clocks k || nat_eq c k)
+unfolding register
+registered-register s c k within = by_test (nat_eq c k) refl where
+  by_test : (t : Bool) → nat_eq c k ≡ t → registered (registered_rows s.defs s.regs s.clocks c) k ≡ (registered s.clocks k || t)
+  by_test true same =
+      ap (λ (n : ℕ). registered (registered_rows s.defs s.regs s.clocks c) n) (sym (same_from_test c k same))
+      ∙ ap (λ (r : ClockRow). r.registered) (row_of-set_same s.clocks c _ within) ∙ sym (or_true (registered s.clocks k))
+  by_test false other =
+      ap (λ (r : ClockRow). r.registered) (row_of-set_other s.clocks c _ k (test_other c k other)) ∙ sym (or_false (registered s.clocks k))
+
+-- the clock itself is, what was stays so, and another wasn't
+pub registered-register_same : (s : State) (c : ℕ) → c < length s.clocks → registered (register s c).clocks c ≡ true
+registered-register_same s c within = registered-register s c c within ∙ ap (λ (t : Bool). registered s.clocks c || t) (test_same c) ∙ or_true (registered s.clocks c)
+
+pub registered-register_more : (s : State) (c k : ℕ) → c < length s.clocks → registered s.clocks k ≡ true → registered (register s c).clocks k ≡ true
+registered-register_more s c k within was = registered-register s c k within ∙ ap (λ (t : Bool). t || nat_eq c k) was
+
+pub registered-register_other : (s : State) (c k : ℕ) → (c ≡ k → ⊥) → registered (register s c).clocks k ≡ registered s.clocks k
+unfolding register
+registered-register_other s c k other = ap (λ (r : ClockRow). r.registered) (row_of-set_other s.clocks c _ k other)
+
+-- ---- links
+
+if_there : (clocks : List ClockRow) (o : Option ℕ) → ((p : ℕ) → o ≡ Some p → registered clocks p ≡ true) → option_and_then (if_registered clocks) o ≡ o
+if_there clocks None each = refl
+if_there clocks (Some p) each = ap (λ (t : Bool). cond t (Some p) None) (each p refl)
+
+-- where the possible parents are registered, a registration links the one that the registers select
+pub link_given-selected : (defs : Description) (regs : Registers) (clocks : List ClockRow) (c : ℕ) → list_all (registered clocks) (parents_of defs c) ≡ true
+    → link_given defs regs clocks c ≡ selected defs regs c
+unfolding link_given
+link_given-selected defs regs clocks c parents =
+    if_there clocks (selected defs regs c) (λ p at. all_in (registered clocks) (parents_of defs c) p parents (selected_possible defs regs c p at))
+
+-- the links after it
+pub link_in-register_same : (s : State) (c : ℕ) → c < length s.clocks → list_all (registered s.clocks) (parents_of s.defs c) ≡ true
+    → link_in (register s c).clocks c ≡ selected s.defs s.regs c
+unfolding register
+link_in-register_same s c within parents = given_link s c within ∙ link_given-selected s.defs s.regs s.clocks c parents
+
+pub link_in-register_other : (s : State) (c k : ℕ) → (c ≡ k → ⊥) → link_in (register s c).clocks k ≡ link_in s.clocks k
+unfolding register
+link_in-register_other s c k other = given_others s c k other
+
+-- ---- who is active
+
+-- no clock becomes active
+pub active-register : (words : ℕ) (s : State) (c : ℕ) → IsSound words s → registered s.clocks c ≡ false → (x : ℕ) → active s x ≡ active (register s c) x
+unfolding register
+active-register words s c sound free x =
+    active_by_handles s x (no_critical s sound.runs) sound.no_enable_hold
+    ∙ sym (held_by-set_unregistered s.clocks c _ is_enabled s.handles x (link_is_registered words s sound) free sound.handled)
+    ∙ sym (active_by_handles (register s c) x (no_critical (register s c) sound.runs) sound.no_enable_hold)
+
+-- ---- orphans
+
+-- an orphan of a sound state is a mux whose field selects no parent, so there is none to adopt
+pub adoptable-sound : (words : ℕ) (s : State) → IsSound words s → adoptable s ≡ []
+unfolding link_given
+adoptable-sound words s sound =
+    filter_none (λ a. option_map_or (λ p. true) (link_given s.defs s.regs s.clocks a) false) (filter (is_orphan s.defs s.clocks) s.order)
+    (λ a m.
+    let there : registered s.clocks a ≡ true = sound.attached a (is_in-filter (is_orphan s.defs s.clocks) a s.order m) in
+    let loose : link_in s.clocks a ≡ None = nothing (link_in s.clocks a) (both_right (not (is_fixed (kind_of s.defs a))) _ (filter_passes (is_orphan s.defs s.clocks) a s.order m)) in
+    ap (λ (o : Option ℕ). option_map_or (λ p. true) (option_and_then (if_registered s.clocks) o) false) (sym (sound.selects a there) ∙ loose)) where
+      nothing : (o : Option ℕ) → is_none o ≡ true → o ≡ None
+      nothing None e = refl
+      nothing (Some p) e = absurd cc
+
+-- ---- the state after it
+
+pub IsSound-register : (words : ℕ) (s : State) (c : ℕ) → IsSound words s → c < length s.defs → registered s.clocks c ≡ false
+    → list_all (registered s.clocks) (parents_of s.defs c) ≡ true → IsSound words (register s c)
+unfolding register
+IsSound-register words s c sound within free parents = record {
+  valid = sound.valid;
+  runs = sound.runs;
+  size = sound.size;
+  quiet = sound.quiet;
+  no_enable_hold = sound.no_enable_hold;
+  no_prepare_hold = sound.no_prepare_hold;
+  rows = length-set s.clocks c _ ∙ sound.rows;
+  attached = λ d m. by_place d (is_in_cases d c (without (c ∷ []) s.order) m);
+  unlinked = λ d free'. by_row_unlinked d free' (same_or_not c d);
+  parents = λ d there. by_row_parents d there (same_or_not c d);
+  selects = λ d there. by_row_selects d there (same_or_not c d);
+  handled = λ n h at. more h.clock.0 (sound.handled n h at);
+  balanced = sound.balanced;
+  unpowered = sound.unpowered;
+  open_ = λ d gate act at. sound.open_ d gate (active-register words s c sound free d ∙ act) at;
+} where
+  inside : c < length s.clocks
+  inside = let rows = sound.rows in omega arith
+
+  more : (k : ℕ) → registered s.clocks k ≡ true → registered (register s c).clocks k ≡ true
+  more k was = registered-register_more s c k inside was
+
+  more_all : (xs : List ℕ) → list_all (registered s.clocks) xs ≡ true → list_all (registered (register s c).clocks) xs ≡ true
+  more_all xs all = all_from_in (registered (register s c).clocks) xs (λ x m. more x (all_in (registered s.clocks) xs x all m))
+
+  here : registered (register s c).clocks c ≡ true
+  here = registered-register_same s c inside
+
+  was_there : (d : ℕ) → (c ≡ d → ⊥) → registered (register s c).clocks d ≡ true → registered s.clocks d ≡ true
+  was_there d other there = sym (registered-register_other s c d other) ∙ there
+
+  by_place : (d : ℕ) → (c ≡ d) ⊎ (is_in d (without (c ∷ []) s.order) ≡ true) → registered (register s c).clocks d ≡ true
+  by_place d (inl same) = ap (registered (register s c).clocks) (sym same) ∙ here
+  by_place d (inr m) = more d (sound.attached d (is_in-filter (λ x. not (is_in x (c ∷ []))) d s.order m))
+
+  by_row_unlinked : (d : ℕ) → registered (register s c).clocks d ≡ false → (c ≡ d) ⊎ (c ≡ d → ⊥) → link_in (register s c).clocks d ≡ None
+  by_row_unlinked d free' (inl same) = let no : true ≡ false = sym here ∙ ap (registered (register s c).clocks) same ∙ free' in absurd cc
+  by_row_unlinked d free' (inr other) = link_in-register_other s c d other ∙ sound.unlinked d (sym (registered-register_other s c d other) ∙ free')
+
+  by_row_parents : (d : ℕ) → registered (register s c).clocks d ≡ true → (c ≡ d) ⊎ (c ≡ d → ⊥) → list_all (registered (register s c).clocks) (parents_of s.defs d) ≡ true
+  by_row_parents d there (inl same) = subst (λ (k : ℕ). list_all (registered (register s c).clocks) (parents_of s.defs k) ≡ true) same (more_all (parents_of s.defs c) parents)
+  by_row_parents d there (inr other) = more_all (parents_of s.defs d) (sound.parents d (was_there d other there))
+
+  by_row_selects : (d : ℕ) → registered (register s c).clocks d ≡ true → (c ≡ d) ⊎ (c ≡ d → ⊥) → link_in (register s c).clocks d ≡ selected s.defs s.regs d
+  by_row_selects d there (inl same) = subst (λ (k : ℕ). link_in (register s c).clocks k ≡ selected s.defs s.regs k) same (link_in-register_same s c inside parents)
+  by_row_selects d there (inr other) = link_in-register_other s c d other ∙ sound.selects d (was_there d other there)
+
+-- ---- all that is done
+
+-- such a registration is all that is done: the clock isn't critical, no orphan can be adopted, and no clock becomes active
+pub record RegistersAlone (words : ℕ) (s : State) (c : ℕ) : Type 0 where
+  pub uncritical : is_critical s.defs c ≡ false
+  pub none : adoptable (register s c) ≡ []
+  pub same : (x : ℕ) → active s x ≡ active (register s c) x
+  pub rows : (k : ℕ) → registered (register s c).clocks k ≡ (registered s.clocks k || nat_eq c k)
+  pub sound : IsSound words (register s c)
+
+pub registers_alone : (words : ℕ) (s : State) (c : ℕ) → IsSound words s → c < length s.defs → registered s.clocks c ≡ false
+    → list_all (registered s.clocks) (parents_of s.defs c) ≡ true → RegistersAlone words s c
+registers_alone words s c sound within free parents =
+    let after = IsSound-register words s c sound within free parents in
+    record {
+      uncritical = not_critical s.defs sound.runs c within;
+      none = adoptable-sound words (register s c) after;
+      same = active-register words s c sound free;
+      rows = λ k. registered-register s c k (let rows = sound.rows in omega arith);
+      sound = after;
+    }

@@ -1,0 +1,190 @@
+-- Each event that can come leaves a sound state sound.
+use Rattle.std.proofs.Common.{◌≡◌, ℕ, zero, suc, ◌+◌, ◌-◌, ◌<◌, ◌&&◌, ◌||◌, Bool, true, false, cond, List, [], Option, Some, None, refl, sym, ap, subst, ◌∙◌, arith, nat_eq, nat_lt}
+use Rattle.std.specs.List.{list_all}
+use Rattle.std.proofs.lemmas.Bool.Decides.{nat_tests}
+use Rattle.clk_base.specs.declared.call.Sleeping.{Sleeping}
+use Rattle.clk_base.specs.declared.call.Sleeping.TheVariants as call
+use Rattle.clk_base.specs.declared.event.Event.{Event}
+use Rattle.clk_base.specs.declared.event.Event.TheVariants as event
+use Rattle.clk_base.specs.declared.event.Turn.{Turn}
+use Rattle.clk_base.specs.Description.{parents_of}
+use Rattle.clk_model.specs.declared.row.HandleRow.{HandleRow}
+use Rattle.clk_model.specs.State.{State, registered, handle_at}
+use Rattle.clk_model.specs.Tree.{rooted, path}
+use Rattle.clk_model.specs.Holders.{active}
+use Rattle.clk_model.specs.Gates.{settled}
+use Rattle.clk_model.specs.Begin.{put_handle, own_handle, given, register}
+use Rattle.clk_model.specs.Machine.{paid, next}
+use Rattle.clk_model.proofs.Members.{both_left, not_either}
+use Rattle.clk_model.proofs.StateLaws.{settled-still, active-append}
+use Rattle.clk_model.proofs.EventLaws.{own_is_live, keeps_prepare, holds_something, prepared_once_less, enable-unknown, enable-unprepared, enable-fine, disable-unknown, disable-warned, disable-fine, running-unknown, running-told, get-not_found, get-deferred, get-given, put-unknown, put-busy, put-fine, prepare-unknown, prepare-fine, unprepare-unknown, unprepare-warned, unprepare-fine, rate-unknown, rate-told, parent-unknown, parent-told, probe-twice, probe-fine}
+use Rattle.clk_machine.specs.Fit.{has_pll}
+use Rattle.clk_machine.specs.Sound.{IsSound, CanTake}
+use Rattle.clk_machine.proofs.Fitting.{no_plls}
+use Rattle.clk_machine.proofs.Soundness.{frees-unpowered}
+use Rattle.clk_machine.proofs.Attaching.{registers_alone}
+use Rattle.clk_machine.proofs.Kept.{IsSound-spent, MayHold, IsSound-put, IsSound-given}
+
+-- ---- paid events
+
+-- a paid event leaves what it leaves, with its gates and a credit spent
+paid_leaves : (s y t : State) (a b : Turn) → paid s (y, a) ≡ Some (t, b) → t ≡ record (settled s y) { spent = s.spent + 1 }
+paid_leaves s y t a b comes = by (nat_lt s.spent s.credits) comes where
+  after : State × Turn
+  after = (record (settled s y) { spent = s.spent + 1 }, a)
+
+  inside : {v w : State × Turn} → Some v ≡ Some w → v ≡ w
+  inside e = cc
+
+  by : (c : Bool) → cond c (Some after) None ≡ Some (t, b) → t ≡ record (settled s y) { spent = s.spent + 1 }
+  by true some = sym (ap (λ (v : State × Turn). v.0) (inside some))
+  by false none = absurd cc
+
+-- so an event that is known to come to a state that is sound once its gates are settled leaves it sound
+comes_to : (words : ℕ) (s y t : State) (d : ℕ) (e : Event) (a b : Turn) → IsSound words (settled s y) → next s d e ≡ paid s (y, a) → next s d e ≡ Some (t, b) → IsSound words t
+comes_to words s y t d e a b sound known comes =
+    subst (IsSound words) (sym (paid_leaves s y t a b (sym known ∙ comes))) (IsSound-spent words (settled s y) (s.spent + 1) sound)
+
+-- no gate moves where each clock is active as it was
+stills : (words : ℕ) (s y : State) → ((c : ℕ) → active s c ≡ active y c) → IsSound words y → IsSound words (settled s y)
+stills words s y same sound = subst (IsSound words) (sym (settled-still s y same)) sound
+
+-- an event that leaves the state as it is
+same_sound : (words : ℕ) (s t : State) (d : ℕ) (e : Event) (a b : Turn) → IsSound words s → next s d e ≡ paid s (s, a) → next s d e ≡ Some (t, b) → IsSound words t
+same_sound words s t d e a b sound known comes = comes_to words s s t d e a b (stills words s s (λ c. refl) sound) known comes
+
+-- a handle in the place of another of the same clock
+put_sound : (words : ℕ) (s t : State) (n d : ℕ) (e : Event) (a b : Turn) (old new : HandleRow) → IsSound words s → handle_at s.handles n ≡ Some old → new.clock ≡ old.clock
+    → (0 < new.enables → 0 < new.prepares) → (0 < new.prepares → has_pll s.defs ≡ false)
+    → next s d e ≡ paid s (put_handle s n (Some new), a) → next s d e ≡ Some (t, b) → IsSound words t
+put_sound words s t n d e a b old new sound at clock balanced unpowered known comes =
+    let may : MayHold s new = record { handled = ap (λ (k : _). registered s.clocks k.0) clock ∙ sound.handled n old at; balanced = balanced; unpowered = unpowered } in
+    comes_to words s (put_handle s n (Some new)) t d e a b (IsSound-put words s n (Some new) sound (λ h is. subst (MayHold s) (inside is) may)) known comes where
+      inside : {x y : HandleRow} → Some x ≡ Some y → x ≡ y
+      inside e = cc
+
+-- ---- the enable tier
+
+enable_sound : (words : ℕ) (s t : State) (d n : ℕ) (x : Turn) → IsSound words s → next s d (event.Enable n) ≡ Some (t, x) → IsSound words t
+enable_sound words s t d n x sound comes = by (own_handle s d n) refl where
+  prepared : (h : HandleRow) (p : ℕ) → own_handle s d n ≡ Some h → h.prepares ≡ p → IsSound words t
+  prepared h zero own none = same_sound words s t d (event.Enable n) _ x sound (enable-unprepared s d n h own none) comes
+  prepared h (suc p) own some =
+      let at = own_is_live s d n h own in
+      let positive : 0 < h.prepares = omega arith in
+      put_sound words s t n d (event.Enable n) _ x h (record h { enables = h.enables + 1 }) sound at refl
+      (λ more. positive) (sound.unpowered n h at) (enable-fine s d n h own positive) comes
+
+  by : (o : Option HandleRow) → own_handle s d n ≡ o → IsSound words t
+  by None lacks = same_sound words s t d (event.Enable n) _ x sound (enable-unknown s d n lacks) comes
+  by (Some h) own = prepared h h.prepares own refl
+
+disable_sound : (words : ℕ) (s t : State) (d n : ℕ) (x : Turn) → IsSound words s → next s d (event.Disable n) ≡ Some (t, x) → IsSound words t
+disable_sound words s t d n x sound comes = by (own_handle s d n) refl where
+  enabled : (h : HandleRow) (k : ℕ) → own_handle s d n ≡ Some h → h.enables ≡ k → IsSound words t
+  enabled h zero own none = same_sound words s t d (event.Disable n) _ x sound (disable-warned s d n h own none) comes
+  enabled h (suc k) own some =
+      let at = own_is_live s d n h own in
+      put_sound words s t n d (event.Disable n) _ x h (record h { enables = h.enables - 1 }) sound at refl
+      (λ more. sound.balanced n h at (omega arith)) (sound.unpowered n h at) (disable-fine s d n h own (omega arith)) comes
+
+  by : (o : Option HandleRow) → own_handle s d n ≡ o → IsSound words t
+  by None lacks = same_sound words s t d (event.Disable n) _ x sound (disable-unknown s d n lacks) comes
+  by (Some h) own = enabled h h.enables own refl
+
+running_sound : (words : ℕ) (s t : State) (d n : ℕ) (x : Turn) → IsSound words s → next s d (event.Running n) ≡ Some (t, x) → IsSound words t
+running_sound words s t d n x sound comes = by (own_handle s d n) refl where
+  by : (o : Option HandleRow) → own_handle s d n ≡ o → IsSound words t
+  by None lacks = same_sound words s t d (event.Running n) _ x sound (running-unknown s d n lacks) comes
+  by (Some h) own = same_sound words s t d (event.Running n) _ x sound (running-told s d n h own) comes
+
+-- ---- calls
+
+-- what is left of the prepares of a handle that can give one up
+some_left : (p e : ℕ) → (nat_eq p 0 || (nat_eq p 1 && nat_lt 0 e)) ≡ false → 0 < e → 0 < p - 1
+some_left p e free more = by (not_either (nat_eq p 0) (nat_eq p 1 && nat_lt 0 e) free) where
+  other : (a b : Bool) → (a && b) ≡ false → b ≡ true → a ≡ false
+  other true b none on = let no : true ≡ false = sym on ∙ none in cc
+  other false b none on = refl
+
+  by : (nat_eq p 0 ≡ false) × ((nat_eq p 1 && nat_lt 0 e) ≡ false) → 0 < p - 1
+  by both =
+      let some : nat_eq p 0 ≡ false = both.0 in
+      let two : nat_eq p 1 ≡ false = other (nat_eq p 1) (nat_lt 0 e) both.1 (grind (arith, nat_tests)) in
+      let more_than_none : 0 < p = grind (arith, nat_tests) in
+      let not_one : (p ≡ 1) → ⊥ = (λ is. let no : nat_eq p 1 ≡ true = grind (arith, nat_tests) in let never : true ≡ false = sym no ∙ two in cc) in
+      grind (arith, nat_tests)
+
+begin_sound : (words : ℕ) (s t : State) (d : ℕ) (what : Sleeping) (x : Turn) → IsSound words s → CanTake s (event.Begin what) → next s d (event.Begin what) ≡ Some (t, x) → IsSound words t
+begin_sound words s t d (call.Get None) x sound can comes =
+    same_sound words s t d (event.Begin (call.Get None)) _ x sound (get-not_found s d sound.quiet) comes
+begin_sound words s t d (call.Get (Some c)) x sound can comes = by (rooted s.defs s.clocks c.0) refl where
+  by : (b : Bool) → rooted s.defs s.clocks c.0 ≡ b → IsSound words t
+  by true fast =
+      comes_to words s (given s d c.0).0 t d (event.Begin (call.Get (Some c))) _ x
+      (stills words s (given s d c.0).0 (λ k. active-append s _ k refl) (IsSound-given words s d c.0 sound (both_left (registered s.clocks c.0) _ fast)))
+      (get-given s d c sound.quiet fast) comes
+  by false loose = same_sound words s t d (event.Begin (call.Get (Some c))) _ x sound (get-deferred s d c sound.quiet loose) comes
+begin_sound words s t d (call.Put h) x sound can comes = by (own_handle s d h.number) refl where
+  held : (row : HandleRow) (b : Bool) → own_handle s d h.number ≡ Some row → holds_something row ≡ b → IsSound words t
+  held row true own holds = same_sound words s t d (event.Begin (call.Put h)) _ x sound (put-busy s d h row sound.quiet own holds) comes
+  held row false own free =
+      comes_to words s (put_handle s h.number None) t d (event.Begin (call.Put h)) _ x
+      (IsSound-put words s h.number None sound (λ g is. absurd cc)) (put-fine s d h row sound.quiet own free) comes
+
+  by : (o : Option HandleRow) → own_handle s d h.number ≡ o → IsSound words t
+  by None lacks = same_sound words s t d (event.Begin (call.Put h)) _ x sound (put-unknown s d h sound.quiet lacks) comes
+  by (Some row) own = held row (holds_something row) own refl
+begin_sound words s t d (call.Prepare h) x sound can comes = by (own_handle s d h.number) refl where
+  by : (o : Option HandleRow) → own_handle s d h.number ≡ o → IsSound words t
+  by None lacks = same_sound words s t d (event.Begin (call.Prepare h)) _ x sound (prepare-unknown s d h sound.quiet lacks) comes
+  by (Some row) own =
+      put_sound words s t h.number d (event.Begin (call.Prepare h)) _ x row (record row { prepares = row.prepares + 1 }) sound (own_is_live s d h.number row own) refl
+      (λ more. omega arith) (λ more. can.1) (prepare-fine s d h row sound.quiet own (no_plls s (path s.clocks row.clock.0) can.1)) comes
+begin_sound words s t d (call.Unprepare h) x sound can comes = by (own_handle s d h.number) refl where
+  kept : (row : HandleRow) (b : Bool) → own_handle s d h.number ≡ Some row → keeps_prepare row ≡ b → IsSound words t
+  kept row true own keeps = same_sound words s t d (event.Begin (call.Unprepare h)) _ x sound (unprepare-warned s d h row sound.quiet own keeps) comes
+  kept row false own free =
+      let at = own_is_live s d h.number row own in
+      let none : has_pll s.defs ≡ false = frees-unpowered words s sound h.number row at free in
+      put_sound words s t h.number d (event.Begin (call.Unprepare h)) _ x row (record row { prepares = row.prepares - 1 }) sound at refl
+      (some_left row.prepares row.enables free) (λ more. none)
+      (unprepare-fine s d h row sound.quiet own free (no_plls (prepared_once_less s h.number row) (path s.clocks row.clock.0) none)) comes
+
+  by : (o : Option HandleRow) → own_handle s d h.number ≡ o → IsSound words t
+  by None lacks = same_sound words s t d (event.Begin (call.Unprepare h)) _ x sound (unprepare-unknown s d h sound.quiet lacks) comes
+  by (Some row) own = kept row (keeps_prepare row) own refl
+begin_sound words s t d (call.GetRate h) x sound can comes = by (own_handle s d h.number) refl where
+  by : (o : Option HandleRow) → own_handle s d h.number ≡ o → IsSound words t
+  by None lacks = same_sound words s t d (event.Begin (call.GetRate h)) _ x sound (rate-unknown s d h sound.quiet lacks) comes
+  by (Some row) own = same_sound words s t d (event.Begin (call.GetRate h)) _ x sound (rate-told s d h row sound.quiet own) comes
+begin_sound words s t d (call.GetParent h) x sound can comes = by (own_handle s d h.number) refl where
+  by : (o : Option HandleRow) → own_handle s d h.number ≡ o → IsSound words t
+  by None lacks = same_sound words s t d (event.Begin (call.GetParent h)) _ x sound (parent-unknown s d h sound.quiet lacks) comes
+  by (Some row) own = same_sound words s t d (event.Begin (call.GetParent h)) _ x sound (parent-told s d h row sound.quiet own) comes
+begin_sound words s t d (call.Probe c) x sound can comes = by (registered s.clocks c.0) refl where
+  by : (b : Bool) → registered s.clocks c.0 ≡ b → IsSound words t
+  by true there = same_sound words s t d (event.Begin (call.Probe c)) _ x sound (probe-twice s d c sound.quiet there) comes
+  by false free =
+      let alone = registers_alone words s c.0 sound can.0 free can.1 in
+      comes_to words s (register s c.0) t d (event.Begin (call.Probe c)) _ x (stills words s (register s c.0) alone.same alone.sound)
+      (probe-fine s d c sound.quiet free alone.none alone.uncritical) comes
+begin_sound words s t d (call.RoundRate h r) x sound can comes = absurd can.1
+begin_sound words s t d (call.SetRate h r) x sound can comes = absurd can.1
+begin_sound words s t d (call.SetRateExclusive h r) x sound can comes = absurd can.1
+begin_sound words s t d (call.SetRange h least most) x sound can comes = absurd can.1
+begin_sound words s t d (call.SetParent h p) x sound can comes = absurd can.1
+begin_sound words s t d (call.ExclusiveGet h) x sound can comes = absurd can.1
+begin_sound words s t d (call.ExclusivePut h) x sound can comes = absurd can.1
+begin_sound words s t d (call.NotifierAdd h id priority policy) x sound can comes = absurd can.1
+begin_sound words s t d (call.NotifierRemove h id) x sound can comes = absurd can.1
+begin_sound words s t d call.Sweep x sound can comes = absurd can.1
+
+-- ---- each event
+
+pub sound_next : (words : ℕ) (s t : State) (d : ℕ) (e : Event) (x : Turn) → IsSound words s → CanTake s e → next s d e ≡ Some (t, x) → IsSound words t
+sound_next words s t d (event.Enable n) x sound can comes = enable_sound words s t d n x sound comes
+sound_next words s t d (event.Disable n) x sound can comes = disable_sound words s t d n x sound comes
+sound_next words s t d (event.Running n) x sound can comes = running_sound words s t d n x sound comes
+sound_next words s t d (event.Begin what) x sound can comes = begin_sound words s t d what x sound can comes
+sound_next words s t d (event.Step m answer) x sound can comes = absurd can

@@ -1,0 +1,82 @@
+-- What a description says whose clocks can all be run.
+use Rattle.std.proofs.Common.{◌≡◌, ℕ, zero, suc, ◌<◌, ◌&&◌, Bool, true, false, not, cond, List, [], ◌∷◌, Option, None, refl, ap, sym, ◌∙◌, inl, inr, arith, length, nat_lt}
+use Rattle.std.specs.List.{list_all}
+use Rattle.std.proofs.lemmas.Bool.Decides.{nat_tests}
+use Rattle.std.proofs.lemmas.List.{get_or_past}
+use Rattle.clk_base.specs.declared.clock.ClockDef.{ClockDef}
+use Rattle.clk_base.specs.declared.clock.Kind.{Kind}
+use Rattle.clk_base.specs.declared.clock.Kind.TheVariants.{FixedRate, Factor, Gate, Mux, Divider, Pll}
+use Rattle.clk_base.specs.Description.{Description, nobody, kind_of, parents_of}
+use Rattle.clk_base.specs.Fields.{PowerBit, power_of}
+use Rattle.clk_base.specs.Flags.{is_critical, sets_rate_gate}
+use Rattle.clk_model.specs.Lists.{is_in}
+use Rattle.clk_model.specs.Kinds.{is_pll}
+use Rattle.clk_model.specs.State.{State}
+use Rattle.clk_model.specs.Holders.{critical_clocks, prepared}
+use Rattle.clk_model.specs.Script.{unprepared_plls}
+use Rattle.clk_model.proofs.Members.{both_left, both_right, not_either, is_in_head, is_in_tail, is_in_cases}
+use Rattle.clk_model.proofs.StateLaws.{critical_clocks-none}
+use Rattle.clk_machine.specs.Fit.{CanRun, has_pll}
+
+-- ---- tests on all members of a list
+
+-- a member of a list that passes does
+pub all_in : (test : ℕ → Bool) (xs : List ℕ) (x : ℕ) → list_all test xs ≡ true → is_in x xs ≡ true → test x ≡ true
+all_in test [] x passes m = absurd cc
+all_in test (y ∷ xs) x passes m = elim (is_in_cases x y xs m) [
+  | inl here ↦ ap test (sym here) ∙ both_left (test y) (list_all test xs) passes
+  | inr later ↦ all_in test xs x (both_right (test y) (list_all test xs) passes) later
+]
+
+-- and where each member does, the list does
+pub all_from_in : (test : ℕ → Bool) (xs : List ℕ) → ((x : ℕ) → is_in x xs ≡ true → test x ≡ true) → list_all test xs ≡ true
+all_from_in test [] each = refl
+all_from_in test (x ∷ xs) each =
+    ap (λ (t : Bool). t && list_all test xs) (each x (is_in_head x xs)) ∙ all_from_in test xs (λ y m. each y (is_in_tail y x xs m))
+
+-- ---- clocks that can be run
+
+not_true : (a : Bool) → not a ≡ true → a ≡ false
+not_true true h = absurd cc
+not_true false h = refl
+
+pub not_critical : (defs : Description) → CanRun defs → (c : ℕ) → c < length defs → is_critical defs c ≡ false
+not_critical defs runs c within = not_true _ (both_right _ _ (both_left _ _ (runs c within)))
+
+pub not_guarding : (defs : Description) → CanRun defs → (c : ℕ) → c < length defs → sets_rate_gate defs c ≡ false
+not_guarding defs runs c within = not_true _ (both_right _ _ (runs c within))
+
+-- a possible parent is an earlier clock
+pub earlier_parent : (defs : Description) → CanRun defs → (c p : ℕ) → c < length defs → is_in p (parents_of defs c) ≡ true → p < c
+earlier_parent defs runs c p within m =
+    let earlier : nat_lt p c ≡ true = all_in (λ q. nat_lt q c) (parents_of defs c) p (both_left _ _ (both_left _ _ (runs c within))) m in
+    grind (arith, nat_tests)
+
+pub no_critical : (s : State) → CanRun s.defs → critical_clocks s ≡ []
+no_critical s runs = critical_clocks-none s (not_critical s.defs runs)
+
+-- ---- descriptions without a PLL
+
+-- where there is no PLL, no clock is one, also beyond the description
+pub no_pll : (defs : Description) (c : ℕ) → has_pll defs ≡ false → is_pll (kind_of defs c) ≡ false
+no_pll [] c none = ap (λ (d : ClockDef). is_pll d.kind) (get_or_past [] c nobody (omega arith))
+no_pll (d ∷ defs) zero none = (not_either (is_pll d.kind) (has_pll defs) none).0
+no_pll (d ∷ defs) (suc c) none = no_pll defs c (not_either (is_pll d.kind) (has_pll defs) none).1
+
+unpowered_kind : (kind : Kind) → is_pll kind ≡ false → power_of kind ≡ None
+unpowered_kind (FixedRate rate) other = refl
+unpowered_kind (Factor mult div) other = refl
+unpowered_kind (Gate word bit set_to_disable) other = refl
+unpowered_kind (Mux word shift width read_only) other = refl
+unpowered_kind (Divider word shift width one_based power_of_two) other = refl
+unpowered_kind (Pll word shift width power_word power_bit least most m) other = absurd cc
+
+-- no clock has a power bit
+pub no_power : (defs : Description) (c : ℕ) → has_pll defs ≡ false → power_of (kind_of defs c) ≡ None
+no_power defs c none = unpowered_kind (kind_of defs c) (no_pll defs c none)
+
+-- and there is none to raise or to lower
+pub no_plls : (s : State) (cs : List ℕ) → has_pll s.defs ≡ false → unprepared_plls s cs ≡ []
+no_plls s [] none = refl
+no_plls s (c ∷ cs) none =
+    ap (λ (t : Bool). cond (t && not (prepared s c)) (c ∷ unprepared_plls s cs) (unprepared_plls s cs)) (no_pll s.defs c none) ∙ no_plls s cs none

@@ -1,0 +1,76 @@
+use Rattle.std.proofs.Common.{◌≡◌, ◌<◌, ◌∙◌, sym, ap, subst, arith, length, take, List, Option, ℕ, true}
+use Rattle.std.specs.Prelude.{IfSome, slice_index}
+use Rattle.std.specs.Option.{option_map}
+use Rattle.std.proofs.lemmas.List.{length-set}
+use Rattle.clk_base.specs.Description.{Description, parents_of}
+use Rattle.clk_base.specs.Valid.{IsValid}
+use Rattle.clk_model.specs.declared.row.ClockRow.{ClockRow}
+use Rattle.clk_model.specs.State.{registered}
+use Rattle.clk_model.specs.Rate.{rate}
+use Rattle.clk_model.specs.Tree.{selected}
+use Rattle.clk_model.specs.Begin.{registered_rows}
+use Rattle.clk_tree.specs.TreeState.{attached, requested}
+use Rattle.clk_machine.specs.Held.{AreKept}
+use Rattle.clk_machine.proofs.Registering.{parent_there, kept_registered, rows_registered, registered-registered, row_within}
+use Rattle.clk_machine.proofs.register.register_clock.Goals as goal
+
+pub attach-requires-clause-there : goal.attach-requires-clause-there
+attach-requires-clause-there g c =
+    parent_there c.args.tree.now.clocks (parents_of c.args.desc.now.defs c.args.clock.0) c.selected_parent-parent.result c.requires.parents c.selected_parent-parent.ensures.possible
+
+pub returns-clause-rows : goal.returns-clause-rows
+returns-clause-rows g c = λ k.
+    let clocks = c.args.tree.now.clocks in
+    let parent = c.selected_parent-parent.result in
+    let many : length c.attach.new.self.clocks ≡ length c.args.desc.now.defs =
+    c.attach.ensures.stands.rows ∙ ap (λ (d : Description). length d) (c.attach.ensures.defs ∙ c.requires.made) in
+    let within : c.args.clock.0 < length clocks = row_within clocks c.attach.new.self.clocks c.args.clock.0 (length c.args.desc.now.defs) parent c.attach.ensures.link many c.requires.place in
+    let inside : c.args.clock.0 < length (attached clocks c.args.clock.0 parent) =
+    subst (λ (rs : List ClockRow). c.args.clock.0 < length rs) c.attach.ensures.link (let place = c.requires.place in omega arith) in
+    ap (λ (rs : List ClockRow). registered rs k)
+    (c.set_last_request.ensures.request ∙ ap (λ (rs : List ClockRow). requested rs c.args.clock.0 c.rate-rate.result) (c.refresh_all.ensures.rows ∙ c.attach.ensures.link))
+    ∙ registered-registered clocks c.args.clock.0 parent c.rate-rate.result k within inside
+
+pub returns-clause-clocks : goal.returns-clause-clocks
+returns-clause-clocks g c =
+    let desc = c.args.desc.now in
+    let clocks = c.args.tree.now.clocks in
+    let parent = c.selected_parent-parent.result in
+    let contents = g.B.Bank.contents c.bank.result.now in
+    let many : length c.attach.new.self.clocks ≡ length desc.defs =
+    c.attach.ensures.stands.rows ∙ ap (λ (d : Description). length d) (c.attach.ensures.defs ∙ c.requires.made) in
+    let within : c.args.clock.0 < length clocks = row_within clocks c.attach.new.self.clocks c.args.clock.0 (length desc.defs) parent c.attach.ensures.link many c.requires.place in
+    let words : option_map (take desc.words) contents ≡ c.args.window.now.words =
+    ap (λ (n : ℕ). option_map (take n) contents) (sym c.requires.words) ∙ c.bank.ensures.words in
+    let chosen : IfSome (option_map (take desc.words) contents) (λ regs. option_map (λ p. p.0) parent ≡ selected desc.defs regs c.args.clock.0) =
+    subst (λ (o : Option (List ℕ)). IfSome o (λ regs. option_map (λ p. p.0) parent ≡ selected desc.defs regs c.args.clock.0)) (sym words) c.selected_parent-parent.ensures.selected in
+    let fresh : IfSome contents (λ regs. (k : ℕ) → registered (attached clocks c.args.clock.0 parent) k ≡ true
+    → slice_index c.refresh_all.new.self.rates k ≡ rate desc.defs regs (attached clocks c.args.clock.0 parent) k) =
+    subst (λ (rs : List ClockRow). IfSome contents (λ regs. (k : ℕ) → registered rs k ≡ true → slice_index c.refresh_all.new.self.rates k ≡ rate desc.defs regs rs k)) c.attach.ensures.link
+    (subst (λ (d : Description). IfSome contents (λ regs. (k : ℕ) → registered c.attach.new.self.clocks k ≡ true → slice_index c.refresh_all.new.self.rates k ≡ rate d regs c.attach.new.self.clocks k))
+    (c.attach.ensures.defs ∙ c.requires.made) c.refresh_all.ensures.rates) in
+    let rows : c.set_last_request.new.self.clocks ≡ requested (attached clocks c.args.clock.0 parent) c.args.clock.0 (slice_index c.refresh_all.new.self.rates c.args.clock.0) =
+    c.set_last_request.ensures.request ∙ ap (λ (rs : List ClockRow). requested rs c.args.clock.0 c.rate-rate.result) (c.refresh_all.ensures.rows ∙ c.attach.ensures.link)
+    ∙ ap (λ (r : ℕ). requested (attached clocks c.args.clock.0 parent) c.args.clock.0 r) c.rate-rate.ensures.rate in
+    subst (λ (o : Option (List ℕ)). IfSome o (λ regs. c.set_last_request.new.self.clocks ≡ registered_rows desc.defs regs clocks c.args.clock.0)) words
+    (subst (λ (rs : List ClockRow). IfSome (option_map (take desc.words) contents) (λ regs. rs ≡ registered_rows desc.defs regs clocks c.args.clock.0)) (sym rows)
+    (rows_registered desc.words contents desc.defs clocks c.refresh_all.new.self.rates c.args.clock.0 parent c.selected_parent-parent.ensures.valid within c.requires.parents chosen fresh))
+
+pub returns-clause-kept : goal.returns-clause-kept
+returns-clause-kept g c =
+    let desc = c.args.desc.now in
+    let contents = g.B.Bank.contents c.bank.result.now in
+    let mid = c.refresh_all.new.self.clocks in
+    let words : option_map (take desc.words) contents ≡ c.args.window.now.words =
+    ap (λ (n : ℕ). option_map (take n) contents) (sym c.requires.words) ∙ c.bank.ensures.words in
+    let inside : c.args.clock.0 < length mid =
+    (let many : length mid ≡ length desc.defs = c.refresh_all.ensures.stands.rows ∙ ap (λ (d : Description). length d) (c.refresh_all.ensures.defs ∙ c.attach.ensures.defs ∙ c.requires.made) in
+    let place = c.requires.place in omega arith) in
+    let fresh : IfSome contents (λ regs. (k : ℕ) → registered mid k ≡ true → slice_index c.refresh_all.new.self.rates k ≡ rate desc.defs regs mid k) =
+    subst (λ (rs : List ClockRow). IfSome contents (λ regs. (k : ℕ) → registered rs k ≡ true → slice_index c.refresh_all.new.self.rates k ≡ rate desc.defs regs rs k)) (sym c.refresh_all.ensures.rows)
+    (subst (λ (d : Description). IfSome contents (λ regs. (k : ℕ) → registered c.attach.new.self.clocks k ≡ true → slice_index c.refresh_all.new.self.rates k ≡ rate d regs c.attach.new.self.clocks k))
+    (c.attach.ensures.defs ∙ c.requires.made) c.refresh_all.ensures.rates) in
+    subst (λ (o : Option (List ℕ)). AreKept desc.defs o c.set_last_request.new.self.clocks c.set_last_request.new.self.rates) words
+    (subst (λ (rs : List ClockRow). AreKept desc.defs (option_map (take desc.words) contents) rs c.set_last_request.new.self.rates) (sym c.set_last_request.ensures.request)
+    (subst (λ (found : List ℕ). AreKept desc.defs (option_map (take desc.words) contents) (requested mid c.args.clock.0 c.rate-rate.result) found) (sym c.set_last_request.ensures.rates)
+    (kept_registered desc.words contents desc.defs mid c.refresh_all.new.self.rates c.args.clock.0 c.rate-rate.result c.selected_parent-parent.ensures.valid inside fresh)))
