@@ -1,6 +1,6 @@
 -- A registration whose possible parents are registered: it is all that is done, and the state stays sound.
-use Rattle.std.proofs.Common.{◌≡◌, ℕ, ◌<◌, ◌&&◌, ◌||◌, Bool, true, false, cond, not, List, [], ◌∷◌, Option, Some, None, refl, sym, ap, subst, ◌∙◌, ◌⊎◌, inl, inr, arith, length, nat_eq}
-use Rattle.std.specs.Prelude.{filter, slice_set, is_none, option_and_then}
+use Rattle.std.proofs.Common.{◌≡◌, ℕ, ◌<◌, ◌||◌, Bool, true, false, cond, not, List, [], ◌∷◌, Option, Some, None, refl, sym, ap, subst, ◌∙◌, ◌⊎◌, inl, inr, arith, length, nat_eq}
+use Rattle.std.specs.Prelude.{filter, is_none, option_and_then}
 use Rattle.std.specs.List.{list_all}
 use Rattle.std.specs.Option.{option_map_or}
 use Rattle.std.proofs.lemmas.List.{length-set}
@@ -10,7 +10,7 @@ use Rattle.reg_bank.specs.Registers.{Registers}
 use Rattle.clk_model.specs.declared.row.ClockRow.{ClockRow}
 use Rattle.clk_model.specs.Lists.{is_in, without}
 use Rattle.clk_model.specs.Kinds.{is_fixed}
-use Rattle.clk_model.specs.State.{State, row_of, registered, link_in}
+use Rattle.clk_model.specs.State.{State, registered, link_in}
 use Rattle.clk_model.specs.Tree.{selected, if_registered, link_given, is_orphan}
 use Rattle.clk_model.specs.Holders.{is_enabled, active}
 use Rattle.clk_model.specs.Begin.{registered_rows, register}

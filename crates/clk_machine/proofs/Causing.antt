@@ -1,5 +1,5 @@
 -- Replies of a core that rests have their causes.
-use Rattle.std.proofs.Common.{◌≡◌, ℕ, true, List, Some, refl, sym, subst, length}
+use Rattle.std.proofs.Common.{◌≡◌, ℕ, true, List, refl, sym, subst, length}
 use Rattle.clk_base.specs.declared.call.Sleeping.{Sleeping}
 use Rattle.clk_base.specs.declared.event.Event.{Event}
 use Rattle.clk_base.specs.declared.event.Event.TheVariants as event
@@ -8,7 +8,6 @@ use Rattle.clk_base.specs.declared.event.Reply.TheVariants as reply
 use Rattle.clk_base.specs.declared.event.Turn.TheVariants as turn
 use Rattle.clk_model.specs.State.{State}
 use Rattle.clk_model.specs.Journal.{slotless, replay, is_paid}
-use Rattle.clk_model.specs.Machine.{next}
 use Rattle.clk_model.specs.Causes.{is_refusal, BeginCauses, LeavesRefused}
 use Rattle.clk_model.proofs.RefusalLaws.{refused_keeps}
 use Rattle.clk_machine.specs.Sound.{IsSound, IsPlaced, CanBegin}

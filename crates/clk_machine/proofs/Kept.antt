@@ -1,7 +1,7 @@
 -- What keeps a state sound: a credit spent, a handle that changes, is new or is put back.
-use Rattle.std.proofs.Common.{◌≡◌, ℕ, zero, suc, ◌+◌, ◌<◌, List, [], ◌∷◌, ◌++◌, Bool, false, true, Option, Some, None, refl, sym, ap, subst, ◌∙◌, ◌⊎◌, inl, inr, arith, length, set}
+use Rattle.std.proofs.Common.{◌≡◌, ℕ, ◌<◌, false, true, Option, Some, refl, sym, ap, subst, ◌∙◌, inl, inr, arith, length, set}
 use Rattle.clk_base.specs.Description.{kind_of}
-use Rattle.clk_base.specs.Fields.{GateBit, bit_field, gate_of}
+use Rattle.clk_base.specs.Fields.{bit_field}
 use Rattle.clk_base.proofs.Valid.{gate-field}
 use Rattle.clk_model.specs.declared.row.HandleRow.{HandleRow}
 use Rattle.clk_model.specs.Lists.{count_from}
@@ -18,7 +18,7 @@ use Rattle.clk_model.proofs.GateRateLaws.{selected-moved}
 use Rattle.clk_model.proofs.StateLaws.{active-append}
 use Rattle.clk_machine.specs.Fit.{has_pll}
 use Rattle.clk_machine.specs.Sound.{IsSound}
-use Rattle.clk_machine.proofs.Shapes.{handle_at-append}
+use Rattle.clk_machine.proofs.Shapes.{handle_at-put, handle_at-append}
 
 -- ---- credits
 
@@ -48,15 +48,6 @@ pub record MayHold (s : State) (h : HandleRow) : Type 0 where
   pub handled : registered s.clocks h.clock.0 ≡ true
   pub balanced : 0 < h.enables → 0 < h.prepares
   pub unpowered : 0 < h.prepares → has_pll s.defs ≡ false
-
--- a handle that is put, or none, is where it was put, and each other stays
-handle_at-put : (handles : List (Option HandleRow)) (n : ℕ) (o : Option HandleRow) (k : ℕ) (h : HandleRow) → handle_at (set handles n o) k ≡ Some h
-    → (o ≡ Some h) ⊎ (handle_at handles k ≡ Some h)
-handle_at-put [] n o k h at = inr at
-handle_at-put (p ∷ handles) zero o zero h at = inl at
-handle_at-put (p ∷ handles) zero o (suc k) h at = inr at
-handle_at-put (p ∷ handles) (suc n) o zero h at = inr at
-handle_at-put (p ∷ handles) (suc n) o (suc k) h at = handle_at-put handles n o k h at
 
 -- a handle that changes or is put back, with the gates that follow
 pub IsSound-put : (words : ℕ) (s : State) (n : ℕ) (o : Option HandleRow) → IsSound words s → ((h : HandleRow) → o ≡ Some h → MayHold s h)

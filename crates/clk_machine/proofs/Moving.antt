@@ -1,6 +1,6 @@
 -- The parts of a core where the gates of some clocks move.
-use Rattle.std.proofs.Common.{◌≡◌, ℕ, ◌<◌, Bool, true, List, [], Option, Some, None, refl, sym, ap, subst, ◌∙◌, arith, length}
-use Rattle.std.specs.Prelude.{IfSome, is_some, unwrap_or, slice_index}
+use Rattle.std.proofs.Common.{◌≡◌, ℕ, ◌<◌, Bool, true, List, [], Option, Some, None, refl, sym, subst, ◌∙◌, arith, length}
+use Rattle.std.specs.Prelude.{is_some, unwrap_or}
 use Rattle.std.specs.Option.{option_map}
 use Rattle.clk_base.specs.Checked.{Checked}
 use Rattle.clk_base.specs.Description.{Description}
@@ -12,7 +12,6 @@ use Rattle.clk_model.specs.declared.row.HandleRow.{HandleRow}
 use Rattle.clk_model.specs.Lists.{is_in, count_from}
 use Rattle.clk_model.specs.State.{registered, link_in}
 use Rattle.clk_model.specs.Tree.{path}
-use Rattle.clk_model.specs.Rate.{rate}
 use Rattle.clk_model.specs.Gates.{gates_moved}
 use Rattle.clk_model.proofs.Members.{is_in-count_from}
 use Rattle.clk_model.proofs.PathLaws.{path_all}

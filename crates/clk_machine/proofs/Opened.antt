@@ -1,5 +1,5 @@
 -- The parts of a core at its opening.
-use Rattle.std.proofs.Common.{◌≡◌, ℕ, zero, suc, ◌≤◌, true, false, List, [], Option, Some, None, refl, ap, ◌∙◌, arith, length, replicate}
+use Rattle.std.proofs.Common.{◌≡◌, ℕ, zero, suc, ◌≤◌, false, List, [], Option, Some, None, refl, ap, ◌∙◌, arith, length, replicate}
 use Rattle.clk_base.specs.Checked.{Checked}
 use Rattle.clk_base.specs.Valid.{IsValid}
 use Rattle.clk_model.specs.declared.row.ClockRow.{ClockRow}

@@ -12,7 +12,7 @@ use Rattle.clk_model.proofs.EventLaws.{own_is_live, holds_something}
 use Rattle.clk_tree.specs.TreeState.{TreeState}
 use Rattle.clk_machine.specs.Window.{Shown}
 use Rattle.clk_machine.specs.Held.{held_in_all, IsShaped}
-use Rattle.clk_machine.proofs.Shapes.{handle_at-set, handle_at-clear, handle_at-append, sum_by-set, sum_by-clear, sum_by-append, count-le}
+use Rattle.clk_machine.proofs.Shapes.{handle_at-put, handle_at-append, sum_by-set, sum_by-clear, sum_by-append, count-le}
 
 -- other handles, for a credit more
 shaped_handles : (desc : Checked) (window : Shown) (tree : TreeState) (handles handles' : List (Option HandleRow)) (credits spent : ℕ)
@@ -47,8 +47,8 @@ shaped-put desc window tree handles credits spent n old new shape at clock exclu
     let len = length-set handles n (Some new) in
     let sums = sum_by-set held_in_all handles n old new at in
     shaped_handles desc window tree handles (set handles n (Some new)) credits spent shape
-    (λ k h e. elim (handle_at-set handles n new k h e) [
-      | inl is ↦ (
+    (λ k h e. elim (handle_at-put handles n (Some new) k h e) [
+      | inl put ↦ let is : h ≡ new = cc in (
         ap (λ (r : HandleRow). registered tree.clocks r.clock.0) is ∙ ap (λ (c : _). registered tree.clocks c.0) clock ∙ shape.handled n old at,
         ap (λ (r : HandleRow). r.exclusives) is ∙ exclusives ∙ shape.unguarded n old at,
       )
@@ -66,7 +66,10 @@ shaped-cleared desc window tree handles credits spent n shape left =
     let len = length-set handles n None in
     let sums = sum_by-clear held_in_all handles n in
     shaped_handles desc window tree handles (set handles n None) credits spent shape
-    (λ k h e. let was = handle_at-clear handles n k h e in (shape.handled k h was, shape.unguarded k h was))
+    (λ k h e. elim (handle_at-put handles n None k h e) [
+      | inl none ↦ absurd cc
+      | inr was ↦ (shape.handled k h was, shape.unguarded k h was)
+    ])
     left (omega arith) (omega arith)
 
 -- a new handle of a registered clock that holds nothing

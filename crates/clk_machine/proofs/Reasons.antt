@@ -1,20 +1,17 @@
 -- The reply of each call that a sound core can begin has its cause.
-use Rattle.std.proofs.Common.{◌≡◌, ℕ, ◌<◌, ◌||◌, Bool, true, false, List, Some, arith, nat_eq}
-use Rattle.std.proofs.lemmas.Bool.Decides.{nat_tests}
+use Rattle.std.proofs.Common.{◌≡◌, ℕ, Some}
 use Rattle.clk_base.specs.declared.call.Sleeping.{Sleeping}
 use Rattle.clk_base.specs.declared.call.Sleeping.TheVariants as call
 use Rattle.clk_base.specs.declared.event.Event.TheVariants as event
 use Rattle.clk_base.specs.declared.event.Reply.{Reply}
 use Rattle.clk_base.specs.declared.event.Turn.TheVariants as turn
-use Rattle.clk_model.specs.declared.row.HandleRow.{HandleRow}
-use Rattle.clk_model.specs.State.{State, handle_at}
+use Rattle.clk_model.specs.State.{State}
 use Rattle.clk_model.specs.Tree.{path}
 use Rattle.clk_model.specs.Journal.{slotless}
 use Rattle.clk_model.specs.Machine.{next}
 use Rattle.clk_model.specs.Causes.{BeginCauses}
 use Rattle.clk_model.proofs.CauseLaws.{get_causes, put_causes, prepare_causes, unprepare_causes, rate_causes, get_parent_causes, probe_causes}
-use Rattle.clk_model.proofs.EventLaws.{own_is_live, keeps_prepare, prepared_once_less}
-use Rattle.clk_machine.specs.Fit.{has_pll}
+use Rattle.clk_model.proofs.EventLaws.{own_is_live, prepared_once_less}
 use Rattle.clk_machine.specs.Sound.{IsSound, IsPlaced, CanBegin}
 use Rattle.clk_machine.proofs.Fitting.{not_critical, no_plls}
 use Rattle.clk_machine.proofs.Soundness.{frees-unpowered}

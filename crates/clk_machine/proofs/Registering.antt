@@ -15,11 +15,11 @@ use Rattle.clk_base.specs.Fields.{Field, fields_of}
 use Rattle.clk_base.specs.Places.{places}
 use Rattle.clk_base.specs.Valid.{IsValid}
 use Rattle.clk_base.proofs.Valid.{fields-within}
-use Rattle.reg_bank.specs.Registers.{Registers, field}
+use Rattle.reg_bank.specs.Registers.{Registers}
 use Rattle.clk_model.specs.declared.row.ClockRow.{ClockRow}
 use Rattle.clk_model.specs.declared.row.HandleRow.{HandleRow}
 use Rattle.clk_model.specs.Lists.{is_in, to_front}
-use Rattle.clk_model.specs.State.{State, row_of, registered, link_in}
+use Rattle.clk_model.specs.State.{State, row_of, registered}
 use Rattle.clk_model.specs.Tree.{selected}
 use Rattle.clk_model.specs.Rate.{rate}
 use Rattle.clk_model.specs.Begin.{registered_rows, register}
@@ -53,21 +53,6 @@ at-places (p ∷ clocks) (suc n) = at-places clocks n
 pub found_possible : (ps : List ℕ) (n : ℕ) (found : Option ClockId) → option_map (λ p. p.0) found ≡ slice_get ps n → IfSome found (λ p. is_in p.0 ps ≡ true)
 found_possible ps n None e = tt
 found_possible ps n (Some p) e = in-at ps n p.0 (sym e)
-
--- the place that the registers select
-abbrev pub place_in : Kind → Registers → ℕ
-place_in (Mux word shift width read_only) regs = field regs word shift width
-place_in _ regs = 0
-
-pub selected-place : (defs : Description) (regs : Registers) (c : ℕ) → selected defs regs c ≡ slice_get (parents_of defs c) (place_in (kind_of defs c) regs)
-selected-place defs regs c = by (kind_of defs c) refl where
-  by : (kind : Kind) → kind_of defs c ≡ kind → selected defs regs c ≡ slice_get (parents_of defs c) (place_in (kind_of defs c) regs)
-  by (FixedRate rate) is = rw (is) refl
-  by (Factor mult div) is = rw (is) refl
-  by (Gate word bit set_to_disable) is = rw (is) refl
-  by (Mux word shift width read_only) is = rw (is) refl
-  by (Divider word shift width one_based power_of_two) is = rw (is) refl
-  by (Pll word shift width power_word power_bit least most m) is = rw (is) refl
 
 -- the field of a mux lies in the bank
 pub mux_lies : (words : ℕ) (defs : Description) (c word shift width : ℕ) (read_only : Bool) → IsValid words defs → c < length defs

@@ -1,6 +1,6 @@
 -- The counts of a clock by what a core holds.
-use Rattle.std.proofs.Common.{◌≡◌, ℕ, ◌+◌, ◌<◌, ◌≤◌, ◌&&◌, Bool, true, false, not, List, [], Option, Some, None, refl, arith, length, nat_eq, ap}
-use Rattle.std.specs.Prelude.{IfSome, is_some, unwrap_or, filter, sum_by, count_by, slice_index}
+use Rattle.std.proofs.Common.{◌≡◌, ℕ, ◌+◌, ◌<◌, ◌≤◌, Bool, true, List, [], Option, Some, None, refl, arith, length, nat_eq, ap}
+use Rattle.std.specs.Prelude.{is_some, unwrap_or, filter, sum_by, count_by, slice_index}
 use Rattle.clk_base.specs.Checked.{Checked}
 use Rattle.clk_base.specs.Description.{Description}
 use Rattle.clk_model.specs.declared.row.ClockRow.{ClockRow}
@@ -69,11 +69,6 @@ pub protects_none : (desc : Checked) (window : Shown) (tree : TreeState) (handle
 protects_none desc window tree handles credits spent ignore_unused c shape within =
     protect_count-none (state_of desc.defs window.words tree.clocks tree.order handles credits spent ignore_unused) c shape.unguarded
     (not_guarding desc.defs shape.runs) within
-
--- what holds of the words that are told
-pub of_told : (told : Option (List ℕ)) (f : List ℕ → Option Bool) (answer : Option Bool) → IfSome told (λ words. answer ≡ f words) → is_some told ≡ true → answer ≡ f (unwrap_or told [])
-of_told None f answer is h = absurd cc
-of_told (Some words) f answer is h = is
 
 pub fits : (n m : ℕ) → n ≡ m → m ≤ 4194304 → n < 4294967296
 fits n m same few = omega arith

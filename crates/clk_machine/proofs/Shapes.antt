@@ -1,5 +1,5 @@
 -- What the parts of a core say of each clock and each handle.
-use Rattle.std.proofs.Common.{◌≡◌, ℕ, zero, suc, ◌+◌, ◌<◌, ◌≤◌, true, List, [], ◌∷◌, ◌++◌, Option, Some, None, refl, ap, ◌∙◌, ◌⊎◌, inl, inr, arith, length, set}
+use Rattle.std.proofs.Common.{◌≡◌, ℕ, zero, suc, ◌+◌, ◌<◌, ◌≤◌, true, List, [], ◌∷◌, ◌++◌, Option, Some, None, ap, ◌⊎◌, inl, inr, arith, length, set}
 use Rattle.std.proofs.lemmas.List.Sums.{sum_by-cons}
 use Rattle.std.specs.Prelude.{sum_by}
 use Rattle.clk_base.specs.Description.{Description}
@@ -42,22 +42,14 @@ handle-lt [] n h at = absurd cc
 handle-lt (o ∷ handles) zero h at = omega arith
 handle-lt (o ∷ handles) (suc n) h at = let below : n < length handles = handle-lt handles n h at in omega arith
 
--- a handle that is put in another's place
-pub handle_at-set : (handles : List (Option HandleRow)) (n : ℕ) (new : HandleRow) (k : ℕ) (h : HandleRow) → handle_at (set handles n (Some new)) k ≡ Some h
-    → (h ≡ new) ⊎ (handle_at handles k ≡ Some h)
-handle_at-set [] n new k h at = inr at
-handle_at-set (o ∷ handles) zero new zero h at = inl cc
-handle_at-set (o ∷ handles) zero new (suc k) h at = inr at
-handle_at-set (o ∷ handles) (suc n) new zero h at = inr at
-handle_at-set (o ∷ handles) (suc n) new (suc k) h at = handle_at-set handles n new k h at
-
--- a handle that is taken away
-pub handle_at-clear : (handles : List (Option HandleRow)) (n k : ℕ) (h : HandleRow) → handle_at (set handles n None) k ≡ Some h → handle_at handles k ≡ Some h
-handle_at-clear [] n k h at = at
-handle_at-clear (o ∷ handles) zero zero h at = absurd cc
-handle_at-clear (o ∷ handles) zero (suc k) h at = at
-handle_at-clear (o ∷ handles) (suc n) zero h at = at
-handle_at-clear (o ∷ handles) (suc n) (suc k) h at = handle_at-clear handles n k h at
+-- a handle that is put, or none, is where it was put, and each other stays
+pub handle_at-put : (handles : List (Option HandleRow)) (n : ℕ) (o : Option HandleRow) (k : ℕ) (h : HandleRow) → handle_at (set handles n o) k ≡ Some h
+    → (o ≡ Some h) ⊎ (handle_at handles k ≡ Some h)
+handle_at-put [] n o k h at = inr at
+handle_at-put (p ∷ handles) zero o zero h at = inl at
+handle_at-put (p ∷ handles) zero o (suc k) h at = inr at
+handle_at-put (p ∷ handles) (suc n) o zero h at = inr at
+handle_at-put (p ∷ handles) (suc n) o (suc k) h at = handle_at-put handles n o k h at
 
 -- and one that is put behind them
 pub handle_at-append : (handles : List (Option HandleRow)) (new : HandleRow) (k : ℕ) (h : HandleRow) → handle_at (handles ++ Some new ∷ []) k ≡ Some h

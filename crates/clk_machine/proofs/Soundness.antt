@@ -1,16 +1,14 @@
 -- What the rows of a sound state say of links and handles, and that its active clocks are fed.
-use Rattle.std.proofs.Common.{◌≡◌, ℕ, ◌<◌, ◌||◌, ◌&&◌, Bool, true, false, List, [], Option, Some, None, refl, sym, ap, subst, ◌∙◌, arith, length, nat_lt, nat_eq}
+use Rattle.std.proofs.Common.{◌≡◌, ℕ, ◌||◌, ◌&&◌, Bool, true, false, List, Option, Some, None, refl, sym, subst, ◌∙◌, arith, length, nat_lt, nat_eq}
 use Rattle.std.specs.Prelude.{IfSome, IsSome, option_and_then}
-use Rattle.std.specs.List.{list_all}
 use Rattle.std.specs.Option.{option_map_or}
 use Rattle.std.proofs.lemmas.Bool.Decides.{nat_tests}
 use Rattle.std.proofs.lemmas.List.{length-replicate}
 use Rattle.clk_base.specs.Description.{Description, kind_of, parents_of}
-use Rattle.clk_base.specs.Fields.{Field, PowerBit, gate_of, power_of}
+use Rattle.clk_base.specs.Fields.{Field, PowerBit, gate_of}
 use Rattle.clk_base.specs.Valid.{IsValid}
 use Rattle.clk_base.proofs.Valid.{lines_end}
 use Rattle.clk_model.specs.declared.row.HandleRow.{HandleRow}
-use Rattle.clk_model.specs.Lists.{is_in}
 use Rattle.clk_model.specs.Kinds.{mux_field, is_open, is_powered}
 use Rattle.clk_model.specs.State.{State, registered, link_in, handle_at}
 use Rattle.clk_model.specs.Tree.{selected}

@@ -51,12 +51,6 @@ pub record Refreshed (defs : Description) (clocks : List ClockRow) (told : Optio
   pub done : IfSome told (λ regs. (c : ℕ) → c < n → registered clocks c ≡ true → slice_index new c ≡ rate defs regs clocks c)
   pub others : (c : ℕ) → registered clocks c ≡ false → slice_index new c ≡ slice_index old c
 
-pub refreshed_none : (defs : Description) (clocks : List ClockRow) (told : Option Registers) (rates : List ℕ) → Refreshed defs clocks told rates rates 0
-refreshed_none defs clocks told rates = record { places = refl; done = none told; others = λ c free. refl } where
-  none : (told : Option Registers) → IfSome told (λ regs. (c : ℕ) → c < 0 → registered clocks c ≡ true → slice_index rates c ≡ rate defs regs clocks c)
-  none None = tt
-  none (Some regs) = λ c below there. absurd (omega arith)
-
 is_or_before : (c n : ℕ) → c < n + 1 → (c ≡ n) ⊎ (c < n)
 is_or_before c n below =
     elim (nat_eq c n) as (λ t. nat_eq c n ≡ t → (c ≡ n) ⊎ (c < n)) [
@@ -103,10 +97,3 @@ refreshed_set defs clocks told old mid n levels found so_far place there deep is
   ] where
     later : (c : ℕ) → c ≡ n → c < n → ⊥
     later c same before = omega arith
-
--- all clocks
-pub refreshed_rates : (defs : Description) (clocks : List ClockRow) (told : Option Registers) (old new : List ℕ) (n : ℕ)
-    → Refreshed defs clocks told old new n → n ≡ length old
-    → IfSome told (λ regs. (c : ℕ) → c < length old → registered clocks c ≡ true → slice_index new c ≡ rate defs regs clocks c)
-refreshed_rates defs clocks None old new n all is = tt
-refreshed_rates defs clocks (Some regs) old new n all is = λ c below there. all.done c (omega arith) there

@@ -217,19 +217,3 @@ held_requested defs clocks found order rates most c rate row held place is same 
           (tree_requested defs clocks order rates c rate held.tree place);
       room = held.room;
     }
-
--- other kept rates, as many, keep it too
-pub held_rated : (defs : Description) (clocks : List ClockRow) (order rates new : List ℕ) (most : ℕ) → IsHeld defs clocks order rates most → length new ≡ length rates
-    → IsHeld defs clocks order new most
-held_rated defs clocks order rates new most held as_many = record {
-  tree = record {
-    rows = held.tree.rows;
-    rated = as_many ∙ held.tree.rated;
-    linked = held.tree.linked;
-    links = held.tree.links;
-    possible = held.tree.possible;
-    attached = held.tree.attached;
-    once = held.tree.once;
-  };
-  room = held.room;
-}

@@ -1,9 +1,7 @@
 use Rattle.std.proofs.Common.{◌≡◌, ◌<◌, ◌∙◌, sym, ap, subst, arith, length, take, List, Option, ℕ, true}
 use Rattle.std.specs.Prelude.{IfSome, slice_index}
 use Rattle.std.specs.Option.{option_map}
-use Rattle.std.proofs.lemmas.List.{length-set}
 use Rattle.clk_base.specs.Description.{Description, parents_of}
-use Rattle.clk_base.specs.Valid.{IsValid}
 use Rattle.clk_model.specs.declared.row.ClockRow.{ClockRow}
 use Rattle.clk_model.specs.State.{registered}
 use Rattle.clk_model.specs.Rate.{rate}

@@ -1,4 +1,4 @@
-use Rattle.std.proofs.Common.{◌≡◌, ◌∙◌, ap, cond, nat_eq, List, Option, Some, None}
+use Rattle.std.proofs.Common.{◌∙◌, ap, cond, nat_eq, List, Option, Some, None}
 use Rattle.std.specs.Option.{option_map_or}
 use Rattle.clk_model.specs.declared.row.HandleRow.{HandleRow}
 use Rattle.clk_model.specs.State.{handle_at}

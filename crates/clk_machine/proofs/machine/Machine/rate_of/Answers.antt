@@ -1,5 +1,4 @@
 use Rattle.std.proofs.Common.{◌≡◌, ◌∙◌, true}
-use Rattle.std.specs.Prelude.{is_some}
 use Rattle.clk_model.specs.State.{registered}
 use Rattle.clk_machine.proofs.Rows.{kept_at}
 use Rattle.clk_machine.proofs.machine.Machine.rate_of.Goals as goal

@@ -1,5 +1,4 @@
-use Rattle.std.proofs.Common.{◌≡◌, ◌<◌, true, refl}
-use Rattle.std.specs.Prelude.{is_some}
+use Rattle.std.proofs.Common.{◌<◌, refl}
 use Rattle.clk_machine.proofs.Registering.{shaped-registered, state-registered}
 use Rattle.clk_machine.proofs.machine.Machine.register.Goals as goal
 
