@@ -7,9 +7,9 @@ use Rattle.std.specs.Io.KnownBytes.{Appends}
 use Rattle.clk_io.specs.Streams.{AppendsFront}
 use Rattle.drv_scripts.specs.declared.bundle.Bundle.{Bundle}
 use Rattle.clk_base.specs.Checked.{Checked}
-use Rattle.clk_base.specs.Description.{Description}
-use Rattle.clk_base.specs.Plain.{IsPlain}
+use Rattle.clk_base.specs.Description.{Description, EachClock}
 use Rattle.clk_base.specs.declared.command.Command.{Command}
+use Rattle.clk_machine.specs.Fit.{has_earlier_parents}
 use Rattle.clk_machine.specs.Run.{Run}
 use Rattle.drv_scripts.specs.Placed.{IsScript}
 use Rattle.drv_scripts.specs.Spelled.{boot_of}
@@ -17,7 +17,7 @@ use Rattle.std.specs.List.{AllByRecursion}
 use Rattle.clk_model.specs.Journal.{opening}
 use Rattle.clk_model.specs.State.{State}
 use Rattle.clk_run.specs.Runs.{scripts_with, drivers_in, are_built, opening_of, credits_of, run_text, HasRun}
-use Rattle.clk_run.proofs.Fitness.{plain_all}
+use Rattle.clk_run.proofs.Fitness.{earlier_all}
 use Rattle.clk_run.proofs.RunTexts.{follow_many}
 use Rattle.clk_run.proofs.Readiness.{few_credits, drivers_keep, drivers_few, commands_few}
 use Rattle.clk_run.proofs.Leaving.{text_of, bank_back, left_by}
@@ -49,12 +49,13 @@ run_scripts-requires g c =
     record {
       begins = begun.journal;
       credits = omega arith;
-      plain = subst IsPlain defs (plain_all b.desc.defs ready.fit);
+      earlier = subst (λ (ds : Description). EachClock ds (has_earlier_parents ds)) defs (earlier_all b.desc.defs ready.fit);
       boot = boot ∙ ready.boot ∙ ap (λ (ds : Description). boot_of (length ds)) defs;
       few = omega arith;
       placed = subst (λ (ds : Description). AllByRecursion (IsScript (length ds)) run) defs
           (subst (λ (xs : List Script). AllByRecursion (IsScript (length b.desc.defs)) xs) drivers (drivers_keep (IsScript (length b.desc.defs)) mode b ready.sound.scripts));
-      built = subst (λ (xs : List Script). AllByRecursion (λ s. are_built s.commands ≡ true) xs) drivers (drivers_keep (λ s. are_built s.commands ≡ true) mode b ready.built);
+      built = subst (λ (ds : Description). AllByRecursion (λ s. are_built ds s.commands ≡ true) run) defs
+          (subst (λ (xs : List Script). AllByRecursion (λ s. are_built b.desc.defs s.commands ≡ true) xs) drivers (drivers_keep (λ s. are_built b.desc.defs s.commands ≡ true) mode b ready.built));
     }
 
 pub print_run-requires : goal.print_run-requires
