@@ -1,4 +1,4 @@
-use Rattle.std.proofs.Common.{◌≡◌, ℕ, ◌≤◌, true, sum_by, ap, subst, sym, ◌∙◌, arith, length, List}
+use Rattle.std.proofs.Common.{rules, ◌≡◌, ℕ, ◌≤◌, true, sum_by, ap, subst, sym, ◌∙◌, arith, length, List}
 use Rattle.std.specs.Prelude.{is_some, Bool, refl}
 use Rattle.std.proofs.lemmas.List.{length-map}
 use Rattle.clk_base.specs.declared.command.Answer.{Answer}
@@ -119,3 +119,18 @@ returns-in_err-print_run-clause-fault g c =
       run = text_of b c.args.cli.now told _ c.run_scripts.new.core answers printed start begun.told ran c.journal.ensures.fed c.in_ok-registers.ensures;
       printed = subst (AppendsFront (g.K.Sink.written c.args.out.now) (g.K.Sink.written c.print_run.new.out)) text c.in_err-print_run.ensures.prints;
     })
+
+pub returns-in_err-answers-clause-fault : goal.returns-in_err-answers-clause-fault
+returns-in_err-answers-clause-fault g c = search (rules, c.from_residual-in_err-answers.ensures)
+
+pub returns-in_err-answers-clause-cause : goal.returns-in_err-answers-clause-cause
+returns-in_err-answers-clause-cause g c = search (rules, c.from_residual-in_err-answers.ensures)
+
+pub returns-in_err-registers-clause-fault : goal.returns-in_err-registers-clause-fault
+returns-in_err-registers-clause-fault g c = search (rules, c.from_residual-in_err-registers.ensures)
+
+pub returns-in_err-registers-clause-cause : goal.returns-in_err-registers-clause-cause
+returns-in_err-registers-clause-cause g c = search (rules, c.from_residual-in_err-registers.ensures)
+
+pub returns-in_err-print_run-clause-cause : goal.returns-in_err-print_run-clause-cause
+returns-in_err-print_run-clause-cause g c = search (rules, c.from_residual-in_err-print_run.ensures, c.in_err-print_run.ensures.cause)
