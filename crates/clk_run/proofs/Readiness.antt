@@ -11,7 +11,7 @@ use Rattle.drv_scripts.specs.declared.bundle.Bundle.{Bundle}
 use Rattle.drv_scripts.specs.declared.bundle.Script.{Script}
 use Rattle.drv_scripts.specs.Form.{words_end}
 use Rattle.drv_scripts.specs.Placed.{IsSound, IsScript}
-use Rattle.drv_scripts.specs.Spelled.{boot_of, script_at, scripts_of}
+use Rattle.drv_scripts.specs.Spelled.{script_at, scripts_of}
 use Rattle.clk_run.specs.Built.{SpellsRun}
 use Rattle.clk_run.proofs.Fitness.{fit_all, built_all}
 use Rattle.clk_cli.specs.declared.cli.Mode.{Mode}
