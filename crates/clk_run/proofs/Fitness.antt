@@ -1,12 +1,17 @@
--- A bundle without a line of what can't be run has clocks that a core can run.
-use Rattle.std.proofs.Common.{◌≡◌, ◌∙◌, ap, sym, refl, subst, ℕ, zero, suc, ◌+◌, ◌<◌, ◌++◌, Bool, true, false, List, [], ◌∷◌, length, Option, Some, None, min, ◌&&◌, not, slice_index, if◌then◌else◌, arith}
-use Rattle.std.specs.List.{reduce}
+-- A bundle without a line of what can't be run has clocks that a core can run, and commands that can be run over them.
+use Rattle.std.proofs.Common.{◌≡◌, ◌∙◌, ap, refl, ℕ, zero, suc, ◌+◌, ◌<◌, ◌++◌, Bool, true, false, List, [], ◌∷◌, length, Option, Some, None, min, ◌&&◌, not, slice_index, if◌then◌else◌, arith}
+use Rattle.std.specs.List.{reduce, filter_map, cons_option, AllByRecursion}
 use Rattle.bundle_text.specs.Firsts.{onto, said_from}
-use Rattle.clk_base.specs.Description.{Description}
+use Rattle.clk_base.specs.Description.{Description, EachClock}
 use Rattle.clk_base.specs.Flags.{is_critical}
-use Rattle.clk_base.specs.Plain.{is_plain, IsPlain}
-use Rattle.clk_machine.specs.Held.{can_run, CanRun}
-use Rattle.clk_run.specs.Built.{unfit_line, unbuilt_lines, least_unbuilt}
+use Rattle.clk_base.specs.declared.command.Command.{Command}
+use Rattle.clk_machine.specs.Fit.{has_earlier_parents, can_run, CanRun}
+use Rattle.drv_scripts.specs.declared.bundle.Bundle.{Bundle}
+use Rattle.drv_scripts.specs.declared.bundle.Script.{Script}
+use Rattle.clk_run.specs.Scripts.{is_built_act}
+use Rattle.clk_run.specs.Runs.{are_built}
+use Rattle.clk_run.specs.Built.{unfit_line, unbuilt_command, unbuilt_commands, unbuilt_lines, unbuilt_line}
+use Rattle.clk_run.proofs.Going.{and_left, both}
 
 nothing : {X : Type 0} (xs ys : List X) → xs ++ ys ≡ [] → xs ≡ []
 nothing [] ys e = refl
@@ -33,18 +38,45 @@ true_from_none : (b : Bool) (line : ℕ) → (if b then None else Some line) ≡
 true_from_none true line e = refl
 true_from_none false line e = absurd cc
 
+nothing_behind : {X : Type 0} (xs ys : List X) → xs ++ ys ≡ [] → ys ≡ []
+nothing_behind [] ys e = e
+nothing_behind (x ∷ xs) ys e = absurd cc
+
 -- each clock can be run where no line is told
-pub fit_all : (defs : Description) (lines assigned : List ℕ) → least_unbuilt defs lines assigned ≡ None → CanRun defs
+pub fit_all : (b : Bundle) → unbuilt_line b ≡ None → CanRun b.desc.defs
 unfolding unbuilt_lines
-fit_all defs lines assigned e c lt =
-    let none = nothing (said_from (unfit_line defs lines) 0 (length defs)) assigned (least_none _ e) in
+fit_all b e c lt =
+    let defs = b.desc.defs in
+    let lines = b.clock_lines in
+    let none = nothing (said_from (unfit_line defs lines) 0 (length defs)) _ (least_none _ e) in
     let same : c ≡ 0 + c = omega arith in
     true_from_none (can_run defs c) (slice_index lines c) (ap (unfit_line defs lines) same ∙ said_nothing (unfit_line defs lines) 0 (length defs) none c lt)
 
-left_true : (a b : Bool) → (a && b) ≡ true → a ≡ true
-left_true true b e = refl
-left_true false b e = absurd cc
+option_nothing : {X : Type 0} (o : Option X) (xs : List X) → cons_option o xs ≡ [] → (o ≡ None) × (xs ≡ [])
+option_nothing None xs e = (refl, e)
+option_nothing (Some x) xs e = absurd cc
 
--- clocks that can be run are fixed clocks and gates over earlier clocks
-pub plain_all : (defs : Description) → CanRun defs → IsPlain defs
-plain_all defs runs c lt = left_true (is_plain defs c) _ (left_true (is_plain defs c && not (is_critical defs c)) _ (runs c lt))
+commands_built : (defs : Description) (commands : List Command) → filter_map (unbuilt_command defs) commands ≡ [] → are_built defs commands ≡ true
+unfolding unbuilt_command
+commands_built defs [] e = refl
+commands_built defs (c ∷ commands) e =
+    let none = option_nothing (unbuilt_command defs c) (filter_map (unbuilt_command defs) commands) e in
+    both (is_built_act defs c.act) _ (true_from_none (is_built_act defs c.act) c.line none.0) (commands_built defs commands none.1)
+
+drivers_built : (defs : Description) (drivers : List Script) → unbuilt_commands defs drivers ≡ [] → AllByRecursion (λ (s : Script). are_built defs s.commands ≡ true) drivers
+drivers_built defs [] e = tt
+drivers_built defs (s ∷ drivers) e = (
+  commands_built defs s.commands (nothing (filter_map (unbuilt_command defs) s.commands) (unbuilt_commands defs drivers) e),
+  drivers_built defs drivers (nothing_behind (filter_map (unbuilt_command defs) s.commands) (unbuilt_commands defs drivers) e),
+)
+
+-- and each command
+pub built_all : (b : Bundle) → unbuilt_line b ≡ None → AllByRecursion (λ (s : Script). are_built b.desc.defs s.commands ≡ true) b.drivers
+unfolding unbuilt_lines
+built_all b e =
+    drivers_built b.desc.defs b.drivers
+    (nothing_behind b.assigned_lines _ (nothing_behind (said_from (unfit_line b.desc.defs b.clock_lines) 0 (length b.desc.defs)) _ (least_none _ e)))
+
+-- the possible parents of clocks that can be run are earlier clocks
+pub earlier_all : (defs : Description) → CanRun defs → EachClock defs (has_earlier_parents defs)
+earlier_all defs runs c lt = and_left (has_earlier_parents defs c) _ (and_left (has_earlier_parents defs c && not (is_critical defs c)) _ (runs c lt))

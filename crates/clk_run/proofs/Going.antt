@@ -25,8 +25,8 @@ use Rattle.clk_model.specs.Follows.{Variables, variable_count, handle_of, call_o
 use Rattle.clk_model.specs.State.{State}
 use Rattle.clk_machine.specs.Held.{registers}
 use Rattle.clk_machine.specs.Run.{Run, was_probed, Appends}
-use Rattle.clk_base.specs.Description.{Description, parents_of}
-use Rattle.clk_base.specs.Plain.{IsPlain}
+use Rattle.clk_base.specs.Description.{Description, parents_of, EachClock}
+use Rattle.clk_machine.specs.Fit.{has_earlier_parents}
 use Rattle.drv_scripts.specs.Placed.{NamesPlace}
 use Rattle.clk_run.specs.Scripts.{is_built_act, is_answered, AreProbes, CanCall, GoesThrough}
 
@@ -204,7 +204,7 @@ credit_left first mid d held held' commands i answers within goes paid =
     omega (arith, length-take i commands)
 
 -- a command that can be run so far can be run now
-pub can_built : (run : Run) (a : Act) → is_built_act a ≡ true → CanCall run a
+pub can_built : (run : Run) (a : Act) → is_built_act run.start.defs a ≡ true → CanCall run a
 can_built run (act.Get found) h = h
 can_built run act.Put h = h
 can_built run act.Prepare h = h
@@ -273,10 +273,10 @@ no_variables first (c ∷ commands) probes =
     ap (λ (n : ℕ). max n (variable_count commands)) none ∙ ap (λ (n : ℕ). max 0 n) (no_variables (first + 1) commands probes.1) ∙ refl
 
 -- where each possible parent is an earlier clock and the earlier clocks were probed, the clock can be probed
-pub parents_probed : (run : Run) (defs : Description) (c : ℕ) → run.start.defs ≡ defs → IsPlain defs → c < length defs → ((k : ℕ) → k < c → was_probed run.journal k ≡ true)
+pub parents_probed : (run : Run) (defs : Description) (c : ℕ) → run.start.defs ≡ defs → EachClock defs (has_earlier_parents defs) → c < length defs → ((k : ℕ) → k < c → was_probed run.journal k ≡ true)
     → list_all (was_probed run.journal) (parents_of run.start.defs c) ≡ true
-parents_probed run defs c same plain within earlier =
-    ap (λ (d : Description). list_all (was_probed run.journal) (parents_of d c)) same ∙ weaker (parents_of defs c) (and_right _ _ (plain c within)) where
+parents_probed run defs c same before within earlier =
+    ap (λ (d : Description). list_all (was_probed run.journal) (parents_of d c)) same ∙ weaker (parents_of defs c) (before c within) where
       weaker : (ps : List ℕ) → list_all (λ p. nat_lt p c) ps ≡ true → list_all (was_probed run.journal) ps ≡ true
       weaker [] h = refl
       weaker (p ∷ ps) h = both _ _ (earlier p (below p (and_left _ _ h))) (weaker ps (and_right _ _ h)) where
@@ -288,9 +288,9 @@ pub probe_placed : (clocks i : ℕ) (a : Act) → i < clocks → a ≡ act.Probe
 probe_placed clocks i a within is = subst (NamesPlace clocks) (sym is) within
 
 -- and can be registered, where the earlier ones were
-pub probe_can : (run : Run) (defs : Description) (i : ℕ) (a : Act) → run.start.defs ≡ defs → IsPlain defs → i < length defs → ((k : ℕ) → k < i → was_probed run.journal k ≡ true)
+pub probe_can : (run : Run) (defs : Description) (i : ℕ) (a : Act) → run.start.defs ≡ defs → EachClock defs (has_earlier_parents defs) → i < length defs → ((k : ℕ) → k < i → was_probed run.journal k ≡ true)
     → a ≡ act.Probe (record { 0 = i }) → CanCall run a
-probe_can run defs i a same plain within earlier is = subst (CanCall run) (sym is) (parents_probed run defs i same plain within earlier)
+probe_can run defs i a same before within earlier is = subst (CanCall run) (sym is) (parents_probed run defs i same before within earlier)
 
 -- the clocks before the next place were probed, where those before this one were and this one is
 pub probed_more : (run run' : Run) (i : ℕ) → ((k : ℕ) → k < i → was_probed run.journal k ≡ true) → ((k : ℕ) → was_probed run.journal k ≡ true → was_probed run'.journal k ≡ true)

@@ -11,13 +11,12 @@ use Rattle.drv_scripts.specs.declared.bundle.Bundle.{Bundle}
 use Rattle.drv_scripts.specs.declared.bundle.Script.{Script}
 use Rattle.drv_scripts.specs.Form.{words_end}
 use Rattle.drv_scripts.specs.Placed.{IsSound, IsScript}
-use Rattle.drv_scripts.specs.Spelled.{boot_of, script_at, scripts_of}
+use Rattle.drv_scripts.specs.Spelled.{script_at, scripts_of}
 use Rattle.clk_run.specs.Built.{SpellsRun}
-use Rattle.clk_run.proofs.Fitness.{fit_all}
+use Rattle.clk_run.proofs.Fitness.{fit_all, built_all}
 use Rattle.clk_cli.specs.declared.cli.Mode.{Mode}
 use Rattle.clk_cli.specs.declared.cli.Mode.TheVariants.{Check, Sim, Run, Bench}
-use Rattle.clk_run.specs.Runs.{are_built, credits_of, drivers_in, IsReady}
-use Rattle.clk_run.proofs.Acts.{scripts_built}
+use Rattle.clk_run.specs.Runs.{credits_of, drivers_in, IsReady}
 use Rattle.drv_scripts.proofs.Verdicts.{drivers_are, boot_is}
 use Rattle.clk_run.proofs.Going.{length-boot_of}
 
@@ -45,10 +44,10 @@ ready bytes b runs sound =
     let drivers = sym (drivers_are bytes b runs.spelled) in
     record {
       sound = sound;
-      fit = fit_all b.desc.defs b.clock_lines b.assigned_lines runs.built;
+      fit = fit_all b runs.built;
       boot = boot_is bytes b runs.spelled;
       few = subst (λ (found : List Script). length found ≤ 1) drivers (scripts_few b.desc.defs (lines bytes));
-      built = subst (λ (found : List Script). AllByRecursion (λ s. are_built s.commands ≡ true) found) drivers (scripts_built b.desc.defs (lines bytes));
+      built = built_all b runs.built;
     }
 
 sum_few : (clocks : ℕ) (drivers : List Script) → length drivers ≤ 1 → AllByRecursion (IsScript clocks) drivers → sum_by (λ s. length s.commands) drivers ≤ 65536

@@ -1,5 +1,7 @@
--- What is said at places in a row, one place more.
-use Rattle.std.proofs.Common.{◌≡◌, ◌∙◌, ap, sym, refl, ℕ, zero, suc, ◌+◌, ◌++◌, List, [], ◌∷◌, Option, Some, None, arith}
+-- What is said at places in a row, or of items, one more.
+use Rattle.std.proofs.Common.{◌≡◌, ◌∙◌, ap, refl, ℕ, zero, suc, ◌+◌, ◌++◌, List, [], ◌∷◌, Option, Some, None, append_assoc, arith}
+use Rattle.std.proofs.lemmas.List.{append-nil}
+use Rattle.std.specs.List.{cons_option, filter_map}
 use Rattle.std.specs.Option.{option_to_list}
 use Rattle.bundle_text.specs.Firsts.{onto, said_from}
 
@@ -26,3 +28,11 @@ pub said_first : {X : Type 0} (said : ℕ → Option X) (count : ℕ) → said_f
 said_first said count =
     let same : 0 + count ≡ count = omega arith in
     said_next said 0 count ∙ ap (λ (n : ℕ). said_from said 0 count ++ option_to_list (said n)) same
+
+-- what is said of the next item stands in front of what is said of the others
+pub item_more : {X Y : Type 0} (f : X → Option Y) (done : List Y) (o : Option Y) (x : X) (rest : List X) → o ≡ f x
+    → (done ++ option_to_list o) ++ filter_map f rest ≡ done ++ filter_map f (x ∷ rest)
+item_more f done None x rest is =
+    ap (λ (ys : List _). ys ++ filter_map f rest) (append-nil done) ∙ ap (λ (o : Option _). done ++ cons_option o (filter_map f rest)) is
+item_more f done (Some y) x rest is =
+    append_assoc done (y ∷ []) (filter_map f rest) ∙ ap (λ (o : Option _). done ++ cons_option o (filter_map f rest)) is

@@ -1,31 +1,39 @@
 -- What can be run so far: the lines for which a bundle that was read is refused, and the verdict on bytes.
 use Rattle.std.specs.Prelude.{◌≡◌, ◌⊎◌, ℕ, ◌++◌, List, length, Option, Some, None, slice_index, min, if◌then◌else◌}
-use Rattle.std.specs.List.{reduce}
+use Rattle.std.specs.List.{reduce, filter_map, flat_map}
 use Rattle.bundle_text.specs.Firsts.{said_from}
 use Rattle.clk_base.specs.Description.{Description}
-use Rattle.clk_machine.specs.Held.{can_run}
+use Rattle.clk_base.specs.declared.command.Command.{Command}
+use Rattle.clk_machine.specs.Fit.{can_run}
 use Rattle.drv_scripts.specs.declared.bundle.Bundle.{Bundle}
+use Rattle.drv_scripts.specs.declared.bundle.Script.{Script}
 use Rattle.drv_scripts.specs.declared.reason.BundleFault.{BundleFault}
 use Rattle.drv_scripts.specs.declared.reason.BundleFault.TheVariants.{Refused, NoMemory}
 use Rattle.drv_scripts.specs.declared.reason.Reason.{Reason}
 use Rattle.drv_scripts.specs.declared.reason.Reason.TheVariants.{NotYet}
 use Rattle.drv_scripts.specs.Verdict.{Accepts, Refuses}
+use Rattle.clk_run.specs.Scripts.{is_built_act}
 
 -- the line of a clock that no core can run yet
 abbrev pub unfit_line : Description → List ℕ → ℕ → Option ℕ
 unfit_line defs lines c = if can_run defs c then None else Some (slice_index lines c)
 
--- the lines of these clocks, and of the nodes with assigned clocks
-unfoldable pub unbuilt_lines : Description → List ℕ → List ℕ → List ℕ
-unbuilt_lines defs lines assigned_lines = said_from (unfit_line defs lines) 0 (length defs) ++ assigned_lines
+-- the line of a command that can't be run yet over the clocks of a description
+unfoldable pub unbuilt_command : Description → Command → Option ℕ
+unbuilt_command defs command = if is_built_act defs command.act then None else Some command.line
+
+-- the lines of such commands of these drivers
+abbrev pub unbuilt_commands : Description → List Script → List ℕ
+unbuilt_commands defs drivers = flat_map (λ s. filter_map (unbuilt_command defs) s.commands) drivers
+
+-- the lines of these clocks, of the nodes with assigned clocks, and of these commands
+unfoldable pub unbuilt_lines : Bundle → List ℕ
+unbuilt_lines b =
+    said_from (unfit_line b.desc.defs b.clock_lines) 0 (length b.desc.defs) ++ (b.assigned_lines ++ unbuilt_commands b.desc.defs b.drivers)
 
 -- the least of them, if there is one
-abbrev pub least_unbuilt : Description → List ℕ → List ℕ → Option ℕ
-least_unbuilt defs lines assigned_lines = reduce min (unbuilt_lines defs lines assigned_lines)
-
--- the least line of a bundle that can't be run yet
 abbrev pub unbuilt_line : Bundle → Option ℕ
-unbuilt_line b = least_unbuilt b.desc.defs b.clock_lines b.assigned_lines
+unbuilt_line b = reduce min (unbuilt_lines b)
 
 -- the bytes spell the bundle, and all of it can be run
 pub record SpellsRun (bytes : List ℕ) (b : Bundle) : Type 0 where

@@ -22,7 +22,7 @@ use Rattle.drv_scripts.specs.Spelled.{boot_of}
 use Rattle.clk_cli.specs.declared.cli.Cli.{Cli}
 use Rattle.clk_cli.specs.declared.cli.Mode.{Mode}
 use Rattle.clk_cli.specs.declared.cli.Mode.TheVariants.{Check, Sim, Run, Bench}
-use Rattle.clk_machine.specs.Held.{CanRun}
+use Rattle.clk_machine.specs.Fit.{CanRun}
 use Rattle.clk_machine.specs.Run as cores
 use Rattle.clk_run.specs.Scripts.{is_built_act}
 
@@ -98,9 +98,9 @@ pub record IsTextOf (b : Bundle) (cli : Cli) (told : Bool) (words : Registers) (
 
 -- ---- what can be run so far
 
--- whether each of these commands can be run so far
-abbrev pub are_built : List Command → Bool
-are_built commands = list_all (λ c. is_built_act c.act) commands
+-- whether each of these commands can be run so far over the clocks of a description
+abbrev pub are_built : Description → List Command → Bool
+are_built defs commands = list_all (λ c. is_built_act defs c.act) commands
 
 -- ---- cores
 
@@ -120,7 +120,7 @@ pub record IsReady (b : Bundle) : Type 0 where
   pub fit : CanRun b.desc.defs
   pub boot : b.boot ≡ boot_of (length b.desc.defs)
   pub few : length b.drivers ≤ 1
-  pub built : AllByRecursion (λ s. are_built s.commands ≡ true) b.drivers
+  pub built : AllByRecursion (λ s. are_built b.desc.defs s.commands ≡ true) b.drivers
 
 -- ---- what is left behind
 

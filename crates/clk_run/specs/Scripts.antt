@@ -1,7 +1,7 @@
 -- What a core has gone through when it has run the commands of a driver.
-use Rattle.std.specs.Prelude.{◌≡◌, ℕ, ◌+◌, ◌≤◌, ◌==◌, ◌&&◌, List, [], ◌∷◌, ◌++◌, Bool, true, false, Option, Some, None, length}
+use Rattle.std.specs.Prelude.{◌≡◌, ℕ, ◌+◌, ◌≤◌, ◌==◌, ◌&&◌, not, List, [], ◌∷◌, ◌++◌, Bool, true, false, Option, Some, None, length}
 use Rattle.std.specs.List.{list_all}
-use Rattle.clk_base.specs.Description.{parents_of}
+use Rattle.clk_base.specs.Description.{Description, parents_of}
 use Rattle.clk_base.specs.declared.command.Act.{Act}
 use Rattle.clk_base.specs.declared.command.Act.TheVariants as act
 use Rattle.clk_base.specs.declared.command.Answer.{Answer}
@@ -15,23 +15,31 @@ use Rattle.clk_base.specs.declared.handle.Handle.{Handle}
 use Rattle.drv_scripts.specs.Spelled.{probe}
 use Rattle.clk_model.specs.Journal.{Answered, is_paid, calls_from, Legal}
 use Rattle.clk_model.specs.Follows.{Variables, call_of, FollowsFrom}
+use Rattle.clk_machine.specs.Fit.{has_pll}
 use Rattle.clk_machine.specs.Run.{Run, was_probed, Appends}
 
--- the commands of drivers that can be run so far
-abbrev pub is_built_act : Act → Bool
-is_built_act (act.Get found) = true
-is_built_act act.Prepare = true
-is_built_act act.Unprepare = true
-is_built_act act.Enable = true
-is_built_act act.Disable = true
-is_built_act act.Running = true
-is_built_act act.GetRate = true
-is_built_act _ = false
+-- the commands of drivers that can be run so far, where the description has a PLL or has none: a prepare may raise a PLL, which
+-- takes a call that goes on
+abbrev pub is_built_beside : Bool → Act → Bool
+is_built_beside pll (act.Get found) = true
+is_built_beside pll act.Put = true
+is_built_beside pll act.Prepare = not pll
+is_built_beside pll act.Unprepare = true
+is_built_beside pll act.Enable = true
+is_built_beside pll act.Disable = true
+is_built_beside pll act.Running = true
+is_built_beside pll act.GetRate = true
+is_built_beside pll act.GetParent = true
+is_built_beside pll _ = false
+
+-- those that can be run over the clocks of a description
+abbrev pub is_built_act : Description → Act → Bool
+is_built_act defs a = is_built_beside (has_pll defs) a
 
 -- a command that can be run now: one of those, or the registration of a clock whose possible parents were probed
 abbrev pub CanCall : Run → Act → Type 0
 CanCall run (act.Probe c) = list_all (was_probed run.journal) (parents_of run.start.defs c.0) ≡ true
-CanCall run a = is_built_act a ≡ true
+CanCall run a = is_built_act run.start.defs a ≡ true
 
 -- the commands register the clocks from this one on, each in its turn
 abbrev pub AreProbes : ℕ → List Command → Type 0

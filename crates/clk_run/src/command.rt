@@ -6,7 +6,7 @@ ghost use Rattle.clk_base.specs.declared.event.Event.TheVariants.{Begin};
 ghost use Rattle.clk_base.specs.declared.event.Turn.TheVariants.{Done};
 ghost use Rattle.clk_base.specs.declared.command.Act.TheVariants.{Probe};
 ghost use Rattle.clk_model.specs.Follows.{handle_of, with_variable, held_after};
-ghost use Rattle.clk_machine.specs.Held.{IsPlaced};
+ghost use Rattle.clk_machine.specs.Sound.{IsPlaced};
 ghost use Rattle.clk_machine.specs.Run.{is_built, was_probed, Appends};
 ghost use Rattle.drv_scripts.specs.Placed.{NamesPlace};
 ghost use Rattle.clk_run.specs.Scripts.{CanCall, MakesCall, GoesThrough};
@@ -67,6 +67,14 @@ pub(crate) fn make_call<B: Bank>(
         }
         (Act::Unprepare, Some(handle)) => {
             let reply = begin_at_once(core, driver, &Sleeping::Unprepare(handle))?;
+            Ok(Some(reply))
+        }
+        (Act::Put, Some(handle)) => {
+            let reply = begin_at_once(core, driver, &Sleeping::Put(handle))?;
+            Ok(Some(reply))
+        }
+        (Act::GetParent, Some(handle)) => {
+            let reply = begin_at_once(core, driver, &Sleeping::GetParent(handle))?;
             Ok(Some(reply))
         }
         (Act::Enable, Some(handle)) => Ok(Some(core.enable(driver, handle))),

@@ -8,8 +8,9 @@ use crate::unbuilt::least_unbuilt;
 use drv_scripts::{Bundle, BundleFault, Reason, read_bundle};
 use std::alloc::Global;
 
-/// The bundle that bytes spell, where all of it can be run so far. Clocks that no core can run and
-/// nodes with assigned clocks are refused with `NotYet`, at the least of their lines.
+/// The bundle that bytes spell, where all of it can be run so far. Clocks that no core can run,
+/// nodes with assigned clocks, and commands that can't be run, as a `prepare` where a clock is a
+/// PLL, are refused with `NotYet`, at the least of their lines.
 pub fn check_bundle(alloc: Global, bytes: &[u8]) -> Result<Bundle, BundleFault>
     ensures accepted { IfOk result (SpellsRun bytes.now) }
     ensures sound { IfOk result IsSound }
@@ -19,9 +20,7 @@ pub fn check_bundle(alloc: Global, bytes: &[u8]) -> Result<Bundle, BundleFault>
         Ok(bundle) => bundle,
         Err(fault) => return Err(fault),
     };
-    let clock_lines = bundle.clock_lines.as_slice();
-    let assigned_lines = bundle.assigned_lines.as_slice();
-    match least_unbuilt(alloc, &bundle.desc, clock_lines, assigned_lines)? {
+    match least_unbuilt(alloc, &bundle)? {
         None => Ok(bundle),
         Some(line) => Err(BundleFault::Refused {
             line,

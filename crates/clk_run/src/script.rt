@@ -6,7 +6,8 @@ ghost use Rattle.clk_model.specs.Follows.{Variables, variable_count, no_handles}
 ghost use Rattle.drv_scripts.specs.Placed.{NamePlaces};
 ghost use Rattle.clk_run.specs.Scripts.{AreProbes, GoesThrough};
 ghost use Rattle.clk_run.specs.Runs.{are_built};
-ghost use Rattle.clk_base.specs.Plain.{IsPlain};
+ghost use Rattle.clk_base.specs.Description.{EachClock};
+ghost use Rattle.clk_machine.specs.Fit.{has_earlier_parents};
 
 use crate::command::run_command;
 use clk_base::{Answer, Command, Handle};
@@ -37,7 +38,7 @@ pub(crate) fn run_script<B: Bank>(
 ) -> Result<Vec<Answer>, NoMemory>
     requires credits { cost core.old.journal + length commands.now ≤ core.old.start.credits }
     requires places { NamePlaces (length core.old.start.defs) commands.now }
-    requires built { are_built commands.now ≡ true }
+    requires built { are_built core.old.start.defs commands.now ≡ true }
     ensures { IfOk result (λ answers. (held : Variables) × GoesThrough core.old driver (no_handles commands.now) commands.now answers.items held core.new) }
 {
     let mut variables = vec![in alloc; None; variable_count(commands)]?;
@@ -57,7 +58,7 @@ pub(crate) fn run_boot<B: Bank>(
     commands: &[Command],
 ) -> Result<Vec<Answer>, NoMemory>
     requires credits { cost core.old.journal + length commands.now ≤ core.old.start.credits }
-    requires plain { IsPlain core.old.start.defs }
+    requires earlier { EachClock core.old.start.defs (has_earlier_parents core.old.start.defs) }
     requires clocks { length commands.now ≤ length core.old.start.defs }
     requires probes { AreProbes 0 commands.now }
     ensures { IfOk result (λ answers. (held : Variables) × GoesThrough core.old 0 [] commands.now answers.items held core.new) }

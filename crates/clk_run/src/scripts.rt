@@ -2,7 +2,8 @@
 
 ghost use Rattle.std.specs.Prelude.{◌≡◌, ◌≤◌, ◌+◌, [], true, length, sum_by, IfOk};
 ghost use Rattle.std.specs.List.{AllByRecursion};
-ghost use Rattle.clk_base.specs.Plain.{IsPlain};
+ghost use Rattle.clk_base.specs.Description.{EachClock};
+ghost use Rattle.clk_machine.specs.Fit.{has_earlier_parents};
 ghost use Rattle.drv_scripts.specs.Placed.{IsScript};
 ghost use Rattle.drv_scripts.specs.Spelled.{boot_of};
 ghost use Rattle.clk_run.specs.Runs.{are_built, HasRun};
@@ -25,11 +26,11 @@ pub(crate) fn run_scripts<B: Bank>(
 ) -> Result<Vec<Listed<Answer>>, NoMemory>
     requires begins { core.old.journal ≡ [] }
     requires credits { length boot.now + sum_by (λ s. length s.commands) drivers.now ≤ core.old.start.credits }
-    requires plain { IsPlain core.old.start.defs }
+    requires earlier { EachClock core.old.start.defs (has_earlier_parents core.old.start.defs) }
     requires boot { boot.now ≡ boot_of (length core.old.start.defs) }
     requires few { length drivers.now ≤ 65536 }
     requires placed { AllByRecursion (IsScript (length core.old.start.defs)) drivers.now }
-    requires built { AllByRecursion (λ s. are_built s.commands ≡ true) drivers.now }
+    requires built { AllByRecursion (λ s. are_built core.old.start.defs s.commands ≡ true) drivers.now }
     ensures { IfOk result (λ answers. HasRun boot.now drivers.now answers.items core.old core.new) }
 {
     let first = run_boot(alloc, core, boot)?;

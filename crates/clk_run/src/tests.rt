@@ -2,6 +2,8 @@
 
 mod faults;
 mod ill_formed;
+mod kinds;
+mod putting;
 mod reading;
 mod refusals;
 mod rows;

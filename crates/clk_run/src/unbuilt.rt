@@ -1,14 +1,17 @@
 //! What can't be run yet.
 
 ghost use Rattle.std.specs.Prelude.{◌≡◌, ◌<◌, ◌++◌, length, min, IfOk, OnOk};
-ghost use Rattle.std.specs.List.{reduce};
+ghost use Rattle.std.specs.List.{reduce, filter_map};
 ghost use Rattle.std.specs.Option.{option_to_list};
 ghost use Rattle.bundle_text.specs.Firsts.{said_from};
-ghost use Rattle.clk_run.specs.Built.{unfit_line, least_unbuilt};
+ghost use Rattle.clk_machine.specs.Fit.{has_pll};
+ghost use Rattle.clk_run.specs.Scripts.{is_built_beside};
+ghost use Rattle.clk_run.specs.Built.{unfit_line, unbuilt_command, unbuilt_commands, unbuilt_line};
 
-use clk_base::{ClockId, ValidDesc};
+use clk_base::{Act, ClockId, Command, ValidDesc};
 use clk_io::NoMemory;
-use clk_machine::is_fit;
+use clk_machine::{has_pll, is_fit};
+use drv_scripts::{Bundle, Script};
 use std::alloc::Global;
 
 // The line of a clock that no core can run yet.
@@ -53,19 +56,72 @@ fn least(lines: &[u32]) -> Option<u32>
     lines.iter().copied().min()
 }
 
-/// The least line of what can't be run yet: a clock that no core can run, or a node with assigned
-/// clocks.
-#[tactic(auto, unfolding(crate::specs::Built::unbuilt_lines))]
-pub(crate) fn least_unbuilt(
-    alloc: Global,
-    desc: &ValidDesc,
-    clock_lines: &[u32],
-    assigned_lines: &[u32],
-) -> Result<Option<u32>, NoMemory>
-    requires { length clock_lines.now ≡ length desc.now.defs }
-    ensures { IfOk result (λ least. least ≡ least_unbuilt desc.now.defs clock_lines.now assigned_lines.now) }
+// Whether a command can be run so far, where the clocks have a PLL or have none.
+fn is_built(pll: bool, act: Act) -> bool
+    ensures { result ≡ is_built_beside pll act }
 {
-    let mut lines = unfit_lines(alloc, desc, clock_lines)?;
-    lines.extend_from_slice(assigned_lines)?;
+    match act {
+        Act::Get(_)
+        | Act::Put
+        | Act::Unprepare
+        | Act::Enable
+        | Act::Disable
+        | Act::Running
+        | Act::GetRate
+        | Act::GetParent => true,
+        Act::Prepare => !pll,
+        _ => false,
+    }
+}
+
+// The line of a command that can't be run yet.
+#[tactic(auto, unfolding(crate::specs::Built::unbuilt_command))]
+fn unbuilt_command(desc: &ValidDesc, pll: bool, command: &Command) -> Option<u32>
+    requires { pll ≡ has_pll desc.now.defs }
+    ensures { result ≡ unbuilt_command desc.now.defs command.now }
+{
+    if is_built(pll, command.act) {
+        return None;
+    }
+    Some(command.line)
+}
+
+// The lines of such commands of a driver more.
+fn push_commands(
+    lines: &mut Vec<u32>,
+    desc: &ValidDesc,
+    pll: bool,
+    commands: &[Command],
+) -> Result<(), NoMemory>
+    requires { pll ≡ has_pll desc.now.defs }
+    ensures { OnOk result (lines.new.items ≡ lines.old.items ++ filter_map (unbuilt_command desc.now.defs) commands.now) }
+{
+    for command in commands {
+        push_line(lines, unbuilt_command(desc, pll, command))?;
+    }
+    Ok(())
+}
+
+// The lines of such commands of all drivers.
+fn push_drivers(lines: &mut Vec<u32>, desc: &ValidDesc, drivers: &[Script]) -> Result<(), NoMemory>
+    ensures { OnOk result (lines.new.items ≡ lines.old.items ++ unbuilt_commands desc.now.defs drivers.now) }
+{
+    let pll = has_pll(desc);
+    for script in drivers {
+        push_commands(lines, desc, pll, script.commands.as_slice())?;
+    }
+    Ok(())
+}
+
+/// The least line of what can't be run yet: a clock that no core can run, a node with assigned
+/// clocks, or a command.
+#[tactic(auto, unfolding(crate::specs::Built::unbuilt_lines))]
+pub(crate) fn least_unbuilt(alloc: Global, bundle: &Bundle) -> Result<Option<u32>, NoMemory>
+    requires { length bundle.now.clock_lines ≡ length bundle.now.desc.defs }
+    ensures { IfOk result (λ least. least ≡ unbuilt_line bundle.now) }
+{
+    let mut lines = unfit_lines(alloc, &bundle.desc, bundle.clock_lines.as_slice())?;
+    lines.extend_from_slice(bundle.assigned_lines.as_slice())?;
+    push_drivers(&mut lines, &bundle.desc, bundle.drivers.as_slice())?;
     Ok(least(&lines))
 }

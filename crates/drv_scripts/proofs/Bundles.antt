@@ -45,19 +45,22 @@ boot_placed clocks = probes_placed 0 clocks clocks (omega arith)
 
 -- ## Commands
 
-known_acts : (clocks : ℕ) (a b c d e f : Bool)
-    → IfSome (cond a (Some Prepare) (cond b (Some Unprepare) (cond c (Some Enable) (cond d (Some Disable) (cond e (Some Running) (cond f (Some GetRate) None)))))) (NamesPlace clocks)
-known_acts clocks true b c d e f = tt
-known_acts clocks false true c d e f = tt
-known_acts clocks false false true d e f = tt
-known_acts clocks false false false true e f = tt
-known_acts clocks false false false false true f = tt
-known_acts clocks false false false false false true = tt
-known_acts clocks false false false false false false = tt
+either : {X : Type 0} (P : X → Type 0) (b : Bool) (x y : Option X) → IfSome x P → IfSome y P → IfSome (cond b x y) P
+either P true x y p q = p
+either P false x y p q = q
 
 act_of-placed : (clocks : ℕ) (verb : List ℕ) → IfSome (act_of verb) (NamesPlace clocks)
 unfolding act_of
-act_of-placed clocks verb = known_acts clocks _ _ _ _ _ _
+act_of-placed clocks verb =
+    let P = NamesPlace clocks in
+    either P (bytes_eq verb (codes "prepare")) _ _ tt
+    (either P (bytes_eq verb (codes "unprepare")) _ _ tt
+    (either P (bytes_eq verb (codes "enable")) _ _ tt
+    (either P (bytes_eq verb (codes "disable")) _ _ tt
+    (either P (bytes_eq verb (codes "running")) _ _ tt
+    (either P (bytes_eq verb (codes "rate")) _ _ tt
+    (either P (bytes_eq verb (codes "parent")) _ _ tt
+    (either P (bytes_eq verb (codes "put")) _ _ tt tt)))))))
 
 get_placed : (clocks : ℕ) (found : Option ClockId) → ((c : ClockId) → found ≡ Some c → c.0 < clocks) → NamesPlace clocks (Get found)
 get_placed clocks None inside = tt

@@ -4,7 +4,7 @@ use Rattle.std.specs.List.{list_any, position}
 use Rattle.std.specs.Option.{option_map, option_map_or}
 use Rattle.std.specs.Str.{bytes_eq}
 use Rattle.clk_base.specs.declared.command.Act.{Act}
-use Rattle.clk_base.specs.declared.command.Act.TheVariants.{Get, Prepare, Unprepare, Enable, Disable, Running, GetRate}
+use Rattle.clk_base.specs.declared.command.Act.TheVariants.{Get, Prepare, Unprepare, Enable, Disable, Running, GetRate, GetParent, Put}
 use Rattle.clk_base.specs.declared.command.Command.{Command}
 use Rattle.clk_base.specs.Description.{Description, clock_named}
 use Rattle.bundle_text.specs.Names.{is_driver_name, is_variable}
@@ -29,6 +29,8 @@ act_of verb =
     else if bytes_eq verb (codes "disable") then Some Disable
     else if bytes_eq verb (codes "running") then Some Running
     else if bytes_eq verb (codes "rate") then Some GetRate
+    else if bytes_eq verb (codes "parent") then Some GetParent
+    else if bytes_eq verb (codes "put") then Some Put
     else None
 
 -- what the words of a command line say, where they have a form

@@ -47,6 +47,8 @@ fn act_of(verb: &str) -> Option<Act>
         "disable" => Some(Act::Disable),
         "running" => Some(Act::Running),
         "rate" => Some(Act::GetRate),
+        "parent" => Some(Act::GetParent),
+        "put" => Some(Act::Put),
         _ => None,
     }
 }

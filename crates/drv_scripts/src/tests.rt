@@ -63,6 +63,35 @@ fn a_later_word_wins_and_unknown_names_are_kept(rt: HostRuntime) -> Result<(), F
     Ok(())
 }
 
+#[test]
+fn each_word_has_its_act(rt: HostRuntime) -> Result<(), Fail> {
+    for (word, act) in [
+        ("prepare", Act::Prepare),
+        ("unprepare", Act::Unprepare),
+        ("enable", Act::Enable),
+        ("disable", Act::Disable),
+        ("running", Act::Running),
+        ("rate", Act::GetRate),
+        ("parent", Act::GetParent),
+        ("put", Act::Put),
+    ] {
+        let text = format!(in rt.alloc();
+            "%bundle 1\n%clocks\n%regs 1\n%driver A\nget u f\n{word} u\n"
+        )?;
+        let bundle = read_bundle(rt.alloc(), text.as_bytes())?;
+        assert_eq!(rt; bundle.drivers.as_slice().len(), 1);
+        for script in bundle.drivers.as_slice() {
+            let command = Command {
+                line: 6,
+                var: Some(0),
+                act,
+            };
+            assert_eq!(rt; script.commands.as_slice().last().copied(), Some(command));
+        }
+    }
+    Ok(())
+}
+
 /// Checks each text against its line and reason.
 fn check_refusals<R: Abort + AllocGlobal>(rt: &R, table: &[(&str, u32, Reason)]) {
     for (text, line, reason) in table {
@@ -168,7 +197,7 @@ fn other_forms_are_not_read_yet(rt: HostRuntime) {
         ("%bundle 1\n%clocks\n%regs 1\n%driver A /x\n", 4),
         ("%bundle 1\n%clocks\n%regs 1\n%driver A\nprepare u\n", 5),
         (
-            "%bundle 1\n%clocks\nfixed f 5\n%regs 1\n%driver A\nget u f\nput u\n",
+            "%bundle 1\n%clocks\nfixed f 5\n%regs 1\n%driver A\nget u f\nround u\n",
             7,
         ),
         ("%bundle 1\n%clocks\n%regs 1\n%driver A\n%driver B\n", 5),

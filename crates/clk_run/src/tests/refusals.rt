@@ -33,7 +33,9 @@ fn each_line_of_words_and_commands_has_its_form(rt: HostRuntime) -> Result<(), F
         ("%driver A\nprepare a", 7),
         ("%driver A\nget a osc\nprepare", 8),
         ("%driver A\nget a osc\nprepare b", 8),
-        ("%driver A\nget a osc\nput a", 8),
+        ("%driver A\nget a osc\nput", 8),
+        ("%driver A\nget a osc\nput b", 8),
+        ("%driver A\nget a osc\nround a 5", 8),
         ("%driver A\nget a osc\n\nrate a", 8),
         ("%driver A\nget a osc\nrate a # comment", 8),
         ("%driver A\nget a osc\nrate a\n%driver B", 9),
@@ -64,7 +66,7 @@ fn names_have_their_longest(rt: HostRuntime) -> Result<(), Fail> {
     }
     for (count, line) in [(32, 8), (33, 7)] {
         let name = letters(&rt, count)?;
-        let rest = format!(in rt.alloc(); "%driver A\nget {name} osc\nput {name}")?;
+        let rest = format!(in rt.alloc(); "%driver A\nget {name} osc\nround {name}")?;
         assert!(rt; rest_refused(&rt, rest.as_str(), line, "NotYet")?);
     }
     for (count, line, reason) in [(32, 7, "NotYet"), (33, 6, "BadHeader")] {

@@ -5,7 +5,7 @@ use clk_cli::USAGE_LINE;
 use std::test::Fail;
 
 /// Whether the driver's commands over the two clocks have these answers, and leave these registers.
-fn answers(rt: &HostRuntime, commands: &str, printed: &str) -> Result<bool, Fail> {
+pub(crate) fn answers(rt: &HostRuntime, commands: &str, printed: &str) -> Result<bool, Fail> {
     let text = format!(in rt.alloc(); "{CLOCKS}%driver A\n{commands}")?;
     let wanted = format!(in rt.alloc(); "boot.1 ok\nboot.2 ok\n{printed}")?;
     Ok(ends(rt, text.as_bytes(), 0, wanted.as_str()))

@@ -1,4 +1,4 @@
-use Rattle.std.proofs.Common.{◌≡◌, ℕ, ◌≤◌, true, sum_by, ap, subst, sym, ◌∙◌, arith, length, List}
+use Rattle.std.proofs.Common.{rules, ◌≡◌, ℕ, ◌≤◌, true, sum_by, ap, subst, sym, ◌∙◌, arith, length, List}
 use Rattle.std.specs.Prelude.{is_some, Bool, refl}
 use Rattle.std.proofs.lemmas.List.{length-map}
 use Rattle.clk_base.specs.declared.command.Answer.{Answer}
@@ -7,9 +7,9 @@ use Rattle.std.specs.Io.KnownBytes.{Appends}
 use Rattle.clk_io.specs.Streams.{AppendsFront}
 use Rattle.drv_scripts.specs.declared.bundle.Bundle.{Bundle}
 use Rattle.clk_base.specs.Checked.{Checked}
-use Rattle.clk_base.specs.Description.{Description}
-use Rattle.clk_base.specs.Plain.{IsPlain}
+use Rattle.clk_base.specs.Description.{Description, EachClock}
 use Rattle.clk_base.specs.declared.command.Command.{Command}
+use Rattle.clk_machine.specs.Fit.{has_earlier_parents}
 use Rattle.clk_machine.specs.Run.{Run}
 use Rattle.drv_scripts.specs.Placed.{IsScript}
 use Rattle.drv_scripts.specs.Spelled.{boot_of}
@@ -17,7 +17,7 @@ use Rattle.std.specs.List.{AllByRecursion}
 use Rattle.clk_model.specs.Journal.{opening}
 use Rattle.clk_model.specs.State.{State}
 use Rattle.clk_run.specs.Runs.{scripts_with, drivers_in, are_built, opening_of, credits_of, run_text, HasRun}
-use Rattle.clk_run.proofs.Fitness.{plain_all}
+use Rattle.clk_run.proofs.Fitness.{earlier_all}
 use Rattle.clk_run.proofs.RunTexts.{follow_many}
 use Rattle.clk_run.proofs.Readiness.{few_credits, drivers_keep, drivers_few, commands_few}
 use Rattle.clk_run.proofs.Leaving.{text_of, bank_back, left_by}
@@ -49,12 +49,13 @@ run_scripts-requires g c =
     record {
       begins = begun.journal;
       credits = omega arith;
-      plain = subst IsPlain defs (plain_all b.desc.defs ready.fit);
+      earlier = subst (λ (ds : Description). EachClock ds (has_earlier_parents ds)) defs (earlier_all b.desc.defs ready.fit);
       boot = boot ∙ ready.boot ∙ ap (λ (ds : Description). boot_of (length ds)) defs;
       few = omega arith;
       placed = subst (λ (ds : Description). AllByRecursion (IsScript (length ds)) run) defs
           (subst (λ (xs : List Script). AllByRecursion (IsScript (length b.desc.defs)) xs) drivers (drivers_keep (IsScript (length b.desc.defs)) mode b ready.sound.scripts));
-      built = subst (λ (xs : List Script). AllByRecursion (λ s. are_built s.commands ≡ true) xs) drivers (drivers_keep (λ s. are_built s.commands ≡ true) mode b ready.built);
+      built = subst (λ (ds : Description). AllByRecursion (λ s. are_built ds s.commands ≡ true) run) defs
+          (subst (λ (xs : List Script). AllByRecursion (λ s. are_built b.desc.defs s.commands ≡ true) xs) drivers (drivers_keep (λ s. are_built b.desc.defs s.commands ≡ true) mode b ready.built));
     }
 
 pub print_run-requires : goal.print_run-requires
@@ -118,3 +119,18 @@ returns-in_err-print_run-clause-fault g c =
       run = text_of b c.args.cli.now told _ c.run_scripts.new.core answers printed start begun.told ran c.journal.ensures.fed c.in_ok-registers.ensures;
       printed = subst (AppendsFront (g.K.Sink.written c.args.out.now) (g.K.Sink.written c.print_run.new.out)) text c.in_err-print_run.ensures.prints;
     })
+
+pub returns-in_err-answers-clause-fault : goal.returns-in_err-answers-clause-fault
+returns-in_err-answers-clause-fault g c = search (rules, c.from_residual-in_err-answers.ensures)
+
+pub returns-in_err-answers-clause-cause : goal.returns-in_err-answers-clause-cause
+returns-in_err-answers-clause-cause g c = search (rules, c.from_residual-in_err-answers.ensures)
+
+pub returns-in_err-registers-clause-fault : goal.returns-in_err-registers-clause-fault
+returns-in_err-registers-clause-fault g c = search (rules, c.from_residual-in_err-registers.ensures)
+
+pub returns-in_err-registers-clause-cause : goal.returns-in_err-registers-clause-cause
+returns-in_err-registers-clause-cause g c = search (rules, c.from_residual-in_err-registers.ensures)
+
+pub returns-in_err-print_run-clause-cause : goal.returns-in_err-print_run-clause-cause
+returns-in_err-print_run-clause-cause g c = search (rules, c.from_residual-in_err-print_run.ensures, c.in_err-print_run.ensures.cause)

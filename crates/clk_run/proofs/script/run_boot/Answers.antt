@@ -18,7 +18,7 @@ run_command-requires-clause-can g c =
     let same = ap (λ (s : State). s.defs) c.loop-command.invariant.goes.start in
     let within = c.requires.clocks in
     let is = probe_first i c.args.commands.now _ c.requires.probes c.loop-command-test.true in
-    probe_can c.loop-command.core c.args.core.now.start.defs i _ same c.requires.plain (omega arith) c.loop-command.invariant.probed is
+    probe_can c.loop-command.core c.args.core.now.start.defs i _ same c.requires.earlier (omega arith) c.loop-command.invariant.probed is
 
 pub loop-command-preserved : goal.loop-command-preserved
 loop-command-preserved g c =

@@ -16,8 +16,10 @@ run_command-requires-clause-place g c =
 
 pub run_command-requires-clause-can : goal.run_command-requires-clause-can
 run_command-requires-clause-can g c =
+    let same = ap (λ (s : State). s.defs) c.loop-command.invariant.start in
     can_built c.loop-command.core _
-    (element_true (λ (command : Command). is_built_act command.act) c.args.commands.now c.loop-command.command-index _ c.requires.built c.loop-command-test.true)
+    (rw same
+    (element_true (λ (command : Command). is_built_act c.args.core.now.start.defs command.act) c.args.commands.now c.loop-command.command-index _ c.requires.built c.loop-command-test.true))
 
 pub loop-command-init : goal.loop-command-init
 loop-command-init g c =

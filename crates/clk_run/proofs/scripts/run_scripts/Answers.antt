@@ -1,9 +1,8 @@
-use Rattle.std.proofs.Common.{◌≡◌, ℕ, ◌+◌, ◌<◌, [], ◌∷◌, ◌++◌, List, length, get_or, map, take, refl, sym, ap, subst, ◌∙◌, arith, None, replicate}
+use Rattle.std.proofs.Common.{◌≡◌, ℕ, ◌+◌, [], ◌∷◌, ◌++◌, List, length, map, take, refl, sym, ap, subst, ◌∙◌, arith, None, replicate}
 use Rattle.std.proofs.lemmas.List.{take_more, length-take, map-append, length-map}
 use Rattle.std.proofs.lemmas.List.Sums.{sum_by-drop_more}
 use Rattle.clk_base.specs.declared.command.Answer.{Answer}
 use Rattle.clk_base.specs.declared.command.Command.{Command}
-use Rattle.clk_base.specs.Description.{Description}
 use Rattle.clk_model.specs.Journal.{cost, Legal}
 use Rattle.clk_model.specs.State.{State}
 use Rattle.clk_model.specs.Follows.{Variables, no_handles}

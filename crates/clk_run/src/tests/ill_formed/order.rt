@@ -56,12 +56,16 @@ fn clocks_that_are_not_run_yet_are_refused_last(rt: HostRuntime) -> Result<(), F
             &rt,
             "NotYet",
             &[
-                ("fixed f 5\nfactor x f 1 2", 4),
-                ("fixed f 5\ndivider d f 0 0 3\nmux m 0 4 1 1 f", 4),
+                ("factor x f 1 2\nfixed f 5", 3),
+                ("fixed f 5\nmux m 0 4 1 2 f e\nfixed e 6", 4),
+                (
+                    "fixed f 5\ndivider d f 0 0 3\ngate g d 0 4 critical\nfactor x f 1 2 set-rate-gate",
+                    5
+                ),
                 ("fixed f 5 critical", 3),
                 ("fixed f 5\ngate g f 0 0 set-rate-gate", 4),
                 ("gate g f 0 0\nfixed f 5", 3),
-                ("fixed f 5\nmux m 0 0 1 1 f\nfixed e 5 critical", 4),
+                ("fixed f 5\nmux m 0 0 1 1 f\nfixed e 5 critical", 5),
             ]
         )?
     );

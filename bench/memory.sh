@@ -1,0 +1,150 @@
+#!/bin/sh
+# Lets each allocation of a run fail in turn, and sees that the program keeps its word: the status is
+# that of the whole run, or 3, and what was written is a front of what the whole run writes.
+#
+# The program is built as ever. A small library, compiled here by `cc`, stands before the C library's
+# allocation calls and lets the one of a given number fail; `LD_PRELOAD` puts it there. The runs are
+# of examples/uart.bundle and examples/kinds.bundle under `sim`, of examples/board.bundle under
+# `check`, and of a bundle that is refused. Each line tells how many allocations a whole run makes,
+# how many runs with one that fails ended in status 3, and how many as the whole run does.
+set -eu
+
+root=$(dirname -- "$(dirname -- "$(readlink -f -- "$0")")")
+program=$root/crates/clkbench/out/clkbench
+scratch=$(mktemp -d)
+trap 'rm -rf "$scratch"' EXIT
+
+# This builds the program where it has to be built.
+"$root/clkbench" check <"$root/examples/uart.bundle" >/dev/null
+
+cat >"$scratch/fail.c" <<'LIBRARY'
+#define _GNU_SOURCE
+#include <dlfcn.h>
+#include <errno.h>
+#include <stddef.h>
+#include <stdio.h>
+#include <stdlib.h>
+#include <string.h>
+#include <unistd.h>
+
+static unsigned long made, failing;
+static void *(*next_malloc)(size_t);
+static void *(*next_calloc)(size_t, size_t);
+static void *(*next_realloc)(void *, size_t);
+static void *(*next_aligned)(size_t, size_t);
+static int (*next_posix)(void **, size_t, size_t);
+
+static void set_up(void) {
+    if (next_malloc)
+        return;
+    next_malloc = dlsym(RTLD_NEXT, "malloc");
+    next_calloc = dlsym(RTLD_NEXT, "calloc");
+    next_realloc = dlsym(RTLD_NEXT, "realloc");
+    next_aligned = dlsym(RTLD_NEXT, "aligned_alloc");
+    next_posix = dlsym(RTLD_NEXT, "posix_memalign");
+    const char *number = getenv("FAIL_AT");
+    failing = number ? strtoul(number, NULL, 10) : 0;
+}
+
+static int fails(void) {
+    set_up();
+    return ++made == failing;
+}
+
+void *malloc(size_t size) {
+    if (fails()) {
+        errno = ENOMEM;
+        return NULL;
+    }
+    return next_malloc(size);
+}
+
+void *calloc(size_t count, size_t size) {
+    if (fails()) {
+        errno = ENOMEM;
+        return NULL;
+    }
+    return next_calloc(count, size);
+}
+
+void *realloc(void *old, size_t size) {
+    if (fails()) {
+        errno = ENOMEM;
+        return NULL;
+    }
+    return next_realloc(old, size);
+}
+
+void *aligned_alloc(size_t align, size_t size) {
+    if (fails()) {
+        errno = ENOMEM;
+        return NULL;
+    }
+    return next_aligned(align, size);
+}
+
+int posix_memalign(void **place, size_t align, size_t size) {
+    if (fails())
+        return ENOMEM;
+    set_up();
+    return next_posix(place, align, size);
+}
+
+__attribute__((destructor)) static void tell(void) {
+    const char *path = getenv("FAIL_COUNT");
+    char text[32];
+    if (!path)
+        return;
+    int length = snprintf(text, sizeof text, "%lu\n", made);
+    FILE *file = fopen(path, "w");
+    if (!file)
+        return;
+    fwrite(text, 1, (size_t)length, file);
+    fclose(file);
+}
+LIBRARY
+cc -O1 -shared -fPIC -o "$scratch/fail.so" "$scratch/fail.c" -ldl
+
+# Runs the program with a word on a bundle, with the allocation of a number failing. Leaves what it
+# writes in `written`, how many allocations it makes in `count`, and its status in `status`.
+run_failing() {
+    status=0
+    LD_PRELOAD=$scratch/fail.so FAIL_AT=$3 FAIL_COUNT=$scratch/count \
+        "$program" "$1" <"$2" >"$scratch/written" || status=$?
+}
+
+# Whether what was written is a front of the whole text.
+is_front() {
+    head -c "$(wc -c <"$scratch/written")" "$scratch/whole" | cmp -s - "$scratch/written"
+}
+
+# Runs a bundle with each allocation failing in turn, and prints its line.
+measure() {
+    run_failing "$2" "$3" 0
+    wanted=$status
+    cp "$scratch/written" "$scratch/whole"
+    most=$(cat "$scratch/count")
+    short=0
+    same=0
+    at=1
+    while [ "$at" -le "$most" ]; do
+        run_failing "$2" "$3" "$at"
+        if [ "$status" -eq 3 ] && is_front; then
+            short=$((short + 1))
+        elif [ "$status" -eq "$wanted" ] && cmp -s "$scratch/written" "$scratch/whole"; then
+            same=$((same + 1))
+        else
+            echo "memory.sh: $1: with allocation $at failing the status is $status" >&2
+            exit 1
+        fi
+        at=$((at + 1))
+    done
+    printf '%-24s %6d %8d %8d %8d\n' "$1" "$wanted" "$most" "$short" "$same"
+}
+
+printf '%-24s %6s %8s %8s %8s\n' run status made short same
+measure uart-sim sim "$root/examples/uart.bundle"
+measure kinds-sim sim "$root/examples/kinds.bundle"
+measure board-check check "$root/examples/board.bundle"
+printf '%%bundle 1\n%%clocks\nfixed f 5 critical\n%%regs 1\n' >"$scratch/refused"
+measure refused-sim sim "$scratch/refused"
