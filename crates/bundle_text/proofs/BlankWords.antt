@@ -24,15 +24,6 @@ pub as_word-other : (part : List ℕ) → ¬ (IsUtf8 part) → as_word part ≡ 
 unfolding as_word
 as_word-other part h = rw (other-utf8 part h) (none-both (not (length part == 0)) part)
 
-onto-words : (word : Option (List ℕ)) (words rest : List (List ℕ)) → (words ++ option_to_list word) ++ rest ≡ words ++ cons_option word rest
-onto-words None words rest = append_assoc words [] rest
-onto-words (Some word) words rest = append_assoc words (word ∷ []) rest
-
--- one part more
-pub words-more : (words : List (List ℕ)) (part : List ℕ) (rest : List (List ℕ)) (all : List (List ℕ)) → words ++ filter_map as_word (part ∷ rest) ≡ all
-    → (words ++ option_to_list (as_word part)) ++ filter_map as_word rest ≡ all
-words-more words part rest all was = onto-words (as_word part) words (filter_map as_word rest) ∙ was
-
 -- the words of all parts
 pub words-first : (parts : List (List ℕ)) (line : List ℕ) → parts ≡ slice_split is_blank line → filter_map as_word parts ≡ blank_words line
 unfolding blank_words

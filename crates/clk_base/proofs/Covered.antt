@@ -2,7 +2,7 @@
 -- fields that are taken one by one.
 use Rattle.std.proofs.Common.{◌≡◌, ◌≢◌, ℕ, ◌+◌, ◌<◌, ◌≤◌, min, max, Bool, true, false, not, ◌&&◌, ◌||◌, List, [], ◌∷◌, ◌++◌, take, length, refl, ap, sym, ◌∙◌, subst, inl, inr, ◌⊎◌, arith, leb, eqb, append-nil}
 use Rattle.std.specs.List.{list_any, flat_map}
-use Rattle.std.proofs.lemmas.Bool.{false≢true, both_ways, and_parts, and_from, and_left, and_right, or_left, or_right, or_cases, not_from_false, cases_lt, cases_eq, lt-ltb, le-ltb, le-leb, lt-leb, eq-eqb, ne_eqb, ltb-true, leb-true, eqb-true, false_from_ne_true}
+use Rattle.std.proofs.lemmas.Bool.{false≢true, both_ways, and_parts, and_from, and_left, and_right, or_left, or_right, or_cases, not_from_false, cases_lt, cases_eq, lt-ltb, le-ltb, le-leb, eq-eqb, ne_eqb, ltb-true, leb-true, eqb-true, false_from_ne_true}
 use Rattle.std.proofs.lemmas.List.{take_more}
 use Rattle.std.proofs.lemmas.List.Folds.{list_any-append}
 use Rattle.std.proofs.lemmas.Grind.{flat_map-append}
@@ -67,18 +67,6 @@ free_shares f fields free =
 
 -- ## A field that is taken bit by bit
 
-none_covered : (word shift w b : ℕ) → covers w b (field word shift 0) ≡ false
-none_covered word shift w b =
-    and_right (eqb word w) _ (elim (cases_lt b shift) [
-      | inl below ↦ and_left _ _ (lt-leb shift b below)
-      | inr above ↦ and_right (leb shift b) _ (le-ltb b (shift + 0) (omega arith))
-    ])
-
--- at first none of its bits
-pub IsTaken-none : (taken : List ℕ) (fields : List Field) (word shift : ℕ) → IsTaken taken fields → IsTaken taken (field word shift 0 ∷ fields)
-IsTaken-none taken fields word shift is w b =
-    is w b ∙ ap (λ (x : Bool). x || list_any (covers w b) fields) (sym (none_covered word shift w b))
-
 same_covered : (word shift width w b : ℕ) → ((w ≢ word) ⊎ (b ≢ shift + width)) → covers w b (field word shift width) ≡ covers w b (field word shift (width + 1))
 same_covered word shift width w b (inl apart) =
     let other : eqb word w ≡ false = ne_eqb word w (λ e. apart (sym e)) in
@@ -119,24 +107,6 @@ next_taken taken fields word shift width bit next is =
 
 -- ## Fields in their order
 
-or_comm : (x y : Bool) → (x || y) ≡ (y || x)
-or_comm true true = refl
-or_comm true false = refl
-or_comm false true = refl
-or_comm false false = refl
-
-or_none : (x : Bool) → (x || false) ≡ x
-or_none true = refl
-or_none false = refl
-
--- the order of fields is free
-pub IsTaken-behind : (taken : List ℕ) (fields : List Field) (f : Field) → IsTaken taken (f ∷ fields) → IsTaken taken (fields ++ f ∷ [])
-IsTaken-behind taken fields f is w b =
-    is w b
-    ∙ (or_comm (covers w b f) (list_any (covers w b) fields)
-    ∙ (ap (λ (x : Bool). list_any (covers w b) fields || x) (sym (or_none (covers w b f)))
-    ∙ sym (list_any-append (covers w b) fields (f ∷ []))))
-
 turned : (x y z : Bool) → (x || (y || z)) ≡ (z || (y || (x || false)))
 turned true true true = refl
 turned true true false = refl
@@ -152,9 +122,6 @@ IsTaken-two_behind taken fields f g is w b =
     is w b
     ∙ (turned (covers w b g) (covers w b f) (list_any (covers w b) fields)
     ∙ sym (list_any-append (covers w b) fields (f ∷ g ∷ [])))
-
-pub IsTaken-nil_behind : (taken : List ℕ) (fields : List Field) → IsTaken taken fields → IsTaken taken (fields ++ [])
-IsTaken-nil_behind taken fields is w b = is w b ∙ ap (list_any (covers w b)) (sym (append-nil fields))
 
 and_true : (x : Bool) → (x && true) ≡ x
 and_true true = refl

@@ -1,13 +1,10 @@
 -- Rules that are kept one after the other: when all are, the description is valid, and where the
--- next isn't, it is the first that is broken. A plain description keeps three of them in any case.
-use Rattle.std.proofs.Common.{◌≡◌, ℕ, ◌+◌, ◌<◌, refl, sym, ap, ◌∙◌, subst, inl, inr, arith, length}
+-- next isn't, it is the first that is broken.
+use Rattle.std.proofs.Common.{◌≡◌, ℕ, ◌+◌, ◌<◌, refl, sym, ap, ◌∙◌, subst, inl, inr, arith}
 use Rattle.std.specs.Prelude.{◌==◌, nat_lt, IsTrue, if◌then◌else◌}
-use Rattle.std.proofs.lemmas.Bool.{false≢true, and_parts, cases_lt, ltb-true, lt-ltb}
-use Rattle.clk_base.specs.Description.{Description, kind_of, parents_of, EachClock, HasDistinctNames, IsFirstFailing}
-use Rattle.clk_base.specs.Plain.{IsPlain}
-use Rattle.clk_base.specs.Valid.{Rule, counts, ranges, bank, apart, acyclic, levels, bounded, keeps, number, keeps_counts, keeps_ranges, keeps_bank, keeps_apart, keeps_levels, has_its_parents, IsValid, IsFirstBroken}
-use Rattle.clk_base.proofs.PlainKinds.{has_ranges-plain}
-use Rattle.clk_base.proofs.PlainLines.{acyclic-plain, work-plain}
+use Rattle.std.proofs.lemmas.Bool.{false≢true, cases_lt, ltb-true, lt-ltb}
+use Rattle.clk_base.specs.Description.{Description, EachClock, HasDistinctNames, IsFirstFailing}
+use Rattle.clk_base.specs.Valid.{Rule, counts, ranges, bank, apart, acyclic, levels, bounded, keeps, number, has_its_parents, IsValid, IsFirstBroken}
 
 -- each clock keeps the rules whose numbers are below this one
 abbrev pub KeepsBelow : ℕ → Description → ℕ → Type 0
@@ -95,26 +92,3 @@ valid-kept words defs parents names all = record {
 -- the first clock that fails the next rule breaks it first
 pub broken-next : (words : ℕ) (defs : Description) (rule : Rule) (c : ℕ) → KeepsBelow words defs (number rule) → IsFirstFailing defs (keeps rule words defs) c → IsFirstBroken words defs rule c
 broken-next words defs rule c below first = record { clock = first; earlier = below }
-
--- ## Plain descriptions
-
--- plain clocks keep the rule of ranges
-pub ranges-plain : (words : ℕ) (defs : Description) → IsPlain defs → EachClock defs (keeps_ranges words defs)
-ranges-plain words defs plain c lt = has_ranges-plain (kind_of defs c) (length (parents_of defs c)) (and_parts _ _ (plain c lt)).0
-
--- the rules that plain clocks keep in any case, and the four that they can break
-kept_all : (words : ℕ) (defs : Description) → IsPlain defs → EachClock defs (has_its_parents defs) → EachClock defs (keeps_counts words defs) → EachClock defs (keeps_bank words defs) → EachClock defs (keeps_apart words defs) → EachClock defs (keeps_levels words defs) → (rule : Rule) → EachClock defs (keeps rule words defs)
-kept_all words defs plain has few inside own short counts = few
-kept_all words defs plain has few inside own short ranges = ranges-plain words defs plain
-kept_all words defs plain has few inside own short bank = inside
-kept_all words defs plain has few inside own short apart = own
-kept_all words defs plain has few inside own short acyclic = λ c lt. acyclic-plain words defs plain c
-kept_all words defs plain has few inside own short levels = short
-kept_all words defs plain has few inside own short bounded = work-plain words defs plain has
-
-pub valid-plain : (words : ℕ) (defs : Description) → IsPlain defs → EachClock defs (has_its_parents defs) → HasDistinctNames defs → EachClock defs (keeps_counts words defs) → EachClock defs (keeps_bank words defs) → EachClock defs (keeps_apart words defs) → EachClock defs (keeps_levels words defs) → IsValid words defs
-valid-plain words defs plain has names few inside own short = record {
-  parents = has;
-  names = names;
-  rules = kept_all words defs plain has few inside own short;
-}

@@ -1,11 +1,7 @@
-pub mod Bits
 pub mod Covered
 pub mod Kept
 pub mod Lines
 pub mod Names
-pub mod PlainKinds
-pub mod PlainLines
-pub mod Pushed
 pub mod Shares
 pub mod Tabled
 pub mod Walked

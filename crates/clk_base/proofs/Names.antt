@@ -1,5 +1,5 @@
 -- Names of clocks: looking one up, and adding one.
-use Rattle.std.proofs.Common.{◌≡◌, ℕ, ◌+◌, ◌<◌, Bool, true, false, ◌||◌, cond, List, [], ◌∷◌, ◌++◌, map, length, get_or, take, length-take, ◌≤◌, ◌≢◌, Option, Some, None, refl, sym, ap, ◌∙◌, inl, inr, arith, length-append, string_bytes, Global, ltb}
+use Rattle.std.proofs.Common.{◌≡◌, ℕ, ◌+◌, ◌<◌, Bool, true, false, ◌||◌, cond, List, [], ◌∷◌, ◌++◌, map, length, get_or, take, length-take, ◌≤◌, Option, Some, None, refl, sym, ap, ◌∙◌, inl, inr, arith, length-append, string_bytes, Global, ltb}
 use Rattle.std.specs.Prelude.{IsTrue}
 use Rattle.std.specs.List.{list_any, position, position_or_len, prefix_len}
 use Rattle.std.specs.Option.{option_map}
@@ -14,8 +14,7 @@ use Rattle.clk_base.specs.declared.clock.ClockDef.{ClockDef}
 use Rattle.clk_base.specs.declared.clock.ClockId.{ClockId}
 use Rattle.std.specs.String.{string_eq}
 use Rattle.std.specs.Prelude.{Result, Ok, Err, ◌↔◌}
-use Rattle.std.proofs.lemmas.Bool.{cond-false, cond-true, false_from_ne_true, lt-ltb}
-use Rattle.std.proofs.lemmas.List.Sums.{position_or_len_is, fails_before_first}
+use Rattle.std.proofs.lemmas.Bool.{cond-false}
 use Rattle.std.proofs.lemmas.Option.{none-some, same_Some}
 use Rattle.indexmap.specs.IndexSet.{insert_key}
 use Rattle.clk_base.specs.Named.{IsNamed}
@@ -122,19 +121,6 @@ has_name-take defs c distinct lt =
       | inr none ↦ none
     ]
 
--- a clock's name gives the clock
-pub clock_named-name_of : (defs : Description) (c : ℕ) → HasDistinctNames defs → c < length defs → clock_named defs (name_of defs c) ≡ Some (record { 0 = c })
-clock_named-name_of defs c distinct lt =
-    let name = name_of defs c in
-    let first : position_or_len (λ (d : ClockDef). bytes_eq name d.name) defs ≡ c =
-    position_or_len_is (λ (d : ClockDef). bytes_eq name d.name) defs c nobody (omega arith)
-    (λ k h. false_from_ne_true _ (λ e. let equal : k ≡ c = distinct k c (omega arith) lt (sym ((bytes_eq-Decides name (name_of defs k)).0 e)) in absurd (omega arith)))
-    (λ _. (bytes_eq-Decides name name).1 refl) in
-    let found : position (λ (d : ClockDef). bytes_eq name d.name) defs ≡ Some c =
-    ap (λ n. cond (ltb n (length defs)) (Some n) None) first ∙ cond-true _ _ _ (lt-ltb c (length defs) lt) in
-    let clock : Option ℕ → Option ClockId = option_map (λ k. record { 0 = k }) in
-    ap clock found
-
 option_map-Some : {X Y : Type 0} (f : X → Y) (o : Option X) (y : Y) → option_map f o ≡ Some y → (x : X) × (o ≡ Some x) × (f x ≡ y)
 option_map-Some f None y e = absurd (none-some y e)
 option_map-Some f (Some x) y e = (x, refl, same_Some (f x) y e)
@@ -147,20 +133,6 @@ clock_named-Some defs name c e =
     let place : found.0 ≡ c.0 = ap (λ (id : ClockId). id.0) found.2 in
     let at = position-Some test defs c.0 nobody (found.1 ∙ ap (λ k. Some k) place) in
     (at.0, sym ((bytes_eq-Decides name (name_of defs c.0)).0 at.1))
-
--- where a name gives no clock, no clock has it
-pub clock_named-None : (defs : Description) (name : List ℕ) → clock_named defs name ≡ None → (c : ℕ) → c < length defs → name_of defs c ≢ name
-clock_named-None defs name e c lt same =
-    let test = λ (d : ClockDef). bytes_eq name d.name in
-    let clock : Option ℕ → Option ClockId = option_map (λ k. record { 0 = k }) in
-    let first = position_or_len test defs in
-    elim (cases_lt first (length defs)) [
-      | inl inside ↦
-          let some : clock_named defs name ≡ Some (record { 0 = first }) = ap clock (cond-true _ (Some first) None (lt-ltb first (length defs) inside)) in
-          none-some _ (sym e ∙ some)
-      | inr none ↦
-          both_ways _ (fails_before_first test defs c nobody (omega arith)) ((bytes_eq-Decides name (name_of defs c)).1 (sym same))
-    ]
 
 -- so the next clock to be copied has a name that no copied clock has
 pub fresh_next : (defs copied items : Description) (i : ℕ) (d next : ClockDef) → HasDistinctNames defs → items ≡ defs → i < length items → copied ≡ take i defs → next ≡ d → d ≡ get_or items i d → has_name copied next.name ≡ true → ⊥

@@ -1,10 +1,10 @@
 -- Tables over the clocks of a description that are filled level by level: the entry of a clock over
 -- those of its possible parents.
-use Rattle.std.proofs.Common.{◌≡◌, ℕ, suc, ◌+◌, ◌<◌, Bool, true, false, ◌&&◌, List, [], ◌∷◌, ◌++◌, length, get_or, replicate, refl, ap, sym, ◌∙◌, arith, below_more}
+use Rattle.std.proofs.Common.{◌≡◌, ℕ, suc, ◌+◌, ◌<◌, Bool, true, false, ◌&&◌, List, [], ◌∷◌, ◌++◌, length, get_or, refl, ap, sym, ◌∙◌, arith, below_more}
 use Rattle.std.specs.Prelude.{nat_lt}
 use Rattle.std.specs.List.{All, list_all}
 use Rattle.std.proofs.lemmas.Bool.{and_parts, both_ways, true_from_ne_false, ltb-true}
-use Rattle.std.proofs.lemmas.List.{get_or_append_left, get_or_push, get_or_read, length-map, get_or-map, length-replicate, get_or-replicate}
+use Rattle.std.proofs.lemmas.List.{get_or_append_left, get_or_push, get_or_read, length-map, get_or-map}
 use Rattle.std.proofs.lemmas.List.Folds.{list_all-map, list_all_at}
 use Rattle.clk_base.specs.declared.clock.ClockDef.{ClockDef}
 use Rattle.clk_base.specs.declared.clock.ClockId.{ClockId}
@@ -55,13 +55,6 @@ list_all-same n f g same [] below = refl
 list_all-same n f g same (p ∷ ps) below =
     let parts = and_parts _ _ below in
     ap (λ b. b && list_all f ps) (same p (ltb-true p n parts.0)) ∙ ap (λ b. g p && b) (list_all-same n f g same ps parts.1)
-
--- no line has no clock
-pub TellsEnds-none : (defs : Description) (table : List Bool) → table ≡ replicate (length defs) false → TellsEnds defs 0 table
-TellsEnds-none defs table e = record {
-  each = ap length e ∙ length-replicate (length defs) false;
-  told = λ c lt. ap (λ t. flag_at t c) e ∙ get_or-replicate (length defs) c false false lt;
-}
 
 -- a table that asks the possible parents in one that tells of lines tells of lines of one clock more
 pub TellsEnds-more : (defs : Description) (levels : ℕ) (above ends : List Bool) → EachClock defs (has_its_parents defs) → TellsEnds defs levels above → length ends ≡ length defs → ((c : ℕ) → c < length defs → flag_at ends c ≡ list_all (flag_at above) (parents_of defs c)) → TellsEnds defs (suc levels) ends

@@ -1,22 +1,18 @@
 -- What a valid description promises: parents in it, lines that end, fields in the bank that share no
 -- bit, and names that differ.
 use Rattle.std.proofs.Common.{◌≡◌, ℕ, ◌+◌, ◌<◌, ◌≤◌, true, false, List, [], ◌∷◌, length, Some, refl, ap, sym, ◌∙◌, inl, inr, arith}
-use Rattle.std.specs.Prelude.{◌==◌, nat_lt, slice_get}
-use Rattle.std.specs.List.{list_all, list_any}
+use Rattle.std.specs.Prelude.{nat_lt, slice_get}
+use Rattle.std.specs.List.{list_all}
 use Rattle.std.proofs.lemmas.Bool.{false≢true, both_ways, cases_lt, cases_order, and_parts, and_from, ltb-true, leb-true, eqb-true, lt-ltb, eq-eqb}
 use Rattle.std.proofs.lemmas.List.{get_or_past}
 use Rattle.std.proofs.lemmas.Option.{none-some, same_Some}
 use Rattle.clk_base.specs.declared.clock.ClockDef.{ClockDef}
 use Rattle.clk_base.specs.declared.clock.Kind.{Kind}
 use Rattle.clk_base.specs.declared.clock.Kind.TheVariants.{FixedRate, Factor, Gate, Mux, Divider, Pll}
-use Rattle.clk_base.specs.declared.fault.DescFault.{DescFault}
-use Rattle.clk_base.specs.declared.fault.DescFault.TheVariants as faults
-use Rattle.clk_base.specs.Checked.{IsFault}
 use Rattle.clk_base.specs.Description.{Description, nobody, kind_of, parents_of}
 use Rattle.clk_base.specs.Fields.{Field, GateBit, PowerBit, gate_of, power_of, field_of, fields_of, bit_field, is_in_bank, share_bit}
-use Rattle.clk_base.specs.Levels.{depth, ends_within, reaches_within}
-use Rattle.clk_base.specs.Valid.{Rule, counts, ranges, bank, apart, acyclic, levels, bounded, can_have_parents, IsValid, IsFirstBroken}
-use Rattle.clk_base.proofs.Lines.{passes_among, not_own_ancestor}
+use Rattle.clk_base.specs.Levels.{depth, ends_within}
+use Rattle.clk_base.specs.Valid.{counts, bank, apart, levels, can_have_parents, IsValid}
 use Rattle.clk_base.proofs.Shares.{passes_at, some_passes, passes_before, apart_at, apart_own, share_bit-sym}
 
 -- ## Counts and parents
@@ -28,15 +24,6 @@ length-valid words defs valid =
       | inl many ↦ absurd (false≢true (valid.rules counts 4096 many))
       | inr few ↦ few
     ]
-
--- a clock has at most 64 possible parents
-pub parents-few : (words : ℕ) (defs : Description) → IsValid words defs → (c : ℕ) → c < length defs → length (parents_of defs c) ≤ 64
-parents-few words defs valid c lt = leb-true _ 64 (and_parts _ _ (valid.rules counts c lt)).1
-
--- each possible parent is a clock of the description
-pub parents-within : (words : ℕ) (defs : Description) → IsValid words defs → (c p : ℕ) → c < length defs → list_any (λ q. q == p) (parents_of defs c) ≡ true → p < length defs
-parents-within words defs valid c p lt parent =
-    ltb-true p (length defs) (passes_among (λ q. nat_lt q (length defs)) (parents_of defs c) p (and_parts _ _ (valid.parents c lt)).1 parent)
 
 -- the parent at a place of the list
 pub parent-at : (words : ℕ) (defs : Description) → IsValid words defs → (c k p : ℕ) → c < length defs → slice_get (parents_of defs c) k ≡ Some p → p < length defs
@@ -84,10 +71,6 @@ lines_end words defs valid c =
       | inl inside ↦ valid.rules levels c inside
       | inr outside ↦ ap (λ (d : ClockDef). list_all (ends_within (parents_of defs) 63) d.parents) (get_or_past defs c nobody outside)
     ]
-
--- no clock is among its own possible ancestors, however far up
-pub no_cycle : (words : ℕ) (defs : Description) → IsValid words defs → (c steps : ℕ) → reaches_within (parents_of defs) steps c c ≡ false
-no_cycle words defs valid c steps = not_own_ancestor (parents_of defs) depth c steps (lines_end words defs valid c)
 
 -- ## Fields
 
@@ -160,19 +143,3 @@ pub gates-once : (words : ℕ) (defs : Description) → IsValid words defs → (
 gates-once words defs valid a b g h ha hb first second word bit =
     fields-once words defs valid a b 0 0 (bit_field g.word g.bit) (bit_field h.word h.bit) ha hb (gate-field (kind_of defs a) g first) (gate-field (kind_of defs b) h second)
     (and_from _ _ (eq-eqb g.word h.word word) (lt-ltb _ _ (omega arith)))
-
--- ## Refusals
-
-broken : (words : ℕ) (defs : Description) (rule : Rule) (c : ℕ) → IsValid words defs → IsFirstBroken words defs rule c → ⊥
-broken words defs rule c valid first = both_ways _ first.clock.fails (valid.rules rule c first.clock.within)
-
--- a valid description is refused for want of memory alone
-pub refusal-valid : (words : ℕ) (defs : Description) (fault : DescFault) → IsValid words defs → IsFault words defs fault → fault ≡ faults.NoMemory
-refusal-valid words defs (faults.TooMany c) valid (inl first) = absurd (broken words defs counts c.0 valid first)
-refusal-valid words defs (faults.TooMany c) valid (inr first) = absurd (broken words defs levels c.0 valid first)
-refusal-valid words defs (faults.BadRange c) valid first = absurd (broken words defs ranges c.0 valid first)
-refusal-valid words defs (faults.FieldOutOfBank c) valid first = absurd (broken words defs bank c.0 valid first)
-refusal-valid words defs (faults.FieldOverlap c) valid first = absurd (broken words defs apart c.0 valid first)
-refusal-valid words defs (faults.Cycle c) valid first = absurd (broken words defs acyclic c.0 valid first)
-refusal-valid words defs (faults.TooMuchWork c) valid first = absurd (broken words defs bounded c.0 valid first)
-refusal-valid words defs faults.NoMemory valid first = refl

@@ -1,13 +1,12 @@
 -- Lines of possible parents that are walked from one clock: what is reached from it.
-use Rattle.std.proofs.Common.{◌≡◌, ℕ, zero, suc, ◌+◌, ◌*◌, ◌<◌, ◌≤◌, Bool, true, false, ◌||◌, List, [], ◌∷◌, ◌++◌, length, get_or, set, replicate, refl, ap, sym, ◌∙◌, subst, inl, inr, arith, length-append, get_or-set_same, get_or-set_other, length-set}
-use Rattle.std.specs.Prelude.{◌==◌, nat_lt, if◌then◌else◌}
+use Rattle.std.proofs.Common.{◌≡◌, ℕ, zero, suc, ◌+◌, ◌<◌, ◌≤◌, Bool, true, false, ◌||◌, List, [], ◌∷◌, ◌++◌, length, get_or, refl, ap, sym, ◌∙◌, subst, inl, inr, arith, length-append}
+use Rattle.std.specs.Prelude.{◌==◌, nat_lt}
 use Rattle.std.specs.List.{list_all, list_any}
 use Rattle.std.proofs.lemmas.Bool.{false≢true, both_ways, and_parts, and_from, or_cases, or_left, or_right, cases_Bool, cases_eq, cases_lt, eq-eqb, ne_eqb, eqb-true, ltb-true, cond-true, cond-false}
-use Rattle.std.proofs.lemmas.List.{get_or_append_left, get_or_default, length_push, same_lists, get_or_past, length-replicate, get_or-replicate}
-use Rattle.std.proofs.lemmas.List.Folds.{list_any-append, sum_by-replicate}
-use Rattle.std.proofs.lemmas.List.Sums.{sum_by-set}
+use Rattle.std.proofs.lemmas.List.{get_or_append_left, get_or_default, same_lists}
+use Rattle.std.proofs.lemmas.List.Folds.{list_any-append}
 use Rattle.clk_base.specs.Levels.{reaches_within}
-use Rattle.clk_base.specs.Tables.{flag_at, has_place, with_place, with_places, unmarked, IsListed}
+use Rattle.clk_base.specs.Tables.{has_place, with_place, with_places, IsListed}
 
 -- ## Places
 
@@ -106,46 +105,6 @@ with_places-below n places (c ∷ more) all below =
     with_places-below n (with_place places c) more (with_place-below n places c all parts.0) parts.1
 
 -- ## Marks
-
--- nothing is marked
-pub IsListed-none : (n : ℕ) (table : List Bool) → table ≡ replicate n false → IsListed table []
-IsListed-none n table e = record {
-  same = λ c. elim (cases_lt c (length table)) [
-    | inl inside ↦ ap (λ t. flag_at t c) e ∙ get_or-replicate n c false false (omega (arith, ap length e, length-replicate n false))
-    | inr outside ↦ get_or_past table c false outside
-  ];
-  count =
-      let down : ℕ = unmarked table in
-      let all : unmarked table ≡ n * 1 = ap unmarked e ∙ sum_by-replicate (λ (marked : Bool). if marked then 0 else 1) n false in
-      omega (arith, ap length e, length-replicate n false);
-}
-
--- a clock that was marked is among the places
-pub IsListed-kept : (table : List Bool) (places : List ℕ) (c : ℕ) → IsListed table places → flag_at table c ≡ true → with_place places c ≡ places
-IsListed-kept table places c listed marked = cond-true _ _ _ (sym (listed.same c) ∙ marked)
-
--- one that wasn't is marked and gets its place
-pub IsListed-more : (table : List Bool) (places : List ℕ) (c : ℕ) → IsListed table places → c < length table → flag_at table c ≡ false → IsListed (set table c true) (with_place places c)
-IsListed-more table places c listed inside new =
-    let absent : has_place places c ≡ false = sym (listed.same c) ∙ new in
-    let with : with_place places c ≡ places ++ c ∷ [] = cond-false _ _ _ absent in
-    let down : Bool → ℕ = λ marked. if marked then 0 else 1 in
-    let sums : unmarked (set table c true) + down (get_or table c false) ≡ unmarked table + 0 = sum_by-set down table c true false inside in
-    let one : down (get_or table c false) ≡ 1 = ap down new in
-    let longer : length (with_place places c) ≡ length places + 1 = ap length with ∙ length_push places c in
-    record {
-      same = λ a. elim (cases_eq a c) [
-        | inl same ↦
-            let has : has_place (with_place places c) a ≡ true = has_place-with places c a ∙ or_right (has_place places a) _ (eq-eqb c a (sym same)) in
-            let at : flag_at (set table c true) a ≡ true = ap (flag_at (set table c true)) same ∙ get_or-set_same table c true false inside in
-            at ∙ sym has
-        | inr apart ↦
-            get_or-set_other table c a true false apart
-            ∙ (listed.same a
-            ∙ sym (has_place-with places c a ∙ (ap (λ b. has_place places a || b) (ne_eqb c a (λ e. apart (sym e))) ∙ or_false _)))
-      ];
-      count = omega (arith, sums, one, longer, length-set table c true, listed.count);
-    }
 
 -- there are no more places than clocks
 pub places-few : (table : List Bool) (places : List ℕ) → IsListed table places → length places ≤ length table

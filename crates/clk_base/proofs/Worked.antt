@@ -1,9 +1,9 @@
 -- The work of clocks where every amount from the first that is too much on counts as that.
-use Rattle.std.proofs.Common.{◌≡◌, ℕ, zero, suc, ◌+◌, ◌*◌, ◌<◌, ◌≤◌, min, Bool, true, false, List, [], ◌∷◌, length, get_or, replicate, slice_index, refl, ap, sym, ◌∙◌, inl, inr, ◌⊎◌, arith}
+use Rattle.std.proofs.Common.{◌≡◌, ℕ, zero, suc, ◌+◌, ◌*◌, ◌<◌, ◌≤◌, min, Bool, true, false, List, [], ◌∷◌, length, get_or, slice_index, refl, ap, sym, ◌∙◌, inl, inr, ◌⊎◌, arith}
 use Rattle.std.specs.Prelude.{nat_lt}
 use Rattle.std.specs.List.{list_all, sum_by}
 use Rattle.std.proofs.lemmas.Bool.{and_parts, cases_lt, ltb-true, leb-true}
-use Rattle.std.proofs.lemmas.List.{get_or_read, length-replicate, get_or-replicate}
+use Rattle.std.proofs.lemmas.List.{get_or_read}
 use Rattle.std.proofs.lemmas.List.Sums.{sum_by-cons}
 use Rattle.std.proofs.lemmas.Nat.{mul-le}
 use Rattle.clk_base.specs.declared.clock.ClockDef.{ClockDef}
@@ -71,13 +71,6 @@ works_alike most (Pll word shift width power_word power_bit least top m) passes_
 cut_alike : (most a b : ℕ) → AreAlike most a b → min b most ≡ min a most
 cut_alike most a b (inl same) = omega arith
 cut_alike most a b (inr large) = (let x : most ≤ a = large.0 in let y : most ≤ b = large.1 in omega arith)
-
--- where lines of no clock are left there is no work
-pub TellsWork-none : (defs : Description) (table : List ℕ) → table ≡ replicate (length defs) 0 → TellsWork defs 0 table
-TellsWork-none defs table e = record {
-  each = ap length e ∙ length-replicate (length defs) 0;
-  told = λ c lt. ap (λ t. slice_index t c) e ∙ get_or-replicate (length defs) c 0 0 lt;
-}
 
 -- the work of a clock over a table
 abbrev pub work_over : Description → List ℕ → ℕ → ℕ

@@ -6,7 +6,6 @@ pub mod Levels
 pub mod Work
 pub mod Valid
 pub mod Tables
-pub mod Plain
 pub mod Checked
 pub mod Named
 pub mod Examples

@@ -37,9 +37,6 @@ join_ahead : (found here : List (Option ClockId)) (o : Option (List (Option Cloc
 join_ahead found here None = refl
 join_ahead found here (Some xs) = let P : List (Option ClockId) → Option (List (Option ClockId)) = λ ys. Some ys in ap P (sym (append_assoc found here xs))
 
-pub named_none : (nodes : List SeenNode) (cells : List Cell) (found : List (Option ClockId)) → found ≡ [] → named_from nodes None cells ≡ option_map (λ more. found ++ more) (named_from nodes None cells)
-named_none nodes cells found none = same_rest (named_from nodes None cells) ∙ ap (λ (xs : List (Option ClockId)). option_map (λ more. xs ++ more) (named_from nodes None cells)) (sym none)
-
 -- a cell that isn't bad
 pub named_more : (nodes : List SeenNode) (cells : List Cell) (i : ℕ) (d : Cell) (begun after : Option ℕ) (found new : List (Option ClockId)) (s : Step) → i < length cells → s ≡ step nodes begun (get_or cells i d) → is_bad s ≡ false
     → after ≡ begun_after s → new ≡ found ++ clocks_of_step s → named_from nodes None cells ≡ option_map (λ more. found ++ more) (named_from nodes begun (drop i cells))

@@ -41,20 +41,6 @@ pub second_told : (one other items : List DtsNode) (e : DtsFault) → one ≡ it
 second_told one other items e a b kept found =
     tell (map seen_node items) (length items) (sym (length-map items seen_node)) e (subst (λ ns. KeepsBelow (first_fault (map seen_node ns)) (length ns)) a kept) (subst (λ ns. Finds (second_fault (map seen_node ns)) (length ns) e) b found)
 
-tell_first : (nodes : List SeenNode) (e : DtsFault) → Finds (first_fault nodes) (length nodes) e → IsFaultOf nodes e
-tell_first nodes (UnknownCompatible line) found = inl found
-tell_first nodes (NoCells line) found = inl found
-tell_first nodes (MissingProperty line) found = inl found
-tell_first nodes (BadName line) found = inl found
-tell_first nodes (TwiceNamed line) found = inl found
-tell_first nodes (BadSpecifier line) found = inl found
-tell_first nodes (BadAssigned line) found = inl found
-tell_first nodes NoMemory found = tt
-
-pub first_told : (one items : List DtsNode) (e : DtsFault) → one ≡ items → Finds (first_fault (map seen_node one)) (length one) e → IsFaultOf (map seen_node items) e
-first_told one items e a found =
-    tell_first (map seen_node items) e (subst (λ n. Finds (first_fault (map seen_node items)) n e) (sym (length-map items seen_node)) (subst (λ ns. Finds (first_fault (map seen_node ns)) (length ns) e) a found))
-
 pub accepted : (one other items : List DtsNode) (loaded : SeenLoaded) → one ≡ items → other ≡ items → KeepsBelow (first_fault (map seen_node one)) (length one) → KeepsBelow (second_fault (map seen_node other)) (length other)
     → loaded ≡ loaded_of (map seen_node other) → Accepts (map seen_node items) loaded
 accepted one other items loaded a b first second content =

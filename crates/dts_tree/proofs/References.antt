@@ -25,14 +25,6 @@ pub bind-append : (r : Result (List ℕ) TreeFault) (found : List ℕ) (node : �
 bind-append (Ok nodes) found node = let e = append_assoc found (node ∷ []) nodes in let P : List ℕ → Result (List ℕ) TreeFault = λ ns. Ok ns in ap P (sym e)
 bind-append (Err e) found node = refl
 
-bind-same : (r : Result (List ℕ) TreeFault) → (r >>= λ nodes. Ok ([] ++ nodes)) ≡ r
-bind-same (Ok nodes) = refl
-bind-same (Err e) = refl
-
--- no reference was read
-pub targets-start : (text : List ℕ) (rows : List LabelRow) (references : List Token) → targets text rows references ≡ (targets text rows references >>= λ nodes. Ok ([] ++ nodes))
-targets-start text rows references = sym (bind-same (targets text rows references))
-
 -- one reference more, which means a node
 pub targets-more : (text : List ℕ) (rows : List LabelRow) (references : List Token) (found : List ℕ) (i node : ℕ) (d : Token) → i < length references
     → target text rows (get_or references i d) ≡ Ok node → targets text rows references ≡ (targets text rows (drop i references) >>= λ nodes. Ok (found ++ nodes))

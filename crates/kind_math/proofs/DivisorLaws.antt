@@ -9,7 +9,7 @@ use Rattle.kind_math.specs.declared.div_style.DivStyle.{DivStyle}
 use Rattle.kind_math.specs.declared.div_style.DivStyle.TheVariants.{Plain, OneBased, PowerOfTwo}
 use Rattle.kind_math.specs.Rates.{divisor, div_rate}
 use Rattle.kind_math.specs.Dividers.{IsDividerWidth, valid_fields, valid_divisors, least_or_greatest, div_round, div_setting}
-use Rattle.kind_math.proofs.Ranges.{each_in_range, chosen_keeps, same_least, least_from, KeepsOrder, least_or_greatest-map}
+use Rattle.kind_math.proofs.Ranges.{each_in_range, same_least, least_from, KeepsOrder, least_or_greatest-map}
 use Rattle.kind_math.proofs.Quotients.{same_le, ceil_exchange, ceil-le, ceil-reaches, ceil-falls}
 use Rattle.kind_math.proofs.Chosen.{IsIn, min_prefers, chosen}
 use Rattle.kind_math.specs.Choices.{least, greatest_of}
@@ -147,13 +147,6 @@ pub round_taken : (style : DivStyle) (parent rate width wanted field : ℕ) → 
 round_taken style parent rate width wanted field right is found =
     ap (divisor style) (found ∙ ap (λ n. least_or_greatest (λ f. nat_le n (divisor style f)) (valid_fields style width)) is)
     ∙ sym (round_by_field style parent rate width right)
-
--- the chosen field divides
-pub least_divides : (p : ℕ → Bool) (style : DivStyle) (width : ℕ) → IsDividerWidth style width → Divides style (least_or_greatest p (valid_fields style width))
-least_divides p style width right =
-    let some = valid_fields_some style width right in
-    subst (λ fields. Divides style (least_or_greatest p fields)) (sym some.2)
-    (chosen_keeps (Divides style) p some.0 some.1 (subst (AllByRecursion (Divides style)) some.2 (valid_divide style width right)))
 
 -- ---- the rate
 

@@ -1,5 +1,5 @@
 -- Laws on bits of the registers.
-use Rattle.std.proofs.Common.{◌≡◌, ◌≢◌, ℕ, ◌+◌, ◌^◌, ◌<◌, ◌≤◌, refl, sym, ◌∙◌, ap, arith, ◌⊎◌, inl, inr, length, get_or, Bool, true, false, if◌then◌else◌, nat_eq}
+use Rattle.std.proofs.Common.{◌≡◌, ◌≢◌, ℕ, ◌+◌, ◌^◌, ◌<◌, ◌≤◌, refl, ◌∙◌, ap, arith, ◌⊎◌, inl, inr, length, get_or, Bool, true, false, if◌then◌else◌, nat_eq}
 use Rattle.std.proofs.lemmas.List.{get_or_past}
 use Rattle.std.proofs.lemmas.Grind.{same_number_lists}
 use Rattle.std.proofs.lemmas.Bool.{cases_lt}
@@ -7,17 +7,8 @@ use Rattle.std.proofs.lemmas.Bool.Decides.{nat_tests}
 use Rattle.std.proofs.lemmas.Nat.Bits.{same_from_bits_below, bit_at-lt, bit_at-zero}
 use Rattle.std.specs.Int.{bit_at}
 use Rattle.std.specs.List.{All}
-use Rattle.reg_bank.specs.Registers.{Registers, AreWords, bits_of, field, put, is_set, put_bit}
-use Rattle.reg_bank.proofs.FieldLaws.{length-put, field-lt, field-put_same, field-put_other_word, field-put_apart, put-standing, AreWords-put}
-
--- the number of a bit
-abbrev pub digit : Bool → ℕ
-digit true = 1
-digit false = 0
-
-if_digit : (value : Bool) → (if value then 1 else 0) ≡ digit value
-if_digit true = refl
-if_digit false = refl
+use Rattle.reg_bank.specs.Registers.{Registers, AreWords, bits_of, field, is_set, put_bit}
+use Rattle.reg_bank.proofs.FieldLaws.{length-put, field-put_same, field-put_other_word, field-put_apart, AreWords-put}
 
 digit-lt : (value : Bool) → (if value then 1 else 0) < 2 ^ 1
 digit-lt true = omega arith
@@ -26,10 +17,6 @@ digit-lt false = omega arith
 digit_test : (value : Bool) → nat_eq (if value then 1 else 0) 1 ≡ value
 digit_test true = refl
 digit_test false = refl
-
--- a number below 2 is the digit of its test
-tested : (n : ℕ) → n < 2 → (if nat_eq n 1 then 1 else 0) ≡ n
-tested n small = grind (arith, nat_tests)
 
 -- two numbers below 2 with the same test are equal
 same_tested : (a b : ℕ) → a < 2 → b < 2 → nat_eq a 1 ≡ nat_eq b 1 → a ≡ b
@@ -76,14 +63,6 @@ pub field-put_bit_other_word : (words : Registers) (word bit : ℕ) (value : Boo
 unfolding put_bit
 field-put_bit_other_word words word bit value other at wide apart =
     field-put_other_word words word bit 1 (if value then 1 else 0) other at wide apart
-
--- to put what stands there changes nothing
-pub put_bit-standing : (words : Registers) (word bit : ℕ) (value : Bool) → is_set words word bit ≡ value → put_bit words word bit value ≡ words
-unfolding is_set put_bit
-put_bit-standing words word bit value stands =
-    ap (λ (b : Bool). put words word bit 1 (if b then 1 else 0)) (sym stands)
-    ∙ ap (λ n. put words word bit 1 n) (tested (field words word bit 1) (field-lt words word bit 1))
-    ∙ put-standing words word bit 1
 
 -- words stay words
 pub AreWords-put_bit : (words : Registers) (word bit : ℕ) (value : Bool) → bit < 32 → AreWords words → AreWords (put_bit words word bit value)

@@ -1,20 +1,15 @@
 -- Laws on fields of the registers.
 use Rattle.std.proofs.Common.{◌≡◌, ◌≢◌, ℕ, ◌+◌, ◌^◌, ◌<◌, ◌≤◌, sym, ◌∙◌, ap, subst, ◌⊎◌, inl, inr, length, get_or, set}
-use Rattle.std.proofs.lemmas.List.{length-set, set-get_or, get_or-set_other, get_or-set_same, set_past}
+use Rattle.std.proofs.lemmas.List.{length-set, get_or-set_other, get_or-set_same, set_past}
 use Rattle.std.proofs.lemmas.List.Elements.{All-set}
 use Rattle.std.proofs.lemmas.Bool.{cases_eq, cases_lt}
 use Rattle.reg_bank.specs.Registers.{Registers, AreWords, bits_of, with_bits, field, put}
-use Rattle.reg_bank.proofs.NumberLaws.{bits_of-lt, bits_of-with_bits_same, bits_of-with_bits_apart, with_bits-standing, with_bits-lt}
+use Rattle.reg_bank.proofs.NumberLaws.{bits_of-with_bits_same, bits_of-with_bits_apart, with_bits-lt}
 
 -- a put leaves the number of words
 pub length-put : (words : Registers) (word shift width value : ℕ) → length (put words word shift width value) ≡ length words
 unfolding put
 length-put words word shift width value = length-set words word (with_bits (get_or words word 0) shift width value)
-
--- a field fits its width
-pub field-lt : (words : Registers) (word shift width : ℕ) → field words word shift width < 2 ^ width
-unfolding field
-field-lt words word shift width = bits_of-lt (get_or words word 0) shift width
 
 -- the field reads what was put
 pub field-put_same : (words : Registers) (word shift width value : ℕ) → word < length words → value < 2 ^ width → field (put words word shift width value) word shift width ≡ value
@@ -42,13 +37,6 @@ field-put_apart words word shift width value other at wide fits apart =
         | inr past ↦ ap (λ ws. bits_of (get_or ws other 0) at wide) (set_past words word (with_bits (get_or words word 0) shift width value) past)
       ]
     ]
-
--- to put what stands there changes nothing
-pub put-standing : (words : Registers) (word shift width : ℕ) → put words word shift width (field words word shift width) ≡ words
-unfolding field put
-put-standing words word shift width =
-    ap (λ w. set words word w) (with_bits-standing (get_or words word 0) shift width)
-    ∙ set-get_or words word 0
 
 -- a put in a field of 32 bits keeps words
 pub AreWords-put : (words : Registers) (word shift width value : ℕ) → value < 2 ^ width → shift + width ≤ 32 → AreWords words → AreWords (put words word shift width value)

@@ -75,15 +75,6 @@ bits_of-with_bits_apart value shift width new at wide fits apart =
       | inr behind ↦ bit_at-with_bits_above value shift width new (at + i) fits (omega arith)
     ]
 
--- to put what stands there changes nothing
-pub with_bits-standing : (value shift width : ℕ) → with_bits value shift width (bits_of value shift width) ≡ value
-unfolding with_bits bits_of
-with_bits-standing value shift width =
-    ap (λ x. x * 2 ^ shift + value % 2 ^ shift)
-    (ap (λ x. x * 2 ^ width + value / 2 ^ shift % 2 ^ width) (sym (shr-shr value shift width))
-    ∙ shr_split (value / 2 ^ shift) width)
-    ∙ shr_split value shift
-
 -- a word stays a word
 pub with_bits-lt : (value shift width new size : ℕ) → value < 2 ^ size → new < 2 ^ width → shift + width ≤ size → with_bits value shift width new < 2 ^ size
 unfolding with_bits
