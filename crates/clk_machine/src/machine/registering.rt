@@ -48,7 +48,6 @@ impl<B: Bank> Machine<B> {
         requires parents { list_all (registered self.old.state.clocks) (parents_of self.old.state.defs clock.0) ≡ true }
         ensures { Takes self.old driver (Begin (Probe clock)) result self.new }
     {
-        let _ = driver;
         if self.is_registered(clock) {
             self.spend();
             return Reply::Refused(Errno::EEXIST);
