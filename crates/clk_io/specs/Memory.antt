@@ -1,6 +1,7 @@
 -- Sources and sinks in memory, whose faults are arranged.
-use Rattle.std.specs.Prelude.{ℕ, ◌+◌, ◌-◌, ◌^◌, ◌==◌, min, Bool, List, length, drop, ◌++◌}
+use Rattle.std.specs.Prelude.{ℕ, ◌-◌, ◌==◌, Bool, List, length, drop, ◌++◌}
 use Rattle.std.specs.List.{list_any}
+use Rattle.clk_io.specs.Causes.{counted}
 
 -- a source in memory: what is left, the numbers of the calls that fail, and how many calls and faults there were
 pub record Given : Type 0 where
@@ -17,10 +18,6 @@ pub record Taken : Type 0 where
   pub fail_at : List ℕ
   pub calls : ℕ
   pub faults : ℕ
-
--- a count one higher, or at its last value
-abbrev pub counted : ℕ → ℕ
-counted n = min (n + 1) (2 ^ 64 - 1)
 
 -- the call is among those that fail
 abbrev pub is_listed : List ℕ → ℕ → Bool

@@ -1,6 +1,10 @@
 -- What whole runs of reads and writes take from a source and add to a sink.
-use Rattle.std.specs.Prelude.{ℕ, Option, ◌<◌, ◌≤◌, List, length, take}
+use Rattle.std.specs.Prelude.{ℕ, Option, None, ◌<◌, ◌≤◌, List, length, take}
 use Rattle.std.specs.Io.KnownBytes.{Appends, Consumes, IsAtEnd}
+
+-- the bytes of what does not tell them
+abbrev pub untold : Option (List ℕ)
+untold = None
 
 -- these bytes are all that was left, and no more than the limit
 pub record TakesAll (limit : ℕ) (old new : Option (List ℕ)) (bytes : List ℕ) : Type 0 where

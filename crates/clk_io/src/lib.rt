@@ -9,21 +9,21 @@
 mod faults;
 mod mem_sink;
 mod mem_source;
+mod reader_source;
 mod reading;
 mod sinks;
 mod sources;
-mod std_in;
-mod std_out;
+mod writer_sink;
 mod writing;
 
 pub use faults::{Failed, NoMemory, PrintFault, ReadFault, WriteFault};
 pub use mem_sink::MemSink;
 pub use mem_source::MemSource;
+pub use reader_source::ReaderSource;
 pub use reading::{MOST_BYTES, read_all};
 pub use sinks::Sink;
 pub use sources::Source;
-pub use std_in::StdIn;
-pub use std_out::StdOut;
+pub use writer_sink::WriterSink;
 pub use writing::write_all;
 
 #[cfg(test)]

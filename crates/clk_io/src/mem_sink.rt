@@ -1,8 +1,8 @@
 ghost use Rattle.std.specs.Prelude.{◌≡◌, ◌<◌, ◌≤◌, ◌==◌, ◌||◌, [], length, take, min, is_some, is_ok, not, IfOk, MatchResult, Some};
 ghost use Rattle.std.specs.Io.{WritesAtMost};
 ghost use Rattle.std.specs.Io.KnownBytes.{WriteAppends};
-ghost use Rattle.clk_io.specs.Causes.{HasCause};
-ghost use Rattle.clk_io.specs.Memory.{counted, is_listed, taken_after, taken_failed};
+ghost use Rattle.clk_io.specs.Causes.{counted, CountsFault};
+ghost use Rattle.clk_io.specs.Memory.{is_listed, taken_after, taken_failed};
 
 use crate::faults::{Failed, NoMemory};
 use crate::mem_source::fails_at;
@@ -82,7 +82,7 @@ impl Sink for MemSink {
         ensures bytes { WriteAppends (Some self.old.written) (Some self.new.written) result bytes.now }
         ensures tells { is_some (Some self.new.written) ≡ is_some (Some self.old.written) }
         ensures later { self.old.faults ≤ self.new.faults }
-        ensures cause { HasCause self.old.faults self.new.faults result }
+        ensures counts { CountsFault self.old.faults self.new.faults result }
 
         // It fails exactly where that was arranged or no room is left, and else takes as much as it can.
         ensures fails { is_ok result ≡ not (is_listed self.old.fail_at (counted self.old.calls) || (self.old.room == 0)) }

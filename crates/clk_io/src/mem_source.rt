@@ -1,8 +1,8 @@
 ghost use Rattle.std.specs.Prelude.{◌≡◌, ◌<◌, ◌≤◌, ◌-◌, [], length, drop, take, min, is_some, is_ok, not, IfOk, MatchResult, Some};
 ghost use Rattle.std.specs.Io.{ReadsAtMost};
 ghost use Rattle.std.specs.Io.KnownBytes.{ReadConsumes};
-ghost use Rattle.clk_io.specs.Causes.{HasCause};
-ghost use Rattle.clk_io.specs.Memory.{counted, is_listed, given_after, given_failed};
+ghost use Rattle.clk_io.specs.Causes.{counted, CountsFault};
+ghost use Rattle.clk_io.specs.Memory.{is_listed, given_after, given_failed};
 
 use crate::faults::Failed;
 use crate::sources::Source;
@@ -79,7 +79,7 @@ impl Source for MemSource {
         ensures bytes { ReadConsumes (Some self.old.left) (Some self.new.left) result into.new }
         ensures tells { is_some (Some self.new.left) ≡ is_some (Some self.old.left) }
         ensures later { self.old.faults ≤ self.new.faults }
-        ensures cause { HasCause self.old.faults self.new.faults result }
+        ensures counts { CountsFault self.old.faults self.new.faults result }
 
         // It fails exactly where that was arranged, and else gives as much as it can.
         ensures fails { is_ok result ≡ not (is_listed self.old.fail_at (counted self.old.calls)) }

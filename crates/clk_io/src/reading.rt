@@ -1,5 +1,5 @@
 ghost use Rattle.std.specs.Prelude.{◌≡◌, ◌≤◌, is_some, IfOk, Err};
-ghost use Rattle.clk_io.specs.Causes.{Rose};
+ghost use Rattle.clk_io.specs.Causes.{CountsReadFault};
 ghost use Rattle.clk_io.specs.Streams.{TakesAll, TakesMore, TakesSome};
 
 use crate::faults::ReadFault;
@@ -18,7 +18,6 @@ const BUFFER_BYTES: usize = 4096;
 /// bytes that were taken are lost. So are they after each other fault.
 pub fn read_all<S: Source>(alloc: Global, source: &mut S) -> Result<Vec<u8>, ReadFault>
     ensures ok { IfOk result (λ v. TakesAll MOST_BYTES (S.left source.old) (S.left source.new) v.items) }
-    ensures read { result ≡ Err ReadFault.Read → Rose (S.faults source.old) (S.faults source.new) }
 
     // `TooLong` comes exactly where more than the limit was taken.
     ensures too_long { result ≡ Err ReadFault.TooLong → TakesMore MOST_BYTES (S.left source.old) (S.left source.new) }
@@ -27,6 +26,7 @@ pub fn read_all<S: Source>(alloc: Global, source: &mut S) -> Result<Vec<u8>, Rea
 
     ensures tells { is_some (S.left source.new) ≡ is_some (S.left source.old) }
     ensures later { S.faults source.old ≤ S.faults source.new }
+    ensures counts { CountsReadFault (S.faults source.old) (S.faults source.new) result }
 {
     let mut bytes = Vec::new(alloc);
     let mut buffer = [0u8; BUFFER_BYTES];

@@ -1,7 +1,7 @@
 ghost use Rattle.std.specs.Prelude.{◌≡◌, ◌<◌, ◌≤◌, ℕ, List, Option, length, is_some, IfOk};
 ghost use Rattle.std.specs.Io.{WritesAtMost};
 ghost use Rattle.std.specs.Io.KnownBytes.{WriteAppends};
-ghost use Rattle.clk_io.specs.Causes.{HasCause};
+ghost use Rattle.clk_io.specs.Causes.{CountsFault};
 
 use crate::faults::Failed;
 
@@ -23,7 +23,7 @@ pub trait Sink {
         ensures bytes { WriteAppends (written self.old) (written self.new) result bytes.now }
         ensures tells { is_some (written self.new) ≡ is_some (written self.old) }
 
-        // The count of faults never falls.
+        // The count of faults never falls: it rises at a fault and stands at a success.
         ensures later { faults self.old ≤ faults self.new }
-        ensures cause { HasCause (faults self.old) (faults self.new) result };
+        ensures counts { CountsFault (faults self.old) (faults self.new) result };
 }

@@ -1,7 +1,7 @@
 ghost use Rattle.std.specs.Prelude.{◌≡◌, ◌<◌, ◌≤◌, ℕ, List, Option, length, is_some};
 ghost use Rattle.std.specs.Io.{ReadsAtMost};
 ghost use Rattle.std.specs.Io.KnownBytes.{ReadConsumes};
-ghost use Rattle.clk_io.specs.Causes.{HasCause};
+ghost use Rattle.clk_io.specs.Causes.{CountsFault};
 
 use crate::faults::Failed;
 
@@ -22,7 +22,7 @@ pub trait Source {
         ensures bytes { ReadConsumes (left self.old) (left self.new) result into.new }
         ensures tells { is_some (left self.new) ≡ is_some (left self.old) }
 
-        // The count of faults never falls.
+        // The count of faults never falls: it rises at a fault and stands at a success.
         ensures later { faults self.old ≤ faults self.new }
-        ensures cause { HasCause (faults self.old) (faults self.new) result };
+        ensures counts { CountsFault (faults self.old) (faults self.new) result };
 }

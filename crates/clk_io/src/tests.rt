@@ -1,4 +1,6 @@
 use super::*;
+use std::io;
+use std::io::{ErrorKind, Read, Write};
 use std::process::Abort;
 use std::test::Fail;
 
@@ -62,9 +64,72 @@ fn writes_all_or_a_front(rt: HostRuntime) -> Result<(), Fail> {
     check_write(&rt, 3, &[], false, b"clo")
 }
 
+/// A stream whose first call a signal interrupts, whose second passes one byte on, and whose others
+/// fail.
+#[derive(Drop)]
+struct Broken {
+    calls: u32,
+}
+
+impl Broken {
+    /// What the next call ends in, where it fails.
+    fn call(&mut self) -> io::Result<()> {
+        self.calls = self.calls.saturating_add(1);
+        match self.calls {
+            1 => Err(ErrorKind::Interrupted.into()),
+            2 => Ok(()),
+            _ => Err(ErrorKind::BrokenPipe.into()),
+        }
+    }
+}
+
+impl Read for Broken {
+    fn read(&mut self, into: &mut [u8]) -> io::Result<usize> {
+        self.call()?;
+        match into.first_mut() {
+            Some(first) => {
+                *first = 7;
+                Ok(1)
+            }
+            None => Ok(0),
+        }
+    }
+}
+
+impl Write for Broken {
+    fn write(&mut self, bytes: &[u8]) -> io::Result<usize> {
+        self.call()?;
+        Ok(bytes.len().min(1))
+    }
+
+    fn flush(&mut self) -> io::Result<()> {
+        Ok(())
+    }
+}
+
+#[test]
+fn a_reader_is_read_again_after_a_signal(rt: HostRuntime) {
+    let mut source = ReaderSource::new(Broken { calls: 0 });
+    let mut into = [0u8; 4];
+    assert_eq!(rt; source.read(&mut into), Ok(1));
+    assert_eq!(rt; into, [7, 0, 0, 0]);
+    assert_eq!(rt; source.faults(), 0);
+    assert_eq!(rt; source.read(&mut into), Err(Failed));
+    assert_eq!(rt; source.faults(), 1);
+}
+
+#[test]
+fn a_writer_is_written_again_after_a_signal(rt: HostRuntime) {
+    let mut sink = WriterSink::new(Broken { calls: 0 });
+    assert_eq!(rt; sink.write(b"clock"), Ok(1));
+    assert_eq!(rt; sink.faults(), 0);
+    assert_eq!(rt; write_all(&mut sink, b"lock"), Err(WriteFault::Write));
+    assert_eq!(rt; sink.faults(), 1);
+}
+
 #[test]
 fn standard_input_reads_or_counts_a_fault(rt: HostRuntime) {
-    let mut source = StdIn::new(rt.stdin());
+    let mut source = ReaderSource::new(rt.stdin());
     match source.read(&mut [0; 1]) {
         Ok(count) => assert!(rt; count <= 1),
         Err(Failed) => assert_eq!(rt; source.faults(), 1),
@@ -73,7 +138,7 @@ fn standard_input_reads_or_counts_a_fault(rt: HostRuntime) {
 
 #[test]
 fn standard_output_writes(rt: HostRuntime) {
-    let mut sink = StdOut::new(rt.stdout());
+    let mut sink = WriterSink::new(rt.stdout());
     assert!(rt; write_all(&mut sink, b"standard output\n").is_ok());
     assert_eq!(rt; sink.faults(), 0);
 }
