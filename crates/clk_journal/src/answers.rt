@@ -1,7 +1,7 @@
 //! Prints the answers of a driver's commands.
 
 ghost use Rattle.std.specs.Prelude.{◌≡◌, ◌≤◌, ◌+◌, Some, is_some};
-ghost use Rattle.clk_io.specs.Causes.{PrintHasCause};
+ghost use Rattle.clk_io.specs.Causes.{CountsPrintFault};
 ghost use Rattle.clk_io.specs.Prints.{Prints};
 ghost use Rattle.clk_model.specs.Text.{answer_line, answer_words, answers_text, spaced};
 
@@ -22,9 +22,9 @@ pub fn print_answers<K: Sink>(
 ) -> Result<(), PrintFault>
     ensures prints { Prints (K.written out.old) (K.written out.new)
         (answers_text desc.now.defs driver.now answers.now) result }
-    ensures cause { PrintHasCause (K.faults out.old) (K.faults out.new) result }
     ensures tells { is_some (K.written out.new) ≡ is_some (K.written out.old) }
     ensures later { K.faults out.old ≤ K.faults out.new }
+    ensures counts { CountsPrintFault (K.faults out.old) (K.faults out.new) result }
 {
     for (index, answer) in answers.iter().enumerate() {
         print_answer(alloc, desc, driver, index + 1, *answer, out)?;
@@ -67,9 +67,9 @@ fn print_answer<K: Sink>(
 ) -> Result<(), PrintFault>
     ensures prints { Prints (K.written out.old) (K.written out.new)
         (answer_line desc.now.defs driver.now number answer) result }
-    ensures cause { PrintHasCause (K.faults out.old) (K.faults out.new) result }
     ensures tells { is_some (K.written out.new) ≡ is_some (K.written out.old) }
     ensures later { K.faults out.old ≤ K.faults out.new }
+    ensures counts { CountsPrintFault (K.faults out.old) (K.faults out.new) result }
 {
     let answer = AnswerText { desc, answer };
     let line = format!(in alloc; "{driver}.{number} {answer}\n")?;

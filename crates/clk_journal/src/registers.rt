@@ -1,7 +1,7 @@
 //! Prints the words of a register bank.
 
 ghost use Rattle.std.specs.Prelude.{◌≡◌, ◌≤◌, ◌==◌, Some, [], if◌then◌else◌, is_some};
-ghost use Rattle.clk_io.specs.Causes.{PrintHasCause};
+ghost use Rattle.clk_io.specs.Causes.{CountsPrintFault};
 ghost use Rattle.clk_io.specs.Prints.{Prints};
 ghost use Rattle.clk_model.specs.Text.{hex_digits, register_line, registers_text};
 
@@ -13,9 +13,9 @@ use std::fmt;
 pub fn print_registers<K: Sink>(alloc: Global, words: &[u32], out: &mut K) -> Result<(), PrintFault>
     ensures prints { Prints (K.written out.old) (K.written out.new)
         (registers_text words.now) result }
-    ensures cause { PrintHasCause (K.faults out.old) (K.faults out.new) result }
     ensures tells { is_some (K.written out.new) ≡ is_some (K.written out.old) }
     ensures later { K.faults out.old ≤ K.faults out.new }
+    ensures counts { CountsPrintFault (K.faults out.old) (K.faults out.new) result }
 {
     for (place, value) in words.iter().enumerate() {
         print_word(alloc, place, *value, out)?;
@@ -46,9 +46,9 @@ fn print_word<K: Sink>(
 ) -> Result<(), PrintFault>
     ensures prints { Prints (K.written out.old) (K.written out.new)
         (if value == 0 then [] else register_line place value) result }
-    ensures cause { PrintHasCause (K.faults out.old) (K.faults out.new) result }
     ensures tells { is_some (K.written out.new) ≡ is_some (K.written out.old) }
     ensures later { K.faults out.old ≤ K.faults out.new }
+    ensures counts { CountsPrintFault (K.faults out.old) (K.faults out.new) result }
 {
     if value == 0 {
         return Ok(());
@@ -65,9 +65,9 @@ fn print_register<K: Sink>(
 ) -> Result<(), PrintFault>
     ensures prints { Prints (K.written out.old) (K.written out.new)
         (register_line place value) result }
-    ensures cause { PrintHasCause (K.faults out.old) (K.faults out.new) result }
     ensures tells { is_some (K.written out.new) ≡ is_some (K.written out.old) }
     ensures later { K.faults out.old ≤ K.faults out.new }
+    ensures counts { CountsPrintFault (K.faults out.old) (K.faults out.new) result }
 {
     let value = HexWord(value);
     let line = format!(in alloc; "reg {place} 0x{value}\n")?;

@@ -84,9 +84,9 @@ closes_for desc window window' tree handles credits spent ignore_unused clock sh
 pub takes_disabled : (old mid new : Held) (d n : ℕ) (row : HandleRow) → old.state.spent < old.state.credits
     → own_handle old.state d n ≡ Some row → 0 < row.enables
     → mid ≡ record old { state = record (put_handle old.state n (Some (less_enabled row))) { spent = old.state.spent + 1 } }
-    → new.told ≡ mid.told → new.size ≡ mid.size → new.state ≡ record mid.state { regs = new.state.regs } → (mid.told ≡ true → ClosesFor mid.state row.clock new.state.regs)
+    → new.told ≡ mid.told → new.size ≡ mid.size → new.behind ≡ mid.behind → new.state ≡ record mid.state { regs = new.state.regs } → (mid.told ≡ true → ClosesFor mid.state row.clock new.state.regs)
     → Takes old d (event.Disable n) reply.Fine new
-takes_disabled old mid new d n row left own some is told size stays closes =
+takes_disabled old mid new d n row left own some is told size behind stays closes =
     let put : State = record (put_handle old.state n (Some (less_enabled row))) { spent = old.state.spent + 1 } in
     let mid_is : mid.state ≡ put = ap (λ (h : Held). h.state) is in
     let with_regs : State → State = (λ (s : State). let t : State = record s { regs = new.state.regs } in t) in
@@ -94,6 +94,7 @@ takes_disabled old mid new d n row left own some is told size stays closes =
     record {
       told = told ∙ ap (λ (h : Held). h.told) is;
       size = size ∙ ap (λ (h : Held). h.size) is;
+      behind = behind ∙ ap (λ (h : Held). h.behind) is;
       stays = record { defs = ap (λ (s : State). s.defs) state_is; credits = ap (λ (s : State). s.credits) state_is; ignore_unused = ap (λ (s : State). s.ignore_unused) state_is };
       spent = ap (λ (s : State). s.spent) state_is;
       registered_ = λ c. ap (λ (s : State). registered s.clocks c) state_is ∙ or_none (registered old.state.clocks c);

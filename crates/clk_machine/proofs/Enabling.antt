@@ -53,15 +53,16 @@ opens_for desc window window' tree handles credits spent ignore_unused clock sha
 
 pub takes_enabled : (old mid new : Held) (d n : ℕ) (row : HandleRow) → old.state.spent < old.state.credits
     → own_handle old.state d n ≡ Some row → 0 < row.prepares
-    → mid.told ≡ old.told → mid.size ≡ old.size → mid.state ≡ record old.state { regs = mid.state.regs } → (old.told ≡ true → OpensFor old.state row.clock mid.state.regs)
+    → mid.told ≡ old.told → mid.size ≡ old.size → mid.behind ≡ old.behind → mid.state ≡ record old.state { regs = mid.state.regs } → (old.told ≡ true → OpensFor old.state row.clock mid.state.regs)
     → new ≡ record mid { state = record (put_handle mid.state n (Some (more_enabled row))) { spent = mid.state.spent + 1 } }
     → Takes old d (event.Enable n) reply.Fine new
-takes_enabled old mid new d n row left own some told size stays opens is =
+takes_enabled old mid new d n row left own some told size behind stays opens is =
     let put : State → State = (λ (s : State). let t : State = record (put_handle s n (Some (more_enabled row))) { spent = s.spent + 1 } in t) in
     let state_is : new.state ≡ put (record old.state { regs = mid.state.regs }) = ap (λ (h : Held). h.state) is ∙ ap put stays in
     record {
       told = ap (λ (h : Held). h.told) is ∙ told;
       size = ap (λ (h : Held). h.size) is ∙ size;
+      behind = ap (λ (h : Held). h.behind) is ∙ behind;
       stays = record { defs = ap (λ (s : State). s.defs) state_is; credits = ap (λ (s : State). s.credits) state_is; ignore_unused = ap (λ (s : State). s.ignore_unused) state_is };
       spent = ap (λ (s : State). s.spent) state_is;
       registered_ = λ c. ap (λ (s : State). registered s.clocks c) state_is ∙ or_none (registered old.state.clocks c);

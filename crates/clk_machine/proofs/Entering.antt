@@ -100,13 +100,14 @@ entered old new words log log' d e r run takes can paid entries room =
 -- and then the entry was appended
 pub appended : (old new : Held) (words : List ℕ) (log log' : Logged) (d : ℕ) (e : Event) (r : Reply) → IsRun old words log → Takes old d e r new → CanTake old.state e → is_paid e ≡ true
     → log'.entries ≡ log.entries ++ entry_of d e r ∷ [] → log'.room + 1 ≡ log.room
-    → Appends (record { start = start_of old words; journal = log.entries; told = old.told }) d e (turn.Done r)
-    (record { start = start_of new words; journal = log'.entries; told = new.told })
+    → Appends (record { start = start_of old words; journal = log.entries; told = old.told; behind = old.behind }) d e (turn.Done r)
+    (record { start = start_of new words; journal = log'.entries; told = new.told; behind = new.behind })
 appended old new words log log' d e r run takes can paid entries room =
     let after = entered old new words log log' d e r run takes can paid entries room in
     record {
       start = start_stays old new words takes.stays;
       told = takes.told;
+      behind = takes.behind;
       entry = entries;
       step = λ told.
           ap (λ (s : State). next s d e) (run.stands told) ∙ takes.step told (subst (λ (n : ℕ). IsSound n old.state) (sym run.size) (run.sound told))
@@ -122,7 +123,7 @@ list_all-agree p q (x ∷ xs) same = ap (λ (b : Bool). b && list_all p xs) (sam
 
 -- a clock is registered where it was probed, so a call that is built can begin
 pub can_begin : (m : Held) (words : List ℕ) (log : Logged) (what : Sleeping) → IsRun m words log
-    → is_built (record { start = start_of m words; journal = log.entries; told = m.told }) what ≡ true → CanBegin m.state what
+    → is_built (record { start = start_of m words; journal = log.entries; told = m.told; behind = m.behind }) what ≡ true → CanBegin m.state what
 can_begin m words log (call.Get found) run built = tt
 can_begin m words log (call.Prepare h) run built = not_true (has_pll m.state.defs) built where
   not_true : (b : Bool) → not b ≡ true → b ≡ false

@@ -33,12 +33,13 @@ Comes old d event r t = old.told ≡ true → IsSound old.size old.state → nex
 -- the machine's turn where each clock is active as it was
 pub takes_still : (old new : Held) (d : ℕ) (event : Event) (r : Reply) (t : State) → old.state.spent < old.state.credits
     → Comes old d event r t → ((c : ℕ) → active old.state c ≡ active t c)
-    → new.told ≡ old.told → new.size ≡ old.size → new.state ≡ record t { spent = old.state.spent + 1 } → Stays old.state t
+    → new.told ≡ old.told → new.size ≡ old.size → new.behind ≡ old.behind → new.state ≡ record t { spent = old.state.spent + 1 } → Stays old.state t
     → ((c : ℕ) → registered t.clocks c ≡ (registered old.state.clocks c || registers event c))
     → Takes old d event r new
-takes_still old new d event r t left comes same told size is stays rows = record {
+takes_still old new d event r t left comes same told size behind is stays rows = record {
   told = told;
   size = size;
+  behind = behind;
   stays = record { defs = ap (λ (s : State). s.defs) is ∙ stays.defs; credits = ap (λ (s : State). s.credits) is ∙ stays.credits; ignore_unused = ap (λ (s : State). s.ignore_unused) is ∙ stays.ignore_unused };
   spent = ap (λ (s : State). s.spent) is;
   registered_ = λ c. ap (λ (s : State). registered s.clocks c) is ∙ rows c;
@@ -49,11 +50,11 @@ takes_still old new d event r t left comes same told size is stays rows = record
 -- an event that registers nothing and leaves the clocks
 pub takes_beside : (old new : Held) (d : ℕ) (event : Event) (r : Reply) (t : State) → old.state.spent < old.state.credits
     → Comes old d event r t → ((c : ℕ) → active old.state c ≡ active t c)
-    → new.told ≡ old.told → new.size ≡ old.size → new.state ≡ record t { spent = old.state.spent + 1 } → Stays old.state t
+    → new.told ≡ old.told → new.size ≡ old.size → new.behind ≡ old.behind → new.state ≡ record t { spent = old.state.spent + 1 } → Stays old.state t
     → t.clocks ≡ old.state.clocks → ((c : ℕ) → registers event c ≡ false)
     → Takes old d event r new
-takes_beside old new d event r t left comes same told size is stays clocks none =
-    takes_still old new d event r t left comes same told size is stays
+takes_beside old new d event r t left comes same told size behind is stays clocks none =
+    takes_still old new d event r t left comes same told size behind is stays
     (λ c. ap (λ (rows : _). registered rows c) clocks ∙ or_false (registered old.state.clocks c) ∙ ap (λ (b : Bool). registered old.state.clocks c || b) (sym (none c)))
 
 -- a refusal changes nothing but the credits
@@ -62,7 +63,7 @@ pub takes_refused : (old new : Held) (d : ℕ) (event : Event) (e : Errno) → o
     → new ≡ record old { state = record old.state { spent = old.state.spent + 1 } } → ((c : ℕ) → registers event c ≡ false)
     → Takes old d event (reply.Refused e) new
 takes_refused old new d event e left comes is none =
-    takes_beside old new d event (reply.Refused e) old.state left (λ _ _. comes) (λ c. refl) (ap (λ (h : Held). h.told) is) (ap (λ (h : Held). h.size) is) (ap (λ (h : Held). h.state) is)
+    takes_beside old new d event (reply.Refused e) old.state left (λ _ _. comes) (λ c. refl) (ap (λ (h : Held). h.told) is) (ap (λ (h : Held). h.size) is) (ap (λ (h : Held). h.behind) is) (ap (λ (h : Held). h.state) is)
     (record { defs = refl; credits = refl; ignore_unused = refl }) refl none
 
 -- the refusal of a probe: the clock is registered already
@@ -71,7 +72,7 @@ pub takes_known : (old new : Held) (d : ℕ) (c : ClockId) (e : Errno) → old.s
     → new ≡ record old { state = record old.state { spent = old.state.spent + 1 } } → registered old.state.clocks c.0 ≡ true
     → Takes old d (event.Begin (call.Probe c)) (reply.Refused e) new
 takes_known old new d c e left comes is there =
-    takes_still old new d (event.Begin (call.Probe c)) (reply.Refused e) old.state left (λ _ _. comes) (λ k. refl) (ap (λ (h : Held). h.told) is) (ap (λ (h : Held). h.size) is) (ap (λ (h : Held). h.state) is)
+    takes_still old new d (event.Begin (call.Probe c)) (reply.Refused e) old.state left (λ _ _. comes) (λ k. refl) (ap (λ (h : Held). h.told) is) (ap (λ (h : Held). h.size) is) (ap (λ (h : Held). h.behind) is) (ap (λ (h : Held). h.state) is)
     (record { defs = refl; credits = refl; ignore_unused = refl })
     (λ k. known k) where
       known : (k : ℕ) → registered old.state.clocks k ≡ (registered old.state.clocks k || nat_eq c.0 k)
@@ -87,7 +88,7 @@ pub takes_unchanged : (old new : Held) (d : ℕ) (event : Event) (r : Reply) →
     → new ≡ record old { state = record old.state { spent = old.state.spent + 1 } } → ((c : ℕ) → registers event c ≡ false)
     → Takes old d event r new
 takes_unchanged old new d event r left comes is none =
-    takes_beside old new d event r old.state left comes (λ c. refl) (ap (λ (h : Held). h.told) is) (ap (λ (h : Held). h.size) is) (ap (λ (h : Held). h.state) is)
+    takes_beside old new d event r old.state left comes (λ c. refl) (ap (λ (h : Held). h.told) is) (ap (λ (h : Held). h.size) is) (ap (λ (h : Held). h.behind) is) (ap (λ (h : Held). h.state) is)
     (record { defs = refl; credits = refl; ignore_unused = refl }) refl none
 
 -- a registration with nothing else to do
@@ -97,6 +98,7 @@ pub takes_probed : (old new : Held) (d : ℕ) (c : ClockId) → old.state.spent 
 takes_probed old new d c left within free parents registers_ = record {
   told = registers_.told;
   size = registers_.size;
+  behind = registers_.behind;
   stays = registers_.stays;
   spent = registers_.spent;
   registered_ = registers_.rows;

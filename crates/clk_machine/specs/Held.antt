@@ -25,12 +25,15 @@ use Rattle.clk_machine.specs.Window.{Shown, AreTold}
 use Rattle.clk_machine.specs.Fit.{CanRun}
 use Rattle.clk_machine.specs.Sound.{IsSound}
 
--- the state that the rows of a core stand for, whether the bank tells its words, and how many of them
+-- the state that the rows of a core stand for, and what the core knows of its bank
 pub record Held : Type 0 where
   pub state : State
+  -- whether the bank tells its words
   pub told : Bool
   -- how many words of the bank belong to the state
   pub size : ℕ
+  -- the words of the bank behind those, where it tells them
+  pub behind : Option (List ℕ)
 
 -- the state of these rows: no notifier, no hold and no change in flight
 abbrev pub state_of : Description → Option (List ℕ) → List ClockRow → List ℕ → List (Option HandleRow) → ℕ → ℕ → Bool → State
@@ -97,6 +100,7 @@ pub record Stays (old new : State) : Type 0 where
 pub record RegistersClock (old : Held) (c : ℕ) (new : Held) : Type 0 where
   pub told : new.told ≡ old.told
   pub size : new.size ≡ old.size
+  pub behind : new.behind ≡ old.behind
   pub stays : Stays old.state new.state
   pub spent : new.state.spent ≡ old.state.spent + 1
   pub rows : (k : ℕ) → registered new.state.clocks k ≡ (registered old.state.clocks k || c == k)
@@ -111,6 +115,7 @@ registers _ c = false
 pub record Takes (old : Held) (driver : ℕ) (event : Event) (reply : Reply) (new : Held) : Type 0 where
   pub told : new.told ≡ old.told
   pub size : new.size ≡ old.size
+  pub behind : new.behind ≡ old.behind
   pub stays : Stays old.state new.state
   pub spent : new.state.spent ≡ old.state.spent + 1
   pub registered_ : (c : ℕ) → registered new.state.clocks c ≡ (registered old.state.clocks c || registers event c)

@@ -1,5 +1,5 @@
 -- What contracts see of a core: where it began, and its journal.
-use Rattle.std.specs.Prelude.{◌≡◌, ℕ, ◌+◌, List, [], ◌∷◌, ◌++◌, Bool, true, false, not, Some, length, take}
+use Rattle.std.specs.Prelude.{◌≡◌, ℕ, ◌+◌, List, [], ◌∷◌, ◌++◌, Bool, true, false, not, Option, Some, length, take}
 use Rattle.std.specs.List.{list_any, list_all}
 use Rattle.clk_base.specs.Description.{parents_of}
 use Rattle.clk_base.specs.declared.call.Sleeping.{Sleeping}
@@ -16,11 +16,14 @@ use Rattle.clk_machine.specs.Fit.{has_pll}
 use Rattle.clk_machine.specs.Held.{Held, registers}
 use Rattle.clk_machine.specs.Sound.{IsSound}
 
--- a core as its opening, its journal, and whether its bank tells its words
+-- a core as its opening and its journal, and what it knows of its bank
 pub record Run : Type 0 where
   pub start : State
   pub journal : List Entry
+  -- whether the bank tells its words
   pub told : Bool
+  -- the words of the bank behind those of the state, where it tells them
+  pub behind : Option (List ℕ)
 
 -- the state of a core: its opening with its journal replayed
 abbrev pub now_of : Run → State
@@ -51,6 +54,7 @@ IsDone (turn.Done r) = Unit {0}
 pub record Appends (old : Run) (driver : ℕ) (event : Event) (turn : Turn) (new : Run) : Type 0 where
   pub start : new.start ≡ old.start
   pub told : new.told ≡ old.told
+  pub behind : new.behind ≡ old.behind
   pub entry : new.journal ≡ old.journal ++ record { driver = driver; event = event; turn = turn } ∷ []
   pub step : old.told ≡ true → next (now_of old) driver event ≡ Some (now_of new, slotless turn)
   pub legal : old.told ≡ true → Legal new.start new.journal

@@ -1,6 +1,7 @@
 //! The core: the machine with its journal.
 
-ghost use Rattle.std.specs.Prelude.{◌≡◌, ℕ, ◌+◌, ◌<◌, ◌≤◌, true, [], ◌∷◌, ◌++◌, List, length, take, is_some, slice_index, IfSome, IfOk, OnErr, IsTrue};
+ghost use Rattle.std.specs.Prelude.{◌≡◌, ℕ, ◌+◌, ◌<◌, ◌≤◌, true, [], ◌∷◌, ◌++◌, List, length, take, drop, is_some, slice_index, IfSome, IfOk, OnErr, IsTrue};
+ghost use Rattle.std.specs.Option.{option_map};
 ghost use Rattle.clk_model.specs.State.{is_quiet};
 ghost use Rattle.clk_model.specs.Journal.{opening, replay, Legal, cost};
 ghost use Rattle.clk_model.specs.Fed.{Fed};
@@ -31,7 +32,7 @@ impl<B: Bank> Model for Core<B> {
 
     ghost Value = { Run };
 
-    ghost view = { λ c. record { start = start_of c.machine c.words.items; journal = c.log.entries; told = c.machine.told } };
+    ghost view = { λ c. record { start = start_of c.machine c.words.items; journal = c.log.entries; told = c.machine.told; behind = c.machine.behind } };
 
     ghost invariant = { λ c. IsRun c.machine c.words.items c.log };
 }
@@ -62,6 +63,7 @@ impl<B: Bank> Core<B> {
         ensures start { IfOk result (λ core. core.start ≡ opening desc.defs words.now ignore_unused credits) }
         ensures journal { IfOk result (λ core. core.journal ≡ []) }
         ensures told { IfOk result (λ core. core.told ≡ is_some (B.contents bank)) }
+        ensures behind { IfOk result (λ core. core.behind ≡ option_map (drop (length words.now)) (B.contents bank)) }
     {
         let log = Log::create(alloc, credits)?;
         let kept = Vec::from_slice(alloc, words)?;
@@ -186,7 +188,8 @@ impl<B: Bank> Core<B> {
 
     /// Whether no change is in flight. The calls that are built leave none.
     pub fn quiet(&self) -> bool
-        ensures { self.now.told ≡ true → result ≡ is_quiet (now_of self.now).change }
+        ensures tells { self.now.told ≡ true → result ≡ is_quiet (now_of self.now).change }
+        ensures none { result ≡ true }
     {
         self.machine.is_quiet()
     }
@@ -223,10 +226,12 @@ impl<B: Bank> Core<B> {
         self.machine.word(place)
     }
 
-    /// The bank. Where it tells its words, the first ones are the registers of the core's state.
+    /// The bank. Where it tells its words, the first ones are the registers of the core's state, and
+    /// those behind them are as they were.
     pub fn into_bank(self) -> B
         ensures told { is_some (B.contents result) ≡ self.told }
         ensures words { IfSome (B.contents result) (λ words. take (length self.start.regs) words ≡ (now_of self).regs) }
+        ensures behind { option_map (drop (length self.start.regs)) (B.contents result) ≡ self.behind }
     {
         let Core {
             machine,

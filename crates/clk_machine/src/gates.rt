@@ -51,6 +51,7 @@ fn open_gate<B: Bank>(kind: Kind, window: &mut Window<B>)
     requires { IfSome (gate_of kind) (λ gate. (gate.word < window.old.size) × (gate.bit < 32)) }
     ensures size { window.new.size ≡ window.old.size }
     ensures words { window.new.words ≡ option_map (λ regs. option_map_or (follow regs false true) (gate_of kind) regs) window.old.words }
+    ensures behind { window.new.behind ≡ window.old.behind }
 {
     if let Kind::Gate {
         word,
@@ -67,6 +68,7 @@ fn close_gate<B: Bank>(kind: Kind, window: &mut Window<B>)
     requires { IfSome (gate_of kind) (λ gate. (gate.word < window.old.size) × (gate.bit < 32)) }
     ensures size { window.new.size ≡ window.old.size }
     ensures words { window.new.words ≡ option_map (λ regs. option_map_or (follow regs true false) (gate_of kind) regs) window.old.words }
+    ensures behind { window.new.behind ≡ window.old.behind }
 {
     if let Kind::Gate {
         word,
@@ -92,6 +94,7 @@ pub(crate) fn open_path<B: Bank>(
     requires words { window.old.size ≡ desc.now.words }
     ensures size { window.new.size ≡ window.old.size }
     ensures words { window.new.words ≡ option_map (gates_moved desc.now.defs (is_held tree.now.clocks (clocks_of is_enabled handles.now)) (λ _. true) (path_within (link_in tree.now.clocks) levels clock.0)) window.old.words }
+    ensures behind { window.new.behind ≡ window.old.behind }
 {
     if levels == 0 {
         return;
@@ -118,6 +121,7 @@ pub(crate) fn close_path<B: Bank>(
     requires words { window.old.size ≡ desc.now.words }
     ensures size { window.new.size ≡ window.old.size }
     ensures words { window.new.words ≡ option_map (gates_moved desc.now.defs (λ _. true) (is_held tree.now.clocks (clocks_of is_enabled handles.now)) (reverse (path_within (link_in tree.now.clocks) levels clock.0))) window.old.words }
+    ensures behind { window.new.behind ≡ window.old.behind }
 {
     if levels == 0 {
         return;

@@ -1,6 +1,7 @@
 //! The state of the machine, kept in parts.
 
-ghost use Rattle.std.specs.Prelude.{◌≡◌, ℕ, ◌+◌, ◌<◌, ◌≤◌, true, false, length, is_some, IfSome, IfOk, OnErr, Some, None};
+ghost use Rattle.std.specs.Prelude.{◌≡◌, ℕ, ◌+◌, ◌<◌, ◌≤◌, true, false, length, drop, is_some, IfSome, IfOk, OnErr, Some, None};
+ghost use Rattle.std.specs.Option.{option_map};
 ghost use Rattle.clk_base.specs.Valid.{IsValid};
 ghost use Rattle.clk_model.specs.State.{registered};
 ghost use Rattle.clk_model.specs.Journal.{opening};
@@ -45,6 +46,7 @@ impl<B: Bank> Model for Machine<B> {
       state = state_of m.desc.defs m.window.words m.tree.clocks m.tree.order m.handles.items m.credits m.spent m.ignore_unused;
       told = is_some m.window.words;
       size = m.window.size;
+      behind = m.window.behind;
     } };
 
     ghost invariant = { λ m. IsShaped m.desc m.window m.tree m.handles.items m.credits m.spent };
@@ -76,6 +78,7 @@ impl<B: Bank> Machine<B> {
         ensures fixed { IfOk result (λ m. (m.state.defs ≡ desc.defs) × (m.state.credits ≡ credits) × (m.state.ignore_unused ≡ ignore_unused) × (m.state.spent ≡ 0)) }
         ensures none { IfOk result (λ m. (c : ℕ) → registered m.state.clocks c ≡ false) }
         ensures size { IfOk result (λ m. m.size ≡ length words.now) }
+        ensures behind { IfOk result (λ m. m.behind ≡ option_map (drop (length words.now)) (B.contents bank)) }
         ensures valid { IsValid (length words.now) desc.defs }
     {
         let tree = Tree::create(alloc, &desc)?;
@@ -118,6 +121,7 @@ impl<B: Bank> Machine<B> {
         requires { registered self.old.state.clocks clock.0 ≡ true }
         ensures told { self.new.told ≡ self.old.told }
         ensures size { self.new.size ≡ self.old.size }
+        ensures behind { self.new.behind ≡ self.old.behind }
         ensures stays { self.new.state ≡ record self.old.state { regs = self.new.state.regs } }
         ensures opens { self.old.told ≡ true → OpensFor self.old.state clock self.new.state.regs }
     {

@@ -1,6 +1,6 @@
 //! The words of a bank that a description uses.
 
-ghost use Rattle.std.specs.Prelude.{◌≡◌, ◌+◌, ◌<◌, ◌≤◌, IfSome, length, take, slice_index};
+ghost use Rattle.std.specs.Prelude.{◌≡◌, ◌+◌, ◌<◌, ◌≤◌, IfSome, length, take, drop, slice_index};
 ghost use Rattle.std.specs.Option.{option_map};
 ghost use Rattle.reg_bank.specs.Registers.{is_set, put_bit, field};
 ghost use Rattle.clk_machine.specs.Window.{AreTold};
@@ -17,13 +17,13 @@ pub struct Window<B: Bank> {
 }
 
 impl<B: Bank> Model for Window<B> {
-    ghost use Rattle.std.specs.Prelude.{◌≤◌, take};
+    ghost use Rattle.std.specs.Prelude.{◌≤◌, take, drop};
     ghost use Rattle.std.specs.Option.{option_map};
     ghost use Rattle.clk_machine.specs.Window.{Shown, AreTold};
 
     ghost Value = { Shown };
 
-    ghost view = { λ w. record { size = w.size; words = option_map (take w.size) (B.contents w.bank) } };
+    ghost view = { λ w. record { size = w.size; words = option_map (take w.size) (B.contents w.bank); behind = option_map (drop w.size) (B.contents w.bank) } };
 
     ghost invariant = { λ w. (w.size ≤ B.size w.bank) × AreTold w.size (option_map (take w.size) (B.contents w.bank)) };
 }
@@ -34,6 +34,7 @@ impl<B: Bank> Window<B> {
         requires { length words.now ≤ B.size bank }
         ensures size { result.size ≡ length words.now }
         ensures words { result.words ≡ option_map (λ _. words.now) (B.contents bank) }
+        ensures behind { result.behind ≡ option_map (drop (length words.now)) (B.contents bank) }
         ensures told { AreTold result.size result.words }
     {
         for (place, word) in words.iter().enumerate() {
@@ -94,13 +95,15 @@ impl<B: Bank> Window<B> {
         requires bit { bit < 32 }
         ensures size { self.new.size ≡ self.old.size }
         ensures words { self.new.words ≡ option_map (λ words. put_bit words word bit value) self.old.words }
+        ensures behind { self.new.behind ≡ self.old.behind }
     {
         write_bit(&mut self.bank, word as usize, bit, value);
     }
 
     /// The whole bank.
     pub fn into_bank(self) -> B
-        ensures { option_map (take self.size) (B.contents result) ≡ self.words }
+        ensures words { option_map (take self.size) (B.contents result) ≡ self.words }
+        ensures behind { option_map (drop self.size) (B.contents result) ≡ self.behind }
     {
         let Window { bank, size: _ } = self;
         bank

@@ -1,8 +1,7 @@
--- The bytes alone decide the status, where memory suffices and no fault comes.
+-- The bytes alone decide the status, unless memory ran out, a read failed or a write failed.
 use Rattle.std.proofs.Common.{◌≡◌, ℕ, ◌+◌, ◌≤◌, List, ◌++◌, Option, Some, None, refl, sym, ap, subst, ◌∙◌, arith, length, inl, inr}
 use Rattle.std.specs.Io.KnownBytes.{Consumes}
 use Rattle.std.proofs.lemmas.List.{append-nil, length-append}
-use Rattle.clk_io.specs.Causes.{Rose, IsCaused}
 use Rattle.clk_io.specs.Streams.{TakesAll}
 use Rattle.clk_io.specs.declared.faults.PrintFault.{PrintFault}
 use Rattle.clk_io.specs.declared.faults.PrintFault.TheVariants as print_fault
@@ -57,11 +56,21 @@ refuses_decides left left' line reason refuses = record {
 -- memory ran out
 pub short_decides : (left : Option (List ℕ)) → Decides left 3
 short_decides left = record {
-  accepts = λ bytes b is spelled. inr refl;
-  refuses = λ bytes line reason is no. inr refl;
+  accepts = λ bytes b is spelled. inr (inl refl);
+  refuses = λ bytes line reason is no. inr (inl refl);
+}
+
+-- a read failed
+pub unread_decides : (left : Option (List ℕ)) → Decides left 4
+unread_decides left = record {
+  accepts = λ bytes b is spelled. inr (inr (inl refl));
+  refuses = λ bytes line reason is no. inr (inr (inl refl));
 }
 
 -- a fault of printing came
-pub fault_decides : (left : Option (List ℕ)) (before now : ℕ) (fault : PrintFault) → IsCaused before now fault → (Rose before now → ⊥) → Decides left (status_of fault)
-fault_decides left before now print_fault.Write caused never = absurd (never caused)
-fault_decides left before now print_fault.NoMemory caused never = short_decides left
+pub fault_decides : (left : Option (List ℕ)) (fault : PrintFault) → Decides left (status_of fault)
+fault_decides left print_fault.Write = record {
+  accepts = λ bytes b is spelled. inr (inr (inr refl));
+  refuses = λ bytes line reason is no. inr (inr (inr refl));
+}
+fault_decides left print_fault.NoMemory = short_decides left

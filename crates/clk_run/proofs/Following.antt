@@ -1,5 +1,5 @@
 -- Journals in which several drivers have their calls: one driver after the other.
-use Rattle.std.proofs.Common.{◌≡◌, ℕ, ◌+◌, ◌<◌, ◌≤◌, true, false, List, [], ◌∷◌, ◌++◌, None, refl, sym, ap, subst, ◌∙◌, arith, length, nat_lt, nat_eq}
+use Rattle.std.proofs.Common.{◌≡◌, ℕ, ◌+◌, ◌<◌, ◌≤◌, true, false, not, List, [], ◌∷◌, ◌++◌, None, refl, sym, ap, subst, ◌∙◌, arith, length, nat_lt, nat_eq, append_assoc}
 use Rattle.std.proofs.lemmas.Bool.Decides.{nat_tests}
 use Rattle.std.proofs.lemmas.List.{append-nil}
 use Rattle.std.specs.List.{list_all}
@@ -11,7 +11,7 @@ use Rattle.clk_model.specs.Follows.{Variables, no_handles, Follows, FollowsFrom}
 use Rattle.clk_model.proofs.CallLaws.{own-append}
 use Rattle.clk_machine.specs.Run.{Run}
 use Rattle.clk_run.specs.Scripts.{is_answer, is_answered, GoesThrough}
-use Rattle.clk_run.specs.Runs.{FollowAll, are_among}
+use Rattle.clk_run.specs.Runs.{FollowAll, is_boots, IsBootFirst, are_among}
 use Rattle.clk_run.proofs.Going.{and_left, and_right, both, list_all-append}
 
 -- ---- entries of one driver
@@ -91,6 +91,45 @@ among_own d [] h = refl
 among_own d (e ∷ es) h =
     let is = driver_of d e (and_left (is_answered d e) _ h) in
     both (nat_lt e.driver (d + 1)) _ (grind (arith, nat_tests)) (among_own d es (and_right _ _ h))
+
+-- ---- boot first
+
+boots_of : (es : List Entry) → list_all (is_answered 0) es ≡ true → list_all is_boots es ≡ true
+boots_of [] h = refl
+boots_of (e ∷ es) h =
+    let is = driver_of 0 e (and_left (is_answered 0 e) _ h) in
+    both (nat_eq e.driver 0) _ (grind (arith, nat_tests)) (boots_of es (and_right _ _ h))
+
+not_boots_of : (d : ℕ) (es : List Entry) → 0 < d → list_all (is_answered d) es ≡ true → list_all (λ e. not (is_boots e)) es ≡ true
+not_boots_of d [] some h = refl
+not_boots_of d (e ∷ es) some h =
+    let is = driver_of d e (and_left (is_answered d e) _ h) in
+    let other : nat_eq e.driver 0 ≡ false = grind (arith, nat_tests) in
+    both (not (nat_eq e.driver 0)) _ (ap not other) (not_boots_of d es some (and_right _ _ h))
+
+-- boot is the first to go through its commands
+pub boot_first : (old new : Run) (held held' : Variables) (commands : List Command) (answers : List Answer) → old.journal ≡ []
+    → GoesThrough old 0 held commands answers held' new → IsBootFirst new.journal
+boot_first old new held held' commands answers none goes = record {
+  boot = goes.entries;
+  others = [];
+  split = goes.journal ∙ ap (λ (j : List Entry). j ++ goes.entries) none ∙ sym (append-nil goes.entries);
+  boots = boots_of goes.entries goes.own;
+  not_boots = refl;
+}
+
+-- and the other drivers come behind it
+pub boot_still_first : (old new : Run) (d : ℕ) (held held' : Variables) (commands : List Command) (answers : List Answer) → 0 < d → IsBootFirst old.journal
+    → GoesThrough old d held commands answers held' new → IsBootFirst new.journal
+boot_still_first old new d held held' commands answers some first goes = record {
+  boot = first.boot;
+  others = first.others ++ goes.entries;
+  split = goes.journal ∙ ap (λ (j : List Entry). j ++ goes.entries) first.split ∙ append_assoc first.boot first.others goes.entries;
+  boots = first.boots;
+  not_boots = list_all-append (λ e. not (is_boots e)) first.others goes.entries first.not_boots (not_boots_of d goes.entries some goes.own);
+}
+
+-- ---- drivers in their turn
 
 -- after a driver's commands its calls follow them too, and the entries are of one driver more
 pub follow_next : (old new : Run) (d : ℕ) (held' : Variables) (scripts : List (List Command)) (answers : List (List Answer)) (commands : List Command) (own' : List Answer) → d ≡ length scripts

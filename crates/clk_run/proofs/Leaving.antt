@@ -1,10 +1,11 @@
 -- What a run leaves: its text, and the registers in the bank.
 use Rattle.std.proofs.Common.{◌≡◌, ℕ, Bool, true, List, Option, Some, None, Result, Ok, Err, refl, sym, ap, subst, ◌∙◌, inr, arith}
-use Rattle.std.specs.Prelude.{is_some, take, IfSome, IfErr}
+use Rattle.std.specs.Prelude.{is_some, take, drop, IfSome, IfErr}
+use Rattle.std.specs.Option.{option_map}
 use Rattle.clk_io.specs.declared.faults.PrintFault.{PrintFault}
 use Rattle.clk_io.specs.declared.faults.PrintFault.TheVariants as print_fault
 use Rattle.clk_base.specs.declared.command.Answer.{Answer}
-use Rattle.clk_model.specs.State.{State}
+use Rattle.clk_model.specs.State.{State, is_quiet}
 use Rattle.clk_model.specs.Fed.{Fed}
 use Rattle.clk_model.specs.Journal.{replay, Legal}
 use Rattle.drv_scripts.specs.declared.bundle.Bundle.{Bundle}
@@ -16,9 +17,10 @@ use Rattle.clk_run.specs.Runs.{drivers_in, opening_of, run_text, IsTextOf, HasRu
 -- a core that has run a bundle from its opening gives the text of a run of it
 pub text_of : (b : Bundle) (cli : Cli) (told : Bool) (begun core : Run) (answers : List (List Answer)) (words : List ℕ)
     → begun.start ≡ opening_of b cli.ignore_unused → begun.told ≡ told → HasRun b.boot (drivers_in cli.mode b) answers begun core
-    → (core.told ≡ true → (n : ℕ) → Fed (replay core.start (take n core.journal))) → (core.told ≡ true → words ≡ (replay core.start core.journal).regs)
+    → (core.told ≡ true → (n : ℕ) → Fed (replay core.start (take n core.journal))) → (core.told ≡ true → is_quiet (replay core.start core.journal).change ≡ true)
+    → (core.told ≡ true → words ≡ (replay core.start core.journal).regs)
     → IsTextOf b cli told words (run_text b.desc.defs (drivers_in cli.mode b) answers words)
-text_of b cli told begun core answers words opens same ran fed means =
+text_of b cli told begun core answers words opens same ran fed quiet means =
     let start : core.start ≡ opening_of b cli.ignore_unused = ran.start ∙ opens in
     record {
       journal = core.journal;
@@ -26,8 +28,10 @@ text_of b cli told begun core answers words opens same ran fed means =
       run = record {
         legal = λ tells. subst (λ (s : State). Legal s core.journal) start (ran.legal (same ∙ tells));
         fed = λ tells n. subst (λ (s : State). Fed (replay s (take n core.journal))) start (fed (ran.told ∙ same ∙ tells) n);
+        quiet = λ tells. ap (λ (s : State). is_quiet (replay s core.journal).change) (sym start) ∙ quiet (ran.told ∙ same ∙ tells);
         follow = ran.follow;
         among = ran.among;
+        boot_first = ran.boot_first;
       };
       registers = λ tells. means (ran.told ∙ same ∙ tells) ∙ ap (λ (s : State). (replay s core.journal).regs) start;
       text_is = refl;
@@ -38,6 +42,12 @@ pub bank_back : (contents : Option (List ℕ)) (size words : ℕ) (told : Bool) 
     → IfSome contents (λ found. take size found ≡ regs) → (told ≡ true → printed ≡ regs) → IfSome contents (λ found. take words found ≡ printed)
 bank_back None size words told regs printed is same has means = tt
 bank_back (Some found) size words told regs printed is same has means = ap (λ (n : ℕ). take n found) same ∙ has ∙ sym (means (sym is))
+
+-- the words behind those of the state stayed
+pub same_behind : (contents before behind : Option (List ℕ)) (size words bundle : ℕ) → option_map (drop size) contents ≡ behind → behind ≡ option_map (drop words) before
+    → size ≡ bundle → words ≡ bundle → option_map (drop bundle) contents ≡ option_map (drop bundle) before
+same_behind contents before behind size words bundle has kept same all =
+    ap (λ (n : ℕ). option_map (drop n) contents) (sym same) ∙ has ∙ kept ∙ ap (λ (n : ℕ). option_map (drop n) before) all
 
 -- a front of the text is what each fault of printing may leave
 pub left_by : {T : Type 0} (b : Bundle) (cli : Cli) (told : Bool) (old new : Option (List ℕ)) (r : Result T PrintFault) → PrintedFront b cli told old new

@@ -1,9 +1,9 @@
 -- What a program that ran a bundle did, and why.
-use Rattle.std.specs.Prelude.{◌≡◌, ◌⊎◌, ℕ, List, Bool, Option, Some, None}
+use Rattle.std.specs.Prelude.{◌≡◌, ◌⊎◌, ◌==◌, if◌then◌else◌, ℕ, List, Bool, Option, Some, None, Result, MatchResult}
 use Rattle.std.specs.Io.KnownBytes.{Appends}
 use Rattle.clk_cli.specs.declared.cli.Cli.{Cli}
 use Rattle.clk_cli.specs.Usage.{usage_line}
-use Rattle.clk_io.specs.Causes.{Rose}
+use Rattle.clk_io.specs.Causes.{Rose, counted}
 use Rattle.clk_io.specs.Streams.{TakesAll, TakesMore, AppendsFront}
 use Rattle.clk_io.specs.declared.faults.PrintFault.{PrintFault}
 use Rattle.clk_io.specs.declared.faults.PrintFault.TheVariants as print_fault
@@ -28,11 +28,21 @@ abbrev pub RefusesInput : Option (List ℕ) → Option (List ℕ) → ℕ → Re
 RefusesInput old new line reason =
     (TakesMore most_bytes old new × (line ≡ 0) × (reason ≡ TooLong)) ⊎ ((bytes : List ℕ) × TakesAll most_bytes old new bytes × RefusesRun bytes line reason)
 
--- why no bundle came from a source: its bytes are refused, or its count of faults rose; want of memory has no cause
-abbrev pub StopsReading : Option (List ℕ) → Option (List ℕ) → ℕ → ℕ → Stop → Type 0
-StopsReading old new before now (stop.Refused line reason) = RefusesInput old new line reason
-StopsReading old new before now stop.Read = Rose before now
-StopsReading old new before now stop.NoMemory = Unit {0}
+-- why no bundle came from a source: its bytes are refused, or a read failed, or memory ran out
+abbrev pub StopsReading : Option (List ℕ) → Option (List ℕ) → Stop → Type 0
+StopsReading old new (stop.Refused line reason) = RefusesInput old new line reason
+StopsReading old new stop.Read = Unit {0}
+StopsReading old new stop.NoMemory = Unit {0}
+
+-- a source's count of faults rises where a read failed, and stands where its bytes are refused or memory ran out
+abbrev pub RisesAtStop : ℕ → ℕ → Stop → Type 0
+RisesAtStop before now (stop.Refused line reason) = now ≡ before
+RisesAtStop before now stop.Read = Rose before now
+RisesAtStop before now stop.NoMemory = now ≡ before
+
+-- a source's count of faults rises where a read failed, and stands at every other answer
+abbrev pub CountsStop : {T : Type 0} → ℕ → ℕ → Result T Stop → Type 0
+CountsStop before now r = MatchResult r (λ _. now ≡ before) (RisesAtStop before now)
 
 -- ---- statuses
 
@@ -45,11 +55,15 @@ status_of print_fault.NoMemory = 3
 abbrev pub IsRunStatus : ℕ → Type 0
 IsRunStatus status = (status ≡ 0) ⊎ ((status ≡ 2) ⊎ ((status ≡ 3) ⊎ ((status ≡ 4) ⊎ (status ≡ 5))))
 
+-- a count of faults behind a run: one more where the status is the one of such a fault, and the same at every other status
+abbrev pub count_behind : ℕ → ℕ → ℕ → ℕ
+count_behind fault status before = if status == fault then counted before else before
+
 -- status 0: all that was left of the source spells a bundle, the text of a run of it was printed, and the bank came back with the registers
--- that the run leaves, where it tells its words
-abbrev pub Done : Cli → Bool → Option (List ℕ) → Option (List ℕ) → Option (List ℕ) → Option (List ℕ) → Option (Option (List ℕ)) → Type 0
-Done cli told left left' written written' back =
-    (b : Bundle) × GivesBundle left left' b × (contents : Option (List ℕ)) × (back ≡ Some contents) × Printed b cli told written written' contents
+-- that the run leaves, and no other word of it changed, where it tells its words
+abbrev pub Done : Cli → Option (List ℕ) → Option (List ℕ) → Option (List ℕ) → Option (List ℕ) → Option (List ℕ) → Option (Option (List ℕ)) → Type 0
+Done cli before left left' written written' back =
+    (b : Bundle) × GivesBundle left left' b × (contents : Option (List ℕ)) × (back ≡ Some contents) × Printed b cli before written written' contents
 
 -- status 2: what was left of the source is refused, and the line was printed that says where and why
 abbrev pub Refused : Option (List ℕ) → Option (List ℕ) → Option (List ℕ) → Option (List ℕ) → Type 0
@@ -68,13 +82,9 @@ Short cli told left left' written written' = (written' ≡ written) ⊎ Unwritte
 
 -- ---- completeness
 
--- no count of faults rose, neither the source's nor the sink's
-abbrev pub NoFault : ℕ → ℕ → ℕ → ℕ → Type 0
-NoFault before now before' now' = (Rose before now → ⊥) × (Rose before' now' → ⊥)
-
--- the status is this one, unless memory ran out
+-- the status is this one, unless memory ran out, a read failed or a write failed
 abbrev pub EndsWith : ℕ → ℕ → Type 0
-EndsWith wanted status = (status ≡ wanted) ⊎ (status ≡ 3)
+EndsWith wanted status = (status ≡ wanted) ⊎ ((status ≡ 3) ⊎ ((status ≡ 4) ⊎ (status ≡ 5)))
 
 -- bytes that were left of the source and spell a bundle that can be run end in status 0, and those that are refused in status 2
 pub record Decides (left : Option (List ℕ)) (status : ℕ) : Type 0 where
@@ -87,13 +97,13 @@ pub record Decides (left : Option (List ℕ)) (status : ℕ) : Type 0 where
 abbrev pub IsStatus : ℕ → Type 0
 IsStatus status = (status ≡ 1) ⊎ IsRunStatus status
 
--- status 1: the words mean nothing, and the line was printed that says how the program is called
-abbrev pub MeansNothing : Option Cli → Option (List ℕ) → Option (List ℕ) → Type 0
-MeansNothing meant written written' = (meant ≡ None) × Appends written written' usage_line
+-- status 1: the words mean nothing, nothing was read, and the line was printed that says how the program is called
+abbrev pub MeansNothing : Option Cli → Option (List ℕ) → Option (List ℕ) → Option (List ℕ) → Option (List ℕ) → Type 0
+MeansNothing meant left left' written written' = (meant ≡ None) × (left' ≡ left) × Appends written written' usage_line
 
 -- status 0: the words mean a run, and it was done
-abbrev pub MeansDone : Option Cli → Bool → Option (List ℕ) → Option (List ℕ) → Option (List ℕ) → Option (List ℕ) → Option (Option (List ℕ)) → Type 0
-MeansDone meant told left left' written written' back = (cli : Cli) × (meant ≡ Some cli) × Done cli told left left' written written' back
+abbrev pub MeansDone : Option Cli → Option (List ℕ) → Option (List ℕ) → Option (List ℕ) → Option (List ℕ) → Option (List ℕ) → Option (Option (List ℕ)) → Type 0
+MeansDone meant before left left' written written' back = (cli : Cli) × (meant ≡ Some cli) × Done cli before left left' written written' back
 
 -- status 2: the words mean a run, and the bundle is refused
 abbrev pub MeansRefused : Option Cli → Option (List ℕ) → Option (List ℕ) → Option (List ℕ) → Option (List ℕ) → Type 0

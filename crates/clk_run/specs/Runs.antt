@@ -1,12 +1,13 @@
 -- Runs of a bundle: which journals they have, and what they print.
-use Rattle.std.specs.Prelude.{◌≡◌, ◌≤◌, ◌⊎◌, IfSome, take, ℕ, ◌+◌, List, [], ◌∷◌, ◌++◌, Bool, true, Option, nat_lt, length, map, codes, sum_by}
+use Rattle.std.specs.Prelude.{◌≡◌, ◌≤◌, ◌⊎◌, IfSome, is_some, take, drop, ℕ, ◌+◌, List, [], ◌∷◌, ◌++◌, Bool, true, not, ◌==◌, Option, nat_lt, length, map, codes, sum_by}
 use Rattle.std.specs.List.{list_all, AllByRecursion}
+use Rattle.std.specs.Option.{option_map}
 use Rattle.clk_base.specs.Description.{Description}
 use Rattle.clk_base.specs.declared.command.Answer.{Answer}
 use Rattle.clk_base.specs.declared.command.Command.{Command}
 use Rattle.clk_base.specs.declared.event.Entry.{Entry}
 use Rattle.reg_bank.specs.Registers.{Registers}
-use Rattle.clk_model.specs.State.{State}
+use Rattle.clk_model.specs.State.{State, is_quiet}
 use Rattle.clk_model.specs.Journal.{opening, replay, Legal, calls}
 use Rattle.clk_model.specs.Fed.{Fed}
 use Rattle.clk_model.specs.Follows.{Follows}
@@ -60,17 +61,31 @@ FollowAll d [] (own ∷ answers) journal = ⊥
 FollowAll d (commands ∷ scripts) [] journal = ⊥
 FollowAll d (commands ∷ scripts) (own ∷ answers) journal = Follows commands (calls journal d) own × FollowAll (d + 1) scripts answers journal
 
+-- the entry is one of boot's
+abbrev pub is_boots : Entry → Bool
+is_boots e = e.driver == 0
+
+-- boot's entries stand before those of all others
+pub record IsBootFirst (journal : List Entry) : Type 0 where
+  pub boot : List Entry
+  pub others : List Entry
+  pub split : journal ≡ boot ++ others
+  pub boots : list_all is_boots boot ≡ true
+  pub not_boots : list_all (λ e. not (is_boots e)) others ≡ true
+
 -- each entry is of one of so many drivers
 abbrev pub are_among : ℕ → List Entry → Bool
 are_among drivers journal = list_all (λ e. nat_lt e.driver drivers) journal
 
 -- a run of a bundle, as the words ask for it: its journal, where the bank tells its words, is a legal run of the machine, after each of its entries the active
--- clocks are fed, and in it boot and each driver, and nobody else, have their calls once, in their order, answered so
+-- clocks are fed, and at its end no change is in flight; boot and each driver, and nobody else, have their calls once, in their order, answered so, boot's first
 pub record IsRunOf (b : Bundle) (cli : Cli) (told : Bool) (journal : List Entry) (answers : List (List Answer)) : Type 0 where
   pub legal : told ≡ true → Legal (opening_of b cli.ignore_unused) journal
   pub fed : told ≡ true → (n : ℕ) → Fed (replay (opening_of b cli.ignore_unused) (take n journal))
+  pub quiet : told ≡ true → is_quiet (replay (opening_of b cli.ignore_unused) journal).change ≡ true
   pub follow : FollowAll 0 (scripts_of cli.mode b) answers journal
   pub among : are_among (length (scripts_of cli.mode b)) journal ≡ true
+  pub boot_first : IsBootFirst journal
 
 -- ---- what a run prints
 
@@ -108,9 +123,11 @@ are_built defs commands = list_all (λ c. is_built_act defs c.act) commands
 pub record HasRun (boot : List Command) (drivers : List Script) (answers : List (List Answer)) (old new : cores.Run) : Type 0 where
   pub start : new.start ≡ old.start
   pub told : new.told ≡ old.told
+  pub behind : new.behind ≡ old.behind
   pub legal : old.told ≡ true → Legal new.start new.journal
   pub follow : FollowAll 0 (scripts_with boot drivers) answers new.journal
   pub among : are_among (length (scripts_with boot drivers)) new.journal ≡ true
+  pub boot_first : IsBootFirst new.journal
 
 -- ---- bundles
 
@@ -124,13 +141,15 @@ pub record IsReady (b : Bundle) : Type 0 where
 
 -- ---- what is left behind
 
--- the text of a run was printed, and the bank, where it tells its words, has the registers that the run leaves
-pub record Printed (b : Bundle) (cli : Cli) (told : Bool) (old new : Option (List ℕ)) (contents : Option (List ℕ)) : Type 0 where
+-- the text of a run was printed, and the bank, where it tells its words, has the registers that the run leaves, and behind them
+-- the words that it had before
+pub record Printed (b : Bundle) (cli : Cli) (before : Option (List ℕ)) (old new : Option (List ℕ)) (contents : Option (List ℕ)) : Type 0 where
   pub words : Registers
   pub text : List ℕ
-  pub run : IsTextOf b cli told words text
+  pub run : IsTextOf b cli (is_some before) words text
   pub printed : Appends old new text
   pub registers : IfSome contents (λ found. take (length b.words) found ≡ words)
+  pub behind : option_map (drop (length b.words)) contents ≡ option_map (drop (length b.words)) before
 
 -- a front of the text of a run was printed
 pub record PrintedFront (b : Bundle) (cli : Cli) (told : Bool) (old new : Option (List ℕ)) : Type 0 where

@@ -66,6 +66,7 @@ pub record GoesThrough (old : Run) (d : ℕ) (held : Variables) (commands : List
   pub entries : List Entry
   pub start : new.start ≡ old.start
   pub told : new.told ≡ old.told
+  pub behind : new.behind ≡ old.behind
   pub journal : new.journal ≡ old.journal ++ entries
   pub own : list_all (is_answered d) entries ≡ true
   pub few : length entries ≤ length commands

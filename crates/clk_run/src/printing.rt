@@ -1,7 +1,7 @@
 //! Printing what a run of a bundle answered, and its registers.
 
 ghost use Rattle.std.specs.Prelude.{◌≡◌, ◌+◌, ◌≤◌, length, map, is_some};
-ghost use Rattle.clk_io.specs.Causes.{PrintHasCause};
+ghost use Rattle.clk_io.specs.Causes.{CountsPrintFault};
 ghost use Rattle.clk_io.specs.Prints.{Prints};
 ghost use Rattle.clk_run.specs.Runs.{scripts_text, run_text};
 
@@ -21,9 +21,9 @@ fn print_drivers<K: Sink>(
 ) -> Result<(), PrintFault>
     requires many { length answers.now ≡ length drivers.now }
     ensures prints { Prints (K.written out.old) (K.written out.new) (scripts_text desc.now.defs (map (λ s. s.name) drivers.now) answers.now) result }
-    ensures cause { PrintHasCause (K.faults out.old) (K.faults out.new) result }
     ensures tells { is_some (K.written out.new) ≡ is_some (K.written out.old) }
     ensures later { K.faults out.old ≤ K.faults out.new }
+    ensures counts { CountsPrintFault (K.faults out.old) (K.faults out.new) result }
 {
     for (index, script) in drivers.iter().enumerate() {
         print_answers(
@@ -48,9 +48,9 @@ pub(crate) fn print_run<K: Sink>(
 ) -> Result<(), PrintFault>
     requires many { length answers.now ≡ length drivers.now + 1 }
     ensures prints { Prints (K.written out.old) (K.written out.new) (run_text desc.now.defs drivers.now answers.now words.now) result }
-    ensures cause { PrintHasCause (K.faults out.old) (K.faults out.new) result }
     ensures tells { is_some (K.written out.new) ≡ is_some (K.written out.old) }
     ensures later { K.faults out.old ≤ K.faults out.new }
+    ensures counts { CountsPrintFault (K.faults out.old) (K.faults out.new) result }
 {
     print_answers(alloc, desc, "boot", answers[0].as_slice(), out)?;
     print_drivers(alloc, desc, drivers, &answers[1..], out)?;

@@ -1,7 +1,7 @@
 //! Telling what a bundle is refused for.
 
 ghost use Rattle.std.specs.Prelude.{◌≡◌, ◌≤◌, is_some};
-ghost use Rattle.clk_io.specs.Causes.{PrintHasCause};
+ghost use Rattle.clk_io.specs.Causes.{CountsPrintFault};
 ghost use Rattle.clk_io.specs.Prints.{Prints};
 ghost use Rattle.clk_run.specs.Refusals.{reason_word, refusal_text};
 
@@ -65,9 +65,9 @@ pub(crate) fn print_refusal<K: Sink>(
     out: &mut K,
 ) -> Result<(), PrintFault>
     ensures prints { Prints (K.written out.old) (K.written out.new) (refusal_text line reason) result }
-    ensures cause { PrintHasCause (K.faults out.old) (K.faults out.new) result }
     ensures tells { is_some (K.written out.new) ≡ is_some (K.written out.old) }
     ensures later { K.faults out.old ≤ K.faults out.new }
+    ensures counts { CountsPrintFault (K.faults out.old) (K.faults out.new) result }
 {
     let word = reason_word(reason);
     let text = format!(in alloc; "error: line {line}: {word}\n")?;

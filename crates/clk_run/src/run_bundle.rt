@@ -1,7 +1,7 @@
 //! Running a bundle over a bank, and printing what it answered.
 
 ghost use Rattle.std.specs.Prelude.{◌≡◌, ◌≤◌, is_some, IfOk, IfErr};
-ghost use Rattle.clk_io.specs.Causes.{PrintHasCause};
+ghost use Rattle.clk_io.specs.Causes.{CountsPrintFault};
 ghost use Rattle.clk_run.specs.Runs.{credits_of, drivers_in, IsReady, Printed, LeftByFault};
 
 use crate::printing::print_run;
@@ -46,12 +46,12 @@ pub(crate) fn run_bundle<K: Sink, B: Bank>(
 ) -> Result<B, PrintFault>
     requires ready { IsReady bundle.now }
     requires room { 65536 ≤ B.size bank }
-    ensures done { IfOk result (λ left. Printed bundle.now cli.now (is_some (B.contents bank)) (K.written out.old) (K.written out.new) (B.contents left)) }
+    ensures done { IfOk result (λ left. Printed bundle.now cli.now (B.contents bank) (K.written out.old) (K.written out.new) (B.contents left)) }
     ensures told { IfOk result (λ left. is_some (B.contents left) ≡ is_some (B.contents bank)) }
     ensures fault { IfErr result (LeftByFault bundle.now cli.now (is_some (B.contents bank)) (K.written out.old) (K.written out.new)) }
-    ensures cause { PrintHasCause (K.faults out.old) (K.faults out.new) result }
     ensures tells { is_some (K.written out.new) ≡ is_some (K.written out.old) }
     ensures later { K.faults out.old ≤ K.faults out.new }
+    ensures counts { CountsPrintFault (K.faults out.old) (K.faults out.new) result }
 {
     let desc = bundle.desc.copy(alloc)?;
     let words = bundle.words.as_slice();
@@ -59,8 +59,10 @@ pub(crate) fn run_bundle<K: Sink, B: Bank>(
     let mut core = Core::create(alloc, desc, bank, words, cli.ignore_unused, credits)?;
     let drivers = drivers_in(cli.mode, bundle);
     let answers = run_scripts(alloc, &mut core, bundle.boot.as_slice(), drivers)?;
-    // What the journal tells of the run: after each of its entries the active clocks are fed.
+    // What the core tells of the run: after each entry of its journal the active clocks are fed,
+    // and at its end no change is in flight.
     let _ = core.journal();
+    let _ = core.quiet();
     let registers = registers_of(alloc, &core)?;
     print_run(
         alloc,

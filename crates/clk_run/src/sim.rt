@@ -2,9 +2,8 @@
 
 ghost use Rattle.std.specs.Prelude.{◌≡◌, ◌≤◌, ◌==◌, is_some, IfOk, IfErr};
 ghost use Rattle.std.specs.Option.{option_map};
-ghost use Rattle.clk_io.specs.Causes.{Rose};
 ghost use Rattle.clk_run.specs.Runs.{IsReady};
-ghost use Rattle.clk_run.specs.Outcomes.{GivesBundle, StopsReading, IsRunStatus, Done, Refused, Unwritten, Short, NoFault, Decides, status_of};
+ghost use Rattle.clk_run.specs.Outcomes.{GivesBundle, StopsReading, CountsStop, IsRunStatus, Done, Refused, Unwritten, Short, Decides, count_behind, status_of};
 
 use crate::reading::check_bundle;
 use crate::refusal::print_refusal;
@@ -27,9 +26,10 @@ pub(crate) enum Stop {
 fn take_bundle<S: Source>(alloc: Global, input: &mut S) -> Result<Bundle, Stop>
     ensures gives { IfOk result (GivesBundle (S.left input.old) (S.left input.new)) }
     ensures ready { IfOk result IsReady }
-    ensures stops { IfErr result (StopsReading (S.left input.old) (S.left input.new) (S.faults input.old) (S.faults input.new)) }
+    ensures stops { IfErr result (StopsReading (S.left input.old) (S.left input.new)) }
     ensures tells { is_some (S.left input.new) ≡ is_some (S.left input.old) }
     ensures later { S.faults input.old ≤ S.faults input.new }
+    ensures counts { CountsStop (S.faults input.old) (S.faults input.new) result }
 {
     let bytes = match read_all(alloc, input) {
         Ok(bytes) => bytes,
@@ -76,16 +76,16 @@ pub fn simulate<S: Source, K: Sink, B: Bank>(
 ) -> (u8, Option<B>)
     requires room { 65536 ≤ B.size bank }
     ensures known { IsRunStatus result.0 }
-    ensures done { result.0 ≡ 0 → Done cli.now (is_some (B.contents bank)) (S.left input.old) (S.left input.new) (K.written out.old) (K.written out.new) (option_map B.contents result.1) }
+    ensures done { result.0 ≡ 0 → Done cli.now (B.contents bank) (S.left input.old) (S.left input.new) (K.written out.old) (K.written out.new) (option_map B.contents result.1) }
     ensures back { is_some result.1 ≡ (result.0 == 0) }
     ensures refused { result.0 ≡ 2 → Refused (S.left input.old) (S.left input.new) (K.written out.old) (K.written out.new) }
-    ensures read { result.0 ≡ 4 → Rose (S.faults input.old) (S.faults input.new) }
+    ensures reads { S.faults input.new ≡ count_behind 4 result.0 (S.faults input.old) }
     ensures unread { result.0 ≡ 4 → K.written out.new ≡ K.written out.old }
-    ensures write { result.0 ≡ 5 → Rose (K.faults out.old) (K.faults out.new) }
+    ensures writes { K.faults out.new ≡ count_behind 5 result.0 (K.faults out.old) }
     ensures unwritten { result.0 ≡ 5 → Unwritten cli.now (is_some (B.contents bank)) (S.left input.old) (S.left input.new) (K.written out.old) (K.written out.new) }
     ensures short { result.0 ≡ 3 → Short cli.now (is_some (B.contents bank)) (S.left input.old) (S.left input.new) (K.written out.old) (K.written out.new) }
-    ensures decided { NoFault (S.faults input.old) (S.faults input.new) (K.faults out.old) (K.faults out.new) → Decides (S.left input.old) result.0 }
-    ensures tells { is_some (K.written out.new) ≡ is_some (K.written out.old) }
+    ensures decided { Decides (S.left input.old) result.0 }
+    ensures tells { (is_some (S.left input.new) ≡ is_some (S.left input.old)) × (is_some (K.written out.new) ≡ is_some (K.written out.old)) }
     ensures later { (S.faults input.old ≤ S.faults input.new) × (K.faults out.old ≤ K.faults out.new) }
 {
     match take_bundle(alloc, input) {

@@ -2,9 +2,8 @@
 
 ghost use Rattle.std.specs.Prelude.{◌≡◌, ◌≤◌, ◌==◌, is_some};
 ghost use Rattle.std.specs.Option.{option_map};
-ghost use Rattle.clk_io.specs.Causes.{Rose};
 ghost use Rattle.clk_cli.specs.Meaning.{texts, meaning};
-ghost use Rattle.clk_run.specs.Outcomes.{IsStatus, MeansNothing, MeansDone, MeansRefused, MeansUnread, MeansUnwritten, MeansShort, MeansDecided, NoFault};
+ghost use Rattle.clk_run.specs.Outcomes.{IsStatus, MeansNothing, MeansDone, MeansRefused, MeansUnread, MeansUnwritten, MeansShort, MeansDecided, count_behind};
 
 use crate::sim::simulate;
 use clk_base::Pause;
@@ -33,17 +32,17 @@ pub fn clkbench<R: AllocGlobal, S: Source, K: Sink, B: Bank, Q: Pause>(
 ) -> (u8, Option<B>)
     requires room { 65536 ≤ B.size bank }
     ensures known { IsStatus result.0 }
-    ensures usage { result.0 ≡ 1 → MeansNothing (meaning (texts words.now)) (K.written out.old) (K.written out.new) }
-    ensures done { result.0 ≡ 0 → MeansDone (meaning (texts words.now)) (is_some (B.contents bank)) (S.left input.old) (S.left input.new) (K.written out.old) (K.written out.new) (option_map B.contents result.1) }
+    ensures usage { result.0 ≡ 1 → MeansNothing (meaning (texts words.now)) (S.left input.old) (S.left input.new) (K.written out.old) (K.written out.new) }
+    ensures done { result.0 ≡ 0 → MeansDone (meaning (texts words.now)) (B.contents bank) (S.left input.old) (S.left input.new) (K.written out.old) (K.written out.new) (option_map B.contents result.1) }
     ensures back { is_some result.1 ≡ (result.0 == 0) }
     ensures refused { result.0 ≡ 2 → MeansRefused (meaning (texts words.now)) (S.left input.old) (S.left input.new) (K.written out.old) (K.written out.new) }
-    ensures read { result.0 ≡ 4 → Rose (S.faults input.old) (S.faults input.new) }
+    ensures reads { S.faults input.new ≡ count_behind 4 result.0 (S.faults input.old) }
     ensures unread { result.0 ≡ 4 → MeansUnread (meaning (texts words.now)) (K.written out.old) (K.written out.new) }
-    ensures write { result.0 ≡ 5 → Rose (K.faults out.old) (K.faults out.new) }
+    ensures writes { K.faults out.new ≡ count_behind 5 result.0 (K.faults out.old) }
     ensures unwritten { result.0 ≡ 5 → MeansUnwritten (meaning (texts words.now)) (is_some (B.contents bank)) (S.left input.old) (S.left input.new) (K.written out.old) (K.written out.new) }
     ensures short { result.0 ≡ 3 → MeansShort (meaning (texts words.now)) (is_some (B.contents bank)) (S.left input.old) (S.left input.new) (K.written out.old) (K.written out.new) }
-    ensures decided { NoFault (S.faults input.old) (S.faults input.new) (K.faults out.old) (K.faults out.new) → MeansDecided (meaning (texts words.now)) (S.left input.old) result.0 }
-    ensures tells { is_some (K.written out.new) ≡ is_some (K.written out.old) }
+    ensures decided { MeansDecided (meaning (texts words.now)) (S.left input.old) result.0 }
+    ensures tells { (is_some (S.left input.new) ≡ is_some (S.left input.old)) × (is_some (K.written out.new) ≡ is_some (K.written out.old)) }
 {
     let alloc = rt.alloc();
     match clk_cli::words(alloc, words) {

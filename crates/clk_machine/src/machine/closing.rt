@@ -20,6 +20,7 @@ impl<B: Bank> Machine<B> {
         requires { registered self.old.state.clocks clock.0 ≡ true }
         ensures told { self.new.told ≡ self.old.told }
         ensures size { self.new.size ≡ self.old.size }
+        ensures behind { self.new.behind ≡ self.old.behind }
         ensures stays { self.new.state ≡ record self.old.state { regs = self.new.state.regs } }
         ensures closes { self.old.told ≡ true → ClosesFor self.old.state clock self.new.state.regs }
     {

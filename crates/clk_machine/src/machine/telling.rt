@@ -1,6 +1,7 @@
 //! What the machine tells of itself.
 
-ghost use Rattle.std.specs.Prelude.{◌≡◌, ◌+◌, ◌<◌, true, length, is_some, take, slice_index, IfSome};
+ghost use Rattle.std.specs.Prelude.{◌≡◌, ◌+◌, ◌<◌, true, length, is_some, take, drop, slice_index, IfSome};
+ghost use Rattle.std.specs.Option.{option_map};
 ghost use Rattle.clk_model.specs.State.{is_quiet};
 ghost use Rattle.clk_machine.specs.Fit.{has_pll};
 ghost use Rattle.clk_machine.specs.Row.{IsTreeOf};
@@ -36,7 +37,8 @@ impl<B: Bank> Machine<B> {
 
     /// Whether no change is in flight.
     pub(crate) fn is_quiet(&self) -> bool
-        ensures { result ≡ is_quiet self.now.state.change }
+        ensures tells { result ≡ is_quiet self.now.state.change }
+        ensures none { result ≡ true }
     {
         let _ = &self.window;
         true
@@ -69,6 +71,7 @@ impl<B: Bank> Machine<B> {
     pub(crate) fn into_bank(self) -> B
         ensures told { is_some (B.contents result) ≡ self.told }
         ensures words { IfSome (B.contents result) (λ words. take self.size words ≡ self.state.regs) }
+        ensures behind { option_map (drop self.size) (B.contents result) ≡ self.behind }
     {
         let Machine {
             desc: _,

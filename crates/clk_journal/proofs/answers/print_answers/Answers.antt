@@ -19,5 +19,5 @@ loop-index-preserved g c =
     record {
       printed = (_, Appends-trans _ _ _ _ _ was.1 c.in_ok-print_answer.ensures.prints, one_more _ _ _ _ _ was.2 at);
       tells = cc;
-      later = omega (arith, c.in_ok-print_answer.ensures.later);
+      stands = c.in_ok-print_answer.ensures.counts ∙ c.loop-index.invariant.stands;
     }

@@ -10,5 +10,5 @@ invariant-loop-index g l =
     record {
       printed : (done : List ℕ) × Appends (written l.fn.out) (written l.out) done × (answers_text l.desc.defs l.driver l.answers ≡ done ++ answers_from l.desc.defs l.driver (l.index + 1) (drop l.index l.answers));
       tells : is_some (written l.out) ≡ is_some (written l.fn.out);
-      later : g.K.Sink.faults l.fn.out ≤ g.K.Sink.faults l.out;
+      stands : g.K.Sink.faults l.out ≡ g.K.Sink.faults l.fn.out;
     }

@@ -18,5 +18,5 @@ loop-place-preserved g c =
     record {
       printed = (_, Appends-trans _ _ _ _ _ was.1 c.in_ok-print_word.ensures.prints, one_more _ _ _ _ _ was.2 at);
       tells = cc;
-      later = omega (arith, c.in_ok-print_word.ensures.later);
+      stands = c.in_ok-print_word.ensures.counts ∙ c.loop-place.invariant.stands;
     }

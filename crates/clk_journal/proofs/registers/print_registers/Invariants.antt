@@ -10,5 +10,5 @@ invariant-loop-place g l =
     record {
       printed : (done : List ℕ) × Appends (written l.fn.out) (written l.out) done × (registers_text l.words ≡ done ++ registers_from l.place (drop l.place l.words));
       tells : is_some (written l.out) ≡ is_some (written l.fn.out);
-      later : g.K.Sink.faults l.fn.out ≤ g.K.Sink.faults l.out;
+      stands : g.K.Sink.faults l.out ≡ g.K.Sink.faults l.fn.out;
     }

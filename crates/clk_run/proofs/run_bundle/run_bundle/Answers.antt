@@ -20,7 +20,7 @@ use Rattle.clk_run.specs.Runs.{scripts_with, drivers_in, are_built, opening_of, 
 use Rattle.clk_run.proofs.Fitness.{earlier_all}
 use Rattle.clk_run.proofs.RunTexts.{follow_many}
 use Rattle.clk_run.proofs.Readiness.{few_credits, drivers_keep, drivers_few, commands_few}
-use Rattle.clk_run.proofs.Leaving.{text_of, bank_back, left_by}
+use Rattle.clk_run.proofs.Leaving.{text_of, bank_back, same_behind, left_by}
 use Rattle.clk_run.proofs.run_bundle.run_bundle.Goals as goal
 
 pub credits_of-credits-requires : goal.credits_of-credits-requires
@@ -94,10 +94,13 @@ returns-clause-done g c =
       words = printed;
       text = run_text b.desc.defs drivers c.in_ok-answers.answers.items printed;
       run = text_of b c.args.cli.now (is_some (g.B.Bank.contents c.args.bank)) _ core c.in_ok-answers.answers.items printed start begun.told ran
-          c.journal.ensures.fed c.in_ok-registers.ensures;
+          c.journal.ensures.fed (λ tells. sym (c.quiet.ensures.tells tells) ∙ c.quiet.ensures.none) c.in_ok-registers.ensures;
       printed = subst (Appends (g.K.Sink.written c.args.out.now) (g.K.Sink.written c.print_run.new.out)) text c.in_ok-print_run.ensures.prints;
       registers = bank_back _ _ _ _ _ _ c.into_bank.ensures.told (ap (λ (s : State). length s.regs) (sym (c.in_ok-answers.ensures.start ∙ start))) c.into_bank.ensures.words
           (λ tells. c.in_ok-registers.ensures tells);
+      behind = same_behind (g.B.Bank.contents c.into_bank.result) (g.B.Bank.contents c.args.bank) _ _ _ (length b.words) c.into_bank.ensures.behind
+          (c.in_ok-answers.ensures.behind ∙ begun.behind)
+          (ap (λ (s : State). length s.regs) (c.in_ok-answers.ensures.start ∙ start)) (ap (λ (ws : List ℕ). length ws) c.as_slice-words.ensures);
     }
 
 pub returns-in_err-print_run-clause-fault : goal.returns-in_err-print_run-clause-fault
@@ -116,21 +119,22 @@ returns-in_err-print_run-clause-fault g c =
     left_by b c.args.cli.now told (g.K.Sink.written c.args.out.now) (g.K.Sink.written c.print_run.new.out) c.from_residual-in_err-print_run.result (record {
       words = printed;
       text = run_text b.desc.defs drivers answers printed;
-      run = text_of b c.args.cli.now told _ c.run_scripts.new.core answers printed start begun.told ran c.journal.ensures.fed c.in_ok-registers.ensures;
+      run = text_of b c.args.cli.now told _ c.run_scripts.new.core answers printed start begun.told ran c.journal.ensures.fed
+          (λ tells. sym (c.quiet.ensures.tells tells) ∙ c.quiet.ensures.none) c.in_ok-registers.ensures;
       printed = subst (AppendsFront (g.K.Sink.written c.args.out.now) (g.K.Sink.written c.print_run.new.out)) text c.in_err-print_run.ensures.prints;
     })
 
 pub returns-in_err-answers-clause-fault : goal.returns-in_err-answers-clause-fault
 returns-in_err-answers-clause-fault g c = search (rules, c.from_residual-in_err-answers.ensures)
 
-pub returns-in_err-answers-clause-cause : goal.returns-in_err-answers-clause-cause
-returns-in_err-answers-clause-cause g c = search (rules, c.from_residual-in_err-answers.ensures)
+pub returns-in_err-answers-clause-counts : goal.returns-in_err-answers-clause-counts
+returns-in_err-answers-clause-counts g c = search (rules, c.from_residual-in_err-answers.ensures)
 
 pub returns-in_err-registers-clause-fault : goal.returns-in_err-registers-clause-fault
 returns-in_err-registers-clause-fault g c = search (rules, c.from_residual-in_err-registers.ensures)
 
-pub returns-in_err-registers-clause-cause : goal.returns-in_err-registers-clause-cause
-returns-in_err-registers-clause-cause g c = search (rules, c.from_residual-in_err-registers.ensures)
+pub returns-in_err-registers-clause-counts : goal.returns-in_err-registers-clause-counts
+returns-in_err-registers-clause-counts g c = search (rules, c.from_residual-in_err-registers.ensures)
 
-pub returns-in_err-print_run-clause-cause : goal.returns-in_err-print_run-clause-cause
-returns-in_err-print_run-clause-cause g c = search (rules, c.from_residual-in_err-print_run.ensures, c.in_err-print_run.ensures.cause)
+pub returns-in_err-print_run-clause-counts : goal.returns-in_err-print_run-clause-counts
+returns-in_err-print_run-clause-counts g c = search (rules, c.from_residual-in_err-print_run.ensures, c.in_err-print_run.ensures.counts)

@@ -10,7 +10,7 @@ use Rattle.drv_scripts.specs.declared.bundle.Script.{Script}
 use Rattle.clk_run.specs.Scripts.{AreProbes, GoesThrough}
 use Rattle.clk_run.specs.Runs.{FollowAll, are_among}
 use Rattle.clk_run.proofs.Going.{boot_probes, length-boot_of, no_variables, goes_cost}
-use Rattle.clk_run.proofs.Following.{follow_next}
+use Rattle.clk_run.proofs.Following.{follow_next, boot_first, boot_still_first}
 use Rattle.clk_run.proofs.scripts.run_scripts.Goals as goal
 
 pub run_boot-requires-clause-credits : goal.run_boot-requires-clause-credits
@@ -45,10 +45,12 @@ loop-script-init g c =
     record {
       start = goes.start;
       told = goes.told;
+      behind = goes.behind;
       legal = λ told_. goes.legal told_ (subst (Legal first.start) (sym c.requires.begins) tt);
       number = refl;
       follow = subst (λ answers. FollowAll 0 (boot ∷ []) answers mid.journal) (sym told) next.0;
       among = next.1;
+      boot_first = boot_first first mid [] held' boot c.in_ok-first.first.items c.requires.begins goes;
       credits = omega arith;
     }
 
@@ -94,10 +96,12 @@ loop-script-preserved g c =
     record {
       start = goes.start ∙ c.loop-script.invariant.start;
       told = goes.told ∙ c.loop-script.invariant.told;
+      behind = goes.behind ∙ c.loop-script.invariant.behind;
       legal = λ told_. goes.legal (c.loop-script.invariant.told ∙ told_) (c.loop-script.invariant.legal told_);
       number = ap (λ (n : ℕ). n + 1) number;
       follow = subst (λ scripts. FollowAll 0 (c.args.boot.now ∷ scripts) c.push-in-loop-script.new.self.items last.journal) (sym mapped)
           (subst (λ answers. FollowAll 0 ((c.args.boot.now ∷ done) ++ s.commands ∷ []) answers last.journal) (sym told) next.0);
       among = next.1;
+      boot_first = boot_still_first mid last driver (no_handles s.commands) held' s.commands own' (omega arith) c.loop-script.invariant.boot_first goes;
       credits = omega arith;
     }

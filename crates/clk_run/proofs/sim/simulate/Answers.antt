@@ -6,7 +6,7 @@ use Rattle.clk_run.proofs.Leaving.{front_by}
 use Rattle.clk_run.proofs.sim.simulate.Goals as goal
 
 pub returns-in-Ok-run_bundle-clause-decided : goal.returns-in-Ok-run_bundle-clause-decided
-returns-in-Ok-run_bundle-clause-decided g c = λ never. gives_decides _ (g.S.Source.left c.take_bundle.new.input) c.in-Ok.bundle c.in-Ok.ensures.gives
+returns-in-Ok-run_bundle-clause-decided g c = gives_decides _ (g.S.Source.left c.take_bundle.new.input) c.in-Ok.bundle c.in-Ok.ensures.gives
 
 pub returns-in-Ok-clause-unwritten : goal.returns-in-Ok-clause-unwritten
 returns-in-Ok-clause-unwritten g c = λ five.
@@ -18,7 +18,7 @@ returns-in-Ok-clause-unwritten g c = λ five.
     )
 
 pub returns-in-Ok-print_refusal-clause-decided : goal.returns-in-Ok-print_refusal-clause-decided
-returns-in-Ok-print_refusal-clause-decided g c = λ never.
+returns-in-Ok-print_refusal-clause-decided g c =
     refuses_decides _ (g.S.Source.left c.take_bundle.new.input) c.in-Err-Refused.line c.in-Err-Refused.reason
-    (subst (StopsReading (g.S.Source.left c.args.input.now) (g.S.Source.left c.take_bundle.new.input) (g.S.Source.faults c.args.input.now) (g.S.Source.faults c.take_bundle.new.input))
+    (subst (StopsReading (g.S.Source.left c.args.input.now) (g.S.Source.left c.take_bundle.new.input))
     c.in-Err-Refused.field-0-is c.in-Err-Refused.ensures.stops)

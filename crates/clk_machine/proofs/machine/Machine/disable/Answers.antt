@@ -20,4 +20,4 @@ returns-then-row-eq0 g c =
 pub returns : goal.returns
 returns g c =
     takes_disabled c.args.self.now c.put_row.new.self c.close_above.new.self c.args.driver c.args.number c.in-Some.row c.requires
-    (sym c.own.ensures.row ∙ c.in-Some.is) (omega arith) c.put_row.ensures c.close_above.ensures.told c.close_above.ensures.size c.close_above.ensures.stays c.close_above.ensures.closes
+    (sym c.own.ensures.row ∙ c.in-Some.is) (omega arith) c.put_row.ensures c.close_above.ensures.told c.close_above.ensures.size c.close_above.ensures.behind c.close_above.ensures.stays c.close_above.ensures.closes

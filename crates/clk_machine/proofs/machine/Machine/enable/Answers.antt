@@ -20,4 +20,4 @@ returns-then-row-eq0 g c =
 pub returns : goal.returns
 returns g c =
     takes_enabled c.args.self.now c.open_above.new.self c.put_row.new.self c.args.driver c.args.number c.in-Some.row c.requires
-    (sym c.own.ensures.row ∙ c.in-Some.is) (omega arith) c.open_above.ensures.told c.open_above.ensures.size c.open_above.ensures.stays c.open_above.ensures.opens c.put_row.ensures
+    (sym c.own.ensures.row ∙ c.in-Some.is) (omega arith) c.open_above.ensures.told c.open_above.ensures.size c.open_above.ensures.behind c.open_above.ensures.stays c.open_above.ensures.opens c.put_row.ensures

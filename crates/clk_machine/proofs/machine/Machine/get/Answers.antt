@@ -37,5 +37,5 @@ returns-clause-ok g c =
     ∙ get-given s c.args.driver c.in-Some.clock c.is_rooted.ensures.quiet (sym c.is_rooted.ensures.rooted ∙ c.if-not-is_rooted.false)
     ∙ ap (λ (n : ℕ). paid s ((given s c.args.driver c.in-Some.clock.0).0, Done (reply.Handle (record { number = n; slot = 0; driver = c.args.driver })))) (sym c.in_ok-number.ensures.number))
     (λ k. active-append s _ k refl)
-    (ap (λ (h : Held). h.told) c.in_ok-number.ensures.ok) (ap (λ (h : Held). h.size) c.in_ok-number.ensures.ok) (ap (λ (h : Held). h.state) c.in_ok-number.ensures.ok)
+    (ap (λ (h : Held). h.told) c.in_ok-number.ensures.ok) (ap (λ (h : Held). h.size) c.in_ok-number.ensures.ok) (ap (λ (h : Held). h.behind) c.in_ok-number.ensures.ok) (ap (λ (h : Held). h.state) c.in_ok-number.ensures.ok)
     (record { defs = refl; credits = refl; ignore_unused = refl }) refl (λ k. refl)

@@ -24,5 +24,5 @@ returns g c =
     takes_beside c.args.self.now c.put_row.new.self c.args.driver (Begin (Prepare c.args.handle)) Fine (prepared_once_more s c.args.handle.number c.in-Some.row) c.requires.credit
     (λ _ _. prepare-fine s c.args.driver c.args.handle c.in-Some.row c.own.ensures.quiet own (no_plls s (path s.clocks c.in-Some.row.clock.0) c.requires.plls))
     (λ k. active-put_same s c.args.handle.number c.in-Some.row (record c.in-Some.row { prepares = c.in-Some.row.prepares + 1 }) k (own_is_live s c.args.driver c.args.handle.number c.in-Some.row own) refl refl)
-    (ap (λ (h : Held). h.told) c.put_row.ensures) (ap (λ (h : Held). h.size) c.put_row.ensures) (ap (λ (h : Held). h.state) c.put_row.ensures)
+    (ap (λ (h : Held). h.told) c.put_row.ensures) (ap (λ (h : Held). h.size) c.put_row.ensures) (ap (λ (h : Held). h.behind) c.put_row.ensures) (ap (λ (h : Held). h.state) c.put_row.ensures)
     (record { defs = refl; credits = refl; ignore_unused = refl }) refl (λ k. refl)

@@ -30,5 +30,5 @@ returns g c =
     takes_beside c.args.self.now c.remove_row.new.self c.args.driver (Begin (Put c.args.handle)) Fine (put_handle s c.args.handle.number None) c.requires
     (λ _ _. put-fine s c.args.driver c.args.handle c.in-Some.row c.own.ensures.quiet own free)
     (λ k. active-put_none s c.args.handle.number c.in-Some.row k (own_is_live s c.args.driver c.args.handle.number c.in-Some.row own) (idle_handle c.in-Some.row free))
-    (ap (λ (h : Held). h.told) c.remove_row.ensures) (ap (λ (h : Held). h.size) c.remove_row.ensures) (ap (λ (h : Held). h.state) c.remove_row.ensures)
+    (ap (λ (h : Held). h.told) c.remove_row.ensures) (ap (λ (h : Held). h.size) c.remove_row.ensures) (ap (λ (h : Held). h.behind) c.remove_row.ensures) (ap (λ (h : Held). h.state) c.remove_row.ensures)
     (record { defs = refl; credits = refl; ignore_unused = refl }) refl (λ k. refl)

@@ -21,5 +21,5 @@ returns g c =
     takes_beside c.args.self.now c.spend-2.new.self c.args.driver (Begin (GetRate c.args.handle)) (Rate c.rate_of-rate.result) s c.requires
     (λ tells _. rate-told s c.args.driver c.args.handle c.in-Some.row c.own.ensures.quiet (sym c.own.ensures.row ∙ c.in-Some.is)
     ∙ ap (λ (r : ℕ). paid s (s, Done (Rate r))) (sym (c.rate_of-rate.ensures tells)))
-    (λ k. refl) (ap (λ (h : Held). h.told) c.spend-2.ensures.spends) (ap (λ (h : Held). h.size) c.spend-2.ensures.spends) (ap (λ (h : Held). h.state) c.spend-2.ensures.spends)
+    (λ k. refl) (ap (λ (h : Held). h.told) c.spend-2.ensures.spends) (ap (λ (h : Held). h.size) c.spend-2.ensures.spends) (ap (λ (h : Held). h.behind) c.spend-2.ensures.spends) (ap (λ (h : Held). h.state) c.spend-2.ensures.spends)
     (record { defs = refl; credits = refl; ignore_unused = refl }) refl (λ k. refl)

@@ -15,6 +15,7 @@ returns g c =
     rw (← c.self.view_is) (record {
       told = refl;
       size = refl;
+      behind = refl;
       stays = record { defs = refl; credits = refl; ignore_unused = refl };
       spent = refl;
       rows = c.register_clock.ensures.rows;

@@ -25,7 +25,7 @@ returns g c =
     (λ _ sound. unprepare-fine s c.args.driver c.args.handle c.in-Some.row c.own.ensures.quiet own (sym c.keeps_prepare.ensures ∙ c.if-keeps_prepare.false) (no_plls (prepared_once_less s c.args.handle.number c.in-Some.row) (path s.clocks c.in-Some.row.clock.0)
     (frees-unpowered c.args.self.now.size s sound c.args.handle.number c.in-Some.row (own_is_live s c.args.driver c.args.handle.number c.in-Some.row own) (sym c.keeps_prepare.ensures ∙ c.if-keeps_prepare.false))))
     (λ k. active-put_same s c.args.handle.number c.in-Some.row (record c.in-Some.row { prepares = c.in-Some.row.prepares - 1 }) k (own_is_live s c.args.driver c.args.handle.number c.in-Some.row own) refl refl)
-    (ap (λ (h : Held). h.told) c.put_row.ensures) (ap (λ (h : Held). h.size) c.put_row.ensures) (ap (λ (h : Held). h.state) c.put_row.ensures)
+    (ap (λ (h : Held). h.told) c.put_row.ensures) (ap (λ (h : Held). h.size) c.put_row.ensures) (ap (λ (h : Held). h.behind) c.put_row.ensures) (ap (λ (h : Held). h.state) c.put_row.ensures)
     (record { defs = refl; credits = refl; ignore_unused = refl }) refl (λ k. refl)
 
 pub returns-then-keeps_prepare : goal.returns-then-keeps_prepare

@@ -1,6 +1,6 @@
 use Rattle.std.proofs.Common.{◌<◌}
 use Rattle.std.specs.Option.{option_map}
-use Rattle.clk_machine.proofs.WindowLaws.{told_put, told_words}
+use Rattle.clk_machine.proofs.WindowLaws.{told_put, told_words, behind_put}
 use Rattle.clk_machine.specs.Window.{AreTold}
 use Rattle.std.proofs.Common.{take, subst, sym, Option, List, ℕ}
 use Rattle.clk_machine.proofs.window.Window.put_bit.Goals as goal
@@ -18,3 +18,8 @@ pub returns-clause-words : goal.returns-clause-words
 returns-clause-words g c =
     let within : c.args.word < c.self.inside.size = rw (← c.self.view_is) at c.requires.word in
     rw (← c.self.view_is) (told_put c.self.inside.size (g.B.Bank.contents c.self.inside.bank) (g.B.Bank.contents c.write_bit.new.bank) c.args.word c.args.bit c.args.value within c.write_bit.ensures.words)
+
+pub returns-clause-behind : goal.returns-clause-behind
+returns-clause-behind g c =
+    let within : c.args.word < c.self.inside.size = rw (← c.self.view_is) at c.requires.word in
+    rw (← c.self.view_is) (behind_put c.self.inside.size (g.B.Bank.contents c.self.inside.bank) (g.B.Bank.contents c.write_bit.new.bank) c.args.word c.args.bit c.args.value within c.write_bit.ensures.words)
