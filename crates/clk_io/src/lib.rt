@@ -19,11 +19,11 @@ mod writing;
 pub use faults::{Failed, NoMemory, PrintFault, ReadFault, WriteFault};
 pub use mem_sink::MemSink;
 pub use mem_source::MemSource;
-pub use reader_source::ReaderSource;
+pub use reader_source::{ReaderSource, StdIn};
 pub use reading::{MOST_BYTES, read_all};
 pub use sinks::Sink;
 pub use sources::Source;
-pub use writer_sink::WriterSink;
+pub use writer_sink::{StdOut, WriterSink};
 pub use writing::write_all;
 
 #[cfg(test)]

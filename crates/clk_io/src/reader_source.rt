@@ -6,10 +6,12 @@ ghost use Rattle.clk_io.specs.Streams.{untold};
 
 use crate::faults::Failed;
 use crate::sources::Source;
-use std::io::{ErrorKind, Read};
+use std::io::{ErrorKind, Read, Stdin};
 
-/// A source over a reader, such as standard input. It tells nothing of its bytes, but hands on what
-/// the reader gives.
+/// Standard input as a source; `new` takes the runtime's `stdin()`.
+pub type StdIn = ReaderSource<Stdin>;
+
+/// A source over a reader. It tells nothing of its bytes, but hands on what the reader gives.
 #[derive(Drop)]
 pub struct ReaderSource<R: Read + Drop> {
     reader: R,

@@ -129,7 +129,7 @@ fn a_writer_is_written_again_after_a_signal(rt: HostRuntime) {
 
 #[test]
 fn standard_input_reads_or_counts_a_fault(rt: HostRuntime) {
-    let mut source = ReaderSource::new(rt.stdin());
+    let mut source = StdIn::new(rt.stdin());
     match source.read(&mut [0; 1]) {
         Ok(count) => assert!(rt; count <= 1),
         Err(Failed) => assert_eq!(rt; source.faults(), 1),
@@ -138,7 +138,7 @@ fn standard_input_reads_or_counts_a_fault(rt: HostRuntime) {
 
 #[test]
 fn standard_output_writes(rt: HostRuntime) {
-    let mut sink = WriterSink::new(rt.stdout());
+    let mut sink = StdOut::new(rt.stdout());
     assert!(rt; write_all(&mut sink, b"standard output\n").is_ok());
     assert_eq!(rt; sink.faults(), 0);
 }

@@ -6,10 +6,12 @@ ghost use Rattle.clk_io.specs.Streams.{untold};
 
 use crate::faults::Failed;
 use crate::sinks::Sink;
-use std::io::{ErrorKind, Write};
+use std::io::{ErrorKind, Stdout, Write};
 
-/// A sink over a writer, such as standard output. It tells nothing of its bytes, but hands them on
-/// to the writer.
+/// Standard output as a sink; `new` takes the runtime's `stdout()`.
+pub type StdOut = WriterSink<Stdout>;
+
+/// A sink over a writer. It tells nothing of its bytes, but hands them on to the writer.
 #[derive(Drop)]
 pub struct WriterSink<W: Write + Drop> {
     writer: W,

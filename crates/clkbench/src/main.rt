@@ -2,7 +2,7 @@
 #![tactic(auto)]
 
 use clk_base::{Pause, Place};
-use clk_io::{NoMemory, ReaderSource, WriterSink};
+use clk_io::{NoMemory, StdIn, StdOut};
 use clk_run::clkbench;
 use reg_bank::MemBank;
 use std::env;
@@ -54,8 +54,8 @@ fn status(rt: &HostRuntime) -> Result<u8, NoMemory> {
         words.push(word.as_str())?;
     }
     let bank = MemBank::new(alloc)?;
-    let mut input = ReaderSource::new(rt.stdin());
-    let mut out = WriterSink::new(rt.stdout());
+    let mut input = StdIn::new(rt.stdin());
+    let mut out = StdOut::new(rt.stdout());
     let (status, _) = clkbench(rt, words.as_slice(), &mut input, &mut out, bank, &NoPause);
     Ok(status)
 }
