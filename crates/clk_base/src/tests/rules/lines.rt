@@ -45,7 +45,6 @@ fn no_clock_is_its_own_possible_ancestor(rt: HostRuntime) -> Result<(), Fail> {
     Ok(())
 }
 
-
 #[test]
 fn lines_have_at_most_64_clocks(rt: HostRuntime) -> Result<(), Fail> {
     let alloc = rt.alloc();

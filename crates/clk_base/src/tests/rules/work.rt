@@ -54,7 +54,6 @@ fn work_is_at_most_1048576(rt: HostRuntime) -> Result<(), Fail> {
     Ok(())
 }
 
-
 // Layers of 64 clocks, each clock a mux over all of the layer before.
 fn layers(alloc: Global, passes_on: bool) -> Result<Desc, AddFault> {
     let mut desc = Desc::new(alloc);
