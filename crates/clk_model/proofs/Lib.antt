@@ -55,3 +55,4 @@ pub mod PaceLaws
 pub mod TierPacedLaws
 pub mod GatesFollowLaws
 pub mod MovedLaws
+pub mod HoldsLeftLaws
