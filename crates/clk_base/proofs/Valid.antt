@@ -25,19 +25,9 @@ length-valid words defs valid =
       | inr few ↦ few
     ]
 
--- the parent at a place of the list
-pub parent-at : (words : ℕ) (defs : Description) → IsValid words defs → (c k p : ℕ) → c < length defs → slice_get (parents_of defs c) k ≡ Some p → p < length defs
-parent-at words defs valid c k p lt at =
-    ltb-true p (length defs) (passes_at (λ q. nat_lt q (length defs)) (parents_of defs c) k p (and_parts _ _ (valid.parents c lt)).1 at)
-
 none_of : (xs : List ℕ) → length xs ≡ 0 → xs ≡ []
 none_of [] e = refl
 none_of (x ∷ xs) e = absurd (omega arith)
-
-single : (xs : List ℕ) → length xs ≡ 1 → (x : ℕ) × (xs ≡ x ∷ [])
-single [] e = absurd (omega arith)
-single (x ∷ []) e = (x, refl)
-single (x ∷ y ∷ xs) e = absurd (omega arith)
 
 -- a fixed clock has no parent
 pub fixed-parents : (words : ℕ) (defs : Description) → IsValid words defs → (c rate : ℕ) → c < length defs → kind_of defs c ≡ FixedRate rate → parents_of defs c ≡ []
@@ -45,21 +35,6 @@ fixed-parents words defs valid c rate lt kind =
     let fits : can_have_parents (FixedRate rate) (length (parents_of defs c)) ≡ true =
     ap (λ k. can_have_parents k (length (parents_of defs c))) (sym kind) ∙ (and_parts _ _ (valid.parents c lt)).0 in
     none_of (parents_of defs c) (eqb-true _ 0 fits)
-
-gate-single : (kind : Kind) (gate : GateBit) (parents : ℕ) → gate_of kind ≡ Some gate → can_have_parents kind parents ≡ true → parents ≡ 1
-gate-single (FixedRate rate) gate parents at fits = absurd (none-some gate at)
-gate-single (Factor mult div) gate parents at fits = absurd (none-some gate at)
-gate-single (Gate word bit set_to_disable) gate parents at fits = eqb-true parents 1 fits
-gate-single (Mux word shift width read_only) gate parents at fits = absurd (none-some gate at)
-gate-single (Divider word shift width one_based power_of_two) gate parents at fits = absurd (none-some gate at)
-gate-single (Pll word shift width power_word power_bit least most m) gate parents at fits = absurd (none-some gate at)
-
--- a gate has one parent
-pub gate-parent : (words : ℕ) (defs : Description) → IsValid words defs → (c : ℕ) (gate : GateBit) → c < length defs → gate_of (kind_of defs c) ≡ Some gate → (p : ℕ) × (parents_of defs c ≡ p ∷ []) × (p < length defs)
-gate-parent words defs valid c gate lt at =
-    let is = and_parts _ _ (valid.parents c lt) in
-    let one = single (parents_of defs c) (gate-single (kind_of defs c) gate (length (parents_of defs c)) at is.0) in
-    (one.0, one.1, parent-at words defs valid c 0 one.0 lt (ap (λ ps. slice_get ps 0) one.1))
 
 -- ## Lines of possible parents
 

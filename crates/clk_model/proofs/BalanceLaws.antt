@@ -334,7 +334,8 @@ begun_orderly q n d what k h no_probe plain = by_script h.has where
   by_script (by_sweep is) =
       as_script is (all_calm (link_in q.clocks) (sweep_script q) (sweep_has_no is_holding q (λ c. refl) (λ c. refl) refl), once_none (sweep_script q) (λ c. sweep_has_no (relinks c) q (λ d. refl) (λ d. refl) refl))
 
-began : (q : State) (d : ℕ) (what : Sleeping) {s : State} {made : List Micro} → Flight q d what s made → (first : State) × (next q d (event.Begin what) ≡ Some (first, turn.Going))
+-- a flight has a beginning
+pub began : (q : State) (d : ℕ) (what : Sleeping) {s : State} {made : List Micro} → Flight q d what s made → (first : State) × (next q d (event.Begin what) ≡ Some (first, turn.Going))
 began q d what {s = s} (begins step) = (s, step)
 began q d what (goes_on m answer flight step) = began q d what flight
 began q d what (beside driver e tier flight step) = began q d what flight

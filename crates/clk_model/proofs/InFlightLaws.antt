@@ -36,15 +36,22 @@ use Rattle.clk_model.proofs.VetoLaws.{ends_it, end_state, of_change}
 
 -- ---- a call that is answered at once
 
--- the answer is that the call goes on, or the change in flight is this one
-record GoesOrHas (c : Option Change) (y : State × Turn) : Type 0 where
-  is : (y.1 ≡ turn.Going) ⊎ (y.0.change ≡ c)
+-- the change in flight, and what it holds
+abbrev pub InFlight : Type 0
+InFlight = Option Change × List ℕ × List ℕ
 
-has : (y : State × Turn) → GoesOrHas y.0.change y
+abbrev pub in_flight : State → InFlight
+in_flight s = (s.change, s.prepare_holds, s.enable_holds)
+
+-- the answer is that the call goes on, or the change in flight and what it holds are these
+record GoesOrHas (c : InFlight) (y : State × Turn) : Type 0 where
+  is : (y.1 ≡ turn.Going) ⊎ (in_flight y.0 ≡ c)
+
+has : (y : State × Turn) → GoesOrHas (in_flight y.0) y
 has y = record { is = inr refl }
 
-starts_or : (old new : State) (k : Change) → GoesOrHas old.change (starts old new k)
-starts_or old new k = pick_either (GoesOrHas old.change) _ _ _ (λ e. has (refused old errno.ENOSPC)) (λ e. record { is = inl refl })
+starts_or : (old new : State) (k : Change) → GoesOrHas (in_flight old) (starts old new k)
+starts_or old new k = pick_either (GoesOrHas (in_flight old)) _ _ _ (λ e. has (refused old errno.ENOSPC)) (λ e. record { is = inl refl })
 
 by_plan : (P : State × Turn → Type 0) (o : Option (List ChainStep)) (f : List ChainStep → State × Turn) (x : State × Turn) → P x → ((ks : List ChainStep) → P (f ks)) → P (option_map_or f o x)
 by_plan P None f x none some = none
@@ -54,78 +61,82 @@ by_rate : (P : State × Turn → Type 0) (o : Option ℕ) (f : ℕ → State × 
 by_rate P None f x none some = none
 by_rate P (Some y) f x none some = some y
 
-request_or : (c : Option Change) (old new fine lifted : State) (d : ℕ) (what : Sleeping) (clock x : ℕ) (range : Option (ℕ × ℕ)) → old.change ≡ c → fine.change ≡ c
+request_or : (c : InFlight) (old new fine lifted : State) (d : ℕ) (what : Sleeping) (clock x : ℕ) (range : Option (ℕ × ℕ)) → in_flight old ≡ c → in_flight fine ≡ c
     → GoesOrHas c (request old new fine lifted d what clock x range)
 request_or c old new fine lifted d what clock x range same same' =
     pick_either (GoesOrHas c) _ _ _ (λ e. record { is = inr same' })
     (λ e. pick_either (GoesOrHas c) _ _ _ (λ e. record { is = inr same })
     (λ e. by_plan (GoesOrHas c) (chain (wiring new) (view lifted) clock x) (λ ks. starts old new (change_along new d what ks [] range)) (refused old errno.EINVAL)
-    (record { is = inr same }) (λ ks. subst (λ (o : Option Change). GoesOrHas o (starts old new (change_along new d what ks [] range))) same (starts_or old new (change_along new d what ks [] range)))))
+    (record { is = inr same }) (λ ks. subst (λ (o : InFlight). GoesOrHas o (starts old new (change_along new d what ks [] range))) same (starts_or old new (change_along new d what ks [] range)))))
 
-on_handle : (s : State) (d : ℕ) (n : ℕ) (f : HandleRow → State × Turn) → ((row : HandleRow) → GoesOrHas s.change (f row)) → GoesOrHas s.change (with_handle s d n f)
-on_handle s d n f each = with_handle_either (GoesOrHas s.change) s d n f (has (refused s errno.ENOENT)) (λ row own. each row)
+on_handle : (s : State) (d : ℕ) (n : ℕ) (f : HandleRow → State × Turn) → ((row : HandleRow) → GoesOrHas (in_flight s) (f row)) → GoesOrHas (in_flight s) (with_handle s d n f)
+on_handle s d n f each = with_handle_either (GoesOrHas (in_flight s)) s d n f (has (refused s errno.ENOENT)) (λ row own. each row)
 
-got_or : (s : State) (d : ℕ) (found : Option ℕ) → GoesOrHas s.change (got s d found)
+got_or : (s : State) (d : ℕ) (found : Option ℕ) → GoesOrHas (in_flight s) (got s d found)
 got_or s d None = has (refused s errno.ENOENT)
-got_or s d (Some c) = pick_either (GoesOrHas s.change) _ _ _ (λ e. has (given s d c)) (λ e. has (refused s errno.EPROBE_DEFER))
+got_or s d (Some c) = pick_either (GoesOrHas (in_flight s)) _ _ _ (λ e. has (given s d c)) (λ e. has (refused s errno.EPROBE_DEFER))
 
-registered_change : (s : State) (c : ℕ) → (register s c).change ≡ s.change
+registered_change : (s : State) (c : ℕ) → in_flight (register s c) ≡ in_flight s
 unfolding register
 registered_change s c = refl
 
--- a call goes on, or it leaves the change in flight as it was
-begun_or : (q : State) (d : ℕ) (what : Sleeping) → GoesOrHas q.change (begun q d what)
+-- a call goes on, or it leaves the change in flight and what it holds as they were
+begun_or : (q : State) (d : ℕ) (what : Sleeping) → GoesOrHas (in_flight q) (begun q d what)
 unfolding begun
 begun_or q d (call.Get found) = got_or q d _
-begun_or q d (call.Put h) = on_handle q d h.number _ (λ row. pick_either (GoesOrHas q.change) _ _ _ (λ e. has (refused q errno.EBUSY)) (λ e. has (done (put_handle q h.number None) reply.Fine)))
-begun_or q d (call.Prepare h) = on_handle q d h.number _ (λ row. pick_either (GoesOrHas q.change) _ _ _ (λ e. has (done (prepared_once_more q h.number row) reply.Fine))
+begun_or q d (call.Put h) = on_handle q d h.number _ (λ row. pick_either (GoesOrHas (in_flight q)) _ _ _ (λ e. has (refused q errno.EBUSY)) (λ e. has (done (put_handle q h.number None) reply.Fine)))
+begun_or q d (call.Prepare h) = on_handle q d h.number _ (λ row. pick_either (GoesOrHas (in_flight q)) _ _ _ (λ e. has (done (prepared_once_more q h.number row) reply.Fine))
     (λ e. starts_or q q (change_of q d (call.Prepare h) (micro.Raise row.clock ∷ micro.End ∷ []))))
 begun_or q d (call.Unprepare h) = on_handle q d h.number _ (λ row.
     let less : State = put_handle q h.number (Some (record row { prepares = row.prepares - 1 })) in
-    pick_either (GoesOrHas q.change) _ _ _ (λ e. has (done q reply.Warn))
-    (λ e. pick_either (GoesOrHas q.change) _ _ _ (λ e. record { is = inr refl }) (λ e. starts_or q less (change_of less d (call.Unprepare h) (micro.Lower row.clock ∷ micro.End ∷ [])))))
+    pick_either (GoesOrHas (in_flight q)) _ _ _ (λ e. has (done q reply.Warn))
+    (λ e. pick_either (GoesOrHas (in_flight q)) _ _ _ (λ e. record { is = inr refl }) (λ e. starts_or q less (change_of less d (call.Unprepare h) (micro.Lower row.clock ∷ micro.End ∷ [])))))
 begun_or q d (call.GetRate h) = on_handle q d h.number _ (λ row. record { is = inr refl })
 begun_or q d (call.RoundRate h x) = on_handle q d h.number _ (λ row.
-    by_rate (GoesOrHas q.change) (round_rate (wiring q) (view (lift q h.number)) row.clock.0 x) (λ r. done q (reply.Rate r)) (refused q errno.EINVAL) (record { is = inr refl }) (λ r. record { is = inr refl }))
-begun_or q d (call.SetRate h x) = on_handle q d h.number _ (λ row. request_or q.change q q q (lift q h.number) d (call.SetRate h x) row.clock.0 x None refl refl)
-begun_or q d (call.SetRateExclusive h x) = on_handle q d h.number _ (λ row. request_or q.change q q (held_once_more q h.number row) q d (call.SetRateExclusive h x) row.clock.0 x None refl refl)
+    by_rate (GoesOrHas (in_flight q)) (round_rate (wiring q) (view (lift q h.number)) row.clock.0 x) (λ r. done q (reply.Rate r)) (refused q errno.EINVAL) (record { is = inr refl }) (λ r. record { is = inr refl }))
+begun_or q d (call.SetRate h x) = on_handle q d h.number _ (λ row. request_or (in_flight q) q q q (lift q h.number) d (call.SetRate h x) row.clock.0 x None refl refl)
+begun_or q d (call.SetRateExclusive h x) = on_handle q d h.number _ (λ row. request_or (in_flight q) q q (held_once_more q h.number row) q d (call.SetRateExclusive h x) row.clock.0 x None refl refl)
 begun_or q d (call.SetRange h least most) = on_handle q d h.number _ (λ row.
     let new : State = put_handle q h.number (Some (record row { min = least; max = most })) in
-    pick_either (GoesOrHas q.change) _ _ _ (λ e. record { is = inr refl })
-    (λ e. request_or q.change q new new (lift new h.number) d (call.SetRange h least most) row.clock.0 (request_between q.clocks row.clock.0 least most) (Some (row.min, row.max)) refl refl))
+    pick_either (GoesOrHas (in_flight q)) _ _ _ (λ e. record { is = inr refl })
+    (λ e. request_or (in_flight q) q new new (lift new h.number) d (call.SetRange h least most) row.clock.0 (request_between q.clocks row.clock.0 least most) (Some (row.min, row.max)) refl refl))
 begun_or q d (call.SetParent h p) = on_handle q d h.number _ (λ row.
-    pick_either (GoesOrHas q.change) _ _ _ (λ e. record { is = inr refl })
-    (λ e. pick_either (GoesOrHas q.change) _ _ _ (λ e. record { is = inr refl })
-    (λ e. pick_either (GoesOrHas q.change) _ _ _ (λ e. record { is = inr refl })
-    (λ e. pick_either (GoesOrHas q.change) _ _ _ (λ e. starts_or q q (reparenting q d (call.SetParent h p) row.clock.0 p.0)) (λ e. record { is = inr refl })))))
+    pick_either (GoesOrHas (in_flight q)) _ _ _ (λ e. record { is = inr refl })
+    (λ e. pick_either (GoesOrHas (in_flight q)) _ _ _ (λ e. record { is = inr refl })
+    (λ e. pick_either (GoesOrHas (in_flight q)) _ _ _ (λ e. record { is = inr refl })
+    (λ e. pick_either (GoesOrHas (in_flight q)) _ _ _ (λ e. starts_or q q (reparenting q d (call.SetParent h p) row.clock.0 p.0)) (λ e. record { is = inr refl })))))
 begun_or q d (call.GetParent h) = on_handle q d h.number _ (λ row. record { is = inr refl })
 begun_or q d (call.ExclusiveGet h) = on_handle q d h.number _ (λ row. record { is = inr refl })
-begun_or q d (call.ExclusivePut h) = on_handle q d h.number _ (λ row. pick_either (GoesOrHas q.change) _ _ _ (λ e. record { is = inr refl }) (λ e. record { is = inr refl }))
+begun_or q d (call.ExclusivePut h) = on_handle q d h.number _ (λ row. pick_either (GoesOrHas (in_flight q)) _ _ _ (λ e. record { is = inr refl }) (λ e. record { is = inr refl }))
 begun_or q d (call.NotifierAdd h id priority policy) = on_handle q d h.number _ (λ row.
-    pick_either (GoesOrHas q.change) _ _ _ (λ e. record { is = inr refl }) (λ e. pick_either (GoesOrHas q.change) _ _ _ (λ e. record { is = inr refl }) (λ e. record { is = inr refl })))
-begun_or q d (call.NotifierRemove h id) = on_handle q d h.number _ (λ row. pick_either (GoesOrHas q.change) _ _ _ (λ e. record { is = inr refl }) (λ e. record { is = inr refl }))
+    pick_either (GoesOrHas (in_flight q)) _ _ _ (λ e. record { is = inr refl }) (λ e. pick_either (GoesOrHas (in_flight q)) _ _ _ (λ e. record { is = inr refl }) (λ e. record { is = inr refl })))
+begun_or q d (call.NotifierRemove h id) = on_handle q d h.number _ (λ row. pick_either (GoesOrHas (in_flight q)) _ _ _ (λ e. record { is = inr refl }) (λ e. record { is = inr refl }))
 begun_or q d (call.Probe c) =
-    pick_either (GoesOrHas q.change) _ _ _ (λ e. record { is = inr refl })
-    (λ e. pick_either (GoesOrHas q.change) _ _ _ (λ e. record { is = inr (registered_change q c.0) })
+    pick_either (GoesOrHas (in_flight q)) _ _ _ (λ e. record { is = inr refl })
+    (λ e. pick_either (GoesOrHas (in_flight q)) _ _ _ (λ e. record { is = inr (registered_change q c.0) })
     (λ e. starts_or q q (change_of q d (call.Probe c) (probe_script (register q c.0) c.0))))
-begun_or q d call.Sweep = pick_either (GoesOrHas q.change) _ _ _ (λ e. record { is = inr refl }) (λ e. starts_or q q (change_of q d call.Sweep (sweep_script q)))
+begun_or q d call.Sweep = pick_either (GoesOrHas (in_flight q)) _ _ _ (λ e. record { is = inr refl }) (λ e. starts_or q q (change_of q d call.Sweep (sweep_script q)))
 
 going_or_done : (r : Reply) → turn.Done r ≡ turn.Going → ⊥
 going_or_done r e = absurd cc
 
--- a call that is answered at once leaves none in flight
-answered_quiet : (q s : State) (d : ℕ) (what : Sleeping) (r : Reply) → next q d (event.Begin what) ≡ Some (s, turn.Done r) → s.change ≡ None
+-- a call that is answered at once leaves what is held
+pub answered_leaves : (q s : State) (d : ℕ) (what : Sleeping) (r : Reply) → next q d (event.Begin what) ≡ Some (s, turn.Done r) → in_flight s ≡ in_flight q
 unfolding settled
-answered_quiet q s d what r step =
+answered_leaves q s d what r step =
     let start = begin_is q s d what (turn.Done r) step in
-    sym (ap (λ (u : State). u.change) start.1)
+    sym (ap (λ (u : State). in_flight u) start.1)
     ∙ elim (begun_or q d what).is [
       | inl going ↦ absurd (going_or_done r (sym start.2 ∙ going))
-      | inr same ↦ same ∙ start.0
+      | inr same ↦ same
     ]
 
+-- and none in flight
+pub answered_quiet : (q s : State) (d : ℕ) (what : Sleeping) (r : Reply) → next q d (event.Begin what) ≡ Some (s, turn.Done r) → s.change ≡ None
+answered_quiet q s d what r step = ap (λ (f : InFlight). f.0) (answered_leaves q s d what r step) ∙ (begin_is q s d what (turn.Done r) step).0
+
 -- the end of a call leaves none in flight
-end_quiet : (s t : State) (d : ℕ) (m : Micro) (answer : Option Bool) (r : Reply) (k : Change) → IsStep s t d m answer (turn.Done r) k → t.change ≡ None
+pub end_quiet : (s t : State) (d : ℕ) (m : Micro) (answer : Option Bool) (r : Reply) (k : Change) → IsStep s t d m answer (turn.Done r) k → t.change ≡ None
 unfolding settled
 end_quiet s t d m answer r k step =
     sym (ap (λ (u : State). u.change) step.state)

@@ -6,8 +6,6 @@ pub mod StateLaws
 pub mod EventLaws
 pub mod JournalLaws
 pub mod CallLaws
-pub mod FollowLaws
-pub mod OrderLaws
 pub mod CountLaws
 pub mod FedLaws
 pub mod CauseLaws
@@ -32,6 +30,7 @@ pub mod ApartLaws
 pub mod OutcomeLaws
 pub mod SettingLaws
 pub mod BelowLaws
+pub mod ChainStepLaws
 pub mod WalkLaws
 pub mod WholePathLaws
 pub mod RateLaws
@@ -56,3 +55,4 @@ pub mod PaceLaws
 pub mod TierPacedLaws
 pub mod GatesFollowLaws
 pub mod MovedLaws
+pub mod HoldsLeftLaws

@@ -8,7 +8,6 @@ use Rattle.clk_base.specs.declared.call.Micro.TheVariants as micro
 use Rattle.clk_base.specs.declared.call.Sleeping.{Sleeping}
 use Rattle.clk_base.specs.declared.call.Sleeping.TheVariants as call
 use Rattle.clk_base.specs.declared.event.Errno.TheVariants as errno
-use Rattle.clk_base.specs.declared.event.Reply.{Reply}
 use Rattle.clk_base.specs.declared.event.Reply.TheVariants as reply
 use Rattle.clk_base.specs.declared.event.Turn.{Turn}
 use Rattle.clk_base.specs.declared.event.Turn.TheVariants as turn
@@ -37,9 +36,6 @@ use Rattle.clk_model.proofs.LinkScripts.{AllLink, link_planned, link_probe, link
 -- what a call comes to keeps links
 pub record Comes (r : State × Turn) : Type 0 where
   pub keeps : KeepsLinks r.0
-
-pub comes_done : (s : State) (r : Reply) → KeepsLinks s → Comes (done s r)
-comes_done s r keeps = record { keeps = keeps }
 
 pub comes_pick : (b : Bool) (f g : Unit {0} → State × Turn) → (b ≡ true → Comes (f tt)) → Comes (g tt) → Comes (pick b f g)
 unfolding pick

@@ -201,10 +201,6 @@ pub tells_on : (s y : State) (l : Change) → winds_down l.front l.raised ≡ tr
 unfolding settled
 tells_on s y l winds first well extra = record { front = tells winds first; script = well.script; last = well.last; aborts = extra }
 
--- the rest of a script
-pub plain_on : (s y : State) (k : Change) (m : Micro) (rest : List Micro) → k.again ≡ 0 → CutsWell rest rest → HasExtra y k rest → IsPaced (after s (on y (changed k [] rest))) (changed k [] rest)
-plain_on s y k m rest first well extra = tells_on s y (changed k [] rest) refl first well extra
-
 -- ---- raising
 
 pub raised_on : (s : State) (k : Change) (x z : ℕ) (rest : List Micro) (t : Bool) → IsValid (length s.regs) s.defs → slice_get (reverse (to_raise s k x)) 0 ≡ Some z

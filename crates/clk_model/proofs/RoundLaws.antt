@@ -25,10 +25,6 @@ pub record Fits (w : Wiring) (c : ℕ) (r : Rounded) : Type 0 where
   pub possible : (p : ℕ) → r.parent ≡ Some p → is_in p (parents_of w.defs c) ≡ true
   pub none : r.parent ≡ None → link_in w.clocks c ≡ None
 
--- a list of possible parents
-abbrev ArePossible : Wiring → ℕ → List ℕ → Type 0
-ArePossible w c ps = (p : ℕ) → is_in p ps ≡ true → is_in p (parents_of w.defs c) ≡ true
-
 fits_parent : (w : Wiring) (c r : ℕ) → LinksArePossible w.defs w.clocks → Fits w c (over_parent w c r)
 fits_parent w c r links = record { possible = λ p e. links c p e; none = λ e. e }
 

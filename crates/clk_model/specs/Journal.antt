@@ -68,10 +68,15 @@ abbrev pub answer_at : Option Event → Turn → List Answered
 answer_at (Some call) (turn.Done r) = record { call = call; reply = r } ∷ []
 answer_at _ _ = []
 
+-- the call that the steps behind an event belong to: the one that began last, also where events of the enable tier stand between
+abbrev pub last_begun : Option Event → Event → Option Event
+last_begun going (event.Begin what) = Some (event.Begin what)
+last_begun going _ = going
+
 -- the calls of one driver's entries, where going is the call that goes on
 abbrev pub calls_from : Option Event → List Entry → List Answered
 calls_from going [] = []
-calls_from going (e ∷ es) = answer_at (call_at going e.event) e.turn ++ calls_from (call_at going e.event) es
+calls_from going (e ∷ es) = answer_at (call_at going e.event) e.turn ++ calls_from (last_begun going e.event) es
 
 -- the calls of a driver, each with the reply of its entry, or of its end where it goes on
 abbrev pub calls : List Entry → ℕ → List Answered

@@ -31,6 +31,7 @@ pub mod RunsEnd
 pub mod Prep
 pub mod Tier
 pub mod Flight
+pub mod HoldsLeft
 pub mod Summary
 pub mod Causes
 pub mod Weight

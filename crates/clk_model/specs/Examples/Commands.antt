@@ -13,7 +13,7 @@ use Rattle.clk_base.specs.declared.event.Reply.TheVariants as reply
 use Rattle.clk_model.specs.Chain.{clock_id}
 use Rattle.clk_model.specs.Journal.{Answered, calls, replay, Legal}
 use Rattle.clk_model.specs.Follows.{Follows}
-use Rattle.clk_model.specs.Examples.Rows.{turns, handle, answers, boot, gets}
+use Rattle.clk_model.specs.Examples.Rows.{turns, handle, answers, goes_on, ends, boot, gets}
 use Rattle.clk_model.specs.Examples.OneDriver.{uart_start, ordinary_path}
 use Rattle.clk_model.specs.Examples.Plls.{raised}
 use Rattle.clk_model.specs.Examples.Notices.{one_veto}
@@ -45,6 +45,12 @@ skipping_follows = (refl, refl, (refl, (refl, refl, (refl, (refl, refl, (refl, t
 -- a call that goes on is one call, whose reply is that of its end
 pub raised_calls : calls raised 1 ≡ called (event.Begin (call.Prepare (handle 0 1))) reply.Fine ∷ []
 raised_calls = refl
+
+-- the reply of an end is that of the call that goes on, also where its driver makes calls of the enable tier meanwhile
+pub beside_calls :
+    calls (goes_on 1 (call.Prepare (handle 0 1)) ∷ answers 1 (event.Enable 1) reply.Fine ∷ ends 1 (reply.Refused errno.ETIMEDOUT) ∷ []) 1 ≡
+    called (event.Enable 1) reply.Fine ∷ called (event.Begin (call.Prepare (handle 0 1))) (reply.Refused errno.ETIMEDOUT) ∷ []
+beside_calls = refl
 
 -- the calls of one driver, while another's call goes on
 pub enabler_calls : calls one_veto 2 ≡

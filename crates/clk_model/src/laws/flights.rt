@@ -16,6 +16,7 @@ ghost use Rattle.clk_model.specs.Notices.{is_veto};
 ghost use Rattle.clk_model.specs.Machine.{next};
 ghost use Rattle.clk_model.specs.Journal.{Legal};
 ghost use Rattle.clk_model.specs.Flight.{Flight, QuietOrInFlight, IsUnderWay, IsCalledOff};
+ghost use Rattle.clk_model.specs.HoldsLeft.{CallsLeaveNoHold, RunsLeaveNoHold};
 
 /// Behind each front of a legal journal either no call is in flight, or one that began in the journal:
 /// its steps stand in the journal behind its beginning, with events of the enable tier between them and
@@ -47,4 +48,12 @@ pub fn veto_leaves_nothing()
         Flight q driver what s made →
         next s driver (event.Step m answer) ≡ Some (t, turn.Done (reply.Refused errno.EBUSY)) →
         IsTrue (list_any is_veto made) }
+{}
+
+/// A call that isn't a registration leaves no hold behind its end, where there was none before it: also
+/// one that is called off, and one of which a PLL doesn't lock. So nothing is held behind each legal
+/// journal, while no call is in flight, as long as no registration goes on.
+pub fn calls_leave_no_hold()
+    ensures calls { CallsLeaveNoHold }
+    ensures runs { RunsLeaveNoHold }
 {}
