@@ -1,0 +1,139 @@
+//! Faults in their order, nodes that provide nothing, and properties by their names.
+
+use super::reading::{node, says};
+use crate::{
+    cells, clock_cells, has_property, is_consumer, is_formed, is_okay, is_provider, numbers,
+    one_number, phandle, property, texts, two_numbers, values,
+};
+use std::test::Fail;
+
+#[test]
+fn faults_come_in_their_order(rt: HostRuntime) -> Result<(), Fail> {
+    for (properties, wanted) in [
+        ("", "UnknownCompatible"),
+        ("compatible = <1>; #clock-cells = <5>;", "UnknownCompatible"),
+        ("compatible = \"fixed-clock\\\\\";", "UnknownCompatible"),
+        ("compatible = \"fixed-clock\";", "NoCells"),
+        ("compatible = \"fixed-clock\"; #clock-cells;", "NoCells"),
+        (
+            "compatible = \"fixed-clock\"; #clock-cells = <1>;",
+            "NoCells",
+        ),
+        (
+            "compatible = \"fixed-clock\"; #clock-cells = <0 0>;",
+            "NoCells",
+        ),
+        (
+            "compatible = \"fixed-clock\"; #clock-cells = <&l>;",
+            "NoCells",
+        ),
+        (
+            "compatible = \"bank,gates-clock\"; #clock-cells = <0>;",
+            "NoCells",
+        ),
+        (
+            "compatible = \"bank,gates-clock\", \"fixed-clock\"; #clock-cells = <0>;",
+            "NoCells",
+        ),
+        (
+            "compatible = \"fixed-clock\"; #clock-cells = <0>;",
+            "MissingProperty",
+        ),
+        (
+            "compatible = \"fixed-clock\", \"a\\\\b\"; #clock-cells = <0>; clock-frequency = <1>;",
+            "MissingProperty",
+        ),
+        (
+            "compatible = \"a\", <7>, \"fixed-clock\"; #clock-cells = <>, <0>; clock-frequency = <1>;",
+            "Binding { cells: 0, wants: Nothing, inputs: [], clocks: [BoundClock { name: \"clk\", identifier: 0, kind: FixedRate { rate: 1 } }], flags: ClkFlags(0) }",
+        ),
+    ] {
+        says(&rt, rt.alloc(), properties, wanted)?;
+    }
+    Ok(())
+}
+
+#[test]
+fn nodes_that_provide_nothing_are_judged(rt: HostRuntime) -> Result<(), Fail> {
+    for (properties, formed, okay, consumer) in [
+        ("", true, true, false),
+        ("status = \"okay\"; reg = \"\\\\\";", true, true, false),
+        ("status = \"ok\"; clock-names = <1>;", true, true, false),
+        (
+            "status = \"disabled\"; phandle = <1 2>;",
+            false,
+            false,
+            false,
+        ),
+        (
+            "status = \"okay\", \"okay\"; phandle = \"1\";",
+            false,
+            false,
+            false,
+        ),
+        ("status; phandle = <3>;", true, false, false),
+        (
+            "clocks = <1>, <&l 5>; clock-names = \"a\", \"a\";",
+            true,
+            true,
+            true,
+        ),
+        ("clocks; clock-names;", true, true, true),
+        ("clocks = <1>, \"2\";", false, true, true),
+        ("clocks = <1>; clock-names = \"a\", <1>;", false, true, true),
+        ("clocks = <1>; clock-names = \"a\\n\";", false, true, true),
+        ("clocks = \"1\"; #clock-cells;", true, true, false),
+        (
+            "assigned-clocks; assigned-clock-parents; assigned-clock-rates;",
+            true,
+            true,
+            false,
+        ),
+        ("assigned-clocks = [00];", false, true, false),
+        ("assigned-clock-parents = <1>, &l;", false, true, false),
+        ("assigned-clock-rates = <1>, <&l>;", false, true, false),
+        ("assigned-clock-rates = \"1\";", false, true, false),
+    ] {
+        match node(rt.alloc(), properties)? {
+            Some(node) => {
+                assert_eq!(rt; is_formed(&node), formed, "formed: {properties}");
+                assert_eq!(rt; is_okay(&node), okay, "okay: {properties}");
+                assert_eq!(rt; is_consumer(&node), consumer, "consumer: {properties}");
+            }
+            None => assert!(rt; false, "no node of {properties}"),
+        }
+    }
+    Ok(())
+}
+
+#[test]
+fn properties_are_read_by_their_names(rt: HostRuntime) -> Result<(), Fail> {
+    let alloc = rt.alloc();
+    let source =
+        "a = <1 2>, <3>; b = \"x\", \"y\"; c = <4 &l>; phandle = <9>; #clock-cells = <1>; d;";
+    let Some(node) = node(alloc, source)? else {
+        assert!(rt; false, "no node");
+        return Ok(());
+    };
+    let all = cells(alloc, values(&node, "c"))?;
+    let three = numbers(alloc, values(&node, "a"))?;
+    let not_numbers = numbers(alloc, values(&node, "c"))?;
+    let two = texts(alloc, values(&node, "b"))?;
+    let not_texts = texts(alloc, values(&node, "a"))?;
+    let line = property(&node, "d").map(|d| d.line);
+    let text = format!(in alloc;
+        "{all:?} {three:?} {not_numbers:?} {two:?} {not_texts:?} {line:?}"
+    )?;
+    assert_eq!(rt;
+        text.as_str(),
+        "Some([Number(4), Node(1)]) Some([1, 2, 3]) None Some([\"x\", \"y\"]) None Some(1)"
+    );
+    assert_eq!(rt; one_number(values(&node, "a")), None);
+    assert_eq!(rt; two_numbers(values(&node, "c")), None);
+    assert_eq!(rt; phandle(&node), Some(9));
+    assert_eq!(rt; clock_cells(&node), Some(1));
+    assert!(rt; is_provider(&node));
+    assert!(rt; has_property(&node, "d"));
+    assert!(rt; !has_property(&node, "e"));
+    Ok(())
+}
