@@ -33,7 +33,7 @@ scales_is_field (Divider word shift width one_based power_of_two) f at = at
 scales_is_field (Pll word shift width power_word power_bit least most m) f at = at
 
 -- it lies apart from gates, where the description is valid
-scale_off_gates : (words : ℕ) (defs : Description) (cs : List ℕ) (c : ℕ) (f : Field) → IsValid words defs → scales_by (kind_of defs c) ≡ Some f → LiesOffGates defs cs f
+pub scale_off_gates : (words : ℕ) (defs : Description) (cs : List ℕ) (c : ℕ) (f : Field) → IsValid words defs → scales_by (kind_of defs c) ≡ Some f → LiesOffGates defs cs f
 scale_off_gates words defs cs c f valid at d gate m e =
     let own = scales_is_field (kind_of defs c) f at in
     fields_apart words defs valid c 0 f d 0 (bit_field gate.word gate.bit) (field-field (kind_of defs c) f own) (gate-field (kind_of defs d) gate e)

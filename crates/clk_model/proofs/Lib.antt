@@ -56,3 +56,4 @@ pub mod TierPacedLaws
 pub mod GatesFollowLaws
 pub mod MovedLaws
 pub mod HoldsLeftLaws
+pub mod PrepToldLaws

@@ -103,7 +103,8 @@ length-cleared : (o : Option GateBit) (regs : Registers) → length (option_map_
 length-cleared None regs = refl
 length-cleared (Some gate) regs = length-put_bit regs gate.word gate.bit false
 
-length-gates_cleared : (defs : Description) (cs : List ℕ) (regs : Registers) → length (gates_cleared defs cs regs) ≡ length regs
+-- clearing leaves the number of words
+pub length-gates_cleared : (defs : Description) (cs : List ℕ) (regs : Registers) → length (gates_cleared defs cs regs) ≡ length regs
 length-gates_cleared defs [] regs = refl
 length-gates_cleared defs (c ∷ cs) regs = length-cleared (gate_of (kind_of defs c)) (gates_cleared defs cs regs) ∙ length-gates_cleared defs cs regs
 

@@ -29,6 +29,7 @@ pub mod Supplied
 pub mod Paced
 pub mod RunsEnd
 pub mod Prep
+pub mod PrepTold
 pub mod Tier
 pub mod Flight
 pub mod HoldsLeft

@@ -6,6 +6,7 @@ ghost use Rattle.clk_base.specs.declared.event.Turn.{Turn};
 ghost use Rattle.clk_model.specs.State.{State, Change};
 ghost use Rattle.clk_model.specs.Machine.{next};
 ghost use Rattle.clk_model.specs.Prep.{prep};
+ghost use Rattle.clk_model.specs.PrepTold.{PrepTells};
 ghost use Rattle.clk_model.specs.Tier.{is_enable_tier, is_step};
 
 /// What planning reads of a state isn't changed by an enable, a disable or the question whether a
@@ -24,4 +25,11 @@ pub fn enable_tier_never_waits()
     ensures others_wait { (s : State) (k : Change) (driver : ℕ) (e : Event) →
         s.change ≡ Some k → IsSome (next s driver e) →
         IsTrue (is_enable_tier e) ⊎ (IsTrue (is_step e) × (driver ≡ k.driver)) }
+{}
+
+/// The prepare tier's part tells all of a state but gates, the enables of handles, enable holds and what
+/// counts entries: where it is the same, links, last requests, prepares, ranges, exclusive holds,
+/// notifiers, rates and every field that isn't a gate are the same.
+pub fn prep_tells()
+    ensures law { PrepTells }
 {}
