@@ -16,7 +16,7 @@ use Rattle.clk_base.specs.declared.event.Event.{Event}
 use Rattle.clk_base.specs.declared.event.Event.TheVariants as event
 use Rattle.clk_base.specs.declared.event.Reply.{Reply}
 use Rattle.clk_base.specs.declared.event.Turn.TheVariants as turn
-use Rattle.clk_model.specs.Journal.{Answered, is_paid, call_at, answer_at, calls_from, cost, Legal}
+use Rattle.clk_model.specs.Journal.{Answered, is_paid, call_at, answer_at, last_begun, calls_from, cost, Legal}
 use Rattle.std.specs.List.{range_with_len}
 use Rattle.std.specs.Option.{option_map_or}
 use Rattle.std.proofs.lemmas.List.FromFn.{length-map-range_with_len}
@@ -59,14 +59,17 @@ calls_from-going : (d : ℕ) (going : Option Event) (es : List Entry) → list_a
 calls_from-going d going [] own = refl
 calls_from-going d going (e ∷ es) own =
     let paid = answered_paid d e (and_left _ _ own) in
-    ap (λ (o : Option Event). answer_at o e.turn ++ calls_from o es) (call_at-paid going e.event paid ∙ sym (call_at-paid None e.event paid))
+    let rest : list_all (is_answered d) es ≡ true = and_right (is_answered d e) (list_all (is_answered d) es) own in
+    ap (λ (o : Option Event). answer_at o e.turn ++ calls_from (last_begun going e.event) es) (call_at-paid going e.event paid ∙ sym (call_at-paid None e.event paid))
+    ∙ ap (λ (ls : List Answered). answer_at (call_at None e.event) e.turn ++ ls)
+    (calls_from-going d (last_begun going e.event) es rest ∙ sym (calls_from-going d (last_begun None e.event) es rest))
 
 pub calls_from-append : (d : ℕ) (going : Option Event) (xs ys : List Entry) → list_all (is_answered d) ys ≡ true
     → calls_from going (xs ++ ys) ≡ calls_from going xs ++ calls_from None ys
 calls_from-append d going [] ys own = calls_from-going d going ys own
 calls_from-append d going (x ∷ xs) ys own =
-    ap (λ (ls : List Answered). answer_at (call_at going x.event) x.turn ++ ls) (calls_from-append d (call_at going x.event) xs ys own)
-    ∙ sym (append_assoc (answer_at (call_at going x.event) x.turn) (calls_from (call_at going x.event) xs) (calls_from None ys))
+    ap (λ (ls : List Answered). answer_at (call_at going x.event) x.turn ++ ls) (calls_from-append d (last_begun going x.event) xs ys own)
+    ∙ sym (append_assoc (answer_at (call_at going x.event) x.turn) (calls_from (last_begun going x.event) xs) (calls_from None ys))
 
 pub list_all-append : {X : Type 0} (p : X → Bool) (xs ys : List X) → list_all p xs ≡ true → list_all p ys ≡ true → list_all p (xs ++ ys) ≡ true
 list_all-append p [] ys h k = k
