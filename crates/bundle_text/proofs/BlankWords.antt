@@ -1,10 +1,8 @@
 -- The words between blanks, part by part.
-use Rattle.std.proofs.Common.{◌≡◌, ◌==◌, ◌∙◌, ap, ℕ, ◌++◌, ◌∷◌, Bool, true, false, List, [], length, Option, Some, None, ◌&&◌, not, if◌then◌else◌, refl}
-use Rattle.std.specs.List.{filter_map, cons_option, slice_split}
-use Rattle.std.specs.Option.{option_to_list}
+use Rattle.std.proofs.Common.{◌≡◌, ◌==◌, ap, ℕ, Bool, true, false, List, length, Some, None, ◌&&◌, not, if◌then◌else◌, refl}
+use Rattle.std.specs.List.{filter_map, slice_split}
 use Rattle.std.specs.Str.{IsUtf8, is_utf8}
 use Rattle.std.proofs.lemmas.Str.{is_utf8-from_IsUtf8, IsUtf8-from_is_utf8}
-use Rattle.std.proofs.lemmas.List.{append_assoc}
 use Rattle.bundle_text.specs.Words.{is_blank, as_word, blank_words}
 
 pub as_word-utf8 : (part : List ℕ) → (length part == 0) ≡ false → IsUtf8 part → as_word part ≡ Some part

@@ -1,8 +1,8 @@
 //! The text of a bundle: its lines, their words, and the numbers and names that words spell.
 //!
 //! Places of lines count from 0; the line that a user is told is one more. Words are separated by
-//! single spaces. Each function here is a test or a reader of one thing by itself: what lines mean
-//! together is said above.
+//! single spaces, or by blanks, which are spaces and tabs, as each call says. Each function here is a
+//! test or a reader of one thing by itself: what lines mean together is said above.
 #![tactic(auto)]
 
 mod names;

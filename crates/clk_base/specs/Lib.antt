@@ -8,4 +8,5 @@ pub mod Valid
 pub mod Tables
 pub mod Checked
 pub mod Named
+pub mod FaultTexts
 pub mod Examples

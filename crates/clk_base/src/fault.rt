@@ -1,8 +1,9 @@
 //! Why a description is refused.
 
-ghost use Rattle.std.specs.Prelude.{◌≡◌};
+ghost use Rattle.std.specs.Prelude.{◌≡◌, Some};
 ghost use Rattle.clk_base.specs.declared.fault.AddFault.TheVariants as adding;
 ghost use Rattle.clk_base.specs.declared.fault.DescFault.TheVariants as checking;
+ghost use Rattle.clk_base.specs.FaultTexts.{add_text, desc_text};
 
 use crate::clock::ClockId;
 use clk_io::NoMemory;
@@ -80,6 +81,8 @@ impl From<NoMemory> for DescFault {
 }
 
 impl fmt::Display for AddFault {
+    ghost output = { λ fault. Some (add_text fault) };
+
     fn fmt<W: fmt::Write>(&self, f: &mut fmt::Formatter<W>) -> fmt::Result {
         match self {
             AddFault::TwiceNamed => write!(f, "a clock has this name"),
@@ -89,6 +92,8 @@ impl fmt::Display for AddFault {
 }
 
 impl fmt::Display for DescFault {
+    ghost output = { λ fault. Some (desc_text fault) };
+
     fn fmt<W: fmt::Write>(&self, f: &mut fmt::Formatter<W>) -> fmt::Result {
         match self {
             DescFault::TooMany(_) => write!(f, "too many clocks, parents or levels"),

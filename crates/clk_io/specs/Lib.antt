@@ -2,3 +2,4 @@ pub mod Causes
 pub mod Streams
 pub mod Prints
 pub mod Memory
+pub mod FaultTexts

@@ -1,9 +1,10 @@
 //! Why a call could not do what it was asked.
 
-ghost use Rattle.std.specs.Prelude.{◌≡◌};
+ghost use Rattle.std.specs.Prelude.{◌≡◌, Some, codes};
 ghost use Rattle.clk_io.specs.declared.faults.ReadFault.TheVariants as reading;
 ghost use Rattle.clk_io.specs.declared.faults.WriteFault.TheVariants as writing;
 ghost use Rattle.clk_io.specs.declared.faults.PrintFault.TheVariants as printing;
+ghost use Rattle.clk_io.specs.FaultTexts.{read_text, write_text, print_text};
 
 use std::alloc::{AllocError, AllocFailed};
 use std::error::Error;
@@ -121,18 +122,24 @@ impl<T: Drop> From<AllocFailed<T>> for PrintFault {
 }
 
 impl fmt::Display for Failed {
+    ghost output = { λ _. Some (codes "a read or write failed") };
+
     fn fmt<W: fmt::Write>(&self, f: &mut fmt::Formatter<W>) -> fmt::Result {
         write!(f, "a read or write failed")
     }
 }
 
 impl fmt::Display for NoMemory {
+    ghost output = { λ _. Some (codes "out of memory") };
+
     fn fmt<W: fmt::Write>(&self, f: &mut fmt::Formatter<W>) -> fmt::Result {
         write!(f, "out of memory")
     }
 }
 
 impl fmt::Display for ReadFault {
+    ghost output = { λ fault. Some (read_text fault) };
+
     fn fmt<W: fmt::Write>(&self, f: &mut fmt::Formatter<W>) -> fmt::Result {
         match self {
             ReadFault::Read => write!(f, "a read failed"),
@@ -143,6 +150,8 @@ impl fmt::Display for ReadFault {
 }
 
 impl fmt::Display for WriteFault {
+    ghost output = { λ fault. Some (write_text fault) };
+
     fn fmt<W: fmt::Write>(&self, f: &mut fmt::Formatter<W>) -> fmt::Result {
         match self {
             WriteFault::Write => write!(f, "a write failed"),
@@ -151,6 +160,8 @@ impl fmt::Display for WriteFault {
 }
 
 impl fmt::Display for PrintFault {
+    ghost output = { λ fault. Some (print_text fault) };
+
     fn fmt<W: fmt::Write>(&self, f: &mut fmt::Formatter<W>) -> fmt::Result {
         match self {
             PrintFault::Write => write!(f, "a write failed"),

@@ -5,4 +5,5 @@ pub mod Table
 pub mod Kinds
 pub mod Clocks
 pub mod Binding
+pub mod FaultTexts
 pub mod Examples

@@ -1,7 +1,8 @@
 //! Why a node binds no clocks.
 
-ghost use Rattle.std.specs.Prelude.{◌≡◌};
+ghost use Rattle.std.specs.Prelude.{◌≡◌, Some};
 ghost use Rattle.dts_bindings.specs.declared.fault.BindingFault.TheVariants as faults;
+ghost use Rattle.dts_bindings.specs.FaultTexts.{fault_text};
 
 use clk_io::NoMemory;
 use std::error::Error;
@@ -29,6 +30,8 @@ impl From<NoMemory> for BindingFault {
 }
 
 impl fmt::Display for BindingFault {
+    ghost output = { λ fault. Some (fault_text fault) };
+
     fn fmt<W: fmt::Write>(&self, f: &mut fmt::Formatter<W>) -> fmt::Result {
         match self {
             BindingFault::UnknownCompatible => write!(f, "no such provider is known"),

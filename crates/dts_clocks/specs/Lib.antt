@@ -11,3 +11,4 @@ pub mod Assigned
 pub mod SecondPass
 pub mod Loaded
 pub mod Verdict
+pub mod FaultTexts

@@ -1,7 +1,8 @@
 //! Why a tree is refused.
 
-ghost use Rattle.std.specs.Prelude.{◌≡◌};
+ghost use Rattle.std.specs.Prelude.{◌≡◌, Some};
 ghost use Rattle.dts_clocks.specs.declared.fault.DtsFault.TheVariants as faults;
+ghost use Rattle.dts_clocks.specs.FaultTexts.{fault_text};
 
 use clk_io::NoMemory;
 use std::alloc::{AllocError, AllocFailed};
@@ -54,6 +55,8 @@ impl From<NoMemory> for DtsFault {
 }
 
 impl fmt::Display for DtsFault {
+    ghost output = { λ fault. Some (fault_text fault) };
+
     fn fmt<W: fmt::Write>(&self, f: &mut fmt::Formatter<W>) -> fmt::Result {
         match self {
             DtsFault::UnknownCompatible(line) => write!(f, "line {line}: unknown compatible"),

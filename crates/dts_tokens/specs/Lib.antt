@@ -5,4 +5,5 @@ pub mod Pieces
 pub mod Limits
 pub mod Scopes
 pub mod Tokens
+pub mod FaultTexts
 pub mod Examples

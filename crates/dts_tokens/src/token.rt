@@ -1,7 +1,8 @@
 //! Tokens, and why a source has none.
 
-ghost use Rattle.std.specs.Prelude.{◌≡◌, ◌≤◌, length, slice_range};
+ghost use Rattle.std.specs.Prelude.{◌≡◌, ◌≤◌, length, slice_range, Some};
 ghost use Rattle.dts_tokens.specs.declared.token.TokenFault.TheVariants as faults;
+ghost use Rattle.dts_tokens.specs.FaultTexts.{fault_text};
 
 use std::alloc::{AllocError, AllocFailed};
 use std::error::Error;
@@ -51,6 +52,8 @@ impl<T: Drop> From<AllocFailed<T>> for TokenFault {
 }
 
 impl fmt::Display for TokenFault {
+    ghost output = { λ fault. Some (fault_text fault) };
+
     fn fmt<W: fmt::Write>(&self, f: &mut fmt::Formatter<W>) -> fmt::Result {
         match self {
             TokenFault::BadChar(line) => write!(f, "line {line}: a character that fits nowhere"),

@@ -10,3 +10,4 @@ pub mod Held
 pub mod Parsed
 pub mod Grammar
 pub mod Meaning
+pub mod FaultTexts

@@ -1,7 +1,8 @@
 //! Why tokens spell no tree.
 
-ghost use Rattle.std.specs.Prelude.{◌≡◌};
+ghost use Rattle.std.specs.Prelude.{◌≡◌, Some};
 ghost use Rattle.dts_tree.specs.declared.fault.TreeFault.TheVariants as faults;
+ghost use Rattle.dts_tree.specs.FaultTexts.{fault_text};
 
 use std::alloc::{AllocError, AllocFailed};
 use std::error::Error;
@@ -39,6 +40,8 @@ impl<T: Drop> From<AllocFailed<T>> for TreeFault {
 }
 
 impl fmt::Display for TreeFault {
+    ghost output = { λ fault. Some (fault_text fault) };
+
     fn fmt<W: fmt::Write>(&self, f: &mut fmt::Formatter<W>) -> fmt::Result {
         match self {
             TreeFault::Syntax(line) => write!(f, "line {line}: this can't stand here"),
