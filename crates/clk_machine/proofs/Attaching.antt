@@ -116,7 +116,6 @@ IsSound-register words s c sound within free parents = record {
   size = sound.size;
   quiet = sound.quiet;
   no_enable_hold = sound.no_enable_hold;
-  no_prepare_hold = sound.no_prepare_hold;
   rows = length-set s.clocks c _ ∙ sound.rows;
   attached = λ d m. by_place d (is_in_cases d c (without (c ∷ []) s.order) m);
   unlinked = λ d free'. by_row_unlinked d free' (same_or_not c d);

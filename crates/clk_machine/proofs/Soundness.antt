@@ -122,7 +122,6 @@ sound_opening words defs ignore_unused credits valid runs =
       size = refl;
       quiet = refl;
       no_enable_hold = refl;
-      no_prepare_hold = refl;
       rows = length-replicate (length defs) _;
       attached = λ c m. absurd cc;
       unlinked = λ c free. blank_link (length defs) c;

@@ -25,10 +25,9 @@ pub record IsSound (words : ℕ) (s : State) : Type 0 where
   pub valid : IsValid words s.defs
   pub runs : CanRun s.defs
   pub size : length s.regs ≡ words
-  -- no change is in flight, and nothing is held for one
+  -- no change is in flight, and no enable is held for one
   pub quiet : s.change ≡ None
   pub no_enable_hold : s.enable_holds ≡ []
-  pub no_prepare_hold : s.prepare_holds ≡ []
   -- each clock has a row, and those in the order are registered
   pub rows : length s.clocks ≡ length s.defs
   pub attached : (c : ℕ) → is_in c s.order ≡ true → registered s.clocks c ≡ true

@@ -1,22 +1,22 @@
 -- Journals in which several drivers have their calls: one driver after the other.
-use Rattle.std.proofs.Common.{◌≡◌, ℕ, ◌+◌, ◌<◌, ◌≤◌, true, false, not, List, [], ◌∷◌, ◌++◌, None, refl, sym, ap, subst, ◌∙◌, arith, length, nat_lt, nat_eq, append_assoc}
+use Rattle.std.proofs.Common.{◌≡◌, ℕ, suc, ◌+◌, ◌<◌, ◌≤◌, true, false, List, [], ◌∷◌, ◌++◌, None, refl, sym, ap, subst, ◌∙◌, arith, length, nat_lt, nat_eq, append_assoc}
 use Rattle.std.proofs.lemmas.Bool.Decides.{nat_tests}
 use Rattle.std.proofs.lemmas.List.{append-nil}
 use Rattle.std.specs.List.{list_all}
 use Rattle.clk_base.specs.declared.command.Answer.{Answer}
 use Rattle.clk_base.specs.declared.command.Command.{Command}
 use Rattle.clk_base.specs.declared.event.Entry.{Entry}
-use Rattle.clk_model.specs.Journal.{Answered, is_paid, own, calls, calls_from}
+use Rattle.clk_model.specs.Journal.{Answered, is_paid, own, calls_from}
 use Rattle.clk_model.specs.Follows.{Variables, no_handles, Follows, FollowsFrom}
 use Rattle.clk_model.proofs.CallLaws.{own-append}
 use Rattle.clk_machine.specs.Run.{Run}
 use Rattle.clk_run.specs.Scripts.{is_answer, is_answered, GoesThrough}
-use Rattle.clk_run.specs.Runs.{FollowAll, is_boots, IsBootFirst, are_among}
+use Rattle.clk_run.specs.Runs.{FollowAll, are_among, TakeTurns}
 use Rattle.clk_run.proofs.Going.{and_left, and_right, both, list_all-append}
 
 -- ---- entries of one driver
 
-driver_of : (d : ℕ) (e : Entry) → is_answered d e ≡ true → e.driver ≡ d
+pub driver_of : (d : ℕ) (e : Entry) → is_answered d e ≡ true → e.driver ≡ d
 driver_of d e h =
     let same = and_left (nat_eq e.driver d) (is_paid e.event) (and_left _ (is_answer e.turn) h) in
     grind (arith, nat_tests)
@@ -44,47 +44,11 @@ own_before d (e ∷ es) h =
     let other : nat_eq e.driver d ≡ false = grind (arith, nat_tests) in
     rw other (own_before d es (and_right _ _ h))
 
--- ---- several drivers
-
--- the entries of a later driver change nothing for those before it
-later : (n d : ℕ) (scripts : List (List Command)) (answers : List (List Answer)) (journal es : List Entry) → n + length scripts ≤ d → list_all (is_answered d) es ≡ true
-    → FollowAll n scripts answers journal → FollowAll n scripts answers (journal ++ es)
-later n d [] [] journal es within h follow = follow
-later n d [] (own' ∷ answers) journal es within h follow = follow
-later n d (commands ∷ scripts) [] journal es within h follow = follow
-later n d (commands ∷ scripts) (own' ∷ answers) journal es within h follow =
-    let same : own (journal ++ es) n ≡ own journal n =
-    own-append journal es n ∙ ap (λ (xs : List Entry). own journal n ++ xs) (own_none d n es (omega arith) h) ∙ append-nil (own journal n) in
-    (subst (λ (xs : List Entry). Follows commands (calls_from None xs) own') (sym same) follow.0, later (n + 1) d scripts answers journal es (omega arith) h follow.1)
-
--- one driver more
-one_more : (n : ℕ) (scripts : List (List Command)) (answers : List (List Answer)) (journal : List Entry) (commands : List Command) (own' : List Answer)
-    → FollowAll n scripts answers journal → ((m : ℕ) → m ≡ n + length scripts → Follows commands (calls journal m) own')
-    → FollowAll n (scripts ++ commands ∷ []) (answers ++ own' ∷ []) journal
-one_more n [] [] journal commands own' follow next = (next n (omega arith), tt)
-one_more n [] (a ∷ answers) journal commands own' follow next = absurd follow
-one_more n (c ∷ scripts) [] journal commands own' follow next = absurd follow
-one_more n (c ∷ scripts) (a ∷ answers) journal commands own' follow next =
-    (follow.0, one_more (n + 1) scripts answers journal commands own' follow.1 (λ m is. next m (omega arith)))
-
--- the calls of a driver that has gone through its commands behind a journal of others
-goes_follows : (old new : Run) (d : ℕ) (held' : Variables) (commands : List Command) (answers : List Answer) → are_among d old.journal ≡ true
-    → GoesThrough old d (no_handles commands) commands answers held' new → Follows commands (calls new.journal d) answers
-goes_follows old new d held' commands answers among goes =
-    let whole = goes.follows [] [] [] tt in
-    let mine : own new.journal d ≡ goes.entries =
-    ap (λ (j : List Entry). own j d) goes.journal ∙ own-append old.journal goes.entries d
-    ∙ ap (λ (xs : List Entry). xs ++ own goes.entries d) (own_before d old.journal among) ∙ own_all d goes.entries goes.own in
-    subst (λ (xs : List Entry). Follows commands (calls_from None xs) answers) (sym mine)
-    (subst (λ (as_ : List Answer). FollowsFrom (no_handles commands) commands (calls_from None goes.entries) as_) (append-nil answers)
-    (subst (λ (ls : List Answered). FollowsFrom (no_handles commands) commands ls (answers ++ [])) (append-nil (calls_from None goes.entries))
-    (subst (λ (cs : List Command). FollowsFrom (no_handles commands) cs (calls_from None goes.entries ++ []) (answers ++ [])) (append-nil commands) whole)))
-
-among_more : (d : ℕ) (journal : List Entry) → are_among d journal ≡ true → are_among (d + 1) journal ≡ true
-among_more d [] h = refl
-among_more d (e ∷ es) h =
+among_more : (d d' : ℕ) (journal : List Entry) → d ≤ d' → are_among d journal ≡ true → are_among d' journal ≡ true
+among_more d d' [] least h = refl
+among_more d d' (e ∷ es) least h =
     let less = and_left (nat_lt e.driver d) _ h in
-    both (nat_lt e.driver (d + 1)) _ (grind (arith, nat_tests)) (among_more d es (and_right _ _ h))
+    both (nat_lt e.driver d') _ (grind (arith, nat_tests)) (among_more d d' es least (and_right _ _ h))
 
 among_own : (d : ℕ) (es : List Entry) → list_all (is_answered d) es ≡ true → are_among (d + 1) es ≡ true
 among_own d [] h = refl
@@ -92,53 +56,98 @@ among_own d (e ∷ es) h =
     let is = driver_of d e (and_left (is_answered d e) _ h) in
     both (nat_lt e.driver (d + 1)) _ (grind (arith, nat_tests)) (among_own d es (and_right _ _ h))
 
--- ---- boot first
+-- ---- one turn more
 
-boots_of : (es : List Entry) → list_all (is_answered 0) es ≡ true → list_all is_boots es ≡ true
-boots_of [] h = refl
-boots_of (e ∷ es) h =
-    let is = driver_of 0 e (and_left (is_answered 0 e) _ h) in
-    both (nat_eq e.driver 0) _ (grind (arith, nat_tests)) (boots_of es (and_right _ _ h))
+-- the calls of a driver that has gone through its commands
+goes_follows : (old new : Run) (d : ℕ) (held' : Variables) (commands : List Command) (answers : List Answer)
+    → (goes : GoesThrough old d (no_handles commands) commands answers held' new) → Follows commands (calls_from None goes.entries) answers
+goes_follows old new d held' commands answers goes =
+    subst (λ (as_ : List Answer). FollowsFrom (no_handles commands) commands (calls_from None goes.entries) as_) (append-nil answers)
+    (subst (λ (ls : List Answered). FollowsFrom (no_handles commands) commands ls (answers ++ [])) (append-nil (calls_from None goes.entries))
+    (subst (λ (cs : List Command). FollowsFrom (no_handles commands) cs (calls_from None goes.entries ++ []) (answers ++ [])) (append-nil commands) (goes.follows [] [] [] tt)))
 
-not_boots_of : (d : ℕ) (es : List Entry) → 0 < d → list_all (is_answered d) es ≡ true → list_all (λ e. not (is_boots e)) es ≡ true
-not_boots_of d [] some h = refl
-not_boots_of d (e ∷ es) some h =
-    let is = driver_of d e (and_left (is_answered d e) _ h) in
-    let other : nat_eq e.driver 0 ≡ false = grind (arith, nat_tests) in
-    both (not (nat_eq e.driver 0)) _ (ap not other) (not_boots_of d es some (and_right _ _ h))
+turn_more : (n : ℕ) (scripts : List (List Command)) (answers : List (List Answer)) (journal es : List Entry) (commands : List Command) (own' : List Answer)
+    → TakeTurns n scripts answers journal → list_all (is_answered (n + length scripts)) es ≡ true → Follows commands (calls_from None es) own'
+    → TakeTurns n (scripts ++ commands ∷ []) (answers ++ own' ∷ []) (journal ++ es)
+turn_more n [] [] journal es commands own' none mine follow =
+    let this : n + 0 ≡ n = omega arith in
+    record {
+      entries = es;
+      rest = [];
+      split = ap (λ (j : List Entry). j ++ es) none ∙ sym (append-nil es);
+      own = subst (λ (d : ℕ). list_all (is_answered d) es ≡ true) this mine;
+      follow = follow;
+      later = refl;
+    }
+turn_more n [] (a ∷ answers) journal es commands own' turns mine follow = absurd turns
+turn_more n (c ∷ scripts) [] journal es commands own' turns mine follow = absurd turns
+turn_more n (c ∷ scripts) (a ∷ answers) journal es commands own' turns mine follow =
+    let this : n + suc (length scripts) ≡ n + 1 + length scripts = omega arith in
+    record {
+      entries = turns.entries;
+      rest = turns.rest ++ es;
+      split = ap (λ (j : List Entry). j ++ es) turns.split ∙ append_assoc turns.entries turns.rest es;
+      own = turns.own;
+      follow = turns.follow;
+      later = turn_more (n + 1) scripts answers turns.rest es commands own' turns.later (subst (λ (d : ℕ). list_all (is_answered d) es ≡ true) this mine) follow;
+    }
 
--- boot is the first to go through its commands
-pub boot_first : (old new : Run) (held held' : Variables) (commands : List Command) (answers : List Answer) → old.journal ≡ []
-    → GoesThrough old 0 held commands answers held' new → IsBootFirst new.journal
-boot_first old new held held' commands answers none goes = record {
-  boot = goes.entries;
-  others = [];
-  split = goes.journal ∙ ap (λ (j : List Entry). j ++ goes.entries) none ∙ sym (append-nil goes.entries);
-  boots = boots_of goes.entries goes.own;
-  not_boots = refl;
-}
+-- after a driver's commands it has had its turn behind those before it
+pub turn_next : (old new : Run) (d : ℕ) (held' : Variables) (scripts : List (List Command)) (answers : List (List Answer)) (commands : List Command) (own' : List Answer) → d ≡ length scripts
+    → TakeTurns 0 scripts answers old.journal → GoesThrough old d (no_handles commands) commands own' held' new
+    → TakeTurns 0 (scripts ++ commands ∷ []) (answers ++ own' ∷ []) new.journal
+turn_next old new d held' scripts answers commands own' is turns goes =
+    let this : d ≡ 0 + length scripts = omega arith in
+    subst (TakeTurns 0 (scripts ++ commands ∷ []) (answers ++ own' ∷ [])) (sym goes.journal)
+    (turn_more 0 scripts answers old.journal goes.entries commands own' turns (subst (λ (n : ℕ). list_all (is_answered n) goes.entries ≡ true) this goes.own)
+    (goes_follows old new d held' commands own' goes))
 
--- and the other drivers come behind it
-pub boot_still_first : (old new : Run) (d : ℕ) (held held' : Variables) (commands : List Command) (answers : List Answer) → 0 < d → IsBootFirst old.journal
-    → GoesThrough old d held commands answers held' new → IsBootFirst new.journal
-boot_still_first old new d held held' commands answers some first goes = record {
-  boot = first.boot;
-  others = first.others ++ goes.entries;
-  split = goes.journal ∙ ap (λ (j : List Entry). j ++ goes.entries) first.split ∙ append_assoc first.boot first.others goes.entries;
-  boots = first.boots;
-  not_boots = list_all-append (λ e. not (is_boots e)) first.others goes.entries first.not_boots (not_boots_of d goes.entries some goes.own);
-}
+-- ---- what turns mean
 
--- ---- drivers in their turn
+-- no driver before those that have their turns makes an entry
+pub none_earlier : (n d : ℕ) (scripts : List (List Command)) (answers : List (List Answer)) (journal : List Entry) → d < n → TakeTurns n scripts answers journal → own journal d ≡ []
+none_earlier n d [] [] journal less none = ap (λ (j : List Entry). own j d) none
+none_earlier n d [] (a ∷ answers) journal less turns = absurd turns
+none_earlier n d (c ∷ scripts) [] journal less turns = absurd turns
+none_earlier n d (c ∷ scripts) (a ∷ answers) journal less turns =
+    ap (λ (j : List Entry). own j d) turns.split ∙ own-append turns.entries turns.rest d ∙ ap (λ (xs : List Entry). xs ++ own turns.rest d) (own_none n d turns.entries less turns.own)
+    ∙ none_earlier (n + 1) d scripts answers turns.rest (omega arith) turns.later
 
--- after a driver's commands its calls follow them too, and the entries are of one driver more
-pub follow_next : (old new : Run) (d : ℕ) (held' : Variables) (scripts : List (List Command)) (answers : List (List Answer)) (commands : List Command) (own' : List Answer) → d ≡ length scripts
-    → FollowAll 0 scripts answers old.journal → are_among d old.journal ≡ true → GoesThrough old d (no_handles commands) commands own' held' new
-    → FollowAll 0 (scripts ++ commands ∷ []) (answers ++ own' ∷ []) new.journal × (are_among (d + 1) new.journal ≡ true)
-follow_next old new d held' scripts answers commands own' is follow among goes =
-    let mine = goes_follows old new d held' commands own' among goes in
-    let before = subst (FollowAll 0 scripts answers) (sym goes.journal) (later 0 d scripts answers old.journal goes.entries (omega arith) goes.own follow) in (
-      one_more 0 scripts answers new.journal commands own' before (λ m at. subst (λ (k : ℕ). Follows commands (calls new.journal k) own') (omega arith) mine),
-      ap (are_among (d + 1)) goes.journal
-          ∙ list_all-append (λ e. nat_lt e.driver (d + 1)) old.journal goes.entries (among_more d old.journal among) (among_own d goes.entries goes.own),
+-- the drivers and nobody else make entries
+pub turns_among : (n : ℕ) (scripts : List (List Command)) (answers : List (List Answer)) (journal : List Entry) → TakeTurns n scripts answers journal
+    → are_among (n + length scripts) journal ≡ true
+turns_among n [] [] journal none = ap (are_among (n + 0)) none
+turns_among n [] (a ∷ answers) journal turns = absurd turns
+turns_among n (c ∷ scripts) [] journal turns = absurd turns
+turns_among n (c ∷ scripts) (a ∷ answers) journal turns =
+    let this : n + 1 + length scripts ≡ n + suc (length scripts) = omega arith in
+    ap (are_among (n + suc (length scripts))) turns.split
+    ∙ list_all-append (λ e. nat_lt e.driver (n + suc (length scripts))) turns.entries turns.rest
+        (among_more (n + 1) (n + suc (length scripts)) turns.entries (omega arith) (among_own n turns.entries turns.own))
+        (subst (λ (d : ℕ). are_among d turns.rest ≡ true) this (turns_among (n + 1) scripts answers turns.rest turns.later))
+
+-- each has its calls once, in their order, also behind entries of drivers before them
+pub turns_follow : (n : ℕ) (scripts : List (List Command)) (answers : List (List Answer)) (before journal : List Entry) → are_among n before ≡ true
+    → TakeTurns n scripts answers journal → FollowAll n scripts answers (before ++ journal)
+turns_follow n [] [] before journal earlier turns = tt
+turns_follow n [] (a ∷ answers) before journal earlier turns = absurd turns
+turns_follow n (c ∷ scripts) [] before journal earlier turns = absurd turns
+turns_follow n (c ∷ scripts) (a ∷ answers) before journal earlier turns =
+    let mine : own (before ++ journal) n ≡ turns.entries =
+    own-append before journal n ∙ ap (λ (xs : List Entry). xs ++ own journal n) (own_before n before earlier)
+    ∙ ap (λ (j : List Entry). own j n) turns.split ∙ own-append turns.entries turns.rest n
+    ∙ ap (λ (xs : List Entry). own turns.entries n ++ xs) (none_earlier (n + 1) n scripts answers turns.rest (omega arith) turns.later)
+    ∙ append-nil (own turns.entries n) ∙ own_all n turns.entries turns.own in
+    let regroup : (before ++ turns.entries) ++ turns.rest ≡ before ++ journal =
+    append_assoc before turns.entries turns.rest ∙ ap (λ (j : List Entry). before ++ j) (sym turns.split) in (
+      subst (λ (xs : List Entry). Follows c (calls_from None xs) a) (sym mine) turns.follow,
+      subst (FollowAll (n + 1) scripts answers) regroup (turns_follow (n + 1) scripts answers (before ++ turns.entries) turns.rest
+          (list_all-append (λ e. nat_lt e.driver (n + 1)) before turns.entries (among_more n (n + 1) before (omega arith) earlier) (among_own n turns.entries turns.own)) turns.later),
     )
+
+-- drivers that have turns have an answer list each
+pub turns_many : (d : ℕ) (scripts : List (List Command)) (answers : List (List Answer)) (journal : List Entry) → TakeTurns d scripts answers journal → length answers ≡ length scripts
+turns_many d [] [] journal turns = refl
+turns_many d [] (a ∷ answers) journal turns = absurd turns
+turns_many d (c ∷ scripts) [] journal turns = absurd turns
+turns_many d (c ∷ scripts) (a ∷ answers) journal turns = ap suc (turns_many (d + 1) scripts answers turns.rest turns.later)

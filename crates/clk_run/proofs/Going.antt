@@ -33,7 +33,7 @@ use Rattle.clk_run.specs.Scripts.{is_built_act, is_answered, AreProbes, CanCall,
 -- ---- calls of entries
 
 -- a paid event is a call of its own
-call_at-paid : (going : Option Event) (e : Event) → is_paid e ≡ true → call_at going e ≡ Some e
+pub call_at-paid : (going : Option Event) (e : Event) → is_paid e ≡ true → call_at going e ≡ Some e
 call_at-paid going (event.Enable n) h = refl
 call_at-paid going (event.Disable n) h = refl
 call_at-paid going (event.Running n) h = refl
@@ -55,7 +55,7 @@ answered_paid : (d : ℕ) (e : Entry) → is_answered d e ≡ true → is_paid e
 answered_paid d e h = and_right _ _ (and_left _ _ h)
 
 -- what goes on before doesn't matter to entries that are all answered at once
-calls_from-going : (d : ℕ) (going : Option Event) (es : List Entry) → list_all (is_answered d) es ≡ true → calls_from going es ≡ calls_from None es
+pub calls_from-going : (d : ℕ) (going : Option Event) (es : List Entry) → list_all (is_answered d) es ≡ true → calls_from going es ≡ calls_from None es
 calls_from-going d going [] own = refl
 calls_from-going d going (e ∷ es) own =
     let paid = answered_paid d e (and_left _ _ own) in

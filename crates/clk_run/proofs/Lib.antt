@@ -1,5 +1,6 @@
 pub mod Going
 pub mod Following
+pub mod Ordering
 pub mod RunTexts
 pub mod Readiness
 pub mod Deciding

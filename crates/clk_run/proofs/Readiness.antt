@@ -17,7 +17,7 @@ use Rattle.clk_run.proofs.Fitness.{fit_all, built_all}
 use Rattle.clk_cli.specs.declared.cli.Mode.{Mode}
 use Rattle.clk_cli.specs.declared.cli.Mode.TheVariants.{Check, Sim, Run, Bench}
 use Rattle.clk_run.specs.Runs.{credits_of, drivers_in, IsReady}
-use Rattle.drv_scripts.proofs.Verdicts.{drivers_are, boot_is}
+use Rattle.drv_scripts.proofs.Verdicts.{drivers_are, boot_is, order_is}
 use Rattle.clk_run.proofs.Going.{length-boot_of}
 
 -- ---- few drivers
@@ -47,6 +47,7 @@ ready bytes b runs sound =
       fit = fit_all b runs.built;
       boot = boot_is bytes b runs.spelled;
       few = subst (λ (found : List Script). length found ≤ 1) drivers (scripts_few b.desc.defs (lines bytes));
+      unordered = order_is bytes b runs.spelled;
       built = built_all b runs.built;
     }
 

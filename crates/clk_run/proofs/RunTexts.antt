@@ -25,9 +25,3 @@ pub boot_first : (defs : Description) (name : List ℕ) (names : List (List ℕ)
 boot_first defs name names [] own some is = absurd (omega arith)
 boot_first defs name names (a ∷ answers) own some is = ap (λ (x : List Answer). answers_text defs name x ++ scripts_text defs names answers) (sym is)
 
--- drivers that follow have an answer list each
-pub follow_many : (d : ℕ) (scripts : List (List Command)) (answers : List (List Answer)) (journal : List Entry) → FollowAll d scripts answers journal → length answers ≡ length scripts
-follow_many d [] [] journal follow = refl
-follow_many d [] (a ∷ answers) journal follow = absurd follow
-follow_many d (c ∷ scripts) [] journal follow = absurd follow
-follow_many d (c ∷ scripts) (a ∷ answers) journal follow = ap suc (follow_many (d + 1) scripts answers journal follow.1)

@@ -1,5 +1,5 @@
 -- Runs of a bundle: which journals they have, and what they print.
-use Rattle.std.specs.Prelude.{◌≡◌, ◌≤◌, ◌⊎◌, IfSome, is_some, take, drop, ℕ, ◌+◌, List, [], ◌∷◌, ◌++◌, Bool, true, not, ◌==◌, Option, nat_lt, length, map, codes, sum_by}
+use Rattle.std.specs.Prelude.{◌≡◌, ◌≤◌, ◌⊎◌, IfSome, is_some, take, drop, ℕ, ◌+◌, List, [], ◌∷◌, ◌++◌, Bool, true, Option, None, nat_lt, length, map, codes, sum_by}
 use Rattle.std.specs.List.{list_all, AllByRecursion}
 use Rattle.std.specs.Option.{option_map}
 use Rattle.clk_base.specs.Description.{Description}
@@ -8,9 +8,10 @@ use Rattle.clk_base.specs.declared.command.Command.{Command}
 use Rattle.clk_base.specs.declared.event.Entry.{Entry}
 use Rattle.reg_bank.specs.Registers.{Registers}
 use Rattle.clk_model.specs.State.{State, is_quiet}
-use Rattle.clk_model.specs.Journal.{opening, replay, Legal, calls}
+use Rattle.clk_model.specs.Journal.{opening, replay, Legal, calls, calls_from}
 use Rattle.clk_model.specs.Fed.{Fed}
 use Rattle.clk_model.specs.Follows.{Follows}
+use Rattle.clk_model.specs.Ordered.{Ordered}
 use Rattle.clk_model.specs.Text.{answers_text, registers_text}
 use Rattle.drv_scripts.specs.declared.bundle.Bundle.{Bundle}
 use Rattle.drv_scripts.specs.declared.bundle.Script.{Script}
@@ -25,7 +26,7 @@ use Rattle.clk_cli.specs.declared.cli.Mode.{Mode}
 use Rattle.clk_cli.specs.declared.cli.Mode.TheVariants.{Check, Sim, Run, Bench}
 use Rattle.clk_machine.specs.Fit.{CanRun}
 use Rattle.clk_machine.specs.Run as cores
-use Rattle.clk_run.specs.Scripts.{is_built_act}
+use Rattle.clk_run.specs.Scripts.{is_built_act, is_answered}
 
 -- ---- what a run begins from
 
@@ -61,31 +62,20 @@ FollowAll d [] (own ∷ answers) journal = ⊥
 FollowAll d (commands ∷ scripts) [] journal = ⊥
 FollowAll d (commands ∷ scripts) (own ∷ answers) journal = Follows commands (calls journal d) own × FollowAll (d + 1) scripts answers journal
 
--- the entry is one of boot's
-abbrev pub is_boots : Entry → Bool
-is_boots e = e.driver == 0
-
--- boot's entries stand before those of all others
-pub record IsBootFirst (journal : List Entry) : Type 0 where
-  pub boot : List Entry
-  pub others : List Entry
-  pub split : journal ≡ boot ++ others
-  pub boots : list_all is_boots boot ≡ true
-  pub not_boots : list_all (λ e. not (is_boots e)) others ≡ true
-
 -- each entry is of one of so many drivers
 abbrev pub are_among : ℕ → List Entry → Bool
 are_among drivers journal = list_all (λ e. nat_lt e.driver drivers) journal
 
 -- a run of a bundle, as the words ask for it: its journal, where the bank tells its words, is a legal run of the machine, after each of its entries the active
--- clocks are fed, and at its end no change is in flight; boot and each driver, and nobody else, have their calls once, in their order, answered so, boot's first
+-- clocks are fed, and at its end no change is in flight; boot and each driver, and nobody else, have their calls once, in their order, answered so; behind boot's
+-- entries the drivers make theirs in the order of one thread
 pub record IsRunOf (b : Bundle) (cli : Cli) (told : Bool) (journal : List Entry) (answers : List (List Answer)) : Type 0 where
   pub legal : told ≡ true → Legal (opening_of b cli.ignore_unused) journal
   pub fed : told ≡ true → (n : ℕ) → Fed (replay (opening_of b cli.ignore_unused) (take n journal))
   pub quiet : told ≡ true → is_quiet (replay (opening_of b cli.ignore_unused) journal).change ≡ true
   pub follow : FollowAll 0 (scripts_of cli.mode b) answers journal
   pub among : are_among (length (scripts_of cli.mode b)) journal ≡ true
-  pub boot_first : IsBootFirst journal
+  pub ordered : Ordered (scripts_of cli.mode b) b.order journal
 
 -- ---- what a run prints
 
@@ -119,24 +109,41 @@ are_built defs commands = list_all (λ c. is_built_act defs c.act) commands
 
 -- ---- cores
 
+-- the first entries of a journal are one driver's turn: its calls, each answered at once, follow its commands with these answers; what is said of the others holds
+-- of the entries behind them
+pub record TakesTurn (others : List Entry → Type 0) (d : ℕ) (commands : List Command) (answers : List Answer) (journal : List Entry) : Type 0 where
+  pub entries : List Entry
+  pub rest : List Entry
+  pub split : journal ≡ entries ++ rest
+  pub own : list_all (is_answered d) entries ≡ true
+  pub follow : Follows commands (calls_from None entries) answers
+  pub later : others rest
+
+-- drivers, numbered from this one on, have one turn each, one after another, and these answers
+abbrev pub TakeTurns : ℕ → List (List Command) → List (List Answer) → List Entry → Type 0
+TakeTurns d [] [] journal = journal ≡ []
+TakeTurns d [] (own ∷ answers) journal = ⊥
+TakeTurns d (commands ∷ scripts) [] journal = ⊥
+TakeTurns d (commands ∷ scripts) (own ∷ answers) journal = TakesTurn (TakeTurns (d + 1) scripts answers) d commands own journal
+
 -- a core that had an empty journal has run the commands of boot and of these drivers
 pub record HasRun (boot : List Command) (drivers : List Script) (answers : List (List Answer)) (old new : cores.Run) : Type 0 where
   pub start : new.start ≡ old.start
   pub told : new.told ≡ old.told
   pub behind : new.behind ≡ old.behind
   pub legal : old.told ≡ true → Legal new.start new.journal
-  pub follow : FollowAll 0 (scripts_with boot drivers) answers new.journal
-  pub among : are_among (length (scripts_with boot drivers)) new.journal ≡ true
-  pub boot_first : IsBootFirst new.journal
+  pub turns : TakeTurns 0 (scripts_with boot drivers) answers new.journal
 
 -- ---- bundles
 
--- a bundle that can be run: its parts fit together, boot registers each clock, and each command of its driver can be run so far
+-- a bundle that can be run: its parts fit together, boot registers each clock, and each command of its driver can be run so far,
+-- and it states no order of drivers
 pub record IsReady (b : Bundle) : Type 0 where
   pub sound : IsSound b
   pub fit : CanRun b.desc.defs
   pub boot : b.boot ≡ boot_of (length b.desc.defs)
   pub few : length b.drivers ≤ 1
+  pub unordered : b.order ≡ []
   pub built : AllByRecursion (λ s. are_built b.desc.defs s.commands ≡ true) b.drivers
 
 -- ---- what is left behind

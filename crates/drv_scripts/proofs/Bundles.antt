@@ -205,6 +205,10 @@ pub boot_commands_of : (ls : List (List ℕ)) (size : ℕ) (said : SaidClocks) �
 unfolding bundle_of
 boot_commands_of ls size said = refl
 
+pub order_of : (ls : List (List ℕ)) (size : ℕ) (said : SaidClocks) → (bundle_of ls size said).order ≡ []
+unfolding bundle_of
+order_of ls size said = refl
+
 pub desc_of : (ls : List (List ℕ)) (size : ℕ) (said : SaidClocks) → (bundle_of ls size said).desc ≡ record { defs = said.defs; words = size }
 unfolding bundle_of
 desc_of ls size said = refl

@@ -1,5 +1,5 @@
 -- Bytes have one verdict.
-use Rattle.std.proofs.Common.{◌≡◌, ◌⊎◌, Bool, ℕ, ◌+◌, ◌<◌, ◌≤◌, List, length, refl, ap, subst, sym, ◌∙◌, inl, inr, arith}
+use Rattle.std.proofs.Common.{◌≡◌, ◌⊎◌, Bool, ℕ, ◌+◌, ◌<◌, ◌≤◌, List, [], length, refl, ap, subst, sym, ◌∙◌, inl, inr, arith}
 use Rattle.std.specs.Prelude.{◌==◌, if◌then◌else◌, slice_index}
 use Rattle.std.specs.Str.Lines.{lines}
 use Rattle.std.proofs.lemmas.Bool.{both_ways, cases_lt, lt-ltb}
@@ -19,7 +19,7 @@ use Rattle.drv_scripts.specs.Form.{fault_at}
 use Rattle.drv_scripts.specs.Reasons.{form_reason, clocks_reason, rule_reason}
 use Rattle.drv_scripts.specs.Spelled.{boot_of, scripts_of, bundle_of}
 use Rattle.drv_scripts.specs.Verdict.{most_bytes, last_line, KeepsRules, PartsSpell, IsUnsaid, Breaks, BreaksRule, LacksForm, PartsRefuse, Accepts, Refuses, IsUndivided, IsDivided}
-use Rattle.drv_scripts.proofs.Bundles.{drivers_of, boot_commands_of, desc_of}
+use Rattle.drv_scripts.proofs.Bundles.{drivers_of, boot_commands_of, order_of, desc_of}
 use Rattle.drv_scripts.proofs.Decided.{parts_decided}
 
 -- ## Rules
@@ -188,7 +188,7 @@ each_decided bytes =
       | inr fits ↦ fitting bytes (omega (arith, fits))
     ]
 
--- what is accepted has the drivers and boot's commands of its lines
+-- what is accepted has the drivers and boot's commands of its lines, and states no order of drivers yet
 pub drivers_are : (bytes : List ℕ) (b : Bundle) → Accepts bytes b → b.drivers ≡ scripts_of b.desc.defs (lines bytes)
 drivers_are bytes b x =
     let ls = lines bytes in
@@ -204,3 +204,6 @@ boot_is bytes b x =
     let said = x.spelled.said in
     let desc = ap (λ bundle. bundle.desc.defs) x.spelled.content ∙ ap (λ d. d.defs) (desc_of ls size said) in
     ap (λ bundle. bundle.boot) x.spelled.content ∙ (boot_commands_of ls size said ∙ ap (λ defs. boot_of (length defs)) (sym desc))
+
+pub order_is : (bytes : List ℕ) (b : Bundle) → Accepts bytes b → b.order ≡ []
+order_is bytes b x = ap (λ bundle. bundle.order) x.spelled.content ∙ order_of (lines bytes) x.parts.bank.words x.spelled.said

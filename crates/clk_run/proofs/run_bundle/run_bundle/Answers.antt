@@ -18,7 +18,7 @@ use Rattle.clk_model.specs.Journal.{opening}
 use Rattle.clk_model.specs.State.{State}
 use Rattle.clk_run.specs.Runs.{scripts_with, drivers_in, are_built, opening_of, credits_of, run_text, HasRun}
 use Rattle.clk_run.proofs.Fitness.{earlier_all}
-use Rattle.clk_run.proofs.RunTexts.{follow_many}
+use Rattle.clk_run.proofs.Following.{turns_many}
 use Rattle.clk_run.proofs.Readiness.{few_credits, drivers_keep, drivers_few, commands_few}
 use Rattle.clk_run.proofs.Leaving.{text_of, bank_back, same_behind, left_by}
 use Rattle.clk_run.proofs.run_bundle.run_bundle.Goals as goal
@@ -61,7 +61,7 @@ run_scripts-requires g c =
 pub print_run-requires : goal.print_run-requires
 print_run-requires g c =
     let drivers = c.drivers_in-drivers.result.now in
-    let many = follow_many 0 (scripts_with c.as_slice.result.now drivers) _ _ c.in_ok-answers.ensures.follow in
+    let many = turns_many 0 (scripts_with c.as_slice.result.now drivers) _ _ c.in_ok-answers.ensures.turns in
     let mine = ap (λ (xs : List (List Answer)). length xs) c.as_slice-2.ensures.value in
     let same = length-map drivers (λ (s : Script). s.commands) in
     record { many = omega arith }
@@ -93,7 +93,7 @@ returns-clause-done g c =
     record {
       words = printed;
       text = run_text b.desc.defs drivers c.in_ok-answers.answers.items printed;
-      run = text_of b c.args.cli.now (is_some (g.B.Bank.contents c.args.bank)) _ core c.in_ok-answers.answers.items printed start begun.told ran
+      run = text_of b c.args.cli.now (is_some (g.B.Bank.contents c.args.bank)) _ core c.in_ok-answers.answers.items printed start begun.told c.requires.ready.unordered ran
           c.journal.ensures.fed (λ tells. sym (c.quiet.ensures.tells tells) ∙ c.quiet.ensures.none) c.in_ok-registers.ensures;
       printed = subst (Appends (g.K.Sink.written c.args.out.now) (g.K.Sink.written c.print_run.new.out)) text c.in_ok-print_run.ensures.prints;
       registers = bank_back _ _ _ _ _ _ c.into_bank.ensures.told (ap (λ (s : State). length s.regs) (sym (c.in_ok-answers.ensures.start ∙ start))) c.into_bank.ensures.words
@@ -119,7 +119,7 @@ returns-in_err-print_run-clause-fault g c =
     left_by b c.args.cli.now told (g.K.Sink.written c.args.out.now) (g.K.Sink.written c.print_run.new.out) c.from_residual-in_err-print_run.result (record {
       words = printed;
       text = run_text b.desc.defs drivers answers printed;
-      run = text_of b c.args.cli.now told _ c.run_scripts.new.core answers printed start begun.told ran c.journal.ensures.fed
+      run = text_of b c.args.cli.now told _ c.run_scripts.new.core answers printed start begun.told c.requires.ready.unordered ran c.journal.ensures.fed
           (λ tells. sym (c.quiet.ensures.tells tells) ∙ c.quiet.ensures.none) c.in_ok-registers.ensures;
       printed = subst (AppendsFront (g.K.Sink.written c.args.out.now) (g.K.Sink.written c.print_run.new.out)) text c.in_err-print_run.ensures.prints;
     })

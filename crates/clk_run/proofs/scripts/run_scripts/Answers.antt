@@ -8,9 +8,9 @@ use Rattle.clk_model.specs.State.{State}
 use Rattle.clk_model.specs.Follows.{Variables, no_handles}
 use Rattle.drv_scripts.specs.declared.bundle.Script.{Script}
 use Rattle.clk_run.specs.Scripts.{AreProbes, GoesThrough}
-use Rattle.clk_run.specs.Runs.{FollowAll, are_among}
+use Rattle.clk_run.specs.Runs.{TakeTurns}
 use Rattle.clk_run.proofs.Going.{boot_probes, length-boot_of, no_variables, goes_cost}
-use Rattle.clk_run.proofs.Following.{follow_next, boot_first, boot_still_first}
+use Rattle.clk_run.proofs.Following.{turn_next}
 use Rattle.clk_run.proofs.scripts.run_scripts.Goals as goal
 
 pub run_boot-requires-clause-credits : goal.run_boot-requires-clause-credits
@@ -37,7 +37,7 @@ loop-script-init g c =
     let none : no_handles boot ≡ [] = ap (λ (n : ℕ). replicate n None) (no_variables 0 boot probes) in
     let goes = c.in_ok-first.ensures.1 in
     let mine = subst (λ (held : Variables). GoesThrough first 0 held boot c.in_ok-first.first.items held' mid) (sym none) goes in
-    let next = follow_next first mid 0 held' [] [] boot c.in_ok-first.first.items refl (subst (FollowAll 0 [] []) (sym c.requires.begins) tt) (ap (are_among 0) c.requires.begins) mine in
+    let next = turn_next first mid 0 held' [] [] boot c.in_ok-first.first.items refl c.requires.begins mine in
     let spent = goes_cost first mid 0 [] held' boot c.in_ok-first.first.items goes in
     let nothing = ap cost c.requires.begins in
     let paid = c.requires.credits in
@@ -48,9 +48,7 @@ loop-script-init g c =
       behind = goes.behind;
       legal = λ told_. goes.legal told_ (subst (Legal first.start) (sym c.requires.begins) tt);
       number = refl;
-      follow = subst (λ answers. FollowAll 0 (boot ∷ []) answers mid.journal) (sym told) next.0;
-      among = next.1;
-      boot_first = boot_first first mid [] held' boot c.in_ok-first.first.items c.requires.begins goes;
+      turns = subst (λ answers. TakeTurns 0 (boot ∷ []) answers mid.journal) (sym told) next;
       credits = omega arith;
     }
 
@@ -87,7 +85,7 @@ loop-script-preserved g c =
     let goes = subst (λ commands. GoesThrough mid driver (no_handles commands) commands own' held' last) c.as_slice.ensures c.in_ok-own.ensures.1 in
     let number = c.loop-script.invariant.number in
     let many : driver ≡ length (c.args.boot.now ∷ done) = omega (arith, length-map (take i drivers) (λ (x : Script). x.commands), length-take i drivers) in
-    let next = follow_next mid last driver held' (c.args.boot.now ∷ done) c.loop-script.answers.items s.commands own' many c.loop-script.invariant.follow c.loop-script.invariant.among goes in
+    let next = turn_next mid last driver held' (c.args.boot.now ∷ done) c.loop-script.answers.items s.commands own' many c.loop-script.invariant.turns goes in
     let told = c.in_ok-push-2.ensures.items ∙ ap (λ (x : List Answer). c.loop-script.answers.items ++ x ∷ []) c.new-in-loop-script.ensures in
     let left = sum_by-drop_more (λ (x : Script). length x.commands) drivers i s within in
     let this = ap (λ (x : Script). length x.commands) is in
@@ -99,9 +97,7 @@ loop-script-preserved g c =
       behind = goes.behind ∙ c.loop-script.invariant.behind;
       legal = λ told_. goes.legal (c.loop-script.invariant.told ∙ told_) (c.loop-script.invariant.legal told_);
       number = ap (λ (n : ℕ). n + 1) number;
-      follow = subst (λ scripts. FollowAll 0 (c.args.boot.now ∷ scripts) c.push-in-loop-script.new.self.items last.journal) (sym mapped)
-          (subst (λ answers. FollowAll 0 ((c.args.boot.now ∷ done) ++ s.commands ∷ []) answers last.journal) (sym told) next.0);
-      among = next.1;
-      boot_first = boot_still_first mid last driver (no_handles s.commands) held' s.commands own' (omega arith) c.loop-script.invariant.boot_first goes;
+      turns = subst (λ scripts. TakeTurns 0 (c.args.boot.now ∷ scripts) c.push-in-loop-script.new.self.items last.journal) (sym mapped)
+          (subst (λ answers. TakeTurns 0 ((c.args.boot.now ∷ done) ++ s.commands ∷ []) answers last.journal) (sym told) next);
       credits = omega arith;
     }

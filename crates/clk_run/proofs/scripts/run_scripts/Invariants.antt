@@ -1,6 +1,6 @@
 use Rattle.std.proofs.Common.{◌≡◌, ◌+◌, ◌≤◌, true, ◌∷◌, take, drop, length, map, sum_by}
 use Rattle.clk_model.specs.Journal.{cost, Legal}
-use Rattle.clk_run.specs.Runs.{FollowAll, IsBootFirst, are_among}
+use Rattle.clk_run.specs.Runs.{TakeTurns}
 use Rattle.clk_run.proofs.scripts.run_scripts.Given as goal
 
 -- boot and the drivers so far have had their calls, and the credits pay for the others
@@ -11,8 +11,6 @@ invariant-loop-script g l = record {
   behind : l.core.behind ≡ l.fn.core.behind;
   legal : l.fn.core.told ≡ true → Legal l.core.start l.core.journal;
   number : l.driver ≡ l.script-index + 1;
-  follow : FollowAll 0 (l.boot ∷ map (λ s. s.commands) (take l.script-index l.drivers)) l.answers.items l.core.journal;
-  among : are_among l.driver l.core.journal ≡ true;
-  boot_first : IsBootFirst l.core.journal;
+  turns : TakeTurns 0 (l.boot ∷ map (λ s. s.commands) (take l.script-index l.drivers)) l.answers.items l.core.journal;
   credits : cost l.core.journal + sum_by (λ s. length s.commands) (drop l.script-index l.drivers) ≤ l.fn.core.start.credits;
 }

@@ -1,0 +1,230 @@
+-- Drivers that have their turns one after another stand in the order of one thread.
+use Rattle.std.proofs.Common.{◌≡◌, ℕ, zero, suc, ◌+◌, ◌-◌, ◌||◌, Bool, true, false, not, cond, nat_eq, List, [], ◌∷◌, ◌++◌, Option, Some, None, refl, sym, ap, subst, ◌∙◌, arith, length, map, append_assoc, slice_get}
+use Rattle.std.specs.Prelude.{slice_set, find, is_none}
+use Rattle.std.specs.List.{list_all}
+use Rattle.std.specs.Option.{option_map_or, option_map}
+use Rattle.std.proofs.lemmas.Bool.Decides.{nat_tests}
+use Rattle.std.proofs.lemmas.List.{length-append}
+use Rattle.clk_base.specs.declared.command.Answer.{Answer}
+use Rattle.clk_base.specs.declared.command.Command.{Command}
+use Rattle.clk_base.specs.declared.event.Entry.{Entry}
+use Rattle.clk_base.specs.declared.event.Event.{Event}
+use Rattle.clk_base.specs.declared.event.Reply.{Reply}
+use Rattle.clk_base.specs.declared.event.Turn.{Turn}
+use Rattle.clk_base.specs.declared.event.Turn.TheVariants as turn
+use Rattle.clk_model.specs.Journal.{Answered, is_paid, own, call_at, answer_at, last_begun, calls_from}
+use Rattle.clk_model.specs.Lists.{count_from}
+use Rattle.clk_model.specs.Follows.{Variables, no_handles, handle_of, call_of, held_after, NextFollows, FollowsFrom}
+use Rattle.clk_model.specs.Ordered.{
+  Progress,
+  at_start,
+  unskipped,
+  is_atomic,
+  can_take,
+  can_move,
+  driver_can_move,
+  next_driver,
+  going_after,
+  progress_after,
+  answered_first,
+  drivers_after,
+  NextOrdered,
+  OrderedFrom,
+  after_boot,
+  Ordered,
+}
+use Rattle.clk_run.specs.Scripts.{is_answer, is_answered}
+use Rattle.clk_run.specs.Runs.{TakeTurns}
+use Rattle.clk_run.proofs.Going.{and_left, and_right, both, list_all-append, call_at-paid, calls_from-going}
+use Rattle.clk_run.proofs.Following.{driver_of, none_earlier}
+
+-- ---- places in lists
+
+get_behind : {X : Type 0} (xs ys : List X) (y : X) → slice_get (xs ++ y ∷ ys) (length xs) ≡ Some y
+get_behind [] ys y = refl
+get_behind (x ∷ xs) ys y = get_behind xs ys y
+
+set_behind : {X : Type 0} (xs ys : List X) (y z : X) → slice_set (xs ++ y ∷ ys) (length xs) z ≡ xs ++ z ∷ ys
+set_behind [] ys y z = refl
+set_behind (x ∷ xs) ys y z = ap (λ (l : List _). x ∷ l) (set_behind xs ys y z)
+
+either_true : (b : Bool) → (b || true) ≡ true
+either_true true = refl
+either_true false = refl
+
+-- ---- who makes the next event
+
+-- whether a driver has a command left that it can take while no change is in flight
+abbrev can_go : Progress → Bool
+can_go p = can_take None (unskipped p.held p.left)
+
+-- and whether it has none
+abbrev is_still : Progress → Bool
+is_still p = not (can_go p)
+
+moves_there : (front later : List Progress) (p : Progress) → driver_can_move (front ++ p ∷ later) None (length front) ≡ can_go p
+moves_there front later p = ap (λ (o : Option Progress). option_map_or (can_move None (length front)) o false) (get_behind front later p)
+
+still_stays : (p : Progress) → is_still p ≡ true → can_go p ≡ false
+still_stays p h = pick (can_go p) h where
+  pick : (b : Bool) → not b ≡ true → b ≡ false
+  pick true h = absurd cc
+  pick false h = refl
+
+-- behind drivers that are still, the first that can go is found
+first_to_go : (front still later : List Progress) (p : Progress) → list_all is_still still ≡ true → can_go p ≡ true
+    → find (driver_can_move (front ++ (still ++ p ∷ later)) None) (count_from (length front) (length (still ++ p ∷ later))) ≡ Some (length front + length still)
+first_to_go front [] later p none goes =
+    let here = moves_there front later p ∙ goes in
+    let at : length front ≡ length front + 0 = omega arith in
+    ap (λ (b : Bool). cond b (Some (length front)) (find (driver_can_move (front ++ p ∷ later) None) (count_from (suc (length front)) (length later)))) here ∙ ap (λ (n : ℕ). Some n) at
+first_to_go front (s ∷ still) later p all goes =
+    let here = moves_there front (still ++ p ∷ later) s ∙ still_stays s (and_left (is_still s) _ all) in
+    let whole : (front ++ s ∷ []) ++ (still ++ p ∷ later) ≡ front ++ (s ∷ (still ++ p ∷ later)) = append_assoc front (s ∷ []) (still ++ p ∷ later) in
+    let long : length (front ++ s ∷ []) ≡ suc (length front) = length-append front (s ∷ []) ∙ omega arith in
+    let sum : suc (length front) + length still ≡ length front + suc (length still) = omega arith in
+    ap (λ (b : Bool).
+      cond b (Some (length front)) (find (driver_can_move (front ++ (s ∷ (still ++ p ∷ later))) None) (count_from (suc (length front)) (length (still ++ p ∷ later))))) here
+    ∙ ap (λ (ps : List Progress). find (driver_can_move ps None) (count_from (suc (length front)) (length (still ++ p ∷ later)))) (sym whole)
+    ∙ ap (λ (n : ℕ). find (driver_can_move ((front ++ s ∷ []) ++ (still ++ p ∷ later)) None) (count_from n (length (still ++ p ∷ later)))) (sym long)
+    ∙ first_to_go (front ++ s ∷ []) still later p (and_right (is_still s) _ all) goes ∙ ap (λ (n : ℕ). Some (n + length still)) long ∙ ap (λ (n : ℕ). Some n) sum
+
+next_to_go : (boot : Progress) (still later : List Progress) (p : Progress) → list_all is_still still ≡ true → can_go p ≡ true
+    → next_driver (boot ∷ (still ++ p ∷ later)) None [] ≡ Some (1 + length still, [])
+next_to_go boot still later p all goes =
+    let drivers = boot ∷ (still ++ p ∷ later) in
+    let many : length drivers - 1 ≡ length (still ++ p ∷ later) = omega arith in
+    ap (λ (n : ℕ). option_map (λ (d : ℕ). (d, [])) (find (driver_can_move drivers None) (count_from 1 n))) many
+    ∙ ap (option_map (λ (d : ℕ). (d, []))) (first_to_go (boot ∷ []) still later p all goes)
+
+-- ---- one driver's turn
+
+-- the reply of an answered entry, and the calls from it on
+record Replied (e : Entry) (es : List Entry) : Type 0 where
+  reply : Reply
+  turn_is : e.turn ≡ turn.Done reply
+  calls_are : calls_from None (e ∷ es) ≡ (record { call = e.event; reply = reply }) ∷ calls_from None es
+
+reply_of : (t : Turn) → is_answer t ≡ true → (r : Reply) × (t ≡ turn.Done r)
+reply_of turn.Going h = absurd cc
+reply_of (turn.Done r) h = (r, refl)
+
+replied : (d : ℕ) (e : Entry) (es : List Entry) → list_all (is_answered d) (e ∷ es) ≡ true → Replied e es
+replied d e es h =
+    let mine = and_left (is_answered d e) (list_all (is_answered d) es) h in
+    let paid = and_right _ (is_paid e.event) (and_left _ (is_answer e.turn) mine) in
+    let said = reply_of e.turn (and_right _ (is_answer e.turn) mine) in
+    record {
+      reply = said.0;
+      turn_is = said.1;
+      calls_are = ap (λ (o : Option Event). answer_at o e.turn ++ calls_from (last_begun None e.event) es) (call_at-paid None e.event paid)
+          ∙ ap (λ (t : Turn). answer_at (Some e.event) t ++ calls_from (last_begun None e.event) es) said.1
+          ∙ ap (λ (ls : List Answered). (record { call = e.event; reply = said.0 }) ∷ ls) (calls_from-going d (last_begun None e.event) es (and_right (is_answered d e) _ h));
+    }
+
+-- what is left of a journal stands in order, where the driver that has its turn holds this and has these commands left
+abbrev Goes : Progress → List Progress → List Progress → Variables → List Command → List Entry → Type 0
+Goes boot still later held left journal = OrderedFrom (boot ∷ (still ++ (record { held = held; left = left }) ∷ later)) None [] journal
+
+-- the first command of a driver that has its turn, where the commands behind it go in order
+one_command : (boot : Progress) (still later : List Progress) (held : Variables) (left : List Command) (c : Command) (commands : List Command) (a : Answer) (answers : List Answer)
+    → (entries rest : List Entry) → list_all is_still still ≡ true → unskipped held left ≡ unskipped held (c ∷ commands) → list_all (is_answered (1 + length still)) entries ≡ true
+    → FollowsFrom held (c ∷ commands) (calls_from None entries) (a ∷ answers)
+    → ((held : Variables) (left : List Command) (entries : List Entry) → unskipped held left ≡ unskipped held commands → list_all (is_answered (1 + length still)) entries ≡ true
+      → FollowsFrom held commands (calls_from None entries) answers → Goes boot still later held left (entries ++ rest))
+    → Goes boot still later held left (entries ++ rest)
+one_command boot still later held left c commands a answers entries rest all same mine follow again = pick (call_of (handle_of held c) c.act) refl where
+  pick : (o : Option Event) → call_of (handle_of held c) c.act ≡ o → Goes boot still later held left (entries ++ rest)
+  pick None is =
+      let skipped : unskipped held (c ∷ commands) ≡ unskipped held commands = ap (λ (o : Option Event). cond (is_none o) (unskipped held commands) (c ∷ commands)) is in
+      let others = subst (λ (o : Option Event). NextFollows (λ after ls. FollowsFrom after commands ls answers) held c o (calls_from None entries) a) is follow in
+      again held left entries (same ∙ skipped) mine others.1
+  pick (Some event) is = first entries mine (subst (λ (o : Option Event). NextFollows (λ after ls. FollowsFrom after commands ls answers) held c o (calls_from None entries) a) is follow) where
+    taken : unskipped held left ≡ c ∷ commands
+    taken = same ∙ ap (λ (o : Option Event). cond (is_none o) (unskipped held commands) (c ∷ commands)) is
+    first : (es : List Entry) → list_all (is_answered (1 + length still)) es ≡ true
+        → NextFollows (λ after ls. FollowsFrom after commands ls answers) held c (Some event) (calls_from None es) a → Goes boot still later held left (es ++ rest)
+    first [] mine follow = absurd follow
+    first (e ∷ es) mine follow =
+        let said = replied (1 + length still) e es mine in
+        let called = subst (λ (ls : List Answered). NextFollows (λ after ls2. FollowsFrom after commands ls2 answers) held c (Some event) ls a) said.calls_are follow in
+        let own = driver_of (1 + length still) e (and_left (is_answered (1 + length still) e) _ mine) in
+        let now : Progress = record { held = held; left = left } in
+        let behind : Progress = record { held = held_after held c c.act said.reply; left = commands } in
+        let drivers = boot ∷ (still ++ now ∷ later) in
+        let goes : can_go now ≡ true = ap (can_take None) taken ∙ either_true (is_atomic c.act) in
+        let place : 1 + length still ≡ length (boot ∷ still) = omega arith in
+        let after : drivers_after drivers e ≡ boot ∷ (still ++ behind ∷ later) =
+        ap (λ (n : ℕ). option_map_or (λ p. slice_set drivers n (progress_after p e.turn)) (slice_get drivers n) drivers) (own ∙ place)
+        ∙ ap (λ (o : Option Progress). option_map_or (λ p. slice_set drivers (length (boot ∷ still)) (progress_after p e.turn)) o drivers) (get_behind (boot ∷ still) later now)
+        ∙ set_behind (boot ∷ still) later now (progress_after now e.turn)
+        ∙ ap (λ (t : Turn). boot ∷ (still ++ progress_after now t ∷ later)) said.turn_is
+        ∙ ap (λ (cs : List Command). boot ∷ (still ++ answered_first now cs said.reply ∷ later)) taken in
+        let none : going_after None e ≡ None = ap (λ (t : Turn). going_after None (record { driver = e.driver; event = e.event; turn = t })) said.turn_is in
+        let others = again behind.held commands es refl (and_right (is_answered (1 + length still) e) _ mine) called.2 in
+        subst (λ (o : Option (ℕ × List ℕ)). NextOrdered (λ left. OrderedFrom (drivers_after drivers e) (going_after None e) left (es ++ rest)) o e)
+        (sym (next_to_go boot still later now all goes))
+        (own, subst (λ (ps : List Progress). OrderedFrom ps (going_after None e) [] (es ++ rest)) (sym after)
+        (subst (λ (o : Option ℕ). OrderedFrom (boot ∷ (still ++ behind ∷ later)) o [] (es ++ rest)) (sym none) others))
+
+-- no answer is left where no command is
+unanswered : (held : Variables) (calls : List Answered) (a : Answer) (answers : List Answer) → FollowsFrom held [] calls (a ∷ answers) → ⊥
+unanswered held [] a answers follow = follow
+unanswered held (l ∷ ls) a answers follow = follow
+
+-- a driver that has its turn makes its entries next, and is still behind them
+one_turn : (boot : Progress) (still later : List Progress) (held : Variables) (left commands : List Command) (answers : List Answer) (entries rest : List Entry)
+    → list_all is_still still ≡ true → unskipped held left ≡ unskipped held commands → list_all (is_answered (1 + length still)) entries ≡ true
+    → FollowsFrom held commands (calls_from None entries) answers
+    → ((p : Progress) → is_still p ≡ true → OrderedFrom (boot ∷ (still ++ p ∷ later)) None [] rest)
+    → Goes boot still later held left (entries ++ rest)
+one_turn boot still later held left [] [] [] rest all same mine follow behind = behind _ (ap (λ (cs : List Command). not (can_take None cs)) same)
+one_turn boot still later held left [] [] (e ∷ es) rest all same mine follow behind =
+    absurd (subst (λ (ls : List Answered). FollowsFrom held [] ls []) (replied (1 + length still) e es mine).calls_are follow)
+one_turn boot still later held left [] (a ∷ answers) entries rest all same mine follow behind = absurd (unanswered held (calls_from None entries) a answers follow)
+one_turn boot still later held left (c ∷ commands) [] entries rest all same mine follow behind = absurd follow
+one_turn boot still later held left (c ∷ commands) (a ∷ answers) entries rest all same mine follow behind =
+    one_command boot still later held left c commands a answers entries rest all same mine follow
+    (λ held' left' entries' same' mine' follow'. one_turn boot still later held' left' commands answers entries' rest all same' mine' follow' behind)
+
+-- ---- all turns
+
+-- drivers that have their turns behind drivers that are still
+turns_ordered : (boot : Progress) (still : List Progress) (scripts : List (List Command)) (answers : List (List Answer)) (journal : List Entry) → list_all is_still still ≡ true
+    → TakeTurns (1 + length still) scripts answers journal → OrderedFrom (boot ∷ (still ++ map at_start scripts)) None [] journal
+turns_ordered boot still [] [] journal all none = subst (OrderedFrom (boot ∷ (still ++ [])) None []) (sym none) tt
+turns_ordered boot still [] (a ∷ answers) journal all turns = absurd turns
+turns_ordered boot still (c ∷ scripts) [] journal all turns = absurd turns
+turns_ordered boot still (c ∷ scripts) (a ∷ answers) journal all turns =
+    subst (OrderedFrom (boot ∷ (still ++ at_start c ∷ map at_start scripts)) None []) (sym turns.split)
+    (one_turn boot still (map at_start scripts) (no_handles c) c c a turns.entries turns.rest all refl turns.own turns.follow
+    (λ p is.
+      let one_more : 1 + length still + 1 ≡ 1 + length (still ++ p ∷ []) = omega (arith, length-append still (p ∷ [])) in
+      subst (λ (ps : List Progress). OrderedFrom (boot ∷ ps) None [] turns.rest) (append_assoc still (p ∷ []) (map at_start scripts))
+      (turns_ordered boot (still ++ p ∷ []) scripts answers turns.rest (list_all-append is_still still (p ∷ []) all (both (is_still p) true is refl))
+      (subst (λ (n : ℕ). TakeTurns n scripts answers turns.rest) one_more turns.later))))
+
+-- boot's entries are passed over
+boot_passed : (es rest : List Entry) → list_all (is_answered 0) es ≡ true → after_boot (es ++ rest) ≡ after_boot rest
+boot_passed [] rest h = refl
+boot_passed (e ∷ es) rest h =
+    let is = driver_of 0 e (and_left (is_answered 0 e) _ h) in
+    let boots : nat_eq e.driver 0 ≡ true = grind (arith, nat_tests) in
+    ap (λ (b : Bool). cond b (after_boot (es ++ rest)) (e ∷ (es ++ rest))) boots ∙ boot_passed es rest (and_right (is_answered 0 e) _ h)
+
+-- and where boot has none, no entry is
+none_passed : (journal : List Entry) → own journal 0 ≡ [] → after_boot journal ≡ journal
+none_passed [] h = refl
+none_passed (e ∷ es) h = pick (nat_eq e.driver 0) refl where
+  pick : (b : Bool) → nat_eq e.driver 0 ≡ b → after_boot (e ∷ es) ≡ e ∷ es
+  pick true is = let its : e ∷ own es 0 ≡ [] = sym (ap (λ (b : Bool). cond b (e ∷ own es 0) (own es 0)) is) ∙ h in absurd cc
+  pick false is = ap (λ (b : Bool). cond b (after_boot es) (e ∷ es)) is
+
+-- where boot and then each driver have their turns, the journal stands in the order of one thread
+pub turns_are_ordered : (boot : List Command) (scripts : List (List Command)) (answers : List (List Answer)) (journal : List Entry)
+    → TakeTurns 0 (boot ∷ scripts) answers journal → Ordered (boot ∷ scripts) [] journal
+turns_are_ordered boot scripts [] journal turns = absurd turns
+turns_are_ordered boot scripts (a ∷ answers) journal turns =
+    let behind : after_boot journal ≡ turns.rest =
+    ap after_boot turns.split ∙ boot_passed turns.entries turns.rest turns.own ∙ none_passed turns.rest (none_earlier 1 0 scripts answers turns.rest (omega arith) turns.later) in
+    subst (OrderedFrom (map at_start (boot ∷ scripts)) None []) (sym behind) (turns_ordered (at_start boot) [] scripts answers turns.rest refl turns.later)
