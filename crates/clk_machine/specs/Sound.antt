@@ -1,5 +1,5 @@
 -- What every state of a core keeps, where only calls are made that can be made so far.
-use Rattle.std.specs.Prelude.{◌≡◌, ℕ, ◌<◌, List, [], ◌∷◌, true, false, Some, None, length}
+use Rattle.std.specs.Prelude.{◌≡◌, ℕ, ◌<◌, List, [], ◌∷◌, Bool, true, false, Some, None, length}
 use Rattle.std.specs.List.{list_all}
 use Rattle.std.specs.Option.{option_map_or}
 use Rattle.clk_base.specs.declared.call.Sleeping.{Sleeping}
@@ -61,6 +61,11 @@ CanBegin s (call.GetRate h) = Unit {0}
 CanBegin s (call.GetParent h) = Unit {0}
 CanBegin s (call.Probe c) = list_all (registered s.clocks) (parents_of s.defs c.0) ≡ true
 CanBegin s _ = ⊥
+
+-- a get takes memory, for its handle, and no other call does
+abbrev pub takes_memory : Sleeping → Bool
+takes_memory (call.Get found) = true
+takes_memory _ = false
 
 -- an event that can come in a state: one of the enable tier, or a call that can begin
 abbrev pub CanTake : State → Event → Type 0

@@ -1,6 +1,6 @@
 //! The core: the machine with its journal.
 
-ghost use Rattle.std.specs.Prelude.{◌≡◌, ℕ, ◌+◌, ◌<◌, ◌≤◌, true, [], ◌∷◌, ◌++◌, List, length, take, drop, is_some, slice_index, IfSome, IfOk, OnErr, IsTrue};
+ghost use Rattle.std.specs.Prelude.{◌≡◌, ℕ, ◌+◌, ◌<◌, ◌≤◌, true, false, [], ◌∷◌, ◌++◌, List, length, take, drop, is_some, slice_index, IfSome, IfOk, IsOk, OnErr, IsTrue};
 ghost use Rattle.std.specs.Option.{option_map};
 ghost use Rattle.clk_model.specs.State.{is_quiet};
 ghost use Rattle.clk_model.specs.Journal.{opening, replay, Legal, cost};
@@ -41,7 +41,7 @@ impl<B: Bank> Core<B> {
     ghost use Rattle.clk_base.specs.declared.event.Event.TheVariants.{Enable, Disable, Running, Begin};
     ghost use Rattle.clk_base.specs.declared.event.Turn.TheVariants.{Done};
     ghost use Rattle.clk_machine.specs.Fit.{CanRun};
-    ghost use Rattle.clk_machine.specs.Sound.{IsPlaced};
+    ghost use Rattle.clk_machine.specs.Sound.{IsPlaced, takes_memory};
     ghost use Rattle.clk_model.specs.Causes.{EnableCauses, DisableCauses, RunningCauses, TurnHasCause, LeavesRefused};
     ghost use Rattle.clk_machine.specs.Run.{Run, now_of, was_probed, is_built, IsDone, Appends};
     ghost use Rattle.clk_machine.specs.Row.{IsRowOf, IsTreeOf};
@@ -142,7 +142,7 @@ impl<B: Bank> Core<B> {
 
     /// Begins a call of a driver. The calls that are built answer at once.
     ///
-    /// After `NoMemory` the core is as it was, without an entry.
+    /// After `NoMemory` the core is as it was, without an entry. It comes at a get alone.
     pub fn begin(&mut self, driver: u32, what: &Sleeping) -> Result<Turn, NoMemory>
         requires credit { cost self.old.journal < self.old.start.credits }
         requires place { IsPlaced self.old.start.defs what.now }
@@ -152,6 +152,7 @@ impl<B: Bank> Core<B> {
         ensures causes { self.old.told ≡ true → IfOk result (TurnHasCause (now_of self.old) driver what.now) }
         ensures refused { self.old.told ≡ true → IfOk result (λ turn. LeavesRefused turn (now_of self.old) (now_of self.new)) }
         ensures err { OnErr result (self.new ≡ self.old) }
+        ensures memory { takes_memory what.now ≡ false → IsOk result }
     {
         let reply = self.machine.begin(driver, *what)?;
         self.log.push(Entry {

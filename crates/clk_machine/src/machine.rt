@@ -1,6 +1,6 @@
 //! The state of the machine, kept in parts.
 
-ghost use Rattle.std.specs.Prelude.{◌≡◌, ℕ, ◌+◌, ◌<◌, ◌≤◌, true, false, length, drop, is_some, IfSome, IfOk, OnErr, Some, None};
+ghost use Rattle.std.specs.Prelude.{◌≡◌, ℕ, ◌+◌, ◌<◌, ◌≤◌, true, false, length, drop, is_some, IfSome, IfOk, IsOk, OnErr, Some, None};
 ghost use Rattle.std.specs.Option.{option_map};
 ghost use Rattle.clk_base.specs.Valid.{IsValid};
 ghost use Rattle.clk_model.specs.State.{registered};
@@ -57,7 +57,7 @@ impl<B: Bank> Machine<B> {
     ghost use Rattle.clk_model.specs.State.{handle_at};
     ghost use Rattle.clk_model.specs.Begin.{own_handle, put_handle};
     ghost use Rattle.clk_machine.specs.Fit.{CanRun};
-    ghost use Rattle.clk_machine.specs.Sound.{IsPlaced, CanBegin};
+    ghost use Rattle.clk_machine.specs.Sound.{IsPlaced, CanBegin, takes_memory};
     ghost use Rattle.clk_machine.specs.Held.{Takes, OpensFor};
 
     /// The machine at its opening. The words are written to the bank.
@@ -177,6 +177,7 @@ impl<B: Bank> Machine<B> {
         requires built { CanBegin self.old.state what }
         ensures ok { IfOk result (λ reply. Takes self.old driver (Begin what) reply self.new) }
         ensures err { OnErr result (self.new ≡ self.old) }
+        ensures memory { takes_memory what ≡ false → IsOk result }
     {
         match what {
             Sleeping::Get(found) => self.get(driver, found),
