@@ -1,4 +1,4 @@
-pub mod Causes
+pub mod Counts
 pub mod Streams
 pub mod Prints
 pub mod Memory

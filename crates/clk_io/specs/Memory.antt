@@ -1,7 +1,7 @@
 -- Sources and sinks in memory, whose faults are arranged.
 use Rattle.std.specs.Prelude.{ℕ, ◌-◌, ◌==◌, Bool, List, length, drop, ◌++◌}
 use Rattle.std.specs.List.{list_any}
-use Rattle.clk_io.specs.Causes.{counted}
+use Rattle.clk_io.specs.Counts.{counted}
 
 -- a source in memory: what is left, the numbers of the calls that fail, and how many calls and faults there were
 pub record Given : Type 0 where

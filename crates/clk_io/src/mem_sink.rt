@@ -1,7 +1,7 @@
 ghost use Rattle.std.specs.Prelude.{◌≡◌, ◌<◌, ◌≤◌, ◌==◌, ◌||◌, [], length, take, min, is_some, is_ok, not, IfOk, MatchResult, Some};
 ghost use Rattle.std.specs.Io.{WritesAtMost};
 ghost use Rattle.std.specs.Io.KnownBytes.{WriteAppends};
-ghost use Rattle.clk_io.specs.Causes.{counted, CountsFault};
+ghost use Rattle.clk_io.specs.Counts.{counted, CountsFault};
 ghost use Rattle.clk_io.specs.Memory.{is_listed, taken_after, taken_failed};
 
 use crate::faults::{Failed, NoMemory};

@@ -1,7 +1,7 @@
 ghost use Rattle.std.specs.Prelude.{◌≡◌, ◌<◌, ◌≤◌, ◌-◌, [], length, drop, take, min, is_some, is_ok, not, IfOk, MatchResult, Some};
 ghost use Rattle.std.specs.Io.{ReadsAtMost};
 ghost use Rattle.std.specs.Io.KnownBytes.{ReadConsumes};
-ghost use Rattle.clk_io.specs.Causes.{counted, CountsFault};
+ghost use Rattle.clk_io.specs.Counts.{counted, CountsFault};
 ghost use Rattle.clk_io.specs.Memory.{is_listed, given_after, given_failed};
 
 use crate::faults::Failed;

@@ -1,12 +1,13 @@
-ghost use Rattle.std.specs.Prelude.{◌≡◌, ◌<◌, ◌≤◌, length, is_some};
+ghost use Rattle.std.specs.Prelude.{◌≡◌, ◌≢◌, ◌<◌, ◌≤◌, length, is_some, IfErr};
 ghost use Rattle.std.specs.Io.{ReadsAtMost};
+ghost use Rattle.std.specs.IoError.{error_kind};
 ghost use Rattle.std.specs.Io.KnownBytes.{ReadConsumes};
-ghost use Rattle.clk_io.specs.Causes.{CountsFault};
+ghost use Rattle.clk_io.specs.Counts.{CountsFault};
 ghost use Rattle.clk_io.specs.Streams.{untold};
 
 use crate::faults::Failed;
 use crate::sources::Source;
-use std::io::{ErrorKind, Read, Stdin};
+use std::io::{self, ErrorKind, Read, Stdin};
 
 /// Standard input as a source; `new` takes the runtime's `stdin()`.
 pub type StdIn = ReaderSource<Stdin>;
@@ -36,21 +37,22 @@ impl<R: Read + Drop> ReaderSource<R> {
 }
 
 /// Reads once, and again where a signal came between.
-fn read_again<R: Read>(reader: &mut R, into: &mut [u8]) -> Result<usize, Failed>
+fn read_again<R: Read>(reader: &mut R, into: &mut [u8]) -> io::Result<usize>
     ensures bound { ReadsAtMost result into.new }
     ensures bytes { ReadConsumes (R.remaining reader.old) (R.remaining reader.new) result into.new }
+    ensures again { IfErr result (λ fault. error_kind fault ≢ ErrorKind.Interrupted) }
 {
     for _ in 0..u64::MAX {
         match reader.read(into) {
             Ok(count) => return Ok(count),
             Err(fault) => {
                 if fault.kind() != ErrorKind::Interrupted {
-                    return Err(Failed);
+                    return Err(fault);
                 }
             }
         }
     }
-    Err(Failed)
+    Err(ErrorKind::TimedOut.into())
 }
 
 impl<R: Read + Drop> Source for ReaderSource<R> {
@@ -69,10 +71,12 @@ impl<R: Read + Drop> Source for ReaderSource<R> {
         // It gives the bytes that the reader loses, and 0 only where the reader is at its end.
         ensures passes { ReadConsumes (R.remaining self.old.reader) (R.remaining self.new.reader) result into.new }
     {
-        let answer = read_again(&mut self.reader, into);
-        if answer.is_err() {
-            self.faults = self.faults.saturating_add(1);
+        match read_again(&mut self.reader, into) {
+            Ok(count) => Ok(count),
+            Err(_) => {
+                self.faults = self.faults.saturating_add(1);
+                Err(Failed)
+            }
         }
-        answer
     }
 }

@@ -1,5 +1,5 @@
 ghost use Rattle.std.specs.Prelude.{◌≡◌, ◌≤◌, is_some, IfOk, Err};
-ghost use Rattle.clk_io.specs.Causes.{CountsReadFault};
+ghost use Rattle.clk_io.specs.Counts.{CountsReadFault};
 ghost use Rattle.clk_io.specs.Streams.{TakesAll, TakesMore, TakesSome};
 
 use crate::faults::ReadFault;

@@ -1,7 +1,7 @@
 ghost use Rattle.std.specs.Prelude.{◌≡◌, ◌<◌, ◌≤◌, ℕ, List, Option, length, is_some, IfOk};
 ghost use Rattle.std.specs.Io.{WritesAtMost};
 ghost use Rattle.std.specs.Io.KnownBytes.{WriteAppends};
-ghost use Rattle.clk_io.specs.Causes.{CountsFault};
+ghost use Rattle.clk_io.specs.Counts.{CountsFault};
 
 use crate::faults::Failed;
 

@@ -1,7 +1,7 @@
 ghost use Rattle.std.specs.Prelude.{◌≡◌, ◌<◌, ◌≤◌, ℕ, List, Option, length, is_some};
 ghost use Rattle.std.specs.Io.{ReadsAtMost};
 ghost use Rattle.std.specs.Io.KnownBytes.{ReadConsumes};
-ghost use Rattle.clk_io.specs.Causes.{CountsFault};
+ghost use Rattle.clk_io.specs.Counts.{CountsFault};
 
 use crate::faults::Failed;
 

@@ -1,12 +1,13 @@
-ghost use Rattle.std.specs.Prelude.{◌≡◌, ◌<◌, ◌≤◌, length, is_some, IfOk};
+ghost use Rattle.std.specs.Prelude.{◌≡◌, ◌≢◌, ◌<◌, ◌≤◌, length, is_some, IfOk, IfErr};
 ghost use Rattle.std.specs.Io.{WritesAtMost};
+ghost use Rattle.std.specs.IoError.{error_kind};
 ghost use Rattle.std.specs.Io.KnownBytes.{WriteAppends};
-ghost use Rattle.clk_io.specs.Causes.{CountsFault};
+ghost use Rattle.clk_io.specs.Counts.{CountsFault};
 ghost use Rattle.clk_io.specs.Streams.{untold};
 
 use crate::faults::Failed;
 use crate::sinks::Sink;
-use std::io::{ErrorKind, Stdout, Write};
+use std::io::{self, ErrorKind, Stdout, Write};
 
 /// Standard output as a sink; `new` takes the runtime's `stdout()`.
 pub type StdOut = WriterSink<Stdout>;
@@ -36,23 +37,24 @@ impl<W: Write + Drop> WriterSink<W> {
 }
 
 /// Writes once, and again where a signal came between. A write that takes nothing has failed.
-fn write_again<W: Write>(writer: &mut W, bytes: &[u8]) -> Result<usize, Failed>
+fn write_again<W: Write>(writer: &mut W, bytes: &[u8]) -> io::Result<usize>
     ensures bound { WritesAtMost result bytes.now }
     ensures some { IfOk result (λ n. 0 < n) }
     ensures bytes { WriteAppends (W.contents writer.old) (W.contents writer.new) result bytes.now }
+    ensures again { IfErr result (λ fault. error_kind fault ≢ ErrorKind.Interrupted) }
 {
     for _ in 0..u64::MAX {
         match writer.write(bytes) {
-            Ok(0) => return Err(Failed),
+            Ok(0) => return Err(ErrorKind::WriteZero.into()),
             Ok(count) => return Ok(count),
             Err(fault) => {
                 if fault.kind() != ErrorKind::Interrupted {
-                    return Err(Failed);
+                    return Err(fault);
                 }
             }
         }
     }
-    Err(Failed)
+    Err(ErrorKind::TimedOut.into())
 }
 
 impl<W: Write + Drop> Sink for WriterSink<W> {
@@ -72,10 +74,12 @@ impl<W: Write + Drop> Sink for WriterSink<W> {
         // The writer gains the bytes that were taken, and none at a fault.
         ensures passes { WriteAppends (W.contents self.old.writer) (W.contents self.new.writer) result bytes.now }
     {
-        let answer = write_again(&mut self.writer, bytes);
-        if answer.is_err() {
-            self.faults = self.faults.saturating_add(1);
+        match write_again(&mut self.writer, bytes) {
+            Ok(count) => Ok(count),
+            Err(_) => {
+                self.faults = self.faults.saturating_add(1);
+                Err(Failed)
+            }
         }
-        answer
     }
 }

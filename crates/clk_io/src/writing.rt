@@ -1,5 +1,5 @@
 ghost use Rattle.std.specs.Prelude.{◌≡◌, ◌≤◌, is_some};
-ghost use Rattle.clk_io.specs.Causes.{CountsFault};
+ghost use Rattle.clk_io.specs.Counts.{CountsFault};
 ghost use Rattle.clk_io.specs.Prints.{Prints};
 
 use crate::faults::WriteFault;

@@ -1,7 +1,7 @@
 //! Prints the answers of a driver's commands.
 
 ghost use Rattle.std.specs.Prelude.{◌≡◌, ◌≤◌, ◌+◌, Some, is_some};
-ghost use Rattle.clk_io.specs.Causes.{CountsPrintFault};
+ghost use Rattle.clk_io.specs.Counts.{CountsPrintFault};
 ghost use Rattle.clk_io.specs.Prints.{Prints};
 ghost use Rattle.clk_model.specs.Text.{answer_line, answer_words, answers_text, spaced};
 

@@ -1,7 +1,7 @@
 //! Prints the words of a register bank.
 
 ghost use Rattle.std.specs.Prelude.{◌≡◌, ◌≤◌, ◌==◌, Some, [], if◌then◌else◌, is_some};
-ghost use Rattle.clk_io.specs.Causes.{CountsPrintFault};
+ghost use Rattle.clk_io.specs.Counts.{CountsPrintFault};
 ghost use Rattle.clk_io.specs.Prints.{Prints};
 ghost use Rattle.clk_model.specs.Text.{hex_digits, register_line, registers_text};
 

@@ -3,7 +3,7 @@ use Rattle.std.specs.Prelude.{◌≡◌, ◌⊎◌, ◌==◌, if◌then◌else�
 use Rattle.std.specs.Io.KnownBytes.{Appends}
 use Rattle.clk_cli.specs.declared.cli.Cli.{Cli}
 use Rattle.clk_cli.specs.Usage.{usage_line}
-use Rattle.clk_io.specs.Causes.{Rose, counted}
+use Rattle.clk_io.specs.Counts.{Rose, counted}
 use Rattle.clk_io.specs.Streams.{TakesAll, TakesMore, AppendsFront}
 use Rattle.clk_io.specs.declared.faults.PrintFault.{PrintFault}
 use Rattle.clk_io.specs.declared.faults.PrintFault.TheVariants as print_fault

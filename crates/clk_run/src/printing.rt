@@ -1,7 +1,7 @@
 //! Printing what a run of a bundle answered, and its registers.
 
 ghost use Rattle.std.specs.Prelude.{◌≡◌, ◌+◌, ◌≤◌, length, map, is_some};
-ghost use Rattle.clk_io.specs.Causes.{CountsPrintFault};
+ghost use Rattle.clk_io.specs.Counts.{CountsPrintFault};
 ghost use Rattle.clk_io.specs.Prints.{Prints};
 ghost use Rattle.clk_run.specs.Runs.{scripts_text, run_text};
 

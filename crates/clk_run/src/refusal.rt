@@ -1,7 +1,7 @@
 //! Telling what a bundle is refused for.
 
 ghost use Rattle.std.specs.Prelude.{◌≡◌, ◌≤◌, is_some};
-ghost use Rattle.clk_io.specs.Causes.{CountsPrintFault};
+ghost use Rattle.clk_io.specs.Counts.{CountsPrintFault};
 ghost use Rattle.clk_io.specs.Prints.{Prints};
 ghost use Rattle.clk_run.specs.Refusals.{reason_word, refusal_text};
 

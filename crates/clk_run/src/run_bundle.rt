@@ -1,7 +1,7 @@
 //! Running a bundle over a bank, and printing what it answered.
 
 ghost use Rattle.std.specs.Prelude.{◌≡◌, ◌≤◌, is_some, IfOk, IfErr};
-ghost use Rattle.clk_io.specs.Causes.{CountsPrintFault};
+ghost use Rattle.clk_io.specs.Counts.{CountsPrintFault};
 ghost use Rattle.clk_run.specs.Runs.{credits_of, drivers_in, IsReady, Printed, LeftByFault};
 
 use crate::printing::print_run;
