@@ -30,12 +30,14 @@ fn check_refusals<R: Abort + AllocGlobal>(
     Ok(())
 }
 
-#[test]
-fn reads_each_section_with_its_lines(rt: HostRuntime) -> Result<(), Fail> {
-    let text =
-        b"%bundle 1\r\n# a board\n\n%clocks\nfixed osc 5\n%regs\t0x10 \n0 1\n%lock\n%late\nosc\n\
+/// A bundle of each section.
+const WHOLE: &[u8] =
+    b"%bundle 1\r\n# a board\n\n%clocks\nfixed osc 5\n%regs\t0x10 \n0 1\n%lock\n%late\nosc\n\
 %driver a\nget u osc\n%driver b-2 /serial@400\n%order\na b-2";
-    let lines = TextLines::new(rt.alloc(), text)?;
+
+#[test]
+fn reads_the_clocks_and_the_bank_with_their_lines(rt: HostRuntime) -> Result<(), Fail> {
+    let lines = TextLines::new(rt.alloc(), WHOLE)?;
     assert!(rt; lines.len() < 1000);
     let sections = read_sections(rt.alloc(), &lines, 15)?;
     let clocks = ClockSection {
@@ -50,6 +52,15 @@ fn reads_each_section_with_its_lines(rt: HostRuntime) -> Result<(), Fail> {
         end: 7,
     };
     assert_eq!(rt; sections.bank(), bank);
+    one_verdict();
+    Ok(())
+}
+
+#[test]
+fn reads_the_other_sections_with_their_lines(rt: HostRuntime) -> Result<(), Fail> {
+    let lines = TextLines::new(rt.alloc(), WHOLE)?;
+    assert!(rt; lines.len() < 1000);
+    let sections = read_sections(rt.alloc(), &lines, 15)?;
     let others = [
         (Header::Lock, 7, 8),
         (Header::Late, 8, 10),
@@ -77,7 +88,6 @@ fn reads_each_section_with_its_lines(rt: HostRuntime) -> Result<(), Fail> {
         assert_eq!(rt; section.place, *place);
         assert_eq!(rt; section.end, *end);
     }
-    one_verdict();
     Ok(())
 }
 

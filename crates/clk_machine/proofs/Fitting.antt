@@ -1,12 +1,11 @@
 -- What a description says whose clocks can all be run.
-use Rattle.std.proofs.Common.{◌≡◌, ℕ, zero, suc, ◌<◌, ◌&&◌, Bool, true, false, not, cond, List, [], ◌∷◌, None, refl, ap, sym, ◌∙◌, inl, inr, arith, length, nat_lt}
+use Rattle.std.proofs.Common.{◌≡◌, ℕ, zero, suc, ◌<◌, ◌&&◌, Bool, true, false, not, cond, List, [], ◌∷◌, None, refl, ap, sym, ◌∙◌, inl, inr, arith, length}
 use Rattle.std.specs.List.{list_all}
-use Rattle.std.proofs.lemmas.Bool.Decides.{nat_tests}
 use Rattle.std.proofs.lemmas.List.{get_or_past}
 use Rattle.clk_base.specs.declared.clock.ClockDef.{ClockDef}
 use Rattle.clk_base.specs.declared.clock.Kind.{Kind}
 use Rattle.clk_base.specs.declared.clock.Kind.TheVariants.{FixedRate, Factor, Gate, Mux, Divider, Pll}
-use Rattle.clk_base.specs.Description.{Description, nobody, kind_of, parents_of}
+use Rattle.clk_base.specs.Description.{Description, nobody, kind_of}
 use Rattle.clk_base.specs.Fields.{power_of}
 use Rattle.clk_base.specs.Flags.{is_critical, sets_rate_gate}
 use Rattle.clk_model.specs.Lists.{is_in}
@@ -45,12 +44,6 @@ not_critical defs runs c within = not_true _ (both_right _ _ (both_left _ _ (run
 
 pub not_guarding : (defs : Description) → CanRun defs → (c : ℕ) → c < length defs → sets_rate_gate defs c ≡ false
 not_guarding defs runs c within = not_true _ (both_right _ _ (runs c within))
-
--- a possible parent is an earlier clock
-pub earlier_parent : (defs : Description) → CanRun defs → (c p : ℕ) → c < length defs → is_in p (parents_of defs c) ≡ true → p < c
-earlier_parent defs runs c p within m =
-    let earlier : nat_lt p c ≡ true = all_in (λ q. nat_lt q c) (parents_of defs c) p (both_left _ _ (both_left _ _ (runs c within))) m in
-    grind (arith, nat_tests)
 
 pub no_critical : (s : State) → CanRun s.defs → critical_clocks s ≡ []
 no_critical s runs = critical_clocks-none s (not_critical s.defs runs)

@@ -12,7 +12,6 @@ use Rattle.clk_base.specs.declared.clock.Kind.TheVariants.{FixedRate, Factor, Ga
 use Rattle.clk_base.specs.Checked.{Checked}
 use Rattle.clk_base.specs.Description.{Description, nobody, kind_of, parents_of}
 use Rattle.clk_base.specs.Fields.{Field, fields_of}
-use Rattle.clk_base.specs.Places.{places}
 use Rattle.clk_base.specs.Valid.{IsValid}
 use Rattle.clk_base.proofs.Valid.{fields-within}
 use Rattle.reg_bank.specs.Registers.{Registers}
@@ -42,12 +41,6 @@ pub in-at : (xs : List ℕ) (n x : ℕ) → slice_get xs n ≡ Some x → is_in 
 in-at [] n x e = absurd cc
 in-at (y ∷ xs) zero x e = let same : x ≡ y = cc in ap (λ (k : ℕ). is_in k (y ∷ xs)) same ∙ is_in_head y xs
 in-at (y ∷ xs) (suc n) x e = is_in_tail x y xs (in-at xs n x e)
-
--- a clock at a place, by its number
-pub at-places : (clocks : List ClockId) (n : ℕ) → option_map (λ p. p.0) (slice_get clocks n) ≡ slice_get (places clocks) n
-at-places [] n = refl
-at-places (p ∷ clocks) zero = refl
-at-places (p ∷ clocks) (suc n) = at-places clocks n
 
 -- what was found at a place is a possible parent
 pub found_possible : (ps : List ℕ) (n : ℕ) (found : Option ClockId) → option_map (λ p. p.0) found ≡ slice_get ps n → IfSome found (λ p. is_in p.0 ps ≡ true)

@@ -37,11 +37,6 @@ gates_lie words defs valid = record {
 
 -- ---- handles
 
-pub handle-lt : (handles : List (Option HandleRow)) (n : ℕ) (h : HandleRow) → handle_at handles n ≡ Some h → n < length handles
-handle-lt [] n h at = absurd cc
-handle-lt (o ∷ handles) zero h at = omega arith
-handle-lt (o ∷ handles) (suc n) h at = let below : n < length handles = handle-lt handles n h at in omega arith
-
 -- a handle that is put, or none, is where it was put, and each other stays
 pub handle_at-put : (handles : List (Option HandleRow)) (n : ℕ) (o : Option HandleRow) (k : ℕ) (h : HandleRow) → handle_at (set handles n o) k ≡ Some h
     → (o ≡ Some h) ⊎ (handle_at handles k ≡ Some h)

@@ -1,6 +1,6 @@
 -- Laws on the first words of a bank.
 use Rattle.std.proofs.Common.{◌≡◌, ℕ, zero, suc, ◌<◌, Bool, List, [], ◌∷◌, Option, Some, None, refl, sym, ap, ◌∙◌, take, drop, set}
-use Rattle.std.specs.Prelude.{IfSome, slice_set, ◌==◌, if◌then◌else◌}
+use Rattle.std.specs.Prelude.{IfSome, ◌==◌, if◌then◌else◌}
 use Rattle.std.specs.Option.{option_map}
 use Rattle.std.proofs.lemmas.List.{get_or-take, drop-set-lt}
 use Rattle.reg_bank.specs.Registers.{Registers, bits_of, with_bits, field, put, is_set, put_bit}
@@ -12,13 +12,6 @@ take_set zero words i value = refl
 take_set (suc n) [] i value = refl
 take_set (suc n) (w ∷ words) zero value = refl
 take_set (suc n) (w ∷ words) (suc i) value = ap (λ (ws : List ℕ). w ∷ ws) (take_set n words i value)
-
--- setting one of the first words leaves those behind them
-pub behind_set : (n : ℕ) (told new : Option (List ℕ)) (i value : ℕ) → i < n → new ≡ option_map (λ words. slice_set words i value) told
-    → option_map (drop n) new ≡ option_map (drop n) told
-behind_set n None new i value within h = ap (option_map (drop n)) h
-behind_set n (Some words) new i value within h =
-    ap (option_map (drop n)) h ∙ ap (λ (ws : List ℕ). Some ws) (drop-set-lt n words i value within)
 
 -- putting a bit of the first words leaves those behind them
 pub behind_put : (n : ℕ) (told new : Option (List ℕ)) (word bit : ℕ) (value : Bool) → word < n → new ≡ option_map (λ words. put_bit words word bit value) told

@@ -2,7 +2,6 @@
 
 ghost use Rattle.std.specs.Prelude.{◌≡◌, ◌<◌, true, false, length, reverse, IfSome};
 ghost use Rattle.std.specs.Option.{option_map, option_map_or};
-ghost use Rattle.clk_base.specs.Description.{kind_of};
 ghost use Rattle.clk_base.specs.Fields.{gate_of, power_of};
 ghost use Rattle.clk_model.specs.Summary.{is_on};
 ghost use Rattle.clk_model.specs.State.{link_in};

@@ -1,8 +1,7 @@
 //! What no contract says: that the calls get on where there is memory, and what a run looks like
 //! that was worked out by hand.
 
-ghost use Rattle.std.specs.Prelude.{◌≡◌, ◌≤◌, ◌<◌, true, length, [], ◌∷◌, IfOk};
-ghost use Rattle.clk_machine.specs.Fit.{CanRun};
+ghost use Rattle.std.specs.Prelude.{◌≡◌, ◌<◌, true, length, IfOk};
 ghost use Rattle.clk_machine.specs.Sound.{IsPlaced};
 
 use super::*;
@@ -132,6 +131,17 @@ fn the_ordinary_path(rt: HostRuntime) -> Result<(), Fail> {
     Ok(())
 }
 
+// The row of a clock of 24 MHz whose rate nobody protects.
+fn row(enable: u32, prepare: u32, on: Option<bool>) -> Row {
+    Row {
+        enable,
+        prepare,
+        protect: 0,
+        rate: 24_000_000,
+        on,
+    }
+}
+
 #[test]
 fn rows_of_an_enabled_gate_and_its_parent(rt: HostRuntime) -> Result<(), Fail> {
     let (osc, uart) = (ClockId(0), ClockId(1));
@@ -150,51 +160,14 @@ fn rows_of_an_enabled_gate_and_its_parent(rt: HostRuntime) -> Result<(), Fail> {
         ],
     )?;
     assert!(rt; core.quiet());
-    let rate = 24_000_000;
     assert_eq!(rt; core.desc().len(), 2);
-    assert_eq!(rt;
-        core.row(uart),
-        Some(Row {
-            enable: 0,
-            prepare: 2,
-            protect: 0,
-            rate,
-            on: Some(false)
-        })
-    );
-    assert_eq!(rt;
-        core.row(osc),
-        Some(Row {
-            enable: 0,
-            prepare: 1,
-            protect: 0,
-            rate,
-            on: None
-        })
-    );
+    assert_eq!(rt; core.row(uart), Some(row(0, 2, Some(false))));
+    assert_eq!(rt; core.row(osc), Some(row(0, 1, None)));
     assert!(rt; core.credits_left() > 0);
     assert_eq!(rt; core.enable(1, FIRST), Reply::Fine);
     assert_eq!(rt; core.desc().len(), 2);
-    assert_eq!(rt;
-        core.row(uart),
-        Some(Row {
-            enable: 1,
-            prepare: 2,
-            protect: 0,
-            rate,
-            on: Some(true)
-        })
-    );
-    assert_eq!(rt;
-        core.row(osc),
-        Some(Row {
-            enable: 1,
-            prepare: 1,
-            protect: 0,
-            rate,
-            on: None
-        })
-    );
+    assert_eq!(rt; core.row(uart), Some(row(1, 2, Some(true))));
+    assert_eq!(rt; core.row(osc), Some(row(1, 1, None)));
     Ok(())
 }
 

@@ -32,10 +32,6 @@ or_assoc : (a b c : Bool) → (a || (b || c)) ≡ ((a || b) || c)
 or_assoc true b c = refl
 or_assoc false b c = refl
 
-or_false : (a : Bool) → (a || false) ≡ a
-or_false true = refl
-or_false false = refl
-
 -- a new handle that doesn't pass holds nothing
 pub held_by-append : (clocks : List ClockRow) (test : HandleRow → Bool) (handles : List (Option HandleRow)) (h : HandleRow) (c : ℕ) → test h ≡ false
     → held_by clocks test (handles ++ Some h ∷ []) c ≡ held_by clocks test handles c

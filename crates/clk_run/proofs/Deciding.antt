@@ -3,14 +3,12 @@ use Rattle.std.proofs.Common.{◌≡◌, ℕ, ◌+◌, ◌≤◌, List, ◌++◌
 use Rattle.std.specs.Io.KnownBytes.{Consumes}
 use Rattle.std.proofs.lemmas.List.{append-nil, length-append}
 use Rattle.clk_io.specs.Streams.{TakesAll}
-use Rattle.clk_io.specs.declared.faults.PrintFault.{PrintFault}
-use Rattle.clk_io.specs.declared.faults.PrintFault.TheVariants as print_fault
 use Rattle.drv_scripts.specs.declared.bundle.Bundle.{Bundle}
 use Rattle.drv_scripts.specs.declared.reason.Reason.{Reason}
 use Rattle.drv_scripts.specs.Verdict.{most_bytes}
 use Rattle.clk_run.specs.Built.{SpellsRun, RefusesRun}
 use Rattle.clk_run.proofs.RunVerdicts.{run_never_both}
-use Rattle.clk_run.specs.Outcomes.{GivesBundle, RefusesInput, Decides, status_of}
+use Rattle.clk_run.specs.Outcomes.{GivesBundle, RefusesInput, Decides}
 
 -- what was taken to the end is what was left
 taken_all : (left left' : Option (List ℕ)) (bytes read : List ℕ) → left ≡ Some bytes → TakesAll most_bytes left left' read → read ≡ bytes
@@ -52,25 +50,3 @@ refuses_decides left left' line reason refuses = record {
       omega arith
   no bytes b is spelled (inr all) =
       run_never_both bytes b line reason spelled (subst (λ (xs : List ℕ). RefusesRun xs line reason) (taken_all left left' bytes all.0 is all.1) all.2)
-
--- memory ran out
-pub short_decides : (left : Option (List ℕ)) → Decides left 3
-short_decides left = record {
-  accepts = λ bytes b is spelled. inr (inl refl);
-  refuses = λ bytes line reason is no. inr (inl refl);
-}
-
--- a read failed
-pub unread_decides : (left : Option (List ℕ)) → Decides left 4
-unread_decides left = record {
-  accepts = λ bytes b is spelled. inr (inr (inl refl));
-  refuses = λ bytes line reason is no. inr (inr (inl refl));
-}
-
--- a fault of printing came
-pub fault_decides : (left : Option (List ℕ)) (fault : PrintFault) → Decides left (status_of fault)
-fault_decides left print_fault.Write = record {
-  accepts = λ bytes b is spelled. inr (inr (inr refl));
-  refuses = λ bytes line reason is no. inr (inr (inr refl));
-}
-fault_decides left print_fault.NoMemory = short_decides left

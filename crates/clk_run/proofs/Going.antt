@@ -1,8 +1,8 @@
 -- Going through commands: one after the other.
-use Rattle.std.proofs.Common.{◌≡◌, ℕ, zero, suc, ◌+◌, ◌<◌, ◌≤◌, ◌&&◌, ◌||◌, Bool, true, false, cond, List, [], ◌∷◌, ◌++◌, Option, Some, None, refl, sym, ap, subst, ◌∙◌, arith, length, take, get_or, add-zero, nat_lt, nat_eq, append_assoc, map, max}
+use Rattle.std.proofs.Common.{◌≡◌, ℕ, zero, suc, ◌+◌, ◌<◌, ◌≤◌, ◌&&◌, ◌||◌, Bool, true, false, cond, List, [], ◌∷◌, ◌++◌, Option, Some, None, refl, sym, ap, subst, ◌∙◌, arith, length, take, get_or, add-zero, nat_lt, append_assoc, map, max}
 use Rattle.std.proofs.lemmas.Bool.Decides.{nat_tests}
 use Rattle.std.specs.List.{AllByRecursion, list_all, list_any}
-use Rattle.std.proofs.lemmas.List.{append-nil, length-append, length-take, take_more, take_all}
+use Rattle.std.proofs.lemmas.List.{append-nil, length-append, take_more}
 use Rattle.std.proofs.lemmas.List.Folds.{list_any-append}
 use Rattle.std.proofs.lemmas.List.Sums.{sum_by-append}
 use Rattle.clk_base.specs.declared.command.Act.{Act}
@@ -10,21 +10,18 @@ use Rattle.clk_base.specs.declared.command.Act.TheVariants as act
 use Rattle.clk_base.specs.declared.command.Answer.{Answer}
 use Rattle.clk_base.specs.declared.command.Answer.TheVariants as answer
 use Rattle.clk_base.specs.declared.command.Command.{Command}
-use Rattle.clk_base.specs.declared.call.Sleeping.TheVariants as call
 use Rattle.clk_base.specs.declared.event.Entry.{Entry}
 use Rattle.clk_base.specs.declared.event.Event.{Event}
 use Rattle.clk_base.specs.declared.event.Event.TheVariants as event
-use Rattle.clk_base.specs.declared.event.Reply.{Reply}
 use Rattle.clk_base.specs.declared.event.Turn.TheVariants as turn
 use Rattle.clk_model.specs.Journal.{Answered, is_paid, call_at, answer_at, last_begun, calls_from, cost, Legal}
 use Rattle.std.specs.List.{range_with_len}
 use Rattle.std.specs.Option.{option_map_or}
 use Rattle.std.proofs.lemmas.List.FromFn.{length-map-range_with_len}
 use Rattle.drv_scripts.specs.Spelled.{boot_of, probe}
-use Rattle.clk_model.specs.Follows.{Variables, variable_count, handle_of, call_of, held_after, NextFollows, FollowsFrom}
-use Rattle.clk_model.specs.State.{State}
+use Rattle.clk_model.specs.Follows.{Variables, variable_count, handle_of, call_of, NextFollows, FollowsFrom}
 use Rattle.clk_machine.specs.Held.{registers}
-use Rattle.clk_machine.specs.Run.{Run, was_probed, Appends}
+use Rattle.clk_machine.specs.Run.{Run, was_probed}
 use Rattle.clk_base.specs.Description.{Description, parents_of, EachClock}
 use Rattle.clk_machine.specs.Fit.{has_earlier_parents}
 use Rattle.drv_scripts.specs.Placed.{NamesPlace}
@@ -125,31 +122,6 @@ goes_skipped old new d held c none is = record {
   follows = λ cs ls as_ f. subst (λ (o : Option Event). NextFollows (λ after ls2. FollowsFrom after cs ls2 as_) held c o ls answer.Skip) (sym none) (refl, f);
 }
 
--- the entry of a call
-abbrev pub entry_of : ℕ → Event → Reply → Entry
-entry_of d e r = record { driver = d; event = e; turn = turn.Done r }
-
-test_same : (d : ℕ) → nat_eq d d ≡ true
-test_same d = grind (arith, nat_tests)
-
-pub goes_called : (old new : Run) (d : ℕ) (held : Variables) (c : Command) (e : Event) (r : Reply) → call_of (handle_of held c) c.act ≡ Some e → is_paid e ≡ true
-    → Appends old d e (turn.Done r) new → GoesThrough old d held (c ∷ []) (answer.Reply r ∷ []) (held_after held c c.act r) new
-goes_called old new d held c e r some paid appends = record {
-  entries = entry_of d e r ∷ [];
-  start = appends.start;
-  told = appends.told;
-  behind = appends.behind;
-  journal = appends.entry;
-  own = both _ true (both _ true (both (nat_eq d d) (is_paid e) (test_same d) paid) refl) refl;
-  few = omega arith;
-  legal = λ told was. appends.legal told;
-  follows = λ cs ls as_ f.
-      let calls : calls_from None (entry_of d e r ∷ []) ++ ls ≡ (record { call = e; reply = r }) ∷ ls =
-      ap (λ (o : Option Event). (answer_at o (turn.Done r) ++ []) ++ ls) (call_at-paid None e paid) in
-      subst (λ (called : List Answered). FollowsFrom held (c ∷ cs) called (answer.Reply r ∷ as_)) (sym calls)
-      (subst (λ (o : Option Event). NextFollows (λ after ls2. FollowsFrom after cs ls2 as_) held c o ((record { call = e; reply = r }) ∷ ls) (answer.Reply r)) (sym some) (refl, refl, f));
-}
-
 -- ---- credits and probes
 
 -- entries that are answered at once cost a credit each
@@ -175,15 +147,6 @@ goes_probed old new d held held' commands answers c goes was =
     ap (λ (j : List Entry). was_probed j c) goes.journal ∙ list_any-append (λ e. registers e.event c) old.journal goes.entries
     ∙ ap (λ (b : Bool). b || list_any (λ e. registers e.event c) goes.entries) was
 
--- and a probe that was entered is among them
-pub probe_entered : (old new : Run) (d c : ℕ) (r : Reply) → Appends old d (event.Begin (call.Probe (record { 0 = c }))) (turn.Done r) new → was_probed new.journal c ≡ true
-probe_entered old new d c r appends =
-    ap (λ (j : List Entry). was_probed j c) appends.entry ∙ list_any-append (λ e. registers e.event c) old.journal (_ ∷ [])
-    ∙ ap (λ (b : Bool). was_probed old.journal c || (b || false)) (test_same c) ∙ or_true (was_probed old.journal c) where
-      or_true : (a : Bool) → (a || true) ≡ true
-      or_true true = refl
-      or_true false = refl
-
 -- ---- several commands
 
 -- one command more
@@ -195,20 +158,6 @@ goes_more first mid last d held held' held'' commands i x answers answers' a wit
     subst (λ (cs : List Command). GoesThrough first d held cs answers' held'' last) (sym (take_more commands i x within))
     (subst (λ (as_ : List Answer). GoesThrough first d held (take i commands ++ get_or commands i x ∷ []) as_ held'' last) (sym more)
     (goes_trans first mid last d held held' held'' (take i commands) (get_or commands i x ∷ []) answers (a ∷ []) one two))
-
--- all commands
-pub goes_all : (first last : Run) (d : ℕ) (held held' : Variables) (commands : List Command) (i : ℕ) (answers : List Answer) → length commands ≤ i
-    → GoesThrough first d held (take i commands) answers held' last → GoesThrough first d held commands answers held' last
-goes_all first last d held held' commands i answers end goes =
-    subst (λ (cs : List Command). GoesThrough first d held cs answers held' last) (take_all i commands end) goes
-
--- what is left of the credits pays for the next command
-pub credit_left : (first mid : Run) (d : ℕ) (held held' : Variables) (commands : List Command) (i : ℕ) (answers : List Answer) → i < length commands
-    → GoesThrough first d held (take i commands) answers held' mid → cost first.journal + length commands ≤ first.start.credits → cost mid.journal < mid.start.credits
-credit_left first mid d held held' commands i answers within goes paid =
-    let spent = goes_cost first mid d held held' (take i commands) answers goes in
-    let same : mid.start.credits ≡ first.start.credits = ap (λ (s : State). s.credits) goes.start in
-    omega (arith, length-take i commands)
 
 -- a command that can be run so far can be run now
 pub can_built : (run : Run) (a : Act) → is_built_act run.start.defs a ≡ true → CanCall run a

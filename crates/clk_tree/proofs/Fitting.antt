@@ -1,5 +1,5 @@
 -- Attaching does to the rows what the machine does: a relink of a registered clock, and a registration.
-use Rattle.std.proofs.Common.{◌≡◌, ℕ, zero, suc, ◌<◌, Bool, true, false, List, [], ◌∷◌, Option, Some, None, refl, sym, ap, ◌∙◌, length, nat_eq}
+use Rattle.std.proofs.Common.{◌≡◌, ℕ, zero, suc, ◌<◌, true, false, List, [], ◌∷◌, Option, Some, None, refl, sym, ap, ◌∙◌, length, nat_eq}
 use Rattle.std.specs.Prelude.{slice_set}
 use Rattle.std.specs.Option.{option_map}
 use Rattle.clk_base.specs.declared.clock.ClockId.{ClockId}
@@ -9,17 +9,12 @@ use Rattle.clk_model.specs.declared.row.ClockRow.{ClockRow}
 use Rattle.clk_model.specs.State.{row_of, registered, link_in}
 use Rattle.clk_model.specs.Tree.{link_given}
 use Rattle.clk_model.specs.Rate.{rate}
-use Rattle.clk_model.specs.Chain.{clock_id, linked}
+use Rattle.clk_model.specs.Chain.{clock_id}
 use Rattle.clk_model.specs.Begin.{registered_row, registered_rows}
 use Rattle.clk_model.proofs.Members.{same_from_test, test_other}
 use Rattle.clk_model.proofs.RateLaws.{rate-links}
 use Rattle.clk_model.proofs.StateLaws.{row_of-set_same, row_of-set_other}
 use Rattle.clk_tree.specs.TreeState.{attached, requested}
-
--- attaching a registered clock to a parent is a relink
-pub attached-linked : (clocks : List ClockRow) (c p : ℕ) → registered clocks c ≡ true → attached clocks c (Some (clock_id p)) ≡ linked clocks c p
-attached-linked clocks c p there =
-    ap (λ (b : Bool). slice_set clocks c (record (row_of clocks c) { registered = b; link = Some (clock_id p) })) (sym there)
 
 by_place : (link : Option ClockId) → option_map clock_id (option_map (λ p. p.0) link) ≡ link
 by_place None = refl

@@ -1,7 +1,7 @@
 //! What no contract says: that `create` gets on where there is memory, and trees, rates and plans
 //! that were worked out by hand.
 
-ghost use Rattle.std.specs.Prelude.{◌≡◌, ◌<◌, ℕ, true, false, length, IfOk};
+ghost use Rattle.std.specs.Prelude.{◌≡◌, ◌<◌, true, false, length, IfOk};
 ghost use Rattle.clk_base.specs.Description.{parents_of};
 ghost use Rattle.clk_model.specs.Lists.{is_in};
 
@@ -196,46 +196,47 @@ fn a_last_request_is_kept(rt: HostRuntime) -> Result<(), Fail> {
     Ok(())
 }
 
+// A PLL whose multiplier is in the first bits of word 0.
+const PLL: Kind = Kind::Pll {
+    word: 0,
+    shift: 0,
+    width: 9,
+    power_word: 0,
+    power_bit: 31,
+    least: 100,
+    most: 400,
+    m: 24,
+};
+
+// A divider with two bits of word 1.
+fn divider(shift: u32, one_based: bool, power_of_two: bool) -> Kind
+    ensures { result ≡ Kind.Divider 1 shift 2 one_based power_of_two }
+{
+    Kind::Divider {
+        word: 1,
+        shift,
+        width: 2,
+        one_based,
+        power_of_two,
+    }
+}
+
 #[test]
 fn each_kind_has_its_rate(rt: HostRuntime) -> Result<(), Fail> {
     let mut bank = MemBank::new(rt.alloc())?;
     bank.write(0, 200);
     bank.write(1, 0b1101);
-    let (word, power_word, power_bit) = (0, 0, 31);
     let rate = 24_000_000;
     let fixed = rate_over(Kind::FixedRate { rate }, &bank, 5);
     assert_eq!(rt; fixed, 24_000_000);
-    let pll = Kind::Pll {
-        word,
-        shift: 0,
-        width: 9,
-        power_word,
-        power_bit,
-        least: 100,
-        most: 400,
-        m: 24,
-    };
-    let pll = rate_over(pll, &bank, fixed);
+    let pll = rate_over(PLL, &bank, fixed);
     assert_eq!(rt; pll, 200_000_000);
-    let divider = |one_based, power_of_two| Kind::Divider {
-        word: 1,
-        shift: 0,
-        width: 2,
-        one_based,
-        power_of_two,
-    };
-    let divided = rate_over(divider(false, false), &bank, pll);
+    let divided = rate_over(divider(0, false, false), &bank, pll);
     assert_eq!(rt; divided, 100_000_000);
-    assert_eq!(rt; rate_over(divider(true, false), &bank, pll), 200_000_000);
-    assert_eq!(rt; rate_over(divider(false, true), &bank, pll), 100_000_000);
-    let divider_of_three = Kind::Divider {
-        word: 1,
-        shift: 2,
-        width: 2,
-        one_based: true,
-        power_of_two: false,
-    };
-    assert_eq!(rt; rate_over(divider_of_three, &bank, divided), 33_333_334);
+    assert_eq!(rt; rate_over(divider(0, true, false), &bank, pll), 200_000_000);
+    assert_eq!(rt; rate_over(divider(0, false, true), &bank, pll), 100_000_000);
+    let divided_by_three = rate_over(divider(2, true, false), &bank, divided);
+    assert_eq!(rt; divided_by_three, 33_333_334);
     let factor = rate_over(Kind::Factor { mult: 1, div: 4 }, &bank, divided);
     assert_eq!(rt; factor, 25_000_000);
     let mux = Kind::Mux {

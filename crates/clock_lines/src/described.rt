@@ -1,11 +1,9 @@
 //! The description of the clocks that were read, once all names are known.
 
 ghost use Rattle.std.specs.Prelude.{◌≡◌, ◌<◌, ◌+◌, ◌^◌, [], ◌∷◌, ◌++◌, true, false, map, length, Some, None, IfOk, MatchResult, if◌then◌else◌};
-ghost use Rattle.std.specs.Option.{option_map};
 ghost use Rattle.bundle_text.specs.Words.{texts};
 ghost use Rattle.clk_base.specs.Description.{has_name};
-ghost use Rattle.clk_base.specs.Places.{places};
-ghost use Rattle.clock_lines.specs.Section.{is_named, place_of, finds_parents, clock_in};
+ghost use Rattle.clock_lines.specs.Section.{place_of, finds_parents, clock_in};
 ghost use Rattle.clock_lines.specs.Steps.{StandApart, HaveLines, FindParents, Lacks, LacksOf, places_in};
 
 use crate::fault::{LineReason, LinesFault};

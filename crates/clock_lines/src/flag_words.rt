@@ -1,7 +1,6 @@
 //! The flag words behind the parameters of a clock line.
 
-ghost use Rattle.std.specs.Prelude.{◌≡◌, ◌||◌, ◌&&◌, ◌==◌, count_by, if◌then◌else◌};
-ghost use Rattle.std.specs.List.{list_all};
+ghost use Rattle.std.specs.Prelude.{◌≡◌, ◌||◌, ◌&&◌, ◌==◌, count_by};
 ghost use Rattle.std.specs.Str.{bytes_eq};
 ghost use Rattle.bundle_text.specs.Words.{texts};
 ghost use Rattle.clock_lines.specs.FlagWords.{stands, is_common_flag, is_own_flag, are_flags, flag_bit, flags_of_words};

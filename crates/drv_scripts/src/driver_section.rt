@@ -1,7 +1,6 @@
 //! The section of a driver.
 
 ghost use Rattle.std.specs.Prelude.{◌≡◌, ◌+◌, ◌<◌, ◌≤◌, ◌^◌, length, IfOk, MatchOption, true, false};
-ghost use Rattle.std.specs.Option.{option_map};
 ghost use Rattle.bundle_text.specs.Firsts.{KeepsBelow};
 ghost use Rattle.bundle_text.specs.Lines.{line_at};
 ghost use Rattle.bundle_text.specs.Words.{spaced_words};

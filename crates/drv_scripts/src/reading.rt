@@ -1,6 +1,6 @@
 //! From bytes to a bundle.
 
-ghost use Rattle.std.specs.Prelude.{◌≡◌, ◌+◌, ◌-◌, ◌<◌, ◌≤◌, ◌^◌, [], true, length, IfOk, IfErr, OnOk};
+ghost use Rattle.std.specs.Prelude.{◌≡◌, ◌+◌, ◌-◌, ◌<◌, ◌≤◌, ◌^◌, [], true, length, IfOk, IfErr};
 ghost use Rattle.std.specs.List.{AllByRecursion};
 ghost use Rattle.std.specs.Str.Lines.{lines};
 ghost use Rattle.bundle_clocks.specs.Source.{text_of_lines};
@@ -9,7 +9,6 @@ ghost use Rattle.bundle_sections.specs.Verdict.{IsSection, Tiles};
 ghost use Rattle.bundle_sections.specs.Verdict as section_verdict;
 ghost use Rattle.bundle_text.specs.Firsts.{KeepsBelow};
 ghost use Rattle.bundle_text.specs.Lines.{line_at, header_from};
-ghost use Rattle.clk_base.specs.Valid.{IsValid};
 ghost use Rattle.drv_scripts.specs.Form.{fault_at, clocks_end, words_end, begins_clocks};
 ghost use Rattle.drv_scripts.specs.Placed.{IsSound};
 ghost use Rattle.drv_scripts.specs.Sections.{Section, IsPlaced, stop_told};

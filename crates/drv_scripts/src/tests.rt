@@ -238,9 +238,21 @@ fn sourced<R: AllocGlobal>(rt: &R, source: &str) -> Result<String, Fail> {
     Ok(format!(in rt.alloc(); "%bundle 1\n%dts\n{source}%regs 1\n1 1\n")?)
 }
 
+/// Checks each source against its line of the bundle and its reason.
+fn check_sources<R: Abort + AllocGlobal>(
+    rt: &R,
+    table: &[(&str, u32, Reason)],
+) -> Result<(), Fail> {
+    for (source, line, reason) in table {
+        let text = sourced(rt, source)?;
+        check_refusal(rt, text.as_bytes(), *line, *reason);
+    }
+    Ok(())
+}
+
 #[test]
-fn sources_are_refused_at_lines_of_the_bundle(rt: HostRuntime) -> Result<(), Fail> {
-    for (source, line, reason) in [
+fn texts_of_sources_are_refused_at_lines_of_the_bundle(rt: HostRuntime) -> Result<(), Fail> {
+    let table = [
         ("", 3, Reason::Syntax),
         ("\n// nothing\n", 3, Reason::Syntax),
         ("/dts-v1/;\n/ {\n!\n};\n", 5, Reason::BadChar),
@@ -254,6 +266,13 @@ fn sources_are_refused_at_lines_of_the_bundle(rt: HostRuntime) -> Result<(), Fai
         ("/dts-v1/;\n/ {\na;\na;\n};\n", 6, Reason::TwiceDefined),
         ("/dts-v1/;\n/ {\na = <&b>; };\n", 5, Reason::NoSuchLabel),
         ("/dts-v1/;\n/ {\n", 4, Reason::Syntax),
+    ];
+    check_sources(&rt, &table)
+}
+
+#[test]
+fn nodes_of_sources_are_refused_at_lines_of_the_bundle(rt: HostRuntime) -> Result<(), Fail> {
+    let table = [
         (
             "/dts-v1/;\n/ {\nc { #clock-cells = <0>; };\n};\n",
             5,
@@ -286,11 +305,8 @@ g { compatible = \"bank,gate-clock\"; #clock-cells = <0>; clocks = <&c>; bank,re
             Reason::FieldOutOfBank,
         ),
         ("/dts-v1/;\n/ { };\n", 6, Reason::NotYet),
-    ] {
-        let text = sourced(&rt, source)?;
-        check_refusal(&rt, text.as_bytes(), line, reason);
-    }
-    Ok(())
+    ];
+    check_sources(&rt, &table)
 }
 
 #[test]

@@ -3,7 +3,6 @@
 ghost use Rattle.std.specs.Prelude.{◌≡◌, ℕ, suc, ◌+◌, ◌*◌, ◌<◌, ◌≤◌, ◌^◌, min, length, slice_index, All, IsTrue, IfOk};
 ghost use Rattle.std.specs.List.{sum_by};
 ghost use Rattle.clk_base.specs.Description.{Description, EachClock, FindsFirst};
-ghost use Rattle.clk_base.specs.Flags.{has_flag};
 ghost use Rattle.clk_base.specs.Levels.{depth as most_levels};
 ghost use Rattle.clk_base.specs.Tables.{TellsWork, too_much};
 ghost use Rattle.clk_base.specs.Valid.{has_its_parents, has_ranges, keeps_counts, keeps_ranges, keeps_work};

@@ -176,11 +176,38 @@ fn line(alloc: Global, factors: u32, turned: bool) -> Result<Desc, AddFault> {
     Ok(desc)
 }
 
+// Two dividers that make too much work where one stands over the other and both pass requests on.
+fn wide_dividers() -> (Kind, Kind) {
+    (divider(2, 0, 16), divider(2, 16, 16))
+}
+
+// What is said of three clocks behind too much work, the first two over a fixed clock and the last
+// over itself.
+fn fault_behind_work(
+    rt: &impl Abort,
+    alloc: Global,
+    third: Kind,
+    fourth: Kind,
+    last: Kind,
+) -> Result<Option<DescFault>, AddFault> {
+    let (lower, upper) = wide_dividers();
+    let desc = described(
+        alloc,
+        &[
+            (fixed(), ALONE, &[]),
+            (lower, PASSES_ON, &[0]),
+            (upper, PASSES_ON, &[1]),
+            (third, ALONE, &[0]),
+            (fourth, ALONE, &[0]),
+            (last, ALONE, &[5]),
+        ],
+    )?;
+    Ok(fault_of(rt, alloc, desc, 3))
+}
+
 #[test]
 fn the_first_rule_that_is_broken_is_named(rt: HostRuntime) -> Result<(), Fail> {
     let alloc = rt.alloc();
-    let wide = divider(2, 0, 16);
-    let wider = divider(2, 16, 16);
     let nothing = Kind::Factor { mult: 0, div: 1 };
     let one = Kind::Factor { mult: 1, div: 1 };
     let rows = [
@@ -205,23 +232,19 @@ fn the_first_rule_that_is_broken_is_named(rt: HostRuntime) -> Result<(), Fail> {
         (gate(0, 2), one, gate(0, 1), DescFault::Cycle(ClockId(5))),
     ];
     for (third, fourth, last, fault) in rows {
-        let desc = described(
-            alloc,
-            &[
-                (fixed(), ALONE, &[]),
-                (wide, PASSES_ON, &[0]),
-                (wider, PASSES_ON, &[1]),
-                (third, ALONE, &[0]),
-                (fourth, ALONE, &[0]),
-                (last, ALONE, &[5]),
-            ],
-        )?;
-        assert_eq!(rt; fault_of(&rt, alloc, desc, 3), Some(fault));
+        let found = fault_behind_work(&rt, alloc, third, fourth, last)?;
+        assert_eq!(rt; found, Some(fault));
     }
-    // a line of 65 clocks at its end comes before the work at its front, and after a cycle behind it
+    Ok(())
+}
+
+#[test]
+fn a_long_line_comes_before_work_and_after_a_cycle(rt: HostRuntime) -> Result<(), Fail> {
+    let alloc = rt.alloc();
+    let (lower, upper) = wide_dividers();
     let mut desc = line(alloc, 64, false)?;
-    add(alloc, &mut desc, wide, PASSES_ON, clocks(alloc, &[0])?)?;
-    add(alloc, &mut desc, wider, PASSES_ON, clocks(alloc, &[65])?)?;
+    add(alloc, &mut desc, lower, PASSES_ON, clocks(alloc, &[0])?)?;
+    add(alloc, &mut desc, upper, PASSES_ON, clocks(alloc, &[65])?)?;
     let long = desc.copy(alloc)?;
     assert_eq!(rt;
         fault_of(&rt, alloc, long, 3),

@@ -87,7 +87,7 @@ fn all_flags_in_any_order(rt: HostRuntime) -> Result<(), Fail> {
 }
 
 #[test]
-fn flags_of_one_kind(rt: HostRuntime) -> Result<(), Fail> {
+fn flags_of_gates_and_muxes(rt: HostRuntime) -> Result<(), Fail> {
     let gate = Kind::Gate {
         word: 3,
         bit: 7,
@@ -113,6 +113,11 @@ fn flags_of_one_kind(rt: HostRuntime) -> Result<(), Fail> {
         ClkFlags::NO_REPARENT,
         &[0],
     )?;
+    Ok(())
+}
+
+#[test]
+fn flags_of_dividers(rt: HostRuntime) -> Result<(), Fail> {
     for (words, one_based, power_of_two) in [
         ("one-based", true, false),
         ("power-of-two", false, true),

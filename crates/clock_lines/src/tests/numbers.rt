@@ -29,7 +29,7 @@ fn a_count_of_parents_lies_from_1_to_64(rt: HostRuntime) -> Result<(), Fail> {
 }
 
 #[test]
-fn numbers_at_their_limits(rt: HostRuntime) -> Result<(), Fail> {
+fn rates_at_their_limits(rt: HostRuntime) -> Result<(), Fail> {
     let most = Kind::FixedRate { rate: u64::MAX };
     check_clock(
         &rt,
@@ -47,6 +47,11 @@ fn numbers_at_their_limits(rt: HostRuntime) -> Result<(), Fail> {
     )?;
     let zero = Kind::FixedRate { rate: 0 };
     check_clock(&rt, "fixed c 000", zero, ClkFlags::empty(), &[])?;
+    Ok(())
+}
+
+#[test]
+fn factors_and_places_of_bits_at_their_limits(rt: HostRuntime) -> Result<(), Fail> {
     let factor = Kind::Factor {
         mult: 1,
         div: u32::MAX,

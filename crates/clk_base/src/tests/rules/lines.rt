@@ -32,7 +32,12 @@ fn no_clock_is_its_own_possible_ancestor(rt: HostRuntime) -> Result<(), Fail> {
         fault_of(&rt, alloc, behind, 1),
         Some(DescFault::Cycle(ClockId(1)))
     );
-    // a later parent is no cycle
+    Ok(())
+}
+
+#[test]
+fn a_later_parent_is_no_cycle(rt: HostRuntime) -> Result<(), Fail> {
+    let alloc = rt.alloc();
     let later = described(
         alloc,
         &[

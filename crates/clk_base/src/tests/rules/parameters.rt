@@ -21,9 +21,26 @@ fn at_most_4096_clocks_and_64_parents(rt: HostRuntime) -> Result<(), Fail> {
     Ok(())
 }
 
+// Checks each kind over so many parents, and whether its parameters lie in their ranges.
+fn check_ranges(
+    rt: &impl Abort,
+    alloc: Global,
+    rows: &[(Kind, usize, bool)],
+) -> Result<(), AddFault> {
+    for (kind, parents, right) in rows {
+        let fault = if *right {
+            None
+        } else {
+            Some(DescFault::BadRange(ClockId(1)))
+        };
+        let found = fault_over_fixed(rt, alloc, *kind, *parents)?;
+        assert_eq!(rt; found, fault, "{kind:?}");
+    }
+    Ok(())
+}
+
 #[test]
-fn parameters_lie_in_their_ranges(rt: HostRuntime) -> Result<(), Fail> {
-    let alloc = rt.alloc();
+fn factors_and_muxes_lie_in_their_ranges(rt: HostRuntime) -> Result<(), Fail> {
     let rows = [
         (Kind::Factor { mult: 1, div: 1 }, 1, true),
         (Kind::Factor { mult: 0, div: 1 }, 1, false),
@@ -33,6 +50,14 @@ fn parameters_lie_in_their_ranges(rt: HostRuntime) -> Result<(), Fail> {
         (mux(0, 0, 1), 3, false),
         (mux(0, 0, 5), 33, false),
         (mux(0, 0, 7), 2, false),
+    ];
+    check_ranges(&rt, rt.alloc(), &rows)?;
+    Ok(())
+}
+
+#[test]
+fn dividers_lie_in_their_ranges(rt: HostRuntime) -> Result<(), Fail> {
+    let rows = [
         (divider(0, 0, 0), 1, false),
         (divider(0, 0, 16), 1, true),
         (divider(0, 0, 17), 1, false),
@@ -42,6 +67,14 @@ fn parameters_lie_in_their_ranges(rt: HostRuntime) -> Result<(), Fail> {
         (power_of_two(false, 5), 1, true),
         (power_of_two(false, 6), 1, false),
         (power_of_two(true, 4), 1, false),
+    ];
+    check_ranges(&rt, rt.alloc(), &rows)?;
+    Ok(())
+}
+
+#[test]
+fn plls_lie_in_their_ranges(rt: HostRuntime) -> Result<(), Fail> {
+    let rows = [
         (pll(0, 1, 1, 1), 1, false),
         (pll(16, 1, 65535, 1), 1, true),
         (pll(16, 1, 65536, 1), 1, false),
@@ -52,17 +85,6 @@ fn parameters_lie_in_their_ranges(rt: HostRuntime) -> Result<(), Fail> {
         (pll(9, 3, 2, 1), 1, false),
         (pll(9, 1, 1, 0), 1, false),
     ];
-    for (kind, parents, right) in rows {
-        let fault = if right {
-            None
-        } else {
-            Some(DescFault::BadRange(ClockId(1)))
-        };
-        assert_eq!(rt;
-            fault_over_fixed(&rt, alloc, kind, parents)?,
-            fault,
-            "{kind:?}"
-        );
-    }
+    check_ranges(&rt, rt.alloc(), &rows)?;
     Ok(())
 }

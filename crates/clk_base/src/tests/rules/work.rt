@@ -2,12 +2,11 @@
 
 use super::*;
 
-#[test]
-fn work_is_at_most_1048576(rt: HostRuntime) -> Result<(), Fail> {
-    let alloc = rt.alloc();
+// Clocks with as much work as there may be: 1 + 31, then 1 + 31 * (1 + 32) = 1024, then
+// 1 + 1023 * (1 + 1024) = 1048576.
+fn most_work(alloc: Global) -> Result<Desc, AddFault> {
     let mut desc = Desc::new(alloc);
     add(alloc, &mut desc, fixed(), ALONE, Vec::new(alloc))?;
-    // 1 + 31, then 1 + 31 * (1 + 32) = 1024, then 1 + 1023 * (1 + 1024) = 1048576
     add(
         alloc,
         &mut desc,
@@ -29,9 +28,15 @@ fn work_is_at_most_1048576(rt: HostRuntime) -> Result<(), Fail> {
         PASSES_ON,
         clocks(alloc, &[2])?,
     )?;
-    let most = desc.copy(alloc)?;
+    Ok(desc)
+}
+
+#[test]
+fn work_is_at_most_1048576(rt: HostRuntime) -> Result<(), Fail> {
+    let alloc = rt.alloc();
+    let most = most_work(alloc)?;
+    let mut more = most.copy(alloc)?;
     assert_eq!(rt; fault_of(&rt, alloc, most, 2), None);
-    let mut more = desc.copy(alloc)?;
     add(
         alloc,
         &mut more,
@@ -41,7 +46,13 @@ fn work_is_at_most_1048576(rt: HostRuntime) -> Result<(), Fail> {
     )?;
     let much = Some(DescFault::TooMuchWork(ClockId(4)));
     assert_eq!(rt; fault_of(&rt, alloc, more, 2), much);
-    // a clock that doesn't pass requests on has work of its own alone
+    Ok(())
+}
+
+#[test]
+fn a_clock_that_passes_nothing_on_has_work_of_its_own_alone(rt: HostRuntime) -> Result<(), Fail> {
+    let alloc = rt.alloc();
+    let mut desc = most_work(alloc)?;
     add(alloc, &mut desc, gate(1, 0), ALONE, clocks(alloc, &[3])?)?;
     add(
         alloc,

@@ -19,6 +19,11 @@ fn a_provider_is_of_a_known_kind(rt: HostRuntime) -> Result<(), Fail> {
             ]
         )?
     );
+    Ok(())
+}
+
+#[test]
+fn a_provider_has_the_cells_of_its_kind(rt: HostRuntime) -> Result<(), Fail> {
     assert!(rt;
         nodes_are_refused(
             &rt,
@@ -47,7 +52,7 @@ fn a_provider_is_of_a_known_kind(rt: HostRuntime) -> Result<(), Fail> {
 }
 
 #[test]
-fn a_provider_has_its_properties(rt: HostRuntime) -> Result<(), Fail> {
+fn fixed_clocks_and_factors_have_their_properties(rt: HostRuntime) -> Result<(), Fail> {
     assert!(rt;
         nodes_are_refused(
             &rt,
@@ -69,6 +74,19 @@ fn a_provider_has_its_properties(rt: HostRuntime) -> Result<(), Fail> {
                     "n { compatible = \"fixed-factor-clock\"; #clock-cells = <0>; clocks = <1>; clock-mult = <1>; };",
                     5
                 ),
+            ]
+        )?
+    );
+    Ok(())
+}
+
+#[test]
+fn a_gate_has_its_properties(rt: HostRuntime) -> Result<(), Fail> {
+    assert!(rt;
+        nodes_are_refused(
+            &rt,
+            "MissingProperty",
+            &[
                 (
                     "n { compatible = \"bank,gate-clock\"; #clock-cells = <0>; clocks = <1>; bank,reg = <0>; };",
                     5
@@ -93,6 +111,19 @@ fn a_provider_has_its_properties(rt: HostRuntime) -> Result<(), Fail> {
                     "n { compatible = \"bank,gate-clock\"; #clock-cells = <0>; clocks = <1>; bank,reg = <0>; bank,bit = <1>; clock-output-names = \"a\\b\"; };",
                     5
                 ),
+            ]
+        )?
+    );
+    Ok(())
+}
+
+#[test]
+fn gate_arrays_muxes_and_plls_have_their_properties(rt: HostRuntime) -> Result<(), Fail> {
+    assert!(rt;
+        nodes_are_refused(
+            &rt,
+            "MissingProperty",
+            &[
                 (
                     "n { compatible = \"bank,gates-clock\"; #clock-cells = <1>; clocks = <1>; bank,reg = <0>; };",
                     5
@@ -143,7 +174,7 @@ fn other_nodes_have_properties_of_the_stated_form(rt: HostRuntime) -> Result<(),
 }
 
 #[test]
-fn clocks_of_nodes_have_names_of_their_own(rt: HostRuntime) -> Result<(), Fail> {
+fn clocks_of_nodes_have_names(rt: HostRuntime) -> Result<(), Fail> {
     assert!(rt;
         nodes_are_refused(
             &rt,
@@ -164,6 +195,11 @@ fn clocks_of_nodes_have_names_of_their_own(rt: HostRuntime) -> Result<(), Fail> 
             ]
         )?
     );
+    Ok(())
+}
+
+#[test]
+fn clocks_of_nodes_have_names_of_their_own(rt: HostRuntime) -> Result<(), Fail> {
     assert!(rt;
         nodes_are_refused(
             &rt,

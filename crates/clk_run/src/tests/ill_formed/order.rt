@@ -86,7 +86,7 @@ fn clocks_that_are_not_run_yet_are_refused_last(rt: HostRuntime) -> Result<(), F
 }
 
 #[test]
-fn lines_outside_of_the_clocks_keep_the_small_form(rt: HostRuntime) -> Result<(), Fail> {
+fn headers_and_words_keep_the_small_form(rt: HostRuntime) -> Result<(), Fail> {
     assert!(rt;
         are_refused(
             &rt,
@@ -103,6 +103,19 @@ fn lines_outside_of_the_clocks_keep_the_small_form(rt: HostRuntime) -> Result<()
                 ("%bundle 1\n%clocks\nfixed f 5\n%regs 1\n1 0\n", 5),
                 ("%bundle 1\n%clocks\nfixed f 5\n%regs 1\n0 1\n\n0 2\n", 6),
                 ("%bundle 1\n%clocks\nfixed f 5\n%regs 1\n# words\n", 5),
+            ]
+        )?
+    );
+    Ok(())
+}
+
+#[test]
+fn sections_behind_the_bank_keep_the_small_form(rt: HostRuntime) -> Result<(), Fail> {
+    assert!(rt;
+        are_refused(
+            &rt,
+            "NotYet",
+            &[
                 ("%bundle 1\n%clocks\nfixed f 5\n%regs 1\n%lock\n", 5),
                 ("%bundle 1\n%clocks\nfixed f 5\n%regs 1\n%late\n", 5),
                 ("%bundle 1\n%clocks\nfixed f 5\n%regs 1\n%order\n", 5),
