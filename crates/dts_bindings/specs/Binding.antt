@@ -25,6 +25,7 @@ pub record SeenBinding : Type 0 where
   pub clocks : List SeenClock
   pub flags : ClkFlags
 
+-- what a binding that a program has read shows
 abbrev pub seen_binding : Binding → SeenBinding
 seen_binding b = record { cells = b.cells; wants = b.wants; inputs = b.inputs.items; clocks = map seen_clock b.clocks.items; flags = b.flags }
 

@@ -19,6 +19,7 @@ pub record SeenClock : Type 0 where
   pub identifier : ℕ
   pub kind : Kind
 
+-- what a clock that a program has read shows
 abbrev pub seen_clock : BoundClock → SeenClock
 seen_clock c = record { name = string_bytes c.name; identifier = c.identifier; kind = c.kind }
 

@@ -12,16 +12,19 @@ use Rattle.dts_bindings.specs.Kinds.{number, mark, fixed_kind, flag, flags_in}
 use Rattle.dts_bindings.specs.Clocks.{names_in, own_name, one_clock, as_many, identifiers, gates, clocks_in}
 use Rattle.dts_bindings.specs.Binding.{inputs_in, row_flags, filled, binding_as, binding_of}
 
--- a property of these values, of one number cell, and of one string
+-- a property of these values
 abbrev pub property : List ℕ → List SeenValue → SeenProperty
 property name values = record { name = name; line = 2; values = values }
 
+-- a property of one number cell
 abbrev pub cell : List ℕ → ℕ → SeenProperty
 cell name n = property name (SeenCells (cells.Number n ∷ []) ∷ [])
 
+-- a property of one string
 abbrev pub text : List ℕ → List ℕ → SeenProperty
 text name characters = property name (SeenText characters ∷ [])
 
+-- a node of these properties
 abbrev pub node : List ℕ → List SeenProperty → SeenNode
 node name properties = record { name = name; line = 1; parent = Some 0; properties = properties }
 
@@ -55,16 +58,19 @@ bank-bound : binding_of bank ≡ Ok (record {
 unfolding binding_of binding_as row_of row_named states_cells clock_cells_of one_number all_numbers numbers_in cells_in values_of property_named filled is_sound has_good_phandle has_good_assigned inputs_in clocks_in gates number names_in has_backslash identifiers as_many row_flags flags_in flag mark
 bank-bound = refl
 
--- the faults in their order: no string of the table, other cells than the table's, and a property that is missing
+-- a node without a string of the table
 abbrev pub unknown : SeenNode
 unknown = node (codes "a") (text (codes "compatible") (codes "fixed-rate") ∷ [])
 
+-- a fixed clock by its second string, which states other cells than the table's
 abbrev pub of_one_cell : SeenNode
 of_one_cell = node (codes "b") (property (codes "compatible") (SeenText (codes "vendor,osc") ∷ SeenText (codes "fixed-clock") ∷ []) ∷ cell (codes "#clock-cells") 1 ∷ [])
 
+-- a fixed clock without a rate
 abbrev pub without_rate : SeenNode
 without_rate = node (codes "c") (text (codes "compatible") (codes "fixed-clock") ∷ cell (codes "#clock-cells") 0 ∷ [])
 
+-- the faults in their order: no string of the table, other cells than the table's, and a property that is missing
 faults-bound : (binding_of unknown ≡ Err faults.UnknownCompatible) × (binding_of of_one_cell ≡ Err faults.NoCells) × (binding_of without_rate ≡ Err faults.MissingProperty)
 unfolding binding_of binding_as row_of row_named states_cells clock_cells_of one_number all_numbers numbers_in cells_in values_of property_named filled is_sound has_good_phandle has_good_assigned inputs_in clocks_in one_clock fixed_kind number has_backslash
 faults-bound = (refl, refl, refl)

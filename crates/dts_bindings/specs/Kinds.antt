@@ -8,16 +8,17 @@ use Rattle.clk_base.specs.declared.flags.ClkFlags.{ClkFlags}
 use Rattle.dts_tree.specs.Tree.{SeenNode}
 use Rattle.dts_bindings.specs.Properties.{property_named, values_of, one_number, two_numbers}
 
--- what follows from a value, where there is one
 infixl 10 ◌>>=◌
+-- what follows from a value, where there is one
 abbrev pub ◌>>=◌ : {X Y : Type 0} → Option X → (X → Option Y) → Option Y
 None >>= f = None
 Some x >>= f = f x
 
--- a property that is one number cell, and one that is two
+-- a property that is one number cell
 unfoldable pub number : List ℕ → SeenNode → Option ℕ
 number name node = one_number (values_of name node)
 
+-- a property that is two number cells
 unfoldable pub pair : List ℕ → SeenNode → Option (ℕ × ℕ)
 pair name node = two_numbers (values_of name node)
 

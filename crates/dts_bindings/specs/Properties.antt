@@ -7,11 +7,12 @@ use Rattle.dts_tree.specs.declared.tree.Cell.{Cell}
 use Rattle.dts_tree.specs.declared.tree.Cell.TheVariants as cells
 use Rattle.dts_tree.specs.Tree.{SeenValue, SeenText, SeenCells, SeenProperty, SeenNode}
 
--- a value is cells, and which
+-- a value is cells
 abbrev pub is_cells : SeenValue → Bool
 is_cells (SeenCells cells) = true
 is_cells other = false
 
+-- the cells of a value
 abbrev pub cells_of : SeenValue → List Cell
 cells_of (SeenCells cells) = cells
 cells_of other = []
@@ -20,11 +21,12 @@ cells_of other = []
 unfoldable pub cells_in : List SeenValue → Option (List Cell)
 cells_in values = if list_all is_cells values then Some (flat_map cells_of values) else None
 
--- a value is a string, and its characters
+-- a value is a string
 abbrev pub is_text : SeenValue → Bool
 is_text (SeenText text) = true
 is_text other = false
 
+-- the characters of a string
 abbrev pub text_of : SeenValue → Option (List ℕ)
 text_of (SeenText text) = Some text
 text_of other = None
@@ -33,11 +35,12 @@ text_of other = None
 unfoldable pub texts_in : List SeenValue → Option (List (List ℕ))
 texts_in values = if list_all is_text values then Some (filter_map text_of values) else None
 
--- a cell is a number, and which
+-- a cell is a number
 abbrev pub is_number : Cell → Bool
 is_number (cells.Number n) = true
 is_number (cells.Node node) = false
 
+-- the number that a cell is
 abbrev pub number_of : Cell → Option ℕ
 number_of (cells.Number n) = Some n
 number_of (cells.Node node) = None
@@ -50,11 +53,12 @@ numbers_in found = if list_all is_number found then Some (filter_map number_of f
 unfoldable pub all_numbers : List SeenValue → Option (List ℕ)
 all_numbers values = option_and_then numbers_in (cells_in values)
 
--- one number alone, and two
+-- one number alone
 abbrev pub only : List ℕ → Option ℕ
 only (n ∷ []) = Some n
 only others = None
 
+-- two numbers alone
 abbrev pub only_two : List ℕ → Option (ℕ × ℕ)
 only_two (n ∷ m ∷ []) = Some (n, m)
 only_two others = None

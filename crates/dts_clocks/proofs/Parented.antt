@@ -26,19 +26,18 @@ use Rattle.dts_clocks.specs.declared.reference.Reference.TheVariants.{Null, Whol
 use Rattle.dts_clocks.specs.declared.reference.Specifier.{Specifier}
 use Rattle.dts_clocks.specs.Above.{is_passed}
 use Rattle.dts_clocks.specs.Assigned.{Lists, lists_of}
-use Rattle.dts_clocks.specs.Clocks.{Held, held_by, binding_at, clocks_at, clocks_of, clock_id, clock_of, names_clock, specifier, ends_with, begins, step, named_from, clocks_named}
+use Rattle.dts_clocks.specs.Clocks.{Held, held_by, binding_at, clocks_at, clocks_of, clock_id, clock_of, names_clock, specifier, identified, with_clock, clocks_named}
 use Rattle.dts_clocks.specs.Consumers.{SeenConsumer, consumer_of}
 use Rattle.dts_clocks.specs.FirstPass.{names_before}
 use Rattle.dts_clocks.specs.Joined.{joined}
 use Rattle.dts_clocks.specs.Loaded.{SeenLoaded, def_with, defs_with, defs_at, loaded_before}
 use Rattle.dts_clocks.specs.References.{reference}
 use Rattle.dts_clocks.specs.SecondPass.{Links, all_there, fitting, parents_of, parents_at, links_of, links_at, links_fault, second_fault}
-use Rattle.dts_clocks.specs.Steps.{is_bad, begun_after, clocks_of_step}
 use Rattle.dts_clocks.specs.Verdict.{Accepts}
 use Rattle.dts_clocks.proofs.Gathering.{defs_here}
 use Rattle.dts_clocks.proofs.Linking.{parents_bound}
 use Rattle.dts_clocks.proofs.Looks.{binding_at-passed, names_held}
-use Rattle.dts_clocks.proofs.Naming.{named_cons, named_wrong}
+use Rattle.dts_clocks.proofs.Naming.{named_null, named_whole, named_begun, named_unfinished, named_lacking}
 
 -- two tests that pass
 both_pass : (a b : Bool) → a ≡ true → b ≡ true → (a && b) ≡ true
@@ -81,39 +80,45 @@ clock_of-below : (nodes : List SeenNode) (s : Specifier) (c : ClockId) → clock
 unfolding clock_of
 clock_of-below nodes s c e = id_below (length (clocks_of nodes)) (position (names_clock s) (clocks_of nodes)) c (λ k found. (position-Some (names_clock s) (clocks_of nodes) k no_clock found).0) e
 
-ends_below : (n : ℕ) (o : Option ClockId) → ((c : ClockId) → o ≡ Some c → nat_lt c.0 n ≡ true) → list_all (is_below n) (clocks_of_step (ends_with o)) ≡ true
-ends_below n None below = refl
-ends_below n (Some c) below = both_pass (nat_lt c.0 n) true (below c refl) refl
+-- where cells name clocks, these are below
+abbrev pub Below : ℕ → Option (List (Option ClockId)) → Type 0
+Below n named = (clocks : List (Option ClockId)) → named ≡ Some clocks → list_all (is_below n) clocks ≡ true
 
-begins_below : (nodes : List SeenNode) (r : Reference) → list_all (is_below (length (clocks_of nodes))) (clocks_of_step (begins nodes r)) ≡ true
-begins_below nodes Null = refl
-begins_below nodes (Whole p) = ends_below (length (clocks_of nodes)) (clock_of nodes (specifier p None)) (clock_of-below nodes (specifier p None))
-begins_below nodes (Begun p) = refl
-begins_below nodes Lacking = refl
+none_below : (n : ℕ) (named : Option (List (Option ClockId))) → named ≡ None → Below n named
+none_below n named none clocks e = absurd (none-some clocks (sym none ∙ e))
 
-step_below : (nodes : List SeenNode) (begun : Option ℕ) (cell : Cell) → list_all (is_below (length (clocks_of nodes))) (clocks_of_step (step nodes begun cell)) ≡ true
-unfolding step
-step_below nodes None cell = begins_below nodes (reference nodes cell)
-step_below nodes (Some p) (cells.Number i) = ends_below (length (clocks_of nodes)) (clock_of nodes (specifier p (Some i))) (clock_of-below nodes (specifier p (Some i)))
-step_below nodes (Some p) (cells.Node n) = refl
+onto_below : (n : ℕ) (here : Option ClockId) (o : Option (List (Option ClockId))) → is_below n here ≡ true → Below n o → Below n (option_map (λ more. here ∷ more) o)
+onto_below n here None low rest clocks e = absurd (none-some clocks e)
+onto_below n here (Some more) low rest clocks e = subst (λ cs. list_all (is_below n) cs ≡ true) (same_Some (here ∷ more) clocks e) (both_pass (is_below n here) (list_all (is_below n) more) low (rest more refl))
 
--- so are all clocks that cells name
-more_below : (n : ℕ) (here clocks : List (Option ClockId)) (o : Option (List (Option ClockId))) → list_all (is_below n) here ≡ true → ((more : List (Option ClockId)) → o ≡ Some more → list_all (is_below n) more ≡ true)
-    → option_map (λ more. here ++ more) o ≡ Some clocks → list_all (is_below n) clocks ≡ true
-more_below n here clocks None a rest e = absurd (none-some clocks e)
-more_below n here clocks (Some more) a rest e = subst (λ cs. list_all (is_below n) cs ≡ true) (same_Some (here ++ more) clocks e) (all_append (is_below n) here more a (rest more refl))
+clock_below : (n : ℕ) (o : Option ClockId) (rest : Option (List (Option ClockId))) → ((c : ClockId) → o ≡ Some c → nat_lt c.0 n ≡ true) → Below n rest → Below n (with_clock o rest)
+clock_below n None rest low below = none_below n None refl
+clock_below n (Some c) rest low below = onto_below n (Some c) rest (low c refl) below
 
-named_below : (nodes : List SeenNode) (begun : Option ℕ) (cells : List Cell) (clocks : List (Option ClockId)) → named_from nodes begun cells ≡ Some clocks → list_all (is_below (length (clocks_of nodes))) clocks ≡ true
-unfolding named_from
-named_below nodes None [] clocks e = subst (λ cs. list_all (is_below (length (clocks_of nodes))) cs ≡ true) (same_Some [] clocks e) refl
-named_below nodes (Some p) [] clocks e = absurd (none-some clocks e)
-named_below nodes begun (cell ∷ rest) clocks e =
-    elim (cases_Bool (is_bad (step nodes begun cell))) [
-      | inl bad ↦ absurd (none-some clocks (sym (named_wrong nodes begun cell rest bad) ∙ e))
-      | inr fine ↦
-          more_below (length (clocks_of nodes)) (clocks_of_step (step nodes begun cell)) clocks (named_from nodes (begun_after (step nodes begun cell)) rest) (step_below nodes begun cell)
-          (λ more found. named_below nodes (begun_after (step nodes begun cell)) rest more found) (sym (named_cons nodes begun cell rest (step nodes begun cell) refl fine) ∙ e)
-    ]
+identified_below : (nodes : List SeenNode) (p : ℕ) (cell : Cell) (c : ClockId) → identified nodes p cell ≡ Some c → nat_lt c.0 (length (clocks_of nodes)) ≡ true
+identified_below nodes p (cells.Number i) c e = clock_of-below nodes (specifier p (Some i)) c e
+identified_below nodes p (cells.Node n) c e = absurd (none-some c e)
+
+-- the clock of the first specifier is below, and so are those that the cells behind it name
+first_below : (nodes : List SeenNode) (cell : Cell) (rest : List Cell) (r : Reference) → reference nodes cell ≡ r → Below (length (clocks_of nodes)) (clocks_named nodes rest) → ((p : ℕ) → r ≡ Begun p → Below (length (clocks_of nodes)) (clocks_named nodes (cell ∷ rest))) → Below (length (clocks_of nodes)) (clocks_named nodes (cell ∷ rest))
+first_below nodes cell rest Null e below begun = subst (Below (length (clocks_of nodes))) (sym (named_null nodes cell rest e)) (onto_below (length (clocks_of nodes)) None (clocks_named nodes rest) refl below)
+first_below nodes cell rest (Whole p) e below begun =
+    subst (Below (length (clocks_of nodes))) (sym (named_whole nodes cell rest p e)) (clock_below (length (clocks_of nodes)) (clock_of nodes (specifier p None)) (clocks_named nodes rest) (clock_of-below nodes (specifier p None)) below)
+first_below nodes cell rest (Begun p) e below begun = begun p refl
+first_below nodes cell rest Lacking e below begun = none_below (length (clocks_of nodes)) (clocks_named nodes (cell ∷ rest)) (named_lacking nodes cell rest e)
+
+begun_below : (nodes : List SeenNode) (cell next : Cell) (rest : List Cell) (p : ℕ) → reference nodes cell ≡ Begun p → Below (length (clocks_of nodes)) (clocks_named nodes rest) → Below (length (clocks_of nodes)) (clocks_named nodes (cell ∷ next ∷ rest))
+begun_below nodes cell next rest p e below =
+    subst (Below (length (clocks_of nodes))) (sym (named_begun nodes cell next rest p e)) (clock_below (length (clocks_of nodes)) (identified nodes p next) (clocks_named nodes rest) (identified_below nodes p next) below)
+
+nothing_below : (nodes : List SeenNode) → Below (length (clocks_of nodes)) (clocks_named nodes [])
+unfolding clocks_named
+nothing_below nodes clocks e = subst (λ cs. list_all (is_below (length (clocks_of nodes))) cs ≡ true) (same_Some [] clocks e) refl
+
+named_below : (nodes : List SeenNode) (cells : List Cell) → Below (length (clocks_of nodes)) (clocks_named nodes cells)
+named_below nodes [] = nothing_below nodes
+named_below nodes (cell ∷ []) = first_below nodes cell [] (reference nodes cell) refl (nothing_below nodes) (λ p e. none_below (length (clocks_of nodes)) (clocks_named nodes (cell ∷ [])) (named_unfinished nodes cell p e))
+named_below nodes (cell ∷ next ∷ rest) = first_below nodes cell (next ∷ rest) (reference nodes cell) refl (named_below nodes (next ∷ rest)) (λ p e. begun_below nodes cell next rest p e (named_below nodes rest))
 
 -- the clocks that are there are below, where all are
 there_ahead : (n : ℕ) (c : ClockId) (parents : List ClockId) (o : Option (List ClockId)) → nat_lt c.0 n ≡ true → ((rest : List ClockId) → o ≡ Some rest → list_all (λ p. nat_lt p n) (places rest) ≡ true) → option_map (λ rest. c ∷ rest) o ≡ Some parents
@@ -154,7 +159,7 @@ fit_named n clocks parents (Some named) below e = fit_found n clocks named paren
 
 parents_of-fit : (nodes : List SeenNode) (b : SeenBinding) (parents : List ClockId) → parents_of nodes b ≡ Some parents → Fit (length (clocks_of nodes)) b.clocks parents
 unfolding parents_of
-parents_of-fit nodes b parents e = fit_named (length (clocks_of nodes)) b.clocks parents (clocks_named nodes b.inputs) (named_below nodes None b.inputs) e
+parents_of-fit nodes b parents e = fit_named (length (clocks_of nodes)) b.clocks parents (clocks_named nodes b.inputs) (named_below nodes b.inputs) e
 
 -- a binding without a fault has links
 linked_parents : (parents : Option (List ClockId)) (consumer : Option (Option SeenConsumer)) (lists : Option Lists) (l : Links)

@@ -26,6 +26,7 @@ pub record SeenAssigned : Type 0 where
 abbrev pub seen_lists : read.Lists → Lists
 seen_lists l = record { clocks = l.clocks.items; parents = l.parents.items; rates = l.rates.items }
 
+-- the assigned clocks of a node that a program has read
 abbrev pub seen_assigned : Assigned → SeenAssigned
 seen_assigned a = record { line = a.line; steps = a.steps.items }
 

@@ -10,11 +10,8 @@ use Rattle.dts_tree.specs.Tree.{SeenNode}
 use Rattle.dts_bindings.specs.Properties.{is_provider}
 use Rattle.dts_bindings.specs.Binding.{SeenBinding, binding_of}
 use Rattle.dts_bindings.specs.Clocks.{SeenClock}
-use Rattle.dts_clocks.specs.declared.reference.Reference.{Reference}
 use Rattle.dts_clocks.specs.declared.reference.Reference.TheVariants.{Null, Whole, Begun, Lacking}
 use Rattle.dts_clocks.specs.declared.reference.Specifier.{Specifier}
-use Rattle.dts_clocks.specs.declared.reference.Step.{Step}
-use Rattle.dts_clocks.specs.declared.reference.Step.TheVariants.{Bad, Begins, Names}
 use Rattle.dts_clocks.specs.Above.{is_passed}
 use Rattle.dts_clocks.specs.Joined.{joined}
 use Rattle.dts_clocks.specs.References.{reference}
@@ -32,6 +29,7 @@ pub record Held : Type 0 where
   pub node : ℕ
   pub clock : SeenClock
 
+-- a clock of the provider at this place
 abbrev pub held_by : ℕ → SeenClock → Held
 held_by k clock = record { node = k; clock = clock }
 
@@ -59,40 +57,35 @@ clock_of nodes s = option_map clock_id (position (names_clock s) (clocks_of node
 abbrev pub specifier : ℕ → Option ℕ → Specifier
 specifier p identifier = record { node = p; identifier = identifier }
 
--- a specifier ends, and names this clock, if any
-abbrev pub ends_with : Option ClockId → Step
-ends_with None = Bad
-ends_with (Some clock) = Names (Some clock)
+-- the clock of a provider that the cell behind the reference to it identifies; none where that cell is a reference
+abbrev pub identified : List SeenNode → ℕ → Cell → Option ClockId
+identified nodes p (cells.Number i) = clock_of nodes (specifier p (Some i))
+identified nodes p (cells.Node n) = None
 
--- what a cell does where a specifier begins
-abbrev pub begins : List SeenNode → Reference → Step
-begins nodes Null = Names None
-begins nodes (Whole p) = ends_with (clock_of nodes (specifier p None))
-begins nodes (Begun p) = Begins p
-begins nodes Lacking = Bad
+-- a null, as None, in front of the clocks that the cells behind it name
+abbrev pub with_null : Option (List (Option ClockId)) → Option (List (Option ClockId))
+with_null behind = option_map (λ clocks. None ∷ clocks) behind
 
--- what a cell does: behind the reference to a provider it is the identifier of one of its clocks, else it begins a specifier
-unfoldable pub step : List SeenNode → Option ℕ → Cell → Step
-step nodes None cell = begins nodes (reference nodes cell)
-step nodes (Some p) (cells.Number i) = ends_with (clock_of nodes (specifier p (Some i)))
-step nodes (Some p) (cells.Node n) = Bad
+-- the clock that a specifier names in front of those that the cells behind it name; None where it names no clock
+abbrev pub with_clock : Option ClockId → Option (List (Option ClockId)) → Option (List (Option ClockId))
+with_clock None behind = None
+with_clock (Some clock) behind = option_map (λ clocks. Some clock ∷ clocks) behind
 
--- one more in front
-abbrev pub onto : Option ClockId → Option (List (Option ClockId)) → Option (List (Option ClockId))
-onto clock rest = option_map (λ clocks. clock ∷ clocks) rest
-
--- the clocks that cells name one after another, a null as None; `begun` is the provider whose
--- identifier comes next. None where a specifier can't be read, or names no clock
-unfoldable pub named_from : List SeenNode → Option ℕ → List Cell → Option (List (Option ClockId))
-named_from nodes None [] = Some []
-named_from nodes (Some p) [] = None
-named_from nodes begun (cell ∷ rest) =
-    elim (step nodes begun cell) [
-      | Bad ↦ None
-      | Begins p ↦ named_from nodes (Some p) rest
-      | Names clock ↦ onto clock (named_from nodes None rest)
+-- the clocks that cells name, one specifier behind another: a null, a provider alone, or a provider and the identifier of its clock;
+-- None where a specifier can't be read, or names no clock
+unfoldable pub clocks_named : List SeenNode → List Cell → Option (List (Option ClockId))
+clocks_named nodes [] = Some []
+clocks_named nodes (cell ∷ []) =
+    elim (reference nodes cell) [
+      | Null ↦ with_null (Some [])
+      | Whole p ↦ with_clock (clock_of nodes (specifier p None)) (Some [])
+      | Begun p ↦ None
+      | Lacking ↦ None
     ]
-
--- the clocks that cells name
-abbrev pub clocks_named : List SeenNode → List Cell → Option (List (Option ClockId))
-clocks_named nodes cells = named_from nodes None cells
+clocks_named nodes (cell ∷ next ∷ rest) =
+    elim (reference nodes cell) [
+      | Null ↦ with_null (clocks_named nodes (next ∷ rest))
+      | Whole p ↦ with_clock (clock_of nodes (specifier p None)) (clocks_named nodes (next ∷ rest))
+      | Begun p ↦ with_clock (identified nodes p next) (clocks_named nodes rest)
+      | Lacking ↦ None
+    ]

@@ -21,9 +21,11 @@ pub record SeenConsumer : Type 0 where
   pub path : List ℕ
   pub names : List SeenName
 
+-- the name that a program has read
 abbrev pub seen_name : ConsumerName → SeenName
 seen_name n = record { name = string_bytes n.name; clock = n.clock }
 
+-- the consumer that a program has read
 abbrev pub seen_consumer : Consumer → SeenConsumer
 seen_consumer c = record { path = string_bytes c.path; names = map seen_name c.names.items }
 

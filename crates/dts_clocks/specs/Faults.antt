@@ -24,5 +24,6 @@ pub record IsFirstOf (test : ℕ → Option DtsFault) (n : ℕ) (fault : DtsFaul
   pub place : ℕ
   pub first : First test n place fault
 
+-- the fault is want of memory, or the first that a test of the places below n finds
 abbrev pub Finds : (ℕ → Option DtsFault) → ℕ → DtsFault → Type 0
 Finds test n fault = UnlessMemory fault (IsFirstOf test n fault)

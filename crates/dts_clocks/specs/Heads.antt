@@ -11,9 +11,11 @@ use Rattle.dts_clocks.specs.Clocks.{Held}
 abbrev pub same_specifier : Specifier → Specifier → Bool
 same_specifier a b = (a.node == b.node) && option_eq nat_eq a.identifier b.identifier
 
+-- the head of a clock of this node's binding
 abbrev pub head_by : ℕ → BoundClock → Head
 head_by node c = record { node = node; identifier = c.identifier }
 
+-- the head of a clock that a provider has
 abbrev pub head_of : Held → Head
 head_of c = record { node = c.node; identifier = c.clock.identifier }
 

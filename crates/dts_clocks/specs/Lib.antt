@@ -2,7 +2,6 @@ pub mod Joined
 pub mod Above
 pub mod References
 pub mod Clocks
-pub mod Steps
 pub mod Heads
 pub mod Faults
 pub mod FirstPass

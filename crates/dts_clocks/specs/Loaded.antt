@@ -23,6 +23,7 @@ pub record SeenLoaded : Type 0 where
   pub consumers : List SeenConsumer
   pub assigned : List SeenAssigned
 
+-- what a program has read of a tree
 abbrev pub seen_loaded : Loaded → SeenLoaded
 seen_loaded l = record { defs = l.desc; lines = l.lines.items; consumers = map seen_consumer l.consumers.items; assigned = map seen_assigned l.assigned.items }
 

@@ -1,8 +1,8 @@
 //! The nodes above a node.
 
-ghost use Rattle.std.specs.Prelude.{◌≡◌, ◌<◌, ◌++◌, ◌∷◌, ℕ, map, length, IfOk, slice_get, string_bytes};
+ghost use Rattle.std.specs.Prelude.{◌≡◌, ◌<◌, ◌++◌, ◌∷◌, map, length, IfOk, string_bytes};
 ghost use Rattle.dts_tree.specs.Tree.{seen_node};
-ghost use Rattle.dts_clocks.specs.Above.{parent_of, is_off, is_passed, path_of};
+ghost use Rattle.dts_clocks.specs.Above.{parent_of, is_passed, path_of};
 ghost use Rattle.dts_clocks.specs.Joined.{listed};
 
 use clk_io::NoMemory;

@@ -1,9 +1,9 @@
 //! The assigned clocks of a node.
 
-ghost use Rattle.std.specs.Prelude.{◌≡◌, ◌<◌, ◌++◌, ℕ, List, [], Some, None, map, length, codes, IfOk, OnOk, slice_get};
+ghost use Rattle.std.specs.Prelude.{◌≡◌, ◌<◌, ◌++◌, Some, None, map, length, IfOk, OnOk, slice_get};
 ghost use Rattle.std.specs.Option.{option_map};
 ghost use Rattle.dts_tree.specs.Tree.{seen_node};
-ghost use Rattle.dts_clocks.specs.Assigned.{seen_lists, seen_assigned, rates_of, lists_of, entries, lacks_clocks, is_too_long, clock_at, parent_step, rate_step, steps_of, assigned_of};
+ghost use Rattle.dts_clocks.specs.Assigned.{seen_lists, seen_assigned, rates_of, lists_of, lacks_clocks, is_too_long, clock_at, parent_step, rate_step, steps_of, assigned_of};
 ghost use Rattle.dts_clocks.specs.Joined.{joined};
 
 use crate::consumers::clocks_in;

@@ -1,10 +1,10 @@
 //! The consumers.
 
-ghost use Rattle.std.specs.Prelude.{◌≡◌, ◌<◌, ℕ, List, Some, None, map, length, codes, IfOk, string_bytes, nat_le};
+ghost use Rattle.std.specs.Prelude.{◌≡◌, ◌<◌, Some, None, map, length, IfOk, string_bytes};
 ghost use Rattle.std.specs.Option.{option_map};
 ghost use Rattle.dts_tree.specs.Tree.{seen_node};
 ghost use Rattle.dts_clocks.specs.Above.{path_of};
-ghost use Rattle.dts_clocks.specs.Consumers.{seen_name, seen_consumer, clocks_in, name_at, named, named_by, names_of, consumer_of};
+ghost use Rattle.dts_clocks.specs.Consumers.{seen_name, seen_consumer, clocks_in, name_at, named, names_of, consumer_of};
 
 use crate::above::path_of;
 use crate::loaded::{Consumer, ConsumerName};

@@ -1,6 +1,6 @@
 //! From the nodes and what they say to what is loaded.
 
-ghost use Rattle.std.specs.Prelude.{◌≡◌, ◌<◌, ◌≤◌, ◌+◌, ◌++◌, ◌∷◌, ℕ, List, [], Some, None, map, length, false, string_bytes, IfOk, IfErr, OnOk};
+ghost use Rattle.std.specs.Prelude.{◌≡◌, ◌<◌, ◌≤◌, ◌+◌, ◌++◌, ◌∷◌, [], Some, None, map, length, false, string_bytes, IfOk, IfErr, OnOk};
 ghost use Rattle.std.specs.Option.{option_map, option_map_or, option_to_list};
 ghost use Rattle.bundle_text.specs.Firsts.{KeepsBelow};
 ghost use Rattle.clk_base.specs.Description.{has_name};
@@ -9,7 +9,6 @@ ghost use Rattle.dts_bindings.specs.Binding.{seen_binding};
 ghost use Rattle.dts_bindings.specs.Clocks.{seen_clock};
 ghost use Rattle.dts_clocks.specs.Assigned.{seen_lists, seen_assigned, assigned_of, entries};
 ghost use Rattle.dts_clocks.specs.Clocks.{binding_at};
-ghost use Rattle.dts_clocks.specs.Consumers.{seen_consumer};
 ghost use Rattle.dts_clocks.specs.Faults.{Tells, Finds};
 ghost use Rattle.dts_clocks.specs.FirstPass.{names_in, has_twin, first_fault};
 ghost use Rattle.dts_clocks.specs.Joined.{listed, total};

@@ -1,9 +1,9 @@
 //! Which clock a specifier names.
 
-ghost use Rattle.std.specs.Prelude.{◌≡◌, ◌<◌, ◌++◌, ◌∷◌, [], List, ℕ, Some, None, map, length, IfOk, OnOk, if◌then◌else◌};
+ghost use Rattle.std.specs.Prelude.{◌≡◌, ◌<◌, ◌++◌, Some, None, map, length, IfOk, OnOk, if◌then◌else◌};
 ghost use Rattle.std.specs.HashMap.{get};
 ghost use Rattle.std.specs.List.{position};
-ghost use Rattle.std.specs.Option.{option_or, option_map, option_map_or};
+ghost use Rattle.std.specs.Option.{option_or, option_map};
 ghost use Rattle.clk_base.specs.declared.clock.ClockId.{ClockId};
 ghost use Rattle.dts_tree.specs.Tree.{seen_node};
 ghost use Rattle.dts_bindings.specs.Binding.{seen_binding};

@@ -22,13 +22,9 @@ pub(crate) struct Specifier {
     pub(crate) identifier: Option<u32>,
 }
 
-/// What a cell does among specifiers.
+/// The clock that a specifier names, none where it is a null, and the place behind its cells.
 #[derive(Clone, Copy, Debug, PartialEq, Eq)]
-pub(crate) enum Step {
-    /// No specifier can be read, or it names no clock.
-    Bad,
-    /// The identifier of this provider's clock comes next.
-    Begins(usize),
-    /// A specifier ends. A null names no clock.
-    Names(Option<ClockId>),
+pub(crate) struct Front {
+    pub(crate) clock: Option<ClockId>,
+    pub(crate) behind: usize,
 }

@@ -1,6 +1,6 @@
 //! The second look at the nodes: the clocks that their specifiers name.
 
-ghost use Rattle.std.specs.Prelude.{◌≡◌, ◌<◌, ◌≤◌, ◌+◌, ◌++◌, ℕ, List, [], Some, None, map, length, IfOk, IfErr, OnOk, nat_lt, ◌||◌};
+ghost use Rattle.std.specs.Prelude.{◌≡◌, ◌<◌, ◌≤◌, ◌+◌, [], Some, None, map, length, IfOk, IfErr, OnOk, nat_lt, ◌||◌};
 ghost use Rattle.std.specs.List.{list_all};
 ghost use Rattle.std.specs.Option.{option_map, option_map_or};
 ghost use Rattle.clk_base.specs.Valid.{can_have_parents};
@@ -9,8 +9,8 @@ ghost use Rattle.dts_bindings.specs.Binding.{seen_binding};
 ghost use Rattle.dts_clocks.specs.Assigned.{seen_lists, entries, is_too_long, lacks_clocks};
 ghost use Rattle.dts_clocks.specs.Clocks.{binding_at};
 ghost use Rattle.dts_clocks.specs.Faults.{Tells};
-ghost use Rattle.dts_clocks.specs.Joined.{listed, total};
-ghost use Rattle.dts_clocks.specs.SecondPass.{all_there, parents_of, seen_links, links_of, links_at, entries_at, is_bad_assigned, links_fault, second_fault, most_entries};
+ghost use Rattle.dts_clocks.specs.Joined.{total};
+ghost use Rattle.dts_clocks.specs.SecondPass.{all_there, parents_of, seen_links, links_of, links_at, entries_at, second_fault, most_entries};
 
 use crate::assigned::{Lists, is_too_long, lacks_clocks, lists_of};
 use crate::consumers::consumer_of;

@@ -1,19 +1,18 @@
 //! The clocks that cells name.
 
-ghost use Rattle.std.specs.Prelude.{◌≡◌, ◌<◌, ◌++◌, ◌∷◌, [], List, ℕ, Some, None, map, length, IfOk, OnOk};
+ghost use Rattle.std.specs.Prelude.{◌≡◌, ◌<◌, ◌∷◌, Some, map, length, drop, slice_get, IfOk, IfSome};
 ghost use Rattle.std.specs.HashMap.{get};
-ghost use Rattle.std.specs.Option.{option_map};
+ghost use Rattle.std.specs.Option.{option_map, option_and_then};
 ghost use Rattle.dts_tree.specs.Tree.{seen_node};
 ghost use Rattle.dts_bindings.specs.Binding.{seen_binding};
 ghost use Rattle.dts_clocks.specs.declared.reference.Specifier.{Specifier};
-ghost use Rattle.dts_clocks.specs.Clocks.{binding_at, clock_of, ends_with, step, clocks_named};
+ghost use Rattle.dts_clocks.specs.Clocks.{binding_at, clock_of, identified, clocks_named};
 ghost use Rattle.dts_clocks.specs.Heads.{same_specifier};
 ghost use Rattle.dts_clocks.specs.Joined.{listed};
-ghost use Rattle.dts_clocks.specs.Steps.{is_bad, begun_after, clocks_of_step};
 
 use crate::chart::Chart;
 use crate::numbers::specifier_numbers;
-use crate::reference::{Reference, Specifier, Step};
+use crate::reference::{Front, Reference, Specifier};
 use clk_base::ClockId;
 use clk_io::NoMemory;
 use dts_bindings::Binding;
@@ -29,39 +28,16 @@ pub(crate) struct Named<'a> {
     ghost numbers_are: { (s : Specifier) → get same_specifier numbers s ≡ clock_of (map seen_node chart.nodes.now) s },
 }
 
-// The provider whose identifier comes next. Puts the clock of a specifier that ends behind the others.
-fn take(found: &mut Vec<Option<ClockId>>, step: Step) -> Result<Option<usize>, NoMemory>
-    ensures begun { IfOk result (λ begun. begun ≡ begun_after step) }
-    ensures found { OnOk result (found.new.items ≡ found.old.items ++ clocks_of_step step) }
-{
-    match step {
-        Step::Bad => Ok(None),
-        Step::Begins(provider) => Ok(Some(provider)),
-        Step::Names(clock) => {
-            found.push(clock)?;
-            Ok(None)
-        }
-    }
-}
-
-// Whether no specifier can be read, or it names no clock.
-fn is_bad(step: Step) -> bool
-    ensures { result ≡ is_bad step }
-{
-    match step {
-        Step::Bad => true,
-        Step::Begins(_) => false,
-        Step::Names(_) => false,
-    }
-}
-
-// A specifier ends, and names this clock, if any.
-fn ends_with(clock: Option<ClockId>) -> Step
-    ensures { result ≡ ends_with clock }
+// A specifier whose cells end before a place, where it names a clock.
+fn naming(clock: Option<ClockId>, behind: usize) -> Option<Front>
+    ensures { result ≡ option_map (λ c. record { clock = Some c; behind = behind }) clock }
 {
     match clock {
-        Some(clock) => Step::Names(Some(clock)),
-        None => Step::Bad,
+        Some(clock) => Some(Front {
+            clock: Some(clock),
+            behind,
+        }),
+        None => None,
     }
 }
 
@@ -86,34 +62,42 @@ impl<'a> Named<'a> {
         self.numbers.get(&specifier).copied()
     }
 
-    // What a cell does where a specifier begins.
-    #[tactic(auto, unfolding(crate::specs::Clocks::step))]
-    fn begin(&self, cell: Cell) -> Step
-        ensures { result ≡ step (map seen_node self.now.chart.nodes.now) None cell }
+    // The clock of a provider that the cell of a place identifies.
+    fn identified(&self, node: usize, cells: &[Cell], at: usize) -> Option<ClockId>
+        ensures { result ≡ option_and_then (identified (map seen_node self.now.chart.nodes.now) node) (slice_get cells.now at) }
     {
-        match self.chart.reference(cell) {
-            Reference::Null => Step::Names(None),
-            Reference::Whole(node) => ends_with(self.clock(Specifier {
+        match cells.get(at) {
+            Some(Cell::Number(identifier)) => self.clock(Specifier {
                 node,
-                identifier: None,
-            })),
-            Reference::Begun(node) => Step::Begins(node),
-            Reference::Lacking => Step::Bad,
+                identifier: Some(*identifier),
+            }),
+            Some(Cell::Node(_)) => None,
+            None => None,
         }
     }
 
-    // What a cell does.
-    #[tactic(auto, unfolding(crate::specs::Clocks::step))]
-    fn step(&self, begun: Option<usize>, cell: Cell) -> Step
-        ensures { result ≡ step (map seen_node self.now.chart.nodes.now) begun cell }
+    // The specifier that begins at a place. None where it can't be read, or names no clock.
+    fn front(&self, cells: &[Cell], at: usize) -> Option<Front>
+        requires { at < length cells.now }
+        ensures named { option_and_then (λ front. option_map (λ more. front.clock ∷ more) (clocks_named (map seen_node self.now.chart.nodes.now) (drop front.behind cells.now))) result
+            ≡ clocks_named (map seen_node self.now.chart.nodes.now) (drop at cells.now) }
+        ensures further { IfSome result (λ front. at < front.behind) }
     {
-        match (begun, cell) {
-            (None, cell) => self.begin(cell),
-            (Some(_), Cell::Node(_)) => Step::Bad,
-            (Some(node), Cell::Number(identifier)) => ends_with(self.clock(Specifier {
-                node,
-                identifier: Some(identifier),
-            })),
+        let next = at + 1;
+        match self.chart.reference(cells[at]) {
+            Reference::Null => Some(Front {
+                clock: None,
+                behind: next,
+            }),
+            Reference::Whole(node) => naming(
+                self.clock(Specifier {
+                    node,
+                    identifier: None,
+                }),
+                next,
+            ),
+            Reference::Begun(node) => naming(self.identified(node, cells, next), next + 1),
+            Reference::Lacking => None,
         }
     }
 
@@ -127,17 +111,14 @@ impl<'a> Named<'a> {
         ensures { IfOk result (λ clocks. option_map (λ v. v.items) clocks ≡ clocks_named (map seen_node self.now.chart.nodes.now) cells.now) }
     {
         let mut found = Vec::new(alloc);
-        let mut begun = None;
-        for cell in cells {
-            let step = self.step(begun, *cell);
-            if is_bad(step) {
+        let mut at = 0;
+        while at < cells.len() {
+            let Some(front) = self.front(cells, at) else {
                 return Ok(None);
-            }
-            begun = take(&mut found, step)?;
+            };
+            found.push(front.clock)?;
+            at = front.behind;
         }
-        match begun {
-            Some(_) => Ok(None),
-            None => Ok(Some(found)),
-        }
+        Ok(Some(found))
     }
 }

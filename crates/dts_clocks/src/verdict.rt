@@ -1,6 +1,6 @@
 //! Laws of what a tree says.
 
-ghost use Rattle.std.specs.Prelude.{◌≡◌, ◌⊎◌, ℕ, List};
+ghost use Rattle.std.specs.Prelude.{◌≡◌, ◌⊎◌, List};
 ghost use Rattle.clk_base.specs.Description.{EachClock};
 ghost use Rattle.clk_base.specs.Valid.{has_its_parents};
 ghost use Rattle.dts_tree.specs.Tree.{SeenNode};

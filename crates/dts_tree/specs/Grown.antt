@@ -32,14 +32,16 @@ pub record Tables : Type 0 where
   pub marked : List Name
 
 infixl 10 ◌>>=◌
+-- what is found goes on; what is refused stays refused
 abbrev pub ◌>>=◌ : {X Y : Type 0} → Result X TreeFault → (X → Result Y TreeFault) → Result Y TreeFault
 Ok x >>= f = f x
 Err e >>= f = Err e
 
--- the label of a token `name:`, and of a token `&name`
+-- the label of a token `name:`
 abbrev pub label_of : Token → Token
 label_of token = record { from = token.from; to = token.to - 1; line = token.line }
 
+-- the label of a token `&name`
 abbrev pub target_of : Token → Token
 target_of token = record { from = token.from + 1; to = token.to; line = token.line }
 
@@ -87,6 +89,7 @@ abbrev pub only_number : List Item → Option Numeral
 only_number (items.Number n ∷ []) = Some n
 only_number others = None
 
+-- the value is cells
 abbrev pub is_cells : ValueRow → Bool
 is_cells (values.Cells part) = true
 is_cells others = false
@@ -112,15 +115,18 @@ add_property here p t = record t {
 unfoldable pub end_property : List ℕ → ℕ → Begun → Tables → Result Tables TreeFault
 end_property text here p t = add_phandle (phandle_of text p t) t >>= λ u. Ok (add_property here p u)
 
--- one value more, one item more, one reference more
+-- one value more
 abbrev pub add_value : ValueRow → Tables → Tables
 add_value value t = record t { values = t.values ++ value ∷ [] }
 
+-- one item more
 abbrev pub add_item : Item → Tables → Tables
 add_item item t = record t { items = t.items ++ item ∷ [] }
 
+-- these items more
 abbrev pub add_items : List Item → Tables → Tables
 add_items more t = record t { items = t.items ++ more }
 
+-- one reference more, by its label
 abbrev pub add_reference : Token → Tables → Tables
 add_reference token t = record t { references = t.references ++ target_of token ∷ [] }

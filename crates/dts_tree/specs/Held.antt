@@ -21,19 +21,22 @@ IsSpelled text token = IsUtf8 (text_of text token)
 abbrev pub IsQuoted : List ℕ → Token → Type 0
 IsQuoted text token = IsUtf8 (slice_range text (token.from + 1) (token.to - 1))
 
--- rows whose words are of whole characters, and whose nodes have such numbers
+-- a node's name is of whole characters, and its parent's number fits
 abbrev pub HoldsNode : List ℕ → NodeRow → Type 0
 HoldsNode text row = IsSpelled text row.name × IfSome row.parent IsNumber
 
+-- a property's name is of whole characters
 abbrev pub HoldsProperty : List ℕ → PropertyRow → Type 0
 HoldsProperty text row = IsSpelled text row.name
 
+-- a string is of whole characters
 abbrev pub HoldsValue : List ℕ → ValueRow → Type 0
 HoldsValue text (values.Text token) = IsQuoted text token
 HoldsValue text (values.Cells part) = Unit {0}
 HoldsValue text (values.Bytes part) = Unit {0}
 HoldsValue text (values.Node place) = Unit {0}
 
+-- the number of a label's node fits
 abbrev pub HoldsLabel : LabelRow → Type 0
 HoldsLabel row = IsNumber row.node
 

@@ -43,6 +43,7 @@ abbrev pub is_end : Phase → Bool
 is_end phases.Done = true
 is_end phase = false
 
+-- a source that is whole when its tokens end, or the refusal at the last of them
 abbrev pub ended : List Token → State → Result State TreeFault
 ended tokens s = if is_end s.phase then Ok s else Err (faults.Syntax (last_line 1 tokens))
 

@@ -23,17 +23,20 @@ use Rattle.dts_tree.specs.State.{State}
 abbrev pub wrong : {X : Type 0} → Token → Result X TreeFault
 wrong token = Err (faults.Syntax token.line)
 
--- another phase, and other tables
+-- another phase
 abbrev pub in_phase : Phase → State → State
 in_phase phase s = record s { phase = phase }
 
+-- another phase, and other tables
 abbrev pub with_tables : Phase → State → Tables → State
 with_tables phase s t = record s { phase = phase; tables = t }
 
+-- `/dts-v1/` comes first
 abbrev pub at_start : State → Token → Mark → Result State TreeFault
 at_start s token marks.Version = Ok (in_phase phases.Versioned s)
 at_start s token mark = wrong token
 
+-- `;` comes behind `/dts-v1/`
 abbrev pub at_versioned : State → Token → Mark → Result State TreeFault
 at_versioned s token marks.Semicolon = Ok (in_phase phases.Top s)
 at_versioned s token mark = wrong token
@@ -48,10 +51,12 @@ at_top s token mark = wrong token
 abbrev pub at_reserve : List ℕ → Phase → State → Token → Result State TreeFault
 at_reserve text next s token = option_map_or (λ n. Ok (in_phase next s)) (number_up_to 18446744073709551615 (text_of text token)) (wrong token)
 
+-- `;` comes behind the two numbers of a `/memreserve/`
 abbrev pub at_reserved : State → Token → Mark → Result State TreeFault
 at_reserved s token marks.Semicolon = Ok (in_phase phases.Top s)
 at_reserved s token mark = wrong token
 
+-- `{` comes behind the root's `/`
 abbrev pub at_rooted : Token → State → Token → Mark → Result State TreeFault
 at_rooted root s token marks.OpenBrace = Ok (with_tables phases.Ready s (add_root root s.tables))
 at_rooted root s token mark = wrong token
@@ -64,6 +69,7 @@ label text s token = add_label text token s.tables >>= λ t. Ok (with_tables pha
 unfoldable pub name : List ℕ → State → Token → Result State TreeFault
 name text s token = if is_node_name (text_of text token) then Ok (in_phase (phases.Named token) s) else wrong token
 
+-- in an open node comes a label, a name, or its `}`
 abbrev pub at_ready : List ℕ → State → Token → Mark → Result State TreeFault
 at_ready text s token marks.Label = label text s token
 at_ready text s token marks.Word = name text s token
@@ -71,6 +77,7 @@ at_ready text s token marks.Comma = name text s token
 at_ready text s token marks.CloseBrace = Ok (in_phase phases.Closed s)
 at_ready text s token mark = wrong token
 
+-- behind a label comes another label or a name
 abbrev pub at_labelled : List ℕ → State → Token → Mark → Result State TreeFault
 at_labelled text s token marks.Label = label text s token
 at_labelled text s token marks.Word = name text s token
@@ -97,6 +104,7 @@ bare text w s token = open_property text w s token >>= λ t. finish text (begun 
 unfoldable pub begin : List ℕ → Token → State → Token → Result State TreeFault
 begin text w s token = open_property text w s token >>= λ t. Ok (with_tables (phases.Wanting (begun w t)) s t)
 
+-- behind a name comes the `{` of a node, the `;` of a property without a value, or the `=` of one with values
 abbrev pub at_named : List ℕ → Token → State → Token → Mark → Result State TreeFault
 at_named text w s token marks.OpenBrace = enter text w s
 at_named text w s token marks.Semicolon = bare text w s token
@@ -115,6 +123,7 @@ at_wanting p s token mark = wrong token
 unfoldable pub cell : List ℕ → State → Token → Result State TreeFault
 cell text s token = option_map_or (λ n. Ok (record s { tables = add_item (items.Number (record { value = n; word = token })) s.tables })) (number_up_to 4294967295 (text_of text token)) (wrong token)
 
+-- between `<` and `>` come numbers and references
 abbrev pub at_cells : List ℕ → Begun → ℕ → State → Token → Mark → Result State TreeFault
 at_cells text p from s token marks.Word = cell text s token
 at_cells text p from s token marks.Reference = Ok (record s { tables = add_reference token (add_item (items.Reference (length s.tables.references)) s.tables) })
@@ -130,14 +139,17 @@ abbrev pub bytes_of : List ℕ → List Item
 bytes_of (high ∷ low ∷ rest) = items.Byte (16 * hex_value high + hex_value low) ∷ bytes_of rest
 bytes_of others = []
 
+-- a word of bytes
 unfoldable pub bytes : List ℕ → State → Token → Result State TreeFault
 bytes text s token = if are_bytes (text_of text token) then Ok (record s { tables = add_items (bytes_of (text_of text token)) s.tables }) else wrong token
 
+-- between `[` and `]` come words of bytes
 abbrev pub at_bytes : List ℕ → Begun → ℕ → State → Token → Mark → Result State TreeFault
 at_bytes text p from s token marks.Word = bytes text s token
 at_bytes text p from s token marks.CloseBracket = Ok (with_tables (phases.Valued p) s (add_value (values.Bytes (record { from = from; to = length s.tables.items })) s.tables))
 at_bytes text p from s token mark = wrong token
 
+-- behind a value comes a comma and another, or the `;` of the property
 abbrev pub at_valued : List ℕ → Begun → State → Token → Mark → Result State TreeFault
 at_valued text p s token marks.Comma = Ok (in_phase (phases.Wanting p) s)
 at_valued text p s token marks.Semicolon = finish text p s
@@ -148,6 +160,7 @@ unfoldable pub leave : List ℕ → State → State
 leave [] s = in_phase phases.Done s
 leave (parent ∷ above) s = record s { phase = phases.Ready; here = parent; above = above }
 
+-- `;` comes behind the `}` of a node
 abbrev pub at_closed : State → Token → Mark → Result State TreeFault
 at_closed s token marks.Semicolon = Ok (leave s.above s)
 at_closed s token mark = wrong token

@@ -11,6 +11,7 @@ pub record Name : Type 0 where
   pub scope : ℕ
   pub text : List ℕ
 
+-- the name of this text in this scope
 abbrev pub name_in : ℕ → List ℕ → Name
 name_in scope text = record { scope = scope; text = text }
 

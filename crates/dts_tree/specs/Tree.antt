@@ -25,30 +25,35 @@ pub data SeenValue : Type 0 where
   SeenBytes : List ℕ → SeenValue
   SeenTarget : ℕ → SeenValue
 
+-- a property: its name, the line of its name, and its values in order
 pub record SeenProperty : Type 0 where
   pub name : List ℕ
   pub line : ℕ
   pub values : List SeenValue
 
+-- a node: its name, the line of its name, the place of the node that it stands in, and its properties in order
 pub record SeenNode : Type 0 where
   pub name : List ℕ
   pub line : ℕ
   pub parent : Option ℕ
   pub properties : List SeenProperty
 
--- what a tree shows
+-- what a value of a tree shows
 abbrev pub seen_value : DtsValue → SeenValue
 seen_value (shown.Text text) = SeenText (string_bytes text)
 seen_value (shown.Cells cells) = SeenCells cells.items
 seen_value (shown.Bytes bytes) = SeenBytes bytes.items
 seen_value (shown.Node node) = SeenTarget node
 
+-- what a property of a tree shows
 abbrev pub seen_property : DtsProperty → SeenProperty
 seen_property p = record { name = string_bytes p.name; line = p.line; values = map seen_value p.values.items }
 
+-- what a node of a tree shows
 abbrev pub seen_node : DtsNode → SeenNode
 seen_node n = record { name = string_bytes n.name; line = n.line; parent = n.parent; properties = map seen_property n.properties.items }
 
+-- what a tree shows: its nodes in order
 abbrev pub seen : DtsTree → List SeenNode
 seen tree = map seen_node tree.nodes.items
 
@@ -58,6 +63,7 @@ cell_in targets (items.Number n) = Some (cells.Number n.value)
 cell_in targets (items.Reference k) = option_map cells.Node (slice_get targets k)
 cell_in targets (items.Byte b) = None
 
+-- the byte of an item, if it is one
 abbrev pub byte_in : Item → Option ℕ
 byte_in (items.Byte b) = Some b
 byte_in other = None
