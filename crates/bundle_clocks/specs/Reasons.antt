@@ -18,9 +18,11 @@ pub record Told : Type 0 where
   pub line : ℕ
   pub reason : ClocksReason
 
+-- this reason at this line
 abbrev pub told : ℕ → ClocksReason → Option Told
 told line reason = Some (record { line = line; reason = reason })
 
+-- a reason of the clock lines, among those of a section of clocks
 abbrev pub line_reason : LineReason → ClocksReason
 line_reason lines.UnknownKind = reasons.UnknownKind
 line_reason lines.BadWords = reasons.BadWords
@@ -30,7 +32,7 @@ line_reason lines.BadNumber = reasons.BadNumber
 line_reason lines.BadFlag = reasons.BadFlag
 line_reason lines.UnknownName = reasons.UnknownName
 
--- what a fault tells; want of memory tells nothing
+-- what a fault of the tokens tells; want of memory tells nothing
 abbrev pub token_told : TokenFault → Option Told
 token_told (tokens.BadChar line) = told line reasons.BadChar
 token_told (tokens.OpenString line) = told line reasons.OpenString
@@ -38,6 +40,7 @@ token_told (tokens.OpenComment line) = told line reasons.OpenComment
 token_told (tokens.NumberTooBig line) = told line reasons.NumberTooBig
 token_told tokens.NoMemory = None
 
+-- what a fault of the tree tells; want of memory tells nothing
 abbrev pub tree_told : TreeFault → Option Told
 tree_told (trees.Syntax line) = told line reasons.Syntax
 tree_told (trees.TwiceDefined line) = told line reasons.TwiceDefined
@@ -45,6 +48,7 @@ tree_told (trees.NoSuchLabel line) = told line reasons.NoSuchLabel
 tree_told (trees.TooDeep line) = told line reasons.TooDeep
 tree_told trees.NoMemory = None
 
+-- what a fault of the nodes tells; want of memory tells nothing
 abbrev pub nodes_told : DtsFault → Option Told
 nodes_told (nodes.UnknownCompatible line) = told line reasons.UnknownCompatible
 nodes_told (nodes.NoCells line) = told line reasons.NoCells

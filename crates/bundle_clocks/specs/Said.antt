@@ -10,5 +10,6 @@ pub record SaidClocks : Type 0 where
   pub lines : List ℕ
   pub assigned : List ℕ
 
+-- what the part of a bundle that a program has read says of clocks
 abbrev pub said_clocks : ClocksPart → SaidClocks
 said_clocks part = record { defs = part.desc; lines = part.lines.items; assigned = part.assigned.items }

@@ -86,6 +86,7 @@ abbrev pub SaysIn : ClockText → List (List ℕ) → ClockSection → SaidClock
 SaysIn Lines ls s said = LinesSay ls s said
 SaysIn DeviceTree ls s said = TreeSays (s.place + 2) (source_of ls s) said
 
+-- the section says these clocks
 abbrev pub Says : List (List ℕ) → ClockSection → SaidClocks → Type 0
 Says ls s said = SaysIn s.text ls s said
 
@@ -94,6 +95,7 @@ abbrev pub RefusesIn : ClockText → List (List ℕ) → ClockSection → ℕ �
 RefusesIn Lines ls s line reason = LinesRefused ls s line reason
 RefusesIn DeviceTree ls s line reason = SourceRefused (s.place + 2) (source_of ls s) line reason
 
+-- the section is refused at this line for this reason
 abbrev pub Refuses : List (List ℕ) → ClockSection → ℕ → ClocksReason → Type 0
 Refuses ls s line reason = RefusesIn s.text ls s line reason
 

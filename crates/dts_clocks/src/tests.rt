@@ -111,7 +111,7 @@ fn a_description_that_is_read_can_be_checked(rt: HostRuntime) -> Result<(), Fail
 }
 
 #[test]
-fn a_provider_is_refused_at_its_line(rt: HostRuntime) -> Result<(), Fail> {
+fn a_provider_without_its_properties_is_refused_at_its_line(rt: HostRuntime) -> Result<(), Fail> {
     let alloc = rt.alloc();
     refused(
         &rt,
@@ -136,7 +136,14 @@ fn a_provider_is_refused_at_its_line(rt: HostRuntime) -> Result<(), Fail> {
         alloc,
         "\nx { compatible = \"bank,gate-clock\"; #clock-cells = <0>; clocks = <&o>, <&o>; bank,reg = <0>; bank,bit = <0>; };",
         DtsFault::MissingProperty(2),
-    )?;
+    )
+}
+
+#[test]
+fn a_provider_of_bad_specifiers_or_names_is_refused_at_its_line(
+    rt: HostRuntime,
+) -> Result<(), Fail> {
+    let alloc = rt.alloc();
     refused(
         &rt,
         alloc,

@@ -47,9 +47,14 @@ fn refused(rt: &impl Abort, alloc: Global, source: &str, wanted: TokenFault) {
 }
 
 #[test]
-fn words_strings_and_signs(rt: HostRuntime) -> Result<(), Fail> {
+fn nothing_and_blanks_have_no_words(rt: HostRuntime) -> Result<(), Fail> {
     reads(&rt, rt.alloc(), "", &[])?;
     reads(&rt, rt.alloc(), " \t\n", &[])?;
+    Ok(())
+}
+
+#[test]
+fn words_and_signs_have_their_lines(rt: HostRuntime) -> Result<(), Fail> {
     reads(
         &rt,
         rt.alloc(),
@@ -82,6 +87,11 @@ fn words_strings_and_signs(rt: HostRuntime) -> Result<(), Fail> {
             (";", 3),
         ],
     )?;
+    Ok(())
+}
+
+#[test]
+fn a_name_and_bytes_are_words(rt: HostRuntime) -> Result<(), Fail> {
     reads(&rt, rt.alloc(), "#a-b?c+d.e_f,g", &[("#a-b?c+d.e_f,g", 1)])?;
     reads(
         &rt,
@@ -164,7 +174,7 @@ fn comments_and_strings_may_be_long(rt: HostRuntime) -> Result<(), Fail> {
 }
 
 #[test]
-fn numbers_have_their_most_where_they_stand(rt: HostRuntime) -> Result<(), Fail> {
+fn numbers_up_to_their_most_are_words(rt: HostRuntime) -> Result<(), Fail> {
     reads(
         &rt,
         rt.alloc(),
@@ -189,7 +199,11 @@ fn numbers_have_their_most_where_they_stand(rt: HostRuntime) -> Result<(), Fail>
             (";", 1),
         ],
     )?;
-    // No numbers, and numbers where none has a most.
+    Ok(())
+}
+
+#[test]
+fn what_is_no_number_has_no_most(rt: HostRuntime) -> Result<(), Fail> {
     reads(
         &rt,
         rt.alloc(),
@@ -202,6 +216,11 @@ fn numbers_have_their_most_where_they_stand(rt: HostRuntime) -> Result<(), Fail>
             (">", 1),
         ],
     )?;
+    Ok(())
+}
+
+#[test]
+fn numbers_outside_cells_and_reserves_have_no_most(rt: HostRuntime) -> Result<(), Fail> {
     reads(
         &rt,
         rt.alloc(),
@@ -225,7 +244,7 @@ fn numbers_have_their_most_where_they_stand(rt: HostRuntime) -> Result<(), Fail>
 }
 
 #[test]
-fn faults_are_told_with_their_lines(rt: HostRuntime) {
+fn bad_characters_and_open_ends_are_told_with_their_lines(rt: HostRuntime) {
     for (source, wanted) in [
         ("!", TokenFault::BadChar(1)),
         ("a\n\tb = (1)", TokenFault::BadChar(2)),
@@ -240,6 +259,14 @@ fn faults_are_told_with_their_lines(rt: HostRuntime) {
         ("/*", TokenFault::OpenComment(1)),
         ("a\n/*/\n", TokenFault::OpenComment(2)),
         ("// /*\n\"/*\"\n/* \n*", TokenFault::OpenComment(3)),
+    ] {
+        refused(&rt, rt.alloc(), source, wanted);
+    }
+}
+
+#[test]
+fn numbers_that_are_too_big_are_told_with_their_lines(rt: HostRuntime) {
+    for (source, wanted) in [
         ("<4294967296>", TokenFault::NumberTooBig(1)),
         ("<1\n\t0x100000000>", TokenFault::NumberTooBig(2)),
         ("<\n\n040000000000>", TokenFault::NumberTooBig(3)),
@@ -260,7 +287,14 @@ fn faults_are_told_with_their_lines(rt: HostRuntime) {
             TokenFault::NumberTooBig(3),
         ),
         ("/memreserve/ <\n4294967296", TokenFault::NumberTooBig(2)),
-        // The earliest in the text.
+    ] {
+        refused(&rt, rt.alloc(), source, wanted);
+    }
+}
+
+#[test]
+fn the_earliest_fault_is_told(rt: HostRuntime) {
+    for (source, wanted) in [
         ("<4294967296\n!", TokenFault::NumberTooBig(1)),
         ("!\n\"", TokenFault::BadChar(1)),
         ("\"\n/*", TokenFault::OpenString(1)),

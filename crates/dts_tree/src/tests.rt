@@ -93,7 +93,7 @@ fn nodes_nest_64_deep(rt: HostRuntime) -> Result<(), Fail> {
 }
 
 #[test]
-fn refusals_have_their_lines(rt: HostRuntime) {
+fn what_is_no_syntax_is_refused_at_its_line(rt: HostRuntime) {
     for (source, wanted) in [
         ("", TreeFault::Syntax(1)),
         ("\n\n", TreeFault::Syntax(1)),
@@ -114,6 +114,15 @@ fn refusals_have_their_lines(rt: HostRuntime) {
         ("/dts-v1/;/{a@1 = <1>;};", TreeFault::Syntax(1)),
         ("/dts-v1/;/{1a: n {};};", TreeFault::Syntax(1)),
         ("/dts-v1/;/{p = \"a\" \"b\";};", TreeFault::Syntax(1)),
+        ("/dts-v1/;/{p = &a;\n", TreeFault::Syntax(1)),
+    ] {
+        refused(&rt, rt.alloc(), source, wanted);
+    }
+}
+
+#[test]
+fn what_stands_twice_or_nowhere_is_refused_at_its_line(rt: HostRuntime) {
+    for (source, wanted) in [
         ("/dts-v1/;/{n {\n};\nn\n{\n};};", TreeFault::TwiceDefined(3)),
         ("/dts-v1/;/{p;\np\n= <1>;};", TreeFault::TwiceDefined(2)),
         ("/dts-v1/;/{a: n {};\na: p;};", TreeFault::TwiceDefined(2)),
@@ -130,7 +139,6 @@ fn refusals_have_their_lines(rt: HostRuntime) {
             "/dts-v1/;/{a: n {};\nq = <&a\n&b>;};",
             TreeFault::NoSuchLabel(3),
         ),
-        ("/dts-v1/;/{p = &a;\n", TreeFault::Syntax(1)),
     ] {
         refused(&rt, rt.alloc(), source, wanted);
     }
@@ -163,9 +171,8 @@ fn outlines(rt: &impl Abort, alloc: Global, source: &str, wanted: &str) -> Resul
     Ok(())
 }
 
-#[test]
-fn a_board_has_its_tree(rt: HostRuntime) -> Result<(), Fail> {
-    let source = "/dts-v1/;
+/// The source of a board with a fixed clock, two gates and a serial port.
+const BOARD: &str = "/dts-v1/;
 
 / {
 \t#address-cells = <0x01>;
@@ -196,11 +203,9 @@ fn a_board_has_its_tree(rt: HostRuntime) -> Result<(), Fail> {
 \t};
 };
 ";
-    outlines(
-        &rt,
-        rt.alloc(),
-        source,
-        "3 '' in None
+
+/// Its nodes and their properties, each with its line.
+const OUTLINE: &str = "3 '' in None
   4 #address-cells [Cells([Number(1)])]
   5 model [Text(\"board\")]
 7 'osc24M' in Some(0)
@@ -221,8 +226,11 @@ fn a_board_has_its_tree(rt: HostRuntime) -> Result<(), Fail> {
   26 local-mac-address [Bytes([0, 17, 34])]
   27 clocks [Cells([Number(2), Number(5)])]
   28 clock-names [Text(\"baud\")]
-",
-    )
+";
+
+#[test]
+fn a_board_has_its_tree(rt: HostRuntime) -> Result<(), Fail> {
+    outlines(&rt, rt.alloc(), BOARD, OUTLINE)
 }
 
 #[test]

@@ -5,14 +5,25 @@ use crate::{
     cells, clock_cells, has_property, is_consumer, is_formed, is_okay, is_provider, numbers,
     one_number, phandle, property, texts, two_numbers, values,
 };
+use std::alloc::Global;
+use std::process::Abort;
 use std::test::Fail;
 
 #[test]
-fn faults_come_in_their_order(rt: HostRuntime) -> Result<(), Fail> {
+fn a_node_of_no_known_kind_comes_first(rt: HostRuntime) -> Result<(), Fail> {
     for (properties, wanted) in [
         ("", "UnknownCompatible"),
         ("compatible = <1>; #clock-cells = <5>;", "UnknownCompatible"),
         ("compatible = \"fixed-clock\\\\\";", "UnknownCompatible"),
+    ] {
+        says(&rt, rt.alloc(), properties, wanted)?;
+    }
+    Ok(())
+}
+
+#[test]
+fn wrong_cells_come_before_a_missing_property(rt: HostRuntime) -> Result<(), Fail> {
+    for (properties, wanted) in [
         ("compatible = \"fixed-clock\";", "NoCells"),
         ("compatible = \"fixed-clock\"; #clock-cells;", "NoCells"),
         (
@@ -35,6 +46,15 @@ fn faults_come_in_their_order(rt: HostRuntime) -> Result<(), Fail> {
             "compatible = \"bank,gates-clock\", \"fixed-clock\"; #clock-cells = <0>;",
             "NoCells",
         ),
+    ] {
+        says(&rt, rt.alloc(), properties, wanted)?;
+    }
+    Ok(())
+}
+
+#[test]
+fn a_missing_property_comes_last(rt: HostRuntime) -> Result<(), Fail> {
+    for (properties, wanted) in [
         (
             "compatible = \"fixed-clock\"; #clock-cells = <0>;",
             "MissingProperty",
@@ -53,57 +73,86 @@ fn faults_come_in_their_order(rt: HostRuntime) -> Result<(), Fail> {
     Ok(())
 }
 
-#[test]
-fn nodes_that_provide_nothing_are_judged(rt: HostRuntime) -> Result<(), Fail> {
-    for (properties, formed, okay, consumer) in [
-        ("", true, true, false),
-        ("status = \"okay\"; reg = \"\\\\\";", true, true, false),
-        ("status = \"ok\"; clock-names = <1>;", true, true, false),
-        (
-            "status = \"disabled\"; phandle = <1 2>;",
-            false,
-            false,
-            false,
-        ),
-        (
-            "status = \"okay\", \"okay\"; phandle = \"1\";",
-            false,
-            false,
-            false,
-        ),
-        ("status; phandle = <3>;", true, false, false),
-        (
-            "clocks = <1>, <&l 5>; clock-names = \"a\", \"a\";",
-            true,
-            true,
-            true,
-        ),
-        ("clocks; clock-names;", true, true, true),
-        ("clocks = <1>, \"2\";", false, true, true),
-        ("clocks = <1>; clock-names = \"a\", <1>;", false, true, true),
-        ("clocks = <1>; clock-names = \"a\\n\";", false, true, true),
-        ("clocks = \"1\"; #clock-cells;", true, true, false),
-        (
-            "assigned-clocks; assigned-clock-parents; assigned-clock-rates;",
-            true,
-            true,
-            false,
-        ),
-        ("assigned-clocks = [00];", false, true, false),
-        ("assigned-clock-parents = <1>, &l;", false, true, false),
-        ("assigned-clock-rates = <1>, <&l>;", false, true, false),
-        ("assigned-clock-rates = \"1\";", false, true, false),
-    ] {
-        match node(rt.alloc(), properties)? {
+/// Nodes of these properties are formed or not, are okay or not, and are consumers or not.
+fn judges(rt: &impl Abort, alloc: Global, nodes: &[(&str, bool, bool, bool)]) -> Result<(), Fail> {
+    for (properties, formed, okay, consumer) in nodes {
+        match node(alloc, properties)? {
             Some(node) => {
-                assert_eq!(rt; is_formed(&node), formed, "formed: {properties}");
-                assert_eq!(rt; is_okay(&node), okay, "okay: {properties}");
-                assert_eq!(rt; is_consumer(&node), consumer, "consumer: {properties}");
+                assert_eq!(rt; is_formed(&node), *formed, "formed: {properties}");
+                assert_eq!(rt; is_okay(&node), *okay, "okay: {properties}");
+                assert_eq!(rt; is_consumer(&node), *consumer, "consumer: {properties}");
             }
             None => assert!(rt; false, "no node of {properties}"),
         }
     }
     Ok(())
+}
+
+#[test]
+fn nodes_are_judged_by_status_and_phandle(rt: HostRuntime) -> Result<(), Fail> {
+    judges(
+        &rt,
+        rt.alloc(),
+        &[
+            ("", true, true, false),
+            ("status = \"okay\"; reg = \"\\\\\";", true, true, false),
+            ("status = \"ok\"; clock-names = <1>;", true, true, false),
+            (
+                "status = \"disabled\"; phandle = <1 2>;",
+                false,
+                false,
+                false,
+            ),
+            (
+                "status = \"okay\", \"okay\"; phandle = \"1\";",
+                false,
+                false,
+                false,
+            ),
+            ("status; phandle = <3>;", true, false, false),
+        ],
+    )
+}
+
+#[test]
+fn nodes_are_judged_by_their_clocks(rt: HostRuntime) -> Result<(), Fail> {
+    judges(
+        &rt,
+        rt.alloc(),
+        &[
+            (
+                "clocks = <1>, <&l 5>; clock-names = \"a\", \"a\";",
+                true,
+                true,
+                true,
+            ),
+            ("clocks; clock-names;", true, true, true),
+            ("clocks = <1>, \"2\";", false, true, true),
+            ("clocks = <1>; clock-names = \"a\", <1>;", false, true, true),
+            ("clocks = <1>; clock-names = \"a\\n\";", false, true, true),
+            ("clocks = \"1\"; #clock-cells;", true, true, false),
+        ],
+    )
+}
+
+#[test]
+fn nodes_are_judged_by_what_they_assign(rt: HostRuntime) -> Result<(), Fail> {
+    judges(
+        &rt,
+        rt.alloc(),
+        &[
+            (
+                "assigned-clocks; assigned-clock-parents; assigned-clock-rates;",
+                true,
+                true,
+                false,
+            ),
+            ("assigned-clocks = [00];", false, true, false),
+            ("assigned-clock-parents = <1>, &l;", false, true, false),
+            ("assigned-clock-rates = <1>, <&l>;", false, true, false),
+            ("assigned-clock-rates = \"1\";", false, true, false),
+        ],
+    )
 }
 
 #[test]
