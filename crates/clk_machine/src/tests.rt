@@ -16,6 +16,8 @@ use std::alloc::Global;
 use std::process::Abort;
 use std::test::Fail;
 
+mod writes;
+
 // A clock without flags.
 fn clock(alloc: Global, name: &str, kind: Kind, parents: Parents) -> Result<ClockDef, NoMemory>
     ensures kind { IfOk result (λ def. def.kind ≡ kind) }
@@ -62,7 +64,7 @@ fn core_of_two(rt: &impl Abort, alloc: Global) -> Result<Core<MemBank>, Fail>
 }
 
 // Whether a call names clocks of the description alone.
-fn is_placed(core: &Core<MemBank>, what: &Sleeping) -> bool
+fn is_placed<B: Bank>(core: &Core<B>, what: &Sleeping) -> bool
     ensures { result ≡ true → IsPlaced core.now.start.defs what.now }
 {
     match what {
@@ -77,9 +79,9 @@ fn is_placed(core: &Core<MemBank>, what: &Sleeping) -> bool
 }
 
 // Begins calls of driver 1, each with the reply that it must have.
-fn begin_all(
+fn begin_all<B: Bank>(
     rt: &impl Abort,
-    core: &mut Core<MemBank>,
+    core: &mut Core<B>,
     calls: &[(Sleeping, Reply)],
 ) -> Result<(), NoMemory>
     ensures start { core.new.start ≡ core.old.start }

@@ -123,8 +123,8 @@ turns_among n (c ∷ scripts) (a ∷ answers) journal turns =
     let this : n + 1 + length scripts ≡ n + suc (length scripts) = omega arith in
     ap (are_among (n + suc (length scripts))) turns.split
     ∙ list_all-append (λ e. nat_lt e.driver (n + suc (length scripts))) turns.entries turns.rest
-        (among_more (n + 1) (n + suc (length scripts)) turns.entries (omega arith) (among_own n turns.entries turns.own))
-        (subst (λ (d : ℕ). are_among d turns.rest ≡ true) this (turns_among (n + 1) scripts answers turns.rest turns.later))
+    (among_more (n + 1) (n + suc (length scripts)) turns.entries (omega arith) (among_own n turns.entries turns.own))
+    (subst (λ (d : ℕ). are_among d turns.rest ≡ true) this (turns_among (n + 1) scripts answers turns.rest turns.later))
 
 -- each has its calls once, in their order, also behind entries of drivers before them
 pub turns_follow : (n : ℕ) (scripts : List (List Command)) (answers : List (List Answer)) (before journal : List Entry) → are_among n before ≡ true

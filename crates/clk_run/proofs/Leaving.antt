@@ -1,5 +1,5 @@
 -- What a run leaves: its text, and the registers in the bank.
-use Rattle.std.proofs.Common.{◌≡◌, ℕ, Bool, true, List, [], Option, Some, None, Result, Ok, Err, refl, sym, ap, subst, ◌∙◌, inr, arith}
+use Rattle.std.proofs.Common.{◌≡◌, ℕ, ◌+◌, length, Bool, true, List, [], Option, Some, None, Result, Ok, Err, refl, sym, ap, subst, ◌∙◌, inr, arith}
 use Rattle.std.specs.Prelude.{is_some, take, drop, IfSome, IfErr}
 use Rattle.std.specs.Option.{option_map}
 use Rattle.clk_io.specs.declared.faults.PrintFault.{PrintFault}
@@ -13,7 +13,7 @@ use Rattle.drv_scripts.specs.declared.bundle.Bundle.{Bundle}
 use Rattle.clk_cli.specs.declared.cli.Cli.{Cli}
 use Rattle.clk_machine.specs.Run.{Run}
 use Rattle.clk_run.specs.Outcomes.{status_of}
-use Rattle.clk_run.specs.Runs.{drivers_in, scripts_of, opening_of, run_text, IsTextOf, HasRun, PrintedFront, LeftByFault}
+use Rattle.clk_run.specs.Runs.{drivers_in, scripts_of, are_among, opening_of, run_text, IsTextOf, HasRun, PrintedFront, LeftByFault}
 use Rattle.clk_run.proofs.Following.{turns_follow, turns_among}
 use Rattle.clk_run.proofs.Ordering.{turns_are_ordered}
 
@@ -25,6 +25,7 @@ pub text_of : (b : Bundle) (cli : Cli) (told : Bool) (begun core : Run) (answers
     → IsTextOf b cli told words (run_text b.desc.defs (drivers_in cli.mode b) answers words)
 text_of b cli told begun core answers words opens same unordered ran fed quiet means =
     let scripts = scripts_of cli.mode b in
+    let many : 0 + length scripts ≡ length scripts = omega arith in
     let start : core.start ≡ opening_of b cli.ignore_unused = ran.start ∙ opens in
     record {
       journal = core.journal;
@@ -34,7 +35,7 @@ text_of b cli told begun core answers words opens same unordered ran fed quiet m
         fed = λ tells n. subst (λ (s : State). Fed (replay s (take n core.journal))) start (fed (ran.told ∙ same ∙ tells) n);
         quiet = λ tells. ap (λ (s : State). is_quiet (replay s core.journal).change) (sym start) ∙ quiet (ran.told ∙ same ∙ tells);
         follow = turns_follow 0 scripts answers [] core.journal refl ran.turns;
-        among = turns_among 0 scripts answers core.journal ran.turns;
+        among = subst (λ (n : ℕ). are_among n core.journal ≡ true) many (turns_among 0 scripts answers core.journal ran.turns);
         ordered = subst (λ (order : List ℕ). Ordered scripts order core.journal) (sym unordered) (turns_are_ordered b.boot _ answers core.journal ran.turns);
       };
       registers = λ tells. means (ran.told ∙ same ∙ tells) ∙ ap (λ (s : State). (replay s core.journal).regs) start;

@@ -84,7 +84,7 @@ first_to_go front (s ∷ still) later p all goes =
     let long : length (front ++ s ∷ []) ≡ suc (length front) = length-append front (s ∷ []) ∙ omega arith in
     let sum : suc (length front) + length still ≡ length front + suc (length still) = omega arith in
     ap (λ (b : Bool).
-      cond b (Some (length front)) (find (driver_can_move (front ++ (s ∷ (still ++ p ∷ later))) None) (count_from (suc (length front)) (length (still ++ p ∷ later))))) here
+    cond b (Some (length front)) (find (driver_can_move (front ++ (s ∷ (still ++ p ∷ later))) None) (count_from (suc (length front)) (length (still ++ p ∷ later))))) here
     ∙ ap (λ (ps : List Progress). find (driver_can_move ps None) (count_from (suc (length front)) (length (still ++ p ∷ later)))) (sym whole)
     ∙ ap (λ (n : ℕ). find (driver_can_move ((front ++ s ∷ []) ++ (still ++ p ∷ later)) None) (count_from n (length (still ++ p ∷ later)))) (sym long)
     ∙ first_to_go (front ++ s ∷ []) still later p (and_right (is_still s) _ all) goes ∙ ap (λ (n : ℕ). Some (n + length still)) long ∙ ap (λ (n : ℕ). Some n) sum
@@ -131,7 +131,7 @@ one_command : (boot : Progress) (still later : List Progress) (held : Variables)
     → (entries rest : List Entry) → list_all is_still still ≡ true → unskipped held left ≡ unskipped held (c ∷ commands) → list_all (is_answered (1 + length still)) entries ≡ true
     → FollowsFrom held (c ∷ commands) (calls_from None entries) (a ∷ answers)
     → ((held : Variables) (left : List Command) (entries : List Entry) → unskipped held left ≡ unskipped held commands → list_all (is_answered (1 + length still)) entries ≡ true
-      → FollowsFrom held commands (calls_from None entries) answers → Goes boot still later held left (entries ++ rest))
+    → FollowsFrom held commands (calls_from None entries) answers → Goes boot still later held left (entries ++ rest))
     → Goes boot still later held left (entries ++ rest)
 one_command boot still later held left c commands a answers entries rest all same mine follow again = pick (call_of (handle_of held c) c.act) refl where
   pick : (o : Option Event) → call_of (handle_of held c) c.act ≡ o → Goes boot still later held left (entries ++ rest)
@@ -142,6 +142,7 @@ one_command boot still later held left c commands a answers entries rest all sam
   pick (Some event) is = first entries mine (subst (λ (o : Option Event). NextFollows (λ after ls. FollowsFrom after commands ls answers) held c o (calls_from None entries) a) is follow) where
     taken : unskipped held left ≡ c ∷ commands
     taken = same ∙ ap (λ (o : Option Event). cond (is_none o) (unskipped held commands) (c ∷ commands)) is
+
     first : (es : List Entry) → list_all (is_answered (1 + length still)) es ≡ true
         → NextFollows (λ after ls. FollowsFrom after commands ls answers) held c (Some event) (calls_from None es) a → Goes boot still later held left (es ++ rest)
     first [] mine follow = absurd follow
@@ -163,9 +164,11 @@ one_command boot still later held left c commands a answers entries rest all sam
         let none : going_after None e ≡ None = ap (λ (t : Turn). going_after None (record { driver = e.driver; event = e.event; turn = t })) said.turn_is in
         let others = again behind.held commands es refl (and_right (is_answered (1 + length still) e) _ mine) called.2 in
         subst (λ (o : Option (ℕ × List ℕ)). NextOrdered (λ left. OrderedFrom (drivers_after drivers e) (going_after None e) left (es ++ rest)) o e)
-        (sym (next_to_go boot still later now all goes))
-        (own, subst (λ (ps : List Progress). OrderedFrom ps (going_after None e) [] (es ++ rest)) (sym after)
-        (subst (λ (o : Option ℕ). OrderedFrom (boot ∷ (still ++ behind ∷ later)) o [] (es ++ rest)) (sym none) others))
+        (sym (next_to_go boot still later now all goes)) (
+          own,
+          subst (λ (ps : List Progress). OrderedFrom ps (going_after None e) [] (es ++ rest)) (sym after)
+              (subst (λ (o : Option ℕ). OrderedFrom (boot ∷ (still ++ behind ∷ later)) o [] (es ++ rest)) (sym none) others),
+        )
 
 -- no answer is left where no command is
 unanswered : (held : Variables) (calls : List Answered) (a : Answer) (answers : List Answer) → FollowsFrom held [] calls (a ∷ answers) → ⊥
@@ -199,10 +202,10 @@ turns_ordered boot still (c ∷ scripts) (a ∷ answers) journal all turns =
     subst (OrderedFrom (boot ∷ (still ++ at_start c ∷ map at_start scripts)) None []) (sym turns.split)
     (one_turn boot still (map at_start scripts) (no_handles c) c c a turns.entries turns.rest all refl turns.own turns.follow
     (λ p is.
-      let one_more : 1 + length still + 1 ≡ 1 + length (still ++ p ∷ []) = omega (arith, length-append still (p ∷ [])) in
-      subst (λ (ps : List Progress). OrderedFrom (boot ∷ ps) None [] turns.rest) (append_assoc still (p ∷ []) (map at_start scripts))
-      (turns_ordered boot (still ++ p ∷ []) scripts answers turns.rest (list_all-append is_still still (p ∷ []) all (both (is_still p) true is refl))
-      (subst (λ (n : ℕ). TakeTurns n scripts answers turns.rest) one_more turns.later))))
+    let one_more : 1 + length still + 1 ≡ 1 + length (still ++ p ∷ []) = omega (arith, length-append still (p ∷ [])) in
+    subst (λ (ps : List Progress). OrderedFrom (boot ∷ ps) None [] turns.rest) (append_assoc still (p ∷ []) (map at_start scripts))
+    (turns_ordered boot (still ++ p ∷ []) scripts answers turns.rest (list_all-append is_still still (p ∷ []) all (both (is_still p) true is refl))
+    (subst (λ (n : ℕ). TakeTurns n scripts answers turns.rest) one_more turns.later))))
 
 -- boot's entries are passed over
 boot_passed : (es rest : List Entry) → list_all (is_answered 0) es ≡ true → after_boot (es ++ rest) ≡ after_boot rest

@@ -24,4 +24,3 @@ pub boot_first : (defs : Description) (name : List ℕ) (names : List (List ℕ)
     → scripts_text defs (name ∷ names) answers ≡ answers_text defs name own ++ scripts_text defs names (drop 1 answers)
 boot_first defs name names [] own some is = absurd (omega arith)
 boot_first defs name names (a ∷ answers) own some is = ap (λ (x : List Answer). answers_text defs name x ++ scripts_text defs names answers) (sym is)
-

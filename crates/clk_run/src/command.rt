@@ -48,40 +48,24 @@ pub(crate) fn make_call<B: Bank>(
     ensures ok { IfOk result (λ reply. MakesCall core.old driver held act reply core.new) }
     ensures err { OnErr result (core.new ≡ core.old) }
 {
-    match (act, held) {
-        (Act::Get(found), None) => {
-            let reply = begin_at_once(core, driver, &Sleeping::Get(found))?;
-            Ok(Some(reply))
-        }
-        (Act::Prepare, Some(handle)) => {
-            let reply = begin_at_once(core, driver, &Sleeping::Prepare(handle))?;
-            Ok(Some(reply))
-        }
-        (Act::GetRate, Some(handle)) => {
-            let reply = begin_at_once(core, driver, &Sleeping::GetRate(handle))?;
-            Ok(Some(reply))
-        }
-        (Act::Probe(clock), _) => {
-            let reply = begin_at_once(core, driver, &Sleeping::Probe(clock))?;
-            Ok(Some(reply))
-        }
+    let reply = match (act, held) {
+        (Act::Get(found), None) => begin_at_once(core, driver, &Sleeping::Get(found))?,
+        (Act::Probe(clock), _) => begin_at_once(core, driver, &Sleeping::Probe(clock))?,
+        (Act::Put, Some(handle)) => begin_at_once(core, driver, &Sleeping::Put(handle))?,
+        (Act::Prepare, Some(handle)) => begin_at_once(core, driver, &Sleeping::Prepare(handle))?,
         (Act::Unprepare, Some(handle)) => {
-            let reply = begin_at_once(core, driver, &Sleeping::Unprepare(handle))?;
-            Ok(Some(reply))
+            begin_at_once(core, driver, &Sleeping::Unprepare(handle))?
         }
-        (Act::Put, Some(handle)) => {
-            let reply = begin_at_once(core, driver, &Sleeping::Put(handle))?;
-            Ok(Some(reply))
-        }
+        (Act::GetRate, Some(handle)) => begin_at_once(core, driver, &Sleeping::GetRate(handle))?,
         (Act::GetParent, Some(handle)) => {
-            let reply = begin_at_once(core, driver, &Sleeping::GetParent(handle))?;
-            Ok(Some(reply))
+            begin_at_once(core, driver, &Sleeping::GetParent(handle))?
         }
-        (Act::Enable, Some(handle)) => Ok(Some(core.enable(driver, handle))),
-        (Act::Disable, Some(handle)) => Ok(Some(core.disable(driver, handle))),
-        (Act::Running, Some(handle)) => Ok(Some(core.running(driver, handle))),
-        _ => Ok(None),
-    }
+        (Act::Enable, Some(handle)) => core.enable(driver, handle),
+        (Act::Disable, Some(handle)) => core.disable(driver, handle),
+        (Act::Running, Some(handle)) => core.running(driver, handle),
+        _ => return Ok(None),
+    };
+    Ok(Some(reply))
 }
 
 // The handle that a command's variable holds.
