@@ -1,5 +1,7 @@
 //! In which order one call writes its words, which no contract says.
 
+ghost use Rattle.std.specs.Prelude.{◌≡◌, IfOk};
+
 use super::*;
 
 /// A bank of one word that notes the first values that are written to it. It tells nothing.
@@ -53,15 +55,25 @@ fn three_gates(alloc: Global) -> Result<ValidDesc, Fail>
     let mut desc = Desc::new(alloc);
     let rate = 24_000_000;
     let root = Parents::new(Vec::new(alloc));
-    let mut above = desc.add(clock(alloc, "osc", Kind::FixedRate { rate }, root)?)?;
-    for (bit, name) in [(0, "a"), (1, "b"), (2, "c")] {
-        let kind = Kind::Gate {
-            word: 0,
-            bit,
-            set_to_disable: false,
-        };
-        above = desc.add(clock(alloc, name, kind, Parents::new(vec![in alloc; above]?))?)?;
-    }
+    let osc = desc.add(clock(alloc, "osc", Kind::FixedRate { rate }, root)?)?;
+    let kind = Kind::Gate {
+        word: 0,
+        bit: 0,
+        set_to_disable: false,
+    };
+    let a = desc.add(clock(alloc, "a", kind, Parents::new(vec![in alloc; osc]?))?)?;
+    let kind = Kind::Gate {
+        word: 0,
+        bit: 1,
+        set_to_disable: false,
+    };
+    let b = desc.add(clock(alloc, "b", kind, Parents::new(vec![in alloc; a]?))?)?;
+    let kind = Kind::Gate {
+        word: 0,
+        bit: 2,
+        set_to_disable: false,
+    };
+    desc.add(clock(alloc, "c", kind, Parents::new(vec![in alloc; b]?))?)?;
     Ok(desc.check(alloc, 1)?)
 }
 
