@@ -1,14 +1,25 @@
 //! Bundles that are refused, phase by phase, each with its line and reason.
 
-use super::running::ends;
+use clk_base::{Pause, Place};
+use clk_io::{MemSink, MemSource, NoMemory};
+use clk_run::clkbench;
+use reg_bank::MemBank;
+use std::sync::Wait;
 use std::test::Fail;
 
+mod commands;
 mod lines;
 mod nodes;
 mod order;
 mod rules;
 mod sections;
 mod sources;
+
+struct NoPause;
+
+impl Pause for NoPause {
+    fn pause<R: Wait + Sync>(&self, _rt: &R, _place: Place) {}
+}
 
 /// Whether each text is refused for this reason at its line.
 fn are_refused(rt: &HostRuntime, reason: &str, texts: &[(&str, u32)]) -> Result<bool, Fail> {
@@ -20,10 +31,22 @@ fn are_refused(rt: &HostRuntime, reason: &str, texts: &[(&str, u32)]) -> Result<
     Ok(true)
 }
 
-/// Whether the bytes are refused at this line for this reason.
+/// The status for a word and bytes, and the sink.
+fn run(rt: &HostRuntime, word: &str, bytes: &[u8]) -> Result<(u8, MemSink), NoMemory> {
+    let alloc = rt.alloc();
+    let mut input = MemSource::new(Vec::from_slice(alloc, bytes)?, Vec::new(alloc));
+    let mut out = MemSink::new(alloc, 8, 4096, Vec::new(alloc))?;
+    let bank = MemBank::new(alloc)?;
+    let (status, _) = clkbench(rt, &[word], &mut input, &mut out, bank, &NoPause);
+    Ok((status, out))
+}
+
+/// Whether the bytes are refused at this line for this reason: the status is 2, and the line that
+/// says so is all that is printed.
 fn is_refused(rt: &HostRuntime, bytes: &[u8], line: u32, reason: &str) -> Result<bool, Fail> {
     let wanted = format!(in rt.alloc(); "error: line {line}: {reason}\n")?;
-    Ok(ends(rt, bytes, 2, wanted.as_str()))
+    let (status, out) = run(rt, "sim", bytes)?;
+    Ok(status == 2 && out.written() == wanted.as_bytes())
 }
 
 /// Whether each section of clock lines, which begins on line 3 before a bank of one word, is refused

@@ -1,7 +1,6 @@
 //! The rules of a description.
 
-use super::super::running::run;
-use super::{clocks_are_refused, is_refused, nodes_are_refused};
+use super::{clocks_are_refused, is_refused, nodes_are_refused, run};
 use std::test::Fail;
 
 #[test]
@@ -128,7 +127,7 @@ fn chain(rt: &HostRuntime, gates: u32) -> Result<String, Fail> {
 #[test]
 fn sixty_four_levels_of_clocks_are_the_most(rt: HostRuntime) -> Result<(), Fail> {
     assert!(rt; is_refused(&rt, chain(&rt, 64)?.as_bytes(), 67, "TooMany")?);
-    let (status, _) = run(&rt, "check", chain(&rt, 63)?.as_bytes(), &[], &[])?;
+    let (status, _) = run(&rt, "check", chain(&rt, 63)?.as_bytes())?;
     assert_eq!(rt; status, 0);
     Ok(())
 }

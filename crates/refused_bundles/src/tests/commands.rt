@@ -1,19 +1,16 @@
 //! The lines of words and commands, and the limits of names and clocks.
 
-use super::running::{CLOCKS, ends};
+use super::is_refused;
 use std::test::Fail;
 
-/// Whether the text is refused at this line for this reason.
-fn refused(rt: &HostRuntime, text: &str, line: u32, reason: &str) -> Result<bool, Fail> {
-    let wanted = format!(in rt.alloc(); "error: line {line}: {reason}\n")?;
-    Ok(ends(rt, text.as_bytes(), 2, wanted.as_str()))
-}
+/// Two clocks, a fixed rate and a gate over it, and one word.
+const CLOCKS: &str = "%bundle 1\n%clocks\nfixed osc 24000000\ngate uart_gate osc 0 3\n%regs 1\n";
 
 /// Whether the lines behind those of the two clocks and `%regs 1` are refused at this line for this
 /// reason.
 fn rest_refused(rt: &HostRuntime, rest: &str, line: u32, reason: &str) -> Result<bool, Fail> {
     let text = format!(in rt.alloc(); "{CLOCKS}{rest}")?;
-    refused(rt, text.as_str(), line, reason)
+    is_refused(rt, text.as_bytes(), line, reason)
 }
 
 #[test]
@@ -62,7 +59,7 @@ fn names_have_their_longest(rt: HostRuntime) -> Result<(), Fail> {
         let text = format!(in rt.alloc();
             "%bundle 1\n%clocks\nfixed {name} 5\ngate g {name} 0 0\nfixed g 5\n%regs 1\n"
         )?;
-        assert!(rt; refused(&rt, text.as_str(), line, reason)?);
+        assert!(rt; is_refused(&rt, text.as_bytes(), line, reason)?);
     }
     for (count, line) in [(32, 8), (33, 7)] {
         let name = letters(&rt, count)?;
@@ -85,6 +82,6 @@ fn four_thousand_and_ninety_six_clocks_are_the_most(rt: HostRuntime) -> Result<(
         text.push_str(line.as_str())?;
     }
     text.push_str("%regs 1\n")?;
-    assert!(rt; refused(&rt, text.as_str(), 4099, "TooMany")?);
+    assert!(rt; is_refused(&rt, text.as_bytes(), 4099, "TooMany")?);
     Ok(())
 }
