@@ -1,6 +1,6 @@
 //! Why the section of the clocks is refused.
 
-ghost use Rattle.std.specs.Prelude.{◌≡◌, Some};
+ghost use Rattle.std.specs.Prelude.{◌≡◌};
 ghost use Rattle.bundle_clocks.specs.declared.fault.ClocksFault.TheVariants as faults;
 ghost use Rattle.bundle_clocks.specs.Reasons.{line_reason, token_told, tree_told, nodes_told, told_fault};
 

@@ -1,6 +1,6 @@
 //! The device tree source of a section.
 
-ghost use Rattle.std.specs.Prelude.{◌≡◌, ◌+◌, ◌++◌, ◌∷◌, ◌<◌, ◌≤◌, ◌^◌, [], true, length, replicate, string_bytes, slice_range, IfOk, OnOk};
+ghost use Rattle.std.specs.Prelude.{◌≡◌, ◌+◌, ◌++◌, ◌∷◌, ◌<◌, [], true, length, replicate, string_bytes, IfOk, OnOk};
 ghost use Rattle.std.specs.Str.{is_utf8};
 ghost use Rattle.bundle_text.specs.Lines.{line_at};
 ghost use Rattle.bundle_sections.specs.Verdict.{IsText};

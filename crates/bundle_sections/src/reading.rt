@@ -1,14 +1,14 @@
 //! From lines to sections.
 
-ghost use Rattle.std.specs.Prelude.{◌≡◌, ◌+◌, ◌<◌, ◌≤◌, ◌^◌, ◌++◌, ◌∷◌, [], ◌==◌, true, false, length, map, Some, Ok, IfOk, IfErr, MatchResult};
+ghost use Rattle.std.specs.Prelude.{◌≡◌, ◌+◌, ◌<◌, ◌≤◌, ◌^◌, ◌==◌, true, false, length, map, Some, Ok, IfOk, IfErr, MatchResult};
 ghost use Rattle.std.specs.List.{AllByRecursion};
 ghost use Rattle.std.specs.Str.{is_utf8};
 ghost use Rattle.bundle_text.specs.Firsts.{KeepsBelow};
 ghost use Rattle.bundle_text.specs.Lines.{line_at, header_from};
 ghost use Rattle.bundle_text.specs.Words.{said_words};
 ghost use Rattle.bundle_sections.specs.Said.{said_section, in_order};
-ghost use Rattle.bundle_sections.specs.Sections.{text_fault, fault_at, has_version, sections_of, section_at, sections_before, is_passed_over};
-ghost use Rattle.bundle_sections.specs.Verdict.{Accepts, IsFaultOf, Tiles, IsText, IsPlaced, IsSection};
+ghost use Rattle.bundle_sections.specs.Sections.{text_fault, fault_at, has_version, sections_of, is_passed_over};
+ghost use Rattle.bundle_sections.specs.Verdict.{Accepts, IsFaultOf, Tiles, IsText, IsSection};
 ghost use Rattle.bundle_sections.specs.Reads.{Stops, Reads, AtHeader, IsNext, clock_part, bank_part, first_parts, parts_of};
 
 use crate::fault::{FormFault, FormReason, refused};

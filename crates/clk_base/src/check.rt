@@ -1,10 +1,10 @@
 //! The check of a description.
 
-ghost use Rattle.std.specs.Prelude.{◌≡◌, ◌<◌, ◌^◌, ◌↔◌, ◌&&◌, nat_lt, length, IsTrue, OnOk, IfOk, IfErr};
+ghost use Rattle.std.specs.Prelude.{◌≡◌, ◌<◌, ◌↔◌, ◌&&◌, nat_lt, length, IsTrue, OnOk, IfOk, IfErr};
 ghost use Rattle.std.specs.List.{list_all};
-ghost use Rattle.clk_base.specs.Description.{Description, EachClock, HasDistinctNames};
+ghost use Rattle.clk_base.specs.Description.{EachClock};
 ghost use Rattle.clk_base.specs.Valid.{can_have_parents, has_its_parents, IsValid};
-ghost use Rattle.clk_base.specs.Checked.{Checked, IsFault};
+ghost use Rattle.clk_base.specs.Checked.{IsFault};
 
 use crate::clock::{ClockDef, ClockId, Kind};
 use crate::desc::Desc;

@@ -1,6 +1,6 @@
 //! Clocks as a description states them.
 
-ghost use Rattle.std.specs.Prelude.{◌≡◌, ℕ, List, IfOk, OnErr};
+ghost use Rattle.std.specs.Prelude.{◌≡◌, IfOk};
 
 use crate::flags::ClkFlags;
 use crate::name::ClockName;

@@ -1,6 +1,6 @@
 //! The possible parents of a clock.
 
-ghost use Rattle.std.specs.Prelude.{◌≡◌, ℕ, List, map, IfOk};
+ghost use Rattle.std.specs.Prelude.{◌≡◌, ℕ, List, IfOk};
 
 use crate::clock::ClockId;
 use clk_io::NoMemory;
@@ -14,7 +14,7 @@ pub struct Parents {
 }
 
 impl Model for Parents {
-    ghost use Rattle.std.specs.Prelude.{ℕ, List, map};
+    ghost use Rattle.std.specs.Prelude.{ℕ, List};
     ghost use Rattle.clk_base.specs.Places.{places};
 
     ghost Value = { List ℕ };

@@ -1,6 +1,6 @@
 //! The rules of a description, each looked for at the clocks in order.
 
-ghost use Rattle.std.specs.Prelude.{◌≡◌, ◌<◌, ◌^◌, length, OnOk, IfErr};
+ghost use Rattle.std.specs.Prelude.{◌<◌, ◌^◌, length, OnOk, IfErr};
 ghost use Rattle.clk_base.specs.Description.{EachClock, HasDistinctNames};
 ghost use Rattle.clk_base.specs.Valid.{has_its_parents, IsValid};
 ghost use Rattle.clk_base.specs.Checked.{IsFault};

@@ -1,6 +1,6 @@
 //! A description that was checked.
 
-ghost use Rattle.std.specs.Prelude.{◌≡◌, ℕ, ◌<◌, ◌↔◌, List, [], length, IsTrue, IfOk};
+ghost use Rattle.std.specs.Prelude.{◌≡◌, ◌<◌, ◌↔◌, [], length, IsTrue, IfOk};
 
 use crate::clock::{ClockDef, ClockId};
 use crate::desc::Desc;
@@ -29,7 +29,7 @@ impl Model for ValidDesc {
 }
 
 impl ValidDesc {
-    ghost use Rattle.clk_base.specs.Description.{Description, def_of, clock_named};
+    ghost use Rattle.clk_base.specs.Description.{def_of, clock_named};
     ghost use Rattle.clk_base.specs.Valid.{IsValid};
     ghost use Rattle.clk_base.specs.Checked.{Checked};
 

@@ -1,6 +1,6 @@
 //! The core: the machine with its journal.
 
-ghost use Rattle.std.specs.Prelude.{◌≡◌, ℕ, ◌+◌, ◌<◌, ◌≤◌, true, false, [], ◌∷◌, ◌++◌, List, length, take, drop, is_some, slice_index, IfSome, IfOk, IsOk, OnErr, IsTrue};
+ghost use Rattle.std.specs.Prelude.{◌≡◌, ℕ, ◌+◌, ◌<◌, ◌≤◌, true, false, [], length, take, drop, is_some, slice_index, IfSome, IfOk, IsOk, OnErr};
 ghost use Rattle.std.specs.Option.{option_map};
 ghost use Rattle.clk_model.specs.State.{is_quiet};
 ghost use Rattle.clk_model.specs.Journal.{opening, replay, Legal, cost};

@@ -1,6 +1,6 @@
 //! Running the commands of a driver, one after the other.
 
-ghost use Rattle.std.specs.Prelude.{◌≡◌, ◌+◌, ◌≤◌, true, [], List, length, IfOk};
+ghost use Rattle.std.specs.Prelude.{◌≡◌, ◌+◌, ◌≤◌, true, [], length, IfOk};
 ghost use Rattle.clk_model.specs.Journal.{cost};
 ghost use Rattle.clk_model.specs.Follows.{Variables, variable_count, no_handles};
 ghost use Rattle.drv_scripts.specs.Placed.{NamePlaces};

@@ -1,6 +1,6 @@
 //! The tree.
 
-ghost use Rattle.std.specs.Prelude.{◌≡◌, ◌<◌, ◌≤◌, ℕ, true, false, [], ◌++◌, length, replicate, slice_get, slice_index, slice_set, IfSome, IfOk};
+ghost use Rattle.std.specs.Prelude.{◌≡◌, ◌<◌, ◌≤◌, ℕ, true, false, [], ◌++◌, length, replicate, slice_get, slice_index, IfSome, IfOk};
 ghost use Rattle.std.specs.Option.{option_map};
 ghost use Rattle.clk_base.specs.Description.{parents_of};
 ghost use Rattle.clk_model.specs.Lists.{is_in, to_front};

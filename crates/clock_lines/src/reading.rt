@@ -1,12 +1,12 @@
 //! The lines of a section, one after another.
 
-ghost use Rattle.std.specs.Prelude.{◌≡◌, ◌<◌, ◌≤◌, ◌+◌, [], length, slice_index_or, slice_range, IfOk, IfErr, MatchResult};
+ghost use Rattle.std.specs.Prelude.{◌≡◌, ◌<◌, ◌≤◌, ◌+◌, length, slice_range, IfOk, IfErr, MatchResult};
 ghost use Rattle.bundle_text.specs.Words.{texts};
 ghost use Rattle.clk_base.specs.Description.{EachClock};
 ghost use Rattle.clk_base.specs.Valid.{has_its_parents};
 ghost use Rattle.clock_lines.specs.Section.{name_word};
 ghost use Rattle.clock_lines.specs.Steps.{IsRead, TakesWords};
-ghost use Rattle.clock_lines.specs.Verdict.{HasFault, IsFaultOf, FirstFault, Spells};
+ghost use Rattle.clock_lines.specs.Verdict.{IsFaultOf, FirstFault, Spells};
 
 use crate::clock_line::clock_line;
 use crate::described::{describe, line_numbers};

@@ -1,6 +1,6 @@
 //! A list as a field of plain data.
 
-ghost use Rattle.std.specs.Prelude.{◌≡◌, List, length};
+ghost use Rattle.std.specs.Prelude.{◌≡◌, List};
 
 use std::marker::Model;
 

@@ -1,7 +1,7 @@
 //! How far words, references, comments and strings reach.
 
 ghost use Rattle.std.specs.Prelude.{◌≡◌, ◌≤◌, ◌==◌, nat_eq, codes, length, IfSome, false};
-ghost use Rattle.std.specs.List.{prefix_len, position_or_len, starts_with};
+ghost use Rattle.std.specs.List.{prefix_len, starts_with};
 ghost use Rattle.dts_tokens.specs.Characters.{is_label_character, is_word_character};
 ghost use Rattle.dts_tokens.specs.Pieces.{word_len, label_len, line_len, comment_end, quote_end};
 

@@ -83,10 +83,10 @@ fn own(labels: &mut Vec<LabelRow>, pending: &[Token], node: usize) -> Result<(),
 }
 
 impl<'a> Reader<'a> {
-    ghost use Rattle.dts_tree.specs.Done.{Does, Fills};
-    ghost use Rattle.dts_tree.specs.Grown.{Tables, owned_by, add_label, add_node, add_root};
+    ghost use Rattle.dts_tree.specs.Done.{Does};
+    ghost use Rattle.dts_tree.specs.Grown.{owned_by, add_label, add_node, add_root};
     ghost use Rattle.dts_tree.specs.State.{state_of};
-    ghost use Rattle.dts_tree.specs.Steps.{label, name, enter, leave, in_phase, with_tables};
+    ghost use Rattle.dts_tree.specs.Steps.{label, name, enter, leave, with_tables};
     ghost use Rattle.dts_tree.specs.declared.rows.Phase.TheVariants as phases;
 
     /// A label before a node or a property.

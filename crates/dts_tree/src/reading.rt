@@ -1,6 +1,6 @@
 //! From tokens to all that they spell.
 
-ghost use Rattle.std.specs.Prelude.{◌≡◌, ◌<◌, All, if◌then◌else◌, IfOk, IfErr};
+ghost use Rattle.std.specs.Prelude.{◌≡◌, ◌<◌, All, IfOk, IfErr};
 ghost use Rattle.dts_tree.specs.Done.{Does, Fails};
 ghost use Rattle.dts_tree.specs.Read.{opening, last_line, is_end, read};
 ghost use Rattle.dts_tree.specs.State.{state_of};

@@ -1,6 +1,6 @@
 //! From references to nodes.
 
-ghost use Rattle.std.specs.Prelude.{◌≡◌, All, IfOk, IfErr, Result, List, ℕ};
+ghost use Rattle.std.specs.Prelude.{◌≡◌, All, IfOk, IfErr, Result};
 ghost use Rattle.std.specs.HashMap.{get};
 ghost use Rattle.dts_tokens.specs.Tokens.{text_of};
 ghost use Rattle.dts_tree.specs.declared.names.Place.{Place};

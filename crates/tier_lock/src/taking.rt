@@ -1,5 +1,5 @@
 //! A turn begins.
-ghost use Rattle.std.specs.Prelude.{◌≡◌, ℕ, ◌+◌, ◌≤◌, true, false, Some, IfSome, IfNone, sum_by};
+ghost use Rattle.std.specs.Prelude.{◌≡◌, ◌+◌, ◌≤◌, true, false, Some, IfSome, IfNone, sum_by};
 ghost use Rattle.tier_lock.specs.Entries.{reading, own, IsPrefix, AddsEnablesOnly, AreBelow};
 ghost use Rattle.tier_lock.specs.Sits.{IsOf, IsFree, Took};
 

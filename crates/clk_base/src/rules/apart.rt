@@ -1,6 +1,6 @@
 //! The rule that fields share no bit.
 
-ghost use Rattle.std.specs.Prelude.{◌≡◌, ℕ, ◌+◌, ◌<◌, ◌≤◌, ◌^◌, ◌++◌, ◌∷◌, not, List, length, IsTrue, IfOk};
+ghost use Rattle.std.specs.Prelude.{◌≡◌, ◌+◌, ◌<◌, ◌^◌, ◌++◌, ◌∷◌, not, List, length, IsTrue, IfOk};
 ghost use Rattle.std.specs.List.{list_all, list_any};
 ghost use Rattle.clk_base.specs.Description.{EachClock, FindsFirst};
 ghost use Rattle.clk_base.specs.Fields.{Field, fields_of, is_in_bank, share_bit};

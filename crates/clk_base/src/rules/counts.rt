@@ -1,6 +1,6 @@
 //! The rule on the number of clocks and of their possible parents.
 
-ghost use Rattle.std.specs.Prelude.{◌≡◌, ℕ, ◌<◌, ◌^◌, length};
+ghost use Rattle.std.specs.Prelude.{ℕ, ◌<◌, ◌^◌, length};
 ghost use Rattle.clk_base.specs.Description.{FindsFirst};
 ghost use Rattle.clk_base.specs.Valid.{keeps_counts};
 

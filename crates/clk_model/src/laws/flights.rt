@@ -1,7 +1,7 @@
 //! What holds of a call that goes on, over every interleaving: from its beginning to its end, whatever
 //! the drivers' enables, disables and questions between.
 
-ghost use Rattle.std.specs.Prelude.{◌≡◌, ◌↔◌, ℕ, List, Bool, Option, Some, None, IsTrue};
+ghost use Rattle.std.specs.Prelude.{◌≡◌, ℕ, List, Bool, Option, Some, None, IsTrue};
 ghost use Rattle.std.specs.List.{list_any};
 ghost use Rattle.clk_base.specs.declared.call.Sleeping.{Sleeping};
 ghost use Rattle.clk_base.specs.declared.call.Micro.{Micro};

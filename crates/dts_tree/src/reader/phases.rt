@@ -1,6 +1,6 @@
 //! What each token does, by what may follow.
 
-ghost use Rattle.std.specs.Prelude.{◌≡◌, ◌<◌};
+ghost use Rattle.std.specs.Prelude.{◌<◌};
 
 use super::{Reader, target_of, text_of};
 use crate::fault::TreeFault;

@@ -1,5 +1,5 @@
 //! The baton lies under a mutex, and drivers run side by side.
-ghost use Rattle.std.specs.Prelude.{◌≡◌, ◌+◌, ◌<◌, ◌≤◌, false, true, Some, All, length};
+ghost use Rattle.std.specs.Prelude.{◌≡◌, ◌+◌, ◌<◌, ◌≤◌, false, true, Some, length};
 ghost use Rattle.std.specs.Option.{option_map};
 
 use super::append::append;

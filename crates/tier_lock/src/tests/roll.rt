@@ -40,7 +40,6 @@ impl Roll {
 }
 
 impl Kept for Roll {
-    ghost use Rattle.std.specs.Prelude.{◌≤◌};
     ghost use Rattle.std.proofs.Common.{arith};
 
     type Entry = Line;
