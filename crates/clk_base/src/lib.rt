@@ -27,7 +27,7 @@ pub use flags::ClkFlags;
 pub use handle::{Handle, Policy};
 pub use name::ClockName;
 pub use parents::Parents;
-pub use pause::{Pause, Place};
+pub use pause::{NoPause, Pause, Place};
 pub use rules::depth;
 pub use valid_desc::ValidDesc;
 

@@ -13,3 +13,11 @@ pub enum Place {
 pub trait Pause {
     fn pause<R: Wait + Sync>(&self, rt: &R, place: Place);
 }
+
+/// Pauses nowhere.
+#[derive(Drop)]
+pub struct NoPause;
+
+impl Pause for NoPause {
+    fn pause<R: Wait + Sync>(&self, _rt: &R, _place: Place) {}
+}

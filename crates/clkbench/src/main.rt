@@ -1,25 +1,16 @@
 //! The program `clkbench`: standard input and output, and a bank of registers in memory.
 #![tactic(auto)]
 
-use clk_base::{Pause, Place};
+use clk_base::NoPause;
 use clk_io::{NoMemory, StdIn, StdOut};
 use clk_run::clkbench;
 use reg_bank::MemBank;
 use std::env;
 use std::io::ErrorKind;
 use std::process::ExitCode;
-use std::sync::Wait;
 
 /// The status where there is no memory for the words or the bank.
 const NO_MEMORY: u8 = 3;
-
-/// Pauses nowhere.
-#[derive(Drop)]
-struct NoPause;
-
-impl Pause for NoPause {
-    fn pause<R: Wait + Sync>(&self, _rt: &R, _place: Place) {}
-}
 
 fn main(rt: HostRuntime) -> ExitCode {
     let status = match status(&rt) {

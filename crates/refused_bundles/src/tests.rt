@@ -1,10 +1,9 @@
 //! Bundles that are refused, phase by phase, each with its line and reason.
 
-use clk_base::{Pause, Place};
+use clk_base::NoPause;
 use clk_io::{MemSink, MemSource, NoMemory};
 use clk_run::clkbench;
 use reg_bank::MemBank;
-use std::sync::Wait;
 use std::test::Fail;
 
 mod commands;
@@ -14,12 +13,6 @@ mod order;
 mod rules;
 mod sections;
 mod sources;
-
-struct NoPause;
-
-impl Pause for NoPause {
-    fn pause<R: Wait + Sync>(&self, _rt: &R, _place: Place) {}
-}
 
 /// Whether each text is refused for this reason at its line.
 fn are_refused(rt: &HostRuntime, reason: &str, texts: &[(&str, u32)]) -> Result<bool, Fail> {

@@ -1,10 +1,9 @@
 //! One run of the program over a source and a sink in memory.
 
 use crate::clkbench;
-use clk_base::{Pause, Place};
+use clk_base::NoPause;
 use clk_io::{MemSink, MemSource, NoMemory};
 use reg_bank::MemBank;
-use std::sync::Wait;
 
 /// Two clocks, a fixed rate and a gate over it, and one word.
 pub(crate) const CLOCKS: &str =
@@ -17,12 +16,6 @@ pub(crate) const UART: &str =
 /// What the run of `UART` prints.
 pub(crate) const UART_PRINTED: &str =
     "boot.1 ok\nboot.2 ok\nA.1 handle 0\nA.2 ok\nA.3 ok\nA.4 rate 24000000\nreg 0 0x00000008\n";
-
-struct NoPause;
-
-impl Pause for NoPause {
-    fn pause<R: Wait + Sync>(&self, _rt: &R, _place: Place) {}
-}
 
 /// The status for a word and bytes, and the sink. These calls of the source and the sink fail; the
 /// sink takes 8 bytes a call.
