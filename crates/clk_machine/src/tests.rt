@@ -63,6 +63,14 @@ fn core_of_two(rt: &impl Abort, alloc: Global) -> Result<Core<MemBank>, Fail>
     Ok(Core::create(alloc, desc, bank, &[0], false, 100)?)
 }
 
+/// A call of a driver, of either tier.
+enum Call {
+    Begin(Sleeping),
+    Enable(Handle),
+    Disable(Handle),
+    Running(Handle),
+}
+
 // Whether a call names clocks of the description alone.
 fn is_placed<B: Bank>(core: &Core<B>, what: &Sleeping) -> bool
     ensures { result ≡ true → IsPlaced core.now.start.defs what.now }
@@ -78,53 +86,86 @@ fn is_placed<B: Bank>(core: &Core<B>, what: &Sleeping) -> bool
     }
 }
 
-// Begins calls of driver 1, each with the reply that it must have.
-fn begin_all<B: Bank>(
+// Makes a call of driver 1, which is answered at once.
+fn make<B: Bank>(rt: &impl Abort, core: &mut Core<B>, call: &Call) -> Result<Turn, NoMemory>
+    ensures start { core.new.start ≡ core.old.start }
+    ensures told { core.new.told ≡ core.old.told }
+{
+    assert!(rt; core.credits_left() > 0);
+    match call {
+        Call::Begin(what) => {
+            assert!(rt; is_placed(core, what));
+            assert!(rt; core.built(what));
+            core.begin(1, what)
+        }
+        Call::Enable(handle) => Ok(Turn::Done(core.enable(1, *handle))),
+        Call::Disable(handle) => Ok(Turn::Done(core.disable(1, *handle))),
+        Call::Running(handle) => Ok(Turn::Done(core.running(1, *handle))),
+    }
+}
+
+// Makes calls of driver 1, each with the reply that it must have.
+fn make_all<B: Bank>(
     rt: &impl Abort,
     core: &mut Core<B>,
-    calls: &[(Sleeping, Reply)],
+    calls: &[(Call, Reply)],
 ) -> Result<(), NoMemory>
     ensures start { core.new.start ≡ core.old.start }
     ensures told { core.new.told ≡ core.old.told }
 {
-    for (what, wanted) in calls {
-        assert!(rt; is_placed(core, what));
-        assert!(rt; core.built(what));
-        assert!(rt; core.credits_left() > 0);
-        assert_eq!(rt; core.begin(1, what)?, Turn::Done(*wanted));
+    for (call, wanted) in calls {
+        assert_eq!(rt; make(rt, core, call)?, Turn::Done(*wanted));
     }
     Ok(())
 }
 
+// The first clock, the oscillator, and the second, a gate over it.
+const OSC: ClockId = ClockId(0);
+
+const UART: ClockId = ClockId(1);
+
+// The handle that the first get is answered with.
 const FIRST: Handle = Handle {
     number: 0,
     slot: 0,
     driver: 1,
 };
 
+// The core of both clocks, behind the calls that register them, get the gate and prepare it.
+fn prepared(rt: &impl Abort, alloc: Global) -> Result<Core<MemBank>, Fail>
+    ensures told { IfOk result (λ core. core.told ≡ true) }
+    ensures words { IfOk result (λ core. length core.start.regs ≡ 1) }
+{
+    let mut core = core_of_two(rt, alloc)?;
+    make_all(
+        rt,
+        &mut core,
+        &[
+            (Call::Begin(Sleeping::Probe(OSC)), Reply::Fine),
+            (Call::Begin(Sleeping::Probe(UART)), Reply::Fine),
+            (Call::Begin(Sleeping::Get(Some(UART))), Reply::Handle(FIRST)),
+            (Call::Begin(Sleeping::Prepare(FIRST)), Reply::Fine),
+        ],
+    )?;
+    Ok(core)
+}
+
 #[test]
 fn the_ordinary_path(rt: HostRuntime) -> Result<(), Fail> {
-    let (osc, uart) = (ClockId(0), ClockId(1));
-    let mut core = core_of_two(&rt, rt.alloc())?;
-    begin_all(
+    let mut core = prepared(&rt, rt.alloc())?;
+    assert_eq!(rt; core.word(0), 0);
+    make_all(
         &rt,
         &mut core,
         &[
-            (Sleeping::Probe(osc), Reply::Fine),
-            (Sleeping::Probe(uart), Reply::Fine),
-            (Sleeping::Get(Some(uart)), Reply::Handle(FIRST)),
-            (Sleeping::Prepare(FIRST), Reply::Fine),
+            (Call::Enable(FIRST), Reply::Fine),
+            (
+                Call::Begin(Sleeping::GetRate(FIRST)),
+                Reply::Rate(24_000_000),
+            ),
         ],
     )?;
-    assert_eq!(rt; core.word(0), 0);
-    assert!(rt; core.credits_left() > 0);
-    assert_eq!(rt; core.enable(1, FIRST), Reply::Fine);
     assert_eq!(rt; core.word(0), 8);
-    begin_all(
-        &rt,
-        &mut core,
-        &[(Sleeping::GetRate(FIRST), Reply::Rate(24_000_000))],
-    )?;
     assert_eq!(rt; core.journal().len(), 6);
     assert_eq!(rt; core.credits_left(), 94);
     let bank = core.into_bank();
@@ -144,65 +185,60 @@ fn row(enable: u32, prepare: u32, on: Option<bool>) -> Row {
     }
 }
 
+// Checks the rows of the gate and of the oscillator.
+fn check_rows(rt: &impl Abort, core: &Core<MemBank>, uart: Option<Row>, osc: Option<Row>) {
+    assert_eq!(rt; core.desc().len(), 2);
+    assert_eq!(rt; core.row(UART), uart);
+    assert_eq!(rt; core.row(OSC), osc);
+}
+
+#[test]
+fn a_clock_that_is_not_registered_has_no_row(rt: HostRuntime) -> Result<(), Fail> {
+    let core = core_of_two(&rt, rt.alloc())?;
+    check_rows(&rt, &core, None, None);
+    Ok(())
+}
+
 #[test]
 fn rows_of_an_enabled_gate_and_its_parent(rt: HostRuntime) -> Result<(), Fail> {
-    let (osc, uart) = (ClockId(0), ClockId(1));
-    let mut core = core_of_two(&rt, rt.alloc())?;
-    assert_eq!(rt; core.desc().len(), 2);
-    assert_eq!(rt; core.row(osc), None);
-    begin_all(
+    let mut core = prepared(&rt, rt.alloc())?;
+    make_all(
         &rt,
         &mut core,
-        &[
-            (Sleeping::Probe(osc), Reply::Fine),
-            (Sleeping::Probe(uart), Reply::Fine),
-            (Sleeping::Get(Some(uart)), Reply::Handle(FIRST)),
-            (Sleeping::Prepare(FIRST), Reply::Fine),
-            (Sleeping::Prepare(FIRST), Reply::Fine),
-        ],
+        &[(Call::Begin(Sleeping::Prepare(FIRST)), Reply::Fine)],
     )?;
     assert!(rt; core.quiet());
-    assert_eq!(rt; core.desc().len(), 2);
-    assert_eq!(rt; core.row(uart), Some(row(0, 2, Some(false))));
-    assert_eq!(rt; core.row(osc), Some(row(0, 1, None)));
-    assert!(rt; core.credits_left() > 0);
-    assert_eq!(rt; core.enable(1, FIRST), Reply::Fine);
-    assert_eq!(rt; core.desc().len(), 2);
-    assert_eq!(rt; core.row(uart), Some(row(1, 2, Some(true))));
-    assert_eq!(rt; core.row(osc), Some(row(1, 1, None)));
+    check_rows(
+        &rt,
+        &core,
+        Some(row(0, 2, Some(false))),
+        Some(row(0, 1, None)),
+    );
+    make_all(&rt, &mut core, &[(Call::Enable(FIRST), Reply::Fine)])?;
+    check_rows(
+        &rt,
+        &core,
+        Some(row(1, 2, Some(true))),
+        Some(row(1, 1, None)),
+    );
     Ok(())
 }
 
 #[test]
 fn the_way_back(rt: HostRuntime) -> Result<(), Fail> {
-    let (osc, uart) = (ClockId(0), ClockId(1));
-    let mut core = core_of_two(&rt, rt.alloc())?;
-    begin_all(
+    let mut core = prepared(&rt, rt.alloc())?;
+    make_all(
         &rt,
         &mut core,
         &[
-            (Sleeping::Probe(osc), Reply::Fine),
-            (Sleeping::Probe(uart), Reply::Fine),
-            (Sleeping::Get(Some(uart)), Reply::Handle(FIRST)),
-            (Sleeping::Prepare(FIRST), Reply::Fine),
+            (Call::Enable(FIRST), Reply::Fine),
+            (Call::Running(FIRST), Reply::Yes),
+            (Call::Disable(FIRST), Reply::Fine),
+            (Call::Running(FIRST), Reply::No),
+            (Call::Begin(Sleeping::Unprepare(FIRST)), Reply::Fine),
+            (Call::Begin(Sleeping::Unprepare(FIRST)), Reply::Warn),
         ],
     )?;
-    assert!(rt; core.credits_left() > 0);
-    assert_eq!(rt; core.enable(1, FIRST), Reply::Fine);
-    assert!(rt; core.credits_left() > 0);
-    assert_eq!(rt; core.running(1, FIRST), Reply::Yes);
-    assert!(rt; core.credits_left() > 0);
-    assert_eq!(rt; core.disable(1, FIRST), Reply::Fine);
     assert_eq!(rt; core.word(0), 0);
-    assert!(rt; core.credits_left() > 0);
-    assert_eq!(rt; core.running(1, FIRST), Reply::No);
-    begin_all(
-        &rt,
-        &mut core,
-        &[
-            (Sleeping::Unprepare(FIRST), Reply::Fine),
-            (Sleeping::Unprepare(FIRST), Reply::Warn),
-        ],
-    )?;
     Ok(())
 }

@@ -87,22 +87,23 @@ fn gates_open_from_the_root_on_and_close_from_the_clock_on(rt: HostRuntime) -> R
         count: 0,
     };
     let mut core = Core::create(rt.alloc(), desc, noting, &[0], false, 100)?;
-    begin_all(
+    make_all(
         &rt,
         &mut core,
         &[
-            (Sleeping::Probe(ClockId(0)), Reply::Fine),
-            (Sleeping::Probe(ClockId(1)), Reply::Fine),
-            (Sleeping::Probe(ClockId(2)), Reply::Fine),
-            (Sleeping::Probe(ClockId(3)), Reply::Fine),
-            (Sleeping::Get(Some(ClockId(3))), Reply::Handle(FIRST)),
-            (Sleeping::Prepare(FIRST), Reply::Fine),
+            (Call::Begin(Sleeping::Probe(ClockId(0))), Reply::Fine),
+            (Call::Begin(Sleeping::Probe(ClockId(1))), Reply::Fine),
+            (Call::Begin(Sleeping::Probe(ClockId(2))), Reply::Fine),
+            (Call::Begin(Sleeping::Probe(ClockId(3))), Reply::Fine),
+            (
+                Call::Begin(Sleeping::Get(Some(ClockId(3)))),
+                Reply::Handle(FIRST),
+            ),
+            (Call::Begin(Sleeping::Prepare(FIRST)), Reply::Fine),
+            (Call::Enable(FIRST), Reply::Fine),
+            (Call::Disable(FIRST), Reply::Fine),
         ],
     )?;
-    assert!(rt; core.credits_left() > 0);
-    assert_eq!(rt; core.enable(1, FIRST), Reply::Fine);
-    assert!(rt; core.credits_left() > 0);
-    assert_eq!(rt; core.disable(1, FIRST), Reply::Fine);
     let bank = core.into_bank();
     assert_eq!(rt; bank.values, [0, 1, 3, 7, 3, 1, 0, 0]);
     assert_eq!(rt; bank.count, 7);

@@ -1,9 +1,9 @@
 use Rattle.std.proofs.Common.{◌≡◌}
-use Rattle.clk_machine.proofs.tests.begin_all.Given as goal
+use Rattle.clk_machine.proofs.tests.make_all.Given as goal
 
 -- the opening stays, and whether the bank tells its words
-abbrev pub invariant-loop-what : goal.invariant-loop-what
-invariant-loop-what g l = record {
+abbrev pub invariant-loop-call : goal.invariant-loop-call
+invariant-loop-call g l = record {
   start : l.core.start ≡ l.initial.core.start;
   told : l.core.told ≡ l.initial.core.told;
 }
