@@ -8,7 +8,7 @@ use Rattle.clk_base.specs.declared.event.Reply.TheVariants as reply
 use Rattle.clk_base.specs.declared.event.Turn.TheVariants as turn
 use Rattle.clk_model.specs.State.{State}
 use Rattle.clk_model.specs.Journal.{slotless, replay, is_paid}
-use Rattle.clk_model.specs.Causes.{is_refusal, BeginCauses, LeavesRefused}
+use Rattle.clk_model.specs.Laws.Causes.{is_refusal, BeginCauses, LeavesRefused}
 use Rattle.clk_model.proofs.RefusalLaws.{refused_keeps}
 use Rattle.clk_machine.specs.Sound.{IsSound, IsPlaced, CanBegin}
 use Rattle.clk_machine.specs.Held.{Held, Takes}

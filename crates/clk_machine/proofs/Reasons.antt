@@ -9,7 +9,7 @@ use Rattle.clk_model.specs.State.{State}
 use Rattle.clk_model.specs.Tree.{path}
 use Rattle.clk_model.specs.Journal.{slotless}
 use Rattle.clk_model.specs.Machine.{next}
-use Rattle.clk_model.specs.Causes.{BeginCauses}
+use Rattle.clk_model.specs.Laws.Causes.{BeginCauses}
 use Rattle.clk_model.proofs.CauseLaws.{get_causes, put_causes, prepare_causes, unprepare_causes, rate_causes, get_parent_causes, probe_causes}
 use Rattle.clk_model.proofs.EventLaws.{own_is_live, prepared_once_less}
 use Rattle.clk_machine.specs.Sound.{IsSound, IsPlaced, CanBegin}

@@ -22,7 +22,7 @@ use Rattle.clk_model.specs.State.{State, row_of, registered}
 use Rattle.clk_model.specs.Tree.{selected}
 use Rattle.clk_model.specs.Rate.{rate}
 use Rattle.clk_model.specs.Begin.{registered_rows, register}
-use Rattle.clk_model.specs.Paths.{scales_by}
+use Rattle.clk_model.specs.Laws.Paths.{scales_by}
 use Rattle.clk_model.proofs.Members.{is_in_head, is_in_tail, test_same}
 use Rattle.clk_model.proofs.RateLaws.{rate-links, writes_leave_rates}
 use Rattle.clk_tree.specs.TreeState.{TreeState, IsTree, attached, requested}

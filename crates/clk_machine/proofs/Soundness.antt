@@ -15,7 +15,7 @@ use Rattle.clk_model.specs.Tree.{selected}
 use Rattle.clk_model.specs.Holders.{is_enabled, enable_holders, active}
 use Rattle.clk_model.specs.Fed.{feeds, Fed}
 use Rattle.clk_model.specs.Journal.{opening}
-use Rattle.clk_model.specs.Plans.{LinksArePossible}
+use Rattle.clk_model.specs.Laws.Plans.{LinksArePossible}
 use Rattle.clk_model.proofs.HolderLaws.{held_by-none}
 use Rattle.clk_model.proofs.StateLaws.{active_by_handles}
 use Rattle.clk_model.proofs.FedLaws.{is_held-parent}

@@ -42,7 +42,7 @@ impl<B: Bank> Core<B> {
     ghost use Rattle.clk_base.specs.declared.event.Turn.TheVariants.{Done};
     ghost use Rattle.clk_machine.specs.Fit.{CanRun};
     ghost use Rattle.clk_machine.specs.Sound.{IsPlaced, takes_memory};
-    ghost use Rattle.clk_model.specs.Causes.{EnableCauses, DisableCauses, RunningCauses, TurnHasCause, LeavesRefused};
+    ghost use Rattle.clk_model.specs.Laws.Causes.{EnableCauses, DisableCauses, RunningCauses, TurnHasCause, LeavesRefused};
     ghost use Rattle.clk_machine.specs.Run.{Run, now_of, was_probed, is_built, IsDone, Appends};
     ghost use Rattle.clk_machine.specs.Row.{IsRowOf, IsTreeOf};
 

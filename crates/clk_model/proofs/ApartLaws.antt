@@ -13,7 +13,7 @@ use Rattle.clk_base.specs.Valid.{IsValid, is_width, has_ranges, ranges}
 use Rattle.clk_base.proofs.Shares.{share_bit-sym}
 use Rattle.clk_base.proofs.Valid.{fields-once, fields-own}
 use Rattle.clk_model.specs.Kinds.{mux_field}
-use Rattle.clk_model.specs.Plans.{LieApart}
+use Rattle.clk_model.specs.Laws.Plans.{LieApart}
 
 -- ---- widths
 

@@ -26,7 +26,7 @@ use Rattle.clk_model.specs.Script.{move, move_of, planned, sweep_script}
 use Rattle.clk_model.specs.Step.{passed_over}
 use Rattle.clk_model.specs.Begin.{begun}
 use Rattle.clk_model.specs.Machine.{next}
-use Rattle.clk_model.specs.Flight.{Flight, begins, goes_on, beside, script, plan, pre_notices, abort_notices}
+use Rattle.clk_model.specs.Laws.Flight.{Flight, begins, goes_on, beside, script, plan, pre_notices, abort_notices}
 use Rattle.clk_model.proofs.Members.{test_same, same_from_test, or_left, or_right, not_either, both_left}
 use Rattle.clk_model.proofs.NoneLaws.{none_append, none_flat_map, none_if, none_front, none_rest}
 use Rattle.clk_model.proofs.BeginLaws.{walked_at, walked, sweep_has_no, plans, HasScript, raised_alone, lowered_alone, by_rate, by_parent as by_reparenting, by_registration, by_sweep, IsBegun, begun_going}

@@ -30,7 +30,7 @@ use Rattle.clk_model.specs.Script.{move, move_of, planned, adoption, adoption_or
 use Rattle.clk_model.specs.Begin.{done, refused, starts, change_of, change_along, put_handle, with_handle, got, put_back, prepared_once_more, prepare, unprepare, rounded, request, held_once_more, range_set, request_between, parent_set, reparenting, exclusive_put, register, begun}
 use Rattle.clk_model.specs.Step.{range_back, with_range}
 use Rattle.clk_model.specs.Prep.{without_enables, prep}
-use Rattle.clk_model.specs.Flight.{pre_notices, abort_notices}
+use Rattle.clk_model.specs.Laws.Flight.{pre_notices, abort_notices}
 use Rattle.clk_model.proofs.EventLaws.{own_is_live}
 use Rattle.clk_model.proofs.TierLaws.{pick_either, with_handle_either}
 use Rattle.clk_model.proofs.NoneLaws.{none_append, none_map, none_flat_map, none_if}

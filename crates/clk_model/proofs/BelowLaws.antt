@@ -7,7 +7,7 @@ use Rattle.clk_base.proofs.Lines.{ends_within-parent}
 use Rattle.clk_model.specs.Lists.{is_in}
 use Rattle.clk_model.specs.Tree.{path_within}
 use Rattle.clk_model.specs.Walk.{below_within}
-use Rattle.clk_model.specs.Plans.{none_twice}
+use Rattle.clk_model.specs.Laws.Plans.{none_twice}
 use Rattle.clk_model.proofs.Members.{or_cases, or_left, or_right, is_in_head, is_in_tail, is_in_cases}
 use Rattle.clk_model.proofs.PathLaws.{above, in_above}
 use Rattle.clk_model.proofs.RoundLaws.{is_in-filter}

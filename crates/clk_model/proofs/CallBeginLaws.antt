@@ -24,8 +24,8 @@ use Rattle.clk_model.specs.Views.{view, lift}
 use Rattle.clk_model.specs.Begin.{put_handle, request_between, done, refused, most_credits, weight_of, starts, change_of, change_along, got, put_back, prepare, unprepare, rounded, request, range_set, parent_set, reparenting, exclusive_put, held_once_more, notifier_added, notifier_removed, register, probed, swept, begun}
 use Rattle.clk_model.specs.Step.{sets_parent}
 use Rattle.clk_model.specs.Machine.{next}
-use Rattle.clk_model.specs.Weight.{front_weight, weight_left}
-use Rattle.clk_model.specs.Paced.{left_of, may_time_out, winds_down, tells, BeginsWith, CallsBeginPaced}
+use Rattle.clk_model.specs.Laws.Weight.{front_weight, weight_left}
+use Rattle.clk_model.specs.Laws.Paced.{left_of, may_time_out, winds_down, tells, BeginsWith, CallsBeginPaced}
 use Rattle.clk_model.proofs.FreshLaws.{script_probe, script_sweep, Fresh, Begins, begins_done, begins_pick, begins_starts, begins_handle, fresh_change, fresh_along, fresh_reparenting}
 
 begins_got : (s : State) (d : ℕ) (found : Option ℕ) → Begins (got s d found)

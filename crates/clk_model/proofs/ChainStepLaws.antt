@@ -4,7 +4,7 @@ use Rattle.std.specs.Prelude.{filter}
 use Rattle.std.specs.List.{AllByRecursion, list_any}
 use Rattle.clk_model.specs.Lists.{is_in}
 use Rattle.clk_model.specs.State.{ChainStep}
-use Rattle.clk_model.specs.Plans.{none_twice, clocks_in}
+use Rattle.clk_model.specs.Laws.Plans.{none_twice, clocks_in}
 use Rattle.clk_model.proofs.Members.{is_in_head, is_in_tail, is_in_cases, or_left, or_right, not_either}
 use Rattle.clk_model.proofs.BelowLaws.{once_head}
 use Rattle.clk_model.proofs.PlanLaws.{once_cons}

@@ -21,7 +21,7 @@ use Rattle.clk_model.specs.Begin.{begun}
 use Rattle.clk_model.specs.Step.{todo, rest_of, left_behind, taken, is_end, is_visit, is_register, is_settle, from_first, behind_first, cut_short, stepped}
 use Rattle.clk_model.specs.Machine.{comes_next, may_step, paid, counted, next}
 use Rattle.clk_model.specs.Tier.{is_enable_tier}
-use Rattle.clk_model.specs.Flight.{Flight, begins, goes_on, beside, script, plan, IsFrom, IsBehind, IsProbeCut, IsCut, may_be_put, is_no_abort, is_no_post, IsLeftOf, all_left, own_made, put_made, cut, IsFront, nothing, polling, polling_first, raise_again, lower_again, falling, telling, IsUnderWay}
+use Rattle.clk_model.specs.Laws.Flight.{Flight, begins, goes_on, beside, script, plan, IsFrom, IsBehind, IsProbeCut, IsCut, may_be_put, is_no_abort, is_no_post, IsLeftOf, all_left, own_made, put_made, cut, IsFront, nothing, polling, polling_first, raise_again, lower_again, falling, telling, IsUnderWay}
 use Rattle.clk_model.proofs.Members.{same_from_test, both_left, both_right}
 use Rattle.clk_model.proofs.NoneLaws.{none_append, none_front, none_rest, none_behind}
 use Rattle.clk_model.proofs.MicroLaws.{comes_first}

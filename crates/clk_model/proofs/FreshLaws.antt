@@ -30,7 +30,7 @@ use Rattle.clk_model.specs.Script.{planned, move, move_of, adoption, adoptable, 
 use Rattle.clk_model.specs.Begin.{refused, pick, most_credits, weight_of, starts, change_of, change_along, own_handle, with_handle, reparenting}
 use Rattle.clk_model.specs.Step.{is_end, sets_parent, aborts_of}
 use Rattle.clk_model.specs.Machine.{is_poll}
-use Rattle.clk_model.specs.Paced.{may_time_out, is_scripted, ends_last}
+use Rattle.clk_model.specs.Laws.Paced.{may_time_out, is_scripted, ends_last}
 use Rattle.clk_model.proofs.Members.{both_left, both_right, or_cases, or_left, or_right}
 
 -- ---- scripts

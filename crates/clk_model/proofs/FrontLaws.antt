@@ -16,7 +16,7 @@ use Rattle.clk_model.specs.Rate.{rate}
 use Rattle.clk_model.specs.Notices.{Rates, notifiers_of, abort_list, post_list}
 use Rattle.clk_model.specs.Step.{todo, rest_of, taken, sets_parent, aborts_of, on, timed_out, to_raise, raise_one, raise, poll, is_yes, to_lower, lower_one, lower, set_in_chain, visit, stepped}
 use Rattle.clk_model.specs.Machine.{comes_next}
-use Rattle.clk_model.specs.Flight.{is_no_abort, is_no_post, IsFront, nothing, polling, polling_first, raise_again, lower_again, falling, telling}
+use Rattle.clk_model.specs.Laws.Flight.{is_no_abort, is_no_post, IsFront, nothing, polling, polling_first, raise_again, lower_again, falling, telling}
 use Rattle.clk_model.proofs.Members.{test_same}
 use Rattle.clk_model.proofs.NoneLaws.{none_append, none_map, none_flat_map, none_if, none_front, none_rest}
 use Rattle.clk_model.proofs.MicroLaws.{comes_first}

@@ -11,7 +11,7 @@ use Rattle.clk_model.specs.declared.row.ClockRow.{ClockRow}
 use Rattle.clk_model.specs.Tree.{selected}
 use Rattle.clk_model.specs.Rate.{rate}
 use Rattle.clk_model.specs.Gates.{gates_moved}
-use Rattle.clk_model.specs.Paths.{scales_by}
+use Rattle.clk_model.specs.Laws.Paths.{scales_by}
 use Rattle.clk_model.proofs.ApartLaws.{fields_apart, gate_or_field}
 use Rattle.clk_model.proofs.RateLaws.{writes_leave_rates}
 use Rattle.clk_model.proofs.SupplyLaws.{LiesOffGates, field-gates_moved, mux_off_gates, selected_same}

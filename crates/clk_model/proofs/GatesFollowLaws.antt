@@ -10,7 +10,7 @@ use Rattle.clk_model.specs.State.{State, unregistered_row, registered, link_in}
 use Rattle.clk_model.specs.Holders.{critical_clocks, active, prepared}
 use Rattle.clk_model.specs.Gates.{gates_moved, settled}
 use Rattle.clk_model.specs.Journal.{opening}
-use Rattle.clk_model.specs.Supplied.{OpeningIsSupplied, SettledFollowsGates}
+use Rattle.clk_model.specs.Laws.Supplied.{OpeningIsSupplied, SettledFollowsGates}
 use Rattle.clk_model.proofs.Members.{is_in-count_from}
 use Rattle.clk_model.proofs.CountLaws.{prepared_by_handles}
 use Rattle.clk_model.proofs.GateLaws.{gate_bit, is_set-gates_moved_same, is_set-gates_moved_other}

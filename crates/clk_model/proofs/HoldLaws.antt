@@ -19,7 +19,7 @@ use Rattle.clk_model.specs.Step.{todo, rest_of, left_behind, taken, cut_short, r
 use Rattle.clk_model.specs.Begin.{prepared_once_more, held_once_more, request_between, begun}
 use Rattle.clk_model.specs.Machine.{comes_next, next}
 use Rattle.clk_model.specs.Tier.{is_enable_tier}
-use Rattle.clk_model.specs.Flight.{Flight, begins, goes_on, beside, script, may_be_put, IsFront}
+use Rattle.clk_model.specs.Laws.Flight.{Flight, begins, goes_on, beside, script, may_be_put, IsFront}
 use Rattle.clk_model.proofs.Members.{or_left, or_right, both_left, both_right}
 use Rattle.clk_model.proofs.StepLaws.{raises, IsAfter, step_after}
 use Rattle.clk_model.proofs.TierLaws.{beside_change, beside_clocks}

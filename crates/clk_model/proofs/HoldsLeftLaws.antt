@@ -30,11 +30,11 @@ use Rattle.clk_model.specs.Begin.{change_along, starts, refused, most_credits, w
 use Rattle.clk_model.specs.Machine.{next}
 use Rattle.clk_model.specs.Journal.{slotless, replay, Legal, opening}
 use Rattle.clk_model.specs.Tier.{is_enable_tier}
-use Rattle.clk_model.specs.Flight.{Flight, begins, goes_on, beside, plan}
-use Rattle.clk_model.specs.LinksKept.{KeepsLinks}
-use Rattle.clk_model.specs.Plans.{none_twice, HasParent, LeadsFrom, IsWired, clocks_in}
-use Rattle.clk_model.specs.Walks.{IsOrder}
-use Rattle.clk_model.specs.HoldsLeft.{HoldsNothing, is_probe, CallsLeaveNoHold, begins_probing, RunsLeaveNoHold}
+use Rattle.clk_model.specs.Laws.Flight.{Flight, begins, goes_on, beside, plan}
+use Rattle.clk_model.specs.Laws.LinksKept.{KeepsLinks}
+use Rattle.clk_model.specs.Laws.Plans.{none_twice, HasParent, LeadsFrom, IsWired, clocks_in}
+use Rattle.clk_model.specs.Laws.Walks.{IsOrder}
+use Rattle.clk_model.specs.Laws.HoldsLeft.{HoldsNothing, is_probe, CallsLeaveNoHold, begins_probing, RunsLeaveNoHold}
 use Rattle.clk_model.proofs.Members.{both_left, both_right, not_either, same_from_test}
 use Rattle.clk_model.proofs.BelowLaws.{once_head}
 use Rattle.clk_model.proofs.BeginLaws.{plans, begun_going}

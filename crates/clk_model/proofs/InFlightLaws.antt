@@ -28,7 +28,7 @@ use Rattle.clk_model.specs.Step.{taken}
 use Rattle.clk_model.specs.Machine.{next}
 use Rattle.clk_model.specs.Journal.{slotless, replay, Legal}
 use Rattle.clk_model.specs.Tier.{is_enable_tier, is_step}
-use Rattle.clk_model.specs.Flight.{Flight, begins, goes_on, beside, step_of, steps_of, IsInFlight, QuietOrInFlight}
+use Rattle.clk_model.specs.Laws.Flight.{Flight, begins, goes_on, beside, step_of, steps_of, IsInFlight, QuietOrInFlight}
 use Rattle.clk_model.proofs.JournalLaws as journals
 use Rattle.clk_model.proofs.TierLaws.{pick_either, with_handle_either, beside_change}
 use Rattle.clk_model.proofs.FlightLaws.{IsStep, step_is, begin_is, course_of, same_change}

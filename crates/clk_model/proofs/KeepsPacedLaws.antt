@@ -15,7 +15,7 @@ use Rattle.clk_model.specs.Gates.{settled}
 use Rattle.clk_model.specs.Notices.{abort_list}
 use Rattle.clk_model.specs.Script.{plls}
 use Rattle.clk_model.specs.Step.{sets_parent, cut_short, on, powered, aborts_of, to_raise, most_polls, raise_one, raise, poll, to_lower, lower_one, lower}
-use Rattle.clk_model.specs.Paced.{may_time_out, is_scripted, ends_last, StillToRaise, tells, polls, polls_to_raise, raises, lowers, IsPaced}
+use Rattle.clk_model.specs.Laws.Paced.{may_time_out, is_scripted, ends_last, StillToRaise, tells, polls, polls_to_raise, raises, lowers, IsPaced}
 use Rattle.clk_model.proofs.WeightLaws.{changed, aborts_notices}
 use Rattle.clk_model.proofs.PacedStepLaws.{raise_again}
 use Rattle.clk_model.proofs.PowerLaws.{settled_raise, lowered_fewer}

@@ -29,9 +29,9 @@ use Rattle.clk_model.specs.Begin.{begun, prepared_once_more, held_once_more, req
 use Rattle.clk_model.specs.Step.{todo, rest_of, left_behind, taken, sets_parent, aborts_of, on, timed_out, to_raise, raise_one, raise, poll, is_yes, to_lower, lower_one, lower, set_in_chain, visit, settle_all, requested, ended_well, unranged, stepped}
 use Rattle.clk_model.specs.Machine.{paid, next}
 use Rattle.clk_model.specs.Journal.{replay, opening}
-use Rattle.clk_model.specs.Plans.{LinesEnd, LinksArePossible}
-use Rattle.clk_model.specs.Walks.{IsOrder}
-use Rattle.clk_model.specs.LinksKept.{HasShapeOf, RunsAreWired, links_possible, WillBePossible, KeepsLinks, EventsKeepLinks, RunsKeepLinks}
+use Rattle.clk_model.specs.Laws.Plans.{LinesEnd, LinksArePossible}
+use Rattle.clk_model.specs.Laws.Walks.{IsOrder}
+use Rattle.clk_model.specs.Laws.LinksKept.{HasShapeOf, RunsAreWired, links_possible, WillBePossible, KeepsLinks, EventsKeepLinks, RunsKeepLinks}
 use Rattle.clk_model.proofs.Members.{both_left, both_right}
 use Rattle.clk_model.proofs.MicroLaws.{comes_first}
 use Rattle.clk_model.proofs.PacedStepLaws.{step_defined}

@@ -22,8 +22,8 @@ use Rattle.clk_model.specs.Walk.{walk, changing, rates_in}
 use Rattle.clk_model.specs.Notices.{Rates, vetoes, notifiers_of, until_veto, is_veto, pre_list, abort_list, post_list}
 use Rattle.clk_model.specs.Script.{planned, move, move_of, adoption, adoptable, adoption_order, probe_script, lets_through, runs, sweep_order, sweep_script}
 use Rattle.clk_model.specs.Step.{is_end, is_visit, is_register, is_settle, from_first, behind_first, cut_short}
-use Rattle.clk_model.specs.Plans.{HasParent}
-use Rattle.clk_model.specs.LinksKept.{links_possible}
+use Rattle.clk_model.specs.Laws.Plans.{HasParent}
+use Rattle.clk_model.specs.Laws.LinksKept.{links_possible}
 use Rattle.clk_model.proofs.Members.{both_left, both_right, same_from_test}
 use Rattle.clk_model.proofs.PllLaws.{link_given_possible}
 

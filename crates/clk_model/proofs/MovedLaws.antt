@@ -20,7 +20,7 @@ use Rattle.clk_model.specs.State.{ChainStep, link_in}
 use Rattle.clk_model.specs.Tree.{selected}
 use Rattle.clk_model.specs.Round.{Wiring, parent_rate_in}
 use Rattle.clk_model.specs.Chain.{linked, moves, place_of, select, setting, set_one, outcome}
-use Rattle.clk_model.specs.Plans.{none_twice, clocks_in, HasParent, LieApart, DiffersIn, IsWired, MovedAreFed}
+use Rattle.clk_model.specs.Laws.Plans.{none_twice, clocks_in, HasParent, LieApart, DiffersIn, IsWired, MovedAreFed}
 use Rattle.clk_model.proofs.Members.{same_from_test, test_other, not_either}
 use Rattle.clk_model.proofs.StateLaws.{row_of-set_same}
 use Rattle.clk_model.proofs.ApartLaws.{fields_apart, fielded_lt, mux_is_field}

@@ -16,7 +16,7 @@ use Rattle.clk_model.specs.Kinds.{mux_field}
 use Rattle.clk_model.specs.State.{ChainStep, row_of, link_in}
 use Rattle.clk_model.specs.Round.{Wiring, parent_rate_in}
 use Rattle.clk_model.specs.Chain.{clock_id, linked, moves, place_of, select, setting, set_one, outcome}
-use Rattle.clk_model.specs.Plans.{none_twice, clocks_in, HasParent, LieApart, DiffersIn}
+use Rattle.clk_model.specs.Laws.Plans.{none_twice, clocks_in, HasParent, LieApart, DiffersIn}
 use Rattle.clk_model.proofs.Members.{same_from_test, test_other, not_either, both_left, both_right}
 use Rattle.clk_model.proofs.StateLaws.{row_of-set_same, row_of-set_other}
 

@@ -13,7 +13,7 @@ use Rattle.clk_model.specs.Chain.{clock_id}
 use Rattle.clk_model.specs.Gates.{settled}
 use Rattle.clk_model.specs.Script.{plls}
 use Rattle.clk_model.specs.Step.{is_end, is_visit, is_settle, is_register, sets_parent, from_first, behind_first, cut_short, on, powered, aborts_of, to_raise, most_polls, todo}
-use Rattle.clk_model.specs.Paced.{is_notice, winds_down, may_time_out, is_scripted, ends_last, tells, polls, polls_to_raise, IsPaced}
+use Rattle.clk_model.specs.Laws.Paced.{is_notice, winds_down, may_time_out, is_scripted, ends_last, tells, polls, polls_to_raise, IsPaced}
 use Rattle.clk_model.proofs.Members.{both_left, both_right, test_same}
 use Rattle.clk_model.proofs.WeightLaws.{changed}
 use Rattle.clk_model.proofs.PowerLaws.{raised_fewer}

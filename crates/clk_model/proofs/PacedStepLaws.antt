@@ -25,8 +25,8 @@ use Rattle.clk_model.specs.Notices.{Rates, notifiers_of, post_list}
 use Rattle.clk_model.specs.Script.{plls, weight}
 use Rattle.clk_model.specs.Step.{on, cut_short, aborts_of, timed_out, to_raise, to_lower, poll, fall, visit, set_in_chain, is_yes, todo, taken, stepped}
 use Rattle.clk_model.specs.Machine.{comes_next, may_step, counted, next}
-use Rattle.clk_model.specs.Weight.{front_weight, weight_left}
-use Rattle.clk_model.specs.Paced.{left_of, winds_down, may_time_out, is_scripted, Front, tells, polls, polls_to_raise, raises, lowers, IsPaced, StepsLowerWeight}
+use Rattle.clk_model.specs.Laws.Weight.{front_weight, weight_left}
+use Rattle.clk_model.specs.Laws.Paced.{left_of, winds_down, may_time_out, is_scripted, Front, tells, polls, polls_to_raise, raises, lowers, IsPaced, StepsLowerWeight}
 use Rattle.clk_model.proofs.Members.{both_left, both_right}
 use Rattle.clk_model.proofs.PllLaws.{to_raise_few, to_lower_few}
 use Rattle.clk_model.proofs.MicroLaws.{same_micro}

@@ -12,7 +12,7 @@ use Rattle.clk_model.specs.Kinds.{can_round}
 use Rattle.clk_model.specs.State.{ChainStep}
 use Rattle.clk_model.specs.Round.{Wiring, View, Rounded, rate_in, passes_on, rate_for, round}
 use Rattle.clk_model.specs.Chain.{outcome, moves, chain_from, chain_within, keeps_boundaries, chain}
-use Rattle.clk_model.specs.Plans.{none_twice, LinesEnd, LinksArePossible, clocks_in, LeadsUp, KeepsBoundaries, LeadsFrom, IsPlan, ChainsLead}
+use Rattle.clk_model.specs.Laws.Plans.{none_twice, LinesEnd, LinksArePossible, clocks_in, LeadsUp, KeepsBoundaries, LeadsFrom, IsPlan, ChainsLead}
 use Rattle.clk_model.proofs.Members.{is_in_cases, any_from_in, or_left, or_right, test_same}
 use Rattle.clk_model.proofs.RoundLaws.{Fits, fits_round}
 

@@ -19,7 +19,7 @@ use Rattle.clk_model.specs.Tree.{path_within, path, selected, if_registered, lin
 use Rattle.clk_model.specs.Holders.{prepared}
 use Rattle.clk_model.specs.Script.{unprepared_plls, runs, plls_within, plls}
 use Rattle.clk_model.specs.Step.{to_raise, to_lower}
-use Rattle.clk_model.specs.Plans.{LinesEnd, LinksArePossible}
+use Rattle.clk_model.specs.Laws.Plans.{LinesEnd, LinksArePossible}
 use Rattle.clk_model.proofs.Members.{is_in_head, is_in_tail, is_in_cases, is_in-count_from}
 use Rattle.clk_model.proofs.PathLaws.{above}
 

@@ -18,7 +18,7 @@ use Rattle.clk_model.specs.Gates.{settled}
 use Rattle.clk_model.specs.Script.{runs, unprepared_plls}
 use Rattle.clk_model.specs.Step.{on, powered, to_raise, to_lower}
 use Rattle.clk_model.proofs.Members.{is_in_head, is_in_cases, is_in-reverse}
-use Rattle.clk_model.specs.Plans.{LieApart}
+use Rattle.clk_model.specs.Laws.Plans.{LieApart}
 use Rattle.clk_model.proofs.GateLaws.{at_or_apart}
 use Rattle.clk_model.proofs.RoundLaws.{is_in-filter}
 use Rattle.clk_model.proofs.ApartLaws.{fields_apart, fielded_lt, mux_is_field}

@@ -13,8 +13,8 @@ use Rattle.clk_model.specs.Lists.{count_from}
 use Rattle.clk_model.specs.State.{State, handle_at}
 use Rattle.clk_model.specs.Rate.{rate}
 use Rattle.clk_model.specs.Prep.{gates_cleared, masked, without_enables, prep}
-use Rattle.clk_model.specs.PrepTold.{PrepTells}
-use Rattle.clk_model.specs.Plans.{LieApart}
+use Rattle.clk_model.specs.Laws.PrepTold.{PrepTells}
+use Rattle.clk_model.specs.Laws.Plans.{LieApart}
 use Rattle.clk_model.proofs.Members.{is_in_head, is_in_tail}
 use Rattle.clk_model.proofs.PrepLaws.{length-gates_cleared}
 use Rattle.clk_model.proofs.ApartLaws.{fields_apart}

@@ -16,8 +16,8 @@ use Rattle.clk_model.specs.Tree.{path_within, path}
 use Rattle.clk_model.specs.Rate.{style_of, rate_over, rate_within, rate}
 use Rattle.clk_model.specs.Chain.{linked}
 use Rattle.clk_model.specs.Begin.{registered_rows, register}
-use Rattle.clk_model.specs.Plans.{LinksArePossible}
-use Rattle.clk_model.specs.Paths.{RegistersLeaveOthers, RatesAreOverLinks, scales_by, RelinksLeaveRates, WritesLeaveRates}
+use Rattle.clk_model.specs.Laws.Plans.{LinksArePossible}
+use Rattle.clk_model.specs.Laws.Paths.{RegistersLeaveOthers, RatesAreOverLinks, scales_by, RelinksLeaveRates, WritesLeaveRates}
 use Rattle.clk_model.proofs.Members.{is_in_head, is_in_tail}
 use Rattle.clk_model.proofs.PathLaws.{above}
 use Rattle.clk_model.proofs.WholePathLaws.{given_others, registers_leave_paths, linked_other, other_member}

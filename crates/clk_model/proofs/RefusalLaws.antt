@@ -21,7 +21,7 @@ use Rattle.clk_model.specs.Round.{wiring, round_rate}
 use Rattle.clk_model.specs.Views.{view, lift}
 use Rattle.clk_model.specs.Journal.{is_paid}
 use Rattle.clk_model.specs.Machine.{paid, next}
-use Rattle.clk_model.specs.Causes.{is_refusal}
+use Rattle.clk_model.specs.Laws.Causes.{is_refusal}
 use Rattle.clk_model.proofs.StateLaws.{settled-still}
 
 -- an answer that refuses leaves this state

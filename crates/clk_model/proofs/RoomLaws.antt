@@ -17,11 +17,11 @@ use Rattle.clk_model.specs.State.{State, Change, is_quiet}
 use Rattle.clk_model.specs.Begin.{most_credits, begun}
 use Rattle.clk_model.specs.Machine.{paid, next}
 use Rattle.clk_model.specs.Journal.{slotless, replay, Legal, opening}
-use Rattle.clk_model.specs.LinksKept.{KeepsLinks}
-use Rattle.clk_model.specs.Plans.{LinksArePossible}
+use Rattle.clk_model.specs.Laws.LinksKept.{KeepsLinks}
+use Rattle.clk_model.specs.Laws.Plans.{LinksArePossible}
 use Rattle.clk_model.specs.Prep.{change_prep, prep}
 use Rattle.clk_model.specs.Tier.{is_enable_tier}
-use Rattle.clk_model.specs.RunsEnd.{GoesOn, HasRoom, EventsLeaveRoom, RunsHaveRoom, RunsEnd}
+use Rattle.clk_model.specs.Laws.RunsEnd.{GoesOn, HasRoom, EventsLeaveRoom, RunsHaveRoom, RunsEnd}
 use Rattle.clk_model.proofs.CallBeginLaws.{calls_begin_paced}
 use Rattle.clk_model.proofs.PaceLaws.{steps_keep_paced}
 use Rattle.clk_model.proofs.PacedStepLaws.{steps_lower_weight}

@@ -11,8 +11,8 @@ use Rattle.clk_model.specs.declared.row.ClockRow.{ClockRow}
 use Rattle.clk_model.specs.Kinds.{is_fixed}
 use Rattle.clk_model.specs.State.{registered, link_in}
 use Rattle.clk_model.specs.Tree.{path_within, path}
-use Rattle.clk_model.specs.Plans.{LinksArePossible}
-use Rattle.clk_model.specs.Paths.{RootedEndsFixed}
+use Rattle.clk_model.specs.Laws.Plans.{LinksArePossible}
+use Rattle.clk_model.specs.Laws.Paths.{RootedEndsFixed}
 use Rattle.clk_model.proofs.Members.{or_cases, any_from_in, both_left, both_right}
 use Rattle.clk_model.proofs.PathLaws.{above}
 use Rattle.clk_model.proofs.PllLaws.{at_place}

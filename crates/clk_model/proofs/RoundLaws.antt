@@ -17,7 +17,7 @@ use Rattle.clk_model.specs.State.{link_in}
 use Rattle.clk_model.specs.Tree.{rooted}
 use Rattle.clk_model.specs.Rate.{style_of}
 use Rattle.clk_model.specs.Round.{Wiring, View, Rounded, most_rate, rate_in, parent_rate_in, over_parent, passes_on, through, over_link, better, best_of, by_divisor, over_candidate, by_candidate, by_kind, clamped, round_by}
-use Rattle.clk_model.specs.Plans.{LinksArePossible}
+use Rattle.clk_model.specs.Laws.Plans.{LinksArePossible}
 use Rattle.clk_model.proofs.Members.{is_in_head, is_in_tail, is_in_cases}
 
 -- the best parent of a rounding is a possible parent, and there is none only where the clock has no link

@@ -25,7 +25,7 @@ use Rattle.clk_model.specs.State.{ChainStep}
 use Rattle.clk_model.specs.Rate.{style_of}
 use Rattle.clk_model.specs.Round.{Wiring}
 use Rattle.clk_model.specs.Chain.{outcome}
-use Rattle.clk_model.specs.Plans.{clocks_in, LieApart, LiesOutside, DiffersIn, LeavesFields, OutcomesKeep}
+use Rattle.clk_model.specs.Laws.Plans.{clocks_in, LieApart, LiesOutside, DiffersIn, LeavesFields, OutcomesKeep}
 use Rattle.clk_model.proofs.Members.{is_in_head, is_in_tail, is_in_cases, test_other}
 use Rattle.clk_model.proofs.ApartLaws.{ranges_hold, fields_apart, gate_or_field}
 use Rattle.clk_model.proofs.OutcomeLaws.{FitsKind, SettingsFit, field-put_outside, differs_in}

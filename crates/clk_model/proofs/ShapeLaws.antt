@@ -38,7 +38,7 @@ use Rattle.clk_model.specs.Begin.{put_handle, request_between, done, refused, pi
 use Rattle.clk_model.specs.Script.{probe_script, sweep_script}
 use Rattle.clk_model.specs.Step.{taken, on, powered, to_raise, raise_one, poll, is_yes, to_lower, lower_one, planned_rate, set_in_chain, settle_all, requested, ended_well, unranged, stepped}
 use Rattle.clk_model.specs.Machine.{enabled, disabled, running, may_step, paid, counted, next}
-use Rattle.clk_model.specs.LinksKept.{HasShapeOf, EventsKeepShape}
+use Rattle.clk_model.specs.Laws.LinksKept.{HasShapeOf, EventsKeepShape}
 use Rattle.clk_model.proofs.GateLaws.{length-gates_moved}
 use Rattle.clk_model.proofs.OutcomeLaws.{length-setting, length-selecting}
 use Rattle.clk_model.proofs.PacedStepLaws.{step_defined}

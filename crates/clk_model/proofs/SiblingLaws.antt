@@ -17,9 +17,9 @@ use Rattle.clk_model.specs.Tree.{children, roots, is_orphan, orphans}
 use Rattle.clk_model.specs.Chain.{linked}
 use Rattle.clk_model.specs.Begin.{registered_rows, register}
 use Rattle.clk_model.specs.Step.{relink}
-use Rattle.clk_model.specs.Plans.{LinksArePossible}
-use Rattle.clk_model.specs.Walks.{IsOrder}
-use Rattle.clk_model.specs.Siblings.{IsAttached, front_if, IsUnattached, RegistersUnattached, ListsRegistered, HasOnePlace, ChildrenTellLinks, RegistersAttach, RelinksAttach, RegistersAreListed, RelinksAreListed}
+use Rattle.clk_model.specs.Laws.Plans.{LinksArePossible}
+use Rattle.clk_model.specs.Laws.Walks.{IsOrder}
+use Rattle.clk_model.specs.Laws.Siblings.{IsAttached, front_if, IsUnattached, RegistersUnattached, ListsRegistered, HasOnePlace, ChildrenTellLinks, RegistersAttach, RelinksAttach, RegistersAreListed, RelinksAreListed}
 use Rattle.clk_model.proofs.Members.{is_in_head, is_in_tail, is_in_cases, both_left, both_right, same_from_test}
 use Rattle.clk_model.proofs.RoundLaws.{is_in-filter}
 use Rattle.clk_model.proofs.PlanLaws.{once_cons}

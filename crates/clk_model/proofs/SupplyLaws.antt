@@ -25,8 +25,8 @@ use Rattle.clk_model.specs.Fed.{feeds, IsFed}
 use Rattle.clk_model.specs.Gates.{follow, gates_moved, settled}
 use Rattle.clk_model.specs.Begin.{put_handle, own_handle}
 use Rattle.clk_model.specs.Machine.{paid, next}
-use Rattle.clk_model.specs.Plans.{LieApart}
-use Rattle.clk_model.specs.Supplied.{GatesOpen, IsFeeder, IsReady, Supplies, IsSupplied, SuppliedIsFed, SettledIsSupplied, EnableTierKeepsFed}
+use Rattle.clk_model.specs.Laws.Plans.{LieApart}
+use Rattle.clk_model.specs.Laws.Supplied.{GatesOpen, IsFeeder, IsReady, Supplies, IsSupplied, SuppliedIsFed, SettledIsSupplied, EnableTierKeepsFed}
 use Rattle.clk_model.specs.Tier.{is_enable_tier}
 use Rattle.clk_model.proofs.Members.{or_cases, or_left, or_right, is_in_head, is_in_tail, is_in-count_from, count_from-below}
 use Rattle.clk_model.proofs.HolderLaws.{is_under, held_by, held_by-set_same, held_by-set_more, active_parts}

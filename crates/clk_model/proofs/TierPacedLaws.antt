@@ -18,9 +18,9 @@ use Rattle.clk_model.specs.Script.{runs, unprepared_plls}
 use Rattle.clk_model.specs.Begin.{own_handle}
 use Rattle.clk_model.specs.Step.{to_raise, to_lower}
 use Rattle.clk_model.specs.Machine.{next}
-use Rattle.clk_model.specs.Weight.{weight_left}
+use Rattle.clk_model.specs.Laws.Weight.{weight_left}
 use Rattle.clk_model.specs.Tier.{is_enable_tier}
-use Rattle.clk_model.specs.Paced.{left_of, Front, tells, polls, polls_to_raise, raises, lowers, IsPaced, EnableTierKeepsPaced}
+use Rattle.clk_model.specs.Laws.Paced.{left_of, Front, tells, polls, polls_to_raise, raises, lowers, IsPaced, EnableTierKeepsPaced}
 use Rattle.clk_model.proofs.EventLaws.{own_is_live, enable-unknown, enable-unprepared, enable-fine, disable-unknown, disable-warned, disable-fine, running-unknown, running-told}
 use Rattle.clk_model.proofs.SupplyLaws.{paid_is, prepared-put_same}
 use Rattle.clk_model.proofs.PowerLaws.{filter-agree, settled_raise, settled_lower}

@@ -29,7 +29,7 @@ use Rattle.clk_model.specs.Step.{todo, rest_of, left_behind, taken, on, with_ran
 use Rattle.clk_model.specs.Machine.{comes_next, next}
 use Rattle.clk_model.specs.Prep.{without_enables, change_prep, prep}
 use Rattle.clk_model.specs.Tier.{is_enable_tier}
-use Rattle.clk_model.specs.Flight.{Flight, begins, goes_on, beside, script, plan, plan_rates, pre_notices, abort_notices, IsCalledOff}
+use Rattle.clk_model.specs.Laws.Flight.{Flight, begins, goes_on, beside, script, plan, plan_rates, pre_notices, abort_notices, IsCalledOff}
 use Rattle.clk_model.proofs.NoneLaws.{none_append, none_map, none_flat_map, none_if, none_front, none_rest}
 use Rattle.clk_model.proofs.MicroLaws.{comes_first}
 use Rattle.clk_model.proofs.PrepLaws.{prep-settled, prep-spent, prep-steps}

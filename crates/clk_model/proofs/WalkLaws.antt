@@ -15,8 +15,8 @@ use Rattle.clk_model.specs.Tree.{children}
 use Rattle.clk_model.specs.Round.{Wiring}
 use Rattle.clk_model.specs.Chain.{clock_id, moves, outcome}
 use Rattle.clk_model.specs.Walk.{top_of, moves_away, movers_to, kids_after, below_within, walk, differs, changing}
-use Rattle.clk_model.specs.Plans.{IsWired, none_twice, clocks_in, LinksArePossible, HasParent, DiffersIn}
-use Rattle.clk_model.specs.Walks.{IsOrder, will_be_below, IsWalk, AllDiffer, AreChanging, WalksList}
+use Rattle.clk_model.specs.Laws.Plans.{IsWired, none_twice, clocks_in, LinksArePossible, HasParent, DiffersIn}
+use Rattle.clk_model.specs.Laws.Walks.{IsOrder, will_be_below, IsWalk, AllDiffer, AreChanging, WalksList}
 use Rattle.clk_model.proofs.Members.{is_in_head, is_in_tail, is_in_cases, same_from_test, test_same, both_left, both_right, or_left, or_right}
 use Rattle.clk_model.proofs.RoundLaws.{is_in-filter}
 use Rattle.clk_model.proofs.OutcomeLaws.{differs_in}

@@ -17,8 +17,8 @@ use Rattle.clk_model.specs.Chain.{clock_id}
 use Rattle.clk_model.specs.Notices.{Rates, notifiers_of, abort_list, post_list}
 use Rattle.clk_model.specs.Script.{plls, weight}
 use Rattle.clk_model.specs.Step.{on, powered, from_first, behind_first, cut_short, is_end, is_register, is_settle, is_visit, sets_parent, aborts_of, to_raise, most_polls, raise_one, raise, to_lower, lower_one, lower}
-use Rattle.clk_model.specs.Weight.{front_weight, weight_left}
-use Rattle.clk_model.specs.Paced.{left_of, is_notice}
+use Rattle.clk_model.specs.Laws.Weight.{front_weight, weight_left}
+use Rattle.clk_model.specs.Laws.Paced.{left_of, is_notice}
 use Rattle.clk_model.proofs.Members.{both_left, both_right}
 use Rattle.clk_model.proofs.PllLaws.{length-filter-le}
 

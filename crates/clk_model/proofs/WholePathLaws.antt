@@ -12,8 +12,8 @@ use Rattle.clk_model.specs.State.{State, row_of, link_in}
 use Rattle.clk_model.specs.Tree.{path_within, path, link_given}
 use Rattle.clk_model.specs.Chain.{clock_id, linked}
 use Rattle.clk_model.specs.Begin.{registered_rows, register}
-use Rattle.clk_model.specs.Plans.{none_twice, LinesEnd, LinksArePossible}
-use Rattle.clk_model.specs.Paths.{RegistersGivePaths, RegistersStayPossible, PathsEnd, RelinksLeavePaths, CanLink, RelinksTurnPaths, RelinksStayPossible}
+use Rattle.clk_model.specs.Laws.Plans.{none_twice, LinesEnd, LinksArePossible}
+use Rattle.clk_model.specs.Laws.Paths.{RegistersGivePaths, RegistersStayPossible, PathsEnd, RelinksLeavePaths, CanLink, RelinksTurnPaths, RelinksStayPossible}
 use Rattle.clk_model.proofs.Members.{is_in_head, is_in_tail, same_from_test, test_other}
 use Rattle.clk_model.proofs.PathLaws.{above, in_above, path_agree, path_cons}
 use Rattle.clk_model.proofs.PlanLaws.{once_cons, not_above_parent}

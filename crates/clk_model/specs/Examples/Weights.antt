@@ -4,7 +4,7 @@ use Rattle.std.specs.Option.{option_map_or}
 use Rattle.clk_base.specs.declared.event.Entry.{Entry}
 use Rattle.clk_model.specs.State.{State}
 use Rattle.clk_model.specs.Journal.{replay}
-use Rattle.clk_model.specs.Weight.{weight_left}
+use Rattle.clk_model.specs.Laws.Weight.{weight_left}
 use Rattle.clk_model.specs.Examples.Rows.{turns}
 use Rattle.clk_model.specs.Examples.Plls.{board_start, start, raised, lowered, two_plls_start, two_plls_get, lower_too_late}
 

@@ -1,6 +1,6 @@
 //! Laws of feeding.
 
-ghost use Rattle.clk_model.specs.Supplied.{EnableTierKeepsFed, OpeningIsSupplied, SettledFollowsGates, SettledIsSupplied, SuppliedIsFed};
+ghost use Rattle.clk_model.specs.Laws.Supplied.{EnableTierKeepsFed, OpeningIsSupplied, SettledFollowsGates, SettledIsSupplied, SuppliedIsFed};
 
 /// In a supplied state each active clock is fed.
 pub fn supplied_is_fed()

@@ -15,8 +15,8 @@ ghost use Rattle.clk_model.specs.State.{State};
 ghost use Rattle.clk_model.specs.Notices.{is_veto};
 ghost use Rattle.clk_model.specs.Machine.{next};
 ghost use Rattle.clk_model.specs.Journal.{Legal};
-ghost use Rattle.clk_model.specs.Flight.{Flight, QuietOrInFlight, IsUnderWay, IsCalledOff};
-ghost use Rattle.clk_model.specs.HoldsLeft.{CallsLeaveNoHold, RunsLeaveNoHold};
+ghost use Rattle.clk_model.specs.Laws.Flight.{Flight, QuietOrInFlight, IsUnderWay, IsCalledOff};
+ghost use Rattle.clk_model.specs.Laws.HoldsLeft.{CallsLeaveNoHold, RunsLeaveNoHold};
 
 /// Behind each front of a legal journal either no call is in flight, or one that began in the journal:
 /// its steps stand in the journal behind its beginning, with events of the enable tier between them and

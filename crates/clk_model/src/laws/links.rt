@@ -1,6 +1,6 @@
 //! Laws of links.
 
-ghost use Rattle.clk_model.specs.LinksKept.{EventsKeepLinks, EventsKeepShape, RunsAreWired, RunsKeepLinks};
+ghost use Rattle.clk_model.specs.Laws.LinksKept.{EventsKeepLinks, EventsKeepShape, RunsAreWired, RunsKeepLinks};
 
 /// Links lead to possible parents, and will when the change in flight has gone on, whatever event comes; so they do behind
 /// each journal that begins at an opening with a valid description.

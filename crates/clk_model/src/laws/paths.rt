@@ -1,6 +1,6 @@
 //! Laws of paths.
 
-ghost use Rattle.clk_model.specs.Paths.{PathsEnd, RatesAreOverLinks, RegistersGivePaths, RegistersLeaveOthers, RegistersStayPossible, RelinksLeavePaths, RelinksLeaveRates, RelinksStayPossible, RelinksTurnPaths, RootedEndsFixed, WritesLeaveRates};
+ghost use Rattle.clk_model.specs.Laws.Paths.{PathsEnd, RatesAreOverLinks, RegistersGivePaths, RegistersLeaveOthers, RegistersStayPossible, RelinksLeavePaths, RelinksLeaveRates, RelinksStayPossible, RelinksTurnPaths, RootedEndsFixed, WritesLeaveRates};
 
 /// A path is the whole line of links from its clock to one that has none, within the levels of the description: no clock
 /// stands twice on it, and each is the first or one of its possible ancestors.

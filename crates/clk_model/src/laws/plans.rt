@@ -1,6 +1,6 @@
 //! Laws of plans.
 
-ghost use Rattle.clk_model.specs.Plans.{ChainsLead, MovedAreFed, OutcomesKeep};
+ghost use Rattle.clk_model.specs.Laws.Plans.{ChainsLead, MovedAreFed, OutcomesKeep};
 
 /// A planned chain leads upwards over possible parents, has no clock twice, and keeps the boundaries of its clocks.
 pub fn chains_lead()

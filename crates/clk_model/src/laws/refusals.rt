@@ -4,7 +4,7 @@ ghost use Rattle.std.specs.Prelude.{◌≡◌, ℕ, true, Some};
 ghost use Rattle.clk_base.specs.declared.event.Event.{Event};
 ghost use Rattle.clk_base.specs.declared.event.Turn.{Turn};
 ghost use Rattle.clk_model.specs.State.{State};
-ghost use Rattle.clk_model.specs.Causes.{LeavesRefused};
+ghost use Rattle.clk_model.specs.Laws.Causes.{LeavesRefused};
 ghost use Rattle.clk_model.specs.Journal.{is_paid};
 ghost use Rattle.clk_model.specs.Machine.{next};
 

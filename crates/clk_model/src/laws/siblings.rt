@@ -1,6 +1,6 @@
 //! Laws of siblings.
 
-ghost use Rattle.clk_model.specs.Siblings.{ChildrenTellLinks, RegistersAreListed, RegistersAttach, RegistersUnattached, RelinksAreListed, RelinksAttach};
+ghost use Rattle.clk_model.specs.Laws.Siblings.{ChildrenTellLinks, RegistersAreListed, RegistersAttach, RegistersUnattached, RelinksAreListed, RelinksAttach};
 
 /// Children and links tell the same tree: a clock is a child of another exactly where it is registered and linked to it, and
 /// each registered clock is a root, an orphan or a child of one clock, and no two of these.

@@ -6,7 +6,7 @@ ghost use Rattle.clk_base.specs.declared.event.Turn.{Turn};
 ghost use Rattle.clk_model.specs.State.{State, Change};
 ghost use Rattle.clk_model.specs.Machine.{next};
 ghost use Rattle.clk_model.specs.Prep.{prep};
-ghost use Rattle.clk_model.specs.PrepTold.{PrepTells};
+ghost use Rattle.clk_model.specs.Laws.PrepTold.{PrepTells};
 ghost use Rattle.clk_model.specs.Tier.{is_enable_tier, is_step};
 
 /// What planning reads of a state isn't changed by an enable, a disable or the question whether a

@@ -1,7 +1,7 @@
 //! Laws of weight.
 
-ghost use Rattle.clk_model.specs.RunsEnd.{EventsLeaveRoom, RunsEnd, RunsHaveRoom};
-ghost use Rattle.clk_model.specs.Paced.{CallsBeginPaced, EnableTierKeepsPaced, StepsKeepPaced, StepsLowerWeight};
+ghost use Rattle.clk_model.specs.Laws.RunsEnd.{EventsLeaveRoom, RunsEnd, RunsHaveRoom};
+ghost use Rattle.clk_model.specs.Laws.Paced.{CallsBeginPaced, EnableTierKeepsPaced, StepsKeepPaced, StepsLowerWeight};
 
 /// A call that goes on begins with a paced change, which weighs what its script weighs, with the notices that a timeout may
 /// bring, and for which there is room.

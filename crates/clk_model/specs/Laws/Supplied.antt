@@ -13,7 +13,7 @@ use Rattle.clk_model.specs.Gates.{settled}
 use Rattle.clk_model.specs.Fed.{feeds, Fed}
 use Rattle.clk_model.specs.Journal.{opening}
 use Rattle.clk_model.specs.Machine.{next}
-use Rattle.clk_model.specs.Plans.{LinksArePossible}
+use Rattle.clk_model.specs.Laws.Plans.{LinksArePossible}
 use Rattle.clk_model.specs.Tier.{is_enable_tier}
 
 -- the gates of the clocks that are active in one state are open in the registers of another

@@ -7,7 +7,7 @@ use Rattle.clk_model.specs.Tree.{path}
 use Rattle.clk_model.specs.Round.{Wiring}
 use Rattle.clk_model.specs.Chain.{outcome}
 use Rattle.clk_model.specs.Walk.{top_of, walk, differs, changing}
-use Rattle.clk_model.specs.Plans.{none_twice, LeadsFrom, IsWired}
+use Rattle.clk_model.specs.Laws.Plans.{none_twice, LeadsFrom, IsWired}
 
 -- the order of attaching lists each clock that has a link, and none twice
 pub record IsOrder (order : List ℕ) (clocks : List ClockRow) : Type 0 where

@@ -9,7 +9,7 @@ use Rattle.clk_model.specs.State.{State, Change, registered, link_in}
 use Rattle.clk_model.specs.Tree.{link_given, children, roots, orphans}
 use Rattle.clk_model.specs.Begin.{register}
 use Rattle.clk_model.specs.Step.{relink}
-use Rattle.clk_model.specs.Plans.{none_twice, LinksArePossible}
+use Rattle.clk_model.specs.Laws.Plans.{none_twice, LinksArePossible}
 
 -- the order of attaching lists the registered clocks and no other, each once
 pub record ListsRegistered (order : List ℕ) (clocks : List ClockRow) : Type 0 where

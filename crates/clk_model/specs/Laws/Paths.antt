@@ -16,7 +16,7 @@ use Rattle.clk_model.specs.Tree.{path_within, path, path_to_be, rooted}
 use Rattle.clk_model.specs.Rate.{rate_over, rate}
 use Rattle.clk_model.specs.Chain.{linked}
 use Rattle.clk_model.specs.Begin.{register}
-use Rattle.clk_model.specs.Plans.{none_twice, LinesEnd, LinksArePossible}
+use Rattle.clk_model.specs.Laws.Plans.{none_twice, LinesEnd, LinksArePossible}
 
 -- ---- where a path ends
 

@@ -1,0 +1,15 @@
+-- What is proved of the definitions, as sentences about them. Each is the contract of a public function of `src/laws/`; a reader
+-- believes none of it, since the gate has proved it.
+pub mod Causes
+pub mod Plans
+pub mod Walks
+pub mod Paths
+pub mod Siblings
+pub mod LinksKept
+pub mod PrepTold
+pub mod Flight
+pub mod HoldsLeft
+pub mod Supplied
+pub mod Weight
+pub mod Paced
+pub mod RunsEnd
