@@ -7,8 +7,10 @@
 #![tactic(auto)]
 
 mod faults;
+mod feeds;
 mod mem_sink;
 mod mem_source;
+mod pushing;
 mod reader_source;
 mod reading;
 mod sinks;
@@ -17,8 +19,10 @@ mod writer_sink;
 mod writing;
 
 pub use faults::{Failed, NoMemory, PrintFault, ReadFault, WriteFault};
+pub use feeds::line_feeds;
 pub use mem_sink::MemSink;
 pub use mem_source::MemSource;
+pub use pushing::push_some;
 pub use reader_source::{ReaderSource, StdIn};
 pub use reading::{MOST_BYTES, read_all};
 pub use sinks::Sink;
