@@ -2,12 +2,12 @@
 
 ghost use Rattle.std.specs.Prelude.{◌≡◌, ◌≤◌, ◌+◌, Some, is_some};
 ghost use Rattle.clk_io.specs.Counts.{CountsPrintFault};
-ghost use Rattle.clk_io.specs.Prints.{Prints};
+ghost use Rattle.clk_io.specs.Gathers.{Gathers};
 ghost use Rattle.clk_model.specs.Text.{answer_line, answer_words, answers_text, spaced};
 
 use crate::reply::ReplyText;
 use clk_base::{Answer, ValidDesc};
-use clk_io::{PrintFault, Sink, write_all};
+use clk_io::{Gathered, PrintFault, Sink};
 use std::alloc::Global;
 use std::fmt;
 
@@ -18,16 +18,17 @@ pub fn print_answers<K: Sink>(
     desc: &ValidDesc,
     driver: &str,
     answers: &[Answer],
+    gathered: &mut Gathered,
     out: &mut K,
 ) -> Result<(), PrintFault>
-    ensures prints { Prints (K.written out.old) (K.written out.new)
+    ensures gathers { Gathers (K.written out.old) (K.written out.new) gathered.old gathered.new
         (answers_text desc.now.defs driver.now answers.now) result }
     ensures tells { is_some (K.written out.new) ≡ is_some (K.written out.old) }
     ensures later { K.faults out.old ≤ K.faults out.new }
     ensures counts { CountsPrintFault (K.faults out.old) (K.faults out.new) result }
 {
     for (index, answer) in answers.iter().enumerate() {
-        print_answer(alloc, desc, driver, index + 1, *answer, out)?;
+        print_answer(alloc, desc, driver, index + 1, *answer, gathered, out)?;
     }
     Ok(())
 }
@@ -63,9 +64,10 @@ fn print_answer<K: Sink>(
     driver: &str,
     number: usize,
     answer: Answer,
+    gathered: &mut Gathered,
     out: &mut K,
 ) -> Result<(), PrintFault>
-    ensures prints { Prints (K.written out.old) (K.written out.new)
+    ensures gathers { Gathers (K.written out.old) (K.written out.new) gathered.old gathered.new
         (answer_line desc.now.defs driver.now number answer) result }
     ensures tells { is_some (K.written out.new) ≡ is_some (K.written out.old) }
     ensures later { K.faults out.old ≤ K.faults out.new }
@@ -73,6 +75,5 @@ fn print_answer<K: Sink>(
 {
     let answer = AnswerText { desc, answer };
     let line = format!(in alloc; "{driver}.{number} {answer}\n")?;
-    write_all(out, line.as_bytes())?;
-    Ok(())
+    gathered.print(line.as_bytes(), out)
 }

@@ -1,7 +1,7 @@
 //! The printed text of the clock framework: the answers of a driver's commands, and the registers.
 //!
 //! Each place where text is made has a type of its own whose `Display` states the bytes that it
-//! writes. A printer formats one line at a time and hands it to a `Sink`.
+//! writes. A printer formats one line at a time and hands it to a `Gathered`, which writes pieces.
 #![tactic(auto)]
 
 mod answers;

@@ -2,23 +2,28 @@
 
 ghost use Rattle.std.specs.Prelude.{◌≡◌, ◌≤◌, ◌==◌, Some, [], if◌then◌else◌, is_some};
 ghost use Rattle.clk_io.specs.Counts.{CountsPrintFault};
-ghost use Rattle.clk_io.specs.Prints.{Prints};
+ghost use Rattle.clk_io.specs.Gathers.{Gathers};
 ghost use Rattle.clk_model.specs.Text.{hex_digits, register_line, registers_text};
 
-use clk_io::{PrintFault, Sink, write_all};
+use clk_io::{Gathered, PrintFault, Sink};
 use std::alloc::Global;
 use std::fmt;
 
 /// Prints a line for each word that isn't 0, as `reg W 0xXXXXXXXX`: W is the word's place, from 0.
-pub fn print_registers<K: Sink>(alloc: Global, words: &[u32], out: &mut K) -> Result<(), PrintFault>
-    ensures prints { Prints (K.written out.old) (K.written out.new)
+pub fn print_registers<K: Sink>(
+    alloc: Global,
+    words: &[u32],
+    gathered: &mut Gathered,
+    out: &mut K,
+) -> Result<(), PrintFault>
+    ensures gathers { Gathers (K.written out.old) (K.written out.new) gathered.old gathered.new
         (registers_text words.now) result }
     ensures tells { is_some (K.written out.new) ≡ is_some (K.written out.old) }
     ensures later { K.faults out.old ≤ K.faults out.new }
     ensures counts { CountsPrintFault (K.faults out.old) (K.faults out.new) result }
 {
     for (place, value) in words.iter().enumerate() {
-        print_word(alloc, place, *value, out)?;
+        print_word(alloc, place, *value, gathered, out)?;
     }
     Ok(())
 }
@@ -42,9 +47,10 @@ fn print_word<K: Sink>(
     alloc: Global,
     place: usize,
     value: u32,
+    gathered: &mut Gathered,
     out: &mut K,
 ) -> Result<(), PrintFault>
-    ensures prints { Prints (K.written out.old) (K.written out.new)
+    ensures gathers { Gathers (K.written out.old) (K.written out.new) gathered.old gathered.new
         (if value == 0 then [] else register_line place value) result }
     ensures tells { is_some (K.written out.new) ≡ is_some (K.written out.old) }
     ensures later { K.faults out.old ≤ K.faults out.new }
@@ -53,7 +59,7 @@ fn print_word<K: Sink>(
     if value == 0 {
         return Ok(());
     }
-    print_register(alloc, place, value, out)
+    print_register(alloc, place, value, gathered, out)
 }
 
 // Prints the line of the word at this place.
@@ -61,9 +67,10 @@ fn print_register<K: Sink>(
     alloc: Global,
     place: usize,
     value: u32,
+    gathered: &mut Gathered,
     out: &mut K,
 ) -> Result<(), PrintFault>
-    ensures prints { Prints (K.written out.old) (K.written out.new)
+    ensures gathers { Gathers (K.written out.old) (K.written out.new) gathered.old gathered.new
         (register_line place value) result }
     ensures tells { is_some (K.written out.new) ≡ is_some (K.written out.old) }
     ensures later { K.faults out.old ≤ K.faults out.new }
@@ -71,6 +78,5 @@ fn print_register<K: Sink>(
 {
     let value = HexWord(value);
     let line = format!(in alloc; "reg {place} 0x{value}\n")?;
-    write_all(out, line.as_bytes())?;
-    Ok(())
+    gathered.print(line.as_bytes(), out)
 }

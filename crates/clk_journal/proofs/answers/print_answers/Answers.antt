@@ -1,23 +1,25 @@
-use Rattle.std.proofs.Common.{◌+◌, ◌∙◌, ap, ◌++◌, arith}
-use Rattle.std.proofs.KnownBytes.{Appends-trans}
+use Rattle.std.proofs.Common.{[], refl, ◌+◌, ◌∙◌, ap, ◌++◌, arith}
 use Rattle.clk_base.specs.declared.command.Answer.TheVariants.{Skip}
-use Rattle.clk_io.proofs.Chains.{front_of}
-use Rattle.clk_journal.proofs.Lines.{Prints-fault, answers_at, one_more}
+use Rattle.clk_io.proofs.Gathering.{PassesOn-none, PassesOn-after, front_of_whole}
+use Rattle.clk_journal.proofs.Lines.{Gathers-fault, answers_at, one_more}
 use Rattle.clk_journal.proofs.answers.print_answers.Goals as goal
 
-pub returns-in_err-print_answer-clause-prints : goal.returns-in_err-print_answer-clause-prints
-returns-in_err-print_answer-clause-prints g c =
+pub returns-in_err-print_answer-clause-gathers : goal.returns-in_err-print_answer-clause-gathers
+returns-in_err-print_answer-clause-gathers g c =
     let was = c.loop-index.invariant.printed in
     let at = answers_at c.args.desc.now.defs c.args.driver.now c.args.answers.now (c.loop-index.index + 1) c.loop-index.index Skip c.loop-index-test.true in
-    Prints-fault _ _ _ _ c.from_residual.ensures.0
-    (front_of _ _ _ was.0 _ _ _ was.1 c.in_err-print_answer.ensures.prints (was.2 ∙ ap (λ rest. was.0 ++ rest) at))
+    Gathers-fault _ _ _ _ _ _ c.from_residual.ensures.0
+    (front_of_whole _ _ _ _ _ was.0 _ _ _ was.1 c.in_err-print_answer.ensures.gathers (was.2 ∙ ap (λ rest. was.0 ++ rest) at))
+
+pub loop-index-init : goal.loop-index-init
+loop-index-init g c = record { printed = ([], PassesOn-none _ _, refl); tells = refl; stands = refl }
 
 pub loop-index-preserved : goal.loop-index-preserved
 loop-index-preserved g c =
     let was = c.loop-index.invariant.printed in
     let at = answers_at c.args.desc.now.defs c.args.driver.now c.args.answers.now (c.loop-index.index + 1) c.loop-index.index Skip c.loop-index-test.true in
     record {
-      printed = (_, Appends-trans _ _ _ _ _ was.1 c.in_ok-print_answer.ensures.prints, one_more _ _ _ _ _ was.2 at);
+      printed = (_, PassesOn-after _ _ _ _ _ _ _ _ was.1 c.in_ok-print_answer.ensures.gathers, one_more _ _ _ _ _ was.2 at);
       tells = cc;
       stands = c.in_ok-print_answer.ensures.counts ∙ c.loop-index.invariant.stands;
     }

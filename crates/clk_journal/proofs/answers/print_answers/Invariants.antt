@@ -1,6 +1,6 @@
--- The lines of the answers before the next one were written, and all lines are these and those of the rest.
+-- The lines of the answers before the next one were gathered, and all lines are these and those of the rest.
 use Rattle.std.proofs.Common.{◌≡◌, ◌≤◌, ◌+◌, ℕ, List, ◌++◌, drop, is_some}
-use Rattle.std.specs.Io.KnownBytes.{Appends}
+use Rattle.clk_io.specs.Gathers.{PassesOn}
 use Rattle.clk_model.specs.Text.{answers_from, answers_text}
 use Rattle.clk_journal.proofs.answers.print_answers.Given as goal
 
@@ -8,7 +8,7 @@ abbrev pub invariant-loop-index : goal.invariant-loop-index
 invariant-loop-index g l =
     let written = g.K.Sink.written in
     record {
-      printed : (done : List ℕ) × Appends (written l.fn.out) (written l.out) done × (answers_text l.desc.defs l.driver l.answers ≡ done ++ answers_from l.desc.defs l.driver (l.index + 1) (drop l.index l.answers));
+      printed : (done : List ℕ) × PassesOn (written l.fn.out) (written l.out) l.fn.gathered l.gathered done × (answers_text l.desc.defs l.driver l.answers ≡ done ++ answers_from l.desc.defs l.driver (l.index + 1) (drop l.index l.answers));
       tells : is_some (written l.out) ≡ is_some (written l.fn.out);
       stands : g.K.Sink.faults l.out ≡ g.K.Sink.faults l.fn.out;
     }

@@ -1,5 +1,5 @@
 use Rattle.std.proofs.lemmas.Bool.{ne_eqb}
 use Rattle.clk_journal.proofs.registers.print_word.Goals as goal
 
-pub returns-clause-prints : goal.returns-clause-prints
-returns-clause-prints g c = rw (ne_eqb _ _ c.if-value-eq0.false) c.print_register.ensures.prints
+pub returns-clause-gathers : goal.returns-clause-gathers
+returns-clause-gathers g c = rw (ne_eqb _ _ c.if-value-eq0.false) c.print_register.ensures.gathers
