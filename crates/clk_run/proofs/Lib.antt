@@ -8,3 +8,4 @@ pub mod Leaving
 pub mod Saying
 pub mod RunVerdicts
 pub mod Fitness
+pub mod PrintedParts

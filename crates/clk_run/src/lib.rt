@@ -21,6 +21,3 @@ pub use reading::check_bundle;
 pub use sim::simulate;
 pub use top::clkbench;
 pub use verdict::one_run_verdict;
-
-#[cfg(test)]
-mod tests;

@@ -2,11 +2,12 @@
 
 ghost use Rattle.std.specs.Prelude.{◌≡◌, ◌+◌, ◌≤◌, length, map, is_some};
 ghost use Rattle.clk_io.specs.Counts.{CountsPrintFault};
+ghost use Rattle.clk_io.specs.Gathers.{Gathers};
 ghost use Rattle.clk_io.specs.Prints.{Prints};
 ghost use Rattle.clk_run.specs.Runs.{scripts_text, run_text};
 
 use clk_base::{Answer, ValidDesc};
-use clk_io::{PrintFault, Sink};
+use clk_io::{Gathered, PrintFault, Sink};
 use clk_journal::{print_answers, print_registers};
 use drv_scripts::{Listed, Script};
 use std::alloc::Global;
@@ -17,10 +18,11 @@ fn print_drivers<K: Sink>(
     desc: &ValidDesc,
     drivers: &[Script],
     answers: &[Listed<Answer>],
+    gathered: &mut Gathered,
     out: &mut K,
 ) -> Result<(), PrintFault>
     requires many { length answers.now ≡ length drivers.now }
-    ensures prints { Prints (K.written out.old) (K.written out.new) (scripts_text desc.now.defs (map (λ s. s.name) drivers.now) answers.now) result }
+    ensures gathers { Gathers (K.written out.old) (K.written out.new) gathered.old gathered.new (scripts_text desc.now.defs (map (λ s. s.name) drivers.now) answers.now) result }
     ensures tells { is_some (K.written out.new) ≡ is_some (K.written out.old) }
     ensures later { K.faults out.old ≤ K.faults out.new }
     ensures counts { CountsPrintFault (K.faults out.old) (K.faults out.new) result }
@@ -31,6 +33,7 @@ fn print_drivers<K: Sink>(
             desc,
             script.name.as_str(),
             answers[index].as_slice(),
+            gathered,
             out,
         )?;
     }
@@ -52,7 +55,10 @@ pub(crate) fn print_run<K: Sink>(
     ensures later { K.faults out.old ≤ K.faults out.new }
     ensures counts { CountsPrintFault (K.faults out.old) (K.faults out.new) result }
 {
-    print_answers(alloc, desc, "boot", answers[0].as_slice(), out)?;
-    print_drivers(alloc, desc, drivers, &answers[1..], out)?;
-    print_registers(alloc, words, out)
+    let mut gathered = Gathered::new(alloc);
+    print_answers(alloc, desc, "boot", answers[0].as_slice(), &mut gathered, out)?;
+    print_drivers(alloc, desc, drivers, &answers[1..], &mut gathered, out)?;
+    print_registers(alloc, words, &mut gathered, out)?;
+    gathered.finish(out)?;
+    Ok(())
 }

@@ -29,6 +29,3 @@ pub use kept::Kept;
 pub use lock::Lock;
 pub use named::Named;
 pub use pass::Pass;
-
-#[cfg(test)]
-mod tests;

@@ -1,0 +1,20 @@
+-- What is printed in parts: a front that a fault leaves, and the whole once it is finished.
+use Rattle.std.proofs.Common.{◌≡◌, ℕ, List, [], ◌++◌, Option, Result, sym, subst}
+use Rattle.clk_io.specs.Streams.{AppendsFront}
+use Rattle.clk_io.specs.Prints.{Prints}
+use Rattle.clk_io.specs.Gathers.{PassesOn}
+use Rattle.clk_io.proofs.Chains.{AppendsFront-more}
+use Rattle.clk_io.proofs.Gathering.{Prints-finished}
+
+-- a front of the first parts is a front of the whole, where nothing was gathered before
+pub front_of_parts : (a b : Option (List ℕ)) (start parts rest whole : List ℕ) → start ≡ [] → whole ≡ parts ++ rest
+    → AppendsFront a b (start ++ parts) → AppendsFront a b whole
+front_of_parts a b start parts rest whole none e h =
+    let front : AppendsFront a b parts = subst (λ (xs : List ℕ). AppendsFront a b (xs ++ parts)) none h in
+    subst (AppendsFront a b) (sym e) (AppendsFront-more a b parts rest front)
+
+-- the parts are the whole, once what was gathered has been written
+pub printed_of_parts : {T E : Type 0} (a b c : Option (List ℕ)) (start gathered parts whole : List ℕ) (r : Result T E) → start ≡ [] → whole ≡ parts
+    → PassesOn a b start gathered parts → Prints b c gathered r → Prints a c whole r
+printed_of_parts a b c start gathered parts whole r none e p h =
+    subst (λ (xs : List ℕ). Prints a c xs r) (sym e) (Prints-finished a b c gathered parts r (subst (λ (xs : List ℕ). PassesOn a b xs gathered parts) none p) h)

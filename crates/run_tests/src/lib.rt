@@ -1,0 +1,15 @@
+//! Tests of the program's top call that no text can say: sources and sinks that fail, the pieces in
+//! which a text is written, bytes that are no text, and words that are no word.
+//!
+//! Runs that a text can say stand in the crate `worked_runs`. These stand in a crate of their own
+//! because a crate with tests is proved twice.
+#![tactic(auto)]
+
+#[cfg(test)]
+mod bytes;
+#[cfg(test)]
+mod faults;
+#[cfg(test)]
+mod pieces;
+#[cfg(test)]
+mod running;

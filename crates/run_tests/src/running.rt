@@ -1,0 +1,52 @@
+//! One run of the program over a source and a sink in memory.
+
+ghost use Rattle.std.specs.Prelude.{◌<◌};
+
+use clk_base::NoPause;
+use clk_io::{MemSink, MemSource, NoMemory};
+use clk_run::clkbench;
+use reg_bank::MemBank;
+
+/// Two clocks, a fixed rate and a gate over it, and one word.
+pub(crate) const CLOCKS: &str =
+    "%bundle 1\n%clocks\nfixed osc 24000000\ngate uart_gate osc 0 3\n%regs 1\n";
+
+/// A driver that lets the gate run.
+pub(crate) const UART: &str =
+    "%bundle 1\n%clocks\nfixed osc 24000000\ngate uart_gate osc 0 3\n%regs 1\n%driver A\nget a uart_gate\nprepare a\nenable a\nrate a\n";
+
+/// What the run of `UART` prints.
+pub(crate) const UART_PRINTED: &str =
+    "boot.1 ok\nboot.2 ok\nA.1 handle 0\nA.2 ok\nA.3 ok\nA.4 rate 24000000\nreg 0 0x00000008\n";
+
+/// The status for a word and bytes, and the sink. These calls of the source and the sink fail; the
+/// sink takes so many bytes a call.
+pub(crate) fn run_over(
+    rt: &HostRuntime,
+    word: &str,
+    text: &[u8],
+    bad_reads: &[u32],
+    bad_writes: &[u32],
+    most: usize,
+) -> Result<(u8, MemSink), NoMemory>
+    requires { 0 < most }
+{
+    let alloc = rt.alloc();
+    let bytes = Vec::from_slice(alloc, text)?;
+    let mut input = MemSource::new(bytes, Vec::from_slice(alloc, bad_reads)?);
+    let mut out = MemSink::new(alloc, most, 65_536, Vec::from_slice(alloc, bad_writes)?)?;
+    let bank = MemBank::new(alloc)?;
+    let (status, _) = clkbench(rt, &[word], &mut input, &mut out, bank, &NoPause);
+    Ok((status, out))
+}
+
+/// The same with a sink that takes 8 bytes a call.
+pub(crate) fn run(
+    rt: &HostRuntime,
+    word: &str,
+    text: &[u8],
+    bad_reads: &[u32],
+    bad_writes: &[u32],
+) -> Result<(u8, MemSink), NoMemory> {
+    run_over(rt, word, text, bad_reads, bad_writes, 8)
+}
