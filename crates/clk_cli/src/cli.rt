@@ -11,7 +11,7 @@ pub struct Cli {
 /// The command.
 #[derive(Clone, Copy, Debug, PartialEq, Eq)]
 pub enum Mode {
-    /// Registers the clocks and applies the assigned ones.
+    /// Registers the clocks. (Assigned clocks are read and then refused as not run yet.)
     Check,
     /// Then the drivers, on one thread.
     Sim,
