@@ -56,7 +56,14 @@ pub(crate) fn print_run<K: Sink>(
     ensures counts { CountsPrintFault (K.faults out.old) (K.faults out.new) result }
 {
     let mut gathered = Gathered::new(alloc);
-    print_answers(alloc, desc, "boot", answers[0].as_slice(), &mut gathered, out)?;
+    print_answers(
+        alloc,
+        desc,
+        "boot",
+        answers[0].as_slice(),
+        &mut gathered,
+        out,
+    )?;
     print_drivers(alloc, desc, drivers, &answers[1..], &mut gathered, out)?;
     print_registers(alloc, words, &mut gathered, out)?;
     gathered.finish(out)?;

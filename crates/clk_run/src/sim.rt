@@ -74,18 +74,31 @@ pub fn simulate<S: Source, K: Sink, B: Bank>(
     out: &mut K,
     bank: B,
 ) -> (u8, Option<B>)
+    // The bank has all words that a bundle may name.
     requires room { 65536 ≤ B.size bank }
+    // The status is 0, 2, 3, 4 or 5.
     ensures known { IsRunStatus result.0 }
+    // 0: all that was left of the source spells a bundle; the text of one of its runs was written; the bank has the registers that this run leaves, and every other word as it was.
     ensures done { result.0 ≡ 0 → Done cli.now (B.contents bank) (S.left input.old) (S.left input.new) (K.written out.old) (K.written out.new) (option_map B.contents result.1) }
+    // The bank comes back exactly with 0.
     ensures back { is_some result.1 ≡ (result.0 == 0) }
+    // 2: what was left of the source is refused, and the line that says where and why was written.
     ensures refused { result.0 ≡ 2 → Refused (S.left input.old) (S.left input.new) (K.written out.old) (K.written out.new) }
+    // The source's count of faults rises by one at 4, and stands at every other status.
     ensures reads { S.faults input.new ≡ count_behind 4 result.0 (S.faults input.old) }
+    // 4: nothing was written.
     ensures unread { result.0 ≡ 4 → K.written out.new ≡ K.written out.old }
+    // The sink's count of faults rises by one at 5, and stands at every other status.
     ensures writes { K.faults out.new ≡ count_behind 5 result.0 (K.faults out.old) }
+    // 5: a front of the text of a run was written, or of a refusal's line.
     ensures unwritten { result.0 ≡ 5 → Unwritten cli.now (is_some (B.contents bank)) (S.left input.old) (S.left input.new) (K.written out.old) (K.written out.new) }
+    // 3: nothing was written, or such a front.
     ensures short { result.0 ≡ 3 → Short cli.now (is_some (B.contents bank)) (S.left input.old) (S.left input.new) (K.written out.old) (K.written out.new) }
+    // What the source has left decides between 0 and 2, unless the status is 3, 4 or 5.
     ensures decided { Decides (S.left input.old) result.0 }
+    // Source and sink tell their bytes as before.
     ensures tells { (is_some (S.left input.new) ≡ is_some (S.left input.old)) × (is_some (K.written out.new) ≡ is_some (K.written out.old)) }
+    // No count of faults falls.
     ensures later { (S.faults input.old ≤ S.faults input.new) × (K.faults out.old ≤ K.faults out.new) }
 {
     match take_bundle(alloc, input) {

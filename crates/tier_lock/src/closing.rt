@@ -52,17 +52,29 @@ fn value_of<T: Kept>(table: TableOf<T>, keeper: SeatOf<T>) -> T
 impl<T: Kept> Lock<T> {
     /// Ends all passes and the baton, and gives the value. So far this takes no memory.
     pub fn close(self, passes: Vec<Pass<T>>, baton: Baton<T>) -> Result<T, Unclosed<T>>
+        // The baton is of this lock.
         requires baton { baton.table ≡ self.table }
+        // So are the passes, none of them in a turn.
         requires idle { All (λ p. IsIdle self.table p) passes.items }
+        // They are all passes that were made.
         requires all { AreAll passes.items }
+        // The lock always closes.
         ensures closes { IsOk result }
+        // The value has the lock's fixed part.
         ensures fixed { IfOk result (λ value. T.fixed value ≡ self.fixed) }
+        // Its entries continue what each pass had seen.
         ensures seen { IfOk result (λ value. All (λ p. IsPrefix p.seen (T.entries value)) passes.items) }
+        // Those of each pass's number are that pass's own.
         ensures mine { IfOk result (λ value. All (λ p. own T.by p.number (T.entries value) ≡ p.mine) passes.items) }
+        // Each is of a number that was given.
         ensures numbers { IfOk result (λ value. All (λ p. p.number ≡ 0 → AreBelow T.by p.made (T.entries value)) passes.items) }
+        // Each pass knew the fixed part of the value.
         ensures pass_fixed { IfOk result (λ value. All (λ p. p.fixed ≡ Some (T.fixed value)) passes.items) }
+        // So did the baton.
         ensures baton_fixed { IfOk result (λ value. baton.fixed ≡ Some (T.fixed value)) }
+        // Behind what the baton had seen stand entries of the enable tier alone.
         ensures behind { IfOk result (λ value. AddsEnablesOnly T.prep baton.seen (T.entries value)) }
+        // All rooms that are left and all costs fit into the total.
         ensures room { IfOk result (λ value. sum_by (λ p. p.room) passes.items + sum_by T.cost (T.entries value) ≤ T.most (T.fixed value)) }
     {
         let Lock { table } = self;

@@ -27,15 +27,25 @@ fn refill<T: Kept>(shared: &SharedOf<T>, seat: &mut SeatOf<T>, value: T)
 impl<T: Kept> Lock<T> {
     /// Ends the turn with the one entry that the value has more. It is of this pass's number, and of the prepare tier only where the pass has the baton.
     pub fn give_entry(&self, pass: &mut Pass<T>, guard: Guard<T>)
+        // The pass is one of this lock.
         requires lock { pass.old.table ≡ self.now.table }
+        // It is in its turn.
         requires turn { pass.old.turn ≡ true }
+        // The fixed part of the value is as it was.
         requires fixed { pass.old.fixed ≡ Some (T.fixed guard.value) }
+        // The log is shorter than its numbers can count.
         requires few { length pass.old.seen < 4294967295 }
+        // The value has exactly one entry more than the pass has seen.
         requires one_more { (e : T.Entry) × Adds pass.old.seen (T.entries guard.value) e }
+        // It is of this pass's number.
         requires driver { (e : T.Entry) → Adds pass.old.seen (T.entries guard.value) e → T.by e ≡ pass.old.number }
+        // The room covers its cost.
         requires cost { (e : T.Entry) → Adds pass.old.seen (T.entries guard.value) e → T.cost e ≤ pass.old.room }
+        // It is of the prepare tier only where the pass has the baton.
         requires tier { (e : T.Entry) → Adds pass.old.seen (T.entries guard.value) e → T.prep e ≡ true → pass.old.baton ≡ true }
+        // The entry stands at the end of what the pass has seen and of its own, the turn has ended, and the room has fallen by its cost.
         ensures added { (e : T.Entry) → Adds pass.old.seen (T.entries guard.value) e → pass.new ≡ added T.cost e pass.old }
+        // The entries of its number in what it has seen are its own.
         ensures mine { own T.by pass.new.number pass.new.seen ≡ pass.new.mine }
     {
         let Guard { value } = guard;
@@ -49,10 +59,15 @@ impl<T: Kept> Lock<T> {
 
     /// Ends the turn without an entry.
     pub fn give_back(&self, pass: &mut Pass<T>, guard: Guard<T>)
+        // The pass is one of this lock.
         requires lock { pass.old.table ≡ self.now.table }
+        // It is in its turn.
         requires turn { pass.old.turn ≡ true }
+        // The fixed part of the value is as it was.
         requires fixed { pass.old.fixed ≡ Some (T.fixed guard.value) }
+        // The value has no entry more.
         requires same { T.entries guard.value ≡ pass.old.seen }
+        // The turn has ended, and nothing else has changed.
         ensures { pass.new ≡ record pass.old { turn = false } }
     {
         let Guard { value } = guard;

@@ -33,9 +33,13 @@ impl<T: Kept> Model for Lock<T> {
 impl<T: Kept> Lock<T> {
     /// Locks a value that has no entry yet. The pass has number 0 and all of the room.
     pub fn create(alloc: Global, value: T) -> Result<(Lock<T>, Pass<T>, Baton<T>), NoMemory>
+        // The value has no entry.
         requires { T.entries value ≡ [] }
+        // The lock knows the fixed part of the value.
         ensures lock { IfOk result (λ r. r.0.fixed ≡ T.fixed value) }
+        // The pass has number 0, the whole room, and has seen nothing.
         ensures pass { IfOk result (λ r. r.1 ≡ first_known r.0.table (T.fixed value) (T.most (T.fixed value))) }
+        // The baton is of this lock and has seen nothing.
         ensures baton { IfOk result (λ r. r.2 ≡ record { table = r.0.table; seen = []; fixed = Some (T.fixed value) }) }
     {
         let key = Snapshot::of(&value);

@@ -38,13 +38,21 @@ fn split_off<T: Kept, N: Amount>(lock: &Lock<T>, pass: &mut Pass<T>, room: u32) 
 impl<T: Kept> Lock<T> {
     /// A pass of the next number, with some of the room of number 0.
     pub fn split(&self, pass: &mut Pass<T>, room: u32) -> Pass<T>
+        // The pass is one of this lock.
         requires lock { pass.old.table ≡ self.now.table }
+        // It is the one of number 0.
         requires first { pass.old.number ≡ 0 }
+        // It isn't in a turn.
         requires idle { pass.old.turn ≡ false }
+        // It has as much room.
         requires fits { room ≤ pass.old.room }
+        // A number is left.
         requires few { pass.old.made < 4294967295 }
+        // Number 0 has given one number more, and this room.
         ensures old { pass.new ≡ parted room pass.old }
+        // The new pass has the next number and this room, has seen as much, and has no entry.
         ensures new { result ≡ next_pass room pass.old }
+        // No entry of its number stands in what it has seen.
         ensures mine { own T.by result.number result.seen ≡ result.mine }
     {
         split_off::<T, Brand>(self, pass, room)

@@ -61,14 +61,23 @@ fn take_value<T: Kept, R: Wait>(rt: &R, shared: &SharedOf<T>, seat: &mut SeatOf<
 impl<T: Kept> Lock<T> {
     /// Waits for the turn, and has the value until the turn ends.
     pub fn take<R: Wait>(&self, rt: &R, pass: &mut Pass<T>) -> Guard<T>
+        // The pass is one of this lock.
         requires lock { pass.old.table ≡ self.now.table }
+        // It isn't in a turn.
         requires idle { pass.old.turn ≡ false }
+        // The pass is in a turn and has seen all entries of the value.
         ensures turn { pass.new ≡ record pass.old { turn = true; seen = T.entries result.value } }
+        // They continue what it had seen.
         ensures seen { IsPrefix pass.old.seen (T.entries result.value) }
+        // The fixed part of the value is the one that it knows.
         ensures fixed { pass.old.fixed ≡ Some (T.fixed result.value) }
+        // Those of its number are its own, in their order, each once.
         ensures mine { own T.by pass.old.number (T.entries result.value) ≡ pass.old.mine }
+        // Its room fits into what is left of the total.
         ensures room { pass.old.room + sum_by T.cost (T.entries result.value) ≤ T.most (T.fixed result.value) }
+        // Number 0 knows that each entry is of a number that it has given.
         ensures numbers { pass.old.number ≡ 0 → AreBelow T.by pass.old.made (T.entries result.value) }
+        // Where the pass has the baton, nobody else has added an entry of the prepare tier.
         ensures baton { pass.old.baton ≡ true → AddsEnablesOnly T.prep pass.old.seen (T.entries result.value) }
     {
         let value = take_value(rt, &self.table.shared, &mut pass.seat);
