@@ -21,6 +21,3 @@ pub use fault::DtsFault;
 pub use loaded::{Assigned, AssignedStep, Consumer, ConsumerName, Loaded};
 pub use reading::read_desc;
 pub use verdict::{each_has_its_parents, one_verdict};
-
-#[cfg(test)]
-mod tests;

@@ -14,7 +14,8 @@ use crate::reader::Reader;
 use crate::reading::read;
 use crate::targets::targets;
 use crate::tree::DtsTree;
-use dts_tokens::{MOST_BYTES, Token};
+use clk_io::MOST_BYTES;
+use dts_tokens::Token;
 use std::alloc::Global;
 
 /// The tree that was read.
