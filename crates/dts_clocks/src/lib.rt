@@ -10,6 +10,7 @@ mod fault;
 mod first_pass;
 mod loaded;
 mod loading;
+mod nodes;
 mod numbers;
 mod reading;
 mod reference;
