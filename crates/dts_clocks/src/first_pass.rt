@@ -18,11 +18,11 @@ ghost use Rattle.dts_clocks.specs.References.{are_there, behind_identifier, leav
 use crate::chart::Chart;
 use crate::fault::DtsFault;
 use crate::reference::Reference;
+use crate::taken::TakenNames;
 use bundle_text::is_clock_name;
 use clk_io::NoMemory;
 use dts_bindings::{Binding, BindingFault, BoundClock, Wants, binding, is_formed, is_provider};
 use dts_tree::{Cell, DtsNode};
-use indexmap::IndexSet;
 use std::alloc::Global;
 
 /// Whether the first specifier can be read, and cells are left over.
@@ -74,19 +74,17 @@ fn are_named(clocks: &[BoundClock]) -> bool
 /// Takes the clocks' names. False where one of them is taken.
 fn take_names(
     alloc: Global,
-    taken: &mut IndexSet<String>,
+    taken: &mut TakenNames,
     clocks: &[BoundClock],
 ) -> Result<bool, NoMemory>
-    ensures fresh { IfOk result (λ fresh. fresh ≡ not (has_twin (map string_bytes taken.old.keys) (map (λ c. c.name) (map seen_clock clocks.now)))) }
+    ensures fresh { IfOk result (λ fresh. fresh ≡ not (has_twin taken.old (map (λ c. c.name) (map seen_clock clocks.now)))) }
     ensures taken { IfOk result (λ fresh. OnTrue fresh
-        (map string_bytes taken.new.keys ≡ map string_bytes taken.old.keys ++ map (λ c. c.name) (map seen_clock clocks.now))) }
+        (taken.new ≡ taken.old ++ map (λ c. c.name) (map seen_clock clocks.now))) }
 {
     for clock in clocks {
-        if taken.contains(clock.name.as_str()) {
+        if !taken.take(alloc, clock.name.as_str())? {
             return Ok(false);
         }
-        let name = String::from_str(alloc, clock.name.as_str())?;
-        taken.insert(name)?;
     }
     Ok(true)
 }
@@ -114,13 +112,13 @@ fn has_too_many(chart: &Chart<'_>, binding: &Binding) -> bool
 fn judge(
     alloc: Global,
     chart: &Chart<'_>,
-    taken: &mut IndexSet<String>,
+    taken: &mut TakenNames,
     line: u32,
     binding: &Binding,
 ) -> Result<(), DtsFault>
-    ensures none { OnOk result (binding_fault chart.now (map string_bytes taken.old.keys) line (seen_binding binding.now) ≡ None) }
-    ensures taken { OnOk result (map string_bytes taken.new.keys ≡ map string_bytes taken.old.keys ++ names_in (seen_binding binding.now)) }
-    ensures err { IfErr result (λ e. Tells e (binding_fault chart.now (map string_bytes taken.old.keys) line (seen_binding binding.now))) }
+    ensures none { OnOk result (binding_fault chart.now taken.old line (seen_binding binding.now) ≡ None) }
+    ensures taken { OnOk result (taken.new ≡ taken.old ++ names_in (seen_binding binding.now)) }
+    ensures err { IfErr result (λ e. Tells e (binding_fault chart.now taken.old line (seen_binding binding.now))) }
 {
     if has_too_many(chart, binding) {
         return Err(DtsFault::MissingProperty(line));
@@ -138,13 +136,13 @@ fn judge(
 fn provider(
     alloc: Global,
     chart: &Chart<'_>,
-    taken: &mut IndexSet<String>,
+    taken: &mut TakenNames,
     node: &DtsNode,
 ) -> Result<Binding, DtsFault>
     ensures binding { IfOk result (λ b. binding_of (seen_node node.now) ≡ Ok (seen_binding b)) }
-    ensures none { OnOk result (provider_fault chart.now (map string_bytes taken.old.keys) node.now.line (binding_of (seen_node node.now)) ≡ None) }
-    ensures taken { IfOk result (λ b. map string_bytes taken.new.keys ≡ map string_bytes taken.old.keys ++ names_in (seen_binding b)) }
-    ensures err { IfErr result (λ e. Tells e (provider_fault chart.now (map string_bytes taken.old.keys) node.now.line (binding_of (seen_node node.now)))) }
+    ensures none { OnOk result (provider_fault chart.now taken.old node.now.line (binding_of (seen_node node.now)) ≡ None) }
+    ensures taken { IfOk result (λ b. taken.new ≡ taken.old ++ names_in (seen_binding b)) }
+    ensures err { IfErr result (λ e. Tells e (provider_fault chart.now taken.old node.now.line (binding_of (seen_node node.now)))) }
 {
     match binding(alloc, node) {
         Ok(binding) => {
@@ -160,13 +158,13 @@ fn provider(
 fn look_at(
     alloc: Global,
     chart: &Chart<'_>,
-    taken: &mut IndexSet<String>,
+    taken: &mut TakenNames,
     node: &DtsNode,
 ) -> Result<Option<Binding>, DtsFault>
     ensures binding { IfOk result (λ b. option_map seen_binding b ≡ own_binding (seen_node node.now)) }
-    ensures none { OnOk result (node_fault chart.now (map string_bytes taken.old.keys) (seen_node node.now) ≡ None) }
-    ensures taken { IfOk result (λ b. map string_bytes taken.new.keys ≡ map string_bytes taken.old.keys ++ option_map_or (λ k. names_in (seen_binding k)) b []) }
-    ensures err { IfErr result (λ e. Tells e (node_fault chart.now (map string_bytes taken.old.keys) (seen_node node.now))) }
+    ensures none { OnOk result (node_fault chart.now taken.old (seen_node node.now) ≡ None) }
+    ensures taken { IfOk result (λ b. taken.new ≡ taken.old ++ option_map_or (λ k. names_in (seen_binding k)) b []) }
+    ensures err { IfErr result (λ e. Tells e (node_fault chart.now taken.old (seen_node node.now))) }
 {
     if is_provider(node) {
         let binding = provider(alloc, chart, taken, node)?;
@@ -182,14 +180,14 @@ fn look_at(
 fn look(
     alloc: Global,
     chart: &Chart<'_>,
-    taken: &mut IndexSet<String>,
+    taken: &mut TakenNames,
     at: usize,
 ) -> Result<Option<Binding>, DtsFault>
     requires within { at < length chart.now }
-    requires taken { map string_bytes taken.old.keys ≡ names_before chart.now at }
+    requires taken { taken.old ≡ names_before chart.now at }
     ensures binding { IfOk result (λ b. option_map seen_binding b ≡ binding_at chart.now at) }
     ensures none { OnOk result (first_fault chart.now at ≡ None) }
-    ensures taken { OnOk result (map string_bytes taken.new.keys ≡ names_before chart.now (at + 1)) }
+    ensures taken { OnOk result (taken.new ≡ names_before chart.now (at + 1)) }
     ensures err { IfErr result (λ e. Tells e (first_fault chart.now at)) }
 {
     if chart.is_passed(at) {
@@ -207,7 +205,7 @@ pub(crate) fn read_bindings(
     ensures none { OnOk result (KeepsBelow (first_fault chart.now) (length chart.now)) }
     ensures err { IfErr result (λ e. Finds (first_fault chart.now) (length chart.now) e) }
 {
-    let mut taken = IndexSet::new(alloc);
+    let mut taken = TakenNames::new(alloc);
     let mut found = Vec::new(alloc);
     for at in 0..chart.len() {
         let binding = look(alloc, chart, &mut taken, at)?;

@@ -16,6 +16,7 @@ mod reading;
 mod reference;
 mod second_pass;
 mod specifiers;
+mod taken;
 mod verdict;
 
 pub use fault::DtsFault;

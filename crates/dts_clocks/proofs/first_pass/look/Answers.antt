@@ -1,4 +1,4 @@
-use Rattle.std.proofs.Common.{◌≡◌, sym, ◌∙◌, subst, map, string_bytes, IfOk, OnOk, IfErr, None}
+use Rattle.std.proofs.Common.{◌≡◌, sym, ◌∙◌, subst, IfOk, OnOk, IfErr, None}
 use Rattle.std.specs.Option.{option_map}
 use Rattle.dts_tree.specs.Tree.{seen_node}
 use Rattle.dts_bindings.specs.Binding.{seen_binding}
@@ -21,13 +21,13 @@ returns-clause-binding c =
 
 pub returns-clause-none : goal.returns-clause-none
 returns-clause-none c =
-    subst (λ o. OnOk c.look_at.result (o ≡ None)) (first_fault-node c.args.chart.now c.args.at (seen_node c.node.result.now) (map string_bytes c.args.taken.now.keys) c.node.ensures (sym c.is_passed.ensures ∙ c.if-is_passed.false) c.requires.taken) c.look_at.ensures.none
+    subst (λ o. OnOk c.look_at.result (o ≡ None)) (first_fault-node c.args.chart.now c.args.at (seen_node c.node.result.now) c.args.taken.now c.node.ensures (sym c.is_passed.ensures ∙ c.if-is_passed.false) c.requires.taken) c.look_at.ensures.none
 
 pub returns-clause-taken : goal.returns-clause-taken
 returns-clause-taken c =
-    names_taken c.look_at.result c.args.chart.now c.args.at _ (map string_bytes c.args.taken.now.keys) (map string_bytes c.look_at.new.taken.keys) c.look_at.ensures.binding c.look_at.ensures.taken
+    names_taken c.look_at.result c.args.chart.now c.args.at _ c.args.taken.now c.look_at.new.taken c.look_at.ensures.binding c.look_at.ensures.taken
     (binding_at-node c.args.chart.now c.args.at (seen_node c.node.result.now) c.node.ensures (sym c.is_passed.ensures ∙ c.if-is_passed.false)) c.requires.taken
 
 pub returns-clause-err : goal.returns-clause-err
 returns-clause-err c =
-    subst (λ o. IfErr c.look_at.result (λ e. Tells e o)) (first_fault-node c.args.chart.now c.args.at (seen_node c.node.result.now) (map string_bytes c.args.taken.now.keys) c.node.ensures (sym c.is_passed.ensures ∙ c.if-is_passed.false) c.requires.taken) c.look_at.ensures.err
+    subst (λ o. IfErr c.look_at.result (λ e. Tells e o)) (first_fault-node c.args.chart.now c.args.at (seen_node c.node.result.now) c.args.taken.now c.node.ensures (sym c.is_passed.ensures ∙ c.if-is_passed.false) c.requires.taken) c.look_at.ensures.err

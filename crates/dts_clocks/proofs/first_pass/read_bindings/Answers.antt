@@ -1,6 +1,6 @@
-use Rattle.std.proofs.Common.{sym, ◌∙◌, ap, map, string_bytes, length, arith}
+use Rattle.std.proofs.Common.{sym, ◌∙◌, ap, map, length, arith}
 use Rattle.std.specs.Option.{option_map}
-use Rattle.std.proofs.lemmas.List.{map_push, nil_from_length}
+use Rattle.std.proofs.lemmas.List.{map_push}
 use Rattle.std.proofs.lemmas.Result.{err_from_is_err_and}
 use Rattle.dts_bindings.specs.Binding.{seen_binding}
 use Rattle.dts_clocks.specs.Clocks.{binding_at}
@@ -13,7 +13,7 @@ pub loop-at-init : goal.loop-at-init
 loop-at-init c =
     record {
       found = listed_none (binding_at c.args.chart.now) _ (ap (map (option_map seen_binding)) c.new-found.ensures.items);
-      taken = ap (map string_bytes) (nil_from_length c.new-taken.result.keys c.new-taken.ensures.len) ∙ sym (names_before-none c.args.chart.now);
+      taken = c.new-taken.ensures ∙ sym (names_before-none c.args.chart.now);
       kept = kept_none (first_fault c.args.chart.now);
     }
 

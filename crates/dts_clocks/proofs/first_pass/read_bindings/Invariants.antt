@@ -1,4 +1,4 @@
-use Rattle.std.proofs.Common.{◌≡◌, map, string_bytes}
+use Rattle.std.proofs.Common.{◌≡◌, map}
 use Rattle.std.specs.Option.{option_map}
 use Rattle.bundle_text.specs.Firsts.{KeepsBelow}
 use Rattle.dts_bindings.specs.Binding.{seen_binding}
@@ -12,6 +12,6 @@ abbrev pub invariant-loop-at : goal.invariant-loop-at
 invariant-loop-at l =
     record {
       found : map (option_map seen_binding) l.found.items ≡ listed (binding_at l.chart) l.at;
-      taken : map string_bytes l.taken.keys ≡ names_before l.chart l.at;
+      taken : l.taken ≡ names_before l.chart l.at;
       kept : KeepsBelow (first_fault l.chart) l.at;
     }
