@@ -9,12 +9,9 @@ use Rattle.dts_tree.specs.declared.tree.Cell.{Cell}
 use Rattle.dts_tree.specs.declared.tree.Cell.TheVariants as cells
 use Rattle.dts_tree.specs.declared.tree.DtsValue.{DtsValue}
 use Rattle.dts_tree.specs.Tree.{SeenValue, seen_value}
+use Rattle.dts_tree.proofs.Shown.{filter_map-one}
 use Rattle.dts_bindings.specs.Alone.{alone, two_alone}
 use Rattle.dts_bindings.specs.Properties.{is_cells, cells_of, cells_in, text_of, is_number, number_of, numbers_in, all_numbers, only, only_two, one_number, two_numbers}
-
-filter_map-single : {X Y : Type 0} (f : X → Option Y) (x : X) (o : Option Y) → f x ≡ o → filter_map f (x ∷ []) ≡ option_to_list o
-filter_map-single f x None e = rw e refl
-filter_map-single f x (Some y) e = rw e refl
 
 -- a place within the first of two lists, and one past it
 pub slice_get-left : {X : Type 0} (xs ys : List X) (k : ℕ) (d : X) → k < length xs → Some (get_or xs k d) ≡ slice_get (xs ++ ys) k
@@ -99,6 +96,6 @@ pub texts-next : (vs : List DtsValue) (i : ℕ) (v : DtsValue) (old new : List (
     → old ≡ filter_map text_of (map seen_value (take i vs)) → new ≡ filter_map text_of (map seen_value (take (i + 1) vs))
 texts-next vs i v old new o low is here n was =
     n ∙ (ap (λ xs. xs ++ option_to_list o) was ∙ (ap (λ p. filter_map text_of (map seen_value (take i vs)) ++ option_to_list p) (here ∙ ap (λ w. text_of (seen_value w)) is)
-    ∙ (ap (λ ys. filter_map text_of (map seen_value (take i vs)) ++ ys) (sym (filter_map-single text_of (seen_value (get_or vs i v)) (text_of (seen_value (get_or vs i v))) refl))
+    ∙ (ap (λ ys. filter_map text_of (map seen_value (take i vs)) ++ ys) (sym (filter_map-one text_of (seen_value (get_or vs i v)) (text_of (seen_value (get_or vs i v))) refl))
     ∙ (sym (filter_map-append text_of (map seen_value (take i vs)) (seen_value (get_or vs i v) ∷ []))
     ∙ ap (filter_map text_of) (sym (map-append seen_value (take i vs) (get_or vs i v ∷ [])) ∙ ap (map seen_value) (sym (take_more vs i v low)))))))

@@ -60,7 +60,7 @@ binding_as row node = if states_cells row node then option_map_or (λ b. Ok b) (
 unfoldable pub binding_of : SeenNode → Result SeenBinding BindingFault
 binding_of node = option_map_or (λ row. binding_as row node) (row_of node) (Err faults.UnknownCompatible)
 
--- a result is this one, seen, unless memory ran out
+-- a program's result shows what the node says, or is its fault, unless memory ran out
 abbrev pub Binds : Result Binding BindingFault → Result SeenBinding BindingFault → Type 0
 Binds (Ok b) said = said ≡ Ok (seen_binding b)
 Binds (Err faults.UnknownCompatible) said = said ≡ Err faults.UnknownCompatible

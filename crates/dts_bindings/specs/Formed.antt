@@ -1,4 +1,4 @@
--- What is asked of every node that isn't passed over.
+-- What is asked of the properties that any node may have, and of those of a consumer.
 use Rattle.std.specs.Prelude.{◌&&◌, ◌||◌, not, Bool, true, false, codes}
 use Rattle.std.specs.List.{list_all}
 use Rattle.std.specs.Option.{is_some, option_map_or}
@@ -30,6 +30,6 @@ is_sound node = has_good_phandle node && has_good_assigned node
 unfoldable pub has_good_clocks : SeenNode → Bool
 has_good_clocks node = list_all is_cells (values_of (codes "clocks") node) && list_all is_plain (values_of (codes "clock-names") node)
 
--- a node that is no provider is formed
+-- the properties that any node may have are formed, and those of a consumer where the node is one; of a provider's own properties nothing is asked
 unfoldable pub is_formed : SeenNode → Bool
 is_formed node = is_sound node && (not (is_consumer node) || has_good_clocks node)

@@ -1,4 +1,4 @@
-//! What is asked of every node that isn't passed over.
+//! What is asked of the properties that any node may have, and of those of a consumer.
 
 ghost use Rattle.std.specs.Prelude.{◌≡◌, map};
 ghost use Rattle.std.specs.List.{list_all};
@@ -90,7 +90,9 @@ fn has_good_clocks(node: &DtsNode) -> bool
     are_cells(values(node, "clocks")) && are_plain(values(node, "clock-names"))
 }
 
-/// Whether the properties of a node that is no provider are formed, as far as clocks read them.
+/// Whether a `phandle`, where there is one, is one number cell, assigned clocks and parents are cells,
+/// assigned rates are number cells, and, where the node is a consumer, its clocks are cells and their
+/// names strings without a backslash. Of a provider's own properties it asks nothing.
 #[tactic(auto, unfolding(crate::specs::Formed::is_formed))]
 pub fn is_formed(node: &DtsNode) -> bool
     ensures { result ≡ is_formed (seen_node node.now) }

@@ -19,6 +19,3 @@ pub use formed::is_formed;
 pub use nodes::{clock_cells, is_consumer, is_okay, is_provider, phandle};
 pub use properties::{has_property, property, values};
 pub use reading::{cells, numbers, one_number, texts, two_numbers};
-
-#[cfg(test)]
-mod tests;

@@ -1,13 +1,13 @@
 //! What the values of a property are.
 
-ghost use Rattle.std.specs.Prelude.{◌≡◌, ◌++◌, map, slice_get, IfOk, OnOk};
+ghost use Rattle.std.specs.Prelude.{◌≡◌, map, slice_get, IfOk};
 ghost use Rattle.std.specs.List.{list_all, flat_map, filter_map};
-ghost use Rattle.std.specs.Option.{option_map, option_to_list};
+ghost use Rattle.std.specs.Option.{option_map};
 ghost use Rattle.dts_bindings.specs.Alone.{alone, two_alone};
 ghost use Rattle.dts_bindings.specs.Properties.{is_cells, cells_of, cells_in, is_text, text_of, texts_in, is_number, number_of, all_numbers, one_number, two_numbers};
 ghost use Rattle.dts_tree.specs.Tree.{seen_value};
 
-use clk_io::NoMemory;
+use clk_io::{NoMemory, push_some};
 use dts_tree::{Cell, DtsValue};
 use std::alloc::Global;
 
@@ -111,19 +111,6 @@ pub fn texts<'a>(alloc: Global, values: &'a [DtsValue]) -> Result<Option<Vec<&'a
         return Ok(None);
     }
     Ok(Some(kept_texts(alloc, values)?))
-}
-
-/// One text more, if there is one.
-fn push_some<'a>(found: &mut Vec<&'a str>, more: Option<&'a str>) -> Result<(), NoMemory>
-    ensures { OnOk result (map (λ t. t.now) found.new.items ≡ map (λ t. t.now) found.old.items ++ option_to_list (option_map (λ t. t.now) more.entry)) }
-{
-    match more {
-        Some(text) => {
-            found.push(text)?;
-            Ok(())
-        }
-        None => Ok(()),
-    }
 }
 
 /// The numbers among the cells.

@@ -1,8 +1,8 @@
 -- What is loaded, one node more.
-use Rattle.std.proofs.Common.{◌≡◌, ℕ, ◌+◌, List, [], ◌∷◌, ◌++◌, map, Option, Some, None, refl, sym, ap, ◌∙◌}
+use Rattle.std.proofs.Common.{◌≡◌, ℕ, ◌+◌, List, [], ◌++◌, Option, Some, None, refl, sym, ap, ◌∙◌}
 use Rattle.std.specs.Prelude.{slice_get}
-use Rattle.std.specs.Option.{option_map, option_map_or, option_to_list}
-use Rattle.std.proofs.lemmas.List.{append-nil, map-append}
+use Rattle.std.specs.Option.{option_map_or, option_to_list}
+use Rattle.std.proofs.lemmas.List.{append-nil}
 use Rattle.clk_base.specs.Description.{Description}
 use Rattle.dts_tree.specs.Tree.{SeenNode}
 use Rattle.dts_bindings.specs.Binding.{SeenBinding}
@@ -71,7 +71,7 @@ no_assigned : (nodes : List SeenNode) (k : ℕ) → None ≡ links_at nodes k �
 unfolding assigned_at
 no_assigned nodes k none = rw (← none) refl
 
--- one that is
+-- a node that is passed over
 pub loaded_same : (nodes : List SeenNode) (k : ℕ) (old : SeenLoaded) → None ≡ links_at nodes k → old ≡ loaded_before nodes k → old ≡ loaded_before nodes (k + 1)
 unfolding loaded_before
 loaded_same nodes k old none so_far =
@@ -83,7 +83,3 @@ unfolding loaded_before
 loaded_none nodes loaded a b c d =
     all_same loaded.defs (joined (defs_at nodes) 0) loaded.lines (joined (lines_at nodes) 0) loaded.consumers (joined (consumers_at nodes) 0) loaded.assigned (joined (assigned_at nodes) 0)
     (a ∙ sym (joined-none (defs_at nodes))) (b ∙ sym (joined-none (lines_at nodes))) (c ∙ sym (joined-none (consumers_at nodes))) (d ∙ sym (joined-none (assigned_at nodes)))
-
-pub map_some : {X Y : Type 0} (f : X → Y) (xs ys : List X) (o : Option X) → ys ≡ xs ++ option_to_list o → map f ys ≡ map f xs ++ option_to_list (option_map f o)
-map_some f xs ys None e = ap (map f) e ∙ map-append f xs []
-map_some f xs ys (Some x) e = ap (map f) e ∙ map-append f xs (x ∷ [])

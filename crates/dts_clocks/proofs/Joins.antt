@@ -1,9 +1,10 @@
 -- What is said at one more place.
-use Rattle.std.proofs.Common.{◌≡◌, ℕ, zero, suc, ◌+◌, ◌<◌, ◌≤◌, List, [], ◌∷◌, ◌++◌, length, get_or, Option, Some, None, refl, ap, sym, ◌∙◌, arith, add-one, inl, inr}
+use Rattle.std.proofs.Common.{◌≡◌, ℕ, zero, suc, ◌+◌, ◌<◌, ◌≤◌, List, [], ◌∷◌, ◌++◌, length, get_or, refl, ap, sym, ◌∙◌, arith, add-one, inl, inr}
 use Rattle.std.specs.Prelude.{slice_get}
 use Rattle.std.specs.Option.{unwrap_or}
 use Rattle.std.proofs.lemmas.Bool.{cases_lt}
 use Rattle.std.proofs.lemmas.List.{append-nil, append_assoc, length_push, get_or_append_left, get_or_push}
+use Rattle.std.proofs.lemmas.Option.{slice_get-get_or, slice_get_past}
 use Rattle.dts_clocks.specs.Joined.{joined, listed, total}
 
 pub joined-more : {X : Type 0} (f : ℕ → List X) (n : ℕ) → joined f (n + 1) ≡ joined f n ++ f n
@@ -49,21 +50,11 @@ listed_within f xs n k all low = omega (arith, ap length all, length-listed f n)
 pub listed_read : {X : Type 0} (f : ℕ → X) (xs : List X) (n k : ℕ) (x : X) → xs ≡ listed f n → k < n → x ≡ get_or xs k x → x ≡ f k
 listed_read f xs n k x all low read = read ∙ (ap (λ ys. get_or ys k x) all ∙ get-listed f n k x low)
 
-slice_get-within : {X : Type 0} (xs : List X) (k : ℕ) (d : X) → k < length xs → slice_get xs k ≡ Some (get_or xs k d)
-slice_get-within [] k d h = absurd (omega arith)
-slice_get-within (x ∷ xs) zero d h = refl
-slice_get-within (x ∷ xs) (suc k) d h = slice_get-within xs k d (omega arith)
-
-slice_get-behind : {X : Type 0} (xs : List X) (k : ℕ) → length xs ≤ k → slice_get xs k ≡ None
-slice_get-behind [] k h = refl
-slice_get-behind (x ∷ xs) zero h = absurd (omega arith)
-slice_get-behind (x ∷ xs) (suc k) h = slice_get-behind xs k (omega arith)
-
 -- a table that is asked also behind its end, where the function gives the same
 pub listed_or : {X : Type 0} (f : ℕ → X) (xs : List X) (n k : ℕ) (d : X) → xs ≡ listed f n → (n ≤ k → f k ≡ d) → unwrap_or (slice_get xs k) d ≡ f k
 listed_or f xs n k d all past = rw all (elim (cases_lt k n) [
-  | inl low ↦ rw (slice_get-within (listed f n) k d (listed_within f (listed f n) n k refl low)) (get-listed f n k d low)
-  | inr high ↦ rw (slice_get-behind (listed f n) k (omega (arith, length-listed f n))) (sym (past high))
+  | inl low ↦ rw (slice_get-get_or (listed f n) k d (listed_within f (listed f n) n k refl low)) (get-listed f n k d low)
+  | inr high ↦ rw (slice_get_past (listed f n) k (omega (arith, length-listed f n))) (sym (past high))
 ])
 
 pub joined_start : {X : Type 0} (f : ℕ → List X) (xs : List X) → xs ≡ xs ++ joined f 0
@@ -72,6 +63,3 @@ joined_start f xs = sym (ap (λ ys. xs ++ ys) (joined-none f) ∙ append-nil xs)
 pub joined_push : {X : Type 0} (f : ℕ → List X) (start old new here : List X) (n : ℕ) → old ≡ start ++ joined f n → here ≡ f n → new ≡ old ++ here → new ≡ start ++ joined f (n + 1)
 joined_push f start old new here n so_far is pushed =
     pushed ∙ (ap (λ xs. xs ++ here) so_far ∙ (append_assoc start (joined f n) here ∙ ap (λ xs. start ++ xs) (ap (λ ys. joined f n ++ ys) is ∙ sym (joined-more f n))))
-
-pub slice_get-is : {X : Type 0} (xs : List X) (k : ℕ) (x : X) → k < length xs → x ≡ get_or xs k x → Some x ≡ slice_get xs k
-slice_get-is {X = X} xs k x low is = let P : X → Option X = λ y. Some y in ap P is ∙ sym (slice_get-within xs k x low)

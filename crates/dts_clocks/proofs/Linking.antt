@@ -1,12 +1,11 @@
 -- The second look at one node.
 use Rattle.std.proofs.Common.{◌≡◌, ℕ, ◌+◌, ◌<◌, ◌≤◌, Bool, true, false, cond, List, [], ◌∷◌, ◌++◌, map, length, get_or, drop, Option, Some, None, refl, sym, ap, ◌∙◌, arith, append_assoc}
-use Rattle.std.specs.Prelude.{◌||◌, ◌&&◌, nat_lt}
+use Rattle.std.specs.Prelude.{◌||◌, ◌&&◌, nat_lt, slice_get}
 use Rattle.std.specs.List.{list_all}
 use Rattle.std.specs.Option.{option_map, option_map_or}
 use Rattle.std.proofs.lemmas.List.{at_drop_more, at_drop_all, append-nil}
 use Rattle.clk_base.specs.declared.clock.ClockId.{ClockId}
-use Rattle.dts_tree.specs.declared.tree.DtsNode.{DtsNode}
-use Rattle.dts_tree.specs.Tree.{SeenNode, seen_node}
+use Rattle.dts_tree.specs.Tree.{SeenNode}
 use Rattle.clk_base.specs.declared.clock.Kind.{Kind}
 use Rattle.clk_base.specs.Valid.{can_have_parents}
 use Rattle.dts_bindings.specs.declared.bound.Binding.{Binding}
@@ -21,7 +20,6 @@ use Rattle.dts_clocks.specs.Consumers.{SeenConsumer, consumer_of}
 use Rattle.dts_clocks.specs.Joined.{total}
 use Rattle.dts_clocks.specs.SecondPass.{Links, most_entries, all_there, parents_of, parents_at, links_of, links_at, entries_at, is_bad_assigned, links_fault, second_fault}
 use Rattle.dts_clocks.proofs.Joins.{total-more}
-use Rattle.dts_clocks.proofs.Places.{get_seen}
 
 -- one clock more of those that are there
 there_ahead : (found : List ClockId) (c : ClockId) (o : Option (List ClockId)) → option_map (λ more. found ++ more) (option_map (λ more. c ∷ more) o) ≡ option_map (λ more. (found ++ c ∷ []) ++ more) o
@@ -83,18 +81,16 @@ pub second_fault-passed : (nodes : List SeenNode) (k : ℕ) → is_passed nodes 
 unfolding second_fault
 second_fault-passed nodes k e = rw e refl
 
-pub links_at-node : (ns : List DtsNode) (k : ℕ) (d : DtsNode) → k < length ns → is_passed (map seen_node ns) k ≡ false → links_of (map seen_node ns) k (seen_node (get_or ns k d)) ≡ links_at (map seen_node ns) k
+pub links_at-node : (nodes : List SeenNode) (k : ℕ) (node : SeenNode) → slice_get nodes k ≡ Some node → is_passed nodes k ≡ false → links_of nodes k node ≡ links_at nodes k
 unfolding links_at
-links_at-node ns k d low e = rw (e, get_seen seen_node ns k d low) refl
+links_at-node nodes k node at e = rw (e, at) refl
 
-pub second_fault-node : (ns : List DtsNode) (k : ℕ) (d : DtsNode) → k < length ns → is_passed (map seen_node ns) k ≡ false
-    → second_fault (map seen_node ns) k ≡ links_fault (map seen_node ns) k (seen_node (get_or ns k d)) (links_of (map seen_node ns) k (seen_node (get_or ns k d)))
+pub second_fault-node : (nodes : List SeenNode) (k : ℕ) (node : SeenNode) → slice_get nodes k ≡ Some node → is_passed nodes k ≡ false → second_fault nodes k ≡ links_fault nodes k node (links_of nodes k node)
 unfolding second_fault
-second_fault-node ns k d low e = rw (e, get_seen seen_node ns k d low) refl
+second_fault-node nodes k node at e = rw (e, at) refl
 
-pub second_fault-bad : (ns : List DtsNode) (k : ℕ) (d : DtsNode) → k < length ns → is_passed (map seen_node ns) k ≡ false → None ≡ links_of (map seen_node ns) k (seen_node (get_or ns k d))
-    → second_fault (map seen_node ns) k ≡ Some (BadSpecifier (get_or ns k d).line)
-second_fault-bad ns k d low e none = second_fault-node ns k d low e ∙ ap (links_fault (map seen_node ns) k (seen_node (get_or ns k d))) (sym none)
+pub second_fault-bad : (nodes : List SeenNode) (k : ℕ) (node : SeenNode) → slice_get nodes k ≡ Some node → is_passed nodes k ≡ false → None ≡ links_of nodes k node → second_fault nodes k ≡ Some (BadSpecifier node.line)
+second_fault-bad nodes k node at e none = second_fault-node nodes k node at e ∙ ap (links_fault nodes k node) (sym none)
 
 pub more_entries : (nodes : List SeenNode) (k : ℕ) (l : Links) (before : ℕ) → before ≡ total (entries_at nodes) k → Some l ≡ links_at nodes k → before + entries l.lists ≡ total (entries_at nodes) (k + 1)
 unfolding entries_at
@@ -113,13 +109,11 @@ no_entries nodes k before so_far none =
     let here : option_map_or (λ m. entries m.lists) (links_at nodes k) 0 ≡ 0 = ap (λ (o : Option Links). option_map_or (λ m. entries m.lists) o 0) (sym none) in
     omega (arith, so_far, here, total-more (entries_at nodes) k)
 
-pub second_fault-linked : (ns : List DtsNode) (k : ℕ) (d : DtsNode) (l : Links) (before : ℕ) (bad : Bool) → k < length ns → is_passed (map seen_node ns) k ≡ false → Some l ≡ links_of (map seen_node ns) k (seen_node (get_or ns k d))
-    → before ≡ total (entries_at (map seen_node ns)) k → bad ≡ (is_too_long l.lists || lacks_clocks (seen_node (get_or ns k d)) || nat_lt most_entries (before + entries l.lists))
-    → second_fault (map seen_node ns) k ≡ cond bad (Some (BadAssigned (get_or ns k d).line)) None
-second_fault-linked ns k d l before bad low e linked so_far is =
-    let node : SeenNode = seen_node (get_or ns k d) in
-    second_fault-node ns k d low e ∙ (ap (links_fault (map seen_node ns) k node) (sym linked)
-    ∙ ap (λ b. cond b (Some (BadAssigned (get_or ns k d).line)) None) (sym (is_bad_at (map seen_node ns) k node l before bad so_far (linked ∙ links_at-node ns k d low e) is)))
+pub second_fault-linked : (nodes : List SeenNode) (k : ℕ) (node : SeenNode) (l : Links) (before : ℕ) (bad : Bool) → slice_get nodes k ≡ Some node → is_passed nodes k ≡ false → Some l ≡ links_of nodes k node
+    → before ≡ total (entries_at nodes) k → bad ≡ (is_too_long l.lists || lacks_clocks node || nat_lt most_entries (before + entries l.lists)) → second_fault nodes k ≡ cond bad (Some (BadAssigned node.line)) None
+second_fault-linked nodes k node l before bad at e linked so_far is =
+    second_fault-node nodes k node at e ∙ (ap (links_fault nodes k node) (sym linked)
+    ∙ ap (λ b. cond b (Some (BadAssigned node.line)) None) (sym (is_bad_at nodes k node l before bad so_far (linked ∙ links_at-node nodes k node at e) is)))
 
 each_seen : (p : Kind → Bool) (cs : List BoundClock) → list_all (λ (c : SeenClock). p c.kind) (map seen_clock cs) ≡ list_all (λ (c : BoundClock). p c.kind) cs
 each_seen p [] = refl

@@ -1,10 +1,10 @@
 -- The first look at one node.
-use Rattle.std.proofs.Common.{◌≡◌, ℕ, ◌+◌, ◌<◌, true, false, List, [], ◌∷◌, ◌++◌, map, length, get_or, Option, Some, None, Result, Ok, Err, refl, sym, ap, ◌∙◌, arith, below_more, OnOk, IfOk}
+use Rattle.std.proofs.Common.{◌≡◌, ℕ, ◌+◌, ◌<◌, true, false, List, [], ◌∷◌, ◌++◌, map, Option, Some, None, Result, Ok, Err, refl, sym, ap, ◌∙◌, arith, below_more, OnOk, IfOk}
+use Rattle.std.specs.Prelude.{slice_get}
 use Rattle.std.specs.Option.{option_map, option_map_or}
 use Rattle.std.proofs.lemmas.List.{map-append, append-nil}
 use Rattle.bundle_text.specs.Firsts.{KeepsBelow}
-use Rattle.dts_tree.specs.declared.tree.DtsNode.{DtsNode}
-use Rattle.dts_tree.specs.Tree.{SeenNode, seen_node}
+use Rattle.dts_tree.specs.Tree.{SeenNode}
 use Rattle.dts_bindings.specs.declared.bound.Binding.{Binding}
 use Rattle.dts_bindings.specs.Binding.{SeenBinding, seen_binding}
 use Rattle.dts_bindings.specs.Clocks.{SeenClock}
@@ -16,24 +16,22 @@ use Rattle.dts_clocks.specs.Faults.{Tells, Finds}
 use Rattle.dts_clocks.specs.FirstPass.{names_in, names_before, node_fault, first_fault}
 use Rattle.dts_clocks.specs.Joined.{joined}
 use Rattle.dts_clocks.proofs.Joins.{joined-more, joined-none}
-use Rattle.dts_clocks.proofs.Places.{get_seen}
 
 pub binding_at-passed : (nodes : List SeenNode) (k : ℕ) → is_passed nodes k ≡ true → binding_at nodes k ≡ None
 unfolding binding_at
 binding_at-passed nodes k e = rw e refl
 
-pub binding_at-node : (ns : List DtsNode) (k : ℕ) (d : DtsNode) → k < length ns → is_passed (map seen_node ns) k ≡ false → own_binding (seen_node (get_or ns k d)) ≡ binding_at (map seen_node ns) k
+pub binding_at-node : (nodes : List SeenNode) (k : ℕ) (node : SeenNode) → slice_get nodes k ≡ Some node → is_passed nodes k ≡ false → own_binding node ≡ binding_at nodes k
 unfolding binding_at
-binding_at-node ns k d low e = rw (e, get_seen seen_node ns k d low) refl
+binding_at-node nodes k node at e = rw (e, at) refl
 
 pub first_fault-passed : (nodes : List SeenNode) (k : ℕ) → is_passed nodes k ≡ true → first_fault nodes k ≡ None
 unfolding first_fault
 first_fault-passed nodes k e = rw e refl
 
-pub first_fault-node : (ns : List DtsNode) (k : ℕ) (d : DtsNode) (taken : List (List ℕ)) → k < length ns → is_passed (map seen_node ns) k ≡ false → taken ≡ names_before (map seen_node ns) k
-    → node_fault (map seen_node ns) taken (seen_node (get_or ns k d)) ≡ first_fault (map seen_node ns) k
+pub first_fault-node : (nodes : List SeenNode) (k : ℕ) (node : SeenNode) (taken : List (List ℕ)) → slice_get nodes k ≡ Some node → is_passed nodes k ≡ false → taken ≡ names_before nodes k → node_fault nodes taken node ≡ first_fault nodes k
 unfolding first_fault
-first_fault-node ns k d taken low e t = rw (e, get_seen seen_node ns k d low) (ap (λ ts. node_fault (map seen_node ns) ts (seen_node (get_or ns k d))) t)
+first_fault-node nodes k node taken at e t = rw (e, at) (ap (λ ts. node_fault nodes ts node) t)
 
 pub names_held : (k : ℕ) (clocks : List SeenClock) → map (λ (c : Held). c.clock.name) (map (held_by k) clocks) ≡ map (λ (c : SeenClock). c.name) clocks
 names_held k [] = refl

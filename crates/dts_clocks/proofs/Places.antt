@@ -1,22 +1,11 @@
 -- Elements by their places.
-use Rattle.std.proofs.Common.{◌≡◌, ℕ, zero, suc, ◌+◌, ◌<◌, ◌≤◌, Bool, true, false, not, cond, nat_eq, nat_lt, List, [], ◌∷◌, ◌++◌, length, get_or, map, Some, None, refl, ap, ◌∙◌, arith, take}
-use Rattle.std.specs.Prelude.{slice_get}
+use Rattle.std.proofs.Common.{◌≡◌, ℕ, ◌+◌, ◌<◌, ◌≤◌, Bool, true, false, not, cond, nat_eq, nat_lt, List, [], ◌∷◌, ◌++◌, length, get_or, Some, None, ap, ◌∙◌, arith, take}
 use Rattle.std.specs.List.{position, position_or_len}
 use Rattle.std.specs.Option.{option_or}
 use Rattle.std.proofs.lemmas.Bool.Decides.{nat_tests}
 use Rattle.std.proofs.lemmas.List.{length_push, length-take-le, take_more}
 use Rattle.std.proofs.lemmas.List.Folds.{position_or_len_push}
 use Rattle.std.proofs.lemmas.List.Sums.{prefix_len-le-length}
-
-pub get_seen : {X Y : Type 0} (f : X → Y) (xs : List X) (k : ℕ) (d : X) → k < length xs → slice_get (map f xs) k ≡ Some (f (get_or xs k d))
-get_seen f [] k d h = absurd (omega arith)
-get_seen f (x ∷ xs) zero d h = refl
-get_seen f (x ∷ xs) (suc k) d h = get_seen f xs k d (omega arith)
-
-pub get-past : {X : Type 0} (xs : List X) (k : ℕ) → length xs ≤ k → slice_get xs k ≡ None
-get-past [] k h = refl
-get-past (x ∷ xs) zero h = absurd (omega arith)
-get-past (x ∷ xs) (suc k) h = get-past xs k (omega arith)
 
 first_or_next : (q n : ℕ) (b : Bool) → q ≤ n
     → cond (nat_lt (cond (nat_eq q n) (n + cond b 0 1) q) (n + 1)) (Some (cond (nat_eq q n) (n + cond b 0 1) q)) None ≡ option_or (cond (nat_lt q n) (Some q) None) (cond b (Some n) None)

@@ -10,6 +10,7 @@ use Rattle.std.proofs.lemmas.List.{map-append, at_drop_more, at_drop_all, take_m
 use Rattle.indexmap.specs.IndexSet.{insert_key}
 use Rattle.bundle_text.specs.Names.{is_clock_name}
 use Rattle.dts_tree.specs.Tree.{SeenNode}
+use Rattle.dts_tree.proofs.Taking.{list_any-map}
 use Rattle.dts_bindings.specs.declared.bound.BoundClock.{BoundClock}
 use Rattle.dts_bindings.specs.Binding.{SeenBinding}
 use Rattle.dts_bindings.specs.Clocks.{SeenClock, seen_clock}
@@ -24,11 +25,6 @@ pub named_all : (cs : List BoundClock) → list_all (λ c. is_clock_name (string
 named_all [] = refl
 named_all (c ∷ cs) = ap (λ b. is_clock_name (string_bytes c.name) && b) (named_all cs)
 
--- a name stands among the texts
-among : (texts : List (String Global)) (name : List ℕ) → list_any (λ k. bytes_eq name (string_bytes k)) texts ≡ list_any (bytes_eq name) (map string_bytes texts)
-among [] name = refl
-among (t ∷ ts) name = ap (λ b. bytes_eq name (string_bytes t) || b) (among ts name)
-
 pub twin_cons : (T : List (List ℕ)) (n : List ℕ) (ns : List (List ℕ)) → has_twin T (n ∷ ns) ≡ (list_any (bytes_eq n) T || has_twin (T ++ n ∷ []) ns)
 unfolding has_twin
 twin_cons T n ns = refl
@@ -42,43 +38,56 @@ left : (cs : List BoundClock) (i : ℕ) (clock : BoundClock) → i < length cs �
 unfolding names
 left cs i clock low is = at_drop_more names cs i clock low ∙ ap (λ (c : BoundClock). string_bytes c.name ∷ names (drop (i + 1) cs)) (sym is)
 
--- the next name is taken
-pub twin_found : (texts : List (String Global)) (cs : List BoundClock) (i : ℕ) (clock : BoundClock) (text : List ℕ) (had : Bool) → i < length cs → clock ≡ get_or cs i clock → text ≡ string_bytes clock.name
-    → had ≡ list_any (λ k. bytes_eq text (string_bytes k)) texts → had ≡ true → has_twin (map string_bytes texts) (map (λ c. c.name) (map seen_clock (drop i cs))) ≡ true
-unfolding names
-twin_found texts cs i clock text had low is named found yes' =
-    ap (has_twin (map string_bytes texts)) (left cs i clock low is)
-    ∙ (twin_cons (map string_bytes texts) (string_bytes clock.name) (names (drop (i + 1) cs))
-    ∙ ap (λ b. b || has_twin (map string_bytes texts ++ string_bytes clock.name ∷ []) (names (drop (i + 1) cs)))
-    (ap (λ n. list_any (bytes_eq n) (map string_bytes texts)) (sym named) ∙ (sym (among texts text) ∙ (sym found ∙ yes'))))
+-- a test that is turned round
+turned_false : (x : Bool) → not x ≡ false → x ≡ true
+turned_false true h = refl
+turned_false false h = sym h
 
--- the next name isn't, and is taken now
+turned_true : (x : Bool) → not x ≡ true → x ≡ false
+turned_true true h = sym h
+turned_true false h = refl
+
+-- the next name is taken
+pub twin_found : (T : List (List ℕ)) (cs : List BoundClock) (i : ℕ) (clock : BoundClock) (text : List ℕ) (fresh : Bool) → i < length cs → clock ≡ get_or cs i clock → text ≡ string_bytes clock.name
+    → fresh ≡ not (list_any (bytes_eq text) T) → fresh ≡ false → has_twin T (map (λ c. c.name) (map seen_clock (drop i cs))) ≡ true
+unfolding names
+twin_found T cs i clock text fresh low is named told had =
+    ap (has_twin T) (left cs i clock low is)
+    ∙ (twin_cons T (string_bytes clock.name) (names (drop (i + 1) cs))
+    ∙ ap (λ b. b || has_twin (T ++ string_bytes clock.name ∷ []) (names (drop (i + 1) cs)))
+    (ap (λ n. list_any (bytes_eq n) T) (sym named) ∙ turned_false (list_any (bytes_eq text) T) (sym told ∙ had)))
+
+-- the next name isn't taken, and is from now on
+pub twin_next : (T new : List (List ℕ)) (cs : List BoundClock) (i : ℕ) (clock : BoundClock) (text : List ℕ) (fresh : Bool) → i < length cs → clock ≡ get_or cs i clock → text ≡ string_bytes clock.name
+    → fresh ≡ not (list_any (bytes_eq text) T) → fresh ≡ true → new ≡ T ++ text ∷ [] → has_twin T (map (λ c. c.name) (map seen_clock (drop i cs))) ≡ has_twin new (map (λ c. c.name) (map seen_clock (drop (i + 1) cs)))
+unfolding names
+twin_next T new cs i clock text fresh low is named told free more =
+    ap (has_twin T) (left cs i clock low is)
+    ∙ (twin_cons T (string_bytes clock.name) (names (drop (i + 1) cs))
+    ∙ (ap (λ b. b || has_twin (T ++ string_bytes clock.name ∷ []) (names (drop (i + 1) cs)))
+    (ap (λ n. list_any (bytes_eq n) T) (sym named) ∙ turned_true (list_any (bytes_eq text) T) (sym told ∙ free))
+    ∙ ap (λ ts. has_twin ts (names (drop (i + 1) cs))) (ap (λ n. T ++ n ∷ []) (sym named) ∙ sym more)))
+
+pub names_more : (start T new : List (List ℕ)) (cs : List BoundClock) (i : ℕ) (clock : BoundClock) (text : List ℕ) → i < length cs → clock ≡ get_or cs i clock → text ≡ string_bytes clock.name
+    → new ≡ T ++ text ∷ [] → T ≡ start ++ map (λ c. c.name) (map seen_clock (take i cs)) → new ≡ start ++ map (λ c. c.name) (map seen_clock (take (i + 1) cs))
+unfolding names
+names_more start T new cs i clock text low is named more so_far =
+    let last : names (take (i + 1) cs) ≡ names (take i cs) ++ text ∷ [] =
+    ap names (take_more cs i clock low) ∙ (ap (map (λ (c : SeenClock). c.name)) (map-append seen_clock (take i cs) (get_or cs i clock ∷ []))
+    ∙ (map-append (λ (c : SeenClock). c.name) (map seen_clock (take i cs)) (seen_clock (get_or cs i clock) ∷ []) ∙ ap (λ n. names (take i cs) ++ n ∷ []) (ap (λ (c : BoundClock). string_bytes c.name) (sym is) ∙ sym named))) in
+    more ∙ (ap (λ ts. ts ++ text ∷ []) so_far ∙ (append_assoc start (names (take i cs)) (text ∷ []) ∙ ap (λ ts. start ++ ts) (sym last)))
+
+-- whether a name stands among those that are taken
+pub taken_by : (texts : List (String Global)) (names : List (List ℕ)) (text : List ℕ) (had : Bool) → map string_bytes texts ≡ names → had ≡ list_any (λ k. bytes_eq text (string_bytes k)) texts → list_any (bytes_eq text) names ≡ had
+taken_by texts names text had seen found = ap (list_any (bytes_eq text)) (sym seen) ∙ (list_any-map (bytes_eq text) string_bytes texts ∙ sym found)
+
+-- a name that isn't taken, behind those that are
 pub texts_more : (texts new : List (String Global)) (name : String Global) (text : List ℕ) (had : Bool) → string_bytes name ≡ text → had ≡ list_any (λ k. bytes_eq text (string_bytes k)) texts → had ≡ false → new ≡ insert_key string_eq texts name
     → map string_bytes new ≡ map string_bytes texts ++ text ∷ []
 texts_more texts new name text had same found absent put =
     let apart : list_any (string_eq name) texts ≡ false = ap (λ t. list_any (λ k. bytes_eq t (string_bytes k)) texts) same ∙ (sym found ∙ absent) in
     let new_is : new ≡ texts ++ name ∷ [] = put ∙ cond-false _ _ _ apart in
     ap (map string_bytes) new_is ∙ (map-append string_bytes texts (name ∷ []) ∙ ap (λ t. map string_bytes texts ++ t ∷ []) same)
-
-pub twin_next : (texts new : List (String Global)) (cs : List BoundClock) (i : ℕ) (clock : BoundClock) (text : List ℕ) (had : Bool) → i < length cs → clock ≡ get_or cs i clock → text ≡ string_bytes clock.name
-    → had ≡ list_any (λ k. bytes_eq text (string_bytes k)) texts → had ≡ false → map string_bytes new ≡ map string_bytes texts ++ text ∷ []
-    → has_twin (map string_bytes texts) (map (λ c. c.name) (map seen_clock (drop i cs))) ≡ has_twin (map string_bytes new) (map (λ c. c.name) (map seen_clock (drop (i + 1) cs)))
-unfolding names
-twin_next texts new cs i clock text had low is named found absent more =
-    ap (has_twin (map string_bytes texts)) (left cs i clock low is)
-    ∙ (twin_cons (map string_bytes texts) (string_bytes clock.name) (names (drop (i + 1) cs))
-    ∙ (ap (λ b. b || has_twin (map string_bytes texts ++ string_bytes clock.name ∷ []) (names (drop (i + 1) cs)))
-    (ap (λ n. list_any (bytes_eq n) (map string_bytes texts)) (sym named) ∙ (sym (among texts text) ∙ (sym found ∙ absent)))
-    ∙ ap (λ ts. has_twin ts (names (drop (i + 1) cs))) (ap (λ n. map string_bytes texts ++ n ∷ []) (sym named) ∙ sym more)))
-
-pub names_more : (start : List (List ℕ)) (texts new : List (String Global)) (cs : List BoundClock) (i : ℕ) (clock : BoundClock) (text : List ℕ) → i < length cs → clock ≡ get_or cs i clock → text ≡ string_bytes clock.name
-    → map string_bytes new ≡ map string_bytes texts ++ text ∷ [] → map string_bytes texts ≡ start ++ map (λ c. c.name) (map seen_clock (take i cs)) → map string_bytes new ≡ start ++ map (λ c. c.name) (map seen_clock (take (i + 1) cs))
-unfolding names
-names_more start texts new cs i clock text low is named more so_far =
-    let last : names (take (i + 1) cs) ≡ names (take i cs) ++ text ∷ [] =
-    ap names (take_more cs i clock low) ∙ (ap (map (λ (c : SeenClock). c.name)) (map-append seen_clock (take i cs) (get_or cs i clock ∷ []))
-    ∙ (map-append (λ (c : SeenClock). c.name) (map seen_clock (take i cs)) (seen_clock (get_or cs i clock) ∷ []) ∙ ap (λ n. names (take i cs) ++ n ∷ []) (ap (λ (c : BoundClock). string_bytes c.name) (sym is) ∙ sym named))) in
-    more ∙ (ap (λ ts. ts ++ text ∷ []) so_far ∙ (append_assoc start (names (take i cs)) (text ∷ []) ∙ ap (λ ts. start ++ ts) (sym last)))
 
 pub twin_none : (T : List (List ℕ)) (cs : List BoundClock) (i : ℕ) → length cs ≤ i → has_twin T (map (λ c. c.name) (map seen_clock (drop i cs))) ≡ false
 unfolding names

@@ -1,15 +1,13 @@
 -- The nodes above a node, one step up.
-use Rattle.std.proofs.Common.{◌≡◌, ℕ, zero, suc, ◌+◌, ◌<◌, Bool, true, false, not, List, [], ◌∷◌, Option, Some, None, refl, ap, sym, ◌∙◌, arith, add-one, cond, map, length, get_or, reverse, ◌++◌, string_bytes}
+use Rattle.std.proofs.Common.{◌≡◌, ℕ, zero, suc, ◌+◌, ◌<◌, Bool, true, false, not, List, [], ◌∷◌, Option, Some, None, refl, ap, sym, ◌∙◌, arith, add-one, cond, length, reverse, ◌++◌}
 use Rattle.std.specs.Prelude.{slice_get, nat_lt, ◌||◌, ◌==◌}
 use Rattle.std.specs.List.{list_any, flat_map}
 use Rattle.std.proofs.lemmas.List.{reverse-append, flat_map_more, append_assoc}
 use Rattle.std.specs.Option.{option_map_or, option_and_then}
 use Rattle.std.proofs.lemmas.Bool.Decides.{nat_tests}
-use Rattle.dts_tree.specs.declared.tree.DtsNode.{DtsNode}
-use Rattle.dts_tree.specs.Tree.{SeenNode, seen_node}
+use Rattle.dts_tree.specs.Tree.{SeenNode}
 use Rattle.dts_bindings.specs.Properties.{is_okay}
 use Rattle.dts_clocks.specs.Above.{parent_of, line_within, line_of, is_off, is_passed, path_part, or_slash, path_of}
-use Rattle.dts_clocks.proofs.Places.{get_seen}
 
 -- a parent stands before
 before_of : (k : ℕ) (parent : Option ℕ) (p : ℕ) → option_and_then (λ q. cond (nat_lt q k) (Some q) None) parent ≡ Some p → p < k
@@ -54,26 +52,22 @@ pub is_passed-up : (nodes : List SeenNode) (k : ℕ) → is_passed nodes k ≡ i
 unfolding is_passed
 is_passed-up nodes k = rw (line_of-up nodes k) (passed_by (is_off nodes) (line_of nodes) k (parent_of nodes k))
 
-off_node : (ns : List DtsNode) (k : ℕ) (node : DtsNode) (okay : Bool) → k < length ns → node ≡ get_or ns k node → okay ≡ is_okay (seen_node node) → is_off (map seen_node ns) k ≡ not okay
+off_node : (nodes : List SeenNode) (k : ℕ) (node : SeenNode) (okay : Bool) → slice_get nodes k ≡ Some node → okay ≡ is_okay node → is_off nodes k ≡ not okay
 unfolding is_off
-off_node ns k node okay lt is told = rw (get_seen seen_node ns k node lt) (rw (← is) (ap not (sym told)))
+off_node nodes k node okay at told = rw at (ap not (sym told))
 
 -- a node whose own status isn't okay is passed over
-pub passed_when_off : (ns : List DtsNode) (k : ℕ) (node : DtsNode) (okay : Bool) → k < length ns → node ≡ get_or ns k node → okay ≡ is_okay (seen_node node) → okay ≡ false → true ≡ is_passed (map seen_node ns) k
-passed_when_off ns k node okay lt is told bad =
-    let off = off_node ns k node okay lt is told in
-    let up = is_passed-up (map seen_node ns) k in
-    let here : is_off (map seen_node ns) k ≡ true = off ∙ ap not bad in
-    sym (up ∙ ap (λ b. b || option_map_or (is_passed (map seen_node ns)) (parent_of (map seen_node ns) k) false) here)
+pub passed_when_off : (nodes : List SeenNode) (k : ℕ) (node : SeenNode) (okay : Bool) → slice_get nodes k ≡ Some node → okay ≡ is_okay node → okay ≡ false → true ≡ is_passed nodes k
+passed_when_off nodes k node okay at told bad =
+    let here : is_off nodes k ≡ true = off_node nodes k node okay at told ∙ ap not bad in
+    sym (is_passed-up nodes k ∙ ap (λ b. b || option_map_or (is_passed nodes) (parent_of nodes k) false) here)
 
--- another is passed over exactly where its parent is
-pub passed_by_parent : (ns : List DtsNode) (k : ℕ) (node : DtsNode) (okay : Bool) (parent : Option ℕ) → k < length ns → node ≡ get_or ns k node → okay ≡ is_okay (seen_node node) → okay ≡ true
-    → parent ≡ parent_of (map seen_node ns) k → option_map_or (is_passed (map seen_node ns)) parent false ≡ is_passed (map seen_node ns) k
-passed_by_parent ns k node okay parent lt is told good above =
-    let off = off_node ns k node okay lt is told in
-    let up = is_passed-up (map seen_node ns) k in
-    let here : is_off (map seen_node ns) k ≡ false = off ∙ ap not good in
-    ap (λ o. option_map_or (is_passed (map seen_node ns)) o false) above ∙ sym (up ∙ ap (λ b. b || option_map_or (is_passed (map seen_node ns)) (parent_of (map seen_node ns) k) false) here)
+-- a node whose own status is okay is passed over exactly where its parent is
+pub passed_by_parent : (nodes : List SeenNode) (k : ℕ) (node : SeenNode) (okay : Bool) (parent : Option ℕ) → slice_get nodes k ≡ Some node → okay ≡ is_okay node → okay ≡ true → parent ≡ parent_of nodes k
+    → option_map_or (is_passed nodes) parent false ≡ is_passed nodes k
+passed_by_parent nodes k node okay parent at told good above =
+    let here : is_off nodes k ≡ false = off_node nodes k node okay at told ∙ ap not good in
+    ap (λ o. option_map_or (is_passed nodes) o false) above ∙ sym (is_passed-up nodes k ∙ ap (λ b. b || option_map_or (is_passed nodes) (parent_of nodes k) false) here)
 
 -- the names from below the root to a node, each behind a slash
 abbrev pub trail : List SeenNode → ℕ → List ℕ
@@ -91,16 +85,16 @@ unfolding path_part
 trail-root nodes k none =
     ap (λ l. flat_map (path_part nodes) (reverse l)) (line_of-up nodes k ∙ ap (λ o. k ∷ option_map_or (line_of nodes) o []) none) ∙ (trail-line (path_part nodes) k [] ∙ rw none refl)
 
-path_part-node : (ns : List DtsNode) (k p : ℕ) (d : DtsNode) → k < length ns → parent_of (map seen_node ns) k ≡ Some p → path_part (map seen_node ns) k ≡ 47 ∷ string_bytes (get_or ns k d).name
+path_part-node : (nodes : List SeenNode) (k p : ℕ) (node : SeenNode) → slice_get nodes k ≡ Some node → parent_of nodes k ≡ Some p → path_part nodes k ≡ 47 ∷ node.name
 unfolding path_part
-path_part-node ns k p d low above = rw (above, get_seen seen_node ns k d low) refl
+path_part-node nodes k p node at above = rw (above, at) refl
 
 -- one node more in front of a path
-pub path_more : (ns : List DtsNode) (k p : ℕ) (d : DtsNode) (all name path longer : List ℕ) → k < length ns → Some p ≡ parent_of (map seen_node ns) k → name ≡ string_bytes (get_or ns k d).name → longer ≡ 47 ∷ name ++ path
-    → all ≡ trail (map seen_node ns) k ++ path → all ≡ trail (map seen_node ns) p ++ longer
-path_more ns k p d all name path longer low above named made was =
-    was ∙ (ap (λ t. t ++ path) (trail-up (map seen_node ns) k p (sym above)) ∙ (append_assoc (trail (map seen_node ns) p) (path_part (map seen_node ns) k) path
-    ∙ ap (λ t. trail (map seen_node ns) p ++ t) (ap (λ t. t ++ path) (path_part-node ns k p d low (sym above) ∙ ap (λ n. 47 ∷ n) (sym named)) ∙ sym made)))
+pub path_more : (nodes : List SeenNode) (k p : ℕ) (node : SeenNode) (all name path longer : List ℕ) → slice_get nodes k ≡ Some node → Some p ≡ parent_of nodes k → name ≡ node.name → longer ≡ 47 ∷ name ++ path
+    → all ≡ trail nodes k ++ path → all ≡ trail nodes p ++ longer
+path_more nodes k p node all name path longer at above named made was =
+    was ∙ (ap (λ t. t ++ path) (trail-up nodes k p (sym above)) ∙ (append_assoc (trail nodes p) (path_part nodes k) path
+    ∙ ap (λ t. trail nodes p ++ t) (ap (λ t. t ++ path) (path_part-node nodes k p node at (sym above) ∙ ap (λ n. 47 ∷ n) (sym named)) ∙ sym made)))
 
 pub path_whole : (nodes : List SeenNode) (k at : ℕ) (path : List ℕ) → None ≡ parent_of nodes k → trail nodes at ≡ trail nodes k ++ path → or_slash path ≡ path_of nodes at
 unfolding path_of

@@ -1,10 +1,8 @@
 -- A tree has one verdict.
-use Rattle.std.proofs.Common.{◌≡◌, ◌⊎◌, ℕ, List, map, length, refl, sym, ap, ◌∙◌, subst, inl, inr}
-use Rattle.std.proofs.lemmas.List.{length-map}
+use Rattle.std.proofs.Common.{◌≡◌, ◌⊎◌, List, length, refl, ap, ◌∙◌, subst, inl, inr}
 use Rattle.bundle_text.specs.Firsts.{KeepsBelow}
 use Rattle.bundle_text.proofs.Rows.{kept_or_first}
-use Rattle.dts_tree.specs.declared.tree.DtsNode.{DtsNode}
-use Rattle.dts_tree.specs.Tree.{SeenNode, seen_node}
+use Rattle.dts_tree.specs.Tree.{SeenNode}
 use Rattle.dts_clocks.specs.declared.fault.DtsFault.{DtsFault}
 use Rattle.dts_clocks.specs.declared.fault.DtsFault.TheVariants.{UnknownCompatible, NoCells, MissingProperty, BadName, TwiceNamed, BadSpecifier, BadAssigned, NoMemory}
 use Rattle.dts_clocks.specs.Faults.{Finds}
@@ -24,28 +22,19 @@ each_decided nodes =
       | inr fault ↦ inr (fault.1, inl (record { place = fault.0; first = fault.2 }))
     ]
 
--- the nodes of a tree, seen
-tell : (nodes : List SeenNode) (n : ℕ) → n ≡ length nodes → (e : DtsFault) → KeepsBelow (first_fault nodes) n → Finds (second_fault nodes) n e → IsFaultOf nodes e
-tell nodes n all e kept found = tell_at nodes e (subst (λ m. KeepsBelow (first_fault nodes) m) all kept) (subst (λ m. Finds (second_fault nodes) m e) all found) where
-  tell_at : (nodes : List SeenNode) (e : DtsFault) → KeepsBelow (first_fault nodes) (length nodes) → Finds (second_fault nodes) (length nodes) e → IsFaultOf nodes e
-  tell_at nodes (UnknownCompatible line) kept found = inr (record { kept = kept; found = found })
-  tell_at nodes (NoCells line) kept found = inr (record { kept = kept; found = found })
-  tell_at nodes (MissingProperty line) kept found = inr (record { kept = kept; found = found })
-  tell_at nodes (BadName line) kept found = inr (record { kept = kept; found = found })
-  tell_at nodes (TwiceNamed line) kept found = inr (record { kept = kept; found = found })
-  tell_at nodes (BadSpecifier line) kept found = inr (record { kept = kept; found = found })
-  tell_at nodes (BadAssigned line) kept found = inr (record { kept = kept; found = found })
-  tell_at nodes NoMemory kept found = tt
+tell : (nodes : List SeenNode) (e : DtsFault) → KeepsBelow (first_fault nodes) (length nodes) → Finds (second_fault nodes) (length nodes) e → IsFaultOf nodes e
+tell nodes (UnknownCompatible line) kept found = inr (record { kept = kept; found = found })
+tell nodes (NoCells line) kept found = inr (record { kept = kept; found = found })
+tell nodes (MissingProperty line) kept found = inr (record { kept = kept; found = found })
+tell nodes (BadName line) kept found = inr (record { kept = kept; found = found })
+tell nodes (TwiceNamed line) kept found = inr (record { kept = kept; found = found })
+tell nodes (BadSpecifier line) kept found = inr (record { kept = kept; found = found })
+tell nodes (BadAssigned line) kept found = inr (record { kept = kept; found = found })
+tell nodes NoMemory kept found = tt
 
-pub second_told : (one other items : List DtsNode) (e : DtsFault) → one ≡ items → other ≡ items → KeepsBelow (first_fault (map seen_node one)) (length one) → Finds (second_fault (map seen_node other)) (length other) e → IsFaultOf (map seen_node items) e
-second_told one other items e a b kept found =
-    tell (map seen_node items) (length items) (sym (length-map items seen_node)) e (subst (λ ns. KeepsBelow (first_fault (map seen_node ns)) (length ns)) a kept) (subst (λ ns. Finds (second_fault (map seen_node ns)) (length ns) e) b found)
+pub second_told : (one other nodes : List SeenNode) (e : DtsFault) → one ≡ nodes → other ≡ one → KeepsBelow (first_fault one) (length one) → Finds (second_fault other) (length other) e → IsFaultOf nodes e
+second_told one other nodes e a b kept found = subst (λ ns. IsFaultOf ns e) a (tell one e kept (subst (λ ns. Finds (second_fault ns) (length ns) e) b found))
 
-pub accepted : (one other items : List DtsNode) (loaded : SeenLoaded) → one ≡ items → other ≡ items → KeepsBelow (first_fault (map seen_node one)) (length one) → KeepsBelow (second_fault (map seen_node other)) (length other)
-    → loaded ≡ loaded_of (map seen_node other) → Accepts (map seen_node items) loaded
-accepted one other items loaded a b first second content =
-    record {
-      first = subst (λ n. KeepsBelow (first_fault (map seen_node items)) n) (sym (length-map items seen_node)) (subst (λ ns. KeepsBelow (first_fault (map seen_node ns)) (length ns)) a first);
-      second = subst (λ n. KeepsBelow (second_fault (map seen_node items)) n) (sym (length-map items seen_node)) (subst (λ ns. KeepsBelow (second_fault (map seen_node ns)) (length ns)) b second);
-      content = content ∙ ap (λ ns. loaded_of (map seen_node ns)) b;
-    }
+pub accepted : (one other nodes : List SeenNode) (loaded : SeenLoaded) → one ≡ nodes → other ≡ one → KeepsBelow (first_fault one) (length one) → KeepsBelow (second_fault other) (length other) → loaded ≡ loaded_of other → Accepts nodes loaded
+accepted one other nodes loaded a b first second content =
+    subst (λ ns. Accepts ns loaded) a (record { first = first; second = subst (λ ns. KeepsBelow (second_fault ns) (length ns)) b second; content = content ∙ ap loaded_of b })

@@ -34,7 +34,7 @@ seen_assigned a = record { line = a.line; steps = a.steps.items }
 unfoldable pub rates_of : SeenNode → List ℕ
 rates_of node = unwrap_or (all_numbers (values_of (codes "assigned-clock-rates") node)) []
 
--- the three lists; None where a specifier is bad
+-- the three lists of a node; None where a specifier is bad
 unfoldable pub lists_of : List SeenNode → SeenNode → Option Lists
 lists_of nodes node =
     option_and_then (λ clocks. option_map (λ parents. record { clocks = clocks; parents = parents; rates = rates_of node }) (clocks_in nodes (codes "assigned-clock-parents") node))

@@ -8,12 +8,13 @@ use Rattle.dts_tree.specs.declared.tree.Cell.{Cell}
 use Rattle.dts_tree.specs.declared.tree.Cell.TheVariants as cells
 use Rattle.dts_tree.specs.Tree.{SeenNode}
 use Rattle.dts_bindings.specs.Properties.{is_provider}
-use Rattle.dts_bindings.specs.Binding.{SeenBinding, binding_of}
+use Rattle.dts_bindings.specs.declared.bound.Binding.{Binding}
+use Rattle.dts_bindings.specs.Binding.{SeenBinding, seen_binding, binding_of}
 use Rattle.dts_bindings.specs.Clocks.{SeenClock}
 use Rattle.dts_clocks.specs.declared.reference.Reference.TheVariants.{Null, Whole, Begun, Lacking}
 use Rattle.dts_clocks.specs.declared.reference.Specifier.{Specifier}
 use Rattle.dts_clocks.specs.Above.{is_passed}
-use Rattle.dts_clocks.specs.Joined.{joined}
+use Rattle.dts_clocks.specs.Joined.{joined, listed}
 use Rattle.dts_clocks.specs.References.{reference}
 
 -- the binding of a provider by itself
@@ -23,6 +24,14 @@ own_binding node = if is_provider node then result_ok (binding_of node) else Non
 -- the binding of a node that is a provider and isn't passed over
 unfoldable pub binding_at : List SeenNode → ℕ → Option SeenBinding
 binding_at nodes k = if is_passed nodes k then None else option_and_then own_binding (slice_get nodes k)
+
+-- the binding of each node, in order
+abbrev pub bindings_of : List SeenNode → List (Option SeenBinding)
+bindings_of nodes = listed (binding_at nodes) (length nodes)
+
+-- the bindings that a program has read, one for each node
+abbrev pub seen_bindings : List (Option Binding) → List (Option SeenBinding)
+seen_bindings bindings = map (option_map seen_binding) bindings
 
 -- a clock with the node of its provider
 pub record Held : Type 0 where

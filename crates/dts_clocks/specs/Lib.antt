@@ -2,6 +2,7 @@ pub mod Joined
 pub mod Above
 pub mod References
 pub mod Clocks
+pub mod Charts
 pub mod Heads
 pub mod Faults
 pub mod FirstPass

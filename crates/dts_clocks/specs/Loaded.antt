@@ -39,11 +39,11 @@ defs_with parents b = map (def_with b.flags parents) b.clocks
 unfoldable pub defs_at : List SeenNode → ℕ → List ClockDef
 defs_at nodes k = option_map_or (λ l. option_map_or (defs_with l.parents) (binding_at nodes k) []) (links_at nodes k) []
 
--- the line of each of these clocks
+-- the line of a node, once for each clock of its binding
 abbrev pub lines_with : ℕ → SeenBinding → List ℕ
 lines_with line b = map (λ c. line) b.clocks
 
--- the line of each of the clocks of the node of a place
+-- the line of the node of a place, once for each of its clocks
 unfoldable pub lines_at : List SeenNode → ℕ → List ℕ
 lines_at nodes k =
     option_map_or (λ l. option_map_or (λ node. option_map_or (lines_with node.line) (binding_at nodes k) []) (slice_get nodes k) []) (links_at nodes k) []

@@ -44,7 +44,7 @@ pub record Links : Type 0 where
   pub consumer : Option SeenConsumer
   pub lists : Lists
 
--- what a program has read of them
+-- what a program has read of the specifiers of a node
 abbrev pub seen_links : read.Links → Links
 seen_links l = record { parents = l.parents.items; consumer = option_map seen_consumer l.consumer; lists = seen_lists l.lists }
 
@@ -54,7 +54,7 @@ links_of nodes k node =
     option_and_then (λ parents. option_and_then (λ consumer. option_map (λ lists. record { parents = parents; consumer = consumer; lists = lists }) (lists_of nodes node)) (consumer_of nodes k node))
     (parents_at nodes k)
 
--- the same for the node of a place; None where it is passed over, too
+-- what the specifiers of the node of a place say; None where one of them is bad, or the node is passed over
 unfoldable pub links_at : List SeenNode → ℕ → Option Links
 links_at nodes k = if is_passed nodes k then None else option_and_then (links_of nodes k) (slice_get nodes k)
 

@@ -1,22 +1,21 @@
 //! The nodes above a node.
 
-ghost use Rattle.std.specs.Prelude.{◌≡◌, ◌<◌, ◌++◌, ◌∷◌, map, length, IfOk, string_bytes};
-ghost use Rattle.dts_tree.specs.Tree.{seen_node};
+ghost use Rattle.std.specs.Prelude.{◌≡◌, ◌<◌, ◌++◌, ◌∷◌, length, IfOk, string_bytes};
 ghost use Rattle.dts_clocks.specs.Above.{parent_of, is_passed, path_of};
 ghost use Rattle.dts_clocks.specs.Joined.{listed};
 
+use crate::nodes::Nodes;
 use clk_io::NoMemory;
 use dts_bindings::is_okay;
-use dts_tree::DtsNode;
 use std::alloc::Global;
 
 /// The parent of a node; it stands before the node.
-#[tactic(auto, using(crate::proofs::Places::get_seen), unfolding(crate::specs::Above::parent_of))]
-pub(crate) fn parent_of(nodes: &[DtsNode], at: usize) -> Option<usize>
+#[tactic(auto, unfolding(crate::specs::Above::parent_of))]
+pub(crate) fn parent_of(nodes: &Nodes<'_>, at: usize) -> Option<usize>
     requires { at < length nodes.now }
-    ensures { result ≡ parent_of (map seen_node nodes.now) at }
+    ensures { result ≡ parent_of nodes.now at }
 {
-    match nodes[at].parent {
+    match nodes.node(at).parent {
         Some(parent) => {
             if (parent as usize) < at {
                 Some(parent as usize)
@@ -29,12 +28,12 @@ pub(crate) fn parent_of(nodes: &[DtsNode], at: usize) -> Option<usize>
 }
 
 /// Whether a node is passed over, by what is known of the nodes before it.
-fn is_passed(nodes: &[DtsNode], passed: &[bool], at: usize) -> bool
+fn is_passed(nodes: &Nodes<'_>, passed: &[bool], at: usize) -> bool
     requires within { at < length nodes.now }
-    requires known { passed.now ≡ listed (is_passed (map seen_node nodes.now)) at }
-    ensures { result ≡ is_passed (map seen_node nodes.now) at }
+    requires known { passed.now ≡ listed (is_passed nodes.now) at }
+    ensures { result ≡ is_passed nodes.now at }
 {
-    if !is_okay(&nodes[at]) {
+    if !is_okay(nodes.node(at)) {
         return true;
     }
     match parent_of(nodes, at) {
@@ -44,8 +43,8 @@ fn is_passed(nodes: &[DtsNode], passed: &[bool], at: usize) -> bool
 }
 
 /// Which nodes are passed over.
-pub(crate) fn passed_nodes(alloc: Global, nodes: &[DtsNode]) -> Result<Vec<bool>, NoMemory>
-    ensures { IfOk result (λ passed. passed.items ≡ listed (is_passed (map seen_node nodes.now)) (length nodes.now)) }
+pub(crate) fn passed_nodes(alloc: Global, nodes: &Nodes<'_>) -> Result<Vec<bool>, NoMemory>
+    ensures { IfOk result (λ passed. passed.items ≡ listed (is_passed nodes.now) (length nodes.now)) }
 {
     let mut passed = Vec::new(alloc);
     for at in 0..nodes.len() {
@@ -55,7 +54,7 @@ pub(crate) fn passed_nodes(alloc: Global, nodes: &[DtsNode]) -> Result<Vec<bool>
     Ok(passed)
 }
 
-// A slash and the name, in front of a path.
+/// A slash and the name, in front of a path.
 fn below(alloc: Global, name: &str, path: &str) -> Result<String, NoMemory>
     ensures { IfOk result (λ longer. string_bytes longer ≡ 47 ∷ name.now ++ path.now) }
 {
@@ -68,14 +67,14 @@ fn below(alloc: Global, name: &str, path: &str) -> Result<String, NoMemory>
 
 /// The path of a node: the names from below the root to the node, each behind a slash; for the root
 /// a slash.
-pub(crate) fn path_of(alloc: Global, nodes: &[DtsNode], at: usize) -> Result<String, NoMemory>
+pub(crate) fn path_of(alloc: Global, nodes: &Nodes<'_>, at: usize) -> Result<String, NoMemory>
     requires { at < length nodes.now }
-    ensures { IfOk result (λ path. string_bytes path ≡ path_of (map seen_node nodes.now) at) }
+    ensures { IfOk result (λ path. string_bytes path ≡ path_of nodes.now at) }
 {
     let mut path = String::new(alloc);
     let mut place = at;
     while let Some(parent) = parent_of(nodes, place) {
-        path = below(alloc, nodes[place].name.as_str(), path.as_str())?;
+        path = below(alloc, nodes.node(place).name.as_str(), path.as_str())?;
         place = parent;
     }
     if path.is_empty() {

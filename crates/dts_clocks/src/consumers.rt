@@ -6,7 +6,6 @@ ghost use Rattle.dts_tree.specs.Tree.{seen_node};
 ghost use Rattle.dts_clocks.specs.Above.{path_of};
 ghost use Rattle.dts_clocks.specs.Consumers.{seen_name, seen_consumer, clocks_in, name_at, named, names_of, consumer_of};
 
-use crate::above::path_of;
 use crate::loaded::{Consumer, ConsumerName};
 use crate::specifiers::Named;
 use clk_base::ClockId;
@@ -23,7 +22,7 @@ pub(crate) fn clocks_in(
     name: &str,
     node: &DtsNode,
 ) -> Result<Option<Vec<Option<ClockId>>>, NoMemory>
-    ensures { IfOk result (λ clocks. option_map (λ v. v.items) clocks ≡ clocks_in (map seen_node chart.now.chart.nodes.now) name.now (seen_node node.now)) }
+    ensures { IfOk result (λ clocks. option_map (λ v. v.items) clocks ≡ clocks_in chart.now name.now (seen_node node.now)) }
 {
     let Some(cells) = cells(alloc, values(node, name))? else {
         return Ok(None);
@@ -32,7 +31,7 @@ pub(crate) fn clocks_in(
     Ok(clocks)
 }
 
-// The k-th string, else k in decimal.
+/// The k-th string, else k in decimal.
 fn name_at(alloc: Global, texts: &[&str], k: usize) -> Result<String, NoMemory>
     ensures { IfOk result (λ name. string_bytes name ≡ name_at (map (λ t. t.now) texts.now) k) }
 {
@@ -45,7 +44,7 @@ fn name_at(alloc: Global, texts: &[&str], k: usize) -> Result<String, NoMemory>
     }
 }
 
-// The clocks with their names.
+/// The clocks with their names.
 fn named(
     alloc: Global,
     texts: &[&str],
@@ -64,14 +63,14 @@ fn named(
     Ok(names)
 }
 
-// A consumer's names. None where a specifier is bad, or names are left over.
+/// A consumer's names. None where a specifier is bad, or names are left over.
 #[tactic(auto, unfolding(crate::specs::Consumers::names_of))]
 fn names_of(
     alloc: Global,
     chart: &Named<'_>,
     node: &DtsNode,
 ) -> Result<Option<Vec<ConsumerName>>, NoMemory>
-    ensures { IfOk result (λ names. option_map (λ v. map seen_name v.items) names ≡ names_of (map seen_node chart.now.chart.nodes.now) (seen_node node.now)) }
+    ensures { IfOk result (λ names. option_map (λ v. map seen_name v.items) names ≡ names_of chart.now (seen_node node.now)) }
 {
     let Some(clocks) = clocks_in(alloc, chart, "clocks", node)? else {
         return Ok(None);
@@ -94,8 +93,8 @@ pub(crate) fn consumer_of(
     at: usize,
     node: &DtsNode,
 ) -> Result<Option<Option<Consumer>>, NoMemory>
-    requires { at < length chart.now.chart.nodes.now }
-    ensures { IfOk result (λ consumer. option_map (option_map seen_consumer) consumer ≡ consumer_of (map seen_node chart.now.chart.nodes.now) at (seen_node node.now)) }
+    requires { at < length chart.now }
+    ensures { IfOk result (λ consumer. option_map (option_map seen_consumer) consumer ≡ consumer_of chart.now at (seen_node node.now)) }
 {
     if !is_consumer(node) {
         return Ok(Some(None));
@@ -103,6 +102,6 @@ pub(crate) fn consumer_of(
     let Some(names) = names_of(alloc, chart, node)? else {
         return Ok(None);
     };
-    let path = path_of(alloc, chart.chart.nodes, at)?;
+    let path = chart.path_of(alloc, at)?;
     Ok(Some(Some(Consumer { path, names })))
 }

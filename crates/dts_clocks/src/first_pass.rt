@@ -10,25 +10,24 @@ ghost use Rattle.dts_tree.specs.Tree.{seen_node};
 ghost use Rattle.dts_bindings.specs.Binding.{seen_binding, binding_of};
 ghost use Rattle.dts_bindings.specs.Clocks.{seen_clock};
 ghost use Rattle.dts_bindings.specs.Properties.{is_provider};
-ghost use Rattle.dts_clocks.specs.Clocks.{own_binding, binding_at};
+ghost use Rattle.dts_clocks.specs.Clocks.{own_binding, binding_at, bindings_of, seen_bindings};
 ghost use Rattle.dts_clocks.specs.Faults.{Tells, Finds};
 ghost use Rattle.dts_clocks.specs.FirstPass.{names_in, names_before, has_twin, wants_one, own_fault, binding_fault, provider_fault, node_fault, first_fault};
-ghost use Rattle.dts_clocks.specs.Joined.{listed};
 ghost use Rattle.dts_clocks.specs.References.{are_there, behind_identifier, leaves_over};
 
 use crate::chart::Chart;
 use crate::fault::DtsFault;
 use crate::reference::Reference;
+use crate::taken::TakenNames;
 use bundle_text::is_clock_name;
 use clk_io::NoMemory;
 use dts_bindings::{Binding, BindingFault, BoundClock, Wants, binding, is_formed, is_provider};
 use dts_tree::{Cell, DtsNode};
-use indexmap::IndexSet;
 use std::alloc::Global;
 
-// Whether the first specifier can be read, and cells are left over.
+/// Whether the first specifier can be read, and cells are left over.
 fn leaves_over(chart: &Chart<'_>, cells: &[Cell]) -> bool
-    ensures { result ≡ leaves_over (map seen_node chart.now.nodes.now) cells.now }
+    ensures { result ≡ leaves_over chart.now cells.now }
 {
     match cells {
         [] => false,
@@ -41,7 +40,7 @@ fn leaves_over(chart: &Chart<'_>, cells: &[Cell]) -> bool
     }
 }
 
-// Whether a number stands first, and cells are left over.
+/// Whether a number stands first, and cells are left over.
 fn leaves_over_identifier(cells: &[Cell]) -> bool
     ensures { result ≡ option_map_or are_there (behind_identifier cells.now) false }
 {
@@ -52,7 +51,7 @@ fn leaves_over_identifier(cells: &[Cell]) -> bool
     }
 }
 
-// Whether one specifier is wanted.
+/// Whether one specifier is wanted.
 fn wants_one(wants: Wants) -> bool
     ensures { result ≡ wants_one wants }
 {
@@ -63,7 +62,7 @@ fn wants_one(wants: Wants) -> bool
     }
 }
 
-// Whether the clocks have names that clocks can have.
+/// Whether the clocks have names that clocks can have.
 fn are_named(clocks: &[BoundClock]) -> bool
     ensures { result ≡ list_all (λ c. is_clock_name (string_bytes c.name)) clocks.now }
 {
@@ -72,27 +71,25 @@ fn are_named(clocks: &[BoundClock]) -> bool
         .all(|clock| is_clock_name(clock.name.as_str()))
 }
 
-// Takes the clocks' names. False where one of them is taken.
+/// Takes the clocks' names. False where one of them is taken.
 fn take_names(
     alloc: Global,
-    taken: &mut IndexSet<String>,
+    taken: &mut TakenNames,
     clocks: &[BoundClock],
 ) -> Result<bool, NoMemory>
-    ensures fresh { IfOk result (λ fresh. fresh ≡ not (has_twin (map string_bytes taken.old.keys) (map (λ c. c.name) (map seen_clock clocks.now)))) }
+    ensures fresh { IfOk result (λ fresh. fresh ≡ not (has_twin taken.old (map (λ c. c.name) (map seen_clock clocks.now)))) }
     ensures taken { IfOk result (λ fresh. OnTrue fresh
-        (map string_bytes taken.new.keys ≡ map string_bytes taken.old.keys ++ map (λ c. c.name) (map seen_clock clocks.now))) }
+        (taken.new ≡ taken.old ++ map (λ c. c.name) (map seen_clock clocks.now))) }
 {
     for clock in clocks {
-        if taken.contains(clock.name.as_str()) {
+        if !taken.take(alloc, clock.name.as_str())? {
             return Ok(false);
         }
-        let name = String::from_str(alloc, clock.name.as_str())?;
-        taken.insert(name)?;
     }
     Ok(true)
 }
 
-// The fault of a node by itself, with the node's line.
+/// The fault of a node by itself, with the node's line.
 fn own_fault(line: u32, fault: BindingFault) -> DtsFault
     ensures { result ≡ own_fault line fault }
 {
@@ -104,24 +101,24 @@ fn own_fault(line: u32, fault: BindingFault) -> DtsFault
     }
 }
 
-// Whether a binding wants one specifier, and more stands there.
+/// Whether a binding wants one specifier, and more stands there.
 fn has_too_many(chart: &Chart<'_>, binding: &Binding) -> bool
-    ensures { result ≡ (wants_one binding.now.wants && leaves_over (map seen_node chart.now.nodes.now) binding.now.inputs.items) }
+    ensures { result ≡ (wants_one binding.now.wants && leaves_over chart.now binding.now.inputs.items) }
 {
     wants_one(binding.wants) && leaves_over(chart, &binding.inputs)
 }
 
-// Judges a binding, and takes the names of its clocks.
+/// Judges a binding, and takes the names of its clocks.
 fn judge(
     alloc: Global,
     chart: &Chart<'_>,
-    taken: &mut IndexSet<String>,
+    taken: &mut TakenNames,
     line: u32,
     binding: &Binding,
 ) -> Result<(), DtsFault>
-    ensures none { OnOk result (binding_fault (map seen_node chart.now.nodes.now) (map string_bytes taken.old.keys) line (seen_binding binding.now) ≡ None) }
-    ensures taken { OnOk result (map string_bytes taken.new.keys ≡ map string_bytes taken.old.keys ++ names_in (seen_binding binding.now)) }
-    ensures err { IfErr result (λ e. Tells e (binding_fault (map seen_node chart.now.nodes.now) (map string_bytes taken.old.keys) line (seen_binding binding.now))) }
+    ensures none { OnOk result (binding_fault chart.now taken.old line (seen_binding binding.now) ≡ None) }
+    ensures taken { OnOk result (taken.new ≡ taken.old ++ names_in (seen_binding binding.now)) }
+    ensures err { IfErr result (λ e. Tells e (binding_fault chart.now taken.old line (seen_binding binding.now))) }
 {
     if has_too_many(chart, binding) {
         return Err(DtsFault::MissingProperty(line));
@@ -135,17 +132,17 @@ fn judge(
     Ok(())
 }
 
-// The binding of a provider.
+/// The binding of a provider.
 fn provider(
     alloc: Global,
     chart: &Chart<'_>,
-    taken: &mut IndexSet<String>,
+    taken: &mut TakenNames,
     node: &DtsNode,
 ) -> Result<Binding, DtsFault>
     ensures binding { IfOk result (λ b. binding_of (seen_node node.now) ≡ Ok (seen_binding b)) }
-    ensures none { OnOk result (provider_fault (map seen_node chart.now.nodes.now) (map string_bytes taken.old.keys) node.now.line (binding_of (seen_node node.now)) ≡ None) }
-    ensures taken { IfOk result (λ b. map string_bytes taken.new.keys ≡ map string_bytes taken.old.keys ++ names_in (seen_binding b)) }
-    ensures err { IfErr result (λ e. Tells e (provider_fault (map seen_node chart.now.nodes.now) (map string_bytes taken.old.keys) node.now.line (binding_of (seen_node node.now)))) }
+    ensures none { OnOk result (provider_fault chart.now taken.old node.now.line (binding_of (seen_node node.now)) ≡ None) }
+    ensures taken { IfOk result (λ b. taken.new ≡ taken.old ++ names_in (seen_binding b)) }
+    ensures err { IfErr result (λ e. Tells e (provider_fault chart.now taken.old node.now.line (binding_of (seen_node node.now)))) }
 {
     match binding(alloc, node) {
         Ok(binding) => {
@@ -156,18 +153,18 @@ fn provider(
     }
 }
 
-// The binding of a node that isn't passed over, where it is a provider.
+/// The binding of a node that isn't passed over, where it is a provider.
 #[tactic(auto, unfolding(crate::specs::FirstPass::node_fault, crate::specs::Clocks::own_binding))]
 fn look_at(
     alloc: Global,
     chart: &Chart<'_>,
-    taken: &mut IndexSet<String>,
+    taken: &mut TakenNames,
     node: &DtsNode,
 ) -> Result<Option<Binding>, DtsFault>
     ensures binding { IfOk result (λ b. option_map seen_binding b ≡ own_binding (seen_node node.now)) }
-    ensures none { OnOk result (node_fault (map seen_node chart.now.nodes.now) (map string_bytes taken.old.keys) (seen_node node.now) ≡ None) }
-    ensures taken { IfOk result (λ b. map string_bytes taken.new.keys ≡ map string_bytes taken.old.keys ++ option_map_or (λ k. names_in (seen_binding k)) b []) }
-    ensures err { IfErr result (λ e. Tells e (node_fault (map seen_node chart.now.nodes.now) (map string_bytes taken.old.keys) (seen_node node.now))) }
+    ensures none { OnOk result (node_fault chart.now taken.old (seen_node node.now) ≡ None) }
+    ensures taken { IfOk result (λ b. taken.new ≡ taken.old ++ option_map_or (λ k. names_in (seen_binding k)) b []) }
+    ensures err { IfErr result (λ e. Tells e (node_fault chart.now taken.old (seen_node node.now))) }
 {
     if is_provider(node) {
         let binding = provider(alloc, chart, taken, node)?;
@@ -179,24 +176,24 @@ fn look_at(
     Ok(None)
 }
 
-// The binding of the node of a place, where it is a provider and isn't passed over.
+/// The binding of the node of a place, where it is a provider and isn't passed over.
 fn look(
     alloc: Global,
     chart: &Chart<'_>,
-    taken: &mut IndexSet<String>,
+    taken: &mut TakenNames,
     at: usize,
 ) -> Result<Option<Binding>, DtsFault>
-    requires within { at < length chart.now.nodes.now }
-    requires taken { map string_bytes taken.old.keys ≡ names_before (map seen_node chart.now.nodes.now) at }
-    ensures binding { IfOk result (λ b. option_map seen_binding b ≡ binding_at (map seen_node chart.now.nodes.now) at) }
-    ensures none { OnOk result (first_fault (map seen_node chart.now.nodes.now) at ≡ None) }
-    ensures taken { OnOk result (map string_bytes taken.new.keys ≡ names_before (map seen_node chart.now.nodes.now) (at + 1)) }
-    ensures err { IfErr result (λ e. Tells e (first_fault (map seen_node chart.now.nodes.now) at)) }
+    requires within { at < length chart.now }
+    requires taken { taken.old ≡ names_before chart.now at }
+    ensures binding { IfOk result (λ b. option_map seen_binding b ≡ binding_at chart.now at) }
+    ensures none { OnOk result (first_fault chart.now at ≡ None) }
+    ensures taken { OnOk result (taken.new ≡ names_before chart.now (at + 1)) }
+    ensures err { IfErr result (λ e. Tells e (first_fault chart.now at)) }
 {
     if chart.is_passed(at) {
         return Ok(None);
     }
-    look_at(alloc, chart, taken, &chart.nodes[at])
+    look_at(alloc, chart, taken, chart.node(at))
 }
 
 /// The bindings of the providers that aren't passed over, by their nodes.
@@ -204,13 +201,13 @@ pub(crate) fn read_bindings(
     alloc: Global,
     chart: &Chart<'_>,
 ) -> Result<Vec<Option<Binding>>, DtsFault>
-    ensures bindings { IfOk result (λ found. map (option_map seen_binding) found.items ≡ listed (binding_at (map seen_node chart.now.nodes.now)) (length chart.now.nodes.now)) }
-    ensures none { OnOk result (KeepsBelow (first_fault (map seen_node chart.now.nodes.now)) (length chart.now.nodes.now)) }
-    ensures err { IfErr result (λ e. Finds (first_fault (map seen_node chart.now.nodes.now)) (length chart.now.nodes.now) e) }
+    ensures bindings { IfOk result (λ found. seen_bindings found.items ≡ bindings_of chart.now) }
+    ensures none { OnOk result (KeepsBelow (first_fault chart.now) (length chart.now)) }
+    ensures err { IfErr result (λ e. Finds (first_fault chart.now) (length chart.now) e) }
 {
-    let mut taken = IndexSet::new(alloc);
+    let mut taken = TakenNames::new(alloc);
     let mut found = Vec::new(alloc);
-    for at in 0..chart.nodes.len() {
+    for at in 0..chart.len() {
         let binding = look(alloc, chart, &mut taken, at)?;
         found.push(binding)?;
     }

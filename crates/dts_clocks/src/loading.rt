@@ -8,10 +8,10 @@ ghost use Rattle.dts_tree.specs.Tree.{seen_node};
 ghost use Rattle.dts_bindings.specs.Binding.{seen_binding};
 ghost use Rattle.dts_bindings.specs.Clocks.{seen_clock};
 ghost use Rattle.dts_clocks.specs.Assigned.{seen_lists, seen_assigned, assigned_of, entries};
-ghost use Rattle.dts_clocks.specs.Clocks.{binding_at};
+ghost use Rattle.dts_clocks.specs.Clocks.{binding_at, bindings_of, seen_bindings};
 ghost use Rattle.dts_clocks.specs.Faults.{Tells, Finds};
 ghost use Rattle.dts_clocks.specs.FirstPass.{names_in, has_twin, first_fault};
-ghost use Rattle.dts_clocks.specs.Joined.{listed, total};
+ghost use Rattle.dts_clocks.specs.Joined.{total};
 ghost use Rattle.dts_clocks.specs.Loaded.{seen_loaded, def_with, defs_with, lines_with, loaded_before, loaded_of};
 ghost use Rattle.dts_clocks.specs.SecondPass.{entries_at, second_fault};
 
@@ -21,7 +21,7 @@ use crate::loaded::{Assigned, Consumer, Loaded};
 use crate::second_pass::{Links, look};
 use crate::specifiers::Named;
 use clk_base::{AddFault, ClkFlags, ClockDef, ClockId, ClockName, Desc, Parents};
-use clk_io::NoMemory;
+use clk_io::{NoMemory, push_some};
 use dts_bindings::{Binding, BoundClock};
 use dts_tree::DtsNode;
 use std::alloc::Global;
@@ -29,18 +29,7 @@ use std::alloc::Global;
 /// The most clocks that have numbers.
 const MOST_CLOCKS: usize = 4_294_967_294;
 
-// One element more, if there is one.
-fn push_some<T: Drop>(found: &mut Vec<T>, more: Option<T>) -> Result<(), NoMemory>
-    ensures { OnOk result (found.new.items ≡ found.old.items ++ option_to_list more) }
-{
-    let Some(element) = more else {
-        return Ok(());
-    };
-    found.push(element)?;
-    Ok(())
-}
-
-// A clock more, with a name that no clock has.
+/// A clock more, with a name that no clock has.
 fn push_clock(
     alloc: Global,
     desc: &mut Desc,
@@ -69,7 +58,7 @@ fn push_clock(
     }
 }
 
-// The clocks of a binding more. None of them has the name of a clock before.
+/// The clocks of a binding more. None of them has the name of a clock before.
 fn push_clocks(
     alloc: Global,
     desc: &mut Desc,
@@ -86,7 +75,7 @@ fn push_clocks(
     Ok(())
 }
 
-// The line of each of these clocks more.
+/// The line of each of these clocks more.
 fn push_lines(lines: &mut Vec<u32>, line: u32, clocks: &[BoundClock]) -> Result<(), NoMemory>
     ensures { OnOk result (lines.new.items ≡ lines.old.items ++ map (λ c. line) (map seen_clock clocks.now)) }
 {
@@ -96,7 +85,7 @@ fn push_lines(lines: &mut Vec<u32>, line: u32, clocks: &[BoundClock]) -> Result<
     Ok(())
 }
 
-// The clocks of a node and their lines more.
+/// The clocks of a node and their lines more.
 fn push_bound(
     alloc: Global,
     desc: &mut Desc,
@@ -117,7 +106,7 @@ fn push_bound(
     Ok(())
 }
 
-// What a node says more.
+/// What a node says more.
 fn add(
     alloc: Global,
     loaded: &mut Loaded,
@@ -151,7 +140,7 @@ fn add(
     Ok(())
 }
 
-// The entries so far, with those of a node.
+/// The entries so far, with those of a node.
 fn entries_with(before: usize, lists: &Lists) -> usize
     requires { before + entries (seen_lists lists.now) ≤ 4096 }
     ensures { result ≡ before + entries (seen_lists lists.now) }
@@ -159,7 +148,7 @@ fn entries_with(before: usize, lists: &Lists) -> usize
     before + lists.parents.len() + lists.rates.len()
 }
 
-// What the node of a place says more. Gives the entries up to it.
+/// What the node of a place says more. Gives the entries up to it.
 fn add_at(
     alloc: Global,
     chart: &Named<'_>,
@@ -168,24 +157,24 @@ fn add_at(
     at: usize,
     loaded: &mut Loaded,
 ) -> Result<usize, DtsFault>
-    requires within { at < length chart.now.chart.nodes.now }
-    requires bound { option_map seen_binding binding.now ≡ binding_at (map seen_node chart.now.chart.nodes.now) at }
-    requires before { before ≡ total (entries_at (map seen_node chart.now.chart.nodes.now)) at }
+    requires within { at < length chart.now }
+    requires bound { option_map seen_binding binding.now ≡ binding_at chart.now at }
+    requires before { before ≡ total (entries_at chart.now) at }
     requires few { before ≤ 4096 }
-    requires first { first_fault (map seen_node chart.now.chart.nodes.now) at ≡ None }
-    requires second { KeepsBelow (second_fault (map seen_node chart.now.chart.nodes.now)) at }
-    requires so_far { seen_loaded loaded.old ≡ loaded_before (map seen_node chart.now.chart.nodes.now) at }
-    ensures loaded { OnOk result (seen_loaded loaded.new ≡ loaded_before (map seen_node chart.now.chart.nodes.now) (at + 1)) }
-    ensures entries { IfOk result (λ n. n ≡ total (entries_at (map seen_node chart.now.chart.nodes.now)) (at + 1)) }
+    requires first { first_fault chart.now at ≡ None }
+    requires second { KeepsBelow (second_fault chart.now) at }
+    requires so_far { seen_loaded loaded.old ≡ loaded_before chart.now at }
+    ensures loaded { OnOk result (seen_loaded loaded.new ≡ loaded_before chart.now (at + 1)) }
+    ensures entries { IfOk result (λ n. n ≡ total (entries_at chart.now) (at + 1)) }
     ensures few { IfOk result (λ n. n ≤ 4096) }
-    ensures none { OnOk result (second_fault (map seen_node chart.now.chart.nodes.now) at ≡ None) }
-    ensures err { IfErr result (λ e. Tells e (second_fault (map seen_node chart.now.chart.nodes.now) at)) }
+    ensures none { OnOk result (second_fault chart.now at ≡ None) }
+    ensures err { IfErr result (λ e. Tells e (second_fault chart.now at)) }
 {
     let Some(links) = look(alloc, chart, binding, before, at)? else {
         return Ok(before);
     };
     let entries = entries_with(before, &links.lists);
-    add(alloc, loaded, &chart.chart.nodes[at], binding, links)?;
+    add(alloc, loaded, chart.node(at), binding, links)?;
     Ok(entries)
 }
 
@@ -195,11 +184,11 @@ pub(crate) fn load(
     chart: &Named<'_>,
     bindings: &[Option<Binding>],
 ) -> Result<Loaded, DtsFault>
-    requires bound { map (option_map seen_binding) bindings.now ≡ listed (binding_at (map seen_node chart.now.chart.nodes.now)) (length chart.now.chart.nodes.now) }
-    requires first { KeepsBelow (first_fault (map seen_node chart.now.chart.nodes.now)) (length chart.now.chart.nodes.now) }
-    ensures loaded { IfOk result (λ l. seen_loaded l ≡ loaded_of (map seen_node chart.now.chart.nodes.now)) }
-    ensures none { OnOk result (KeepsBelow (second_fault (map seen_node chart.now.chart.nodes.now)) (length chart.now.chart.nodes.now)) }
-    ensures err { IfErr result (λ e. Finds (second_fault (map seen_node chart.now.chart.nodes.now)) (length chart.now.chart.nodes.now) e) }
+    requires bound { seen_bindings bindings.now ≡ bindings_of chart.now }
+    requires first { KeepsBelow (first_fault chart.now) (length chart.now) }
+    ensures loaded { IfOk result (λ l. seen_loaded l ≡ loaded_of chart.now) }
+    ensures none { OnOk result (KeepsBelow (second_fault chart.now) (length chart.now)) }
+    ensures err { IfErr result (λ e. Finds (second_fault chart.now) (length chart.now) e) }
 {
     let mut loaded = Loaded {
         desc: Desc::new(alloc),
@@ -208,7 +197,7 @@ pub(crate) fn load(
         assigned: Vec::new(alloc),
     };
     let mut entries = 0;
-    for at in 0..chart.chart.nodes.len() {
+    for at in 0..chart.len() {
         entries = add_at(alloc, chart, &bindings[at], entries, at, &mut loaded)?;
     }
     Ok(loaded)

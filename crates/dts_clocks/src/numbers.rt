@@ -5,12 +5,9 @@ ghost use Rattle.std.specs.HashMap.{get};
 ghost use Rattle.std.specs.List.{position};
 ghost use Rattle.std.specs.Option.{option_or, option_map};
 ghost use Rattle.clk_base.specs.declared.clock.ClockId.{ClockId};
-ghost use Rattle.dts_tree.specs.Tree.{seen_node};
-ghost use Rattle.dts_bindings.specs.Binding.{seen_binding};
 ghost use Rattle.dts_clocks.specs.declared.reference.Specifier.{Specifier};
-ghost use Rattle.dts_clocks.specs.Clocks.{binding_at, clock_id, clock_of, clocks_of};
+ghost use Rattle.dts_clocks.specs.Clocks.{bindings_of, seen_bindings, clock_id, clock_of, clocks_of};
 ghost use Rattle.dts_clocks.specs.Heads.{same_specifier, head_by, head_of, heads_by, names_head};
-ghost use Rattle.dts_clocks.specs.Joined.{listed};
 
 use crate::chart::Chart;
 use crate::reference::Specifier;
@@ -27,7 +24,7 @@ pub(crate) struct Head {
     pub(crate) identifier: u32,
 }
 
-// The heads of these clocks of a node, behind those so far.
+/// The heads of these clocks of a node, behind those so far.
 fn push_heads(heads: &mut Vec<Head>, node: usize, clocks: &[BoundClock]) -> Result<(), NoMemory>
     ensures { OnOk result (heads.new.items ≡ heads.old.items ++ map (head_by node) clocks.now) }
 {
@@ -40,7 +37,7 @@ fn push_heads(heads: &mut Vec<Head>, node: usize, clocks: &[BoundClock]) -> Resu
     Ok(())
 }
 
-// The heads of the clocks of a node's binding, if it has one, behind those so far.
+/// The heads of the clocks of a node's binding, if it has one, behind those so far.
 fn push_bound(heads: &mut Vec<Head>, node: usize, binding: &Option<Binding>) -> Result<(), NoMemory>
     ensures { OnOk result (heads.new.items ≡ heads.old.items ++ heads_by node binding.now) }
 {
@@ -50,23 +47,23 @@ fn push_bound(heads: &mut Vec<Head>, node: usize, binding: &Option<Binding>) -> 
     }
 }
 
-// The heads of all clocks.
+/// The heads of all clocks.
 fn heads(
     alloc: Global,
     chart: &Chart<'_>,
     bindings: &[Option<Binding>],
 ) -> Result<Vec<Head>, NoMemory>
-    requires { map (option_map seen_binding) bindings.now ≡ listed (binding_at (map seen_node chart.now.nodes.now)) (length chart.now.nodes.now) }
-    ensures { IfOk result (λ heads. heads.items ≡ map head_of (clocks_of (map seen_node chart.now.nodes.now))) }
+    requires { seen_bindings bindings.now ≡ bindings_of chart.now }
+    ensures { IfOk result (λ heads. heads.items ≡ map head_of (clocks_of chart.now)) }
 {
     let mut heads = Vec::new(alloc);
-    for at in 0..chart.nodes.len() {
+    for at in 0..chart.len() {
         push_bound(&mut heads, at, &bindings[at])?;
     }
     Ok(heads)
 }
 
-// Notes what a specifier names, where no earlier clock is named by it.
+/// Notes what a specifier names, where no earlier clock is named by it.
 fn note(
     numbers: &mut HashMap<Specifier, ClockId>,
     specifier: Specifier,
@@ -82,7 +79,7 @@ fn note(
     Ok(())
 }
 
-// Notes the two specifiers that may name a clock.
+/// Notes the two specifiers that may name a clock.
 fn note_clock(
     numbers: &mut HashMap<Specifier, ClockId>,
     head: Head,
@@ -103,7 +100,7 @@ fn note_clock(
     note(numbers, identified, clock)
 }
 
-// The clock of each specifier that names one.
+/// The clock of each specifier that names one.
 fn numbers(alloc: Global, heads: &[Head]) -> Result<HashMap<Specifier, ClockId>, NoMemory>
     ensures { IfOk result (λ numbers. (s : Specifier) → get same_specifier numbers s ≡ option_map clock_id (position (names_head s) heads.now)) }
 {
@@ -123,8 +120,8 @@ pub(crate) fn specifier_numbers(
     chart: &Chart<'_>,
     bindings: &[Option<Binding>],
 ) -> Result<HashMap<Specifier, ClockId>, NoMemory>
-    requires { map (option_map seen_binding) bindings.now ≡ listed (binding_at (map seen_node chart.now.nodes.now)) (length chart.now.nodes.now) }
-    ensures { IfOk result (λ numbers. (s : Specifier) → get same_specifier numbers s ≡ clock_of (map seen_node chart.now.nodes.now) s) }
+    requires { seen_bindings bindings.now ≡ bindings_of chart.now }
+    ensures { IfOk result (λ numbers. (s : Specifier) → get same_specifier numbers s ≡ clock_of chart.now s) }
 {
     let heads = heads(alloc, chart, bindings)?;
     let numbers = numbers(alloc, &heads)?;

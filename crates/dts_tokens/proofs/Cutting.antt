@@ -128,7 +128,7 @@ Reached-lexeme text found scope next at line n feeds was low some high here smal
       lines = All-append (λ t. t.line ≡ line_of text t.from) found (token ∷ []) was.lines (All-one (λ t. t.line ≡ line_of text t.from) token was.lines_before);
     }
 
-IsFaultOf-fault_on : (text : List ℕ) (flaw : Flaw) (line : ℕ) → Refuses text flaw line → IsFaultOf text (fault_on flaw line)
+pub IsFaultOf-fault_on : (text : List ℕ) (flaw : Flaw) (line : ℕ) → Refuses text flaw line → IsFaultOf text (fault_on flaw line)
 IsFaultOf-fault_on text flaws.BadChar line h = h
 IsFaultOf-fault_on text flaws.OpenString line h = h
 IsFaultOf-fault_on text flaws.OpenComment line h = h

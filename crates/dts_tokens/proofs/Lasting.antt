@@ -6,7 +6,8 @@ use Rattle.dts_tokens.specs.declared.token.Token.{Token}
 use Rattle.dts_tokens.specs.declared.token.TokenFault.{TokenFault}
 use Rattle.dts_tokens.specs.declared.token.TokenFault.TheVariants as faults
 use Rattle.dts_tokens.specs.Faults.{fault_on}
-use Rattle.dts_tokens.specs.Tokens.{Tokens, Refuses, IsFaultOf}
+use Rattle.dts_tokens.specs.Tokens.{Tokens, IsFaultOf}
+use Rattle.dts_tokens.proofs.Cutting.{IsFaultOf-fault_on}
 use Rattle.dts_tokens.proofs.Decided.{decided}
 
 -- a fault that isn't want of memory
@@ -20,15 +21,9 @@ lasts flaws.OpenString line = tt
 lasts flaws.OpenComment line = tt
 lasts flaws.NumberTooBig line = tt
 
-told : (text : List ℕ) (flaw : Flaw) (line : ℕ) → Refuses text flaw line → IsFaultOf text (fault_on flaw line)
-told text flaws.BadChar line h = h
-told text flaws.OpenString line h = h
-told text flaws.OpenComment line h = h
-told text flaws.NumberTooBig line h = h
-
 pub cut_or_refused : (text : List ℕ) → ((found : List Token) × Tokens text found) ⊎ ((fault : TokenFault) × IsNotMemory fault × IsFaultOf text fault)
 cut_or_refused text =
     elim (decided text) [
       | inl x ↦ inl x
-      | inr x ↦ inr (fault_on x.0 x.1, lasts x.0 x.1, told text x.0 x.1 x.2)
+      | inr x ↦ inr (fault_on x.0 x.1, lasts x.0 x.1, IsFaultOf-fault_on text x.0 x.1 x.2)
     ]

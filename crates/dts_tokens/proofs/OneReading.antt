@@ -14,10 +14,10 @@ pub data Halts (text : List ℕ) (found : List Token) (at : ℕ) : Type 0 where
 gap_lexeme : (n m : ℕ) → Gap n ≡ Lexeme m → ⊥
 gap_lexeme n m h = cc
 
-gap_wrong : (n : ℕ) (flaw : Flaw) → Gap n ≡ Wrong flaw → ⊥
+pub gap_wrong : (n : ℕ) (flaw : Flaw) → Gap n ≡ Wrong flaw → ⊥
 gap_wrong n flaw h = cc
 
-lexeme_wrong : (n : ℕ) (flaw : Flaw) → Lexeme n ≡ Wrong flaw → ⊥
+pub lexeme_wrong : (n : ℕ) (flaw : Flaw) → Lexeme n ≡ Wrong flaw → ⊥
 lexeme_wrong n flaw h = cc
 
 gap_same : (n m : ℕ) → Gap n ≡ Gap m → n ≡ m

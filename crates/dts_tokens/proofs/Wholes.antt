@@ -14,6 +14,7 @@ use Rattle.dts_tokens.specs.Characters.{is_name_character, is_sign, is_word_char
 use Rattle.dts_tokens.specs.Limits.{is_too_big}
 use Rattle.dts_tokens.specs.Pieces.{piece_at, quote_end, string_piece}
 use Rattle.dts_tokens.specs.Tokens.{Cuts, IsWhole, standing, weighed, token_of, text_of}
+use Rattle.dts_tokens.proofs.OneReading.{gap_wrong, lexeme_wrong}
 
 -- no piece begins with a byte that isn't ASCII
 name-ascii : (b : ℕ) → 128 ≤ b → is_name_character b ≡ false
@@ -39,12 +40,6 @@ standing-ascii : (text : List ℕ) (found : List Token) (at : ℕ) → at < leng
 unfolding standing
 standing-ascii text found at low big =
     ap (weighed (map (text_of text) found) (drop at text)) (at_drop_more piece_at text at 0 low ∙ piece-ascii (get_or text at 0) (drop (at + 1) text) big)
-
-gap_wrong : (n : ℕ) (flaw : Flaw) → Gap n ≡ Wrong flaw → ⊥
-gap_wrong n flaw h = cc
-
-lexeme_wrong : (n : ℕ) (flaw : Flaw) → Lexeme n ≡ Wrong flaw → ⊥
-lexeme_wrong n flaw h = cc
 
 -- where a piece begins, and at the end, the text may be cut
 boundary : (text : List ℕ) (found : List Token) (at : ℕ) (pieces : List Piece) (all : List Token) → Cuts text found at pieces all (length text) → IsCharBoundary text at

@@ -3,7 +3,7 @@ use Rattle.std.specs.Prelude.{ℕ, ◌==◌, ◌||◌, Bool, List, codes}
 use Rattle.std.specs.Char.{is_ascii_alphanumeric}
 use Rattle.std.specs.List.{list_any}
 
--- the character is one of these
+-- a character is one of a list of characters
 abbrev pub is_one_of : List ℕ → ℕ → Bool
 is_one_of characters b = list_any (λ c. b == c) characters
 
@@ -23,6 +23,6 @@ is_label_character b = is_ascii_alphanumeric b || (b == 95)
 unfoldable pub is_word_character : ℕ → Bool
 is_word_character b = is_name_character b || (b == 64)
 
--- these are tokens by themselves
+-- the signs, which are tokens by themselves
 unfoldable pub is_sign : ℕ → Bool
 is_sign b = is_one_of (codes ":;={}<>[]") b

@@ -42,7 +42,7 @@ pub octal : number_up_to 100 (codes "010") ≡ Some 8
 unfolding number_up_to is_number value_of base_of digits_of
 octal = refl
 
--- and one with an eight is none
+-- a word that begins with a zero and has an eight is no number
 pub eight : number_up_to 100 (codes "08") ≡ None
 unfolding number_up_to is_number value_of base_of digits_of
 eight = refl

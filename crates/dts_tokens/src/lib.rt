@@ -19,7 +19,4 @@ pub use characters::{is_label_character, is_name_character};
 pub use laws::one_reading;
 pub use number::{is_number, number_up_to};
 pub use reading::tokens;
-pub use token::{MOST_BYTES, Token, TokenFault, word};
-
-#[cfg(test)]
-mod tests;
+pub use token::{Token, TokenFault, word};

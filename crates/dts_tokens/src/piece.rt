@@ -61,7 +61,7 @@ fn string_piece(rest: &[u8]) -> Piece
     }
 }
 
-/// What stands at the front of a text. Takes time in proportion to the length of that piece.
+/// What stands at the front of a text.
 #[tactic(auto, unfolding(crate::specs::Pieces::piece_at))]
 pub(crate) fn piece_at(text: &[u8]) -> Piece
     requires { 0 < length text.now }

@@ -1,35 +1,19 @@
 //! From a text to its tokens.
 
-ghost use Rattle.std.specs.Prelude.{◌≡◌, ◌≤◌, ◌==◌, length, count_by, IfOk, IfErr, All};
+ghost use Rattle.std.specs.Prelude.{◌≡◌, ◌≤◌, length, IfOk, IfErr, All};
 ghost use Rattle.dts_tokens.specs.Tokens.{Tokens, IsFaultOf, IsWhole, Rises, line_of};
 
 use crate::flaw::{Flaw, fault_on};
 use crate::piece::{Piece, piece_at};
 use crate::scope::Scope;
-use crate::token::{MOST_BYTES, Token, TokenFault};
+use crate::token::{Token, TokenFault};
+use clk_io::{MOST_BYTES, line_feeds};
 use std::alloc::Global;
-
-/// How many line feeds there are.
-fn line_feeds(bytes: &[u8]) -> u32
-    requires { length bytes.now ≤ MOST_BYTES }
-    ensures count { result ≡ count_by (λ b. b == 10) bytes.now }
-    ensures few { result ≤ length bytes.now }
-{
-    let mut count = 0;
-    for byte in bytes {
-        if *byte == b'\n' {
-            count += 1;
-        }
-    }
-    count
-}
 
 /// The tokens of a text, in order, each with the line on which it begins. A text that can't be cut
 /// into tokens, blanks and comments is refused at the first place where it can't, and so is a
 /// number that is too big where it stands: one of a cell above 4294967295, or one of a
 /// `/memreserve/` above 18446744073709551615.
-///
-/// The time that it takes is in proportion to the length of the text.
 pub fn tokens(alloc: Global, text: &str) -> Result<Vec<Token>, TokenFault>
     requires { length text.now ≤ MOST_BYTES }
     ensures tokens { IfOk result (λ found. Tokens text.now found.items) }
@@ -62,7 +46,8 @@ pub fn tokens(alloc: Global, text: &str) -> Result<Vec<Token>, TokenFault>
             }
             Piece::Wrong(flaw) => return Err(fault_on(flaw, line)),
         };
-        line += line_feeds(&rest[..len]);
+        let feeds = line_feeds(&rest[..len]);
+        line += feeds as u32;
         at += len;
     }
     Ok(found)

@@ -8,9 +8,6 @@ use std::alloc::{AllocError, AllocFailed};
 use std::error::Error;
 use std::fmt;
 
-/// The most bytes that a source has.
-pub const MOST_BYTES: usize = 16_777_216;
-
 /// A token of a source: the bytes from `from` to before `to`, and the line on which it begins.
 /// Lines count from 1.
 #[derive(Clone, Copy, Debug, PartialEq, Eq)]

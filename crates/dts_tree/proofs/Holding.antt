@@ -4,6 +4,7 @@ use Rattle.std.specs.List.{list_any}
 use Rattle.std.specs.Option.{option_map_or}
 use Rattle.std.proofs.lemmas.List.{length-append}
 use Rattle.std.proofs.lemmas.List.Elements.{All-nil, All-cons, All-head, All-tail, All-push, All-append, All-map}
+use Rattle.clk_io.specs.declared.reading.TheConstants.{MOST_BYTES}
 use Rattle.dts_tokens.specs.declared.token.Token.{Token}
 use Rattle.dts_tokens.specs.Numbers.{number_up_to}
 use Rattle.dts_tokens.specs.Tokens.{IsWhole, Rises, text_of}
@@ -270,7 +271,7 @@ Rises-count from [] end h = omega (arith, h)
 Rises-count from (token ∷ tokens) end h = let more = Rises-count token.to tokens end h.2 in omega (arith, more, h.0, h.1)
 
 -- what is read of whole tokens can be shown
-pub read-held : (text : List ℕ) (tokens : List Token) → length text ≤ 16777216 → Rises 0 tokens (length text) → All (IsWhole text) tokens → IfOk (read text tokens) (λ s. Holds text s.tables)
+pub read-held : (text : List ℕ) (tokens : List Token) → length text ≤ MOST_BYTES → Rises 0 tokens (length text) → All (IsWhole text) tokens → IfOk (read text tokens) (λ s. Holds text s.tables)
 unfolding read
 read-held text tokens short rises w =
     let few = Rises-count 0 tokens (length text) rises in

@@ -9,7 +9,7 @@ use Rattle.dts_tree.specs.declared.rows.NodeRow.{NodeRow}
 use Rattle.dts_tree.specs.declared.rows.PropertyRow.{PropertyRow}
 use Rattle.dts_tree.specs.Tree.{SeenProperty, SeenNode, node_in, nodes_in, add_at}
 
-filter_map-one : {X Y : Type 0} (f : X → Option Y) (x : X) (o : Option Y) → f x ≡ o → filter_map f (x ∷ []) ≡ option_to_list o
+pub filter_map-one : {X Y : Type 0} (f : X → Option Y) (x : X) (o : Option Y) → f x ≡ o → filter_map f (x ∷ []) ≡ option_to_list o
 filter_map-one f x None e = rw e refl
 filter_map-one f x (Some y) e = rw e refl
 
@@ -21,6 +21,10 @@ filter_map-more f xs i d low =
 pub map-option_to_list : {X Y : Type 0} (f : X → Y) (o : Option X) → map f (option_to_list o) ≡ option_to_list (option_map f o)
 map-option_to_list f None = refl
 map-option_to_list f (Some x) = refl
+
+-- one element more, if there is one, and what it shows
+pub map_some : {X Y : Type 0} (f : X → Y) (xs ys : List X) (o : Option X) → ys ≡ xs ++ option_to_list o → map f ys ≡ map f xs ++ option_to_list (option_map f o)
+map_some f xs ys o e = ap (map f) e ∙ (map-append f xs (option_to_list o) ∙ ap (λ more. map f xs ++ more) (map-option_to_list f o))
 
 pub ruleset more_rows = (filter_map-more, map-option_to_list, map-append)
 
@@ -103,4 +107,4 @@ filter_map-next f xs i d old new o low n here was =
 pub filter_map-seen : {X Y Z : Type 0} (f : X → Option Z) (g : Y → Z) (xs : List X) (i : ℕ) (d : X) (old new : List Y) (o : Option Y) → i < length xs → new ≡ old ++ option_to_list o → option_map g o ≡ f (get_or xs i d)
     → map g old ≡ filter_map f (take i xs) → map g new ≡ filter_map f (take (i + 1) xs)
 filter_map-seen f g xs i d old new o low n here was =
-    filter_map-next f xs i d (map g old) (map g new) (option_map g o) low (ap (map g) n ∙ (map-append g old (option_to_list o) ∙ ap (λ ys. map g old ++ ys) (map-option_to_list g o))) here was
+    filter_map-next f xs i d (map g old) (map g new) (option_map g o) low (map_some g old new o n) here was

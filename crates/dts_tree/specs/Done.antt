@@ -19,7 +19,7 @@ abbrev pub Does : {X : Type 0} → Reader → Result X TreeFault → Result Stat
 Does r (Ok done) wanted = wanted ≡ Ok (state_of r)
 Does r (Err e) wanted = Fails e wanted
 
--- the same of its tables alone, all else being kept
+-- the reader has filled its tables as wanted and kept all else, or fails as wanted
 abbrev pub Fills : {X : Type 0} → Reader → Reader → Result X TreeFault → Result Tables TreeFault → Type 0
 Fills old new (Ok done) wanted = (wanted ≡ Ok (state_of new).tables) × (new.phase ≡ old.phase) × (new.here ≡ old.here) × (new.above.items ≡ old.above.items)
 Fills old new (Err e) wanted = Fails e wanted

@@ -56,11 +56,11 @@ add_label text token t =
 abbrev pub owned_by : ℕ → Token → LabelRow
 owned_by node name = record { name = name; node = node }
 
--- the root
+-- the root: a node with no parent
 unfoldable pub add_root : Token → Tables → Tables
 add_root token t = record t { nodes = t.nodes ++ record { name = token; parent = None } ∷ [] }
 
--- one node more in this one, with so many above; a parent has one node of a name, and nodes nest 64 deep
+-- one node more in the node of a number, which has so many above it; a parent has one node of a name, and nodes nest 64 deep
 unfoldable pub add_node : List ℕ → ℕ → ℕ → Token → Tables → Result Tables TreeFault
 add_node text here above token t =
     let name = name_in here (text_of text token) in
@@ -123,7 +123,7 @@ add_value value t = record t { values = t.values ++ value ∷ [] }
 abbrev pub add_item : Item → Tables → Tables
 add_item item t = record t { items = t.items ++ item ∷ [] }
 
--- these items more
+-- more items, in order
 abbrev pub add_items : List Item → Tables → Tables
 add_items more t = record t { items = t.items ++ more }
 

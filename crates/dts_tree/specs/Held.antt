@@ -17,7 +17,7 @@ IsNumber node = node ≤ 4294967295
 abbrev pub IsSpelled : List ℕ → Token → Type 0
 IsSpelled text token = IsUtf8 (text_of text token)
 
--- so are those between its first and its last
+-- the bytes of a token between its first and its last are whole characters
 abbrev pub IsQuoted : List ℕ → Token → Type 0
 IsQuoted text token = IsUtf8 (slice_range text (token.from + 1) (token.to - 1))
 

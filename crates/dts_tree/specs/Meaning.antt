@@ -22,12 +22,12 @@ abbrev pub cell_of_mark : List ℕ → Mark → Token → Tables → Tables
 cell_of_mark text marks.Reference token t = add_reference token (add_item (items.Reference (length t.references)) t)
 cell_of_mark text mark token t = option_map_or (λ n. add_item (items.Number (record { value = n; word = token })) t) (number_up_to 4294967295 (text_of text token)) t
 
--- these cells behind what was found
+-- cells, behind what was found before
 abbrev pub with_cells : List ℕ → List Token → Tables → Tables
 with_cells text [] t = t
 with_cells text (token ∷ tokens) t = with_cells text tokens (cell_of_mark text (mark_of (text_of text token)) token t)
 
--- the bytes that these words write behind what was found
+-- the bytes that words write, behind what was found before
 abbrev pub with_bytes : List ℕ → List Token → Tables → Tables
 with_bytes text [] t = t
 with_bytes text (token ∷ tokens) t = with_bytes text tokens (add_items (bytes_of (text_of text token)) t)
@@ -39,12 +39,12 @@ with_value text (Target token) t = add_reference token (add_value (values.Node (
 with_value text (Cells front cells close) t = add_value (values.Cells (record { from = length t.items; to = length (with_cells text cells t).items })) (with_cells text cells t)
 with_value text (Bytes front bytes close) t = add_value (values.Bytes (record { from = length t.items; to = length (with_bytes text bytes t).items })) (with_bytes text bytes t)
 
--- these values behind what was found, in order
+-- values in order, behind what was found before
 abbrev pub with_values : List ℕ → Values → Tables → Tables
 with_values text (Last v) t = with_value text v t
 with_values text (More v comma vs) t = with_values text vs (with_value text v t)
 
--- these labels behind those that were found, or the first that stands twice
+-- labels, behind those that were found before, or the first that stands twice
 abbrev pub with_labels : List ℕ → List Token → Tables → Result Tables TreeFault
 with_labels text [] t = Ok t
 with_labels text (token ∷ tokens) t = add_label text token t >>= with_labels text tokens

@@ -23,11 +23,11 @@ taken_of p = name_in p.scope p.text.now
 abbrev pub same_name : Name → Name → Bool
 same_name a b = (a.scope == b.scope) && bytes_eq a.text b.text
 
--- the same for places
+-- the same name in the same scope, as two places are compared
 abbrev pub same_place : Place → Place → Bool
 same_place a b = same_name (taken_of a) (taken_of b)
 
--- the name is among these
+-- the name is among the names that are taken
 unfoldable pub is_taken : Name → List Name → Bool
 is_taken name names = list_any (same_name name) names
 

@@ -79,11 +79,11 @@ value_in text found targets (values.Node k) = option_map SeenTarget (slice_get t
 unfoldable pub property_in : List ℕ → Tables → List ℕ → PropertyRow → SeenProperty
 property_in text t targets p = record { name = text_of text p.name; line = p.name.line; values = filter_map (value_in text t.items targets) (slice_range t.values p.from p.to) }
 
--- the root has no name
+-- the name of a node; the root has none
 abbrev pub node_name : List ℕ → NodeRow → List ℕ
 node_name text row = option_map_or (λ parent. text_of text row.name) row.parent []
 
--- the node of this number, with its properties among these, in order
+-- the node of a number, with those of the properties that are its own, in order
 abbrev pub node_in : List ℕ → (PropertyRow → SeenProperty) → List PropertyRow → ℕ → NodeRow → SeenNode
 node_in text shows properties k row = record { name = node_name text row; line = row.name.line; parent = row.parent; properties = map shows (filter (λ p. p.node == k) properties) }
 
@@ -92,7 +92,7 @@ abbrev pub nodes_in : List ℕ → (PropertyRow → SeenProperty) → List Prope
 nodes_in text shows properties k [] = []
 nodes_in text shows properties k (row ∷ rows) = node_in text shows properties k row ∷ nodes_in text shows properties (k + 1) rows
 
--- a property more at the node of this place
+-- one property more at the node of a place
 abbrev pub add_at : ℕ → SeenProperty → List SeenNode → List SeenNode
 add_at k p [] = []
 add_at zero p (n ∷ ns) = record n { properties = n.properties ++ p ∷ [] } ∷ ns

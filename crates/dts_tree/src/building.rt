@@ -13,6 +13,7 @@ use crate::fault::TreeFault;
 use crate::reader::{Reader, text_of};
 use crate::rows::{Item, NodeRow, PropertyRow, ValueRow};
 use crate::tree::{Cell, DtsNode, DtsProperty, DtsValue};
+use clk_io::push_some;
 use std::alloc::Global;
 
 /// The elements from `from` to before `to`, as far as there are any.
@@ -44,20 +45,6 @@ fn target(targets: &[usize], place: usize) -> Option<u32>
     match targets.get(place) {
         Some(node) => Some(*node as u32),
         None => None,
-    }
-}
-
-/// One element more, if there is one.
-fn push_some<T: Drop>(found: &mut Vec<T>, more: Option<T>) -> Result<(), TreeFault>
-    ensures pushed { OnOk result (found.new.items ≡ found.old.items ++ option_to_list more) }
-    ensures err { IfErr result (λ e. e ≡ TreeFault.NoMemory) }
-{
-    match more {
-        Some(element) => {
-            found.push(element)?;
-            Ok(())
-        }
-        None => Ok(()),
     }
 }
 

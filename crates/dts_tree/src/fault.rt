@@ -4,6 +4,7 @@ ghost use Rattle.std.specs.Prelude.{◌≡◌, Some};
 ghost use Rattle.dts_tree.specs.declared.fault.TreeFault.TheVariants as faults;
 ghost use Rattle.dts_tree.specs.FaultTexts.{fault_text};
 
+use clk_io::NoMemory;
 use std::alloc::{AllocError, AllocFailed};
 use std::error::Error;
 use std::fmt;
@@ -35,6 +36,14 @@ impl<T: Drop> From<AllocFailed<T>> for TreeFault {
     ghost from_gives = { λ _ e. e ≡ faults.NoMemory };
 
     fn from(_refused: AllocFailed<T>) -> TreeFault {
+        TreeFault::NoMemory
+    }
+}
+
+impl From<NoMemory> for TreeFault {
+    ghost from_gives = { λ _ e. e ≡ faults.NoMemory };
+
+    fn from(_refused: NoMemory) -> TreeFault {
         TreeFault::NoMemory
     }
 }

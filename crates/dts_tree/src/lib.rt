@@ -21,6 +21,3 @@ pub use fault::TreeFault;
 pub use laws::{accepted_is_spelled, spelled_is_accepted};
 pub use parsing::parse;
 pub use tree::{Cell, DtsNode, DtsProperty, DtsTree, DtsValue};
-
-#[cfg(test)]
-mod tests;

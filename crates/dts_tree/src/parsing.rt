@@ -14,7 +14,8 @@ use crate::reader::Reader;
 use crate::reading::read;
 use crate::targets::targets;
 use crate::tree::DtsTree;
-use dts_tokens::{MOST_BYTES, Token};
+use clk_io::MOST_BYTES;
+use dts_tokens::Token;
 use std::alloc::Global;
 
 /// The tree that was read.
@@ -39,8 +40,7 @@ fn tree(alloc: Global, text: &str, reader: &Reader<'_>) -> Result<DtsTree, TreeF
 /// for this text.
 ///
 /// Tokens are refused at the first that can't go on, or at the last, where more have to follow; then
-/// at the first reference that means no node. The time that it takes is in proportion to the length
-/// of the text, and the depth of nesting takes no stack.
+/// at the first reference that means no node.
 pub fn parse(alloc: Global, text: &str, tokens: &[Token]) -> Result<DtsTree, TreeFault>
     requires short { length text.now ≤ MOST_BYTES }
     requires rises { Rises 0 tokens.now (length text.now) }

@@ -1,5 +1,4 @@
-use Rattle.std.proofs.Common.{◌≡◌, ◌<◌, ◌++◌, map, length, string_bytes}
-use Rattle.dts_tree.specs.Tree.{seen_node}
+use Rattle.std.proofs.Common.{◌≡◌, ◌<◌, ◌++◌, length, string_bytes}
 use Rattle.dts_clocks.proofs.Uplines.{trail}
 use Rattle.dts_clocks.proofs.above.path_of.Given as goal
 
@@ -8,7 +7,7 @@ abbrev pub invariant-loop-parent : goal.invariant-loop-parent
 invariant-loop-parent l =
     record {
       within : l.place < length l.nodes;
-      so_far : trail (map seen_node l.nodes) l.at ≡ trail (map seen_node l.nodes) l.place ++ string_bytes l.path;
+      so_far : trail l.nodes l.at ≡ trail l.nodes l.place ++ string_bytes l.path;
     }
 
 abbrev pub decreases-loop-parent : goal.decreases-loop-parent

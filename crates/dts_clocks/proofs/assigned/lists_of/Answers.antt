@@ -1,4 +1,4 @@
-use Rattle.std.proofs.Common.{map, ap, sym, ◌∙◌}
+use Rattle.std.proofs.Common.{ap, sym, ◌∙◌}
 use Rattle.std.specs.Option.{option_map}
 use Rattle.dts_tree.specs.Tree.{seen_node}
 use Rattle.dts_clocks.proofs.Listing.{lists_made}
@@ -6,5 +6,5 @@ use Rattle.dts_clocks.proofs.assigned.lists_of.Goals as goal
 
 pub returns : goal.returns
 returns c =
-    lists_made (map seen_node c.args.chart.now.chart.nodes.now) (seen_node c.args.node.now) c.in-Some.clocks.items c.in-Some-2.parents.items c.in_ok-rates.rates.items (ap (option_map (λ v. v.items)) (sym c.in-Some.is) ∙ c.in_ok-clocks.ensures)
+    lists_made c.args.chart.now (seen_node c.args.node.now) c.in-Some.clocks.items c.in-Some-2.parents.items c.in_ok-rates.rates.items (ap (option_map (λ v. v.items)) (sym c.in-Some.is) ∙ c.in_ok-clocks.ensures)
     (ap (option_map (λ v. v.items)) (sym c.in-Some-2.is) ∙ c.in_ok-parents.ensures) c.in_ok-rates.ensures

@@ -1,5 +1,4 @@
 use Rattle.std.proofs.Common.{◌≡◌, map}
-use Rattle.dts_tree.specs.Tree.{seen_node}
 use Rattle.dts_clocks.specs.Clocks.{clocks_at}
 use Rattle.dts_clocks.specs.Heads.{head_of}
 use Rattle.dts_clocks.specs.Joined.{joined}
@@ -7,4 +6,4 @@ use Rattle.dts_clocks.proofs.numbers.heads.Given as goal
 
 -- the nodes so far
 abbrev pub invariant-loop-at : goal.invariant-loop-at
-invariant-loop-at l = l.heads.items ≡ map head_of (joined (clocks_at (map seen_node l.chart.nodes.now)) l.at)
+invariant-loop-at l = l.heads.items ≡ map head_of (joined (clocks_at l.chart) l.at)

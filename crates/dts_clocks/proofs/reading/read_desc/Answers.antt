@@ -1,4 +1,4 @@
-use Rattle.std.proofs.Common.{◌∙◌, map}
+use Rattle.std.proofs.Common.{◌∙◌, map, ap}
 use Rattle.std.proofs.lemmas.Result.{err_from_is_err_and}
 use Rattle.dts_tree.specs.Tree.{seen_node}
 use Rattle.dts_clocks.specs.Loaded.{seen_loaded}
@@ -8,17 +8,17 @@ use Rattle.dts_clocks.proofs.reading.read_desc.Goals as goal
 
 pub returns-in_err-loaded-clause-fault : goal.returns-in_err-loaded-clause-fault
 returns-in_err-loaded-clause-fault c =
-    let first = c.in_ok-chart.ensures ∙ c.deref.ensures.value in
+    let first = c.in_ok-chart.ensures ∙ ap (map seen_node) c.deref.ensures.value in
     let p = err_from_is_err_and c.from_residual-in_err-loaded.result c.from_residual-in_err-loaded.ensures.1 in
-    rw (p.1, p.2) (second_told c.in_ok-chart.chart.nodes.now c.in_ok-chart-2.chart.chart.nodes.now c.args.tree.now.nodes.items c.in_err-loaded.field-0.0 first (c.in_ok-chart-2.ensures ∙ first) c.in_ok-bindings.ensures.none c.in_err-loaded.ensures.err)
+    rw (p.1, p.2) (second_told c.in_ok-chart.chart c.in_ok-chart-2.chart (map seen_node c.args.tree.now.nodes.items) c.in_err-loaded.field-0.0 first c.in_ok-chart-2.ensures c.in_ok-bindings.ensures.none c.in_err-loaded.ensures.err)
 
 pub returns-clause-loaded : goal.returns-clause-loaded
 returns-clause-loaded c =
-    let first = c.in_ok-chart.ensures ∙ c.deref.ensures.value in
-    accepted c.in_ok-chart.chart.nodes.now c.in_ok-chart-2.chart.chart.nodes.now c.args.tree.now.nodes.items (seen_loaded c.in_ok-loaded.loaded) first (c.in_ok-chart-2.ensures ∙ first) c.in_ok-bindings.ensures.none c.in_ok-loaded.ensures.none c.in_ok-loaded.ensures.loaded
+    let first = c.in_ok-chart.ensures ∙ ap (map seen_node) c.deref.ensures.value in
+    accepted c.in_ok-chart.chart c.in_ok-chart-2.chart (map seen_node c.args.tree.now.nodes.items) (seen_loaded c.in_ok-loaded.loaded) first c.in_ok-chart-2.ensures c.in_ok-bindings.ensures.none c.in_ok-loaded.ensures.none c.in_ok-loaded.ensures.loaded
 
 pub returns-clause-parents : goal.returns-clause-parents
 returns-clause-parents c =
-    let first = c.in_ok-chart.ensures ∙ c.deref.ensures.value in
+    let first = c.in_ok-chart.ensures ∙ ap (map seen_node) c.deref.ensures.value in
     parented (map seen_node c.args.tree.now.nodes.items) (seen_loaded c.in_ok-loaded.loaded)
-    (accepted c.in_ok-chart.chart.nodes.now c.in_ok-chart-2.chart.chart.nodes.now c.args.tree.now.nodes.items (seen_loaded c.in_ok-loaded.loaded) first (c.in_ok-chart-2.ensures ∙ first) c.in_ok-bindings.ensures.none c.in_ok-loaded.ensures.none c.in_ok-loaded.ensures.loaded)
+    (accepted c.in_ok-chart.chart c.in_ok-chart-2.chart (map seen_node c.args.tree.now.nodes.items) (seen_loaded c.in_ok-loaded.loaded) first c.in_ok-chart-2.ensures c.in_ok-bindings.ensures.none c.in_ok-loaded.ensures.none c.in_ok-loaded.ensures.loaded)

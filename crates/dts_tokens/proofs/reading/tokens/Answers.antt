@@ -28,17 +28,17 @@ loop-at-preserved c =
     elim c.match-piece_at.branch [
       | in-Gap w ↦
           let here = ap piece_at (sym (take_rest text at)) ∙ sym w.in-Gap.ensures.piece in
-          let fed = simp (take_rest, w.len-is) at c.line_feeds-line.ensures.count in
+          let fed = simp (take_rest, w.len-is) at c.line_feeds-feeds.ensures.count in
           let fits = simp (take_rest, length-drop) at w.in-Gap.ensures.fits.1 in
-          simp (w.found-is, w.scope-is, w.len-is) (Reached-gap text c.loop-at.found.items c.loop-at.scope at c.loop-at.line w.in-Gap.len c.line_feeds-line.result c.loop-at.invariant (omega arith) (omega (arith, fits)) here fed)
+          simp (w.found-is, w.scope-is, w.len-is) (Reached-gap text c.loop-at.found.items c.loop-at.scope at c.loop-at.line w.in-Gap.len c.line_feeds-feeds.result c.loop-at.invariant (omega arith) (omega (arith, fits)) here fed)
       | in-Lexeme+else-is_too_big+in_ok-push-in-Lexeme w ↦
           let words = map (text_of text) c.loop-at.found.items in
           let here = ap piece_at (sym (take_rest text at)) ∙ sym w.in-Lexeme.ensures.piece in
-          let fed = simp (take_rest, w.len-is) at c.line_feeds-line.ensures.count in
+          let fed = simp (take_rest, w.len-is) at c.line_feeds-feeds.ensures.count in
           let fits = simp (take_rest, length-drop) at w.in-Lexeme.ensures.fits.1 in
           let weighs = simp take_rest at (w.is_too_big.ensures words c.loop-at.invariant.scope) in
           let passed = simp take_rest at (w.pass.ensures words c.loop-at.invariant.scope) in
-          simp (w.found-is, w.scope-is, w.len-is, w.in_ok-push-in-Lexeme.ensures.items) (Reached-lexeme text c.loop-at.found.items c.loop-at.scope w.pass.new.self at c.loop-at.line w.in-Lexeme.len c.line_feeds-line.result c.loop-at.invariant (omega arith) w.in-Lexeme.ensures.fits.0 (omega (arith, fits)) here (sym weighs ∙ w.if-is_too_big.false) passed fed)
+          simp (w.found-is, w.scope-is, w.len-is, w.in_ok-push-in-Lexeme.ensures.items) (Reached-lexeme text c.loop-at.found.items c.loop-at.scope w.pass.new.self at c.loop-at.line w.in-Lexeme.len c.line_feeds-feeds.result c.loop-at.invariant (omega arith) w.in-Lexeme.ensures.fits.0 (omega (arith, fits)) here (sym weighs ∙ w.if-is_too_big.false) passed fed)
     ]
 
 pub returns-clause-whole : goal.returns-clause-whole

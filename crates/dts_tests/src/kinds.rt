@@ -1,6 +1,6 @@
-//! Each row of the table: with all its properties, with each out of its form, and without each.
+//! Each kind of provider: with all its properties, with each out of its form, and without each.
 
-use super::reading::{said, says};
+use crate::nodes::{said, says};
 use std::alloc::Global;
 use std::process::Abort;
 use std::test::Fail;
@@ -54,17 +54,14 @@ fn judges(
     wanted: &str,
 ) -> Result<(), Fail> {
     let whole = changed(alloc, head, cases, cases.len(), "")?;
-    says(rt, alloc, whole.as_str(), wanted)?;
+    says(rt, alloc, &[(whole.as_str(), wanted)])?;
     for (k, case) in cases.iter().enumerate() {
         let wrong = changed(alloc, head, cases, k, case.bad)?;
-        says(rt, alloc, wrong.as_str(), "MissingProperty")?;
+        says(rt, alloc, &[(wrong.as_str(), "MissingProperty")])?;
         let without = changed(alloc, head, cases, k, "")?;
         let text = said(alloc, without.as_str())?;
-        assert_eq!(rt;
-            text.as_str() == "MissingProperty",
-            case.needed,
-            "of {without}"
-        );
+        let refused = text.as_str() == "MissingProperty";
+        assert!(rt; refused == case.needed, "of {without}");
     }
     Ok(())
 }
@@ -162,8 +159,10 @@ fn each_property_of_gates_has_its_form(rt: HostRuntime) -> Result<(), Fail> {
     says(
         &rt,
         rt.alloc(),
-        "compatible = \"bank,gates-clock\"; #clock-cells = <1>; clocks = <1>; bank,reg = <0>; clock-output-names = \"a\", \"b\";",
-        "Binding { cells: 1, wants: One, inputs: [Number(1)], clocks: [BoundClock { name: \"a\", identifier: 0, kind: Gate { word: 0, bit: 0, set_to_disable: false } }, BoundClock { name: \"b\", identifier: 1, kind: Gate { word: 0, bit: 1, set_to_disable: false } }], flags: ClkFlags(0) }",
+        &[(
+            "compatible = \"bank,gates-clock\"; #clock-cells = <1>; clocks = <1>; bank,reg = <0>; clock-output-names = \"a\", \"b\";",
+            "Binding { cells: 1, wants: One, inputs: [Number(1)], clocks: [BoundClock { name: \"a\", identifier: 0, kind: Gate { word: 0, bit: 0, set_to_disable: false } }, BoundClock { name: \"b\", identifier: 1, kind: Gate { word: 0, bit: 1, set_to_disable: false } }], flags: ClkFlags(0) }",
+        )],
     )
 }
 

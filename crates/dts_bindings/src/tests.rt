@@ -1,5 +1,0 @@
-//! What nodes say of clocks, read from sources written by hand.
-
-mod nodes;
-mod reading;
-mod rows;
