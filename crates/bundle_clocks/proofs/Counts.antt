@@ -4,6 +4,7 @@ use Rattle.std.specs.Prelude.{slice_get}
 use Rattle.std.specs.Option.{option_map_or, option_and_then}
 use Rattle.std.proofs.lemmas.Bool.{cases_Bool}
 use Rattle.std.proofs.lemmas.List.{length-map}
+use Rattle.std.proofs.lemmas.Option.{none-some}
 use Rattle.clk_base.specs.Description.{Description}
 use Rattle.clock_lines.specs.Section.{desc_of, lines_of}
 use Rattle.clock_lines.specs.Verdict.{Spells}
@@ -32,15 +33,12 @@ line_count from section desc lines h = ap length h.lines_are ∙ (spelled_count 
 
 -- ## Trees
 
-some_none : {X : Type 0} (x : X) → Some x ≡ None → ⊥
-some_none x h = cc
-
 -- a node with a binding is there
 bound_there : (nodes : List SeenNode) (k : ℕ) (b : SeenBinding) → binding_at nodes k ≡ Some b → (node : SeenNode) × (slice_get nodes k ≡ Some node)
 unfolding binding_at
 bound_there nodes k b h =
     elim (cases_Bool (is_passed nodes k)) [
-      | inl passed ↦ absurd (some_none b (sym h ∙ ap (λ p. cond p None (option_and_then own_binding (slice_get nodes k))) passed))
+      | inl passed ↦ absurd (none-some b (sym (ap (λ p. cond p None (option_and_then own_binding (slice_get nodes k))) passed) ∙ h))
       | inr kept ↦
           elim (slice_get nodes k) as (λ o. slice_get nodes k ≡ o → option_and_then own_binding o ≡ Some b → (node : SeenNode) × (slice_get nodes k ≡ Some node)) [
             | None ↦ λ e g. absurd (cc)

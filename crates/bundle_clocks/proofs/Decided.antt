@@ -3,9 +3,9 @@ use Rattle.std.proofs.Common.{◌≡◌, ◌⊎◌, ℕ, ◌+◌, ◌==◌, Bool
 use Rattle.bundle_sections.specs.declared.section.ClockSection.{ClockSection}
 use Rattle.bundle_sections.specs.declared.section.ClockText.{ClockText}
 use Rattle.bundle_sections.specs.declared.section.ClockText.TheVariants.{Lines, DeviceTree}
-use Rattle.bundle_clocks.specs.declared.fault.ClocksReason.{ClocksReason}
-use Rattle.bundle_clocks.specs.declared.fault.ClocksReason.TheVariants as reasons
-use Rattle.bundle_clocks.specs.Reasons.{Told, told, line_reason, token_told, tree_told, nodes_told}
+use Rattle.bundle_text.specs.declared.reason.Reason.{Reason}
+use Rattle.bundle_text.specs.declared.reason.Reason.TheVariants as reasons
+use Rattle.bundle_clocks.specs.Reasons.{Told, told, token_told, tree_told, nodes_told}
 use Rattle.bundle_clocks.specs.Said.{SaidClocks}
 use Rattle.bundle_clocks.specs.Source.{lines_in, source_of}
 use Rattle.bundle_clocks.specs.Verdict.{SourceSays, TreeSays, SourceRefused, SaysIn, RefusesIn, nodes_of, clocks_of_tree}
@@ -29,7 +29,7 @@ use Rattle.dts_tree.proofs.Lasting as tree_faults
 
 -- a line and a reason are told
 abbrev IsTold : Option Told → Type 0
-IsTold o = (line : ℕ) × (reason : ClocksReason) × (o ≡ told line reason)
+IsTold o = (line : ℕ) × (reason : Reason) × (o ≡ told line reason)
 
 token_is_told : (fault : TokenFault) → token_faults.IsNotMemory fault → IsTold (token_told fault)
 token_is_told (marks.BadChar line) h = (line, reasons.BadChar, refl)
@@ -58,7 +58,7 @@ nodes_are_told dts.NoMemory h = absurd h
 -- ## Sources
 
 abbrev IsSourceDecided : ℕ → List ℕ → Type 0
-IsSourceDecided first source = ((said : SaidClocks) × TreeSays first source said) ⊎ ((line : ℕ) × (reason : ClocksReason) × SourceRefused first source line reason)
+IsSourceDecided first source = ((said : SaidClocks) × TreeSays first source said) ⊎ ((line : ℕ) × (reason : Reason) × SourceRefused first source line reason)
 
 nodes_decided : (first : ℕ) (source : List ℕ) (nodes : List SeenNode) → SourceSays first source nodes → IsSourceDecided first source
 nodes_decided first source nodes tree =
@@ -94,10 +94,10 @@ source_decided first source =
 
 -- ## Sections
 
-pub section_decided : (text : ClockText) (ls : List (List ℕ)) (s : ClockSection) → ((a : SaidClocks) × SaysIn text ls s a) ⊎ ((line : ℕ) × (reason : ClocksReason) × RefusesIn text ls s line reason)
+pub section_decided : (text : ClockText) (ls : List (List ℕ)) (s : ClockSection) → ((a : SaidClocks) × SaysIn text ls s a) ⊎ ((line : ℕ) × (reason : Reason) × RefusesIn text ls s line reason)
 section_decided Lines ls s =
     elim (line_laws.decided (s.place + 1) (lines_in ls s)) [
       | inl x ↦ inl (record { defs = x.0; lines = x.1; assigned = [] }, record { spelled = x.2; assigned = refl })
-      | inr x ↦ inr (x.0, line_reason x.1, record { why = x.1; first = x.2; reason_is = refl })
+      | inr x ↦ inr x
     ]
 section_decided DeviceTree ls s = source_decided (s.place + 2) (source_of ls s)

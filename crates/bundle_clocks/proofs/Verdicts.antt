@@ -1,20 +1,17 @@
 -- A section of clocks has one verdict.
 use Rattle.std.proofs.Common.{◌≡◌, ℕ, ◌+◌, List, Option, Some, None, Result, Ok, Err, length, refl, ap, subst, sym, ◌∙◌, inl, inr}
-use Rattle.bundle_text.specs.Firsts.{First, KeepsBelow}
+use Rattle.bundle_text.specs.Firsts.{KeepsBelow}
 use Rattle.bundle_text.proofs.Rows.{First-kept, First-unique}
 use Rattle.bundle_sections.specs.declared.section.ClockSection.{ClockSection}
 use Rattle.bundle_sections.specs.declared.section.ClockText.{ClockText}
 use Rattle.bundle_sections.specs.declared.section.ClockText.TheVariants.{Lines, DeviceTree}
-use Rattle.bundle_clocks.specs.declared.fault.ClocksReason.{ClocksReason}
-use Rattle.bundle_clocks.specs.declared.fault.ClocksReason.TheVariants.{UnknownKind}
-use Rattle.bundle_clocks.specs.Reasons.{Told, told, line_reason, token_told, tree_told, nodes_told}
+use Rattle.bundle_text.specs.declared.reason.Reason.{Reason}
+use Rattle.bundle_text.specs.declared.reason.Reason.TheVariants.{UnknownKind}
+use Rattle.bundle_clocks.specs.Reasons.{Told, told, token_told, tree_told, nodes_told}
 use Rattle.bundle_clocks.specs.Said.{SaidClocks}
 use Rattle.bundle_clocks.specs.Source.{lines_in, source_of}
 use Rattle.bundle_clocks.specs.Verdict.{SourceSays, TreeSays, TreeRefused, NodesRefused, SourceRefused, SaysIn, RefusesIn, nodes_of, clocks_of_tree}
-use Rattle.clock_lines.specs.declared.fault.LineReason.{LineReason}
-use Rattle.clock_lines.specs.Section.{fault_at, parent_fault_at}
-use Rattle.clock_lines.specs.Verdict as line_verdict
-use Rattle.clk_base.specs.Description.{Description}
+use Rattle.clock_lines.proofs.Verdicts as line_laws
 use Rattle.dts_clocks.specs.declared.fault.DtsFault.{DtsFault}
 use Rattle.dts_clocks.specs.Loaded.{SeenLoaded}
 use Rattle.dts_clocks.specs.Faults.{IsFirstOf}
@@ -34,15 +31,15 @@ line_in : Option Told → ℕ
 line_in None = 0
 line_in (Some t) = t.line
 
-reason_in : Option Told → ClocksReason
+reason_in : Option Told → Reason
 reason_in None = UnknownKind
 reason_in (Some t) = t.reason
 
-told_same : (line other : ℕ) (reason why : ClocksReason) → told line reason ≡ told other why → (line ≡ other) × (reason ≡ why)
+told_same : (line other : ℕ) (reason why : Reason) → told line reason ≡ told other why → (line ≡ other) × (reason ≡ why)
 unfolding line_in reason_in
 told_same line other reason why h = (ap line_in h, ap reason_in h)
 
-token_same : (text : List ℕ) (f g : TokenFault) (line other : ℕ) (reason why : ClocksReason) → cut.IsFaultOf text f → cut.IsFaultOf text g → token_told f ≡ told line reason → token_told g ≡ told other why
+token_same : (text : List ℕ) (f g : TokenFault) (line other : ℕ) (reason why : Reason) → cut.IsFaultOf text f → cut.IsFaultOf text g → token_told f ≡ told line reason → token_told g ≡ told other why
     → (line ≡ other) × (reason ≡ why)
 token_same text (BadChar m) (BadChar n) line other reason why x y e f = (let one = told_same _ line _ reason e in let two = told_same _ other _ why f in let same = one_flaw text _ _ m n x y in (cc, cc))
 token_same text (BadChar m) (OpenString n) line other reason why x y e f = (let one = told_same _ line _ reason e in let two = told_same _ other _ why f in let same = one_flaw text _ _ m n x y in (cc, cc))
@@ -66,7 +63,7 @@ token_same text (NumberTooBig m) (NumberTooBig n) line other reason why x y e f 
 token_same text (NumberTooBig m) NoMemory line other reason why x y e f = absurd (cc)
 token_same text NoMemory g line other reason why x y e f = absurd (cc)
 
-token_cut : (text : List ℕ) (f : TokenFault) (tokens : List Token) (line : ℕ) (reason : ClocksReason) → cut.IsFaultOf text f → token_told f ≡ told line reason → cut.Tokens text tokens → ⊥
+token_cut : (text : List ℕ) (f : TokenFault) (tokens : List Token) (line : ℕ) (reason : Reason) → cut.IsFaultOf text f → token_told f ≡ told line reason → cut.Tokens text tokens → ⊥
 token_cut text (BadChar m) tokens line reason x e cuts = not_both text tokens _ m cuts x
 token_cut text (OpenString m) tokens line reason x e cuts = not_both text tokens _ m cuts x
 token_cut text (OpenComment m) tokens line reason x e cuts = not_both text tokens _ m cuts x
@@ -90,13 +87,13 @@ nodes_same first source a b x y =
     let same = one_list source x.tokens y.tokens x.cuts y.cuts in
     ok_same a b (nodes_of first source y.tokens) (ap (nodes_of first source) (sym same) ∙ x.spells) y.spells
 
-tree_same : (first : ℕ) (source : List ℕ) (line other : ℕ) (reason why : ClocksReason) → TreeRefused first source line reason → TreeRefused first source other why → (line ≡ other) × (reason ≡ why)
+tree_same : (first : ℕ) (source : List ℕ) (line other : ℕ) (reason why : Reason) → TreeRefused first source line reason → TreeRefused first source other why → (line ≡ other) × (reason ≡ why)
 tree_same first source line other reason why x y =
     let same = one_list source x.tokens y.tokens x.cuts y.cuts in
     let fault = err_same x.fault y.fault (nodes_of first source y.tokens) (ap (nodes_of first source) (sym same) ∙ x.found) y.found in
     told_same line other reason why (sym x.told_is ∙ (ap tree_told fault ∙ y.told_is))
 
-tree_says : (first : ℕ) (source : List ℕ) (nodes : List SeenNode) (line : ℕ) (reason : ClocksReason) → SourceSays first source nodes → TreeRefused first source line reason → ⊥
+tree_says : (first : ℕ) (source : List ℕ) (nodes : List SeenNode) (line : ℕ) (reason : Reason) → SourceSays first source nodes → TreeRefused first source line reason → ⊥
 tree_says first source nodes line reason x y =
     let same = one_list source x.tokens y.tokens x.cuts y.cuts in
     ok_err nodes y.fault (nodes_of first source y.tokens) (ap (nodes_of first source) (sym same) ∙ x.spells) y.found
@@ -122,30 +119,13 @@ loaded_fault : (nodes : List SeenNode) (a : SeenLoaded) (fault : DtsFault) → n
 loaded_fault nodes a fault x (inl y) = first_kept (first_fault nodes) (length nodes) fault x.first y
 loaded_fault nodes a fault x (inr y) = first_kept (second_fault nodes) (length nodes) fault x.second y.found
 
--- ## Lines
-
-line_same : (from : ℕ) (test : ℕ → Option LineReason) (n : ℕ) (a b line other : ℕ) (reason why : LineReason) → First test n a reason → First test n b why → line ≡ from + a + 1 → other ≡ from + b + 1 → (line ≡ other) × (reason ≡ why)
-line_same from test n a b line other reason why x y e f =
-    let same = First-unique test n a b reason why x y in
-    (e ∙ (ap (λ k. from + k + 1) same.0 ∙ sym f), same.1)
-
-lines_refused_same : (from : ℕ) (section : List (List ℕ)) (line other : ℕ) (reason why : LineReason) → line_verdict.Refuses from section line reason → line_verdict.Refuses from section other why → (line ≡ other) × (reason ≡ why)
-lines_refused_same from section line other reason why (inl x) (inl y) = line_same from (fault_at section) (length section) x.place y.place line other reason why x.first y.first x.line_is y.line_is
-lines_refused_same from section line other reason why (inl x) (inr y) = absurd (First-kept (fault_at section) (length section) x.place reason y.kept x.first)
-lines_refused_same from section line other reason why (inr x) (inl y) = absurd (First-kept (fault_at section) (length section) y.place why x.kept y.first)
-lines_refused_same from section line other reason why (inr x) (inr y) = line_same from (parent_fault_at section) (length section) x.place y.place line other reason why x.first y.first x.line_is y.line_is
-
-lines_both : (from : ℕ) (section : List (List ℕ)) (desc : Description) (lines : List ℕ) (line : ℕ) (reason : LineReason) → line_verdict.Spells from section desc lines → line_verdict.Refuses from section line reason → ⊥
-lines_both from section desc lines line reason x (inl y) = First-kept (fault_at section) (length section) y.place reason x.kept y.first
-lines_both from section desc lines line reason x (inr y) = First-kept (parent_fault_at section) (length section) y.place reason x.found y.first
-
-nodes_refused_same : (first : ℕ) (source : List ℕ) (line other : ℕ) (reason why : ClocksReason) → NodesRefused first source line reason → NodesRefused first source other why → (line ≡ other) × (reason ≡ why)
+nodes_refused_same : (first : ℕ) (source : List ℕ) (line other : ℕ) (reason why : Reason) → NodesRefused first source line reason → NodesRefused first source other why → (line ≡ other) × (reason ≡ why)
 nodes_refused_same first source line other reason why x y =
     let same = nodes_same first source x.nodes y.nodes x.tree y.tree in
     let fault = fault_same y.nodes x.fault y.fault (subst (λ nodes. node_verdict.Refuses nodes x.fault) same x.found) y.found in
     told_same line other reason why (sym x.told_is ∙ (ap nodes_told fault ∙ y.told_is))
 
-source_same : (first : ℕ) (source : List ℕ) (line other : ℕ) (reason why : ClocksReason) → SourceRefused first source line reason → SourceRefused first source other why → (line ≡ other) × (reason ≡ why)
+source_same : (first : ℕ) (source : List ℕ) (line other : ℕ) (reason why : Reason) → SourceRefused first source line reason → SourceRefused first source other why → (line ≡ other) × (reason ≡ why)
 source_same first source line other reason why (inl x) (inl y) = token_same source x.fault y.fault line other reason why x.first y.first x.told_is y.told_is
 source_same first source line other reason why (inl x) (inr (inl y)) = absurd (token_cut source x.fault y.tokens line reason x.first x.told_is y.cuts)
 source_same first source line other reason why (inl x) (inr (inr y)) = absurd (token_cut source x.fault y.tree.tokens line reason x.first x.told_is y.tree.cuts)
@@ -162,7 +142,7 @@ tree_means first source a b x y =
     let loaded = loaded_same y.nodes x.loaded y.loaded (subst (λ nodes. node_verdict.Accepts nodes x.loaded) same x.accepted) y.accepted in
     x.content ∙ (ap clocks_of_tree loaded ∙ sym y.content)
 
-tree_both : (first : ℕ) (source : List ℕ) (a : SaidClocks) (line : ℕ) (reason : ClocksReason) → TreeSays first source a → SourceRefused first source line reason → ⊥
+tree_both : (first : ℕ) (source : List ℕ) (a : SaidClocks) (line : ℕ) (reason : Reason) → TreeSays first source a → SourceRefused first source line reason → ⊥
 tree_both first source a line reason x (inl y) = token_cut source y.fault x.tree.tokens line reason y.first y.told_is x.tree.cuts
 tree_both first source a line reason x (inr (inl y)) = tree_says first source x.nodes line reason x.tree y
 tree_both first source a line reason x (inr (inr y)) =
@@ -180,12 +160,10 @@ one_meaning Lines ls s a b x y =
     ∙ (ap (λ l. record { defs = b.defs; lines = l; assigned = a.assigned }) lines ∙ ap (λ n. record { defs = b.defs; lines = b.lines; assigned = n }) assigned)
 one_meaning DeviceTree ls s a b x y = tree_means (s.place + 2) (source_of ls s) a b x y
 
-pub one_refusal : (text : ClockText) (ls : List (List ℕ)) (s : ClockSection) (line other : ℕ) (reason why : ClocksReason) → RefusesIn text ls s line reason → RefusesIn text ls s other why → (line ≡ other) × (reason ≡ why)
-one_refusal Lines ls s line other reason why x y =
-    let same = lines_refused_same (s.place + 1) (lines_in ls s) line other x.why y.why x.first y.first in
-    (same.0, x.reason_is ∙ (ap line_reason same.1 ∙ sym y.reason_is))
+pub one_refusal : (text : ClockText) (ls : List (List ℕ)) (s : ClockSection) (line other : ℕ) (reason why : Reason) → RefusesIn text ls s line reason → RefusesIn text ls s other why → (line ≡ other) × (reason ≡ why)
+one_refusal Lines ls s line other reason why x y = line_laws.one_refusal (s.place + 1) (lines_in ls s) line other reason why x y
 one_refusal DeviceTree ls s line other reason why x y = source_same (s.place + 2) (source_of ls s) line other reason why x y
 
-pub never_both : (text : ClockText) (ls : List (List ℕ)) (s : ClockSection) (a : SaidClocks) (line : ℕ) (reason : ClocksReason) → SaysIn text ls s a → RefusesIn text ls s line reason → ⊥
-never_both Lines ls s a line reason x y = lines_both (s.place + 1) (lines_in ls s) a.defs a.lines line y.why x.spelled y.first
+pub never_both : (text : ClockText) (ls : List (List ℕ)) (s : ClockSection) (a : SaidClocks) (line : ℕ) (reason : Reason) → SaysIn text ls s a → RefusesIn text ls s line reason → ⊥
+never_both Lines ls s a line reason x y = line_laws.never_both (s.place + 1) (lines_in ls s) a.defs a.lines line reason x.spelled y
 never_both DeviceTree ls s a line reason x y = tree_both (s.place + 2) (source_of ls s) a line reason x y

@@ -1,11 +1,9 @@
--- The reasons of each reader as those of the section, with their lines.
+-- What the faults of each reader of a device tree source tell: a line, and what is wrong with it.
 use Rattle.std.specs.Prelude.{ℕ, Option, Some, None}
-use Rattle.bundle_clocks.specs.declared.fault.ClocksFault.{ClocksFault}
-use Rattle.bundle_clocks.specs.declared.fault.ClocksFault.TheVariants as faults
-use Rattle.bundle_clocks.specs.declared.fault.ClocksReason.{ClocksReason}
-use Rattle.bundle_clocks.specs.declared.fault.ClocksReason.TheVariants as reasons
-use Rattle.clock_lines.specs.declared.fault.LineReason.{LineReason}
-use Rattle.clock_lines.specs.declared.fault.LineReason.TheVariants as lines
+use Rattle.bundle_text.specs.declared.fault.BundleFault.{BundleFault}
+use Rattle.bundle_text.specs.declared.fault.BundleFault.TheVariants as faults
+use Rattle.bundle_text.specs.declared.reason.Reason.{Reason}
+use Rattle.bundle_text.specs.declared.reason.Reason.TheVariants as reasons
 use Rattle.dts_clocks.specs.declared.fault.DtsFault.{DtsFault}
 use Rattle.dts_clocks.specs.declared.fault.DtsFault.TheVariants as nodes
 use Rattle.dts_tokens.specs.declared.token.TokenFault.{TokenFault}
@@ -16,21 +14,11 @@ use Rattle.dts_tree.specs.declared.fault.TreeFault.TheVariants as trees
 -- a line and what is wrong with it
 pub record Told : Type 0 where
   pub line : ℕ
-  pub reason : ClocksReason
+  pub reason : Reason
 
 -- this reason at this line
-abbrev pub told : ℕ → ClocksReason → Option Told
+abbrev pub told : ℕ → Reason → Option Told
 told line reason = Some (record { line = line; reason = reason })
-
--- a reason of the clock lines, among those of a section of clocks
-abbrev pub line_reason : LineReason → ClocksReason
-line_reason lines.UnknownKind = reasons.UnknownKind
-line_reason lines.BadWords = reasons.BadWords
-line_reason lines.BadName = reasons.BadName
-line_reason lines.TwiceNamed = reasons.TwiceNamed
-line_reason lines.BadNumber = reasons.BadNumber
-line_reason lines.BadFlag = reasons.BadFlag
-line_reason lines.UnknownName = reasons.UnknownName
 
 -- what a fault of the tokens tells; want of memory tells nothing
 abbrev pub token_told : TokenFault → Option Told
@@ -60,6 +48,6 @@ nodes_told (nodes.BadAssigned line) = told line reasons.BadAssigned
 nodes_told nodes.NoMemory = None
 
 -- the fault that tells this, or want of memory
-abbrev pub told_fault : Option Told → ClocksFault
+abbrev pub told_fault : Option Told → BundleFault
 told_fault None = faults.NoMemory
 told_fault (Some t) = faults.Refused t.line t.reason

@@ -1,15 +1,12 @@
 -- Which section of clocks says what, and why others are refused.
 use Rattle.std.specs.Prelude.{◌≡◌, ℕ, ◌+◌, ◌==◌, ◌⊎◌, List, [], length, map, Result, Ok, Err, if◌then◌else◌}
-use Rattle.bundle_clocks.specs.declared.fault.ClocksFault.{ClocksFault}
-use Rattle.bundle_clocks.specs.declared.fault.ClocksFault.TheVariants.{Refused, NoMemory}
-use Rattle.bundle_clocks.specs.declared.fault.ClocksReason.{ClocksReason}
-use Rattle.bundle_clocks.specs.Reasons.{told, line_reason, token_told, tree_told, nodes_told}
+use Rattle.bundle_text.specs.declared.reason.Reason.{Reason}
+use Rattle.bundle_clocks.specs.Reasons.{told, token_told, tree_told, nodes_told}
 use Rattle.bundle_clocks.specs.Said.{SaidClocks}
 use Rattle.bundle_clocks.specs.Source.{lines_in, source_of}
 use Rattle.bundle_sections.specs.declared.section.ClockSection.{ClockSection}
 use Rattle.bundle_sections.specs.declared.section.ClockText.{ClockText}
 use Rattle.bundle_sections.specs.declared.section.ClockText.TheVariants.{Lines, DeviceTree}
-use Rattle.clock_lines.specs.declared.fault.LineReason.{LineReason}
 use Rattle.clock_lines.specs.Verdict as line_verdict
 use Rattle.dts_clocks.specs.declared.fault.DtsFault.{DtsFault}
 use Rattle.dts_clocks.specs.Loaded.{SeenLoaded}
@@ -26,12 +23,6 @@ use Rattle.dts_tree.specs.Tree.{SeenNode}
 pub record LinesSay (ls : List (List ℕ)) (s : ClockSection) (said : SaidClocks) : Type 0 where
   pub spelled : line_verdict.Spells (s.place + 1) (lines_in ls s) said.defs said.lines
   pub assigned : said.assigned ≡ []
-
--- clock lines are refused
-pub record LinesRefused (ls : List (List ℕ)) (s : ClockSection) (line : ℕ) (reason : ClocksReason) : Type 0 where
-  pub why : LineReason
-  pub first : line_verdict.Refuses (s.place + 1) (lines_in ls s) line why
-  pub reason_is : reason ≡ line_reason why
 
 -- the nodes that tokens of a source spell; where there are no tokens, they are missed on its first line
 abbrev pub nodes_of : ℕ → List ℕ → List Token → Result (List SeenNode) TreeFault
@@ -56,13 +47,13 @@ pub record TreeSays (first : ℕ) (source : List ℕ) (said : SaidClocks) : Type
   pub content : said ≡ clocks_of_tree loaded
 
 -- a source can't be cut into tokens
-pub record TokensRefused (source : List ℕ) (line : ℕ) (reason : ClocksReason) : Type 0 where
+pub record TokensRefused (source : List ℕ) (line : ℕ) (reason : Reason) : Type 0 where
   pub fault : TokenFault
   pub first : cut.IsFaultOf source fault
   pub told_is : token_told fault ≡ told line reason
 
 -- its tokens spell no tree
-pub record TreeRefused (first : ℕ) (source : List ℕ) (line : ℕ) (reason : ClocksReason) : Type 0 where
+pub record TreeRefused (first : ℕ) (source : List ℕ) (line : ℕ) (reason : Reason) : Type 0 where
   pub tokens : List Token
   pub cuts : cut.Tokens source tokens
   pub fault : TreeFault
@@ -70,7 +61,7 @@ pub record TreeRefused (first : ℕ) (source : List ℕ) (line : ℕ) (reason : 
   pub told_is : tree_told fault ≡ told line reason
 
 -- its nodes are refused
-pub record NodesRefused (first : ℕ) (source : List ℕ) (line : ℕ) (reason : ClocksReason) : Type 0 where
+pub record NodesRefused (first : ℕ) (source : List ℕ) (line : ℕ) (reason : Reason) : Type 0 where
   pub nodes : List SeenNode
   pub tree : SourceSays first source nodes
   pub fault : DtsFault
@@ -78,7 +69,7 @@ pub record NodesRefused (first : ℕ) (source : List ℕ) (line : ℕ) (reason :
   pub told_is : nodes_told fault ≡ told line reason
 
 -- a source is refused: for its tokens, else for its tree, else for its nodes
-abbrev pub SourceRefused : ℕ → List ℕ → ℕ → ClocksReason → Type 0
+abbrev pub SourceRefused : ℕ → List ℕ → ℕ → Reason → Type 0
 SourceRefused first source line reason = TokensRefused source line reason ⊎ (TreeRefused first source line reason ⊎ NodesRefused first source line reason)
 
 -- the section says these clocks, by its form
@@ -91,24 +82,10 @@ abbrev pub Says : List (List ℕ) → ClockSection → SaidClocks → Type 0
 Says ls s said = SaysIn s.text ls s said
 
 -- the section is refused at this line for this reason, by its form
-abbrev pub RefusesIn : ClockText → List (List ℕ) → ClockSection → ℕ → ClocksReason → Type 0
-RefusesIn Lines ls s line reason = LinesRefused ls s line reason
+abbrev pub RefusesIn : ClockText → List (List ℕ) → ClockSection → ℕ → Reason → Type 0
+RefusesIn Lines ls s line reason = line_verdict.Refuses (s.place + 1) (lines_in ls s) line reason
 RefusesIn DeviceTree ls s line reason = SourceRefused (s.place + 2) (source_of ls s) line reason
 
 -- the section is refused at this line for this reason
-abbrev pub Refuses : List (List ℕ) → ClockSection → ℕ → ClocksReason → Type 0
+abbrev pub Refuses : List (List ℕ) → ClockSection → ℕ → Reason → Type 0
 Refuses ls s line reason = RefusesIn s.text ls s line reason
-
--- the fault says why a section of this form is refused; want of memory says nothing of it
-abbrev pub IsFaultIn : ClockText → List (List ℕ) → ClockSection → ClocksFault → Type 0
-IsFaultIn text ls s (Refused line reason) = RefusesIn text ls s line reason
-IsFaultIn text ls s NoMemory = Unit {0}
-
--- the same of a source
-abbrev pub IsSourceFault : ℕ → List ℕ → ClocksFault → Type 0
-IsSourceFault first source (Refused line reason) = SourceRefused first source line reason
-IsSourceFault first source NoMemory = Unit {0}
-
--- the same of the section, in its form
-abbrev pub IsFaultOf : List (List ℕ) → ClockSection → ClocksFault → Type 0
-IsFaultOf ls s fault = IsFaultIn s.text ls s fault

@@ -14,7 +14,6 @@ mod source;
 mod tree_form;
 mod verdict;
 
-pub use fault::{ClocksFault, ClocksReason};
 pub use part::ClocksPart;
 pub use reading::read_clocks_part;
 pub use verdict::one_verdict;

@@ -1,16 +1,16 @@
 //! The clocks as lines.
 
 ghost use Rattle.std.specs.Prelude.{◌+◌, ◌<◌, ◌^◌, length, IfOk, IfErr};
+ghost use Rattle.bundle_text.specs.Faults.{Tells};
 ghost use Rattle.clk_base.specs.Description.{EachClock};
 ghost use Rattle.clk_base.specs.Valid.{has_its_parents};
 ghost use Rattle.bundle_clocks.specs.Said.{said_clocks};
-ghost use Rattle.bundle_clocks.specs.Verdict.{LinesSay, IsFaultIn};
+ghost use Rattle.bundle_clocks.specs.Verdict.{LinesSay, RefusesIn};
 
-use crate::fault::{ClocksFault, line_reason};
 use crate::part::ClocksPart;
 use bundle_sections::{ClockSection, ClockText};
-use bundle_text::TextLines;
-use clock_lines::{LinesFault, read_clocks};
+use bundle_text::{BundleFault, TextLines};
+use clock_lines::read_clocks;
 use std::alloc::Global;
 
 /// The clocks of a section of clock lines.
@@ -18,24 +18,18 @@ pub(crate) fn read_line_form(
     alloc: Global,
     lines: &TextLines,
     section: ClockSection,
-) -> Result<ClocksPart, ClocksFault>
+) -> Result<ClocksPart, BundleFault>
     requires order { section.place < section.end }
     requires within { section.end < length lines.now }
     requires few { length lines.now + 1 < 2 ^ 32 }
     ensures said { IfOk result (λ part. LinesSay lines.now section (said_clocks part)) }
     ensures parents { IfOk result (λ part. EachClock part.desc (has_its_parents part.desc)) }
-    ensures fault { IfErr result (IsFaultIn ClockText.Lines lines.now section) }
+    ensures fault { IfErr result (Tells (RefusesIn ClockText.Lines lines.now section)) }
 {
-    match read_clocks(alloc, lines, section.place + 1, section.end) {
-        Ok(list) => Ok(ClocksPart {
-            desc: list.desc,
-            lines: list.lines,
-            assigned: Vec::new(alloc),
-        }),
-        Err(LinesFault::Refused { line, reason }) => Err(ClocksFault::Refused {
-            line,
-            reason: line_reason(reason),
-        }),
-        Err(LinesFault::NoMemory) => Err(ClocksFault::NoMemory),
-    }
+    let list = read_clocks(alloc, lines, section.place + 1, section.end)?;
+    Ok(ClocksPart {
+        desc: list.desc,
+        lines: list.lines,
+        assigned: Vec::new(alloc),
+    })
 }

@@ -4,16 +4,17 @@ ghost use Rattle.std.specs.Prelude.{◌+◌, ◌<◌, ◌≤◌, ◌^◌, length
 ghost use Rattle.clk_base.specs.Description.{EachClock};
 ghost use Rattle.clk_base.specs.Valid.{has_its_parents};
 ghost use Rattle.bundle_sections.specs.Verdict.{IsText};
+ghost use Rattle.bundle_text.specs.Faults.{Tells};
 ghost use Rattle.bundle_clocks.specs.Said.{said_clocks};
 ghost use Rattle.bundle_clocks.specs.Source.{text_of_lines};
-ghost use Rattle.bundle_clocks.specs.Verdict.{Says, IsFaultOf};
+ghost use Rattle.bundle_clocks.specs.Verdict.{Says, Refuses};
 
-use crate::fault::ClocksFault;
 use crate::line_form::read_line_form;
 use crate::part::ClocksPart;
 use crate::tree_form::read_tree_form;
 use bundle_sections::{ClockSection, ClockText};
-use bundle_text::TextLines;
+use bundle_text::{BundleFault, TextLines};
+use clk_io::MOST_BYTES;
 use std::alloc::Global;
 
 /// The clocks that a section says, in either form, or the first line of it with a fault.
@@ -21,15 +22,15 @@ pub fn read_clocks_part(
     alloc: Global,
     lines: &TextLines,
     section: ClockSection,
-) -> Result<ClocksPart, ClocksFault>
+) -> Result<ClocksPart, BundleFault>
     requires text { IsText lines.now }
     requires order { section.place < section.end }
     requires within { section.end < length lines.now }
     requires few { length lines.now + 1 < 2 ^ 32 }
-    requires room { length (text_of_lines lines.now) ≤ 16777217 }
+    requires room { length (text_of_lines lines.now) ≤ MOST_BYTES + 1 }
     ensures said { IfOk result (λ part. Says lines.now section (said_clocks part)) }
     ensures parents { IfOk result (λ part. EachClock part.desc (has_its_parents part.desc)) }
-    ensures fault { IfErr result (IsFaultOf lines.now section) }
+    ensures fault { IfErr result (Tells (Refuses lines.now section)) }
 {
     match section.text {
         ClockText::Lines => read_line_form(alloc, lines, section),

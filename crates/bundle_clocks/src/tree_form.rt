@@ -5,32 +5,37 @@ ghost use Rattle.clk_base.specs.Description.{EachClock};
 ghost use Rattle.clk_base.specs.Valid.{has_its_parents};
 ghost use Rattle.dts_tree.specs.Tree.{seen};
 ghost use Rattle.bundle_sections.specs.Verdict.{IsText};
+ghost use Rattle.bundle_text.specs.Faults.{Tells};
 ghost use Rattle.bundle_clocks.specs.Said.{said_clocks};
 ghost use Rattle.bundle_clocks.specs.Source.{text_of_lines, source_of};
-ghost use Rattle.bundle_clocks.specs.Verdict.{SourceSays, TreeSays, IsSourceFault};
+ghost use Rattle.bundle_clocks.specs.Verdict.{SourceSays, TreeSays, SourceRefused};
 
-use crate::fault::{ClocksFault, ClocksReason, nodes_fault, refused, token_fault, tree_fault};
+use crate::fault::{nodes_fault, token_fault, tree_fault};
 use crate::part::ClocksPart;
 use crate::source::source_of;
 use bundle_sections::ClockSection;
-use bundle_text::TextLines;
+use bundle_text::{BundleFault, Reason, TextLines};
+use clk_io::MOST_BYTES;
 use dts_clocks::{Assigned, read_desc};
 use dts_tokens::tokens;
 use dts_tree::{DtsTree, parse};
 use std::alloc::{AllocError, Global};
 
 // The tree of a source whose first line is given.
-fn read_tree(alloc: Global, source: &str, first: u32) -> Result<DtsTree, ClocksFault>
-    requires { length source.now ≤ 16777216 }
+fn read_tree(alloc: Global, source: &str, first: u32) -> Result<DtsTree, BundleFault>
+    requires { length source.now ≤ MOST_BYTES }
     ensures tree { IfOk result (λ tree. SourceSays first source.now (seen tree)) }
-    ensures fault { IfErr result (IsSourceFault first source.now) }
+    ensures fault { IfErr result (Tells (SourceRefused first source.now)) }
 {
     let tokens = match tokens(alloc, source) {
         Ok(tokens) => tokens,
         Err(fault) => return Err(token_fault(fault)),
     };
     if tokens.is_empty() {
-        return Err(refused(first, ClocksReason::Syntax));
+        return Err(BundleFault::Refused {
+            line: first,
+            reason: Reason::Syntax,
+        });
     }
     match parse(alloc, source, &tokens) {
         Ok(tree) => Ok(tree),
@@ -46,11 +51,11 @@ fn assigned_lines(alloc: Global, assigned: &[Assigned]) -> Result<Vec<u32>, Allo
 }
 
 // The clocks of a source whose first line is given.
-fn read_source(alloc: Global, source: &str, first: u32) -> Result<ClocksPart, ClocksFault>
-    requires { length source.now ≤ 16777216 }
+fn read_source(alloc: Global, source: &str, first: u32) -> Result<ClocksPart, BundleFault>
+    requires { length source.now ≤ MOST_BYTES }
     ensures said { IfOk result (λ part. TreeSays first source.now (said_clocks part)) }
     ensures parents { IfOk result (λ part. EachClock part.desc (has_its_parents part.desc)) }
-    ensures fault { IfErr result (IsSourceFault first source.now) }
+    ensures fault { IfErr result (Tells (SourceRefused first source.now)) }
 {
     let tree = read_tree(alloc, source, first)?;
     let loaded = match read_desc(alloc, &tree) {
@@ -70,15 +75,15 @@ pub(crate) fn read_tree_form(
     alloc: Global,
     lines: &TextLines,
     section: ClockSection,
-) -> Result<ClocksPart, ClocksFault>
+) -> Result<ClocksPart, BundleFault>
     requires text { IsText lines.now }
     requires order { section.place < section.end }
     requires within { section.end < length lines.now }
     requires few { length lines.now + 1 < 2 ^ 32 }
-    requires room { length (text_of_lines lines.now) ≤ 16777217 }
+    requires room { length (text_of_lines lines.now) ≤ MOST_BYTES + 1 }
     ensures said { IfOk result (λ part. TreeSays (section.place + 2) (source_of lines.now section) (said_clocks part)) }
     ensures parents { IfOk result (λ part. EachClock part.desc (has_its_parents part.desc)) }
-    ensures fault { IfErr result (IsSourceFault (section.place + 2) (source_of lines.now section)) }
+    ensures fault { IfErr result (Tells (SourceRefused (section.place + 2) (source_of lines.now section))) }
 {
     let source = source_of(alloc, lines, section)?;
     read_source(alloc, &source, section.place as u32 + 2)

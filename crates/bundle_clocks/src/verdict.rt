@@ -2,7 +2,7 @@
 
 ghost use Rattle.std.specs.Prelude.{◌≡◌, ◌⊎◌, ℕ, List};
 ghost use Rattle.bundle_sections.specs.declared.section.ClockSection.{ClockSection};
-ghost use Rattle.bundle_clocks.specs.declared.fault.ClocksReason.{ClocksReason};
+ghost use Rattle.bundle_text.specs.declared.reason.Reason.{Reason};
 ghost use Rattle.bundle_clocks.specs.Said.{SaidClocks};
 ghost use Rattle.bundle_clocks.specs.Verdict.{Says, Refuses};
 
@@ -10,9 +10,9 @@ ghost use Rattle.bundle_clocks.specs.Verdict.{Says, Refuses};
 /// never both; and each section has one.
 pub fn one_verdict()
     ensures one_meaning { (ls : List (List ℕ)) (s : ClockSection) (a b : SaidClocks) → Says ls s a → Says ls s b → a ≡ b }
-    ensures one_refusal { (ls : List (List ℕ)) (s : ClockSection) (line other : ℕ) (reason why : ClocksReason) →
+    ensures one_refusal { (ls : List (List ℕ)) (s : ClockSection) (line other : ℕ) (reason why : Reason) →
         Refuses ls s line reason → Refuses ls s other why → (line ≡ other) × (reason ≡ why) }
-    ensures not_both { (ls : List (List ℕ)) (s : ClockSection) (a : SaidClocks) (line : ℕ) (reason : ClocksReason) → Says ls s a → Refuses ls s line reason → ⊥ }
+    ensures not_both { (ls : List (List ℕ)) (s : ClockSection) (a : SaidClocks) (line : ℕ) (reason : Reason) → Says ls s a → Refuses ls s line reason → ⊥ }
     ensures decided { (ls : List (List ℕ)) (s : ClockSection) →
-        ((a : SaidClocks) × Says ls s a) ⊎ ((line : ℕ) × (reason : ClocksReason) × Refuses ls s line reason) }
+        ((a : SaidClocks) × Says ls s a) ⊎ ((line : ℕ) × (reason : Reason) × Refuses ls s line reason) }
 {}

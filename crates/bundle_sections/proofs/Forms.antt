@@ -4,27 +4,30 @@ use Rattle.std.specs.List.{AllByRecursion}
 use Rattle.std.specs.Option.{option_map, option_map_or, option_and_then}
 use Rattle.std.proofs.lemmas.Bool.{cases_Bool}
 use Rattle.std.proofs.lemmas.Bool.Decides.{nat_tests}
+use Rattle.std.proofs.lemmas.Option.{none-some}
 use Rattle.bundle_text.specs.Lines.{line_at, is_header, header_from}
 use Rattle.bundle_text.specs.Names.{is_driver_name}
-use Rattle.bundle_text.specs.Numbers.{number_up_to, hexadecimal_up_to, behind_0x, written_up_to, number_within}
+use Rattle.bundle_text.specs.Numbers.{number_within}
+use Rattle.bundle_text.proofs.Found.{all_more}
+use Rattle.bundle_text.proofs.NumberBounds.{number_bounds}
 use Rattle.bundle_text.specs.Words.{blank_words}
-use Rattle.bundle_sections.specs.declared.fault.FormReason.{FormReason}
+use Rattle.bundle_text.specs.declared.reason.Reason.{Reason}
 use Rattle.bundle_sections.specs.Headers.{Said, device_tree, clocks, bank, lock, late, driver, order, alone, bank_words, driver_words, well_formed, header_of, read_header, HasForm}
 use Rattle.bundle_sections.specs.Verdict.{IsSection}
 use Rattle.bundle_sections.specs.Sections.{SaidSection, section_at, section_of, sections_before, sections_of}
 use Rattle.bundle_sections.proofs.Places.{section_none, section_header, sections-none, sections-more, sections_first}
 
-abbrev Forms : Result Said FormReason → Type 0
+abbrev Forms : Result Said Reason → Type 0
 Forms read = (said : Said) → read ≡ Ok said → HasForm said
 
-either : (test : Bool) (x y : Result Said FormReason) → Forms x → Forms y → Forms (cond test x y)
+either : (test : Bool) (x y : Result Said Reason) → Forms x → Forms y → Forms (cond test x y)
 either true x y one other = one
 either false x y one other = other
 
-refused : (reason : FormReason) → Forms (Err reason)
+refused : (reason : Reason) → Forms (Err reason)
 refused reason said h = absurd (cc)
 
-ok_of : (a b : Said) (read : Result Said FormReason) → read ≡ Ok a → read ≡ Ok b → a ≡ b
+ok_of : (a b : Said) (read : Result Said Reason) → read ≡ Ok a → read ≡ Ok b → a ≡ b
 ok_of a b read e f = cc
 
 formed : (said : Said) → HasForm said → Forms (Ok said)
@@ -33,31 +36,6 @@ formed said form other h = subst HasForm (ok_of said other (Ok said) refl h) for
 alone_forms : (said : Said) (more : List (List ℕ)) → HasForm said → Forms (well_formed (alone said more))
 alone_forms said [] form = formed said form
 alone_forms said (word ∷ more) form = refused _
-
-decimal_most : (most : ℕ) (word : List ℕ) (n : ℕ) → number_up_to most word ≡ Some n → n ≤ most
-unfolding number_up_to
-decimal_most most word n h = grind (arith, nat_tests)
-
-hexadecimal_most : (most : ℕ) (digits : List ℕ) (n : ℕ) → hexadecimal_up_to most digits ≡ Some n → n ≤ most
-unfolding hexadecimal_up_to
-hexadecimal_most most digits n h = grind (arith, nat_tests)
-
-written_most : (most : ℕ) (word : List ℕ) (n : ℕ) → written_up_to most word ≡ Some n → n ≤ most
-unfolding written_up_to
-written_most most word n h =
-    elim (behind_0x word) as (λ o. option_map_or (hexadecimal_up_to most) o (number_up_to most word) ≡ Some n → n ≤ most) [ None ↦ λ e. decimal_most most word n e | Some digits ↦ λ e. hexadecimal_most most digits n e ] h
-
--- a number within bounds
-pub number_bounds : (least most : ℕ) (word : List ℕ) (n : ℕ) → number_within least most word ≡ Some n → (least ≤ n) × (n ≤ most)
-unfolding number_within
-number_bounds least most word n h =
-    elim (written_up_to most word) as (λ o. written_up_to most word ≡ o → option_and_then (λ m. cond (nat_le least m) (Some m) None) o ≡ Some n → (least ≤ n) × (n ≤ most)) [
-      | None ↦ λ w e. absurd (cc)
-      | Some m ↦ λ w e. within m (written_most most word m w) e
-    ] refl h
-  where
-    within : (m : ℕ) → m ≤ most → cond (nat_le least m) (Some m) None ≡ Some n → (least ≤ n) × (n ≤ most)
-    within m high e = grind (arith, nat_tests)
 
 bank_forms : (more : List (List ℕ)) → Forms (well_formed (bank_words more))
 unfolding bank_words
@@ -97,23 +75,20 @@ unfolding read_header
 read_forms [] = refused _
 read_forms (first ∷ more) = header_forms first more
 
-form_of : (ls : List (List ℕ)) (k : ℕ) (read : Result Said FormReason) (s : SaidSection) → Forms read → section_of ls k read ≡ Some s → HasForm s.says
+form_of : (ls : List (List ℕ)) (k : ℕ) (read : Result Said Reason) (s : SaidSection) → Forms read → section_of ls k read ≡ Some s → HasForm s.says
 form_of ls k (Ok said) s forms h =
     let same : said ≡ s.says = cc in
     subst HasForm same (forms said refl)
 form_of ls k (Err reason) s forms h = absurd (cc)
 
-place_of : (ls : List (List ℕ)) (k : ℕ) (read : Result Said FormReason) (s : SaidSection) → section_of ls k read ≡ Some s → (s.place ≡ k) × (s.end ≡ header_from ls (k + 1))
+place_of : (ls : List (List ℕ)) (k : ℕ) (read : Result Said Reason) (s : SaidSection) → section_of ls k read ≡ Some s → (s.place ≡ k) × (s.end ≡ header_from ls (k + 1))
 place_of ls k (Ok said) s h = (cc, cc)
 place_of ls k (Err reason) s h = absurd (cc)
-
-none_some : {X : Type 0} (x : X) → None ≡ Some x → ⊥
-none_some x h = cc
 
 -- a section begins at a header
 pub header_of_section : (ls : List (List ℕ)) (k : ℕ) (s : SaidSection) → section_at ls k ≡ Some s → is_header (line_at ls k) ≡ true
 header_of_section ls k s h =
-    elim (cases_Bool (is_header (line_at ls k))) [ inl header ↦ header | inr none ↦ absurd (none_some s (sym (section_none ls k none) ∙ h)) ]
+    elim (cases_Bool (is_header (line_at ls k))) [ inl header ↦ header | inr none ↦ absurd (none-some s (sym (section_none ls k none) ∙ h)) ]
 
 -- it has the header's place, and ends at the next header
 pub bounds_of_section : (ls : List (List ℕ)) (k : ℕ) (s : SaidSection) → section_at ls k ≡ Some s → (s.place ≡ k) × (s.end ≡ header_from ls (k + 1))
@@ -125,10 +100,6 @@ section_formed ls k s h =
       begins = ap (section_at ls) (bounds_of_section ls k s h).0 ∙ h;
       form = form_of ls k _ s (read_forms (blank_words (line_at ls k))) (sym (section_header ls k (header_of_section ls k s h)) ∙ h);
     }
-
-all_more : (P : SaidSection → Type 0) (xs : List SaidSection) (s : SaidSection) → AllByRecursion P xs → P s → AllByRecursion P (xs ++ s ∷ [])
-all_more P [] s all here = (here, tt)
-all_more P (x ∷ xs) s all here = (all.0, all_more P xs s all.1 here)
 
 formed_behind : (ls : List (List ℕ)) (count : ℕ) → AllByRecursion (IsSection ls) (sections_before ls (count + 1))
 formed_behind ls zero = subst (AllByRecursion (IsSection ls)) (sym (sections_first ls)) tt

@@ -4,11 +4,13 @@ use Rattle.std.specs.List.{list_any, AllByRecursion}
 use Rattle.std.specs.Option.{option_map, option_and_then}
 use Rattle.std.proofs.lemmas.Bool.{cases_Bool}
 use Rattle.std.proofs.lemmas.Bool.Decides.{nat_tests}
+use Rattle.std.proofs.lemmas.Option.{none-some, same_Some}
+use Rattle.bundle_text.proofs.Found.{all_more}
 use Rattle.bundle_text.specs.Firsts.{KeepsBelow}
 use Rattle.bundle_text.specs.Lines.{line_at, is_header}
 use Rattle.bundle_text.specs.Words.{blank_words}
-use Rattle.bundle_sections.specs.declared.fault.FormReason.{FormReason}
-use Rattle.bundle_sections.specs.declared.fault.FormReason.TheVariants.{BadVersion, SectionOrder}
+use Rattle.bundle_text.specs.declared.reason.Reason.{Reason}
+use Rattle.bundle_text.specs.declared.reason.Reason.TheVariants.{BadVersion, SectionOrder}
 use Rattle.bundle_sections.specs.declared.section.BankSection.{BankSection}
 use Rattle.bundle_sections.specs.declared.section.ClockSection.{ClockSection}
 use Rattle.bundle_sections.specs.declared.section.ClockText.TheVariants.{Lines, DeviceTree}
@@ -33,10 +35,6 @@ or_left a b h = grind (arith, nat_tests)
 or_right : (a b : Bool) → a || b ≡ false → b ≡ false
 or_right a b h = grind (arith, nat_tests)
 
-all_more : (P : SaidSection → Type 0) (xs : List SaidSection) (s : SaidSection) → AllByRecursion P xs → P s → AllByRecursion P (xs ++ s ∷ [])
-all_more P [] s all here = (here, tt)
-all_more P (x ∷ xs) s all here = (all.0, all_more P xs s all.1 here)
-
 ordered_more : (xs : List SaidSection) (s : SaidSection) → Ordered xs → list_any (cannot_follow s.says) (map (λ x. x.says) xs) ≡ false → Ordered (xs ++ s ∷ [])
 ordered_more [] s all none = (tt, tt)
 ordered_more (x ∷ xs) s all none =
@@ -45,28 +43,22 @@ ordered_more (x ∷ xs) s all none =
 order_kept : (before : List Said) (said : Said) → order_fault before said ≡ None → list_any (cannot_follow said) before ≡ false
 unfolding order_fault
 order_kept before said h =
-    elim (list_any (cannot_follow said) before) as (λ b. (o : Option FormReason) → cond b (Some SectionOrder) o ≡ None → b ≡ false) [ true ↦ λ o e. absurd (cc) | false ↦ λ o e. refl ] _ h
+    elim (list_any (cannot_follow said) before) as (λ b. (o : Option Reason) → cond b (Some SectionOrder) o ≡ None → b ≡ false) [ true ↦ λ o e. absurd (cc) | false ↦ λ o e. refl ] _ h
 
 -- a header without a fault may follow the earlier ones
-read_follows : (ls : List (List ℕ)) (k : ℕ) (before : List SaidSection) (read : Result Said FormReason) (s : SaidSection)
+read_follows : (ls : List (List ℕ)) (k : ℕ) (before : List SaidSection) (read : Result Said Reason) (s : SaidSection)
     → section_of ls k read ≡ Some s → header_fault before read ≡ None → list_any (cannot_follow s.says) (map (λ x. x.says) before) ≡ false
 read_follows ls k before (Ok said) s e fine =
     let same : said ≡ s.says = cc in
     subst (λ h. list_any (cannot_follow h) (map (λ x. x.says) before) ≡ false) same (order_kept _ said fine)
 read_follows ls k before (Err reason) s e fine = absurd (cc)
 
-some_of : {X : Type 0} (a b : X) → Some a ≡ Some b → a ≡ b
-some_of a b h = cc
-
-none_some : {X : Type 0} (x : X) → None ≡ Some x → ⊥
-none_some x h = cc
-
 section_follows : (ls : List (List ℕ)) (k : ℕ) (s : SaidSection) → 0 < k → section_at ls k ≡ Some s → fault_at ls k ≡ None → list_any (cannot_follow s.says) (map (λ x. x.says) (sections_before ls k)) ≡ false
 section_follows ls k s low some fine =
     elim (cases_Bool (is_header (line_at ls k))) [
       | inl header ↦
           read_follows ls k (sections_before ls k) (read_header (blank_words (line_at ls k))) s (sym (section_header ls k header) ∙ some) (sym (fault_header ls k low header) ∙ fine)
-      | inr none ↦ absurd (none_some s (sym (section_none ls k none) ∙ some))
+      | inr none ↦ absurd (none-some s (sym (section_none ls k none) ∙ some))
     ]
 
 -- the sections before a place, where no line has a fault
@@ -146,8 +138,8 @@ parts_back parts =
     ≡ Some (record parts { clocks = record { text = t; place = parts.clocks.place; end = parts.clocks.end } })) [ Lines ↦ refl | DeviceTree ↦ refl ]
 
 clock_found : (place end : ℕ) (said : Said) (c : ClockSection) → clock_part place end said ≡ Some c → (record { says = said; place = place; end = end }) ≡ clock_section c
-clock_found place end device_tree c h = ap clock_section (some_of _ c h)
-clock_found place end clocks c h = ap clock_section (some_of _ c h)
+clock_found place end device_tree c h = ap clock_section (same_Some _ c h)
+clock_found place end clocks c h = ap clock_section (same_Some _ c h)
 clock_found place end (bank words) c h = absurd (cc)
 clock_found place end lock c h = absurd (cc)
 clock_found place end late c h = absurd (cc)
@@ -155,7 +147,7 @@ clock_found place end (driver name path) c h = absurd (cc)
 clock_found place end order c h = absurd (cc)
 
 bank_found : (place end : ℕ) (said : Said) (b : BankSection) → bank_part place end said ≡ Some b → (record { says = said; place = place; end = end }) ≡ bank_section b
-bank_found place end (bank words) b h = ap bank_section (some_of _ b h)
+bank_found place end (bank words) b h = ap bank_section (same_Some _ b h)
 bank_found place end device_tree b h = absurd (cc)
 bank_found place end clocks b h = absurd (cc)
 bank_found place end lock b h = absurd (cc)
@@ -172,7 +164,7 @@ two_found a b rest (Some c) None parts e f h = absurd (cc)
 two_found a b rest (Some c) (Some d) parts e f h =
     let one : a ≡ clock_section c = clock_found a.place a.end a.says c e in
     let two : b ≡ bank_section d = bank_found b.place b.end b.says d f in
-    ap (λ x. x ∷ (b ∷ rest)) one ∙ (ap (λ x. clock_section c ∷ (x ∷ rest)) two ∙ ap in_order (some_of _ parts h))
+    ap (λ x. x ∷ (b ∷ rest)) one ∙ (ap (λ x. clock_section c ∷ (x ∷ rest)) two ∙ ap in_order (same_Some _ parts h))
 
 -- sections that begin with parts are these
 pub parts_found : (xs : List SaidSection) (parts : Parts) → parts_of xs ≡ Some parts → xs ≡ in_order parts
@@ -219,7 +211,7 @@ first_two : (a b : SaidSection) (rest : List SaidSection) → is_clocks a.says �
 first_two a b rest one two none =
     let c = clock_part-some a.place a.end a.says one in
     let d = bank_part-some b.place b.end b.says two in
-    none_some (c.0, d.0) (rw (c.1, d.1) at (sym none))
+    none-some (c.0, d.0) (rw (c.1, d.1) at (sym none))
 
 -- where the first two sections aren't those that must be there, one of these is missing
 pub parts_missing : (xs : List SaidSection) → Ordered xs → first_parts xs ≡ None → has_needed xs ≡ false
@@ -237,7 +229,7 @@ parts_missing (a ∷ (b ∷ rest)) all none =
 
 -- lines without a fault are some
 some_lines : (ls : List (List ℕ)) → KeepsBelow (fault_at ls) (length ls + 1) → 0 < length ls
-some_lines [] kept = absurd (none_some BadVersion (sym (kept 0 (omega arith)) ∙ version_broken [] (no_version)))
+some_lines [] kept = absurd (none-some BadVersion (sym (kept 0 (omega arith)) ∙ version_broken [] (no_version)))
 some_lines (x ∷ xs) kept = omega arith
 
 -- lines without a fault whose first two sections aren't those that must be there lack one of these

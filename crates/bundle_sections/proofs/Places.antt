@@ -12,12 +12,13 @@ use Rattle.bundle_text.specs.Lines.{line_at, is_header, header_from}
 use Rattle.bundle_text.specs.Words.{blank_words}
 use Rattle.bundle_text.proofs.Headers.{header_from-ge}
 use Rattle.bundle_text.proofs.Rows.{KeepsBelow-more, said_from-more}
-use Rattle.bundle_sections.specs.declared.fault.FormReason.{FormReason}
-use Rattle.bundle_sections.specs.declared.fault.FormFault.{FormFault}
-use Rattle.bundle_sections.specs.declared.fault.FormFault.TheVariants.{Refused}
-use Rattle.bundle_sections.specs.declared.fault.FormReason.TheVariants.{NotUtf8, BadVersion, StrayLine}
+use Rattle.bundle_text.specs.declared.reason.Reason.{Reason}
+use Rattle.bundle_text.specs.declared.fault.BundleFault.{BundleFault}
+use Rattle.bundle_text.specs.declared.fault.BundleFault.TheVariants.{Refused}
+use Rattle.bundle_text.specs.declared.reason.Reason.TheVariants.{NotUtf8, BadVersion, StrayLine}
 use Rattle.bundle_sections.specs.Headers.{Said, read_header}
-use Rattle.bundle_sections.specs.Sections.{SaidSection, section_at, section_of, sections_before, sections_of, unless, text_fault, header_fault, is_passed_over, has_version, fault_at}
+use Rattle.bundle_text.specs.Faults.{unless}
+use Rattle.bundle_sections.specs.Sections.{SaidSection, section_at, section_of, sections_before, sections_of, text_fault, header_fault, is_passed_over, has_version, fault_at}
 use Rattle.bundle_sections.specs.Reads.{Stops, AtHeader, IsNext}
 use Rattle.bundle_sections.specs.Said.{said_header, said_section}
 use Rattle.bundle_sections.specs.Verdict.{Tiles}
@@ -54,7 +55,7 @@ pub is_utf8-other : (bytes : List ℕ) → ¬ (IsUtf8 bytes) → is_utf8 bytes �
 is_utf8-other bytes h = elim (cases_Bool (is_utf8 bytes)) [ inl e ↦ absurd (h (IsUtf8-from_is_utf8 bytes e)) | inr e ↦ e ]
 
 -- the first fault of a test stops the reading
-pub stopped : (test : ℕ → Option FormReason) (n place : ℕ) (reason : FormReason) (fault : FormFault) → fault ≡ Refused (place + 1) reason → place < n → KeepsBelow test place → test place ≡ Some reason → Stops test n fault
+pub stopped : (test : ℕ → Option Reason) (n place : ℕ) (reason : Reason) (fault : BundleFault) → fault ≡ Refused (place + 1) reason → place < n → KeepsBelow test place → test place ≡ Some reason → Stops test n fault
 stopped test n place reason fault e within before found =
     rw e (record { place = place; first = record { within = within; before = before; found = found }; line_is = refl })
 
@@ -150,11 +151,11 @@ sections-until ls from to low order none =
     sym (ap (sections_before ls) there) ∙ sections-still ls from (to - from) low (λ k least most. none k least (omega arith))
 
 -- no line has a fault between, so none below the later place
-pub kept_until : (test : ℕ → Option FormReason) (from to : ℕ) → KeepsBelow test from → ((k : ℕ) → from ≤ k → k < to → test k ≡ None) → KeepsBelow test to
+pub kept_until : (test : ℕ → Option Reason) (from to : ℕ) → KeepsBelow test from → ((k : ℕ) → from ≤ k → k < to → test k ≡ None) → KeepsBelow test to
 kept_until test from to below between k lt = elim (cases_lt k from) [ inl before ↦ below k before | inr behind ↦ between k behind lt ]
 
 -- a header that can't be read, or not here
-pub header_broken : (ls : List (List ℕ)) (at : ℕ) (found : List SaidSection) (reason : FormReason) → AtHeader ls at found → at < length ls
+pub header_broken : (ls : List (List ℕ)) (at : ℕ) (found : List SaidSection) (reason : Reason) → AtHeader ls at found → at < length ls
     → header_fault found (read_header (blank_words (line_at ls at))) ≡ Some reason → fault_at ls at ≡ Some reason
 header_broken ls at found reason here within e =
     fault_header ls at here.low (here.header within) ∙ (ap (λ before. header_fault before (read_header (blank_words (line_at ls at)))) (sym here.read) ∙ e)

@@ -3,8 +3,8 @@ use Rattle.std.specs.Prelude.{◌≡◌, ℕ, ◌<◌, ◌≤◌, ◌==◌, ◌&
 use Rattle.std.specs.List.{list_any}
 use Rattle.std.specs.Option.{option_map}
 use Rattle.std.specs.Str.{bytes_eq}
-use Rattle.bundle_sections.specs.declared.fault.FormReason.{FormReason}
-use Rattle.bundle_sections.specs.declared.fault.FormReason.TheVariants.{UnknownSection, BadHeader, SectionOrder, TwiceDefined, TooManyDrivers}
+use Rattle.bundle_text.specs.declared.reason.Reason.{Reason}
+use Rattle.bundle_text.specs.declared.reason.Reason.TheVariants.{UnknownSection, BadHeader, SectionOrder, TwiceDefined, TooManyDrivers}
 use Rattle.bundle_text.specs.Names.{is_driver_name}
 use Rattle.bundle_text.specs.Numbers.{number_within}
 
@@ -35,12 +35,12 @@ driver_words (name ∷ path ∷ []) = if is_driver_name name then Some (driver n
 driver_words _ = None
 
 -- a section's header, where the words behind its first have their form
-abbrev pub well_formed : Option Said → Result Said FormReason
+abbrev pub well_formed : Option Said → Result Said Reason
 well_formed (Some said) = Ok said
 well_formed None = Err BadHeader
 
 -- what a header says with this first word and these behind it, or what is wrong with it
-unfoldable pub header_of : List ℕ → List (List ℕ) → Result Said FormReason
+unfoldable pub header_of : List ℕ → List (List ℕ) → Result Said Reason
 header_of first more =
     if bytes_eq first (codes "%dts") then well_formed (alone device_tree more)
     else if bytes_eq first (codes "%clocks") then well_formed (alone clocks more)
@@ -52,7 +52,7 @@ header_of first more =
     else Err UnknownSection
 
 -- what the words of a header say, or what is wrong with them
-unfoldable pub read_header : List (List ℕ) → Result Said FormReason
+unfoldable pub read_header : List (List ℕ) → Result Said Reason
 read_header [] = Err UnknownSection
 read_header (first ∷ more) = header_of first more
 
@@ -98,7 +98,7 @@ unfoldable pub cannot_follow : Said → Said → Bool
 cannot_follow said earlier = nat_lt (rank said) (rank earlier) || ((rank said == rank earlier) && not (is_driver said))
 
 -- what is wrong with a header behind earlier ones: its place, its driver's name, or one driver more than 64
-unfoldable pub order_fault : List Said → Said → Option FormReason
+unfoldable pub order_fault : List Said → Said → Option Reason
 order_fault before said =
     if list_any (cannot_follow said) before then Some SectionOrder
     else if list_any (same_driver said) before then Some TwiceDefined

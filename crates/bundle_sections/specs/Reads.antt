@@ -2,11 +2,11 @@
 -- read; want of memory says nothing of them.
 use Rattle.std.specs.Prelude.{◌≡◌, ℕ, ◌<◌, ◌≤◌, true, List, [], ◌∷◌, ◌++◌, length, drop, Option, Some, None, Result, MatchResult}
 use Rattle.std.specs.Option.{option_map, option_and_then}
+use Rattle.bundle_text.specs.Faults.{Tells}
 use Rattle.bundle_text.specs.Firsts.{KeepsBelow}
 use Rattle.bundle_text.specs.Lines.{line_at, is_header, header_from}
-use Rattle.bundle_sections.specs.declared.fault.FormFault.{FormFault}
-use Rattle.bundle_sections.specs.declared.fault.FormFault.TheVariants.{Refused, NoMemory}
-use Rattle.bundle_sections.specs.declared.fault.FormReason.{FormReason}
+use Rattle.bundle_text.specs.declared.fault.BundleFault.{BundleFault}
+use Rattle.bundle_text.specs.declared.reason.Reason.{Reason}
 use Rattle.bundle_sections.specs.declared.section.BankSection.{BankSection}
 use Rattle.bundle_sections.specs.declared.section.ClockSection.{ClockSection}
 use Rattle.bundle_sections.specs.declared.section.ClockText.TheVariants.{Lines, DeviceTree}
@@ -15,13 +15,12 @@ use Rattle.bundle_sections.specs.Said.{Parts}
 use Rattle.bundle_sections.specs.Sections.{SaidSection, fault_at, sections_before}
 use Rattle.bundle_sections.specs.Verdict.{Faults}
 
--- why lines were not read, by a test of each line
-abbrev pub Stops : (ℕ → Option FormReason) → ℕ → FormFault → Type 0
-Stops test n (Refused line reason) = Faults test n line reason
-Stops test n NoMemory = Unit {0}
+-- the fault tells the first line at which a test finds one
+abbrev pub Stops : (ℕ → Option Reason) → ℕ → BundleFault → Type 0
+Stops test n = Tells (Faults test n)
 
 -- the test finds no fault before a place, and what was read is right; or why not
-abbrev pub Reads : {X : Type 0} → (ℕ → Option FormReason) → ℕ → ℕ → (X → Type 0) → Result X FormFault → Type 0
+abbrev pub Reads : {X : Type 0} → (ℕ → Option Reason) → ℕ → ℕ → (X → Type 0) → Result X BundleFault → Type 0
 Reads test n to P r = MatchResult r (λ x. KeepsBelow test to × P x) (Stops test n)
 
 -- the next header stands here, or the end; the lines before have no fault, and these are their sections

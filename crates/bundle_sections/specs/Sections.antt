@@ -3,11 +3,12 @@
 use Rattle.std.specs.Prelude.{ℕ, ◌+◌, ◌-◌, ◌==◌, ◌&&◌, nat_lt, Bool, true, false, List, Option, Some, None, Result, Ok, Err, codes, if◌then◌else◌, length, map}
 use Rattle.std.specs.List.{list_any}
 use Rattle.std.specs.Str.{bytes_eq, is_utf8}
+use Rattle.bundle_text.specs.Faults.{unless}
 use Rattle.bundle_text.specs.Firsts.{said_from}
 use Rattle.bundle_text.specs.Lines.{line_at, is_header, header_from}
 use Rattle.bundle_text.specs.Words.{blank_words, said_words}
-use Rattle.bundle_sections.specs.declared.fault.FormReason.{FormReason}
-use Rattle.bundle_sections.specs.declared.fault.FormReason.TheVariants.{NotUtf8, BadVersion, StrayLine}
+use Rattle.bundle_text.specs.declared.reason.Reason.{Reason}
+use Rattle.bundle_text.specs.declared.reason.Reason.TheVariants.{NotUtf8, BadVersion, StrayLine}
 use Rattle.bundle_sections.specs.Headers.{Said, is_clocks, is_bank, read_header, order_fault}
 
 -- a section: what its header says, the header's place, and the place of the next header or the number of lines
@@ -17,7 +18,7 @@ pub record SaidSection : Type 0 where
   pub end : ℕ
 
 -- the section that begins with what a header at a place says, if it says something
-abbrev pub section_of : List (List ℕ) → ℕ → Result Said FormReason → Option SaidSection
+abbrev pub section_of : List (List ℕ) → ℕ → Result Said Reason → Option SaidSection
 section_of ls k (Ok said) = Some (record { says = said; place = k; end = header_from ls (k + 1) })
 section_of ls k (Err reason) = None
 
@@ -33,17 +34,12 @@ sections_before ls k = said_from (section_at ls) 1 (k - 1)
 abbrev pub sections_of : List (List ℕ) → List SaidSection
 sections_of ls = sections_before ls (length ls)
 
--- a fault unless the test holds
-abbrev pub unless : Bool → FormReason → Option FormReason
-unless true reason = None
-unless false reason = Some reason
-
 -- what is wrong with a line as text
-unfoldable pub text_fault : List (List ℕ) → ℕ → Option FormReason
+unfoldable pub text_fault : List (List ℕ) → ℕ → Option Reason
 text_fault ls k = unless (is_utf8 (line_at ls k)) NotUtf8
 
 -- what is wrong with a header behind the earlier ones
-abbrev pub header_fault : List SaidSection → Result Said FormReason → Option FormReason
+abbrev pub header_fault : List SaidSection → Result Said Reason → Option Reason
 header_fault before (Err reason) = Some reason
 header_fault before (Ok said) = order_fault (map (λ s. s.says) before) said
 
@@ -57,7 +53,7 @@ is_passed_over line = length (said_words line) == 0
 
 -- what is wrong with the place of a line: the first line states the version, a header follows
 -- earlier ones, and before the first header no line says anything
-unfoldable pub fault_at : List (List ℕ) → ℕ → Option FormReason
+unfoldable pub fault_at : List (List ℕ) → ℕ → Option Reason
 fault_at ls k =
     if k == 0 then unless (has_version ls) BadVersion
     else if is_header (line_at ls k) then header_fault (sections_before ls k) (read_header (blank_words (line_at ls k)))

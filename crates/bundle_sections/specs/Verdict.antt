@@ -1,10 +1,8 @@
 -- Which lines stand in which sections, and why others stand in none.
 use Rattle.std.specs.Prelude.{◌≡◌, ℕ, ◌+◌, ◌<◌, ◌⊎◌, false, List, [], ◌∷◌, length, Option, Some}
 use Rattle.bundle_text.specs.Firsts.{First, KeepsBelow}
-use Rattle.bundle_sections.specs.declared.fault.FormFault.{FormFault}
-use Rattle.bundle_sections.specs.declared.fault.FormFault.TheVariants.{Refused, NoMemory}
-use Rattle.bundle_sections.specs.declared.fault.FormReason.{FormReason}
-use Rattle.bundle_sections.specs.declared.fault.FormReason.TheVariants.{MissingSection}
+use Rattle.bundle_text.specs.declared.reason.Reason.{Reason}
+use Rattle.bundle_text.specs.declared.reason.Reason.TheVariants.{MissingSection}
 use Rattle.bundle_sections.specs.Headers.{HasForm}
 use Rattle.bundle_sections.specs.Said.{Parts, in_order}
 use Rattle.bundle_sections.specs.Sections.{SaidSection, section_at, text_fault, fault_at, sections_of, has_needed}
@@ -24,18 +22,18 @@ pub record Accepts (ls : List (List ℕ)) (parts : Parts) : Type 0 where
   pub sections : sections_of ls ≡ in_order parts
 
 -- this line is the first with a fault, and this is the fault; lines count from 1
-pub record Faults (test : ℕ → Option FormReason) (n line : ℕ) (reason : FormReason) : Type 0 where
+pub record Faults (test : ℕ → Option Reason) (n line : ℕ) (reason : Reason) : Type 0 where
   pub place : ℕ
   pub first : First test n place reason
   pub line_is : line ≡ place + 1
 
 -- all lines are UTF-8, and one is out of place
-pub record IsMisplaced (ls : List (List ℕ)) (line : ℕ) (reason : FormReason) : Type 0 where
+pub record IsMisplaced (ls : List (List ℕ)) (line : ℕ) (reason : Reason) : Type 0 where
   pub text : IsText ls
   pub fault : Faults (fault_at ls) (length ls + 1) line reason
 
 -- no line has a fault, and a section that must be there isn't; this is told of the end
-pub record IsUnfinished (ls : List (List ℕ)) (end line : ℕ) (reason : FormReason) : Type 0 where
+pub record IsUnfinished (ls : List (List ℕ)) (end line : ℕ) (reason : Reason) : Type 0 where
   pub text : IsText ls
   pub placed : IsPlaced ls
   pub missing : has_needed (sections_of ls) ≡ false
@@ -43,13 +41,8 @@ pub record IsUnfinished (ls : List (List ℕ)) (end line : ℕ) (reason : FormRe
   pub reason_is : reason ≡ MissingSection
 
 -- lines are refused at this line for this reason: first as text, then by their places, then for a missing section
-abbrev pub Refuses : List (List ℕ) → ℕ → ℕ → FormReason → Type 0
+abbrev pub Refuses : List (List ℕ) → ℕ → ℕ → Reason → Type 0
 Refuses ls end line reason = Faults (text_fault ls) (length ls) line reason ⊎ (IsMisplaced ls line reason ⊎ IsUnfinished ls end line reason)
-
--- the fault says why the lines are refused; want of memory says nothing of them
-abbrev pub IsFaultOf : List (List ℕ) → ℕ → FormFault → Type 0
-IsFaultOf ls end (Refused line reason) = Refuses ls end line reason
-IsFaultOf ls end NoMemory = Unit {0}
 
 -- each section begins where the one before it ends, from one place to another
 abbrev pub Tiles : ℕ → List SaidSection → ℕ → Type 0

@@ -6,8 +6,7 @@ ghost use Rattle.bundle_text.specs.Words.{texts};
 ghost use Rattle.bundle_sections.specs.Headers.{alone, bank_words, driver_words, well_formed, header_of, read_header};
 ghost use Rattle.bundle_sections.specs.Said.{said_header};
 
-use crate::fault::FormReason;
-use bundle_text::{is_driver_name, small_number_within};
+use bundle_text::{Reason, is_driver_name, small_number_within};
 
 /// The most words of a register bank.
 const MOST_WORDS: u32 = 65_536;
@@ -136,19 +135,19 @@ fn driver_words<'a>(more: &[&'a str]) -> Option<Header<'a>>
 }
 
 // The header, where the words behind its first have their form.
-fn well_formed<'a>(header: Option<Header<'a>>) -> Result<Header<'a>, FormReason>
+fn well_formed<'a>(header: Option<Header<'a>>) -> Result<Header<'a>, Reason>
     ensures { MatchResult result (λ h. well_formed (option_map said_header header.entry) ≡ Ok (said_header h))
         (λ reason. well_formed (option_map said_header header.entry) ≡ Err reason) }
 {
     match header {
         Some(header) => Ok(header),
-        None => Err(FormReason::BadHeader),
+        None => Err(Reason::BadHeader),
     }
 }
 
 // What a header says with this first word and these behind it.
 #[tactic(auto, unfolding(crate::specs::Headers::header_of))]
-fn header_of<'a>(first: &str, more: &[&'a str]) -> Result<Header<'a>, FormReason>
+fn header_of<'a>(first: &str, more: &[&'a str]) -> Result<Header<'a>, Reason>
     ensures { MatchResult result (λ h. header_of first.now (texts more.now) ≡ Ok (said_header h))
         (λ reason. header_of first.now (texts more.now) ≡ Err reason) }
 {
@@ -160,18 +159,18 @@ fn header_of<'a>(first: &str, more: &[&'a str]) -> Result<Header<'a>, FormReason
         "%late" => well_formed(alone(Header::Late, more)),
         "%driver" => well_formed(driver_words(more)),
         "%order" => well_formed(alone(Header::Order, more)),
-        _ => Err(FormReason::UnknownSection),
+        _ => Err(Reason::UnknownSection),
     }
 }
 
 /// What the words of a header say.
 #[tactic(auto, unfolding(crate::specs::Headers::read_header))]
-pub(crate) fn read_header<'a>(words: &[&'a str]) -> Result<Header<'a>, FormReason>
+pub(crate) fn read_header<'a>(words: &[&'a str]) -> Result<Header<'a>, Reason>
     ensures { MatchResult result (λ h. read_header (texts words.now) ≡ Ok (said_header h))
         (λ reason. read_header (texts words.now) ≡ Err reason) }
 {
     match words {
         [first, more @ ..] => header_of(first, more),
-        [] => Err(FormReason::UnknownSection),
+        [] => Err(Reason::UnknownSection),
     }
 }

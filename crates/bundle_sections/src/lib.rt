@@ -6,18 +6,13 @@
 //! places in the whole text; `one_verdict` is the law that lines have one verdict.
 #![tactic(auto)]
 
-mod fault;
 mod header;
 mod order;
 mod reading;
 mod section;
 mod verdict;
 
-pub use fault::{FormFault, FormReason};
 pub use header::Header;
 pub use reading::read_sections;
 pub use section::{BankSection, ClockSection, ClockText, Section, Sections};
 pub use verdict::one_verdict;
-
-#[cfg(test)]
-mod tests;

@@ -5,9 +5,9 @@ ghost use Rattle.std.specs.List.{list_any};
 ghost use Rattle.bundle_sections.specs.Headers.{is_driver, same_driver, cannot_follow, order_fault};
 ghost use Rattle.bundle_sections.specs.Said.{said_header, said_section};
 
-use crate::fault::FormReason;
 use crate::header::Header;
 use crate::section::Section;
+use bundle_text::Reason;
 
 /// The most drivers of a bundle.
 const MOST_DRIVERS: usize = 64;
@@ -42,17 +42,17 @@ fn drivers(before: &[Section]) -> usize
 
 /// What is wrong with a header behind the earlier sections.
 #[tactic(auto, unfolding(crate::specs::Headers::order_fault))]
-pub(crate) fn order_fault(before: &[Section], header: &Header) -> Option<FormReason>
+pub(crate) fn order_fault(before: &[Section], header: &Header) -> Option<Reason>
     ensures { result ≡ order_fault (map (λ s. s.says) (map said_section before.now)) (said_header header.now) }
 {
     if stands_late(before, header) {
-        return Some(FormReason::SectionOrder);
+        return Some(Reason::SectionOrder);
     }
     if names_again(before, header) {
-        return Some(FormReason::TwiceDefined);
+        return Some(Reason::TwiceDefined);
     }
     if header.is_driver() && drivers(before) >= MOST_DRIVERS {
-        return Some(FormReason::TooManyDrivers);
+        return Some(Reason::TooManyDrivers);
     }
     None
 }

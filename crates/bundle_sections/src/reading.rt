@@ -3,19 +3,19 @@
 ghost use Rattle.std.specs.Prelude.{◌≡◌, ◌+◌, ◌<◌, ◌≤◌, ◌^◌, ◌==◌, true, false, length, map, Some, Ok, IfOk, IfErr, MatchResult};
 ghost use Rattle.std.specs.List.{AllByRecursion};
 ghost use Rattle.std.specs.Str.{is_utf8};
+ghost use Rattle.bundle_text.specs.Faults.{Tells};
 ghost use Rattle.bundle_text.specs.Firsts.{KeepsBelow};
 ghost use Rattle.bundle_text.specs.Lines.{line_at, header_from};
 ghost use Rattle.bundle_text.specs.Words.{said_words};
 ghost use Rattle.bundle_sections.specs.Said.{said_section, in_order};
 ghost use Rattle.bundle_sections.specs.Sections.{text_fault, fault_at, has_version, sections_of, is_passed_over};
-ghost use Rattle.bundle_sections.specs.Verdict.{Accepts, IsFaultOf, Tiles, IsText, IsSection};
+ghost use Rattle.bundle_sections.specs.Verdict.{Accepts, Refuses, Tiles, IsText, IsSection};
 ghost use Rattle.bundle_sections.specs.Reads.{Stops, Reads, AtHeader, IsNext, clock_part, bank_part, first_parts, parts_of};
 
-use crate::fault::{FormFault, FormReason, refused};
 use crate::header::{Header, read_header};
 use crate::order::order_fault;
 use crate::section::{BankSection, ClockSection, ClockText, Section, Sections};
-use bundle_text::TextLines;
+use bundle_text::{BundleFault, Reason, TextLines};
 use clk_io::NoMemory;
 use std::alloc::Global;
 
@@ -30,13 +30,13 @@ fn is_text(line: &[u8]) -> bool
 }
 
 // Checks that each line is UTF-8.
-fn check_text(lines: &TextLines) -> Result<(), FormFault>
+fn check_text(lines: &TextLines) -> Result<(), BundleFault>
     requires few { length lines.now + 1 < 2 ^ 32 }
     ensures { Reads (text_fault lines.now) (length lines.now) (length lines.now) (λ _. IsText lines.now) result }
 {
     for at in 0..lines.len() {
         if !is_text(lines.line(at)) {
-            return Err(refused(at, FormReason::NotUtf8));
+            return Err(BundleFault::at_place(at, Reason::NotUtf8));
         }
     }
     Ok(())
@@ -60,18 +60,18 @@ fn is_passed_over(alloc: Global, lines: &TextLines, at: usize) -> Result<bool, N
 
 // Checks that the first line states the version, and that the lines behind it and before the first
 // header say nothing.
-fn check_front(alloc: Global, lines: &TextLines) -> Result<usize, FormFault>
+fn check_front(alloc: Global, lines: &TextLines) -> Result<usize, BundleFault>
     requires few { length lines.now + 1 < 2 ^ 32 }
     ensures { Reads (fault_at lines.now) (length lines.now + 1) (header_from lines.now 1)
         (λ first. (first ≡ header_from lines.now 1) × (0 < length lines.now) × (first ≤ length lines.now)) result }
 {
     if !has_version(lines) {
-        return Err(refused(0, FormReason::BadVersion));
+        return Err(BundleFault::at_place(0, Reason::BadVersion));
     }
     let first = lines.next_header(1);
     for at in 1..first {
         if !is_passed_over(alloc, lines, at)? {
-            return Err(refused(at, FormReason::StrayLine));
+            return Err(BundleFault::at_place(at, Reason::StrayLine));
         }
     }
     Ok(first)
@@ -83,7 +83,7 @@ fn read_section<'a>(
     lines: &TextLines<'a>,
     found: &[Section],
     at: usize,
-) -> Result<Section<'a>, FormFault>
+) -> Result<Section<'a>, BundleFault>
     requires few { length lines.now + 1 < 2 ^ 32 }
     requires at { AtHeader lines.now at (map said_section found.now) }
     requires within { at < length lines.now }
@@ -92,10 +92,10 @@ fn read_section<'a>(
     let words = lines.blank_words(alloc, at)?;
     let header = match read_header(&words) {
         Ok(header) => header,
-        Err(reason) => return Err(refused(at, reason)),
+        Err(reason) => return Err(BundleFault::at_place(at, reason)),
     };
     if let Some(reason) = order_fault(found, &header) {
-        return Err(refused(at, reason));
+        return Err(BundleFault::at_place(at, reason));
     }
     let end = lines.next_header(at + 1);
     Ok(Section {
@@ -110,7 +110,7 @@ fn read_headers<'a>(
     alloc: Global,
     lines: &TextLines<'a>,
     first: usize,
-) -> Result<Vec<Section<'a>>, FormFault>
+) -> Result<Vec<Section<'a>>, BundleFault>
     requires few { length lines.now + 1 < 2 ^ 32 }
     requires first { first ≡ header_from lines.now 1 }
     requires some { 0 < length lines.now }
@@ -189,20 +189,20 @@ pub fn read_sections<'a>(
     alloc: Global,
     lines: &TextLines<'a>,
     end: u32,
-) -> Result<Sections<'a>, FormFault>
+) -> Result<Sections<'a>, BundleFault>
     requires few { length lines.now + 1 < 2 ^ 32 }
     ensures accepted { IfOk result (Accepts lines.now) }
     ensures tiled { IfOk result (λ s. Tiles (header_from lines.now 1) (in_order s) (length lines.now)) }
     ensures each { IfOk result (λ s. AllByRecursion (IsSection lines.now) (in_order s)) }
-    ensures refused { IfErr result (IsFaultOf lines.now end) }
+    ensures refused { IfErr result (Tells (Refuses lines.now end)) }
 {
     check_text(lines)?;
     let first = check_front(alloc, lines)?;
     let found = read_headers(alloc, lines, first)?;
     let Some(sections) = divided(found) else {
-        return Err(FormFault::Refused {
+        return Err(BundleFault::Refused {
             line: end,
-            reason: FormReason::MissingSection,
+            reason: Reason::MissingSection,
         });
     };
     Ok(sections)

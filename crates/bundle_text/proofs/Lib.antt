@@ -1,6 +1,10 @@
 pub mod BlankWords
 pub mod Cuts
 pub mod Decimals
-pub mod Hexadecimals
+pub mod Found
 pub mod Headers
+pub mod Hexadecimals
+pub mod Mapped
+pub mod NumberBounds
 pub mod Rows
+pub mod Unless

@@ -1,45 +1,58 @@
 -- What is said at places in a row, and tests over them.
-use Rattle.std.proofs.Common.{◌≡◌, ◌⊎◌, ℕ, zero, suc, ◌+◌, List, [], ◌∷◌, ◌++◌, Option, Some, None, refl, ap, sym, ◌∙◌, inl, inr, arith, below_more}
+use Rattle.std.proofs.Common.{◌≡◌, ◌⊎◌, ℕ, zero, suc, ◌+◌, ◌≤◌, List, [], length, ◌∷◌, ◌++◌, Option, Some, None, refl, ap, sym, ◌∙◌, inl, inr, arith, below_more}
+use Rattle.std.specs.Option.{option_to_list}
 use Rattle.std.proofs.lemmas.Bool.{cases_lt}
+use Rattle.std.proofs.lemmas.Option.{none-some, same_Some}
 use Rattle.bundle_text.specs.Firsts.{First, KeepsBelow, onto, said_from}
 
 onto-append : {X : Type 0} (o : Option X) (xs ys : List X) → onto o (xs ++ ys) ≡ onto o xs ++ ys
 onto-append None xs ys = refl
 onto-append (Some x) xs ys = refl
 
--- one place more, at which something is said
-pub said_from-more : {X : Type 0} (said : ℕ → Option X) (from count : ℕ) (x : X) → said (from + count) ≡ Some x → said_from said from (count + 1) ≡ said_from said from count ++ x ∷ []
-said_from-more said from zero x e =
-    let same : from ≡ from + 0 = omega arith in
-    ap (λ o. onto o []) (ap said same ∙ e)
-said_from-more said from (suc count) x e =
-    let same : from + 1 + count ≡ from + suc count = omega arith in
+onto-nil : {X : Type 0} (o : Option X) → onto o [] ≡ option_to_list o
+onto-nil None = refl
+onto-nil (Some x) = refl
+
+length-onto : {X : Type 0} (o : Option X) (xs : List X) → length (onto o xs) ≤ length xs + 1
+length-onto None xs = omega arith
+length-onto (Some x) xs = omega arith
+
+-- no more is said than there are places
+pub length-said_from : {X : Type 0} (said : ℕ → Option X) (from count : ℕ) → length (said_from said from count) ≤ count
+length-said_from said from zero = omega arith
+length-said_from said from (suc count) = omega (arith, length-onto (said from) (said_from said (from + 1) count), length-said_from said (from + 1) count)
+
+-- what is said at one place more
+pub said_from-next : {X : Type 0} (said : ℕ → Option X) (from count place : ℕ) → from + count ≡ place → said_from said from (count + 1) ≡ said_from said from count ++ option_to_list (said place)
+said_from-next said from zero place there =
+    let same : from ≡ place = omega arith in
+    onto-nil (said from) ∙ ap (λ k. option_to_list (said k)) same
+said_from-next said from (suc count) place there =
+    let later : from + 1 + count ≡ place = omega arith in
     let next : suc count + 1 ≡ suc (count + 1) = omega arith in
     ap (said_from said from) next
-    ∙ (ap (onto (said from)) (said_from-more said (from + 1) count x (ap said same ∙ e)) ∙ onto-append (said from) (said_from said (from + 1) count) (x ∷ []))
+    ∙ (ap (onto (said from)) (said_from-next said (from + 1) count place later) ∙ onto-append (said from) (said_from said (from + 1) count) (option_to_list (said place)))
+
+-- one place more, at which something is said
+pub said_from-more : {X : Type 0} (said : ℕ → Option X) (from count : ℕ) (x : X) → said (from + count) ≡ Some x → said_from said from (count + 1) ≡ said_from said from count ++ x ∷ []
+said_from-more said from count x e = said_from-next said from count (from + count) refl ∙ ap (λ o. said_from said from count ++ option_to_list o) e
 
 -- one place more, at which the test finds no fault
 pub KeepsBelow-more : {R : Type 0} (test : ℕ → Option R) (n : ℕ) → KeepsBelow test n → test n ≡ None → KeepsBelow test (n + 1)
 KeepsBelow-more test n kept here = below_more (λ k. test k ≡ None) n kept here
 
-none_some : {X : Type 0} (x : X) → None ≡ Some x → ⊥
-none_some x h = cc
-
-some_of : {X : Type 0} (a b : X) → Some a ≡ Some b → a ≡ b
-some_of a b h = cc
-
 -- a test that finds no fault has no first one
 pub First-kept : {R : Type 0} (test : ℕ → Option R) (n place : ℕ) (fault : R) → KeepsBelow test n → First test n place fault → ⊥
-First-kept test n place fault kept first = none_some fault (sym (kept place first.within) ∙ first.found)
+First-kept test n place fault kept first = none-some fault (sym (kept place first.within) ∙ first.found)
 
 -- there is one first place with a fault, and one fault
 pub First-unique : {R : Type 0} (test : ℕ → Option R) (n a b : ℕ) (r s : R) → First test n a r → First test n b s → (a ≡ b) × (r ≡ s)
 First-unique test n a b r s first other =
     elim (cases_lt a b) [
-      | inl below ↦ absurd (none_some r (sym (other.before a below) ∙ first.found))
+      | inl below ↦ absurd (none-some r (sym (other.before a below) ∙ first.found))
       | inr above ↦ elim (cases_lt b a) [
-        | inl below ↦ absurd (none_some s (sym (first.before b below) ∙ other.found))
-        | inr least ↦ (let same : a ≡ b = omega arith in (same, some_of r s (sym first.found ∙ (ap test same ∙ other.found))))
+        | inl below ↦ absurd (none-some s (sym (first.before b below) ∙ other.found))
+        | inr least ↦ (let same : a ≡ b = omega arith in (same, same_Some r s (sym first.found ∙ (ap test same ∙ other.found))))
       ]
     ]
 

@@ -3,3 +3,4 @@ pub mod Lines
 pub mod Words
 pub mod Numbers
 pub mod Names
+pub mod Faults

@@ -5,13 +5,14 @@
 //! test or a reader of one thing by itself: what lines mean together is said above.
 #![tactic(auto)]
 
+mod fault;
 mod names;
 mod numbers;
+mod reason;
 mod text_lines;
 
+pub use fault::BundleFault;
 pub use names::{is_clock_name, is_driver_name, is_variable, is_word};
 pub use numbers::{number_up_to, number_within, small_number_up_to, small_number_within};
-pub use text_lines::{TextLines, line_feeds};
-
-#[cfg(test)]
-mod tests;
+pub use reason::Reason;
+pub use text_lines::TextLines;

@@ -5,7 +5,7 @@ ghost use Rattle.bundle_text.specs.Lines.{line_at, is_header, header_from};
 ghost use Rattle.std.specs.Option.{option_map, option_to_list};
 ghost use Rattle.bundle_text.specs.Words.{texts, spaced_words, is_blank, is_comment, as_word, blank_words, said_words};
 
-use clk_io::NoMemory;
+use clk_io::{NoMemory, push_some};
 use std::alloc::{AllocError, Global};
 use std::marker::Model;
 
@@ -91,16 +91,6 @@ fn as_word(part: &[u8]) -> Option<&str>
     }
 }
 
-/// A word more, where there is one.
-fn push_some<'a>(words: &mut Vec<&'a str>, word: Option<&'a str>) -> Result<(), NoMemory>
-    ensures { OnOk result (texts words.new.items ≡ texts words.old.items ++ option_to_list (option_map (λ w. w.now) word.entry)) }
-{
-    match word {
-        Some(word) => Ok(words.push(word)?),
-        None => Ok(()),
-    }
-}
-
 /// The words of a line between blanks.
 fn words_between_blanks<'a>(alloc: Global, line: &'a [u8]) -> Result<Vec<&'a str>, NoMemory>
     ensures { IfOk result (λ words. texts words.items ≡ blank_words line.now) }
@@ -131,14 +121,6 @@ fn begins_with_hash(word: &[u8]) -> bool
         [b'#', ..] => true,
         _ => false,
     }
-}
-
-/// How many line feeds the text has.
-pub fn line_feeds(bytes: &[u8]) -> usize
-    ensures count { result ≡ count_by (λ b. b == 10) bytes.now }
-    ensures few { result ≤ length bytes.now }
-{
-    bytes.iter().filter(|byte| **byte == b'\n').count()
 }
 
 impl<'a> TextLines<'a> {

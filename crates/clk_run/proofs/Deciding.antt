@@ -4,14 +4,14 @@ use Rattle.std.specs.Io.KnownBytes.{Consumes}
 use Rattle.std.proofs.lemmas.List.{append-nil, length-append}
 use Rattle.clk_io.specs.Streams.{TakesAll}
 use Rattle.drv_scripts.specs.declared.bundle.Bundle.{Bundle}
-use Rattle.drv_scripts.specs.declared.reason.Reason.{Reason}
-use Rattle.drv_scripts.specs.Verdict.{most_bytes}
+use Rattle.bundle_text.specs.declared.reason.Reason.{Reason}
+use Rattle.clk_io.specs.declared.reading.TheConstants.{MOST_BYTES}
 use Rattle.clk_run.specs.Built.{SpellsRun, RefusesRun}
 use Rattle.clk_run.proofs.RunVerdicts.{run_never_both}
 use Rattle.clk_run.specs.Outcomes.{GivesBundle, RefusesInput, Decides}
 
 -- what was taken to the end is what was left
-taken_all : (left left' : Option (List ℕ)) (bytes read : List ℕ) → left ≡ Some bytes → TakesAll most_bytes left left' read → read ≡ bytes
+taken_all : (left left' : Option (List ℕ)) (bytes read : List ℕ) → left ≡ Some bytes → TakesAll MOST_BYTES left left' read → read ≡ bytes
 taken_all None left' bytes read is takes = absurd cc
 taken_all (Some xs) None bytes read is takes = absurd takes.taken
 taken_all (Some xs) (Some ys) bytes read is takes =

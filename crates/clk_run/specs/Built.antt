@@ -7,10 +7,10 @@ use Rattle.clk_base.specs.declared.command.Command.{Command}
 use Rattle.clk_machine.specs.Fit.{can_run}
 use Rattle.drv_scripts.specs.declared.bundle.Bundle.{Bundle}
 use Rattle.drv_scripts.specs.declared.bundle.Script.{Script}
-use Rattle.drv_scripts.specs.declared.reason.BundleFault.{BundleFault}
-use Rattle.drv_scripts.specs.declared.reason.BundleFault.TheVariants.{Refused, NoMemory}
-use Rattle.drv_scripts.specs.declared.reason.Reason.{Reason}
-use Rattle.drv_scripts.specs.declared.reason.Reason.TheVariants.{NotYet}
+use Rattle.bundle_text.specs.declared.fault.BundleFault.{BundleFault}
+use Rattle.bundle_text.specs.declared.fault.BundleFault.TheVariants.{Refused, NoMemory}
+use Rattle.bundle_text.specs.declared.reason.Reason.{Reason}
+use Rattle.bundle_text.specs.declared.reason.Reason.TheVariants.{NotYet}
 use Rattle.drv_scripts.specs.Verdict.{Accepts, Refuses}
 use Rattle.clk_run.specs.Scripts.{is_built_act}
 

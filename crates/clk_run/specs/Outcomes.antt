@@ -8,9 +8,9 @@ use Rattle.clk_io.specs.Streams.{TakesAll, TakesMore, AppendsFront}
 use Rattle.clk_io.specs.declared.faults.PrintFault.{PrintFault}
 use Rattle.clk_io.specs.declared.faults.PrintFault.TheVariants as print_fault
 use Rattle.drv_scripts.specs.declared.bundle.Bundle.{Bundle}
-use Rattle.drv_scripts.specs.declared.reason.Reason.{Reason}
-use Rattle.drv_scripts.specs.declared.reason.Reason.TheVariants.{TooLong}
-use Rattle.drv_scripts.specs.Verdict.{most_bytes}
+use Rattle.bundle_text.specs.declared.reason.Reason.{Reason}
+use Rattle.bundle_text.specs.declared.reason.Reason.TheVariants.{TooLong}
+use Rattle.clk_io.specs.declared.reading.TheConstants.{MOST_BYTES}
 use Rattle.clk_run.specs.Built.{SpellsRun, RefusesRun}
 use Rattle.clk_run.specs.declared.sim.Stop.{Stop}
 use Rattle.clk_run.specs.declared.sim.Stop.TheVariants as stop
@@ -21,12 +21,12 @@ use Rattle.clk_run.specs.Runs.{Printed, PrintedFront}
 
 -- all that was left of the source spells this bundle, and all of it can be run
 abbrev pub GivesBundle : Option (List ℕ) → Option (List ℕ) → Bundle → Type 0
-GivesBundle old new b = (bytes : List ℕ) × TakesAll most_bytes old new bytes × SpellsRun bytes b
+GivesBundle old new b = (bytes : List ℕ) × TakesAll MOST_BYTES old new bytes × SpellsRun bytes b
 
 -- what was left of the source is refused at this line for this reason: it is too much, or it spells no bundle that can be run
 abbrev pub RefusesInput : Option (List ℕ) → Option (List ℕ) → ℕ → Reason → Type 0
 RefusesInput old new line reason =
-    (TakesMore most_bytes old new × (line ≡ 0) × (reason ≡ TooLong)) ⊎ ((bytes : List ℕ) × TakesAll most_bytes old new bytes × RefusesRun bytes line reason)
+    (TakesMore MOST_BYTES old new × (line ≡ 0) × (reason ≡ TooLong)) ⊎ ((bytes : List ℕ) × TakesAll MOST_BYTES old new bytes × RefusesRun bytes line reason)
 
 -- why no bundle came from a source: its bytes are refused, or a read failed, or memory ran out
 abbrev pub StopsReading : Option (List ℕ) → Option (List ℕ) → Stop → Type 0

@@ -1,8 +1,8 @@
 -- How a refused bundle is told.
 use Rattle.std.specs.Prelude.{ℕ, List, ◌++◌, codes}
 use Rattle.std.specs.Fmt.{decimal}
-use Rattle.drv_scripts.specs.declared.reason.Reason.{Reason}
-use Rattle.drv_scripts.specs.declared.reason.Reason.TheVariants as reason
+use Rattle.bundle_text.specs.declared.reason.Reason.{Reason}
+use Rattle.bundle_text.specs.declared.reason.Reason.TheVariants as reason
 
 -- the word of a reason
 unfoldable pub reason_word : Reason → List ℕ

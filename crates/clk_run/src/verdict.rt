@@ -2,7 +2,7 @@
 
 ghost use Rattle.std.specs.Prelude.{◌≡◌, ◌⊎◌, ℕ, List};
 ghost use Rattle.drv_scripts.specs.declared.bundle.Bundle.{Bundle};
-ghost use Rattle.drv_scripts.specs.declared.reason.Reason.{Reason};
+ghost use Rattle.bundle_text.specs.declared.reason.Reason.{Reason};
 ghost use Rattle.clk_run.specs.Built.{SpellsRun, RefusesRun};
 
 /// Bytes have one verdict: they spell one bundle that can be run, or are refused at one line for one

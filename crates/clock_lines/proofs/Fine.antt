@@ -12,7 +12,7 @@ use Rattle.clk_base.specs.declared.clock.Kind.TheVariants.{FixedRate, Factor, Ga
 use Rattle.clk_base.specs.Valid.{can_have_parents}
 use Rattle.bundle_text.specs.Names.{is_clock_name}
 use Rattle.bundle_text.specs.Numbers.{number_within, written_up_to}
-use Rattle.clock_lines.specs.declared.fault.LineReason.TheVariants.{UnknownKind, BadWords, BadName, TwiceNamed, BadNumber, BadFlag}
+use Rattle.bundle_text.specs.declared.reason.Reason.TheVariants.{UnknownKind, BadWords, BadName, TwiceNamed, BadNumber, BadFlag}
 use Rattle.clock_lines.specs.declared.field.Field.{Field}
 use Rattle.clock_lines.specs.Said.{SaidClock}
 use Rattle.clock_lines.specs.FlagWords.{are_flags, flags_of_words}

@@ -8,7 +8,7 @@ use Rattle.std.proofs.lemmas.List.{map-append}
 use Rattle.bundle_text.specs.Words.{texts}
 use Rattle.clock_lines.specs.Said.{PlacedClock}
 use Rattle.clock_lines.specs.Section.{names_of, is_named}
-use Rattle.clock_lines.proofs.Borrowed.{list_any-texts}
+use Rattle.bundle_text.proofs.Mapped.{list_any-texts}
 
 -- a new name goes last, as its clock does
 pub names-push : (keys new : List (Bor (List ℕ))) (name : Bor (List ℕ)) (clocks after : List PlacedClock) (x : PlacedClock)

@@ -6,28 +6,13 @@ use Rattle.std.proofs.lemmas.Bool.{false≢true, cases_Bool, lt-ltb, le-ltb, and
 use Rattle.std.proofs.lemmas.List.{get_or_default, map_more}
 use Rattle.std.proofs.lemmas.List.Folds.{list_all_more, list_all_at}
 use Rattle.std.proofs.lemmas.Option.{none-some, same_Some}
+use Rattle.bundle_text.proofs.Found.{any_within, none_within, position-found, position-missing}
+use Rattle.bundle_text.proofs.Mapped.{list_any-map}
 use Rattle.clk_base.specs.declared.clock.ClockDef.{ClockDef}
 use Rattle.clk_base.specs.Description.{has_name}
 use Rattle.clock_lines.specs.Said.{PlacedClock}
 use Rattle.clock_lines.specs.Section.{names_of, is_named, place_of, finds_parents, clock_in}
 use Rattle.clock_lines.specs.Steps.{places_in, no_clock, clock_number, StandApart, FindParents}
-
--- where an element passes, the first that does is one of them
-pub any_within : {X : Type 0} (p : X → Bool) (xs : List X) → list_any p xs ≡ true → position_or_len p xs < length xs
-any_within p [] h = absurd (false≢true h)
-any_within p (x ∷ xs) h =
-    elim (p x) as (λ b. (b || list_any p xs) ≡ true → cond (not b) (1 + position_or_len p xs) 0 < length (x ∷ xs))
-    [ true ↦ λ _. omega arith | false ↦ λ later. omega (arith, any_within p xs later) ] h
-
--- where none does, the place is behind them
-none_within : {X : Type 0} (p : X → Bool) (xs : List X) → list_any p xs ≡ false → length xs ≡ position_or_len p xs
-none_within p [] h = refl
-none_within p (x ∷ xs) h =
-    elim (p x) as (λ b. (b || list_any p xs) ≡ false → length (x ∷ xs) ≡ cond (not b) (1 + position_or_len p xs) 0)
-    [ true ↦ λ here. absurd (false≢true (sym here)) | false ↦ λ later. omega (arith, none_within p xs later) ] h
-
-position-found : {X : Type 0} (p : X → Bool) (xs : List X) → list_any p xs ≡ true → position p xs ≡ Some (position_or_len p xs)
-position-found p xs h = cond-true _ _ _ (lt-ltb (position_or_len p xs) (length xs) (any_within p xs h))
 
 -- a name that has no place is no clock's
 pub unnamed : (clocks : List PlacedClock) (name : List ℕ) → None ≡ position (bytes_eq name) (names_of clocks) → is_named clocks name ≡ false
@@ -95,10 +80,6 @@ pub def_name : (clocks : List PlacedClock) (placed : PlacedClock) (b : Bool) (de
 unfolding clock_in
 def_name clocks placed true def h = ap (λ (d : ClockDef). d.name) (same_Some _ _ h)
 def_name clocks placed false def h = absurd (none-some def (sym h))
-
-list_any-map : {X Y : Type 0} (p : Y → Bool) (f : X → Y) (xs : List X) → list_any p (map f xs) ≡ list_any (λ x. p (f x)) xs
-list_any-map p f [] = refl
-list_any-map p f (x ∷ xs) = ap (λ b. p (f x) || b) (list_any-map p f xs)
 
 -- a description of clocks has the names of the clocks
 pub named_in : (clocks some : List PlacedClock) (name : List ℕ) → has_name (map (clock_in clocks) some) name ≡ is_named some name

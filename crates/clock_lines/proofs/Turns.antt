@@ -7,8 +7,8 @@ use Rattle.std.proofs.lemmas.List.{append-nil, get_or-drop, get_or-take}
 use Rattle.bundle_text.specs.Firsts.{onto, said_from}
 use Rattle.bundle_text.specs.Lines.{line_at}
 use Rattle.bundle_text.specs.Words.{said_words}
-use Rattle.bundle_text.proofs.Rows.{KeepsBelow-more}
-use Rattle.clock_lines.specs.declared.fault.LineReason.{LineReason}
+use Rattle.bundle_text.proofs.Rows.{KeepsBelow-more, said_from-next}
+use Rattle.bundle_text.specs.declared.reason.Reason.{Reason}
 use Rattle.clock_lines.specs.Said.{SaidClock, PlacedClock}
 use Rattle.clock_lines.specs.ClockLines.{clock_line}
 use Rattle.clock_lines.specs.Section.{placed_clock, clock_at, clocks_before, is_named, name_word, fault_behind, fault_at}
@@ -51,25 +51,6 @@ said-taken clocks after place words taken c e said more =
 
 -- ## Places
 
-onto-append : {X : Type 0} (o : Option X) (xs ys : List X) → onto o (xs ++ ys) ≡ onto o xs ++ ys
-onto-append None xs ys = refl
-onto-append (Some x) xs ys = refl
-
-onto-nil : {X : Type 0} (o : Option X) → onto o [] ≡ option_to_list o
-onto-nil None = refl
-onto-nil (Some x) = refl
-
--- what is said at one place more
-pub said_from-next : {X : Type 0} (said : ℕ → Option X) (from count place : ℕ) → from + count ≡ place → said_from said from (count + 1) ≡ said_from said from count ++ option_to_list (said place)
-said_from-next said from zero place there =
-    let same : from ≡ place = omega arith in
-    onto-nil (said from) ∙ ap (λ k. option_to_list (said k)) same
-said_from-next said from (suc count) place there =
-    let later : from + 1 + count ≡ place = omega arith in
-    let next : suc count + 1 ≡ suc (count + 1) = omega arith in
-    ap (said_from said from) next
-    ∙ (ap (onto (said from)) (said_from-next said (from + 1) count place later) ∙ onto-append (said from) (said_from said (from + 1) count) (option_to_list (said place)))
-
 -- the line of a section stands in the text
 pub line-at : (ls : List (List ℕ)) (from to place : ℕ) → from + place < to → line_at (slice_range ls from to) place ≡ line_at ls (from + place)
 line-at ls from to place within =
@@ -94,7 +75,7 @@ read-more section place clocks after words read said none more =
     }
 
 -- the line at the next place has this fault
-pub read-fault : (from : ℕ) (section : List (List ℕ)) (place : ℕ) (clocks : List PlacedClock) (words : List (List ℕ)) (reason : LineReason) → place < length section → IsRead section place clocks
+pub read-fault : (from : ℕ) (section : List (List ℕ)) (place : ℕ) (clocks : List PlacedClock) (words : List (List ℕ)) (reason : Reason) → place < length section → IsRead section place clocks
     → words ≡ said_words (line_at section place) → fault_behind clocks words ≡ Some reason → HasFault from section (from + place + 1) reason
 unfolding fault_at
 read-fault from section place clocks words reason within read said wrong =

@@ -14,18 +14,20 @@ use Rattle.bundle_text.specs.Words.{said_words}
 use Rattle.clk_base.specs.declared.clock.ClockDef.{ClockDef}
 use Rattle.clk_base.specs.Description.{Description, nobody, def_of, EachClock}
 use Rattle.clk_base.specs.Valid.{can_have_parents, has_its_parents}
-use Rattle.clock_lines.specs.declared.fault.LineReason.{LineReason}
-use Rattle.clock_lines.specs.declared.fault.LineReason.TheVariants.{UnknownName}
-use Rattle.clock_lines.specs.declared.fault.LinesFault.{LinesFault}
-use Rattle.clock_lines.specs.declared.fault.LinesFault.TheVariants.{Refused, NoMemory}
+use Rattle.bundle_text.specs.declared.reason.Reason.{Reason}
+use Rattle.bundle_text.specs.declared.reason.Reason.TheVariants.{UnknownName}
+use Rattle.bundle_text.specs.declared.fault.BundleFault.{BundleFault}
+use Rattle.bundle_text.specs.declared.fault.BundleFault.TheVariants.{Refused, NoMemory}
 use Rattle.clock_lines.specs.Said.{SaidClock, PlacedClock}
 use Rattle.clock_lines.specs.ClockLines.{clock_line}
 use Rattle.clock_lines.specs.Section.{placed_clock, clock_at, clocks_before, all_clocks, names_of, is_named, name_word, fault_behind, fault_at, finds_parents, parent_fault, parent_fault_at, place_of, clock_in, desc_of, lines_of}
 use Rattle.clock_lines.specs.Steps.{IsRead, no_clock, clock_number, StandApart, HaveLines, FindParents, IsFirstLacking, Lacks}
-use Rattle.clock_lines.specs.Verdict.{Spells, LacksParent, IsFaultOf}
+use Rattle.clock_lines.specs.Verdict.{Spells, LacksParent, Refuses}
+use Rattle.bundle_text.specs.Faults.{Tells}
 use Rattle.clock_lines.proofs.Fine.{line-fine}
 use Rattle.clock_lines.proofs.Indices.{said-at, number-of}
-use Rattle.clock_lines.proofs.Looked.{any_within}
+use Rattle.bundle_text.proofs.Found.{any_within}
+use Rattle.bundle_text.proofs.Rows.{length-said_from}
 
 -- ## One line
 
@@ -64,14 +66,6 @@ clock-of earlier place (word ∷ rest) placed kept said =
     subst (IsClockOf earlier place) same (record { place_is = refl; fresh = ap (is_named earlier) fine.name_is ∙ fine.fresh; parents = fine.parents })
 
 -- ## The clocks by their numbers
-
-length-onto : {X : Type 0} (o : Option X) (xs : List X) → length (onto o xs) ≤ length xs + 1
-length-onto None xs = omega arith
-length-onto (Some x) xs = omega arith
-
-length-said_from : {X : Type 0} (said : ℕ → Option X) (from count : ℕ) → length (said_from said from count) ≤ count
-length-said_from said from zero = omega arith
-length-said_from said from (suc count) = omega (arith, length-onto (said from) (said_from said (from + 1) count), length-said_from said (from + 1) count)
 
 -- there are at most as many clocks as lines
 pub few-clocks : (section : List (List ℕ)) (clocks : List PlacedClock) → IsRead section (length section) clocks → length clocks ≤ length section
@@ -151,7 +145,7 @@ lines-find section n j within found earlier k lt =
     ap (finds_parents all) (sym same) ∙ found of.0 low)
 
 -- the first clock that lacks a parent has the first line that does
-pub lacks-parent : (from : ℕ) (section : List (List ℕ)) (line : ℕ) (reason : LineReason) → KeepsBelow (fault_at section) (length section) → IsFirstLacking from (all_clocks section) line reason → LacksParent from section line reason
+pub lacks-parent : (from : ℕ) (section : List (List ℕ)) (line : ℕ) (reason : Reason) → KeepsBelow (fault_at section) (length section) → IsFirstLacking from (all_clocks section) line reason → LacksParent from section line reason
 unfolding parent_fault_at
 lacks-parent from section line reason kept lacking =
     let all = all_clocks section in
@@ -165,7 +159,7 @@ lacks-parent from section line reason kept lacking =
       line_is = lacking.line_is ∙ ap (λ p. from + p + 1) line_of.clock.place_is;
     }
 
-pub lacks-fault : (from : ℕ) (section : List (List ℕ)) (clocks : List PlacedClock) (fault : LinesFault) → IsRead section (length section) clocks → Lacks from clocks fault → IsFaultOf from section fault
+pub lacks-fault : (from : ℕ) (section : List (List ℕ)) (clocks : List PlacedClock) (fault : BundleFault) → IsRead section (length section) clocks → Lacks from clocks fault → Tells (Refuses from section) fault
 lacks-fault from section clocks (Refused line reason) read lacks =
     inr (lacks-parent from section line reason read.kept (subst (λ cs. IsFirstLacking from cs line reason) read.clocks_are lacks))
 lacks-fault from section clocks NoMemory read lacks = tt

@@ -3,7 +3,7 @@ use Rattle.std.specs.Prelude.{◌≡◌, true, false, List, [], ◌∷◌, map, 
 use Rattle.clk_base.specs.declared.clock.Kind.TheVariants.{FixedRate, Gate, Mux}
 use Rattle.bundle_text.specs.Names.{is_clock_name}
 use Rattle.bundle_text.specs.Numbers.{number_up_to, hexadecimal_up_to, behind_0x, written_up_to, number_within}
-use Rattle.clock_lines.specs.declared.fault.LineReason.TheVariants.{UnknownKind, BadWords, TwiceNamed, BadNumber, BadFlag}
+use Rattle.bundle_text.specs.declared.reason.Reason.TheVariants.{UnknownKind, BadWords, TwiceNamed, BadNumber, BadFlag}
 use Rattle.clock_lines.specs.FlagWords.{is_common_flag, is_own_flag, are_flags, flags_of_words}
 use Rattle.clock_lines.specs.Kinds.{field_said, fixed_kind, gate_kind, mux_kind}
 use Rattle.clock_lines.specs.ClockLines.{with_flags, clock_said, fixed_line, gate_line, mux_rest, mux_counted, mux_line, clock_line}

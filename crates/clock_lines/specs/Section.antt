@@ -9,8 +9,8 @@ use Rattle.clk_base.specs.Description.{Description}
 use Rattle.bundle_text.specs.Firsts.{said_from}
 use Rattle.bundle_text.specs.Lines.{line_at}
 use Rattle.bundle_text.specs.Words.{said_words}
-use Rattle.clock_lines.specs.declared.fault.LineReason.{LineReason}
-use Rattle.clock_lines.specs.declared.fault.LineReason.TheVariants.{UnknownName}
+use Rattle.bundle_text.specs.declared.reason.Reason.{Reason}
+use Rattle.bundle_text.specs.declared.reason.Reason.TheVariants.{UnknownName}
 use Rattle.clock_lines.specs.Said.{PlacedClock}
 use Rattle.clock_lines.specs.ClockLines.{clock_line}
 
@@ -42,12 +42,12 @@ abbrev pub name_word : List (List ℕ) → List ℕ
 name_word words = slice_index_or words 1 []
 
 -- what is wrong with words, if there are any, behind the clocks of the earlier lines
-unfoldable pub fault_behind : List PlacedClock → List (List ℕ) → Option LineReason
+unfoldable pub fault_behind : List PlacedClock → List (List ℕ) → Option Reason
 fault_behind earlier words =
     if length words == 0 then None else result_err (clock_line (is_named earlier (name_word words)) words)
 
 -- what is wrong with the line at a place by itself and by the names of the lines before it
-unfoldable pub fault_at : List (List ℕ) → ℕ → Option LineReason
+unfoldable pub fault_at : List (List ℕ) → ℕ → Option Reason
 fault_at section k = fault_behind (clocks_before section k) (said_words (line_at section k))
 
 -- each parent of the clock is the name of one of the clocks
@@ -55,11 +55,11 @@ unfoldable pub finds_parents : List PlacedClock → PlacedClock → Bool
 finds_parents clocks placed = list_all (is_named clocks) placed.clock.parents
 
 -- the fault of a clock with a parent that no clock has for its name
-abbrev pub parent_fault : List PlacedClock → PlacedClock → Option LineReason
+abbrev pub parent_fault : List PlacedClock → PlacedClock → Option Reason
 parent_fault clocks placed = if finds_parents clocks placed then None else Some UnknownName
 
 -- the fault of the line at a place with a parent that no line of the section names
-unfoldable pub parent_fault_at : List (List ℕ) → ℕ → Option LineReason
+unfoldable pub parent_fault_at : List (List ℕ) → ℕ → Option Reason
 parent_fault_at section k = option_map_or (parent_fault (all_clocks section)) (clock_at section k) None
 
 -- the place of a name among the clocks

@@ -2,12 +2,12 @@
 use Rattle.std.specs.Prelude.{◌≡◌, ℕ, ◌+◌, ◌<◌, ◌^◌, true, false, List, [], ◌++◌, length, map, take, slice_index_or, Option, Some, None, Result, Ok, Err, if◌then◌else◌}
 use Rattle.std.specs.List.{list_all}
 use Rattle.std.specs.Option.{option_to_list}
+use Rattle.bundle_text.specs.Faults.{Tells}
 use Rattle.bundle_text.specs.Firsts.{KeepsBelow}
 use Rattle.clk_base.specs.declared.clock.Kind.TheVariants.{FixedRate}
-use Rattle.clock_lines.specs.declared.fault.LineReason.{LineReason}
-use Rattle.clock_lines.specs.declared.fault.LineReason.TheVariants.{UnknownName}
-use Rattle.clock_lines.specs.declared.fault.LinesFault.{LinesFault}
-use Rattle.clock_lines.specs.declared.fault.LinesFault.TheVariants.{Refused, NoMemory}
+use Rattle.bundle_text.specs.declared.reason.Reason.{Reason}
+use Rattle.bundle_text.specs.declared.reason.Reason.TheVariants.{UnknownName}
+use Rattle.bundle_text.specs.declared.fault.BundleFault.{BundleFault}
 use Rattle.clock_lines.specs.declared.stop.LineStop.{LineStop}
 use Rattle.clock_lines.specs.declared.stop.LineStop.TheVariants as stops
 use Rattle.clock_lines.specs.Said.{PlacedClock}
@@ -46,7 +46,7 @@ abbrev pub FindParents : List PlacedClock → ℕ → Type 0
 FindParents clocks n = (j : ℕ) → j < n → finds_parents clocks (clock_number clocks j) ≡ true
 
 -- this is the first clock with a parent that no clock has for its name, and this its line
-pub record IsFirstLacking (from : ℕ) (clocks : List PlacedClock) (line : ℕ) (reason : LineReason) : Type 0 where
+pub record IsFirstLacking (from : ℕ) (clocks : List PlacedClock) (line : ℕ) (reason : Reason) : Type 0 where
   pub number : ℕ
   pub within : number < length clocks
   pub before : FindParents clocks number
@@ -54,16 +54,17 @@ pub record IsFirstLacking (from : ℕ) (clocks : List PlacedClock) (line : ℕ) 
   pub line_is : line ≡ from + (clock_number clocks number).place + 1
   pub reason_is : reason ≡ UnknownName
 
--- why clocks have no description
-abbrev pub Lacks : ℕ → List PlacedClock → LinesFault → Type 0
-Lacks from clocks (Refused line reason) = IsFirstLacking from clocks line reason
-Lacks from clocks NoMemory = Unit {0}
+-- the fault tells the first clock with a parent that no clock has for its name
+abbrev pub Lacks : ℕ → List PlacedClock → BundleFault → Type 0
+Lacks from clocks = Tells (IsFirstLacking from clocks)
 
--- the fault of one clock with a parent that no clock has for its name
-abbrev pub LacksOf : ℕ → List PlacedClock → PlacedClock → LinesFault → Type 0
-LacksOf from clocks placed (Refused line reason) =
-    (finds_parents clocks placed ≡ false) × (line ≡ from + placed.place + 1) × (reason ≡ UnknownName)
-LacksOf from clocks placed NoMemory = Unit {0}
+-- a parent of the clock is no clock's name, and its line is refused for that
+abbrev pub IsLacking : ℕ → List PlacedClock → PlacedClock → ℕ → Reason → Type 0
+IsLacking from clocks placed line reason = (finds_parents clocks placed ≡ false) × (line ≡ from + placed.place + 1) × (reason ≡ UnknownName)
+
+-- the fault tells that this clock is one
+abbrev pub LacksOf : ℕ → List PlacedClock → PlacedClock → BundleFault → Type 0
+LacksOf from clocks placed = Tells (IsLacking from clocks placed)
 
 -- the places of the clocks with these names, where each name is a clock's
 unfoldable pub places_in : List PlacedClock → List (List ℕ) → Option (List ℕ)

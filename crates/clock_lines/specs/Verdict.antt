@@ -1,10 +1,10 @@
 -- Which lines spell which clocks, and why other lines spell none. A section begins at the place `from` of a text.
 use Rattle.std.specs.Prelude.{◌≡◌, ℕ, ◌+◌, ◌⊎◌, List, length}
+use Rattle.bundle_text.specs.Faults.{Tells}
 use Rattle.bundle_text.specs.Firsts.{First, KeepsBelow}
 use Rattle.clk_base.specs.Description.{Description}
-use Rattle.clock_lines.specs.declared.fault.LineReason.{LineReason}
-use Rattle.clock_lines.specs.declared.fault.LinesFault.{LinesFault}
-use Rattle.clock_lines.specs.declared.fault.LinesFault.TheVariants.{Refused, NoMemory}
+use Rattle.bundle_text.specs.declared.reason.Reason.{Reason}
+use Rattle.bundle_text.specs.declared.fault.BundleFault.{BundleFault}
 use Rattle.clock_lines.specs.Section.{fault_at, parent_fault_at, desc_of, lines_of}
 
 -- the lines spell this description: none has a fault, each parent is found, and the clocks stand on these lines
@@ -15,28 +15,22 @@ pub record Spells (from : ℕ) (section : List (List ℕ)) (desc : Description) 
   pub lines_are : lines ≡ lines_of from section
 
 -- this line is the first with a fault; lines count from 1
-pub record HasFault (from : ℕ) (section : List (List ℕ)) (line : ℕ) (reason : LineReason) : Type 0 where
+pub record HasFault (from : ℕ) (section : List (List ℕ)) (line : ℕ) (reason : Reason) : Type 0 where
   pub place : ℕ
   pub first : First (fault_at section) (length section) place reason
   pub line_is : line ≡ from + place + 1
 
--- the fault is that of the first line with one by itself; want of memory says nothing of the lines
-abbrev pub FirstFault : ℕ → List (List ℕ) → LinesFault → Type 0
-FirstFault from section (Refused line reason) = HasFault from section line reason
-FirstFault from section NoMemory = Unit {0}
+-- the fault tells the first line with one by itself
+abbrev pub FirstFault : ℕ → List (List ℕ) → BundleFault → Type 0
+FirstFault from section = Tells (HasFault from section)
 
 -- no line has a fault by itself, and this one is the first with a parent that no line names
-pub record LacksParent (from : ℕ) (section : List (List ℕ)) (line : ℕ) (reason : LineReason) : Type 0 where
+pub record LacksParent (from : ℕ) (section : List (List ℕ)) (line : ℕ) (reason : Reason) : Type 0 where
   pub kept : KeepsBelow (fault_at section) (length section)
   pub place : ℕ
   pub first : First (parent_fault_at section) (length section) place reason
   pub line_is : line ≡ from + place + 1
 
 -- the lines spell no description, for this reason at this line
-abbrev pub Refuses : ℕ → List (List ℕ) → ℕ → LineReason → Type 0
+abbrev pub Refuses : ℕ → List (List ℕ) → ℕ → Reason → Type 0
 Refuses from section line reason = HasFault from section line reason ⊎ LacksParent from section line reason
-
--- the fault says why the lines spell no description; want of memory says nothing of them
-abbrev pub IsFaultOf : ℕ → List (List ℕ) → LinesFault → Type 0
-IsFaultOf from section (Refused line reason) = Refuses from section line reason
-IsFaultOf from section NoMemory = Unit {0}

@@ -5,11 +5,10 @@ ghost use Rattle.bundle_text.specs.Words.{texts};
 ghost use Rattle.clock_lines.specs.ClockLines.{with_flags, clock_said, fixed_line, factor_line, gate_line, mux_rest, mux_counted, mux_line, divider_line, pll_line, clock_line};
 ghost use Rattle.clock_lines.specs.Shown.{shown_line};
 
-use crate::fault::LineReason;
 use crate::field::field_said;
 use crate::flag_words::{are_flags, flags_of_words};
 use crate::kinds::{divider_kind, factor_kind, fixed_kind, gate_kind, mux_kind, pll_kind};
-use bundle_text::{is_clock_name, small_number_within};
+use bundle_text::{Reason, is_clock_name, small_number_within};
 use clk_base::{ClkFlags, Kind};
 use std::slice::from_ref;
 
@@ -29,7 +28,7 @@ fn no_parents<'w, 'a>() -> &'w [&'a str]
     &[]
 }
 
-type Said<'w, 'a> = Result<LineClock<'w, 'a>, LineReason>;
+type Said<'w, 'a> = Result<LineClock<'w, 'a>, Reason>;
 
 #[tactic(auto, unfolding(crate::specs::ClockLines::with_flags))]
 fn with_flags<'w, 'a>(
@@ -41,10 +40,10 @@ fn with_flags<'w, 'a>(
     ensures { shown_line result ≡ with_flags name.now kind (texts parents.now) (texts flags.now) }
 {
     let Some(kind) = kind else {
-        return Err(LineReason::BadNumber);
+        return Err(Reason::BadNumber);
     };
     if !are_flags(kind, flags) {
-        return Err(LineReason::BadFlag);
+        return Err(Reason::BadFlag);
     }
     let flags = flags_of_words(flags);
     Ok(LineClock {
@@ -67,10 +66,10 @@ fn clock_said<'w, 'a>(
     ensures { shown_line result ≡ clock_said taken name.now kind (texts parents.now) (texts flags.now) }
 {
     if !is_clock_name(name) {
-        return Err(LineReason::BadName);
+        return Err(Reason::BadName);
     }
     if taken {
-        return Err(LineReason::TwiceNamed);
+        return Err(Reason::TwiceNamed);
     }
     with_flags(name, kind, parents, flags)
 }
@@ -81,7 +80,7 @@ fn fixed_line<'w, 'a>(taken: bool, rest: &'w [&'a str]) -> Said<'w, 'a>
 {
     match rest {
         [name, rate, flags @ ..] => clock_said(taken, name, fixed_kind(rate), no_parents(), flags),
-        _ => Err(LineReason::BadWords),
+        _ => Err(Reason::BadWords),
     }
 }
 
@@ -94,7 +93,7 @@ fn factor_line<'w, 'a>(taken: bool, rest: &'w [&'a str]) -> Said<'w, 'a>
             let kind = factor_kind(mult, div);
             clock_said(taken, name, kind, from_ref(parent), flags)
         }
-        _ => Err(LineReason::BadWords),
+        _ => Err(Reason::BadWords),
     }
 }
 
@@ -107,7 +106,7 @@ fn gate_line<'w, 'a>(taken: bool, rest: &'w [&'a str]) -> Said<'w, 'a>
             let kind = gate_kind(word, bit, flags);
             clock_said(taken, name, kind, from_ref(parent), flags)
         }
-        _ => Err(LineReason::BadWords),
+        _ => Err(Reason::BadWords),
     }
 }
 
@@ -125,7 +124,7 @@ fn mux_rest<'w, 'a>(
     ensures { shown_line result ≡ mux_rest taken name.now word.now shift.now width.now count (texts rest.now) }
 {
     if rest.len() < count {
-        return Err(LineReason::BadWords);
+        return Err(Reason::BadWords);
     }
     let (parents, flags) = rest.split_at(count);
     let kind = mux_kind(word, shift, width, flags);
@@ -143,7 +142,7 @@ fn mux_line<'w, 'a>(taken: bool, rest: &'w [&'a str]) -> Said<'w, 'a>
             };
             mux_rest(taken, name, word, shift, width, count as usize, rest)
         }
-        _ => Err(LineReason::BadWords),
+        _ => Err(Reason::BadWords),
     }
 }
 
@@ -156,7 +155,7 @@ fn divider_line<'w, 'a>(taken: bool, rest: &'w [&'a str]) -> Said<'w, 'a>
             let kind = divider_kind(word, shift, width, flags);
             clock_said(taken, name, kind, from_ref(parent), flags)
         }
-        _ => Err(LineReason::BadWords),
+        _ => Err(Reason::BadWords),
     }
 }
 
@@ -181,7 +180,7 @@ fn pll_line<'w, 'a>(taken: bool, rest: &'w [&'a str]) -> Said<'w, 'a>
             let kind = pll_kind(field_said(word, shift, width), pword, pbit, nmin, nmax, m);
             clock_said(taken, name, kind, from_ref(parent), flags)
         }
-        _ => Err(LineReason::BadWords),
+        _ => Err(Reason::BadWords),
     }
 }
 
@@ -192,7 +191,7 @@ pub(crate) fn clock_line<'w, 'a>(taken: bool, words: &'w [&'a str]) -> Said<'w, 
     ensures { shown_line result ≡ clock_line taken (texts words.now) }
 {
     let [kind, rest @ ..] = words else {
-        return Err(LineReason::UnknownKind);
+        return Err(Reason::UnknownKind);
     };
     match *kind {
         "fixed" => fixed_line(taken, rest),
@@ -201,6 +200,6 @@ pub(crate) fn clock_line<'w, 'a>(taken: bool, words: &'w [&'a str]) -> Said<'w, 
         "mux" => mux_line(taken, rest),
         "divider" => divider_line(taken, rest),
         "pll" => pll_line(taken, rest),
-        _ => Err(LineReason::UnknownKind),
+        _ => Err(Reason::UnknownKind),
     }
 }

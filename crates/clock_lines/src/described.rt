@@ -6,8 +6,8 @@ ghost use Rattle.clk_base.specs.Description.{has_name};
 ghost use Rattle.clock_lines.specs.Section.{place_of, finds_parents, clock_in};
 ghost use Rattle.clock_lines.specs.Steps.{StandApart, HaveLines, FindParents, Lacks, LacksOf, places_in};
 
-use crate::fault::{LineReason, LinesFault};
 use crate::gathered::{Gathered, PlacedLine};
+use bundle_text::{BundleFault, Reason};
 use clk_base::{AddFault, ClockDef, ClockId, Desc, Parents};
 use clk_io::NoMemory;
 use std::alloc::Global;
@@ -70,7 +70,7 @@ fn with_clock<'a>(
     from: usize,
     desc: Desc,
     clock: &PlacedLine<'a>,
-) -> Result<Desc, LinesFault>
+) -> Result<Desc, BundleFault>
     requires names { length gathered.now < 2 ^ 32 }
     requires few { length desc < 4294967295 }
     requires apart { has_name desc clock.now.clock.name ≡ false }
@@ -80,11 +80,7 @@ fn with_clock<'a>(
         (LacksOf from gathered.now clock.now) }
 {
     let Some(def) = def_of(alloc, gathered, clock)? else {
-        let line = (from + clock.place() + 1) as u32;
-        return Err(LinesFault::Refused {
-            line,
-            reason: LineReason::UnknownName,
-        });
+        return Err(BundleFault::at_place(from + clock.place(), Reason::UnknownName));
     };
     let desc = with_def(desc, def)?;
     Ok(desc)
@@ -95,7 +91,7 @@ pub(crate) fn describe<'a>(
     alloc: Global,
     gathered: &Gathered<'a>,
     from: usize,
-) -> Result<Desc, LinesFault>
+) -> Result<Desc, BundleFault>
     requires few { length gathered.now < 4294967295 }
     requires apart { StandApart gathered.now }
     requires lines { HaveLines from gathered.now }

@@ -8,7 +8,6 @@
 
 mod clock_line;
 mod described;
-mod fault;
 mod field;
 mod flag_words;
 mod gathered;
@@ -18,10 +17,6 @@ mod reading;
 mod stop;
 mod verdict;
 
-pub use fault::{LineReason, LinesFault};
 pub use list::ClockList;
 pub use reading::read_clocks;
 pub use verdict::one_verdict;
-
-#[cfg(test)]
-mod tests;

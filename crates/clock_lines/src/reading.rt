@@ -1,20 +1,20 @@
 //! The lines of a section, one after another.
 
 ghost use Rattle.std.specs.Prelude.{◌≡◌, ◌<◌, ◌≤◌, ◌+◌, length, slice_range, IfOk, IfErr, MatchResult};
+ghost use Rattle.bundle_text.specs.Faults.{Tells};
 ghost use Rattle.bundle_text.specs.Words.{texts};
 ghost use Rattle.clk_base.specs.Description.{EachClock};
 ghost use Rattle.clk_base.specs.Valid.{has_its_parents};
 ghost use Rattle.clock_lines.specs.Section.{name_word};
 ghost use Rattle.clock_lines.specs.Steps.{IsRead, TakesWords};
-ghost use Rattle.clock_lines.specs.Verdict.{IsFaultOf, FirstFault, Spells};
+ghost use Rattle.clock_lines.specs.Verdict.{FirstFault, Refuses, Spells};
 
 use crate::clock_line::clock_line;
 use crate::described::{describe, line_numbers};
-use crate::fault::LinesFault;
 use crate::gathered::Gathered;
 use crate::list::ClockList;
 use crate::stop::LineStop;
-use bundle_text::TextLines;
+use bundle_text::{BundleFault, TextLines};
 use std::alloc::Global;
 
 // The name that words give their clock.
@@ -58,7 +58,7 @@ fn with_line<'a>(
     from: usize,
     place: usize,
     to: usize,
-) -> Result<Gathered<'a>, LinesFault>
+) -> Result<Gathered<'a>, BundleFault>
     requires within { from + place < to }
     requires lines { to ≤ length lines.now }
     requires few { length lines.now < 4294967295 }
@@ -70,11 +70,8 @@ fn with_line<'a>(
     let words = lines.said_words(alloc, from + place)?;
     match with_words(alloc, clocks, &words, place) {
         Ok(clocks) => Ok(clocks),
-        Err(LineStop::Wrong(reason)) => {
-            let line = (from + place + 1) as u32;
-            Err(LinesFault::Refused { line, reason })
-        }
-        Err(LineStop::NoMemory) => Err(LinesFault::NoMemory),
+        Err(LineStop::Wrong(reason)) => Err(BundleFault::at_place(from + place, reason)),
+        Err(LineStop::NoMemory) => Err(BundleFault::NoMemory),
     }
 }
 
@@ -84,7 +81,7 @@ fn read_lines<'a>(
     lines: &TextLines<'a>,
     from: usize,
     to: usize,
-) -> Result<Gathered<'a>, LinesFault>
+) -> Result<Gathered<'a>, BundleFault>
     requires order { from ≤ to }
     requires lines { to ≤ length lines.now }
     requires few { length lines.now < 4294967295 }
@@ -107,14 +104,14 @@ pub fn read_clocks(
     lines: &TextLines,
     from: usize,
     to: usize,
-) -> Result<ClockList, LinesFault>
+) -> Result<ClockList, BundleFault>
     requires order { from ≤ to }
     requires within { to ≤ length lines.now }
     requires few { length lines.now < 4294967295 }
     ensures ok { IfOk result (λ list. Spells from (slice_range lines.now from to) list.desc list.lines.items) }
     ensures parents { IfOk result (λ list. EachClock list.desc (has_its_parents list.desc)) }
     ensures fits { IfOk result (λ list. length list.desc < 4294967295) }
-    ensures fault { IfErr result (IsFaultOf from (slice_range lines.now from to)) }
+    ensures fault { IfErr result (Tells (Refuses from (slice_range lines.now from to))) }
 {
     let clocks = read_lines(alloc, lines, from, to)?;
     let desc = describe(alloc, &clocks, from)?;

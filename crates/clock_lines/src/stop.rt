@@ -3,14 +3,14 @@
 ghost use Rattle.std.specs.Prelude.{◌≡◌};
 ghost use Rattle.clock_lines.specs.declared.stop.LineStop.TheVariants as stops;
 
-use crate::fault::LineReason;
+use bundle_text::Reason;
 use clk_io::NoMemory;
 
 /// Why the words of a line were not taken.
 #[derive(Drop)]
 pub(crate) enum LineStop {
     /// This is wrong with them.
-    Wrong(LineReason),
+    Wrong(Reason),
     /// Memory ran out.
     NoMemory,
 }

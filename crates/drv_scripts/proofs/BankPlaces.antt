@@ -6,7 +6,7 @@ use Rattle.std.proofs.lemmas.List.{length-set}
 use Rattle.bundle_text.specs.Firsts.{First, KeepsBelow}
 use Rattle.bundle_text.specs.Lines.{line_at}
 use Rattle.bundle_text.specs.Words.{spaced_words}
-use Rattle.drv_scripts.specs.declared.reason.Reason.TheVariants.{NotYet}
+use Rattle.bundle_text.specs.declared.reason.Reason.TheVariants.{NotYet}
 use Rattle.drv_scripts.specs.BankLines.{word_line, with_word}
 use Rattle.drv_scripts.specs.Form.{clocks_end, words_before, keeps_bank_header, keeps_word, keeps_form, fault_at}
 use Rattle.drv_scripts.specs.Sections.{AtWord}

@@ -10,16 +10,18 @@ use Rattle.clk_base.specs.declared.command.Act.TheVariants.{Get, Prepare, Unprep
 use Rattle.clk_base.specs.declared.command.Command.{Command}
 use Rattle.clk_base.specs.Description.{Description, clock_named}
 use Rattle.clk_base.proofs.Names.{clock_named-Some}
+use Rattle.bundle_text.proofs.Rows.{length-said_from}
+use Rattle.bundle_text.proofs.Unless.{unless_none}
 use Rattle.bundle_text.specs.Firsts.{KeepsBelow, said_from, onto}
 use Rattle.bundle_text.specs.Lines.{line_at}
 use Rattle.bundle_text.specs.Words.{spaced_words, is_word}
 use Rattle.std.specs.Prelude.{codes}
 use Rattle.bundle_text.proofs.Headers.{header_from-ge}
 use Rattle.drv_scripts.specs.declared.bundle.Script.{Script}
-use Rattle.drv_scripts.specs.declared.reason.Reason.TheVariants.{NotYet}
+use Rattle.bundle_text.specs.declared.reason.Reason.TheVariants.{NotYet}
 use Rattle.drv_scripts.specs.CommandLines.{CommandLine, gets, acts, act_of, act_in, driver_line, command_line, command_in}
 use Rattle.bundle_text.specs.Names.{is_variable}
-use Rattle.drv_scripts.specs.Form.{clocks_end, words_end, words_before, variables_before, keeps_form, keeps_command, fault_at, unless, command_at}
+use Rattle.drv_scripts.specs.Form.{clocks_end, words_end, words_before, variables_before, keeps_form, keeps_command, fault_at, command_at}
 use Rattle.drv_scripts.specs.Placed.{NamesPlace, NamePlaces, IsScript, IsSound}
 use Rattle.bundle_clocks.specs.Said.{SaidClocks}
 use Rattle.clk_base.specs.Checked.{Checked}
@@ -29,9 +31,6 @@ use Rattle.drv_scripts.specs.declared.bundle.Bundle.{Bundle}
 use Rattle.drv_scripts.proofs.Divided.{Lie}
 use Rattle.drv_scripts.specs.Spelled.{probe, boot_of, commands_from, script_at, scripts_of, bundle_of}
 use Rattle.drv_scripts.proofs.Places.{form-command}
-
-some_none : {X : Type 0} (x : X) → Some x ≡ None → ⊥
-some_none x h = cc
 
 -- ## Boot
 
@@ -108,23 +107,11 @@ commands_placed defs ls from = said_placed (length defs) (command_at defs ls) (c
 
 -- ## How many commands there are
 
-length-onto : {X : Type 0} (found : Option X) (xs : List X) → length (onto found xs) ≤ length xs + 1
-length-onto None xs = omega arith
-length-onto (Some x) xs = omega arith
-
-length-said_from : {X : Type 0} (said : ℕ → Option X) (from count : ℕ) → length (said_from said from count) ≤ count
-length-said_from said from zero = omega arith
-length-said_from said from (suc count) = omega (arith, length-onto (said from) (said_from said (from + 1) count), length-said_from said (from + 1) count)
-
-unless_none : (b : Bool) → unless b NotYet ≡ None → b ≡ true
-unless_none true h = refl
-unless_none false h = absurd (some_none NotYet h)
-
 -- a command is among the first where it has no fault
 command_few : (ls : List (List ℕ)) (size k : ℕ) → 2 ≤ clocks_end ls → clocks_end ls < words_end ls → words_end ls < k → fault_at ls size k ≡ None → k - (words_end ls + 1) < 65536
 unfolding keeps_command
 command_few ls size k low order behind kept =
-    let holds : keeps_command ls k ≡ true = sym (form-command ls size k (omega arith) order behind) ∙ unless_none (keeps_form ls size k) kept in
+    let holds : keeps_command ls k ≡ true = sym (form-command ls size k (omega arith) order behind) ∙ unless_none (keeps_form ls size k) NotYet kept in
     ltb-true _ 65536 (and_parts _ _ holds).0
 
 rows_few : (ls : List (List ℕ)) (size : ℕ) → 2 ≤ clocks_end ls → clocks_end ls < words_end ls → KeepsBelow (fault_at ls size) (length ls) → length ls - (words_end ls + 1) ≤ 65536

@@ -10,7 +10,7 @@ use Rattle.clk_base.specs.Description.{Description}
 use Rattle.bundle_text.specs.Firsts.{First, KeepsBelow}
 use Rattle.bundle_text.specs.Lines.{line_at}
 use Rattle.bundle_text.specs.Words.{spaced_words}
-use Rattle.drv_scripts.specs.declared.reason.Reason.TheVariants.{NotYet}
+use Rattle.bundle_text.specs.declared.reason.Reason.TheVariants.{NotYet}
 use Rattle.drv_scripts.specs.CommandLines.{CommandLine, gets, acts, driver_line, command_line, command_in, has_variable, after_command, after_line, with_variable}
 use Rattle.drv_scripts.specs.Form.{clocks_end, words_end, variables_before, lines_between, keeps_driver, keeps_command, keeps_form, fault_at, command_at}
 use Rattle.drv_scripts.specs.Sections.{AtCommand}

@@ -8,9 +8,9 @@ use Rattle.bundle_clocks.proofs.Decided as clock_laws
 use Rattle.bundle_sections.specs.Said.{Parts}
 use Rattle.clk_base.proofs.Decided.{rules_decided}
 use Rattle.drv_scripts.specs.declared.bundle.Bundle.{Bundle}
-use Rattle.drv_scripts.specs.declared.reason.Reason.{Reason}
+use Rattle.bundle_text.specs.declared.reason.Reason.{Reason}
 use Rattle.drv_scripts.specs.Form.{fault_at}
-use Rattle.drv_scripts.specs.Reasons.{clocks_reason, rule_reason}
+use Rattle.drv_scripts.specs.Reasons.{rule_reason}
 use Rattle.drv_scripts.specs.Spelled.{bundle_of}
 use Rattle.drv_scripts.specs.Verdict.{KeepsRules, PartsSpell, PartsRefuse}
 
@@ -37,5 +37,5 @@ pub parts_decided : (ls : List (List ℕ)) (parts : Parts) → ArePartsDecided l
 parts_decided ls parts =
     elim (clock_laws.section_decided parts.clocks.text ls parts.clocks) [
       | inl x ↦ clocks_decided ls parts x.0 x.1
-      | inr x ↦ inr (x.0, clocks_reason x.1, inl (record { why = x.1; first = x.2; reason_is = refl }))
+      | inr x ↦ inr (x.0, x.1, inl x.2)
     ]

@@ -6,8 +6,9 @@ use Rattle.std.proofs.lemmas.List.{get_or-drop}
 use Rattle.std.proofs.lemmas.List.Sums.{fold_more}
 use Rattle.bundle_text.specs.Firsts.{First, KeepsBelow}
 use Rattle.bundle_text.specs.Lines.{line_at}
-use Rattle.drv_scripts.specs.declared.reason.Reason.TheVariants.{NotYet}
-use Rattle.drv_scripts.specs.Form.{lines_between, clocks_end, words_end, begins_clocks, keeps_form, keeps_bank_header, keeps_word, keeps_driver, keeps_command, fault_at, unless}
+use Rattle.bundle_text.specs.declared.reason.Reason.TheVariants.{NotYet}
+use Rattle.bundle_text.specs.Faults.{unless}
+use Rattle.drv_scripts.specs.Form.{lines_between, clocks_end, words_end, begins_clocks, keeps_form, keeps_bank_header, keeps_word, keeps_driver, keeps_command, fault_at}
 
 -- ## The form at a place
 

@@ -12,13 +12,14 @@ use Rattle.bundle_sections.specs.Verdict as section_verdict
 use Rattle.bundle_sections.proofs.Verdicts as section_laws
 use Rattle.clk_base.specs.Description.{Description, IsFirstFailing}
 use Rattle.clk_base.specs.Valid.{Rule, keeps, number, IsFirstBroken, counts, ranges, bank, apart, acyclic, levels, bounded}
+use Rattle.clk_io.specs.declared.reading.TheConstants.{MOST_BYTES}
 use Rattle.drv_scripts.specs.declared.bundle.Bundle.{Bundle}
-use Rattle.drv_scripts.specs.declared.reason.Reason.{Reason}
-use Rattle.drv_scripts.specs.declared.reason.Reason.TheVariants.{TooLong}
+use Rattle.bundle_text.specs.declared.reason.Reason.{Reason}
+use Rattle.bundle_text.specs.declared.reason.Reason.TheVariants.{TooLong}
 use Rattle.drv_scripts.specs.Form.{fault_at}
-use Rattle.drv_scripts.specs.Reasons.{form_reason, clocks_reason, rule_reason}
+use Rattle.drv_scripts.specs.Reasons.{rule_reason}
 use Rattle.drv_scripts.specs.Spelled.{boot_of, scripts_of, bundle_of}
-use Rattle.drv_scripts.specs.Verdict.{most_bytes, last_line, KeepsRules, PartsSpell, IsUnsaid, Breaks, BreaksRule, LacksForm, PartsRefuse, Accepts, Refuses, IsUndivided, IsDivided}
+use Rattle.drv_scripts.specs.Verdict.{last_line, KeepsRules, PartsSpell, Breaks, BreaksRule, LacksForm, PartsRefuse, Accepts, Refuses, IsUndivided, IsDivided}
 use Rattle.drv_scripts.proofs.Bundles.{drivers_of, boot_commands_of, order_of, desc_of}
 use Rattle.drv_scripts.proofs.Decided.{parts_decided}
 
@@ -78,8 +79,8 @@ breaks_kept words defs numbers line reason kept x = both_ways _ x.first.clock.fa
 said_same : (ls : List (List ℕ)) (parts : Parts) (a b : SaidClocks) → clock_verdict.Says ls parts.clocks a → clock_verdict.Says ls parts.clocks b → a ≡ b
 said_same ls parts a b x y = clock_laws.one_meaning parts.clocks.text ls parts.clocks a b x y
 
-said_refused : (ls : List (List ℕ)) (parts : Parts) (a : SaidClocks) (line : ℕ) (reason : Reason) → clock_verdict.Says ls parts.clocks a → IsUnsaid ls parts line reason → ⊥
-said_refused ls parts a line reason x y = clock_laws.never_both parts.clocks.text ls parts.clocks a line y.why x y.first
+said_refused : (ls : List (List ℕ)) (parts : Parts) (a : SaidClocks) (line : ℕ) (reason : Reason) → clock_verdict.Says ls parts.clocks a → clock_verdict.Refuses ls parts.clocks line reason → ⊥
+said_refused ls parts a line reason x y = clock_laws.never_both parts.clocks.text ls parts.clocks a line reason x y
 
 pub parts_same : (ls : List (List ℕ)) (parts : Parts) (a b : Bundle) → PartsSpell ls parts a → PartsSpell ls parts b → a ≡ b
 parts_same ls parts a b x y =
@@ -95,11 +96,6 @@ parts_both ls parts b line reason x (inl y) = said_refused ls parts x.said line 
 parts_both ls parts b line reason x (inr (inl y)) = rules_and_breaks ls parts x.said line reason x.says x.rules y
 parts_both ls parts b line reason x (inr (inr y)) = First-kept (fault_at ls parts.bank.words) (length ls) y.place reason x.kept y.first
 
-refused_same : (ls : List (List ℕ)) (parts : Parts) (line other : ℕ) (reason why : Reason) → IsUnsaid ls parts line reason → IsUnsaid ls parts other why → (line ≡ other) × (reason ≡ why)
-refused_same ls parts line other reason why x y =
-    let same = clock_laws.one_refusal parts.clocks.text ls parts.clocks line other x.why y.why x.first y.first in
-    (same.0, x.reason_is ∙ (ap clocks_reason same.1 ∙ sym y.reason_is))
-
 rules_same : (ls : List (List ℕ)) (parts : Parts) (line other : ℕ) (reason why : Reason) → BreaksRule ls parts line reason → BreaksRule ls parts other why → (line ≡ other) × (reason ≡ why)
 rules_same ls parts line other reason why x y =
     let same = said_same ls parts x.said y.said x.says y.says in
@@ -111,7 +107,7 @@ forms_same ls parts line other reason why x y =
     (x.line_is ∙ (ap (λ k. k + 1) same.0 ∙ sym y.line_is), same.1)
 
 pub parts_refused_same : (ls : List (List ℕ)) (parts : Parts) (line other : ℕ) (reason why : Reason) → PartsRefuse ls parts line reason → PartsRefuse ls parts other why → (line ≡ other) × (reason ≡ why)
-parts_refused_same ls parts line other reason why (inl x) (inl y) = refused_same ls parts line other reason why x y
+parts_refused_same ls parts line other reason why (inl x) (inl y) = clock_laws.one_refusal parts.clocks.text ls parts.clocks line other reason why x y
 parts_refused_same ls parts line other reason why (inl x) (inr (inl y)) = absurd (said_refused ls parts y.said line reason y.says x)
 parts_refused_same ls parts line other reason why (inl x) (inr (inr y)) = absurd (said_refused ls parts y.said line reason y.says x)
 parts_refused_same ls parts line other reason why (inr (inl x)) (inl y) = absurd (said_refused ls parts x.said other why x.says y)
@@ -132,7 +128,7 @@ same_bundle bytes a b x y =
     parts_same (lines bytes) y.parts a b (subst (λ parts. PartsSpell (lines bytes) parts a) same x.spelled) y.spelled
 
 undivided_parts : (bytes : List ℕ) (parts : Parts) (line : ℕ) (reason : Reason) → section_verdict.Accepts (lines bytes) parts → IsUndivided bytes line reason → ⊥
-undivided_parts bytes parts line reason x y = section_laws.never_both (lines bytes) parts (last_line bytes) line y.why x y.first
+undivided_parts bytes parts line reason x y = section_laws.never_both (lines bytes) parts (last_line bytes) line reason x y.first
 
 pub never_both : (bytes : List ℕ) (b : Bundle) (line : ℕ) (reason : Reason) → Accepts bytes b → Refuses bytes line reason → ⊥
 never_both bytes b line reason x (inl y) = omega (arith, x.fits, y.over)
@@ -142,9 +138,7 @@ never_both bytes b line reason x (inr (inr y)) =
     parts_both (lines bytes) y.parts b line reason (subst (λ parts. PartsSpell (lines bytes) parts b) same x.spelled) y.refused
 
 undivided_same : (bytes : List ℕ) (line other : ℕ) (reason why : Reason) → IsUndivided bytes line reason → IsUndivided bytes other why → (line ≡ other) × (reason ≡ why)
-undivided_same bytes line other reason why x y =
-    let same = section_laws.same_refusal (lines bytes) (last_line bytes) line other x.why y.why x.first y.first in
-    (same.0, x.reason_is ∙ (ap form_reason same.1 ∙ sym y.reason_is))
+undivided_same bytes line other reason why x y = section_laws.same_refusal (lines bytes) (last_line bytes) line other reason why x.first y.first
 
 divided_same : (bytes : List ℕ) (line other : ℕ) (reason why : Reason) → IsDivided bytes line reason → IsDivided bytes other why → (line ≡ other) × (reason ≡ why)
 divided_same bytes line other reason why x y =
@@ -166,7 +160,7 @@ abbrev IsDecided : List ℕ → Type 0
 IsDecided bytes = ((b : Bundle) × Accepts bytes b) ⊎ ((line : ℕ) × (reason : Reason) × Refuses bytes line reason)
 
 -- the lines stand in sections
-divided : (bytes : List ℕ) → length bytes ≤ most_bytes → (parts : Parts) → section_verdict.Accepts (lines bytes) parts → IsDecided bytes
+divided : (bytes : List ℕ) → length bytes ≤ MOST_BYTES → (parts : Parts) → section_verdict.Accepts (lines bytes) parts → IsDecided bytes
 divided bytes fits parts sections =
     elim (parts_decided (lines bytes) parts) [
       | inl x ↦ inl (x.0, record { fits = fits; parts = parts; sections = sections; spelled = x.1 })
@@ -174,16 +168,16 @@ divided bytes fits parts sections =
     ]
 
 -- the bytes are few enough
-fitting : (bytes : List ℕ) → length bytes ≤ most_bytes → IsDecided bytes
+fitting : (bytes : List ℕ) → length bytes ≤ MOST_BYTES → IsDecided bytes
 fitting bytes fits =
     elim (section_laws.each_decided (lines bytes) (last_line bytes)) [
       | inl x ↦ divided bytes fits x.0 x.1
-      | inr x ↦ inr (x.0, form_reason x.1, inr (inl (record { fits = fits; why = x.1; first = x.2; reason_is = refl })))
+      | inr x ↦ inr (x.0, x.1, inr (inl (record { fits = fits; first = x.2 })))
     ]
 
 pub each_decided : (bytes : List ℕ) → ((b : Bundle) × Accepts bytes b) ⊎ ((line : ℕ) × (reason : Reason) × Refuses bytes line reason)
 each_decided bytes =
-    elim (cases_lt most_bytes (length bytes)) [
+    elim (cases_lt MOST_BYTES (length bytes)) [
       | inl over ↦ inr (0, TooLong, inl (record { over = over; line_is = refl; reason_is = refl }))
       | inr fits ↦ fitting bytes (omega (arith, fits))
     ]

@@ -6,10 +6,11 @@ use Rattle.std.specs.Option.{option_map, option_map_or, is_some}
 use Rattle.std.specs.Str.{bytes_eq}
 use Rattle.clk_base.specs.declared.command.Command.{Command}
 use Rattle.clk_base.specs.Description.{Description}
+use Rattle.bundle_text.specs.Faults.{unless}
 use Rattle.bundle_text.specs.Lines.{line_at, header_from}
 use Rattle.bundle_text.specs.Words.{spaced_words}
-use Rattle.drv_scripts.specs.declared.reason.Reason.{Reason}
-use Rattle.drv_scripts.specs.declared.reason.Reason.TheVariants.{NotYet}
+use Rattle.bundle_text.specs.declared.reason.Reason.{Reason}
+use Rattle.bundle_text.specs.declared.reason.Reason.TheVariants.{NotYet}
 use Rattle.drv_scripts.specs.BankLines.{bank_line, word_line, words_of}
 use Rattle.drv_scripts.specs.CommandLines.{driver_line, command_line, command_in, variables_of, has_variable}
 
@@ -32,11 +33,6 @@ words_before ls size k = words_of size (lines_between ls (clocks_end ls + 1) k)
 -- the variables of the commands before a place
 unfoldable pub variables_before : List (List ℕ) → ℕ → List (List ℕ)
 variables_before ls k = variables_of (lines_between ls (words_end ls + 1) k)
-
--- a fault unless the test holds
-abbrev pub unless : Bool → Reason → Option Reason
-unless true reason = None
-unless false reason = Some reason
 
 -- the second line is the header of the clocks and nothing else
 unfoldable pub begins_clocks : List ℕ → Bool

@@ -1,8 +1,8 @@
 -- What a reader of lines promises: the lines up to a place keep the form and say this, or why not.
 use Rattle.std.specs.Prelude.{◌≡◌, ℕ, ◌+◌, ◌^◌, ◌<◌, ◌≤◌, List, length, Result, MatchResult}
 use Rattle.bundle_text.specs.Firsts.{First, KeepsBelow}
-use Rattle.drv_scripts.specs.declared.reason.BundleFault.{BundleFault}
-use Rattle.drv_scripts.specs.declared.reason.BundleFault.TheVariants as faults
+use Rattle.bundle_text.specs.declared.fault.BundleFault.{BundleFault}
+use Rattle.bundle_text.specs.declared.fault.BundleFault.TheVariants as faults
 use Rattle.drv_scripts.specs.declared.stop.Stop.{Stop}
 use Rattle.drv_scripts.specs.declared.stop.Stop.TheVariants.{At, NoMemory}
 use Rattle.drv_scripts.specs.Form.{fault_at, clocks_end, words_end, words_before, variables_before}

@@ -2,26 +2,19 @@
 use Rattle.std.specs.Prelude.{◌≡◌, ℕ, ◌+◌, ◌<◌, ◌≤◌, ◌==◌, ◌⊎◌, List, length, slice_index, count_by}
 use Rattle.std.specs.Str.Lines.{lines}
 use Rattle.bundle_text.specs.Firsts.{First, KeepsBelow}
-use Rattle.bundle_clocks.specs.declared.fault.ClocksReason.{ClocksReason}
 use Rattle.bundle_clocks.specs.Said.{SaidClocks}
 use Rattle.bundle_clocks.specs.Verdict as clock_verdict
-use Rattle.bundle_sections.specs.declared.fault.FormReason.{FormReason}
 use Rattle.bundle_sections.specs.Said.{Parts}
 use Rattle.bundle_sections.specs.Verdict as section_verdict
 use Rattle.clk_base.specs.Description.{Description, EachClock}
 use Rattle.clk_base.specs.Valid.{Rule, keeps, IsFirstBroken}
+use Rattle.clk_io.specs.declared.reading.TheConstants.{MOST_BYTES}
 use Rattle.drv_scripts.specs.declared.bundle.Bundle.{Bundle}
-use Rattle.drv_scripts.specs.declared.reason.BundleFault.{BundleFault}
-use Rattle.drv_scripts.specs.declared.reason.BundleFault.TheVariants.{Refused, NoMemory}
-use Rattle.drv_scripts.specs.declared.reason.Reason.{Reason}
-use Rattle.drv_scripts.specs.declared.reason.Reason.TheVariants.{TooLong}
+use Rattle.bundle_text.specs.declared.reason.Reason.{Reason}
+use Rattle.bundle_text.specs.declared.reason.Reason.TheVariants.{TooLong}
 use Rattle.drv_scripts.specs.Form.{fault_at}
-use Rattle.drv_scripts.specs.Reasons.{form_reason, clocks_reason, rule_reason}
+use Rattle.drv_scripts.specs.Reasons.{rule_reason}
 use Rattle.drv_scripts.specs.Spelled.{bundle_of}
-
--- the most bytes of a bundle
-abbrev pub most_bytes : ℕ
-most_bytes = 16777216
 
 -- the line behind the last line feed, counted from 1
 abbrev pub last_line : List ℕ → ℕ
@@ -39,12 +32,6 @@ pub record PartsSpell (ls : List (List ℕ)) (parts : Parts) (b : Bundle) : Type
   pub rules : KeepsRules parts.bank.words said.defs
   pub kept : KeepsBelow (fault_at ls parts.bank.words) (length ls)
   pub content : b ≡ bundle_of ls parts.bank.words said
-
--- the section of the clocks is refused
-pub record IsUnsaid (ls : List (List ℕ)) (parts : Parts) (line : ℕ) (reason : Reason) : Type 0 where
-  pub why : ClocksReason
-  pub first : clock_verdict.Refuses ls parts.clocks line why
-  pub reason_is : reason ≡ clocks_reason why
 
 -- this is the first rule that a clock breaks, and the line of the first clock that breaks it
 pub record Breaks (words : ℕ) (defs : Description) (numbers : List ℕ) (line : ℕ) (reason : Reason) : Type 0 where
@@ -71,31 +58,29 @@ pub record LacksForm (ls : List (List ℕ)) (parts : Parts) (line : ℕ) (reason
 
 -- lines in these sections are refused: for the section of the clocks, else for a rule, else for the form
 abbrev pub PartsRefuse : List (List ℕ) → Parts → ℕ → Reason → Type 0
-PartsRefuse ls parts line reason = IsUnsaid ls parts line reason ⊎ (BreaksRule ls parts line reason ⊎ LacksForm ls parts line reason)
+PartsRefuse ls parts line reason = clock_verdict.Refuses ls parts.clocks line reason ⊎ (BreaksRule ls parts line reason ⊎ LacksForm ls parts line reason)
 
 -- the bytes spell the bundle: they are few enough, and their lines stand in sections that spell it
 pub record Accepts (bytes : List ℕ) (b : Bundle) : Type 0 where
-  pub fits : length bytes ≤ most_bytes
+  pub fits : length bytes ≤ MOST_BYTES
   pub parts : Parts
   pub sections : section_verdict.Accepts (lines bytes) parts
   pub spelled : PartsSpell (lines bytes) parts b
 
 -- the bytes are too many; this is no line's fault
 pub record IsTooLong (bytes : List ℕ) (line : ℕ) (reason : Reason) : Type 0 where
-  pub over : most_bytes < length bytes
+  pub over : MOST_BYTES < length bytes
   pub line_is : line ≡ 0
   pub reason_is : reason ≡ TooLong
 
 -- the lines stand in no sections
 pub record IsUndivided (bytes : List ℕ) (line : ℕ) (reason : Reason) : Type 0 where
-  pub fits : length bytes ≤ most_bytes
-  pub why : FormReason
-  pub first : section_verdict.Refuses (lines bytes) (last_line bytes) line why
-  pub reason_is : reason ≡ form_reason why
+  pub fits : length bytes ≤ MOST_BYTES
+  pub first : section_verdict.Refuses (lines bytes) (last_line bytes) line reason
 
 -- the lines stand in sections that are refused
 pub record IsDivided (bytes : List ℕ) (line : ℕ) (reason : Reason) : Type 0 where
-  pub fits : length bytes ≤ most_bytes
+  pub fits : length bytes ≤ MOST_BYTES
   pub parts : Parts
   pub sections : section_verdict.Accepts (lines bytes) parts
   pub refused : PartsRefuse (lines bytes) parts line reason
@@ -104,18 +89,3 @@ pub record IsDivided (bytes : List ℕ) (line : ℕ) (reason : Reason) : Type 0 
 -- begins where the ones before it found nothing
 abbrev pub Refuses : List ℕ → ℕ → Reason → Type 0
 Refuses bytes line reason = IsTooLong bytes line reason ⊎ (IsUndivided bytes line reason ⊎ IsDivided bytes line reason)
-
--- the fault says why the bytes spell no bundle; want of memory says nothing of them
-abbrev pub IsFaultOf : List ℕ → BundleFault → Type 0
-IsFaultOf bytes (Refused line reason) = Refuses bytes line reason
-IsFaultOf bytes NoMemory = Unit {0}
-
--- the same of lines in sections
-abbrev pub IsPartsFault : List (List ℕ) → Parts → BundleFault → Type 0
-IsPartsFault ls parts (Refused line reason) = PartsRefuse ls parts line reason
-IsPartsFault ls parts NoMemory = Unit {0}
-
--- the same of clocks and their lines
-abbrev pub IsRuleFault : ℕ → Description → List ℕ → BundleFault → Type 0
-IsRuleFault words defs numbers (Refused line reason) = Breaks words defs numbers line reason
-IsRuleFault words defs numbers NoMemory = Unit {0}

@@ -13,17 +13,13 @@ mod command_lines;
 mod driver_section;
 mod listed;
 mod reading;
-mod reason;
 mod rules;
 mod stop;
 mod variables;
 mod verdict;
 
 pub use bundle::{Bundle, DriverName, LateLine, LockLine, Script};
+pub use bundle_text::{BundleFault, Reason};
 pub use listed::Listed;
 pub use reading::read_bundle;
-pub use reason::{BundleFault, Reason};
 pub use verdict::one_verdict;
-
-#[cfg(test)]
-mod tests;

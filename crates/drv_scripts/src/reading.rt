@@ -7,26 +7,26 @@ ghost use Rattle.bundle_clocks.specs.Source.{text_of_lines};
 ghost use Rattle.bundle_sections.specs.Said.{in_order};
 ghost use Rattle.bundle_sections.specs.Verdict.{IsSection, Tiles};
 ghost use Rattle.bundle_sections.specs.Verdict as section_verdict;
+ghost use Rattle.bundle_text.specs.Faults.{Tells};
 ghost use Rattle.bundle_text.specs.Firsts.{KeepsBelow};
 ghost use Rattle.bundle_text.specs.Lines.{line_at, header_from};
 ghost use Rattle.drv_scripts.specs.Form.{fault_at, clocks_end, words_end, begins_clocks};
 ghost use Rattle.drv_scripts.specs.Placed.{IsSound};
 ghost use Rattle.drv_scripts.specs.Sections.{Section, IsPlaced, stop_told};
 ghost use Rattle.drv_scripts.specs.Spelled.{boot_of, scripts_of, bundle_of};
-ghost use Rattle.drv_scripts.specs.Verdict.{Accepts, PartsSpell, IsFaultOf, IsPartsFault};
+ghost use Rattle.drv_scripts.specs.Verdict.{Accepts, PartsSpell, PartsRefuse, Refuses};
 
 use crate::bank_section::{check_bank_header, read_words};
 use crate::bundle::{Bundle, Script};
 use crate::driver_section::read_driver;
 use crate::listed::Listed;
-use crate::reason::{BundleFault, Reason, clocks_reason, form_reason};
 use crate::rules::check_rules;
 use crate::stop::{Stop, not_yet};
-use bundle_clocks::{ClocksFault, read_clocks_part};
-use bundle_sections::{FormFault, Sections, read_sections};
-use bundle_text::{TextLines, line_feeds};
+use bundle_clocks::read_clocks_part;
+use bundle_sections::{Sections, read_sections};
+use bundle_text::{BundleFault, Reason, TextLines};
 use clk_base::{Act, ClockId, Command, ValidDesc};
-use clk_io::MOST_BYTES;
+use clk_io::{MOST_BYTES, line_feeds};
 use std::alloc::{AllocError, Global};
 
 // Whether a line is the header of the clocks and nothing else.
@@ -149,10 +149,7 @@ fn form_stop(stop: Stop) -> BundleFault
     ensures { result ≡ stop_told stop }
 {
     match stop {
-        Stop::At { place, reason } => BundleFault::Refused {
-            line: place as u32 + 1,
-            reason,
-        },
+        Stop::At { place, reason } => BundleFault::at_place(place, reason),
         Stop::NoMemory => BundleFault::NoMemory,
     }
 }
@@ -163,21 +160,12 @@ fn read_parts(alloc: Global, lines: &TextLines, sections: &Sections) -> Result<B
     requires tiled { Tiles (header_from lines.now 1) (in_order sections.now) (length lines.now) }
     requires each { AllByRecursion (IsSection lines.now) (in_order sections.now) }
     requires few { length lines.now < 2 ^ 31 }
-    requires room { length (text_of_lines lines.now) ≤ 16777217 }
+    requires room { length (text_of_lines lines.now) ≤ MOST_BYTES + 1 }
     ensures spelled { IfOk result (PartsSpell lines.now sections.now) }
     ensures sound { IfOk result IsSound }
-    ensures fault { IfErr result (IsPartsFault lines.now sections.now) }
+    ensures fault { IfErr result (Tells (PartsRefuse lines.now sections.now)) }
 {
-    let clocks = match read_clocks_part(alloc, lines, sections.clocks()) {
-        Ok(clocks) => clocks,
-        Err(ClocksFault::Refused { line, reason }) => {
-            return Err(BundleFault::Refused {
-                line,
-                reason: clocks_reason(reason),
-            });
-        }
-        Err(ClocksFault::NoMemory) => return Err(BundleFault::NoMemory),
-    };
+    let clocks = read_clocks_part(alloc, lines, sections.clocks())?;
     let desc = check_rules(alloc, clocks.desc, &clocks.lines, sections.bank().words)?;
     match read_form(alloc, lines, desc, clocks.lines, clocks.assigned) {
         Ok(bundle) => Ok(bundle),
@@ -192,7 +180,7 @@ fn read_parts(alloc: Global, lines: &TextLines, sections: &Sections) -> Result<B
 pub fn read_bundle(alloc: Global, bytes: &[u8]) -> Result<Bundle, BundleFault>
     ensures accepted { IfOk result (Accepts bytes.now) }
     ensures sound { IfOk result IsSound }
-    ensures refused { IfErr result (IsFaultOf bytes.now) }
+    ensures refused { IfErr result (Tells (Refuses bytes.now)) }
 {
     if bytes.len() > MOST_BYTES {
         return Err(BundleFault::Refused {
@@ -201,15 +189,6 @@ pub fn read_bundle(alloc: Global, bytes: &[u8]) -> Result<Bundle, BundleFault>
         });
     }
     let lines = TextLines::new(alloc, bytes)?;
-    let sections = match read_sections(alloc, &lines, line_feeds(bytes) as u32 + 1) {
-        Ok(sections) => sections,
-        Err(FormFault::Refused { line, reason }) => {
-            return Err(BundleFault::Refused {
-                line,
-                reason: form_reason(reason),
-            });
-        }
-        Err(FormFault::NoMemory) => return Err(BundleFault::NoMemory),
-    };
+    let sections = read_sections(alloc, &lines, line_feeds(bytes) as u32 + 1)?;
     read_parts(alloc, &lines, &sections)
 }

@@ -1,12 +1,13 @@
 //! The rules that the clocks keep.
 
 ghost use Rattle.std.specs.Prelude.{◌≡◌, slice_index, IfOk, IfErr, OnOk};
+ghost use Rattle.bundle_text.specs.Faults.{Tells};
 ghost use Rattle.clk_base.specs.Description.{EachClock};
 ghost use Rattle.clk_base.specs.Valid.{has_its_parents, IsValid};
 ghost use Rattle.drv_scripts.specs.Reasons.{rule_told};
-ghost use Rattle.drv_scripts.specs.Verdict.{IsRuleFault};
+ghost use Rattle.drv_scripts.specs.Verdict.{Breaks};
 
-use crate::reason::{BundleFault, Reason};
+use bundle_text::{BundleFault, Reason};
 use clk_base::{ClockId, Desc, DescFault, ValidDesc};
 use std::alloc::Global;
 
@@ -46,7 +47,7 @@ pub(crate) fn check_rules(
     requires { EachClock desc (has_its_parents desc) }
     ensures same { IfOk result (λ valid. valid ≡ record { defs = desc; words = words }) }
     ensures valid { OnOk result (IsValid words desc) }
-    ensures fault { IfErr result (IsRuleFault words desc lines.now) }
+    ensures fault { IfErr result (Tells (Breaks words desc lines.now)) }
 {
     match desc.check(alloc, words) {
         Ok(valid) => Ok(valid),

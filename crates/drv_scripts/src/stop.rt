@@ -3,7 +3,7 @@
 ghost use Rattle.std.specs.Prelude.{◌≡◌};
 ghost use Rattle.drv_scripts.specs.declared.stop.Stop.TheVariants as stops;
 
-use crate::reason::Reason;
+use bundle_text::Reason;
 use clk_io::NoMemory;
 use std::alloc::{AllocError, AllocFailed};
 

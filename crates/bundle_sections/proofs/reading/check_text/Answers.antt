@@ -7,7 +7,7 @@ use Rattle.bundle_sections.proofs.reading.check_text.Goals as goal
 pub returns-then-not-is_text : goal.returns-then-not-is_text
 returns-then-not-is_text c =
     let broken = text_broken c.args.lines.now c.loop-at.at (sym (ap is_utf8 c.line.ensures) ∙ sym c.is_text.ensures ∙ c.if-not-is_text.true) in
-    stopped _ _ c.loop-at.at _ _ c.refused.ensures (omega arith) c.loop-at.invariant broken
+    stopped _ _ c.loop-at.at _ _ c.at_place.ensures (omega arith) c.loop-at.invariant broken
 
 pub loop-at-preserved : goal.loop-at-preserved
 loop-at-preserved c =

@@ -11,14 +11,14 @@ returns-in-Err c =
     let words = ap texts c.deref.ensures.value ∙ c.in_ok-words.ensures in
     let read = sym (ap read_header words) ∙ c.in-Err.ensures in
     let broken = header_broken c.args.lines.now c.args.at _ _ c.requires.at c.requires.within (ap (header_fault (map said_section c.args.found.now)) read) in
-    stopped _ _ c.args.at _ _ c.refused.ensures (omega arith) c.requires.at.kept broken
+    stopped _ _ c.args.at _ _ c.at_place.ensures (omega arith) c.requires.at.kept broken
 
 pub returns-in-Some : goal.returns-in-Some
 returns-in-Some c =
     let words = ap texts c.deref.ensures.value ∙ c.in_ok-words.ensures in
     let read = sym (ap read_header words) ∙ c.in-Ok.ensures in
     let broken = header_broken c.args.lines.now c.args.at _ _ c.requires.at c.requires.within (ap (header_fault (map said_section c.args.found.now)) read ∙ sym c.order_fault.ensures ∙ c.in-Some.is) in
-    stopped _ _ c.args.at _ _ c.refused-in-Some.ensures (omega arith) c.requires.at.kept broken
+    stopped _ _ c.args.at _ _ c.at_place-in-Some.ensures (omega arith) c.requires.at.kept broken
 
 pub returns : goal.returns
 returns c =

@@ -7,7 +7,7 @@ use Rattle.std.proofs.lemmas.Iterator.{YieldsList-from_slice}
 use Rattle.std.proofs.lemmas.Iterator.Search.{all_from_yields_List}
 use Rattle.bundle_text.specs.Words.{texts}
 use Rattle.clock_lines.specs.FlagWords.{is_common_flag, is_own_flag, are_flags}
-use Rattle.clock_lines.proofs.Borrowed.{list_all-texts}
+use Rattle.bundle_text.proofs.Mapped.{list_all-texts}
 use Rattle.clock_lines.proofs.flag_words.are_flags.Goals as goal
 
 pub returns : goal.returns

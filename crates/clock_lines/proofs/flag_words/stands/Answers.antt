@@ -4,7 +4,7 @@ use Rattle.std.specs.Borrow.{Bor}
 use Rattle.std.specs.Str.{bytes_eq}
 use Rattle.std.proofs.lemmas.Iterator.{YieldsList-from_slice}
 use Rattle.std.proofs.lemmas.Iterator.Search.{any_from_yields_List}
-use Rattle.clock_lines.proofs.Borrowed.{list_any-texts}
+use Rattle.bundle_text.proofs.Mapped.{list_any-texts}
 use Rattle.clock_lines.proofs.flag_words.stands.Goals as goal
 
 pub returns : goal.returns

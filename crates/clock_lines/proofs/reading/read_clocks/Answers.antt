@@ -4,7 +4,8 @@ use Rattle.std.specs.Prelude.{slice_range}
 use Rattle.std.proofs.lemmas.List.{length-map}
 use Rattle.std.proofs.lemmas.Result.{err_from_is_err_and}
 use Rattle.clock_lines.specs.Section.{clock_in}
-use Rattle.clock_lines.specs.Verdict.{IsFaultOf}
+use Rattle.bundle_text.specs.Faults.{Tells}
+use Rattle.clock_lines.specs.Verdict.{Refuses}
 use Rattle.clock_lines.proofs.Turns.{length-section}
 use Rattle.clock_lines.proofs.Whole.{few-clocks, stand-apart, have-lines, lacks-fault, spells, each-has_parents}
 use Rattle.clock_lines.proofs.reading.read_clocks.Goals as goal
@@ -35,7 +36,7 @@ pub returns-in_err-desc-clause-fault : goal.returns-in_err-desc-clause-fault
 returns-in_err-desc-clause-fault c =
     let section = slice_range c.args.lines.now c.args.from c.args.to in
     let p = err_from_is_err_and c.from_residual-in_err-desc.result c.from_residual-in_err-desc.ensures.1 in
-    rw p.1 (subst (IsFaultOf c.args.from section) (sym p.2) (lacks-fault c.args.from section c.in_ok-clocks.clocks _ c.in_ok-clocks.ensures c.in_err-desc.ensures))
+    rw p.1 (subst (Tells (Refuses c.args.from section)) (sym p.2) (lacks-fault c.args.from section c.in_ok-clocks.clocks _ c.in_ok-clocks.ensures c.in_err-desc.ensures))
 
 pub returns-clause-ok : goal.returns-clause-ok
 returns-clause-ok c =

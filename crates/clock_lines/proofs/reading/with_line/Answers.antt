@@ -1,7 +1,8 @@
 -- The line of the section is the one of the text.
-use Rattle.std.proofs.Common.{ap, sym, ◌∙◌, ◌<◌, length, arith}
+use Rattle.std.proofs.Common.{ap, subst, sym, ◌∙◌, ◌<◌, length, arith}
 use Rattle.std.specs.Prelude.{slice_range}
 use Rattle.bundle_text.specs.Words.{texts, said_words}
+use Rattle.clock_lines.specs.Verdict.{FirstFault}
 use Rattle.clock_lines.proofs.Turns.{line-at, length-section, read-more, read-fault}
 use Rattle.clock_lines.proofs.reading.with_line.Goals as goal
 
@@ -19,4 +20,5 @@ returns-in-Err-Wrong c =
     let size = length-section ls c.args.from c.args.to (omega arith) c.requires.lines in
     let within : c.args.place < length (slice_range ls c.args.from c.args.to) = omega arith in
     let h = rw c.in-Err-Wrong.field-0-is at c.in-Err-Wrong.ensures in
-    read-fault c.args.from (slice_range ls c.args.from c.args.to) c.args.place c.args.clocks (texts c.deref.result.now) c.in-Err-Wrong.reason within c.requires.read said h
+    subst (FirstFault c.args.from (slice_range ls c.args.from c.args.to)) (sym c.at_place.ensures)
+    (read-fault c.args.from (slice_range ls c.args.from c.args.to) c.args.place c.args.clocks (texts c.deref.result.now) c.in-Err-Wrong.reason within c.requires.read said h)

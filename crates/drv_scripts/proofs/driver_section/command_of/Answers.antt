@@ -1,7 +1,7 @@
 use Rattle.std.proofs.Common.{ap, sym, refl}
 use Rattle.std.specs.Str.{bytes_eq}
 use Rattle.drv_scripts.specs.CommandLines.{command_in}
-use Rattle.drv_scripts.proofs.Numbered.{list_any-None, list_any-Some}
+use Rattle.bundle_text.proofs.Found.{list_any-None, list_any-Some}
 use Rattle.drv_scripts.proofs.driver_section.command_of.Goals as goal
 
 pub returns-in_default : goal.returns-in_default

@@ -18,13 +18,13 @@ read_form-requires-clause-some c =
 pub read_form-requires-clause-bank : goal.read_form-requires-clause-bank
 read_form-requires-clause-bank c = clocks_within c.args.lines.now c.args.sections.now (parts_lie c.args.lines.now c.args.sections.now c.requires.tiled c.requires.each)
 
-pub returns-in-Ok-read_form-clause-sound : goal.returns-in-Ok-read_form-clause-sound
-returns-in-Ok-read_form-clause-sound c =
+pub returns-in-Ok-clause-sound : goal.returns-in-Ok-clause-sound
+returns-in-Ok-clause-sound c =
     let ls = c.args.lines.now in
     let lie = parts_lie ls c.args.sections.now c.requires.tiled c.requires.each in
-    let count = lines_count _ ls _ _ c.in-Ok.ensures.said in
-    let read = c.in-Ok-read_form.ensures in
+    let count = lines_count _ ls _ _ c.in_ok-clocks.ensures.said in
+    let read = c.in-Ok.ensures in
     let size = ap (λ s. s.words) c.bank.ensures in
-    let same = c.in_ok-desc.ensures.same ∙ ap (λ words. record { defs = c.in-Ok.clocks.desc; words = words }) size in
-    let valid = subst (λ words. IsValid words c.in-Ok.clocks.desc) size c.in_ok-desc.ensures.valid in
-    parts_sound ls c.args.sections.now c.in_ok-desc.desc _ _ _ c.in-Ok-read_form.bundle lie same valid count read.0 read.1.0 read.1.1
+    let same = c.in_ok-desc.ensures.same ∙ ap (λ words. record { defs = c.in_ok-clocks.clocks.desc; words = words }) size in
+    let valid = subst (λ words. IsValid words c.in_ok-clocks.clocks.desc) size c.in_ok-desc.ensures.valid in
+    parts_sound ls c.args.sections.now c.in_ok-desc.desc _ _ _ c.in-Ok.bundle lie same valid count read.0 read.1.0 read.1.1

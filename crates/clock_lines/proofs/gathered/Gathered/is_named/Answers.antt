@@ -3,7 +3,7 @@ use Rattle.std.proofs.Common.{ap, ◌∙◌}
 use Rattle.std.specs.List.{list_any}
 use Rattle.std.specs.Str.{bytes_eq}
 use Rattle.clock_lines.specs.Section.{names_of}
-use Rattle.clock_lines.proofs.Borrowed.{list_any-texts}
+use Rattle.bundle_text.proofs.Mapped.{list_any-texts}
 use Rattle.clock_lines.proofs.gathered.Gathered.is_named.Goals as goal
 
 pub returns : goal.returns

@@ -3,7 +3,7 @@ use Rattle.std.proofs.Common.{ap, ◌∙◌}
 use Rattle.std.specs.List.{position}
 use Rattle.std.specs.Str.{bytes_eq}
 use Rattle.clock_lines.specs.Section.{names_of}
-use Rattle.clock_lines.proofs.Borrowed.{position-texts}
+use Rattle.bundle_text.proofs.Mapped.{position-texts}
 use Rattle.clock_lines.proofs.gathered.Gathered.place_of.Goals as goal
 
 pub returns-in-None : goal.returns-in-None

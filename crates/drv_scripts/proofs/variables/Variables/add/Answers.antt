@@ -3,14 +3,15 @@ use Rattle.std.specs.List.{position}
 use Rattle.std.specs.Str.{bytes_eq}
 use Rattle.bundle_text.specs.Words.{texts}
 use Rattle.drv_scripts.specs.CommandLines.{with_variable}
-use Rattle.drv_scripts.proofs.Numbered.{position_or_len-texts, position-with, texts-with}
+use Rattle.bundle_text.proofs.Mapped.{position_or_len-texts}
+use Rattle.drv_scripts.proofs.Numbered.{position-with, texts-with}
 use Rattle.drv_scripts.proofs.variables.Variables.add.Goals as goal
 
 pub returns-clause-number : goal.returns-clause-number
 returns-clause-number c =
     let keys = c.self.inside.names.keys in
     ap (position (bytes_eq c.args.var.now)) (ap texts c.in_ok-place.ensures.keys ∙ texts-with c.args.var keys)
-    ∙ (position-with c.args.var.now (texts keys) ∙ ap Some (sym (c.in_ok-place.ensures.index ∙ position_or_len-texts c.args.var.now keys)))
+    ∙ (position-with c.args.var.now (texts keys) ∙ ap Some (sym (c.in_ok-place.ensures.index ∙ position_or_len-texts (bytes_eq c.args.var.now) keys)))
 
 pub returns-clause-after : goal.returns-clause-after
 returns-clause-after c =

@@ -1,13 +1,13 @@
 use Rattle.std.proofs.Common.{◌∙◌, ap}
 use Rattle.std.specs.List.{position}
 use Rattle.std.specs.Str.{bytes_eq}
-use Rattle.drv_scripts.proofs.Numbered.{position-texts}
+use Rattle.bundle_text.proofs.Mapped.{position-texts}
 use Rattle.drv_scripts.proofs.variables.Variables.number.Goals as goal
 
 pub returns-in-None : goal.returns-in-None
 returns-in-None c =
-    c.in-None.ensures.index ∙ (position-texts c.args.var.now c.self.inside.names.keys ∙ ap (position (bytes_eq c.args.var.now)) c.self.view_is)
+    c.in-None.ensures.index ∙ (position-texts (bytes_eq c.args.var.now) c.self.inside.names.keys ∙ ap (position (bytes_eq c.args.var.now)) c.self.view_is)
 
 pub returns-in-Some : goal.returns-in-Some
 returns-in-Some c =
-    c.in-Some.ensures.index ∙ (position-texts c.args.var.now c.self.inside.names.keys ∙ ap (position (bytes_eq c.args.var.now)) c.self.view_is)
+    c.in-Some.ensures.index ∙ (position-texts (bytes_eq c.args.var.now) c.self.inside.names.keys ∙ ap (position (bytes_eq c.args.var.now)) c.self.view_is)
