@@ -32,6 +32,3 @@ pub use sinks::Sink;
 pub use sources::Source;
 pub use writer_sink::{StdOut, WriterSink};
 pub use writing::write_all;
-
-#[cfg(test)]
-mod tests;

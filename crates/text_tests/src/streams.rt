@@ -1,4 +1,10 @@
-use super::*;
+//! Sources and sinks: reading to the end or to a fault, writing all or a front, signals, and the
+//! texts of faults.
+
+use clk_io::{
+    Failed, MOST_BYTES, MemSink, MemSource, NoMemory, PrintFault, ReadFault, ReaderSource, Sink,
+    Source, StdIn, StdOut, WriteFault, WriterSink, read_all, write_all,
+};
 use std::io;
 use std::io::{ErrorKind, Read, Write};
 use std::process::Abort;
