@@ -12,8 +12,10 @@ pub(crate) fn tree_of(alloc: Global, source: &str) -> Option<Result<DtsTree, Tre
     if source.len() > MOST_BYTES {
         return None;
     }
-    let found = tokens(alloc, source).ok()?;
-    Some(parse(alloc, source, &found))
+    match tokens(alloc, source) {
+        Ok(found) => Some(parse(alloc, source, &found)),
+        Err(_) => None,
+    }
 }
 
 /// A line for each node and, below it, one for each of its properties.
