@@ -1,10 +1,11 @@
 -- The clocks that specifiers name, one clock more.
 use Rattle.std.proofs.Common.{◌≡◌, ℕ, ◌+◌, ◌<◌, Bool, true, false, cond, nat_eq, List, [], ◌∷◌, ◌++◌, map, length, get_or, take, Option, Some, None, refl, sym, ap, ◌∙◌, arith}
-use Rattle.std.specs.Prelude.{◌&&◌, ◌==◌, nat_lt}
-use Rattle.std.specs.List.{position, position_or_len, prefix_len}
+use Rattle.std.specs.Prelude.{◌&&◌, ◌==◌}
+use Rattle.std.specs.List.{position}
 use Rattle.std.specs.Option.{option_map, option_map_or, option_or, option_eq}
 use Rattle.std.proofs.lemmas.List.{map-append, length-map, get_or-map}
 use Rattle.clk_base.specs.declared.clock.ClockId.{ClockId}
+use Rattle.bundle_text.proofs.Mapped.{position-map}
 use Rattle.dts_tree.specs.Tree.{SeenNode}
 use Rattle.dts_bindings.specs.declared.bound.Binding.{Binding}
 use Rattle.dts_bindings.specs.declared.bound.BoundClock.{BoundClock}
@@ -77,16 +78,6 @@ pub number_more : (hs : List Head) (k : ℕ) (d : Head) (s : Specifier) (clock :
 number_more hs k d s clock old new low is so_far more =
     more ∙ (ap (λ o. option_or o (cond (names_head s (get_or hs k d)) (Some clock) None)) so_far ∙ (ap (λ c. option_or (option_map clock_id (position (names_head s) (take k hs))) (cond (names_head s (get_or hs k d)) (Some c) None)) is
     ∙ (sym (id_or (position (names_head s) (take k hs)) (names_head s (get_or hs k d)) k) ∙ ap (option_map clock_id) (sym (position_more (names_head s) hs k d low)))))
-
-prefix_len-map : {X Y : Type 0} (p : Y → Bool) (f : X → Y) (xs : List X) → prefix_len p (map f xs) ≡ prefix_len (λ x. p (f x)) xs
-prefix_len-map p f [] = refl
-prefix_len-map p f (x ∷ xs) = ap (λ n. cond (p (f x)) (1 + n) 0) (prefix_len-map p f xs)
-
-position-map : {X Y : Type 0} (p : Y → Bool) (f : X → Y) (xs : List X) → position p (map f xs) ≡ position (λ x. p (f x)) xs
-position-map p f xs =
-    let same : position_or_len p (map f xs) ≡ position_or_len (λ x. p (f x)) xs = prefix_len-map _ f xs in
-    ap (λ n. cond (nat_lt n (length (map f xs))) (Some n) None) same
-    ∙ ap (λ m. cond (nat_lt (position_or_len (λ x. p (f x)) xs) m) (Some (position_or_len (λ x. p (f x)) xs)) None) (length-map xs f)
 
 pub named_by_head : (nodes : List SeenNode) (hs : List Head) (s : Specifier) → hs ≡ map head_of (clocks_of nodes) → option_map clock_id (position (names_head s) hs) ≡ clock_of nodes s
 unfolding clock_of names_head names_clock
