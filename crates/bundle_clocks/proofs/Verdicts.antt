@@ -1,6 +1,7 @@
 -- A section of clocks has one verdict.
 use Rattle.std.proofs.Common.{◌≡◌, ℕ, ◌+◌, List, Option, Some, None, Result, Ok, Err, length, refl, ap, subst, sym, ◌∙◌, inl, inr}
 use Rattle.bundle_text.specs.Firsts.{KeepsBelow}
+use Rattle.bundle_text.proofs.Results.{ok_same, err_same, ok_err}
 use Rattle.bundle_text.proofs.Rows.{First-kept, First-unique}
 use Rattle.bundle_sections.specs.declared.section.ClockSection.{ClockSection}
 use Rattle.bundle_sections.specs.declared.section.ClockText.{ClockText}
@@ -71,15 +72,6 @@ token_cut text (NumberTooBig m) tokens line reason x e cuts = not_both text toke
 token_cut text NoMemory tokens line reason x e cuts = absurd (cc)
 
 -- ## Sources
-
-ok_same : {A E : Type 0} (a b : A) (r : Result A E) → r ≡ Ok a → r ≡ Ok b → a ≡ b
-ok_same a b r e f = cc
-
-err_same : {A E : Type 0} (a b : E) (r : Result A E) → r ≡ Err a → r ≡ Err b → a ≡ b
-err_same a b r e f = cc
-
-ok_err : {A E : Type 0} (a : A) (b : E) (r : Result A E) → r ≡ Ok a → r ≡ Err b → ⊥
-ok_err a b r e f = cc
 
 -- the nodes of a source
 nodes_same : (first : ℕ) (source : List ℕ) (a b : List SeenNode) → SourceSays first source a → SourceSays first source b → a ≡ b

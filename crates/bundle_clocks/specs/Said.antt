@@ -3,8 +3,7 @@ use Rattle.std.specs.Prelude.{ℕ, List}
 use Rattle.clk_base.specs.Description.{Description}
 use Rattle.bundle_clocks.specs.declared.part.ClocksPart.{ClocksPart}
 
--- a description, the line of each clock, and the line of each node that assigns clocks; lines count
--- from 1
+-- a description, the line of each clock, and the line of each node that assigns clocks; lines count from 1
 pub record SaidClocks : Type 0 where
   pub defs : Description
   pub lines : List ℕ

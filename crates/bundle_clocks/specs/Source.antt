@@ -11,7 +11,6 @@ text_of_lines (line ∷ lines) = line ++ (10 ∷ text_of_lines lines)
 abbrev pub lines_in : List (List ℕ) → ClockSection → List (List ℕ)
 lines_in ls s = slice_range ls (s.place + 1) s.end
 
--- the source: the lines of the section, behind an empty line for each line through the header. So
--- each line has the number that it has in the bundle
+-- the source: the lines of the section, behind an empty line for each line through the header. So each line has the number that it has in the bundle
 unfoldable pub source_of : List (List ℕ) → ClockSection → List ℕ
 source_of ls s = text_of_lines (replicate (s.place + 1) [] ++ lines_in ls s)

@@ -52,7 +52,7 @@ pub record TokensRefused (source : List ℕ) (line : ℕ) (reason : Reason) : Ty
   pub first : cut.IsFaultOf source fault
   pub told_is : token_told fault ≡ told line reason
 
--- its tokens spell no tree
+-- the tokens of a source spell no tree
 pub record TreeRefused (first : ℕ) (source : List ℕ) (line : ℕ) (reason : Reason) : Type 0 where
   pub tokens : List Token
   pub cuts : cut.Tokens source tokens
@@ -60,7 +60,7 @@ pub record TreeRefused (first : ℕ) (source : List ℕ) (line : ℕ) (reason : 
   pub found : nodes_of first source tokens ≡ Err fault
   pub told_is : tree_told fault ≡ told line reason
 
--- its nodes are refused
+-- the nodes of a source's tree are refused
 pub record NodesRefused (first : ℕ) (source : List ℕ) (line : ℕ) (reason : Reason) : Type 0 where
   pub nodes : List SeenNode
   pub tree : SourceSays first source nodes

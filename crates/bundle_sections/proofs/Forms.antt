@@ -9,6 +9,7 @@ use Rattle.bundle_text.specs.Lines.{line_at, is_header, header_from}
 use Rattle.bundle_text.specs.Names.{is_driver_name}
 use Rattle.bundle_text.specs.Numbers.{number_within}
 use Rattle.bundle_text.proofs.Found.{all_more}
+use Rattle.bundle_text.proofs.Results.{ok_same}
 use Rattle.bundle_text.proofs.NumberBounds.{number_bounds}
 use Rattle.bundle_text.specs.Words.{blank_words}
 use Rattle.bundle_text.specs.declared.reason.Reason.{Reason}
@@ -27,11 +28,8 @@ either false x y one other = other
 refused : (reason : Reason) → Forms (Err reason)
 refused reason said h = absurd (cc)
 
-ok_of : (a b : Said) (read : Result Said Reason) → read ≡ Ok a → read ≡ Ok b → a ≡ b
-ok_of a b read e f = cc
-
 formed : (said : Said) → HasForm said → Forms (Ok said)
-formed said form other h = subst HasForm (ok_of said other (Ok said) refl h) form
+formed said form other h = subst HasForm (ok_same said other (Ok said) refl h) form
 
 alone_forms : (said : Said) (more : List (List ℕ)) → HasForm said → Forms (well_formed (alone said more))
 alone_forms said [] form = formed said form

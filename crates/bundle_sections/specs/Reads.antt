@@ -1,5 +1,4 @@
--- What the readers promise: the lines up to a place have no fault and say this, or why they were not
--- read; want of memory says nothing of them.
+-- What the readers promise: the lines up to a place have no fault and say this, or why they were not read; want of memory says nothing of them.
 use Rattle.std.specs.Prelude.{◌≡◌, ℕ, ◌<◌, ◌≤◌, true, List, [], ◌∷◌, ◌++◌, length, drop, Option, Some, None, Result, MatchResult}
 use Rattle.std.specs.Option.{option_map, option_and_then}
 use Rattle.bundle_text.specs.Faults.{Tells}

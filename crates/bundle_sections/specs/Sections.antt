@@ -1,5 +1,4 @@
--- The sections that lines stand in, and which line has a fault. Places count lines from 0, and each
--- line is judged by its place in the whole text.
+-- The sections that lines stand in, and which line has a fault. Places count lines from 0, and each line is judged by its place in the whole text.
 use Rattle.std.specs.Prelude.{ℕ, ◌+◌, ◌-◌, ◌==◌, ◌&&◌, nat_lt, Bool, true, false, List, Option, Some, None, Result, Ok, Err, codes, if◌then◌else◌, length, map}
 use Rattle.std.specs.List.{list_any}
 use Rattle.std.specs.Str.{bytes_eq, is_utf8}
@@ -51,8 +50,7 @@ has_version ls = bytes_eq (line_at ls 0) (codes "%bundle 1")
 abbrev pub is_passed_over : List ℕ → Bool
 is_passed_over line = length (said_words line) == 0
 
--- what is wrong with the place of a line: the first line states the version, a header follows
--- earlier ones, and before the first header no line says anything
+-- what is wrong with the place of a line: the first line states the version, a header follows earlier ones, and before the first header no line says anything
 unfoldable pub fault_at : List (List ℕ) → ℕ → Option Reason
 fault_at ls k =
     if k == 0 then unless (has_version ls) BadVersion

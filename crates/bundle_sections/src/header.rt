@@ -8,7 +8,7 @@ ghost use Rattle.bundle_sections.specs.Said.{said_header};
 
 use bundle_text::{Reason, is_driver_name, small_number_within};
 
-/// The most words of a register bank.
+// The most words of a register bank.
 const MOST_WORDS: u32 = 65_536;
 
 /// What a header says.
@@ -39,6 +39,7 @@ impl<'a> Header<'a> {
     ghost use Rattle.bundle_sections.specs.Headers.{rank, is_driver, same_driver, cannot_follow};
     ghost use Rattle.bundle_sections.specs.Said.{said_header};
 
+    // The place of its section among the sections.
     fn rank(&self) -> u32
         ensures { result ≡ rank (said_header self.now) }
     {

@@ -9,7 +9,7 @@ use crate::header::Header;
 use crate::section::Section;
 use bundle_text::Reason;
 
-/// The most drivers of a bundle.
+// The most drivers of a bundle.
 const MOST_DRIVERS: usize = 64;
 
 // The header can't follow one of the earlier ones.

@@ -6,5 +6,6 @@ pub mod Headers
 pub mod Hexadecimals
 pub mod Mapped
 pub mod NumberBounds
+pub mod Results
 pub mod Rows
 pub mod Unless

@@ -3,6 +3,7 @@ ghost use Rattle.std.specs.List.{list_all, list_any};
 ghost use Rattle.bundle_text.specs.Names.{is_seen, is_driver_character, is_variable_character, is_clock_name, is_driver_name, is_variable};
 ghost use Rattle.bundle_text.specs.Words.{is_blank, is_word};
 
+// Each character is one of ASCII that is seen.
 fn all_seen(word: &str) -> bool
     ensures { result ≡ list_all is_seen word.now }
 {
@@ -19,6 +20,7 @@ pub fn is_clock_name(word: &str) -> bool
     !word.is_empty() && word.len() <= 64 && all_seen(word)
 }
 
+// Each character is a letter, a digit, `_` or `-`.
 fn all_of_driver(word: &str) -> bool
     ensures { result ≡ list_all is_driver_character word.now }
 {
@@ -35,6 +37,7 @@ pub fn is_driver_name(word: &str) -> bool
     !word.is_empty() && word.len() <= 32 && all_of_driver(word) && word != "boot"
 }
 
+// Each character is a lower-case letter, a digit or `_`.
 fn all_of_variable(word: &str) -> bool
     ensures { result ≡ list_all is_variable_character word.now }
 {
@@ -54,6 +57,7 @@ pub fn is_variable(word: &str) -> bool
     first.is_ascii_lowercase() && word.len() <= 32 && all_of_variable(word)
 }
 
+// One of the characters is a blank.
 fn has_blank(word: &str) -> bool
     ensures { result ≡ list_any is_blank word.now }
 {

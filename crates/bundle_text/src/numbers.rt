@@ -4,7 +4,7 @@ ghost use Rattle.std.specs.List.{list_all};
 ghost use Rattle.std.specs.Option.{option_map};
 ghost use Rattle.bundle_text.specs.Numbers.{number_up_to, hexadecimal_up_to, behind_0x, written_up_to, number_within};
 
-/// Each character is a decimal digit.
+// Each character is a decimal digit.
 fn all_digits(word: &str) -> bool
     ensures { result ≡ list_all is_ascii_digit word.now }
 {
@@ -29,7 +29,8 @@ pub fn number_up_to(most: u64, word: &str) -> Option<u64>
     Some(number)
 }
 
-/// The same of a number that fits 32 bits.
+/// The number of 32 bits that decimal digits write, where it is at most `most`. Leading zeros are
+/// allowed, a sign is not.
 pub fn small_number_up_to(most: u32, word: &str) -> Option<u32>
     ensures number { result ≡ number_up_to most word.now }
     ensures bound { IfSome result (λ n. n ≤ most) }
@@ -38,14 +39,14 @@ pub fn small_number_up_to(most: u32, word: &str) -> Option<u32>
     Some(number as u32)
 }
 
-/// Each character is a hexadecimal digit, of either case.
+// Each character is a hexadecimal digit, of either case.
 fn all_hexadecimal(word: &[u8]) -> bool
     ensures { result ≡ list_all is_ascii_hexdigit word.now }
 {
     word.iter().all(|byte| byte.is_ascii_hexdigit())
 }
 
-/// The number that hexadecimal digits write, where it is at most `most`.
+// The number that hexadecimal digits write, where it is at most `most`.
 fn hexadecimal_up_to(most: u64, digits: &[u8]) -> Option<u64>
     ensures number { result ≡ hexadecimal_up_to most digits.now }
     ensures bound { IfSome result (λ n. n ≤ most) }
@@ -65,7 +66,7 @@ fn hexadecimal_up_to(most: u64, digits: &[u8]) -> Option<u64>
     None
 }
 
-/// What stands behind `0x`, where a word begins so.
+// What stands behind `0x`, where a word begins so.
 #[tactic(auto, unfolding(crate::specs::Numbers::behind_0x))]
 fn behind_0x(word: &[u8]) -> Option<&[u8]>
     ensures { option_map (λ digits. digits.now) result ≡ behind_0x word.now }
@@ -76,7 +77,7 @@ fn behind_0x(word: &[u8]) -> Option<&[u8]>
     }
 }
 
-/// The number that a word writes, decimal or hexadecimal behind `0x`, where it is at most `most`.
+// The number that a word writes, decimal or hexadecimal behind `0x`, where it is at most `most`.
 #[tactic(auto, unfolding(crate::specs::Numbers::written_up_to))]
 fn written_up_to(most: u64, word: &str) -> Option<u64>
     ensures number { result ≡ written_up_to most word.now }
@@ -103,7 +104,8 @@ pub fn number_within(least: u64, most: u64, word: &str) -> Option<u64>
     Some(number)
 }
 
-/// The same of a number that fits 32 bits.
+/// The number of 32 bits that a word writes, decimal or hexadecimal behind `0x`, where it lies from
+/// `least` to `most`. Leading zeros are allowed, a sign is not.
 pub fn small_number_within(least: u32, most: u32, word: &str) -> Option<u32>
     ensures number { result ≡ number_within least most word.now }
     ensures least { IfSome result (λ n. least ≤ n) }

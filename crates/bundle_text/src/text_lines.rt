@@ -24,14 +24,14 @@ impl<'a> Model for TextLines<'a> {
     ghost view = { λ ls. texts ls.lines.items };
 }
 
-/// Where the first line feed stands.
+// Where the first line feed stands.
 fn feed_at(bytes: &[u8]) -> Option<usize>
     ensures { result ≡ position (λ b. b == 10) bytes.now }
 {
     bytes.iter().position(|byte| *byte == b'\n')
 }
 
-/// A line without the carriage return at its end, if it has one.
+// A line without the carriage return at its end, if it has one.
 fn without_return(line: &[u8]) -> &[u8]
     ensures { result.now ≡ strip_carriage_return line.now }
 {
@@ -41,7 +41,7 @@ fn without_return(line: &[u8]) -> &[u8]
     }
 }
 
-/// The line begins with `%`.
+// The line begins with `%`.
 fn begins_section(line: &[u8]) -> bool
     ensures { result ≡ is_header line.now }
 {
@@ -51,14 +51,14 @@ fn begins_section(line: &[u8]) -> bool
     }
 }
 
-/// The parts of a text between single spaces.
+// The parts of a text between single spaces.
 fn parts_of(alloc: Global, text: &str) -> Result<Vec<&str>, AllocError>
     ensures { IfOk result (λ parts. texts parts.items ≡ slice_split (λ b. b == 32) text.now) }
 {
     text.split(' ').collect(alloc)
 }
 
-/// The parts of a line between single spaces, or none where the line isn't UTF-8.
+// The parts of a line between single spaces, or none where the line isn't UTF-8.
 #[tactic(auto, unfolding(crate::specs::Words::spaced_words))]
 fn words_of<'a>(alloc: Global, line: &'a [u8]) -> Result<Vec<&'a str>, NoMemory>
     ensures { IfOk result (λ words. texts words.items ≡ spaced_words line.now) }
@@ -69,7 +69,7 @@ fn words_of<'a>(alloc: Global, line: &'a [u8]) -> Result<Vec<&'a str>, NoMemory>
     Ok(parts_of(alloc, text)?)
 }
 
-/// The parts of a line between blanks.
+// The parts of a line between blanks.
 fn parts_between_blanks(alloc: Global, line: &[u8]) -> Result<Vec<&[u8]>, AllocError>
     ensures { IfOk result (λ parts. texts parts.items ≡ slice_split is_blank line.now) }
 {
@@ -77,7 +77,7 @@ fn parts_between_blanks(alloc: Global, line: &[u8]) -> Result<Vec<&[u8]>, AllocE
         .collect(alloc)
 }
 
-/// A part of a line as a word, where it isn't empty and is UTF-8.
+// A part of a line as a word, where it isn't empty and is UTF-8.
 #[tactic(auto, unfolding(crate::specs::Words::as_word))]
 fn as_word(part: &[u8]) -> Option<&str>
     ensures { option_map (λ word. word.now) result ≡ as_word part.now }
@@ -91,7 +91,7 @@ fn as_word(part: &[u8]) -> Option<&str>
     }
 }
 
-/// The words of a line between blanks.
+// The words of a line between blanks.
 fn words_between_blanks<'a>(alloc: Global, line: &'a [u8]) -> Result<Vec<&'a str>, NoMemory>
     ensures { IfOk result (λ words. texts words.items ≡ blank_words line.now) }
 {
@@ -103,7 +103,7 @@ fn words_between_blanks<'a>(alloc: Global, line: &'a [u8]) -> Result<Vec<&'a str
     Ok(words)
 }
 
-/// The first word begins with `#`.
+// The first word begins with `#`.
 fn is_comment(words: &[&str]) -> bool
     ensures { result ≡ is_comment (texts words.now) }
 {
@@ -113,7 +113,7 @@ fn is_comment(words: &[&str]) -> bool
     }
 }
 
-/// The word begins with `#`.
+// The word begins with `#`.
 fn begins_with_hash(word: &[u8]) -> bool
     ensures { result ≡ (slice_index word.now 0 == 35) }
 {
@@ -203,7 +203,7 @@ impl<'a> TextLines<'a> {
     }
 }
 
-/// The lines of the bytes, one after another.
+// The lines of the bytes, one after another.
 fn lines_of(alloc: Global, bytes: &[u8]) -> Result<Vec<&[u8]>, NoMemory>
     ensures lines { IfOk result (λ found. texts found.items ≡ lines bytes.now) }
     ensures few { IfOk result (λ found. length found.items ≤ length bytes.now) }

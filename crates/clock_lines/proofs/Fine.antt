@@ -1,5 +1,4 @@
--- What is known of a line that says a clock: its name is no one's, and it has as many parents as its
--- kind can have.
+-- What is known of a line that says a clock: its name is no one's, and it has as many parents as its kind can have.
 use Rattle.std.proofs.Common.{◌≡◌, ℕ, ◌<◌, ◌≤◌, Bool, true, false, not, List, [], ◌∷◌, length, take, drop, Option, Some, None, refl, ap, sym, subst, arith}
 use Rattle.std.specs.Prelude.{Result, Ok, Err, codes, nat_lt, nat_le, slice_index_or, if◌then◌else◌}
 use Rattle.std.specs.Option.{option_and_then}

@@ -1,5 +1,4 @@
--- A clock line by itself: the clock that its words say, or the first thing that is wrong with them.
--- `taken` tells whether a clock of an earlier line has the name.
+-- A clock line by itself: the clock that its words say, or the first thing that is wrong with them. `taken` tells whether a clock of an earlier line has the name.
 use Rattle.std.specs.Prelude.{ℕ, Bool, not, nat_lt, List, [], ◌∷◌, length, take, drop, Option, Some, None, Result, Ok, Err, codes, if◌then◌else◌}
 use Rattle.std.specs.Str.{bytes_eq}
 use Rattle.clk_base.specs.declared.clock.Kind.{Kind}

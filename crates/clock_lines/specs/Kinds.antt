@@ -1,5 +1,4 @@
--- The parameters of each kind, as the words of a clock line write them. A kind is there where each of
--- its words is a number in its range.
+-- The parameters of each kind, as the words of a clock line write them. A kind is there where each of its words is a number in its range.
 use Rattle.std.specs.Prelude.{ℕ, ◌-◌, ◌^◌, List, Option, Some, None, codes}
 use Rattle.clk_base.specs.declared.clock.Kind.{Kind}
 use Rattle.clk_base.specs.declared.clock.Kind.TheVariants.{FixedRate, Factor, Gate, Mux, Divider, Pll}
@@ -7,10 +6,11 @@ use Rattle.bundle_text.specs.Numbers.{number_within}
 use Rattle.clock_lines.specs.declared.field.Field.{Field}
 use Rattle.clock_lines.specs.FlagWords.{stands}
 
--- the greatest rate, and the greatest number whose range isn't stated
+-- the greatest rate
 abbrev pub most_rate : ℕ
 most_rate = 2 ^ 64 - 1
 
+-- the greatest number whose range isn't stated
 abbrev pub most_number : ℕ
 most_number = 2 ^ 32 - 1
 

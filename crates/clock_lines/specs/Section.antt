@@ -30,6 +30,7 @@ clocks_before section k = said_from (clock_at section) 0 k
 abbrev pub all_clocks : List (List ℕ) → List PlacedClock
 all_clocks section = clocks_before section (length section)
 
+-- the names of clocks, in order
 abbrev pub names_of : List PlacedClock → List (List ℕ)
 names_of clocks = map (λ placed. placed.clock.name) clocks
 

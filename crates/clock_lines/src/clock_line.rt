@@ -30,6 +30,7 @@ fn no_parents<'w, 'a>() -> &'w [&'a str]
 
 type Said<'w, 'a> = Result<LineClock<'w, 'a>, Reason>;
 
+// The clock of this name and with these parents, where its kind and its flags can be read.
 #[tactic(auto, unfolding(crate::specs::ClockLines::with_flags))]
 fn with_flags<'w, 'a>(
     name: &'a str,
@@ -74,6 +75,7 @@ fn clock_said<'w, 'a>(
     with_flags(name, kind, parents, flags)
 }
 
+// What stands behind `fixed`.
 #[tactic(auto, unfolding(crate::specs::ClockLines::fixed_line))]
 fn fixed_line<'w, 'a>(taken: bool, rest: &'w [&'a str]) -> Said<'w, 'a>
     ensures { shown_line result ≡ fixed_line taken (texts rest.now) }
@@ -84,6 +86,7 @@ fn fixed_line<'w, 'a>(taken: bool, rest: &'w [&'a str]) -> Said<'w, 'a>
     }
 }
 
+// What stands behind `factor`.
 #[tactic(auto, unfolding(crate::specs::ClockLines::factor_line))]
 fn factor_line<'w, 'a>(taken: bool, rest: &'w [&'a str]) -> Said<'w, 'a>
     ensures { shown_line result ≡ factor_line taken (texts rest.now) }
@@ -97,6 +100,7 @@ fn factor_line<'w, 'a>(taken: bool, rest: &'w [&'a str]) -> Said<'w, 'a>
     }
 }
 
+// What stands behind `gate`.
 #[tactic(auto, unfolding(crate::specs::ClockLines::gate_line))]
 fn gate_line<'w, 'a>(taken: bool, rest: &'w [&'a str]) -> Said<'w, 'a>
     ensures { shown_line result ≡ gate_line taken (texts rest.now) }
@@ -131,6 +135,7 @@ fn mux_rest<'w, 'a>(
     clock_said(taken, name, kind, parents, flags)
 }
 
+// What stands behind `mux`.
 #[tactic(auto, unfolding(crate::specs::ClockLines::mux_line, crate::specs::ClockLines::mux_counted))]
 fn mux_line<'w, 'a>(taken: bool, rest: &'w [&'a str]) -> Said<'w, 'a>
     ensures { shown_line result ≡ mux_line taken (texts rest.now) }
@@ -146,6 +151,7 @@ fn mux_line<'w, 'a>(taken: bool, rest: &'w [&'a str]) -> Said<'w, 'a>
     }
 }
 
+// What stands behind `divider`.
 #[tactic(auto, unfolding(crate::specs::ClockLines::divider_line))]
 fn divider_line<'w, 'a>(taken: bool, rest: &'w [&'a str]) -> Said<'w, 'a>
     ensures { shown_line result ≡ divider_line taken (texts rest.now) }
@@ -159,6 +165,7 @@ fn divider_line<'w, 'a>(taken: bool, rest: &'w [&'a str]) -> Said<'w, 'a>
     }
 }
 
+// What stands behind `pll`.
 #[tactic(auto, unfolding(crate::specs::ClockLines::pll_line))]
 fn pll_line<'w, 'a>(taken: bool, rest: &'w [&'a str]) -> Said<'w, 'a>
     ensures { shown_line result ≡ pll_line taken (texts rest.now) }

@@ -22,6 +22,7 @@ fn times(word: &str, words: &[&str]) -> usize
     words.iter().filter(|other| word == **other).count()
 }
 
+// The word is a flag of every kind.
 #[tactic(auto, unfolding(crate::specs::FlagWords::is_common_flag))]
 fn is_common_flag(word: &str) -> bool
     ensures { result ≡ is_common_flag word.now }
@@ -34,6 +35,7 @@ fn is_common_flag(word: &str) -> bool
         || word == "critical"
 }
 
+// The word is a flag of this kind alone.
 #[tactic(auto, unfolding(crate::specs::FlagWords::is_own_flag))]
 fn is_own_flag(kind: Kind, word: &str) -> bool
     ensures { result ≡ is_own_flag kind word.now }

@@ -9,6 +9,7 @@ use crate::flag_words::stands;
 use bundle_text::{number_within, small_number_within};
 use clk_base::Kind;
 
+/// A root with a rate in Hz.
 #[tactic(auto, unfolding(crate::specs::Kinds::fixed_kind))]
 pub(crate) fn fixed_kind(rate: &str) -> Option<Kind>
     ensures { result ≡ fixed_kind rate.now }
@@ -17,6 +18,7 @@ pub(crate) fn fixed_kind(rate: &str) -> Option<Kind>
     Some(Kind::FixedRate { rate })
 }
 
+/// The parent's rate times a multiplier over a divisor.
 #[tactic(auto, unfolding(crate::specs::Kinds::factor_kind))]
 pub(crate) fn factor_kind(mult: &str, div: &str) -> Option<Kind>
     ensures { result ≡ factor_kind mult.now div.now }
@@ -26,6 +28,7 @@ pub(crate) fn factor_kind(mult: &str, div: &str) -> Option<Kind>
     Some(Kind::Factor { mult, div })
 }
 
+/// A gate bit, which `set-to-disable` turns round.
 #[tactic(auto, unfolding(crate::specs::Kinds::gate_kind))]
 pub(crate) fn gate_kind(word: &str, bit: &str, flags: &[&str]) -> Option<Kind>
     ensures { result ≡ gate_kind word.now bit.now (texts flags.now) }
@@ -40,6 +43,7 @@ pub(crate) fn gate_kind(word: &str, bit: &str, flags: &[&str]) -> Option<Kind>
     })
 }
 
+/// A field that chooses the parent, which `read-only` keeps from being written.
 #[tactic(auto, unfolding(crate::specs::Kinds::mux_kind))]
 pub(crate) fn mux_kind(word: &str, shift: &str, width: &str, flags: &[&str]) -> Option<Kind>
     ensures { result ≡ mux_kind word.now shift.now width.now (texts flags.now) }
@@ -54,6 +58,7 @@ pub(crate) fn mux_kind(word: &str, shift: &str, width: &str, flags: &[&str]) -> 
     })
 }
 
+/// A field that divides.
 #[tactic(auto, unfolding(crate::specs::Kinds::divider_kind))]
 pub(crate) fn divider_kind(word: &str, shift: &str, width: &str, flags: &[&str]) -> Option<Kind>
     ensures { result ≡ divider_kind word.now shift.now width.now (texts flags.now) }
@@ -70,6 +75,7 @@ pub(crate) fn divider_kind(word: &str, shift: &str, width: &str, flags: &[&str])
     })
 }
 
+/// A field that multiplies, between a least and a most and over M, behind a power bit.
 #[tactic(auto, unfolding(crate::specs::Kinds::pll_kind))]
 pub(crate) fn pll_kind(
     field: Option<Field>,

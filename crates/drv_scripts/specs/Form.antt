@@ -1,6 +1,4 @@
--- The form of the lines outside the clocks' section, as far as it is read: which line lacks it. Places
--- count lines from 0, each is judged by its place in the whole text, and `size` is the bank's number
--- of words.
+-- The form of the lines outside the clocks' section, as far as it is read: which line lacks it. Places count lines from 0, each is judged by its place in the whole text, and `size` is the bank's number of words.
 use Rattle.std.specs.Prelude.{ℕ, ◌+◌, ◌-◌, ◌==◌, ◌&&◌, ◌||◌, nat_lt, Bool, true, false, List, Option, Some, None, codes, if◌then◌else◌, drop, take}
 use Rattle.std.specs.Option.{option_map, option_map_or, is_some}
 use Rattle.std.specs.Str.{bytes_eq}
@@ -46,11 +44,11 @@ keeps_bank_header ls k = is_some (bank_line (spaced_words (line_at ls k)))
 unfoldable pub keeps_word : List (List ℕ) → ℕ → ℕ → Bool
 keeps_word ls size k = option_map_or (λ set. nat_lt set.0 size) (word_line (spaced_words (line_at ls k))) false
 
--- the next header names a driver
+-- the header behind the words names a driver
 unfoldable pub keeps_driver : List (List ℕ) → ℕ → Bool
 keeps_driver ls k = is_some (driver_line (spaced_words (line_at ls k)))
 
--- each line behind it is a command with a known variable, among the first 65,536
+-- a line behind the driver's header is a command with a known variable, among the first 65,536
 unfoldable pub keeps_command : List (List ℕ) → ℕ → Bool
 keeps_command ls k =
     nat_lt (k - (words_end ls + 1)) 65536

@@ -24,8 +24,7 @@ last_line bytes = count_by (λ b. b == 10) bytes + 1
 abbrev pub KeepsRules : ℕ → Description → Type 0
 KeepsRules words defs = (rule : Rule) → EachClock defs (keeps rule words defs)
 
--- lines in these sections spell the bundle: this is what the section of the clocks says, its clocks
--- keep every rule, and the other lines have the form that is read so far
+-- lines in these sections spell the bundle: this is what the section of the clocks says, its clocks keep every rule, and the other lines have the form that is read so far
 pub record PartsSpell (ls : List (List ℕ)) (parts : Parts) (b : Bundle) : Type 0 where
   pub said : SaidClocks
   pub says : clock_verdict.Says ls parts.clocks said
@@ -47,7 +46,7 @@ pub record BreaksRule (ls : List (List ℕ)) (parts : Parts) (line : ℕ) (reaso
   pub says : clock_verdict.Says ls parts.clocks said
   pub breaks : Breaks parts.bank.words said.defs said.lines line reason
 
--- its clocks keep every rule, and this is the first line outside the section that lacks the form
+-- the section of the clocks says clocks that keep every rule, and this is the first line outside of it that lacks the form
 pub record LacksForm (ls : List (List ℕ)) (parts : Parts) (line : ℕ) (reason : Reason) : Type 0 where
   pub said : SaidClocks
   pub says : clock_verdict.Says ls parts.clocks said
@@ -85,7 +84,6 @@ pub record IsDivided (bytes : List ℕ) (line : ℕ) (reason : Reason) : Type 0 
   pub sections : section_verdict.Accepts (lines bytes) parts
   pub refused : PartsRefuse (lines bytes) parts line reason
 
--- the bytes spell no bundle, for this reason at this line; the phases stand in their order, and each
--- begins where the ones before it found nothing
+-- the bytes spell no bundle, for this reason at this line; the phases stand in their order, and each begins where the ones before it found nothing
 abbrev pub Refuses : List ℕ → ℕ → Reason → Type 0
 Refuses bytes line reason = IsTooLong bytes line reason ⊎ (IsUndivided bytes line reason ⊎ IsDivided bytes line reason)

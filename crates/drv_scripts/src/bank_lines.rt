@@ -6,9 +6,10 @@ ghost use Rattle.drv_scripts.specs.BankLines.{bank_number, bank_line, word_line}
 
 use bundle_text::small_number_up_to;
 
-/// The most words of a register bank.
+// The most words of a register bank.
 const MOST_WORDS: u32 = 65_536;
 
+// The number of words that a word writes, from 1 up to the most of a bank.
 #[tactic(auto, unfolding(crate::specs::BankLines::bank_number))]
 fn bank_number(word: &str) -> Option<u32>
     ensures number { result ≡ bank_number word.now }

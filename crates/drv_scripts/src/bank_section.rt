@@ -11,7 +11,7 @@ use bundle_text::TextLines;
 use clk_io::NoMemory;
 use std::alloc::Global;
 
-/// Checks the header behind the clocks' section.
+// Checks the header behind the clocks' section.
 #[tactic(auto, unfolding(crate::specs::Form::keeps_bank_header))]
 fn keeps_bank_header(alloc: Global, lines: &TextLines, at: usize) -> Result<bool, NoMemory>
     ensures { IfOk result (λ keeps. keeps ≡ keeps_bank_header lines.now at) }

@@ -35,7 +35,7 @@ pub(crate) fn driver_line<'a>(words: &[&'a str]) -> Option<&'a str>
     }
 }
 
-/// The act of a command's first word.
+// The act of a command's first word.
 #[tactic(auto, unfolding(crate::specs::CommandLines::act_of))]
 fn act_of(verb: &str) -> Option<Act>
     ensures { result ≡ act_of verb.now }

@@ -20,7 +20,7 @@ use clk_base::{Act, Command, ValidDesc};
 use clk_io::NoMemory;
 use std::alloc::Global;
 
-/// The most commands of a driver.
+// The most commands of a driver.
 const MOST_COMMANDS: usize = 65_536;
 
 // The command that a line says, where its variable is known.

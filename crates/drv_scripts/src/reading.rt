@@ -175,11 +175,16 @@ fn read_parts(alloc: Global, lines: &TextLines, sections: &Sections) -> Result<B
 
 /// Reads a bundle, phase by phase: too many bytes (line 0); the sections that its lines stand in; the
 /// clocks, from clock lines or a device tree source; the rules of a description. So far the other
-/// sections have the form that `specs/Form.antt` states, and the first line without it is refused with
-/// `NotYet`.
+/// sections have one form, with single spaces and without comments, and the first line without it is
+/// refused with `NotYet`.
 pub fn read_bundle(alloc: Global, bytes: &[u8]) -> Result<Bundle, BundleFault>
+    // What is read is the bundle that the bytes spell.
     ensures accepted { IfOk result (Accepts bytes.now) }
+    // Its parts fit together: the description is valid for the bank, each clock has its line, and
+    // each command names clocks that are there.
     ensures sound { IfOk result IsSound }
+    // Other bytes spell none: this is the first line at fault, phase by phase, and what is wrong
+    // with it. Want of memory says nothing of the bytes.
     ensures refused { IfErr result (Tells (Refuses bytes.now)) }
 {
     if bytes.len() > MOST_BYTES {

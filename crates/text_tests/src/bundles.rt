@@ -1,0 +1,154 @@
+//! Bundles that are read whole, and those that no line of text can show.
+
+use bundle_text::{BundleFault, Reason};
+use clk_base::{Act, ClockId, Command};
+use drv_scripts::{Bundle, DriverName, Listed, one_verdict, read_bundle};
+use std::process::Abort;
+use std::test::Fail;
+
+const ONE_DRIVER: &str = "%bundle 1\n%clocks\nfixed osc 24000000\ngate uart_gate osc 0 3\n%regs 1\n\
+%driver A\nget u uart_gate\nprepare u\nenable u\nrate u\n";
+
+// Checks that a text is refused at this line for this reason.
+fn check_refusal<R: Abort + AllocGlobal>(rt: &R, text: &[u8], line: u32, reason: Reason) {
+    let read = read_bundle(rt.alloc(), text);
+    let refused = BundleFault::Refused { line, reason };
+    assert!(rt; read.is_err_and(|fault| fault == refused));
+}
+
+// Checks that a bundle has one driver of this name, and its first and last command.
+fn check_driver<R: Abort>(rt: &R, bundle: &Bundle, name: &str, first: Command, last: Command) {
+    assert!(rt; bundle.drivers.as_slice().len() == 1);
+    for script in bundle.drivers.as_slice() {
+        assert!(rt; script.name.as_str() == name);
+        assert!(rt; script.commands.as_slice().first() == Some(&first));
+        assert!(rt; script.commands.as_slice().last() == Some(&last));
+    }
+}
+
+// The command of a line that uses a variable.
+fn command(line: u32, var: u32, act: Act) -> Command {
+    Command {
+        line,
+        var: Some(var),
+        act,
+    }
+}
+
+#[test]
+fn reads_one_driver_over_a_gate(rt: HostRuntime) -> Result<(), Fail> {
+    let bundle = read_bundle(rt.alloc(), ONE_DRIVER.as_bytes())?;
+    assert!(rt; bundle.desc.len() == 2);
+    assert!(rt; bundle.desc.words() == 1);
+    assert!(rt; bundle.clock_lines.as_slice() == [3, 4].as_slice());
+    assert!(rt; bundle.words.as_slice() == [0].as_slice());
+    assert!(rt; bundle.boot.as_slice().len() == 2);
+    let get = command(7, 0, Act::Get(Some(ClockId(1))));
+    check_driver(&rt, &bundle, "A", get, command(10, 0, Act::GetRate));
+    Ok(())
+}
+
+#[test]
+fn a_later_word_wins_and_unknown_names_are_kept(rt: HostRuntime) -> Result<(), Fail> {
+    let text =
+        b"%bundle 1\r\n%clocks\r\nfixed f 5\r\n%regs 3\r\n2 7\r\n2 9\r\n0 007\r\n%driver d-1\r\nget v none\r\nget w f\r\nrunning w";
+    let bundle = read_bundle(rt.alloc(), text)?;
+    assert!(rt; bundle.words.as_slice() == [7, 0, 9].as_slice());
+    let get = command(9, 0, Act::Get(None));
+    check_driver(&rt, &bundle, "d-1", get, command(11, 1, Act::Running));
+    Ok(())
+}
+
+// Checks the act of a command by each first word.
+fn check_acts<R: Abort + AllocGlobal>(rt: &R, rows: &[(&str, Act)]) -> Result<(), Fail> {
+    for (word, act) in rows {
+        let text = format!(in rt.alloc();
+            "%bundle 1\n%clocks\n%regs 1\n%driver A\nget u f\n{word} u\n"
+        )?;
+        let bundle = read_bundle(rt.alloc(), text.as_bytes())?;
+        let get = command(5, 0, Act::Get(None));
+        check_driver(rt, &bundle, "A", get, command(6, 0, *act));
+    }
+    Ok(())
+}
+
+#[test]
+fn each_word_has_its_act(rt: HostRuntime) -> Result<(), Fail> {
+    check_acts(
+        &rt,
+        &[
+            ("prepare", Act::Prepare),
+            ("unprepare", Act::Unprepare),
+            ("enable", Act::Enable),
+            ("disable", Act::Disable),
+            ("running", Act::Running),
+            ("rate", Act::GetRate),
+            ("parent", Act::GetParent),
+            ("put", Act::Put),
+        ],
+    )
+}
+
+const BOARD: &str =
+    "%bundle 1\n%dts\n/dts-v1/;\n\n/ {\n\t#address-cells = <0x01>;\n\tmodel = \"board\";\n\n\
+\tosc24M {\n\t\tcompatible = \"fixed-clock\";\n\t\t#clock-cells = <0x00>;\n\t\tclock-frequency = <0x16e3600>;\n\
+\t\tphandle = <0x01>;\n\t};\n\n\tclk@10 {\n\t\tcompatible = \"bank,gates-clock\";\n\t\t#clock-cells = <0x01>;\n\
+\t\tclocks = <0x01>;\n\t\tbank,reg = <0x00>;\n\t\tclock-indices = <0x00 0x05>;\n\
+\t\tclock-output-names = \"ahb_dma\", \"ahb_uart\";\n\t\tphandle = <0x02>;\n\t};\n};\n%regs 1\n\
+%driver A\nget u ahb_uart\n";
+
+#[test]
+fn reads_a_device_tree_source(rt: HostRuntime) -> Result<(), Fail> {
+    let bundle = read_bundle(rt.alloc(), BOARD.as_bytes())?;
+    assert!(rt; bundle.desc.len() == 3);
+    assert!(rt; bundle.clock_lines.as_slice() == [9, 16, 16].as_slice());
+    assert!(rt; bundle.assigned_lines.as_slice().is_empty());
+    assert!(rt; bundle.boot.as_slice().len() == 3);
+    assert!(rt; bundle.desc.find("ahb_uart") == Some(ClockId(2)));
+    let get = command(28, 0, Act::Get(Some(ClockId(2))));
+    check_driver(&rt, &bundle, "A", get, get);
+    Ok(())
+}
+
+#[test]
+fn refuses_more_bytes_than_the_limit(rt: HostRuntime) -> Result<(), Fail> {
+    let text = vec![in rt.alloc(); b' '; clk_io::MOST_BYTES + 1]?;
+    check_refusal(&rt, &text, 0, Reason::TooLong);
+    Ok(())
+}
+
+#[test]
+fn bytes_that_are_no_utf_8_are_told_first(rt: HostRuntime) {
+    check_refusal(&rt, b"\xff\n%clocks\n", 1, Reason::NotUtf8);
+    check_refusal(&rt, b"%bundle 2\n%clocks\nget u \xc3\n", 3, Reason::NotUtf8);
+}
+
+// A bundle of a fixed clock and so many gates, each over the one before it.
+fn chain<R: AllocGlobal>(rt: &R, gates: u32) -> Result<String, Fail> {
+    let mut text = String::from_str(rt.alloc(), "%bundle 1\n%clocks\nfixed c0 5\n")?;
+    for gate in 1..=gates.min(1000) {
+        let parent = gate - 1;
+        let line = format!(in rt.alloc(); "gate c{gate} c{parent} {gate} 0\n")?;
+        text.push_str(line.as_str())?;
+    }
+    text.push_str("%regs 1001\n")?;
+    Ok(text)
+}
+
+#[test]
+fn sixty_four_levels_are_the_most(rt: HostRuntime) -> Result<(), Fail> {
+    assert!(rt; read_bundle(rt.alloc(), chain(&rt, 63)?.as_bytes()).is_ok());
+    check_refusal(&rt, chain(&rt, 64)?.as_bytes(), 67, Reason::TooMany);
+    Ok(())
+}
+
+#[test]
+fn lists_and_names_give_back_what_they_hold(rt: HostRuntime) -> Result<(), Fail> {
+    let listed = Listed::new([1u8, 2].to_vec(rt.alloc())?);
+    assert!(rt; listed.into_vec().as_slice() == [1, 2].as_slice());
+    let name = DriverName::new(String::from_str(rt.alloc(), "d")?);
+    assert!(rt; name.into_text().as_str() == "d");
+    one_verdict();
+    bundle_clocks::one_verdict();
+    Ok(())
+}

@@ -1,0 +1,60 @@
+//! Reading clock lines, and what a table says of them.
+
+use bundle_text::{BundleFault, Reason, TextLines};
+use clk_base::{ClkFlags, ClockId, Kind};
+use clock_lines::{ClockList, read_clocks};
+use std::process::Abort;
+use std::test::Fail;
+
+/// Reads all lines of a text.
+pub(crate) fn read<R: AllocGlobal>(rt: &R, text: &str) -> Result<ClockList, BundleFault> {
+    let lines = TextLines::new(rt.alloc(), text.as_bytes())?;
+    let len = lines.len();
+    if len > 1000 {
+        return Err(BundleFault::NoMemory);
+    }
+    read_clocks(rt.alloc(), &lines, 0, len)
+}
+
+/// Checks that a text is refused at this line for this reason.
+pub(crate) fn check_refusal<R: Abort + AllocGlobal>(rt: &R, text: &str, line: u32, reason: Reason) {
+    let refused = BundleFault::Refused { line, reason };
+    assert!(rt;
+        read(rt, text).is_err_and(|fault| fault == refused),
+        "at {text}"
+    );
+}
+
+/// Checks each text against its line and its reason.
+pub(crate) fn check_refusals<R: Abort + AllocGlobal>(rt: &R, rows: &[(&str, u32, Reason)]) {
+    for (text, line, reason) in rows {
+        check_refusal(rt, text, *line, *reason);
+    }
+}
+
+/// Checks that each text is refused at its first line for this reason.
+pub(crate) fn check_first_lines<R: Abort + AllocGlobal>(rt: &R, reason: Reason, texts: &[&str]) {
+    for text in texts {
+        check_refusal(rt, text, 1, reason);
+    }
+}
+
+/// Reads a clock line behind two others, and checks its kind, its flags and its parents.
+pub(crate) fn check_clock<R: Abort + AllocGlobal>(
+    rt: &R,
+    line: &str,
+    kind: Kind,
+    flags: ClkFlags,
+    parents: &[ClockId],
+) -> Result<(), Fail> {
+    let text = format!(in rt.alloc(); "fixed a 1\nfixed b 2\n{line}\n")?;
+    let list = read(rt, &text)?;
+    assert!(rt; list.lines.as_slice() == [1, 2, 3].as_slice());
+    for def in list.desc.as_slice().last() {
+        assert!(rt; def.name.as_str() == "c", "at {line}");
+        assert!(rt; def.kind == kind, "at {line}");
+        assert!(rt; def.flags == flags, "at {line}");
+        assert!(rt; def.parents.as_slice() == parents, "at {line}");
+    }
+    Ok(())
+}

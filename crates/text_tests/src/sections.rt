@@ -1,0 +1,280 @@
+//! The sections of a bundle, and which line is out of place.
+
+use bundle_sections::{BankSection, ClockSection, ClockText, Header, one_verdict, read_sections};
+use bundle_text::{BundleFault, Reason, TextLines};
+use clk_io::line_feeds;
+use std::process::Abort;
+use std::test::Fail;
+
+// Reads the sections of a text, and checks that it is refused at this line for this reason.
+fn check_refusal<R: Abort + AllocGlobal>(
+    rt: &R,
+    text: &[u8],
+    line: u32,
+    reason: Reason,
+) -> Result<(), Fail> {
+    let lines = TextLines::new(rt.alloc(), text)?;
+    assert!(rt; lines.len() < 1000);
+    let end = line_feeds(text).min(1000) as u32 + 1;
+    let refused = BundleFault::Refused { line, reason };
+    assert!(rt; read_sections(rt.alloc(), &lines, end).is_err_and(|fault| fault == refused));
+    Ok(())
+}
+
+// Checks each text against its line and reason.
+fn check_refusals<R: Abort + AllocGlobal>(
+    rt: &R,
+    reason: Reason,
+    texts: &[(&str, u32)],
+) -> Result<(), Fail> {
+    for (text, line) in texts {
+        check_refusal(rt, text.as_bytes(), *line, reason)?;
+    }
+    Ok(())
+}
+
+// A bundle of each section.
+const WHOLE: &[u8] =
+    b"%bundle 1\r\n# a board\n\n%clocks\nfixed osc 5\n%regs\t0x10 \n0 1\n%lock\n%late\nosc\n\
+%driver a\nget u osc\n%driver b-2 /serial@400\n%order\na b-2";
+
+#[test]
+fn reads_the_clocks_and_the_bank_with_their_lines(rt: HostRuntime) -> Result<(), Fail> {
+    let lines = TextLines::new(rt.alloc(), WHOLE)?;
+    assert!(rt; lines.len() < 1000);
+    let sections = read_sections(rt.alloc(), &lines, 15)?;
+    let clocks = ClockSection {
+        text: ClockText::Lines,
+        place: 3,
+        end: 5,
+    };
+    assert!(rt; sections.clocks() == clocks);
+    let bank = BankSection {
+        words: 16,
+        place: 5,
+        end: 7,
+    };
+    assert!(rt; sections.bank() == bank);
+    one_verdict();
+    Ok(())
+}
+
+#[test]
+fn reads_the_other_sections_with_their_lines(rt: HostRuntime) -> Result<(), Fail> {
+    let lines = TextLines::new(rt.alloc(), WHOLE)?;
+    assert!(rt; lines.len() < 1000);
+    let sections = read_sections(rt.alloc(), &lines, 15)?;
+    let others = [
+        (Header::Lock, 7, 8),
+        (Header::Late, 8, 10),
+        (
+            Header::Driver {
+                name: "a",
+                path: None,
+            },
+            10,
+            12,
+        ),
+        (
+            Header::Driver {
+                name: "b-2",
+                path: Some("/serial@400"),
+            },
+            12,
+            13,
+        ),
+        (Header::Order, 13, 15),
+    ];
+    assert!(rt; sections.others().len() == others.len());
+    for (section, (header, place, end)) in sections.others().iter().zip(others.iter()) {
+        assert!(rt; section.header == *header);
+        assert!(rt; section.place == *place);
+        assert!(rt; section.end == *end);
+    }
+    Ok(())
+}
+
+#[test]
+fn a_header_within_a_source_ends_it(rt: HostRuntime) -> Result<(), Fail> {
+    let text = b"%bundle 1\n%dts\n/dts-v1/; /* \n%regs 1\n";
+    let lines = TextLines::new(rt.alloc(), text)?;
+    assert!(rt; lines.len() < 1000);
+    let sections = read_sections(rt.alloc(), &lines, 5)?;
+    let clocks = ClockSection {
+        text: ClockText::DeviceTree,
+        place: 1,
+        end: 3,
+    };
+    assert!(rt; sections.clocks() == clocks);
+    assert!(rt; sections.bank().words == 1);
+    assert!(rt; sections.others().is_empty());
+    Ok(())
+}
+
+#[test]
+fn lines_must_be_utf_8_before_all_else(rt: HostRuntime) -> Result<(), Fail> {
+    for (text, line) in [
+        (b"\xff".as_slice(), 1),
+        (b"%bundle 2\nx\n\x80\n", 3),
+        (b"%bundle 1\n%clocks\n\xc3\nfixed\n", 3),
+        (b"%bundle 1\n%clocks\n%regs 1\n# \xe2\x82\r\n", 4),
+    ] {
+        check_refusal(&rt, text, line, Reason::NotUtf8)?;
+    }
+    Ok(())
+}
+
+#[test]
+fn the_first_line_is_the_version(rt: HostRuntime) -> Result<(), Fail> {
+    check_refusals(
+        &rt,
+        Reason::BadVersion,
+        &[
+            ("", 1),
+            ("\n", 1),
+            ("%bundle  1\n%clocks\n%regs 1\n", 1),
+            ("%bundle 0x1\n", 1),
+            (" %bundle 1\n", 1),
+            ("%bundle 1 \n", 1),
+            ("%bundle 2\nx\n", 1),
+            ("# a board\n%bundle 1\n", 1),
+        ],
+    )
+}
+
+#[test]
+fn words_before_the_first_header_are_stray(rt: HostRuntime) -> Result<(), Fail> {
+    check_refusals(
+        &rt,
+        Reason::StrayLine,
+        &[
+            ("%bundle 1\nx\n%clocks\n%regs 1\n", 2),
+            ("%bundle 1\n\n # note\n \t x\n%nothing\n", 4),
+            ("%bundle 1\n %clocks\n%regs 1\n", 2),
+            ("%bundle 1\nlast", 2),
+        ],
+    )
+}
+
+#[test]
+fn unknown_headers_are_told(rt: HostRuntime) -> Result<(), Fail> {
+    check_refusals(
+        &rt,
+        Reason::UnknownSection,
+        &[
+            ("%bundle 1\n%bundle 1\n", 2),
+            ("%bundle 1\n%\n", 2),
+            ("%bundle 1\n%clock\n", 2),
+            ("%bundle 1\n%CLOCKS\n", 2),
+            ("%bundle 1\n%dts\n%regs 1\n%journal\n%driver boot\n", 4),
+            ("%bundle 1\n%clocks\n%regs 1\n%resets 1\n", 4),
+        ],
+    )
+}
+
+#[test]
+fn headers_have_their_words(rt: HostRuntime) -> Result<(), Fail> {
+    check_refusals(
+        &rt,
+        Reason::BadHeader,
+        &[
+            ("%bundle 1\n%clocks 1\n", 2),
+            ("%bundle 1\n%dts # note\n", 2),
+            ("%bundle 1\n%regs\n", 2),
+            ("%bundle 1\n%clocks\n%regs 0\n", 3),
+            ("%bundle 1\n%clocks\n%regs 65537\n", 3),
+            ("%bundle 1\n%clocks\n%regs 0x10001\n", 3),
+            ("%bundle 1\n%clocks\n%regs 0X1\n", 3),
+            ("%bundle 1\n%clocks\n%regs 1 2\n", 3),
+            ("%bundle 1\n%clocks\n%regs 65536\n%lock a\n", 4),
+            ("%bundle 1\n%clocks\n%regs 1\n%late a\n", 4),
+            ("%bundle 1\n%clocks\n%regs 1\n%order a\n", 4),
+            ("%bundle 1\n%clocks\n%regs 1\n%driver\n", 4),
+            ("%bundle 1\n%clocks\n%regs 1\n%driver boot\n", 4),
+            ("%bundle 1\n%clocks\n%regs 1\n%driver a.b\n", 4),
+            ("%bundle 1\n%clocks\n%regs 1\n%driver a /b c\n", 4),
+            (
+                "%bundle 1\n%clocks\n%regs 1\n%driver a23456789012345678901234567890123\n",
+                4,
+            ),
+        ],
+    )
+}
+
+#[test]
+fn sections_stand_in_their_order(rt: HostRuntime) -> Result<(), Fail> {
+    check_refusals(
+        &rt,
+        Reason::SectionOrder,
+        &[
+            ("%bundle 1\n%clocks\n%dts\n", 3),
+            ("%bundle 1\n%clocks\n%clocks\n", 3),
+            ("%bundle 1\n%regs 1\n%clocks\n", 3),
+            ("%bundle 1\n%clocks\n%regs 1\n%regs 1\n", 4),
+            ("%bundle 1\n%clocks\n%lock\n%regs 1\n", 4),
+            ("%bundle 1\n%clocks\n%regs 1\n%late\n%lock\n", 5),
+            ("%bundle 1\n%clocks\n%regs 1\n%driver a\n%late\n", 5),
+            ("%bundle 1\n%clocks\n%regs 1\n%order\n%driver a\n", 5),
+            (
+                "%bundle 1\n%clocks\n%regs 1\n%driver a\n%order\n%driver a\n",
+                6,
+            ),
+            ("%bundle 1\n%clocks\n%regs 1\n%order\n%order\n", 5),
+        ],
+    )
+}
+
+#[test]
+fn a_driver_stands_once(rt: HostRuntime) -> Result<(), Fail> {
+    check_refusals(
+        &rt,
+        Reason::TwiceDefined,
+        &[
+            ("%bundle 1\n%clocks\n%regs 1\n%driver a\n%driver a\n", 5),
+            (
+                "%bundle 1\n%clocks\n%regs 1\n%driver a\nx\n%driver b\n%driver a /n\n%wrong\n",
+                7,
+            ),
+        ],
+    )
+}
+
+#[test]
+fn needed_sections_are_told_of_the_end(rt: HostRuntime) -> Result<(), Fail> {
+    check_refusals(
+        &rt,
+        Reason::MissingSection,
+        &[
+            ("%bundle 1", 1),
+            ("%bundle 1\n", 2),
+            ("%bundle 1\n\n# note", 3),
+            ("%bundle 1\n%clocks\nfixed f 5\n", 4),
+            ("%bundle 1\n%dts\n%driver a\nput x", 4),
+            ("%bundle 1\n%regs 1\n0 1\n%driver a\n", 5),
+        ],
+    )
+}
+
+// A bundle of so many drivers and a line behind them.
+fn drivers<R: AllocGlobal>(rt: &R, count: u32, last: &str) -> Result<String, Fail> {
+    let mut text = String::from_str(rt.alloc(), "%bundle 1\n%clocks\n%regs 1\n")?;
+    for driver in 1..=count.min(100) {
+        let line = format!(in rt.alloc(); "%driver d{driver}\n")?;
+        text.push_str(line.as_str())?;
+    }
+    text.push_str(last)?;
+    Ok(text)
+}
+
+#[test]
+fn sixty_four_drivers_are_the_most(rt: HostRuntime) -> Result<(), Fail> {
+    let text = drivers(&rt, 64, "%order\n")?;
+    let lines = TextLines::new(rt.alloc(), text.as_bytes())?;
+    assert!(rt; lines.len() < 1000);
+    let sections = read_sections(rt.alloc(), &lines, 69)?;
+    assert!(rt; sections.others().len() == 65);
+    let many = drivers(&rt, 65, "")?;
+    check_refusal(&rt, many.as_bytes(), 68, Reason::TooManyDrivers)?;
+    let again = drivers(&rt, 64, "%driver d1\n")?;
+    check_refusal(&rt, again.as_bytes(), 68, Reason::TwiceDefined)
+}
