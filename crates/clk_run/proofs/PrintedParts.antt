@@ -1,5 +1,6 @@
 -- What is printed in parts: a front that a fault leaves, and the whole once it is finished.
-use Rattle.std.proofs.Common.{◌≡◌, ℕ, List, [], ◌++◌, Option, Result, sym, subst}
+use Rattle.std.proofs.Common.{◌≡◌, ℕ, List, [], ◌++◌, Option, Result, Ok, Err, sym, subst}
+use Rattle.std.specs.Result.{IsErr}
 use Rattle.clk_io.specs.Streams.{AppendsFront}
 use Rattle.clk_io.specs.Prints.{Prints}
 use Rattle.clk_io.specs.Gathers.{PassesOn}
@@ -18,3 +19,8 @@ pub printed_of_parts : {T E : Type 0} (a b c : Option (List ℕ)) (start gathere
     → PassesOn a b start gathered parts → Prints b c gathered r → Prints a c whole r
 printed_of_parts a b c start gathered parts whole r none e p h =
     subst (λ (xs : List ℕ). Prints a c xs r) (sym e) (Prints-finished a b c gathered parts r (subst (λ (xs : List ℕ). PassesOn a b xs gathered parts) none p) h)
+
+-- a front of the text is what a fault may leave of it
+pub Prints-fault : {T E : Type 0} (a b : Option (List ℕ)) (text : List ℕ) (r : Result T E) → IsErr r → AppendsFront a b text → Prints a b text r
+Prints-fault a b text (Ok x) i h = absurd (cc)
+Prints-fault a b text (Err e) i h = h
