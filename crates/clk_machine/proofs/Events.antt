@@ -11,11 +11,11 @@ use Rattle.clk_model.specs.State.{State, registered, handle_at}
 use Rattle.clk_model.specs.Tree.{rooted, path}
 use Rattle.clk_model.specs.Holders.{active}
 use Rattle.clk_model.specs.Gates.{settled}
-use Rattle.clk_model.specs.Begin.{put_handle, own_handle, given, register}
+use Rattle.clk_model.specs.Begin.{put_handle, own_handle, given, register, keeps_prepare, holds_something}
 use Rattle.clk_model.specs.Machine.{paid, next}
 use Rattle.clk_model.proofs.Members.{both_left, not_either}
 use Rattle.clk_model.proofs.StateLaws.{settled-still, active-append}
-use Rattle.clk_model.proofs.EventLaws.{own_is_live, keeps_prepare, holds_something, prepared_once_less, enable-unknown, enable-unprepared, enable-fine, disable-unknown, disable-warned, disable-fine, running-unknown, running-told, get-not_found, get-deferred, get-given, put-unknown, put-busy, put-fine, prepare-unknown, prepare-fine, unprepare-unknown, unprepare-warned, unprepare-fine, rate-unknown, rate-told, parent-unknown, parent-told, probe-twice, probe-fine}
+use Rattle.clk_model.proofs.EventLaws.{own_is_live, prepared_once_less, enable-unknown, enable-unprepared, enable-fine, disable-unknown, disable-warned, disable-fine, running-unknown, running-told, get-not_found, get-deferred, get-given, put-unknown, put-busy, put-fine, prepare-unknown, prepare-fine, unprepare-unknown, unprepare-warned, unprepare-fine, rate-unknown, rate-told, parent-unknown, parent-told, probe-twice, probe-fine}
 use Rattle.clk_machine.specs.Fit.{has_pll}
 use Rattle.clk_machine.specs.Sound.{IsSound, CanTake}
 use Rattle.clk_machine.proofs.Fitting.{no_plls}
