@@ -32,6 +32,3 @@ pub use parents::Parents;
 pub use pause::{NoPause, Pause, Place};
 pub use rules::depth;
 pub use valid_desc::ValidDesc;
-
-#[cfg(test)]
-mod tests;

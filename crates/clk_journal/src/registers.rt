@@ -23,7 +23,7 @@ pub fn print_registers<K: Sink>(alloc: Global, words: &[u32], out: &mut K) -> Re
     Ok(())
 }
 
-/// The value of a word, printed as eight hexadecimal digits.
+// The value of a word, printed as eight hexadecimal digits.
 #[derive(Drop)]
 struct HexWord(u32);
 

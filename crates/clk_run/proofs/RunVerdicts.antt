@@ -6,12 +6,7 @@ use Rattle.drv_scripts.specs.declared.reason.Reason.TheVariants.{NotYet}
 use Rattle.drv_scripts.specs.Verdict.{Accepts, Refuses}
 use Rattle.drv_scripts.proofs.Verdicts.{same_bundle, same_refusal, never_both, each_decided}
 use Rattle.clk_run.specs.Built.{unbuilt_line, SpellsRun, IsUnbuilt, RefusesRun}
-
-none_some : (x : ℕ) → None ≡ Some x → ⊥
-none_some x h = cc
-
-some_of : (a b : ℕ) → Some a ≡ Some b → a ≡ b
-some_of a b h = cc
+use Rattle.std.proofs.lemmas.Option.{none-some, same_Some}
 
 pub same_run : (bytes : List ℕ) (a b : Bundle) → SpellsRun bytes a → SpellsRun bytes b → a ≡ b
 same_run bytes a b one other = same_bundle bytes a b one.spelled other.spelled
@@ -19,7 +14,7 @@ same_run bytes a b one other = same_bundle bytes a b one.spelled other.spelled
 built_or_not : (bytes : List ℕ) (b : Bundle) (line : ℕ) (reason : Reason) → SpellsRun bytes b → IsUnbuilt bytes line reason → ⊥
 built_or_not bytes b line reason runs not_built =
     let same = same_bundle bytes b not_built.bundle runs.spelled not_built.spelled in
-    none_some line (sym runs.built ∙ ap unbuilt_line same ∙ not_built.least)
+    none-some line (sym runs.built ∙ ap unbuilt_line same ∙ not_built.least)
 
 pub run_never_both : (bytes : List ℕ) (b : Bundle) (line : ℕ) (reason : Reason) → SpellsRun bytes b → RefusesRun bytes line reason → ⊥
 run_never_both bytes b line reason runs (inl refused) = never_both bytes b line reason runs.spelled refused
@@ -31,7 +26,7 @@ same_run_refusal bytes line other reason why (inl one) (inr two) = absurd (never
 same_run_refusal bytes line other reason why (inr one) (inl two) = absurd (never_both bytes one.bundle other why one.spelled two)
 same_run_refusal bytes line other reason why (inr one) (inr two) =
     let same = same_bundle bytes one.bundle two.bundle one.spelled two.spelled in
-    (some_of line other (sym one.least ∙ ap unbuilt_line same ∙ two.least), one.reason_is ∙ sym two.reason_is)
+    (same_Some line other (sym one.least ∙ ap unbuilt_line same ∙ two.least), one.reason_is ∙ sym two.reason_is)
 
 -- a bundle that was spelled can be run, or is refused for the least line of what can't
 run_or_refused : (bytes : List ℕ) (b : Bundle) → Accepts bytes b → (found : Option ℕ) → unbuilt_line b ≡ found
