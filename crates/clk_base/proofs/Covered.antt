@@ -13,6 +13,7 @@ use Rattle.clk_base.specs.Description.{Description, nobody, def_of, kind_of}
 use Rattle.clk_base.specs.Fields.{Field, fields_of, share_bit}
 use Rattle.clk_base.specs.Tables.{covers, IsTaken}
 use Rattle.clk_base.specs.Valid.{stand_apart, fields_before}
+use Rattle.std.proofs.Math.Bool.{and-true}
 
 -- a field of these numbers
 abbrev pub field : ℕ → ℕ → ℕ → Field
@@ -123,15 +124,11 @@ IsTaken-two_behind taken fields f g is w b =
     ∙ (turned (covers w b g) (covers w b f) (list_any (covers w b) fields)
     ∙ sym (list_any-append (covers w b) fields (f ∷ g ∷ [])))
 
-and_true : (x : Bool) → (x && true) ≡ x
-and_true true = refl
-and_true false = refl
-
 -- two fields stand apart of the taken ones where the first does, and the second of these and the first
 pub apart_two : (fields : List Field) (f g : Field) (free : Bool) → not (list_any (share_bit f) fields) ≡ true → free ≡ not (list_any (share_bit g) (f ∷ fields)) → free ≡ stand_apart fields (f ∷ g ∷ [])
 apart_two fields f g free first second =
     second
-    ∙ (sym (and_true (not (list_any (share_bit g) (f ∷ fields))))
+    ∙ (sym (and-true (not (list_any (share_bit g) (f ∷ fields))))
     ∙ ap (λ (x : Bool). x && (not (list_any (share_bit g) (f ∷ fields)) && true)) (sym first))
 
 -- one clock more

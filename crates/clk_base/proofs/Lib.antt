@@ -1,6 +1,7 @@
 pub mod Covered
 pub mod Kept
 pub mod Lines
+pub mod Mapped
 pub mod Names
 pub mod Shares
 pub mod Tabled

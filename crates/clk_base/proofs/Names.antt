@@ -1,7 +1,7 @@
 -- Names of clocks: looking one up, and adding one.
-use Rattle.std.proofs.Common.{◌≡◌, ℕ, ◌+◌, ◌<◌, Bool, true, false, ◌||◌, cond, List, [], ◌∷◌, ◌++◌, map, length, get_or, take, length-take, ◌≤◌, Option, Some, None, refl, sym, ap, ◌∙◌, inl, inr, arith, length-append, string_bytes, Global, ltb}
+use Rattle.std.proofs.Common.{◌≡◌, ℕ, ◌+◌, ◌<◌, Bool, true, false, List, [], ◌∷◌, ◌++◌, map, length, get_or, take, length-take, ◌≤◌, Option, Some, None, refl, sym, ap, ◌∙◌, inl, inr, arith, length-append, string_bytes, Global}
 use Rattle.std.specs.Prelude.{IsTrue}
-use Rattle.std.specs.List.{list_any, position, position_or_len, prefix_len}
+use Rattle.std.specs.List.{list_any, position}
 use Rattle.std.specs.Option.{option_map}
 use Rattle.std.specs.Str.{bytes_eq}
 use Rattle.std.specs.declared.string.String.{String}
@@ -21,24 +21,7 @@ use Rattle.clk_base.specs.Named.{IsNamed}
 use Rattle.clk_base.specs.declared.fault.AddFault.{AddFault}
 use Rattle.clk_base.specs.declared.fault.AddFault.TheVariants.{TwiceNamed, NoMemory}
 use Rattle.clk_base.specs.Description.{Description, nobody, def_of, name_of, has_name, clock_named, HasDistinctNames}
-
-list_any-map : {X Y : Type 0} (p : Y → Bool) (f : X → Y) (xs : List X) → list_any p (map f xs) ≡ list_any (λ x. p (f x)) xs
-list_any-map p f [] = refl
-list_any-map p f (x ∷ xs) = ap (λ b. p (f x) || b) (list_any-map p f xs)
-
-length-map' : {X Y : Type 0} (f : X → Y) (xs : List X) → length (map f xs) ≡ length xs
-length-map' f [] = refl
-length-map' f (x ∷ xs) = omega (arith, length-map' f xs)
-
-prefix_len-map : {X Y : Type 0} (p : Y → Bool) (f : X → Y) (xs : List X) → prefix_len p (map f xs) ≡ prefix_len (λ x. p (f x)) xs
-prefix_len-map p f [] = refl
-prefix_len-map p f (x ∷ xs) = ap (λ n. cond (p (f x)) (1 + n) 0) (prefix_len-map p f xs)
-
-position-map : {X Y : Type 0} (p : Y → Bool) (f : X → Y) (xs : List X) → position p (map f xs) ≡ position (λ x. p (f x)) xs
-position-map p f xs =
-    let same : position_or_len p (map f xs) ≡ position_or_len (λ x. p (f x)) xs = prefix_len-map _ f xs in
-    ap (λ n. cond (ltb n (length (map f xs))) (Some n) None) same
-    ∙ ap (λ m. cond (ltb (position_or_len (λ x. p (f x)) xs) m) (Some (position_or_len (λ x. p (f x)) xs)) None) (length-map' f xs)
+use Rattle.clk_base.proofs.Mapped.{list_any-map, position-map}
 
 -- a name stands among the texts where a clock has it
 pub has_name-texts : (texts : List (String Global)) (defs : Description) (name : List ℕ) → map string_bytes texts ≡ map (λ d. d.name) defs → list_any (λ k. bytes_eq name (string_bytes k)) texts ≡ has_name defs name

@@ -1,7 +1,7 @@
 -- What a valid description promises: parents in it, lines that end, fields in the bank that share no
 -- bit, and names that differ.
 use Rattle.std.proofs.Common.{◌≡◌, ℕ, ◌+◌, ◌<◌, ◌≤◌, true, false, List, [], ◌∷◌, length, Some, refl, ap, sym, ◌∙◌, inl, inr, arith}
-use Rattle.std.specs.Prelude.{nat_lt, slice_get}
+use Rattle.std.specs.Prelude.{slice_get}
 use Rattle.std.specs.List.{list_all}
 use Rattle.std.proofs.lemmas.Bool.{false≢true, both_ways, cases_lt, cases_order, and_parts, and_from, ltb-true, leb-true, eqb-true, lt-ltb, eq-eqb}
 use Rattle.std.proofs.lemmas.List.{get_or_past}

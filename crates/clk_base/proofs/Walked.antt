@@ -7,16 +7,9 @@ use Rattle.std.proofs.lemmas.List.{get_or_append_left, get_or_default, same_list
 use Rattle.std.proofs.lemmas.List.Folds.{list_any-append}
 use Rattle.clk_base.specs.Levels.{reaches_within}
 use Rattle.clk_base.specs.Tables.{has_place, with_place, with_places, IsListed}
+use Rattle.std.proofs.Math.Bool.{or-false, or_assoc}
 
 -- ## Places
-
-or_false : (x : Bool) → (x || false) ≡ x
-or_false true = refl
-or_false false = refl
-
-or_assoc : (x y z : Bool) → ((x || y) || z) ≡ (x || (y || z))
-or_assoc true y z = refl
-or_assoc false y z = refl
 
 -- among places with one more are those, and this one
 has_place-with : (places : List ℕ) (c a : ℕ) → has_place (with_place places c) a ≡ (has_place places a || (c == a))
@@ -25,15 +18,15 @@ has_place-with places c a =
       | inl had ↦ ap (λ xs. has_place xs a) (cond-true _ _ _ had)
           ∙ elim (cases_eq c a) [
             | inl same ↦ (let here : has_place places a ≡ true = ap (has_place places) (sym same) ∙ had in here ∙ sym (or_left _ _ here))
-            | inr apart ↦ sym (ap (λ b. has_place places a || b) (ne_eqb c a apart) ∙ or_false _)
+            | inr apart ↦ sym (ap (λ b. has_place places a || b) (ne_eqb c a apart) ∙ or-false _)
           ]
       | inr new ↦ ap (λ xs. has_place xs a) (cond-false _ _ _ new)
-          ∙ (list_any-append (λ p. p == a) places (c ∷ []) ∙ ap (λ b. has_place places a || b) (or_false (c == a)))
+          ∙ (list_any-append (λ p. p == a) places (c ∷ []) ∙ ap (λ b. has_place places a || b) (or-false (c == a)))
     ]
 
 -- among places with more are those, and these
 pub has_place-with_all : (places more : List ℕ) (a : ℕ) → has_place (with_places places more) a ≡ (has_place places a || has_place more a)
-has_place-with_all places [] a = sym (or_false _)
+has_place-with_all places [] a = sym (or-false _)
 has_place-with_all places (c ∷ more) a =
     has_place-with_all (with_place places c) more a
     ∙ (ap (λ b. b || has_place more a) (has_place-with places c a) ∙ or_assoc (has_place places a) (c == a) (has_place more a))

@@ -6,6 +6,7 @@ mod call;
 mod check;
 mod clock;
 mod command;
+mod credits;
 mod desc;
 mod event;
 mod fault;
@@ -20,6 +21,7 @@ mod valid_desc;
 pub use call::{Micro, Notice, Sleeping};
 pub use clock::{ClockDef, ClockId, Kind};
 pub use command::{Act, Answer, Command};
+pub use credits::MOST_CREDITS;
 pub use desc::Desc;
 pub use event::{Entry, Errno, Event, Reply, Turn};
 pub use fault::{AddFault, DescFault};
@@ -30,6 +32,3 @@ pub use parents::Parents;
 pub use pause::{NoPause, Pause, Place};
 pub use rules::depth;
 pub use valid_desc::ValidDesc;
-
-#[cfg(test)]
-mod tests;

@@ -25,7 +25,7 @@ use ranges::first_out_of_range;
 use std::alloc::Global;
 use work::first_too_much;
 
-// Refuses a description by the first rule that a clock breaks.
+/// Refuses a description by the first rule that a clock breaks.
 pub(crate) fn refuse_broken(alloc: Global, defs: &[ClockDef], words: u32) -> Result<(), DescFault>
     requires fits { length defs.now < 2 ^ 32 }
     requires names { HasDistinctNames defs.now }

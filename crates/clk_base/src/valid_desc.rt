@@ -33,7 +33,7 @@ impl ValidDesc {
     ghost use Rattle.clk_base.specs.Valid.{IsValid};
     ghost use Rattle.clk_base.specs.Checked.{Checked};
 
-    // A checked description.
+    /// A checked description.
     pub(crate) fn new(desc: Desc, words: u32) -> ValidDesc
         requires { IsValid words desc }
         ensures { result ≡ record { defs = desc; words = words } }

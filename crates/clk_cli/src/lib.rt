@@ -8,6 +8,3 @@ mod usage;
 pub use cli::{Cli, CliFault, Mode};
 pub use reading::words;
 pub use usage::USAGE_LINE;
-
-#[cfg(test)]
-mod tests;

@@ -4,7 +4,7 @@ ghost use Rattle.clk_cli.specs.Meaning.{texts, plain, meaning};
 use crate::cli::{Cli, CliFault, Mode};
 use std::alloc::Global;
 
-/// A mode without flags.
+// A mode without flags.
 fn plain(mode: Mode) -> Cli
     ensures { result ≡ plain mode }
 {

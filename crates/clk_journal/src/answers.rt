@@ -33,7 +33,7 @@ pub fn print_answers<K: Sink>(
     Ok(())
 }
 
-/// An answer, printed with the names of this description's clocks.
+// An answer, printed with the names of this description's clocks.
 #[derive(Drop)]
 struct AnswerText<'a> {
     desc: &'a ValidDesc,

@@ -10,6 +10,3 @@ mod reply;
 
 pub use answers::print_answers;
 pub use registers::print_registers;
-
-#[cfg(test)]
-mod tests;

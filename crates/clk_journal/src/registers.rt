@@ -28,7 +28,7 @@ pub fn print_registers<K: Sink>(
     Ok(())
 }
 
-/// The value of a word, printed as eight hexadecimal digits.
+// The value of a word, printed as eight hexadecimal digits.
 #[derive(Drop)]
 struct HexWord(u32);
 

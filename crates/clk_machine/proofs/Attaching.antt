@@ -16,7 +16,6 @@ use Rattle.clk_model.specs.Holders.{is_enabled, active}
 use Rattle.clk_model.specs.Begin.{registered_rows, register}
 use Rattle.clk_model.specs.Script.{adoptable}
 use Rattle.clk_model.proofs.Members.{both_right, is_in_cases, same_from_test, test_other, test_same}
-use Rattle.clk_model.proofs.RoundLaws.{is_in-filter}
 use Rattle.clk_model.proofs.WalkLaws.{filter_passes}
 use Rattle.clk_model.proofs.StateLaws.{row_of-set_same, row_of-set_other, filter_none, active_by_handles, held_by-set_unregistered}
 use Rattle.clk_model.proofs.PllLaws.{selected_possible}
@@ -24,16 +23,10 @@ use Rattle.clk_model.proofs.WholePathLaws.{same_or_not, given_link, given_others
 use Rattle.clk_machine.specs.Sound.{IsSound}
 use Rattle.clk_machine.proofs.Fitting.{all_in, all_from_in, not_critical, no_critical}
 use Rattle.clk_machine.proofs.Soundness.{link_is_registered}
+use Rattle.clk_model.proofs.OnceLaws.{is_in-filter}
+use Rattle.std.proofs.Math.Bool.{or-false, or-true}
 
 -- ---- rows
-
-or_true : (a : Bool) → (a || true) ≡ true
-or_true true = refl
-or_true false = refl
-
-or_false : (a : Bool) → (a || false) ≡ a
-or_false true = refl
-or_false false = refl
 
 -- a clock that is registered, or was
 pub registered-register : (s : State) (c k : ℕ) → c < length s.clocks → registered (register s c).clocks k ≡ (registered s.clocks k || nat_eq c k)
@@ -42,13 +35,13 @@ registered-register s c k within = by_test (nat_eq c k) refl where
   by_test : (t : Bool) → nat_eq c k ≡ t → registered (registered_rows s.defs s.regs s.clocks c) k ≡ (registered s.clocks k || t)
   by_test true same =
       ap (λ (n : ℕ). registered (registered_rows s.defs s.regs s.clocks c) n) (sym (same_from_test c k same))
-      ∙ ap (λ (r : ClockRow). r.registered) (row_of-set_same s.clocks c _ within) ∙ sym (or_true (registered s.clocks k))
+      ∙ ap (λ (r : ClockRow). r.registered) (row_of-set_same s.clocks c _ within) ∙ sym (or-true (registered s.clocks k))
   by_test false other =
-      ap (λ (r : ClockRow). r.registered) (row_of-set_other s.clocks c _ k (test_other c k other)) ∙ sym (or_false (registered s.clocks k))
+      ap (λ (r : ClockRow). r.registered) (row_of-set_other s.clocks c _ k (test_other c k other)) ∙ sym (or-false (registered s.clocks k))
 
 -- the clock itself is, what was stays so, and another wasn't
 pub registered-register_same : (s : State) (c : ℕ) → c < length s.clocks → registered (register s c).clocks c ≡ true
-registered-register_same s c within = registered-register s c c within ∙ ap (λ (t : Bool). registered s.clocks c || t) (test_same c) ∙ or_true (registered s.clocks c)
+registered-register_same s c within = registered-register s c c within ∙ ap (λ (t : Bool). registered s.clocks c || t) (test_same c) ∙ or-true (registered s.clocks c)
 
 pub registered-register_more : (s : State) (c k : ℕ) → c < length s.clocks → registered s.clocks k ≡ true → registered (register s c).clocks k ≡ true
 registered-register_more s c k within was = registered-register s c k within ∙ ap (λ (t : Bool). t || nat_eq c k) was

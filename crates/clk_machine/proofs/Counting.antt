@@ -1,11 +1,12 @@
 -- Counting members of a list by their places.
-use Rattle.std.proofs.Common.{◌≡◌, ℕ, zero, suc, ◌+◌, ◌≤◌, Bool, true, false, cond, List, [], ◌∷◌, Some, None, refl, ap, ◌∙◌, arith, length, drop, filter}
+use Rattle.std.proofs.Common.{◌≡◌, ℕ, zero, suc, ◌+◌, ◌≤◌, Bool, cond, List, [], ◌∷◌, Some, None, refl, ap, ◌∙◌, arith, length, drop}
 use Rattle.std.specs.Prelude.{count_by, slice_get}
 use Rattle.std.proofs.lemmas.List.Sums.{sum_by-cons}
 use Rattle.clk_model.specs.declared.row.ClockRow.{ClockRow}
 use Rattle.clk_model.specs.Lists.{is_at}
 use Rattle.clk_model.specs.State.{link_in}
 use Rattle.clk_model.specs.Tree.{children}
+use Rattle.clk_model.proofs.OnceLaws.{length-filter-le}
 
 -- past the last member nothing is left to count
 pub count-ended : (test : ℕ → Bool) (xs : List ℕ) (k : ℕ) → slice_get xs k ≡ None → count_by test (drop k xs) ≡ 0
@@ -31,13 +32,6 @@ count-next test (y ∷ xs) zero x e =
     ∙ ap (λ (n : ℕ). cond (test x) 1 0 + count_by test (drop n (y ∷ xs))) (let one : 1 ≡ 0 + 1 = omega arith in one)
 count-next test (y ∷ xs) (suc k) x e =
     count-next test xs k x e ∙ ap (λ (n : ℕ). cond (test x) 1 0 + count_by test (drop n (y ∷ xs))) (let one : suc (k + 1) ≡ suc k + 1 = omega arith in one)
-
-length-filter-le : (test : ℕ → Bool) (xs : List ℕ) → length (filter test xs) ≤ length xs
-length-filter-le test [] = omega arith
-length-filter-le test (x ∷ xs) = by (test x) (length-filter-le test xs) where
-  by : (b : Bool) → length (filter test xs) ≤ length xs → length (cond b (x ∷ filter test xs) (filter test xs)) ≤ suc (length xs)
-  by true le = omega arith
-  by false le = omega arith
 
 -- a clock has at most as many children as clocks are attached
 pub few_children : (order : List ℕ) (clocks : List ClockRow) (p : ℕ) → length (children order clocks p) ≤ length order

@@ -1,5 +1,5 @@
 -- Entering an event that the machine has taken into the journal.
-use Rattle.std.proofs.Common.{◌≡◌, ℕ, ◌+◌, ◌<◌, ◌&&◌, ◌||◌, Bool, true, false, not, cond, List, [], ◌∷◌, ◌++◌, Some, refl, sym, ap, subst, ◌∙◌, arith, length, take, nat_le, ◌≤◌}
+use Rattle.std.proofs.Common.{◌≡◌, ℕ, ◌+◌, ◌<◌, ◌&&◌, ◌||◌, Bool, true, false, cond, List, [], ◌∷◌, ◌++◌, Some, refl, sym, ap, subst, ◌∙◌, arith, length, take, nat_le, ◌≤◌}
 use Rattle.std.proofs.lemmas.Bool.Decides.{nat_tests}
 use Rattle.std.proofs.lemmas.List.{length-append, take-append-le, take_all}
 use Rattle.std.proofs.lemmas.List.Sums.{sum_by-append}
@@ -17,14 +17,15 @@ use Rattle.clk_model.specs.State.{State, registered}
 use Rattle.clk_model.specs.Machine.{next}
 use Rattle.clk_model.specs.Journal.{slotless, replay, Legal, opening, is_paid, cost}
 use Rattle.clk_model.proofs.JournalLaws.{replay-append, Legal-append}
-use Rattle.clk_machine.specs.Fit.{CanRun, has_pll}
+use Rattle.clk_machine.specs.Fit.{CanRun}
 use Rattle.clk_machine.specs.Sound.{IsSound, CanBegin, CanTake}
 use Rattle.clk_machine.specs.Held.{Held, Stays, registers, Takes}
 use Rattle.clk_base.specs.Valid.{IsValid}
 use Rattle.clk_model.specs.Fed.{Fed}
 use Rattle.clk_machine.proofs.Soundness.{Fed_sound, sound_opening}
 use Rattle.clk_machine.proofs.Events.{sound_next}
-use Rattle.clk_machine.specs.Run.{is_built, was_probed, Logged, start_of, IsRun, Appends}
+use Rattle.clk_machine.specs.Run.{was_probed, Logged, start_of, IsRun, Appends, can_make}
+use Rattle.std.proofs.Math.Bool.{or-false}
 
 -- a paid entry more costs one more
 cost-append : (journal : List Entry) (e : Entry) → is_paid e.event ≡ true → cost (journal ++ e ∷ []) ≡ cost journal + 1
@@ -41,10 +42,6 @@ start_stays old new words stays =
 -- the entry of an event
 abbrev pub entry_of : ℕ → Event → Reply → Entry
 entry_of d e r = record { driver = d; event = e; turn = turn.Done r }
-
-or_none : (a : Bool) → (a || false) ≡ a
-or_none true = refl
-or_none false = refl
 
 -- a journal with an entry more, after which the active clocks are fed, as they were after every prefix
 fed-append : (start t : State) (turn : Turn) (entries entries' : List Entry) (e : Entry) → entries' ≡ entries ++ e ∷ [] → next (replay start entries) e.driver e.event ≡ Some (t, turn)
@@ -93,7 +90,7 @@ entered old new words log log' d e r run takes can paid entries room =
       size = takes.size ∙ run.size;
       probed = λ c.
           takes.registered_ c ∙ ap (λ (b : Bool). b || registers e c) (run.probed c)
-          ∙ ap (λ (b : Bool). was_probed log.entries c || b) (sym (or_none (registers e c)))
+          ∙ ap (λ (b : Bool). was_probed log.entries c || b) (sym (or-false (registers e c)))
           ∙ sym (ap (λ (j : List Entry). was_probed j c) entries ∙ list_any-append (λ f. registers f.event c) log.entries (entry_of d e r ∷ []));
     }
 
@@ -121,30 +118,12 @@ list_all-agree : (p q : ℕ → Bool) (xs : List ℕ) → ((x : ℕ) → p x ≡
 list_all-agree p q [] same = refl
 list_all-agree p q (x ∷ xs) same = ap (λ (b : Bool). b && list_all p xs) (same x) ∙ ap (λ (b : Bool). q x && b) (list_all-agree p q xs same)
 
--- a clock is registered where it was probed, so a call that is built can begin
+-- a clock is registered where it was probed, so a call that can be made can begin
 pub can_begin : (m : Held) (words : List ℕ) (log : Logged) (what : Sleeping) → IsRun m words log
-    → is_built (record { start = start_of m words; journal = log.entries; told = m.told; behind = m.behind }) what ≡ true → CanBegin m.state what
-can_begin m words log (call.Get found) run built = tt
-can_begin m words log (call.Prepare h) run built = not_true (has_pll m.state.defs) built where
-  not_true : (b : Bool) → not b ≡ true → b ≡ false
-  not_true true e = absurd cc
-  not_true false e = refl
-can_begin m words log (call.GetRate h) run built = tt
+    → can_make (record { start = start_of m words; journal = log.entries; told = m.told; behind = m.behind }) what ≡ true → CanBegin m.state what
 can_begin m words log (call.Probe c) run built =
     list_all-agree (registered m.state.clocks) (was_probed log.entries) (parents_of m.state.defs c.0) run.probed ∙ built
-can_begin m words log (call.Put h) run built = tt
-can_begin m words log (call.Unprepare h) run built = tt
-can_begin m words log (call.RoundRate h x) run built = absurd cc
-can_begin m words log (call.SetRate h x) run built = absurd cc
-can_begin m words log (call.SetRateExclusive h x) run built = absurd cc
-can_begin m words log (call.SetRange h least most) run built = absurd cc
-can_begin m words log (call.SetParent h p) run built = absurd cc
-can_begin m words log (call.GetParent h) run built = tt
-can_begin m words log (call.ExclusiveGet h) run built = absurd cc
-can_begin m words log (call.ExclusivePut h) run built = absurd cc
-can_begin m words log (call.NotifierAdd h id priority policy) run built = absurd cc
-can_begin m words log (call.NotifierRemove h id) run built = absurd cc
-can_begin m words log call.Sweep run built = absurd cc
+can_begin m words log _ run built = built
 
 -- ---- the beginning
 

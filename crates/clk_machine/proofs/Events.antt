@@ -11,17 +11,18 @@ use Rattle.clk_model.specs.State.{State, registered, handle_at}
 use Rattle.clk_model.specs.Tree.{rooted, path}
 use Rattle.clk_model.specs.Holders.{active}
 use Rattle.clk_model.specs.Gates.{settled}
-use Rattle.clk_model.specs.Begin.{put_handle, own_handle, given, register}
+use Rattle.clk_model.specs.Begin.{put_handle, own_handle, given, register, keeps_prepare, holds_something}
 use Rattle.clk_model.specs.Machine.{paid, next}
 use Rattle.clk_model.proofs.Members.{both_left, not_either}
 use Rattle.clk_model.proofs.StateLaws.{settled-still, active-append}
-use Rattle.clk_model.proofs.EventLaws.{own_is_live, keeps_prepare, holds_something, prepared_once_less, enable-unknown, enable-unprepared, enable-fine, disable-unknown, disable-warned, disable-fine, running-unknown, running-told, get-not_found, get-deferred, get-given, put-unknown, put-busy, put-fine, prepare-unknown, prepare-fine, unprepare-unknown, unprepare-warned, unprepare-fine, rate-unknown, rate-told, parent-unknown, parent-told, probe-twice, probe-fine}
+use Rattle.clk_model.proofs.EventLaws.{own_is_live, prepared_once_less, enable-unknown, enable-unprepared, enable-fine, disable-unknown, disable-warned, disable-fine, running-unknown, running-told, get-not_found, get-deferred, get-given, put-unknown, put-busy, put-fine, prepare-unknown, prepare-fine, unprepare-unknown, unprepare-warned, unprepare-fine, rate-unknown, rate-told, parent-unknown, parent-told, probe-twice, probe-fine}
 use Rattle.clk_machine.specs.Fit.{has_pll}
 use Rattle.clk_machine.specs.Sound.{IsSound, CanTake}
 use Rattle.clk_machine.proofs.Fitting.{no_plls}
 use Rattle.clk_machine.proofs.Soundness.{frees-unpowered}
 use Rattle.clk_machine.proofs.Attaching.{registers_alone}
 use Rattle.clk_machine.proofs.Kept.{IsSound-spent, MayHold, IsSound-put, IsSound-given}
+use Rattle.std.proofs.lemmas.Bool.{not-true}
 
 -- ---- paid events
 
@@ -138,7 +139,7 @@ begin_sound words s t d (call.Prepare h) x sound can comes = by (own_handle s d 
   by None lacks = same_sound words s t d (event.Begin (call.Prepare h)) _ x sound (prepare-unknown s d h sound.quiet lacks) comes
   by (Some row) own =
       put_sound words s t h.number d (event.Begin (call.Prepare h)) _ x row (record row { prepares = row.prepares + 1 }) sound (own_is_live s d h.number row own) refl
-      (λ more. omega arith) (λ more. can.1) (prepare-fine s d h row sound.quiet own (no_plls s (path s.clocks row.clock.0) can.1)) comes
+      (λ more. omega arith) (λ more. not-true (has_pll s.defs) can.1) (prepare-fine s d h row sound.quiet own (no_plls s (path s.clocks row.clock.0) (not-true (has_pll s.defs) can.1))) comes
 begin_sound words s t d (call.Unprepare h) x sound can comes = by (own_handle s d h.number) refl where
   kept : (row : HandleRow) (b : Bool) → own_handle s d h.number ≡ Some row → keeps_prepare row ≡ b → IsSound words t
   kept row true own keeps = same_sound words s t d (event.Begin (call.Unprepare h)) _ x sound (unprepare-warned s d h row sound.quiet own keeps) comes
@@ -167,16 +168,16 @@ begin_sound words s t d (call.Probe c) x sound can comes = by (registered s.cloc
       let alone = registers_alone words s c.0 sound can.0 free can.1 in
       comes_to words s (register s c.0) t d (event.Begin (call.Probe c)) _ x (stills words s (register s c.0) alone.same alone.sound)
       (probe-fine s d c sound.quiet free alone.none alone.uncritical) comes
-begin_sound words s t d (call.RoundRate h r) x sound can comes = absurd can.1
-begin_sound words s t d (call.SetRate h r) x sound can comes = absurd can.1
-begin_sound words s t d (call.SetRateExclusive h r) x sound can comes = absurd can.1
-begin_sound words s t d (call.SetRange h least most) x sound can comes = absurd can.1
-begin_sound words s t d (call.SetParent h p) x sound can comes = absurd can.1
-begin_sound words s t d (call.ExclusiveGet h) x sound can comes = absurd can.1
-begin_sound words s t d (call.ExclusivePut h) x sound can comes = absurd can.1
-begin_sound words s t d (call.NotifierAdd h id priority policy) x sound can comes = absurd can.1
-begin_sound words s t d (call.NotifierRemove h id) x sound can comes = absurd can.1
-begin_sound words s t d call.Sweep x sound can comes = absurd can.1
+begin_sound words s t d (call.RoundRate h r) x sound can comes = absurd cc
+begin_sound words s t d (call.SetRate h r) x sound can comes = absurd cc
+begin_sound words s t d (call.SetRateExclusive h r) x sound can comes = absurd cc
+begin_sound words s t d (call.SetRange h least most) x sound can comes = absurd cc
+begin_sound words s t d (call.SetParent h p) x sound can comes = absurd cc
+begin_sound words s t d (call.ExclusiveGet h) x sound can comes = absurd cc
+begin_sound words s t d (call.ExclusivePut h) x sound can comes = absurd cc
+begin_sound words s t d (call.NotifierAdd h id priority policy) x sound can comes = absurd cc
+begin_sound words s t d (call.NotifierRemove h id) x sound can comes = absurd cc
+begin_sound words s t d call.Sweep x sound can comes = absurd cc
 
 -- ---- each event
 

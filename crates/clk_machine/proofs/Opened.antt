@@ -8,6 +8,7 @@ use Rattle.clk_tree.specs.TreeState.{TreeState, IsTree}
 use Rattle.clk_machine.specs.Window.{Shown, AreTold}
 use Rattle.clk_machine.specs.Fit.{CanRun}
 use Rattle.clk_machine.specs.Held.{AreKept, IsShaped}
+use Rattle.clk_model.specs.Begin.{most_credits}
 
 -- no clock is registered at first
 blank_row : (n c : ℕ) → row_of (replicate n unregistered_row) c ≡ unregistered_row
@@ -21,7 +22,7 @@ blank_registered clocks n c is = ap (λ (rows : List ClockRow). registered rows 
 -- a core without a registered clock and a handle
 pub shaped_opening : (desc : Checked) (window : Shown) (tree : TreeState) (credits : ℕ)
     → IsValid desc.words desc.defs → CanRun desc.defs → window.size ≡ desc.words → AreTold window.size window.words
-    → tree.defs ≡ desc.defs → tree.clocks ≡ replicate (length desc.defs) unregistered_row → IsTree tree.defs tree.clocks tree.order tree.rates → credits ≤ 4194304
+    → tree.defs ≡ desc.defs → tree.clocks ≡ replicate (length desc.defs) unregistered_row → IsTree tree.defs tree.clocks tree.order tree.rates → credits ≤ most_credits
     → IsShaped desc window tree [] credits 0
 shaped_opening desc window tree credits valid runs size told defs blank stands few = record {
   valid = valid;

@@ -6,9 +6,9 @@ use Rattle.clk_base.specs.Checked.{Checked}
 use Rattle.clk_model.specs.declared.row.HandleRow.{HandleRow}
 use Rattle.clk_model.specs.Lists.{present}
 use Rattle.clk_model.specs.State.{State, registered, handle_at}
-use Rattle.clk_model.specs.Begin.{own_handle}
+use Rattle.clk_model.specs.Begin.{own_handle, holds_something}
 use Rattle.clk_model.specs.Holders.{is_enabled}
-use Rattle.clk_model.proofs.EventLaws.{own_is_live, holds_something}
+use Rattle.clk_model.proofs.EventLaws.{own_is_live}
 use Rattle.clk_tree.specs.TreeState.{TreeState}
 use Rattle.clk_machine.specs.Window.{Shown}
 use Rattle.clk_machine.specs.Held.{held_in_all, IsShaped}

@@ -18,14 +18,14 @@ use Rattle.reg_bank.specs.Registers.{Registers}
 use Rattle.clk_model.specs.declared.row.ClockRow.{ClockRow}
 use Rattle.clk_model.specs.declared.row.HandleRow.{HandleRow}
 use Rattle.clk_model.specs.Lists.{is_in, to_front}
-use Rattle.clk_model.specs.State.{State, row_of, registered}
+use Rattle.clk_model.specs.State.{State, row_of, registered, requested}
 use Rattle.clk_model.specs.Tree.{selected}
 use Rattle.clk_model.specs.Rate.{rate}
 use Rattle.clk_model.specs.Begin.{registered_rows, register}
 use Rattle.clk_model.specs.Laws.Paths.{scales_by}
 use Rattle.clk_model.proofs.Members.{is_in_head, is_in_tail, test_same}
 use Rattle.clk_model.proofs.RateLaws.{rate-links, writes_leave_rates}
-use Rattle.clk_tree.specs.TreeState.{TreeState, IsTree, attached, requested}
+use Rattle.clk_tree.specs.TreeState.{TreeState, IsTree, attached}
 use Rattle.clk_tree.proofs.Fitting.{attached-registered}
 use Rattle.clk_tree.proofs.Rows.{registered-set, registered-requested, link-requested}
 use Rattle.clk_machine.specs.Held.{AreKept, state_of, IsShaped}

@@ -20,6 +20,7 @@ use Rattle.clk_machine.specs.Window.{Shown}
 use Rattle.clk_machine.specs.Hold.{held, has, count_of}
 use Rattle.clk_machine.specs.Held.{state_of, held_in_all, AreKept, IsShaped}
 use Rattle.clk_machine.proofs.Fitting.{no_critical, not_critical, not_guarding}
+use Rattle.clk_model.specs.Begin.{most_credits}
 
 -- the holds of a clock's handles
 abbrev pub sum_at : Hold → List (Option HandleRow) → ℕ → ℕ
@@ -35,7 +36,7 @@ held-le Enable h = omega arith
 
 -- they are a part of what was paid for
 pub sum_at-le : (desc : Checked) (window : Shown) (tree : TreeState) (handles : List (Option HandleRow)) (credits spent : ℕ) (hold : Hold) (c : ℕ)
-    → IsShaped desc window tree handles credits spent → sum_at hold handles c ≤ 4194304
+    → IsShaped desc window tree handles credits spent → sum_at hold handles c ≤ most_credits
 sum_at-le desc window tree handles credits spent hold c shape =
     let part = sum_by-part (held hold) held_in_all (λ h. nat_eq h.clock.0 c) (present handles) (held-le hold) in
     let few = shape.few_holds in
@@ -70,7 +71,7 @@ protects_none desc window tree handles credits spent ignore_unused c shape withi
     protect_count-none (state_of desc.defs window.words tree.clocks tree.order handles credits spent ignore_unused) c shape.unguarded
     (not_guarding desc.defs shape.runs) within
 
-pub fits : (n m : ℕ) → n ≡ m → m ≤ 4194304 → n < 4294967296
+pub fits : (n m : ℕ) → n ≡ m → m ≤ most_credits → n < 4294967296
 fits n m same few = omega arith
 
 -- the kept rate of a registered clock is the one that the registers give

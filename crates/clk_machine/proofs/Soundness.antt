@@ -15,16 +15,16 @@ use Rattle.clk_model.specs.Tree.{selected}
 use Rattle.clk_model.specs.Holders.{is_enabled, enable_holders, active}
 use Rattle.clk_model.specs.Fed.{feeds, Fed}
 use Rattle.clk_model.specs.Journal.{opening}
-use Rattle.clk_model.specs.Laws.Plans.{LinksArePossible}
 use Rattle.clk_model.proofs.HolderLaws.{held_by-none}
 use Rattle.clk_model.proofs.StateLaws.{active_by_handles}
 use Rattle.clk_model.proofs.FedLaws.{is_held-parent}
 use Rattle.clk_model.proofs.PllLaws.{selected_possible}
-use Rattle.clk_model.proofs.EventLaws.{keeps_prepare}
 use Rattle.clk_model.proofs.GatesFollowLaws.{blank_registered, blank_link}
 use Rattle.clk_machine.specs.Fit.{CanRun, has_pll}
 use Rattle.clk_machine.specs.Sound.{IsSound}
 use Rattle.clk_machine.proofs.Fitting.{all_in, no_critical, no_power}
+use Rattle.clk_model.specs.Wired.{LinksArePossible}
+use Rattle.clk_model.specs.Begin.{keeps_prepare}
 
 -- ---- links
 

@@ -21,10 +21,7 @@ use Rattle.clk_model.proofs.StateLaws.{paid-still}
 use Rattle.clk_machine.specs.Sound.{IsSound}
 use Rattle.clk_machine.specs.Held.{Held, Stays, RegistersClock, registers, Takes}
 use Rattle.clk_machine.proofs.Attaching.{registers_alone}
-
-or_false : (a : Bool) → a ≡ (a || false)
-or_false true = refl
-or_false false = refl
+use Rattle.std.proofs.Math.Bool.{or-false}
 
 -- what an event comes to, in a sound state of a bank that tells its words
 abbrev pub Comes : Held → ℕ → Event → Reply → State → Type 0
@@ -55,7 +52,7 @@ pub takes_beside : (old new : Held) (d : ℕ) (event : Event) (r : Reply) (t : S
     → Takes old d event r new
 takes_beside old new d event r t left comes same told size behind is stays clocks none =
     takes_still old new d event r t left comes same told size behind is stays
-    (λ c. ap (λ (rows : _). registered rows c) clocks ∙ or_false (registered old.state.clocks c) ∙ ap (λ (b : Bool). registered old.state.clocks c || b) (sym (none c)))
+    (λ c. ap (λ (rows : _). registered rows c) clocks ∙ sym (or-false (registered old.state.clocks c)) ∙ ap (λ (b : Bool). registered old.state.clocks c || b) (sym (none c)))
 
 -- a refusal changes nothing but the credits
 pub takes_refused : (old new : Held) (d : ℕ) (event : Event) (e : Errno) → old.state.spent < old.state.credits
@@ -79,7 +76,7 @@ takes_known old new d c e left comes is there =
       known k = elim (nat_eq c.0 k) as (λ t. nat_eq c.0 k ≡ t → registered old.state.clocks k ≡ (registered old.state.clocks k || t)) [
         | true ↦ λ same. let here : registered old.state.clocks k ≡ true = ap (registered old.state.clocks) (sym (same_from_test c.0 k same)) ∙ there in
             here ∙ sym (ap (λ (b : Bool). b || true) here)
-        | false ↦ λ other. or_false (registered old.state.clocks k)
+        | false ↦ λ other. sym (or-false (registered old.state.clocks k))
       ] refl
 
 -- an answer that changes nothing but the credits

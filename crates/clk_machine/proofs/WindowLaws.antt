@@ -1,11 +1,11 @@
 -- Laws on the first words of a bank.
-use Rattle.std.proofs.Common.{◌≡◌, ℕ, zero, suc, ◌<◌, Bool, List, [], ◌∷◌, Option, Some, None, refl, sym, ap, ◌∙◌, take, drop, set}
+use Rattle.std.proofs.Common.{◌≡◌, ℕ, zero, suc, ◌<◌, ◌≤◌, ◌^◌, Bool, List, [], ◌∷◌, Option, Some, None, refl, sym, ap, ◌∙◌, arith, length, take, drop, set}
 use Rattle.std.specs.Prelude.{IfSome, ◌==◌, if◌then◌else◌}
 use Rattle.std.specs.Option.{option_map}
-use Rattle.std.proofs.lemmas.List.{get_or-take, drop-set-lt}
-use Rattle.reg_bank.specs.Registers.{Registers, bits_of, with_bits, field, put, is_set, put_bit}
-use Rattle.reg_bank.proofs.BitLaws.{length-put_bit, AreWords-put_bit}
+use Rattle.std.proofs.lemmas.List.{get_or-take, drop-set-lt, length-take-le}
+use Rattle.reg_bank.specs.Registers.{Registers, AreWords, bits_of, with_bits, field, put, is_set, put_bit}
 use Rattle.clk_machine.specs.Window.{AreTold}
+use Rattle.std.proofs.lemmas.List.Elements.{All-take}
 
 take_set : (n : ℕ) (words : List ℕ) (i value : ℕ) → take n (set words i value) ≡ set (take n words) i value
 take_set zero words i value = refl
@@ -50,11 +50,10 @@ told_put n None new word bit value within h = ap (option_map (take n)) h
 told_put n (Some words) new word bit value within h =
     ap (option_map (take n)) h ∙ ap (λ (ws : List ℕ). Some ws) (sym (put_bit-take n words word bit value within))
 
--- told words stay words
-pub told_words : (n : ℕ) (told : Option (List ℕ)) (word bit : ℕ) (value : Bool) → bit < 32 → AreTold n told
-    → AreTold n (option_map (λ words. put_bit words word bit value) told)
-told_words n None word bit value small are = tt
-told_words n (Some words) word bit value small are = (AreWords-put_bit words word bit value small are.0, length-put_bit words word bit value ∙ are.1)
+-- the first words that are told are words, and as many
+pub told_first : (n size : ℕ) (told : Option (List ℕ)) → n ≤ size → IfSome told (λ words. length words ≡ size) → IfSome told AreWords → AreTold n (option_map (take n) told)
+told_first n size None fits sized whole = tt
+told_first n size (Some words) fits sized whole = (All-take (λ word. word < 2 ^ 32) n words whole, length-take-le n words (omega arith))
 
 -- where the words are told, so is the field
 pub told_field : (n : ℕ) (told : Option (List ℕ)) (word shift width answer : ℕ) → word < n → IfSome told (λ words. answer ≡ field words word shift width)

@@ -17,7 +17,7 @@ use Rattle.clk_model.specs.State.{State, registered, handle_at}
 use Rattle.clk_model.specs.Rate.{rate}
 use Rattle.clk_model.specs.Holders.{is_enabled}
 use Rattle.clk_model.specs.Gates.{settled}
-use Rattle.clk_model.specs.Begin.{put_handle, register}
+use Rattle.clk_model.specs.Begin.{put_handle, register, most_credits}
 use Rattle.clk_model.specs.Machine.{next}
 use Rattle.clk_model.specs.Journal.{slotless}
 use Rattle.clk_tree.specs.TreeState.{TreeState, IsTree}
@@ -74,7 +74,7 @@ pub record IsShaped (desc : Checked) (window : Shown) (tree : TreeState) (handle
   pub handled : (n : ℕ) (h : HandleRow) → handle_at handles n ≡ Some h → registered tree.clocks h.clock.0 ≡ true
   -- no handle holds a rate
   pub unguarded : (n : ℕ) (h : HandleRow) → handle_at handles n ≡ Some h → h.exclusives ≡ 0
-  pub few_credits : credits ≤ 4194304
+  pub few_credits : credits ≤ most_credits
   pub spent_within : spent ≤ credits
   pub few_handles : length handles ≤ spent
   pub few_holds : sum_by held_in_all (present handles) ≤ spent

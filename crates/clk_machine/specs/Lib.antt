@@ -1,6 +1,7 @@
 pub mod Window
 pub mod Shape
 pub mod Fit
+pub mod Built
 pub mod Held
 pub mod Sound
 pub mod Run

@@ -1,7 +1,6 @@
 -- What contracts see of a core: where it began, and its journal.
-use Rattle.std.specs.Prelude.{◌≡◌, ℕ, ◌+◌, List, [], ◌∷◌, ◌++◌, Bool, true, false, not, Option, Some, length, take}
-use Rattle.std.specs.List.{list_any, list_all}
-use Rattle.clk_base.specs.Description.{parents_of}
+use Rattle.std.specs.Prelude.{◌≡◌, ℕ, ◌+◌, List, [], ◌∷◌, ◌++◌, Bool, true, Option, Some, length, take}
+use Rattle.std.specs.List.{list_any}
 use Rattle.clk_base.specs.declared.call.Sleeping.{Sleeping}
 use Rattle.clk_base.specs.declared.call.Sleeping.TheVariants as call
 use Rattle.clk_base.specs.declared.event.Entry.{Entry}
@@ -12,9 +11,9 @@ use Rattle.clk_model.specs.State.{State, registered}
 use Rattle.clk_model.specs.Machine.{next}
 use Rattle.clk_model.specs.Journal.{slotless, replay, Legal, opening, cost}
 use Rattle.clk_model.specs.Fed.{Fed}
-use Rattle.clk_machine.specs.Fit.{has_pll}
 use Rattle.clk_machine.specs.Held.{Held, registers}
 use Rattle.clk_machine.specs.Sound.{IsSound}
+use Rattle.clk_machine.specs.Built.{is_built_over}
 
 -- a core as its opening and its journal, and what it knows of its bank
 pub record Run : Type 0 where
@@ -33,17 +32,9 @@ now_of run = replay run.start run.journal
 abbrev pub was_probed : List Entry → ℕ → Bool
 was_probed journal c = list_any (λ e. registers e.event c) journal
 
--- whether a call can be made so far: get, put, unprepare, rate and parent, a prepare where there is no PLL, and the probe of a clock
--- whose possible parents were probed
-abbrev pub is_built : Run → Sleeping → Bool
-is_built run (call.Get found) = true
-is_built run (call.Put h) = true
-is_built run (call.Prepare h) = not (has_pll run.start.defs)
-is_built run (call.Unprepare h) = true
-is_built run (call.GetRate h) = true
-is_built run (call.GetParent h) = true
-is_built run (call.Probe c) = list_all (was_probed run.journal) (parents_of run.start.defs c.0)
-is_built run _ = false
+-- whether a call can be made now, where the probed clocks are the registered ones
+abbrev pub can_make : Run → Sleeping → Bool
+can_make run what = is_built_over run.start.defs (was_probed run.journal) what
 
 -- the event is answered, and no call goes on
 abbrev pub IsDone : Turn → Type 0

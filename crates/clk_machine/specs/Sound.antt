@@ -18,6 +18,7 @@ use Rattle.clk_model.specs.Tree.{selected}
 use Rattle.clk_model.specs.Holders.{active}
 use Rattle.clk_model.specs.Machine.{next}
 use Rattle.clk_machine.specs.Fit.{CanRun, has_pll}
+use Rattle.clk_machine.specs.Built.{is_built_over}
 
 -- what every state of a core keeps
 pub record IsSound (words : ℕ) (s : State) : Type 0 where
@@ -50,17 +51,9 @@ IsPlaced defs (call.SetParent h p) = p.0 < length defs
 IsPlaced defs (call.Probe c) = c.0 < length defs
 IsPlaced defs _ = Unit {0}
 
--- a call that this core can begin: get, put, unprepare, rate and parent, a prepare where there is no PLL, and the probe of a clock whose
--- possible parents are registered
+-- a call that can begin in a state
 abbrev pub CanBegin : State → Sleeping → Type 0
-CanBegin s (call.Get found) = Unit {0}
-CanBegin s (call.Put h) = Unit {0}
-CanBegin s (call.Prepare h) = has_pll s.defs ≡ false
-CanBegin s (call.Unprepare h) = Unit {0}
-CanBegin s (call.GetRate h) = Unit {0}
-CanBegin s (call.GetParent h) = Unit {0}
-CanBegin s (call.Probe c) = list_all (registered s.clocks) (parents_of s.defs c.0) ≡ true
-CanBegin s _ = ⊥
+CanBegin s what = is_built_over s.defs (registered s.clocks) what ≡ true
 
 -- a get takes memory, for its handle, and no other call does
 abbrev pub takes_memory : Sleeping → Bool

@@ -5,6 +5,7 @@ ghost use Rattle.std.specs.Option.{option_map};
 ghost use Rattle.clk_model.specs.State.{is_quiet};
 ghost use Rattle.clk_model.specs.Journal.{opening, replay, Legal, cost};
 ghost use Rattle.clk_model.specs.Fed.{Fed};
+ghost use Rattle.clk_model.specs.Begin.{most_credits};
 
 use crate::log::Log;
 use crate::machine::Machine;
@@ -43,7 +44,7 @@ impl<B: Bank> Core<B> {
     ghost use Rattle.clk_machine.specs.Fit.{CanRun};
     ghost use Rattle.clk_machine.specs.Sound.{IsPlaced, takes_memory};
     ghost use Rattle.clk_model.specs.Laws.Causes.{EnableCauses, DisableCauses, RunningCauses, TurnHasCause, LeavesRefused};
-    ghost use Rattle.clk_machine.specs.Run.{Run, now_of, was_probed, is_built, IsDone, Appends};
+    ghost use Rattle.clk_machine.specs.Run.{Run, now_of, was_probed, can_make, IsDone, Appends};
     ghost use Rattle.clk_machine.specs.Row.{IsRowOf, IsTreeOf};
 
     /// A core at its opening: the words are written to the bank, nothing is registered, and the
@@ -56,13 +57,21 @@ impl<B: Bank> Core<B> {
         ignore_unused: bool,
         credits: u32,
     ) -> Result<Core<B>, NoMemory>
+        // The core can run each clock.
         requires runs { CanRun desc.defs }
+        // There are as many words as the description was checked for.
         requires words { length words.now ≡ desc.words }
+        // The bank has at least as many.
         requires bank { length words.now ≤ B.size bank }
-        requires credits { credits ≤ 4194304 }
+        // There are at most as many credits as a run may be given.
+        requires credits { credits ≤ most_credits }
+        // The core begins at the opening of the description, the words and the credits.
         ensures start { IfOk result (λ core. core.start ≡ opening desc.defs words.now ignore_unused credits) }
+        // The journal is empty.
         ensures journal { IfOk result (λ core. core.journal ≡ []) }
+        // The core knows its state exactly where the bank tells its words.
         ensures told { IfOk result (λ core. core.told ≡ is_some (B.contents bank)) }
+        // The words of the bank behind the given ones are as they were.
         ensures behind { IfOk result (λ core. core.behind ≡ option_map (drop (length words.now)) (B.contents bank)) }
     {
         let log = Log::create(alloc, credits)?;
@@ -77,9 +86,13 @@ impl<B: Bank> Core<B> {
 
     /// Enables a handle. Takes no memory.
     pub fn enable(&mut self, driver: u32, handle: Handle) -> Reply
+        // A credit is left.
         requires { cost self.old.journal < self.old.start.credits }
+        // The machine takes the event, answers so, and its entry is appended.
         ensures entry { Appends self.old driver (Enable handle.number) (Done result) self.new }
+        // Where the bank tells its words, each answer has its cause in the state before.
         ensures causes { self.old.told ≡ true → EnableCauses (now_of self.old) driver handle.number result }
+        // Where the bank tells its words, a refusal spends a credit and changes nothing else.
         ensures refused { self.old.told ≡ true → LeavesRefused (Done result) (now_of self.old) (now_of self.new) }
     {
         let reply = self.machine.enable(driver, handle.number);
@@ -93,9 +106,13 @@ impl<B: Bank> Core<B> {
 
     /// Disables a handle. Takes no memory.
     pub fn disable(&mut self, driver: u32, handle: Handle) -> Reply
+        // A credit is left.
         requires { cost self.old.journal < self.old.start.credits }
+        // The machine takes the event, answers so, and its entry is appended.
         ensures entry { Appends self.old driver (Disable handle.number) (Done result) self.new }
+        // Where the bank tells its words, each answer has its cause in the state before.
         ensures causes { self.old.told ≡ true → DisableCauses (now_of self.old) driver handle.number result }
+        // Where the bank tells its words, a refusal spends a credit and changes nothing else.
         ensures refused { self.old.told ≡ true → LeavesRefused (Done result) (now_of self.old) (now_of self.new) }
     {
         let reply = self.machine.disable(driver, handle.number);
@@ -109,9 +126,13 @@ impl<B: Bank> Core<B> {
 
     /// Tells whether a handle's clock is active. Takes no memory.
     pub fn running(&mut self, driver: u32, handle: Handle) -> Reply
+        // A credit is left.
         requires { cost self.old.journal < self.old.start.credits }
+        // The machine takes the event, answers so, and its entry is appended.
         ensures entry { Appends self.old driver (Running handle.number) (Done result) self.new }
+        // Where the bank tells its words, each answer has its cause in the state before.
         ensures causes { self.old.told ≡ true → RunningCauses (now_of self.old) driver handle.number result }
+        // Where the bank tells its words, a refusal spends a credit and changes nothing else.
         ensures refused { self.old.told ≡ true → LeavesRefused (Done result) (now_of self.old) (now_of self.new) }
     {
         let reply = self.machine.running(driver, handle.number);
@@ -125,8 +146,10 @@ impl<B: Bank> Core<B> {
 
     /// Whether this call can be made so far.
     pub fn built(&self, what: &Sleeping) -> bool
+        // The clocks that the call names are clocks of the description.
         requires { IsPlaced self.now.start.defs what.now }
-        ensures { result ≡ is_built self.now what.now }
+        // It tells whether `begin` may be called with it.
+        ensures { result ≡ can_make self.now what.now }
     {
         match what {
             Sleeping::Get(_)
@@ -144,14 +167,23 @@ impl<B: Bank> Core<B> {
     ///
     /// After `NoMemory` the core is as it was, without an entry. It comes at a get alone.
     pub fn begin(&mut self, driver: u32, what: &Sleeping) -> Result<Turn, NoMemory>
+        // A credit is left.
         requires credit { cost self.old.journal < self.old.start.credits }
+        // The clocks that the call names are clocks of the description.
         requires place { IsPlaced self.old.start.defs what.now }
-        requires built { is_built self.old what.now ≡ true }
+        // The call is one of those that can be made so far.
+        requires built { can_make self.old what.now ≡ true }
+        // The machine takes the event, answers so, and its entry is appended.
         ensures ok { IfOk result (λ turn. Appends self.old driver (Begin what.now) turn self.new) }
+        // The call is answered at once.
         ensures at_once { IfOk result IsDone }
+        // Where the bank tells its words, each answer has its cause in the state before.
         ensures causes { self.old.told ≡ true → IfOk result (TurnHasCause (now_of self.old) driver what.now) }
+        // Where the bank tells its words, a refusal spends a credit and changes nothing else.
         ensures refused { self.old.told ≡ true → IfOk result (λ turn. LeavesRefused turn (now_of self.old) (now_of self.new)) }
+        // Where memory runs out, the core is as it was.
         ensures err { OnErr result (self.new ≡ self.old) }
+        // That can be only where the call takes memory.
         ensures memory { takes_memory what.now ≡ false → IsOk result }
     {
         let reply = self.machine.begin(driver, *what)?;
@@ -165,8 +197,11 @@ impl<B: Bank> Core<B> {
 
     /// The entries so far. After each prefix of them, the clocks that are active are fed.
     pub fn journal(&self) -> &[Entry]
+        // These are the entries.
         ensures entries { result.now ≡ self.now.journal }
+        // Where the bank tells its words, they are a legal run from the opening.
         ensures legal { self.now.told ≡ true → Legal self.now.start self.now.journal }
+        // Where the bank tells its words, after each prefix of them each active clock is fed.
         ensures fed { self.now.told ≡ true → (n : ℕ) → Fed (replay self.now.start (take n self.now.journal)) }
     {
         self.log.as_slice()
@@ -174,6 +209,7 @@ impl<B: Bank> Core<B> {
 
     /// The description.
     pub fn desc(&self) -> &ValidDesc
+        // It is that of the opening.
         ensures { result.now.defs ≡ self.now.start.defs }
     {
         self.machine.desc()
@@ -181,7 +217,9 @@ impl<B: Bank> Core<B> {
 
     /// The clock tree: links, the order of attachment, and the kept rates in Hz.
     pub fn tree(&self) -> &Tree
+        // It is a tree over the description.
         ensures made { result.now.defs ≡ self.now.start.defs }
+        // Where the bank tells its words, its clocks, its order and its rates are those of the state.
         ensures tree { self.now.told ≡ true → IsTreeOf (now_of self.now) result.now }
     {
         self.machine.tree()
@@ -189,7 +227,9 @@ impl<B: Bank> Core<B> {
 
     /// Whether no change is in flight. The calls that are built leave none.
     pub fn quiet(&self) -> bool
+        // Where the bank tells its words, it tells whether the state has no change.
         ensures tells { self.now.told ≡ true → result ≡ is_quiet (now_of self.now).change }
+        // So far there never is one.
         ensures none { result ≡ true }
     {
         self.machine.is_quiet()
@@ -197,8 +237,11 @@ impl<B: Bank> Core<B> {
 
     /// What keeps a clock running, and how it runs. None of a clock that isn't registered.
     pub fn row(&self, c: ClockId) -> Option<Row>
+        // The clock is one of the description.
         requires { c.0 < length self.now.start.defs }
+        // There is a row exactly where the clock was probed.
         ensures found { is_some result ≡ was_probed self.now.journal c.0 }
+        // Where the bank tells its words, the row tells the counts, the rate and the switch of the clock in the state.
         ensures row { self.now.told ≡ true → IsRowOf (now_of self.now) c.0 result }
     {
         self.machine.row(c)
@@ -206,6 +249,7 @@ impl<B: Bank> Core<B> {
 
     /// How many events can still be paid for.
     pub fn credits_left(&self) -> u32
+        // With the credits that the journal has spent they are those of the opening.
         ensures { result + cost self.now.journal ≡ self.now.start.credits }
     {
         self.machine.credits_left()
@@ -213,7 +257,9 @@ impl<B: Bank> Core<B> {
 
     /// How many words of the bank the registers are.
     pub fn word_count(&self) -> usize
+        // They are as many as the words of the opening.
         ensures size { result ≡ length self.now.start.regs }
+        // Where the bank tells its words, so are those of the state.
         ensures registers { self.now.told ≡ true → length (now_of self.now).regs ≡ result }
     {
         self.machine.word_count()
@@ -221,7 +267,9 @@ impl<B: Bank> Core<B> {
 
     /// The word of the bank at this place.
     pub fn word(&self, place: usize) -> u32
+        // The place is one of these words.
         requires { place < length self.now.start.regs }
+        // Where the bank tells its words, it is that of the state.
         ensures { self.now.told ≡ true → result ≡ slice_index (now_of self.now).regs place }
     {
         self.machine.word(place)
@@ -230,8 +278,11 @@ impl<B: Bank> Core<B> {
     /// The bank. Where it tells its words, the first ones are the registers of the core's state, and
     /// those behind them are as they were.
     pub fn into_bank(self) -> B
+        // It tells its words where the core knew them.
         ensures told { is_some (B.contents result) ≡ self.told }
+        // Where it does, the first ones are the registers of the state.
         ensures words { IfSome (B.contents result) (λ words. take (length self.start.regs) words ≡ (now_of self).regs) }
+        // Those behind them are as they were.
         ensures behind { option_map (drop (length self.start.regs)) (B.contents result) ≡ self.behind }
     {
         let Core {

@@ -45,7 +45,7 @@ pub(crate) fn switch_state<B: Bank>(kind: Kind, window: &Window<B>) -> Option<bo
     }
 }
 
-/// Opens a gate. A clock of another kind has none.
+// Opens a gate. A clock of another kind has none.
 fn open_gate<B: Bank>(kind: Kind, window: &mut Window<B>)
     requires { IfSome (gate_of kind) (λ gate. (gate.word < window.old.size) × (gate.bit < 32)) }
     ensures size { window.new.size ≡ window.old.size }
@@ -62,7 +62,7 @@ fn open_gate<B: Bank>(kind: Kind, window: &mut Window<B>)
     }
 }
 
-/// Closes a gate. A clock of another kind has none.
+// Closes a gate. A clock of another kind has none.
 fn close_gate<B: Bank>(kind: Kind, window: &mut Window<B>)
     requires { IfSome (gate_of kind) (λ gate. (gate.word < window.old.size) × (gate.bit < 32)) }
     ensures size { window.new.size ≡ window.old.size }

@@ -18,6 +18,3 @@ pub use fit::{first_unfit, has_pll, is_fit};
 pub use framework::Core;
 pub use laws::always_fed;
 pub use row::Row;
-
-#[cfg(test)]
-mod tests;

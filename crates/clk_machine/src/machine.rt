@@ -5,17 +5,17 @@ ghost use Rattle.std.specs.Option.{option_map};
 ghost use Rattle.clk_base.specs.Valid.{IsValid};
 ghost use Rattle.clk_model.specs.State.{registered};
 ghost use Rattle.clk_model.specs.Journal.{opening};
+ghost use Rattle.clk_model.specs.Begin.{most_credits};
 
 mod calls;
-mod closing;
+mod enabling;
 mod registering;
 mod rows;
 mod telling;
 
-use crate::gates::open_path;
 use crate::handles::own_row;
 use crate::window::Window;
-use clk_base::{ClockId, Errno, Reply, Sleeping, ValidDesc, depth};
+use clk_base::{Reply, Sleeping, ValidDesc};
 use clk_io::NoMemory;
 use clk_model::HandleRow;
 use clk_tree::Tree;
@@ -53,12 +53,12 @@ impl<B: Bank> Model for Machine<B> {
 }
 
 impl<B: Bank> Machine<B> {
-    ghost use Rattle.clk_base.specs.declared.event.Event.TheVariants.{Enable, Begin};
+    ghost use Rattle.clk_base.specs.declared.event.Event.TheVariants.{Begin};
     ghost use Rattle.clk_model.specs.State.{handle_at};
     ghost use Rattle.clk_model.specs.Begin.{own_handle, put_handle};
     ghost use Rattle.clk_machine.specs.Fit.{CanRun};
     ghost use Rattle.clk_machine.specs.Sound.{IsPlaced, CanBegin, takes_memory};
-    ghost use Rattle.clk_machine.specs.Held.{Takes, OpensFor};
+    ghost use Rattle.clk_machine.specs.Held.{Takes};
 
     /// The machine at its opening. The words are written to the bank.
     pub(crate) fn create(
@@ -72,7 +72,7 @@ impl<B: Bank> Machine<B> {
         requires runs { CanRun desc.defs }
         requires words { length words.now ≡ desc.words }
         requires bank { length words.now ≤ B.size bank }
-        requires credits { credits ≤ 4194304 }
+        requires credits { credits ≤ most_credits }
         ensures told { IfOk result (λ m. m.told ≡ is_some (B.contents bank)) }
         ensures state { IfOk result (λ m. m.told ≡ true → m.state ≡ opening desc.defs words.now ignore_unused credits) }
         ensures fixed { IfOk result (λ m. (m.state.defs ≡ desc.defs) × (m.state.credits ≡ credits) × (m.state.ignore_unused ≡ ignore_unused) × (m.state.spent ≡ 0)) }
@@ -109,30 +109,12 @@ impl<B: Bank> Machine<B> {
         ensures clock { IfSome result (λ row. registered self.now.state.clocks row.clock.0 ≡ true) }
         ensures few { IfSome result (λ row. row.prepares + row.enables ≤ self.now.state.spent) }
         ensures runs { CanRun self.now.state.defs }
-        ensures small { self.now.state.credits ≤ 4194304 }
+        ensures small { self.now.state.credits ≤ most_credits }
         ensures quiet { self.now.state.change ≡ None }
     {
+        // the clauses on the state rest on what every machine keeps, which reading a part of it brings in
         let _ = &self.window;
         own_row(&self.handles, driver, number)
-    }
-
-    // Opens the gates above a registered clock that no handle keeps active, parents first.
-    fn open_above(&mut self, clock: ClockId)
-        requires { registered self.old.state.clocks clock.0 ≡ true }
-        ensures told { self.new.told ≡ self.old.told }
-        ensures size { self.new.size ≡ self.old.size }
-        ensures behind { self.new.behind ≡ self.old.behind }
-        ensures stays { self.new.state ≡ record self.old.state { regs = self.new.state.regs } }
-        ensures opens { self.old.told ≡ true → OpensFor self.old.state clock self.new.state.regs }
-    {
-        open_path(
-            depth(),
-            &self.desc,
-            &self.tree,
-            &self.handles,
-            &mut self.window,
-            clock,
-        );
     }
 
     // Puts a row that holds at most one thing more in a handle's place, and spends a credit.
@@ -146,28 +128,6 @@ impl<B: Bank> Machine<B> {
     {
         self.handles[number as usize] = Some(new);
         self.spent += 1;
-    }
-
-    /// Enables a handle: the gates above its clock open, parents first.
-    pub(crate) fn enable(&mut self, driver: u32, number: u32) -> Reply
-        requires { self.old.state.spent < self.old.state.credits }
-        ensures { Takes self.old driver (Enable number) result self.new }
-    {
-        let Some(row) = self.own(driver, number) else {
-            self.spend();
-            return Reply::Refused(Errno::ENOENT);
-        };
-        if row.prepares == 0 {
-            self.spend();
-            return Reply::Refused(Errno::ESHUTDOWN);
-        }
-        self.open_above(row.clock);
-        let enabled = HandleRow {
-            enables: row.enables + 1,
-            ..row
-        };
-        self.put_row(number, row, enabled);
-        Reply::Fine
     }
 
     /// Begins one of the calls that are built.

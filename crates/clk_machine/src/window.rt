@@ -19,13 +19,13 @@ pub struct Window<B: Bank> {
 impl<B: Bank> Model for Window<B> {
     ghost use Rattle.std.specs.Prelude.{◌≤◌, take, drop};
     ghost use Rattle.std.specs.Option.{option_map};
-    ghost use Rattle.clk_machine.specs.Window.{Shown, AreTold};
+    ghost use Rattle.clk_machine.specs.Window.{Shown};
 
     ghost Value = { Shown };
 
     ghost view = { λ w. record { size = w.size; words = option_map (take w.size) (B.contents w.bank); behind = option_map (drop w.size) (B.contents w.bank) } };
 
-    ghost invariant = { λ w. (w.size ≤ B.size w.bank) × AreTold w.size (option_map (take w.size) (B.contents w.bank)) };
+    ghost invariant = { λ w. w.size ≤ B.size w.bank };
 }
 
 impl<B: Bank> Window<B> {
@@ -51,7 +51,6 @@ impl<B: Bank> Window<B> {
         ensures size { result ≡ self.now.size }
         ensures words { AreTold self.now.size self.now.words }
     {
-        let _ = &self.bank;
         self.size
     }
 

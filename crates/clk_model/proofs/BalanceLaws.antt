@@ -15,7 +15,7 @@ use Rattle.clk_base.specs.declared.event.Event.TheVariants as event
 use Rattle.clk_base.specs.declared.event.Reply.{Reply}
 use Rattle.clk_base.specs.declared.event.Turn.TheVariants as turn
 use Rattle.clk_model.specs.declared.row.ClockRow.{ClockRow}
-use Rattle.clk_model.specs.Lists.{is_in}
+use Rattle.clk_model.specs.Lists.{is_in, none_twice}
 use Rattle.clk_model.specs.State.{State, Change, ChainStep, link_in}
 use Rattle.clk_model.specs.Holders.{prepared}
 use Rattle.clk_model.specs.Round.{Wiring, wiring}
@@ -35,6 +35,7 @@ use Rattle.clk_model.proofs.FlightLaws.{begin_is}
 use Rattle.clk_model.proofs.HoldSteps.{relinks, is_holding, held_after_steps, holds_of}
 use Rattle.clk_model.proofs.BalancedScripts.{relinks_once, IsBalanced, ended, elsewhere, block}
 use Rattle.clk_model.proofs.HoldLaws.{no_hold_left}
+use Rattle.clk_model.proofs.OnceLaws.{once_head}
 
 balanced_append : (link : ℕ → Option ℕ) {xs : List Micro} (ys : List Micro) → IsBalanced link xs → IsBalanced link ys → IsBalanced link (xs ++ ys)
 balanced_append link ys ended g = g
@@ -148,16 +149,11 @@ planned_balanced s ks settles none calm =
 
 -- ---- no clock is relinked twice
 
--- no number stands in a list twice
-abbrev pub is_distinct : List ℕ → Type 0
-is_distinct [] = Unit {0}
-is_distinct (x ∷ xs) = (is_in x xs ≡ false) × is_distinct xs
-
-once_append : (xs ys : List Micro) → relinks_once xs → relinks_once ys → ((c : ℕ) → list_any (relinks c) xs ≡ true → list_any (relinks c) ys ≡ false) → relinks_once (xs ++ ys)
-once_append [] ys f g apart = g
-once_append (m ∷ xs) ys f g apart = (
+relinks_append : (xs ys : List Micro) → relinks_once xs → relinks_once ys → ((c : ℕ) → list_any (relinks c) xs ≡ true → list_any (relinks c) ys ≡ false) → relinks_once (xs ++ ys)
+relinks_append [] ys f g apart = g
+relinks_append (m ∷ xs) ys f g apart = (
   λ c e. none_append (relinks c) xs ys (f.0 c e) (apart c (or_left (relinks c m) (list_any (relinks c) xs) e)),
-  once_append xs ys f.1 g (λ c e. apart c (or_right (relinks c m) (list_any (relinks c) xs) e)),
+  relinks_append xs ys f.1 g (λ c e. apart c (or_right (relinks c m) (list_any (relinks c) xs) e)),
 )
 
 -- steps that relink no clock
@@ -244,9 +240,9 @@ nothing_behind : (ms : List Micro) → ms ++ [] ≡ ms
 nothing_behind [] = refl
 nothing_behind (m ∷ ms) = ap (λ (ns : List Micro). m ∷ ns) (nothing_behind ms)
 
-moves_once : (defs : Description) (clocks : List ClockRow) (held : ℕ → Bool) (ks : List ChainStep) (c : ℕ) → is_distinct (clocks_in ks) → relinks_once (move_of defs clocks held ks c)
+moves_once : (defs : Description) (clocks : List ClockRow) (held : ℕ → Bool) (ks : List ChainStep) (c : ℕ) → none_twice (clocks_in ks) ≡ true → relinks_once (move_of defs clocks held ks c)
 moves_once defs clocks held [] c distinct = tt
-moves_once defs clocks held (k ∷ ks) c distinct = by_test (nat_eq k.clock c) (moves clocks k) refl (moves_once defs clocks held ks c distinct.1) where
+moves_once defs clocks held (k ∷ ks) c distinct = by_test (nat_eq k.clock c) (moves clocks k) refl (moves_once defs clocks held ks c (once_head k.clock (clocks_in ks) distinct).1) where
   by_parent : (o : Option ℕ) → relinks_once (option_map_or (move defs clocks held c) o [])
   by_parent None = tt
   by_parent (Some p) = move_once defs clocks held c p
@@ -256,7 +252,7 @@ moves_once defs clocks held (k ∷ ks) c distinct = by_test (nat_eq k.clock c) (
   by_test false b e rest = rest
   by_test true false e rest = rest
   by_test true true e rest =
-      let gone : move_of defs clocks held ks c ≡ [] = none_of_it defs clocks held ks c (ap (λ (x : ℕ). is_in x (clocks_in ks)) (sym (same_from_test k.clock c e)) ∙ distinct.0) in
+      let gone : move_of defs clocks held ks c ≡ [] = none_of_it defs clocks held ks c (ap (λ (x : ℕ). is_in x (clocks_in ks)) (sym (same_from_test k.clock c e)) ∙ (once_head k.clock (clocks_in ks) distinct).0) in
       subst (λ (ms : List Micro). relinks_once (option_map_or (move defs clocks held c) k.parent [] ++ ms)) (sym gone)
       (subst (λ (ms : List Micro). relinks_once ms) (sym (nothing_behind (option_map_or (move defs clocks held c) k.parent []))) (by_parent k.parent))
 
@@ -269,39 +265,39 @@ walked_none s ks (c ∷ cs) d none =
     let both = not_either (nat_eq c d) (is_in d cs) none in
     none_append (relinks d) (walked_at s ks c) (flat_map (walked_at s ks) cs) (walked_of_its_own s ks c d both.0) (walked_none s ks cs d both.1)
 
-walked_once : (s : State) (ks : List ChainStep) (cs : List ℕ) → is_distinct (clocks_in ks) → is_distinct cs → relinks_once (flat_map (walked_at s ks) cs)
+walked_once : (s : State) (ks : List ChainStep) (cs : List ℕ) → none_twice (clocks_in ks) ≡ true → none_twice cs ≡ true → relinks_once (flat_map (walked_at s ks) cs)
 walked_once s ks [] distinct once = tt
 walked_once s ks (c ∷ cs) distinct once =
-    once_append (walked_at s ks c) (flat_map (walked_at s ks) cs)
-    (once_append (move_of s.defs s.clocks (prepared s) ks c) (micro.Visit (clock_id c) ∷ []) (moves_once s.defs s.clocks (prepared s) ks c distinct) (no_relink (micro.Visit (clock_id c)) [] (λ d. refl) tt) (λ d e. refl))
-    (walked_once s ks cs distinct once.1)
+    relinks_append (walked_at s ks c) (flat_map (walked_at s ks) cs)
+    (relinks_append (move_of s.defs s.clocks (prepared s) ks c) (micro.Visit (clock_id c) ∷ []) (moves_once s.defs s.clocks (prepared s) ks c distinct) (no_relink (micro.Visit (clock_id c)) [] (λ d. refl) tt) (λ d e. refl))
+    (walked_once s ks cs distinct (once_head c cs once).1)
     (λ d e. elim (nat_eq c d) as (λ b. nat_eq c d ≡ b → list_any (relinks d) (flat_map (walked_at s ks) cs) ≡ false) [
-      | true ↦ λ f. walked_none s ks cs d (ap (λ (x : ℕ). is_in x cs) (sym (same_from_test c d f)) ∙ once.0)
+      | true ↦ λ f. walked_none s ks cs d (ap (λ (x : ℕ). is_in x cs) (sym (same_from_test c d f)) ∙ (once_head c cs once).0)
       | false ↦ λ f. let no : true ≡ false = sym e ∙ walked_of_its_own s ks c d f in absurd cc
     ] refl)
 
 -- the script of a plan whose clocks, and whose walk, have no clock twice relinks none twice
-pub planned_once : (s : State) (ks : List ChainStep) (settles : List Micro) → is_distinct (clocks_in ks) → is_distinct (walk s.order (wiring s) ks)
+pub planned_once : (s : State) (ks : List ChainStep) (settles : List Micro) → none_twice (clocks_in ks) ≡ true → none_twice (walk s.order (wiring s) ks) ≡ true
     → ((c : ℕ) → list_any (relinks c) settles ≡ false) → relinks_once (planned s ks settles).steps
 unfolding planned
 planned_once s ks settles distinct once calm =
-    once_append (pre_notices s ks ++ cond (list_any is_veto (pre_notices s ks)) (abort_notices s ks) (walked s ks ++ settles)) (micro.End ∷ [])
-    (once_append (pre_notices s ks) (cond (list_any is_veto (pre_notices s ks)) (abort_notices s ks) (walked s ks ++ settles))
+    relinks_append (pre_notices s ks ++ cond (list_any is_veto (pre_notices s ks)) (abort_notices s ks) (walked s ks ++ settles)) (micro.End ∷ [])
+    (relinks_append (pre_notices s ks) (cond (list_any is_veto (pre_notices s ks)) (abort_notices s ks) (walked s ks ++ settles))
     (once_none (pre_notices s ks) (λ c. notices_relink_none c (pre_notices s ks) (pre_are_notices s ks)))
     (either (list_any is_veto (pre_notices s ks)))
     (λ c e. let no : true ≡ false = sym e ∙ notices_relink_none c (pre_notices s ks) (pre_are_notices s ks) in absurd cc))
     (no_relink micro.End [] (λ c. refl) tt) (λ c e. refl) where
       either : (b : Bool) → relinks_once (cond b (abort_notices s ks) (walked s ks ++ settles))
       either true = once_none (abort_notices s ks) (λ c. notices_relink_none c (abort_notices s ks) (abort_are_notices s ks))
-      either false = once_append (walked s ks) settles (walked_once s ks (walk s.order (wiring s) ks) distinct once) (once_none settles calm) (λ c e. calm c)
+      either false = relinks_append (walked s ks) settles (walked_once s ks (walk s.order (wiring s) ks) distinct once) (once_none settles calm) (λ c e. calm c)
 
 -- ---- calls
 
 -- no clock of a plan gets itself for its parent, and no clock stands twice in the plan or in its walk
 pub record IsPlain (q : State) (ks : List ChainStep) : Type 0 where
   pub parents : none_below_itself ks
-  pub clocks : is_distinct (clocks_in ks)
-  pub walked : is_distinct (walk q.order (wiring q) ks)
+  pub clocks : none_twice (clocks_in ks) ≡ true
+  pub walked : none_twice (walk q.order (wiring q) ks) ≡ true
 
 -- a script whose holds come in blocks, and that relinks no clock twice
 abbrev pub IsOrderly : State → List Micro → Type 0
@@ -316,7 +312,7 @@ plan_orderly : (q n : State) (ks : List ChainStep) (settles : List Micro) → n.
 plan_orderly q n ks settles order tree calm none plain = (
   subst (λ (w : Wiring). IsBalanced (link_in w.clocks) (planned n ks settles).steps) tree (planned_balanced n ks settles plain.parents calm),
   planned_once n ks settles plain.clocks
-      (subst (λ (w : Wiring). is_distinct (walk n.order w ks)) (sym tree) (subst (λ (cs : List ℕ). is_distinct (walk cs (wiring q) ks)) (sym order) plain.walked)) none,
+      (subst (λ (w : Wiring). none_twice (walk n.order w ks) ≡ true) (sym tree) (subst (λ (cs : List ℕ). none_twice (walk cs (wiring q) ks) ≡ true) (sym order) plain.walked)) none,
 )
 
 -- a call that goes on has an orderly script, where its plan is plain, and it isn't a registration

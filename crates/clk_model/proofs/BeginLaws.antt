@@ -35,6 +35,7 @@ use Rattle.clk_model.proofs.EventLaws.{own_is_live}
 use Rattle.clk_model.proofs.TierLaws.{pick_either, with_handle_either}
 use Rattle.clk_model.proofs.NoneLaws.{none_append, none_map, none_flat_map, none_if}
 use Rattle.clk_model.proofs.StepLaws.{raises}
+use Rattle.clk_model.proofs.Cases.{by_plan, by_found}
 
 -- where the answer is that the call goes on, this holds of the state that it leaves and of the change in flight
 pub record IfGoing (P : State → Change → Type 0) (y : State × Turn) : Type 0 where
@@ -190,10 +191,6 @@ along q n d what ks settles range extra raising calm pre abort undone_is same ha
   has = has;
 }
 
-by_plan : (P : State × Turn → Type 0) (o : Option (List ChainStep)) (f : List ChainStep → State × Turn) (x : State × Turn) → P x → ((ks : List ChainStep) → P (f ks)) → P (option_map_or f o x)
-by_plan P None f x none some = none
-by_plan P (Some ks) f x none some = some ks
-
 requested_begins : (P : State → Change → Type 0) (old new fine lifted : State) (d : ℕ) (what : Sleeping) (c x : ℕ) (range : Option (ℕ × ℕ))
     → ((ks : List ChainStep) → P new (change_along new d what ks [] range)) → IfGoing P (request old new fine lifted d what c x range)
 requested_begins P old new fine lifted d what c x range each =
@@ -232,10 +229,6 @@ parent_begins P s lifted d what c p h =
     (λ e. pick_either (IfGoing P) _ _ _ (λ e. started P s s (reparenting s d what c p) h) (λ e. turned_down P s errno.EINVAL))))
 
 -- ---- other calls
-
-by_found : (P : State × Turn → Type 0) (o : Option ℕ) (f : ℕ → State × Turn) (x : State × Turn) → P x → ((y : ℕ) → P (f y)) → P (option_map_or f o x)
-by_found P None f x none some = none
-by_found P (Some y) f x none some = some y
 
 got_begins : (P : State → Change → Type 0) (s : State) (d : ℕ) (found : Option ℕ) → IfGoing P (got s d found)
 got_begins P s d None = turned_down P s errno.ENOENT

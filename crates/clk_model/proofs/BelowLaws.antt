@@ -1,79 +1,15 @@
 -- Laws on what is below a clock: for any kids and any way up that fit, nothing stands twice.
-use Rattle.std.proofs.Common.{◌≡◌, ◌≢◌, ℕ, zero, suc, ◌<◌, Bool, true, false, not, ◌&&◌, ◌||◌, cond, List, [], ◌∷◌, ◌++◌, Option, Some, refl, sym, ap, subst, ◌∙◌, ◌⊎◌, inl, inr, arith}
-use Rattle.std.specs.Prelude.{◌==◌, flat_map, filter}
-use Rattle.std.proofs.lemmas.List.Folds.{list_any-append}
+use Rattle.std.proofs.Common.{◌≡◌, ◌≢◌, ℕ, zero, suc, ◌<◌, Bool, true, List, ◌∷◌, Option, Some, refl, sym, ap, subst, ◌∙◌, ◌⊎◌, inl, inr, arith}
+use Rattle.std.specs.Prelude.{flat_map}
 use Rattle.clk_base.specs.Levels.{ends_within}
 use Rattle.clk_base.proofs.Lines.{ends_within-parent}
-use Rattle.clk_model.specs.Lists.{is_in}
+use Rattle.clk_model.specs.Lists.{is_in, none_twice}
 use Rattle.clk_model.specs.Tree.{path_within}
 use Rattle.clk_model.specs.Walk.{below_within}
-use Rattle.clk_model.specs.Laws.Plans.{none_twice}
-use Rattle.clk_model.proofs.Members.{or_cases, or_left, or_right, is_in_head, is_in_tail, is_in_cases}
+use Rattle.clk_model.proofs.Members.{is_in_head, is_in_tail, is_in_cases}
 use Rattle.clk_model.proofs.PathLaws.{above, in_above}
-use Rattle.clk_model.proofs.RoundLaws.{is_in-filter}
-use Rattle.clk_model.proofs.PlanLaws.{IsAbove, above_parent, not_above_parent, once_cons}
-
--- ---- lists
-
-pub is_in-append : (x : ℕ) (xs ys : List ℕ) → is_in x (xs ++ ys) ≡ (is_in x xs || is_in x ys)
-is_in-append x xs ys = list_any-append (λ z. z == x) xs ys
-
-pub in_append : (x : ℕ) (xs ys : List ℕ) → is_in x (xs ++ ys) ≡ true → (is_in x xs ≡ true) ⊎ (is_in x ys ≡ true)
-in_append x xs ys m = or_cases (is_in x xs) (is_in x ys) (sym (is_in-append x xs ys) ∙ m)
-
--- two lists have nothing in common
-abbrev pub AreApart : List ℕ → List ℕ → Type 0
-AreApart xs ys = (x : ℕ) → is_in x xs ≡ true → is_in x ys ≡ true → ⊥
-
-pub once_head : (x : ℕ) (xs : List ℕ) → none_twice (x ∷ xs) ≡ true → (is_in x xs ≡ true → ⊥) × (none_twice xs ≡ true)
-once_head x xs once = both (is_in x xs) once where
-  both : (t : Bool) → (not t && none_twice xs) ≡ true → (t ≡ true → ⊥) × (none_twice xs ≡ true)
-  both true e = absurd cc
-  both false e = ((λ same. cc), e)
-
-pub once_append : (xs ys : List ℕ) → none_twice xs ≡ true → none_twice ys ≡ true → AreApart xs ys → none_twice (xs ++ ys) ≡ true
-once_append [] ys once once' apart = once'
-once_append (x ∷ xs) ys once once' apart =
-    let head = once_head x xs once in
-    once_cons x (xs ++ ys)
-    (λ m. elim (in_append x xs ys m) [ inl first ↦ head.0 first | inr second ↦ apart x (is_in_head x xs) second ])
-    (once_append xs ys head.1 once' (λ z m n. apart z (is_in_tail z x xs m) n))
-
-pub in_flat_map : (f : ℕ → List ℕ) (x : ℕ) (ys : List ℕ) → is_in x (flat_map f ys) ≡ true → (y : ℕ) × (is_in y ys ≡ true) × (is_in x (f y) ≡ true)
-in_flat_map f x [] m = absurd cc
-in_flat_map f x (y ∷ ys) m =
-    elim (in_append x (f y) (flat_map f ys) m) [
-      | inl here ↦ (y, is_in_head y ys, here)
-      | inr later ↦ let found = in_flat_map f x ys later in (found.0, is_in_tail found.0 y ys found.1, found.2)
-    ]
-
-pub flat_map_in : (f : ℕ → List ℕ) (x y : ℕ) (ys : List ℕ) → is_in y ys ≡ true → is_in x (f y) ≡ true → is_in x (flat_map f ys) ≡ true
-flat_map_in f x y [] m n = absurd cc
-flat_map_in f x y (z ∷ ys) m n =
-    is_in-append x (f z) (flat_map f ys)
-    ∙ elim (is_in_cases y z ys m) [
-      | inl e ↦ or_left (is_in x (f z)) (is_in x (flat_map f ys)) (ap (λ (u : ℕ). is_in x (f u)) e ∙ n)
-      | inr r ↦ or_right (is_in x (f z)) (is_in x (flat_map f ys)) (flat_map_in f x y ys r n)
-    ]
-
-pub once_flat_map : (f : ℕ → List ℕ) (ys : List ℕ) → none_twice ys ≡ true → ((y : ℕ) → is_in y ys ≡ true → none_twice (f y) ≡ true)
-    → ((y z : ℕ) → is_in y ys ≡ true → is_in z ys ≡ true → y ≢ z → AreApart (f y) (f z)) → none_twice (flat_map f ys) ≡ true
-once_flat_map f [] once each apart = refl
-once_flat_map f (y ∷ ys) once each apart =
-    let head = once_head y ys once in
-    once_append (f y) (flat_map f ys) (each y (is_in_head y ys))
-    (once_flat_map f ys head.1 (λ z m. each z (is_in_tail z y ys m)) (λ z u m n. apart z u (is_in_tail z y ys m) (is_in_tail u y ys n)))
-    (λ x m n. let found = in_flat_map f x ys n in
-    apart y found.0 (is_in_head y ys) (is_in_tail found.0 y ys found.1) (λ same. head.0 (ap (λ (u : ℕ). is_in u ys) same ∙ found.1)) x m found.2)
-
-pub once_filter : (test : ℕ → Bool) (xs : List ℕ) → none_twice xs ≡ true → none_twice (filter test xs) ≡ true
-once_filter test [] once = refl
-once_filter test (x ∷ xs) once =
-    let head = once_head x xs once in
-    kept (test x) (filter test xs) (λ m. head.0 (is_in-filter test x xs m)) (once_filter test xs head.1) where
-      kept : (t : Bool) (ys : List ℕ) → (is_in x ys ≡ true → ⊥) → none_twice ys ≡ true → none_twice (cond t (x ∷ ys) ys) ≡ true
-      kept true ys out rest = once_cons x ys out rest
-      kept false ys out rest = rest
+use Rattle.clk_model.proofs.PlanLaws.{IsAbove, above_parent, not_above_parent}
+use Rattle.clk_model.proofs.OnceLaws.{once_cons, AreApart, in_flat_map, flat_map_in, once_flat_map}
 
 -- ---- ways up
 

@@ -21,12 +21,12 @@ use Rattle.clk_model.specs.Holders.{active}
 use Rattle.clk_model.specs.Gates.{settled}
 use Rattle.clk_model.specs.Chain.{clock_id}
 use Rattle.clk_model.specs.Script.{unprepared_plls, adoptable}
-use Rattle.clk_model.specs.Begin.{own_handle, register}
+use Rattle.clk_model.specs.Begin.{own_handle, register, keeps_prepare, holds_something}
 use Rattle.clk_model.specs.Machine.{paid, next}
 use Rattle.clk_model.specs.Journal.{slotless}
 use Rattle.clk_model.specs.Laws.Causes.{Exactly, Lacks, Has, KeepsPrepare, HoldsSomething, EnableCauses, DisableCauses, RunningCauses, GetCauses, PutCauses, PrepareCauses, UnprepareCauses, GetRateCauses, GetParentCauses, ProbeCauses}
 use Rattle.clk_model.proofs.Members.{not_either}
-use Rattle.clk_model.proofs.EventLaws.{keeps_prepare, holds_something, prepared_once_less, enable-unknown, enable-unprepared, enable-fine, disable-unknown, disable-warned, disable-fine, running-unknown, running-told, get-not_found, get-deferred, get-given, put-unknown, put-busy, put-fine, prepare-unknown, prepare-fine, unprepare-unknown, unprepare-warned, unprepare-fine, rate-unknown, rate-told, parent-unknown, parent-told, probe-twice, probe-fine}
+use Rattle.clk_model.proofs.EventLaws.{prepared_once_less, enable-unknown, enable-unprepared, enable-fine, disable-unknown, disable-warned, disable-fine, running-unknown, running-told, get-not_found, get-deferred, get-given, put-unknown, put-busy, put-fine, prepare-unknown, prepare-fine, unprepare-unknown, unprepare-warned, unprepare-fine, rate-unknown, rate-told, parent-unknown, parent-told, probe-twice, probe-fine}
 
 -- ---- the reply of a turn
 

@@ -2,12 +2,12 @@
 use Rattle.std.proofs.Common.{◌≡◌, ℕ, Bool, true, false, ◌||◌, cond, List, [], ◌∷◌, map, refl, ap, ◌∙◌, inl, inr}
 use Rattle.std.specs.Prelude.{filter}
 use Rattle.std.specs.List.{AllByRecursion, list_any}
-use Rattle.clk_model.specs.Lists.{is_in}
+use Rattle.clk_model.specs.Lists.{is_in, none_twice}
 use Rattle.clk_model.specs.State.{ChainStep}
-use Rattle.clk_model.specs.Laws.Plans.{none_twice, clocks_in}
+use Rattle.clk_model.specs.Laws.Plans.{clocks_in}
 use Rattle.clk_model.proofs.Members.{is_in_head, is_in_tail, is_in_cases, or_left, or_right, not_either}
-use Rattle.clk_model.proofs.BelowLaws.{once_head}
-use Rattle.clk_model.proofs.PlanLaws.{once_cons}
+use Rattle.clk_model.proofs.OnceLaws.{once_head, once_cons}
+use Rattle.std.proofs.lemmas.Bool.{both_ways}
 
 -- whether a step of a chain passes
 abbrev pub steps_that : (ChainStep → Bool) → List ChainStep → List ℕ
@@ -103,7 +103,7 @@ pub once_steps : (test : ChainStep → Bool) (ks : List ChainStep) → none_twic
 once_steps test [] once = refl
 once_steps test (k ∷ ks) once =
     let head = once_head k.clock (clocks_in ks) once in
-    one (test k) (λ m. head.0 (steps_in_chain test k.clock ks m)) (once_steps test ks head.1) where
+    one (test k) (λ m. both_ways _ head.0 (steps_in_chain test k.clock ks m)) (once_steps test ks head.1) where
       one : (t : Bool) → (is_in k.clock (steps_that test ks) ≡ true → ⊥) → none_twice (steps_that test ks) ≡ true
           → none_twice (map (λ l. l.clock) (cond t (k ∷ filter test ks) (filter test ks))) ≡ true
       one true out rest = once_cons k.clock (steps_that test ks) out rest

@@ -1,5 +1,5 @@
 -- What each event comes to, case by case.
-use Rattle.std.proofs.Common.{◌≡◌, ℕ, ◌+◌, ◌-◌, ◌<◌, ◌&&◌, ◌||◌, Bool, true, false, not, cond, List, [], Option, Some, None, refl, ap, ◌∙◌, arith, nat_eq, nat_lt}
+use Rattle.std.proofs.Common.{◌≡◌, ℕ, ◌+◌, ◌-◌, ◌<◌, ◌&&◌, ◌||◌, Bool, true, false, not, cond, List, [], Option, Some, None, refl, ap, ◌∙◌, arith, nat_eq}
 use Rattle.std.specs.Prelude.{slice_get, is_none, filter, if◌then◌else◌, option_map}
 use Rattle.std.specs.Option.{option_map_or}
 use Rattle.std.proofs.lemmas.Bool.Decides.{nat_tests}
@@ -20,7 +20,7 @@ use Rattle.clk_model.specs.Holders.{active}
 use Rattle.clk_model.specs.Rate.{rate}
 use Rattle.clk_model.specs.Chain.{clock_id}
 use Rattle.clk_model.specs.Script.{unprepared_plls, runs, adoptable}
-use Rattle.clk_model.specs.Begin.{done, refused, pick, put_handle, own_handle, with_handle, given, put_back, prepare, prepared_once_more, unprepare, register, begun}
+use Rattle.clk_model.specs.Begin.{done, refused, pick, put_handle, own_handle, with_handle, given, put_back, prepare, prepared_once_more, unprepare, register, begun, holds_something, keeps_prepare}
 use Rattle.clk_model.specs.Machine.{enabled, disabled, running, paid, next}
 
 pub pick-true : (b : Bool) (f g : Unit {0} → State × Turn) → b ≡ true → pick b f g ≡ f tt
@@ -132,10 +132,6 @@ unfolding begun
 put-unknown s d h quiet none =
     begin_quiet s d (call.Put h) quiet ∙ ap (paid s) (with-none s d h.number (put_back s h.number) none)
 
--- a handle that holds something
-abbrev pub holds_something : HandleRow → Bool
-holds_something h = nat_lt 0 h.prepares || nat_lt 0 h.enables || nat_lt 0 h.exclusives
-
 pub put-busy : (s : State) (d : ℕ) (h : Handle) (row : HandleRow) → s.change ≡ None → own_handle s d h.number ≡ Some row → holds_something row ≡ true
     → next s d (event.Begin (call.Put h)) ≡ paid s (refused s errno.EBUSY)
 unfolding begun
@@ -171,10 +167,6 @@ pub unprepare-unknown : (s : State) (d : ℕ) (h : Handle) → s.change ≡ None
 unfolding begun
 unprepare-unknown s d h quiet none =
     begin_quiet s d (call.Unprepare h) quiet ∙ ap (paid s) (with-none s d h.number (unprepare s d (call.Unprepare h) h.number) none)
-
--- a handle that has no prepare to give up, or only one while it is enabled
-abbrev pub keeps_prepare : HandleRow → Bool
-keeps_prepare h = nat_eq h.prepares 0 || (nat_eq h.prepares 1 && nat_lt 0 h.enables)
 
 pub unprepare-warned : (s : State) (d : ℕ) (h : Handle) (row : HandleRow) → s.change ≡ None → own_handle s d h.number ≡ Some row → keeps_prepare row ≡ true
     → next s d (event.Begin (call.Unprepare h)) ≡ paid s (s, turn.Done reply.Warn)

@@ -1,6 +1,6 @@
 -- Laws on a change in flight: what is left of its script.
 use Rattle.std.proofs.Common.{◌≡◌, ℕ, ◌+◌, ◌&&◌, ◌||◌, ◌⊎◌, inl, inr, Bool, true, false, cond, List, [], ◌∷◌, ◌++◌, Option, Some, None, refl, sym, ap, subst, ◌∙◌, map, nat_eq}
-use Rattle.std.specs.Prelude.{option_and_then, unwrap_or}
+use Rattle.std.specs.Prelude.{option_and_then}
 use Rattle.std.specs.List.{list_any}
 use Rattle.std.specs.Option.{option_map_or}
 use Rattle.std.proofs.lemmas.List.{append_assoc}
@@ -29,6 +29,7 @@ use Rattle.clk_model.proofs.TierLaws.{state_is, turn_is, paid_is, beside_change}
 use Rattle.clk_model.proofs.StepLaws.{raises, IsAfter, step_after}
 use Rattle.clk_model.proofs.FrontLaws.{front_after}
 use Rattle.clk_model.proofs.BeginLaws.{may_raise, IsBegun, begun_going}
+use Rattle.std.proofs.lemmas.Option.{same_Some}
 
 -- ---- what a timeout leaves
 
@@ -362,14 +363,11 @@ course_steps_on q s t d what made m answer course step =
             ],
           )
 
-pub same_change : (k j : Change) → Some k ≡ Some j → k ≡ j
-same_change k j e = ap (λ (o : Option Change). unwrap_or o k) e
-
 course_steps : (q s t : State) (d : ℕ) (what : Sleeping) (made : List Micro) (m : Micro) (answer : Option Bool) → IsCourse q d what s made
     → next s d (event.Step m answer) ≡ Some (t, turn.Going) → IsCourse q d what t (made ++ m ∷ [])
 course_steps q s t d what made m answer course step =
     let is = step_is s t d m answer turn.Going step in
-    let same : is.0 ≡ course.now = same_change is.0 course.now (sym is.1.at ∙ course.at) in
+    let same : is.0 ≡ course.now = same_Some is.0 course.now (sym is.1.at ∙ course.at) in
     course_steps_on q s t d what made m answer course (subst (λ (k : Change). IsStep s t d m answer turn.Going k) same is.1)
 
 -- a change in flight has its course

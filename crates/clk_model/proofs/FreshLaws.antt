@@ -32,6 +32,7 @@ use Rattle.clk_model.specs.Step.{is_end, sets_parent, aborts_of}
 use Rattle.clk_model.specs.Machine.{is_poll}
 use Rattle.clk_model.specs.Laws.Paced.{may_time_out, is_scripted, ends_last}
 use Rattle.clk_model.proofs.Members.{both_left, both_right, or_cases, or_left, or_right}
+use Rattle.std.proofs.lemmas.Bool.{and_from}
 
 -- ---- scripts
 
@@ -44,9 +45,6 @@ pub record IsScript (ms : List Micro) : Type 0 where
   pub scripted : list_all is_scripted ms ≡ true
   pub last : ends_last ms ≡ true
 
-and_true : (a b : Bool) → a ≡ true → b ≡ true → (a && b) ≡ true
-and_true a b e f = rw (e, f) refl
-
 not_end : (t u : Bool) → not t ≡ true → (not t || u) ≡ true
 not_end true u e = absurd cc
 not_end false u e = refl
@@ -57,8 +55,8 @@ script_more (x ∷ xs) ys all rest =
     let here = both_left (is_inner x) (list_all is_inner xs) all in
     let more = script_more xs ys (both_right (is_inner x) (list_all is_inner xs) all) rest in
     record {
-      scripted = and_true (is_scripted x) (list_all is_scripted (xs ++ ys)) (both_left (is_scripted x) (not (is_end x)) here) more.scripted;
-      last = and_true (not (is_end x) || is_none (slice_get (xs ++ ys) 0)) (ends_last (xs ++ ys))
+      scripted = and_from (is_scripted x) (list_all is_scripted (xs ++ ys)) (both_left (is_scripted x) (not (is_end x)) here) more.scripted;
+      last = and_from (not (is_end x) || is_none (slice_get (xs ++ ys) 0)) (ends_last (xs ++ ys))
           (not_end (is_end x) (is_none (slice_get (xs ++ ys) 0)) (both_right (is_scripted x) (not (is_end x)) here)) more.last;
     }
 
@@ -66,7 +64,7 @@ only_end : IsScript (micro.End ∷ [])
 only_end = record { scripted = refl; last = refl }
 
 all_append : (xs ys : List Micro) → list_all is_inner xs ≡ true → list_all is_inner ys ≡ true → list_all is_inner (xs ++ ys) ≡ true
-all_append xs ys e f = list_all-append is_inner xs ys ∙ and_true (list_all is_inner xs) (list_all is_inner ys) e f
+all_append xs ys e f = list_all-append is_inner xs ys ∙ and_from (list_all is_inner xs) (list_all is_inner ys) e f
 
 all_flat_map : {X : Type 0} (f : X → List Micro) (xs : List X) → ((x : X) → list_all is_inner (f x) ≡ true) → list_all is_inner (flat_map f xs) ≡ true
 all_flat_map f [] each = refl
@@ -74,7 +72,7 @@ all_flat_map f (x ∷ xs) each = all_append (f x) (flat_map f xs) (each x) (all_
 
 all_map : {X : Type 0} (f : X → Micro) (xs : List X) → ((x : X) → is_inner (f x) ≡ true) → list_all is_inner (map f xs) ≡ true
 all_map f [] each = refl
-all_map f (x ∷ xs) each = and_true (is_inner (f x)) (list_all is_inner (map f xs)) (each x) (all_map f xs each)
+all_map f (x ∷ xs) each = and_from (is_inner (f x)) (list_all is_inner (map f xs)) (each x) (all_map f xs each)
 
 all_until_veto : (rates : Rates) (c : ℕ) (ns : List NotifierRow) → list_all is_inner (until_veto rates c ns) ≡ true
 all_until_veto rates c [] = refl

@@ -2,7 +2,6 @@
 use Rattle.std.proofs.Common.{◌≡◌, ℕ, ◌-◌, ◌<◌, Bool, true, false, cond, List, [], ◌∷◌, ◌++◌, Option, Some, None, refl, sym, ap, subst, ◌∙◌, map, arith}
 use Rattle.std.specs.Prelude.{slice_get, slice_index, reverse, length, nat_le, ◌==◌}
 use Rattle.std.specs.List.{list_any}
-use Rattle.std.specs.Option.{option_map_or}
 use Rattle.std.proofs.lemmas.Bool.Decides.{nat_tests}
 use Rattle.clk_base.specs.declared.clock.ClockId.{ClockId}
 use Rattle.clk_base.specs.declared.call.Micro.{Micro}
@@ -20,15 +19,12 @@ use Rattle.clk_model.specs.Laws.Flight.{is_no_abort, is_no_post, IsFront, nothin
 use Rattle.clk_model.proofs.Members.{test_same}
 use Rattle.clk_model.proofs.NoneLaws.{none_append, none_map, none_flat_map, none_if, none_front, none_rest}
 use Rattle.clk_model.proofs.MicroLaws.{comes_first}
+use Rattle.clk_model.proofs.Cases.{by_option}
 
 -- the same of the change that a state has
 abbrev FrontOf : Option Change → Type 0
 FrontOf None = ⊥
 FrontOf (Some k) = IsFront k
-
-by_option : (P : State → Type 0) (o : Option ℕ) (f : ℕ → State) (u : State) → P u → ((y : ℕ) → P (f y)) → P (option_map_or f o u)
-by_option P None f u none some = none
-by_option P (Some y) f u none some = some y
 
 -- ---- where nothing stands in front
 

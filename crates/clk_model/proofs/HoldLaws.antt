@@ -13,9 +13,9 @@ use Rattle.clk_base.specs.declared.event.Turn.{Turn}
 use Rattle.clk_base.specs.declared.event.Turn.TheVariants as turn
 use Rattle.clk_model.specs.declared.row.ClockRow.{ClockRow}
 use Rattle.clk_model.specs.declared.row.HandleRow.{HandleRow}
-use Rattle.clk_model.specs.State.{State, Change, link_in, handle_at}
+use Rattle.clk_model.specs.State.{State, Change, link_in, handle_at, requested}
 use Rattle.clk_model.specs.Gates.{settled}
-use Rattle.clk_model.specs.Step.{todo, rest_of, left_behind, taken, cut_short, requested, ended_well, unranged, end_of, stepped}
+use Rattle.clk_model.specs.Step.{todo, rest_of, left_behind, taken, cut_short, ended_well, unranged, end_of, stepped}
 use Rattle.clk_model.specs.Begin.{prepared_once_more, held_once_more, request_between, begun}
 use Rattle.clk_model.specs.Machine.{comes_next, next}
 use Rattle.clk_model.specs.Tier.{is_enable_tier}
@@ -25,10 +25,11 @@ use Rattle.clk_model.proofs.StepLaws.{raises, IsAfter, step_after}
 use Rattle.clk_model.proofs.TierLaws.{beside_change, beside_clocks}
 use Rattle.clk_model.proofs.BeginLaws.{IsBegun, begun_going}
 use Rattle.clk_model.proofs.VetoLaws.{ends_it, end_state, of_change}
-use Rattle.clk_model.proofs.FlightLaws.{IsEnd, IsStep, course_of, begin_is, same_change, next_is, first_put, front_put}
+use Rattle.clk_model.proofs.FlightLaws.{IsEnd, IsStep, course_of, begin_is, next_is, first_put, front_put}
 use Rattle.clk_model.proofs.NoneLaws.{none_front, none_rest}
 use Rattle.clk_model.proofs.HoldSteps.{is_holding, held_after_step, held_after_steps, holds_of, relinks, step_holds, step_links}
 use Rattle.clk_model.proofs.BalancedScripts.{all_holding, IsBalanced, relinks_once, once_behind, balanced_cut, short_is_end, next_balanced}
+use Rattle.std.proofs.lemmas.Option.{same_Some}
 
 -- ---- a flight
 
@@ -319,7 +320,7 @@ held_over q d what balanced once none {s = s} (begins step) = held_begins q s d 
 held_over q d what balanced once none {s = t} (goes_on {s = s} {made = made} m answer flight step) =
     let held = held_over q d what balanced once none flight in
     let course = course_of q d what flight in
-    let same : course.now ≡ held.0 = same_change course.now held.0 (sym course.at ∙ held.1.at) in
+    let same : course.now ≡ held.0 = same_Some course.now held.0 (sym course.at ∙ held.1.at) in
     held_steps q s t d what m answer held.0 held.1 (subst (λ (j : Change). IsFront j) same course.front)
     (sym (ap (λ (j : Change). j.call) same) ∙ course.call) (of_change s t d m answer turn.Going held.0 held.1.at step)
 held_over q d what balanced once none {s = t} {made = made} (beside {s = s} {x = x} other e tier flight step) =
@@ -348,7 +349,7 @@ end_holds s k = either (k.vetoed || k.timed_out) where
 front_of : (q s : State) (d : ℕ) (what : Sleeping) (made : List Micro) (k : Change) → IsHeld q d what s k → Flight q d what s made → IsFront k
 front_of q s d what made k h flight =
     let course = course_of q d what flight in
-    subst (λ (j : Change). IsFront j) (same_change course.now k (sym course.at ∙ h.at)) course.front
+    subst (λ (j : Change). IsFront j) (same_Some course.now k (sym course.at ∙ h.at)) course.front
 
 -- where the end comes next, no block is left to be done
 at_end : (q s : State) (d : ℕ) (what : Sleeping) (k : Change) → (h : IsHeld q d what s k) → comes_next micro.End (todo k) ≡ true → IsFront k → holds_of s ≡ ([], [])

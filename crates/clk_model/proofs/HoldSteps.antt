@@ -1,7 +1,6 @@
 -- Laws on steps and holds: what each step does to the holds and the links.
-use Rattle.std.proofs.Common.{ℕ, inl, inr, Bool, true, false, cond, List, [], Option, Some, None, refl, ap, subst, nat_eq, ◌≡◌, ◌-◌, ◌∷◌, ◌∙◌}
+use Rattle.std.proofs.Common.{ℕ, inl, inr, Bool, true, false, List, [], Option, refl, ap, subst, nat_eq, ◌≡◌, ◌-◌, ◌∷◌, ◌∙◌}
 use Rattle.std.specs.Prelude.{slice_get, slice_set, reverse, length, nat_le, option_map}
-use Rattle.std.specs.Option.{option_map_or}
 use Rattle.clk_base.specs.Levels.{depth}
 use Rattle.clk_base.specs.declared.call.Micro.{Micro}
 use Rattle.clk_base.specs.declared.call.Micro.TheVariants as micro
@@ -19,6 +18,7 @@ use Rattle.std.proofs.lemmas.Bool.{cases_lt}
 use Rattle.std.proofs.lemmas.List.{set_past}
 use Rattle.clk_model.proofs.Members.{test_same, test_other, same_from_test}
 use Rattle.clk_model.proofs.StateLaws.{row_of-set_same, row_of-set_other}
+use Rattle.clk_model.proofs.Cases.{by_option, by_test}
 
 -- ---- what a step does to holds
 
@@ -49,14 +49,6 @@ held_after_steps link (m ∷ ms) h = held_after_steps link ms (held_after_step l
 -- the holds of a state
 abbrev pub holds_of : State → List ℕ × List ℕ
 holds_of s = (s.prepare_holds, s.enable_holds)
-
-by_option : (P : State → Type 0) (o : Option ℕ) (f : ℕ → State) (u : State) → P u → ((y : ℕ) → P (f y)) → P (option_map_or f o u)
-by_option P None f u none some = none
-by_option P (Some y) f u none some = some y
-
-by_test : (P : State → Type 0) (b : Bool) (u v : State) → P u → P v → P (cond b u v)
-by_test P true u v yes_ no_ = yes_
-by_test P false u v yes_ no_ = no_
 
 -- whether a step gives the clock another link
 abbrev pub relinks : ℕ → Micro → Bool

@@ -9,6 +9,7 @@ use Rattle.clk_model.specs.Lists.{is_in, present}
 use Rattle.clk_model.specs.State.{State, handle_at}
 use Rattle.clk_model.specs.Tree.{path}
 use Rattle.clk_model.specs.Holders.{clocks_of, is_held, is_enabled, critical_clocks, active}
+use Rattle.std.proofs.Math.Bool.{or_assoc}
 
 -- whether the clock is on the path of a handle
 abbrev pub is_under : List ClockRow → HandleRow → ℕ → Bool
@@ -27,10 +28,6 @@ held_by-cons clocks test h handles c =
       | true ↦ refl
       | false ↦ refl
     ]
-
-or_assoc : (a b c : Bool) → (a || (b || c)) ≡ ((a || b) || c)
-or_assoc true b c = refl
-or_assoc false b c = refl
 
 -- a new handle that doesn't pass holds nothing
 pub held_by-append : (clocks : List ClockRow) (test : HandleRow → Bool) (handles : List (Option HandleRow)) (h : HandleRow) (c : ℕ) → test h ≡ false
@@ -102,7 +99,7 @@ held_by-set_more clocks test (None ∷ handles) (suc n) old new c at clock passe
 held_by-set_more clocks test (Some h ∷ handles) (suc n) old new c at clock passes =
     held_by-cons clocks test h (set handles n (Some new)) c
     ∙ ap (λ (t : Bool). (test h && is_under clocks h c) || t) (held_by-set_more clocks test handles n old new c at clock passes)
-    ∙ or_assoc (test h && is_under clocks h c) (held_by clocks test handles c) (is_under clocks old c)
+    ∙ sym (or_assoc (test h && is_under clocks h c) (held_by clocks test handles c) (is_under clocks old c))
     ∙ ap (λ (t : Bool). t || is_under clocks old c) (sym (held_by-cons clocks test h handles c))
 
 -- where no handle passes, none holds a clock

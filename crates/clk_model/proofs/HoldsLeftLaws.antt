@@ -24,7 +24,6 @@ use Rattle.clk_model.specs.State.{State, Change, ChainStep}
 use Rattle.clk_model.specs.Tree.{rooted}
 use Rattle.clk_model.specs.Round.{Wiring, wiring}
 use Rattle.clk_model.specs.Chain.{chain}
-use Rattle.clk_model.specs.Walk.{walk}
 use Rattle.clk_model.specs.Views.{lift, view}
 use Rattle.clk_model.specs.Begin.{change_along, starts, refused, most_credits, weight_of, pick, request, request_between, put_handle, held_once_more, own_handle, with_handle, reparenting, parent_set, begun}
 use Rattle.clk_model.specs.Machine.{next}
@@ -32,11 +31,9 @@ use Rattle.clk_model.specs.Journal.{slotless, replay, Legal, opening}
 use Rattle.clk_model.specs.Tier.{is_enable_tier}
 use Rattle.clk_model.specs.Laws.Flight.{Flight, begins, goes_on, beside, plan}
 use Rattle.clk_model.specs.Laws.LinksKept.{KeepsLinks}
-use Rattle.clk_model.specs.Laws.Plans.{none_twice, HasParent, LeadsFrom, IsWired, clocks_in}
-use Rattle.clk_model.specs.Laws.Walks.{IsOrder}
+use Rattle.clk_model.specs.Laws.Plans.{HasParent, LeadsFrom}
 use Rattle.clk_model.specs.Laws.HoldsLeft.{HoldsNothing, is_probe, CallsLeaveNoHold, begins_probing, RunsLeaveNoHold}
 use Rattle.clk_model.proofs.Members.{both_left, both_right, not_either, same_from_test}
-use Rattle.clk_model.proofs.BelowLaws.{once_head}
 use Rattle.clk_model.proofs.BeginLaws.{plans, begun_going}
 use Rattle.clk_model.proofs.TierLaws.{beside_change, beside_clocks}
 use Rattle.clk_model.proofs.VetoLaws.{of_change}
@@ -47,16 +44,10 @@ use Rattle.clk_model.proofs.LinkLaws.{events_keep_links, runs_keep_links, runs_a
 use Rattle.clk_model.proofs.PlanLaws.{chains_lead, not_above_parent}
 use Rattle.clk_model.proofs.WalkLaws.{walks_list}
 use Rattle.clk_model.proofs.HoldSteps.{holds_of}
-use Rattle.clk_model.proofs.BalanceLaws.{none_below_itself, is_distinct, IsPlain, began, planned_call_leaves_no_hold}
+use Rattle.clk_model.proofs.BalanceLaws.{none_below_itself, IsPlain, began, planned_call_leaves_no_hold}
+use Rattle.clk_model.specs.Wired.{IsWired, IsOrder}
 
 -- ---- plans
-
-distinct_is : (xs : List ℕ) → none_twice xs ≡ true → is_distinct xs
-distinct_is [] once = tt
-distinct_is (x ∷ xs) once = let head = once_head x xs once in (off (is_in x xs) head.0, distinct_is xs head.1) where
-  off : (t : Bool) → (t ≡ true → ⊥) → t ≡ false
-  off false out = refl
-  off true out = absurd (out refl)
 
 parents_apart : (words : ℕ) (w : Wiring) (ks : List ChainStep) → IsWired words w → AllByRecursion (HasParent w) ks → none_below_itself ks
 parents_apart words w [] wired has = tt
@@ -70,8 +61,8 @@ parents_apart words w (k ∷ ks) wired has = ((λ p up. apart p up (nat_eq k.clo
 plain_of : (words : ℕ) (q : State) (c : ℕ) (ks : List ChainStep) → IsWired words (wiring q) → IsOrder q.order q.clocks → LeadsFrom (wiring q) c ks → IsPlain q ks
 plain_of words q c ks wired ordered leads = record {
   parents = parents_apart words (wiring q) ks wired leads.parents;
-  clocks = distinct_is (clocks_in ks) leads.once;
-  walked = distinct_is (walk q.order (wiring q) ks) (walks_list words q.order (wiring q) c ks wired ordered leads).0.once;
+  clocks = leads.once;
+  walked = (walks_list words q.order (wiring q) c ks wired ordered leads).0.once;
 }
 
 -- ---- beginnings

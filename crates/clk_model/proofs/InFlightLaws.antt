@@ -1,7 +1,6 @@
 -- Laws on legal journals: behind each of them no call is in flight, or one that began in it.
 use Rattle.std.proofs.Common.{◌≡◌, ℕ, ◌-◌, ◌⊎◌, inl, inr, Bool, true, List, [], ◌∷◌, ◌++◌, Option, Some, None, refl, sym, ap, subst, ◌∙◌}
 use Rattle.std.specs.Prelude.{IsSome}
-use Rattle.std.specs.Option.{option_map_or}
 use Rattle.std.proofs.lemmas.List.{append_assoc}
 use Rattle.std.proofs.lemmas.List.Concat.{flat_map-append}
 use Rattle.clk_base.specs.declared.call.Sleeping.{Sleeping}
@@ -17,7 +16,7 @@ use Rattle.clk_base.specs.declared.event.Reply.TheVariants as reply
 use Rattle.clk_base.specs.declared.event.Turn.{Turn}
 use Rattle.clk_base.specs.declared.event.Turn.TheVariants as turn
 use Rattle.clk_model.specs.declared.row.HandleRow.{HandleRow}
-use Rattle.clk_model.specs.State.{State, Change, ChainStep}
+use Rattle.clk_model.specs.State.{State, Change}
 use Rattle.clk_model.specs.Gates.{settled}
 use Rattle.clk_model.specs.Round.{wiring, round_rate}
 use Rattle.clk_model.specs.Chain.{chain}
@@ -31,8 +30,10 @@ use Rattle.clk_model.specs.Tier.{is_enable_tier, is_step}
 use Rattle.clk_model.specs.Laws.Flight.{Flight, begins, goes_on, beside, step_of, steps_of, IsInFlight, QuietOrInFlight}
 use Rattle.clk_model.proofs.JournalLaws as journals
 use Rattle.clk_model.proofs.TierLaws.{pick_either, with_handle_either, beside_change}
-use Rattle.clk_model.proofs.FlightLaws.{IsStep, step_is, begin_is, course_of, same_change}
+use Rattle.clk_model.proofs.FlightLaws.{IsStep, step_is, begin_is, course_of}
 use Rattle.clk_model.proofs.VetoLaws.{ends_it, end_state, of_change}
+use Rattle.clk_model.proofs.Cases.{by_plan, by_found}
+use Rattle.std.proofs.lemmas.Option.{same_Some}
 
 -- ---- a call that is answered at once
 
@@ -52,14 +53,6 @@ has y = record { is = inr refl }
 
 starts_or : (old new : State) (k : Change) → GoesOrHas (in_flight old) (starts old new k)
 starts_or old new k = pick_either (GoesOrHas (in_flight old)) _ _ _ (λ e. has (refused old errno.ENOSPC)) (λ e. record { is = inl refl })
-
-by_plan : (P : State × Turn → Type 0) (o : Option (List ChainStep)) (f : List ChainStep → State × Turn) (x : State × Turn) → P x → ((ks : List ChainStep) → P (f ks)) → P (option_map_or f o x)
-by_plan P None f x none some = none
-by_plan P (Some ks) f x none some = some ks
-
-by_rate : (P : State × Turn → Type 0) (o : Option ℕ) (f : ℕ → State × Turn) (x : State × Turn) → P x → ((y : ℕ) → P (f y)) → P (option_map_or f o x)
-by_rate P None f x none some = none
-by_rate P (Some y) f x none some = some y
 
 request_or : (c : InFlight) (old new fine lifted : State) (d : ℕ) (what : Sleeping) (clock x : ℕ) (range : Option (ℕ × ℕ)) → in_flight old ≡ c → in_flight fine ≡ c
     → GoesOrHas c (request old new fine lifted d what clock x range)
@@ -93,7 +86,7 @@ begun_or q d (call.Unprepare h) = on_handle q d h.number _ (λ row.
     (λ e. pick_either (GoesOrHas (in_flight q)) _ _ _ (λ e. record { is = inr refl }) (λ e. starts_or q less (change_of less d (call.Unprepare h) (micro.Lower row.clock ∷ micro.End ∷ [])))))
 begun_or q d (call.GetRate h) = on_handle q d h.number _ (λ row. record { is = inr refl })
 begun_or q d (call.RoundRate h x) = on_handle q d h.number _ (λ row.
-    by_rate (GoesOrHas (in_flight q)) (round_rate (wiring q) (view (lift q h.number)) row.clock.0 x) (λ r. done q (reply.Rate r)) (refused q errno.EINVAL) (record { is = inr refl }) (λ r. record { is = inr refl }))
+    by_found (GoesOrHas (in_flight q)) (round_rate (wiring q) (view (lift q h.number)) row.clock.0 x) (λ r. done q (reply.Rate r)) (refused q errno.EINVAL) (record { is = inr refl }) (λ r. record { is = inr refl }))
 begun_or q d (call.SetRate h x) = on_handle q d h.number _ (λ row. request_or (in_flight q) q q q (lift q h.number) d (call.SetRate h x) row.clock.0 x None refl refl)
 begun_or q d (call.SetRateExclusive h x) = on_handle q d h.number _ (λ row. request_or (in_flight q) q q (held_once_more q h.number row) q d (call.SetRateExclusive h x) row.clock.0 x None refl refl)
 begun_or q d (call.SetRange h least most) = on_handle q d h.number _ (λ row.
@@ -271,4 +264,4 @@ others_wait s k d (event.Begin what) at defined =
 others_wait s k d (event.Step m answer) at defined =
     let x = value_of (next s d (event.Step m answer)) defined in
     let is = step_is s x.0.0 d m answer x.0.1 x.1 in
-    inr (refl, sym is.1.driver ∙ ap (λ (j : Change). j.driver) (same_change is.0 k (sym is.1.at ∙ at)))
+    inr (refl, sym is.1.driver ∙ ap (λ (j : Change). j.driver) (same_Some is.0 k (sym is.1.at ∙ at)))

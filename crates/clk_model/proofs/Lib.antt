@@ -1,4 +1,6 @@
 pub mod Members
+pub mod Cases
+pub mod OnceLaws
 pub mod GateLaws
 pub mod PathLaws
 pub mod HolderLaws

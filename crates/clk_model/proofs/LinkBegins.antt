@@ -24,14 +24,13 @@ use Rattle.clk_model.specs.Script.{probe_script, sweep_script}
 use Rattle.clk_model.specs.Views.{view, lift}
 use Rattle.clk_model.specs.Begin.{put_handle, request_between, done, refused, pick, most_credits, weight_of, starts, change_of, change_along, own_handle, with_handle, got, put_back, prepare, unprepare, rounded, request, range_set, parent_set, reparenting, exclusive_put, held_once_more, notifier_added, notifier_removed, register, registered_rows, probed, swept, begun}
 use Rattle.clk_model.specs.Machine.{enabled, disabled, running}
-use Rattle.clk_model.specs.Laws.Plans.{LinksArePossible}
-use Rattle.clk_model.specs.Laws.Walks.{IsOrder}
 use Rattle.clk_model.specs.Laws.LinksKept.{links_possible, KeepsLinks}
 use Rattle.clk_model.proofs.Members.{both_left, both_right}
 use Rattle.clk_model.proofs.PlanLaws.{chains_lead}
 use Rattle.clk_model.proofs.WholePathLaws.{given_others, registers_stay_possible}
 use Rattle.clk_model.proofs.SiblingLaws.{order_front}
 use Rattle.clk_model.proofs.LinkScripts.{AllLink, link_planned, link_probe, link_sweep}
+use Rattle.clk_model.specs.Wired.{LinksArePossible, IsOrder}
 
 -- what a call comes to keeps links
 pub record Comes (r : State × Turn) : Type 0 where

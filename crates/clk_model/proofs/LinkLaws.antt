@@ -15,8 +15,7 @@ use Rattle.clk_base.specs.Description.{Description, parents_of}
 use Rattle.clk_base.specs.Valid.{IsValid}
 use Rattle.clk_base.proofs.Valid.{lines_end}
 use Rattle.clk_model.specs.declared.row.ClockRow.{ClockRow}
-use Rattle.clk_model.specs.declared.row.HandleRow.{HandleRow}
-use Rattle.clk_model.specs.State.{State, Change, is_quiet, unregistered_row, row_of, link_in, handle_at}
+use Rattle.clk_model.specs.State.{State, Change, is_quiet, unregistered_row, row_of, link_in, handle_at, requested}
 use Rattle.clk_model.specs.Rate.{rate}
 use Rattle.clk_model.specs.Gates.{settled}
 use Rattle.clk_model.specs.Lists.{is_in, to_front}
@@ -26,11 +25,9 @@ use Rattle.clk_base.specs.Levels.{depth}
 use Rattle.clk_model.specs.Tree.{children}
 use Rattle.clk_model.specs.Walk.{below_within}
 use Rattle.clk_model.specs.Begin.{begun, prepared_once_more, held_once_more, request_between, register}
-use Rattle.clk_model.specs.Step.{todo, rest_of, left_behind, taken, sets_parent, aborts_of, on, timed_out, to_raise, raise_one, raise, poll, is_yes, to_lower, lower_one, lower, set_in_chain, visit, settle_all, requested, ended_well, unranged, stepped}
+use Rattle.clk_model.specs.Step.{todo, rest_of, left_behind, taken, sets_parent, aborts_of, on, timed_out, to_raise, raise_one, raise, poll, is_yes, to_lower, lower_one, lower, set_in_chain, visit, settle_all, ended_well, unranged, stepped}
 use Rattle.clk_model.specs.Machine.{paid, next}
 use Rattle.clk_model.specs.Journal.{replay, opening}
-use Rattle.clk_model.specs.Laws.Plans.{LinesEnd, LinksArePossible}
-use Rattle.clk_model.specs.Laws.Walks.{IsOrder}
 use Rattle.clk_model.specs.Laws.LinksKept.{HasShapeOf, RunsAreWired, links_possible, WillBePossible, KeepsLinks, EventsKeepLinks, RunsKeepLinks}
 use Rattle.clk_model.proofs.Members.{both_left, both_right}
 use Rattle.clk_model.proofs.MicroLaws.{comes_first}
@@ -40,6 +37,8 @@ use Rattle.clk_model.proofs.SiblingLaws.{order_front}
 use Rattle.clk_model.proofs.ShapeLaws.{no_step, events_keep_shape}
 use Rattle.clk_model.proofs.LinkBegins.{register_tied, register_defs, Comes, comes_call, comes_enable, comes_disable, comes_running}
 use Rattle.clk_model.proofs.LinkScripts.{AllLink, link_append, link_front, link_left, link_map, link_aborts, link_posts, link_cut}
+use Rattle.clk_model.specs.Wired.{LinesEnd, LinksArePossible, IsOrder}
+use Rattle.clk_model.proofs.Cases.{by_option, by_test, by_handle}
 
 -- ---- what a step leaves
 
@@ -64,14 +63,6 @@ made s y k l going same tied at front left = record {
   will = subst (λ (defs : Description). WillBePossible defs y.change) (sym same)
       (subst (λ (o : Option Change). WillBePossible s.defs o) (sym at) (link_append s.defs l.front l.left front left));
 }
-
-by_option : (P : State → Type 0) (o : Option ℕ) (f : ℕ → State) (u : State) → P u → ((y : ℕ) → P (f y)) → P (option_map_or f o u)
-by_option P None f u none some = none
-by_option P (Some y) f u none some = some y
-
-by_test : (P : State → Type 0) (b : Bool) (u v : State) → P u → P v → P (cond b u v)
-by_test P true u v yes_ no_ = yes_
-by_test P false u v yes_ no_ = no_
 
 either : (defs : Description) (t : Bool) (xs ys : List Micro) → AllLink defs xs → AllLink defs ys → AllLink defs (cond t xs ys)
 either defs true xs ys e f = e
@@ -149,10 +140,6 @@ relink_tied s c p tied parent = (
 -- the same of a state without its change
 abbrev EndsWell : State → Type 0
 EndsWell y = KeepsLinks (record y { change = None })
-
-by_handle : (P : State → Type 0) (o : Option HandleRow) (f : HandleRow → State) (u : State) → P u → ((h : HandleRow) → P (f h)) → P (option_map_or f o u)
-by_handle P None f u none some = none
-by_handle P (Some h) f u none some = some h
 
 plain_end : (s : State) (k : Change) → Going s k → EndsWell s
 plain_end s k going = record { ends = going.ends; links = going.tied.0; order = going.tied.1; will = tt }

@@ -26,6 +26,7 @@ use Rattle.clk_model.specs.Laws.Plans.{HasParent}
 use Rattle.clk_model.specs.Laws.LinksKept.{links_possible}
 use Rattle.clk_model.proofs.Members.{both_left, both_right, same_from_test}
 use Rattle.clk_model.proofs.PllLaws.{link_given_possible}
+use Rattle.std.proofs.lemmas.Bool.{and_from}
 
 -- ---- lists of steps
 
@@ -33,16 +34,13 @@ use Rattle.clk_model.proofs.PllLaws.{link_given_possible}
 abbrev pub AllLink : Description → List Micro → Type 0
 AllLink defs ms = list_all (links_possible defs) ms ≡ true
 
-pub and_true : (a b : Bool) → a ≡ true → b ≡ true → (a && b) ≡ true
-and_true a b e f = rw (e, f) refl
-
 pub link_append : (defs : Description) (xs ys : List Micro) → AllLink defs xs → AllLink defs ys → AllLink defs (xs ++ ys)
-link_append defs xs ys e f = list_all-append (links_possible defs) xs ys ∙ and_true (list_all (links_possible defs) xs) (list_all (links_possible defs) ys) e f
+link_append defs xs ys e f = list_all-append (links_possible defs) xs ys ∙ and_from (list_all (links_possible defs) xs) (list_all (links_possible defs) ys) e f
 
 pub link_front : (defs : Description) (xs ys : List Micro) → AllLink defs (xs ++ ys) → AllLink defs xs
 link_front defs [] ys all = refl
 link_front defs (x ∷ xs) ys all =
-    and_true (links_possible defs x) (list_all (links_possible defs) xs) (both_left (links_possible defs x) (list_all (links_possible defs) (xs ++ ys)) all)
+    and_from (links_possible defs x) (list_all (links_possible defs) xs) (both_left (links_possible defs x) (list_all (links_possible defs) (xs ++ ys)) all)
     (link_front defs xs ys (both_right (links_possible defs x) (list_all (links_possible defs) (xs ++ ys)) all))
 
 pub link_left : (defs : Description) (xs ys : List Micro) → AllLink defs (xs ++ ys) → AllLink defs ys
@@ -55,7 +53,7 @@ link_flat_map defs f (x ∷ xs) each = link_append defs (f x) (flat_map f xs) (e
 
 pub link_map : {X : Type 0} (defs : Description) (f : X → Micro) (xs : List X) → ((x : X) → links_possible defs (f x) ≡ true) → AllLink defs (map f xs)
 link_map defs f [] each = refl
-link_map defs f (x ∷ xs) each = and_true (links_possible defs (f x)) (list_all (links_possible defs) (map f xs)) (each x) (link_map defs f xs each)
+link_map defs f (x ∷ xs) each = and_from (links_possible defs (f x)) (list_all (links_possible defs) (map f xs)) (each x) (link_map defs f xs each)
 
 -- ---- notices
 
@@ -84,9 +82,9 @@ link_move defs clocks prep c p possible = one (prep c) (link_in clocks c) where
       ∷ micro.Relink (clock_id c) (clock_id p) ∷ micro.WriteMux (clock_id c) (place_of defs c p) ∷ micro.DropEnable (clock_id c)
       ∷ option_map_or (λ o. micro.DropEnable (clock_id o) ∷ micro.DropPrepare (clock_id o) ∷ micro.Lower (clock_id o) ∷ []) l []
       else micro.Relink (clock_id c) (clock_id p) ∷ micro.WriteMux (clock_id c) (place_of defs c p) ∷ [])
-  one true None = and_true (is_in p (parents_of defs c)) true possible refl
-  one true (Some o) = and_true (is_in p (parents_of defs c)) true possible refl
-  one false l = and_true (is_in p (parents_of defs c)) true possible refl
+  one true None = and_from (is_in p (parents_of defs c)) true possible refl
+  one true (Some o) = and_from (is_in p (parents_of defs c)) true possible refl
+  one false l = and_from (is_in p (parents_of defs c)) true possible refl
 
 -- the moves of steps that pass a test
 link_passing : (defs : Description) (test : ChainStep → Bool) (f : ChainStep → List Micro) (ks : List ChainStep)
@@ -148,8 +146,8 @@ link_adoption s a = one (link_given s.defs s.regs s.clocks a) (prepared s a) (λ
       ∷ micro.Relink (clock_id a) (clock_id p) ∷ micro.DropEnable (clock_id a) ∷ micro.Settle (clock_id a) ∷ []
       else micro.Relink (clock_id a) (clock_id p) ∷ micro.Settle (clock_id a) ∷ []) o [])
   one None t possible = refl
-  one (Some p) true possible = and_true (is_in p (parents_of s.defs a)) true (possible p refl) refl
-  one (Some p) false possible = and_true (is_in p (parents_of s.defs a)) true (possible p refl) refl
+  one (Some p) true possible = and_from (is_in p (parents_of s.defs a)) true (possible p refl) refl
+  one (Some p) false possible = and_from (is_in p (parents_of s.defs a)) true (possible p refl) refl
 
 pub link_probe : (s : State) (c : ℕ) → AllLink s.defs (probe_script s c)
 unfolding probe_script

@@ -14,19 +14,21 @@ use Rattle.reg_bank.specs.Registers.{Registers, field, put}
 use Rattle.reg_bank.proofs.FieldLaws.{field-put_same}
 use Rattle.clk_model.specs.declared.row.ClockRow.{ClockRow}
 use Rattle.clk_model.specs.Fed.{feeds}
-use Rattle.clk_model.specs.Lists.{is_in, same_place}
+use Rattle.clk_model.specs.Lists.{is_in, same_place, none_twice}
 use Rattle.clk_model.specs.Kinds.{mux_field}
 use Rattle.clk_model.specs.State.{ChainStep, link_in}
 use Rattle.clk_model.specs.Tree.{selected}
 use Rattle.clk_model.specs.Round.{Wiring, parent_rate_in}
 use Rattle.clk_model.specs.Chain.{linked, moves, place_of, select, setting, set_one, outcome}
-use Rattle.clk_model.specs.Laws.Plans.{none_twice, clocks_in, HasParent, LieApart, DiffersIn, IsWired, MovedAreFed}
+use Rattle.clk_model.specs.Laws.Plans.{clocks_in, HasParent, LieApart, DiffersIn, MovedAreFed}
 use Rattle.clk_model.proofs.Members.{same_from_test, test_other, not_either}
 use Rattle.clk_model.proofs.StateLaws.{row_of-set_same}
 use Rattle.clk_model.proofs.ApartLaws.{fields_apart, fielded_lt, mux_is_field}
-use Rattle.clk_model.proofs.OutcomeLaws.{FitsKind, SetsOne, sets_one, once_head, differs_in}
+use Rattle.clk_model.proofs.OutcomeLaws.{FitsKind, SetsOne, sets_one, differs_in}
 use Rattle.clk_model.proofs.SettingLaws.{in_rest, settings_fit}
 use Rattle.clk_model.proofs.SupplyLaws.{feeds_same}
+use Rattle.clk_model.specs.Wired.{IsWired}
+use Rattle.clk_model.proofs.OnceLaws.{once_head}
 
 -- ---- places
 

@@ -11,14 +11,15 @@ use Rattle.clk_base.specs.Fields.{Field, field_of}
 use Rattle.reg_bank.specs.Registers.{Registers, field, put}
 use Rattle.reg_bank.proofs.FieldLaws.{length-put, field-put_other_word, field-put_apart}
 use Rattle.clk_model.specs.declared.row.ClockRow.{ClockRow}
-use Rattle.clk_model.specs.Lists.{is_in, same_place}
+use Rattle.clk_model.specs.Lists.{is_in, same_place, none_twice}
 use Rattle.clk_model.specs.Kinds.{mux_field}
 use Rattle.clk_model.specs.State.{ChainStep, row_of, link_in}
 use Rattle.clk_model.specs.Round.{Wiring, parent_rate_in}
 use Rattle.clk_model.specs.Chain.{clock_id, linked, moves, place_of, select, setting, set_one, outcome}
-use Rattle.clk_model.specs.Laws.Plans.{none_twice, clocks_in, HasParent, LieApart, DiffersIn}
-use Rattle.clk_model.proofs.Members.{same_from_test, test_other, not_either, both_left, both_right}
+use Rattle.clk_model.specs.Laws.Plans.{clocks_in, HasParent, LieApart, DiffersIn}
+use Rattle.clk_model.proofs.Members.{same_from_test, test_other, not_either}
 use Rattle.clk_model.proofs.StateLaws.{row_of-set_same, row_of-set_other}
+use Rattle.clk_model.proofs.OnceLaws.{once_head}
 
 -- ---- one field
 
@@ -136,13 +137,6 @@ not_first c x xs out =
 others_of : (c : ℕ) (ks : List ChainStep) → is_in c (clocks_in ks) ≡ false → AllByRecursion (λ k. k.clock ≢ c) ks
 others_of c [] out = tt
 others_of c (k ∷ ks) out = let parts = not_first c k.clock (clocks_in ks) out in ((λ same. parts.0 (sym same)), others_of c ks parts.1)
-
--- the first of numbers of which none stands twice isn't among the others
-pub once_head : (x : ℕ) (xs : List ℕ) → none_twice (x ∷ xs) ≡ true → (is_in x xs ≡ false) × (none_twice xs ≡ true)
-once_head x xs once = (not_true (is_in x xs) (both_left (not (is_in x xs)) (none_twice xs) once), both_right (not (is_in x xs)) (none_twice xs) once) where
-  not_true : (t : Bool) → not t ≡ true → t ≡ false
-  not_true true e = absurd cc
-  not_true false e = refl
 
 links_stay : (k : ChainStep) (ks : List ChainStep) (w u v : Wiring) → SetsOne k u v → length u.clocks ≡ length w.clocks → AllByRecursion (λ l. l.clock ≢ k.clock) ks
     → AllByRecursion (λ l. l.clock < length w.clocks → row_of u.clocks l.clock ≡ record (row_of w.clocks l.clock) { link = option_map clock_id l.parent }) ks

@@ -20,7 +20,6 @@ use Rattle.clk_model.specs.Script.{plls}
 use Rattle.clk_model.specs.Begin.{register}
 use Rattle.clk_model.specs.Step.{aborts_of, to_raise, to_lower, set_in_chain, is_yes, todo, taken, stepped}
 use Rattle.clk_model.specs.Machine.{comes_next}
-use Rattle.clk_model.specs.Laws.Plans.{LinksArePossible}
 use Rattle.clk_model.specs.Laws.Paced.{is_notice, winds_down, may_time_out, is_scripted, ends_last, StillToRaise, StillToLower, Front, tells, polls, polls_to_raise, raises, lowers, IsPaced, StepsKeepPaced}
 use Rattle.clk_model.proofs.Members.{both_left, both_right}
 use Rattle.clk_model.proofs.PllLaws.{to_raise_few, to_lower_few}
@@ -29,6 +28,7 @@ use Rattle.clk_model.proofs.WeightLaws.{changed, posts_notices}
 use Rattle.clk_model.proofs.PacedStepLaws.{raise_again, step_defined}
 use Rattle.clk_model.proofs.PacedLaws.{notices_wind, notices_calm, CutsWell, after, HasExtra}
 use Rattle.clk_model.proofs.KeepsPacedLaws.{well_of, raise_on, lower_on, poll_on}
+use Rattle.clk_model.specs.Wired.{LinksArePossible}
 
 -- ---- what a step leaves
 

@@ -4,6 +4,12 @@ use Rattle.std.specs.Option.{option_map_or}
 use Rattle.clk_model.specs.Lists.{is_in}
 use Rattle.clk_model.specs.Tree.{path_within}
 use Rattle.clk_model.proofs.Members.{is_in_head, is_in_tail, is_in_cases}
+use Rattle.clk_base.specs.Levels.{depth}
+
+-- a path has some levels
+pub some_levels : 0 < depth
+unfolding depth
+some_levels = omega arith
 
 -- the clocks above a link, if there is one
 abbrev pub above : (ℕ → Option ℕ) → ℕ → Option ℕ → List ℕ

@@ -12,9 +12,11 @@ use Rattle.clk_model.specs.Kinds.{can_round}
 use Rattle.clk_model.specs.State.{ChainStep}
 use Rattle.clk_model.specs.Round.{Wiring, View, Rounded, rate_in, passes_on, rate_for, round}
 use Rattle.clk_model.specs.Chain.{outcome, moves, chain_from, chain_within, keeps_boundaries, chain}
-use Rattle.clk_model.specs.Laws.Plans.{none_twice, LinesEnd, LinksArePossible, clocks_in, LeadsUp, KeepsBoundaries, LeadsFrom, IsPlan, ChainsLead}
+use Rattle.clk_model.specs.Laws.Plans.{clocks_in, LeadsUp, KeepsBoundaries, LeadsFrom, IsPlan, ChainsLead}
 use Rattle.clk_model.proofs.Members.{is_in_cases, any_from_in, or_left, or_right, test_same}
 use Rattle.clk_model.proofs.RoundLaws.{Fits, fits_round}
+use Rattle.clk_model.specs.Wired.{LinesEnd, LinksArePossible}
+use Rattle.clk_model.proofs.OnceLaws.{once_cons}
 
 -- ---- above
 
@@ -63,12 +65,6 @@ above_in parents c p (k ∷ ks) each m =
       | inl e ↦ subst (λ (x : ℕ). IsAbove parents p x) e each.0
       | inr r ↦ above_in parents c p ks each.1 r
     ]
-
-pub once_cons : (c : ℕ) (cs : List ℕ) → (is_in c cs ≡ true → ⊥) → none_twice cs ≡ true → none_twice (c ∷ cs) ≡ true
-once_cons c cs out once = both (is_in c cs) out where
-  both : (t : Bool) → (t ≡ true → ⊥) → (not t && none_twice cs) ≡ true
-  both true out_ = absurd (out_ refl)
-  both false out_ = once
 
 climbs_one : (w : Wiring) (c : ℕ) (r : Rounded) → Fits w c r → Climbs w c (step_of c r ∷ [])
 climbs_one w c r fits = record {

@@ -19,9 +19,10 @@ use Rattle.clk_model.specs.Tree.{path_within, path, selected, if_registered, lin
 use Rattle.clk_model.specs.Holders.{prepared}
 use Rattle.clk_model.specs.Script.{unprepared_plls, runs, plls_within, plls}
 use Rattle.clk_model.specs.Step.{to_raise, to_lower}
-use Rattle.clk_model.specs.Laws.Plans.{LinesEnd, LinksArePossible}
 use Rattle.clk_model.proofs.Members.{is_in_head, is_in_tail, is_in_cases, is_in-count_from}
 use Rattle.clk_model.proofs.PathLaws.{above}
+use Rattle.clk_model.specs.Wired.{LinesEnd, LinksArePossible}
+use Rattle.clk_model.proofs.OnceLaws.{length-filter-le}
 
 -- ---- the greatest of several
 
@@ -141,14 +142,6 @@ to_be_plls defs regs clocks c ends links = one (registered clocks c) where
       omega arith
 
 -- ---- what is still to be raised or lowered
-
--- a filter leaves no more
-pub length-filter-le : (test : ℕ → Bool) (xs : List ℕ) → length (filter test xs) ≤ length xs
-length-filter-le test [] = omega arith
-length-filter-le test (x ∷ xs) = one (test x) (length-filter-le test xs) where
-  one : (t : Bool) → length (filter test xs) ≤ length xs → length (cond t (x ∷ filter test xs) (filter test xs)) ≤ length (x ∷ xs)
-  one true rest = omega arith
-  one false rest = omega arith
 
 pub length-filter-weaker : (p q : ℕ → Bool) (xs : List ℕ) → ((x : ℕ) → p x ≡ true → q x ≡ true) → length (filter p xs) ≤ length (filter q xs)
 length-filter-weaker p q [] weaker = omega arith

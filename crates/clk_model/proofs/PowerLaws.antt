@@ -20,12 +20,12 @@ use Rattle.clk_model.specs.Step.{on, powered, to_raise, to_lower}
 use Rattle.clk_model.proofs.Members.{is_in_head, is_in_cases, is_in-reverse}
 use Rattle.clk_model.specs.Laws.Plans.{LieApart}
 use Rattle.clk_model.proofs.GateLaws.{at_or_apart}
-use Rattle.clk_model.proofs.RoundLaws.{is_in-filter}
 use Rattle.clk_model.proofs.ApartLaws.{fields_apart, fielded_lt, mux_is_field}
 use Rattle.clk_model.proofs.SettingLaws.{bit_same}
 use Rattle.clk_model.proofs.WalkLaws.{filter_passes}
 use Rattle.clk_model.proofs.PllLaws.{at_place, length-filter-weaker}
 use Rattle.clk_model.proofs.SupplyLaws.{field-put_off, field-gates_moved, mux_off_gates, power_off_gates, selected_same}
+use Rattle.clk_model.proofs.OnceLaws.{is_in-filter}
 
 -- ---- filters
 

@@ -13,7 +13,7 @@ use Rattle.std.proofs.lemmas.Nat.Bits.{same_from_bits_below, bit_at-lt}
 use Rattle.clk_base.specs.Description.{Description, kind_of}
 use Rattle.clk_base.specs.Fields.{GateBit, gate_of}
 use Rattle.reg_bank.specs.Registers.{Registers, bits_of, field, is_set, put_bit}
-use Rattle.reg_bank.proofs.BitLaws.{length-put_bit, is_set-put_bit_same, is_set-put_bit_other, is_set_past}
+use Rattle.reg_bank.proofs.BitLaws.{length-put_bit, is_set-put_bit_same, is_set-put_bit_other, is_set_past, same_tested}
 use Rattle.clk_model.specs.declared.row.HandleRow.{HandleRow}
 use Rattle.clk_model.specs.Lists.{is_in, count_from}
 use Rattle.clk_model.specs.State.{State, handle_at}
@@ -37,9 +37,6 @@ same_number : (a b : ℕ) → ((i : ℕ) → bit_at a i ≡ bit_at b i) → a �
 same_number a b same =
     let all = below_power (a + b) in
     same_from_bits_below (a + b) a b (omega arith) (omega arith) (λ i below. same i)
-
-same_tested : (a b : ℕ) → a < 2 → b < 2 → nat_eq a 1 ≡ nat_eq b 1 → a ≡ b
-same_tested a b small small' same = grind (arith, nat_tests)
 
 -- words with the same bits are the same, also where a word has more than 32 bits
 same_by_bits : (xs ys : Registers) → length xs ≡ length ys → ((word bit : ℕ) → is_set xs word bit ≡ is_set ys word bit) → xs ≡ ys

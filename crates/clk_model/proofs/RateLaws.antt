@@ -16,11 +16,11 @@ use Rattle.clk_model.specs.Tree.{path_within, path}
 use Rattle.clk_model.specs.Rate.{style_of, rate_over, rate_within, rate}
 use Rattle.clk_model.specs.Chain.{linked}
 use Rattle.clk_model.specs.Begin.{registered_rows, register}
-use Rattle.clk_model.specs.Laws.Plans.{LinksArePossible}
 use Rattle.clk_model.specs.Laws.Paths.{RegistersLeaveOthers, RatesAreOverLinks, scales_by, RelinksLeaveRates, WritesLeaveRates}
 use Rattle.clk_model.proofs.Members.{is_in_head, is_in_tail}
 use Rattle.clk_model.proofs.PathLaws.{above}
 use Rattle.clk_model.proofs.WholePathLaws.{given_others, registers_leave_paths, linked_other, other_member}
+use Rattle.clk_model.specs.Wired.{LinksArePossible}
 
 -- the rate over a parent's depends on the field by which a clock divides or multiplies
 pub over_same : (kind : Kind) (old new : Registers) → ((f : Field) → scales_by kind ≡ Some f → field new f.word f.shift f.width ≡ field old f.word f.shift f.width)

@@ -2,7 +2,7 @@
 use Rattle.std.proofs.Common.{◌≡◌, ℕ, ◌+◌, ◌≤◌, Bool, true, List, [], ◌∷◌, Option, Some, None, refl, sym, ap, subst, ◌∙◌, arith, length}
 use Rattle.std.specs.Prelude.{if◌then◌else◌}
 use Rattle.std.specs.Option.{option_map, option_map_or}
-use Rattle.std.proofs.lemmas.Option.{none-some}
+use Rattle.std.proofs.lemmas.Option.{none-some, same_Some}
 use Rattle.clk_base.specs.declared.call.Micro.{Micro}
 use Rattle.clk_base.specs.declared.call.Sleeping.{Sleeping}
 use Rattle.clk_base.specs.declared.event.Entry.{Entry}
@@ -18,7 +18,6 @@ use Rattle.clk_model.specs.Begin.{most_credits, begun}
 use Rattle.clk_model.specs.Machine.{paid, next}
 use Rattle.clk_model.specs.Journal.{slotless, replay, Legal, opening}
 use Rattle.clk_model.specs.Laws.LinksKept.{KeepsLinks}
-use Rattle.clk_model.specs.Laws.Plans.{LinksArePossible}
 use Rattle.clk_model.specs.Prep.{change_prep, prep}
 use Rattle.clk_model.specs.Tier.{is_enable_tier}
 use Rattle.clk_model.specs.Laws.RunsEnd.{GoesOn, HasRoom, EventsLeaveRoom, RunsHaveRoom, RunsEnd}
@@ -29,9 +28,7 @@ use Rattle.clk_model.proofs.TierLaws.{enable_tier_leaves_prep}
 use Rattle.clk_model.proofs.TierPacedLaws.{enable_tier_keeps_paced}
 use Rattle.clk_model.proofs.ShapeLaws.{events_keep_shape, IsPaid, begun_paid, enable_paid, taken_step, no_step}
 use Rattle.clk_model.proofs.LinkLaws.{events_keep_links, runs_keep_links}
-
-same_change : (o : Option Change) (k l : Change) → o ≡ Some k → o ≡ Some l → k ≡ l
-same_change o k l e f = let both : Some k ≡ Some l = sym e ∙ f in cc
+use Rattle.clk_model.specs.Wired.{LinksArePossible}
 
 -- ---- the enable tier
 
@@ -61,7 +58,7 @@ enable_goes s t k l d e x valid has is next_ paid at goes =
     let weight = keeps.2 in
     let credits = paid.credits in
     let steps = paid.steps in
-    subst (λ (c : Change). GoesOn t c) (same_change t.change k l keeps.0 goes) (record { paced = keeps.1; room = omega arith })
+    subst (λ (c : Change). GoesOn t c) (same_Some k l (sym keeps.0 ∙ goes)) (record { paced = keeps.1; room = omega arith })
 
 enable_room : (s t : State) (d : ℕ) (e : Event) (x : Turn) → IsValid (length s.regs) s.defs → HasRoom s → is_enable_tier e ≡ true → next s d e ≡ Some (t, x) → HasRoom t
 enable_room s t d e x valid has is next_ =
@@ -81,7 +78,7 @@ begin_goes s t d what x l quiet next_ goes = by_turn x refl where
   by_turn : (y : Turn) → x ≡ y → GoesOn t l
   by_turn turn.Going same =
       let begins = calls_begin_paced s t d what (next_ ∙ ap (λ (y : Turn). Some (t, y)) same) in
-      subst (λ (c : Change). GoesOn t c) (same_change t.change begins.0 l begins.1.change goes) (record { paced = begins.1.paced; room = begins.1.room })
+      subst (λ (c : Change). GoesOn t c) (same_Some begins.0 l (sym begins.1.change ∙ goes)) (record { paced = begins.1.paced; room = begins.1.room })
   by_turn (turn.Done r) same = still (λ going. let no : turn.Done r ≡ turn.Going = sym same ∙ going in cc)
 
 begin_quiet : (s t : State) (d : ℕ) (what : Sleeping) (x : Turn) → next s d (event.Begin what) ≡ Some (t, x) → s.change ≡ None

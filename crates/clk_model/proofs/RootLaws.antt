@@ -11,12 +11,12 @@ use Rattle.clk_model.specs.declared.row.ClockRow.{ClockRow}
 use Rattle.clk_model.specs.Kinds.{is_fixed}
 use Rattle.clk_model.specs.State.{registered, link_in}
 use Rattle.clk_model.specs.Tree.{path_within, path}
-use Rattle.clk_model.specs.Laws.Plans.{LinksArePossible}
 use Rattle.clk_model.specs.Laws.Paths.{RootedEndsFixed}
 use Rattle.clk_model.proofs.Members.{or_cases, any_from_in, both_left, both_right}
 use Rattle.clk_model.proofs.PathLaws.{above}
 use Rattle.clk_model.proofs.PllLaws.{at_place}
 use Rattle.clk_model.proofs.SiblingLaws.{fixed_unlinked}
+use Rattle.clk_model.specs.Wired.{LinksArePossible}
 
 -- whether a clock is fixed
 abbrev fixed : Description → ℕ → Bool

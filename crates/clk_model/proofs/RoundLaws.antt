@@ -1,5 +1,5 @@
 -- Laws on rounding: the best parent is a possible parent.
-use Rattle.std.proofs.Common.{◌≡◌, ℕ, Bool, true, false, ◌&&◌, cond, List, [], ◌∷◌, Option, Some, None, refl, sym, ap, ◌∙◌, inl, inr}
+use Rattle.std.proofs.Common.{◌≡◌, ℕ, Bool, true, false, ◌&&◌, cond, List, [], ◌∷◌, Option, Some, None, refl, sym, ap, ◌∙◌}
 use Rattle.std.specs.Prelude.{◌*◌, ◌/◌, ◌==◌, nat_le, nat_lt, max, filter, fold, find, IfSome, option_map, option_and_then}
 use Rattle.std.specs.List.{filter_map, cons_option, AllByRecursion}
 use Rattle.std.specs.Option.{option_map_or}
@@ -17,8 +17,9 @@ use Rattle.clk_model.specs.State.{link_in}
 use Rattle.clk_model.specs.Tree.{rooted}
 use Rattle.clk_model.specs.Rate.{style_of}
 use Rattle.clk_model.specs.Round.{Wiring, View, Rounded, most_rate, rate_in, parent_rate_in, over_parent, passes_on, through, over_link, better, best_of, by_divisor, over_candidate, by_candidate, by_kind, clamped, round_by}
-use Rattle.clk_model.specs.Laws.Plans.{LinksArePossible}
-use Rattle.clk_model.proofs.Members.{is_in_head, is_in_tail, is_in_cases}
+use Rattle.clk_model.proofs.Members.{is_in_head, is_in_tail}
+use Rattle.clk_model.specs.Wired.{LinksArePossible}
+use Rattle.clk_model.proofs.OnceLaws.{is_in-filter}
 
 -- the best parent of a rounding is a possible parent, and there is none only where the clock has no link
 pub record Fits (w : Wiring) (c : ℕ) (r : Rounded) : Type 0 where
@@ -85,19 +86,6 @@ fits_divisor ask w c x divisors links = found (filter (λ i. nat_le (x * i) most
       fits_or w c (best_of x (filter_map (λ i. over_link ask w c (x * i) (λ r. div_ceil r i)) tried)) (over_link ask w c 1 (λ r. div_ceil r (greatest_of divisors)))
       (fits_fold w c x None _ tt (fits_tries w c (λ i. over_link ask w c (x * i) (λ r. div_ceil r i)) tried (λ i m. fits_link ask w c (x * i) (λ r. div_ceil r i) links)))
       (fits_link ask w c 1 (λ r. div_ceil r (greatest_of divisors)) links)
-
-in_kept : (x y : ℕ) (kept xs : List ℕ) (t : Bool) → (is_in x kept ≡ true → is_in x xs ≡ true) → is_in x (cond t (y ∷ kept) kept) ≡ true → is_in x (y ∷ xs) ≡ true
-in_kept x y kept xs false rest m = is_in_tail x y xs (rest m)
-in_kept x y kept xs true rest m =
-    elim (is_in_cases x y kept m) [
-      | inl e ↦ ap (λ (z : ℕ). is_in x (z ∷ xs)) e ∙ is_in_head x xs
-      | inr r ↦ is_in_tail x y xs (rest r)
-    ]
-
--- what a filter leaves of a list is in the list
-pub is_in-filter : (test : ℕ → Bool) (x : ℕ) (xs : List ℕ) → is_in x (filter test xs) ≡ true → is_in x xs ≡ true
-is_in-filter test x [] m = m
-is_in-filter test x (y ∷ ys) m = in_kept x y (filter test ys) ys (test y) (is_in-filter test x ys) m
 
 fits_candidate : (ask : ℕ → ℕ → Option ℕ) (w : Wiring) (c x : ℕ) → IfSome (by_candidate ask w c x) (Fits w c)
 fits_candidate ask w c x =

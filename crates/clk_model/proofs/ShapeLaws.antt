@@ -25,7 +25,7 @@ use Rattle.clk_model.specs.declared.row.ClockRow.{ClockRow}
 use Rattle.clk_model.specs.declared.row.HandleRow.{HandleRow}
 use Rattle.clk_model.specs.Lists.{count_from}
 use Rattle.clk_model.specs.Kinds.{mux_field, with_gate, with_power}
-use Rattle.clk_model.specs.State.{State, Change, ChainStep, is_quiet, row_of, handle_at}
+use Rattle.clk_model.specs.State.{State, Change, ChainStep, is_quiet, row_of, handle_at, requested}
 use Rattle.clk_model.specs.Tree.{children}
 use Rattle.clk_model.specs.Rate.{rate}
 use Rattle.clk_model.specs.Holders.{active}
@@ -36,12 +36,13 @@ use Rattle.clk_model.specs.Walk.{below_within}
 use Rattle.clk_model.specs.Views.{view, lift}
 use Rattle.clk_model.specs.Begin.{put_handle, request_between, done, refused, pick, most_credits, weight_of, starts, change_of, change_along, own_handle, with_handle, got, put_back, prepare, unprepare, rounded, request, range_set, parent_set, reparenting, exclusive_put, held_once_more, prepared_once_more, notifier_added, notifier_removed, register, begun}
 use Rattle.clk_model.specs.Script.{probe_script, sweep_script}
-use Rattle.clk_model.specs.Step.{taken, on, powered, to_raise, raise_one, poll, is_yes, to_lower, lower_one, planned_rate, set_in_chain, settle_all, requested, ended_well, unranged, stepped}
+use Rattle.clk_model.specs.Step.{taken, on, powered, to_raise, raise_one, poll, is_yes, to_lower, lower_one, planned_rate, set_in_chain, settle_all, ended_well, unranged, stepped}
 use Rattle.clk_model.specs.Machine.{enabled, disabled, running, may_step, paid, counted, next}
 use Rattle.clk_model.specs.Laws.LinksKept.{HasShapeOf, EventsKeepShape}
 use Rattle.clk_model.proofs.GateLaws.{length-gates_moved}
 use Rattle.clk_model.proofs.OutcomeLaws.{length-setting, length-selecting}
 use Rattle.clk_model.proofs.PacedStepLaws.{step_defined}
+use Rattle.clk_model.proofs.Cases.{by_option, by_test, by_handle}
 
 -- a state has the description, the numbers of rows and words, the credits and the counts of another
 pub record IsSame (q s : State) : Type 0 where
@@ -177,18 +178,6 @@ length-powering regs up (Some power) = length-put_bit regs power.word power.bit 
 
 powered_shape : (s : State) (y : ℕ) (up : Bool) (k : Change) → IsSame s (on (powered s y up) k)
 powered_shape s y up k = record { defs = refl; rows = refl; words = length-powering s.regs up (power_of (kind_of s.defs y)); credits = refl; spent = refl; steps = refl }
-
-by_option : (P : State → Type 0) (o : Option ℕ) (f : ℕ → State) (u : State) → P u → ((y : ℕ) → P (f y)) → P (option_map_or f o u)
-by_option P None f u none some = none
-by_option P (Some y) f u none some = some y
-
-by_handle : (P : State → Type 0) (o : Option HandleRow) (f : HandleRow → State) (u : State) → P u → ((h : HandleRow) → P (f h)) → P (option_map_or f o u)
-by_handle P None f u none some = none
-by_handle P (Some h) f u none some = some h
-
-by_test : (P : State → Type 0) (b : Bool) (u v : State) → P u → P v → P (cond b u v)
-by_test P true u v yes_ no_ = yes_
-by_test P false u v yes_ no_ = no_
 
 on_shape : (s : State) (k : Change) → IsSame s (on s k)
 on_shape s k = record { defs = refl; rows = refl; words = refl; credits = refl; spent = refl; steps = refl }

@@ -17,16 +17,14 @@ use Rattle.clk_model.specs.Tree.{children, roots, is_orphan, orphans}
 use Rattle.clk_model.specs.Chain.{linked}
 use Rattle.clk_model.specs.Begin.{registered_rows, register}
 use Rattle.clk_model.specs.Step.{relink}
-use Rattle.clk_model.specs.Laws.Plans.{LinksArePossible}
-use Rattle.clk_model.specs.Laws.Walks.{IsOrder}
-use Rattle.clk_model.specs.Laws.Siblings.{IsAttached, front_if, IsUnattached, RegistersUnattached, ListsRegistered, HasOnePlace, ChildrenTellLinks, RegistersAttach, RelinksAttach, RegistersAreListed, RelinksAreListed}
+use Rattle.clk_model.specs.Laws.Siblings.{IsAttached, front_if, IsUnattached, RegistersUnattached, HasOnePlace, ChildrenTellLinks, RegistersAttach, RelinksAttach, RegistersAreListed, RelinksAreListed}
 use Rattle.clk_model.proofs.Members.{is_in_head, is_in_tail, is_in_cases, both_left, both_right, same_from_test}
-use Rattle.clk_model.proofs.RoundLaws.{is_in-filter}
-use Rattle.clk_model.proofs.PlanLaws.{once_cons}
-use Rattle.clk_model.proofs.BelowLaws.{once_filter}
 use Rattle.clk_model.proofs.StateLaws.{row_of-set_same, row_of-set_other}
 use Rattle.clk_model.proofs.WalkLaws.{filter_passes, filter_keeps, is_at_same, at_same, turned_off}
 use Rattle.clk_model.proofs.WholePathLaws.{given_link, given_others, same_or_not, linked_same, linked_other}
+use Rattle.clk_model.specs.Wired.{LinksArePossible, IsOrder, ListsRegistered}
+use Rattle.clk_model.proofs.OnceLaws.{once_filter, once_cons, is_in-filter}
+use Rattle.std.proofs.Math.Bool.{and-true}
 
 -- ---- children and links
 
@@ -201,11 +199,8 @@ unattached s t c defs order at same = record {
   orphans_after = rw (defs, order)
       (front_by (is_orphan s.defs s.clocks) (is_orphan s.defs t.clocks) c s.order (not (is_fixed (kind_of s.defs c)))
       (λ d other. ap (λ (o : Option ℕ). not (is_fixed (kind_of s.defs d)) && is_none o) (same d other))
-      (ap (λ (o : Option ℕ). not (is_fixed (kind_of s.defs c)) && is_none o) at ∙ and_true (not (is_fixed (kind_of s.defs c)))));
-} where
-  and_true : (b : Bool) → (b && true) ≡ b
-  and_true true = refl
-  and_true false = refl
+      (ap (λ (o : Option ℕ). not (is_fixed (kind_of s.defs c)) && is_none o) at ∙ and-true (not (is_fixed (kind_of s.defs c)))));
+}
 
 -- a registration that gives a link attaches
 pub registers_attach : RegistersAttach

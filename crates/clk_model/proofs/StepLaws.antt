@@ -2,7 +2,6 @@
 use Rattle.std.proofs.Common.{◌≡◌, ℕ, ◌+◌, ◌-◌, ◌⊎◌, inl, inr, Bool, true, false, cond, List, [], ◌∷◌, ◌++◌, Option, Some, None, refl, map}
 use Rattle.std.specs.Prelude.{slice_get, slice_index, reverse, length, nat_le, ◌==◌}
 use Rattle.std.specs.List.{list_any}
-use Rattle.std.specs.Option.{option_map_or}
 use Rattle.clk_base.specs.declared.call.Micro.{Micro}
 use Rattle.clk_base.specs.declared.call.Micro.TheVariants as micro
 use Rattle.clk_base.specs.declared.call.Notice.TheVariants as notice
@@ -13,6 +12,7 @@ use Rattle.clk_model.specs.Rate.{rate}
 use Rattle.clk_model.specs.Notices.{Rates, notifiers_of, is_veto, abort_list, post_list}
 use Rattle.clk_model.specs.Step.{sets_parent, cut_short, aborts_of, on, timed_out, to_raise, raise_one, raise, poll, is_yes, to_lower, lower_one, lower, set_in_chain, visit, stepped}
 use Rattle.clk_model.proofs.NoneLaws.{none_append, none_map, none_flat_map, none_if}
+use Rattle.clk_model.proofs.Cases.{by_option, by_test}
 
 -- a raise, or a poll that comes of one
 abbrev pub raises : Micro → Bool
@@ -58,14 +58,6 @@ recounted m k raised polls again = record {
   unvetoed = λ none. none;
   calm = λ e none. none;
 }
-
-by_option : (P : State → Type 0) (o : Option ℕ) (f : ℕ → State) (u : State) → P u → ((y : ℕ) → P (f y)) → P (option_map_or f o u)
-by_option P None f u none some = none
-by_option P (Some y) f u none some = some y
-
-by_test : (P : State → Type 0) (b : Bool) (u v : State) → P u → P v → P (cond b u v)
-by_test P true u v yes_ no_ = yes_
-by_test P false u v yes_ no_ = no_
 
 -- ---- PLLs
 

@@ -25,15 +25,15 @@ unfolding pick
 pick_either P true f g yes_ no_ = yes_ refl
 pick_either P false f g yes_ no_ = no_ refl
 
-by_handle : (P : State × Turn → Type 0) (o : Option HandleRow) (f : HandleRow → State × Turn) (x : State × Turn)
+by_found_handle : (P : State × Turn → Type 0) (o : Option HandleRow) (f : HandleRow → State × Turn) (x : State × Turn)
     → P x → ((h : HandleRow) → o ≡ Some h → P (f h)) → P (option_map_or f o x)
-by_handle P None f x none some = none
-by_handle P (Some h) f x none some = some h refl
+by_found_handle P None f x none some = none
+by_found_handle P (Some h) f x none some = some h refl
 
 -- what holds of a refusal, and of the answer for each handle of the driver, holds of a call on a handle
 pub with_handle_either : (P : State × Turn → Type 0) (s : State) (d n : ℕ) (f : HandleRow → State × Turn)
     → P (refused s errno.ENOENT) → ((h : HandleRow) → own_handle s d n ≡ Some h → P (f h)) → P (with_handle s d n f)
-with_handle_either P s d n f none some = by_handle P (own_handle s d n) f (refused s errno.ENOENT) none some
+with_handle_either P s d n f none some = by_found_handle P (own_handle s d n) f (refused s errno.ENOENT) none some
 
 -- ---- what an event leaves
 

@@ -1,6 +1,6 @@
 -- Laws on changes that are called off: a veto leaves the prepare tier's part of the state as it was before the call.
 use Rattle.std.proofs.Common.{◌≡◌, ℕ, zero, suc, ◌+◌, ◌||◌, ◌⊎◌, inl, inr, Bool, true, false, cond, List, [], ◌∷◌, ◌++◌, Option, Some, None, refl, sym, ap, subst, ◌∙◌, map}
-use Rattle.std.specs.Prelude.{slice_set, slice_index, option_map, unwrap_or}
+use Rattle.std.specs.Prelude.{slice_set, slice_index, option_map}
 use Rattle.std.specs.List.{list_any}
 use Rattle.std.specs.Option.{option_map_or}
 use Rattle.std.proofs.lemmas.List.{append_assoc}
@@ -36,6 +36,7 @@ use Rattle.clk_model.proofs.PrepLaws.{prep-settled, prep-spent, prep-steps}
 use Rattle.clk_model.proofs.TierLaws.{enable_tier_leaves_prep, beside_change}
 use Rattle.clk_model.proofs.BeginLaws.{undone, IsOff, IsBegun, begun_going}
 use Rattle.clk_model.proofs.FlightLaws.{IsStep, step_is, begin_is, course_of}
+use Rattle.std.proofs.lemmas.Option.{same_Some}
 
 -- ---- notices
 
@@ -223,14 +224,11 @@ off_goes_on q s t d what made m answer off step =
       | inr ends ↦ absurd (not_done _ (sym (end_turn s (taken off.now) answer m ends.0) ∙ step.answered))
     ]
 
-same_change : (k j : Change) → Some k ≡ Some j → k ≡ j
-same_change k j e = ap (λ (o : Option Change). unwrap_or o k) e
-
 -- a step of the change
 pub of_change : (s t : State) (d : ℕ) (m : Micro) (answer : Option Bool) (x : Turn) (k : Change) → s.change ≡ Some k → next s d (event.Step m answer) ≡ Some (t, x) → IsStep s t d m answer x k
 of_change s t d m answer x k at step =
     let is = step_is s t d m answer x step in
-    subst (λ (j : Change). IsStep s t d m answer x j) (same_change is.0 k (sym is.1.at ∙ at)) is.1
+    subst (λ (j : Change). IsStep s t d m answer x j) (same_Some is.0 k (sym is.1.at ∙ at)) is.1
 
 -- a call whose script has a veto is being called off as long as it is in flight
 calling_off : (q : State) (d : ℕ) (what : Sleeping) → list_any is_veto (script q d what) ≡ true → {s : State} {made : List Micro} → Flight q d what s made → IsCallingOff q d what s made

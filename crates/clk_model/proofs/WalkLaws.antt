@@ -9,20 +9,22 @@ use Rattle.clk_base.specs.Description.{nobody, parents_of}
 use Rattle.clk_base.specs.Levels.{depth}
 use Rattle.clk_base.proofs.Valid.{lines_end}
 use Rattle.clk_model.specs.declared.row.ClockRow.{ClockRow}
-use Rattle.clk_model.specs.Lists.{is_in, is_at, same_place}
+use Rattle.clk_model.specs.Lists.{is_in, is_at, same_place, none_twice}
 use Rattle.clk_model.specs.State.{ChainStep, row_of, link_in}
 use Rattle.clk_model.specs.Tree.{children}
 use Rattle.clk_model.specs.Round.{Wiring}
 use Rattle.clk_model.specs.Chain.{clock_id, moves, outcome}
 use Rattle.clk_model.specs.Walk.{top_of, moves_away, movers_to, kids_after, below_within, walk, differs, changing}
-use Rattle.clk_model.specs.Laws.Plans.{IsWired, none_twice, clocks_in, LinksArePossible, HasParent, DiffersIn}
-use Rattle.clk_model.specs.Laws.Walks.{IsOrder, will_be_below, IsWalk, AllDiffer, AreChanging, WalksList}
+use Rattle.clk_model.specs.Laws.Plans.{clocks_in, HasParent, DiffersIn}
+use Rattle.clk_model.specs.Laws.Walks.{will_be_below, IsWalk, AllDiffer, AreChanging, WalksList}
 use Rattle.clk_model.proofs.Members.{is_in_head, is_in_tail, is_in_cases, same_from_test, test_same, both_left, both_right, or_left, or_right}
-use Rattle.clk_model.proofs.RoundLaws.{is_in-filter}
 use Rattle.clk_model.proofs.OutcomeLaws.{differs_in}
 use Rattle.clk_model.proofs.SettingLaws.{settings_fit}
-use Rattle.clk_model.proofs.BelowLaws.{in_append, is_in-append, once_append, once_filter, Rises, few_steps, path_rises, rises_path, AreKids, below_rises, rises_below, once_below, below_passes}
+use Rattle.clk_model.proofs.BelowLaws.{Rises, few_steps, path_rises, rises_path, AreKids, below_rises, rises_below, once_below, below_passes}
 use Rattle.clk_model.proofs.ChainStepLaws.{steps_that, step_in, chain_in, any_step, no_step, passing_any, passing_in, once_steps}
+use Rattle.clk_model.specs.Wired.{LinksArePossible, IsWired, IsOrder}
+use Rattle.clk_model.proofs.OnceLaws.{once_filter, in_append, is_in-append, once_append, is_in-filter}
+use Rattle.clk_model.proofs.PathLaws.{some_levels}
 
 -- ---- filters
 
@@ -211,10 +213,6 @@ kid_of_link words order w ks v c p plan e = is_in-append c (stays_with order w k
 first_below : (kids : ℕ → List ℕ) (levels t : ℕ) → 0 < levels → slice_get (below_within kids levels t) 0 ≡ Some t
 first_below kids zero t some = absurd (omega arith)
 first_below kids (suc levels) t some = refl
-
-some_levels : 0 < depth
-unfolding depth
-some_levels = omega arith
 
 either_way : (a b : Bool) → (a ≡ true → b ≡ true) → (b ≡ true → a ≡ true) → a ≡ b
 either_way true b f g = sym (f refl)

@@ -20,7 +20,7 @@ use Rattle.clk_model.specs.Step.{on, powered, from_first, behind_first, cut_shor
 use Rattle.clk_model.specs.Laws.Weight.{front_weight, weight_left}
 use Rattle.clk_model.specs.Laws.Paced.{left_of, is_notice}
 use Rattle.clk_model.proofs.Members.{both_left, both_right}
-use Rattle.clk_model.proofs.PllLaws.{length-filter-le}
+use Rattle.clk_model.proofs.OnceLaws.{length-filter-le}
 
 -- ---- sums
 

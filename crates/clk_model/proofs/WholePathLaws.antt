@@ -7,20 +7,21 @@ use Rattle.clk_base.specs.Description.{Description, parents_of}
 use Rattle.clk_base.specs.Levels.{depth, ends_within}
 use Rattle.clk_base.proofs.Lines.{ends_within-parent}
 use Rattle.clk_model.specs.declared.row.ClockRow.{ClockRow}
-use Rattle.clk_model.specs.Lists.{is_in}
+use Rattle.clk_model.specs.Lists.{is_in, none_twice}
 use Rattle.clk_model.specs.State.{State, row_of, link_in}
 use Rattle.clk_model.specs.Tree.{path_within, path, link_given}
 use Rattle.clk_model.specs.Chain.{clock_id, linked}
 use Rattle.clk_model.specs.Begin.{registered_rows, register}
-use Rattle.clk_model.specs.Laws.Plans.{none_twice, LinesEnd, LinksArePossible}
 use Rattle.clk_model.specs.Laws.Paths.{RegistersGivePaths, RegistersStayPossible, PathsEnd, RelinksLeavePaths, CanLink, RelinksTurnPaths, RelinksStayPossible}
 use Rattle.clk_model.proofs.Members.{is_in_head, is_in_tail, same_from_test, test_other}
-use Rattle.clk_model.proofs.PathLaws.{above, in_above, path_agree, path_cons}
-use Rattle.clk_model.proofs.PlanLaws.{once_cons, not_above_parent}
+use Rattle.clk_model.proofs.PathLaws.{above, in_above, path_agree, path_cons, some_levels}
+use Rattle.clk_model.proofs.PlanLaws.{not_above_parent}
 use Rattle.clk_model.proofs.BelowLaws.{IsUp, path_rises, rises_above}
 use Rattle.clk_model.proofs.PllLaws.{link_given_possible}
 use Rattle.clk_model.proofs.WalkLaws.{linked_lt}
 use Rattle.clk_model.proofs.StateLaws.{row_of-set_same, row_of-set_other}
+use Rattle.clk_model.specs.Wired.{LinesEnd, LinksArePossible}
+use Rattle.clk_model.proofs.OnceLaws.{once_cons}
 
 -- ---- levels
 
@@ -261,10 +262,6 @@ unfolding register
 registers_leave_paths s c d out =
     path_agree (link_in s.clocks) (link_in (registered_rows s.defs s.regs s.clocks c)) depth d
     (λ a m. given_others s c a (other_member c a (path s.clocks d) out m))
-
-some_levels : 0 < depth
-unfolding depth
-some_levels = omega arith
 
 -- what is above the link that a registration gives is so behind it
 given_above : (s : State) (c : ℕ) (o : Option ℕ) → LinesEnd s.defs → LinksArePossible s.defs s.clocks → c < length s.clocks

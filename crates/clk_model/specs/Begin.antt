@@ -30,6 +30,7 @@ use Rattle.clk_model.specs.Walk.{rates_in}
 use Rattle.clk_model.specs.Notices.{notifiers_of}
 use Rattle.clk_model.specs.Views.{view, free_view, lift, handles_on}
 use Rattle.clk_model.specs.Script.{planned, unprepared_plls, runs, probe_script, sweep_script, adoptable, weight, is_raise, notices_of}
+use Rattle.clk_base.specs.declared.credits.TheConstants.{MOST_CREDITS}
 
 -- ---- answers
 
@@ -50,7 +51,7 @@ pick false f g = g tt
 
 -- the credits that a framework may be made with at most
 abbrev pub most_credits : ℕ
-most_credits = 4194304
+most_credits = MOST_CREDITS
 
 -- what a script weighs, with the notices that a timeout may bring
 abbrev pub weight_of : State → Change → ℕ
@@ -115,16 +116,20 @@ abbrev pub got : State → ℕ → Option ℕ → State × Turn
 got s driver None = refused s errno.ENOENT
 got s driver (Some c) = pick (rooted s.defs s.clocks c) (λ t. given s driver c) (λ t. refused s errno.EPROBE_DEFER)
 
+-- whether a handle has a prepare, an enable or an exclusive hold
+abbrev pub holds_something : HandleRow → Bool
+holds_something h = nat_lt 0 h.prepares || nat_lt 0 h.enables || nat_lt 0 h.exclusives
+
 -- Put: a handle that holds something stays
 abbrev pub put_back : State → ℕ → HandleRow → State × Turn
 put_back s number h =
-    pick (nat_lt 0 h.prepares || nat_lt 0 h.enables || nat_lt 0 h.exclusives)
+    pick (holds_something h)
     (λ t. refused s errno.EBUSY)
     (λ t. done (put_handle s number None) reply.Fine)
 
 -- ---- prepares
 
--- one prepare more
+-- the state with one prepare of the handle more
 abbrev pub prepared_once_more : State → ℕ → HandleRow → State
 prepared_once_more s number h = put_handle s number (Some (record h { prepares = h.prepares + 1 }))
 
@@ -135,10 +140,14 @@ prepare s driver what number h =
     (λ t. done (prepared_once_more s number h) reply.Fine)
     (λ t. starts s s (change_of s driver what (micro.Raise h.clock ∷ micro.End ∷ [])))
 
--- Unprepare: at once where no PLL above has to be lowered
+-- whether a handle has no prepare to give up, or only one while it is enabled
+abbrev pub keeps_prepare : HandleRow → Bool
+keeps_prepare h = h.prepares == 0 || (h.prepares == 1 && nat_lt 0 h.enables)
+
+-- Unprepare: a warning where the handle keeps its prepare; at once where no PLL above has to be lowered
 abbrev pub unprepare : State → ℕ → Sleeping → ℕ → HandleRow → State × Turn
 unprepare s driver what number h =
-    pick (h.prepares == 0 || (h.prepares == 1 && nat_lt 0 h.enables))
+    pick (keeps_prepare h)
     (λ t. done s reply.Warn)
     (λ t. let less = put_handle s number (Some (record h { prepares = h.prepares - 1 })) in
     pick (is_none (slice_get (filter (runs s.defs s.regs) (unprepared_plls less (path s.clocks h.clock.0))) 0))
@@ -152,10 +161,9 @@ abbrev pub rounded : State → ℕ → HandleRow → ℕ → State × Turn
 rounded s number h x =
     option_map_or (λ r. done s (reply.Rate r)) (round_rate (wiring s) (view (lift s number)) h.clock.0 x) (refused s errno.EINVAL)
 
--- a request for a rate: nothing to do where the clock would give its rate anyway, refused where it is guarded or there is no
--- plan;
--- old is the state that a refusal leaves, new the one with a new range, fine the one after an answer at once, lifted the one
--- that is planned over
+-- a request for a rate: nothing to do where the clock would give its rate anyway, refused where it is guarded or there is no plan.
+-- Here old is the state that a refusal leaves, new the one with a new range, fine the one after an answer at once, and lifted
+-- the one that is planned over
 abbrev pub request : State → State → State → State → ℕ → Sleeping → ℕ → ℕ → Option (ℕ × ℕ) → State × Turn
 request old new fine lifted driver what c x range =
     pick (is_at (rate new.defs new.regs new.clocks c) (round_rate (wiring new) (free_view lifted c) c x))
@@ -164,7 +172,7 @@ request old new fine lifted driver what c x range =
     (λ t. refused old errno.EBUSY)
     (λ t. option_map_or (λ ks. starts old new (change_along new driver what ks [] range)) (chain (wiring new) (view lifted) c x) (refused old errno.EINVAL)))
 
--- one exclusive hold more
+-- the state with one exclusive hold of the handle more
 abbrev pub held_once_more : State → ℕ → HandleRow → State
 held_once_more s number h = put_handle s number (Some (record h { exclusives = h.exclusives + 1 }))
 
@@ -196,9 +204,9 @@ reparenting s driver what c p =
     let k = change_along s driver what ks (micro.Settle (clock_id c) ∷ []) None in
     record k { extra = if list_any is_raise k.left then notices_of s k.changing else 0 }
 
--- SetParent: nothing to do for the parent that the clock has; refused where the field is only read, where a prepared clock
--- keeps its
--- parent, where the clock is guarded in lifted, the state with one exclusive of the handle less, and where p is no candidate
+-- SetParent: nothing to do for the parent that the clock has; refused where the field is only read, where a prepared clock keeps
+-- its parent, where the clock is guarded in lifted, which is the state with one exclusive of the handle less, and where p is no
+-- candidate
 abbrev pub parent_set : State → State → ℕ → Sleeping → ℕ → ℕ → State × Turn
 parent_set s lifted driver what c p =
     pick (is_at p (link_in s.clocks c))

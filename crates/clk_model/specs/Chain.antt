@@ -63,8 +63,7 @@ outcome (k ∷ ks) w = set_one k (outcome ks w)
 
 -- ---- the chain
 
--- one clock of the chain and the rest of it, where more is the chain of a parent: none where a prepared clock would leave a
--- parent
+-- one clock of the chain and the rest of it, where more is the chain of a parent: none where a prepared clock would leave a parent
 -- that it has to keep, and the rest where the clock asks its parent for another rate than it has
 abbrev pub chain_from : (ℕ → ℕ → Option (List ChainStep)) → Wiring → View → ℕ → ℕ → Rounded → Option (List ChainStep)
 chain_from more w view c x r =

@@ -30,7 +30,7 @@ critical_clocks s = filter (λ c. is_critical s.defs c && registered s.clocks c)
 abbrev pub enable_holders : State → List ℕ
 enable_holders s = clocks_of is_enabled s.handles ++ critical_clocks s ++ s.enable_holds
 
--- the same with prepares
+-- the clocks of handles with a prepare, the registered critical clocks, and the clocks that the change in flight holds prepared
 abbrev pub prepare_holders : State → List ℕ
 prepare_holders s = clocks_of is_prepared s.handles ++ critical_clocks s ++ s.prepare_holds
 

@@ -95,7 +95,7 @@ abbrev pub AnswersByDelay : (ℕ → ℕ) → List ℕ → Event → Type 0
 AnswersByDelay delay asked (event.Step (micro.Poll y) (Some locked)) = locked ≡ nat_le (delay y.0) (count_by (λ z. z == y.0) asked + 1)
 AnswersByDelay delay asked _ = Unit {0}
 
--- the same of each entry, where these PLLs were polled since the last raise
+-- each poll among these entries asks for its PLL's delay, where these PLLs were polled since the last raise before them
 abbrev pub PolledFrom : (ℕ → ℕ) → List ℕ → List Entry → Type 0
 PolledFrom delay asked [] = Unit {0}
 PolledFrom delay asked (e ∷ es) = AnswersByDelay delay asked e.event × PolledFrom delay (asked_after asked e.event) es

@@ -8,6 +8,7 @@ pub mod Counts
 pub mod Fed
 pub mod Gates
 pub mod Round
+pub mod Wired
 pub mod Chain
 pub mod Walk
 pub mod Notices

@@ -1,12 +1,17 @@
 -- Words on lists of numbers that the definitions share.
-use Rattle.std.specs.Prelude.{ℕ, zero, suc, List, [], ◌∷◌, Bool, true, false, not, Option, Some, None, filter, if◌then◌else◌, ◌==◌}
+use Rattle.std.specs.Prelude.{ℕ, zero, suc, List, [], ◌∷◌, Bool, true, false, not, ◌&&◌, Option, Some, None, filter, if◌then◌else◌, ◌==◌}
 use Rattle.std.specs.List.{list_any}
 
 -- whether a number is in a list
 abbrev pub is_in : ℕ → List ℕ → Bool
 is_in x xs = list_any (λ y. y == x) xs
 
--- so many numbers from k on
+-- whether no number stands twice in the list
+abbrev pub none_twice : List ℕ → Bool
+none_twice [] = true
+none_twice (x ∷ xs) = not (is_in x xs) && none_twice xs
+
+-- the numbers from k on, as many as n says
 abbrev pub count_from : ℕ → ℕ → List ℕ
 count_from k zero = []
 count_from k (suc n) = k ∷ count_from (suc k) n

@@ -42,7 +42,7 @@ can_take going (c ∷ cs) = is_atomic c.act || is_none going
 abbrev pub can_move : Option ℕ → ℕ → Progress → Bool
 can_move going d p = is_at d going || can_take going (unskipped p.held p.left)
 
--- the same of the driver with this number
+-- whether the driver with this number can make an event
 abbrev pub driver_can_move : List Progress → Option ℕ → ℕ → Bool
 driver_can_move drivers going d = option_map_or (can_move going d) (slice_get drivers d) false
 

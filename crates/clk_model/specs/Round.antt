@@ -54,7 +54,7 @@ rate_in w c = rate w.defs w.regs w.clocks c
 abbrev pub parent_rate_in : Wiring → ℕ → ℕ
 parent_rate_in w c = option_map_or (rate_in w) (link_in w.clocks c) 0
 
--- this rate over the parent as it is
+-- a rounding that leaves the parent as it is and gives this rate
 abbrev pub over_parent : Wiring → ℕ → ℕ → Rounded
 over_parent w c r = record { rate = r; parent = link_in w.clocks c; parent_rate = parent_rate_in w c }
 
@@ -137,7 +137,7 @@ round_by ask w view c x =
       ]
     ]
 
--- the rate that a clock would get, within so many levels
+-- the rate that a clock would get for a request, over at most so many levels of parents
 abbrev pub rate_for : ℕ → Wiring → View → ℕ → ℕ → Option ℕ
 rate_for zero w view c x = None
 rate_for (suc levels) w view c x = option_map (λ r. r.rate) (round_by (rate_for levels w view) w view c x)
@@ -146,6 +146,6 @@ rate_for (suc levels) w view c x = option_map (λ r. r.rate) (round_by (rate_for
 unfoldable pub round : Wiring → View → ℕ → ℕ → Option Rounded
 round w view c x = round_by (rate_for depth w view) w view c x
 
--- the rate alone
+-- the rate that a clock would get for a request, without the parent that gives it
 abbrev pub round_rate : Wiring → View → ℕ → ℕ → Option ℕ
 round_rate w view c x = option_map (λ r. r.rate) (round w view c x)

@@ -1,5 +1,5 @@
 -- The state of the machine: plain data, a list of rows for each part.
-use Rattle.std.specs.Prelude.{ℕ, ℤ, List, Bool, Option, Some, None, true, false, slice_get, unwrap_or, option_map}
+use Rattle.std.specs.Prelude.{ℕ, ℤ, List, Bool, Option, Some, None, true, false, slice_get, slice_set, unwrap_or, option_map}
 use Rattle.clk_base.specs.declared.call.Sleeping.{Sleeping}
 use Rattle.clk_base.specs.declared.call.Micro.{Micro}
 use Rattle.clk_base.specs.declared.handle.Policy.{Policy}
@@ -83,6 +83,10 @@ unregistered_row = record { registered = false; link = None; last_request = 0 }
 -- the row of a clock
 abbrev pub row_of : List ClockRow → ℕ → ClockRow
 row_of clocks c = unwrap_or (slice_get clocks c) unregistered_row
+
+-- the rows with this rate as the last requested one of a clock
+abbrev pub requested : List ClockRow → ℕ → ℕ → List ClockRow
+requested clocks c rate = slice_set clocks c (record (row_of clocks c) { last_request = rate })
 
 -- whether the clock is registered
 abbrev pub registered : List ClockRow → ℕ → Bool

@@ -18,7 +18,7 @@ use Rattle.clk_model.specs.declared.row.HandleRow.{HandleRow}
 use Rattle.clk_model.specs.Lists.{is_in, without_one, without, to_front}
 use Rattle.clk_base.specs.Fields.{gate_of, power_of}
 use Rattle.clk_model.specs.Kinds.{mux_field, with_gate, with_power}
-use Rattle.clk_model.specs.State.{State, Change, row_of, link_in, handle_at}
+use Rattle.clk_model.specs.State.{State, Change, row_of, link_in, handle_at, requested}
 use Rattle.clk_model.specs.Tree.{path, path_to_be, children}
 use Rattle.clk_model.specs.Rate.{rate}
 use Rattle.clk_model.specs.Holders.{active}
@@ -33,7 +33,7 @@ use Rattle.clk_model.specs.Begin.{register, prepared_once_more, held_once_more, 
 abbrev pub todo : Change → List Micro
 todo k = k.front ++ k.left
 
--- steps without the first
+-- a list of steps without the first
 abbrev pub rest_of : List Micro → List Micro
 rest_of [] = []
 rest_of (m ∷ ms) = ms
@@ -57,7 +57,7 @@ powered s y up = record s { regs = option_map_or (λ power. with_power s.regs po
 
 -- ---- timing out
 
--- which step it is
+-- whether a step is the end, a visit, a registration or the settling of a last request
 abbrev pub is_end : Micro → Bool
 is_end micro.End = true
 is_end _ = false
@@ -173,7 +173,7 @@ abbrev pub hold_prepare : State → Change → ℕ → State
 hold_prepare s k x =
     on (record s { prepare_holds = x ∷ s.prepare_holds }) (record k { raised = without (path s.clocks x) k.raised })
 
--- HoldEnable: one enable hold more
+-- HoldEnable: the clock is held by an enable from now on
 abbrev pub hold_enable : State → Change → ℕ → State
 hold_enable s k x = on (record s { enable_holds = x ∷ s.enable_holds }) k
 
@@ -244,10 +244,6 @@ close s k c =
     on (record s { regs = if active s c then s.regs else option_map_or (λ gate. with_gate s.regs gate false) (gate_of (kind_of s.defs c)) s.regs }) k
 
 -- ---- the end
-
--- the last request of a clock
-abbrev pub requested : List ClockRow → ℕ → ℕ → List ClockRow
-requested clocks c x = slice_set clocks c (record (row_of clocks c) { last_request = x })
 
 -- what a call that went well leaves
 abbrev pub ended_well : State → ℕ → Sleeping → State

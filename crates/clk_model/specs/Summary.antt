@@ -30,7 +30,7 @@ abbrev pub columns : Word → Word → Word → Word → Word → Word → List 
 columns name enable prepare protect rate hw =
     left_in 32 name ++ right_in 8 enable ++ right_in 8 prepare ++ right_in 8 protect ++ right_in 21 rate ++ right_in 5 hw ++ codes "\n"
 
--- the first line
+-- the header: what stands in each column
 abbrev pub header : List ℕ
 header = columns (codes "clock") (codes "enable") (codes "prepare") (codes "protect") (codes "rate") (codes "hw")
 

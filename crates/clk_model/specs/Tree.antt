@@ -24,7 +24,7 @@ abbrev pub selected : Description → Registers → ℕ → Option ℕ
 selected defs regs c =
     option_map_or (λ f. slice_get (parents_of defs c) (field regs f.word f.shift f.width)) (mux_field (kind_of defs c)) (slice_get (parents_of defs c) 0)
 
--- a clock that is registered
+-- the clock, if it is registered
 abbrev pub if_registered : List ClockRow → ℕ → Option ℕ
 if_registered clocks p = if registered clocks p then Some p else None
 

@@ -32,7 +32,7 @@ abbrev pub below_within : (ℕ → List ℕ) → ℕ → ℕ → List ℕ
 below_within kids zero c = []
 below_within kids (suc levels) c = c ∷ flat_map (below_within kids levels) (kids c)
 
--- a clock and all that will be below it, from the top of the chain
+-- the walk: the top of the chain and all that will be below it, each clock before what is below it
 unfoldable pub walk : List ℕ → Wiring → List ChainStep → List ℕ
 walk order w ks = below_within (kids_after order w.clocks ks) depth (top_of ks)
 

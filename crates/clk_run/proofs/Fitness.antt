@@ -11,7 +11,8 @@ use Rattle.drv_scripts.specs.declared.bundle.Script.{Script}
 use Rattle.clk_run.specs.Scripts.{is_built_act}
 use Rattle.clk_run.specs.Runs.{are_built}
 use Rattle.clk_run.specs.Built.{unfit_line, unbuilt_command, unbuilt_commands, unbuilt_lines, unbuilt_line}
-use Rattle.clk_run.proofs.Going.{and_left, both}
+use Rattle.clk_model.proofs.Members.{both_left}
+use Rattle.std.proofs.lemmas.Bool.{and_from}
 
 nothing : {X : Type 0} (xs ys : List X) → xs ++ ys ≡ [] → xs ≡ []
 nothing [] ys e = refl
@@ -61,7 +62,7 @@ unfolding unbuilt_command
 commands_built defs [] e = refl
 commands_built defs (c ∷ commands) e =
     let none = option_nothing (unbuilt_command defs c) (filter_map (unbuilt_command defs) commands) e in
-    both (is_built_act defs c.act) _ (true_from_none (is_built_act defs c.act) c.line none.0) (commands_built defs commands none.1)
+    and_from (is_built_act defs c.act) _ (true_from_none (is_built_act defs c.act) c.line none.0) (commands_built defs commands none.1)
 
 drivers_built : (defs : Description) (drivers : List Script) → unbuilt_commands defs drivers ≡ [] → AllByRecursion (λ (s : Script). are_built defs s.commands ≡ true) drivers
 drivers_built defs [] e = tt
@@ -79,4 +80,4 @@ built_all b e =
 
 -- the possible parents of clocks that can be run are earlier clocks
 pub earlier_all : (defs : Description) → CanRun defs → EachClock defs (has_earlier_parents defs)
-earlier_all defs runs c lt = and_left (has_earlier_parents defs c) _ (and_left (has_earlier_parents defs c && not (is_critical defs c)) _ (runs c lt))
+earlier_all defs runs c lt = both_left (has_earlier_parents defs c) _ (both_left (has_earlier_parents defs c && not (is_critical defs c)) _ (runs c lt))

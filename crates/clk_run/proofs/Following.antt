@@ -12,49 +12,51 @@ use Rattle.clk_model.proofs.CallLaws.{own-append}
 use Rattle.clk_machine.specs.Run.{Run}
 use Rattle.clk_run.specs.Scripts.{is_answer, is_answered, GoesThrough}
 use Rattle.clk_run.specs.Runs.{FollowAll, are_among, TakeTurns}
-use Rattle.clk_run.proofs.Going.{and_left, and_right, both, list_all-append}
+use Rattle.clk_run.proofs.Going.{list_all-append}
+use Rattle.clk_model.proofs.Members.{both_left, both_right}
+use Rattle.std.proofs.lemmas.Bool.{and_from}
 
 -- ---- entries of one driver
 
 pub driver_of : (d : ℕ) (e : Entry) → is_answered d e ≡ true → e.driver ≡ d
 driver_of d e h =
-    let same = and_left (nat_eq e.driver d) (is_paid e.event) (and_left _ (is_answer e.turn) h) in
+    let same = both_left (nat_eq e.driver d) (is_paid e.event) (both_left _ (is_answer e.turn) h) in
     grind (arith, nat_tests)
 
 -- all are its own
 own_all : (d : ℕ) (es : List Entry) → list_all (is_answered d) es ≡ true → own es d ≡ es
 own_all d [] h = refl
 own_all d (e ∷ es) h =
-    let same = and_left (nat_eq e.driver d) (is_paid e.event) (and_left _ (is_answer e.turn) (and_left (is_answered d e) _ h)) in
-    rw same (ap (λ (xs : List Entry). e ∷ xs) (own_all d es (and_right _ _ h)))
+    let same = both_left (nat_eq e.driver d) (is_paid e.event) (both_left _ (is_answer e.turn) (both_left (is_answered d e) _ h)) in
+    rw same (ap (λ (xs : List Entry). e ∷ xs) (own_all d es (both_right _ _ h)))
 
 -- and none is another's
 own_none : (d n : ℕ) (es : List Entry) → n < d → list_all (is_answered d) es ≡ true → own es n ≡ []
 own_none d n [] less h = refl
 own_none d n (e ∷ es) less h =
-    let is = driver_of d e (and_left (is_answered d e) _ h) in
+    let is = driver_of d e (both_left (is_answered d e) _ h) in
     let other : nat_eq e.driver n ≡ false = grind (arith, nat_tests) in
-    rw other (own_none d n es less (and_right _ _ h))
+    rw other (own_none d n es less (both_right _ _ h))
 
 -- a driver that was not among those of a journal has no entry there
 own_before : (d : ℕ) (journal : List Entry) → are_among d journal ≡ true → own journal d ≡ []
 own_before d [] h = refl
 own_before d (e ∷ es) h =
-    let less = and_left (nat_lt e.driver d) _ h in
+    let less = both_left (nat_lt e.driver d) _ h in
     let other : nat_eq e.driver d ≡ false = grind (arith, nat_tests) in
-    rw other (own_before d es (and_right _ _ h))
+    rw other (own_before d es (both_right _ _ h))
 
 among_more : (d d' : ℕ) (journal : List Entry) → d ≤ d' → are_among d journal ≡ true → are_among d' journal ≡ true
 among_more d d' [] least h = refl
 among_more d d' (e ∷ es) least h =
-    let less = and_left (nat_lt e.driver d) _ h in
-    both (nat_lt e.driver d') _ (grind (arith, nat_tests)) (among_more d d' es least (and_right _ _ h))
+    let less = both_left (nat_lt e.driver d) _ h in
+    and_from (nat_lt e.driver d') _ (grind (arith, nat_tests)) (among_more d d' es least (both_right _ _ h))
 
 among_own : (d : ℕ) (es : List Entry) → list_all (is_answered d) es ≡ true → are_among (d + 1) es ≡ true
 among_own d [] h = refl
 among_own d (e ∷ es) h =
-    let is = driver_of d e (and_left (is_answered d e) _ h) in
-    both (nat_lt e.driver (d + 1)) _ (grind (arith, nat_tests)) (among_own d es (and_right _ _ h))
+    let is = driver_of d e (both_left (is_answered d e) _ h) in
+    and_from (nat_lt e.driver (d + 1)) _ (grind (arith, nat_tests)) (among_own d es (both_right _ _ h))
 
 -- ---- one turn more
 

@@ -1,5 +1,5 @@
 -- Going through commands: one after the other.
-use Rattle.std.proofs.Common.{◌≡◌, ℕ, zero, suc, ◌+◌, ◌<◌, ◌≤◌, ◌&&◌, ◌||◌, Bool, true, false, cond, List, [], ◌∷◌, ◌++◌, Option, Some, None, refl, sym, ap, subst, ◌∙◌, arith, length, take, get_or, add-zero, nat_lt, append_assoc, map, max}
+use Rattle.std.proofs.Common.{◌≡◌, ℕ, zero, suc, ◌+◌, ◌<◌, ◌≤◌, ◌||◌, Bool, true, false, cond, List, [], ◌∷◌, ◌++◌, Option, Some, None, refl, sym, ap, subst, ◌∙◌, arith, length, take, get_or, add-zero, nat_lt, append_assoc, map, max}
 use Rattle.std.proofs.lemmas.Bool.Decides.{nat_tests}
 use Rattle.std.specs.List.{AllByRecursion, list_all, list_any}
 use Rattle.std.proofs.lemmas.List.{append-nil, length-append, take_more}
@@ -26,6 +26,8 @@ use Rattle.clk_base.specs.Description.{Description, parents_of, EachClock}
 use Rattle.clk_machine.specs.Fit.{has_earlier_parents}
 use Rattle.drv_scripts.specs.Placed.{NamesPlace}
 use Rattle.clk_run.specs.Scripts.{is_built_act, is_answered, AreProbes, CanCall, GoesThrough}
+use Rattle.clk_model.proofs.Members.{both_left, both_right}
+use Rattle.std.proofs.lemmas.Bool.{and_from}
 
 -- ---- calls of entries
 
@@ -37,26 +39,15 @@ call_at-paid going (event.Running n) h = refl
 call_at-paid going (event.Begin what) h = refl
 call_at-paid going (event.Step m answer) h = absurd cc
 
-pub and_left : (a b : Bool) → (a && b) ≡ true → a ≡ true
-and_left true b h = refl
-and_left false b h = h
-
-pub and_right : (a b : Bool) → (a && b) ≡ true → b ≡ true
-and_right true b h = h
-and_right false b h = absurd cc
-
-pub both : (a b : Bool) → a ≡ true → b ≡ true → (a && b) ≡ true
-both a b p q = rw (p, q) refl
-
 answered_paid : (d : ℕ) (e : Entry) → is_answered d e ≡ true → is_paid e.event ≡ true
-answered_paid d e h = and_right _ _ (and_left _ _ h)
+answered_paid d e h = both_right _ _ (both_left _ _ h)
 
 -- what goes on before doesn't matter to entries that are all answered at once
 pub calls_from-going : (d : ℕ) (going : Option Event) (es : List Entry) → list_all (is_answered d) es ≡ true → calls_from going es ≡ calls_from None es
 calls_from-going d going [] own = refl
 calls_from-going d going (e ∷ es) own =
-    let paid = answered_paid d e (and_left _ _ own) in
-    let mine = and_right (is_answered d e) (list_all (is_answered d) es) own in
+    let paid = answered_paid d e (both_left _ _ own) in
+    let mine = both_right (is_answered d e) (list_all (is_answered d) es) own in
     ap (λ (o : Option Event). answer_at o e.turn ++ calls_from (last_begun going e.event) es) (call_at-paid going e.event paid ∙ sym (call_at-paid None e.event paid))
     ∙ ap (λ (ls : List Answered). answer_at (call_at None e.event) e.turn ++ ls)
     (calls_from-going d (last_begun going e.event) es mine ∙ sym (calls_from-going d (last_begun None e.event) es mine))
@@ -70,7 +61,7 @@ calls_from-append d going (x ∷ xs) ys own =
 
 pub list_all-append : {X : Type 0} (p : X → Bool) (xs ys : List X) → list_all p xs ≡ true → list_all p ys ≡ true → list_all p (xs ++ ys) ≡ true
 list_all-append p [] ys h k = k
-list_all-append p (x ∷ xs) ys h k = both (p x) (list_all p (xs ++ ys)) (and_left _ _ h) (list_all-append p xs ys (and_right (p x) (list_all p xs) h) k)
+list_all-append p (x ∷ xs) ys h k = and_from (p x) (list_all p (xs ++ ys)) (both_left _ _ h) (list_all-append p xs ys (both_right (p x) (list_all p xs) h) k)
 
 -- ---- going
 
@@ -129,8 +120,8 @@ cost-answered : (d : ℕ) (es : List Entry) → list_all (is_answered d) es ≡ 
 cost-answered d [] own = refl
 cost-answered d (e ∷ es) own =
     sum_by-append (λ f. cond (is_paid f.event) 1 0) (e ∷ []) es
-    ∙ ap (λ (b : Bool). (0 + cond b 1 0) + cost es) (answered_paid d e (and_left _ _ own))
-    ∙ ap (λ (n : ℕ). 1 + n) (cost-answered d es (and_right (is_answered d e) _ own)) ∙ (omega arith)
+    ∙ ap (λ (b : Bool). (0 + cond b 1 0) + cost es) (answered_paid d e (both_left _ _ own))
+    ∙ ap (λ (n : ℕ). 1 + n) (cost-answered d es (both_right (is_answered d e) _ own)) ∙ (omega arith)
 
 -- so the credits that are spent are at most one a command
 pub goes_cost : (old new : Run) (d : ℕ) (held held' : Variables) (commands : List Command) (answers : List Answer) → GoesThrough old d held commands answers held' new
@@ -190,8 +181,8 @@ element P (x ∷ xs) (suc i) d all within = element P xs i d all.1 (omega arith)
 
 pub element_true : {X : Type 0} (p : X → Bool) (xs : List X) (i : ℕ) (d : X) → list_all p xs ≡ true → i < length xs → p (get_or xs i d) ≡ true
 element_true p [] i d all within = absurd (omega arith)
-element_true p (x ∷ xs) zero d all within = and_left _ _ all
-element_true p (x ∷ xs) (suc i) d all within = element_true p xs i d (and_right (p x) _ all) (omega arith)
+element_true p (x ∷ xs) zero d all within = both_left _ _ all
+element_true p (x ∷ xs) (suc i) d all within = element_true p xs i d (both_right (p x) _ all) (omega arith)
 
 -- ---- boot
 
@@ -235,7 +226,7 @@ parents_probed run defs c same before within earlier =
     ap (λ (d : Description). list_all (was_probed run.journal) (parents_of d c)) same ∙ weaker (parents_of defs c) (before c within) where
       weaker : (ps : List ℕ) → list_all (λ p. nat_lt p c) ps ≡ true → list_all (was_probed run.journal) ps ≡ true
       weaker [] h = refl
-      weaker (p ∷ ps) h = both _ _ (earlier p (below p (and_left _ _ h))) (weaker ps (and_right _ _ h)) where
+      weaker (p ∷ ps) h = and_from _ _ (earlier p (below p (both_left _ _ h))) (weaker ps (both_right _ _ h)) where
         below : (p : ℕ) → nat_lt p c ≡ true → p < c
         below p h = grind (arith, nat_tests)
 

@@ -1,5 +1,5 @@
 -- Drivers that have their turns one after another stand in the order of one thread.
-use Rattle.std.proofs.Common.{◌≡◌, ℕ, zero, suc, ◌+◌, ◌-◌, ◌||◌, Bool, true, false, not, cond, nat_eq, List, [], ◌∷◌, ◌++◌, Option, Some, None, refl, sym, ap, subst, ◌∙◌, arith, length, map, append_assoc, slice_get}
+use Rattle.std.proofs.Common.{◌≡◌, ℕ, suc, ◌+◌, ◌-◌, ◌||◌, Bool, true, false, not, cond, nat_eq, List, [], ◌∷◌, ◌++◌, Option, Some, None, refl, sym, ap, subst, ◌∙◌, arith, length, map, append_assoc, slice_get}
 use Rattle.std.specs.Prelude.{slice_set, find, is_none}
 use Rattle.std.specs.List.{list_all}
 use Rattle.std.specs.Option.{option_map_or, option_map}
@@ -12,7 +12,7 @@ use Rattle.clk_base.specs.declared.event.Event.{Event}
 use Rattle.clk_base.specs.declared.event.Reply.{Reply}
 use Rattle.clk_base.specs.declared.event.Turn.{Turn}
 use Rattle.clk_base.specs.declared.event.Turn.TheVariants as turn
-use Rattle.clk_model.specs.Journal.{Answered, is_paid, own, call_at, answer_at, last_begun, calls_from}
+use Rattle.clk_model.specs.Journal.{Answered, is_paid, own, answer_at, last_begun, calls_from}
 use Rattle.clk_model.specs.Lists.{count_from}
 use Rattle.clk_model.specs.Follows.{Variables, no_handles, handle_of, call_of, held_after, NextFollows, FollowsFrom}
 use Rattle.clk_model.specs.Ordered.{
@@ -35,8 +35,10 @@ use Rattle.clk_model.specs.Ordered.{
 }
 use Rattle.clk_run.specs.Scripts.{is_answer, is_answered}
 use Rattle.clk_run.specs.Runs.{TakeTurns}
-use Rattle.clk_run.proofs.Going.{and_left, and_right, both, list_all-append, call_at-paid, calls_from-going}
+use Rattle.clk_run.proofs.Going.{list_all-append, call_at-paid, calls_from-going}
 use Rattle.clk_run.proofs.Following.{driver_of, none_earlier}
+use Rattle.clk_model.proofs.Members.{both_left, both_right}
+use Rattle.std.proofs.lemmas.Bool.{and_from}
 
 -- ---- places in lists
 
@@ -79,7 +81,7 @@ first_to_go front [] later p none goes =
     let at : length front ≡ length front + 0 = omega arith in
     ap (λ (b : Bool). cond b (Some (length front)) (find (driver_can_move (front ++ p ∷ later) None) (count_from (suc (length front)) (length later)))) here ∙ ap (λ (n : ℕ). Some n) at
 first_to_go front (s ∷ still) later p all goes =
-    let here = moves_there front (still ++ p ∷ later) s ∙ still_stays s (and_left (is_still s) _ all) in
+    let here = moves_there front (still ++ p ∷ later) s ∙ still_stays s (both_left (is_still s) _ all) in
     let whole : (front ++ s ∷ []) ++ (still ++ p ∷ later) ≡ front ++ (s ∷ (still ++ p ∷ later)) = append_assoc front (s ∷ []) (still ++ p ∷ later) in
     let long : length (front ++ s ∷ []) ≡ suc (length front) = length-append front (s ∷ []) ∙ omega arith in
     let sum : suc (length front) + length still ≡ length front + suc (length still) = omega arith in
@@ -87,7 +89,7 @@ first_to_go front (s ∷ still) later p all goes =
     cond b (Some (length front)) (find (driver_can_move (front ++ (s ∷ (still ++ p ∷ later))) None) (count_from (suc (length front)) (length (still ++ p ∷ later))))) here
     ∙ ap (λ (ps : List Progress). find (driver_can_move ps None) (count_from (suc (length front)) (length (still ++ p ∷ later)))) (sym whole)
     ∙ ap (λ (n : ℕ). find (driver_can_move ((front ++ s ∷ []) ++ (still ++ p ∷ later)) None) (count_from n (length (still ++ p ∷ later)))) (sym long)
-    ∙ first_to_go (front ++ s ∷ []) still later p (and_right (is_still s) _ all) goes ∙ ap (λ (n : ℕ). Some (n + length still)) long ∙ ap (λ (n : ℕ). Some n) sum
+    ∙ first_to_go (front ++ s ∷ []) still later p (both_right (is_still s) _ all) goes ∙ ap (λ (n : ℕ). Some (n + length still)) long ∙ ap (λ (n : ℕ). Some n) sum
 
 next_to_go : (boot : Progress) (still later : List Progress) (p : Progress) → list_all is_still still ≡ true → can_go p ≡ true
     → next_driver (boot ∷ (still ++ p ∷ later)) None [] ≡ Some (1 + length still, [])
@@ -111,15 +113,15 @@ reply_of (turn.Done r) h = (r, refl)
 
 replied : (d : ℕ) (e : Entry) (es : List Entry) → list_all (is_answered d) (e ∷ es) ≡ true → Replied e es
 replied d e es h =
-    let mine = and_left (is_answered d e) (list_all (is_answered d) es) h in
-    let paid = and_right _ (is_paid e.event) (and_left _ (is_answer e.turn) mine) in
-    let said = reply_of e.turn (and_right _ (is_answer e.turn) mine) in
+    let mine = both_left (is_answered d e) (list_all (is_answered d) es) h in
+    let paid = both_right _ (is_paid e.event) (both_left _ (is_answer e.turn) mine) in
+    let said = reply_of e.turn (both_right _ (is_answer e.turn) mine) in
     record {
       reply = said.0;
       turn_is = said.1;
       calls_are = ap (λ (o : Option Event). answer_at o e.turn ++ calls_from (last_begun None e.event) es) (call_at-paid None e.event paid)
           ∙ ap (λ (t : Turn). answer_at (Some e.event) t ++ calls_from (last_begun None e.event) es) said.1
-          ∙ ap (λ (ls : List Answered). (record { call = e.event; reply = said.0 }) ∷ ls) (calls_from-going d (last_begun None e.event) es (and_right (is_answered d e) _ h));
+          ∙ ap (λ (ls : List Answered). (record { call = e.event; reply = said.0 }) ∷ ls) (calls_from-going d (last_begun None e.event) es (both_right (is_answered d e) _ h));
     }
 
 -- what is left of a journal stands in order, where the driver that has its turn holds this and has these commands left
@@ -149,7 +151,7 @@ one_command boot still later held left c commands a answers entries rest all sam
     first (e ∷ es) mine follow =
         let said = replied (1 + length still) e es mine in
         let called = subst (λ (ls : List Answered). NextFollows (λ after ls2. FollowsFrom after commands ls2 answers) held c (Some event) ls a) said.calls_are follow in
-        let own = driver_of (1 + length still) e (and_left (is_answered (1 + length still) e) _ mine) in
+        let own = driver_of (1 + length still) e (both_left (is_answered (1 + length still) e) _ mine) in
         let now : Progress = record { held = held; left = left } in
         let behind : Progress = record { held = held_after held c c.act said.reply; left = commands } in
         let drivers = boot ∷ (still ++ now ∷ later) in
@@ -162,7 +164,7 @@ one_command boot still later held left c commands a answers entries rest all sam
         ∙ ap (λ (t : Turn). boot ∷ (still ++ progress_after now t ∷ later)) said.turn_is
         ∙ ap (λ (cs : List Command). boot ∷ (still ++ answered_first now cs said.reply ∷ later)) taken in
         let none : going_after None e ≡ None = ap (λ (t : Turn). going_after None (record { driver = e.driver; event = e.event; turn = t })) said.turn_is in
-        let others = again behind.held commands es refl (and_right (is_answered (1 + length still) e) _ mine) called.2 in
+        let others = again behind.held commands es refl (both_right (is_answered (1 + length still) e) _ mine) called.2 in
         subst (λ (o : Option (ℕ × List ℕ)). NextOrdered (λ left. OrderedFrom (drivers_after drivers e) (going_after None e) left (es ++ rest)) o e)
         (sym (next_to_go boot still later now all goes)) (
           own,
@@ -204,16 +206,16 @@ turns_ordered boot still (c ∷ scripts) (a ∷ answers) journal all turns =
     (λ p is.
     let one_more : 1 + length still + 1 ≡ 1 + length (still ++ p ∷ []) = omega (arith, length-append still (p ∷ [])) in
     subst (λ (ps : List Progress). OrderedFrom (boot ∷ ps) None [] turns.rest) (append_assoc still (p ∷ []) (map at_start scripts))
-    (turns_ordered boot (still ++ p ∷ []) scripts answers turns.rest (list_all-append is_still still (p ∷ []) all (both (is_still p) true is refl))
+    (turns_ordered boot (still ++ p ∷ []) scripts answers turns.rest (list_all-append is_still still (p ∷ []) all (and_from (is_still p) true is refl))
     (subst (λ (n : ℕ). TakeTurns n scripts answers turns.rest) one_more turns.later))))
 
 -- boot's entries are passed over
 boot_passed : (es rest : List Entry) → list_all (is_answered 0) es ≡ true → after_boot (es ++ rest) ≡ after_boot rest
 boot_passed [] rest h = refl
 boot_passed (e ∷ es) rest h =
-    let is = driver_of 0 e (and_left (is_answered 0 e) _ h) in
+    let is = driver_of 0 e (both_left (is_answered 0 e) _ h) in
     let boots : nat_eq e.driver 0 ≡ true = grind (arith, nat_tests) in
-    ap (λ (b : Bool). cond b (after_boot (es ++ rest)) (e ∷ (es ++ rest))) boots ∙ boot_passed es rest (and_right (is_answered 0 e) _ h)
+    ap (λ (b : Bool). cond b (after_boot (es ++ rest)) (e ∷ (es ++ rest))) boots ∙ boot_passed es rest (both_right (is_answered 0 e) _ h)
 
 -- and where boot has none, no entry is
 none_passed : (journal : List Entry) → own journal 0 ≡ [] → after_boot journal ≡ journal

@@ -19,6 +19,7 @@ use Rattle.clk_cli.specs.declared.cli.Mode.TheVariants.{Check, Sim, Run, Bench}
 use Rattle.clk_run.specs.Runs.{credits_of, drivers_in, IsReady}
 use Rattle.drv_scripts.proofs.Verdicts.{drivers_are, boot_is, order_is}
 use Rattle.clk_run.proofs.Going.{length-boot_of}
+use Rattle.clk_model.specs.Begin.{most_credits}
 
 -- ---- few drivers
 
@@ -57,7 +58,7 @@ sum_few clocks (s ∷ []) few all = let most = all.0.few in omega arith
 sum_few clocks (s ∷ t ∷ drivers) few all = absurd (omega arith)
 
 -- its commands are few enough for the credits
-pub few_credits : (b : Bundle) → IsReady b → credits_of b ≤ 4194304
+pub few_credits : (b : Bundle) → IsReady b → credits_of b ≤ most_credits
 few_credits b is =
     let clocks = length-valid b.desc.words b.desc.defs is.sound.valid in
     let boot = ap (λ (cs : List Command). length cs) is.boot ∙ length-boot_of (length b.desc.defs) in

@@ -1,13 +1,11 @@
 -- The text of a run: driver after driver.
-use Rattle.std.proofs.Common.{◌≡◌, ℕ, suc, ◌+◌, ◌<◌, List, [], ◌∷◌, ◌++◌, refl, sym, ap, ◌∙◌, arith, length, map, drop, get_or}
+use Rattle.std.proofs.Common.{◌≡◌, ℕ, ◌+◌, ◌<◌, List, [], ◌∷◌, ◌++◌, sym, ap, ◌∙◌, arith, length, map, drop, get_or}
 use Rattle.std.proofs.lemmas.List.{drop_more}
 use Rattle.clk_base.specs.Description.{Description}
 use Rattle.clk_base.specs.declared.command.Answer.{Answer}
-use Rattle.clk_base.specs.declared.command.Command.{Command}
-use Rattle.clk_base.specs.declared.event.Entry.{Entry}
 use Rattle.clk_model.specs.Text.{answers_text}
 use Rattle.drv_scripts.specs.declared.bundle.Script.{Script}
-use Rattle.clk_run.specs.Runs.{FollowAll, scripts_text}
+use Rattle.clk_run.specs.Runs.{scripts_text}
 
 -- the answers of the drivers from a place on are those of the driver there, and the rest
 pub texts_at : (defs : Description) (drivers : List Script) (answers : List (List Answer)) (i : ℕ) (s : Script) (own : List Answer) → i < length drivers → i < length answers

@@ -1,5 +1,5 @@
 -- What a core has gone through when it has run the commands of a driver.
-use Rattle.std.specs.Prelude.{◌≡◌, ℕ, ◌+◌, ◌≤◌, ◌==◌, ◌&&◌, not, List, [], ◌∷◌, ◌++◌, Bool, true, false, Option, Some, None, length}
+use Rattle.std.specs.Prelude.{◌≡◌, ℕ, ◌+◌, ◌≤◌, ◌==◌, ◌&&◌, List, [], ◌∷◌, ◌++◌, Bool, true, false, Option, Some, None, length}
 use Rattle.std.specs.List.{list_all}
 use Rattle.clk_base.specs.Description.{Description, parents_of}
 use Rattle.clk_base.specs.declared.command.Act.{Act}
@@ -8,6 +8,7 @@ use Rattle.clk_base.specs.declared.command.Answer.{Answer}
 use Rattle.clk_base.specs.declared.command.Command.{Command}
 use Rattle.clk_base.specs.declared.event.Entry.{Entry}
 use Rattle.clk_base.specs.declared.event.Event.{Event}
+use Rattle.clk_base.specs.declared.event.Event.TheVariants as event
 use Rattle.clk_base.specs.declared.event.Reply.{Reply}
 use Rattle.clk_base.specs.declared.event.Turn.{Turn}
 use Rattle.clk_base.specs.declared.event.Turn.TheVariants as turn
@@ -17,20 +18,23 @@ use Rattle.clk_model.specs.Journal.{Answered, is_paid, calls_from, Legal}
 use Rattle.clk_model.specs.Follows.{Variables, call_of, FollowsFrom}
 use Rattle.clk_machine.specs.Fit.{has_pll}
 use Rattle.clk_machine.specs.Run.{Run, was_probed, Appends}
+use Rattle.clk_machine.specs.Built.{is_built}
+use Rattle.std.specs.Option.{option_map_or}
 
--- the commands of drivers that can be run so far, where the description has a PLL or has none: a prepare may raise a PLL, which
--- takes a call that goes on
+-- the call that a command makes where its variable lets it: a get with no handle, and another with this one
+abbrev pub made_by : Handle → Act → Option Event
+made_by h (act.Get found) = call_of None (act.Get found)
+made_by h a = call_of (Some h) a
+
+-- whether an event can be made so far, where there is a PLL or none; a clock is probed by boot alone
+abbrev pub is_built_event : Bool → Event → Bool
+is_built_event pll (event.Begin what) = is_built pll (λ c. false) what
+is_built_event pll (event.Step m answer) = false
+is_built_event pll _ = true
+
+-- whether a driver's command can be run so far, where there is a PLL or none: its call can be made, whatever its handle
 abbrev pub is_built_beside : Bool → Act → Bool
-is_built_beside pll (act.Get found) = true
-is_built_beside pll act.Put = true
-is_built_beside pll act.Prepare = not pll
-is_built_beside pll act.Unprepare = true
-is_built_beside pll act.Enable = true
-is_built_beside pll act.Disable = true
-is_built_beside pll act.Running = true
-is_built_beside pll act.GetRate = true
-is_built_beside pll act.GetParent = true
-is_built_beside pll _ = false
+is_built_beside pll a = option_map_or (is_built_event pll) (made_by (record { number = 0; slot = 0; driver = 0 }) a) false
 
 -- those that can be run over the clocks of a description
 abbrev pub is_built_act : Description → Act → Bool

@@ -7,7 +7,7 @@ ghost use Rattle.clk_base.specs.declared.event.Turn.TheVariants.{Done};
 ghost use Rattle.clk_base.specs.declared.command.Act.TheVariants.{Probe};
 ghost use Rattle.clk_model.specs.Follows.{handle_of, with_variable, held_after};
 ghost use Rattle.clk_machine.specs.Sound.{IsPlaced};
-ghost use Rattle.clk_machine.specs.Run.{is_built, was_probed, Appends};
+ghost use Rattle.clk_machine.specs.Run.{can_make, was_probed, Appends};
 ghost use Rattle.drv_scripts.specs.Placed.{NamesPlace};
 ghost use Rattle.clk_run.specs.Scripts.{CanCall, MakesCall, GoesThrough};
 
@@ -24,7 +24,7 @@ fn begin_at_once<B: Bank>(
 ) -> Result<Reply, NoMemory>
     requires credit { cost core.old.journal < core.old.start.credits }
     requires place { IsPlaced core.old.start.defs what.now }
-    requires built { is_built core.old what.now ≡ true }
+    requires built { can_make core.old what.now ≡ true }
     ensures ok { IfOk result (λ reply. Appends core.old driver (Begin what.now) (Done reply) core.new) }
     ensures err { OnErr result (core.new ≡ core.old) }
 {

@@ -2,6 +2,7 @@
 
 ghost use Rattle.std.specs.Prelude.{◌≡◌, ◌≤◌, is_some, IfOk, IfErr};
 ghost use Rattle.clk_io.specs.Counts.{CountsPrintFault};
+ghost use Rattle.clk_model.specs.Begin.{most_credits};
 ghost use Rattle.clk_run.specs.Runs.{credits_of, drivers_in, IsReady, Printed, LeftByFault};
 
 use crate::printing::print_run;
@@ -16,7 +17,7 @@ use std::alloc::Global;
 
 // One credit for each command.
 fn credits_of(bundle: &Bundle) -> u32
-    requires { credits_of bundle.now ≤ 4194304 }
+    requires { credits_of bundle.now ≤ most_credits }
     ensures { result ≡ credits_of bundle.now }
 {
     let mut credits = bundle.boot.as_slice().len();

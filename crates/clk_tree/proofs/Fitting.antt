@@ -6,7 +6,7 @@ use Rattle.clk_base.specs.declared.clock.ClockId.{ClockId}
 use Rattle.clk_base.specs.Description.{Description}
 use Rattle.reg_bank.specs.Registers.{Registers}
 use Rattle.clk_model.specs.declared.row.ClockRow.{ClockRow}
-use Rattle.clk_model.specs.State.{row_of, registered, link_in}
+use Rattle.clk_model.specs.State.{row_of, registered, link_in, requested}
 use Rattle.clk_model.specs.Tree.{link_given}
 use Rattle.clk_model.specs.Rate.{rate}
 use Rattle.clk_model.specs.Chain.{clock_id}
@@ -14,7 +14,7 @@ use Rattle.clk_model.specs.Begin.{registered_row, registered_rows}
 use Rattle.clk_model.proofs.Members.{same_from_test, test_other}
 use Rattle.clk_model.proofs.RateLaws.{rate-links}
 use Rattle.clk_model.proofs.StateLaws.{row_of-set_same, row_of-set_other}
-use Rattle.clk_tree.specs.TreeState.{attached, requested}
+use Rattle.clk_tree.specs.TreeState.{attached}
 
 by_place : (link : Option ClockId) → option_map clock_id (option_map (λ p. p.0) link) ≡ link
 by_place None = refl

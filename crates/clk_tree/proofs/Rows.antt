@@ -7,11 +7,12 @@ use Rattle.clk_base.specs.declared.clock.ClockId.{ClockId}
 use Rattle.clk_base.specs.Description.{Description, parents_of}
 use Rattle.clk_model.specs.declared.row.ClockRow.{ClockRow}
 use Rattle.clk_model.specs.Lists.{is_in, to_front}
-use Rattle.clk_model.specs.State.{row_of, registered, link_in, unregistered_row}
+use Rattle.clk_model.specs.State.{row_of, registered, link_in, unregistered_row, requested}
 use Rattle.clk_model.proofs.Members.{same_from_test, test_other}
 use Rattle.clk_model.proofs.StateLaws.{row_of-set_same, row_of-set_other}
-use Rattle.clk_tree.specs.TreeState.{IsTree, IsHeld, attached, requested}
-use Rattle.clk_tree.proofs.Ordering.{is_in-to_front, apart-to_front, few-apart}
+use Rattle.clk_tree.specs.TreeState.{IsTree, IsHeld, attached}
+use Rattle.clk_model.proofs.OnceLaws.{is_in-to_front, once-to_front, few_once}
+use Rattle.std.proofs.Math.Bool.{or-true}
 
 -- a registered clock has a row
 pub registered-lt : (clocks : List ClockRow) (c : ℕ) → registered clocks c ≡ true → c < length clocks
@@ -40,8 +41,7 @@ tree_made defs rates most rated fits = record {
     linked = λ c p e. none c p e;
     links = λ c p e. none c p e;
     possible = λ c p e. none c p e;
-    attached = λ c. sym (ap (λ (r : ClockRow). r.registered) (row_of-blank (length defs) c));
-    once = tt;
+    order_lists = record { once = refl; listed = λ c. sym (ap (λ (r : ClockRow). r.registered) (row_of-blank (length defs) c)) };
   };
   room = fits;
 } where
@@ -52,10 +52,6 @@ tree_made defs rates most rated fits = record {
   none c p e = unlinked p _ (ap (λ (r : ClockRow). option_map (λ q. q.0) r.link) (row_of-blank (length defs) c)) e
 
 -- ---- a row that is written
-
-or_true : (b : Bool) → (b || true) ≡ true
-or_true true = refl
-or_true false = refl
 
 -- a row of a registered clock registers it and no other
 pub registered-set : (clocks : List ClockRow) (c : ℕ) (row : ClockRow) (k : ℕ) → c < length clocks → row.registered ≡ true
@@ -72,7 +68,7 @@ registered-set clocks c row k within there =
 pub registered-more : (clocks : List ClockRow) (c : ℕ) (row : ClockRow) (k : ℕ) → c < length clocks → row.registered ≡ true → registered clocks k ≡ true
     → registered (slice_set clocks c row) k ≡ true
 registered-more clocks c row k within there was =
-    registered-set clocks c row k within there ∙ ap (λ (b : Bool). nat_eq c k || b) was ∙ or_true (nat_eq c k)
+    registered-set clocks c row k within there ∙ ap (λ (b : Bool). nat_eq c k || b) was ∙ or-true (nat_eq c k)
 
 -- a link is that of the row, or was there
 pub link-set : (clocks : List ClockRow) (c : ℕ) (row : ClockRow) (k p : ℕ) → c < length clocks → link_in (slice_set clocks c row) k ≡ Some p
@@ -120,25 +116,27 @@ tree_attached defs clocks order rates c parent tree place there can =
         | inl own ↦ ap (λ (n : ℕ). is_in p (parents_of defs n)) (sym own.0) ∙ link_has (λ q. is_in q (parents_of defs c)) parent p can own.1
         | inr was ↦ tree.possible k p was
       ];
-      attached = λ k. is_in-to_front k c order ∙ ap (λ (b : Bool). nat_eq c k || b) (tree.attached k) ∙ sym (registered-set clocks c row k within refl);
-      once = apart-to_front c order tree.once;
+      order_lists = record {
+        once = once-to_front c order tree.order_lists.once;
+        listed = λ k. is_in-to_front k c order ∙ ap (λ (b : Bool). nat_eq c k || b) (tree.order_lists.listed k) ∙ sym (registered-set clocks c row k within refl);
+      };
     }
 
 -- the order of a tree has at most as many clocks as the description
 pub order-few : (defs : Description) (clocks : List ClockRow) (order rates : List ℕ) → IsTree defs clocks order rates → length order ≤ length defs
 order-few defs clocks order rates tree =
-    few-apart order (length defs) tree.once
-    (λ q m. let below : q < length clocks = registered-lt clocks q (sym (tree.attached q) ∙ m) in let len = tree.rows in omega arith)
+    few_once order (length defs) tree.order_lists.once
+    (λ q m. let below : q < length clocks = registered-lt clocks q (sym (tree.order_lists.listed q) ∙ m) in let len = tree.rows in omega arith)
 
 -- a clock that is attached has room in front
 pub room_in_front : (defs : Description) (clocks : List ClockRow) (order rates : List ℕ) (most c : ℕ) → IsHeld defs clocks order rates most → c < length defs
     → length (to_front c order) ≤ most
 room_in_front defs clocks order rates most c held place =
     let few : length (to_front c order) ≤ length defs =
-    few-apart (to_front c order) (length defs) (apart-to_front c order held.tree.once)
+    few_once (to_front c order) (length defs) (once-to_front c order held.tree.order_lists.once)
     (λ q m. elim (first (nat_eq c q) (is_in q order) (sym (is_in-to_front q c order) ∙ m)) [
       | inl same ↦ let is : c ≡ q = same_from_test c q same in omega arith
-      | inr was ↦ let below : q < length clocks = registered-lt clocks q (sym (held.tree.attached q) ∙ was) in let len = held.tree.rows in omega arith
+      | inr was ↦ let below : q < length clocks = registered-lt clocks q (sym (held.tree.order_lists.listed q) ∙ was) in let len = held.tree.rows in omega arith
     ]) in
     let fits = held.room in
     omega arith where
@@ -183,8 +181,7 @@ tree_requested defs clocks order rates c rate tree place =
       linked = λ k p e. registered-requested clocks c rate k within ∙ tree.linked k p (sym (link-requested clocks c rate k within) ∙ e);
       links = λ k p e. registered-requested clocks c rate p within ∙ tree.links k p (sym (link-requested clocks c rate k within) ∙ e);
       possible = λ k p e. tree.possible k p (sym (link-requested clocks c rate k within) ∙ e);
-      attached = λ k. tree.attached k ∙ sym (registered-requested clocks c rate k within);
-      once = tree.once;
+      order_lists = record { once = tree.order_lists.once; listed = λ k. tree.order_lists.listed k ∙ sym (registered-requested clocks c rate k within) };
     }
 
 -- ---- the fields of a tree

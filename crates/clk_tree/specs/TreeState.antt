@@ -1,10 +1,10 @@
 -- What a tree says, and what every tree keeps.
-use Rattle.std.specs.Prelude.{◌≡◌, ℕ, ◌≤◌, List, [], ◌∷◌, true, false, Option, Some, length, slice_set}
+use Rattle.std.specs.Prelude.{◌≡◌, ℕ, ◌≤◌, List, true, Option, Some, length, slice_set}
 use Rattle.clk_base.specs.declared.clock.ClockId.{ClockId}
-use Rattle.clk_base.specs.Description.{Description, parents_of}
+use Rattle.clk_base.specs.Description.{Description}
 use Rattle.clk_model.specs.declared.row.ClockRow.{ClockRow}
-use Rattle.clk_model.specs.Lists.{is_in}
 use Rattle.clk_model.specs.State.{row_of, registered, link_in}
+use Rattle.clk_model.specs.Wired.{LinksArePossible, ListsRegistered}
 
 -- a tree: its description, the rows of the clocks, the registered clocks with the newest attached first, and the kept rates
 pub record TreeState : Type 0 where
@@ -12,11 +12,6 @@ pub record TreeState : Type 0 where
   pub clocks : List ClockRow
   pub order : List ℕ
   pub rates : List ℕ
-
--- no number stands twice in the list
-abbrev pub AreApart : List ℕ → Type 0
-AreApart [] = Unit {0}
-AreApart (x ∷ xs) = (is_in x xs ≡ false) × AreApart xs
 
 -- what every tree keeps
 pub record IsTree (defs : Description) (clocks : List ClockRow) (order rates : List ℕ) : Type 0 where
@@ -26,10 +21,9 @@ pub record IsTree (defs : Description) (clocks : List ClockRow) (order rates : L
   -- a clock with a link is registered, and its link is registered and one of its possible parents
   pub linked : (c p : ℕ) → link_in clocks c ≡ Some p → registered clocks c ≡ true
   pub links : (c p : ℕ) → link_in clocks c ≡ Some p → registered clocks p ≡ true
-  pub possible : (c p : ℕ) → link_in clocks c ≡ Some p → is_in p (parents_of defs c) ≡ true
-  -- the order has exactly the registered clocks, each once
-  pub attached : (c : ℕ) → is_in c order ≡ registered clocks c
-  pub once : AreApart order
+  pub possible : LinksArePossible defs clocks
+  -- the order of attaching lists the registered clocks and no other, each once
+  pub order_lists : ListsRegistered order clocks
 
 -- what the fields of a tree keep: beside that, the order has room for every clock
 pub record IsHeld (defs : Description) (clocks : List ClockRow) (order rates : List ℕ) (most : ℕ) : Type 0 where
@@ -39,7 +33,3 @@ pub record IsHeld (defs : Description) (clocks : List ClockRow) (order rates : L
 -- the rows with a clock registered and linked to this parent, or to none
 abbrev pub attached : List ClockRow → ℕ → Option ClockId → List ClockRow
 attached clocks c parent = slice_set clocks c (record (row_of clocks c) { registered = true; link = parent })
-
--- the rows with this rate as the last requested one of a clock
-abbrev pub requested : List ClockRow → ℕ → ℕ → List ClockRow
-requested clocks c rate = slice_set clocks c (record (row_of clocks c) { last_request = rate })

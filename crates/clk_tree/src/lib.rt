@@ -21,6 +21,3 @@ pub use plan::Plan;
 pub use tree::Tree;
 pub use view::View;
 pub use walk_rates::{WalkRate, WalkRates};
-
-#[cfg(test)]
-mod tests;

@@ -52,7 +52,8 @@ impl Model for Tree {
 }
 
 impl Tree {
-    ghost use Rattle.clk_tree.specs.TreeState.{IsTree, attached, requested};
+    ghost use Rattle.clk_tree.specs.TreeState.{IsTree, attached};
+    ghost use Rattle.clk_model.specs.State.{requested};
 
     /// A tree in which no clock is registered and every kept rate is 0.
     pub fn create(alloc: Global, desc: &ValidDesc) -> Result<Tree, NoMemory>

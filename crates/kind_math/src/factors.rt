@@ -1,7 +1,7 @@
 ghost use Rattle.std.specs.Prelude.{◌≡◌, ◌<◌};
 ghost use Rattle.kind_math.specs.Rates as rates;
 
-// The rate, or the greatest 64-bit number where it is above it.
+/// The rate, or the greatest 64-bit number where it is above it.
 pub(crate) fn capped(rate: u128) -> u64
     ensures { result ≡ rates.capped rate }
 {

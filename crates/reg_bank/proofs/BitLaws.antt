@@ -19,7 +19,7 @@ digit_test true = refl
 digit_test false = refl
 
 -- two numbers below 2 with the same test are equal
-same_tested : (a b : ℕ) → a < 2 → b < 2 → nat_eq a 1 ≡ nat_eq b 1 → a ≡ b
+pub same_tested : (a b : ℕ) → a < 2 → b < 2 → nat_eq a 1 ≡ nat_eq b 1 → a ≡ b
 same_tested a b small small' same = grind (arith, nat_tests)
 
 -- a put leaves the number of words

@@ -2,5 +2,6 @@
 pub mod NumberLaws
 pub mod FieldLaws
 pub mod BitLaws
+pub mod LowWords
 mod Masks
 mod Told

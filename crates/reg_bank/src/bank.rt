@@ -1,5 +1,6 @@
 ghost use Rattle.std.specs.Prelude.{◌≡◌, ◌≢◌, ℕ, ◌<◌, Option, List, length, slice_index, slice_set, IfSome, is_some};
 ghost use Rattle.std.specs.Option.{option_map};
+ghost use Rattle.reg_bank.specs.Registers.{AreWords};
 ghost use Rattle.reg_bank.specs.Locks.{most_plls, armed, started, polled, is_locked};
 ghost use Rattle.reg_bank.specs.declared.pll_lock.PllLock.{PllLock};
 
@@ -63,4 +64,7 @@ pub trait Bank: Drop {
 
     // The words that are told are as many as the bank has.
     ghost sized: { (bank : Self) → IfSome (contents bank) (λ words. length words ≡ size bank) };
+
+    // Each of them is a word of 32 bits.
+    ghost whole: { (bank : Self) → IfSome (contents bank) AreWords };
 }

@@ -4,7 +4,7 @@ ghost use Rattle.reg_bank.specs.Registers.{is_set, put_bit, bits_of, with_bits};
 
 use crate::bank::Bank;
 
-// Whether a bit of this word is 1.
+/// Whether a bit of this word is 1.
 pub(crate) fn has_bit(value: u32, bit: u32) -> bool
     requires { bit < 32 }
     ensures { result ≡ (bits_of value bit 1 == 1) }
@@ -12,7 +12,7 @@ pub(crate) fn has_bit(value: u32, bit: u32) -> bool
     value >> bit & 1 == 1
 }
 
-// The word with this bit 1 or 0.
+/// The word with this bit 1 or 0.
 pub(crate) fn with_bit(value: u32, bit: u32, set: bool) -> u32
     requires { bit < 32 }
     ensures { result ≡ with_bits value bit 1 (if set then 1 else 0) }

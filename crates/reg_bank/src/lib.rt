@@ -19,6 +19,3 @@ pub use fields::{read_field, write_field};
 pub use mem_bank::{MEM_BANK_WORDS, MemBank};
 pub use pll_lock::PllLock;
 pub use taken_bits::TakenBits;
-
-#[cfg(test)]
-mod tests;

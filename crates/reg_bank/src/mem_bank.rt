@@ -51,12 +51,12 @@ impl MemBank {
 }
 
 impl Bank for MemBank {
-    ghost use Rattle.std.specs.Prelude.{length, Some, refl};
-    ghost use Rattle.reg_bank.specs.Memory.{lock_at};
+    ghost use Rattle.std.specs.Prelude.{length, Some};
+    ghost use Rattle.reg_bank.specs.Memory.{lock_at, low_words, AreWords-low_words, length-low_words};
 
     ghost size = { λ bank. length bank.words };
 
-    ghost contents = { λ bank. Some bank.words };
+    ghost contents = { λ bank. Some (low_words bank.words) };
 
     ghost lock = { λ bank pll. Some (lock_at bank pll) };
 
@@ -101,5 +101,7 @@ impl Bank for MemBank {
         lock.delay <= polls
     }
 
-    ghost sized = { λ _. refl };
+    ghost sized = { λ bank. length-low_words bank.words };
+
+    ghost whole = { λ bank. AreWords-low_words bank.words };
 }

@@ -9,8 +9,7 @@ use std::marker::Model;
 
 /// Which bits of a bank are taken: to contracts, words in which a taken bit is 1.
 ///
-/// Whoever goes over many fields finds the first two that share a bit by taking the bits of each,
-/// in time linear in the number of bits.
+/// Whoever goes over many fields finds the first two that share a bit by taking the bits of each.
 #[derive(Drop)]
 pub struct TakenBits {
     cells: Vec<u32>,

@@ -12,7 +12,7 @@ use clk_io::NoMemory;
 use reg_bank::TakenBits;
 use std::alloc::Global;
 
-// The first clock of which a field shares a bit with another field of it or of an earlier clock.
+/// The first clock of which a field shares a bit with another field of it or of an earlier clock.
 pub(super) fn first_overlap(
     alloc: Global,
     defs: &[ClockDef],

@@ -8,7 +8,7 @@ ghost use Rattle.clk_base.specs.Valid.{keeps_bank};
 
 use crate::clock::{ClockDef, ClockId, Kind};
 
-// The first clock with a field outside of a bank of so many words.
+/// The first clock with a field outside of a bank of so many words.
 pub(super) fn first_outside(defs: &[ClockDef], words: u32) -> Option<ClockId>
     requires { length defs.now < 2 ^ 32 }
     ensures { FindsFirst defs.now (keeps_bank words defs.now) result }

@@ -10,7 +10,7 @@ const MOST_CLOCKS: usize = 4096;
 
 const MOST_PARENTS: usize = 64;
 
-// The first clock behind the greatest number of clocks, or with too many possible parents.
+/// The first clock behind the greatest number of clocks, or with too many possible parents.
 pub(super) fn first_uncounted(defs: &[ClockDef]) -> Option<ClockId>
     requires { length defs.now < 2 ^ 32 }
     ensures { (words : ℕ) → FindsFirst defs.now (keeps_counts words defs.now) result }

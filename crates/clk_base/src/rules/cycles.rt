@@ -11,8 +11,8 @@ use crate::clock::{ClockDef, ClockId};
 use clk_io::NoMemory;
 use std::alloc::Global;
 
-// The first clock among its own possible ancestors. It is looked for at the clocks alone whose lines
-// of possible parents don't end.
+/// The first clock among its own possible ancestors. It is looked for at the clocks alone whose lines
+/// of possible parents don't end.
 pub(super) fn first_own_ancestor(
     alloc: Global,
     defs: &[ClockDef],

@@ -18,8 +18,8 @@ pub fn depth() -> u32
     64
 }
 
-// For each clock, whether every line of possible parents that begins at it has at most as many
-// clocks as a line may have.
+/// For each clock, whether every line of possible parents that begins at it has at most as many
+/// clocks as a line may have.
 pub(super) fn lines_end(alloc: Global, defs: &[ClockDef]) -> Result<Vec<bool>, NoMemory>
     requires { EachClock defs.now (has_its_parents defs.now) }
     ensures { IfOk result (λ ends. TellsEnds defs.now most_levels ends.items) }
@@ -57,7 +57,7 @@ fn all_end(above: &[bool], parents: &[ClockId]) -> bool
     true
 }
 
-// The first clock from which a line of possible parents is too long.
+/// The first clock from which a line of possible parents is too long.
 pub(super) fn first_endless(ends: &[bool]) -> Option<ClockId>
     requires { length ends.now < 2 ^ 32 }
     ensures { (words : ℕ) (defs : Description) → TellsEnds defs most_levels ends.now → FindsFirst defs (keeps_levels words defs) result }

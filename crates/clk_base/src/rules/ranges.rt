@@ -12,7 +12,7 @@ const MOST_POWER_OF_TWO_BITS: u32 = 5;
 
 const MOST_BITS: u32 = 16;
 
-// The first clock with a parameter out of its range.
+/// The first clock with a parameter out of its range.
 pub(super) fn first_out_of_range(defs: &[ClockDef]) -> Option<ClockId>
     requires { length defs.now < 2 ^ 32 }
     ensures { (words : ℕ) → FindsFirst defs.now (keeps_ranges words defs.now) result }

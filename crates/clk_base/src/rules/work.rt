@@ -20,7 +20,7 @@ const MOST_WORK: u64 = 1_048_576;
 // More work than this isn't told apart.
 const TOO_MUCH: u64 = MOST_WORK + 1;
 
-// The first clock with too much work.
+/// The first clock with too much work.
 pub(super) fn first_too_much(alloc: Global, defs: &[ClockDef]) -> Result<Option<ClockId>, NoMemory>
     requires fits { length defs.now < 2 ^ 32 }
     requires parents { EachClock defs.now (has_its_parents defs.now) }

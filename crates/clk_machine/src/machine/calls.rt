@@ -1,9 +1,10 @@
-//! Getting a handle, preparing it, putting it back, and what is told of its clock.
+//! The calls that are answered at once: getting a handle and putting it back, preparing it and giving
+//! the prepare up, and what is told of its clock.
 
 ghost use Rattle.std.specs.Prelude.{◌≡◌, ◌+◌, ◌<◌, true, false, length, IfOk, OnOk, OnErr, Some, None};
 ghost use Rattle.std.specs.Option.{ForSome, option_map};
 ghost use Rattle.clk_base.specs.declared.event.Event.TheVariants.{Begin};
-ghost use Rattle.clk_base.specs.declared.call.Sleeping.TheVariants.{Get, Put, Prepare, GetRate, GetParent};
+ghost use Rattle.clk_base.specs.declared.call.Sleeping.TheVariants.{Get, Put, Prepare, Unprepare, GetRate, GetParent};
 ghost use Rattle.clk_model.specs.State.{registered, link_in, handle_at};
 ghost use Rattle.clk_model.specs.Tree.{rooted};
 ghost use Rattle.clk_model.specs.Rate.{rate};
@@ -13,7 +14,7 @@ ghost use Rattle.clk_machine.specs.Fit.{has_pll};
 ghost use Rattle.clk_machine.specs.Held.{Takes};
 
 use super::Machine;
-use crate::handles::holds_something;
+use crate::handles::{holds_something, keeps_prepare};
 use clk_base::{ClockId, Errno, Handle, Reply};
 use clk_io::NoMemory;
 use clk_model::HandleRow;
@@ -119,7 +120,28 @@ impl<B: Bank> Machine<B> {
         Reply::Fine
     }
 
-    // The kept rate of a registered clock in Hz.
+    /// Takes a prepare from a handle. Where there is a PLL, no handle has one.
+    pub(crate) fn unprepare(&mut self, driver: u32, handle: Handle) -> Reply
+        requires { self.old.state.spent < self.old.state.credits }
+        ensures { Takes self.old driver (Begin (Unprepare handle)) result self.new }
+    {
+        let Some(row) = self.own(driver, handle.number) else {
+            self.spend();
+            return Reply::Refused(Errno::ENOENT);
+        };
+        if keeps_prepare(row) {
+            self.spend();
+            return Reply::Warn;
+        }
+        let unprepared = HandleRow {
+            prepares: row.prepares - 1,
+            ..row
+        };
+        self.put_row(handle.number, row, unprepared);
+        Reply::Fine
+    }
+
+    /// The kept rate of a registered clock in Hz.
     pub(super) fn rate_of(&self, clock: ClockId) -> u64
         requires { registered self.now.state.clocks clock.0 ≡ true }
         ensures { self.now.told ≡ true → result ≡ rate self.now.state.defs self.now.state.regs self.now.state.clocks clock.0 }

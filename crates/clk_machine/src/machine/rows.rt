@@ -29,6 +29,7 @@ impl<B: Bank> Machine<B> {
     fn protect_count(&self) -> u32
         ensures { (c : ℕ) → c < length self.now.state.defs → result ≡ protect_count self.now.state c }
     {
+        // what every machine keeps says it, and reading a part of the machine brings that in
         let _ = &self.window;
         0
     }

@@ -40,6 +40,7 @@ impl<B: Bank> Machine<B> {
         ensures tells { result ≡ is_quiet self.now.state.change }
         ensures none { result ≡ true }
     {
+        // what every machine keeps says it, and reading a part of the machine brings that in
         let _ = &self.window;
         true
     }

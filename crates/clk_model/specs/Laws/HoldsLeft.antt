@@ -18,8 +18,7 @@ use Rattle.clk_model.specs.Round.{wiring}
 use Rattle.clk_model.specs.Machine.{next}
 use Rattle.clk_model.specs.Journal.{replay, Legal, opening}
 use Rattle.clk_model.specs.Laws.Flight.{Flight}
-use Rattle.clk_model.specs.Laws.Plans.{IsWired}
-use Rattle.clk_model.specs.Laws.Walks.{IsOrder}
+use Rattle.clk_model.specs.Wired.{IsWired, IsOrder}
 
 -- no change holds a clock prepared or enabled
 pub record HoldsNothing (s : State) : Type 0 where

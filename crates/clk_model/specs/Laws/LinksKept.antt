@@ -16,8 +16,7 @@ use Rattle.clk_model.specs.Step.{todo}
 use Rattle.clk_model.specs.Machine.{next}
 use Rattle.clk_model.specs.Journal.{replay, opening}
 use Rattle.clk_model.specs.Round.{wiring}
-use Rattle.clk_model.specs.Laws.Plans.{LinesEnd, LinksArePossible, IsWired}
-use Rattle.clk_model.specs.Laws.Walks.{IsOrder}
+use Rattle.clk_model.specs.Wired.{LinesEnd, LinksArePossible, IsWired, IsOrder}
 
 -- whether the parent that a step links, if it links one, is a possible parent
 abbrev pub links_possible : Description → Micro → Bool

@@ -18,8 +18,8 @@ use Rattle.clk_model.specs.Begin.{most_credits}
 use Rattle.clk_model.specs.Step.{is_end, todo, to_raise, to_lower, aborts_of}
 use Rattle.clk_model.specs.Machine.{is_poll, next}
 use Rattle.clk_model.specs.Laws.Weight.{weight_left}
-use Rattle.clk_model.specs.Laws.Plans.{LinksArePossible}
 use Rattle.clk_model.specs.Tier.{is_enable_tier}
+use Rattle.clk_model.specs.Wired.{LinksArePossible}
 
 -- the weight that is left of the change in flight, 0 where there is none
 abbrev pub left_of : State → ℕ

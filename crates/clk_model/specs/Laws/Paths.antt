@@ -9,14 +9,14 @@ use Rattle.clk_base.specs.Levels.{depth, reaches_within}
 use Rattle.clk_base.specs.Valid.{IsValid}
 use Rattle.reg_bank.specs.Registers.{Registers, field}
 use Rattle.clk_model.specs.declared.row.ClockRow.{ClockRow}
-use Rattle.clk_model.specs.Lists.{is_in}
+use Rattle.clk_model.specs.Lists.{is_in, none_twice}
 use Rattle.clk_model.specs.Kinds.{is_fixed}
 use Rattle.clk_model.specs.State.{State, registered, link_in}
 use Rattle.clk_model.specs.Tree.{path_within, path, path_to_be, rooted}
 use Rattle.clk_model.specs.Rate.{rate_over, rate}
 use Rattle.clk_model.specs.Chain.{linked}
 use Rattle.clk_model.specs.Begin.{register}
-use Rattle.clk_model.specs.Laws.Plans.{none_twice, LinesEnd, LinksArePossible}
+use Rattle.clk_model.specs.Wired.{LinesEnd, LinksArePossible}
 
 -- ---- where a path ends
 

@@ -1,31 +1,17 @@
 -- What a planned chain is, and what comes out of it: the law of plans.
-use Rattle.std.specs.Prelude.{◌≡◌, ◌≢◌, ◌⊎◌, ℕ, ◌+◌, ◌<◌, ◌≤◌, List, [], ◌∷◌, Bool, true, false, not, ◌&&◌, Some, None, map, slice_get, option_map, IfSome, length}
+use Rattle.std.specs.Prelude.{◌≡◌, ◌≢◌, ◌⊎◌, ℕ, ◌+◌, ◌<◌, ◌≤◌, List, [], ◌∷◌, true, false, Some, None, map, slice_get, option_map, IfSome, length}
 use Rattle.std.specs.List.{AllByRecursion}
 use Rattle.clk_base.specs.Description.{Description, kind_of, parents_of}
 use Rattle.clk_base.specs.Fields.{Field, GateBit, PowerBit, field_of, fields_of, gate_of, power_of}
-use Rattle.clk_base.specs.Levels.{depth, ends_within}
 use Rattle.clk_base.specs.Valid.{IsValid}
 use Rattle.reg_bank.specs.Registers.{field}
-use Rattle.clk_model.specs.declared.row.ClockRow.{ClockRow}
-use Rattle.clk_model.specs.Lists.{is_in}
+use Rattle.clk_model.specs.Lists.{is_in, none_twice}
 use Rattle.clk_model.specs.Fed.{feeds}
 use Rattle.clk_model.specs.Kinds.{is_open, is_powered}
 use Rattle.clk_model.specs.State.{ChainStep, row_of, link_in}
 use Rattle.clk_model.specs.Round.{Wiring, View, rate_in}
 use Rattle.clk_model.specs.Chain.{clock_id, moves, chain, outcome}
-
--- whether no number stands twice in the list
-abbrev pub none_twice : List ℕ → Bool
-none_twice [] = true
-none_twice (x ∷ xs) = not (is_in x xs) && none_twice xs
-
--- each line of possible parents ends
-abbrev pub LinesEnd : Description → Type 0
-LinesEnd defs = (c : ℕ) → ends_within (parents_of defs) depth c ≡ true
-
--- each link leads to a possible parent
-abbrev pub LinksArePossible : Description → List ClockRow → Type 0
-LinksArePossible defs clocks = (c p : ℕ) → link_in clocks c ≡ Some p → is_in p (parents_of defs c) ≡ true
+use Rattle.clk_model.specs.Wired.{LinesEnd, LinksArePossible, IsWired}
 
 -- the clocks of a chain, from the bottom to the top
 abbrev pub clocks_in : List ChainStep → List ℕ
@@ -100,12 +86,6 @@ pub record LeavesFields (ks : List ChainStep) (w v : Wiring) : Type 0 where
 abbrev pub OutcomesKeep : Type 0
 OutcomesKeep = (words : ℕ) (w : Wiring) (c : ℕ) (ks : List ChainStep) → IsValid words w.defs → LeadsFrom w c ks
     → DiffersIn ks w (outcome ks w) × LeavesFields ks w (outcome ks w)
-
--- a tree with a row for each clock, whose links lead to possible parents of a valid description
-pub record IsWired (words : ℕ) (w : Wiring) : Type 0 where
-  pub valid : IsValid words w.defs
-  pub rows : length w.clocks ≡ length w.defs
-  pub links : LinksArePossible w.defs w.clocks
 
 -- each clock that a chain moves is fed by its planned parent in the outcome
 abbrev pub MovedAreFed : Type 0

@@ -1,4 +1,4 @@
--- What the prepare tier's part of a state tells: all but gates, enables and what counts entries.
+-- What the prepare tier's part of a state tells.
 use Rattle.std.specs.Prelude.{◌≡◌, ℕ, length, Some, None, option_map, slice_get}
 use Rattle.clk_base.specs.Description.{kind_of}
 use Rattle.clk_base.specs.Fields.{Field, gate_of, fields_of}

@@ -10,8 +10,8 @@ use Rattle.clk_model.specs.State.{State, Change}
 use Rattle.clk_model.specs.Begin.{most_credits}
 use Rattle.clk_model.specs.Machine.{next}
 use Rattle.clk_model.specs.Journal.{replay, Legal, opening}
-use Rattle.clk_model.specs.Laws.Plans.{LinksArePossible}
 use Rattle.clk_model.specs.Laws.Paced.{IsPaced, left_of}
+use Rattle.clk_model.specs.Wired.{LinksArePossible}
 
 -- a change in flight is paced, and has room for the entries that it may still come to
 pub record GoesOn (s : State) (k : Change) : Type 0 where

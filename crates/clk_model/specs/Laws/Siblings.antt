@@ -3,18 +3,13 @@ use Rattle.std.specs.Prelude.{◌≡◌, ◌≢◌, ◌⊎◌, ◌↔◌, ℕ, �
 use Rattle.clk_base.specs.Description.{Description, kind_of}
 use Rattle.clk_base.specs.Valid.{IsValid}
 use Rattle.clk_model.specs.declared.row.ClockRow.{ClockRow}
-use Rattle.clk_model.specs.Lists.{is_in, without}
+use Rattle.clk_model.specs.Lists.{is_in, without, none_twice}
 use Rattle.clk_model.specs.Kinds.{is_fixed}
 use Rattle.clk_model.specs.State.{State, Change, registered, link_in}
 use Rattle.clk_model.specs.Tree.{link_given, children, roots, orphans}
 use Rattle.clk_model.specs.Begin.{register}
 use Rattle.clk_model.specs.Step.{relink}
-use Rattle.clk_model.specs.Laws.Plans.{none_twice, LinksArePossible}
-
--- the order of attaching lists the registered clocks and no other, each once
-pub record ListsRegistered (order : List ℕ) (clocks : List ClockRow) : Type 0 where
-  pub once : none_twice order ≡ true
-  pub listed : (c : ℕ) → is_in c order ≡ registered clocks c
+use Rattle.clk_model.specs.Wired.{LinksArePossible, ListsRegistered}
 
 -- a clock is a root, an orphan or a child, no two of these at once, and a child of one clock
 pub record HasOnePlace (defs : Description) (order : List ℕ) (clocks : List ClockRow) (c : ℕ) : Type 0 where

@@ -13,8 +13,8 @@ use Rattle.clk_model.specs.Gates.{settled}
 use Rattle.clk_model.specs.Fed.{feeds, Fed}
 use Rattle.clk_model.specs.Journal.{opening}
 use Rattle.clk_model.specs.Machine.{next}
-use Rattle.clk_model.specs.Laws.Plans.{LinksArePossible}
 use Rattle.clk_model.specs.Tier.{is_enable_tier}
+use Rattle.clk_model.specs.Wired.{LinksArePossible}
 
 -- the gates of the clocks that are active in one state are open in the registers of another
 abbrev pub GatesOpen : State → State → Type 0

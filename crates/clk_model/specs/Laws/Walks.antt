@@ -1,18 +1,13 @@
 -- What the walk of a plan lists, and what the clocks are whose rate it changes: the law of walks.
 use Rattle.std.specs.Prelude.{◌≡◌, ◌↔◌, ℕ, List, Bool, true, Some, slice_get}
-use Rattle.clk_model.specs.declared.row.ClockRow.{ClockRow}
-use Rattle.clk_model.specs.Lists.{is_in}
-use Rattle.clk_model.specs.State.{ChainStep, link_in}
+use Rattle.clk_model.specs.Lists.{is_in, none_twice}
+use Rattle.clk_model.specs.State.{ChainStep}
 use Rattle.clk_model.specs.Tree.{path}
 use Rattle.clk_model.specs.Round.{Wiring}
 use Rattle.clk_model.specs.Chain.{outcome}
 use Rattle.clk_model.specs.Walk.{top_of, walk, differs, changing}
-use Rattle.clk_model.specs.Laws.Plans.{none_twice, LeadsFrom, IsWired}
-
--- the order of attaching lists each clock that has a link, and none twice
-pub record IsOrder (order : List ℕ) (clocks : List ClockRow) : Type 0 where
-  pub once : none_twice order ≡ true
-  pub linked : (c p : ℕ) → link_in clocks c ≡ Some p → is_in c order ≡ true
+use Rattle.clk_model.specs.Laws.Plans.{LeadsFrom}
+use Rattle.clk_model.specs.Wired.{IsWired, IsOrder}
 
 -- whether a clock will be at the top of the chain or below it: its path after the plan meets the top
 abbrev pub will_be_below : Wiring → List ChainStep → ℕ → Bool

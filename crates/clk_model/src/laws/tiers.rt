@@ -27,9 +27,8 @@ pub fn enable_tier_never_waits()
         IsTrue (is_enable_tier e) ⊎ (IsTrue (is_step e) × (driver ≡ k.driver)) }
 {}
 
-/// The prepare tier's part tells all of a state but gates, the enables of handles, enable holds and what
-/// counts entries: where it is the same, links, last requests, prepares, ranges, exclusive holds,
-/// notifiers, rates and every field that isn't a gate are the same.
+/// Where the prepare tier's part of two states is the same, over a valid description, so are links, last
+/// requests, prepares, ranges, exclusive holds, notifiers, rates and every field that isn't a gate.
 pub fn prep_tells()
     ensures law { PrepTells }
 {}

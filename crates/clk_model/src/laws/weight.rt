@@ -24,8 +24,9 @@ pub fn enable_tier_keeps_paced()
     ensures law { EnableTierKeepsPaced }
 {}
 
-/// Runs end: behind each journal a change in flight is paced and has room for the entries that it may still come to, and no
-/// legal journal has more than 4,194,304 entries.
+/// Runs end: from an opening with a valid description and at most 4,194,304 credits, behind each journal a change in flight is
+/// paced and has room for the entries that it may still come to, and no legal journal has more than 4,194,304 entries, however
+/// few its credits are.
 pub fn runs_end()
     ensures events { EventsLeaveRoom }
     ensures room { RunsHaveRoom }

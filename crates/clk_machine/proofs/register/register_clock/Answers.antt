@@ -3,11 +3,11 @@ use Rattle.std.specs.Prelude.{IfSome, slice_index}
 use Rattle.std.specs.Option.{option_map}
 use Rattle.clk_base.specs.Description.{Description, parents_of}
 use Rattle.clk_model.specs.declared.row.ClockRow.{ClockRow}
-use Rattle.clk_model.specs.State.{registered}
+use Rattle.clk_model.specs.State.{registered, requested}
 use Rattle.clk_model.specs.Rate.{rate}
 use Rattle.clk_model.specs.Tree.{selected}
 use Rattle.clk_model.specs.Begin.{registered_rows}
-use Rattle.clk_tree.specs.TreeState.{attached, requested}
+use Rattle.clk_tree.specs.TreeState.{attached}
 use Rattle.clk_machine.specs.Held.{AreKept}
 use Rattle.clk_machine.proofs.Registering.{parent_there, kept_registered, rows_registered, registered-registered, row_within}
 use Rattle.clk_machine.proofs.register.register_clock.Goals as goal

@@ -22,12 +22,13 @@ use Rattle.clk_run.proofs.Following.{turns_many}
 use Rattle.clk_run.proofs.Readiness.{few_credits, drivers_keep, drivers_few, commands_few}
 use Rattle.clk_run.proofs.Leaving.{text_of, bank_back, same_behind, left_by}
 use Rattle.clk_run.proofs.run_bundle.run_bundle.Goals as goal
+use Rattle.clk_model.specs.Begin.{most_credits}
 
 pub credits_of-credits-requires : goal.credits_of-credits-requires
 credits_of-credits-requires g c = few_credits c.args.bundle.now c.requires.ready
 
 pub create-requires-clause-credits : goal.create-requires-clause-credits
-create-requires-clause-credits g c = subst (λ (n : ℕ). n ≤ 4194304) (sym c.credits_of-credits.ensures) (few_credits c.args.bundle.now c.requires.ready)
+create-requires-clause-credits g c = subst (λ (n : ℕ). n ≤ most_credits) (sym c.credits_of-credits.ensures) (few_credits c.args.bundle.now c.requires.ready)
 
 pub run_scripts-requires : goal.run_scripts-requires
 run_scripts-requires g c =
