@@ -59,3 +59,4 @@ pub mod GatesFollowLaws
 pub mod MovedLaws
 pub mod HoldsLeftLaws
 pub mod PrepToldLaws
+pub mod AboveLaws
