@@ -60,3 +60,7 @@ pub mod MovedLaws
 pub mod HoldsLeftLaws
 pub mod PrepToldLaws
 pub mod AboveLaws
+pub mod Scenes
+pub mod SoundLaws
+pub mod BlockLaws
+pub mod KeepLaws
