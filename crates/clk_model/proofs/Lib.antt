@@ -64,3 +64,5 @@ pub mod Scenes
 pub mod SoundLaws
 pub mod BlockLaws
 pub mod KeepLaws
+pub mod SceneStepLaws
+pub mod ArriveLaws
