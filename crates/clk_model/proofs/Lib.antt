@@ -66,3 +66,7 @@ pub mod BlockLaws
 pub mod KeepLaws
 pub mod SceneStepLaws
 pub mod ArriveLaws
+pub mod StandLaws
+pub mod RaiseLaws
+pub mod FlightSafeLaws
+pub mod RestLaws

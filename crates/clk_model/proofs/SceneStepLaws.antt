@@ -46,7 +46,7 @@ use Rattle.clk_model.proofs.KeepLaws.{Keeps, keeps_same, keeps_lowered, keeps_cl
 -- ---- rows
 
 -- a row that is registered as before leaves who is registered
-registered_set : (clocks : List ClockRow) (c : ℕ) (row : ClockRow) (d : ℕ) → row.registered ≡ registered clocks c → registered (slice_set clocks c row) d ≡ registered clocks d
+pub registered_set : (clocks : List ClockRow) (c : ℕ) (row : ClockRow) (d : ℕ) → row.registered ≡ registered clocks c → registered (slice_set clocks c row) d ≡ registered clocks d
 registered_set clocks c row d same = by_clock (same_or_not c d) where
   by_clock : (c ≡ d) ⊎ (c ≡ d → ⊥) → registered (slice_set clocks c row) d ≡ registered clocks d
   by_clock (inr other) = ap (λ (r : ClockRow). r.registered) (row_of-set_other clocks c row d other)
@@ -165,7 +165,7 @@ lands_settled s late k cs = record {
   keeps = keeps_same s;
 }
 
-lands_same : (s : State) (late : Option ℕ) (k : Change) → Lands s late (on s k) (scene late s)
+pub lands_same : (s : State) (late : Option ℕ) (k : Change) → Lands s late (on s k) (scene late s)
 lands_same s late k = record { defs = refl; handles = refl; scene_is = refl; keeps = keeps_same s }
 
 -- ---- PLLs
@@ -175,7 +175,7 @@ pub unprepared_idle : (s : State) (cs : List ℕ) (y : ℕ) → is_in y (unprepa
 unprepared_idle s cs y m =
     turned_off (prepared s y) (both_right (is_pll (kind_of s.defs y)) (not (prepared s y)) (filter_passes (λ c. is_pll (kind_of s.defs c) && not (prepared s c)) y cs m))
 
-lands_lowered : (s : State) (late : Option ℕ) (k : Change) (x : ℕ) → IsValid (length s.regs) s.defs → Lands s late (lower s k x) (scene late s)
+pub lands_lowered : (s : State) (late : Option ℕ) (k : Change) (x : ℕ) → IsValid (length s.regs) s.defs → Lands s late (lower s k x) (scene late s)
 lands_lowered s late k x valid = one (slice_get (to_lower s x) 0) refl where
   one : (o : Option ℕ) → slice_get (to_lower s x) 0 ≡ o → Lands s late (option_map_or (lower_one s k x) o (on s (record k { again = 0 }))) (scene late s)
   one None at = lands_same s late (record k { again = 0 })
