@@ -170,14 +170,14 @@ plain_goes s t k answer m cover late safe plain serves goes powers behind event 
 -- ---- which step comes next
 
 -- with something in front, its first step comes next, and the script stays
-front_step : (k : Change) (m n : Micro) (ns : List Micro) → k.front ≡ n ∷ ns → comes_next m (todo k) ≡ true → (m ≡ n) × ((taken k).front ≡ ns) × ((taken k).left ≡ k.left)
+pub front_step : (k : Change) (m n : Micro) (ns : List Micro) → k.front ≡ n ∷ ns → comes_next m (todo k) ≡ true → (m ≡ n) × ((taken k).front ≡ ns) × ((taken k).left ≡ k.left)
 front_step k m n ns front first =
     let at = comes_first m (todo k) first in
     let both : m ∷ at.0 ≡ n ∷ (ns ++ k.left) = sym at.1 ∙ ap (λ (ms : List Micro). ms ++ k.left) front in
     (head_same m n at.0 (ns ++ k.left) both, ap rest_of front, ap (λ (ms : List Micro). left_behind ms k.left) front)
 
 -- with nothing in front, that of the script does
-script_step : (k : Change) (m : Micro) → k.front ≡ [] → comes_next m (todo k) ≡ true → (k.left ≡ m ∷ (taken k).left) × ((taken k).front ≡ [])
+pub script_step : (k : Change) (m : Micro) → k.front ≡ [] → comes_next m (todo k) ≡ true → (k.left ≡ m ∷ (taken k).left) × ((taken k).front ≡ [])
 script_step k m empty first =
     let at = comes_first m (todo k) first in
     let left : k.left ≡ m ∷ at.0 = sym (ap (λ (ms : List Micro). ms ++ k.left) empty) ∙ at.1 in

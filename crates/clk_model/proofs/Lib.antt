@@ -70,3 +70,4 @@ pub mod StandLaws
 pub mod RaiseLaws
 pub mod FlightSafeLaws
 pub mod RestLaws
+pub mod EndSafeLaws
