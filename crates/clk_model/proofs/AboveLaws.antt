@@ -6,9 +6,10 @@ use Rattle.clk_base.specs.Levels.{depth}
 use Rattle.clk_model.specs.Lists.{is_in}
 use Rattle.clk_model.specs.Kinds.{is_fixed}
 use Rattle.clk_model.specs.Tree.{path_within}
-use Rattle.clk_model.specs.Laws.Plans.{LinesEnd}
+use Rattle.clk_model.specs.Wired.{LinesEnd}
 use Rattle.clk_model.proofs.Members.{any_in, any_from_in, test_same, same_from_test}
-use Rattle.clk_model.proofs.BelowLaws.{Rises, IsUp, in_append, is_in-append, rises_far, few_steps, path_rises, rises_path, rises_above}
+use Rattle.clk_model.proofs.OnceLaws.{in_append, is_in-append}
+use Rattle.clk_model.proofs.BelowLaws.{Rises, IsUp, rises_far, few_steps, path_rises, rises_path, rises_above}
 use Rattle.clk_model.proofs.PlanLaws.{not_above_parent}
 use Rattle.clk_model.proofs.WholePathLaws.{same_or_not}
 

@@ -22,15 +22,15 @@ use Rattle.clk_model.specs.Gates.{settled}
 use Rattle.clk_model.specs.Round.{wiring}
 use Rattle.clk_model.specs.Step.{to_raise}
 use Rattle.clk_model.specs.Script.{unprepared_plls}
-use Rattle.clk_model.specs.Laws.Plans.{IsWired}
+use Rattle.clk_model.specs.Wired.{IsWired}
 use Rattle.clk_model.specs.Laws.Supplied.{GatesOpen, IsFeeder, IsReady, Supplies, IsSupplied}
 use Rattle.clk_model.proofs.Members.{or_cases, is_in_head, is_in_tail, is_in_cases, none_in}
-use Rattle.clk_model.proofs.BelowLaws.{is_in-append, in_append}
+use Rattle.clk_model.proofs.OnceLaws.{is_in-append, in_append}
 use Rattle.clk_model.proofs.GateLaws.{length-gates_moved}
 use Rattle.clk_model.proofs.SupplyLaws.{selected_same, settled_is_supplied}
 use Rattle.clk_model.proofs.PowerLaws.{settled_muxes}
 use Rattle.clk_model.proofs.WalkLaws.{filter_keeps}
-use Rattle.clk_model.proofs.LinkScripts.{and_true}
+use Rattle.std.proofs.lemmas.Bool.{and_from}
 use Rattle.clk_model.proofs.AboveLaws.{Above, Holder, holder_of, held_from, holder_above, holder_cases, held_up}
 use Rattle.clk_model.proofs.Scenes.{Scene, scene, keepers, preparers, prepared_in, fed_by, to_be, IsSound, IsSafe, EnablesPrepared, PowersOn, RaisedWell}
 use Rattle.clk_model.proofs.SceneStepLaws.{Lands, reselected}
@@ -254,7 +254,7 @@ covered_powered s k x c powers raised none m =
         empty_has_none c (to_raise s k x) none
         (filter_keeps (λ y. not (is_in y k.raised)) c (unprepared_plls s (path_to_be s.defs s.regs s.clocks x)) (ap not out)
         (filter_keeps (λ y. is_pll (kind_of s.defs y) && not (prepared s y)) c (path_to_be s.defs s.regs s.clocks x)
-        (and_true (is_pll (kind_of s.defs c)) (not (prepared s c)) (power_is_pll (kind_of s.defs c) power at) (ap not idle)) m))
+        (and_from (is_pll (kind_of s.defs c)) (not (prepared s c)) (power_is_pll (kind_of s.defs c) power at) (ap not idle)) m))
 
     by_prepared : (t : Bool) → prepared s c ≡ t → (u : Bool) → is_in c k.raised ≡ u → (power : PowerBit) → power_of (kind_of s.defs c) ≡ Some power
         → IfSome (power_of (kind_of s.defs c)) (λ p. is_powered s.regs p ≡ true)

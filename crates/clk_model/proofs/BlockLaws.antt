@@ -13,7 +13,7 @@ use Rattle.clk_model.specs.Kinds.{mux_field}
 use Rattle.clk_model.specs.Tree.{path_within}
 use Rattle.clk_model.specs.Chain.{clock_id, place_of}
 use Rattle.clk_model.specs.Step.{passed_over, cut_short}
-use Rattle.clk_model.specs.Laws.Plans.{LinesEnd}
+use Rattle.clk_model.specs.Wired.{LinesEnd}
 use Rattle.clk_model.proofs.Members.{is_in_head, is_in_tail, test_same}
 use Rattle.clk_model.proofs.BelowLaws.{IsUp}
 use Rattle.clk_model.proofs.AboveLaws.{put_at, put_same, differs, Above, above_here, above_link, above_path, not_above_link, Holder, holder_of, held_from, holder_above, MayLink, may_still, above_before, holder_clock, clock_held_before, held_before, held_up}

@@ -14,16 +14,16 @@ use Rattle.clk_base.specs.Fields.{power_of}
 use Rattle.clk_model.specs.declared.row.HandleRow.{HandleRow}
 use Rattle.clk_model.specs.Lists.{is_in}
 use Rattle.clk_model.specs.Kinds.{is_powered}
-use Rattle.clk_model.specs.State.{State, Change, registered, handle_at}
+use Rattle.clk_model.specs.State.{State, Change, registered, handle_at, requested}
 use Rattle.clk_model.specs.Tree.{path, path_to_be, link_given}
 use Rattle.clk_model.specs.Holders.{prepared}
 use Rattle.clk_model.specs.Gates.{settled}
 use Rattle.clk_model.specs.Round.{wiring}
 use Rattle.clk_model.specs.Chain.{clock_id}
 use Rattle.clk_model.specs.Begin.{put_handle, prepared_once_more, held_once_more, request_between}
-use Rattle.clk_model.specs.Step.{todo, taken, requested, ended_well, with_range, range_back, unranged, end_of, stepped}
+use Rattle.clk_model.specs.Step.{todo, taken, ended_well, with_range, range_back, unranged, end_of, stepped}
 use Rattle.clk_model.specs.Machine.{comes_next}
-use Rattle.clk_model.specs.Laws.Plans.{IsWired}
+use Rattle.clk_model.specs.Wired.{IsWired}
 use Rattle.clk_model.proofs.Members.{both_left, not_either}
 use Rattle.clk_model.proofs.FlightLaws.{IsStep}
 use Rattle.clk_model.proofs.VetoLaws.{ends_it, end_state}

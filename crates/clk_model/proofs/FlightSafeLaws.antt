@@ -25,10 +25,10 @@ use Rattle.clk_model.specs.Notices.{notifiers_of, post_list}
 use Rattle.clk_model.specs.Begin.{register}
 use Rattle.clk_model.specs.Step.{todo, rest_of, left_behind, taken, on, cut_short, to_raise, raise, poll, is_yes, fall, lower, set_in_chain, visit, stepped}
 use Rattle.clk_model.specs.Machine.{comes_next}
-use Rattle.clk_model.specs.Laws.Plans.{IsWired}
+use Rattle.clk_model.specs.Wired.{IsWired}
 use Rattle.clk_model.proofs.Members.{is_in_head, is_in_tail}
 use Rattle.clk_model.proofs.MicroLaws.{comes_first}
-use Rattle.clk_model.proofs.LinkScripts.{and_true}
+use Rattle.std.proofs.lemmas.Bool.{and_from}
 use Rattle.clk_model.proofs.FlightLaws.{IsStep}
 use Rattle.clk_model.proofs.Members.{both_left, both_right}
 use Rattle.clk_model.proofs.Scenes.{Scene, scene, prepared_in, to_be, IsSound, IsFree, IsCovered, EndsPrepare, after, is_plain, Serves, Grows, GoesWell, raises, makes, ends, IsSafe, RaisedWell, RaisingFront, raised, asks, asks_first, comes_again, is_calm, Stands, calm, raising, InCall}

@@ -24,8 +24,8 @@ use Rattle.clk_model.specs.Notices.{Rates, notifiers_of, abort_list}
 use Rattle.clk_model.specs.Script.{unprepared_plls}
 use Rattle.clk_model.specs.Step.{on, powered, cut_short, sets_parent, aborts_of, timed_out, to_raise, raise_one, raise, poll}
 use Rattle.clk_model.proofs.Members.{is_in_head, is_in_cases, is_in-reverse}
-use Rattle.clk_model.proofs.RoundLaws.{is_in-filter}
-use Rattle.clk_model.proofs.LinkScripts.{and_true}
+use Rattle.clk_model.proofs.OnceLaws.{is_in-filter}
+use Rattle.std.proofs.lemmas.Bool.{and_from}
 use Rattle.clk_model.proofs.PllLaws.{at_place}
 use Rattle.clk_model.proofs.PowerLaws.{settled_raise, settled_power, raised_fewer, powered_muxes}
 use Rattle.clk_model.proofs.Scenes.{Scene, scene, prepared_in, to_be, GoesWell, IsSafe, RaisedWell, RaisingFront, raised, asks, asks_first, comes_again, is_calm, Stands, raising}
@@ -158,11 +158,11 @@ raise_goes s t k late x safe well empty goes cut event = one (slice_get (reverse
 -- ---- polls
 
 pub calm_append : (ms ns : List Micro) → list_all is_calm ms ≡ true → list_all is_calm ns ≡ true → list_all is_calm (ms ++ ns) ≡ true
-calm_append ms ns first second = list_all-append is_calm ms ns ∙ and_true (list_all is_calm ms) (list_all is_calm ns) first second
+calm_append ms ns first second = list_all-append is_calm ms ns ∙ and_from (list_all is_calm ms) (list_all is_calm ns) first second
 
 pub calm_map : {X : Type 0} (f : X → Micro) (xs : List X) → ((x : X) → is_calm (f x) ≡ true) → list_all is_calm (map f xs) ≡ true
 calm_map f [] each = refl
-calm_map f (x ∷ xs) each = and_true (is_calm (f x)) (list_all is_calm (map f xs)) (each x) (calm_map f xs each)
+calm_map f (x ∷ xs) each = and_from (is_calm (f x)) (list_all is_calm (map f xs)) (each x) (calm_map f xs each)
 
 calm_aborts : (s : State) (k : Change) → list_all is_calm (aborts_of s k) ≡ true
 calm_aborts s k = by_call (sets_parent k.call) where

@@ -11,12 +11,11 @@ use Rattle.clk_model.specs.declared.row.ClockRow.{ClockRow}
 use Rattle.clk_model.specs.declared.row.HandleRow.{HandleRow}
 use Rattle.clk_model.specs.Lists.{is_in, present}
 use Rattle.clk_model.specs.Kinds.{is_open, is_powered}
-use Rattle.clk_model.specs.State.{State, Change, NotifierRow, row_of, registered, link_in, handle_at}
+use Rattle.clk_model.specs.State.{State, Change, NotifierRow, row_of, registered, link_in, handle_at, requested}
 use Rattle.clk_model.specs.Holders.{clocks_of, is_enabled, is_prepared, critical_clocks, is_held, active, prepared}
 use Rattle.clk_model.specs.Round.{wiring}
 use Rattle.clk_model.specs.Begin.{put_handle}
-use Rattle.clk_model.specs.Step.{requested}
-use Rattle.clk_model.specs.Laws.Plans.{IsWired}
+use Rattle.clk_model.specs.Wired.{IsWired}
 use Rattle.clk_model.specs.Laws.Supplied.{GatesOpen}
 use Rattle.clk_model.proofs.Members.{or_cases, is_in_head, is_in_tail, is_in_cases}
 use Rattle.clk_model.proofs.HolderLaws.{is_under, held_by, held_by-append, held_by-set_none, held_by-set_more}

@@ -29,9 +29,9 @@ use Rattle.clk_model.specs.Chain.{clock_id, linked}
 use Rattle.clk_model.specs.Script.{unprepared_plls, runs}
 use Rattle.clk_model.specs.Begin.{registered_row, registered_rows, register}
 use Rattle.clk_model.specs.Step.{on, powered, to_lower, lower_one, lower, set_in_chain, relink, settle_all, stepped}
-use Rattle.clk_model.specs.Laws.Plans.{IsWired}
+use Rattle.clk_model.specs.Wired.{IsWired}
 use Rattle.clk_model.proofs.Members.{both_right}
-use Rattle.clk_model.proofs.RoundLaws.{is_in-filter}
+use Rattle.clk_model.proofs.OnceLaws.{is_in-filter}
 use Rattle.clk_model.proofs.StateLaws.{row_of-set_same, row_of-set_other}
 use Rattle.clk_model.proofs.WholePathLaws.{same_or_not, linked_same, linked_other, given_link, given_others}
 use Rattle.clk_model.proofs.WalkLaws.{filter_passes, turned_off}

@@ -22,7 +22,7 @@ use Rattle.clk_model.specs.Holders.{clocks_of, is_prepared, prepared}
 use Rattle.clk_model.specs.Round.{wiring}
 use Rattle.clk_model.specs.Chain.{clock_id}
 use Rattle.clk_model.specs.Step.{passed_over, cut_short, to_raise}
-use Rattle.clk_model.specs.Laws.Plans.{IsWired}
+use Rattle.clk_model.specs.Wired.{IsWired}
 use Rattle.clk_model.specs.Laws.Supplied.{GatesOpen}
 use Rattle.clk_model.proofs.AboveLaws.{put_at, held_up, HasRoot}
 use Rattle.clk_model.proofs.BelowLaws.{IsUp}

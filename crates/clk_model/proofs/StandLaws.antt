@@ -26,9 +26,9 @@ use Rattle.clk_model.specs.Script.{unprepared_plls}
 use Rattle.clk_model.specs.Begin.{register}
 use Rattle.clk_model.specs.Step.{todo, taken, on, powered, cut_short, sets_parent, aborts_of, timed_out, to_raise, raise_one, raise, poll, is_yes, fall, to_lower, lower_one, lower, hold_prepare, set_in_chain, visit, register_in, stepped}
 use Rattle.clk_model.specs.Machine.{comes_next}
-use Rattle.clk_model.specs.Laws.Plans.{IsWired}
+use Rattle.clk_model.specs.Wired.{IsWired}
 use Rattle.clk_model.proofs.Members.{is_in_head, is_in_tail, is_in_cases, is_in-reverse, both_left, both_right, test_same}
-use Rattle.clk_model.proofs.RoundLaws.{is_in-filter}
+use Rattle.clk_model.proofs.OnceLaws.{is_in-filter}
 use Rattle.clk_model.proofs.MicroLaws.{comes_first}
 use Rattle.clk_model.proofs.PllLaws.{at_place}
 use Rattle.clk_model.proofs.WalkLaws.{filter_passes}
