@@ -29,7 +29,7 @@ use Rattle.clk_model.proofs.OnceLaws.{is_in-append, in_append}
 use Rattle.clk_model.proofs.GateLaws.{length-gates_moved}
 use Rattle.clk_model.proofs.SupplyLaws.{selected_same, settled_is_supplied}
 use Rattle.clk_model.proofs.PowerLaws.{settled_muxes}
-use Rattle.clk_model.proofs.WalkLaws.{filter_keeps}
+use Rattle.clk_model.proofs.OnceLaws.{filter_keeps}
 use Rattle.std.proofs.lemmas.Bool.{and_from}
 use Rattle.clk_model.proofs.AboveLaws.{Above, Holder, holder_of, held_from, holder_above, holder_cases, held_up}
 use Rattle.clk_model.proofs.Scenes.{Scene, scene, keepers, preparers, prepared_in, fed_by, to_be, IsSound, IsSafe, EnablesPrepared, PowersOn, RaisedWell}

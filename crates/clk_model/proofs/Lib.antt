@@ -71,3 +71,4 @@ pub mod RaiseLaws
 pub mod FlightSafeLaws
 pub mod RestLaws
 pub mod EndSafeLaws
+pub mod WalkOrderLaws

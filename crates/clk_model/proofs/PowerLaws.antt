@@ -22,7 +22,7 @@ use Rattle.clk_model.specs.Laws.Plans.{LieApart}
 use Rattle.clk_model.proofs.GateLaws.{at_or_apart}
 use Rattle.clk_model.proofs.ApartLaws.{fields_apart, fielded_lt, mux_is_field}
 use Rattle.clk_model.proofs.SettingLaws.{bit_same}
-use Rattle.clk_model.proofs.WalkLaws.{filter_passes}
+use Rattle.clk_model.proofs.OnceLaws.{filter_passes}
 use Rattle.clk_model.proofs.PllLaws.{at_place, length-filter-weaker}
 use Rattle.clk_model.proofs.SupplyLaws.{field-put_off, field-gates_moved, mux_off_gates, power_off_gates, selected_same}
 use Rattle.clk_model.proofs.OnceLaws.{is_in-filter}

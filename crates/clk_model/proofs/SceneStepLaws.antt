@@ -34,7 +34,8 @@ use Rattle.clk_model.proofs.Members.{both_right}
 use Rattle.clk_model.proofs.OnceLaws.{is_in-filter}
 use Rattle.clk_model.proofs.StateLaws.{row_of-set_same, row_of-set_other}
 use Rattle.clk_model.proofs.WholePathLaws.{same_or_not, linked_same, linked_other, given_link, given_others}
-use Rattle.clk_model.proofs.WalkLaws.{filter_passes, turned_off}
+use Rattle.clk_model.proofs.OnceLaws.{filter_passes}
+use Rattle.clk_model.proofs.WalkLaws.{turned_off}
 use Rattle.clk_model.proofs.HoldSteps.{settled_links}
 use Rattle.clk_model.proofs.PllLaws.{at_place}
 use Rattle.clk_model.proofs.SupplyLaws.{selected_same}

@@ -31,7 +31,7 @@ use Rattle.clk_model.proofs.Members.{is_in_head, is_in_tail, is_in_cases, is_in-
 use Rattle.clk_model.proofs.OnceLaws.{is_in-filter}
 use Rattle.clk_model.proofs.MicroLaws.{comes_first}
 use Rattle.clk_model.proofs.PllLaws.{at_place}
-use Rattle.clk_model.proofs.WalkLaws.{filter_passes}
+use Rattle.clk_model.proofs.OnceLaws.{filter_passes}
 use Rattle.clk_model.proofs.FlightLaws.{IsStep}
 use Rattle.clk_model.proofs.PowerLaws.{settled_raise, settled_power, raised_fewer, powered_muxes}
 use Rattle.clk_model.proofs.Scenes.{Scene, scene, prepared_in, to_be, IsSound, IsFree, IsCovered, EndsPrepare, after, is_plain, Serves, Grows, GoesWell, raises, makes, ends, IsSafe, RaisedWell, RaisingFront, raised, asks, asks_first, comes_again, is_calm, Stands, calm, raising, InCall}
