@@ -72,3 +72,9 @@ pub mod FlightSafeLaws
 pub mod RestLaws
 pub mod EndSafeLaws
 pub mod WalkOrderLaws
+pub mod WalkGoLaws
+pub mod PlanRootLaws
+pub mod PlannedGoLaws
+pub mod PlanGoLaws
+pub mod RegisterGoLaws
+pub mod AdoptGoLaws

@@ -46,7 +46,7 @@ refuted : (t : Bool) → (t ≡ true → ⊥) → t ≡ false
 refuted true never = absurd (never refl)
 refuted false never = refl
 
-fixed_rate : (kind : Kind) → is_fixed kind ≡ true → (rate : ℕ) × (kind ≡ FixedRate rate)
+pub fixed_rate : (kind : Kind) → is_fixed kind ≡ true → (rate : ℕ) × (kind ≡ FixedRate rate)
 fixed_rate (FixedRate rate) fixed = (rate, refl)
 fixed_rate (Factor mult div) fixed = absurd cc
 fixed_rate (Gate word bit set_to_disable) fixed = absurd cc
