@@ -188,7 +188,7 @@ left_other x d (y ∷ ys) once m same = by_test (nat_eq y x) refl m (λ n. left_
   ]
 
 -- what the order of adoptions lists is among what is left
-ordered_in : (n : ℕ) (s : State) (left : List ℕ) (d : ℕ) → is_in d (adoption_order n s left) ≡ true → is_in d left ≡ true
+pub ordered_in : (n : ℕ) (s : State) (left : List ℕ) (d : ℕ) → is_in d (adoption_order n s left) ≡ true → is_in d left ≡ true
 ordered_in zero s left d m = absurd cc
 ordered_in (suc n) s left d m = by_found (find (is_next s left) left) refl m (λ a k. ordered_in n s (without_one a left) d k) where
   by_found : (o : Option ℕ) → find (is_next s left) left ≡ o → is_in d (option_map_or (λ a. a ∷ adoption_order n s (without_one a left)) o []) ≡ true

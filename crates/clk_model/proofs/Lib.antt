@@ -78,3 +78,5 @@ pub mod PlannedGoLaws
 pub mod PlanGoLaws
 pub mod RegisterGoLaws
 pub mod AdoptGoLaws
+pub mod ProbeGoLaws
+pub mod BeginsLaws

@@ -146,17 +146,16 @@ register_there s c d rows = by_size (nat_lt c (length s.defs)) refl (same_or_not
   by_size false beyond by = ap (λ (rs : List ClockRow). registered rs d) (set_past s.clocks c _ (grind (arith, nat_tests)))
 
 -- so the scene behind a registration is that behind its step
-pub register_scene : (s : State) (c : ClockId) (late : Option ℕ) (k : Change) → length s.clocks ≡ length s.defs
-    → scene late (on (register s c.0) k) ≡ after s.defs (scene late s) (micro.Register c)
+pub register_scene : (s : State) (c : ClockId) (late : Option ℕ) → length s.clocks ≡ length s.defs → scene late (register s c.0) ≡ after s.defs (scene late s) (micro.Register c)
 unfolding register
-register_scene s c late k rows =
+register_scene s c late rows =
     regained (after s.defs (scene late s) (micro.Register c)) (link_in (registered_rows s.defs s.regs s.clocks c.0)) (registered (registered_rows s.defs s.regs s.clocks c.0))
     (λ d. register_up s c.0 d late rows) (λ d. register_there s c.0 d rows)
 
 lands_registered : (s : State) (c : ClockId) (late : Option ℕ) (k : Change) → length s.clocks ≡ length s.defs
     → Lands s late (on (register s c.0) k) (after s.defs (scene late s) (micro.Register c))
 unfolding register
-lands_registered s c late k rows = record { defs = refl; handles = refl; scene_is = register_scene s c late k rows; keeps = keeps_same s }
+lands_registered s c late k rows = record { defs = refl; handles = refl; scene_is = register_scene s c late rows; keeps = keeps_same s }
 
 lands_settled : (s : State) (late : Option ℕ) (k : Change) (cs : List ℕ) → Lands s late (on (record s { clocks = settle_all s cs }) k) (scene late s)
 lands_settled s late k cs = record {
