@@ -231,7 +231,7 @@ arrive late late' s y t b change spent steps safe lands sound grows is wired =
 
 -- ---- what was raised is powered
 
-power_is_pll : (kind : Kind) (power : PowerBit) → power_of kind ≡ Some power → is_pll kind ≡ true
+pub power_is_pll : (kind : Kind) (power : PowerBit) → power_of kind ≡ Some power → is_pll kind ≡ true
 power_is_pll (Pll word shift width power_word power_bit least most m) power at = refl
 power_is_pll (FixedRate rate) power at = absurd cc
 power_is_pll (Factor mult div) power at = absurd cc

@@ -133,7 +133,7 @@ unranged_alike s (call.Probe c) range = alike_self s
 unranged_alike s call.Sweep range = alike_self s
 
 -- a prepare whose path is powered
-prepared_behind : (s : State) (number : ℕ) (row : HandleRow) → IsFit None s → s.enable_holds ≡ [] → handle_at s.handles number ≡ Some row
+pub prepared_behind : (s : State) (number : ℕ) (row : HandleRow) → IsFit None s → s.enable_holds ≡ [] → handle_at s.handles number ≡ Some row
     → ((c : ℕ) → is_under s.clocks row c ≡ true → IfSome (power_of (kind_of s.defs c)) (λ power. is_powered s.regs power ≡ true)) → IsFit None (prepared_once_more s number row)
 prepared_behind s number row fit free at powered =
     fit_counted s number row (record row { prepares = row.prepares + 1 }) fit free at refl (λ on. omega arith)

@@ -80,3 +80,6 @@ pub mod RegisterGoLaws
 pub mod AdoptGoLaws
 pub mod ProbeGoLaws
 pub mod BeginsLaws
+pub mod BeginSafeLaws
+pub mod BesideSafeLaws
+pub mod SafeRunLaws

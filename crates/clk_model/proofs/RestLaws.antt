@@ -251,3 +251,16 @@ pub gates_alike : (s u : State) → GatesOpen s s → u.defs ≡ s.defs → u.re
 gates_alike s u gates defs regs c act =
     subst (λ (d : Description). IfSome (gate_of (kind_of d c)) (λ gate. is_open u.regs gate ≡ true)) (sym defs)
     (subst (λ (r : Registers). IfSome (gate_of (kind_of s.defs c)) (λ gate. is_open r gate ≡ true)) (sym regs) (gates c act))
+
+-- a handle that changes in its enables, too
+pub alike_counted : (s : State) (n : ℕ) (old new : HandleRow) → handle_at s.handles n ≡ Some old → new.clock ≡ old.clock → new.prepares ≡ old.prepares
+    → ((0 < old.enables → 0 < old.prepares) → 0 < new.enables → 0 < new.prepares) → Alike s (put_handle s n (Some new))
+alike_counted s n old new at clock prepares own = record {
+  defs = refl;
+  regs = refl;
+  scene_is = λ late.
+      ap (λ (ps : List ℕ). let a : Scene = record (scene late s) { prepares = ps; clock_at = clock_of_handle (set s.handles n (Some new)) } in a)
+      (clocks_of-set is_prepared s.handles n old new at clock (ap (nat_lt 0) prepares))
+      ∙ ap (λ (f : ℕ → Option ℕ). let a : Scene = record (scene late s) { clock_at = f } in a) (fun_ext (λ m. clock_at-set s.handles n m old new at clock));
+  enables = λ each. enables-set s.handles n new each (own (each n old at));
+}
