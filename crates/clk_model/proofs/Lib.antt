@@ -83,3 +83,4 @@ pub mod BeginsLaws
 pub mod BeginSafeLaws
 pub mod BesideSafeLaws
 pub mod SafeRunLaws
+pub mod RunsFedLaws

@@ -37,14 +37,7 @@ CallsLeaveNoHold = (words : ℕ) (q s t : State) (d : ℕ) (what : Sleeping) (ma
     → IsWired words (wiring q) → IsOrder q.order q.clocks → HoldsNothing q → is_probe what ≡ false
     → Flight q d what s made → next s d (event.Step m answer) ≡ Some (t, turn.Done r) → HoldsNothing t
 
--- whether an event that is answered so begins a registration that goes on
-abbrev pub begins_probing : Event → Turn → Bool
-begins_probing (event.Begin what) turn.Going = is_probe what
-begins_probing _ _ = false
-
--- so behind each legal journal that begins at an opening with a valid description, and in which no registration goes on, nothing is
--- held while no call is in flight
+-- behind each journal that begins at an opening with a valid description nothing is held while no call is in flight, registrations included
 abbrev pub RunsLeaveNoHold : Type 0
 RunsLeaveNoHold = (defs : Description) (regs : Registers) (ignore_unused : Bool) (credits : ℕ) (journal : List Entry) → IsValid (length regs) defs
-    → Legal (opening defs regs ignore_unused credits) journal → list_any (λ e. begins_probing e.event e.turn) journal ≡ false
     → (replay (opening defs regs ignore_unused credits) journal).change ≡ None → HoldsNothing (replay (opening defs regs ignore_unused credits) journal)
