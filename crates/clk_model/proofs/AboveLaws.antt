@@ -1,5 +1,5 @@
 -- Laws on what is above a clock by links, and on what a new link makes of it.
-use Rattle.std.proofs.Common.{◌≡◌, ℕ, zero, suc, ◌<◌, Bool, true, false, cond, List, [], ◌∷◌, ◌++◌, Option, Some, None, refl, sym, ap, subst, ◌∙◌, ◌⊎◌, inl, inr, nat_eq, arith}
+use Rattle.std.proofs.Common.{◌≡◌, ℕ, zero, suc, Bool, true, false, cond, List, ◌++◌, Option, Some, None, refl, sym, ap, subst, ◌∙◌, ◌⊎◌, inl, inr, nat_eq}
 use Rattle.std.specs.List.{list_any}
 use Rattle.clk_base.specs.Description.{Description, kind_of, parents_of}
 use Rattle.clk_base.specs.Levels.{depth}
@@ -8,7 +8,7 @@ use Rattle.clk_model.specs.Kinds.{is_fixed}
 use Rattle.clk_model.specs.Tree.{path_within}
 use Rattle.clk_model.specs.Wired.{LinesEnd}
 use Rattle.clk_model.proofs.Members.{any_in, any_from_in, test_same, same_from_test}
-use Rattle.clk_model.proofs.OnceLaws.{in_append, is_in-append}
+use Rattle.clk_model.proofs.OnceLaws.{in_append}
 use Rattle.clk_model.proofs.BelowLaws.{Rises, IsUp, rises_far, few_steps, path_rises, rises_path, rises_above}
 use Rattle.clk_model.proofs.PlanLaws.{not_above_parent}
 use Rattle.clk_model.proofs.WholePathLaws.{same_or_not}

@@ -1,39 +1,32 @@
 -- Laws on the scripts of registrations: the adoptions go well, one after the other.
-use Rattle.std.proofs.Common.{◌≡◌, ℕ, zero, suc, ◌<◌, ◌^◌, nat_eq, Bool, true, false, not, ◌&&◌, ◌||◌, cond, List, [], ◌∷◌, ◌++◌, Option, Some, None, refl, sym, ap, subst, ◌∙◌, ◌⊎◌, inl, inr, arith, length}
-use Rattle.std.specs.Prelude.{filter, find, flat_map, if◌then◌else◌, is_none, option_and_then}
+use Rattle.std.proofs.Common.{◌≡◌, ℕ, zero, suc, nat_eq, Bool, true, false, not, List, [], ◌∷◌, ◌++◌, Option, Some, None, refl, sym, ap, subst, ◌∙◌, inl, inr}
+use Rattle.std.specs.Prelude.{find, flat_map, if◌then◌else◌}
 use Rattle.std.specs.List.{list_any}
 use Rattle.std.specs.Option.{option_map_or}
 use Rattle.std.proofs.lemmas.List.{append_assoc}
 use Rattle.clk_base.specs.declared.call.Micro.{Micro}
 use Rattle.clk_base.specs.declared.call.Micro.TheVariants as micro
-use Rattle.clk_base.specs.declared.call.Sleeping.{Sleeping}
 use Rattle.clk_base.specs.declared.call.Sleeping.TheVariants as call
 use Rattle.clk_base.specs.declared.clock.ClockId.{ClockId}
-use Rattle.clk_base.specs.Description.{Description, kind_of, parents_of}
-use Rattle.clk_base.specs.Fields.{Field}
-use Rattle.clk_base.specs.Levels.{depth}
-use Rattle.clk_base.proofs.Valid.{lines_end}
+use Rattle.clk_base.specs.Description.{parents_of}
 use Rattle.clk_model.specs.Lists.{is_in, without_one, none_twice}
-use Rattle.clk_model.specs.Kinds.{is_fixed, mux_field}
-use Rattle.clk_model.specs.State.{State, registered, link_in}
-use Rattle.clk_model.specs.Tree.{path, path_within, selected, link_given, is_orphan, orphans}
+use Rattle.clk_model.specs.State.{State, link_in}
+use Rattle.clk_model.specs.Tree.{path, link_given}
 use Rattle.clk_model.specs.Holders.{prepared}
-use Rattle.clk_model.specs.Chain.{clock_id, place_of}
-use Rattle.clk_model.specs.Script.{adoptable, is_next, adoption, adoption_order}
+use Rattle.clk_model.specs.Chain.{clock_id}
+use Rattle.clk_model.specs.Script.{is_next, adoption, adoption_order}
 use Rattle.clk_model.specs.Step.{is_end, is_register, from_first, cut_short}
-use Rattle.clk_model.specs.Wired.{LinesEnd, IsWired, IsOrder}
-use Rattle.clk_model.proofs.Members.{is_in_head, is_in_tail, is_in_cases, both_left, both_right, test_same, same_from_test, none_in}
-use Rattle.clk_model.proofs.OnceLaws.{once_cons, once_head, once_filter, is_in-filter, filter_passes}
-use Rattle.clk_model.proofs.NoneLaws.{none_append, none_flat_map, none_if}
+use Rattle.clk_model.specs.Wired.{LinesEnd}
+use Rattle.clk_model.proofs.Members.{is_in_head, is_in_tail, is_in_cases, test_same, same_from_test, none_in}
+use Rattle.clk_model.proofs.OnceLaws.{once_cons, once_head}
+use Rattle.clk_model.proofs.NoneLaws.{none_append, none_flat_map}
 use Rattle.clk_model.proofs.OutcomeLaws.{SettingsFit}
-use Rattle.clk_model.proofs.PllLaws.{link_given_possible}
 use Rattle.clk_model.proofs.WalkLaws.{turned_off}
 use Rattle.clk_model.proofs.BelowLaws.{Rises, IsUp}
 use Rattle.clk_model.proofs.AboveLaws.{put_at, put_other, Above, above_here, above_path, above_before}
-use Rattle.clk_model.proofs.Scenes.{Scene, scene, holding, prepared_in, IsSound, EndsPrepare, GoesWell, ends}
+use Rattle.clk_model.proofs.Scenes.{Scene, holding, IsSound, GoesWell, ends}
 use Rattle.clk_model.proofs.SoundLaws.{WillMove, linked_in, may_link, sound_adopted}
 use Rattle.clk_model.proofs.BlockLaws.{CanMove, adoption_behind, prepared_adoption, bare_adoption}
-use Rattle.clk_model.proofs.SceneStepLaws.{parent_lt}
 use Rattle.clk_model.proofs.WalkGoLaws.{WillBe, still_be}
 
 -- ---- adoptions that are still to come

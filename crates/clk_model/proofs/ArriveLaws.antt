@@ -1,22 +1,21 @@
 -- Laws on safe states: they are supplied, and where an event's effect leaves a sound scene the gates make it safe.
-use Rattle.std.proofs.Common.{◌≡◌, ℕ, zero, suc, ◌<◌, ◌||◌, ◌&&◌, Bool, true, false, not, cond, map, List, [], ◌∷◌, ◌++◌, Option, Some, None, refl, sym, ap, subst, ◌∙◌, ◌⊎◌, inl, inr, arith, length, nat_lt}
+use Rattle.std.proofs.Common.{◌≡◌, ℕ, suc, ◌<◌, ◌||◌, ◌&&◌, Bool, true, false, not, cond, map, List, [], ◌∷◌, ◌++◌, Option, Some, None, refl, sym, ap, subst, ◌∙◌, ◌⊎◌, inl, inr, arith, length}
 use Rattle.std.proofs.lemmas.Bool.Decides.{nat_tests}
-use Rattle.std.specs.Prelude.{IfSome, filter, slice_get, option_and_then}
+use Rattle.std.specs.Prelude.{IfSome, filter, option_and_then}
 use Rattle.std.specs.Option.{option_map_or}
 use Rattle.clk_base.specs.declared.clock.Kind.{Kind}
 use Rattle.clk_base.specs.declared.clock.Kind.TheVariants.{FixedRate, Factor, Gate, Mux, Divider, Pll}
-use Rattle.clk_base.specs.Description.{Description, kind_of, parents_of}
-use Rattle.clk_base.specs.Fields.{GateBit, PowerBit, gate_of, power_of}
-use Rattle.clk_base.specs.Levels.{depth}
+use Rattle.clk_base.specs.Description.{Description, kind_of}
+use Rattle.clk_base.specs.Fields.{PowerBit, gate_of, power_of}
 use Rattle.clk_base.specs.Valid.{IsValid}
 use Rattle.clk_base.proofs.Valid.{lines_end}
 use Rattle.reg_bank.specs.Registers.{Registers}
 use Rattle.clk_model.specs.declared.row.HandleRow.{HandleRow}
 use Rattle.clk_model.specs.Lists.{is_in, count_from, present}
 use Rattle.clk_model.specs.Kinds.{is_pll, is_open, is_powered, mux_field}
-use Rattle.clk_model.specs.State.{State, Change, link_in, handle_at}
-use Rattle.clk_model.specs.Tree.{path, path_to_be, link_given, selected}
-use Rattle.clk_model.specs.Holders.{clocks_of, is_enabled, is_prepared, critical_clocks, enable_holders, is_held, active, prepared}
+use Rattle.clk_model.specs.State.{State, Change, link_in}
+use Rattle.clk_model.specs.Tree.{path_to_be, link_given, selected}
+use Rattle.clk_model.specs.Holders.{clocks_of, is_enabled, is_prepared, critical_clocks, enable_holders, active, prepared}
 use Rattle.clk_model.specs.Fed.{feeds}
 use Rattle.clk_model.specs.Gates.{settled}
 use Rattle.clk_model.specs.Round.{wiring}
@@ -24,17 +23,16 @@ use Rattle.clk_model.specs.Step.{to_raise}
 use Rattle.clk_model.specs.Script.{unprepared_plls}
 use Rattle.clk_model.specs.Wired.{IsWired}
 use Rattle.clk_model.specs.Laws.Supplied.{GatesOpen, IsFeeder, IsReady, Supplies, IsSupplied}
-use Rattle.clk_model.proofs.Members.{or_cases, is_in_head, is_in_tail, is_in_cases, none_in}
+use Rattle.clk_model.proofs.Members.{is_in_head, is_in_tail, is_in_cases}
 use Rattle.clk_model.proofs.OnceLaws.{is_in-append, in_append}
 use Rattle.clk_model.proofs.GateLaws.{length-gates_moved}
 use Rattle.clk_model.proofs.SupplyLaws.{selected_same, settled_is_supplied}
 use Rattle.clk_model.proofs.PowerLaws.{settled_muxes}
 use Rattle.clk_model.proofs.OnceLaws.{filter_keeps}
 use Rattle.std.proofs.lemmas.Bool.{and_from}
-use Rattle.clk_model.proofs.AboveLaws.{Above, Holder, holder_of, held_from, holder_above, holder_cases, held_up}
-use Rattle.clk_model.proofs.Scenes.{Scene, scene, keepers, preparers, prepared_in, fed_by, to_be, IsSound, IsSafe, EnablesPrepared, PowersOn, RaisedWell}
+use Rattle.clk_model.proofs.AboveLaws.{holder_of, held_from, holder_above}
+use Rattle.clk_model.proofs.Scenes.{Scene, scene, preparers, prepared_in, fed_by, to_be, IsSound, IsSafe, EnablesPrepared, PowersOn, RaisedWell}
 use Rattle.clk_model.proofs.SceneStepLaws.{Lands, reselected}
-use Rattle.clk_model.proofs.KeepLaws.{Keeps}
 
 -- ---- options
 

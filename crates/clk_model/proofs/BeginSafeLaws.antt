@@ -1,48 +1,35 @@
 -- Laws on beginnings of calls: from a state at rest they leave one at rest, or a call in flight that is safe.
-use Rattle.std.proofs.Common.{◌≡◌, ℕ, zero, suc, ◌+◌, ◌-◌, ◌<◌, ◌||◌, ◌&&◌, Bool, true, false, not, cond, map, List, [], ◌∷◌, ◌++◌, Option, Some, None, refl, sym, ap, subst, ◌∙◌, ◌⊎◌, inl, inr, arith, length, nat_eq, nat_lt}
+use Rattle.std.proofs.Common.{◌≡◌, ℕ, ◌+◌, ◌-◌, ◌<◌, ◌&&◌, Bool, true, false, not, map, List, [], ◌∷◌, ◌++◌, Option, Some, None, refl, sym, ap, subst, ◌∙◌, inl, inr, arith, nat_eq, nat_lt}
 use Rattle.std.proofs.lemmas.Bool.{and_from}
 use Rattle.std.proofs.lemmas.Bool.Decides.{nat_tests}
-use Rattle.std.specs.Prelude.{IfSome, filter, slice_get, is_none, option_map}
-use Rattle.std.specs.List.{list_all, AllByRecursion}
-use Rattle.clk_base.specs.declared.call.Micro.{Micro}
+use Rattle.std.specs.Prelude.{IfSome, slice_get, is_none, option_map}
 use Rattle.clk_base.specs.declared.call.Micro.TheVariants as micro
 use Rattle.clk_base.specs.declared.call.Sleeping.{Sleeping}
 use Rattle.clk_base.specs.declared.call.Sleeping.TheVariants as call
-use Rattle.clk_base.specs.declared.clock.ClockId.{ClockId}
-use Rattle.clk_base.specs.declared.event.Turn.{Turn}
 use Rattle.clk_base.specs.declared.handle.Handle.{Handle}
-use Rattle.clk_base.specs.Description.{Description, kind_of, parents_of}
+use Rattle.clk_base.specs.Description.{kind_of}
 use Rattle.clk_base.specs.Fields.{PowerBit, power_of}
-use Rattle.clk_base.specs.Flags.{is_critical}
 use Rattle.clk_model.specs.declared.row.HandleRow.{HandleRow}
 use Rattle.clk_model.specs.Lists.{is_in}
 use Rattle.clk_model.specs.Kinds.{is_pll, is_powered}
-use Rattle.clk_model.specs.State.{State, Change, ChainStep, registered, link_in, handle_at}
-use Rattle.clk_model.specs.Tree.{path, path_to_be, rooted}
+use Rattle.clk_model.specs.State.{State, Change, handle_at}
 use Rattle.clk_model.specs.Holders.{prepared}
 use Rattle.clk_model.specs.Gates.{settled}
-use Rattle.clk_model.specs.Round.{wiring, rate_in}
-use Rattle.clk_model.specs.Chain.{clock_id, outcome, chain}
-use Rattle.clk_model.specs.Script.{unprepared_plls, planned, probe_script, sweep_script}
-use Rattle.clk_model.specs.Begin.{change_of, change_along, put_handle, given, holds_something, prepared_once_more, keeps_prepare, reparenting, register}
+use Rattle.clk_model.specs.Chain.{clock_id}
+use Rattle.clk_model.specs.Script.{unprepared_plls}
+use Rattle.clk_model.specs.Begin.{put_handle, keeps_prepare}
 use Rattle.clk_model.specs.Step.{sets_parent, cut_short}
-use Rattle.clk_model.specs.Wired.{IsWired}
-use Rattle.clk_model.specs.Laws.Plans.{LeadsFrom}
 use Rattle.clk_model.specs.Laws.LinksKept.{KeepsLinks}
-use Rattle.clk_model.proofs.Members.{not_either, is_in_head}
+use Rattle.clk_model.proofs.Members.{not_either}
 use Rattle.clk_model.proofs.OnceLaws.{filter_keeps}
-use Rattle.clk_model.proofs.HolderLaws.{is_under}
-use Rattle.clk_model.proofs.PlanLaws.{chains_lead}
-use Rattle.clk_model.proofs.Scenes.{Scene, scene, EndsPrepare, GoesWell, raises, makes, ends, PowersOn, IsSafe, Stands, calm, InCall, IsAtRest}
-use Rattle.clk_model.proofs.ArriveLaws.{IsFit, fit_of, settled_safe, settled_scene, safe_recounted, wired_before, prepared_told, if_one, some_one, power_is_pll}
+use Rattle.clk_model.proofs.Scenes.{Scene, scene, EndsPrepare, GoesWell, raises, ends, PowersOn, IsSafe, calm, IsAtRest}
+use Rattle.clk_model.proofs.ArriveLaws.{IsFit, fit_of, settled_safe, settled_scene, safe_recounted, if_one, some_one, power_is_pll}
 use Rattle.clk_model.proofs.StandLaws.{Goes, goes_told}
-use Rattle.clk_model.proofs.RestLaws.{Alike, alike_put, alike_noted, fit_alike, fit_given, fit_taken, fit_counted, prepared_less, gates_alike}
-use Rattle.clk_model.proofs.EndSafeLaws.{prepared_behind}
-use Rattle.clk_model.proofs.PlanRootLaws.{IsRooted, rooted_is, StepsRooted, plan_rooted}
+use Rattle.clk_model.proofs.RestLaws.{alike_put, fit_alike, fit_counted, prepared_less, gates_alike}
+use Rattle.clk_model.proofs.PlanRootLaws.{IsRooted}
 use Rattle.clk_model.proofs.WalkGoLaws.{CutsAt, at_visit, at_end}
-use Rattle.clk_model.proofs.PlanGoLaws.{PlanOver, planned_goes}
-use Rattle.clk_model.proofs.ProbeGoLaws.{Resting, registered_sound, registered_prepares, probe_goes, sweep_goes}
-use Rattle.clk_model.proofs.BeginsLaws.{changes_rate, Adjusts, IsPlannedOver, over_itself, over_range, Starts, raising_handle, lowering_handle, planning, reparents, probing, sweeping, Begins, answers, gives, takes, adjusts, prepares, unprepares, notes, registers, goes_on}
+use Rattle.clk_model.proofs.ProbeGoLaws.{Resting}
+use Rattle.clk_model.proofs.BeginsLaws.{changes_rate, IsPlannedOver, over_itself, over_range}
 
 -- ---- PLLs of a path
 

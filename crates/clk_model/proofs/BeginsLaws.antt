@@ -1,14 +1,11 @@
 -- Laws on how calls begin: what each beginning comes to, in one list of cases.
-use Rattle.std.proofs.Common.{◌≡◌, ℕ, zero, suc, ◌+◌, ◌-◌, ◌<◌, ◌||◌, ◌&&◌, Bool, true, false, not, cond, List, [], ◌∷◌, ◌++◌, Option, Some, None, refl, sym, ap, subst, ◌∙◌, ◌⊎◌, inl, inr, arith, length, nat_eq, nat_lt}
-use Rattle.std.specs.Prelude.{filter, slice_get, is_none, is_some, option_map}
+use Rattle.std.proofs.Common.{◌≡◌, ℕ, ◌+◌, ◌-◌, ◌||◌, ◌&&◌, Bool, true, false, not, List, [], ◌∷◌, Option, Some, None, refl}
+use Rattle.std.specs.Prelude.{slice_get, is_none, is_some, option_map}
 use Rattle.std.specs.Option.{option_map_or}
-use Rattle.std.proofs.lemmas.Bool.Decides.{nat_tests}
-use Rattle.clk_base.specs.declared.call.Micro.{Micro}
 use Rattle.clk_base.specs.declared.call.Micro.TheVariants as micro
 use Rattle.clk_base.specs.declared.call.Sleeping.{Sleeping}
 use Rattle.clk_base.specs.declared.call.Sleeping.TheVariants as call
 use Rattle.clk_base.specs.declared.clock.ClockId.{ClockId}
-use Rattle.clk_base.specs.declared.event.Errno.{Errno}
 use Rattle.clk_base.specs.declared.event.Errno.TheVariants as errno
 use Rattle.clk_base.specs.declared.event.Reply.{Reply}
 use Rattle.clk_base.specs.declared.event.Reply.TheVariants as reply
@@ -23,12 +20,12 @@ use Rattle.clk_model.specs.Kinds.{mux_field}
 use Rattle.clk_model.specs.State.{State, Change, ChainStep, NotifierRow, registered, link_in, handle_at}
 use Rattle.clk_model.specs.Tree.{rooted, path, path_to_be}
 use Rattle.clk_model.specs.Round.{wiring, round_rate, View}
-use Rattle.clk_model.specs.Chain.{clock_id, chain}
+use Rattle.clk_model.specs.Chain.{chain}
 use Rattle.clk_model.specs.Views.{view, lift}
-use Rattle.clk_model.specs.Script.{unprepared_plls, runs, adoptable, probe_script, sweep_script}
-use Rattle.clk_model.specs.Begin.{done, refused, starts, change_of, change_along, put_handle, with_handle, given, got, holds_something, put_back, prepared_once_more, prepare, keeps_prepare, unprepare, rounded, request, held_once_more, range_set, request_between, reparenting, parent_set, exclusive_put, notifier_added, notifier_removed, register, probed, swept, begun}
+use Rattle.clk_model.specs.Script.{unprepared_plls, adoptable, probe_script, sweep_script}
+use Rattle.clk_model.specs.Begin.{done, refused, starts, change_of, change_along, put_handle, with_handle, given, got, holds_something, put_back, prepared_once_more, prepare, keeps_prepare, unprepare, rounded, request, held_once_more, range_set, request_between, reparenting, parent_set, exclusive_put, notifier_added, notifier_removed, register, probed, begun}
 use Rattle.clk_model.specs.Step.{sets_parent}
-use Rattle.clk_model.proofs.Members.{both_left, both_right, not_either}
+use Rattle.clk_model.proofs.Members.{both_left, both_right}
 use Rattle.clk_model.proofs.EventLaws.{own_is_live}
 use Rattle.clk_model.proofs.TierLaws.{pick_either, with_handle_either}
 

@@ -1,11 +1,10 @@
 -- Laws on the enable tier beside a call in flight: it leaves the call safe, and its change where it stands.
-use Rattle.std.proofs.Common.{◌≡◌, ℕ, zero, suc, ◌+◌, ◌-◌, ◌<◌, ◌&&◌, Bool, true, false, not, List, [], ◌∷◌, ◌++◌, Option, Some, None, refl, sym, ap, subst, ◌∙◌, ◌⊎◌, inl, inr, arith, length, nat_eq, nat_lt}
+use Rattle.std.proofs.Common.{◌≡◌, ℕ, ◌+◌, ◌-◌, ◌<◌, ◌&&◌, Bool, true, not, List, Option, Some, None, refl, sym, ap, subst, ◌∙◌, arith, length, nat_eq}
 use Rattle.std.proofs.Math.Path.{fun_ext}
 use Rattle.std.proofs.lemmas.Bool.Decides.{nat_tests}
 use Rattle.std.specs.Prelude.{IfSome, filter}
 use Rattle.clk_base.specs.declared.event.Event.{Event}
 use Rattle.clk_base.specs.declared.event.Event.TheVariants as event
-use Rattle.clk_base.specs.declared.event.Errno.TheVariants as errno
 use Rattle.clk_base.specs.declared.event.Turn.{Turn}
 use Rattle.clk_base.specs.Description.{Description, kind_of}
 use Rattle.clk_base.specs.Fields.{PowerBit, power_of}
@@ -15,19 +14,19 @@ use Rattle.clk_model.specs.Lists.{is_in}
 use Rattle.clk_model.specs.Kinds.{is_pll, is_powered}
 use Rattle.clk_model.specs.State.{State, Change, handle_at}
 use Rattle.clk_model.specs.Tree.{path_to_be}
-use Rattle.clk_model.specs.Holders.{is_prepared, prepared}
+use Rattle.clk_model.specs.Holders.{prepared}
 use Rattle.clk_model.specs.Gates.{settled}
 use Rattle.clk_model.specs.Round.{wiring}
 use Rattle.clk_model.specs.Script.{unprepared_plls}
 use Rattle.clk_model.specs.Wired.{IsWired}
-use Rattle.clk_model.specs.Begin.{refused, put_handle, with_handle}
+use Rattle.clk_model.specs.Begin.{put_handle, with_handle}
 use Rattle.clk_model.specs.Step.{to_raise, cut_short}
-use Rattle.clk_model.specs.Machine.{enabled, disabled, running, paid, next}
+use Rattle.clk_model.specs.Machine.{enabled, disabled, running, next}
 use Rattle.clk_model.specs.Tier.{is_enable_tier}
 use Rattle.clk_model.proofs.EventLaws.{own_is_live}
 use Rattle.clk_model.proofs.TierLaws.{pick_either, with_handle_either, paid_is}
 use Rattle.clk_model.proofs.PowerLaws.{settled_power}
-use Rattle.clk_model.proofs.Scenes.{Scene, scene, prepared_in, to_be, GoesWell, IsSafe, IsAtRest, EnablesPrepared, RaisedWell, RaisingFront, raised, asks, asks_first, comes_again, Stands, calm, raising, InCall}
+use Rattle.clk_model.proofs.Scenes.{scene, IsSafe, IsAtRest, RaisingFront, raised, asks, asks_first, comes_again, Stands, calm, raising}
 use Rattle.clk_model.proofs.ArriveLaws.{fit_of, wired_before, settled_safe, settled_scene, safe_recounted, prepared_told, to_be_told, some_one, if_one}
 use Rattle.clk_model.proofs.StandLaws.{Goes, goes_told}
 use Rattle.clk_model.proofs.RestLaws.{Alike, alike_self, alike_counted, fit_alike, gates_alike}

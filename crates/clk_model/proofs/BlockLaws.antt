@@ -1,6 +1,6 @@
 -- Laws on the blocks of a script: each move and each adoption goes well.
-use Rattle.std.proofs.Common.{◌≡◌, ℕ, ◌<◌, ◌^◌, Bool, true, false, not, ◌||◌, cond, List, [], ◌∷◌, ◌++◌, Option, Some, None, refl, sym, ap, subst, ◌∙◌, ◌⊎◌, inl, inr, nat_eq, map}
-use Rattle.std.specs.Prelude.{filter, if◌then◌else◌, option_and_then}
+use Rattle.std.proofs.Common.{◌≡◌, ℕ, ◌<◌, ◌^◌, Bool, true, false, not, ◌||◌, cond, List, [], ◌∷◌, ◌++◌, Option, Some, None, refl, sym, ap, subst, ◌∙◌, ◌⊎◌, inl, inr, nat_eq}
+use Rattle.std.specs.Prelude.{if◌then◌else◌, option_and_then}
 use Rattle.std.specs.Option.{option_map_or}
 use Rattle.clk_base.specs.declared.call.Micro.{Micro}
 use Rattle.clk_base.specs.declared.call.Micro.TheVariants as micro
@@ -16,9 +16,9 @@ use Rattle.clk_model.specs.Step.{passed_over, cut_short}
 use Rattle.clk_model.specs.Wired.{LinesEnd}
 use Rattle.clk_model.proofs.Members.{is_in_head, is_in_tail, test_same}
 use Rattle.clk_model.proofs.BelowLaws.{IsUp}
-use Rattle.clk_model.proofs.AboveLaws.{put_at, put_same, differs, Above, above_here, above_link, above_path, not_above_link, Holder, holder_of, held_from, holder_above, MayLink, may_still, above_before, holder_clock, clock_held_before, held_before, held_up}
-use Rattle.clk_model.proofs.Scenes.{Scene, holding, keepers, prepared_in, fed_by, to_be, IsSound, IsCovered, Grows, after, is_plain, Serves, GoesWell, raises, makes}
-use Rattle.clk_model.proofs.SoundLaws.{in_one, in_two, prepare_cases, keeper_prepares, hold_prepares, kept_alone, one_holder, held_by_one, sound_holding, WillMove, linked_in, may_link, late_behind, sound_linked, written_in, moved_in, sound_moved, sound_adopted, late_none}
+use Rattle.clk_model.proofs.AboveLaws.{put_at, differs, Above, above_here, above_link, above_path, not_above_link, Holder, holder_of, held_from, holder_above, MayLink, may_still, above_before, holder_clock, held_before}
+use Rattle.clk_model.proofs.Scenes.{Scene, holding, keepers, prepared_in, to_be, IsSound, Grows, GoesWell, raises, makes}
+use Rattle.clk_model.proofs.SoundLaws.{in_one, in_two, prepare_cases, keeper_prepares, hold_prepares, kept_alone, one_holder, held_by_one, sound_holding, WillMove, linked_in, may_link, late_behind, sound_linked, moved_in, sound_moved, sound_adopted, late_none}
 
 -- ---- holds that are passed over and dropped
 

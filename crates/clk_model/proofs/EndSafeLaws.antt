@@ -1,5 +1,5 @@
 -- Laws on ends of calls: they leave a state at rest.
-use Rattle.std.proofs.Common.{◌≡◌, ℕ, zero, suc, ◌+◌, ◌<◌, ◌||◌, Bool, true, false, not, cond, map, set, List, [], ◌∷◌, ◌++◌, Option, Some, None, refl, sym, ap, subst, ◌∙◌, ◌⊎◌, inl, inr, arith, length}
+use Rattle.std.proofs.Common.{◌≡◌, ℕ, zero, suc, ◌+◌, ◌||◌, Bool, true, false, cond, map, set, List, [], ◌∷◌, ◌++◌, Option, Some, None, refl, sym, ap, subst, ◌∙◌, ◌⊎◌, inl, inr, arith, length}
 use Rattle.std.specs.Prelude.{IfSome, option_map, if◌then◌else◌}
 use Rattle.std.specs.List.{list_all}
 use Rattle.std.specs.Option.{option_map_or}
@@ -9,29 +9,27 @@ use Rattle.clk_base.specs.declared.call.Sleeping.{Sleeping}
 use Rattle.clk_base.specs.declared.call.Sleeping.TheVariants as call
 use Rattle.clk_base.specs.declared.event.Reply.{Reply}
 use Rattle.clk_base.specs.declared.event.Turn.TheVariants as turn
-use Rattle.clk_base.specs.Description.{Description, kind_of}
+use Rattle.clk_base.specs.Description.{kind_of}
 use Rattle.clk_base.specs.Fields.{power_of}
 use Rattle.clk_model.specs.declared.row.HandleRow.{HandleRow}
 use Rattle.clk_model.specs.Lists.{is_in}
 use Rattle.clk_model.specs.Kinds.{is_powered}
 use Rattle.clk_model.specs.State.{State, Change, registered, handle_at, requested}
 use Rattle.clk_model.specs.Tree.{path, path_to_be, link_given}
-use Rattle.clk_model.specs.Holders.{prepared}
 use Rattle.clk_model.specs.Gates.{settled}
 use Rattle.clk_model.specs.Round.{wiring}
 use Rattle.clk_model.specs.Chain.{clock_id}
-use Rattle.clk_model.specs.Begin.{put_handle, prepared_once_more, held_once_more, request_between}
-use Rattle.clk_model.specs.Step.{todo, taken, ended_well, with_range, range_back, unranged, end_of, stepped}
+use Rattle.clk_model.specs.Begin.{prepared_once_more, held_once_more, request_between}
+use Rattle.clk_model.specs.Step.{todo, taken, ended_well, with_range, range_back, unranged, end_of}
 use Rattle.clk_model.specs.Machine.{comes_next}
 use Rattle.clk_model.specs.Wired.{IsWired}
 use Rattle.clk_model.proofs.Members.{both_left, not_either}
 use Rattle.clk_model.proofs.FlightLaws.{IsStep}
 use Rattle.clk_model.proofs.VetoLaws.{ends_it, end_state}
-use Rattle.clk_model.proofs.HoldSteps.{holds_of}
 use Rattle.clk_model.proofs.HoldLaws.{end_holds}
 use Rattle.clk_model.proofs.HolderLaws.{is_under}
-use Rattle.clk_model.proofs.Scenes.{Scene, scene, IsFree, EndsPrepare, is_plain, IsSafe, PowersOn, RaisedWell, RaisingFront, raised, asks, asks_first, comes_again, is_calm, Stands, calm, raising, InCall, IsAtRest}
-use Rattle.clk_model.proofs.ArriveLaws.{IsFit, fit_of, settled_safe, safe_recounted, wired_before, to_be_told, covered_powered}
+use Rattle.clk_model.proofs.Scenes.{scene, IsFree, EndsPrepare, is_plain, IsSafe, raised, asks, asks_first, comes_again, is_calm, Stands, calm, raising, InCall, IsAtRest}
+use Rattle.clk_model.proofs.ArriveLaws.{IsFit, fit_of, settled_safe, safe_recounted, wired_before, covered_powered}
 use Rattle.clk_model.proofs.FlightSafeLaws.{FirstGoes, first_raises, first_makes, first_ends, first_goes, front_step, script_step}
 use Rattle.clk_model.proofs.RestLaws.{Alike, alike_self, alike_far, alike_put, alike_requested, fit_alike, fit_counted, prepared_more, gates_alike}
 

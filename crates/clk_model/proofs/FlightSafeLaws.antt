@@ -1,6 +1,6 @@
 -- Laws on each step of a change in flight: it leaves the change safe, and its end leaves a state at rest.
-use Rattle.std.proofs.Common.{◌≡◌, ℕ, zero, suc, ◌+◌, ◌<◌, ◌&&◌, Bool, true, false, not, cond, map, List, [], ◌∷◌, ◌++◌, Option, Some, None, refl, sym, ap, subst, ◌∙◌, ◌⊎◌, inl, inr, length}
-use Rattle.std.specs.Prelude.{IfSome, filter, slice_index, if◌then◌else◌, ◌==◌}
+use Rattle.std.proofs.Common.{◌≡◌, ℕ, Bool, true, false, not, cond, map, List, [], ◌∷◌, ◌++◌, Option, Some, None, refl, sym, ap, subst, ◌∙◌, inl, inr, length}
+use Rattle.std.specs.Prelude.{IfSome, slice_index, if◌then◌else◌, ◌==◌}
 use Rattle.std.specs.List.{list_all}
 use Rattle.std.specs.Option.{option_map_or}
 use Rattle.clk_base.specs.declared.call.Micro.{Micro}
@@ -14,28 +14,26 @@ use Rattle.clk_base.specs.Fields.{power_of}
 use Rattle.reg_bank.specs.Registers.{Registers}
 use Rattle.clk_model.specs.Lists.{is_in, without}
 use Rattle.clk_model.specs.Kinds.{is_powered}
-use Rattle.clk_model.specs.State.{State, Change, NotifierRow, registered}
+use Rattle.clk_model.specs.State.{State, Change, registered}
 use Rattle.clk_model.specs.Tree.{path, path_to_be, link_given}
 use Rattle.clk_model.specs.Holders.{prepared}
 use Rattle.clk_model.specs.Rate.{rate}
 use Rattle.clk_model.specs.Round.{wiring}
-use Rattle.clk_model.specs.Gates.{settled}
 use Rattle.clk_model.specs.Chain.{clock_id}
 use Rattle.clk_model.specs.Notices.{notifiers_of, post_list}
 use Rattle.clk_model.specs.Begin.{register}
-use Rattle.clk_model.specs.Step.{todo, rest_of, left_behind, taken, on, cut_short, to_raise, raise, poll, is_yes, fall, lower, set_in_chain, visit, stepped}
+use Rattle.clk_model.specs.Step.{todo, rest_of, left_behind, taken, cut_short, to_raise, raise, poll, is_yes, fall, set_in_chain, stepped}
 use Rattle.clk_model.specs.Machine.{comes_next}
 use Rattle.clk_model.specs.Wired.{IsWired}
 use Rattle.clk_model.proofs.Members.{is_in_head, is_in_tail}
 use Rattle.clk_model.proofs.MicroLaws.{comes_first}
-use Rattle.std.proofs.lemmas.Bool.{and_from}
 use Rattle.clk_model.proofs.FlightLaws.{IsStep}
 use Rattle.clk_model.proofs.Members.{both_left, both_right}
-use Rattle.clk_model.proofs.Scenes.{Scene, scene, prepared_in, to_be, IsSound, IsFree, IsCovered, EndsPrepare, after, is_plain, Serves, Grows, GoesWell, raises, makes, ends, IsSafe, RaisedWell, RaisingFront, raised, asks, asks_first, comes_again, is_calm, Stands, calm, raising, InCall}
+use Rattle.clk_model.proofs.Scenes.{Scene, scene, IsSound, IsFree, EndsPrepare, after, is_plain, Serves, Grows, GoesWell, raises, makes, ends, IsSafe, RaisedWell, RaisingFront, raised, asks, asks_first, comes_again, is_calm, Stands, calm, raising, InCall}
 use Rattle.clk_model.proofs.SceneStepLaws.{step_lands}
 use Rattle.clk_model.proofs.ArriveLaws.{Powers, to_be_told, covered_powered}
 use Rattle.clk_model.proofs.StandLaws.{Goes, IsEvent, stands_calm, arrive_at, change_after, fall_goes, told_goes, lower_goes, lowered_change}
-use Rattle.clk_model.proofs.RaiseLaws.{calm_map, calm_append, raise_goes, BehindPoll, all_raised, to_go_on, poll_goes}
+use Rattle.clk_model.proofs.RaiseLaws.{calm_map, calm_append, raise_goes, all_raised, to_go_on, poll_goes}
 
 -- ---- scripts that go well, from their first step
 

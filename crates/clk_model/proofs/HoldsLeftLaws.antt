@@ -1,19 +1,13 @@
 -- Laws on what calls hold: calls that are no registrations leave no hold behind, and so do runs of them.
-use Rattle.std.proofs.Common.{◌≡◌, ℕ, ◌&&◌, Bool, true, false, List, [], ◌∷◌, Option, Some, None, refl, sym, ap, subst, ◌∙◌, nat_eq, nat_lt, ◌+◌, ◌⊎◌, ◌++◌, inl, inr, length}
+use Rattle.std.proofs.Common.{◌≡◌, ℕ, ◌&&◌, Bool, true, false, List, [], ◌∷◌, Option, Some, None, refl, sym, ap, subst, ◌∙◌, nat_eq, nat_lt, ◌+◌, inl}
 use Rattle.std.specs.Prelude.{is_some}
-use Rattle.std.specs.List.{AllByRecursion, list_any}
+use Rattle.std.specs.List.{AllByRecursion}
 use Rattle.std.specs.Option.{option_map_or}
-use Rattle.clk_base.specs.Description.{Description, kind_of, parents_of}
+use Rattle.clk_base.specs.Description.{kind_of, parents_of}
 use Rattle.clk_base.specs.Levels.{depth}
-use Rattle.clk_base.specs.Valid.{IsValid}
-use Rattle.clk_base.specs.declared.call.Micro.{Micro}
 use Rattle.clk_base.specs.declared.call.Sleeping.{Sleeping}
 use Rattle.clk_base.specs.declared.call.Sleeping.TheVariants as call
-use Rattle.clk_base.specs.declared.event.Entry.{Entry}
 use Rattle.clk_base.specs.declared.event.Errno.TheVariants as errno
-use Rattle.clk_base.specs.declared.event.Event.{Event}
-use Rattle.clk_base.specs.declared.event.Event.TheVariants as event
-use Rattle.clk_base.specs.declared.event.Reply.TheVariants as reply
 use Rattle.clk_base.specs.declared.event.Turn.{Turn}
 use Rattle.clk_base.specs.declared.event.Turn.TheVariants as turn
 use Rattle.clk_base.proofs.Valid.{lines_end}
@@ -26,21 +20,12 @@ use Rattle.clk_model.specs.Round.{Wiring, wiring}
 use Rattle.clk_model.specs.Chain.{chain}
 use Rattle.clk_model.specs.Views.{lift, view}
 use Rattle.clk_model.specs.Begin.{change_along, starts, refused, most_credits, weight_of, pick, request, request_between, put_handle, held_once_more, own_handle, with_handle, reparenting, parent_set, begun}
-use Rattle.clk_model.specs.Machine.{next}
-use Rattle.clk_model.specs.Journal.{slotless, replay, Legal, opening}
-use Rattle.clk_model.specs.Tier.{is_enable_tier}
-use Rattle.clk_model.specs.Laws.Flight.{Flight, begins, goes_on, beside, plan}
-use Rattle.clk_model.specs.Laws.LinksKept.{KeepsLinks}
+use Rattle.clk_model.specs.Laws.Flight.{plan}
 use Rattle.clk_model.specs.Laws.Plans.{HasParent, LeadsFrom}
-use Rattle.clk_model.specs.Laws.HoldsLeft.{HoldsNothing, is_probe, CallsLeaveNoHold}
-use Rattle.clk_model.proofs.Members.{both_left, both_right, not_either, same_from_test}
+use Rattle.clk_model.specs.Laws.HoldsLeft.{is_probe, CallsLeaveNoHold}
+use Rattle.clk_model.proofs.Members.{both_left, both_right, same_from_test}
 use Rattle.clk_model.proofs.BeginLaws.{plans, begun_going}
-use Rattle.clk_model.proofs.TierLaws.{beside_change, beside_clocks}
-use Rattle.clk_model.proofs.VetoLaws.{of_change}
-use Rattle.clk_model.proofs.FlightLaws.{step_is, begin_is, course_of}
-use Rattle.clk_model.proofs.InFlightLaws.{InFlight, answered_leaves, answered_quiet, end_quiet}
-use Rattle.clk_model.proofs.ShapeLaws.{no_step, events_keep_shape}
-use Rattle.clk_model.proofs.LinkLaws.{events_keep_links, runs_keep_links, runs_are_wired}
+use Rattle.clk_model.proofs.FlightLaws.{begin_is}
 use Rattle.clk_model.proofs.PlanLaws.{chains_lead, not_above_parent}
 use Rattle.clk_model.proofs.WalkLaws.{walks_list}
 use Rattle.clk_model.proofs.HoldSteps.{holds_of}

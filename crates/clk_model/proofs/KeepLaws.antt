@@ -1,5 +1,5 @@
 -- Laws on what a step writes: it leaves the gates of active clocks, the power bits of prepared ones, and the muxes that it doesn't move.
-use Rattle.std.proofs.Common.{◌≡◌, ◌≢◌, ℕ, ◌<◌, ◌^◌, Bool, true, false, not, cond, List, [], ◌∷◌, Option, Some, None, refl, sym, ap, subst, ◌∙◌, ◌⊎◌, inl, inr, arith, length}
+use Rattle.std.proofs.Common.{◌≡◌, ◌≢◌, ℕ, ◌<◌, ◌^◌, Bool, true, false, not, cond, Option, Some, None, refl, sym, ap, subst, ◌∙◌, ◌⊎◌, inl, inr, arith, length}
 use Rattle.std.specs.Prelude.{IfSome, slice_get, if◌then◌else◌}
 use Rattle.std.specs.Option.{option_map_or}
 use Rattle.clk_base.specs.declared.clock.Kind.{Kind}
@@ -7,9 +7,9 @@ use Rattle.clk_base.specs.declared.clock.Kind.TheVariants.{FixedRate, Factor, Ga
 use Rattle.clk_base.specs.Description.{Description, kind_of, parents_of}
 use Rattle.clk_base.specs.Fields.{Field, GateBit, PowerBit, bit_field, gate_of, power_of, field_of, fields_of}
 use Rattle.clk_base.specs.Valid.{IsValid}
-use Rattle.clk_base.proofs.Valid.{gate-field, power-field, field-field, fields-within, power-within, gates-once}
+use Rattle.clk_base.proofs.Valid.{gate-field, power-field, field-field, fields-within, power-within}
 use Rattle.reg_bank.specs.Registers.{Registers, field, put, is_set, put_bit}
-use Rattle.reg_bank.proofs.BitLaws.{is_set-put_bit_same, is_set-put_bit_other}
+use Rattle.reg_bank.proofs.BitLaws.{is_set-put_bit_same}
 use Rattle.reg_bank.proofs.FieldLaws.{field-put_same}
 use Rattle.clk_model.specs.Kinds.{mux_field, is_open, is_powered, with_gate, with_power}
 use Rattle.clk_model.specs.State.{State, Change}
@@ -20,9 +20,8 @@ use Rattle.clk_model.specs.Chain.{setting}
 use Rattle.clk_model.specs.Step.{powered, planned_rate, set_in_chain}
 use Rattle.clk_model.specs.Laws.Plans.{LieApart}
 use Rattle.clk_model.proofs.WholePathLaws.{same_or_not}
-use Rattle.clk_model.proofs.GateLaws.{at_or_apart}
 use Rattle.clk_model.proofs.ApartLaws.{fields_apart, fielded_lt, mux_is_field, gate_or_field}
-use Rattle.clk_model.proofs.OutcomeLaws.{FitsKind, field-put_outside}
+use Rattle.clk_model.proofs.OutcomeLaws.{field-put_outside}
 use Rattle.clk_model.proofs.SettingLaws.{settings_fit, bit_same}
 use Rattle.clk_model.proofs.SupplyLaws.{field-put_off, selected_same}
 use Rattle.clk_model.proofs.PowerLaws.{SameMuxes}

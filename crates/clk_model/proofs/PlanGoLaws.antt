@@ -1,5 +1,5 @@
 -- Laws on the scripts of plans: over a fit state each script of a planned chain goes well.
-use Rattle.std.proofs.Common.{◌≡◌, ℕ, zero, suc, ◌<◌, Bool, true, false, not, ◌&&◌, cond, map, List, [], ◌∷◌, ◌++◌, Option, Some, None, refl, sym, ap, subst, ◌∙◌, ◌⊎◌, inl, inr, arith, length}
+use Rattle.std.proofs.Common.{◌≡◌, ℕ, ◌<◌, Bool, true, false, not, List, [], ◌∷◌, ◌++◌, Option, Some, None, refl, sym, ap, subst, ◌∙◌, ◌⊎◌, inl, inr, length}
 use Rattle.std.specs.Prelude.{filter, flat_map, if◌then◌else◌, option_map}
 use Rattle.std.specs.List.{list_any, list_all, AllByRecursion}
 use Rattle.std.specs.Option.{option_map_or}
@@ -7,12 +7,11 @@ use Rattle.std.proofs.lemmas.List.{append_assoc}
 use Rattle.clk_base.specs.declared.call.Micro.{Micro}
 use Rattle.clk_base.specs.declared.call.Micro.TheVariants as micro
 use Rattle.clk_base.specs.declared.call.Sleeping.{Sleeping}
-use Rattle.clk_base.specs.declared.call.Sleeping.TheVariants as call
-use Rattle.clk_base.specs.Description.{Description, kind_of, parents_of}
+use Rattle.clk_base.specs.Description.{Description, parents_of}
 use Rattle.clk_base.specs.Levels.{depth}
 use Rattle.clk_base.proofs.Valid.{lines_end}
 use Rattle.clk_model.specs.declared.row.ClockRow.{ClockRow}
-use Rattle.clk_model.specs.Lists.{is_in, same_place, none_twice}
+use Rattle.clk_model.specs.Lists.{is_in, same_place}
 use Rattle.clk_model.specs.State.{State, ChainStep, row_of, registered, link_in}
 use Rattle.clk_model.specs.Holders.{prepared}
 use Rattle.clk_model.specs.Round.{Wiring, wiring}
@@ -20,25 +19,23 @@ use Rattle.clk_model.specs.Chain.{clock_id, moves, outcome, place_of}
 use Rattle.clk_model.specs.Walk.{top_of, kids_after, walk}
 use Rattle.clk_model.specs.Notices.{is_veto}
 use Rattle.clk_model.specs.Script.{move, move_of, planned}
-use Rattle.clk_model.specs.Step.{is_end, from_first}
-use Rattle.clk_model.specs.Wired.{LinesEnd, IsWired, IsOrder}
-use Rattle.clk_model.specs.Laws.Plans.{clocks_in, HasParent, LeadsFrom, DiffersIn}
+use Rattle.clk_model.specs.Step.{is_end}
+use Rattle.clk_model.specs.Wired.{IsWired, IsOrder}
+use Rattle.clk_model.specs.Laws.Plans.{HasParent, LeadsFrom}
 use Rattle.clk_model.specs.Laws.Flight.{pre_notices, abort_notices}
-use Rattle.clk_model.proofs.Members.{is_in_head, is_in_tail, test_same}
-use Rattle.clk_model.proofs.NoneLaws.{none_append, none_flat_map, none_if}
+use Rattle.clk_model.proofs.Members.{test_same}
+use Rattle.clk_model.proofs.NoneLaws.{none_append, none_flat_map}
 use Rattle.clk_model.proofs.OutcomeLaws.{differs_in}
 use Rattle.clk_model.proofs.SettingLaws.{settings_fit}
 use Rattle.clk_model.proofs.BeginLaws.{walked_at, walked}
-use Rattle.clk_model.proofs.BelowLaws.{IsUp}
 use Rattle.clk_model.proofs.WalkLaws.{Planned_, links_after, kids_are, walks_list}
 use Rattle.clk_model.proofs.WalkOrderLaws.{Descends, below_descends, behind_apart}
 use Rattle.clk_model.proofs.AboveLaws.{Above}
-use Rattle.clk_model.proofs.Scenes.{Scene, scene, holding, prepared_in, IsSound, IsFree, EndsPrepare, GoesWell, ends}
-use Rattle.clk_model.proofs.BlockLaws.{move_behind}
+use Rattle.clk_model.proofs.Scenes.{Scene, scene, holding, prepared_in, IsSound, EndsPrepare, GoesWell, ends}
 use Rattle.clk_model.proofs.ArriveLaws.{IsFit}
 use Rattle.clk_model.proofs.PlanRootLaws.{IsRooted, StepsRooted, rooted_linked}
 use Rattle.clk_model.proofs.WalkGoLaws.{from_first_past, CutsAt, block, IsMover, Apart, AllApart, WalkOver, ToWalk, walked_goes}
-use Rattle.clk_model.proofs.PlannedGoLaws.{leaves_scene, goes_past, leaves_map, leaves_notices, leaves_aborts, all_both, registered_lt, moves_here, OneStep, one_step}
+use Rattle.clk_model.proofs.PlannedGoLaws.{leaves_scene, goes_past, leaves_notices, leaves_aborts, all_both, registered_lt, moves_here, OneStep, one_step}
 
 -- ---- what a plan is made in
 

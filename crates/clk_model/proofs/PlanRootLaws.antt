@@ -1,11 +1,9 @@
 -- Laws on planned chains: each clock of a chain that begins at a rooted clock is rooted, and so is each parent that it moves to.
-use Rattle.std.proofs.Common.{◌≡◌, ℕ, zero, suc, ◌<◌, ◌≤◌, Bool, true, false, not, ◌&&◌, ◌||◌, cond, List, [], ◌∷◌, Option, Some, None, refl, sym, ap, subst, ◌∙◌, ◌⊎◌, inl, inr, length}
+use Rattle.std.proofs.Common.{◌≡◌, ℕ, zero, suc, ◌<◌, ◌≤◌, Bool, true, false, not, ◌&&◌, ◌||◌, List, [], ◌∷◌, Option, Some, None, refl, sym, ap, subst, ◌∙◌, ◌⊎◌, inl, inr, length}
 use Rattle.std.specs.Prelude.{IfSome, if◌then◌else◌, option_map, option_and_then}
 use Rattle.std.specs.List.{AllByRecursion}
 use Rattle.std.proofs.lemmas.Bool.{cases_lt, and_parts}
 use Rattle.std.proofs.lemmas.List.{get_or_past}
-use Rattle.clk_base.specs.declared.clock.Kind.{Kind}
-use Rattle.clk_base.specs.declared.clock.Kind.TheVariants.{FixedRate, Factor, Gate, Mux, Divider, Pll}
 use Rattle.clk_base.specs.declared.clock.ClockDef.{ClockDef}
 use Rattle.clk_base.specs.Description.{Description, nobody, kind_of, parents_of}
 use Rattle.clk_base.specs.Flags.{sets_parent_gate, sets_rate_parent}
@@ -20,12 +18,12 @@ use Rattle.clk_model.specs.Tree.{path, rooted}
 use Rattle.clk_model.specs.Round.{Wiring, View, Rounded, rate_in, passes_on, rate_for, round}
 use Rattle.clk_model.specs.Chain.{moves, chain_from, chain_within, keeps_boundaries, chain}
 use Rattle.clk_model.specs.Wired.{LinksArePossible}
-use Rattle.clk_model.proofs.Members.{any_in, both_left, both_right}
+use Rattle.clk_model.proofs.Members.{any_in}
 use Rattle.clk_model.proofs.RoundLaws.{Fits, fits_round}
 use Rattle.clk_model.proofs.PlanLaws.{step_of}
 use Rattle.clk_model.proofs.SiblingLaws.{fixed_rate}
 use Rattle.clk_model.proofs.BelowLaws.{Rises}
-use Rattle.clk_model.proofs.AboveLaws.{Above, path_above, HasRoot}
+use Rattle.clk_model.proofs.AboveLaws.{path_above, HasRoot}
 
 -- ---- what rounding keeps
 

@@ -1,47 +1,26 @@
 -- Laws on the scripts of plans: they go well.
-use Rattle.std.proofs.Common.{◌≡◌, ℕ, zero, suc, ◌<◌, Bool, true, false, not, ◌&&◌, ◌||◌, cond, map, List, [], ◌∷◌, ◌++◌, Option, Some, None, refl, sym, ap, subst, ◌∙◌, ◌⊎◌, inl, inr, arith, length, nat_eq}
-use Rattle.std.specs.Prelude.{◌==◌, filter, flat_map, slice_index, if◌then◌else◌, option_map}
-use Rattle.std.specs.List.{list_any, list_all, AllByRecursion}
-use Rattle.std.specs.Option.{option_map_or}
+use Rattle.std.proofs.Common.{◌≡◌, ℕ, zero, suc, ◌<◌, Bool, true, false, ◌&&◌, ◌||◌, cond, map, List, [], ◌∷◌, ◌++◌, None, refl, sym, ap, ◌∙◌, ◌⊎◌, inl, inr, arith, length, nat_eq}
+use Rattle.std.specs.Prelude.{◌==◌, filter, flat_map, slice_index, if◌then◌else◌}
+use Rattle.std.specs.List.{list_all, AllByRecursion}
 use Rattle.std.proofs.lemmas.Bool.{and_from}
-use Rattle.std.proofs.lemmas.List.{append_assoc}
 use Rattle.std.proofs.lemmas.List.Folds.{list_all-append}
 use Rattle.clk_base.specs.declared.call.Micro.{Micro}
 use Rattle.clk_base.specs.declared.call.Micro.TheVariants as micro
 use Rattle.clk_base.specs.declared.call.Notice.TheVariants as notice
 use Rattle.clk_base.specs.declared.call.Sleeping.{Sleeping}
-use Rattle.clk_base.specs.declared.call.Sleeping.TheVariants as call
-use Rattle.clk_base.specs.Description.{Description, kind_of, parents_of}
-use Rattle.clk_base.specs.Levels.{depth}
-use Rattle.clk_base.proofs.Valid.{lines_end}
+use Rattle.clk_base.specs.Description.{Description}
 use Rattle.clk_model.specs.declared.row.ClockRow.{ClockRow}
-use Rattle.clk_model.specs.Lists.{is_in, same_place, none_twice}
-use Rattle.clk_model.specs.State.{State, ChainStep, NotifierRow, row_of, registered, link_in}
-use Rattle.clk_model.specs.Holders.{prepared}
-use Rattle.clk_model.specs.Round.{Wiring, wiring}
-use Rattle.clk_model.specs.Chain.{clock_id, moves, outcome, place_of}
-use Rattle.clk_model.specs.Walk.{top_of, kids_after, walk, changing}
-use Rattle.clk_model.specs.Notices.{Rates, notifiers_of, until_veto, pre_list, is_veto, abort_list}
-use Rattle.clk_model.specs.Script.{move, move_of, planned}
-use Rattle.clk_model.specs.Step.{is_end, from_first}
-use Rattle.clk_model.specs.Wired.{LinesEnd, IsWired, IsOrder}
-use Rattle.clk_model.specs.Laws.Plans.{clocks_in, HasParent, LeadsFrom}
+use Rattle.clk_model.specs.Lists.{is_in, none_twice}
+use Rattle.clk_model.specs.State.{State, ChainStep, NotifierRow, registered}
+use Rattle.clk_model.specs.Round.{wiring}
+use Rattle.clk_model.specs.Chain.{clock_id, moves}
+use Rattle.clk_model.specs.Walk.{changing}
+use Rattle.clk_model.specs.Notices.{Rates, notifiers_of, until_veto}
+use Rattle.clk_model.specs.Laws.Plans.{clocks_in}
 use Rattle.clk_model.specs.Laws.Flight.{plan_rates, pre_notices, abort_notices}
-use Rattle.clk_model.proofs.Members.{is_in_head, is_in_tail, is_in_cases, both_left, both_right, same_from_test, test_same}
+use Rattle.clk_model.proofs.Members.{is_in_head, is_in_tail, both_left, both_right, same_from_test}
 use Rattle.clk_model.proofs.OnceLaws.{once_head}
-use Rattle.clk_model.proofs.NoneLaws.{none_append, none_flat_map, none_if}
-use Rattle.clk_model.proofs.OutcomeLaws.{differs_in}
-use Rattle.clk_model.proofs.SettingLaws.{settings_fit}
-use Rattle.clk_model.proofs.BeginLaws.{walked_at, walked}
-use Rattle.clk_model.proofs.BelowLaws.{IsUp}
-use Rattle.clk_model.proofs.WalkLaws.{Planned_, planned_link, links_after, kids_are, walks_list}
-use Rattle.clk_model.proofs.WalkOrderLaws.{Descends, below_descends, behind_apart}
-use Rattle.clk_model.proofs.AboveLaws.{Above}
-use Rattle.clk_model.proofs.Scenes.{Scene, scene, holding, prepared_in, IsSound, IsFree, EndsPrepare, GoesWell, makes, ends}
-use Rattle.clk_model.proofs.BlockLaws.{move_behind}
-use Rattle.clk_model.proofs.PlanRootLaws.{IsRooted, StepsRooted, rooted_linked}
-use Rattle.clk_model.proofs.RaiseLaws.{calm_append, calm_map}
-use Rattle.clk_model.proofs.WalkGoLaws.{from_first_past, CutsAt, block, IsMover, AllApart, WalkOver, ToWalk, walked_goes}
+use Rattle.clk_model.proofs.Scenes.{Scene, IsSound, GoesWell, makes}
 
 -- ---- steps that leave the scene
 

@@ -1,28 +1,25 @@
 -- Laws on registrations and sweeps: their scripts go well over a state at rest.
-use Rattle.std.proofs.Common.{◌≡◌, ℕ, zero, suc, ◌<◌, ◌≤◌, Bool, true, false, not, ◌&&◌, ◌||◌, cond, map, List, [], ◌∷◌, ◌++◌, Option, Some, None, refl, sym, ap, subst, ◌∙◌, ◌⊎◌, inl, inr, arith, length}
-use Rattle.std.specs.Prelude.{IfSome, filter, flat_map, if◌then◌else◌, is_none, option_map}
-use Rattle.std.specs.List.{list_any, list_all}
+use Rattle.std.proofs.Common.{◌≡◌, ℕ, ◌≤◌, Bool, true, false, not, ◌&&◌, map, List, [], ◌∷◌, ◌++◌, Option, Some, None, refl, sym, ap, subst, ◌∙◌, ◌⊎◌, inl, inr, arith, length}
+use Rattle.std.specs.Prelude.{filter, flat_map, if◌then◌else◌, is_none, option_map}
 use Rattle.std.specs.Option.{option_map_or}
 use Rattle.std.proofs.lemmas.List.{append_assoc}
 use Rattle.clk_base.specs.declared.call.Micro.{Micro}
 use Rattle.clk_base.specs.declared.call.Micro.TheVariants as micro
-use Rattle.clk_base.specs.declared.call.Sleeping.{Sleeping}
 use Rattle.clk_base.specs.declared.call.Sleeping.TheVariants as call
 use Rattle.clk_base.specs.declared.clock.ClockId.{ClockId}
 use Rattle.clk_base.specs.Description.{Description, kind_of, parents_of}
-use Rattle.clk_base.specs.Fields.{PowerBit, power_of}
 use Rattle.clk_base.specs.Flags.{is_critical, ignores_unused}
 use Rattle.clk_base.specs.Valid.{IsValid}
 use Rattle.clk_base.proofs.Valid.{lines_end}
 use Rattle.clk_model.specs.Lists.{is_in, none_twice}
-use Rattle.clk_model.specs.Kinds.{is_fixed, is_powered}
-use Rattle.clk_model.specs.State.{State, registered, link_in, handle_at}
-use Rattle.clk_model.specs.Tree.{path_to_be, selected, link_given, is_orphan, orphans}
-use Rattle.clk_model.specs.Holders.{clocks_of, is_prepared, active, prepared}
+use Rattle.clk_model.specs.Kinds.{is_fixed}
+use Rattle.clk_model.specs.State.{State, registered, link_in}
+use Rattle.clk_model.specs.Tree.{path_to_be, link_given, is_orphan, orphans}
+use Rattle.clk_model.specs.Holders.{is_prepared, active, prepared}
 use Rattle.clk_model.specs.Chain.{clock_id}
-use Rattle.clk_model.specs.Script.{adoptable, adoption, adoption_order, probe_script, sweep_order, lets_through, runs, sweep_script, unprepared_plls}
+use Rattle.clk_model.specs.Script.{adoptable, adoption, adoption_order, probe_script, sweep_order, lets_through, runs, sweep_script}
 use Rattle.clk_model.specs.Begin.{register}
-use Rattle.clk_model.specs.Step.{is_end, from_first, cut_short, to_raise}
+use Rattle.clk_model.specs.Step.{is_end}
 use Rattle.clk_model.specs.Laws.LinksKept.{KeepsLinks}
 use Rattle.clk_model.proofs.Members.{is_in_head, is_in_tail, both_right}
 use Rattle.clk_model.proofs.OnceLaws.{once_filter, is_in-filter, filter_passes}
@@ -32,11 +29,11 @@ use Rattle.clk_model.proofs.SettingLaws.{settings_fit}
 use Rattle.clk_model.proofs.PllLaws.{selected_possible, link_given_possible}
 use Rattle.clk_model.proofs.WalkLaws.{turned_off}
 use Rattle.clk_model.proofs.LinkBegins.{keeps_register}
-use Rattle.clk_model.proofs.Scenes.{Scene, scene, holding, prepared_in, given_in, to_be, IsSound, IsCovered, after, GoesWell, raises, makes, ends, PowersOn}
+use Rattle.clk_model.proofs.Scenes.{Scene, scene, holding, prepared_in, given_in, to_be, IsSound, after, GoesWell, raises, makes, ends}
 use Rattle.clk_model.proofs.ArriveLaws.{IsFit, to_be_told}
 use Rattle.clk_model.proofs.SceneStepLaws.{register_scene, parent_lt}
 use Rattle.clk_model.proofs.WalkGoLaws.{from_first_past}
-use Rattle.clk_model.proofs.PlannedGoLaws.{leaves_scene, goes_past, leaves_map}
+use Rattle.clk_model.proofs.PlannedGoLaws.{goes_past, leaves_map}
 use Rattle.clk_model.proofs.PlanGoLaws.{free_scene}
 use Rattle.clk_model.proofs.RegisterGoLaws.{CanRegister, given_is, register_sound, register_prepares}
 use Rattle.clk_model.proofs.AdoptGoLaws.{adopts, ToAdopt, adoptions_no_end, adopted_goes, ordered_in, ordered_once, ordered_next}

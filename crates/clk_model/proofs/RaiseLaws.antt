@@ -1,21 +1,20 @@
 -- Laws on the raises of a change in flight: raises and polls leave it safe and raising, or timed out.
-use Rattle.std.proofs.Common.{◌≡◌, ℕ, zero, suc, ◌+◌, ◌-◌, ◌<◌, ◌≤◌, ◌&&◌, Bool, true, false, not, cond, map, List, [], ◌∷◌, ◌++◌, Option, Some, None, refl, sym, ap, subst, ◌∙◌, ◌⊎◌, inl, inr, arith, length}
+use Rattle.std.proofs.Common.{◌≡◌, ℕ, ◌+◌, ◌-◌, ◌≤◌, Bool, true, false, not, cond, map, List, [], ◌∷◌, ◌++◌, Option, Some, None, refl, sym, ap, subst, ◌∙◌, inl, inr, arith, length}
 use Rattle.std.proofs.lemmas.Bool.Decides.{nat_tests}
 use Rattle.std.proofs.lemmas.List.Folds.{list_all-append}
-use Rattle.std.specs.Prelude.{IfSome, filter, flat_map, slice_get, slice_index, reverse, nat_le, if◌then◌else◌}
+use Rattle.std.specs.Prelude.{IfSome, slice_get, slice_index, reverse, nat_le, if◌then◌else◌}
 use Rattle.std.specs.List.{list_all}
 use Rattle.std.specs.Option.{option_map_or}
 use Rattle.clk_base.specs.declared.call.Micro.{Micro}
 use Rattle.clk_base.specs.declared.call.Micro.TheVariants as micro
 use Rattle.clk_base.specs.declared.call.Notice.TheVariants as notice
-use Rattle.clk_base.specs.declared.call.Sleeping.{Sleeping}
 use Rattle.clk_base.specs.Description.{Description, kind_of}
 use Rattle.clk_base.specs.Fields.{PowerBit, power_of}
 use Rattle.clk_base.specs.Valid.{IsValid}
 use Rattle.reg_bank.specs.Registers.{Registers}
 use Rattle.clk_model.specs.Lists.{is_in}
 use Rattle.clk_model.specs.Kinds.{is_powered}
-use Rattle.clk_model.specs.State.{State, Change, NotifierRow}
+use Rattle.clk_model.specs.State.{State, Change}
 use Rattle.clk_model.specs.Tree.{path_to_be}
 use Rattle.clk_model.specs.Holders.{prepared}
 use Rattle.clk_model.specs.Gates.{settled}
@@ -28,7 +27,7 @@ use Rattle.clk_model.proofs.OnceLaws.{is_in-filter}
 use Rattle.std.proofs.lemmas.Bool.{and_from}
 use Rattle.clk_model.proofs.PllLaws.{at_place}
 use Rattle.clk_model.proofs.PowerLaws.{settled_raise, settled_power, raised_fewer, powered_muxes}
-use Rattle.clk_model.proofs.Scenes.{Scene, scene, prepared_in, to_be, GoesWell, IsSafe, RaisedWell, RaisingFront, raised, asks, asks_first, comes_again, is_calm, Stands, raising}
+use Rattle.clk_model.proofs.Scenes.{scene, GoesWell, IsSafe, RaisedWell, RaisingFront, raised, asks, asks_first, comes_again, is_calm, raising}
 use Rattle.clk_model.proofs.KeepLaws.{keeps_raised, raised_powers}
 use Rattle.clk_model.proofs.SceneStepLaws.{lands_on, lands_same, unprepared_idle}
 use Rattle.clk_model.proofs.ArriveLaws.{Arrives, prepared_told, to_be_told, some_one, if_one}

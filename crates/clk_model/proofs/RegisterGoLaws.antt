@@ -1,5 +1,5 @@
 -- Laws on registrations: a registration leaves a sound scene, and prepares nothing but the path of a critical clock.
-use Rattle.std.proofs.Common.{◌≡◌, ℕ, zero, suc, ◌+◌, ◌<◌, ◌≤◌, Bool, true, false, not, ◌&&◌, ◌||◌, cond, List, [], ◌∷◌, ◌++◌, Option, Some, None, refl, sym, ap, subst, ◌∙◌, ◌⊎◌, inl, inr, arith, length, nat_lt, nat_eq}
+use Rattle.std.proofs.Common.{◌≡◌, ℕ, zero, suc, ◌≤◌, Bool, true, false, not, ◌&&◌, ◌||◌, cond, List, [], ◌∷◌, Option, Some, None, refl, sym, ap, subst, ◌∙◌, ◌⊎◌, inl, inr, arith, length, nat_lt}
 use Rattle.std.proofs.lemmas.Bool.Decides.{nat_tests}
 use Rattle.std.specs.Prelude.{filter, if◌then◌else◌, option_and_then}
 use Rattle.std.specs.Option.{option_map_or}
@@ -17,8 +17,8 @@ use Rattle.clk_model.proofs.Members.{is_in_head, is_in_tail, is_in_cases, both_l
 use Rattle.clk_model.proofs.OnceLaws.{in_append, is_in-append, is_in-filter, filter_passes, filter_keeps}
 use Rattle.clk_model.proofs.BelowLaws.{Rises, IsUp}
 use Rattle.clk_model.proofs.WholePathLaws.{same_or_not}
-use Rattle.clk_model.proofs.AboveLaws.{put_at, put_same, put_other, Above, above_here, above_link, above_path, Holder, holder_of, held_from, HasRoot}
-use Rattle.clk_model.proofs.Scenes.{Scene, holding, keepers, preparers, prepared_in, fed_by, given_in, to_be, IsTree, IsSound, IsCovered, Grows, after}
+use Rattle.clk_model.proofs.AboveLaws.{put_at, put_same, put_other, above_path, Holder}
+use Rattle.clk_model.proofs.Scenes.{Scene, holding, keepers, prepared_in, fed_by, given_in, to_be, IsTree, IsSound, after}
 use Rattle.clk_model.proofs.SoundLaws.{prepare_cases, keeper_prepares}
 
 -- what a registration is made in: a sound scene without holds, in which the clock isn't registered, selected parents are possible ones,

@@ -1,31 +1,28 @@
 -- Laws on states between calls: what a changed, a new and a taken handle and new requests leave of a fit state.
-use Rattle.std.proofs.Common.{◌≡◌, ℕ, zero, suc, ◌+◌, ◌-◌, ◌<◌, ◌||◌, ◌&&◌, Bool, true, false, not, cond, map, set, List, [], ◌∷◌, ◌++◌, Option, Some, None, refl, sym, ap, subst, ◌∙◌, ◌⊎◌, inl, inr, arith, length, nat_lt}
+use Rattle.std.proofs.Common.{◌≡◌, ℕ, zero, suc, ◌<◌, ◌||◌, Bool, true, false, cond, map, set, List, [], ◌∷◌, ◌++◌, Option, Some, None, refl, sym, ap, subst, ◌∙◌, ◌⊎◌, inl, inr, arith, length, nat_lt}
 use Rattle.std.proofs.Math.Path.{fun_ext}
 use Rattle.std.proofs.lemmas.Bool.Decides.{nat_tests}
-use Rattle.std.specs.Prelude.{IfSome, filter, slice_set, option_map}
-use Rattle.std.specs.Option.{option_map_or}
+use Rattle.std.specs.Prelude.{IfSome, filter, option_map}
 use Rattle.clk_base.specs.Description.{Description, kind_of}
 use Rattle.clk_base.specs.Fields.{gate_of, power_of}
 use Rattle.reg_bank.specs.Registers.{Registers}
-use Rattle.clk_model.specs.declared.row.ClockRow.{ClockRow}
 use Rattle.clk_model.specs.declared.row.HandleRow.{HandleRow}
 use Rattle.clk_model.specs.Lists.{is_in, present}
 use Rattle.clk_model.specs.Kinds.{is_open, is_powered}
 use Rattle.clk_model.specs.State.{State, Change, NotifierRow, row_of, registered, link_in, handle_at, requested}
-use Rattle.clk_model.specs.Holders.{clocks_of, is_enabled, is_prepared, critical_clocks, is_held, active, prepared}
+use Rattle.clk_model.specs.Holders.{clocks_of, is_prepared, critical_clocks, is_held, prepared}
 use Rattle.clk_model.specs.Round.{wiring}
 use Rattle.clk_model.specs.Begin.{put_handle}
 use Rattle.clk_model.specs.Wired.{IsWired}
 use Rattle.clk_model.specs.Laws.Supplied.{GatesOpen}
-use Rattle.clk_model.proofs.Members.{or_cases, is_in_head, is_in_tail, is_in_cases}
 use Rattle.clk_model.proofs.HolderLaws.{is_under, held_by, held_by-append, held_by-set_none, held_by-set_more}
 use Rattle.clk_model.proofs.StateLaws.{handle_at-set_same, set-back}
 use Rattle.clk_model.proofs.HoldSteps.{link_set_same}
 use Rattle.clk_model.proofs.SupplyLaws.{prepared_parts}
 use Rattle.clk_model.proofs.AboveLaws.{HasRoot}
-use Rattle.clk_model.proofs.Scenes.{Scene, scene, IsTree, IsSound, EnablesPrepared, PowersOn}
+use Rattle.clk_model.proofs.Scenes.{Scene, scene, IsSound, EnablesPrepared, PowersOn}
 use Rattle.clk_model.proofs.SceneStepLaws.{registered_set, regained}
-use Rattle.clk_model.proofs.ArriveLaws.{IsFit, prepared_told, if_one, some_one}
+use Rattle.clk_model.proofs.ArriveLaws.{IsFit, prepared_told}
 
 -- ---- handles
 

@@ -1,20 +1,19 @@
 -- The laws of feeding over runs.
-use Rattle.std.proofs.Common.{◌≡◌, ℕ, ◌<◌, ◌&&◌, Bool, true, false, List, [], ◌∷◌, Option, Some, None, refl, sym, ap, subst, ◌∙◌, ◌⊎◌, inl, inr, length, replicate}
+use Rattle.std.proofs.Common.{◌≡◌, ℕ, Bool, true, List, [], ◌∷◌, Option, Some, None, refl, sym, ap, ◌∙◌, ◌⊎◌, inl, inr, length}
 use Rattle.std.proofs.lemmas.Bool.{and_from}
 use Rattle.std.specs.Prelude.{option_and_then, option_map}
 use Rattle.std.specs.List.{list_any}
 use Rattle.std.specs.Option.{option_map_or}
 use Rattle.clk_base.specs.declared.event.Entry.{Entry}
 use Rattle.clk_base.specs.declared.event.Turn.{Turn}
-use Rattle.clk_base.specs.Description.{Description, kind_of, parents_of}
+use Rattle.clk_base.specs.Description.{Description, kind_of}
 use Rattle.clk_base.specs.Valid.{IsValid}
 use Rattle.clk_base.proofs.Valid.{lines_end}
 use Rattle.reg_bank.specs.Registers.{Registers}
-use Rattle.clk_model.specs.declared.row.HandleRow.{HandleRow}
 use Rattle.clk_model.specs.Kinds.{is_fixed, mux_field}
-use Rattle.clk_model.specs.State.{State, registered, link_in, handle_at}
+use Rattle.clk_model.specs.State.{State, registered, link_in}
 use Rattle.clk_model.specs.Tree.{path, rooted, selected}
-use Rattle.clk_model.specs.Fed.{feeds, Fed}
+use Rattle.clk_model.specs.Fed.{Fed}
 use Rattle.clk_model.specs.Machine.{next}
 use Rattle.clk_model.specs.Journal.{replay, opening}
 use Rattle.clk_model.specs.Round.{wiring}
@@ -27,9 +26,8 @@ use Rattle.clk_model.proofs.LinkLaws.{runs_keep_links, runs_are_wired}
 use Rattle.clk_model.proofs.SupplyLaws.{supplied_is_fed}
 use Rattle.clk_model.proofs.GatesFollowLaws.{blank_link, opening_is_supplied}
 use Rattle.clk_model.proofs.AboveLaws.{HasRoot, above_path}
-use Rattle.clk_model.proofs.Scenes.{Scene, scene, fed_by, IsSound, IsSafe, IsAtRest}
+use Rattle.clk_model.proofs.Scenes.{scene, fed_by, IsSound, IsSafe, IsAtRest}
 use Rattle.clk_model.proofs.ArriveLaws.{safe_supplied}
-use Rattle.clk_model.proofs.StandLaws.{Goes}
 use Rattle.clk_model.proofs.SafeRunLaws.{IsRunning, quietly, in_flight, IsRun, run_goes_on}
 
 -- ---- runs

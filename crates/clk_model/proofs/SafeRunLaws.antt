@@ -1,40 +1,36 @@
 -- Laws on runs: each event leaves a state at rest, or a call in flight that is safe; so each legal journal leaves each active clock fed.
-use Rattle.std.proofs.Common.{◌≡◌, ℕ, zero, suc, ◌+◌, ◌-◌, ◌<◌, ◌||◌, ◌&&◌, Bool, true, false, not, cond, List, [], ◌∷◌, ◌++◌, Option, Some, None, refl, sym, ap, subst, ◌∙◌, ◌⊎◌, inl, inr, arith, length, nat_lt}
+use Rattle.std.proofs.Common.{◌≡◌, ℕ, ◌+◌, ◌-◌, ◌||◌, Bool, true, false, not, List, [], ◌∷◌, Option, Some, None, refl, sym, ap, subst, ◌∙◌, ◌⊎◌, inl, inr, arith, length, nat_lt}
 use Rattle.std.proofs.lemmas.Bool.Decides.{nat_tests}
-use Rattle.std.specs.Prelude.{IfSome, is_none, slice_get, option_map}
+use Rattle.std.specs.Prelude.{IfSome, is_none, slice_get}
 use Rattle.std.specs.List.{AllByRecursion}
-use Rattle.std.specs.Option.{option_map_or}
 use Rattle.clk_base.specs.declared.call.Micro.{Micro}
 use Rattle.clk_base.specs.declared.call.Micro.TheVariants as micro
 use Rattle.clk_base.specs.declared.call.Sleeping.{Sleeping}
 use Rattle.clk_base.specs.declared.call.Sleeping.TheVariants as call
-use Rattle.clk_base.specs.declared.clock.ClockId.{ClockId}
 use Rattle.clk_base.specs.declared.event.Event.{Event}
 use Rattle.clk_base.specs.declared.event.Event.TheVariants as event
 use Rattle.clk_base.specs.declared.event.Turn.{Turn}
 use Rattle.clk_base.specs.declared.event.Turn.TheVariants as turn
-use Rattle.clk_base.specs.declared.handle.Handle.{Handle}
 use Rattle.clk_base.specs.Description.{Description, kind_of, parents_of}
 use Rattle.clk_base.specs.Fields.{power_of}
 use Rattle.clk_base.specs.Flags.{is_critical}
 use Rattle.clk_model.specs.declared.row.HandleRow.{HandleRow}
 use Rattle.clk_model.specs.Lists.{is_in}
 use Rattle.clk_model.specs.Kinds.{is_powered}
-use Rattle.clk_model.specs.State.{State, Change, ChainStep, registered, link_in, handle_at}
+use Rattle.clk_model.specs.State.{State, Change, ChainStep, registered, handle_at}
 use Rattle.clk_model.specs.Tree.{path, path_to_be, rooted}
 use Rattle.clk_model.specs.Holders.{prepared}
 use Rattle.clk_model.specs.Gates.{settled}
-use Rattle.clk_model.specs.Round.{wiring, rate_in, View}
-use Rattle.clk_model.specs.Chain.{clock_id, outcome, chain}
+use Rattle.clk_model.specs.Round.{wiring, rate_in}
+use Rattle.clk_model.specs.Chain.{clock_id, outcome}
 use Rattle.clk_model.specs.Script.{unprepared_plls, probe_script, sweep_script}
-use Rattle.clk_model.specs.Begin.{change_along, put_handle, given, holds_something, prepared_once_more, keeps_prepare, reparenting, register, begun}
+use Rattle.clk_model.specs.Begin.{put_handle, given, holds_something, prepared_once_more, register, begun}
 use Rattle.clk_model.specs.Step.{sets_parent}
 use Rattle.clk_model.specs.Machine.{next}
 use Rattle.clk_model.specs.Wired.{IsWired}
 use Rattle.clk_model.specs.Laws.Plans.{LeadsFrom}
 use Rattle.clk_model.specs.Laws.LinksKept.{KeepsLinks}
-use Rattle.clk_model.proofs.Members.{not_either, is_in_head}
-use Rattle.clk_model.proofs.HolderLaws.{is_under}
+use Rattle.clk_model.proofs.Members.{not_either}
 use Rattle.clk_model.proofs.PlanLaws.{chains_lead}
 use Rattle.clk_model.proofs.LinkBegins.{register_defs}
 use Rattle.clk_base.specs.Valid.{IsValid}
@@ -45,7 +41,7 @@ use Rattle.clk_model.proofs.VetoLaws.{of_change}
 use Rattle.clk_model.proofs.FlightLaws.{IsStep, begin_is}
 use Rattle.clk_model.proofs.FlightSafeLaws.{step_goes}
 use Rattle.clk_model.proofs.BesideSafeLaws.{beside_goes, beside_rests}
-use Rattle.clk_model.proofs.Scenes.{Scene, scene, prepared_in, GoesWell, makes, ends, EnablesPrepared, PowersOn, IsSafe, IsSound, IsAtRest}
+use Rattle.clk_model.proofs.Scenes.{scene, GoesWell, makes, ends, EnablesPrepared, IsSound, IsAtRest}
 use Rattle.clk_model.proofs.ArriveLaws.{IsFit, wired_before, prepared_told}
 use Rattle.clk_model.proofs.StandLaws.{Goes}
 use Rattle.clk_model.proofs.RestLaws.{alike_put, alike_noted, fit_alike, fit_given, fit_taken}

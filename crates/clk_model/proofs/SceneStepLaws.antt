@@ -1,33 +1,32 @@
 -- Laws on steps and scenes: what each step of a script leaves of the scene, the gates and the power bits.
-use Rattle.std.proofs.Common.{◌≡◌, ℕ, ◌<◌, ◌≤◌, ◌^◌, Bool, true, false, not, ◌&&◌, cond, List, [], ◌∷◌, ◌++◌, Option, Some, None, refl, sym, ap, subst, ◌∙◌, ◌⊎◌, inl, inr, nat_lt, nat_eq, arith, length}
+use Rattle.std.proofs.Common.{◌≡◌, ℕ, ◌<◌, ◌^◌, Bool, true, false, not, ◌&&◌, cond, List, [], ◌∷◌, Option, Some, None, refl, sym, ap, subst, ◌∙◌, ◌⊎◌, inl, inr, nat_lt, arith, length}
 use Rattle.std.proofs.Math.Path.{fun_ext}
 use Rattle.std.proofs.lemmas.Bool.{cases_lt}
 use Rattle.std.proofs.lemmas.Bool.Decides.{nat_tests}
 use Rattle.std.proofs.lemmas.List.{set_past, get_or_past}
-use Rattle.std.specs.Prelude.{IfSome, slice_get, slice_set, slice_index, option_map, option_and_then, if◌then◌else◌, ◌==◌, nat_le}
+use Rattle.std.specs.Prelude.{slice_get, slice_set}
 use Rattle.std.specs.Option.{option_map_or}
 use Rattle.clk_base.specs.declared.call.Micro.{Micro}
 use Rattle.clk_base.specs.declared.call.Micro.TheVariants as micro
 use Rattle.clk_base.specs.declared.clock.ClockDef.{ClockDef}
 use Rattle.clk_base.specs.declared.clock.ClockId.{ClockId}
 use Rattle.clk_base.specs.Description.{Description, nobody, kind_of, parents_of}
-use Rattle.clk_base.specs.Fields.{Field, gate_of}
+use Rattle.clk_base.specs.Fields.{Field}
 use Rattle.clk_base.specs.Levels.{depth}
 use Rattle.clk_base.specs.Valid.{IsValid}
 use Rattle.reg_bank.specs.Registers.{Registers}
 use Rattle.clk_model.specs.declared.row.ClockRow.{ClockRow}
 use Rattle.clk_model.specs.Lists.{is_in}
-use Rattle.clk_model.specs.Kinds.{is_pll, mux_field, with_gate}
+use Rattle.clk_model.specs.Kinds.{is_pll, mux_field}
 use Rattle.clk_model.specs.State.{State, Change, row_of, registered, link_in}
 use Rattle.clk_model.specs.Tree.{path, selected, link_given, children}
-use Rattle.clk_model.specs.Holders.{active, prepared}
-use Rattle.clk_model.specs.Gates.{settled}
+use Rattle.clk_model.specs.Holders.{prepared}
 use Rattle.clk_model.specs.Rate.{rate}
 use Rattle.clk_model.specs.Round.{wiring}
 use Rattle.clk_model.specs.Walk.{below_within}
 use Rattle.clk_model.specs.Chain.{clock_id, linked}
 use Rattle.clk_model.specs.Script.{unprepared_plls, runs}
-use Rattle.clk_model.specs.Begin.{registered_row, registered_rows, register}
+use Rattle.clk_model.specs.Begin.{registered_rows, register}
 use Rattle.clk_model.specs.Step.{on, powered, to_lower, lower_one, lower, set_in_chain, relink, settle_all, stepped}
 use Rattle.clk_model.specs.Wired.{IsWired}
 use Rattle.clk_model.proofs.Members.{both_right}
@@ -39,7 +38,7 @@ use Rattle.clk_model.proofs.WalkLaws.{turned_off}
 use Rattle.clk_model.proofs.HoldSteps.{settled_links}
 use Rattle.clk_model.proofs.PllLaws.{at_place}
 use Rattle.clk_model.proofs.SupplyLaws.{selected_same}
-use Rattle.clk_model.proofs.PowerLaws.{SameMuxes, settled_muxes, powered_muxes}
+use Rattle.clk_model.proofs.PowerLaws.{SameMuxes, powered_muxes}
 use Rattle.clk_model.proofs.AboveLaws.{put_at, put_same, put_other}
 use Rattle.clk_model.proofs.Scenes.{Scene, scene, prepared_in, given_in, after, is_plain, Serves}
 use Rattle.clk_model.proofs.KeepLaws.{Keeps, keeps_same, keeps_lowered, keeps_closed, closed_muxes, keeps_set, set_muxes, mux_written, keeps_written, selected_written}

@@ -1,23 +1,21 @@
 -- Laws on sound scenes: what holds, new links and writes of muxes leave of them, and what each prepares.
-use Rattle.std.proofs.Common.{◌≡◌, ℕ, ◌<◌, ◌≤◌, ◌^◌, Bool, true, false, not, cond, List, [], ◌∷◌, ◌++◌, Option, Some, None, refl, sym, ap, subst, ◌∙◌, ◌⊎◌, inl, inr, nat_eq, length}
-use Rattle.std.specs.Prelude.{slice_get, filter}
+use Rattle.std.proofs.Common.{◌≡◌, ℕ, ◌≤◌, Bool, true, false, not, cond, List, [], ◌∷◌, ◌++◌, Option, Some, None, refl, sym, ap, subst, ◌∙◌, ◌⊎◌, inl, inr, length}
+use Rattle.std.specs.Prelude.{slice_get}
 use Rattle.std.specs.Option.{option_map_or}
 use Rattle.clk_base.specs.Description.{Description, kind_of, parents_of}
 use Rattle.clk_base.specs.Fields.{Field}
-use Rattle.clk_base.specs.Levels.{depth}
 use Rattle.clk_model.specs.Lists.{is_in, same_place, without, to_front}
 use Rattle.clk_model.specs.Kinds.{mux_field}
-use Rattle.clk_model.specs.Tree.{path_within}
 use Rattle.clk_model.specs.Chain.{place_of}
 use Rattle.clk_model.specs.Wired.{LinesEnd}
-use Rattle.clk_model.proofs.Members.{or_left, or_right, is_in_head, is_in_tail, is_in_cases, same_from_test, test_same}
+use Rattle.clk_model.proofs.Members.{or_left, or_right, is_in_head, is_in_cases, same_from_test, test_same}
 use Rattle.clk_model.proofs.OnceLaws.{is_in-filter}
 use Rattle.clk_model.proofs.MovedLaws.{place_holds}
 use Rattle.clk_model.proofs.BelowLaws.{IsUp}
 use Rattle.clk_model.proofs.OnceLaws.{is_in-append}
 use Rattle.clk_model.proofs.WholePathLaws.{same_or_not}
-use Rattle.clk_model.proofs.AboveLaws.{put_at, put_same, put_other, Above, above_here, above_far, above_link, above_path, not_above_link, Holder, holder_of, held_from, holder_above, holder_cases, MayLink, may_still, above_before, above_clock, holder_clock, clock_held_before, held_before, HasRoot, root_still, held_up}
-use Rattle.clk_model.proofs.Scenes.{Scene, holding, keepers, preparers, prepared_in, fed_by, to_be, IsTree, IsHeldLate, IsSound, IsFree, Grows}
+use Rattle.clk_model.proofs.AboveLaws.{put_at, put_same, put_other, Above, Holder, holder_of, held_from, holder_cases, MayLink, may_still, HasRoot, root_still, held_up}
+use Rattle.clk_model.proofs.Scenes.{Scene, holding, keepers, prepared_in, fed_by, IsTree, IsSound}
 
 -- ---- lists
 

@@ -1,43 +1,26 @@
 -- Laws on a change in flight: each of its steps that isn't the end leaves it safe, and its change stands somewhere.
-use Rattle.std.proofs.Common.{◌≡◌, ℕ, zero, suc, ◌+◌, ◌-◌, ◌<◌, ◌≤◌, ◌&&◌, ◌||◌, Bool, true, false, not, cond, map, List, [], ◌∷◌, ◌++◌, Option, Some, None, refl, sym, ap, subst, ◌∙◌, ◌⊎◌, inl, inr, arith, length}
-use Rattle.std.proofs.lemmas.Bool.Decides.{nat_tests}
-use Rattle.std.specs.Prelude.{IfSome, filter, slice_get, slice_index, reverse, nat_le, ◌==◌}
+use Rattle.std.proofs.Common.{◌≡◌, ℕ, ◌+◌, ◌&&◌, Bool, true, false, cond, map, List, [], ◌∷◌, ◌++◌, Option, Some, None, refl, sym, ap, subst, ◌∙◌, inl, length}
+use Rattle.std.specs.Prelude.{slice_get, nat_le}
 use Rattle.std.specs.List.{list_all}
 use Rattle.std.specs.Option.{option_map_or}
 use Rattle.clk_base.specs.declared.call.Micro.{Micro}
 use Rattle.clk_base.specs.declared.call.Micro.TheVariants as micro
-use Rattle.clk_base.specs.declared.call.Notice.TheVariants as notice
 use Rattle.clk_base.specs.declared.call.Sleeping.{Sleeping}
-use Rattle.clk_base.specs.declared.clock.ClockId.{ClockId}
-use Rattle.clk_base.specs.declared.event.Turn.TheVariants as turn
-use Rattle.clk_base.specs.Description.{Description, kind_of, parents_of}
-use Rattle.clk_base.specs.Fields.{PowerBit, power_of}
-use Rattle.clk_model.specs.Lists.{is_in, without, without_one}
-use Rattle.clk_model.specs.Kinds.{is_powered}
-use Rattle.clk_model.specs.State.{State, Change, NotifierRow, registered}
-use Rattle.clk_model.specs.Tree.{path, path_to_be}
+use Rattle.clk_base.specs.Description.{Description}
+use Rattle.clk_model.specs.Lists.{is_in, without_one}
+use Rattle.clk_model.specs.State.{State, Change}
 use Rattle.clk_model.specs.Holders.{prepared}
-use Rattle.clk_model.specs.Rate.{rate}
 use Rattle.clk_model.specs.Gates.{settled}
 use Rattle.clk_model.specs.Round.{wiring}
 use Rattle.clk_model.specs.Chain.{clock_id}
-use Rattle.clk_model.specs.Notices.{Rates, notifiers_of, abort_list, post_list}
-use Rattle.clk_model.specs.Script.{unprepared_plls}
-use Rattle.clk_model.specs.Begin.{register}
-use Rattle.clk_model.specs.Step.{todo, taken, on, powered, cut_short, sets_parent, aborts_of, timed_out, to_raise, raise_one, raise, poll, is_yes, fall, to_lower, lower_one, lower, hold_prepare, set_in_chain, visit, register_in, stepped}
-use Rattle.clk_model.specs.Machine.{comes_next}
+use Rattle.clk_model.specs.Step.{on, powered, fall, to_lower, lower_one, lower}
 use Rattle.clk_model.specs.Wired.{IsWired}
-use Rattle.clk_model.proofs.Members.{is_in_head, is_in_tail, is_in_cases, is_in-reverse, both_left, both_right, test_same}
-use Rattle.clk_model.proofs.OnceLaws.{is_in-filter}
-use Rattle.clk_model.proofs.MicroLaws.{comes_first}
-use Rattle.clk_model.proofs.PllLaws.{at_place}
-use Rattle.clk_model.proofs.OnceLaws.{filter_passes}
-use Rattle.clk_model.proofs.FlightLaws.{IsStep}
-use Rattle.clk_model.proofs.PowerLaws.{settled_raise, settled_power, raised_fewer, powered_muxes}
-use Rattle.clk_model.proofs.Scenes.{Scene, scene, prepared_in, to_be, IsSound, IsFree, IsCovered, EndsPrepare, after, is_plain, Serves, Grows, GoesWell, raises, makes, ends, IsSafe, RaisedWell, RaisingFront, raised, asks, asks_first, comes_again, is_calm, Stands, calm, raising, InCall}
-use Rattle.clk_model.proofs.KeepLaws.{Keeps, keeps_lowered, keeps_raised, raised_powers}
-use Rattle.clk_model.proofs.SceneStepLaws.{Lands, lands_on, lands_same, lands_lowered, step_lands, unprepared_idle}
-use Rattle.clk_model.proofs.ArriveLaws.{Arrives, Powers, prepared_told, to_be_told, arrive, some_one, if_one, covered_powered}
+use Rattle.clk_model.proofs.Members.{is_in_head, is_in_tail, test_same}
+use Rattle.clk_model.proofs.PowerLaws.{powered_muxes}
+use Rattle.clk_model.proofs.Scenes.{Scene, scene, prepared_in, IsSound, GoesWell, IsSafe, is_calm, calm, InCall}
+use Rattle.clk_model.proofs.KeepLaws.{keeps_lowered}
+use Rattle.clk_model.proofs.SceneStepLaws.{Lands, lands_on, lands_same, lands_lowered}
+use Rattle.clk_model.proofs.ArriveLaws.{Arrives, Powers, prepared_told, arrive}
 
 -- ---- where a change goes
 

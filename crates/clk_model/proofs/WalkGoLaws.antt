@@ -1,13 +1,12 @@
 -- Laws on the walks of scripts: a walk goes well, whichever moves a timeout drops.
-use Rattle.std.proofs.Common.{◌≡◌, ℕ, zero, suc, ◌<◌, ◌^◌, Bool, true, false, cond, List, [], ◌∷◌, ◌++◌, Option, Some, None, refl, sym, ap, subst, ◌∙◌, ◌⊎◌, inl, inr}
+use Rattle.std.proofs.Common.{◌≡◌, ℕ, Bool, true, false, List, [], ◌∷◌, ◌++◌, Option, Some, None, refl, sym, ap, subst, ◌∙◌, ◌⊎◌, inl, inr}
 use Rattle.std.specs.Prelude.{flat_map, if◌then◌else◌}
 use Rattle.std.specs.List.{list_any}
 use Rattle.std.proofs.lemmas.List.{append_assoc}
 use Rattle.clk_base.specs.declared.call.Micro.{Micro}
 use Rattle.clk_base.specs.declared.call.Micro.TheVariants as micro
 use Rattle.clk_base.specs.declared.call.Sleeping.{Sleeping}
-use Rattle.clk_base.specs.declared.call.Sleeping.TheVariants as call
-use Rattle.clk_base.specs.Description.{Description, kind_of, parents_of}
+use Rattle.clk_base.specs.Description.{Description, parents_of}
 use Rattle.clk_model.specs.Lists.{is_in, none_twice}
 use Rattle.clk_model.specs.State.{State, ChainStep, registered, link_in}
 use Rattle.clk_model.specs.Holders.{prepared}
@@ -21,8 +20,8 @@ use Rattle.clk_model.proofs.OnceLaws.{once_head}
 use Rattle.clk_model.proofs.OutcomeLaws.{SettingsFit}
 use Rattle.clk_model.proofs.BeginLaws.{walked_at}
 use Rattle.clk_model.proofs.BelowLaws.{IsUp}
-use Rattle.clk_model.proofs.AboveLaws.{put_at, put_other, Above, above_here, Holder, HasRoot, root_still, holder_still, holder_before, MayLink, may_still}
-use Rattle.clk_model.proofs.Scenes.{Scene, holding, keepers, prepared_in, IsSound, IsFree, EndsPrepare, GoesWell, makes, ends}
+use Rattle.clk_model.proofs.AboveLaws.{put_at, put_other, Above, above_here, HasRoot, root_still, holder_still, holder_before, MayLink, may_still}
+use Rattle.clk_model.proofs.Scenes.{Scene, holding, keepers, prepared_in, IsSound, EndsPrepare, GoesWell, makes, ends}
 use Rattle.clk_model.proofs.SoundLaws.{keeper_prepares, kept_alone, WillMove, linked_in, may_link, moved_in, sound_moved}
 use Rattle.clk_model.proofs.BlockLaws.{CanMove, move_behind, prepared_move, bare_move}
 

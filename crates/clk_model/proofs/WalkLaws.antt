@@ -17,7 +17,7 @@ use Rattle.clk_model.specs.Chain.{clock_id, moves, outcome}
 use Rattle.clk_model.specs.Walk.{top_of, moves_away, movers_to, kids_after, below_within, walk, differs, changing}
 use Rattle.clk_model.specs.Laws.Plans.{clocks_in, HasParent, DiffersIn}
 use Rattle.clk_model.specs.Laws.Walks.{will_be_below, IsWalk, AllDiffer, AreChanging, WalksList}
-use Rattle.clk_model.proofs.Members.{is_in_head, is_in_tail, is_in_cases, same_from_test, test_same, both_left, both_right, or_left, or_right}
+use Rattle.clk_model.proofs.Members.{same_from_test, test_same, both_left, both_right, or_left, or_right}
 use Rattle.clk_model.proofs.OutcomeLaws.{differs_in}
 use Rattle.clk_model.proofs.SettingLaws.{settings_fit}
 use Rattle.clk_model.proofs.BelowLaws.{Rises, few_steps, path_rises, rises_path, AreKids, below_rises, rises_below, once_below, below_passes}

@@ -1,22 +1,20 @@
 -- Laws on the order of a walk: behind a clock stands none that will be above it; so the moved clocks of a chain come from the top down.
-use Rattle.std.proofs.Common.{◌≡◌, ◌≢◌, ℕ, zero, suc, ◌<◌, Bool, true, false, ◌&&◌, ◌||◌, List, [], ◌∷◌, ◌++◌, Option, Some, None, refl, sym, ap, subst, ◌∙◌, ◌⊎◌, inl, inr}
-use Rattle.std.specs.Prelude.{◌==◌, flat_map}
+use Rattle.std.proofs.Common.{◌≡◌, ℕ, zero, suc, true, false, List, [], ◌∷◌, ◌++◌, Option, Some, sym, ap, subst, ◌∙◌, ◌⊎◌, inl, inr}
+use Rattle.std.specs.Prelude.{flat_map}
 use Rattle.std.specs.List.{AllByRecursion}
-use Rattle.clk_base.specs.Description.{Description, kind_of, parents_of}
+use Rattle.clk_base.specs.Description.{Description, parents_of}
 use Rattle.clk_base.specs.Levels.{depth, ends_within, reaches_within}
 use Rattle.clk_base.proofs.Lines.{ends_within-ancestor}
 use Rattle.clk_model.specs.Lists.{is_in, none_twice}
-use Rattle.clk_model.specs.State.{ChainStep, link_in}
-use Rattle.clk_model.specs.Round.{Wiring}
-use Rattle.clk_model.specs.Chain.{outcome}
-use Rattle.clk_model.specs.Walk.{top_of, kids_after, below_within, walk}
+use Rattle.clk_model.specs.State.{ChainStep}
+use Rattle.clk_model.specs.Walk.{below_within}
 use Rattle.clk_model.specs.Wired.{LinesEnd}
 use Rattle.clk_model.specs.Laws.Plans.{clocks_in, LeadsUp}
 use Rattle.clk_model.proofs.Members.{is_in_head, is_in_tail, is_in_cases}
 use Rattle.clk_model.proofs.OnceLaws.{in_append, in_flat_map, once_head}
 use Rattle.clk_model.proofs.PlanLaws.{IsAbove, above_parent}
 use Rattle.clk_model.proofs.BelowLaws.{Rises, IsUp, rises_on, rises_far, rises_both, rises_above, no_round, AreKids, below_rises}
-use Rattle.clk_model.proofs.AboveLaws.{Above, above_here, above_far, above_link}
+use Rattle.clk_model.proofs.AboveLaws.{Above, above_here, above_link}
 
 -- behind each clock of a list stands none that is above it
 abbrev pub Descends : (ℕ → Option ℕ) → List ℕ → Type 0

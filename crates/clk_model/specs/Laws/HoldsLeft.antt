@@ -1,6 +1,5 @@
 -- That calls leave no hold behind: the law of holds.
 use Rattle.std.specs.Prelude.{◌≡◌, ℕ, List, [], length, Bool, true, false, Option, Some, None}
-use Rattle.std.specs.List.{list_any}
 use Rattle.reg_bank.specs.Registers.{Registers}
 use Rattle.clk_base.specs.Description.{Description}
 use Rattle.clk_base.specs.Valid.{IsValid}
@@ -8,15 +7,13 @@ use Rattle.clk_base.specs.declared.call.Micro.{Micro}
 use Rattle.clk_base.specs.declared.call.Sleeping.{Sleeping}
 use Rattle.clk_base.specs.declared.call.Sleeping.TheVariants as call
 use Rattle.clk_base.specs.declared.event.Entry.{Entry}
-use Rattle.clk_base.specs.declared.event.Event.{Event}
 use Rattle.clk_base.specs.declared.event.Event.TheVariants as event
 use Rattle.clk_base.specs.declared.event.Reply.{Reply}
-use Rattle.clk_base.specs.declared.event.Turn.{Turn}
 use Rattle.clk_base.specs.declared.event.Turn.TheVariants as turn
 use Rattle.clk_model.specs.State.{State}
 use Rattle.clk_model.specs.Round.{wiring}
 use Rattle.clk_model.specs.Machine.{next}
-use Rattle.clk_model.specs.Journal.{replay, Legal, opening}
+use Rattle.clk_model.specs.Journal.{replay, opening}
 use Rattle.clk_model.specs.Laws.Flight.{Flight}
 use Rattle.clk_model.specs.Wired.{IsWired, IsOrder}
 
