@@ -16,7 +16,7 @@ use Rattle.clk_model.specs.Holders.{is_enabled, active}
 use Rattle.clk_model.specs.Begin.{registered_rows, register}
 use Rattle.clk_model.specs.Script.{adoptable}
 use Rattle.clk_model.proofs.Members.{both_right, is_in_cases, same_from_test, test_other, test_same}
-use Rattle.clk_model.proofs.WalkLaws.{filter_passes}
+use Rattle.clk_model.proofs.OnceLaws.{filter_passes}
 use Rattle.clk_model.proofs.StateLaws.{row_of-set_same, row_of-set_other, filter_none, active_by_handles, held_by-set_unregistered}
 use Rattle.clk_model.proofs.PllLaws.{selected_possible}
 use Rattle.clk_model.proofs.WholePathLaws.{same_or_not, given_link, given_others}

@@ -332,7 +332,7 @@ by_row s None f same = refl
 by_row s (Some row) f same = same row
 
 -- the end changes no hold
-end_holds : (s : State) (k : Change) → holds_of (end_of s k).0 ≡ holds_of s
+pub end_holds : (s : State) (k : Change) → holds_of (end_of s k).0 ≡ holds_of s
 end_holds s k = either (k.vetoed || k.timed_out) where
   well : (what : Sleeping) → holds_of (ended_well s k.driver what) ≡ holds_of s
   well (call.Prepare h) = by_row s (handle_at s.handles h.number) (prepared_once_more s h.number) (λ row. refl)

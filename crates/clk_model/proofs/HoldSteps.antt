@@ -87,7 +87,7 @@ step_holds s k answer m link same going = refl
 link_set_other : (clocks : List ClockRow) (c : ℕ) (row : ClockRow) (d : ℕ) → nat_eq c d ≡ false → link_in (slice_set clocks c row) d ≡ link_in clocks d
 link_set_other clocks c row d other = ap (λ (r : ClockRow). option_map (λ p. p.0) r.link) (row_of-set_other clocks c row d (test_other c d other))
 
-link_set_same : (clocks : List ClockRow) (c : ℕ) (row : ClockRow) (d : ℕ) → row.link ≡ (row_of clocks c).link → link_in (slice_set clocks c row) d ≡ link_in clocks d
+pub link_set_same : (clocks : List ClockRow) (c : ℕ) (row : ClockRow) (d : ℕ) → row.link ≡ (row_of clocks c).link → link_in (slice_set clocks c row) d ≡ link_in clocks d
 link_set_same clocks c row d same =
     elim (nat_eq c d) as (λ b. nat_eq c d ≡ b → link_in (slice_set clocks c row) d ≡ link_in clocks d) [
       | false ↦ λ e. link_set_other clocks c row d e
@@ -100,7 +100,7 @@ link_set_same clocks c row d same =
       ]
 
 -- settling leaves the links
-settled_links : (s : State) (cs : List ℕ) (d : ℕ) → link_in (settle_all s cs) d ≡ link_in s.clocks d
+pub settled_links : (s : State) (cs : List ℕ) (d : ℕ) → link_in (settle_all s cs) d ≡ link_in s.clocks d
 settled_links s [] d = refl
 settled_links s (c ∷ cs) d =
     link_set_same (settle_all s cs) c (record (row_of (settle_all s cs) c) { last_request = rate s.defs s.regs s.clocks c }) d refl ∙ settled_links s cs d

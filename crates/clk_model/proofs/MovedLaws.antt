@@ -40,7 +40,7 @@ place_found p x xs false e rest = ap (λ (n : ℕ). slice_get (x ∷ xs) n) (one
   one_more n = omega arith
 
 -- what stands at the place of a number in a list is that number
-place_holds : (p : ℕ) (xs : List ℕ) → is_in p xs ≡ true → slice_get xs (position_or_len (λ q. q == p) xs) ≡ Some p
+pub place_holds : (p : ℕ) (xs : List ℕ) → is_in p xs ≡ true → slice_get xs (position_or_len (λ q. q == p) xs) ≡ Some p
 place_holds p [] m = absurd cc
 place_holds p (x ∷ xs) m = place_found p x xs (x == p) refl (λ differs. place_holds p xs (in_rest p x xs m differs))
 

@@ -30,6 +30,38 @@ pub is_in-filter : (test : ℕ → Bool) (x : ℕ) (xs : List ℕ) → is_in x (
 is_in-filter test x [] m = m
 is_in-filter test x (y ∷ ys) m = in_kept x y (filter test ys) ys (test y) (is_in-filter test x ys) m
 
+passes_here : (test : ℕ → Bool) (x y : ℕ) (kept : List ℕ) (t : Bool) → test y ≡ t → (is_in x kept ≡ true → test x ≡ true)
+    → is_in x (cond t (y ∷ kept) kept) ≡ true → test x ≡ true
+passes_here test x y kept false e rest m = rest m
+passes_here test x y kept true e rest m =
+    elim (is_in_cases x y kept m) [
+      | inl same ↦ ap test (sym same) ∙ e
+      | inr later ↦ rest later
+    ]
+
+-- what a filter leaves passes
+pub filter_passes : (test : ℕ → Bool) (x : ℕ) (xs : List ℕ) → is_in x (filter test xs) ≡ true → test x ≡ true
+filter_passes test x [] m = absurd cc
+filter_passes test x (y ∷ xs) m = passes_here test x y (filter test xs) (test y) refl (filter_passes test x xs) m
+
+stays_here : (test : ℕ → Bool) (x y : ℕ) (xs : List ℕ) (t : Bool) → test y ≡ t → test x ≡ true → (is_in x xs ≡ true → is_in x (filter test xs) ≡ true)
+    → is_in x (y ∷ xs) ≡ true → is_in x (cond t (y ∷ filter test xs) (filter test xs)) ≡ true
+stays_here test x y xs true e pass rest m =
+    elim (is_in_cases x y xs m) [
+      | inl same ↦ ap (λ (z : ℕ). is_in x (z ∷ filter test xs)) same ∙ is_in_head x (filter test xs)
+      | inr later ↦ is_in_tail x y (filter test xs) (rest later)
+    ]
+stays_here test x y xs false e pass rest m =
+    elim (is_in_cases x y xs m) [
+      | inl same ↦ let fails : test x ≡ false = ap test (sym same) ∙ e in absurd cc
+      | inr later ↦ rest later
+    ]
+
+-- what is in a list and passes stays in its filter
+pub filter_keeps : (test : ℕ → Bool) (x : ℕ) (xs : List ℕ) → test x ≡ true → is_in x xs ≡ true → is_in x (filter test xs) ≡ true
+filter_keeps test x [] pass m = m
+filter_keeps test x (y ∷ xs) pass m = stays_here test x y xs (test y) refl pass (filter_keeps test x xs pass) m
+
 pub in_flat_map : (f : ℕ → List ℕ) (x : ℕ) (ys : List ℕ) → is_in x (flat_map f ys) ≡ true → (y : ℕ) × (is_in y ys ≡ true) × (is_in x (f y) ≡ true)
 in_flat_map f x [] m = absurd cc
 in_flat_map f x (y ∷ ys) m =

@@ -46,7 +46,7 @@ record Climbs (w : Wiring) (c : ℕ) (ks : List ChainStep) : Type 0 where
   above : AllByRecursion (λ k. IsAbove (parents_of w.defs) c k.clock) ks
 
 -- the step of a clock that is rounded so
-abbrev step_of : ℕ → Rounded → ChainStep
+abbrev pub step_of : ℕ → Rounded → ChainStep
 step_of c r = record { clock = c; rate = r.rate; parent = r.parent }
 
 leads_cons : (k : ChainStep) (p : ℕ) (ks : List ChainStep) → k.parent ≡ Some p → option_map (λ l. l.clock) (slice_get ks 0) ≡ Some p → LeadsUp ks → LeadsUp (k ∷ ks)

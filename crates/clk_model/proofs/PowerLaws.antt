@@ -22,7 +22,7 @@ use Rattle.clk_model.specs.Laws.Plans.{LieApart}
 use Rattle.clk_model.proofs.GateLaws.{at_or_apart}
 use Rattle.clk_model.proofs.ApartLaws.{fields_apart, fielded_lt, mux_is_field}
 use Rattle.clk_model.proofs.SettingLaws.{bit_same}
-use Rattle.clk_model.proofs.WalkLaws.{filter_passes}
+use Rattle.clk_model.proofs.OnceLaws.{filter_passes}
 use Rattle.clk_model.proofs.PllLaws.{at_place, length-filter-weaker}
 use Rattle.clk_model.proofs.SupplyLaws.{field-put_off, field-gates_moved, mux_off_gates, power_off_gates, selected_same}
 use Rattle.clk_model.proofs.OnceLaws.{is_in-filter}
@@ -62,7 +62,7 @@ filter_drops p q z (x ∷ xs) weaker pass fail m =
 abbrev pub SameMuxes : Description → Registers → Registers → Type 0
 SameMuxes defs regs regs' = (c : ℕ) (f : Field) → mux_field (kind_of defs c) ≡ Some f → field regs' f.word f.shift f.width ≡ field regs f.word f.shift f.width
 
-link_given_same : (defs : Description) (regs regs' : Registers) (clocks : List ClockRow) (c : ℕ) → SameMuxes defs regs regs' → link_given defs regs' clocks c ≡ link_given defs regs clocks c
+pub link_given_same : (defs : Description) (regs regs' : Registers) (clocks : List ClockRow) (c : ℕ) → SameMuxes defs regs regs' → link_given defs regs' clocks c ≡ link_given defs regs clocks c
 unfolding link_given
 link_given_same defs regs regs' clocks c same = ap (λ (o : Option ℕ). option_and_then (if_registered clocks) o) (selected_same defs regs regs' c (same c))
 
@@ -72,12 +72,12 @@ to_raise_over s regs k x same =
     (link_given_same s.defs s.regs regs s.clocks x same)
 
 -- gates that follow leave the muxes and the power bits
-settled_muxes : (s y : State) (words : ℕ) → IsValid words y.defs → SameMuxes y.defs y.regs (settled s y).regs
+pub settled_muxes : (s y : State) (words : ℕ) → IsValid words y.defs → SameMuxes y.defs y.regs (settled s y).regs
 unfolding settled
 settled_muxes s y words valid c f at =
     field-gates_moved y.defs (active s) (active y) (count_from 0 (length y.defs)) y.regs f (mux_off_gates words y.defs (count_from 0 (length y.defs)) c f valid at)
 
-settled_power : (s y : State) (words c : ℕ) (power : PowerBit) → IsValid words y.defs → power_of (kind_of y.defs c) ≡ Some power
+pub settled_power : (s y : State) (words c : ℕ) (power : PowerBit) → IsValid words y.defs → power_of (kind_of y.defs c) ≡ Some power
     → is_powered (settled s y).regs power ≡ is_powered y.regs power
 unfolding settled
 settled_power s y words c power valid at =
@@ -108,7 +108,7 @@ powered_field : (o : Option PowerBit) (regs : Registers) (f : Field) (up : Bool)
 powered_field None regs f up apart = refl
 powered_field (Some power) regs f up apart = field-put_off regs f (record { word = power.word; bit = power.bit; set_to_disable = false }) up (apart power refl)
 
-powered_muxes : (s : State) (words z : ℕ) (up : Bool) → IsValid words s.defs → SameMuxes s.defs s.regs (powered s z up).regs
+pub powered_muxes : (s : State) (words z : ℕ) (up : Bool) → IsValid words s.defs → SameMuxes s.defs s.regs (powered s z up).regs
 powered_muxes s words z up valid c f at =
     powered_field (power_of (kind_of s.defs z)) s.regs f up
     (λ power e.

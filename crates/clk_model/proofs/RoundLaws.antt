@@ -1,5 +1,5 @@
--- Laws on rounding: the best parent is a possible parent.
-use Rattle.std.proofs.Common.{◌≡◌, ℕ, Bool, true, false, ◌&&◌, cond, List, [], ◌∷◌, Option, Some, None, refl, sym, ap, ◌∙◌}
+-- Laws on rounding: the best parent is a possible parent, and the clock's link or rooted.
+use Rattle.std.proofs.Common.{◌≡◌, ℕ, Bool, true, false, ◌&&◌, cond, List, [], ◌∷◌, Option, Some, None, refl, sym, ap, subst, ◌∙◌, ◌⊎◌, inl, inr}
 use Rattle.std.specs.Prelude.{◌*◌, ◌/◌, ◌==◌, nat_le, nat_lt, max, filter, fold, find, IfSome, option_map, option_and_then}
 use Rattle.std.specs.List.{filter_map, cons_option, AllByRecursion}
 use Rattle.std.specs.Option.{option_map_or}
@@ -19,27 +19,33 @@ use Rattle.clk_model.specs.Rate.{style_of}
 use Rattle.clk_model.specs.Round.{Wiring, View, Rounded, most_rate, rate_in, parent_rate_in, over_parent, passes_on, through, over_link, better, best_of, by_divisor, over_candidate, by_candidate, by_kind, clamped, round_by}
 use Rattle.clk_model.proofs.Members.{is_in_head, is_in_tail}
 use Rattle.clk_model.specs.Wired.{LinksArePossible}
-use Rattle.clk_model.proofs.OnceLaws.{is_in-filter}
+use Rattle.clk_model.proofs.OnceLaws.{is_in-filter, filter_passes}
 
--- the best parent of a rounding is a possible parent, and there is none only where the clock has no link
+-- the best parent of a rounding is a possible parent, and it is the clock's link or rooted; there is none only where the clock has no link
 pub record Fits (w : Wiring) (c : ℕ) (r : Rounded) : Type 0 where
   pub possible : (p : ℕ) → r.parent ≡ Some p → is_in p (parents_of w.defs c) ≡ true
+  pub from : (p : ℕ) → r.parent ≡ Some p → (link_in w.clocks c ≡ Some p) ⊎ (rooted w.defs w.clocks p ≡ true)
   pub none : r.parent ≡ None → link_in w.clocks c ≡ None
 
 fits_parent : (w : Wiring) (c r : ℕ) → LinksArePossible w.defs w.clocks → Fits w c (over_parent w c r)
-fits_parent w c r links = record { possible = λ p e. links c p e; none = λ e. e }
+fits_parent w c r links = record { possible = λ p e. links c p e; from = λ p e. inl e; none = λ e. e }
 
-fits_through : (w : Wiring) (c p : ℕ) (own : ℕ → ℕ) (o : Option ℕ) → is_in p (parents_of w.defs c) ≡ true → IfSome (option_map (through own p) o) (Fits w c)
-fits_through w c p own None m = tt
-fits_through w c p own (Some r) m = record { possible = λ q e. let same : p ≡ q = cc in ap (λ (x : ℕ). is_in x (parents_of w.defs c)) (sym same) ∙ m; none = λ e. absurd cc }
+fits_through : (w : Wiring) (c p : ℕ) (own : ℕ → ℕ) (o : Option ℕ) → is_in p (parents_of w.defs c) ≡ true → (link_in w.clocks c ≡ Some p) ⊎ (rooted w.defs w.clocks p ≡ true)
+    → IfSome (option_map (through own p) o) (Fits w c)
+fits_through w c p own None m from = tt
+fits_through w c p own (Some r) m from = record {
+  possible = λ q e. let same : p ≡ q = cc in ap (λ (x : ℕ). is_in x (parents_of w.defs c)) (sym same) ∙ m;
+  from = λ q e. let same : p ≡ q = cc in subst (λ (x : ℕ). (link_in w.clocks c ≡ Some x) ⊎ (rooted w.defs w.clocks x ≡ true)) same from;
+  none = λ e. absurd cc;
+}
 
-fits_linked : (w : Wiring) (c : ℕ) (own : ℕ → ℕ) (ask : ℕ → Option ℕ) (o : Option ℕ) → ((p : ℕ) → o ≡ Some p → is_in p (parents_of w.defs c) ≡ true)
+fits_linked : (w : Wiring) (c : ℕ) (own : ℕ → ℕ) (ask : ℕ → Option ℕ) (o : Option ℕ) → link_in w.clocks c ≡ o → ((p : ℕ) → o ≡ Some p → is_in p (parents_of w.defs c) ≡ true)
     → IfSome (option_and_then (λ p. option_map (through own p) (ask p)) o) (Fits w c)
-fits_linked w c own ask None each = tt
-fits_linked w c own ask (Some p) each = fits_through w c p own (ask p) (each p refl)
+fits_linked w c own ask None link each = tt
+fits_linked w c own ask (Some p) link each = fits_through w c p own (ask p) (each p refl) (inl link)
 
 fits_link : (ask : ℕ → ℕ → Option ℕ) (w : Wiring) (c x : ℕ) (own : ℕ → ℕ) → LinksArePossible w.defs w.clocks → IfSome (over_link ask w c x own) (Fits w c)
-fits_link ask w c x own links = fits_linked w c own (λ p. ask p x) (link_in w.clocks c) (λ p e. links c p e)
+fits_link ask w c x own links = fits_linked w c own (λ p. ask p x) (link_in w.clocks c) refl (λ p e. links c p e)
 
 -- ---- the best of several
 
@@ -92,7 +98,8 @@ fits_candidate ask w c x =
     fits_fold w c x None _ tt
     (fits_tries w c (over_candidate ask w c x) (filter (rooted w.defs w.clocks) (parents_of w.defs c))
     (λ p m. fits_through w c p (λ r. r) (elim (sets_rate_parent w.defs c) [ true ↦ ask p x | false ↦ Some (rate_in w p) ])
-    (is_in-filter (rooted w.defs w.clocks) p (parents_of w.defs c) m)))
+    (is_in-filter (rooted w.defs w.clocks) p (parents_of w.defs c) m)
+    (inr (filter_passes (rooted w.defs w.clocks) p (parents_of w.defs c) m))))
 
 -- ---- each kind
 

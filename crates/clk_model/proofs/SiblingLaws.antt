@@ -20,7 +20,8 @@ use Rattle.clk_model.specs.Step.{relink}
 use Rattle.clk_model.specs.Laws.Siblings.{IsAttached, front_if, IsUnattached, RegistersUnattached, HasOnePlace, ChildrenTellLinks, RegistersAttach, RelinksAttach, RegistersAreListed, RelinksAreListed}
 use Rattle.clk_model.proofs.Members.{is_in_head, is_in_tail, is_in_cases, both_left, both_right, same_from_test}
 use Rattle.clk_model.proofs.StateLaws.{row_of-set_same, row_of-set_other}
-use Rattle.clk_model.proofs.WalkLaws.{filter_passes, filter_keeps, is_at_same, at_same, turned_off}
+use Rattle.clk_model.proofs.OnceLaws.{filter_passes, filter_keeps}
+use Rattle.clk_model.proofs.WalkLaws.{is_at_same, at_same, turned_off}
 use Rattle.clk_model.proofs.WholePathLaws.{given_link, given_others, same_or_not, linked_same, linked_other}
 use Rattle.clk_model.specs.Wired.{LinksArePossible, IsOrder, ListsRegistered}
 use Rattle.clk_model.proofs.OnceLaws.{once_filter, once_cons, is_in-filter}
@@ -45,7 +46,7 @@ refuted : (t : Bool) → (t ≡ true → ⊥) → t ≡ false
 refuted true never = absurd (never refl)
 refuted false never = refl
 
-fixed_rate : (kind : Kind) → is_fixed kind ≡ true → (rate : ℕ) × (kind ≡ FixedRate rate)
+pub fixed_rate : (kind : Kind) → is_fixed kind ≡ true → (rate : ℕ) × (kind ≡ FixedRate rate)
 fixed_rate (FixedRate rate) fixed = (rate, refl)
 fixed_rate (Factor mult div) fixed = absurd cc
 fixed_rate (Gate word bit set_to_disable) fixed = absurd cc

@@ -120,7 +120,7 @@ handle_at-set_same (o ∷ handles) zero old new at = refl
 handle_at-set_same (o ∷ handles) (suc n) old new at = handle_at-set_same handles n old new at
 
 -- putting back what was there undoes a put
-set-back : (handles : List (Option HandleRow)) (n : ℕ) (old new : HandleRow) → handle_at handles n ≡ Some old → set (set handles n (Some new)) n (Some old) ≡ handles
+pub set-back : (handles : List (Option HandleRow)) (n : ℕ) (old new : HandleRow) → handle_at handles n ≡ Some old → set (set handles n (Some new)) n (Some old) ≡ handles
 set-back [] n old new at = refl
 set-back (o ∷ handles) zero old new at = ap (λ (p : Option HandleRow). p ∷ handles) (sym at)
 set-back (o ∷ handles) (suc n) old new at = ap (λ (hs : List (Option HandleRow)). o ∷ hs) (set-back handles n old new at)

@@ -193,7 +193,7 @@ settled_is_supplied old new supplies gates =
 
 -- ---- the enable tier
 
-prepared_parts : (s : State) (c : ℕ)
+pub prepared_parts : (s : State) (c : ℕ)
     → prepared s c ≡ ((held_by s.clocks is_prepared s.handles c || is_held s.clocks (critical_clocks s) c) || is_held s.clocks s.prepare_holds c)
 prepared_parts s c =
     list_any-append (λ h. is_in c (path s.clocks h)) (clocks_of is_prepared s.handles ++ critical_clocks s) s.prepare_holds

@@ -17,48 +17,14 @@ use Rattle.clk_model.specs.Chain.{clock_id, moves, outcome}
 use Rattle.clk_model.specs.Walk.{top_of, moves_away, movers_to, kids_after, below_within, walk, differs, changing}
 use Rattle.clk_model.specs.Laws.Plans.{clocks_in, HasParent, DiffersIn}
 use Rattle.clk_model.specs.Laws.Walks.{will_be_below, IsWalk, AllDiffer, AreChanging, WalksList}
-use Rattle.clk_model.proofs.Members.{is_in_head, is_in_tail, is_in_cases, same_from_test, test_same, both_left, both_right, or_left, or_right}
+use Rattle.clk_model.proofs.Members.{same_from_test, test_same, both_left, both_right, or_left, or_right}
 use Rattle.clk_model.proofs.OutcomeLaws.{differs_in}
 use Rattle.clk_model.proofs.SettingLaws.{settings_fit}
 use Rattle.clk_model.proofs.BelowLaws.{Rises, few_steps, path_rises, rises_path, AreKids, below_rises, rises_below, once_below, below_passes}
 use Rattle.clk_model.proofs.ChainStepLaws.{steps_that, step_in, chain_in, any_step, no_step, passing_any, passing_in, once_steps}
 use Rattle.clk_model.specs.Wired.{LinksArePossible, IsWired, IsOrder}
-use Rattle.clk_model.proofs.OnceLaws.{once_filter, in_append, is_in-append, once_append, is_in-filter}
+use Rattle.clk_model.proofs.OnceLaws.{once_filter, in_append, is_in-append, once_append, is_in-filter, filter_passes, filter_keeps}
 use Rattle.clk_model.proofs.PathLaws.{some_levels}
-
--- ---- filters
-
-passes_here : (test : ℕ → Bool) (x y : ℕ) (kept : List ℕ) (t : Bool) → test y ≡ t → (is_in x kept ≡ true → test x ≡ true)
-    → is_in x (cond t (y ∷ kept) kept) ≡ true → test x ≡ true
-passes_here test x y kept false e rest m = rest m
-passes_here test x y kept true e rest m =
-    elim (is_in_cases x y kept m) [
-      | inl same ↦ ap test (sym same) ∙ e
-      | inr later ↦ rest later
-    ]
-
--- what a filter leaves passes
-pub filter_passes : (test : ℕ → Bool) (x : ℕ) (xs : List ℕ) → is_in x (filter test xs) ≡ true → test x ≡ true
-filter_passes test x [] m = absurd cc
-filter_passes test x (y ∷ xs) m = passes_here test x y (filter test xs) (test y) refl (filter_passes test x xs) m
-
-stays_here : (test : ℕ → Bool) (x y : ℕ) (xs : List ℕ) (t : Bool) → test y ≡ t → test x ≡ true → (is_in x xs ≡ true → is_in x (filter test xs) ≡ true)
-    → is_in x (y ∷ xs) ≡ true → is_in x (cond t (y ∷ filter test xs) (filter test xs)) ≡ true
-stays_here test x y xs true e pass rest m =
-    elim (is_in_cases x y xs m) [
-      | inl same ↦ ap (λ (z : ℕ). is_in x (z ∷ filter test xs)) same ∙ is_in_head x (filter test xs)
-      | inr later ↦ is_in_tail x y (filter test xs) (rest later)
-    ]
-stays_here test x y xs false e pass rest m =
-    elim (is_in_cases x y xs m) [
-      | inl same ↦ let fails : test x ≡ false = ap test (sym same) ∙ e in absurd cc
-      | inr later ↦ rest later
-    ]
-
--- what is in a list and passes stays in its filter
-pub filter_keeps : (test : ℕ → Bool) (x : ℕ) (xs : List ℕ) → test x ≡ true → is_in x xs ≡ true → is_in x (filter test xs) ≡ true
-filter_keeps test x [] pass m = m
-filter_keeps test x (y ∷ xs) pass m = stays_here test x y xs (test y) refl pass (filter_keeps test x xs pass) m
 
 -- ---- links after the plan
 
@@ -75,14 +41,14 @@ linked_lt (row ∷ clocks) zero p e = omega arith
 linked_lt (row ∷ clocks) (suc c) p e = let below : c < length clocks = linked_lt clocks c p e in omega arith
 
 -- what the law of walks is about: a chain with its outcome
-record Planned_ (words : ℕ) (order : List ℕ) (w : Wiring) (ks : List ChainStep) (v : Wiring) : Type 0 where
-  wired : IsWired words w
-  ordered : IsOrder order w.clocks
-  parents : AllByRecursion (HasParent w) ks
-  once : none_twice (clocks_in ks) ≡ true
-  differs : DiffersIn ks w v
+pub record Planned_ (words : ℕ) (order : List ℕ) (w : Wiring) (ks : List ChainStep) (v : Wiring) : Type 0 where
+  pub wired : IsWired words w
+  pub ordered : IsOrder order w.clocks
+  pub parents : AllByRecursion (HasParent w) ks
+  pub once : none_twice (clocks_in ks) ≡ true
+  pub differs : DiffersIn ks w v
 
-parented_lt : (words : ℕ) (w : Wiring) (c p : ℕ) → IsWired words w → is_in p (parents_of w.defs c) ≡ true → c < length w.clocks
+pub parented_lt : (words : ℕ) (w : Wiring) (c p : ℕ) → IsWired words w → is_in p (parents_of w.defs c) ≡ true → c < length w.clocks
 parented_lt words w c p wired m =
     elim (cases_lt c (length w.defs)) [
       | inl inside ↦ let same = wired.rows in omega arith
@@ -92,7 +58,7 @@ parented_lt words w c p wired m =
     ]
 
 -- a clock of the chain has its planned parent
-planned_link : (words : ℕ) (order : List ℕ) (w : Wiring) (ks : List ChainStep) (v : Wiring) (l : ChainStep) → Planned_ words order w ks v
+pub planned_link : (words : ℕ) (order : List ℕ) (w : Wiring) (ks : List ChainStep) (v : Wiring) (l : ChainStep) → Planned_ words order w ks v
     → ((P : ChainStep → Type 0) → AllByRecursion P ks → P l) → l.clock < length w.clocks → link_in v.clocks l.clock ≡ l.parent
 planned_link words order w ks v l plan of within =
     ap (λ (r : ClockRow). option_map (λ p. p.0) r.link) (of (λ k. k.clock < length w.clocks → row_of v.clocks k.clock ≡ record (row_of w.clocks k.clock) { link = option_map clock_id k.parent }) plan.differs.links within)
@@ -130,7 +96,7 @@ still_link words order w ks v c plan stays within = by_chain (is_in c (clocks_in
       ∙ ap (link_in w.clocks) l.1
 
 -- links after the plan lead to possible parents
-links_after : (words : ℕ) (order : List ℕ) (w : Wiring) (ks : List ChainStep) (v : Wiring) → Planned_ words order w ks v → LinksArePossible w.defs v.clocks
+pub links_after : (words : ℕ) (order : List ℕ) (w : Wiring) (ks : List ChainStep) (v : Wiring) → Planned_ words order w ks v → LinksArePossible w.defs v.clocks
 links_after words order w ks v plan c p e = by_chain (is_in c (clocks_in ks)) refl where
   by_chain : (t : Bool) → is_in c (clocks_in ks) ≡ t → is_in p (parents_of w.defs c) ≡ true
   by_chain false out = plan.wired.links c p (ap (λ (r : ClockRow). option_map (λ q. q.0) r.link) (sym (plan.differs.others c out)) ∙ e)
@@ -160,7 +126,7 @@ mover_moves w ks c p m =
       both a b e f = rw (e, f) refl
 
 -- the kids after the plan are those whose link then leads to the clock
-kids_are : (words : ℕ) (order : List ℕ) (w : Wiring) (ks : List ChainStep) (v : Wiring) → Planned_ words order w ks v → AreKids (kids_after order w.clocks ks) (link_in v.clocks)
+pub kids_are : (words : ℕ) (order : List ℕ) (w : Wiring) (ks : List ChainStep) (v : Wiring) → Planned_ words order w ks v → AreKids (kids_after order w.clocks ks) (link_in v.clocks)
 kids_are words order w ks v plan = record {
   parent = λ c p m. elim (in_append c (stays_with order w ks p) (movers_to w.clocks ks p) m) [
     | inl stays ↦

@@ -13,3 +13,4 @@ pub mod Supplied
 pub mod Weight
 pub mod Paced
 pub mod RunsEnd
+pub mod RunsFed

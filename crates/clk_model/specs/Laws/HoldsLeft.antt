@@ -1,6 +1,5 @@
 -- That calls leave no hold behind: the law of holds.
 use Rattle.std.specs.Prelude.{◌≡◌, ℕ, List, [], length, Bool, true, false, Option, Some, None}
-use Rattle.std.specs.List.{list_any}
 use Rattle.reg_bank.specs.Registers.{Registers}
 use Rattle.clk_base.specs.Description.{Description}
 use Rattle.clk_base.specs.Valid.{IsValid}
@@ -8,15 +7,13 @@ use Rattle.clk_base.specs.declared.call.Micro.{Micro}
 use Rattle.clk_base.specs.declared.call.Sleeping.{Sleeping}
 use Rattle.clk_base.specs.declared.call.Sleeping.TheVariants as call
 use Rattle.clk_base.specs.declared.event.Entry.{Entry}
-use Rattle.clk_base.specs.declared.event.Event.{Event}
 use Rattle.clk_base.specs.declared.event.Event.TheVariants as event
 use Rattle.clk_base.specs.declared.event.Reply.{Reply}
-use Rattle.clk_base.specs.declared.event.Turn.{Turn}
 use Rattle.clk_base.specs.declared.event.Turn.TheVariants as turn
 use Rattle.clk_model.specs.State.{State}
 use Rattle.clk_model.specs.Round.{wiring}
 use Rattle.clk_model.specs.Machine.{next}
-use Rattle.clk_model.specs.Journal.{replay, Legal, opening}
+use Rattle.clk_model.specs.Journal.{replay, opening}
 use Rattle.clk_model.specs.Laws.Flight.{Flight}
 use Rattle.clk_model.specs.Wired.{IsWired, IsOrder}
 
@@ -37,14 +34,7 @@ CallsLeaveNoHold = (words : ℕ) (q s t : State) (d : ℕ) (what : Sleeping) (ma
     → IsWired words (wiring q) → IsOrder q.order q.clocks → HoldsNothing q → is_probe what ≡ false
     → Flight q d what s made → next s d (event.Step m answer) ≡ Some (t, turn.Done r) → HoldsNothing t
 
--- whether an event that is answered so begins a registration that goes on
-abbrev pub begins_probing : Event → Turn → Bool
-begins_probing (event.Begin what) turn.Going = is_probe what
-begins_probing _ _ = false
-
--- so behind each legal journal that begins at an opening with a valid description, and in which no registration goes on, nothing is
--- held while no call is in flight
+-- behind each journal that begins at an opening with a valid description nothing is held while no call is in flight, registrations included
 abbrev pub RunsLeaveNoHold : Type 0
 RunsLeaveNoHold = (defs : Description) (regs : Registers) (ignore_unused : Bool) (credits : ℕ) (journal : List Entry) → IsValid (length regs) defs
-    → Legal (opening defs regs ignore_unused credits) journal → list_any (λ e. begins_probing e.event e.turn) journal ≡ false
     → (replay (opening defs regs ignore_unused credits) journal).change ≡ None → HoldsNothing (replay (opening defs regs ignore_unused credits) journal)

@@ -1,5 +1,6 @@
 //! Laws of feeding.
 
+ghost use Rattle.clk_model.specs.Laws.RunsFed.{QuietRunsAreSettled, RunsAreFed};
 ghost use Rattle.clk_model.specs.Laws.Supplied.{EnableTierKeepsFed, OpeningIsSupplied, SettledFollowsGates, SettledIsSupplied, SuppliedIsFed};
 
 /// In a supplied state each active clock is fed.
@@ -26,4 +27,16 @@ pub fn settled_follows_gates()
 /// Each run over a valid description begins supplied.
 pub fn opening_is_supplied()
     ensures law { OpeningIsSupplied }
+{}
+
+/// Each active clock is fed behind each journal that begins at an opening with a valid description: between calls and behind
+/// each step of a call, also where a PLL doesn't lock, whatever the drivers' enables and disables between.
+pub fn runs_are_fed()
+    ensures law { RunsAreFed }
+{}
+
+/// Between calls nothing is held; each prepared PLL is powered, each handle with an enable has a prepare, each clock with a
+/// link is fed by it, and the clock of each handle is rooted.
+pub fn quiet_runs_are_settled()
+    ensures law { QuietRunsAreSettled }
 {}

@@ -1,0 +1,289 @@
+-- Laws on the blocks of a script: each move and each adoption goes well.
+use Rattle.std.proofs.Common.{◌≡◌, ℕ, ◌<◌, ◌^◌, Bool, true, false, not, ◌||◌, cond, List, [], ◌∷◌, ◌++◌, Option, Some, None, refl, sym, ap, subst, ◌∙◌, ◌⊎◌, inl, inr, nat_eq}
+use Rattle.std.specs.Prelude.{if◌then◌else◌, option_and_then}
+use Rattle.std.specs.Option.{option_map_or}
+use Rattle.clk_base.specs.declared.call.Micro.{Micro}
+use Rattle.clk_base.specs.declared.call.Micro.TheVariants as micro
+use Rattle.clk_base.specs.declared.call.Sleeping.{Sleeping}
+use Rattle.clk_base.specs.Description.{Description, kind_of, parents_of}
+use Rattle.clk_base.specs.Fields.{Field}
+use Rattle.clk_base.specs.Levels.{depth}
+use Rattle.clk_model.specs.Lists.{is_in, without, without_one}
+use Rattle.clk_model.specs.Kinds.{mux_field}
+use Rattle.clk_model.specs.Tree.{path_within}
+use Rattle.clk_model.specs.Chain.{clock_id, place_of}
+use Rattle.clk_model.specs.Step.{passed_over, cut_short}
+use Rattle.clk_model.specs.Wired.{LinesEnd}
+use Rattle.clk_model.proofs.Members.{is_in_head, is_in_tail, test_same}
+use Rattle.clk_model.proofs.BelowLaws.{IsUp}
+use Rattle.clk_model.proofs.AboveLaws.{put_at, differs, Above, above_here, above_link, above_path, not_above_link, Holder, holder_of, held_from, holder_above, MayLink, may_still, above_before, holder_clock, held_before}
+use Rattle.clk_model.proofs.Scenes.{Scene, holding, keepers, prepared_in, to_be, IsSound, Grows, GoesWell, raises, makes}
+use Rattle.clk_model.proofs.SoundLaws.{in_one, in_two, prepare_cases, keeper_prepares, hold_prepares, kept_alone, one_holder, held_by_one, sound_holding, WillMove, linked_in, may_link, late_behind, sound_linked, moved_in, sound_moved, sound_adopted, late_none}
+
+-- ---- holds that are passed over and dropped
+
+passed_nothing : (p : ℕ) (o : Option ℕ) → passed_over p o [] ≡ []
+passed_nothing p None = refl
+passed_nothing p (Some o) = refl
+
+passed_one : (p o : ℕ) (u : Option ℕ) → u ≡ Some o → passed_over p u (p ∷ []) ≡ o ∷ []
+passed_one p o u at = ap (λ (x : Option ℕ). passed_over p x (p ∷ [])) at ∙ ap (λ (t : Bool). cond t o p ∷ []) (test_same p)
+
+passed_two : (c p o : ℕ) (u : Option ℕ) → (c ≡ p → ⊥) → u ≡ Some o → passed_over p u (c ∷ p ∷ []) ≡ c ∷ o ∷ []
+passed_two c p o u other at =
+    ap (λ (x : Option ℕ). passed_over p x (c ∷ p ∷ [])) at
+    ∙ ap (λ (t : Bool). cond t o c ∷ cond (nat_eq p p) o p ∷ []) (differs c p other) ∙ ap (λ (t : Bool). c ∷ cond t o p ∷ []) (test_same p)
+
+ended_one : (p : ℕ) (u : Option ℕ) → u ≡ None → passed_over p u (p ∷ []) ≡ []
+ended_one p u at = ap (λ (x : Option ℕ). passed_over p x (p ∷ [])) at ∙ ap (λ (t : Bool). cond {A = List ℕ} (not t) (p ∷ []) []) (is_in_head p [])
+
+ended_two : (c p : ℕ) (u : Option ℕ) → (p ≡ c → ⊥) → u ≡ None → passed_over p u (c ∷ p ∷ []) ≡ c ∷ []
+ended_two c p u other at =
+    ap (λ (x : Option ℕ). passed_over p x (c ∷ p ∷ [])) at
+    ∙ ap (λ (t : Bool). cond {A = List ℕ} (not t) (c ∷ without (p ∷ []) (p ∷ [])) (without (p ∷ []) (p ∷ []))) (out (differs p c other))
+    ∙ ap (λ (t : Bool). c ∷ cond {A = List ℕ} (not t) (p ∷ []) []) (is_in_head p []) where
+      out : nat_eq p c ≡ false → is_in c (p ∷ []) ≡ false
+      out e = ap (λ (t : Bool). t || false) e
+
+dropped_first : (x : ℕ) (xs : List ℕ) → without_one x (x ∷ xs) ≡ xs
+dropped_first x xs = ap (λ (t : Bool). cond t xs (x ∷ without_one x xs)) (test_same x)
+
+-- a script goes well where it does with holds that are the same
+goes_with : (defs : Description) (what : Sleeping) (timed : Bool) (a : Scene) (ps ps' es es' : List ℕ) (late late' : Option ℕ) (ms : List Micro) → ps ≡ ps' → es ≡ es' → late ≡ late'
+    → GoesWell defs what timed None (holding a ps' es' late') ms → GoesWell defs what timed None (holding a ps es late) ms
+goes_with defs what timed a ps ps' es es' late late' ms prepares enables lates goes =
+    subst (λ (x : List ℕ). GoesWell defs what timed None (holding a x es late) ms) (sym prepares)
+    (subst (λ (x : List ℕ). GoesWell defs what timed None (holding a ps' x late) ms) (sym enables)
+    (subst (λ (x : Option ℕ). GoesWell defs what timed None (holding a ps' es' x) ms) (sym lates) goes))
+
+-- ---- what a block is made in
+
+-- a sound scene without holds, and a clock that may get another link there
+pub record CanMove (defs : Description) (a : Scene) (c p : ℕ) : Type 0 where
+  pub ends : LinesEnd defs
+  pub fits : (f : Field) → mux_field (kind_of defs c) ≡ Some f → place_of defs c p < 2 ^ f.width
+  pub sound : IsSound defs (holding a [] [] None)
+  pub will : WillMove defs a c p
+
+apart_parent : (defs : Description) (a : Scene) (c p : ℕ) → CanMove defs a c p → c ≡ p → ⊥
+apart_parent defs a c p can same =
+    not_above_link defs a.up c p can.ends can.sound.tree.possible can.will.possible (subst (λ (x : ℕ). Above a.up p x) (sym same) (above_here a.up p))
+
+possible_still : (defs : Description) (a : Scene) (c p : ℕ) → CanMove defs a c p → IsUp (parents_of defs) (put_at c (Some p) a.up)
+possible_still defs a c p can = may_still defs a.up c p (may_link defs a c p can.ends can.sound.tree.possible can.will)
+
+-- what is above a prepared clock is prepared
+prepared_above : (defs : Description) (a : Scene) (ps es : List ℕ) (late : Option ℕ) (c d : ℕ) → LinesEnd defs → IsUp (parents_of defs) a.up
+    → prepared_in defs (holding a ps es late) c ≡ true → Above a.up c d → prepared_in defs (holding a ps es late) d ≡ true
+prepared_above defs a ps es late c d ends is prep high =
+    held_from defs a.up (keepers defs a ++ ps) d ends is (holder_above a.up (keepers defs a ++ ps) c d (holder_of a.up (keepers defs a ++ ps) c prep) high)
+
+-- a new link prepares nothing, where its parent is prepared if the clock is, and what is held then was prepared
+link_prepares : (defs : Description) (a : Scene) (c p : ℕ) (ps es ps' es' : List ℕ) (late : Option ℕ) → CanMove defs a c p
+    → (prepared_in defs (holding a ps es None) c ≡ true → prepared_in defs (holding a ps es None) p ≡ true)
+    → ((h : ℕ) → is_in h ps' ≡ true → prepared_in defs (holding a ps es None) h ≡ true)
+    → (d : ℕ) → prepared_in defs (holding (linked_in a c p) ps' es' late) d ≡ true → prepared_in defs (holding a ps es None) d ≡ true
+link_prepares defs a c p ps es ps' es' late can parent each d prep = by_holder (prepare_cases defs (linked_in a c p) ps' es' late d prep) where
+  is : IsUp (parents_of defs) a.up
+  is = can.sound.tree.possible
+
+  may : MayLink defs a.up c p
+  may = may_link defs a c p can.ends is can.will
+
+  through : prepared_in defs (holding a ps es None) c ≡ true → Above a.up p d → prepared_in defs (holding a ps es None) d ≡ true
+  through own high = prepared_above defs a ps es None p d can.ends is (parent own) high
+
+  by_hold : (h : ℕ) → prepared_in defs (holding a ps es None) h ≡ true → Above a.up h d ⊎ (Above a.up h c × Above a.up p d) → prepared_in defs (holding a ps es None) d ≡ true
+  by_hold h own (inl high) = prepared_above defs a ps es None h d can.ends is own high
+  by_hold h own (inr both) = through (prepared_above defs a ps es None h c can.ends is own both.0) both.1
+
+  by_keeper : Holder a.up (keepers defs a) d ⊎ (Holder a.up (keepers defs a) c × Above a.up p d) → prepared_in defs (holding a ps es None) d ≡ true
+  by_keeper (inl holder) = keeper_prepares defs a ps es None d can.ends is holder
+  by_keeper (inr both) = through (keeper_prepares defs a ps es None c can.ends is both.0) both.1
+
+  by_holder : Holder (put_at c (Some p) a.up) (keepers defs a) d ⊎ Holder (put_at c (Some p) a.up) ps' d → prepared_in defs (holding a ps es None) d ≡ true
+  by_holder (inl keeper) = by_keeper (held_before defs a.up c p d (keepers defs a) may keeper)
+  by_holder (inr hold) = by_hold hold.0 (each hold.0 hold.1) (above_before defs a.up c p hold.0 d may hold.2)
+
+prepared_with : (defs : Description) (a : Scene) (ps ps' es : List ℕ) (late : Option ℕ) (d : ℕ) → ps ≡ ps' → prepared_in defs (holding a ps es late) d ≡ true → prepared_in defs (holding a ps' es late) d ≡ true
+prepared_with defs a ps ps' es late d same prep = subst (λ (x : List ℕ). prepared_in defs (holding a x es late) d ≡ true) same prep
+
+-- ---- an unprepared clock
+
+unprepared_still : (defs : Description) (a : Scene) (c p : ℕ) (es : List ℕ) (late : Option ℕ) → CanMove defs a c p → prepared_in defs (holding a [] [] None) c ≡ false
+    → prepared_in defs (holding (linked_in a c p) [] es late) c ≡ true → ⊥
+unprepared_still defs a c p es late can unprepared prep =
+    let was = link_prepares defs a c p [] [] [] es late can (λ own. let no : false ≡ true = sym unprepared ∙ own in absurd cc) (λ h m. absurd cc) c prep in
+    let no : false ≡ true = sym unprepared ∙ was in
+    cc
+
+-- the rest of a script goes well behind the bare move of a clock that isn't prepared
+pub bare_move : (defs : Description) (what : Sleeping) (timed : Bool) (a : Scene) (c p : ℕ) (ms : List Micro) → CanMove defs a c p
+    → prepared_in defs (holding a [] [] None) c ≡ false → GoesWell defs what timed None (holding (moved_in defs a c p) [] [] None) ms
+    → GoesWell defs what timed None (holding a [] [] None) (micro.Relink (clock_id c) (clock_id p) ∷ micro.WriteMux (clock_id c) (place_of defs c p) ∷ ms)
+bare_move defs what timed a c p ms can unprepared rest =
+    let left : List ℕ = passed_over p (a.up c) [] in
+    let none : left ≡ [] = passed_nothing p (a.up c) in
+    makes (micro.Relink (clock_id c) (clock_id p)) refl can.sound can.will.possible
+    (λ d prep. inl (link_prepares defs a c p [] [] [] left (late_behind defs a c p) can (λ own. let no : false ≡ true = sym unprepared ∙ own in absurd cc) (λ h m. absurd cc) d
+    (prepared_with defs (linked_in a c p) left [] left (late_behind defs a c p) d none prep)))
+    (goes_with defs what timed (linked_in a c p) left [] left [] (late_behind defs a c p) (late_behind defs a c p) (micro.WriteMux (clock_id c) (place_of defs c p) ∷ ms) none none refl
+    (makes (micro.WriteMux (clock_id c) (place_of defs c p)) refl
+    (sound_linked defs a c p [] [] can.ends can.sound can.will (λ h m. absurd cc) (λ prep. absurd (unprepared_still defs a c p [] None can unprepared prep)))
+    can.fits (λ d prep. inl prep) rest))
+
+-- and behind the bare adoption of one
+pub bare_adoption : (defs : Description) (what : Sleeping) (timed : Bool) (a : Scene) (c p : ℕ) (ms : List Micro) → CanMove defs a c p → a.sel c ≡ Some p
+    → prepared_in defs (holding a [] [] None) c ≡ false → GoesWell defs what timed None (holding (linked_in a c p) [] [] None) ms
+    → GoesWell defs what timed None (holding a [] [] None) (micro.Relink (clock_id c) (clock_id p) ∷ micro.Settle (clock_id c) ∷ ms)
+bare_adoption defs what timed a c p ms can sel unprepared rest =
+    let left : List ℕ = passed_over p (a.up c) [] in
+    let none : left ≡ [] = passed_nothing p (a.up c) in
+    makes (micro.Relink (clock_id c) (clock_id p)) refl can.sound can.will.possible
+    (λ d prep. inl (link_prepares defs a c p [] [] [] left (late_behind defs a c p) can (λ own. let no : false ≡ true = sym unprepared ∙ own in absurd cc) (λ h m. absurd cc) d
+    (prepared_with defs (linked_in a c p) left [] left (late_behind defs a c p) d none prep)))
+    (goes_with defs what timed (linked_in a c p) left [] left [] (late_behind defs a c p) None (micro.Settle (clock_id c) ∷ ms) none none (late_none defs a c p sel)
+    (makes (micro.Settle (clock_id c)) refl (sound_adopted defs a c p [] [] can.ends can.sound can.will sel (λ h m. absurd cc)) tt (λ d prep. inl prep) rest))
+
+-- ---- a prepared clock: its new parent is held first
+
+-- what the holds before the new link prepare
+record HoldsParent (defs : Description) (a : Scene) (c p : ℕ) : Type 0 where
+  first : IsSound defs (holding a (p ∷ []) [] None)
+  parent : IsSound defs (holding a (p ∷ []) (p ∷ []) None)
+  both : IsSound defs (holding a (p ∷ []) (c ∷ p ∷ []) None)
+  grows : Grows defs (Some p) (holding a [] [] None) (holding a (p ∷ []) [] None)
+  own : (es : List ℕ) → prepared_in defs (holding a (p ∷ []) es None) p ≡ true
+
+holds_parent : (defs : Description) (a : Scene) (c p : ℕ) → CanMove defs a c p → Holder a.up (keepers defs a) c → HoldsParent defs a c p
+holds_parent defs a c p can kept = record {
+  first = sound_holding defs a (p ∷ []) [] can.sound (λ h m. absurd cc);
+  parent = sound_holding defs a (p ∷ []) (p ∷ []) can.sound (λ h m. in_one (λ x. prepared_in defs (holding a (p ∷ []) (p ∷ []) None) x ≡ true) h p m (here (p ∷ [])));
+  both = sound_holding defs a (p ∷ []) (c ∷ p ∷ []) can.sound
+      (λ h m. in_two (λ x. prepared_in defs (holding a (p ∷ []) (c ∷ p ∷ []) None) x ≡ true) h c p m
+      (keeper_prepares defs a (p ∷ []) (c ∷ p ∷ []) None c can.ends can.sound.tree.possible kept) (here (c ∷ p ∷ [])));
+  grows = λ d prep. by_holder d (prepare_cases defs a (p ∷ []) [] None d prep);
+  own = here;
+} where
+  here : (es : List ℕ) → prepared_in defs (holding a (p ∷ []) es None) p ≡ true
+  here es = hold_prepares defs a (p ∷ []) es None p can.ends can.sound.tree.possible (one_holder a.up p p (above_here a.up p))
+
+  by_holder : (d : ℕ) → Holder a.up (keepers defs a) d ⊎ Holder a.up (p ∷ []) d → (prepared_in defs (holding a [] [] None) d ≡ true) ⊎ (is_in d (to_be (holding a [] [] None) p) ≡ true)
+  by_holder d (inl keeper) = inl (keeper_prepares defs a [] [] None d can.ends can.sound.tree.possible keeper)
+  by_holder d (inr hold) =
+      inr (ap (λ (t : Bool). is_in d (if t then path_within a.up depth p else p ∷ option_map_or (path_within a.up depth) (option_and_then (λ x. if a.there x then Some x else None) (a.sel p)) [])) can.will.parent_there
+      ∙ above_path defs a.up p d can.ends can.sound.tree.possible (held_by_one a.up p d hold))
+
+-- the new parent is raised and held, and the clock with it; then comes the new link
+held_first : (defs : Description) (what : Sleeping) (timed : Bool) (a : Scene) (c p : ℕ) (ps es : List ℕ) (late : Option ℕ) (ms : List Micro) → CanMove defs a c p → Holder a.up (keepers defs a) c
+    → passed_over p (a.up c) (p ∷ []) ≡ ps → passed_over p (a.up c) (c ∷ p ∷ []) ≡ es → late_behind defs a c p ≡ late
+    → ((h : ℕ) → is_in h ps ≡ true → prepared_in defs (holding a (p ∷ []) (c ∷ p ∷ []) None) h ≡ true)
+    → GoesWell defs what true None (holding a [] [] None) (cut_short what (micro.HoldPrepare (clock_id p) ∷ micro.HoldEnable (clock_id p) ∷ micro.HoldEnable (clock_id c) ∷ micro.Relink (clock_id c) (clock_id p) ∷ ms))
+    → GoesWell defs what timed None (holding (linked_in a c p) ps es late) ms
+    → GoesWell defs what timed None (holding a [] [] None)
+    (micro.Raise (clock_id p) ∷ micro.HoldPrepare (clock_id p) ∷ micro.HoldEnable (clock_id p) ∷ micro.HoldEnable (clock_id c) ∷ micro.Relink (clock_id c) (clock_id p) ∷ ms)
+held_first defs what timed a c p ps es late ms can kept prepares enables lates each cut rest =
+    let h = holds_parent defs a c p can kept in
+    raises (clock_id p) can.sound
+    (makes (micro.HoldPrepare (clock_id p)) refl can.sound (refl, can.will.parent_there) h.grows
+    (makes (micro.HoldEnable (clock_id p)) refl h.first tt (λ d prep. inl prep)
+    (makes (micro.HoldEnable (clock_id c)) refl h.parent tt (λ d prep. inl prep)
+    (makes (micro.Relink (clock_id c) (clock_id p)) refl h.both can.will.possible
+    (λ d prep. inl (link_prepares defs a c p (p ∷ []) (c ∷ p ∷ []) ps (passed_over p (a.up c) (c ∷ p ∷ [])) (late_behind defs a c p) can (λ own. h.own (c ∷ p ∷ [])) each d
+    (prepared_with defs (linked_in a c p) (passed_over p (a.up c) (p ∷ [])) ps (passed_over p (a.up c) (c ∷ p ∷ [])) (late_behind defs a c p) d prepares prep)))
+    (goes_with defs what timed (linked_in a c p) (passed_over p (a.up c) (p ∷ [])) ps (passed_over p (a.up c) (c ∷ p ∷ [])) es (late_behind defs a c p) late ms prepares enables lates rest)))))
+    cut
+
+-- ---- a prepared mux moves
+
+-- the holds behind the new link prepare the clock and its old parent
+old_prepared : (defs : Description) (a : Scene) (c p o : ℕ) (es : List ℕ) → CanMove defs a c p → prepared_in defs (holding (linked_in a c p) (o ∷ []) es None) o ≡ true
+old_prepared defs a c p o es can =
+    hold_prepares defs (linked_in a c p) (o ∷ []) es None o can.ends (possible_still defs a c p can) (one_holder (put_at c (Some p) a.up) o o (above_here (put_at c (Some p) a.up) o))
+
+own_prepared : (defs : Description) (a : Scene) (c p : ℕ) (ps es : List ℕ) → CanMove defs a c p → Holder a.up (keepers defs a) c → prepared_in defs (holding (linked_in a c p) ps es None) c ≡ true
+own_prepared defs a c p ps es can kept =
+    keeper_prepares defs (linked_in a c p) ps es None c can.ends (possible_still defs a c p can) (holder_clock a.up c p (keepers defs a) kept)
+
+both_prepared : (defs : Description) (a : Scene) (c p o : ℕ) → CanMove defs a c p → Holder a.up (keepers defs a) c
+    → (h : ℕ) → is_in h (c ∷ o ∷ []) ≡ true → prepared_in defs (holding (linked_in a c p) (o ∷ []) (c ∷ o ∷ []) None) h ≡ true
+both_prepared defs a c p o can kept h m =
+    in_two (λ x. prepared_in defs (holding (linked_in a c p) (o ∷ []) (c ∷ o ∷ []) None) x ≡ true) h c o m
+    (own_prepared defs a c p (o ∷ []) (c ∷ o ∷ []) can kept) (old_prepared defs a c p o (c ∷ o ∷ []) can)
+
+-- a dropped hold prepares nothing
+drop_prepares : (defs : Description) (a : Scene) (ps es es' : List ℕ) (late : Option ℕ) (d : ℕ) → LinesEnd defs → IsUp (parents_of defs) a.up
+    → prepared_in defs (holding a [] es late) d ≡ true → prepared_in defs (holding a ps es' late) d ≡ true
+drop_prepares defs a ps es es' late d ends is prep = keeper_prepares defs a ps es' late d ends is (kept_alone defs a es late d prep)
+
+-- behind the write the clock is no longer held, then its old parent
+dropped_after : (defs : Description) (what : Sleeping) (timed : Bool) (a : Scene) (c p o : ℕ) (ms : List Micro) → CanMove defs a c p → Holder a.up (keepers defs a) c
+    → GoesWell defs what timed None (holding (moved_in defs a c p) [] [] None) ms
+    → GoesWell defs what timed None (holding (moved_in defs a c p) (o ∷ []) (c ∷ o ∷ []) None)
+    (micro.DropEnable (clock_id c) ∷ micro.DropEnable (clock_id o) ∷ micro.DropPrepare (clock_id o) ∷ micro.Lower (clock_id o) ∷ ms)
+dropped_after defs what timed a c p o ms can kept rest =
+    let b : Scene = moved_in defs a c p in
+    let after_both : List Micro = micro.DropEnable (clock_id o) ∷ micro.DropPrepare (clock_id o) ∷ micro.Lower (clock_id o) ∷ ms in
+    let after_old : List Micro = micro.DropPrepare (clock_id o) ∷ micro.Lower (clock_id o) ∷ ms in
+    makes (micro.DropEnable (clock_id c)) refl (sound_moved defs a c p (o ∷ []) (c ∷ o ∷ []) can.ends can.sound can.will (both_prepared defs a c p o can kept)) tt (λ d prep. inl prep)
+    (goes_with defs what timed b (o ∷ []) (o ∷ []) (without_one c (c ∷ o ∷ [])) (o ∷ []) None None after_both refl (dropped_first c (o ∷ [])) refl
+    (makes (micro.DropEnable (clock_id o)) refl
+    (sound_moved defs a c p (o ∷ []) (o ∷ []) can.ends can.sound can.will
+    (λ h m. in_one (λ x. prepared_in defs (holding (linked_in a c p) (o ∷ []) (o ∷ []) None) x ≡ true) h o m (old_prepared defs a c p o (o ∷ []) can)))
+    tt (λ d prep. inl prep)
+    (goes_with defs what timed b (o ∷ []) (o ∷ []) (without_one o (o ∷ [])) [] None None after_old refl (dropped_first o []) refl
+    (makes (micro.DropPrepare (clock_id o)) refl (sound_moved defs a c p (o ∷ []) [] can.ends can.sound can.will (λ h m. absurd cc)) tt
+    (λ d prep. inl (drop_prepares defs b (o ∷ []) [] [] None d can.ends (possible_still defs a c p can) (prepared_with defs b (without_one o (o ∷ [])) [] [] None d (dropped_first o []) prep)))
+    (goes_with defs what timed b (without_one o (o ∷ [])) [] [] [] None None (micro.Lower (clock_id o) ∷ ms) (dropped_first o []) refl refl
+    (makes (micro.Lower (clock_id o)) refl (sound_moved defs a c p [] [] can.ends can.sound can.will (λ h m. absurd cc)) tt (λ d prep. inl prep) rest))))))
+
+-- the steps of the move of a prepared clock behind its raise
+abbrev pub move_behind : Description → ℕ → ℕ → ℕ → List Micro → List Micro
+move_behind defs c p o ms =
+    micro.HoldPrepare (clock_id p) ∷ micro.HoldEnable (clock_id p) ∷ micro.HoldEnable (clock_id c) ∷ micro.Relink (clock_id c) (clock_id p) ∷ micro.WriteMux (clock_id c) (place_of defs c p)
+    ∷ micro.DropEnable (clock_id c) ∷ micro.DropEnable (clock_id o) ∷ micro.DropPrepare (clock_id o) ∷ micro.Lower (clock_id o) ∷ ms
+
+-- the rest of a script goes well behind the move of a prepared clock with a link
+pub prepared_move : (defs : Description) (what : Sleeping) (timed : Bool) (a : Scene) (c p o : ℕ) (ms : List Micro) → CanMove defs a c p → a.up c ≡ Some o
+    → prepared_in defs (holding a [] [] None) c ≡ true
+    → GoesWell defs what true None (holding a [] [] None) (cut_short what (move_behind defs c p o ms))
+    → GoesWell defs what timed None (holding (moved_in defs a c p) [] [] None) ms
+    → GoesWell defs what timed None (holding a [] [] None) (micro.Raise (clock_id p) ∷ move_behind defs c p o ms)
+prepared_move defs what timed a c p o ms can at prep cut rest =
+    let kept = kept_alone defs a [] None c prep in
+    let is = can.sound.tree.possible in
+    held_first defs what timed a c p (o ∷ []) (c ∷ o ∷ []) (late_behind defs a c p)
+    (micro.WriteMux (clock_id c) (place_of defs c p) ∷ micro.DropEnable (clock_id c) ∷ micro.DropEnable (clock_id o) ∷ micro.DropPrepare (clock_id o) ∷ micro.Lower (clock_id o) ∷ ms)
+    can kept (passed_one p o (a.up c) at) (passed_two c p o (a.up c) (apart_parent defs a c p can) at) refl
+    (λ h m. in_one (λ x. prepared_in defs (holding a (p ∷ []) (c ∷ p ∷ []) None) x ≡ true) h o m
+    (prepared_above defs a (p ∷ []) (c ∷ p ∷ []) None c o can.ends is (keeper_prepares defs a (p ∷ []) (c ∷ p ∷ []) None c can.ends is kept) (above_link a.up c o o at (above_here a.up o))))
+    cut
+    (makes (micro.WriteMux (clock_id c) (place_of defs c p)) refl
+    (sound_linked defs a c p (o ∷ []) (c ∷ o ∷ []) can.ends can.sound can.will (both_prepared defs a c p o can kept)
+    (λ own. inr (o, at, held_from defs (put_at c (Some p) a.up) (c ∷ o ∷ []) o can.ends (possible_still defs a c p can) (o, is_in_tail o c (o ∷ []) (is_in_head o []), above_here (put_at c (Some p) a.up) o))))
+    can.fits (λ d prep'. inl prep') (dropped_after defs what timed a c p o ms can kept rest))
+
+-- ---- a prepared orphan is adopted
+
+-- the steps of the adoption of a prepared clock behind its raise
+abbrev pub adoption_behind : ℕ → ℕ → List Micro → List Micro
+adoption_behind c p ms =
+    micro.HoldPrepare (clock_id p) ∷ micro.HoldEnable (clock_id p) ∷ micro.HoldEnable (clock_id c) ∷ micro.Relink (clock_id c) (clock_id p) ∷ micro.DropEnable (clock_id c) ∷ micro.Settle (clock_id c) ∷ ms
+
+-- the rest of a script goes well behind the adoption of a prepared orphan
+pub prepared_adoption : (defs : Description) (what : Sleeping) (timed : Bool) (a : Scene) (c p : ℕ) (ms : List Micro) → CanMove defs a c p → a.up c ≡ None → a.sel c ≡ Some p
+    → prepared_in defs (holding a [] [] None) c ≡ true
+    → GoesWell defs what true None (holding a [] [] None) (cut_short what (adoption_behind c p ms))
+    → GoesWell defs what timed None (holding (linked_in a c p) [] [] None) ms
+    → GoesWell defs what timed None (holding a [] [] None) (micro.Raise (clock_id p) ∷ adoption_behind c p ms)
+prepared_adoption defs what timed a c p ms can none sel prep cut rest =
+    let kept = kept_alone defs a [] None c prep in
+    let other : c ≡ p → ⊥ = apart_parent defs a c p can in
+    held_first defs what timed a c p [] (c ∷ []) None (micro.DropEnable (clock_id c) ∷ micro.Settle (clock_id c) ∷ ms)
+    can kept (ended_one p (a.up c) none) (ended_two c p (a.up c) (λ same. other (sym same)) none) (late_none defs a c p sel) (λ h m. absurd cc) cut
+    (makes (micro.DropEnable (clock_id c)) refl
+    (sound_adopted defs a c p [] (c ∷ []) can.ends can.sound can.will sel
+    (λ h m. in_one (λ x. prepared_in defs (holding (linked_in a c p) [] (c ∷ []) None) x ≡ true) h c m (own_prepared defs a c p [] (c ∷ []) can kept)))
+    tt (λ d prep'. inl prep')
+    (goes_with defs what timed (linked_in a c p) [] [] (without_one c (c ∷ [])) [] None None (micro.Settle (clock_id c) ∷ ms) refl (dropped_first c []) refl
+    (makes (micro.Settle (clock_id c)) refl (sound_adopted defs a c p [] [] can.ends can.sound can.will sel (λ h m. absurd cc)) tt (λ d prep'. inl prep') rest)))
