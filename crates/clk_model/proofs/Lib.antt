@@ -57,3 +57,4 @@ pub mod GatesFollowLaws
 pub mod MovedLaws
 pub mod HoldsLeftLaws
 pub mod PrepToldLaws
+pub mod NotifierLaws
