@@ -59,6 +59,7 @@ pub mod GatesFollowLaws
 pub mod MovedLaws
 pub mod HoldsLeftLaws
 pub mod PrepToldLaws
+pub mod NotifierLaws
 pub mod AboveLaws
 pub mod Scenes
 pub mod SoundLaws

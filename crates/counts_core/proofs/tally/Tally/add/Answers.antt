@@ -1,0 +1,9 @@
+use Rattle.std.proofs.Common.{◌≡◌, ℕ, ◌≤◌, List, sym, ap, ◌∙◌, arith, get_or}
+use Rattle.counts_core.proofs.Tallies.{sums_small}
+use Rattle.counts_core.proofs.tally.Tally.add.Goals as goal
+
+pub raise-requires-clause-room : goal.raise-requires-clause-room
+raise-requires-clause-room c = λ d.
+    let small = sums_small c.args.links.now c.args.self.now.own.items c.args.self.now.counts.items d 536870912 c.requires.sums c.requires.few (c.requires.room d) in
+    let same : get_or c.deref_mut.result.now d 0 ≡ get_or c.args.self.now.counts.items d 0 = ap (λ (xs : List ℕ). get_or xs d 0) c.deref_mut.ensures.value in
+    omega arith

@@ -1,0 +1,40 @@
+-- The chain of each clock, and the list of all notifiers that the chains stand for.
+use Rattle.std.specs.Prelude.{◌≡◌, ℕ, ◌<◌, ◌≤◌, ◌==◌, ◌&&◌, Bool, true, false, not, List, [], filter, map, length, slice_index_or}
+use Rattle.std.specs.List.{list_any}
+use Rattle.clk_model.specs.State.{NotifierRow}
+use Rattle.clk_model.specs.Notices.{notifiers_of}
+use Rattle.clk_model.specs.Begin.{most_notifiers}
+use Rattle.notifiers.specs.declared.notifier.Notifier.{Notifier}
+use Rattle.notifiers.specs.declared.fault.ChainFault.{ChainFault}
+use Rattle.notifiers.specs.declared.fault.ChainFault.TheVariants.{Exists, Full, NoMemory}
+
+-- a notifier as one of this clock
+abbrev pub row_on : ℕ → Notifier → NotifierRow
+row_on c n = record { clock = c; id = n.id; priority = n.priority; policy = n.policy }
+
+-- the chain of a clock: its notifiers in the order in which they are told
+abbrev pub chain_of : List (List Notifier) → ℕ → List NotifierRow
+chain_of chains c = map (row_on c) (slice_index_or chains c [])
+
+-- the chains are those of these notifiers, which stand in the order of adding: each clock's own by falling priority,
+-- equals in the order of adding
+abbrev pub Tells : List (List Notifier) → List NotifierRow → Type 0
+Tells chains notifiers = (c : ℕ) → chain_of chains c ≡ notifiers_of notifiers c
+
+-- whether a chain has a notifier of this id
+abbrev pub has_id : ℕ → List NotifierRow → Bool
+has_id id chain = list_any (λ n. n.id == id) chain
+
+-- a notifier of this id can be added to the chain
+abbrev pub CanAdd : ℕ → List NotifierRow → Type 0
+CanAdd id chain = (has_id id chain ≡ false) × (length chain < most_notifiers)
+
+-- why it isn't added: the id is there, or else the chain is full, or else memory ran out
+abbrev pub WhyNot : ℕ → List NotifierRow → ChainFault → Type 0
+WhyNot id chain Exists = has_id id chain ≡ true
+WhyNot id chain Full = (has_id id chain ≡ false) × (most_notifiers ≤ length chain)
+WhyNot id chain NoMemory = CanAdd id chain
+
+-- the notifiers without the one of this clock and id
+abbrev pub without_notifier : ℕ → ℕ → List NotifierRow → List NotifierRow
+without_notifier c id notifiers = filter (λ n. not ((n.clock == c) && (n.id == id))) notifiers

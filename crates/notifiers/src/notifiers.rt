@@ -1,0 +1,94 @@
+//! The notifiers of all clocks.
+
+ghost use Rattle.std.specs.Prelude.{◌≡◌, ℕ, ◌<◌, [], ◌∷◌, ◌++◌, map, replicate, length, slice_index_or, List, IfOk, IfErr, OnOk, OnErr};
+ghost use Rattle.clk_model.specs.State.{NotifierRow};
+ghost use Rattle.clk_model.specs.Notices.{notifiers_of};
+
+use crate::chain::{add, empty_chains, has_id, remove};
+use crate::fault::ChainFault;
+use crate::notifier::Notifier;
+use clk_base::{ClockId, Policy, ValidDesc};
+use clk_io::NoMemory;
+use std::alloc::Global;
+use std::marker::Model;
+
+/// The notifiers of the clocks of a description.
+///
+/// To contracts they are a chain for each clock: its notifiers by falling priority, equals in the
+/// order of adding.
+#[derive(Drop)]
+pub struct Notifiers {
+    chains: Vec<Vec<Notifier>>,
+}
+
+impl Model for Notifiers {
+    ghost use Rattle.std.specs.Prelude.{List, map};
+    ghost use Rattle.notifiers.specs.declared.notifier.Notifier.{Notifier};
+
+    ghost Value = { List (List Notifier) };
+
+    ghost view = { λ n. map (λ chain. chain.items) n.chains.items };
+}
+
+impl Notifiers {
+    ghost use Rattle.notifiers.specs.Chains.{row_on, chain_of, Tells, has_id, CanAdd, WhyNot, without_notifier};
+
+    /// No clock of the description has a notifier.
+    pub fn create(alloc: Global, desc: &ValidDesc) -> Result<Notifiers, NoMemory>
+        ensures chains { IfOk result (λ made. made ≡ replicate (length desc.now.defs) []) }
+        ensures told { IfOk result (λ made. Tells made []) }
+    {
+        Ok(Notifiers {
+            chains: empty_chains(alloc, desc.len())?,
+        })
+    }
+
+    /// Adds a notifier to a clock.
+    pub fn add(
+        &mut self,
+        c: ClockId,
+        id: u32,
+        priority: i32,
+        policy: Policy,
+    ) -> Result<(), ChainFault>
+        requires { c.0 < length self.old }
+        ensures told { (notifiers : List NotifierRow) → Tells self.old notifiers → OnOk result (Tells self.new (notifiers ++ record { clock = c.0; id = id; priority = priority; policy = policy } ∷ [])) }
+        ensures can { OnOk result (CanAdd id (chain_of self.old c.0)) }
+        ensures why { IfErr result (WhyNot id (chain_of self.old c.0)) }
+        ensures err { OnErr result (self.new ≡ self.old) }
+        ensures clocks { length self.new ≡ length self.old }
+    {
+        let notifier = Notifier {
+            id,
+            priority,
+            policy,
+        };
+        add(&mut self.chains[c.0 as usize], notifier)
+    }
+
+    /// Takes the notifier of this id from a clock, and answers whether there was one.
+    pub fn remove(&mut self, c: ClockId, id: u32) -> bool
+        ensures had { result ≡ has_id id (chain_of self.old c.0) }
+        ensures told { (notifiers : List NotifierRow) → Tells self.old notifiers → Tells self.new (without_notifier c.0 id notifiers) }
+        ensures clocks { length self.new ≡ length self.old }
+    {
+        if self.chains.len() <= c.0 as usize {
+            return false;
+        }
+        let chain = &mut self.chains[c.0 as usize];
+        let had = has_id(chain, id);
+        remove(chain, id);
+        had
+    }
+
+    /// The notifiers of a clock, in the order in which they are told.
+    pub fn chain(&self, c: ClockId) -> &[Notifier]
+        ensures chain { result.now ≡ slice_index_or self.now c.0 [] }
+        ensures told { (notifiers : List NotifierRow) → Tells self.now notifiers → map (row_on c.0) result.now ≡ notifiers_of notifiers c.0 }
+    {
+        match self.chains.get(c.0 as usize) {
+            Some(chain) => chain.as_slice(),
+            None => &[],
+        }
+    }
+}

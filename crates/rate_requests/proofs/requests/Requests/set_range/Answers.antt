@@ -1,0 +1,29 @@
+-- The range of the handle is replaced among those of its clock.
+use Rattle.std.proofs.Common.{◌≡◌, ℕ, Bool, cond, List, [], ◌∷◌, Option, Some, IsSome, refl, sym, ap, ◌∙◌, subst, map}
+use Rattle.clk_model.specs.declared.row.HandleRow.{HandleRow}
+use Rattle.clk_model.specs.State.{handle_at}
+use Rattle.rate_requests.specs.declared.span.Span.{Span}
+use Rattle.rate_requests.specs.Handles.{HandleTable}
+use Rattle.rate_requests.specs.Records.{handles_of}
+use Rattle.rate_requests.specs.Spans.{lists, with_range}
+use Rattle.rate_requests.specs.Kept.{IsKept}
+use Rattle.rate_requests.proofs.Spanned.{swapped, map-with_range}
+use Rattle.rate_requests.proofs.KeptLaws.{same_test, kept_turned}
+use Rattle.rate_requests.proofs.requests.Requests.set_range.Goals as goal
+
+pub invariant_of-self : goal.invariant_of-self
+invariant_of-self c =
+    let n = c.args.h.number in
+    let made = c.self.inside.made in
+    let old = c.self.inside.records.slots in
+    let h : HandleRow = c.of.result in
+    let at : handle_at (handles_of old made) n ≡ Some h = ap (λ (t : HandleTable). handle_at t.handles n) c.self.view_is ∙ c.of.ensures in
+    let live : IsSome (handle_at (handles_of old made) n) = subst (λ (o : Option HandleRow). IsSome o) (sym at) refl in
+    let row : HandleRow = record h { min = c.args.min; max = c.args.max } in
+    let span : ℕ → Span = λ x. record { number = x; min = c.args.min; max = c.args.max } in
+    subst (λ (spans : List (List Span)). IsKept made c.write_row.new.records.slots spans) (sym c.set_span.ensures)
+    (kept_turned made old c.write_row.new.records.slots (lists c.self.inside.spans.items) n (Some row) h (map (with_range n c.args.min c.args.max)) c.self.invariant
+    (c.write_row.ensures made c.self.invariant.records live) at
+    (λ k x e. ap (λ (t : Bool). cond t (span x ∷ []) []) e)
+    refl
+    (λ ss. map-with_range n c.args.min c.args.max ss ∙ ap (λ (t : Bool). swapped n (cond t (span n ∷ []) []) ss) (sym (same_test h.clock.0))))

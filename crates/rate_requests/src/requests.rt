@@ -1,0 +1,175 @@
+//! The handles of all drivers.
+
+ghost use Rattle.std.specs.Prelude.{◌≡◌, ℕ, ◌<◌, [], ◌∷◌, ◌++◌, Some, None, not, length, slice_set, IsSome, IfOk, OnOk, OnErr};
+ghost use Rattle.clk_model.specs.State.{handle_at};
+
+use crate::held::{Held, add_row, row_of, take_row, write_row};
+use crate::span::{
+    Span, bounds_of, drop_span, fits_beside, no_spans, push_span, set_span, spans_on,
+};
+use clk_base::{ClockId, Handle, ValidDesc};
+use clk_io::NoMemory;
+use clk_model::HandleRow;
+use slab::Slab;
+use std::alloc::Global;
+use std::marker::Model;
+
+/// The handles of the clocks of a description.
+///
+/// To contracts they are a `HandleTable`: a list by number, with nothing where a handle was put
+/// back, and the number of clocks. No call but `create` and `add` takes memory.
+#[derive(Drop)]
+pub struct Requests {
+    /// How many handles were made: the number of the next one.
+    made: u32,
+    records: Slab<Held>,
+    /// For each clock the ranges of its live handles, by rising number.
+    spans: Vec<Vec<Span>>,
+}
+
+impl Model for Requests {
+    ghost use Rattle.std.specs.Prelude.{length};
+    ghost use Rattle.rate_requests.specs.Handles.{HandleTable};
+
+    ghost Value = { HandleTable };
+
+    ghost use Rattle.rate_requests.specs.Records.{handles_of};
+    ghost use Rattle.rate_requests.specs.Spans.{lists};
+    ghost use Rattle.rate_requests.specs.Kept.{IsKept};
+
+    ghost view = { λ r. record { clocks = length r.spans.items; handles = handles_of r.records.slots r.made } };
+
+    ghost invariant = { λ r. IsKept r.made r.records.slots (lists r.spans.items) };
+}
+
+impl Requests {
+    ghost use Rattle.rate_requests.specs.Handles.{HandleTable, new_row, has_handle, low_in, high_in, misses_in, with_range_at, with_counts_at};
+
+    /// No handle of any clock of the description.
+    pub fn create(alloc: Global, desc: &ValidDesc) -> Result<Requests, NoMemory>
+        ensures clocks { IfOk result (λ made. made.clocks ≡ length desc.now.defs) }
+        ensures handles { IfOk result (λ made. made.handles ≡ []) }
+    {
+        Ok(Requests {
+            made: 0,
+            records: Slab::new(alloc),
+            spans: no_spans(alloc, desc.len())?,
+        })
+    }
+
+    /// A new handle of a driver on a clock, which allows every rate. It has the next number.
+    pub fn add(&mut self, driver: u32, clock: ClockId) -> Result<Handle, NoMemory>
+        requires place { clock.0 < self.old.clocks }
+        requires numbers { length self.old.handles < 4294967295 }
+        ensures number { IfOk result (λ h. h.number ≡ length self.old.handles) }
+        ensures driver { IfOk result (λ h. h.driver ≡ driver) }
+        ensures handles { OnOk result (self.new.handles ≡ self.old.handles ++ Some (new_row driver clock) ∷ []) }
+        ensures err { OnErr result (self.new.handles ≡ self.old.handles) }
+        ensures clocks { self.new.clocks ≡ self.old.clocks }
+    {
+        let number = self.made;
+        let row = HandleRow {
+            driver,
+            clock,
+            prepares: 0,
+            enables: 0,
+            exclusives: 0,
+            min: 0,
+            max: u64::MAX,
+        };
+        let span = Span {
+            number,
+            min: 0,
+            max: u64::MAX,
+        };
+        self.records.reserve(1)?;
+        push_span(&mut self.spans, clock, span)?;
+        let slot = add_row(&mut self.records, number, row);
+        self.made += 1;
+        Ok(Handle {
+            number,
+            slot: slot.min(u32::MAX as usize) as u32,
+            driver,
+        })
+    }
+
+    /// Whether a handle is a live one of this driver.
+    pub fn live(&self, driver: u32, h: Handle) -> bool
+        ensures { result ≡ has_handle self.now.handles driver h.number }
+    {
+        match row_of(&self.records, h) {
+            Some(row) => row.driver == driver,
+            None => false,
+        }
+    }
+
+    /// What is known of a live handle.
+    pub fn of(&self, h: Handle) -> HandleRow
+        requires { IsSome (handle_at self.now.handles h.number) }
+        ensures { handle_at self.now.handles h.number ≡ Some result }
+    {
+        match row_of(&self.records, h) {
+            Some(row) => row,
+            None => unreachable!(),
+        }
+    }
+
+    /// The greatest minimum and the least maximum in Hz over the handles of a clock, 0 and
+    /// 18446744073709551615 without handles.
+    pub fn boundaries(&self, c: ClockId) -> (u64, u64)
+        ensures low { result.0 ≡ low_in self.now.handles c.0 }
+        ensures high { result.1 ≡ high_in self.now.handles c.0 }
+    {
+        bounds_of(spans_on(&self.spans, c))
+    }
+
+    /// Whether a range in Hz isn't empty and misses that of no other live handle of the clock.
+    pub fn fits(&self, h: Handle, min: u64, max: u64) -> bool
+        requires { IsSome (handle_at self.now.handles h.number) }
+        ensures { (row : HandleRow) → handle_at self.now.handles h.number ≡ Some row → result ≡ not (misses_in self.now.handles h.number row.clock.0 min max) }
+    {
+        let clock = self.of(h).clock;
+        fits_beside(spans_on(&self.spans, clock), h.number, min, max)
+    }
+
+    /// Gives a live handle another range in Hz.
+    pub fn set_range(&mut self, h: Handle, min: u64, max: u64)
+        requires { IsSome (handle_at self.old.handles h.number) }
+        ensures range { self.new.handles ≡ with_range_at self.old.handles h.number min max }
+        ensures clocks { self.new.clocks ≡ self.old.clocks }
+    {
+        let row = HandleRow {
+            min,
+            max,
+            ..self.of(h)
+        };
+        write_row(&mut self.records, h, row);
+        set_span(&mut self.spans, row.clock, h.number, min, max);
+    }
+
+    /// Gives a live handle other counts.
+    pub fn set_counts(&mut self, h: Handle, prepares: u32, enables: u32, exclusives: u32)
+        requires { IsSome (handle_at self.old.handles h.number) }
+        ensures counts { self.new.handles ≡ with_counts_at self.old.handles h.number prepares enables exclusives }
+        ensures clocks { self.new.clocks ≡ self.old.clocks }
+    {
+        let row = HandleRow {
+            prepares,
+            enables,
+            exclusives,
+            ..self.of(h)
+        };
+        write_row(&mut self.records, h, row);
+    }
+
+    /// Takes out a live handle. Its number isn't used again.
+    pub fn remove(&mut self, h: Handle)
+        requires { IsSome (handle_at self.old.handles h.number) }
+        ensures handles { self.new.handles ≡ slice_set self.old.handles h.number None }
+        ensures clocks { self.new.clocks ≡ self.old.clocks }
+    {
+        let clock = self.of(h).clock;
+        take_row(&mut self.records, h);
+        drop_span(&mut self.spans, clock, h.number);
+    }
+}
