@@ -88,12 +88,12 @@ holder_below links own counts sums (suc fuel) c some =
     ⊎_elim
     (λ (mine : 0 < get_or own c 0). inl (c, (0, mine, refl)))
     (λ (none : get_or own c 0 ≤ 0).
-        let here = sums.sums c in
-        let child = kids-some links counts c (omega arith) in
-        elim (holder_below links own counts sums fuel child.0 child.2) [
-          | inl found ↦ inl (found.0, (suc found.1.0, found.1.1, rises_on (up_in links) found.1.0 found.0 child.0 c found.1.2 (leads_up links child.0 c child.1)))
-          | inr far ↦ inr (far.0, rises_on (up_in links) fuel far.0 child.0 c far.1 (leads_up links child.0 c child.1))
-        ])
+    let here = sums.sums c in
+    let child = kids-some links counts c (omega arith) in
+    elim (holder_below links own counts sums fuel child.0 child.2) [
+      | inl found ↦ inl (found.0, (suc found.1.0, found.1.1, rises_on (up_in links) found.1.0 found.0 child.0 c found.1.2 (leads_up links child.0 c child.1)))
+      | inr far ↦ inr (far.0, rises_on (up_in links) fuel far.0 child.0 c far.1 (leads_up links child.0 c child.1))
+    ])
     (cases_lt 0 (get_or own c 0))
 
 own_within : (links : List (Option ClockId)) (own : List ℕ) (h : ℕ) → length own ≡ length links → 0 < get_or own h 0 → h < length links

@@ -3,10 +3,8 @@ ghost use Rattle.std.specs.Prelude.{◌≡◌, ◌<◌, ◌-◌, true, false, []
 ghost use Rattle.std.specs.Bool.{OnTrue, OnFalse};
 
 use crate::roll::{Line, Roll};
-use tier_lock::Kept;
-use tier_lock::Lock;
-use tier_lock::Pass;
 use std::sync::Wait;
+use tier_lock::{Kept, Lock, Pass};
 
 /// Adds one line; false where there is no memory for it.
 pub fn append<R: Wait>(

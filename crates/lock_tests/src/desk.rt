@@ -4,16 +4,13 @@ ghost use Rattle.std.specs.Option.{option_map};
 
 use crate::append::append;
 use crate::roll::Roll;
-use tier_lock::Baton;
-use tier_lock::Lock;
-use tier_lock::Named;
-use tier_lock::Pass;
 use std::alloc::Global;
 use std::marker::{Brand, PhantomData};
 use std::sync::{Mutex, Wait};
 use std::test::Fail;
 use std::thread;
 use std::thread::Threads;
+use tier_lock::{Baton, Lock, Named, Pass};
 
 const ROUNDS: u32 = 300;
 

@@ -1,8 +1,8 @@
 //! A list of numbers, each with the driver that added it.
 ghost use Rattle.std.specs.Prelude.{◌≡◌, [], ◌∷◌, ◌++◌, OnOk, OnErr};
 
-use tier_lock::Kept;
 use std::alloc::{AllocError, Global};
+use tier_lock::Kept;
 
 #[derive(Clone, Copy)]
 pub struct Line {

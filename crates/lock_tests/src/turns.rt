@@ -4,14 +4,13 @@ ghost use Rattle.tier_lock.specs.Entries.{own};
 
 use crate::append::append;
 use crate::roll::Roll;
-use tier_lock::Lock;
-use tier_lock::Pass;
 use clk_io::NoMemory;
 use std::alloc::Global;
 use std::sync::Wait;
 use std::test::Fail;
 use std::thread;
 use std::thread::Threads;
+use tier_lock::{Lock, Pass};
 
 // Adds all numbers in their order, and gives the pass back.
 fn append_all<R: Wait>(

@@ -85,8 +85,8 @@ loop-at-preserved c =
     let more = one_more_zero now at (omega arith) some (omega (arith, c.if-count-gt0.false)) in
     record {
       walk =
-      lower_goes c.args.links.now c.args.counts.now now _ c.args.clock.0 at c.loop-at.stopped c.in-Some.parent c.loop-at.invariant.walk
-      (step c.args.links.now now at (omega arith) (omega arith) some) (omega (arith, c.if-count-gt0.false)) c.in-Some.is;
+          lower_goes c.args.links.now c.args.counts.now now _ c.args.clock.0 at c.loop-at.stopped c.in-Some.parent c.loop-at.invariant.walk
+          (step c.args.links.now now at (omega arith) (omega arith) some) (omega (arith, c.if-count-gt0.false)) c.in-Some.is;
       place = c.requires.inside at c.in-Some.parent.0 (ap (option_map (λ (q : ClockId). q.0)) c.in-Some.is);
       few = omega arith;
     }

@@ -55,13 +55,13 @@ loop-at-preserved c =
     let fewer = zeros-begun now at (omega arith) none in
     record {
       walk =
-      raise_goes c.args.links.now c.args.counts.now now _ c.args.clock.0 at c.loop-at.begun c.in-Some.parent c.loop-at.invariant.walk
-      (steps_up c.args.links.now now at (omega arith) (omega arith)) none c.in-Some.is;
+          raise_goes c.args.links.now c.args.counts.now now _ c.args.clock.0 at c.loop-at.begun c.in-Some.parent c.loop-at.invariant.walk
+          (steps_up c.args.links.now now at (omega arith) (omega arith)) none c.in-Some.is;
       place = c.requires.inside at c.in-Some.parent.0 (ap (option_map (λ (q : ClockId). q.0)) c.in-Some.is);
       room = λ d.
-      let more = count-more now at d (omega arith) in
-      let before = c.loop-at.invariant.room d in
-      one-le now at d _ more none before;
+          let more = count-more now at d (omega arith) in
+          let before = c.loop-at.invariant.room d in
+          one-le now at d _ more none before;
       few = omega arith;
     }
 
