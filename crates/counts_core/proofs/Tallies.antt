@@ -1,5 +1,5 @@
 -- Laws on sums: one holder more or less of a clock.
-use Rattle.std.proofs.Common.{◌≡◌, ℕ, ◌+◌, ◌-◌, ◌<◌, ◌≤◌, Bool, true, false, cond, List, Option, refl, sym, ap, ◌∙◌, arith, length, set, get_or, nat_eq}
+use Rattle.std.proofs.Common.{◌≡◌, ℕ, ◌+◌, ◌-◌, ◌<◌, ◌≤◌, true, false, cond, List, Option, refl, sym, ap, ◌∙◌, arith, length, set, get_or, nat_eq}
 use Rattle.std.proofs.lemmas.List.{length-set}
 use Rattle.clk_base.specs.declared.clock.ClockId.{ClockId}
 use Rattle.clk_model.proofs.Members.{same_from_test}
@@ -21,11 +21,11 @@ sums_added links own old new c sums more within = record {
   owned = length-set own c (get_or own c 0 + 1) ∙ sums.owned;
   counted = more.size ∙ sums.counted;
   sums = λ d.
-  let long = sums.owned in
-  let here = sums.sums d in
-  let walk = more.sums d in
-  let added = count-more own c d (omega arith) in
-  omega arith;
+      let long = sums.owned in
+      let here = sums.sums d in
+      let walk = more.sums d in
+      let added = count-more own c d (omega arith) in
+      omega arith;
 }
 
 -- one of a clock's own is one of its count
@@ -46,9 +46,9 @@ sums_taken links own old new c sums more within held = record {
   owned = length-set own c (get_or own c 0 - 1) ∙ sums.owned;
   counted = sym more.size ∙ sums.counted;
   sums = λ d.
-  let long = sums.owned in
-  let here = sums.sums d in
-  let walk = more.sums d in
-  let taken = (steps_down links own c (get_or own c 0 - 1) (omega arith) (omega arith) (omega arith)).counts d in
-  omega arith;
+      let long = sums.owned in
+      let here = sums.sums d in
+      let walk = more.sums d in
+      let taken = (steps_down links own c (get_or own c 0 - 1) (omega arith) (omega arith) (omega arith)).counts d in
+      omega arith;
 }

@@ -1,11 +1,10 @@
 -- Each step of the walk, and its end.
-use Rattle.std.proofs.Common.{◌≡◌, ℕ, ◌+◌, ◌-◌, ◌<◌, ◌≤◌, List, Option, Some, None, sym, ap, ◌∙◌, arith, length, set, get_or}
+use Rattle.std.proofs.Common.{◌≡◌, ℕ, ◌+◌, ◌-◌, ◌<◌, ◌≤◌, List, Option, ap, ◌∙◌, arith, length, set, get_or}
 use Rattle.std.proofs.lemmas.List.{length-set, get_or-set_same}
 use Rattle.std.specs.Option.{option_map}
 use Rattle.clk_base.specs.declared.clock.ClockId.{ClockId}
-use Rattle.counts_core.specs.Sums.{up_in, one, OneMore, Begins}
-use Rattle.counts_core.proofs.Walking.{zeros, zeros-le, zeros-stopped, count-set}
-use Rattle.counts_core.proofs.Steps.{Steps, steps_down, Lowering, lower_finds, lower_goes, lower_ends, lower_stops}
+use Rattle.counts_core.proofs.Walking.{zeros, zeros-le, zeros-stopped}
+use Rattle.counts_core.proofs.Steps.{Steps, steps_down, lower_finds, lower_goes, lower_ends, lower_stops}
 use Rattle.counts_core.proofs.walk.lower.Goals as goal
 
 -- what the walk takes one from
@@ -85,8 +84,8 @@ loop-at-preserved c =
     let more = one_more_zero now at (omega arith) some (omega (arith, c.if-count-gt0.false)) in
     record {
       walk =
-      lower_goes c.args.links.now c.args.counts.now now _ c.args.clock.0 at c.loop-at.stopped c.in-Some.parent c.loop-at.invariant.walk
-      (step c.args.links.now now at (omega arith) (omega arith) some) (omega (arith, c.if-count-gt0.false)) c.in-Some.is;
+          lower_goes c.args.links.now c.args.counts.now now _ c.args.clock.0 at c.loop-at.stopped c.in-Some.parent c.loop-at.invariant.walk
+          (step c.args.links.now now at (omega arith) (omega arith) some) (omega (arith, c.if-count-gt0.false)) c.in-Some.is;
       place = c.requires.inside at c.in-Some.parent.0 (ap (option_map (λ (q : ClockId). q.0)) c.in-Some.is);
       few = omega arith;
     }
