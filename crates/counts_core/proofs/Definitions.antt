@@ -1,8 +1,7 @@
 -- The kept sums are the definitions': a count isn't 0 exactly where the clock is on the path of a holder.
-use Rattle.std.proofs.Common.{◌≡◌, ℕ, zero, suc, ◌+◌, ◌<◌, ◌≤◌, ◌&&◌, ◌||◌, ◌⊎◌, Bool, true, false, cond, List, [], ◌∷◌, Option, Some, None, refl, sym, ap, ◌∙◌, subst, inl, inr, ⊎_elim, arith, length, get_or, nat_eq, nat_lt}
+use Rattle.std.proofs.Common.{◌≡◌, ℕ, zero, suc, ◌+◌, ◌<◌, ◌≤◌, ◌&&◌, ◌⊎◌, Bool, true, false, cond, List, [], ◌∷◌, Option, Some, None, refl, sym, ap, ◌∙◌, inl, inr, ⊎_elim, arith, length, get_or, nat_eq, nat_lt}
 use Rattle.std.specs.Prelude.{count_by}
 use Rattle.std.specs.Option.{option_map}
-use Rattle.std.specs.List.{list_any}
 use Rattle.std.proofs.lemmas.Bool.{cases_lt, false≢true}
 use Rattle.std.proofs.lemmas.Bool.Decides.{nat_tests}
 use Rattle.std.proofs.lemmas.List.{get_or_past}
@@ -11,7 +10,7 @@ use Rattle.clk_base.specs.declared.clock.ClockId.{ClockId}
 use Rattle.clk_base.specs.Levels.{depth, ends_within}
 use Rattle.clk_model.specs.Lists.{is_in, count_from}
 use Rattle.clk_model.specs.Tree.{path_within}
-use Rattle.clk_model.proofs.Members.{or_cases, both_left, both_right, same_from_test, any_in, any_from_in, is_in-count_from}
+use Rattle.clk_model.proofs.Members.{both_left, both_right, same_from_test, any_in, any_from_in, is_in-count_from}
 use Rattle.clk_model.proofs.PathLaws.{path_all}
 use Rattle.clk_model.proofs.BelowLaws.{Rises, IsUp, rises_on, few_steps, rises_path}
 use Rattle.counts_core.specs.Sums.{up_in, leads, mark, kids, AreSums}
@@ -22,7 +21,7 @@ use Rattle.counts_core.specs.Counted.{is_held, sum_over}
 counts_true : (n : ℕ) → nat_lt 0 n ≡ true → 0 < n
 counts_true n e = grind (arith, nat_tests)
 
-true_counts : (n : ℕ) → 0 < n → nat_lt 0 n ≡ true
+pub true_counts : (n : ℕ) → 0 < n → nat_lt 0 n ≡ true
 true_counts n e = grind (arith, nat_tests)
 
 both_true : (a b : Bool) → a ≡ true → b ≡ true → (a && b) ≡ true

@@ -2,3 +2,5 @@ pub mod Walking
 pub mod Steps
 pub mod Tallies
 pub mod Definitions
+pub mod Growing
+pub mod Held

@@ -1,13 +1,13 @@
 -- Laws on a walk: each step of it, up and down, and its end.
-use Rattle.std.proofs.Common.{◌≡◌, ◌≢◌, ℕ, zero, suc, ◌+◌, ◌-◌, ◌<◌, ◌≤◌, ◌&&◌, ◌||◌, Bool, true, false, cond, List, [], ◌∷◌, Option, Some, None, refl, sym, ap, ◌∙◌, subst, ⊎_elim, ◌⊎◌, inl, inr, add-one, arith, length, set, get_or, nat_eq, nat_lt}
+use Rattle.std.proofs.Common.{◌≡◌, ℕ, zero, suc, ◌+◌, ◌<◌, ◌≤◌, ◌||◌, Bool, true, false, cond, List, Option, Some, None, refl, sym, ap, ◌∙◌, subst, ◌⊎◌, inl, inr, add-one, arith, length, set, get_or, nat_eq, nat_lt}
 use Rattle.std.specs.Option.{option_map}
-use Rattle.std.proofs.lemmas.Bool.{cases_eq, cases_lt, false≢true}
+use Rattle.std.proofs.lemmas.Bool.{false≢true}
 use Rattle.std.proofs.lemmas.Bool.Decides.{nat_tests}
 use Rattle.std.proofs.lemmas.List.{length-set}
 use Rattle.clk_base.specs.declared.clock.ClockId.{ClockId}
 use Rattle.clk_model.specs.Lists.{is_in}
 use Rattle.clk_model.specs.Tree.{path_within}
-use Rattle.clk_model.proofs.Members.{or_cases, or_left, or_right, not_either, same_from_test, test_same, test_other}
+use Rattle.clk_model.proofs.Members.{or_cases, not_either, same_from_test, test_same}
 use Rattle.clk_model.proofs.PathLaws.{above}
 use Rattle.clk_model.proofs.BelowLaws.{Rises, rises_on}
 use Rattle.counts_core.specs.Sums.{up_in, leads, one, mark, kids, OneMore, Begins}

@@ -1,6 +1,5 @@
 -- Laws on a walk: what a count that goes up or down by one does to the sums.
-use Rattle.std.proofs.Common.{◌≡◌, ◌≢◌, ℕ, zero, suc, ◌+◌, ◌-◌, ◌<◌, ◌≤◌, ◌&&◌, Bool, true, false, cond, List, [], ◌∷◌, Option, Some, None, refl, sym, ap, ◌∙◌, ⊎_elim, arith, length, set, get_or, nat_eq, nat_lt}
-use Rattle.std.proofs.lemmas.Bool.{cases_eq}
+use Rattle.std.proofs.Common.{◌≡◌, ℕ, zero, suc, ◌+◌, ◌<◌, ◌≤◌, ◌&&◌, Bool, true, false, cond, List, [], ◌∷◌, Option, None, refl, sym, ap, ◌∙◌, arith, length, set, get_or, nat_eq, nat_lt}
 use Rattle.std.proofs.lemmas.Bool.Decides.{nat_tests}
 use Rattle.std.proofs.lemmas.List.{get_or-set_same, get_or-set_other}
 use Rattle.clk_base.specs.declared.clock.ClockId.{ClockId}
@@ -120,9 +119,9 @@ zeros-stopped ns a within last =
     omega arith
 
 -- a first holder keeps every count small
-pub one-le : (counts : List ℕ) (a d next : ℕ) → next ≡ get_or counts d 0 + one a d → get_or counts a 0 ≡ 0 → get_or counts d 0 ≤ 1073741824 → next ≤ 1073741824
-one-le counts a d next is none before =
-    elim (nat_eq a d) as (λ t. nat_eq a d ≡ t → next ≤ 1073741824) [
+pub one-le : (counts : List ℕ) (a d most next : ℕ) → 1 ≤ most → next ≡ get_or counts d 0 + one a d → get_or counts a 0 ≡ 0 → get_or counts d 0 ≤ most → next ≤ most
+one-le counts a d most next room is none before =
+    elim (nat_eq a d) as (λ t. nat_eq a d ≡ t → next ≤ most) [
       | true ↦ λ e.
           let here : get_or counts d 0 ≡ 0 = ap (λ (x : ℕ). get_or counts x 0) (sym (same_number a d e)) ∙ none in
           let added : one a d ≡ 1 = ap (λ (t : Bool). cond t 1 0) e in

@@ -43,3 +43,7 @@ pub record Begins (links : List (Option ClockId)) (less more : List ℕ) (c k : 
   pub off : (d : ℕ) → is_in d (path_within (up_in links) k c) ≡ true → slice_index less d ≡ 0
   pub on : (d : ℕ) → is_in d (path_within (up_in links) k c) ≡ true → 0 < slice_index more d
   pub others : (d : ℕ) → is_in d (path_within (up_in links) k c) ≡ false → nat_lt 0 (slice_index more d) ≡ nat_lt 0 (slice_index less d)
+
+-- what being prepared adds to the protection of a clock
+abbrev pub gated_part : List Bool → List ℕ → ℕ → ℕ
+gated_part gated prepares d = if slice_index_or gated d false then slice_index prepares d else 0

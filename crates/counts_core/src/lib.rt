@@ -1,5 +1,10 @@
 //! How often each clock is enabled, prepared and protected, kept as three counts a clock.
 #![tactic(auto)]
 
+mod counts;
+mod coupled;
+mod flags;
 mod tally;
 mod walk;
+
+pub use counts::Counts;

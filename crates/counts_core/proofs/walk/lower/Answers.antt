@@ -1,11 +1,10 @@
 -- Each step of the walk, and its end.
-use Rattle.std.proofs.Common.{◌≡◌, ℕ, ◌+◌, ◌-◌, ◌<◌, ◌≤◌, List, Option, Some, None, sym, ap, ◌∙◌, arith, length, set, get_or}
+use Rattle.std.proofs.Common.{◌≡◌, ℕ, ◌+◌, ◌-◌, ◌<◌, ◌≤◌, List, Option, ap, ◌∙◌, arith, length, set, get_or}
 use Rattle.std.proofs.lemmas.List.{length-set, get_or-set_same}
 use Rattle.std.specs.Option.{option_map}
 use Rattle.clk_base.specs.declared.clock.ClockId.{ClockId}
-use Rattle.counts_core.specs.Sums.{up_in, one, OneMore, Begins}
-use Rattle.counts_core.proofs.Walking.{zeros, zeros-le, zeros-stopped, count-set}
-use Rattle.counts_core.proofs.Steps.{Steps, steps_down, Lowering, lower_finds, lower_goes, lower_ends, lower_stops}
+use Rattle.counts_core.proofs.Walking.{zeros, zeros-le, zeros-stopped}
+use Rattle.counts_core.proofs.Steps.{Steps, steps_down, lower_finds, lower_goes, lower_ends, lower_stops}
 use Rattle.counts_core.proofs.walk.lower.Goals as goal
 
 -- what the walk takes one from

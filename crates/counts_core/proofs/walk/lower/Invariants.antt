@@ -1,5 +1,5 @@
 -- One holder less is owed to the clock where the walk is.
-use Rattle.std.proofs.Common.{ℕ, ◌+◌, ◌-◌, ◌<◌, ◌≤◌, length}
+use Rattle.std.proofs.Common.{◌-◌, ◌<◌, ◌≤◌, length}
 use Rattle.counts_core.proofs.Walking.{zeros}
 use Rattle.counts_core.proofs.Steps.{Lowering}
 use Rattle.counts_core.proofs.walk.lower.Given as goal

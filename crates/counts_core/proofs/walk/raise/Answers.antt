@@ -1,10 +1,9 @@
 -- Each step of the walk, and its end.
-use Rattle.std.proofs.Common.{◌≡◌, ℕ, ◌+◌, ◌<◌, ◌≤◌, Option, Some, None, sym, ap, ◌∙◌, arith, length, set, get_or}
+use Rattle.std.proofs.Common.{◌≡◌, ap, arith, get_or}
 use Rattle.std.specs.Option.{option_map}
 use Rattle.clk_base.specs.declared.clock.ClockId.{ClockId}
-use Rattle.counts_core.specs.Sums.{up_in, one, OneMore, Begins}
-use Rattle.counts_core.proofs.Walking.{zeros, zeros-le, zeros-begun, count-more, one-le}
-use Rattle.counts_core.proofs.Steps.{Steps, steps_up, Raising, raise_goes, raise_ends, raise_stops}
+use Rattle.counts_core.proofs.Walking.{zeros-le, zeros-begun, count-more, one-le}
+use Rattle.counts_core.proofs.Steps.{steps_up, raise_goes, raise_ends, raise_stops}
 use Rattle.counts_core.proofs.walk.raise.Goals as goal
 
 pub returns-then-count-gt0-clause-more : goal.returns-then-count-gt0-clause-more
@@ -61,7 +60,7 @@ loop-at-preserved c =
       room = λ d.
           let more = count-more now at d (omega arith) in
           let before = c.loop-at.invariant.room d in
-          one-le now at d _ more none before;
+          one-le now at d 1073741824 _ (omega arith) more none before;
       few = omega arith;
     }
 

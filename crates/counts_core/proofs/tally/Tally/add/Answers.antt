@@ -1,4 +1,4 @@
-use Rattle.std.proofs.Common.{◌≡◌, ℕ, ◌≤◌, List, sym, ap, ◌∙◌, arith, get_or}
+use Rattle.std.proofs.Common.{◌≡◌, ℕ, List, ap, arith, get_or}
 use Rattle.counts_core.proofs.Tallies.{sums_small}
 use Rattle.counts_core.proofs.tally.Tally.add.Goals as goal
 

@@ -1,0 +1,183 @@
+//! The three counts of all clocks.
+
+ghost use Rattle.std.specs.Prelude.{◌≡◌, ℕ, ◌+◌, ◌-◌, ◌<◌, ◌&&◌, not, length, replicate, slice_index, slice_set, IfOk, None};
+ghost use Rattle.clk_model.specs.Lists.{is_in};
+ghost use Rattle.clk_model.specs.Tree.{path_within};
+
+use crate::coupled::{hold_up, release_up};
+use crate::flags::{gated_clocks, no_holders, no_links};
+use crate::tally::Tally;
+use clk_base::{ClockId, ValidDesc};
+use clk_io::NoMemory;
+use clk_tree::Tree;
+use std::alloc::Global;
+use std::marker::Model;
+
+/// How often each clock of a description is enabled, prepared and protected.
+///
+/// To contracts counts are a `CountState`: the links that the sums are over, and the holders of each
+/// clock. No call but `create` takes memory.
+#[derive(Drop)]
+pub struct Counts {
+    desc: ValidDesc,
+    links: Vec<Option<ClockId>>,
+    /// Whether a clock protects its rate while it is prepared.
+    gated: Vec<bool>,
+    enables: Tally,
+    prepares: Tally,
+    exclusives: Vec<u32>,
+    /// The own part of a clock is its exclusive holders and, if it is gated, its prepare count.
+    protects: Tally,
+}
+
+impl Model for Counts {
+    ghost use Rattle.counts_core.specs.Counted.{CountState};
+
+    ghost Value = { CountState };
+
+    ghost use Rattle.counts_core.specs.CountsKept.{IsCounted};
+
+    ghost view = { λ c. record { defs = c.desc.defs; links = c.links.items; enables = c.enables.own.items; prepares = c.prepares.own.items; exclusives = c.exclusives.items } };
+
+    ghost invariant = { λ c. IsCounted c.desc.defs c.links.items c.gated.items c.enables.own.items c.prepares.own.items c.exclusives.items
+        c.enables.counts.items c.prepares.counts.items c.protects.own.items c.protects.counts.items };
+}
+
+impl Counts {
+    ghost use Rattle.counts_core.specs.Sums.{up_in};
+    ghost use Rattle.counts_core.specs.Counted.{CountState, HasLinks, is_held, enable_sum, prepare_sum, protect_sum};
+
+    /// Nobody holds a clock, and no clock has a link.
+    pub fn create(alloc: Global, desc: &ValidDesc) -> Result<Counts, NoMemory>
+        ensures defs { IfOk result (λ made. made.defs ≡ desc.now.defs) }
+        ensures links { IfOk result (λ made. made.links ≡ replicate (length desc.now.defs) None) }
+        ensures enables { IfOk result (λ made. made.enables ≡ replicate (length desc.now.defs) 0) }
+        ensures prepares { IfOk result (λ made. made.prepares ≡ replicate (length desc.now.defs) 0) }
+        ensures exclusives { IfOk result (λ made. made.exclusives ≡ replicate (length desc.now.defs) 0) }
+    {
+        let clocks = desc.len();
+        let links = no_links(alloc, clocks)?;
+        let gated = gated_clocks(alloc, desc)?;
+        let enables = Tally::empty(alloc, clocks)?;
+        let prepares = Tally::empty(alloc, clocks)?;
+        let exclusives = no_holders(alloc, clocks)?;
+        let protects = Tally::empty(alloc, clocks)?;
+        Ok(Counts {
+            desc: desc.copy(alloc)?,
+            links,
+            gated,
+            enables,
+            prepares,
+            exclusives,
+            protects,
+        })
+    }
+
+    /// One enable holder of a clock more. Tells how many clocks became active: the first so many of
+    /// the clock's path.
+    pub fn enable_walk(&mut self, _tree: &Tree, c: ClockId) -> usize
+        requires place { c.0 < length self.old.links }
+        requires links { HasLinks _tree.now.clocks self.old.links }
+        requires room { slice_index self.old.enables c.0 < 8388608 }
+        ensures holders { self.new ≡ record self.old { enables = slice_set self.old.enables c.0 (slice_index self.old.enables c.0 + 1) } }
+        ensures begun { (d : ℕ) → is_in d (path_within (up_in self.old.links) result c.0) ≡ (is_held self.old.links (slice_index self.new.enables) d && not (is_held self.old.links (slice_index self.old.enables) d)) }
+    {
+        self.enables.add(&self.links, c)
+    }
+
+    /// One enable holder of a clock less. Tells how many clocks are no longer active: the first so
+    /// many of the clock's path.
+    pub fn disable_walk(&mut self, _tree: &Tree, c: ClockId) -> usize
+        requires place { c.0 < length self.old.links }
+        requires links { HasLinks _tree.now.clocks self.old.links }
+        requires held { 0 < slice_index self.old.enables c.0 }
+        ensures holders { self.new ≡ record self.old { enables = slice_set self.old.enables c.0 (slice_index self.old.enables c.0 - 1) } }
+        ensures stopped { (d : ℕ) → is_in d (path_within (up_in self.old.links) result c.0) ≡ (is_held self.old.links (slice_index self.old.enables) d && not (is_held self.old.links (slice_index self.new.enables) d)) }
+    {
+        self.enables.take(&self.links, c)
+    }
+
+    /// One prepare holder of a clock more. Tells how many clocks became prepared: the first so many
+    /// of the clock's path.
+    pub fn hold(&mut self, _tree: &Tree, c: ClockId) -> usize
+        requires place { c.0 < length self.old.links }
+        requires links { HasLinks _tree.now.clocks self.old.links }
+        requires room { slice_index self.old.prepares c.0 < 8388608 }
+        ensures holders { self.new ≡ record self.old { prepares = slice_set self.old.prepares c.0 (slice_index self.old.prepares c.0 + 1) } }
+        ensures begun { (d : ℕ) → is_in d (path_within (up_in self.old.links) result c.0) ≡ (is_held self.old.links (slice_index self.new.prepares) d && not (is_held self.old.links (slice_index self.old.prepares) d)) }
+    {
+        self.prepares.own[c.0 as usize] += 1;
+        hold_up(
+            &self.links,
+            &self.gated,
+            &mut self.prepares.counts,
+            &mut self.protects,
+            c,
+        )
+    }
+
+    /// One prepare holder of a clock less. Tells how many clocks are no longer prepared: the first
+    /// so many of the clock's path.
+    pub fn release(&mut self, _tree: &Tree, c: ClockId) -> usize
+        requires place { c.0 < length self.old.links }
+        requires links { HasLinks _tree.now.clocks self.old.links }
+        requires held { 0 < slice_index self.old.prepares c.0 }
+        ensures holders { self.new ≡ record self.old { prepares = slice_set self.old.prepares c.0 (slice_index self.old.prepares c.0 - 1) } }
+        ensures stopped { (d : ℕ) → is_in d (path_within (up_in self.old.links) result c.0) ≡ (is_held self.old.links (slice_index self.old.prepares) d && not (is_held self.old.links (slice_index self.new.prepares) d)) }
+    {
+        self.prepares.own[c.0 as usize] -= 1;
+        release_up(
+            &self.links,
+            &self.gated,
+            &mut self.prepares.counts,
+            &mut self.protects,
+            c,
+        )
+    }
+
+    /// One exclusive holder of a clock more.
+    pub fn protect(&mut self, _tree: &Tree, c: ClockId)
+        requires place { c.0 < length self.old.links }
+        requires links { HasLinks _tree.now.clocks self.old.links }
+        requires room { slice_index self.old.exclusives c.0 < 8388608 }
+        ensures { self.new ≡ record self.old { exclusives = slice_set self.old.exclusives c.0 (slice_index self.old.exclusives c.0 + 1) } }
+    {
+        self.exclusives[c.0 as usize] += 1;
+        self.protects.add(&self.links, c);
+    }
+
+    /// One exclusive holder of a clock less.
+    pub fn unprotect(&mut self, _tree: &Tree, c: ClockId)
+        requires place { c.0 < length self.old.links }
+        requires links { HasLinks _tree.now.clocks self.old.links }
+        requires held { 0 < slice_index self.old.exclusives c.0 }
+        ensures { self.new ≡ record self.old { exclusives = slice_set self.old.exclusives c.0 (slice_index self.old.exclusives c.0 - 1) } }
+    {
+        self.exclusives[c.0 as usize] -= 1;
+        self.protects.take(&self.links, c);
+    }
+
+    /// How often a clock is enabled. It is active where this isn't 0.
+    pub fn enabled(&self, c: ClockId) -> u32
+        requires { c.0 < length self.now.links }
+        ensures { result ≡ enable_sum self.now c.0 }
+    {
+        self.enables.counts[c.0 as usize]
+    }
+
+    /// How often a clock is prepared.
+    pub fn prepared(&self, c: ClockId) -> u32
+        requires { c.0 < length self.now.links }
+        ensures { result ≡ prepare_sum self.now c.0 }
+    {
+        self.prepares.counts[c.0 as usize]
+    }
+
+    /// How often a clock's rate is protected. It is guarded where this isn't 0.
+    pub fn protected(&self, c: ClockId) -> u32
+        requires { c.0 < length self.now.links }
+        ensures { result ≡ protect_sum self.now c.0 }
+    {
+        self.protects.counts[c.0 as usize]
+    }
+}
