@@ -1,5 +1,5 @@
 -- Journals: which are legal, what a driver finds in one, and the state that one begins from.
-use Rattle.std.specs.Prelude.{◌≡◌, ℕ, ◌+◌, ◌==◌, List, [], ◌∷◌, ◌++◌, Bool, true, false, Option, Some, None, filter, length, replicate, count_by, nat_le}
+use Rattle.std.specs.Prelude.{◌≡◌, ℕ, ◌+◌, ◌==◌, List, [], ◌∷◌, ◌++◌, Bool, true, false, not, ◌&&◌, if◌then◌else◌, Option, Some, None, filter, length, replicate, count_by, nat_le}
 use Rattle.std.specs.Option.{option_map_or}
 use Rattle.clk_base.specs.declared.call.Micro.TheVariants as micro
 use Rattle.clk_base.specs.declared.event.Event.{Event}
@@ -13,6 +13,7 @@ use Rattle.clk_base.specs.Description.{Description}
 use Rattle.reg_bank.specs.Registers.{Registers}
 use Rattle.clk_model.specs.State.{State, unregistered_row}
 use Rattle.clk_model.specs.Machine.{next}
+use Rattle.clk_model.specs.Tier.{is_step}
 
 -- a turn without the slot of its handle, which is the program's own
 abbrev pub slotless : Turn → Turn
@@ -58,29 +59,45 @@ pub record Answered : Type 0 where
   pub call : Event
   pub reply : Reply
 
--- the call that an entry belongs to: a step belongs to the one that goes on
-abbrev pub call_at : Option Event → Event → Option Event
-call_at going (event.Step m answer) = going
-call_at going e = Some e
+-- the reply of a step that ends a call, or what is found behind it
+abbrev pub reply_at : Event → Turn → Option Reply → Option Reply
+reply_at (event.Step m answer) (turn.Done r) behind = Some r
+reply_at _ _ behind = behind
 
--- a call with its reply, where an entry gives one
-abbrev pub answer_at : Option Event → Turn → List Answered
-answer_at (Some call) (turn.Done r) = record { call = call; reply = r } ∷ []
-answer_at _ _ = []
+-- the reply of the first end among entries, if there is one
+abbrev pub end_reply : List Entry → Option Reply
+end_reply [] = None
+end_reply (e ∷ es) = reply_at e.event e.turn (end_reply es)
 
--- the call that the steps behind an event belong to: the one that began last, also where events of the enable tier stand between
-abbrev pub last_begun : Option Event → Event → Option Event
-last_begun going (event.Begin what) = Some (event.Begin what)
-last_begun going _ = going
+-- the call that an entry begins, with its reply: that of the entry, or where the call goes on that of its end, if it has ended
+abbrev pub call_at : Event → Turn → Option Reply → List Answered
+call_at (event.Step m answer) _ _ = []
+call_at call (turn.Done r) end = record { call = call; reply = r } ∷ []
+call_at call turn.Going (Some r) = record { call = call; reply = r } ∷ []
+call_at call turn.Going None = []
 
--- the calls of one driver's entries, where going is the call that goes on
-abbrev pub calls_from : Option Event → List Entry → List Answered
-calls_from going [] = []
-calls_from going (e ∷ es) = answer_at (call_at going e.event) e.turn ++ calls_from (last_begun going e.event) es
+-- the calls of one driver's entries, in the order in which they begin
+abbrev pub calls_of : List Entry → List Answered
+calls_of [] = []
+calls_of (e ∷ es) = call_at e.event e.turn (end_reply es) ++ calls_of es
 
--- the calls of a driver, each with the reply of its entry, or of its end where it goes on
+-- the calls of a driver where they begin, each with the reply of its entry, or of its end where it goes on
 abbrev pub calls : List Entry → ℕ → List Answered
-calls journal d = calls_from None (own journal d)
+calls journal d = calls_of (own journal d)
+
+-- whether a call goes on behind an entry with this turn
+abbrev pub is_going : Turn → Bool
+is_going turn.Going = true
+is_going (turn.Done r) = false
+
+-- whether one driver's entries are one call after the other: while one goes on the next entry is a step of it, and else it is none
+abbrev pub one_after_the_other : Bool → List Entry → Bool
+one_after_the_other going [] = true
+one_after_the_other going (e ∷ es) = (if going then is_step e.event else not (is_step e.event)) && one_after_the_other (is_going e.turn) es
+
+-- so are the entries of a driver: between the beginning of a call that goes on and its end stand none of it but the call's steps
+abbrev pub MakesOneCallAtATime : List Entry → ℕ → Type 0
+MakesOneCallAtATime journal d = one_after_the_other false (own journal d) ≡ true
 
 -- ---- polls
 

@@ -9,6 +9,7 @@ use Rattle.clk_base.specs.declared.event.Reply.{Reply}
 use Rattle.clk_base.specs.declared.event.Turn.{Turn}
 use Rattle.clk_base.specs.declared.event.Turn.TheVariants as turn
 use Rattle.clk_model.specs.Lists.{is_at, count_from}
+use Rattle.clk_model.specs.Tier.{is_step}
 use Rattle.clk_model.specs.Follows.{Variables, no_handles, handle_of, call_of, held_after}
 
 -- how far a driver has come: what its variables hold, and the commands that aren't answered yet
@@ -73,16 +74,16 @@ progress_after p (turn.Done r) = answered_first p (unskipped p.held p.left) r
 abbrev pub drivers_after : List Progress → Entry → List Progress
 drivers_after drivers e = option_map_or (λ p. slice_set drivers e.driver (progress_after p e.turn)) (slice_get drivers e.driver) drivers
 
--- the entry is of this driver, and with what is left of the order the rest is said
-abbrev pub NextOrdered : (List ℕ → Type 0) → Option (ℕ × List ℕ) → Entry → Type 0
-NextOrdered rest None e = ⊥
-NextOrdered rest (Some x) e = (e.driver ≡ x.0) × rest x.1
+-- the entry is of this driver, it is a step exactly where the change in flight is its driver's, and with what is left of the order the rest is said
+abbrev pub NextOrdered : (List ℕ → Type 0) → Option ℕ → Option (ℕ × List ℕ) → Entry → Type 0
+NextOrdered rest going None e = ⊥
+NextOrdered rest going (Some x) e = (e.driver ≡ x.0) × (is_at e.driver going ≡ is_step e.event) × rest x.1
 
 -- the driver of each entry is the one that makes the next event, given the entries before it
 abbrev pub OrderedFrom : List Progress → Option ℕ → List ℕ → List Entry → Type 0
 OrderedFrom drivers going order [] = Unit {0}
 OrderedFrom drivers going order (e ∷ es) =
-    NextOrdered (λ left. OrderedFrom (drivers_after drivers e) (going_after going e) left es) (next_driver drivers going order) e
+    NextOrdered (λ left. OrderedFrom (drivers_after drivers e) (going_after going e) left es) going (next_driver drivers going order) e
 
 -- the entries behind boot's
 abbrev pub after_boot : List Entry → List Entry

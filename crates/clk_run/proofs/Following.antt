@@ -1,18 +1,20 @@
 -- Journals in which several drivers have their calls: one driver after the other.
-use Rattle.std.proofs.Common.{◌≡◌, ℕ, suc, ◌+◌, ◌<◌, ◌≤◌, true, false, List, [], ◌∷◌, ◌++◌, None, refl, sym, ap, subst, ◌∙◌, arith, length, nat_lt, nat_eq, append_assoc}
+use Rattle.std.proofs.Common.{◌≡◌, ℕ, suc, ◌+◌, ◌<◌, ◌≤◌, true, false, not, List, [], ◌∷◌, ◌++◌, None, refl, sym, ap, subst, ◌∙◌, arith, length, nat_lt, nat_eq, append_assoc}
 use Rattle.std.proofs.lemmas.Bool.Decides.{nat_tests}
 use Rattle.std.proofs.lemmas.List.{append-nil}
 use Rattle.std.specs.List.{list_all}
 use Rattle.clk_base.specs.declared.command.Answer.{Answer}
 use Rattle.clk_base.specs.declared.command.Command.{Command}
 use Rattle.clk_base.specs.declared.event.Entry.{Entry}
-use Rattle.clk_model.specs.Journal.{Answered, is_paid, own, calls_from}
+use Rattle.clk_base.specs.declared.event.Turn.{Turn}
+use Rattle.clk_model.specs.Tier.{is_step}
+use Rattle.clk_model.specs.Journal.{Answered, is_paid, own, calls_of, is_going, one_after_the_other}
 use Rattle.clk_model.specs.Follows.{Variables, no_handles, Follows, FollowsFrom}
 use Rattle.clk_model.proofs.CallLaws.{own-append}
 use Rattle.clk_machine.specs.Run.{Run}
 use Rattle.clk_run.specs.Scripts.{is_answer, is_answered, GoesThrough}
 use Rattle.clk_run.specs.Runs.{FollowAll, are_among, TakeTurns}
-use Rattle.clk_run.proofs.Going.{list_all-append}
+use Rattle.clk_run.proofs.Going.{list_all-append, answered_paid, paid_no_step, reply_of}
 use Rattle.clk_model.proofs.Members.{both_left, both_right}
 use Rattle.std.proofs.lemmas.Bool.{and_from}
 
@@ -38,6 +40,15 @@ own_none d n (e ∷ es) less h =
     let other : nat_eq e.driver n ≡ false = grind (arith, nat_tests) in
     rw other (own_none d n es less (both_right _ _ h))
 
+-- entries that are answered at once are one call after the other
+answered_alone : (d : ℕ) (es : List Entry) → list_all (is_answered d) es ≡ true → one_after_the_other false es ≡ true
+answered_alone d [] h = refl
+answered_alone d (e ∷ es) h =
+    let mine = both_left (is_answered d e) (list_all (is_answered d) es) h in
+    let said = reply_of e.turn (both_right _ (is_answer e.turn) mine) in
+    and_from (not (is_step e.event)) (one_after_the_other (is_going e.turn) es) (ap not (sym (paid_no_step e.event (answered_paid d e mine))))
+    (ap (λ (t : Turn). one_after_the_other (is_going t) es) said.1 ∙ answered_alone d es (both_right (is_answered d e) _ h))
+
 -- a driver that was not among those of a journal has no entry there
 own_before : (d : ℕ) (journal : List Entry) → are_among d journal ≡ true → own journal d ≡ []
 own_before d [] h = refl
@@ -62,14 +73,14 @@ among_own d (e ∷ es) h =
 
 -- the calls of a driver that has gone through its commands
 goes_follows : (old new : Run) (d : ℕ) (held' : Variables) (commands : List Command) (answers : List Answer)
-    → (goes : GoesThrough old d (no_handles commands) commands answers held' new) → Follows commands (calls_from None goes.entries) answers
+    → (goes : GoesThrough old d (no_handles commands) commands answers held' new) → Follows commands (calls_of goes.entries) answers
 goes_follows old new d held' commands answers goes =
-    subst (λ (as_ : List Answer). FollowsFrom (no_handles commands) commands (calls_from None goes.entries) as_) (append-nil answers)
-    (subst (λ (ls : List Answered). FollowsFrom (no_handles commands) commands ls (answers ++ [])) (append-nil (calls_from None goes.entries))
-    (subst (λ (cs : List Command). FollowsFrom (no_handles commands) cs (calls_from None goes.entries ++ []) (answers ++ [])) (append-nil commands) (goes.follows [] [] [] tt)))
+    subst (λ (as_ : List Answer). FollowsFrom (no_handles commands) commands (calls_of goes.entries) as_) (append-nil answers)
+    (subst (λ (ls : List Answered). FollowsFrom (no_handles commands) commands ls (answers ++ [])) (append-nil (calls_of goes.entries))
+    (subst (λ (cs : List Command). FollowsFrom (no_handles commands) cs (calls_of goes.entries ++ []) (answers ++ [])) (append-nil commands) (goes.follows [] [] [] tt)))
 
 turn_more : (n : ℕ) (scripts : List (List Command)) (answers : List (List Answer)) (journal es : List Entry) (commands : List Command) (own' : List Answer)
-    → TakeTurns n scripts answers journal → list_all (is_answered (n + length scripts)) es ≡ true → Follows commands (calls_from None es) own'
+    → TakeTurns n scripts answers journal → list_all (is_answered (n + length scripts)) es ≡ true → Follows commands (calls_of es) own'
     → TakeTurns n (scripts ++ commands ∷ []) (answers ++ own' ∷ []) (journal ++ es)
 turn_more n [] [] journal es commands own' none mine follow =
     let this : n + 0 ≡ n = omega arith in
@@ -142,7 +153,8 @@ turns_follow n (c ∷ scripts) (a ∷ answers) before journal earlier turns =
     ∙ append-nil (own turns.entries n) ∙ own_all n turns.entries turns.own in
     let regroup : (before ++ turns.entries) ++ turns.rest ≡ before ++ journal =
     append_assoc before turns.entries turns.rest ∙ ap (λ (j : List Entry). before ++ j) (sym turns.split) in (
-      subst (λ (xs : List Entry). Follows c (calls_from None xs) a) (sym mine) turns.follow,
+      subst (λ (xs : List Entry). Follows c (calls_of xs) a) (sym mine) turns.follow,
+      subst (λ (xs : List Entry). one_after_the_other false xs ≡ true) (sym mine) (answered_alone n turns.entries turns.own),
       subst (FollowAll (n + 1) scripts answers) regroup (turns_follow (n + 1) scripts answers (before ++ turns.entries) turns.rest
           (list_all-append (λ e. nat_lt e.driver (n + 1)) before turns.entries (among_more n (n + 1) before (omega arith) earlier) (among_own n turns.entries turns.own)) turns.later),
     )

@@ -13,8 +13,11 @@ use Rattle.clk_base.specs.declared.command.Command.{Command}
 use Rattle.clk_base.specs.declared.event.Entry.{Entry}
 use Rattle.clk_base.specs.declared.event.Event.{Event}
 use Rattle.clk_base.specs.declared.event.Event.TheVariants as event
+use Rattle.clk_base.specs.declared.event.Reply.{Reply}
+use Rattle.clk_base.specs.declared.event.Turn.{Turn}
 use Rattle.clk_base.specs.declared.event.Turn.TheVariants as turn
-use Rattle.clk_model.specs.Journal.{Answered, is_paid, call_at, answer_at, last_begun, calls_from, cost, Legal}
+use Rattle.clk_model.specs.Tier.{is_step}
+use Rattle.clk_model.specs.Journal.{Answered, is_paid, end_reply, call_at, calls_of, cost, Legal}
 use Rattle.std.specs.List.{range_with_len}
 use Rattle.std.specs.Option.{option_map_or}
 use Rattle.std.proofs.lemmas.List.FromFn.{length-map-range_with_len}
@@ -25,39 +28,50 @@ use Rattle.clk_machine.specs.Run.{Run, was_probed}
 use Rattle.clk_base.specs.Description.{Description, parents_of, EachClock}
 use Rattle.clk_machine.specs.Fit.{has_earlier_parents}
 use Rattle.drv_scripts.specs.Placed.{NamesPlace}
-use Rattle.clk_run.specs.Scripts.{is_built_act, is_answered, AreProbes, CanCall, GoesThrough}
+use Rattle.clk_run.specs.Scripts.{is_built_act, is_answer, is_answered, AreProbes, CanCall, GoesThrough}
 use Rattle.clk_model.proofs.Members.{both_left, both_right}
 use Rattle.std.proofs.lemmas.Bool.{and_from}
 
 -- ---- calls of entries
 
--- a paid event is a call of its own
-pub call_at-paid : (going : Option Event) (e : Event) → is_paid e ≡ true → call_at going e ≡ Some e
-call_at-paid going (event.Enable n) h = refl
-call_at-paid going (event.Disable n) h = refl
-call_at-paid going (event.Running n) h = refl
-call_at-paid going (event.Begin what) h = refl
-call_at-paid going (event.Step m answer) h = absurd cc
+-- a paid event that is answered at once is a call with that reply
+pub call_at-answered : (e : Event) (r : Reply) (end : Option Reply) → is_paid e ≡ true → call_at e (turn.Done r) end ≡ (record { call = e; reply = r }) ∷ []
+call_at-answered (event.Enable n) r end h = refl
+call_at-answered (event.Disable n) r end h = refl
+call_at-answered (event.Running n) r end h = refl
+call_at-answered (event.Begin what) r end h = refl
+call_at-answered (event.Step m answer) r end h = absurd cc
 
-answered_paid : (d : ℕ) (e : Entry) → is_answered d e ≡ true → is_paid e.event ≡ true
+pub answered_paid : (d : ℕ) (e : Entry) → is_answered d e ≡ true → is_paid e.event ≡ true
 answered_paid d e h = both_right _ _ (both_left _ _ h)
 
--- what goes on before doesn't matter to entries that are all answered at once
-pub calls_from-going : (d : ℕ) (going : Option Event) (es : List Entry) → list_all (is_answered d) es ≡ true → calls_from going es ≡ calls_from None es
-calls_from-going d going [] own = refl
-calls_from-going d going (e ∷ es) own =
-    let paid = answered_paid d e (both_left _ _ own) in
-    let mine = both_right (is_answered d e) (list_all (is_answered d) es) own in
-    ap (λ (o : Option Event). answer_at o e.turn ++ calls_from (last_begun going e.event) es) (call_at-paid going e.event paid ∙ sym (call_at-paid None e.event paid))
-    ∙ ap (λ (ls : List Answered). answer_at (call_at None e.event) e.turn ++ ls)
-    (calls_from-going d (last_begun going e.event) es mine ∙ sym (calls_from-going d (last_begun None e.event) es mine))
+-- a paid event is no step
+pub paid_no_step : (e : Event) → is_paid e ≡ true → false ≡ is_step e
+paid_no_step (event.Enable n) h = refl
+paid_no_step (event.Disable n) h = refl
+paid_no_step (event.Running n) h = refl
+paid_no_step (event.Begin what) h = refl
+paid_no_step (event.Step m answer) h = absurd cc
 
-pub calls_from-append : (d : ℕ) (going : Option Event) (xs ys : List Entry) → list_all (is_answered d) ys ≡ true
-    → calls_from going (xs ++ ys) ≡ calls_from going xs ++ calls_from None ys
-calls_from-append d going [] ys own = calls_from-going d going ys own
-calls_from-append d going (x ∷ xs) ys own =
-    ap (λ (ls : List Answered). answer_at (call_at going x.event) x.turn ++ ls) (calls_from-append d (last_begun going x.event) xs ys own)
-    ∙ sym (append_assoc (answer_at (call_at going x.event) x.turn) (calls_from (last_begun going x.event) xs) (calls_from None ys))
+-- the reply of a turn that is an answer
+pub reply_of : (t : Turn) → is_answer t ≡ true → (r : Reply) × (t ≡ turn.Done r)
+reply_of turn.Going h = absurd cc
+reply_of (turn.Done r) h = (r, refl)
+
+-- what ends behind it doesn't matter to an entry that is answered at once
+call_at-end : (d : ℕ) (e : Entry) (end end' : Option Reply) → is_answered d e ≡ true → call_at e.event e.turn end ≡ call_at e.event e.turn end'
+call_at-end d e end end' h =
+    let said = reply_of e.turn (both_right _ (is_answer e.turn) h) in
+    let paid = answered_paid d e h in
+    ap (λ (t : Turn). call_at e.event t end) said.1 ∙ call_at-answered e.event said.0 end paid
+    ∙ sym (ap (λ (t : Turn). call_at e.event t end') said.1 ∙ call_at-answered e.event said.0 end' paid)
+
+pub calls_of-append : (d : ℕ) (xs ys : List Entry) → list_all (is_answered d) xs ≡ true → calls_of (xs ++ ys) ≡ calls_of xs ++ calls_of ys
+calls_of-append d [] ys own = refl
+calls_of-append d (x ∷ xs) ys own =
+    ap (λ (ls : List Answered). call_at x.event x.turn (end_reply (xs ++ ys)) ++ ls) (calls_of-append d xs ys (both_right (is_answered d x) _ own))
+    ∙ ap (λ (ls : List Answered). ls ++ (calls_of xs ++ calls_of ys)) (call_at-end d x (end_reply (xs ++ ys)) (end_reply xs) (both_left (is_answered d x) _ own))
+    ∙ sym (append_assoc (call_at x.event x.turn (end_reply xs)) (calls_of xs) (calls_of ys))
 
 pub list_all-append : {X : Type 0} (p : X → Bool) (xs ys : List X) → list_all p xs ≡ true → list_all p ys ≡ true → list_all p (xs ++ ys) ≡ true
 list_all-append p [] ys h k = k
@@ -90,11 +104,11 @@ goes_trans first mid last d held held' held'' xs ys as_ bs one two = record {
   few = let a = one.few in let b = two.few in omega (arith, length-append one.entries two.entries, length-append xs ys);
   legal = λ told was. two.legal (one.told ∙ told) (one.legal told was);
   follows = λ cs ls cs' f.
-      let whole = one.follows (ys ++ cs) (calls_from None two.entries ++ ls) (bs ++ cs') (two.follows cs ls cs' f) in
-      subst (λ (commands : List Command). FollowsFrom held commands (calls_from None (one.entries ++ two.entries) ++ ls) ((as_ ++ bs) ++ cs')) (sym (append_assoc xs ys cs))
+      let whole = one.follows (ys ++ cs) (calls_of two.entries ++ ls) (bs ++ cs') (two.follows cs ls cs' f) in
+      subst (λ (commands : List Command). FollowsFrom held commands (calls_of (one.entries ++ two.entries) ++ ls) ((as_ ++ bs) ++ cs')) (sym (append_assoc xs ys cs))
       (subst (λ (calls : List Answered). FollowsFrom held (xs ++ (ys ++ cs)) calls ((as_ ++ bs) ++ cs'))
-      (sym (append_assoc (calls_from None one.entries) (calls_from None two.entries) ls) ∙ ap (λ (c : List Answered). c ++ ls) (sym (calls_from-append d None one.entries two.entries two.own)))
-      (subst (λ (answers : List Answer). FollowsFrom held (xs ++ (ys ++ cs)) (calls_from None one.entries ++ (calls_from None two.entries ++ ls)) answers) (sym (append_assoc as_ bs cs')) whole));
+      (sym (append_assoc (calls_of one.entries) (calls_of two.entries) ls) ∙ ap (λ (c : List Answered). c ++ ls) (sym (calls_of-append d one.entries two.entries one.own)))
+      (subst (λ (answers : List Answer). FollowsFrom held (xs ++ (ys ++ cs)) (calls_of one.entries ++ (calls_of two.entries ++ ls)) answers) (sym (append_assoc as_ bs cs')) whole));
 }
 
 -- ---- one command

@@ -12,7 +12,7 @@ use Rattle.clk_base.specs.declared.event.Event.{Event}
 use Rattle.clk_base.specs.declared.event.Reply.{Reply}
 use Rattle.clk_base.specs.declared.event.Turn.{Turn}
 use Rattle.clk_base.specs.declared.event.Turn.TheVariants as turn
-use Rattle.clk_model.specs.Journal.{Answered, is_paid, own, answer_at, last_begun, calls_from}
+use Rattle.clk_model.specs.Journal.{Answered, is_paid, own, end_reply, call_at, calls_of}
 use Rattle.clk_model.specs.Lists.{count_from}
 use Rattle.clk_model.specs.Follows.{Variables, no_handles, handle_of, call_of, held_after, NextFollows, FollowsFrom}
 use Rattle.clk_model.specs.Ordered.{
@@ -35,7 +35,7 @@ use Rattle.clk_model.specs.Ordered.{
 }
 use Rattle.clk_run.specs.Scripts.{is_answer, is_answered}
 use Rattle.clk_run.specs.Runs.{TakeTurns}
-use Rattle.clk_run.proofs.Going.{list_all-append, call_at-paid, calls_from-going}
+use Rattle.clk_run.proofs.Going.{list_all-append, answered_paid, paid_no_step, reply_of, call_at-answered}
 use Rattle.clk_run.proofs.Following.{driver_of, none_earlier}
 use Rattle.clk_model.proofs.Members.{both_left, both_right}
 use Rattle.std.proofs.lemmas.Bool.{and_from}
@@ -105,11 +105,7 @@ next_to_go boot still later p all goes =
 record Replied (e : Entry) (es : List Entry) : Type 0 where
   reply : Reply
   turn_is : e.turn ≡ turn.Done reply
-  calls_are : calls_from None (e ∷ es) ≡ (record { call = e.event; reply = reply }) ∷ calls_from None es
-
-reply_of : (t : Turn) → is_answer t ≡ true → (r : Reply) × (t ≡ turn.Done r)
-reply_of turn.Going h = absurd cc
-reply_of (turn.Done r) h = (r, refl)
+  calls_are : calls_of (e ∷ es) ≡ (record { call = e.event; reply = reply }) ∷ calls_of es
 
 replied : (d : ℕ) (e : Entry) (es : List Entry) → list_all (is_answered d) (e ∷ es) ≡ true → Replied e es
 replied d e es h =
@@ -119,9 +115,8 @@ replied d e es h =
     record {
       reply = said.0;
       turn_is = said.1;
-      calls_are = ap (λ (o : Option Event). answer_at o e.turn ++ calls_from (last_begun None e.event) es) (call_at-paid None e.event paid)
-          ∙ ap (λ (t : Turn). answer_at (Some e.event) t ++ calls_from (last_begun None e.event) es) said.1
-          ∙ ap (λ (ls : List Answered). (record { call = e.event; reply = said.0 }) ∷ ls) (calls_from-going d (last_begun None e.event) es (both_right (is_answered d e) _ h));
+      calls_are = ap (λ (t : Turn). call_at e.event t (end_reply es) ++ calls_of es) said.1
+          ∙ ap (λ (ls : List Answered). ls ++ calls_of es) (call_at-answered e.event said.0 (end_reply es) paid);
     }
 
 -- what is left of a journal stands in order, where the driver that has its turn holds this and has these commands left
@@ -131,22 +126,22 @@ Goes boot still later held left journal = OrderedFrom (boot ∷ (still ++ (recor
 -- the first command of a driver that has its turn, where the commands behind it go in order
 one_command : (boot : Progress) (still later : List Progress) (held : Variables) (left : List Command) (c : Command) (commands : List Command) (a : Answer) (answers : List Answer)
     → (entries rest : List Entry) → list_all is_still still ≡ true → unskipped held left ≡ unskipped held (c ∷ commands) → list_all (is_answered (1 + length still)) entries ≡ true
-    → FollowsFrom held (c ∷ commands) (calls_from None entries) (a ∷ answers)
+    → FollowsFrom held (c ∷ commands) (calls_of entries) (a ∷ answers)
     → ((held : Variables) (left : List Command) (entries : List Entry) → unskipped held left ≡ unskipped held commands → list_all (is_answered (1 + length still)) entries ≡ true
-    → FollowsFrom held commands (calls_from None entries) answers → Goes boot still later held left (entries ++ rest))
+    → FollowsFrom held commands (calls_of entries) answers → Goes boot still later held left (entries ++ rest))
     → Goes boot still later held left (entries ++ rest)
 one_command boot still later held left c commands a answers entries rest all same mine follow again = pick (call_of (handle_of held c) c.act) refl where
   pick : (o : Option Event) → call_of (handle_of held c) c.act ≡ o → Goes boot still later held left (entries ++ rest)
   pick None is =
       let skipped : unskipped held (c ∷ commands) ≡ unskipped held commands = ap (λ (o : Option Event). cond (is_none o) (unskipped held commands) (c ∷ commands)) is in
-      let others = subst (λ (o : Option Event). NextFollows (λ after ls. FollowsFrom after commands ls answers) held c o (calls_from None entries) a) is follow in
+      let others = subst (λ (o : Option Event). NextFollows (λ after ls. FollowsFrom after commands ls answers) held c o (calls_of entries) a) is follow in
       again held left entries (same ∙ skipped) mine others.1
-  pick (Some event) is = first entries mine (subst (λ (o : Option Event). NextFollows (λ after ls. FollowsFrom after commands ls answers) held c o (calls_from None entries) a) is follow) where
+  pick (Some event) is = first entries mine (subst (λ (o : Option Event). NextFollows (λ after ls. FollowsFrom after commands ls answers) held c o (calls_of entries) a) is follow) where
     taken : unskipped held left ≡ c ∷ commands
     taken = same ∙ ap (λ (o : Option Event). cond (is_none o) (unskipped held commands) (c ∷ commands)) is
 
     first : (es : List Entry) → list_all (is_answered (1 + length still)) es ≡ true
-        → NextFollows (λ after ls. FollowsFrom after commands ls answers) held c (Some event) (calls_from None es) a → Goes boot still later held left (es ++ rest)
+        → NextFollows (λ after ls. FollowsFrom after commands ls answers) held c (Some event) (calls_of es) a → Goes boot still later held left (es ++ rest)
     first [] mine follow = absurd follow
     first (e ∷ es) mine follow =
         let said = replied (1 + length still) e es mine in
@@ -165,9 +160,10 @@ one_command boot still later held left c commands a answers entries rest all sam
         ∙ ap (λ (cs : List Command). boot ∷ (still ++ answered_first now cs said.reply ∷ later)) taken in
         let none : going_after None e ≡ None = ap (λ (t : Turn). going_after None (record { driver = e.driver; event = e.event; turn = t })) said.turn_is in
         let others = again behind.held commands es refl (both_right (is_answered (1 + length still) e) _ mine) called.2 in
-        subst (λ (o : Option (ℕ × List ℕ)). NextOrdered (λ left. OrderedFrom (drivers_after drivers e) (going_after None e) left (es ++ rest)) o e)
+        subst (λ (o : Option (ℕ × List ℕ)). NextOrdered (λ left. OrderedFrom (drivers_after drivers e) (going_after None e) left (es ++ rest)) None o e)
         (sym (next_to_go boot still later now all goes)) (
           own,
+          paid_no_step e.event (answered_paid (1 + length still) e (both_left (is_answered (1 + length still) e) _ mine)),
           subst (λ (ps : List Progress). OrderedFrom ps (going_after None e) [] (es ++ rest)) (sym after)
               (subst (λ (o : Option ℕ). OrderedFrom (boot ∷ (still ++ behind ∷ later)) o [] (es ++ rest)) (sym none) others),
         )
@@ -180,13 +176,13 @@ unanswered held (l ∷ ls) a answers follow = follow
 -- a driver that has its turn makes its entries next, and is still behind them
 one_turn : (boot : Progress) (still later : List Progress) (held : Variables) (left commands : List Command) (answers : List Answer) (entries rest : List Entry)
     → list_all is_still still ≡ true → unskipped held left ≡ unskipped held commands → list_all (is_answered (1 + length still)) entries ≡ true
-    → FollowsFrom held commands (calls_from None entries) answers
+    → FollowsFrom held commands (calls_of entries) answers
     → ((p : Progress) → is_still p ≡ true → OrderedFrom (boot ∷ (still ++ p ∷ later)) None [] rest)
     → Goes boot still later held left (entries ++ rest)
 one_turn boot still later held left [] [] [] rest all same mine follow behind = behind _ (ap (λ (cs : List Command). not (can_take None cs)) same)
 one_turn boot still later held left [] [] (e ∷ es) rest all same mine follow behind =
     absurd (subst (λ (ls : List Answered). FollowsFrom held [] ls []) (replied (1 + length still) e es mine).calls_are follow)
-one_turn boot still later held left [] (a ∷ answers) entries rest all same mine follow behind = absurd (unanswered held (calls_from None entries) a answers follow)
+one_turn boot still later held left [] (a ∷ answers) entries rest all same mine follow behind = absurd (unanswered held (calls_of entries) a answers follow)
 one_turn boot still later held left (c ∷ commands) [] entries rest all same mine follow behind = absurd follow
 one_turn boot still later held left (c ∷ commands) (a ∷ answers) entries rest all same mine follow behind =
     one_command boot still later held left c commands a answers entries rest all same mine follow

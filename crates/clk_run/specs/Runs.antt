@@ -8,7 +8,7 @@ use Rattle.clk_base.specs.declared.command.Command.{Command}
 use Rattle.clk_base.specs.declared.event.Entry.{Entry}
 use Rattle.reg_bank.specs.Registers.{Registers}
 use Rattle.clk_model.specs.State.{State, is_quiet}
-use Rattle.clk_model.specs.Journal.{opening, replay, Legal, calls, calls_from}
+use Rattle.clk_model.specs.Journal.{opening, replay, Legal, calls, calls_of, MakesOneCallAtATime}
 use Rattle.clk_model.specs.Fed.{Fed}
 use Rattle.clk_model.specs.Follows.{Follows}
 use Rattle.clk_model.specs.Ordered.{Ordered}
@@ -55,19 +55,20 @@ opening_of b ignore_unused = opening b.desc.defs b.words ignore_unused (credits_
 
 -- ---- runs
 
--- drivers, numbered from this one on, have their calls once, in their order, and these answers
+-- drivers, numbered from this one on, have their calls once, in their order, one after the other, and these answers
 abbrev pub FollowAll : ℕ → List (List Command) → List (List Answer) → List Entry → Type 0
 FollowAll d [] [] journal = Unit {0}
 FollowAll d [] (own ∷ answers) journal = ⊥
 FollowAll d (commands ∷ scripts) [] journal = ⊥
-FollowAll d (commands ∷ scripts) (own ∷ answers) journal = Follows commands (calls journal d) own × FollowAll (d + 1) scripts answers journal
+FollowAll d (commands ∷ scripts) (own ∷ answers) journal =
+    Follows commands (calls journal d) own × MakesOneCallAtATime journal d × FollowAll (d + 1) scripts answers journal
 
 -- each entry is of one of so many drivers
 abbrev pub are_among : ℕ → List Entry → Bool
 are_among drivers journal = list_all (λ e. nat_lt e.driver drivers) journal
 
 -- a run of a bundle, as the words ask for it: its journal, where the bank tells its words, is a legal run of the machine, after each of its entries the active
--- clocks are fed, and at its end no change is in flight; boot and each driver, and nobody else, have their calls once, in their order, answered so; behind boot's
+-- clocks are fed, and at its end no change is in flight; boot and each driver, and nobody else, have their calls once, in their order, one after the other, answered so; behind boot's
 -- entries the drivers make theirs in the order of one thread
 pub record IsRunOf (b : Bundle) (cli : Cli) (told : Bool) (journal : List Entry) (answers : List (List Answer)) : Type 0 where
   pub legal : told ≡ true → Legal (opening_of b cli.ignore_unused) journal
@@ -116,7 +117,7 @@ pub record TakesTurn (others : List Entry → Type 0) (d : ℕ) (commands : List
   pub rest : List Entry
   pub split : journal ≡ entries ++ rest
   pub own : list_all (is_answered d) entries ≡ true
-  pub follow : Follows commands (calls_from None entries) answers
+  pub follow : Follows commands (calls_of entries) answers
   pub later : others rest
 
 -- drivers, numbered from this one on, have one turn each, one after another, and these answers

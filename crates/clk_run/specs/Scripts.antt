@@ -14,7 +14,7 @@ use Rattle.clk_base.specs.declared.event.Turn.{Turn}
 use Rattle.clk_base.specs.declared.event.Turn.TheVariants as turn
 use Rattle.clk_base.specs.declared.handle.Handle.{Handle}
 use Rattle.drv_scripts.specs.Spelled.{probe}
-use Rattle.clk_model.specs.Journal.{Answered, is_paid, calls_from, Legal}
+use Rattle.clk_model.specs.Journal.{Answered, is_paid, calls_of, Legal}
 use Rattle.clk_model.specs.Follows.{Variables, call_of, FollowsFrom}
 use Rattle.clk_machine.specs.Fit.{has_pll}
 use Rattle.clk_machine.specs.Run.{Run, was_probed, Appends}
@@ -76,4 +76,4 @@ pub record GoesThrough (old : Run) (d : ℕ) (held : Variables) (commands : List
   pub few : length entries ≤ length commands
   pub legal : old.told ≡ true → Legal old.start old.journal → Legal new.start new.journal
   pub follows : (cs : List Command) (ls : List Answered) (as_ : List Answer) → FollowsFrom held' cs ls as_
-      → FollowsFrom held (commands ++ cs) (calls_from None entries ++ ls) (answers ++ as_)
+      → FollowsFrom held (commands ++ cs) (calls_of entries ++ ls) (answers ++ as_)

@@ -46,10 +46,10 @@ skipping_follows = (refl, refl, (refl, (refl, refl, (refl, (refl, refl, (refl, t
 pub raised_calls : calls raised 1 ≡ called (event.Begin (call.Prepare (handle 0 1))) reply.Fine ∷ []
 raised_calls = refl
 
--- the reply of an end is that of the call that goes on, also where its driver makes calls of the enable tier meanwhile
+-- a call that goes on is listed where it begins, with the reply of its end, also where its driver makes a call of the enable tier meanwhile
 pub beside_calls :
     calls (goes_on 1 (call.Prepare (handle 0 1)) ∷ answers 1 (event.Enable 1) reply.Fine ∷ ends 1 (reply.Refused errno.ETIMEDOUT) ∷ []) 1 ≡
-    called (event.Enable 1) reply.Fine ∷ called (event.Begin (call.Prepare (handle 0 1))) (reply.Refused errno.ETIMEDOUT) ∷ []
+    called (event.Begin (call.Prepare (handle 0 1))) (reply.Refused errno.ETIMEDOUT) ∷ called (event.Enable 1) reply.Fine ∷ []
 beside_calls = refl
 
 -- the calls of one driver, while another's call goes on

@@ -1,15 +1,19 @@
 -- Runs of two drivers in a stated order.
-use Rattle.std.specs.Prelude.{◌≡◌, ℕ, List, [], ◌∷◌, ◌++◌, Some, pos, refl}
+use Rattle.std.specs.Prelude.{◌≡◌, ℕ, List, [], ◌∷◌, ◌++◌, Bool, true, false, Some, pos, refl}
 use Rattle.clk_base.specs.declared.command.Act.TheVariants as act
+use Rattle.clk_base.specs.declared.command.Answer.{Answer}
 use Rattle.clk_base.specs.declared.command.Command.{Command}
 use Rattle.clk_base.specs.declared.call.Micro.TheVariants as micro
 use Rattle.clk_base.specs.declared.call.Sleeping.TheVariants as call
 use Rattle.clk_base.specs.declared.event.Entry.{Entry}
+use Rattle.clk_base.specs.declared.event.Event.TheVariants as event
 use Rattle.clk_base.specs.declared.event.Reply.TheVariants as reply
 use Rattle.clk_base.specs.declared.handle.Policy.TheVariants as policy
 use Rattle.clk_model.specs.Chain.{clock_id}
+use Rattle.clk_model.specs.Journal.{own, calls, one_after_the_other}
+use Rattle.clk_model.specs.Follows.{Follows}
 use Rattle.clk_model.specs.Ordered.{Ordered}
-use Rattle.clk_model.specs.Examples.Rows.{turns, stated, handle, begins, goes_on, step, ends, boot, gets}
+use Rattle.clk_model.specs.Examples.Rows.{turns, stated, handle, answers, begins, goes_on, step, ends, boot, gets}
 use Rattle.clk_model.specs.Examples.Commands.{on}
 use Rattle.clk_model.specs.Examples.Migrations.{migration_start, gb, m, g, before_move, move}
 use Rattle.clk_model.specs.Examples.Notices.{one_veto}
@@ -32,7 +36,7 @@ abbrev windows : List ℕ
 windows = 1 ∷ 1 ∷ 2 ∷ 2 ∷ 1 ∷ 2 ∷ 1 ∷ 1 ∷ 2 ∷ 1 ∷ 2 ∷ 1 ∷ 2 ∷ 1 ∷ 2 ∷ 1 ∷ 2 ∷ 1 ∷ 2 ∷ 1 ∷ []
 
 pub move_ordered : Ordered ([] ∷ mover ∷ enabler ∷ []) windows (before_move ++ move)
-move_ordered = (refl, (refl, (refl, (refl, (refl, (refl, (refl, (refl, (refl, (refl, (refl, (refl, (refl, (refl, (refl, (refl, (refl, (refl, (refl, (refl, (refl, (refl, (refl, (refl, (refl, tt)))))))))))))))))))))))))
+move_ordered = (refl, refl, (refl, refl, (refl, refl, (refl, refl, (refl, refl, (refl, refl, (refl, refl, (refl, refl, (refl, refl, (refl, refl, (refl, refl, (refl, refl, (refl, refl, (refl, refl, (refl, refl, (refl, refl, (refl, refl, (refl, refl, (refl, refl, (refl, refl, (refl, refl, (refl, refl, (refl, refl, (refl, refl, (refl, refl, tt)))))))))))))))))))))))))
 
 -- ---- a veto, with an enable of another driver between two notices
 
@@ -53,7 +57,7 @@ abbrev between_notices : List ℕ
 between_notices = 2 ∷ 2 ∷ 1 ∷ 1 ∷ 1 ∷ 1 ∷ 1 ∷ 1 ∷ 1 ∷ 1 ∷ 1 ∷ 2 ∷ []
 
 pub one_veto_ordered : Ordered ([] ∷ setter ∷ other ∷ []) between_notices one_veto
-one_veto_ordered = (refl, (refl, (refl, (refl, (refl, (refl, (refl, (refl, (refl, (refl, (refl, (refl, (refl, (refl, (refl, (refl, (refl, (refl, (refl, tt)))))))))))))))))))
+one_veto_ordered = (refl, refl, (refl, refl, (refl, refl, (refl, refl, (refl, refl, (refl, refl, (refl, refl, (refl, refl, (refl, refl, (refl, refl, (refl, refl, (refl, refl, (refl, refl, (refl, refl, (refl, refl, (refl, refl, (refl, refl, (refl, refl, (refl, refl, tt)))))))))))))))))))
 
 -- ---- a driver that waits
 
@@ -80,7 +84,7 @@ unfolding turns
 waiting_turns = refl
 
 pub waiting_ordered : Ordered ([] ∷ rater ∷ preparer ∷ []) (1 ∷ 2 ∷ 1 ∷ 2 ∷ 2 ∷ 1 ∷ []) waiting
-waiting_ordered = (refl, (refl, (refl, (refl, (refl, (refl, (refl, (refl, (refl, tt)))))))))
+waiting_ordered = (refl, refl, (refl, refl, (refl, refl, (refl, refl, (refl, refl, (refl, refl, (refl, refl, (refl, refl, (refl, refl, tt)))))))))
 
 -- ---- boot
 
@@ -90,4 +94,26 @@ pub ordinary_path_ordered :
     ((on 0 (act.Probe (clock_id 0)) ∷ on 0 (act.Probe (clock_id 1)) ∷ [])
     ∷ (on 0 (act.Get (Some (clock_id 1))) ∷ on 0 act.Prepare ∷ on 0 act.Enable ∷ on 0 act.GetRate ∷ []) ∷ [])
     [] ordinary_path
-ordinary_path_ordered = (refl, (refl, (refl, (refl, tt))))
+ordinary_path_ordered = (refl, refl, (refl, refl, (refl, refl, (refl, refl, tt))))
+
+-- ---- a driver that makes another call in its own change
+
+-- `get a q`, `enable a`, `prepare a`
+abbrev hasty : List Command
+hasty = on 0 (act.Get (Some (clock_id 1))) ∷ on 0 act.Enable ∷ on 0 act.Prepare ∷ []
+
+-- its prepare begins before its enable and ends behind it
+abbrev overlapping : List Entry
+overlapping = gets 1 (clock_id 1) 0 ∷ goes_on 1 (call.Prepare (handle 0 1)) ∷ answers 1 (event.Enable 0) reply.Fine ∷ ends 1 reply.Fine ∷ []
+
+-- no order of one thread has that: its enable would have to be a step, since its driver's change is in flight
+pub overlapping_disordered : Ordered ([] ∷ hasty ∷ []) [] overlapping → true ≡ false
+overlapping_disordered ordered = ordered.2.2.1
+
+-- it isn't one call after the other
+pub overlapping_calls : one_after_the_other false (own overlapping 1) ≡ false
+overlapping_calls = refl
+
+-- and it doesn't follow the commands: the prepare is listed where it begins, and would have to be the enable
+pub overlapping_unfollowed : (a b c : Answer) → Follows hasty (calls overlapping 1) (a ∷ b ∷ c ∷ []) → event.Begin (call.Prepare (handle 0 1)) ≡ event.Enable 0
+overlapping_unfollowed a b c follows = follows.2.0
