@@ -4,3 +4,4 @@ pub mod Tallies
 pub mod Definitions
 pub mod Growing
 pub mod Held
+pub mod Moving
