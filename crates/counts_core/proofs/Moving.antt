@@ -1,11 +1,9 @@
 -- Laws on a new link of a clock: the sums over the old links turn into those over the new ones.
-use Rattle.std.proofs.Common.{◌≡◌, ◌≢◌, ℕ, zero, suc, ◌+◌, ◌-◌, ◌<◌, ◌≤◌, ◌&&◌, Bool, true, false, cond, List, [], ◌∷◌, Option, Some, None, refl, sym, ap, ◌∙◌, subst, ⊎_elim, arith, length, set, get_or, nat_eq, nat_lt}
-use Rattle.std.specs.Option.{option_map}
-use Rattle.std.proofs.lemmas.Bool.{cases_eq}
+use Rattle.std.proofs.Common.{◌≡◌, ℕ, zero, suc, ◌+◌, ◌<◌, ◌≤◌, Bool, true, false, cond, List, [], ◌∷◌, Option, Some, None, refl, sym, ◌∙◌, arith, length, set, get_or}
 use Rattle.std.proofs.lemmas.Bool.Decides.{nat_tests}
-use Rattle.std.proofs.lemmas.List.{length-set, get_or-set_same, get_or-set_other}
+use Rattle.std.proofs.lemmas.List.{length-set}
 use Rattle.clk_base.specs.declared.clock.ClockId.{ClockId}
-use Rattle.counts_core.specs.Sums.{up_in, leads, one, mark, kids, AreSums, OneMore}
+use Rattle.counts_core.specs.Sums.{leads, one, mark, kids, AreSums, OneMore}
 
 -- the children that count over a new link of a clock are those over the old one, but for this clock
 pub kids-link : (links : List (Option ClockId)) (counts : List ℕ) (c : ℕ) (link : Option ClockId) (d : ℕ) → length links ≡ length counts → c < length links
