@@ -3,7 +3,9 @@
 ghost use Rattle.std.specs.Prelude.{◌≡◌, ◌<◌, length};
 
 use bitflags::Flags;
-use clk_base::{ClkFlags, ClockDef, ClockId, ClockName, Desc, Kind, Parents, Policy, ValidDesc};
+use clk_base::{
+    ClkFlags, ClockDef, ClockId, ClockName, Desc, Handle, Kind, Parents, Policy, ValidDesc,
+};
 use notifiers::{ChainFault, Notifiers};
 use rate_requests::Requests;
 use std::alloc::Global;
@@ -72,5 +74,46 @@ fn numbers_rise_and_boundaries_meet(rt: HostRuntime) -> Result<(), Fail> {
     requests.remove(first);
     assert!(rt; !requests.live(1, first));
     assert!(rt; requests.boundaries(c) == (0, u64::MAX));
+    Ok(())
+}
+
+#[test]
+fn a_clock_has_at_most_256_notifiers(rt: HostRuntime) -> Result<(), Fail> {
+    let desc = one_clock(rt.alloc())?;
+    assert!(rt; desc.len() == 1);
+    let mut chains = Notifiers::create(rt.alloc(), &desc)?;
+    for id in 0..=256u32 {
+        let added = chains.add(ClockId(0), id, 0, Policy::Accept);
+        assert!(rt;
+            added
+                == if id < 256 {
+                    Ok(())
+                } else {
+                    Err(ChainFault::Full)
+                }
+        );
+    }
+    Ok(())
+}
+
+#[test]
+fn a_handle_is_known_by_its_number(rt: HostRuntime) -> Result<(), Fail> {
+    let desc = one_clock(rt.alloc())?;
+    assert!(rt; desc.len() == 1);
+    let mut requests = Requests::create(rt.alloc(), &desc)?;
+    let first = requests.add(1, ClockId(0))?;
+    requests.remove(first);
+    let second = requests.add(1, ClockId(0))?;
+    assert!(rt; second.number == 1 && !requests.live(1, first));
+    // The slot is a hint, and any other finds the same record.
+    let hinted = Handle {
+        number: second.number,
+        slot: 4_000_000,
+        driver: second.driver,
+    };
+    assert!(rt; requests.live(1, hinted));
+    requests.set_counts(hinted, 3, 2, 1);
+    let row = requests.of(second);
+    assert!(rt; (row.prepares, row.enables, row.exclusives) == (3, 2, 1));
     Ok(())
 }
