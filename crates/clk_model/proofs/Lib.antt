@@ -75,6 +75,7 @@ pub mod EndSafeLaws
 pub mod WalkOrderLaws
 pub mod WalkGoLaws
 pub mod PlanRootLaws
+pub mod GuardLaws
 pub mod PlannedGoLaws
 pub mod PlanGoLaws
 pub mod RegisterGoLaws

@@ -2,7 +2,7 @@
 use Rattle.std.proofs.Common.{◌≡◌, ℕ, zero, suc, ◌<◌, ◌≤◌, Bool, true, false, not, ◌&&◌, ◌||◌, List, [], ◌∷◌, Option, Some, None, refl, sym, ap, subst, ◌∙◌, ◌⊎◌, inl, inr, length}
 use Rattle.std.specs.Prelude.{IfSome, if◌then◌else◌, option_map, option_and_then}
 use Rattle.std.specs.List.{AllByRecursion}
-use Rattle.std.proofs.lemmas.Bool.{cases_lt, and_parts}
+use Rattle.std.proofs.lemmas.Bool.{cases_lt, and_parts, not-true}
 use Rattle.std.proofs.lemmas.List.{get_or_past}
 use Rattle.clk_base.specs.declared.clock.ClockDef.{ClockDef}
 use Rattle.clk_base.specs.Description.{Description, nobody, kind_of, parents_of}
@@ -27,10 +27,12 @@ use Rattle.clk_model.proofs.AboveLaws.{path_above, HasRoot}
 
 -- ---- what rounding keeps
 
--- what holds of a clock and of the parent that its rounding goes on with holds of the clocks of a chain, and what its step then has
-pub record KeepsChain (w : Wiring) (Q : ℕ → Type 0) (P : ChainStep → Type 0) : Type 0 where
-  pub here : (c : ℕ) (r : Rounded) → Q c → Fits w c r → P (step_of c r)
-  pub up : (c p : ℕ) (r : Rounded) → Q c → Fits w c r → r.parent ≡ Some p → Q p
+-- what holds of a clock and of each parent that is asked for another rate than it has holds of the clocks of a chain, and what a step
+-- then has, where R is known of roundings
+pub record KeepsChain (w : Wiring) (view : View) (R : ℕ → Rounded → Type 0) (Q : ℕ → Type 0) (P : ChainStep → Type 0) : Type 0 where
+  pub rounds : (c x : ℕ) → IfSome (round w view c x) (R c)
+  pub here : (c : ℕ) (r : Rounded) → Q c → R c r → P (step_of c r)
+  pub up : (c p : ℕ) (r : Rounded) → Q c → R c r → r.parent ≡ Some p → is_at r.parent_rate (Some (rate_in w p)) ≡ false → Q p
 
 mapped_all : (P : ChainStep → Type 0) (k : ChainStep) (o : Option (List ChainStep)) → P k → IfSome o (AllByRecursion P) → IfSome (option_map (λ ks. k ∷ ks) o) (AllByRecursion P)
 mapped_all P k None here rest = tt
@@ -41,40 +43,39 @@ asked_all : (P : ChainStep → Type 0) (k : ChainStep) (more : ℕ → Option (L
 asked_all P k more None here each = tt
 asked_all P k more (Some p) here each = mapped_all P k (more p) here (each p refl)
 
-from_all : (Q : ℕ → Type 0) (P : ChainStep → Type 0) (more : ℕ → ℕ → Option (List ChainStep)) (w : Wiring) (view : View) (c x : ℕ) (r : Rounded) → KeepsChain w Q P → Q c → Fits w c r
-    → ((p y : ℕ) → Q p → IfSome (more p y) (AllByRecursion P)) → IfSome (chain_from more w view c x r) (AllByRecursion P)
-from_all Q P more w view c x r keeps own fits each =
-    both (moves w.clocks (step_of c r) && sets_parent_gate w.defs c && view.prepared c) (sets_rate_parent w.defs c && not (is_at r.parent_rate (option_map (rate_in w) r.parent))) where
-      both : (t u : Bool) → IfSome (elim t [
+from_all : (R : ℕ → Rounded → Type 0) (Q : ℕ → Type 0) (P : ChainStep → Type 0) (more : ℕ → ℕ → Option (List ChainStep)) (w : Wiring) (view : View) (c x : ℕ) (r : Rounded) → KeepsChain w view R Q P
+    → Q c → R c r → ((p y : ℕ) → Q p → IfSome (more p y) (AllByRecursion P)) → IfSome (chain_from more w view c x r) (AllByRecursion P)
+from_all R Q P more w view c x r keeps own fits each =
+    both (moves w.clocks (step_of c r) && sets_parent_gate w.defs c && view.prepared c) (sets_rate_parent w.defs c && not (is_at r.parent_rate (option_map (rate_in w) r.parent))) refl where
+      asks : (p : ℕ) → (sets_rate_parent w.defs c && not (is_at r.parent_rate (option_map (rate_in w) r.parent))) ≡ true → r.parent ≡ Some p → is_at r.parent_rate (Some (rate_in w p)) ≡ false
+      asks p e at =
+          let parts = and_parts (sets_rate_parent w.defs c) (not (is_at r.parent_rate (option_map (rate_in w) r.parent))) e in
+          ap (λ (o : Option ℕ). is_at r.parent_rate (option_map (rate_in w) o)) (sym at) ∙ not-true (is_at r.parent_rate (option_map (rate_in w) r.parent)) parts.1
+
+      both : (t u : Bool) → (sets_rate_parent w.defs c && not (is_at r.parent_rate (option_map (rate_in w) r.parent))) ≡ u → IfSome (elim t [
         | true ↦ None
         | false ↦ elim u [
           | true ↦ option_map (λ ks. step_of c r ∷ ks) (option_and_then (λ p. more p (if can_round (kind_of w.defs c) then r.parent_rate else x)) r.parent)
           | false ↦ Some (step_of c r ∷ [])
         ]
       ]) (AllByRecursion P)
-      both true u = tt
-      both false true =
+      both true u e = tt
+      both false true e =
           asked_all P (step_of c r) (λ p. more p (if can_round (kind_of w.defs c) then r.parent_rate else x)) r.parent (keeps.here c r own fits)
-          (λ p e. each p (if can_round (kind_of w.defs c) then r.parent_rate else x) (keeps.up c p r own fits e))
-      both false false = (keeps.here c r own fits, tt)
+          (λ p at. each p (if can_round (kind_of w.defs c) then r.parent_rate else x) (keeps.up c p r own fits at (asks p e at)))
+      both false false e = (keeps.here c r own fits, tt)
 
-rounded_all : (Q : ℕ → Type 0) (P : ChainStep → Type 0) (more : ℕ → ℕ → Option (List ChainStep)) (w : Wiring) (view : View) (c x : ℕ) (o : Option Rounded) → KeepsChain w Q P → Q c → IfSome o (Fits w c)
-    → ((p y : ℕ) → Q p → IfSome (more p y) (AllByRecursion P)) → IfSome (option_and_then (λ r. chain_from more w view c x r) o) (AllByRecursion P)
-rounded_all Q P more w view c x None keeps own fits each = tt
-rounded_all Q P more w view c x (Some r) keeps own fits each = from_all Q P more w view c x r keeps own fits each
+rounded_all : (R : ℕ → Rounded → Type 0) (Q : ℕ → Type 0) (P : ChainStep → Type 0) (more : ℕ → ℕ → Option (List ChainStep)) (w : Wiring) (view : View) (c x : ℕ) (o : Option Rounded)
+    → KeepsChain w view R Q P → Q c → IfSome o (R c) → ((p y : ℕ) → Q p → IfSome (more p y) (AllByRecursion P)) → IfSome (option_and_then (λ r. chain_from more w view c x r) o) (AllByRecursion P)
+rounded_all R Q P more w view c x None keeps own fits each = tt
+rounded_all R Q P more w view c x (Some r) keeps own fits each = from_all R Q P more w view c x r keeps own fits each
 
-here_all : (Q : ℕ → Type 0) (P : ChainStep → Type 0) (levels : ℕ) (w : Wiring) (view : View) (c x : ℕ) → LinksArePossible w.defs w.clocks → KeepsChain w Q P → Q c
-    → ((p y : ℕ) → Q p → IfSome (chain_within levels w view p y) (AllByRecursion P))
-    → IfSome (option_and_then (λ r. chain_from (chain_within levels w view) w view c x r) (round w view c x)) (AllByRecursion P)
-unfolding round
-here_all Q P levels w view c x links keeps own each =
-    rounded_all Q P (chain_within levels w view) w view c x (round w view c x) keeps own (fits_round (rate_for depth w view) w view c x links) each
-
-within_all : (Q : ℕ → Type 0) (P : ChainStep → Type 0) (levels : ℕ) (w : Wiring) (view : View) (c x : ℕ) → LinksArePossible w.defs w.clocks → KeepsChain w Q P → Q c
+within_all : (R : ℕ → Rounded → Type 0) (Q : ℕ → Type 0) (P : ChainStep → Type 0) (levels : ℕ) (w : Wiring) (view : View) (c x : ℕ) → KeepsChain w view R Q P → Q c
     → IfSome (chain_within levels w view c x) (AllByRecursion P)
-within_all Q P zero w view c x links keeps own = tt
-within_all Q P (suc levels) w view c x links keeps own =
-    both (can_round (kind_of w.defs c) || passes_on w c) (here_all Q P levels w view c x links keeps own (λ p y q. within_all Q P levels w view p y links keeps q)) where
+within_all R Q P zero w view c x keeps own = tt
+within_all R Q P (suc levels) w view c x keeps own =
+    both (can_round (kind_of w.defs c) || passes_on w c)
+    (rounded_all R Q P (chain_within levels w view) w view c x (round w view c x) keeps own (keeps.rounds c x) (λ p y q. within_all R Q P levels w view p y keeps q)) where
       both : (t : Bool) → IfSome (option_and_then (λ r. chain_from (chain_within levels w view) w view c x r) (round w view c x)) (AllByRecursion P) → IfSome (elim t [
         | false ↦ None
         | true ↦ option_and_then (λ r. chain_from (chain_within levels w view) w view c x r) (round w view c x)
@@ -91,10 +92,10 @@ bounded_all P w view ks (Some ls) all e = kept (keeps_boundaries w view ls) e wh
   kept true f = let same : ls ≡ ks = cc in subst (λ (js : List ChainStep). AllByRecursion P js) same all
 
 -- so of each planned chain
-pub chain_all : (Q : ℕ → Type 0) (P : ChainStep → Type 0) (w : Wiring) (view : View) (c x : ℕ) (ks : List ChainStep) → LinksArePossible w.defs w.clocks → KeepsChain w Q P → Q c → chain w view c x ≡ Some ks
-    → AllByRecursion P ks
+pub chain_all : (R : ℕ → Rounded → Type 0) (Q : ℕ → Type 0) (P : ChainStep → Type 0) (w : Wiring) (view : View) (c x : ℕ) (ks : List ChainStep) → KeepsChain w view R Q P → Q c
+    → chain w view c x ≡ Some ks → AllByRecursion P ks
 unfolding chain
-chain_all Q P w view c x ks links keeps own e = bounded_all P w view ks (chain_within depth w view c x) (within_all Q P depth w view c x links keeps own) e
+chain_all R Q P w view c x ks keeps own e = bounded_all P w view ks (chain_within depth w view c x) (within_all R Q P depth w view c x keeps own) e
 
 -- ---- roots
 
@@ -110,7 +111,7 @@ rooted_is defs clocks c e =
     record { there = parts.0; root = (found.0, path_above (link_in clocks) c found.0 found.1, found.2) }
 
 -- a fixed clock has no possible parent
-fixed_no_parent : (words : ℕ) (defs : Description) (c p : ℕ) → IsValid words defs → is_fixed (kind_of defs c) ≡ true → is_in p (parents_of defs c) ≡ true → ⊥
+pub fixed_no_parent : (words : ℕ) (defs : Description) (c p : ℕ) → IsValid words defs → is_fixed (kind_of defs c) ≡ true → is_in p (parents_of defs c) ≡ true → ⊥
 fixed_no_parent words defs c p valid fixed m = let none : parents_of defs c ≡ [] = by_place (cases_lt c (length defs)) in let no : false ≡ true = sym (ap (is_in p) none) ∙ m in cc where
   by_place : (c < length defs) ⊎ (length defs ≤ c) → parents_of defs c ≡ []
   by_place (inl inside) = let kind = fixed_rate (kind_of defs c) fixed in fixed-parents words defs valid c kind.0 inside kind.1
@@ -144,14 +145,19 @@ from_rooted : (w : Wiring) (c p : ℕ) → (link_in w.clocks c ≡ Some p) ⊎ (
 from_rooted w c p (inl link) = inl link
 from_rooted w c p (inr is) = inr (rooted_is w.defs w.clocks p is)
 
+rounds_fit : (w : Wiring) (view : View) (c x : ℕ) → LinksArePossible w.defs w.clocks → IfSome (round w view c x) (Fits w c)
+unfolding round
+rounds_fit w view c x links = fits_round (rate_for depth w view) w view c x links
+
 -- each step of a planned chain is so, where it begins at a rooted clock and links lead to registered clocks
 pub plan_rooted : (words : ℕ) (w : Wiring) (view : View) (c x : ℕ) (ks : List ChainStep) → IsValid words w.defs → LinksArePossible w.defs w.clocks
     → ((d p : ℕ) → link_in w.clocks d ≡ Some p → registered w.clocks p ≡ true) → IsRooted w.defs w.clocks c → chain w view c x ≡ Some ks → AllByRecursion (StepsRooted w) ks
 plan_rooted words w view c x ks valid links there own e =
-    chain_all (IsRooted w.defs w.clocks) (StepsRooted w) w view c x ks links
+    chain_all (Fits w) (IsRooted w.defs w.clocks) (StepsRooted w) w view c x ks
     (record {
+      rounds = λ d y. rounds_fit w view d y links;
       here = λ d r q fits. record { own = q; possible = fits.possible; from = λ p at. from_rooted w d p (fits.from p at) };
-      up = λ d p r q fits at. elim (from_rooted w d p (fits.from p at)) [
+      up = λ d p r q fits at asks. elim (from_rooted w d p (fits.from p at)) [
         | inl link ↦ record { there = there d p link; root = rooted_link words w.defs w.clocks d p valid q.root (fits.possible p at) link }
         | inr is ↦ is
       ];
