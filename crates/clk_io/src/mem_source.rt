@@ -58,7 +58,7 @@ pub(crate) fn fails_at(fail_at: &[u32], call: u64) -> bool
     fail_at.iter().any(|number| u64::from(*number) == call)
 }
 
-/// Copies the front of `from` to the front of `into`, as much as fits, and answers how much.
+// Copies the front of `from` to the front of `into`, as much as fits, and answers how much.
 fn copy_front(from: &[u8], into: &mut [u8]) -> usize
     ensures count { result ≡ min (length from.now) (length into.old) }
     ensures copied { take result into.new ≡ take result from.now }

@@ -36,7 +36,7 @@ impl<R: Read + Drop> ReaderSource<R> {
     }
 }
 
-/// Reads once, and again where a signal came between.
+// Reads once, and again where a signal came between.
 fn read_again<R: Read>(reader: &mut R, into: &mut [u8]) -> io::Result<usize>
     ensures bound { ReadsAtMost result into.new }
     ensures bytes { ReadConsumes (R.remaining reader.old) (R.remaining reader.new) result into.new }

@@ -36,7 +36,7 @@ impl<W: Write + Drop> WriterSink<W> {
     }
 }
 
-/// Writes once, and again where a signal came between. A write that takes nothing has failed.
+// Writes once, and again where a signal came between. A write that takes nothing has failed.
 fn write_again<W: Write>(writer: &mut W, bytes: &[u8]) -> io::Result<usize>
     ensures bound { WritesAtMost result bytes.now }
     ensures some { IfOk result (λ n. 0 < n) }

@@ -20,7 +20,7 @@ use clk_io::NoMemory;
 use dts_tree::{Cell, DtsNode, DtsValue};
 use std::alloc::Global;
 
-/// The cells of `clocks`, one at least; a fixed clock reads none.
+// The cells of `clocks`, one at least; a fixed clock reads none.
 #[tactic(auto, unfolding(crate::specs::Binding::inputs_in))]
 fn inputs(alloc: Global, row: Row, node: &DtsNode) -> Result<Option<Vec<Cell>>, NoMemory>
     ensures { IfOk result (λ found. option_map (λ v. v.items) found ≡ inputs_in row (seen_node node.now)) }
@@ -37,7 +37,7 @@ fn inputs(alloc: Global, row: Row, node: &DtsNode) -> Result<Option<Vec<Cell>>, 
     Ok(Some(found))
 }
 
-/// The flags of a row's clocks; a fixed clock has none.
+// The flags of a row's clocks; a fixed clock has none.
 #[tactic(auto, unfolding(crate::specs::Binding::row_flags))]
 fn row_flags(row: Row, node: &DtsNode) -> Option<ClkFlags>
     ensures { result ≡ row_flags row (seen_node node.now) }
@@ -48,7 +48,7 @@ fn row_flags(row: Row, node: &DtsNode) -> Option<ClkFlags>
     }
 }
 
-/// A value that is no string with a backslash.
+// A value that is no string with a backslash.
 fn is_clean(value: &DtsValue) -> bool
     ensures { result ≡ is_clean (seen_value value.now) }
 {
@@ -58,14 +58,14 @@ fn is_clean(value: &DtsValue) -> bool
     }
 }
 
-/// No string of the values has a backslash.
+// No string of the values has a backslash.
 fn are_clean(values: &[DtsValue]) -> bool
     ensures { result ≡ list_all is_clean (map seen_value values.now) }
 {
     values.iter().all(|value| is_clean(value))
 }
 
-/// What the properties of a row say, where all of them are as they have to be.
+// What the properties of a row say, where all of them are as they have to be.
 #[tactic(auto, unfolding(crate::specs::Binding::filled))]
 fn filled(alloc: Global, row: Row, node: &DtsNode) -> Result<Option<Binding>, NoMemory>
     ensures { IfOk result (λ found. option_map seen_binding found ≡ filled row (seen_node node.now)) }
@@ -91,7 +91,7 @@ fn filled(alloc: Global, row: Row, node: &DtsNode) -> Result<Option<Binding>, No
     }))
 }
 
-/// What a node of this row says.
+// What a node of this row says.
 #[tactic(auto, unfolding(crate::specs::Binding::binding_as))]
 fn binding_as(alloc: Global, row: Row, node: &DtsNode) -> Result<Binding, BindingFault>
     ensures { Binds result (binding_as row (seen_node node.now)) }

@@ -17,7 +17,7 @@ use clk_io::NoMemory;
 use dts_tree::{DtsNode, DtsValue};
 use std::alloc::Global;
 
-/// What stands before the first `@`.
+// What stands before the first `@`.
 fn before_address(name: &str) -> &str
     ensures { result.now ≡ before_first (λ b. b == 64) name.now }
 {
@@ -27,7 +27,7 @@ fn before_address(name: &str) -> &str
     }
 }
 
-/// The names that values are: strings without a backslash, one at least.
+// The names that values are: strings without a backslash, one at least.
 #[tactic(auto, unfolding(crate::specs::Clocks::names_in))]
 fn names<'a>(alloc: Global, values: &'a [DtsValue]) -> Result<Option<Vec<&'a str>>, NoMemory>
     ensures { IfOk result (λ found. option_map (λ v. map (λ t. t.now) v.items) found ≡ names_in (map seen_value values.now)) }
@@ -38,7 +38,7 @@ fn names<'a>(alloc: Global, values: &'a [DtsValue]) -> Result<Option<Vec<&'a str
     Ok(Some(kept_texts(alloc, values)?))
 }
 
-/// The name that values are: one string without a backslash.
+// The name that values are: one string without a backslash.
 fn only_name(values: &[DtsValue]) -> Option<&str>
     ensures { option_map (λ t. t.now) result ≡ only_name (map seen_value values.now) }
 {
@@ -54,7 +54,7 @@ fn only_name(values: &[DtsValue]) -> Option<&str>
     }
 }
 
-/// The name of a provider's one clock: the one that it states, else its own before the `@`.
+// The name of a provider's one clock: the one that it states, else its own before the `@`.
 #[tactic(auto, unfolding(crate::specs::Clocks::own_name))]
 fn own_name(node: &DtsNode) -> Option<&str>
     ensures { option_map (λ t. t.now) result ≡ own_name (seen_node node.now) }
@@ -65,7 +65,7 @@ fn own_name(node: &DtsNode) -> Option<&str>
     }
 }
 
-/// A clock of this name.
+// A clock of this name.
 fn clock(alloc: Global, name: &str, identifier: u32, kind: Kind) -> Result<BoundClock, NoMemory>
     ensures { IfOk result (λ clock. seen_clock clock ≡ record { name = name.now; identifier = identifier; kind = kind }) }
 {
@@ -77,7 +77,7 @@ fn clock(alloc: Global, name: &str, identifier: u32, kind: Kind) -> Result<Bound
     })
 }
 
-/// A provider's one clock.
+// A provider's one clock.
 #[tactic(auto, unfolding(crate::specs::Clocks::one_clock))]
 fn one_clock(
     alloc: Global,
@@ -97,7 +97,7 @@ fn one_clock(
     Ok(Some(clocks))
 }
 
-/// The identifiers 0, 1 and on.
+// The identifiers 0, 1 and on.
 fn counted(alloc: Global, count: usize) -> Result<Vec<u32>, NoMemory>
     ensures { IfOk result (λ found. found.items ≡ range_with_len 0 count) }
 {
@@ -107,7 +107,7 @@ fn counted(alloc: Global, count: usize) -> Result<Vec<u32>, NoMemory>
     Ok((0..count).collect(alloc)?)
 }
 
-/// The identifiers that are stated, where they are so many.
+// The identifiers that are stated, where they are so many.
 #[tactic(auto, unfolding(crate::specs::Clocks::as_many))]
 fn stated(alloc: Global, count: usize, values: &[DtsValue]) -> Result<Option<Vec<u32>>, NoMemory>
     ensures { IfOk result (λ found. option_map (λ v. v.items) found ≡ as_many count (map seen_value values.now)) }
@@ -121,7 +121,7 @@ fn stated(alloc: Global, count: usize, values: &[DtsValue]) -> Result<Option<Vec
     Ok(Some(found))
 }
 
-/// The identifiers of so many gates: those that are stated, else 0, 1 and on.
+// The identifiers of so many gates: those that are stated, else 0, 1 and on.
 #[tactic(auto, unfolding(crate::specs::Clocks::identifiers))]
 fn identifiers(alloc: Global, count: usize, node: &DtsNode) -> Result<Option<Vec<u32>>, NoMemory>
     ensures { IfOk result (λ found. option_map (λ v. v.items) found ≡ identifiers count (seen_node node.now)) }
@@ -132,7 +132,7 @@ fn identifiers(alloc: Global, count: usize, node: &DtsNode) -> Result<Option<Vec
     }
 }
 
-/// The gate of this name whose identifier is its bit.
+// The gate of this name whose identifier is its bit.
 fn gate(alloc: Global, word: u32, name: &str, bit: u32) -> Result<BoundClock, NoMemory>
     ensures { IfOk result (λ clock. seen_clock clock ≡ gate_at word (name.now, bit)) }
 {
@@ -144,7 +144,7 @@ fn gate(alloc: Global, word: u32, name: &str, bit: u32) -> Result<BoundClock, No
     clock(alloc, name, bit, kind)
 }
 
-/// A gate for each name, as far as there are identifiers.
+// A gate for each name, as far as there are identifiers.
 fn gates_of(
     alloc: Global,
     word: u32,
@@ -163,7 +163,7 @@ fn gates_of(
     Ok(found)
 }
 
-/// The clocks of a `bank,gates-clock`.
+// The clocks of a `bank,gates-clock`.
 #[tactic(auto, unfolding(crate::specs::Clocks::gates))]
 fn gates(alloc: Global, node: &DtsNode) -> Result<Option<Vec<BoundClock>>, NoMemory>
     ensures { IfOk result (λ found. option_map seen_clocks found ≡ gates (seen_node node.now)) }

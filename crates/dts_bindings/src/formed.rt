@@ -19,7 +19,7 @@ pub(crate) fn has_backslash(text: &str) -> bool
     text.as_bytes().iter().any(|byte| *byte == b'\\')
 }
 
-/// A string without a backslash.
+// A string without a backslash.
 fn is_plain(value: &DtsValue) -> bool
     ensures { result ≡ is_plain (seen_value value.now) }
 {
@@ -36,7 +36,7 @@ pub(crate) fn are_plain(values: &[DtsValue]) -> bool
     values.iter().all(|value| is_plain(value))
 }
 
-/// A value of number cells.
+// A value of number cells.
 fn is_numbers(value: &DtsValue) -> bool
     ensures { result ≡ is_numbers (seen_value value.now) }
 {
@@ -46,14 +46,14 @@ fn is_numbers(value: &DtsValue) -> bool
     }
 }
 
-/// Whether every value is number cells.
+// Whether every value is number cells.
 fn are_all_numbers(values: &[DtsValue]) -> bool
     ensures { result ≡ list_all is_numbers (map seen_value values.now) }
 {
     values.iter().all(|value| is_numbers(value))
 }
 
-/// Whether a `phandle`, where there is one, is one number cell.
+// Whether a `phandle`, where there is one, is one number cell.
 #[tactic(auto, unfolding(crate::specs::Formed::has_good_phandle))]
 fn has_good_phandle(node: &DtsNode) -> bool
     ensures { result ≡ has_good_phandle (seen_node node.now) }
@@ -64,7 +64,7 @@ fn has_good_phandle(node: &DtsNode) -> bool
     }
 }
 
-/// Whether clocks and parents that are assigned are cells, and rates number cells.
+// Whether clocks and parents that are assigned are cells, and rates number cells.
 #[tactic(auto, unfolding(crate::specs::Formed::has_good_assigned))]
 fn has_good_assigned(node: &DtsNode) -> bool
     ensures { result ≡ has_good_assigned (seen_node node.now) }
@@ -82,7 +82,7 @@ pub(crate) fn is_sound(node: &DtsNode) -> bool
     has_good_phandle(node) && has_good_assigned(node)
 }
 
-/// Whether a consumer's clocks are cells, and their names strings without a backslash.
+// Whether a consumer's clocks are cells, and their names strings without a backslash.
 #[tactic(auto, unfolding(crate::specs::Formed::has_good_clocks))]
 fn has_good_clocks(node: &DtsNode) -> bool
     ensures { result ≡ has_good_clocks (seen_node node.now) }

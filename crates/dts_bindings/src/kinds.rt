@@ -19,7 +19,7 @@ pub(crate) fn number(node: &DtsNode, name: &str) -> Option<u32>
     one_number(values(node, name))
 }
 
-/// The numbers of a property that is two number cells.
+// The numbers of a property that is two number cells.
 #[tactic(auto, unfolding(crate::specs::Kinds::pair))]
 fn pair(node: &DtsNode, name: &str) -> Option<(u32, u32)>
     ensures { result ≡ pair name.now (seen_node node.now) }
@@ -27,7 +27,7 @@ fn pair(node: &DtsNode, name: &str) -> Option<(u32, u32)>
     two_numbers(values(node, name))
 }
 
-/// Whether a mark is there; None where it has a value.
+// Whether a mark is there; None where it has a value.
 #[tactic(auto, unfolding(crate::specs::Kinds::mark))]
 fn mark(node: &DtsNode, name: &str) -> Option<bool>
     ensures { result ≡ mark name.now (seen_node node.now) }
@@ -139,7 +139,7 @@ pub(crate) fn pll_kind(node: &DtsNode) -> Option<Kind>
     })
 }
 
-/// A flag, where its mark is there.
+// A flag, where its mark is there.
 #[tactic(auto, unfolding(crate::specs::Kinds::flag))]
 fn flag(node: &DtsNode, name: &str, meant: ClkFlags) -> Option<ClkFlags>
     ensures { option_map (λ f. f.0) result ≡ flag name.now meant.0 (seen_node node.now) }

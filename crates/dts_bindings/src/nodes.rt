@@ -8,7 +8,7 @@ use crate::properties::{has_property, property, values};
 use crate::reading::one_number;
 use dts_tree::{DtsNode, DtsValue};
 
-/// The values are the one string `okay` or `ok`.
+// The values are the one string `okay` or `ok`.
 fn says_okay(values: &[DtsValue]) -> bool
     ensures { result ≡ says_okay (map seen_value values.now) }
 {

@@ -20,7 +20,7 @@ pub(crate) fn are_cells(values: &[DtsValue]) -> bool
         .all(|value| matches!(value, DtsValue::Cells(_)))
 }
 
-/// Whether every value is a string.
+// Whether every value is a string.
 fn are_texts(values: &[DtsValue]) -> bool
     ensures { result ≡ list_all is_text (map seen_value values.now) }
 {
@@ -46,7 +46,7 @@ pub(crate) fn value_cells(value: &DtsValue) -> &[Cell]
     }
 }
 
-/// The string that a value is.
+// The string that a value is.
 fn value_text(value: &DtsValue) -> Option<&str>
     ensures { option_map (λ t. t.now) result ≡ text_of (seen_value value.now) }
 {
@@ -56,7 +56,7 @@ fn value_text(value: &DtsValue) -> Option<&str>
     }
 }
 
-/// The number that a cell is.
+// The number that a cell is.
 fn cell_number(cell: Cell) -> Option<u32>
     ensures { result ≡ number_of cell }
 {
@@ -66,7 +66,7 @@ fn cell_number(cell: Cell) -> Option<u32>
     }
 }
 
-/// The cells of all values.
+// The cells of all values.
 fn joined(alloc: Global, values: &[DtsValue]) -> Result<Vec<Cell>, NoMemory>
     ensures { IfOk result (λ found. found.items ≡ flat_map cells_of (map seen_value values.now)) }
 {
@@ -113,7 +113,7 @@ pub fn texts<'a>(alloc: Global, values: &'a [DtsValue]) -> Result<Option<Vec<&'a
     Ok(Some(kept_texts(alloc, values)?))
 }
 
-/// The numbers among the cells.
+// The numbers among the cells.
 fn kept_numbers(alloc: Global, cells: &[Cell]) -> Result<Vec<u32>, NoMemory>
     ensures { IfOk result (λ found. found.items ≡ filter_map number_of cells.now) }
 {
@@ -139,7 +139,7 @@ pub fn numbers(alloc: Global, values: &[DtsValue]) -> Result<Option<Vec<u32>>, N
     Ok(Some(kept_numbers(alloc, &cells)?))
 }
 
-/// The cell at this place of the cells joined over the values.
+// The cell at this place of the cells joined over the values.
 fn cell_at(values: &[DtsValue], place: usize) -> Option<Cell>
     ensures { result ≡ slice_get (flat_map cells_of (map seen_value values.now)) place }
 {
@@ -154,7 +154,7 @@ fn cell_at(values: &[DtsValue], place: usize) -> Option<Cell>
     None
 }
 
-/// The number that the first cell is, where there is no second.
+// The number that the first cell is, where there is no second.
 fn alone(first: Option<Cell>, second: Option<Cell>) -> Option<u32>
     ensures { result ≡ alone first second }
 {
@@ -164,7 +164,7 @@ fn alone(first: Option<Cell>, second: Option<Cell>) -> Option<u32>
     }
 }
 
-/// The numbers that the first two cells are, where there is no third.
+// The numbers that the first two cells are, where there is no third.
 fn two_alone(first: Option<Cell>, second: Option<Cell>, third: Option<Cell>) -> Option<(u32, u32)>
     ensures { result ≡ two_alone first second third }
 {

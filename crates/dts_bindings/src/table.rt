@@ -22,7 +22,7 @@ pub(crate) enum Row {
     Pll,
 }
 
-/// The row that a string names.
+// The row that a string names.
 #[tactic(auto, unfolding(crate::specs::Table::row_named))]
 fn row_named(text: &str) -> Option<Row>
     ensures { result ≡ row_named text.now }
@@ -46,7 +46,7 @@ fn row_named(text: &str) -> Option<Row>
     }
 }
 
-/// The row that a value names.
+// The row that a value names.
 fn row_in(value: &DtsValue) -> Option<Row>
     ensures { result ≡ row_in (seen_value value.now) }
 {
@@ -56,7 +56,7 @@ fn row_in(value: &DtsValue) -> Option<Row>
     }
 }
 
-/// The row that the first value which names one does.
+// The row that the first value which names one does.
 fn first_row(values: &[DtsValue]) -> Option<Row>
     ensures { result ≡ slice_get (filter_map row_in (map seen_value values.now)) 0 }
 {

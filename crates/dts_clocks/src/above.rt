@@ -27,7 +27,7 @@ pub(crate) fn parent_of(nodes: &Nodes<'_>, at: usize) -> Option<usize>
     }
 }
 
-/// Whether a node is passed over, by what is known of the nodes before it.
+// Whether a node is passed over, by what is known of the nodes before it.
 fn is_passed(nodes: &Nodes<'_>, passed: &[bool], at: usize) -> bool
     requires within { at < length nodes.now }
     requires known { passed.now ≡ listed (is_passed nodes.now) at }
@@ -54,7 +54,7 @@ pub(crate) fn passed_nodes(alloc: Global, nodes: &Nodes<'_>) -> Result<Vec<bool>
     Ok(passed)
 }
 
-/// A slash and the name, in front of a path.
+// A slash and the name, in front of a path.
 fn below(alloc: Global, name: &str, path: &str) -> Result<String, NoMemory>
     ensures { IfOk result (λ longer. string_bytes longer ≡ 47 ∷ name.now ++ path.now) }
 {

@@ -23,7 +23,7 @@ pub(crate) struct Lists {
     pub(crate) rates: Vec<u32>,
 }
 
-/// The numbers of `assigned-clock-rates`.
+// The numbers of `assigned-clock-rates`.
 #[tactic(auto, unfolding(crate::specs::Assigned::rates_of))]
 fn rates_of(alloc: Global, node: &DtsNode) -> Result<Vec<u32>, NoMemory>
     ensures { IfOk result (λ rates. rates.items ≡ rates_of (seen_node node.now)) }
@@ -74,7 +74,7 @@ pub(crate) fn is_too_long(lists: &Lists) -> bool
     lists.parents.len() > lists.clocks.len() || lists.rates.len() > lists.clocks.len()
 }
 
-/// The clock at a place of a list.
+// The clock at a place of a list.
 fn clock_at(clocks: &[Option<ClockId>], at: usize) -> Option<ClockId>
     ensures { result ≡ clock_at clocks.now at }
 {
@@ -84,7 +84,7 @@ fn clock_at(clocks: &[Option<ClockId>], at: usize) -> Option<ClockId>
     }
 }
 
-/// A clock's new parent, behind the steps so far, unless one of them is a null.
+// A clock's new parent, behind the steps so far, unless one of them is a null.
 fn push_parent(
     steps: &mut Vec<AssignedStep>,
     clock: Option<ClockId>,
@@ -102,7 +102,7 @@ fn push_parent(
     Ok(())
 }
 
-/// A clock's new rate, behind the steps so far, unless the clock is a null or the rate is 0.
+// A clock's new rate, behind the steps so far, unless the clock is a null or the rate is 0.
 fn push_rate(
     steps: &mut Vec<AssignedStep>,
     clock: Option<ClockId>,
@@ -120,7 +120,7 @@ fn push_rate(
     Ok(())
 }
 
-/// The new parents, behind the steps so far.
+// The new parents, behind the steps so far.
 fn push_parents(steps: &mut Vec<AssignedStep>, lists: &Lists) -> Result<(), NoMemory>
     ensures { OnOk result (steps.new.items ≡ steps.old.items
         ++ joined (λ i. parent_step (clock_at lists.now.clocks.items i) (clock_at lists.now.parents.items i)) (length lists.now.parents.items)) }
@@ -133,7 +133,7 @@ fn push_parents(steps: &mut Vec<AssignedStep>, lists: &Lists) -> Result<(), NoMe
     Ok(())
 }
 
-/// The new rates, behind the steps so far.
+// The new rates, behind the steps so far.
 fn push_rates(steps: &mut Vec<AssignedStep>, lists: &Lists) -> Result<(), NoMemory>
     ensures { OnOk result (steps.new.items ≡ steps.old.items
         ++ joined (λ i. rate_step (clock_at lists.now.clocks.items i) (slice_get lists.now.rates.items i)) (length lists.now.rates.items)) }
@@ -145,7 +145,7 @@ fn push_rates(steps: &mut Vec<AssignedStep>, lists: &Lists) -> Result<(), NoMemo
     Ok(())
 }
 
-/// The steps: first the parents, then the rates.
+// The steps: first the parents, then the rates.
 #[tactic(auto, unfolding(crate::specs::Assigned::steps_of))]
 fn steps_of(alloc: Global, lists: &Lists) -> Result<Vec<AssignedStep>, NoMemory>
     ensures { IfOk result (λ steps. steps.items ≡ steps_of (seen_lists lists.now)) }

@@ -41,7 +41,7 @@ impl<'a> Model for Chart<'a> {
     ghost invariant = { λ chart. Charts chart.nodes chart.passed.items (λ v. get nat_eq chart.phandles v) chart.sources.items };
 }
 
-/// Notes the node of a phandle, where it has one and no earlier node has it.
+// Notes the node of a phandle, where it has one and no earlier node has it.
 fn note(places: &mut HashMap<u32, usize>, phandle: Option<u32>, at: usize) -> Result<(), NoMemory>
     ensures { OnOk result ((v : ℕ) → get nat_eq places.new v
         ≡ option_or (get nat_eq places.old v) (if option_map_or (λ p. p == v) phandle false then Some at else None)) }
@@ -56,7 +56,7 @@ fn note(places: &mut HashMap<u32, usize>, phandle: Option<u32>, at: usize) -> Re
     Ok(())
 }
 
-/// The node of each phandle.
+// The node of each phandle.
 fn nodes_by_phandle(alloc: Global, nodes: &Nodes<'_>) -> Result<HashMap<u32, usize>, NoMemory>
     ensures { IfOk result (λ places. (v : ℕ) → get nat_eq places v ≡ node_of_phandle nodes.now v) }
 {
@@ -67,7 +67,7 @@ fn nodes_by_phandle(alloc: Global, nodes: &Nodes<'_>) -> Result<HashMap<u32, usi
     Ok(places)
 }
 
-/// A provider by the number of cells behind a reference to it.
+// A provider by the number of cells behind a reference to it.
 fn source_by(node: usize, cells: Option<u32>) -> Reference
     ensures { result ≡ source_by node cells }
 {
@@ -78,7 +78,7 @@ fn source_by(node: usize, cells: Option<u32>) -> Reference
     }
 }
 
-/// A node as a provider that a specifier may refer to.
+// A node as a provider that a specifier may refer to.
 fn source_at(nodes: &Nodes<'_>, passed: &[bool], at: usize) -> Reference
     requires within { at < length nodes.now }
     requires known { passed.now ≡ listed (is_passed nodes.now) (length nodes.now) }
@@ -94,7 +94,7 @@ fn source_at(nodes: &Nodes<'_>, passed: &[bool], at: usize) -> Reference
     source_by(at, clock_cells(node))
 }
 
-/// The element of a place, or no provider behind the end.
+// The element of a place, or no provider behind the end.
 fn source_in(sources: &[Reference], at: usize) -> Reference
     ensures { result ≡ unwrap_or (slice_get sources.now at) Reference.Lacking }
 {
@@ -104,7 +104,7 @@ fn source_in(sources: &[Reference], at: usize) -> Reference
     }
 }
 
-/// Each node as a provider that a specifier may refer to.
+// Each node as a provider that a specifier may refer to.
 fn sources(alloc: Global, nodes: &Nodes<'_>, passed: &[bool]) -> Result<Vec<Reference>, NoMemory>
     requires { passed.now ≡ listed (is_passed nodes.now) (length nodes.now) }
     ensures { IfOk result (λ sources. sources.items ≡ listed (source_at nodes.now) (length nodes.now)) }
@@ -165,7 +165,7 @@ impl<'a> Chart<'a> {
         self.passed[at]
     }
 
-    /// A node as a provider that a specifier may refer to.
+    // A node as a provider that a specifier may refer to.
     fn source(&self, at: usize) -> Reference
         ensures { result ≡ source_at self.now at }
     {

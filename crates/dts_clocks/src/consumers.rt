@@ -31,7 +31,7 @@ pub(crate) fn clocks_in(
     Ok(clocks)
 }
 
-/// The k-th string, else k in decimal.
+// The k-th string, else k in decimal.
 fn name_at(alloc: Global, texts: &[&str], k: usize) -> Result<String, NoMemory>
     ensures { IfOk result (λ name. string_bytes name ≡ name_at (map (λ t. t.now) texts.now) k) }
 {
@@ -44,7 +44,7 @@ fn name_at(alloc: Global, texts: &[&str], k: usize) -> Result<String, NoMemory>
     }
 }
 
-/// The clocks with their names.
+// The clocks with their names.
 fn named(
     alloc: Global,
     texts: &[&str],
@@ -63,7 +63,7 @@ fn named(
     Ok(names)
 }
 
-/// A consumer's names. None where a specifier is bad, or names are left over.
+// A consumer's names. None where a specifier is bad, or names are left over.
 #[tactic(auto, unfolding(crate::specs::Consumers::names_of))]
 fn names_of(
     alloc: Global,

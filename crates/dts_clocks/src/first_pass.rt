@@ -25,7 +25,7 @@ use dts_bindings::{Binding, BindingFault, BoundClock, Wants, binding, is_formed,
 use dts_tree::{Cell, DtsNode};
 use std::alloc::Global;
 
-/// Whether the first specifier can be read, and cells are left over.
+// Whether the first specifier can be read, and cells are left over.
 fn leaves_over(chart: &Chart<'_>, cells: &[Cell]) -> bool
     ensures { result ≡ leaves_over chart.now cells.now }
 {
@@ -40,7 +40,7 @@ fn leaves_over(chart: &Chart<'_>, cells: &[Cell]) -> bool
     }
 }
 
-/// Whether a number stands first, and cells are left over.
+// Whether a number stands first, and cells are left over.
 fn leaves_over_identifier(cells: &[Cell]) -> bool
     ensures { result ≡ option_map_or are_there (behind_identifier cells.now) false }
 {
@@ -51,7 +51,7 @@ fn leaves_over_identifier(cells: &[Cell]) -> bool
     }
 }
 
-/// Whether one specifier is wanted.
+// Whether one specifier is wanted.
 fn wants_one(wants: Wants) -> bool
     ensures { result ≡ wants_one wants }
 {
@@ -62,7 +62,7 @@ fn wants_one(wants: Wants) -> bool
     }
 }
 
-/// Whether the clocks have names that clocks can have.
+// Whether the clocks have names that clocks can have.
 fn are_named(clocks: &[BoundClock]) -> bool
     ensures { result ≡ list_all (λ c. is_clock_name (string_bytes c.name)) clocks.now }
 {
@@ -71,7 +71,7 @@ fn are_named(clocks: &[BoundClock]) -> bool
         .all(|clock| is_clock_name(clock.name.as_str()))
 }
 
-/// Takes the clocks' names. False where one of them is taken.
+// Takes the clocks' names. False where one of them is taken.
 fn take_names(
     alloc: Global,
     taken: &mut TakenNames,
@@ -89,7 +89,7 @@ fn take_names(
     Ok(true)
 }
 
-/// The fault of a node by itself, with the node's line.
+// The fault of a node by itself, with the node's line.
 fn own_fault(line: u32, fault: BindingFault) -> DtsFault
     ensures { result ≡ own_fault line fault }
 {
@@ -101,14 +101,14 @@ fn own_fault(line: u32, fault: BindingFault) -> DtsFault
     }
 }
 
-/// Whether a binding wants one specifier, and more stands there.
+// Whether a binding wants one specifier, and more stands there.
 fn has_too_many(chart: &Chart<'_>, binding: &Binding) -> bool
     ensures { result ≡ (wants_one binding.now.wants && leaves_over chart.now binding.now.inputs.items) }
 {
     wants_one(binding.wants) && leaves_over(chart, &binding.inputs)
 }
 
-/// Judges a binding, and takes the names of its clocks.
+// Judges a binding, and takes the names of its clocks.
 fn judge(
     alloc: Global,
     chart: &Chart<'_>,
@@ -132,7 +132,7 @@ fn judge(
     Ok(())
 }
 
-/// The binding of a provider.
+// The binding of a provider.
 fn provider(
     alloc: Global,
     chart: &Chart<'_>,
@@ -153,7 +153,7 @@ fn provider(
     }
 }
 
-/// The binding of a node that isn't passed over, where it is a provider.
+// The binding of a node that isn't passed over, where it is a provider.
 #[tactic(auto, unfolding(crate::specs::FirstPass::node_fault, crate::specs::Clocks::own_binding))]
 fn look_at(
     alloc: Global,
@@ -176,7 +176,7 @@ fn look_at(
     Ok(None)
 }
 
-/// The binding of the node of a place, where it is a provider and isn't passed over.
+// The binding of the node of a place, where it is a provider and isn't passed over.
 fn look(
     alloc: Global,
     chart: &Chart<'_>,

@@ -29,7 +29,7 @@ use std::alloc::Global;
 /// The most clocks that have numbers.
 const MOST_CLOCKS: usize = 4_294_967_294;
 
-/// A clock more, with a name that no clock has.
+// A clock more, with a name that no clock has.
 fn push_clock(
     alloc: Global,
     desc: &mut Desc,
@@ -58,7 +58,7 @@ fn push_clock(
     }
 }
 
-/// The clocks of a binding more. None of them has the name of a clock before.
+// The clocks of a binding more. None of them has the name of a clock before.
 fn push_clocks(
     alloc: Global,
     desc: &mut Desc,
@@ -75,7 +75,7 @@ fn push_clocks(
     Ok(())
 }
 
-/// The line of each of these clocks more.
+// The line of each of these clocks more.
 fn push_lines(lines: &mut Vec<u32>, line: u32, clocks: &[BoundClock]) -> Result<(), NoMemory>
     ensures { OnOk result (lines.new.items ≡ lines.old.items ++ map (λ c. line) (map seen_clock clocks.now)) }
 {
@@ -85,7 +85,7 @@ fn push_lines(lines: &mut Vec<u32>, line: u32, clocks: &[BoundClock]) -> Result<
     Ok(())
 }
 
-/// The clocks of a node and their lines more.
+// The clocks of a node and their lines more.
 fn push_bound(
     alloc: Global,
     desc: &mut Desc,
@@ -106,7 +106,7 @@ fn push_bound(
     Ok(())
 }
 
-/// What a node says more.
+// What a node says more.
 fn add(
     alloc: Global,
     loaded: &mut Loaded,
@@ -140,7 +140,7 @@ fn add(
     Ok(())
 }
 
-/// The entries so far, with those of a node.
+// The entries so far, with those of a node.
 fn entries_with(before: usize, lists: &Lists) -> usize
     requires { before + entries (seen_lists lists.now) ≤ 4096 }
     ensures { result ≡ before + entries (seen_lists lists.now) }
@@ -148,7 +148,7 @@ fn entries_with(before: usize, lists: &Lists) -> usize
     before + lists.parents.len() + lists.rates.len()
 }
 
-/// What the node of a place says more. Gives the entries up to it.
+// What the node of a place says more. Gives the entries up to it.
 fn add_at(
     alloc: Global,
     chart: &Named<'_>,

@@ -24,7 +24,7 @@ pub(crate) struct Head {
     pub(crate) identifier: u32,
 }
 
-/// The heads of these clocks of a node, behind those so far.
+// The heads of these clocks of a node, behind those so far.
 fn push_heads(heads: &mut Vec<Head>, node: usize, clocks: &[BoundClock]) -> Result<(), NoMemory>
     ensures { OnOk result (heads.new.items ≡ heads.old.items ++ map (head_by node) clocks.now) }
 {
@@ -37,7 +37,7 @@ fn push_heads(heads: &mut Vec<Head>, node: usize, clocks: &[BoundClock]) -> Resu
     Ok(())
 }
 
-/// The heads of the clocks of a node's binding, if it has one, behind those so far.
+// The heads of the clocks of a node's binding, if it has one, behind those so far.
 fn push_bound(heads: &mut Vec<Head>, node: usize, binding: &Option<Binding>) -> Result<(), NoMemory>
     ensures { OnOk result (heads.new.items ≡ heads.old.items ++ heads_by node binding.now) }
 {
@@ -47,7 +47,7 @@ fn push_bound(heads: &mut Vec<Head>, node: usize, binding: &Option<Binding>) -> 
     }
 }
 
-/// The heads of all clocks.
+// The heads of all clocks.
 fn heads(
     alloc: Global,
     chart: &Chart<'_>,
@@ -63,7 +63,7 @@ fn heads(
     Ok(heads)
 }
 
-/// Notes what a specifier names, where no earlier clock is named by it.
+// Notes what a specifier names, where no earlier clock is named by it.
 fn note(
     numbers: &mut HashMap<Specifier, ClockId>,
     specifier: Specifier,
@@ -79,7 +79,7 @@ fn note(
     Ok(())
 }
 
-/// Notes the two specifiers that may name a clock.
+// Notes the two specifiers that may name a clock.
 fn note_clock(
     numbers: &mut HashMap<Specifier, ClockId>,
     head: Head,
@@ -100,7 +100,7 @@ fn note_clock(
     note(numbers, identified, clock)
 }
 
-/// The clock of each specifier that names one.
+// The clock of each specifier that names one.
 fn numbers(alloc: Global, heads: &[Head]) -> Result<HashMap<Specifier, ClockId>, NoMemory>
     ensures { IfOk result (λ numbers. (s : Specifier) → get same_specifier numbers s ≡ option_map clock_id (position (names_head s) heads.now)) }
 {

@@ -34,7 +34,7 @@ pub(crate) struct Links {
     pub(crate) lists: Lists,
 }
 
-/// The clocks, where none is a null.
+// The clocks, where none is a null.
 fn all_there(alloc: Global, clocks: &[Option<ClockId>]) -> Result<Option<Vec<ClockId>>, NoMemory>
     ensures { IfOk result (λ there. option_map (λ v. v.items) there ≡ all_there clocks.now) }
 {
@@ -48,7 +48,7 @@ fn all_there(alloc: Global, clocks: &[Option<ClockId>]) -> Result<Option<Vec<Clo
     Ok(Some(there))
 }
 
-/// Whether a clock of this kind can have so many possible parents.
+// Whether a clock of this kind can have so many possible parents.
 fn can_have_parents(kind: Kind, parents: usize) -> bool
     ensures { result ≡ can_have_parents kind parents }
 {
@@ -62,7 +62,7 @@ fn can_have_parents(kind: Kind, parents: usize) -> bool
     }
 }
 
-/// Whether each clock can have so many possible parents.
+// Whether each clock can have so many possible parents.
 fn can_each_have(clocks: &[BoundClock], parents: usize) -> bool
     ensures { result ≡ list_all (λ c. can_have_parents c.kind parents) clocks.now }
 {
@@ -71,7 +71,7 @@ fn can_each_have(clocks: &[BoundClock], parents: usize) -> bool
         .all(|clock| can_have_parents(clock.kind, parents))
 }
 
-/// The possible parents of a provider's clocks.
+// The possible parents of a provider's clocks.
 #[tactic(auto, unfolding(crate::specs::SecondPass::parents_of))]
 fn parents_of(
     alloc: Global,
@@ -92,7 +92,7 @@ fn parents_of(
     Ok(Some(parents))
 }
 
-/// The possible parents of the clocks of a node; none where it has no binding.
+// The possible parents of the clocks of a node; none where it has no binding.
 fn parents_by(
     alloc: Global,
     chart: &Named<'_>,
@@ -107,7 +107,7 @@ fn parents_by(
     }
 }
 
-/// What the specifiers of a node say. None where one of them is bad.
+// What the specifiers of a node say. None where one of them is bad.
 fn links_of(
     alloc: Global,
     chart: &Named<'_>,
@@ -135,7 +135,7 @@ fn links_of(
     }))
 }
 
-/// Whether the entries so far and those of the lists are too many.
+// Whether the entries so far and those of the lists are too many.
 fn are_too_many(before: usize, lists: &Lists) -> bool
     requires { before ≤ 4096 }
     ensures { result ≡ nat_lt most_entries (before + entries (seen_lists lists.now)) }
@@ -151,7 +151,7 @@ fn are_too_many(before: usize, lists: &Lists) -> bool
     before + parents + rates > MOST_ENTRIES
 }
 
-/// Whether the assigned clocks of a node are bad, by the entries so far.
+// Whether the assigned clocks of a node are bad, by the entries so far.
 fn is_bad(before: usize, node: &DtsNode, lists: &Lists) -> bool
     requires { before ≤ 4096 }
     ensures { result ≡ (is_too_long (seen_lists lists.now) || lacks_clocks (seen_node node.now) || nat_lt most_entries (before + entries (seen_lists lists.now))) }

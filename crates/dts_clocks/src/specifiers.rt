@@ -41,7 +41,7 @@ impl<'a> Model for Named<'a> {
     ghost invariant = { λ named. (s : Specifier) → get same_specifier named.numbers s ≡ clock_of named.chart s };
 }
 
-/// A specifier whose cells end before a place, where it names a clock.
+// A specifier whose cells end before a place, where it names a clock.
 fn naming(clock: Option<ClockId>, behind: usize) -> Option<Front>
     ensures { result ≡ option_map (λ c. record { clock = Some c; behind = behind }) clock }
 {
@@ -99,21 +99,21 @@ impl<'a> Named<'a> {
         self.chart.is_passed(at)
     }
 
-    /// What a cell refers to.
+    // What a cell refers to.
     fn reference(&self, cell: Cell) -> Reference
         ensures { result ≡ reference self.now cell }
     {
         self.chart.reference(cell)
     }
 
-    /// The clock that a specifier names.
+    // The clock that a specifier names.
     fn clock(&self, specifier: Specifier) -> Option<ClockId>
         ensures { result ≡ clock_of self.now specifier }
     {
         self.numbers.get(&specifier).copied()
     }
 
-    /// The clock of a provider that the cell of a place identifies.
+    // The clock of a provider that the cell of a place identifies.
     fn identified(&self, node: usize, cells: &[Cell], at: usize) -> Option<ClockId>
         ensures { result ≡ option_and_then (identified self.now node) (slice_get cells.now at) }
     {
@@ -127,7 +127,7 @@ impl<'a> Named<'a> {
         }
     }
 
-    /// The specifier that begins at a place. None where it can't be read, or names no clock.
+    // The specifier that begins at a place. None where it can't be read, or names no clock.
     fn front(&self, cells: &[Cell], at: usize) -> Option<Front>
         requires { at < length cells.now }
         ensures named { option_and_then (λ front. option_map (λ more. front.clock ∷ more) (clocks_named self.now (drop front.behind cells.now))) result

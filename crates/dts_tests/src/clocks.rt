@@ -8,7 +8,7 @@ use std::alloc::Global;
 use std::process::Abort;
 use std::test::Fail;
 
-/// What a source says of clocks; `None` where it is no tree.
+// What a source says of clocks; `None` where it is no tree.
 fn read(alloc: Global, source: &str) -> Option<Result<Loaded, DtsFault>> {
     match tree_of(alloc, source) {
         Some(Ok(tree)) => Some(read_desc(alloc, &tree)),
@@ -61,7 +61,7 @@ clk { compatible = \"bank,gates-clock\"; #clock-cells = <1>; clocks = <&osc>; ba
 };
 ";
 
-/// Whether a tree is read, and its description is valid for a bank of so many words.
+// Whether a tree is read, and its description is valid for a bank of so many words.
 fn is_valid(alloc: Global, tree: &DtsTree, words: u32) -> bool {
     match read_desc(alloc, tree) {
         Ok(loaded) => loaded.desc.check(alloc, words).is_ok(),
@@ -81,7 +81,7 @@ fn a_description_that_is_read_can_be_checked(rt: HostRuntime) {
     }
 }
 
-/// A board with these nodes beside its oscillator `o` on line 1 is refused for this fault.
+// A board with these nodes beside its oscillator `o` on line 1 is refused for this fault.
 fn are_refused(rt: &impl Abort, alloc: Global, rows: &[(&str, DtsFault)]) -> Result<(), Fail> {
     for (nodes, wanted) in rows {
         let source = format!(in alloc;

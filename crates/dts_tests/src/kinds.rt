@@ -29,7 +29,7 @@ const fn optional(good: &'static str, bad: &'static str) -> Case {
     }
 }
 
-/// The head and the good properties, but this one, for which another stands.
+// The head and the good properties, but this one, for which another stands.
 fn changed(
     alloc: Global,
     head: &str,
@@ -44,8 +44,8 @@ fn changed(
     Ok(text)
 }
 
-/// All properties together say what is wanted; each one out of its form is refused, and each one
-/// left out where it has to be there.
+// All properties together say what is wanted; each one out of its form is refused, and each one
+// left out where it has to be there.
 fn judges(
     rt: &impl Abort,
     alloc: Global,

@@ -11,7 +11,7 @@ use std::alloc::Global;
 use std::process::Abort;
 use std::test::Fail;
 
-/// The node `clk@10` of these properties.
+// The node `clk@10` of these properties.
 fn node(alloc: Global, properties: &str) -> Result<Option<DtsNode>, Fail> {
     let source = format!(in alloc; "/dts-v1/;/{{ l: clk@10 {{ {properties} }}; }};")?;
     match tree_of(alloc, source.as_str()) {
@@ -89,7 +89,7 @@ fn a_node_of_no_known_kind_comes_before_wrong_cells_and_these_before_a_missing_p
     )
 }
 
-/// Nodes of these properties are formed or not, are okay or not, and are consumers or not.
+// Nodes of these properties are formed or not, are okay or not, and are consumers or not.
 fn judges(rt: &impl Abort, alloc: Global, rows: &[(&str, bool, bool, bool)]) -> Result<(), Fail> {
     for (properties, formed, okay, consumer) in rows {
         match node(alloc, properties)? {

@@ -8,7 +8,7 @@ use std::alloc::Global;
 use std::process::Abort;
 use std::test::Fail;
 
-/// Each source has no tokens, for this reason.
+// Each source has no tokens, for this reason.
 fn are_uncut(rt: &impl Abort, alloc: Global, rows: &[(&str, TokenFault)]) {
     for (source, wanted) in rows {
         if source.len() <= MOST_BYTES {
@@ -20,7 +20,7 @@ fn are_uncut(rt: &impl Abort, alloc: Global, rows: &[(&str, TokenFault)]) {
     }
 }
 
-/// The source has tokens and no tree, for this reason.
+// The source has tokens and no tree, for this reason.
 fn is_refused(rt: &impl Abort, alloc: Global, source: &str, wanted: TreeFault) {
     match tree_of(alloc, source) {
         Some(Ok(_)) => assert!(rt; false, "accepted: {source}"),
@@ -29,7 +29,7 @@ fn is_refused(rt: &impl Abort, alloc: Global, source: &str, wanted: TreeFault) {
     }
 }
 
-/// Each source has tokens and no tree, for this reason.
+// Each source has tokens and no tree, for this reason.
 fn are_refused(rt: &impl Abort, alloc: Global, rows: &[(&str, TreeFault)]) {
     for (source, wanted) in rows {
         is_refused(rt, alloc, source, *wanted);
@@ -159,7 +159,7 @@ fn what_stands_twice_or_nowhere_is_refused_at_its_line(rt: HostRuntime) {
     );
 }
 
-/// So many nodes nested in a root, one on each line, and this in the innermost.
+// So many nodes nested in a root, one on each line, and this in the innermost.
 fn nested(alloc: Global, depth: u32, inside: &str) -> Result<String, Fail> {
     let mut source = String::from_str(alloc, "/dts-v1/;/{\n")?;
     for _ in 0..depth {

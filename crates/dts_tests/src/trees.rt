@@ -18,7 +18,7 @@ pub(crate) fn tree_of(alloc: Global, source: &str) -> Option<Result<DtsTree, Tre
     }
 }
 
-/// A line for each node and, below it, one for each of its properties.
+// A line for each node and, below it, one for each of its properties.
 fn outline(alloc: Global, tree: &DtsTree) -> Result<String, Fail> {
     let mut text = String::new(alloc);
     for node in &tree.nodes {

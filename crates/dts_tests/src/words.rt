@@ -8,7 +8,7 @@ use std::alloc::Global;
 use std::process::Abort;
 use std::test::Fail;
 
-/// A line for each word: the line of the source on which it begins, and its text.
+// A line for each word: the line of the source on which it begins, and its text.
 fn outline(rt: &impl Abort, alloc: Global, source: &str, found: &[Token]) -> Result<String, Fail> {
     let mut text = String::new(alloc);
     for token in found {
@@ -26,7 +26,7 @@ fn outline(rt: &impl Abort, alloc: Global, source: &str, found: &[Token]) -> Res
     Ok(text)
 }
 
-/// Each source has these words.
+// Each source has these words.
 fn read(rt: &impl Abort, alloc: Global, rows: &[(&str, &str)]) -> Result<(), Fail> {
     for (source, wanted) in rows {
         if source.len() <= MOST_BYTES {

@@ -13,7 +13,7 @@ struct Spelling<'a> {
     digits: &'a [u8],
 }
 
-/// The base that the beginning of a word tells, and the digits behind it.
+// The base that the beginning of a word tells, and the digits behind it.
 #[tactic(auto, unfolding(crate::specs::Numbers::base_of, crate::specs::Numbers::digits_of))]
 fn spelled(word: &[u8]) -> Spelling<'_>
     ensures base { result.base ≡ base_of word.now }
@@ -33,7 +33,7 @@ fn spelled(word: &[u8]) -> Spelling<'_>
     }
 }
 
-/// Each is a digit in the base.
+// Each is a digit in the base.
 fn all_digits(base: u32, digits: &[u8]) -> bool
     requires least { 2 ≤ base }
     requires most { base ≤ 16 }
@@ -51,8 +51,8 @@ pub fn is_number(word: &[u8]) -> bool
     !spelling.digits.is_empty() && all_digits(spelling.base, spelling.digits)
 }
 
-/// The number that digits write, where each is a digit of the base and the number is at most
-/// `most`.
+// The number that digits write, where each is a digit of the base and the number is at most
+// `most`.
 fn value_up_to(most: u64, base: u32, digits: &[u8]) -> Option<u64>
     requires least { 2 ≤ base }
     requires most { base ≤ 16 }

@@ -18,7 +18,7 @@ pub(crate) enum Piece {
     Wrong(Flaw),
 }
 
-/// What stands where a slash is, by the text behind the slash.
+// What stands where a slash is, by the text behind the slash.
 #[tactic(auto, unfolding(crate::specs::Pieces::slash_piece))]
 fn slash_piece(rest: &[u8]) -> Piece
     ensures piece { result ≡ slash_piece rest.now }
@@ -49,7 +49,7 @@ fn slash_piece(rest: &[u8]) -> Piece
     }
 }
 
-/// What stands where a quote is, by the text behind the quote.
+// What stands where a quote is, by the text behind the quote.
 #[tactic(auto, unfolding(crate::specs::Pieces::string_piece))]
 fn string_piece(rest: &[u8]) -> Piece
     ensures piece { result ≡ string_piece rest.now }

@@ -7,7 +7,7 @@ ghost use Rattle.dts_tokens.specs.Pieces.{word_len, label_len, line_len, comment
 
 use crate::characters::{is_label_character, is_word_character};
 
-/// How many characters of words stand at the front.
+// How many characters of words stand at the front.
 fn run_len(text: &[u8]) -> usize
     ensures run { result ≡ prefix_len is_word_character text.now }
     ensures within { result ≤ length text.now }
@@ -61,7 +61,7 @@ pub(crate) fn line_len(text: &[u8]) -> usize
     text.len()
 }
 
-/// The text begins with `*/`.
+// The text begins with `*/`.
 fn closes(text: &[u8]) -> bool
     ensures { result ≡ starts_with nat_eq text.now (codes "*/") }
 {

@@ -5,7 +5,7 @@ ghost use Rattle.std.specs.Str.{bytes_eq};
 
 use crate::number::is_above;
 
-/// What one more word makes of whether an opening word is without its closing word.
+// What one more word makes of whether an opening word is without its closing word.
 fn is_still_open(opening: &[u8], closing: &[u8], word: &[u8], was: bool) -> bool
     ensures { result ≡ (bytes_eq word.now opening.now || (not (bytes_eq word.now closing.now) && was)) }
 {
@@ -43,7 +43,7 @@ impl Scope {
         self.in_reserve = is_still_open(b"/memreserve/", b";", word, self.in_reserve);
     }
 
-    /// The most that a number may be here.
+    // The most that a number may be here.
     #[tactic(auto, unfolding(crate::specs::Limits::most_behind))]
     fn most(&self) -> Option<u64>
         ensures { (words : List (List ℕ)) → IsScope words self.now → result ≡ most_behind words }

@@ -16,7 +16,7 @@ use crate::tree::{Cell, DtsNode, DtsProperty, DtsValue};
 use clk_io::push_some;
 use std::alloc::Global;
 
-/// The elements from `from` to before `to`, as far as there are any.
+// The elements from `from` to before `to`, as far as there are any.
 fn part<T>(rows: &[T], from: usize, to: usize) -> &[T]
     ensures { result.now ≡ slice_range rows.now from to }
 {
@@ -25,7 +25,7 @@ fn part<T>(rows: &[T], from: usize, to: usize) -> &[T]
     &rows[from..to]
 }
 
-/// A text of its own.
+// A text of its own.
 fn owned(alloc: Global, bytes: &[u8]) -> Result<String, TreeFault>
     requires { IsUtf8 bytes.now }
     ensures text { IfOk result (λ text. string_bytes text ≡ bytes.now) }
@@ -37,7 +37,7 @@ fn owned(alloc: Global, bytes: &[u8]) -> Result<String, TreeFault>
     }
 }
 
-/// The node that a reference means.
+// The node that a reference means.
 fn target(targets: &[usize], place: usize) -> Option<u32>
     requires { All IsNumber targets.now }
     ensures { result ≡ slice_get targets.now place }
@@ -48,7 +48,7 @@ fn target(targets: &[usize], place: usize) -> Option<u32>
     }
 }
 
-/// The byte that an item is.
+// The byte that an item is.
 fn byte(item: Item) -> Option<u8>
     ensures { result ≡ byte_in item }
 {
@@ -58,7 +58,7 @@ fn byte(item: Item) -> Option<u8>
     }
 }
 
-/// What a cell holds.
+// What a cell holds.
 fn cell(targets: &[usize], item: Item) -> Option<Cell>
     requires { All IsNumber targets.now }
     ensures { result ≡ cell_in targets.now item }
@@ -73,7 +73,7 @@ fn cell(targets: &[usize], item: Item) -> Option<Cell>
     }
 }
 
-/// The cells of these items.
+// The cells of these items.
 fn cells(alloc: Global, targets: &[usize], items: &[Item]) -> Result<Vec<Cell>, TreeFault>
     requires { All IsNumber targets.now }
     ensures cells { IfOk result (λ cells. cells.items ≡ filter_map (cell_in targets.now) items.now) }
@@ -86,7 +86,7 @@ fn cells(alloc: Global, targets: &[usize], items: &[Item]) -> Result<Vec<Cell>, 
     Ok(found)
 }
 
-/// The bytes of these items.
+// The bytes of these items.
 fn bytes(alloc: Global, items: &[Item]) -> Result<Vec<u8>, TreeFault>
     ensures bytes { IfOk result (λ bytes. bytes.items ≡ filter_map byte_in items.now) }
     ensures err { IfErr result (λ e. e ≡ TreeFault.NoMemory) }
@@ -98,7 +98,7 @@ fn bytes(alloc: Global, items: &[Item]) -> Result<Vec<u8>, TreeFault>
     Ok(found)
 }
 
-/// A value of a property.
+// A value of a property.
 #[tactic(auto, unfolding(crate::specs::Tree::value_in))]
 fn value(
     alloc: Global,
@@ -137,7 +137,7 @@ fn value(
     }
 }
 
-/// The values of these rows.
+// The values of these rows.
 fn values(
     alloc: Global,
     text: &str,
@@ -158,7 +158,7 @@ fn values(
     Ok(found)
 }
 
-/// A property with its values.
+// A property with its values.
 #[tactic(auto, unfolding(crate::specs::Tree::property_in))]
 fn property(
     alloc: Global,
@@ -183,7 +183,7 @@ fn property(
     })
 }
 
-/// A node without its properties.
+// A node without its properties.
 fn bare_node(alloc: Global, text: &str, row: NodeRow) -> Result<DtsNode, TreeFault>
     requires { HoldsNode text.now row }
     ensures node { IfOk result (λ node. (shows : PropertyRow → SeenProperty) (k : ℕ) → seen_node node ≡ node_in text.now shows [] k row) }
@@ -206,7 +206,7 @@ fn bare_node(alloc: Global, text: &str, row: NodeRow) -> Result<DtsNode, TreeFau
     }
 }
 
-/// The nodes without their properties.
+// The nodes without their properties.
 fn bare_nodes(alloc: Global, text: &str, rows: &[NodeRow]) -> Result<Vec<DtsNode>, TreeFault>
     requires { All (HoldsNode text.now) rows.now }
     ensures nodes { IfOk result (λ nodes. (shows : PropertyRow → SeenProperty) → map seen_node nodes.items ≡ nodes_in text.now shows [] 0 rows.now) }
@@ -220,7 +220,7 @@ fn bare_nodes(alloc: Global, text: &str, rows: &[NodeRow]) -> Result<Vec<DtsNode
     Ok(nodes)
 }
 
-/// A property more at the node of this place.
+// A property more at the node of this place.
 fn add(nodes: &mut Vec<DtsNode>, place: usize, property: DtsProperty) -> Result<(), TreeFault>
     ensures added { OnOk result (map seen_node nodes.new.items ≡ add_at place (seen_property property) (map seen_node nodes.old.items)) }
     ensures err { IfErr result (λ e. e ≡ TreeFault.NoMemory) }
@@ -231,7 +231,7 @@ fn add(nodes: &mut Vec<DtsNode>, place: usize, property: DtsProperty) -> Result<
     Ok(())
 }
 
-/// These properties, each at its node.
+// These properties, each at its node.
 fn fill(
     alloc: Global,
     text: &str,

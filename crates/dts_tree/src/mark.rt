@@ -37,7 +37,7 @@ pub(crate) enum Mark {
     Stray,
 }
 
-/// What a token of one character is.
+// What a token of one character is.
 fn sign_mark(byte: u8) -> Mark
     ensures { result ≡ sign_mark byte }
 {
@@ -76,7 +76,7 @@ fn all_hexadecimal(word: &[u8]) -> bool
     word.iter().all(|byte| byte.is_ascii_hexdigit())
 }
 
-/// Letters, digits and `_`, one at least, and no digit first.
+// Letters, digits and `_`, one at least, and no digit first.
 #[tactic(auto, unfolding(crate::specs::Marks::is_label))]
 fn is_label(word: &[u8]) -> bool
     ensures { result ≡ is_label word.now }
@@ -87,7 +87,7 @@ fn is_label(word: &[u8]) -> bool
     }
 }
 
-/// What a token of more than one character is.
+// What a token of more than one character is.
 #[tactic(auto, unfolding(crate::specs::Marks::long_mark))]
 fn long_mark(word: &[u8]) -> Mark
     ensures { result ≡ long_mark word.now }
@@ -137,7 +137,7 @@ pub(crate) fn is_plain_name(word: &[u8]) -> bool
     !word.is_empty() && all_of_name(word)
 }
 
-/// Where the first `@` stands.
+// Where the first `@` stands.
 fn at_sign(word: &[u8]) -> Option<usize>
     ensures { result ≡ position (λ b. b == 64) word.now }
 {

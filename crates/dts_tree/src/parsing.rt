@@ -18,7 +18,7 @@ use clk_io::MOST_BYTES;
 use dts_tokens::Token;
 use std::alloc::Global;
 
-/// The tree that was read.
+// The tree that was read.
 fn tree(alloc: Global, text: &str, reader: &Reader<'_>) -> Result<DtsTree, TreeFault>
     requires { Holds text.now (state_of reader.now).tables }
     ensures tree { IfOk result (λ tree. shown text.now (state_of reader.now) ≡ Ok (seen tree)) }

@@ -48,7 +48,7 @@ pub(crate) fn text_of<'a>(text: &'a str, token: Token) -> &'a [u8]
     &bytes[from..to]
 }
 
-/// The label of a token `name:`.
+// The label of a token `name:`.
 fn label_of(token: Token) -> Token
     ensures { result ≡ label_of token }
 {
@@ -71,7 +71,7 @@ pub(crate) fn target_of(token: Token) -> Token
     }
 }
 
-/// Labels that stood before a node are its own.
+// Labels that stood before a node are its own.
 fn own(labels: &mut Vec<LabelRow>, pending: &[Token], node: usize) -> Result<(), TreeFault>
     ensures labels { OnOk result (labels.new.items ≡ labels.old.items ++ map (owned_by node) pending.now) }
     ensures err { IfErr result (λ e. e ≡ TreeFault.NoMemory) }

@@ -13,7 +13,7 @@ use dts_tokens::Token;
 use indexmap::IndexSet;
 use std::alloc::Global;
 
-/// A reader that has read nothing.
+// A reader that has read nothing.
 fn new_reader<'a>(alloc: Global) -> Reader<'a>
     ensures { state_of result ≡ opening }
 {
@@ -35,7 +35,7 @@ fn new_reader<'a>(alloc: Global) -> Reader<'a>
     }
 }
 
-/// Each token does what it does.
+// Each token does what it does.
 fn run<'a>(reader: &mut Reader<'a>, text: &'a str, tokens: &[Token]) -> Result<(), TreeFault>
     requires { All (λ t. t.from < t.to) tokens.now }
     ensures { Does reader.new result (run text.now tokens.now (state_of reader.old)) }
@@ -49,7 +49,7 @@ fn run<'a>(reader: &mut Reader<'a>, text: &'a str, tokens: &[Token]) -> Result<(
     Ok(())
 }
 
-/// The line of the last token.
+// The line of the last token.
 fn last_line(tokens: &[Token]) -> u32
     ensures { result ≡ last_line 1 tokens.now }
 {
@@ -60,7 +60,7 @@ fn last_line(tokens: &[Token]) -> u32
     line
 }
 
-/// The source may end behind the root alone.
+// The source may end behind the root alone.
 fn is_end(phase: Phase) -> bool
     ensures { result ≡ is_end phase }
 {

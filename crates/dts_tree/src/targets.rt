@@ -17,7 +17,7 @@ use dts_tokens::Token;
 use std::alloc::Global;
 use std::collections::HashMap;
 
-/// The node of each label.
+// The node of each label.
 fn nodes_of_labels<'a>(
     alloc: Global,
     text: &'a str,

@@ -4,7 +4,7 @@ use crate::running::{UART, run};
 use clk_cli::USAGE_LINE;
 use std::test::Fail;
 
-/// Whether the bytes are refused with this line.
+// Whether the bytes are refused with this line.
 fn is_refused(rt: &HostRuntime, bytes: &[u8], wanted: &str) -> Result<bool, Fail> {
     let (status, out) = run(rt, "sim", bytes, &[], &[])?;
     Ok(status == 2 && out.written() == wanted.as_bytes())

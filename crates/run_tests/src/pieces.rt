@@ -4,7 +4,7 @@ use crate::running::run_over;
 use clk_io::PIECE_BYTES;
 use std::test::Fail;
 
-/// A bundle of so many fixed clocks, each of which boot answers by a line.
+// A bundle of so many fixed clocks, each of which boot answers by a line.
 fn bundle_of(rt: &HostRuntime, clocks: u32) -> Result<String, Fail> {
     let mut text = String::from_str(rt.alloc(), "%bundle 1\n%clocks\n")?;
     for clock in 0..clocks {

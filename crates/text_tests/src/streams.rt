@@ -10,7 +10,7 @@ use std::io::{ErrorKind, Read, Write};
 use std::process::Abort;
 use std::test::Fail;
 
-/// Reads a source of these bytes, whose calls with the listed numbers fail, and checks what came.
+// Reads a source of these bytes, whose calls with the listed numbers fail, and checks what came.
 fn check_read<R: Abort + AllocGlobal>(
     rt: &R,
     fail_at: &[u32],
@@ -47,7 +47,7 @@ fn refuses_one_byte_more_than_the_most(rt: HostRuntime) -> Result<(), Fail> {
     Ok(())
 }
 
-/// Writes five bytes into a sink, and checks the answer and what the sink then has.
+// Writes five bytes into a sink, and checks the answer and what the sink then has.
 fn check_write<R: Abort + AllocGlobal>(
     rt: &R,
     room: usize,
@@ -78,7 +78,7 @@ struct Broken {
 }
 
 impl Broken {
-    /// What the next call ends in, where it fails.
+    // What the next call ends in, where it fails.
     fn call(&mut self) -> io::Result<()> {
         self.calls = self.calls.saturating_add(1);
         match self.calls {

@@ -9,7 +9,7 @@ use crate::mark::are_bytes;
 use crate::rows::{Item, Numeral};
 use dts_tokens::{Token, number_up_to};
 
-/// The value of a hexadecimal digit.
+// The value of a hexadecimal digit.
 fn hex_value(byte: u8) -> u8
     ensures value { result ≡ hex_value byte }
     ensures digit { result ≤ 15 }
@@ -22,7 +22,7 @@ fn hex_value(byte: u8) -> u8
     }
 }
 
-/// The bytes that pairs of digits write.
+// The bytes that pairs of digits write.
 fn push_bytes(items: &mut Vec<Item>, word: &[u8]) -> Result<(), TreeFault>
     ensures pushed { OnOk result (items.new.items ≡ items.old.items ++ bytes_of word.now) }
     ensures err { IfErr result (λ e. e ≡ TreeFault.NoMemory) }

@@ -13,7 +13,7 @@ impl<'a> Reader<'a> {
     ghost use Rattle.dts_tree.specs.State.{state_of};
     ghost use Rattle.dts_tree.specs.Steps.{at_start, at_versioned, at_rooted, at_top, at_reserve, at_ready, at_labelled, at_named, at_wanting, at_cells, at_bytes, at_valued, at_closed, step_in, step};
 
-    /// Before the root.
+    // Before the root.
     fn at_top(&mut self, token: Token, mark: Mark) -> Result<(), TreeFault>
         ensures { Does self.new result (at_top (state_of self.old) token mark) }
     {
@@ -25,7 +25,7 @@ impl<'a> Reader<'a> {
         Ok(())
     }
 
-    /// A number of a `/memreserve/`.
+    // A number of a `/memreserve/`.
     fn at_reserve(&mut self, text: &'a str, next: Phase, token: Token) -> Result<(), TreeFault>
         ensures { Does self.new result (at_reserve text.now next (state_of self.old) token) }
     {
@@ -38,7 +38,7 @@ impl<'a> Reader<'a> {
         }
     }
 
-    /// In a node.
+    // In a node.
     fn at_ready(&mut self, text: &'a str, token: Token, mark: Mark) -> Result<(), TreeFault>
         ensures { Does self.new result (at_ready text.now (state_of self.old) token mark) }
     {
@@ -54,7 +54,7 @@ impl<'a> Reader<'a> {
         }
     }
 
-    /// Behind a label.
+    // Behind a label.
     fn at_labelled(&mut self, text: &'a str, token: Token, mark: Mark) -> Result<(), TreeFault>
         ensures { Does self.new result (at_labelled text.now (state_of self.old) token mark) }
     {
@@ -66,7 +66,7 @@ impl<'a> Reader<'a> {
         }
     }
 
-    /// Behind a name.
+    // Behind a name.
     fn at_named(
         &mut self,
         text: &'a str,
@@ -84,7 +84,7 @@ impl<'a> Reader<'a> {
         }
     }
 
-    /// Where a value begins.
+    // Where a value begins.
     fn at_wanting(&mut self, property: Begun, token: Token, mark: Mark) -> Result<(), TreeFault>
         requires { token.from < token.to }
         ensures { Does self.new result (at_wanting property (state_of self.old) token mark) }
@@ -106,7 +106,7 @@ impl<'a> Reader<'a> {
         Ok(())
     }
 
-    /// In cells.
+    // In cells.
     fn at_cells(
         &mut self,
         text: &'a str,
@@ -138,7 +138,7 @@ impl<'a> Reader<'a> {
         }
     }
 
-    /// In bytes.
+    // In bytes.
     fn at_bytes(
         &mut self,
         text: &'a str,
@@ -164,7 +164,7 @@ impl<'a> Reader<'a> {
         }
     }
 
-    /// Behind a value.
+    // Behind a value.
     fn at_valued(
         &mut self,
         text: &'a str,
@@ -184,7 +184,7 @@ impl<'a> Reader<'a> {
         }
     }
 
-    /// Where only `/dts-v1/` may stand.
+    // Where only `/dts-v1/` may stand.
     fn at_start(&mut self, token: Token, mark: Mark) -> Result<(), TreeFault>
         ensures { Does self.new result (at_start (state_of self.old) token mark) }
     {
@@ -197,7 +197,7 @@ impl<'a> Reader<'a> {
         }
     }
 
-    /// Behind a line before the root, where only its `;` may stand.
+    // Behind a line before the root, where only its `;` may stand.
     fn at_line_end(&mut self, token: Token, mark: Mark) -> Result<(), TreeFault>
         ensures { Does self.new result (at_versioned (state_of self.old) token mark) }
     {
@@ -210,7 +210,7 @@ impl<'a> Reader<'a> {
         }
     }
 
-    /// Behind the root's `/`.
+    // Behind the root's `/`.
     fn at_rooted(&mut self, root: Token, token: Token, mark: Mark) -> Result<(), TreeFault>
         ensures { Does self.new result (at_rooted root (state_of self.old) token mark) }
     {
@@ -220,7 +220,7 @@ impl<'a> Reader<'a> {
         }
     }
 
-    /// Behind a closing brace.
+    // Behind a closing brace.
     fn at_closed(&mut self, token: Token, mark: Mark) -> Result<(), TreeFault>
         ensures { Does self.new result (at_closed (state_of self.old) token mark) }
     {

@@ -11,7 +11,7 @@ use crate::names::note;
 use crate::rows::{Begun, Item, Numeral, Phase, PropertyRow, ValueRow};
 use dts_tokens::Token;
 
-/// Each value is cells.
+// Each value is cells.
 fn are_cells(values: &[ValueRow]) -> bool
     ensures { result ≡ list_all is_cells values.now }
 {
@@ -20,7 +20,7 @@ fn are_cells(values: &[ValueRow]) -> bool
         .all(|value| matches!(value, ValueRow::Cells(_)))
 }
 
-/// The only number of these items, if they are one number.
+// The only number of these items, if they are one number.
 fn only_number(items: &[Item]) -> Option<Numeral>
     ensures { result ≡ only_number items.now }
 {
@@ -30,7 +30,7 @@ fn only_number(items: &[Item]) -> Option<Numeral>
     }
 }
 
-/// The elements from a place on; none past the end.
+// The elements from a place on; none past the end.
 fn behind<T>(rows: &[T], from: usize) -> &[T]
     ensures { result.now ≡ drop from rows.now }
 {
@@ -44,7 +44,7 @@ impl<'a> Reader<'a> {
     ghost use Rattle.dts_tree.specs.State.{state_of};
     ghost use Rattle.dts_tree.specs.Steps.{open_property, finish, bare, begin};
 
-    /// The number of a property `phandle` whose cells are one number.
+    // The number of a property `phandle` whose cells are one number.
     #[tactic(auto, unfolding(crate::specs::Grown::phandle_of))]
     fn phandle(&self, text: &str, property: Begun) -> Option<Numeral>
         ensures { result ≡ phandle_of text.now property (state_of self.now).tables }
@@ -57,7 +57,7 @@ impl<'a> Reader<'a> {
         }
     }
 
-    /// Takes a phandle, if there is one.
+    // Takes a phandle, if there is one.
     fn take_phandle(&mut self, found: Option<Numeral>) -> Result<(), TreeFault>
         ensures { Fills self.old self.new result (add_phandle found (state_of self.old).tables) }
     {
@@ -89,7 +89,7 @@ impl<'a> Reader<'a> {
         Ok(())
     }
 
-    /// The name of a property.
+    // The name of a property.
     #[tactic(auto, unfolding(crate::specs::Steps::open_property, crate::specs::Grown::add_name))]
     fn open_property(&mut self, text: &'a str, name: Token, token: Token) -> Result<(), TreeFault>
         ensures { Fills self.old self.new result (open_property text.now name (state_of self.old) token) }
@@ -101,7 +101,7 @@ impl<'a> Reader<'a> {
         note(&mut self.named, self.here, word, name.line)
     }
 
-    /// The property that begins with this name.
+    // The property that begins with this name.
     fn begun(&self, name: Token) -> Begun
         ensures { result ≡ begun name (state_of self.now).tables }
     {
