@@ -2,7 +2,7 @@ use Rattle.std.proofs.Common.{ℕ, ◌++◌, List, codes, ap, subst, ◌∙◌}
 use Rattle.std.specs.Fmt.{decimal}
 use Rattle.std.specs.Io.KnownBytes.{Appends}
 use Rattle.clk_io.proofs.Chains.{AppendsFront-none}
-use Rattle.clk_journal.proofs.Lines.{Prints-fault}
+use Rattle.clk_run.proofs.PrintedParts.{Prints-fault}
 use Rattle.clk_run.proofs.refusal.print_refusal.Goals as goal
 
 pub returns-in_err-text-clause-prints : goal.returns-in_err-text-clause-prints
