@@ -7,6 +7,7 @@ ghost use Rattle.clk_model.specs.Journal.{opening, replay, Legal, cost};
 ghost use Rattle.clk_model.specs.Fed.{Fed};
 ghost use Rattle.clk_model.specs.Begin.{most_credits};
 
+use crate::built::is_built;
 use crate::log::Log;
 use crate::machine::Machine;
 use crate::row::Row;
@@ -152,14 +153,8 @@ impl<B: Bank> Core<B> {
         ensures { result ≡ can_make self.now what.now }
     {
         match what {
-            Sleeping::Get(_)
-            | Sleeping::Put(_)
-            | Sleeping::Unprepare(_)
-            | Sleeping::GetRate(_)
-            | Sleeping::GetParent(_) => true,
-            Sleeping::Prepare(_) => !self.machine.has_pll(),
-            Sleeping::Probe(clock) => self.machine.has_parents(*clock),
-            _ => false,
+            Sleeping::Probe(clock) => is_built(what, false, self.machine.has_parents(*clock)),
+            _ => is_built(what, self.machine.has_pll(), false),
         }
     }
 

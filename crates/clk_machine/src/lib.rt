@@ -1,6 +1,7 @@
 //! The core of the clock framework: the state of the machine with its journal.
 #![tactic(auto)]
 
+mod built;
 mod counts;
 mod fit;
 mod framework;
@@ -14,6 +15,7 @@ mod register;
 mod row;
 mod window;
 
+pub use built::is_built;
 pub use fit::{first_unfit, has_pll, is_fit};
 pub use framework::Core;
 pub use laws::always_fed;

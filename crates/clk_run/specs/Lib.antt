@@ -1,3 +1,4 @@
+pub mod Called
 pub mod Scripts
 pub mod Runs
 pub mod Refusals

@@ -11,6 +11,7 @@ ghost use Rattle.clk_machine.specs.Run.{can_make, was_probed, Appends};
 ghost use Rattle.drv_scripts.specs.Placed.{NamesPlace};
 ghost use Rattle.clk_run.specs.Scripts.{CanCall, MakesCall, GoesThrough};
 
+use crate::called::{Called, call_of};
 use clk_base::{Act, Answer, Command, Handle, Reply, Sleeping, Turn};
 use clk_io::NoMemory;
 use clk_machine::Core;
@@ -48,22 +49,14 @@ pub(crate) fn make_call<B: Bank>(
     ensures ok { IfOk result (λ reply. MakesCall core.old driver held act reply core.new) }
     ensures err { OnErr result (core.new ≡ core.old) }
 {
-    let reply = match (act, held) {
-        (Act::Get(found), None) => begin_at_once(core, driver, &Sleeping::Get(found))?,
-        (Act::Probe(clock), _) => begin_at_once(core, driver, &Sleeping::Probe(clock))?,
-        (Act::Put, Some(handle)) => begin_at_once(core, driver, &Sleeping::Put(handle))?,
-        (Act::Prepare, Some(handle)) => begin_at_once(core, driver, &Sleeping::Prepare(handle))?,
-        (Act::Unprepare, Some(handle)) => {
-            begin_at_once(core, driver, &Sleeping::Unprepare(handle))?
-        }
-        (Act::GetRate, Some(handle)) => begin_at_once(core, driver, &Sleeping::GetRate(handle))?,
-        (Act::GetParent, Some(handle)) => {
-            begin_at_once(core, driver, &Sleeping::GetParent(handle))?
-        }
-        (Act::Enable, Some(handle)) => core.enable(driver, handle),
-        (Act::Disable, Some(handle)) => core.disable(driver, handle),
-        (Act::Running, Some(handle)) => core.running(driver, handle),
-        _ => return Ok(None),
+    let Some(called) = call_of(held, act) else {
+        return Ok(None);
+    };
+    let reply = match called {
+        Called::Sleeping(what) => begin_at_once(core, driver, &what)?,
+        Called::Enable(handle) => core.enable(driver, handle),
+        Called::Disable(handle) => core.disable(driver, handle),
+        Called::Running(handle) => core.running(driver, handle),
     };
     Ok(Some(reply))
 }

@@ -8,9 +8,10 @@ ghost use Rattle.clk_machine.specs.Fit.{has_pll};
 ghost use Rattle.clk_run.specs.Scripts.{is_built_beside};
 ghost use Rattle.clk_run.specs.Built.{unfit_line, unbuilt_command, unbuilt_commands, unbuilt_line};
 
-use clk_base::{Act, ClockId, Command, ValidDesc};
+use crate::called::{Called, made_by};
+use clk_base::{Act, ClockId, Command, Handle, ValidDesc};
 use clk_io::NoMemory;
-use clk_machine::{has_pll, is_fit};
+use clk_machine::{has_pll, is_built, is_fit};
 use drv_scripts::{Bundle, Script};
 use std::alloc::Global;
 
@@ -56,21 +57,22 @@ fn least(lines: &[u32]) -> Option<u32>
     lines.iter().copied().min()
 }
 
-// Whether a command can be run so far, where the clocks have a PLL or have none.
-fn is_built(pll: bool, act: Act) -> bool
+// A handle: which one it is doesn't matter to whether its call can be made.
+const ANY: Handle = Handle {
+    number: 0,
+    slot: 0,
+    driver: 0,
+};
+
+// Whether a command can be run so far, where the clocks have a PLL or have none. A driver registers
+// no clock.
+fn can_run(pll: bool, act: Act) -> bool
     ensures { result ≡ is_built_beside pll act }
 {
-    match act {
-        Act::Get(_)
-        | Act::Put
-        | Act::Unprepare
-        | Act::Enable
-        | Act::Disable
-        | Act::Running
-        | Act::GetRate
-        | Act::GetParent => true,
-        Act::Prepare => !pll,
-        _ => false,
+    match made_by(ANY, act) {
+        Some(Called::Sleeping(what)) => is_built(&what, pll, false),
+        Some(_) => true,
+        None => false,
     }
 }
 
@@ -80,7 +82,7 @@ fn unbuilt_command(desc: &ValidDesc, pll: bool, command: &Command) -> Option<u32
     requires { pll ≡ has_pll desc.now.defs }
     ensures { result ≡ unbuilt_command desc.now.defs command.now }
 {
-    if is_built(pll, command.act) {
+    if can_run(pll, command.act) {
         return None;
     }
     Some(command.line)

@@ -1,62 +1,68 @@
-//! What no contract says: that the calls get on where there is memory, and what a run looks like
-//! that was worked out by hand.
+//! A core from its opening to the way back: what no contract says, that the calls get on where there
+//! is memory, and in which order one call writes its words.
 
-ghost use Rattle.std.specs.Prelude.{◌≡◌, ◌<◌, true, length, IfOk};
+ghost use Rattle.std.specs.Prelude.{true};
 ghost use Rattle.clk_machine.specs.Sound.{IsPlaced};
+
+mod noting;
 
 use crate::clocks::clock;
 use clk_base::{ClockId, Desc, Handle, Kind, Parents, Reply, Sleeping, Turn, ValidDesc};
 use clk_io::NoMemory;
 use clk_machine::{Core, Row, first_unfit};
-use reg_bank::{Bank, MemBank};
+use noting::Noting;
+use reg_bank::Bank;
 use std::alloc::Global;
 use std::process::Abort;
 use std::test::Fail;
 
-mod writes;
+const RATE: u64 = 24_000_000;
 
-// A fixed clock of 24 MHz, and a gate over it at bit 3 of word 0.
-fn two_clocks(alloc: Global) -> Result<ValidDesc, Fail>
-    ensures { IfOk result (λ desc. desc.words ≡ 1) }
-{
+const OSC: ClockId = ClockId(0);
+
+const TOP: ClockId = ClockId(1);
+
+const MIDDLE: ClockId = ClockId(2);
+
+const LAST: ClockId = ClockId(3);
+
+// A fixed clock, and three gates in a row below it, at the bits 0 to 2 of word 0.
+fn three_gates(alloc: Global) -> Result<ValidDesc, Fail> {
     let mut desc = Desc::new(alloc);
-    let rate = 24_000_000;
-    let osc = desc.add(clock(
-        alloc,
-        "osc",
-        Kind::FixedRate { rate },
-        Parents::new(Vec::new(alloc)),
-    )?)?;
-    let kind = Kind::Gate {
-        word: 0,
-        bit: 3,
-        set_to_disable: false,
-    };
-    desc.add(clock(alloc, "uart", kind, Parents::new(vec![in alloc; osc]?))?)?;
+    let none = Parents::new(Vec::new(alloc));
+    desc.add(clock(alloc, "osc", Kind::FixedRate { rate: RATE }, none)?)?;
+    for (bit, name) in [(0u32, "top"), (1, "middle"), (2, "last")] {
+        let kind = Kind::Gate {
+            word: 0,
+            bit,
+            set_to_disable: false,
+        };
+        let over = Parents::new(vec![in alloc; ClockId(bit)]?);
+        desc.add(clock(alloc, name, kind, over)?)?;
+    }
+    let complete = desc.has_all_parents();
+    if !complete {
+        return Err(Fail::from(NoMemory));
+    }
     Ok(desc.check(alloc, 1)?)
 }
 
-// The core at its opening, over a bank of its own.
-fn core_of_two(rt: &impl Abort, alloc: Global) -> Result<Core<MemBank>, Fail>
-    ensures told { IfOk result (λ core. core.told ≡ true) }
-    ensures words { IfOk result (λ core. length core.start.regs ≡ 1) }
-{
-    let desc = two_clocks(alloc)?;
-    assert_eq!(rt; first_unfit(&desc), None);
-    let bank = MemBank::new(alloc)?;
-    Ok(Core::create(alloc, desc, bank, &[0], false, 100)?)
-}
-
-/// A call of a driver, of either tier.
-enum Call {
-    Begin(Sleeping),
-    Enable(Handle),
-    Disable(Handle),
-    Running(Handle),
+/// What is done with a core, or looked at.
+#[derive(Drop)]
+enum Step {
+    /// A call of driver 1 that is answered at once, and its reply.
+    Begin(Sleeping, Reply),
+    Enable(Reply),
+    Disable(Reply),
+    Running(Reply),
+    /// The row of a clock.
+    Row(ClockId, Option<Row>),
+    /// The word of the registers.
+    Word(u32),
 }
 
 // Whether a call names clocks of the description alone.
-fn is_placed<B: Bank>(core: &Core<B>, what: &Sleeping) -> bool
+fn is_placed(core: &Core<Noting>, what: &Sleeping) -> bool
     ensures { result ≡ true → IsPlaced core.now.start.defs what.now }
 {
     match what {
@@ -70,44 +76,6 @@ fn is_placed<B: Bank>(core: &Core<B>, what: &Sleeping) -> bool
     }
 }
 
-// Makes a call of driver 1, which is answered at once.
-fn make<B: Bank>(rt: &impl Abort, core: &mut Core<B>, call: &Call) -> Result<Turn, NoMemory>
-    ensures start { core.new.start ≡ core.old.start }
-    ensures told { core.new.told ≡ core.old.told }
-{
-    assert!(rt; core.credits_left() > 0);
-    match call {
-        Call::Begin(what) => {
-            assert!(rt; is_placed(core, what));
-            assert!(rt; core.built(what));
-            core.begin(1, what)
-        }
-        Call::Enable(handle) => Ok(Turn::Done(core.enable(1, *handle))),
-        Call::Disable(handle) => Ok(Turn::Done(core.disable(1, *handle))),
-        Call::Running(handle) => Ok(Turn::Done(core.running(1, *handle))),
-    }
-}
-
-// Makes calls of driver 1, each with the reply that it must have.
-fn make_all<B: Bank>(
-    rt: &impl Abort,
-    core: &mut Core<B>,
-    calls: &[(Call, Reply)],
-) -> Result<(), NoMemory>
-    ensures start { core.new.start ≡ core.old.start }
-    ensures told { core.new.told ≡ core.old.told }
-{
-    for (call, wanted) in calls {
-        assert_eq!(rt; make(rt, core, call)?, Turn::Done(*wanted));
-    }
-    Ok(())
-}
-
-// The first clock, the oscillator, and the second, a gate over it.
-const OSC: ClockId = ClockId(0);
-
-const UART: ClockId = ClockId(1);
-
 // The handle that the first get is answered with.
 const FIRST: Handle = Handle {
     number: 0,
@@ -115,114 +83,81 @@ const FIRST: Handle = Handle {
     driver: 1,
 };
 
-// The core of both clocks, behind the calls that register them, get the gate and prepare it.
-fn prepared(rt: &impl Abort, alloc: Global) -> Result<Core<MemBank>, Fail>
-    ensures told { IfOk result (λ core. core.told ≡ true) }
-    ensures words { IfOk result (λ core. length core.start.regs ≡ 1) }
-{
-    let mut core = core_of_two(rt, alloc)?;
-    make_all(
-        rt,
-        &mut core,
-        &[
-            (Call::Begin(Sleeping::Probe(OSC)), Reply::Fine),
-            (Call::Begin(Sleeping::Probe(UART)), Reply::Fine),
-            (Call::Begin(Sleeping::Get(Some(UART))), Reply::Handle(FIRST)),
-            (Call::Begin(Sleeping::Prepare(FIRST)), Reply::Fine),
-        ],
-    )?;
-    Ok(core)
-}
-
-#[test]
-fn the_ordinary_path(rt: HostRuntime) -> Result<(), Fail> {
-    let mut core = prepared(&rt, rt.alloc())?;
-    assert_eq!(rt; core.word(0), 0);
-    make_all(
-        &rt,
-        &mut core,
-        &[
-            (Call::Enable(FIRST), Reply::Fine),
-            (
-                Call::Begin(Sleeping::GetRate(FIRST)),
-                Reply::Rate(24_000_000),
-            ),
-        ],
-    )?;
-    assert_eq!(rt; core.word(0), 8);
-    assert_eq!(rt; core.journal().len(), 6);
-    assert_eq!(rt; core.credits_left(), 94);
-    let bank = core.into_bank();
-    assert!(rt; bank.words() > 0);
-    assert_eq!(rt; bank.read(0), 8);
+// Takes one step, and checks what comes of it.
+fn take(rt: &impl Abort, core: &mut Core<Noting>, step: &Step) -> Result<(), NoMemory> {
+    assert!(rt; core.credits_left() > 0);
+    match step {
+        Step::Begin(what, reply) => {
+            assert!(rt; is_placed(core, what) && core.built(what));
+            let turn = core.begin(1, what)?;
+            assert!(rt; turn == Turn::Done(*reply));
+        }
+        Step::Enable(reply) => assert!(rt; core.enable(1, FIRST) == *reply),
+        Step::Disable(reply) => assert!(rt; core.disable(1, FIRST) == *reply),
+        Step::Running(reply) => assert!(rt; core.running(1, FIRST) == *reply),
+        Step::Row(clock, row) => {
+            assert!(rt; (clock.0 as usize) < core.desc().len());
+            assert!(rt; core.row(*clock) == *row);
+        }
+        Step::Word(word) => {
+            assert!(rt; core.word_count() > 0);
+            assert!(rt; core.word(0) == *word);
+        }
+    }
     Ok(())
 }
 
-// The row of a clock of 24 MHz whose rate nobody protects.
-fn row(enable: u32, prepare: u32, on: Option<bool>) -> Row {
-    Row {
+// The row of a clock whose rate nobody protects.
+fn row(enable: u32, prepare: u32, on: Option<bool>) -> Option<Row> {
+    Some(Row {
         enable,
         prepare,
         protect: 0,
-        rate: 24_000_000,
+        rate: RATE,
         on,
+    })
+}
+
+#[test]
+fn a_gate_is_used_and_left(rt: HostRuntime) -> Result<(), Fail> {
+    let desc = three_gates(rt.alloc())?;
+    assert!(rt; first_unfit(&desc) == None);
+    let mut core = Core::create(rt.alloc(), desc, Noting::new(), &[0], false, 100)?;
+    let steps = [
+        Step::Row(LAST, None),
+        Step::Row(OSC, None),
+        Step::Begin(Sleeping::Probe(OSC), Reply::Fine),
+        Step::Begin(Sleeping::Probe(TOP), Reply::Fine),
+        Step::Begin(Sleeping::Probe(MIDDLE), Reply::Fine),
+        Step::Begin(Sleeping::Probe(LAST), Reply::Fine),
+        Step::Begin(Sleeping::Get(Some(LAST)), Reply::Handle(FIRST)),
+        Step::Begin(Sleeping::GetRate(FIRST), Reply::Rate(RATE)),
+        Step::Begin(Sleeping::Prepare(FIRST), Reply::Fine),
+        Step::Begin(Sleeping::Prepare(FIRST), Reply::Fine),
+        Step::Row(LAST, row(0, 2, Some(false))),
+        Step::Row(OSC, row(0, 1, None)),
+        Step::Word(0),
+        Step::Enable(Reply::Fine),
+        Step::Running(Reply::Yes),
+        Step::Row(LAST, row(1, 2, Some(true))),
+        Step::Row(OSC, row(1, 1, None)),
+        Step::Word(7),
+        Step::Disable(Reply::Fine),
+        Step::Running(Reply::No),
+        Step::Begin(Sleeping::Unprepare(FIRST), Reply::Fine),
+        Step::Begin(Sleeping::Unprepare(FIRST), Reply::Fine),
+        Step::Begin(Sleeping::Unprepare(FIRST), Reply::Warn),
+        Step::Row(MIDDLE, row(0, 0, Some(false))),
+        Step::Word(0),
+    ];
+    for step in &steps {
+        take(&rt, &mut core, step)?;
     }
-}
-
-// Checks the rows of the gate and of the oscillator.
-fn check_rows(rt: &impl Abort, core: &Core<MemBank>, uart: Option<Row>, osc: Option<Row>) {
-    assert_eq!(rt; core.desc().len(), 2);
-    assert_eq!(rt; core.row(UART), uart);
-    assert_eq!(rt; core.row(OSC), osc);
-}
-
-#[test]
-fn a_clock_that_is_not_registered_has_no_row(rt: HostRuntime) -> Result<(), Fail> {
-    let core = core_of_two(&rt, rt.alloc())?;
-    check_rows(&rt, &core, None, None);
-    Ok(())
-}
-
-#[test]
-fn rows_of_an_enabled_gate_and_its_parent(rt: HostRuntime) -> Result<(), Fail> {
-    let mut core = prepared(&rt, rt.alloc())?;
-    make_all(
-        &rt,
-        &mut core,
-        &[(Call::Begin(Sleeping::Prepare(FIRST)), Reply::Fine)],
-    )?;
-    assert!(rt; core.quiet());
-    check_rows(
-        &rt,
-        &core,
-        Some(row(0, 2, Some(false))),
-        Some(row(0, 1, None)),
-    );
-    make_all(&rt, &mut core, &[(Call::Enable(FIRST), Reply::Fine)])?;
-    check_rows(
-        &rt,
-        &core,
-        Some(row(1, 2, Some(true))),
-        Some(row(1, 1, None)),
-    );
-    Ok(())
-}
-
-#[test]
-fn the_way_back(rt: HostRuntime) -> Result<(), Fail> {
-    let mut core = prepared(&rt, rt.alloc())?;
-    make_all(
-        &rt,
-        &mut core,
-        &[
-            (Call::Enable(FIRST), Reply::Fine),
-            (Call::Running(FIRST), Reply::Yes),
-            (Call::Disable(FIRST), Reply::Fine),
-            (Call::Running(FIRST), Reply::No),
-            (Call::Begin(Sleeping::Unprepare(FIRST)), Reply::Fine),
-            (Call::Begin(Sleeping::Unprepare(FIRST)), Reply::Warn),
-        ],
-    )?;
-    assert_eq!(rt; core.word(0), 0);
+    assert!(rt; core.journal().len() == 15);
+    assert!(rt; core.credits_left() == 85);
+    let bank = core.into_bank();
+    // the gates open from the root on, and close from the clock on
+    assert!(rt; bank.values == [0, 1, 3, 7, 3, 1, 0, 0]);
+    assert!(rt; bank.count == 7);
     Ok(())
 }
