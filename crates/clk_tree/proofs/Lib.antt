@@ -1,5 +1,3 @@
-pub mod Ordering
 pub mod Rows
 pub mod Reading
-pub mod Refreshing
 pub mod Fitting
