@@ -1,5 +1,5 @@
 -- The groups of clocks that stand together: the roots, the orphans, and the children of each clock.
-use Rattle.std.specs.Prelude.{◌≡◌, ℕ, suc, ◌+◌, ◌<◌, List, Bool, Option, Some, None, filter, if◌then◌else◌, length}
+use Rattle.std.specs.Prelude.{◌≡◌, ℕ, ◌+◌, ◌<◌, List, Bool, Option, Some, None, filter, if◌then◌else◌, length}
 use Rattle.clk_base.specs.declared.clock.ClockId.{ClockId}
 use Rattle.clk_base.specs.Description.{Description, kind_of}
 use Rattle.clk_model.specs.declared.row.ClockRow.{ClockRow}

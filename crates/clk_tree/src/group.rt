@@ -70,12 +70,7 @@ pub(crate) fn as_clock(count: u32, number: u32) -> Option<ClockId>
 
 /// The k-th clock, from 0, of a group by its end, of so many clocks. Where the group has fewer, how
 /// many are left to go behind it.
-pub(crate) fn nth_behind(
-    siblings: &Ring,
-    count: u32,
-    end: u32,
-    k: usize,
-) -> Result<ClockId, usize>
+pub(crate) fn nth_behind(siblings: &Ring, count: u32, end: u32, k: usize) -> Result<ClockId, usize>
     requires { end < length siblings.now }
     ensures { (xs : List ℕ) → ((x : ℕ) → is_in x xs ≡ true → x < count) → count ≤ end → Leads siblings.now end end xs
         → MatchResult result (λ c. slice_get xs k ≡ Some c.0) (λ left. k ≡ length xs + left) }

@@ -1,6 +1,7 @@
 //! Rates by the registers.
 
 ghost use Rattle.std.specs.Prelude.{◌≡◌, ℕ, ◌+◌, ◌<◌, ◌≤◌, true, false, List, length, slice_index, IfSome};
+ghost use Rattle.std.specs.Option.{option_map_or};
 ghost use Rattle.clk_base.specs.Description.{kind_of};
 ghost use Rattle.clk_model.specs.Lists.{is_in};
 ghost use Rattle.clk_model.specs.Rate.{rate_over};
@@ -12,6 +13,17 @@ use crate::kind::{kind_of, rate_over};
 use crate::ring::Ring;
 use clk_base::{ClockId, ValidDesc};
 use reg_bank::Bank;
+
+/// The rate of the clock that a link leads to, and 0 without one.
+pub(crate) fn rate_behind(rates: &[u64], link: Option<ClockId>) -> u64
+    requires { IfSome link (λ p. p.0 < length rates.now) }
+    ensures { result ≡ option_map_or (λ p. slice_index rates.now p.0) link 0 }
+{
+    match link {
+        Some(parent) => rates[parent.0 as usize],
+        None => 0,
+    }
+}
 
 /// Computes the rate of a clock over this rate of its parent, and the rates of the clocks below it,
 /// within so many levels. Other rates stay.

@@ -12,7 +12,7 @@ ghost use Rattle.clk_tree.specs.Refreshed.{is_below, IsFresh};
 use crate::group::{Group, as_clock, count_of, end_of, group_of, nth_behind};
 use crate::path::{has_root, is_registered, link_of, row_of, unregistered};
 use crate::plls::most_plls;
-use crate::refresh::refresh_below;
+use crate::refresh::{rate_behind, refresh_below};
 use crate::ring::Ring;
 use clk_base::{ClockId, ValidDesc, depth};
 use clk_io::NoMemory;
@@ -146,17 +146,20 @@ impl Tree {
         as_clock(count, self.siblings.after(end))
     }
 
-    /// The clock behind another among the children of one clock: the next older one. No search.
+    /// The next older one of the clocks that a clock stands with: the children of its parent, the
+    /// roots or the orphans. None behind the last, and of a clock that isn't registered. No search.
     pub fn next_sibling(&self, c: ClockId) -> Option<ClockId>
-        ensures next { (p k : ℕ) → slice_get (children self.now.order self.now.clocks p) k ≡ Some c.0 → option_map (λ d. d.0) result ≡ slice_get (children self.now.order self.now.clocks p) (k + 1) }
+        ensures child { (p k : ℕ) → slice_get (children self.now.order self.now.clocks p) k ≡ Some c.0 → option_map (λ d. d.0) result ≡ slice_get (children self.now.order self.now.clocks p) (k + 1) }
+        ensures root { (k : ℕ) → slice_get (roots self.now.defs self.now.order) k ≡ Some c.0 → option_map (λ d. d.0) result ≡ slice_get (roots self.now.defs self.now.order) (k + 1) }
+        ensures orphan { (k : ℕ) → slice_get (orphans self.now.defs self.now.order self.now.clocks) k ≡ Some c.0 → option_map (λ d. d.0) result ≡ slice_get (orphans self.now.defs self.now.order self.now.clocks) (k + 1) }
+        ensures alone { registered self.now.clocks c.0 ≡ false → result ≡ None }
         ensures inside { IfSome result (λ d. d.0 < length self.now.defs) }
         ensures stands { IsTree self.now.defs self.now.clocks self.now.order self.now.rates }
     {
-        let count = count_of(&self.desc);
-        if c.0 >= count {
+        if !is_registered(&self.clocks, c) {
             return None;
         }
-        as_clock(count, self.siblings.after(c.0))
+        as_clock(count_of(&self.desc), self.siblings.after(c.0))
     }
 
     /// The k-th, from 0, of the roots and then the orphans, the newest attached first of each.
@@ -248,11 +251,17 @@ impl Tree {
         ensures defs { self.new.defs ≡ self.old.defs }
         ensures stands { IsTree self.new.defs self.new.clocks self.new.order self.new.rates }
     {
-        let parent = match link_of(&self.clocks, c) {
-            Some(parent) => self.rates[parent.0 as usize],
-            None => 0,
-        };
+        let link = link_of(&self.clocks, c);
+        let parent = rate_behind(&self.rates, link);
         let levels = depth();
-        refresh_below(levels, desc, &self.siblings, bank, c, parent, &mut self.rates);
+        refresh_below(
+            levels,
+            desc,
+            &self.siblings,
+            bank,
+            c,
+            parent,
+            &mut self.rates,
+        );
     }
 }
