@@ -1,5 +1,5 @@
 -- Laws on a tree whose kept rates are brought up to date from a clock down.
-use Rattle.std.proofs.Common.{◌≡◌, ℕ, ◌<◌, true, false, List, Option, Some, None, refl, sym, ap, subst, ◌∙◌, inl, inr, arith, length}
+use Rattle.std.proofs.Common.{◌≡◌, ◌≢◌, ◌⊎◌, ℕ, ◌-◌, ◌<◌, true, false, List, Option, Some, None, refl, sym, ap, subst, ◌∙◌, inl, inr, arith, length}
 use Rattle.std.specs.Prelude.{IfSome, slice_index}
 use Rattle.std.specs.Option.{option_map, option_map_or}
 use Rattle.std.proofs.lemmas.Bool.{cases_Bool, both_ways, false_from_ne_true}
@@ -15,14 +15,18 @@ use Rattle.clk_model.specs.Tree.{children, path}
 use Rattle.clk_model.specs.Walk.{below_within}
 use Rattle.clk_model.proofs.BelowLaws.{AreKids, below_rises, rises_below, path_rises, rises_path, few_steps, no_round}
 use Rattle.clk_model.proofs.OnceLaws.{filter_passes, filter_keeps, once_filter, length-filter-le}
-use Rattle.clk_model.proofs.RateLaws.{rates_are_over_links}
+use Rattle.clk_model.proofs.Members.{is_in_head}
+use Rattle.clk_model.proofs.PathLaws.{above, path_cons, some_levels}
+use Rattle.clk_model.proofs.RateLaws.{rates_are_over_links, rate_leaves}
+use Rattle.clk_model.proofs.StateLaws.{row_of-set_other}
 use Rattle.clk_model.proofs.WalkLaws.{is_at_same, at_same}
 use Rattle.clk_tree.specs.declared.group.Group.TheVariants.{ChildrenOf}
 use Rattle.clk_tree.specs.Groups.{AreListed}
 use Rattle.clk_tree.specs.Refreshed.{is_below, IsFresh, AreKidRings, AreOver}
-use Rattle.clk_tree.specs.TreeState.{IsTree}
+use Rattle.clk_tree.specs.TreeState.{IsTree, attached}
 use Rattle.clk_tree.proofs.GroupLaws.{members_below}
 use Rattle.clk_tree.proofs.Refreshing.{RefreshesBelow}
+use Rattle.clk_tree.proofs.RingLaws.{same_or_two}
 use Rattle.clk_tree.proofs.Rows.{order-few, registered-lt}
 
 -- ---- children
@@ -153,3 +157,21 @@ link_rated defs clocks order rates c n (Some p) tree is same =
     let rows = tree.rows in
     let rated = tree.rated in
     omega arith
+
+-- ---- attaching
+
+-- a clock is below itself
+pub below_itself : (clocks : List ClockRow) (c : ℕ) → is_below clocks c c ≡ true
+below_itself clocks c = ap (λ (cs : List ℕ). is_in c cs) (path_cons (link_in clocks) depth c some_levels) ∙ is_in_head c (above (link_in clocks) (depth - 1) (link_in clocks c))
+
+-- where kept rates were right and a clock was attached, those of clocks that aren't below it still are
+pub fresh_attached : (defs : Description) (regs : Registers) (clocks : List ClockRow) (rates : List ℕ) (c : ℕ) (parent : Option ClockId) → c < length clocks
+    → ((k : ℕ) → registered clocks k ≡ true → IsFresh defs regs clocks rates k)
+    → (k : ℕ) → registered (attached clocks c parent) k ≡ true → is_below (attached clocks c parent) c k ≡ false → IsFresh defs regs (attached clocks c parent) rates k
+fresh_attached defs regs clocks rates c parent within fresh k there out =
+    fresh k (was (same_or_two c k))
+    ∙ rate_leaves defs regs (attached clocks c parent) clocks c k
+    (λ a other. sym (ap (λ (r : ClockRow). option_map (λ p. p.0) r.link) (row_of-set_other clocks c _ a other))) out where
+      was : (c ≡ k) ⊎ (c ≢ k) → registered clocks k ≡ true
+      was (inl same) = absurd (both_ways _ out (ap (is_below (attached clocks c parent) c) (sym same) ∙ below_itself (attached clocks c parent) c))
+      was (inr two) = sym (ap (λ (r : ClockRow). r.registered) (row_of-set_other clocks c _ k two)) ∙ there
