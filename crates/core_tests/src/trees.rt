@@ -76,9 +76,9 @@ fn attach_alone(rt: &impl Abort, tree: &mut Tree, desc: &ValidDesc, c: ClockId)
 }
 
 // Brings the rates of a clock and of all below it up to date, and ends the test of a place outside.
-fn refresh_from(rt: &impl Abort, tree: &mut Tree, desc: &ValidDesc, bank: &MemBank, c: ClockId)
+fn refresh_from<B: Bank>(rt: &impl Abort, tree: &mut Tree, desc: &ValidDesc, bank: &B, c: ClockId)
     requires made { desc.now.defs ≡ tree.old.defs }
-    requires bank { desc.now.words ≤ MemBank.Bank.size bank.now }
+    requires bank { desc.now.words ≤ B.size bank.now }
     ensures { tree.new.defs ≡ tree.old.defs }
 {
     assert!(rt; (c.0 as usize) < desc.len());
