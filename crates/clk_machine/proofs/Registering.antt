@@ -26,7 +26,9 @@ use Rattle.clk_model.specs.Laws.Paths.{scales_by}
 use Rattle.clk_model.proofs.Members.{is_in_head, is_in_tail, test_same}
 use Rattle.clk_model.proofs.RateLaws.{rate-links, writes_leave_rates}
 use Rattle.clk_tree.specs.TreeState.{TreeState, IsTree, attached}
+use Rattle.clk_tree.specs.Refreshed.{is_below, IsFresh}
 use Rattle.clk_tree.proofs.Fitting.{attached-registered}
+use Rattle.clk_tree.proofs.Freshness.{fresh_attached}
 use Rattle.clk_tree.proofs.Rows.{registered-set, registered-requested, link-requested}
 use Rattle.clk_machine.specs.Held.{AreKept, state_of, IsShaped}
 use Rattle.clk_machine.specs.Window.{Shown}
@@ -98,6 +100,16 @@ kept_registered n (Some regs) defs clocks rates c request valid within fresh =
     fresh k (sym (registered-requested clocks c request k within) ∙ there)
     ∙ sym (rate-take n defs regs clocks k valid)
     ∙ sym (rate-links defs (take n regs) clocks (requested clocks c request) k (λ a. link-requested clocks c request a within))
+
+-- where the kept rates were right before a clock was attached, and a refresh makes all right where those that it leaves are, all are
+pub fresh_registered : (n : ℕ) (told : Option (List ℕ)) (defs : Description) (clocks : List ClockRow) (old new : List ℕ) (c : ℕ) (parent : Option ClockId)
+    → IsValid n defs → c < length clocks → AreKept defs (option_map (take n) told) clocks old
+    → IfSome told (λ regs. ((k : ℕ) → registered (attached clocks c parent) k ≡ true → is_below (attached clocks c parent) c k ≡ false → IsFresh defs regs (attached clocks c parent) old k)
+    → (k : ℕ) → registered (attached clocks c parent) k ≡ true → IsFresh defs regs (attached clocks c parent) new k)
+    → IfSome told (λ regs. (k : ℕ) → registered (attached clocks c parent) k ≡ true → slice_index new k ≡ rate defs regs (attached clocks c parent) k)
+fresh_registered n None defs clocks old new c parent valid within kept refreshed = tt
+fresh_registered n (Some regs) defs clocks old new c parent valid within kept refreshed =
+    refreshed (fresh_attached defs regs clocks old c parent within (λ k there. kept k there ∙ rate-take n defs regs clocks k valid))
 
 -- the rows are those of the registration
 pub rows_registered : (n : ℕ) (told : Option (List ℕ)) (defs : Description) (clocks : List ClockRow) (rates : List ℕ) (c : ℕ) (parent : Option ClockId)

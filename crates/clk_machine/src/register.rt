@@ -62,6 +62,7 @@ pub(crate) fn register_clock<B: Bank>(
     requires words { window.now.size ≡ desc.now.words }
     requires made { tree.old.defs ≡ desc.now.defs }
     requires parents { list_all (registered tree.old.clocks) (parents_of desc.now.defs clock.0) ≡ true }
+    requires kept { AreKept desc.now.defs window.now.words tree.old.clocks tree.old.rates }
     ensures rows { (k : ℕ) → registered tree.new.clocks k ≡ (registered tree.old.clocks k || clock.0 == k) }
     ensures clocks { IfSome window.now.words (λ regs. tree.new.clocks ≡ registered_rows desc.now.defs regs tree.old.clocks clock.0) }
     ensures order { tree.new.order ≡ to_front clock.0 tree.old.order }
@@ -71,7 +72,7 @@ pub(crate) fn register_clock<B: Bank>(
 {
     let parent = selected_parent(desc, window, clock);
     tree.attach(clock, parent);
-    tree.refresh_all(desc, window.bank());
+    tree.refresh(desc, window.bank(), clock);
     let rate = tree.rate(clock);
     tree.set_last_request(clock, rate);
 }

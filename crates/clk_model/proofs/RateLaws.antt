@@ -64,7 +64,7 @@ unfolding rate
 rate-links defs regs before after d same = rate_agree defs regs regs before after depth d (λ a m. record { link = same a; over = λ x. refl })
 
 -- where all links but that of a clock that isn't on the path are the same, the rate is the same
-rate_leaves : (defs : Description) (regs : Registers) (before after : List ClockRow) (c d : ℕ) → ((a : ℕ) → (c ≡ a → ⊥) → link_in after a ≡ link_in before a)
+pub rate_leaves : (defs : Description) (regs : Registers) (before after : List ClockRow) (c d : ℕ) → ((a : ℕ) → (c ≡ a → ⊥) → link_in after a ≡ link_in before a)
     → is_in c (path before d) ≡ false → rate defs regs after d ≡ rate defs regs before d
 unfolding rate
 rate_leaves defs regs before after c d same out =

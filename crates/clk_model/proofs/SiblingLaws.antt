@@ -166,7 +166,7 @@ not_at : (o : Option ℕ) (p q : ℕ) → o ≡ Some p → (q ≡ p → ⊥) →
 not_at o p q at other = refuted (is_at q o) (λ there. let same : o ≡ Some q = is_at_same q o there in other (let e : q ≡ p = cc in e))
 
 -- taking a number to the front of a list, by whether it passes
-front_by : (old new : ℕ → Bool) (c : ℕ) (xs : List ℕ) (t : Bool) → ((d : ℕ) → (c ≡ d → ⊥) → new d ≡ old d) → new c ≡ t
+pub front_by : (old new : ℕ → Bool) (c : ℕ) (xs : List ℕ) (t : Bool) → ((d : ℕ) → (c ≡ d → ⊥) → new d ≡ old d) → new c ≡ t
     → filter new (to_front c xs) ≡ front_if t c (filter old xs)
 front_by old new c xs true same pass = front_passes old new c xs same pass
 front_by old new c xs false same fail = front_fails old new c xs same fail

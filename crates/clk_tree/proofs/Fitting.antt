@@ -6,7 +6,7 @@ use Rattle.clk_base.specs.declared.clock.ClockId.{ClockId}
 use Rattle.clk_base.specs.Description.{Description}
 use Rattle.reg_bank.specs.Registers.{Registers}
 use Rattle.clk_model.specs.declared.row.ClockRow.{ClockRow}
-use Rattle.clk_model.specs.State.{row_of, registered, link_in, requested}
+use Rattle.clk_model.specs.State.{row_of, link_in, requested}
 use Rattle.clk_model.specs.Tree.{link_given}
 use Rattle.clk_model.specs.Rate.{rate}
 use Rattle.clk_model.specs.Chain.{clock_id}

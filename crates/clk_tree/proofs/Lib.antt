@@ -1,5 +1,10 @@
-pub mod Ordering
 pub mod Rows
 pub mod Reading
-pub mod Refreshing
 pub mod Fitting
+pub mod RingLaws
+pub mod Along
+pub mod GroupLaws
+pub mod HeldLaws
+pub mod Refreshing
+pub mod PllTables
+pub mod Freshness

@@ -1,99 +1,151 @@
--- Laws on rates that are computed anew.
-use Rattle.std.proofs.Common.{◌≡◌, ◌≢◌, ℕ, suc, ◌+◌, ◌<◌, true, false, List, Option, Some, None, refl, sym, ap, ◌∙◌, ◌⊎◌, inl, inr, arith, length, nat_eq}
-use Rattle.std.specs.Prelude.{IfSome, slice_index, slice_set}
-use Rattle.std.specs.Option.{option_map, option_map_or}
-use Rattle.std.proofs.lemmas.List.{length-set, get_or-set_same, get_or-set_other}
-use Rattle.clk_base.specs.declared.clock.ClockId.{ClockId}
+-- Laws on kept rates that are brought up to date from a clock down.
+use Rattle.std.proofs.Common.{◌≡◌, ℕ, zero, suc, ◌+◌, ◌<◌, ◌≤◌, true, false, List, [], ◌∷◌, Option, Some, None, refl, sym, ap, subst, ◌∙◌, ◌⊎◌, inl, inr, arith, drop, length}
+use Rattle.std.specs.Prelude.{IfSome, flat_map, slice_get, slice_index, slice_set}
+use Rattle.std.proofs.lemmas.Bool.{cases_Bool, both_ways}
+use Rattle.std.proofs.lemmas.List.{get_or-set_same, get_or-set_other}
 use Rattle.clk_base.specs.declared.clock.Kind.{Kind}
 use Rattle.clk_base.specs.Description.{Description, kind_of}
-use Rattle.clk_base.specs.Levels.{depth}
 use Rattle.reg_bank.specs.Registers.{Registers}
-use Rattle.clk_model.specs.declared.row.ClockRow.{ClockRow}
-use Rattle.clk_model.specs.State.{registered, link_in}
-use Rattle.clk_model.specs.Rate.{rate, rate_over, rate_within}
-use Rattle.clk_model.proofs.Members.{same_from_test, test_other}
+use Rattle.clk_model.specs.Lists.{is_in}
+use Rattle.clk_model.specs.Rate.{rate_over}
+use Rattle.clk_model.specs.Walk.{below_within}
+use Rattle.clk_model.proofs.Members.{is_in_tail, is_in_cases}
+use Rattle.clk_model.proofs.OnceLaws.{in_append, flat_map_in}
+use Rattle.clk_tree.specs.Refreshed.{AreKidRings, AreOver}
+use Rattle.clk_tree.proofs.Along.{ComesAt, leads_comes, go_on, stops, get_in, none_left}
+use Rattle.clk_tree.proofs.RingLaws.{not_in_cons}
 
--- ---- one level
+-- so many of a clock's children are done: what is below the clock has its rate or is below a child that is left, and the rest is as before
+pub record Refreshing (defs : Description) (told : Option Registers) (siblings old new : List ℕ) (levels clock parent at step : ℕ) : Type 0 where
+  pub comes : (kids : ℕ → List ℕ) → AreKidRings (length defs) siblings kids → ComesAt siblings (length defs + clock) at (drop step (kids clock))
+  pub below : IfSome told (λ regs. (kids : ℕ → List ℕ) (rates : ℕ → ℕ) → AreKidRings (length defs) siblings kids → AreOver defs regs kids rates
+      → rates clock ≡ rate_over (kind_of defs clock) regs parent → (k : ℕ) → is_in k (below_within kids (suc levels) clock) ≡ true
+      → (slice_index new k ≡ rates k) ⊎ (is_in k (flat_map (below_within kids levels) (drop step (kids clock))) ≡ true))
+  pub others : (kids : ℕ → List ℕ) → AreKidRings (length defs) siblings kids → (k : ℕ) → is_in k (below_within kids (suc levels) clock) ≡ false
+      → slice_index new k ≡ slice_index old k
 
--- what the rate over a link is, where the clock has one
-pub linked_rate : (told : Option Registers) (defs : Description) (clocks : List ClockRow) (levels c : ℕ) (link : Option ClockId) (p : ClockId) (found parent : ℕ)
-    → option_map (λ q. q.0) link ≡ link_in clocks c → link ≡ Some p → parent ≡ found
-    → IfSome told (λ regs. found ≡ rate_within defs regs clocks levels p.0)
-    → IfSome told (λ regs. parent ≡ option_map_or (rate_within defs regs clocks levels) (link_in clocks c) 0)
-linked_rate None defs clocks levels c link p found parent is at same h = tt
-linked_rate (Some regs) defs clocks levels c link p found parent is at same h =
-    same ∙ h ∙ ap (λ (o : Option ℕ). option_map_or (rate_within defs regs clocks levels) o 0) (sym (ap (λ (l : Option ClockId). option_map (λ q. q.0) l) at) ∙ is)
+-- what is brought up to date from a clock down, and what isn't
+pub record RefreshesBelow (defs : Description) (told : Option Registers) (siblings old new : List ℕ) (levels clock parent : ℕ) : Type 0 where
+  pub below : IfSome told (λ regs. (kids : ℕ → List ℕ) (rates : ℕ → ℕ) → AreKidRings (length defs) siblings kids → AreOver defs regs kids rates
+      → rates clock ≡ rate_over (kind_of defs clock) regs parent → (k : ℕ) → is_in k (below_within kids levels clock) ≡ true → slice_index new k ≡ rates k)
+  pub others : (kids : ℕ → List ℕ) → AreKidRings (length defs) siblings kids → (k : ℕ) → is_in k (below_within kids levels clock) ≡ false → slice_index new k ≡ slice_index old k
 
--- and where it has none
-pub unlinked_rate : (told : Option Registers) (defs : Description) (clocks : List ClockRow) (levels c : ℕ) (link : Option ClockId) (parent : ℕ)
-    → option_map (λ q. q.0) link ≡ link_in clocks c → link ≡ None → parent ≡ 0
-    → IfSome told (λ regs. parent ≡ option_map_or (rate_within defs regs clocks levels) (link_in clocks c) 0)
-unlinked_rate None defs clocks levels c link parent is at none = tt
-unlinked_rate (Some regs) defs clocks levels c link parent is at none =
-    none ∙ ap (λ (o : Option ℕ). option_map_or (rate_within defs regs clocks levels) o 0) (sym (ap (λ (l : Option ClockId). option_map (λ q. q.0) l) at) ∙ is)
+-- ---- the clock's own rate
 
--- the rate of a clock over the rate above it
-pub level_rate : (told : Option Registers) (defs : Description) (clocks : List ClockRow) (levels below c : ℕ) (kind : Kind) (parent found : ℕ)
-    → levels ≡ suc below → kind ≡ kind_of defs c
-    → IfSome told (λ regs. parent ≡ option_map_or (rate_within defs regs clocks below) (link_in clocks c) 0)
-    → IfSome told (λ regs. found ≡ rate_over kind regs parent)
-    → IfSome told (λ regs. found ≡ rate_within defs regs clocks levels c)
-level_rate None defs clocks levels below c kind parent found deep is above h = tt
-level_rate (Some regs) defs clocks levels below c kind parent found deep is above h =
-    h ∙ ap (λ (k : Kind). rate_over k regs parent) is ∙ ap (λ (p : ℕ). rate_over (kind_of defs c) regs p) above
-    ∙ ap (λ (n : ℕ). rate_within defs regs clocks n c) (sym deep)
-
--- ---- clock by clock
-
--- the first clocks have their rates, and those that aren't registered keep what they had
-pub record Refreshed (defs : Description) (clocks : List ClockRow) (told : Option Registers) (old new : List ℕ) (n : ℕ) : Type 0 where
-  pub places : length new ≡ length old
-  pub done : IfSome told (λ regs. (c : ℕ) → c < n → registered clocks c ≡ true → slice_index new c ≡ rate defs regs clocks c)
-  pub others : (c : ℕ) → registered clocks c ≡ false → slice_index new c ≡ slice_index old c
-
-is_or_before : (c n : ℕ) → c < n + 1 → (c ≡ n) ⊎ (c < n)
-is_or_before c n below =
-    elim (nat_eq c n) as (λ t. nat_eq c n ≡ t → (c ≡ n) ⊎ (c < n)) [
-      | true ↦ λ same. inl (same_from_test c n same)
-      | false ↦ λ other. inr (let apart : c ≢ n = test_other c n other in omega arith)
-    ] refl
-
--- a clock that isn't registered is passed over
-pub refreshed_over : (defs : Description) (clocks : List ClockRow) (told : Option Registers) (old new : List ℕ) (n : ℕ)
-    → Refreshed defs clocks told old new n → registered clocks n ≡ false → Refreshed defs clocks told old new (n + 1)
-refreshed_over defs clocks told old new n so_far free = record { places = so_far.places; done = more told so_far.done; others = so_far.others } where
-  more : (told : Option Registers) → IfSome told (λ regs. (c : ℕ) → c < n → registered clocks c ≡ true → slice_index new c ≡ rate defs regs clocks c)
-      → IfSome told (λ regs. (c : ℕ) → c < n + 1 → registered clocks c ≡ true → slice_index new c ≡ rate defs regs clocks c)
-  more None h = tt
-  more (Some regs) h = λ c below there. elim (is_or_before c n below) [
-    | inl same ↦ let gone : registered clocks c ≡ false = ap (λ (k : ℕ). registered clocks k) same ∙ free in absurd cc
-    | inr before ↦ h c before there
+pub own_rate : (defs : Description) (told : Option Registers) (siblings old : List ℕ) (levels clock parent at found : ℕ) (kind : Kind)
+    → clock < length defs → clock < length old → at ≡ slice_index siblings (length defs + clock) → kind ≡ kind_of defs clock → IfSome told (λ regs. found ≡ rate_over kind regs parent)
+    → Refreshing defs told siblings old (slice_set old clock found) levels clock parent at 0
+own_rate defs told siblings old levels clock parent at found kind place within first is own = record {
+  comes = λ kids are. subst (λ (a : ℕ). ComesAt siblings (length defs + clock) a (kids clock)) (sym first)
+      (leads_comes siblings (length defs + clock) (length defs + clock) (kids clock) (are.rings clock place));
+  below = given told own;
+  others = λ kids are k out. get_or-set_other old clock k found 0 (λ same. (not_in_cons k clock (flat_map (below_within kids levels) (kids clock)) out).0 (sym same));
+} where
+  given : (told' : Option Registers) → IfSome told' (λ regs. found ≡ rate_over kind regs parent)
+      → IfSome told' (λ regs. (kids : ℕ → List ℕ) (rates : ℕ → ℕ) → AreKidRings (length defs) siblings kids → AreOver defs regs kids rates
+      → rates clock ≡ rate_over (kind_of defs clock) regs parent → (k : ℕ) → is_in k (below_within kids (suc levels) clock) ≡ true
+      → (slice_index (slice_set old clock found) k ≡ rates k) ⊎ (is_in k (flat_map (below_within kids levels) (drop 0 (kids clock))) ≡ true))
+  given None h = tt
+  given (Some regs) h = λ kids rates are over top k m. elim (is_in_cases k clock (flat_map (below_within kids levels) (kids clock)) m) [
+    | inl same ↦ inl (
+        ap (slice_index (slice_set old clock found)) (sym same) ∙ get_or-set_same old clock found 0 within
+        ∙ h ∙ ap (λ (x : Kind). rate_over x regs parent) is ∙ sym top ∙ ap rates same
+        )
+    | inr later ↦ inr later
   ]
 
--- a registered one gets its rate
-pub refreshed_set : (defs : Description) (clocks : List ClockRow) (told : Option Registers) (old mid : List ℕ) (n levels found : ℕ)
-    → Refreshed defs clocks told old mid n → n < length old → registered clocks n ≡ true → levels ≡ depth
-    → IfSome told (λ regs. found ≡ rate_within defs regs clocks levels n) → Refreshed defs clocks told old (slice_set mid n found) (n + 1)
-unfolding rate
-refreshed_set defs clocks told old mid n levels found so_far place there deep is = record {
-  places = length-set mid n found ∙ so_far.places;
-  done = more told so_far.done is;
-  others = λ c free. get_or-set_other mid n c found 0 (λ same. clash c same free) ∙ so_far.others c free;
-} where
-  clash : (c : ℕ) → c ≡ n → registered clocks c ≡ false → ⊥
-  clash c same free = let gone : registered clocks c ≡ true = ap (λ (k : ℕ). registered clocks k) same ∙ there in cc
+-- ---- one child more
 
-  within : n < length mid
-  within = let len = so_far.places in omega arith
+drop_cons : (xs : List ℕ) (step x : ℕ) → slice_get xs step ≡ Some x → drop step xs ≡ x ∷ drop (suc step) xs
+drop_cons [] step x at = absurd cc
+drop_cons (y ∷ xs) zero x at = let same : y ≡ x = cc in ap (λ (z : ℕ). z ∷ xs) same
+drop_cons (y ∷ xs) (suc step) x at = drop_cons xs step x at
 
-  more : (told : Option Registers) → IfSome told (λ regs. (c : ℕ) → c < n → registered clocks c ≡ true → slice_index mid c ≡ rate defs regs clocks c)
-      → IfSome told (λ regs. found ≡ rate_within defs regs clocks levels n)
-      → IfSome told (λ regs. (c : ℕ) → c < n + 1 → registered clocks c ≡ true → slice_index (slice_set mid n found) c ≡ rate defs regs clocks c)
-  more None h f = tt
-  more (Some regs) h f = λ c below on. elim (is_or_before c n below) [
-    | inl same ↦ ap (λ (k : ℕ). slice_index (slice_set mid n found) k) same ∙ get_or-set_same mid n found 0 within
-        ∙ f ∙ ap (λ (l : ℕ). rate_within defs regs clocks l n) deep ∙ ap (λ (k : ℕ). rate defs regs clocks k) (sym same)
-    | inr before ↦ get_or-set_other mid n c found 0 (λ same. later c same before) ∙ h c before on
-  ] where
-    later : (c : ℕ) → c ≡ n → c < n → ⊥
-    later c same before = omega arith
+pub one_child : (defs : Description) (told : Option Registers) (siblings old mid new : List ℕ) (levels clock parent at next step found : ℕ) (kind : Kind)
+    → kind ≡ kind_of defs clock → IfSome told (λ regs. found ≡ rate_over kind regs parent) → at < length defs → next ≡ slice_index siblings at
+    → Refreshing defs told siblings old mid levels clock parent at step → RefreshesBelow defs told siblings mid new levels at found
+    → Refreshing defs told siblings old new levels clock parent next (step + 1)
+one_child defs told siblings old mid new levels clock parent at next step found kind is own less follows so_far child =
+    subst (λ (n : ℕ). Refreshing defs told siblings old new levels clock parent next n) (let one : suc step ≡ step + 1 = omega arith in one) (record {
+      comes = λ kids are. subst (λ (a : ℕ). ComesAt siblings (length defs + clock) a (drop (suc step) (kids clock))) (sym follows) (on kids are).1;
+      below = given told own so_far.below child.below;
+      others = λ kids are k out. child.others kids are k (outside kids are k out) ∙ so_far.others kids are k out;
+    }) where
+      on : (kids : ℕ → List ℕ) → AreKidRings (length defs) siblings kids → (slice_get (kids clock) step ≡ Some at) × ComesAt siblings (length defs + clock) (slice_index siblings at) (drop (suc step) (kids clock))
+      on kids are = go_on siblings (length defs + clock) at (length defs) step (kids clock) (omega arith) less (so_far.comes kids are)
+
+      left : (kids : ℕ → List ℕ) → AreKidRings (length defs) siblings kids → drop step (kids clock) ≡ at ∷ drop (suc step) (kids clock)
+      left kids are = drop_cons (kids clock) step at (on kids are).0
+
+      -- what isn't below the clock isn't below its child
+      outside : (kids : ℕ → List ℕ) → AreKidRings (length defs) siblings kids → (k : ℕ) → is_in k (below_within kids (suc levels) clock) ≡ false → is_in k (below_within kids levels at) ≡ false
+      outside kids are k out = elim (cases_Bool (is_in k (below_within kids levels at))) [
+        | inl there ↦ absurd (both_ways _ out
+            (is_in_tail k clock (flat_map (below_within kids levels) (kids clock))
+            (flat_map_in (below_within kids levels) k at (kids clock) (get_in (kids clock) step at (on kids are).0) there)))
+        | inr gone ↦ gone
+      ]
+
+      given : (told' : Option Registers) → IfSome told' (λ regs. found ≡ rate_over kind regs parent)
+          → IfSome told' (λ regs. (kids : ℕ → List ℕ) (rates : ℕ → ℕ) → AreKidRings (length defs) siblings kids → AreOver defs regs kids rates
+          → rates clock ≡ rate_over (kind_of defs clock) regs parent → (k : ℕ) → is_in k (below_within kids (suc levels) clock) ≡ true
+          → (slice_index mid k ≡ rates k) ⊎ (is_in k (flat_map (below_within kids levels) (drop step (kids clock))) ≡ true))
+          → IfSome told' (λ regs. (kids : ℕ → List ℕ) (rates : ℕ → ℕ) → AreKidRings (length defs) siblings kids → AreOver defs regs kids rates
+          → rates at ≡ rate_over (kind_of defs at) regs found → (k : ℕ) → is_in k (below_within kids levels at) ≡ true → slice_index new k ≡ rates k)
+          → IfSome told' (λ regs. (kids : ℕ → List ℕ) (rates : ℕ → ℕ) → AreKidRings (length defs) siblings kids → AreOver defs regs kids rates
+          → rates clock ≡ rate_over (kind_of defs clock) regs parent → (k : ℕ) → is_in k (below_within kids (suc levels) clock) ≡ true
+          → (slice_index new k ≡ rates k) ⊎ (is_in k (flat_map (below_within kids levels) (drop (suc step) (kids clock))) ≡ true))
+      given None h f g = tt
+      given (Some regs) h f g = λ kids rates are over top k m.
+          let here : found ≡ rates clock = h ∙ ap (λ (x : Kind). rate_over x regs parent) is ∙ sym top in
+          let child_rate : rates at ≡ rate_over (kind_of defs at) regs found =
+          over clock at (get_in (kids clock) step at (on kids are).0) ∙ ap (rate_over (kind_of defs at) regs) (sym here) in
+          elim (cases_Bool (is_in k (below_within kids levels at))) [
+            | inl there ↦ inl (g kids rates are over child_rate k there)
+            | inr gone ↦ elim (f kids rates are over top k m) [
+              | inl right ↦ inl (child.others kids are k gone ∙ right)
+              | inr later ↦ elim (in_append k (below_within kids levels at) (flat_map (below_within kids levels) (drop (suc step) (kids clock)))
+                  (ap (λ (ys : List ℕ). is_in k (flat_map (below_within kids levels) ys)) (sym (left kids are)) ∙ later)) [
+                    | inl in_child ↦ absurd (both_ways _ gone in_child)
+                    | inr rest ↦ inr rest
+                  ]
+            ]
+          ]
+
+-- ---- all children
+
+-- where no child is left, all below the clock is done
+pub all_done : (defs : Description) (told : Option Registers) (siblings old new : List ℕ) (deep levels clock parent at step : ℕ) → deep ≡ suc levels
+    → ((kids : ℕ → List ℕ) → AreKidRings (length defs) siblings kids → length (kids clock) ≤ step)
+    → Refreshing defs told siblings old new levels clock parent at step → RefreshesBelow defs told siblings old new deep clock parent
+all_done defs told siblings old new deep levels clock parent at step is all so_far =
+    subst (λ (n : ℕ). RefreshesBelow defs told siblings old new n clock parent) (sym is) (record { below = given told so_far.below; others = so_far.others }) where
+      given : (told' : Option Registers)
+          → IfSome told' (λ regs. (kids : ℕ → List ℕ) (rates : ℕ → ℕ) → AreKidRings (length defs) siblings kids → AreOver defs regs kids rates
+          → rates clock ≡ rate_over (kind_of defs clock) regs parent → (k : ℕ) → is_in k (below_within kids (suc levels) clock) ≡ true
+          → (slice_index new k ≡ rates k) ⊎ (is_in k (flat_map (below_within kids levels) (drop step (kids clock))) ≡ true))
+          → IfSome told' (λ regs. (kids : ℕ → List ℕ) (rates : ℕ → ℕ) → AreKidRings (length defs) siblings kids → AreOver defs regs kids rates
+          → rates clock ≡ rate_over (kind_of defs clock) regs parent → (k : ℕ) → is_in k (below_within kids (suc levels) clock) ≡ true → slice_index new k ≡ rates k)
+      given None h = tt
+      given (Some regs) h = λ kids rates are over top k m. elim (h kids rates are over top k m) [
+        | inl right ↦ right
+        | inr later ↦ absurd (nothing (ap (λ (ys : List ℕ). is_in k (flat_map (below_within kids levels) ys)) (sym (none_left (kids clock) step (all kids are))) ∙ later))
+      ] where
+        nothing : false ≡ true → ⊥
+        nothing e = cc
+
+-- an end that comes says so
+pub ended : (defs : Description) (told : Option Registers) (siblings old new : List ℕ) (levels clock parent at step : ℕ)
+    → Refreshing defs told siblings old new levels clock parent at step → length defs ≤ at
+    → (kids : ℕ → List ℕ) → AreKidRings (length defs) siblings kids → length (kids clock) ≤ step
+ended defs told siblings old new levels clock parent at step so_far beyond kids are =
+    stops siblings (length defs + clock) at (length defs) step (kids clock) (λ x m. are.clocks clock x m) beyond (so_far.comes kids are)
+
+-- without a level nothing is below
+pub no_level : (defs : Description) (told : Option Registers) (siblings old : List ℕ) (levels clock parent : ℕ) → levels ≡ 0 → RefreshesBelow defs told siblings old old levels clock parent
+no_level defs told siblings old levels clock parent none =
+    subst (λ (n : ℕ). RefreshesBelow defs told siblings old old n clock parent) (sym none) (record { below = given told; others = λ kids are k out. refl }) where
+      given : (told' : Option Registers) → IfSome told' (λ regs. (kids : ℕ → List ℕ) (rates : ℕ → ℕ) → AreKidRings (length defs) siblings kids → AreOver defs regs kids rates
+          → rates clock ≡ rate_over (kind_of defs clock) regs parent → (k : ℕ) → is_in k (below_within kids 0 clock) ≡ true → slice_index old k ≡ rates k)
+      given None = tt
+      given (Some regs) = λ kids rates are over top k m. absurd cc

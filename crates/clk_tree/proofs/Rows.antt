@@ -1,5 +1,5 @@
 -- Laws on the rows of a tree.
-use Rattle.std.proofs.Common.{◌≡◌, ℕ, zero, suc, ◌<◌, ◌≤◌, ◌||◌, Bool, true, false, List, [], ◌∷◌, Option, Some, None, refl, sym, ap, subst, ◌∙◌, ◌⊎◌, inl, inr, arith, length, nat_eq}
+use Rattle.std.proofs.Common.{◌≡◌, ℕ, zero, suc, ◌<◌, ◌≤◌, ◌||◌, Bool, true, false, List, [], ◌∷◌, Option, Some, None, refl, sym, ap, ◌∙◌, ◌⊎◌, inl, inr, arith, length, nat_eq}
 use Rattle.std.specs.Prelude.{slice_set, IfSome, replicate}
 use Rattle.std.specs.Option.{option_map}
 use Rattle.std.proofs.lemmas.List.{length-set}
@@ -10,7 +10,8 @@ use Rattle.clk_model.specs.Lists.{is_in, to_front}
 use Rattle.clk_model.specs.State.{row_of, registered, link_in, unregistered_row, requested}
 use Rattle.clk_model.proofs.Members.{same_from_test, test_other}
 use Rattle.clk_model.proofs.StateLaws.{row_of-set_same, row_of-set_other}
-use Rattle.clk_tree.specs.TreeState.{IsTree, IsHeld, attached}
+use Rattle.clk_model.specs.Wired.{LinesEnd}
+use Rattle.clk_tree.specs.TreeState.{IsTree, attached}
 use Rattle.clk_model.proofs.OnceLaws.{is_in-to_front, once-to_front, few_once}
 use Rattle.std.proofs.Math.Bool.{or-true}
 
@@ -32,18 +33,16 @@ length-blank zero = refl
 length-blank (suc n) = ap (λ (m : ℕ). suc m) (length-blank n)
 
 -- without a registered clock it is a tree
-pub tree_made : (defs : Description) (rates : List ℕ) (most : ℕ) → length rates ≡ length defs → length defs ≤ most
-    → IsHeld defs (replicate (length defs) unregistered_row) [] rates most
-tree_made defs rates most rated fits = record {
-  tree = record {
-    rows = length-blank (length defs);
-    rated = rated;
-    linked = λ c p e. none c p e;
-    links = λ c p e. none c p e;
-    possible = λ c p e. none c p e;
-    order_lists = record { once = refl; listed = λ c. sym (ap (λ (r : ClockRow). r.registered) (row_of-blank (length defs) c)) };
-  };
-  room = fits;
+pub tree_made : (defs : Description) (rates : List ℕ) → LinesEnd defs → length rates ≡ length defs
+    → IsTree defs (replicate (length defs) unregistered_row) [] rates
+tree_made defs rates lines rated = record {
+  rows = length-blank (length defs);
+  rated = rated;
+  lines = lines;
+  linked = λ c p e. none c p e;
+  links = λ c p e. none c p e;
+  possible = λ c p e. none c p e;
+  order_lists = record { once = refl; listed = λ c. sym (ap (λ (r : ClockRow). r.registered) (row_of-blank (length defs) c)) };
 } where
   unlinked : {P : Type 0} (p : ℕ) (o : Option ℕ) → o ≡ None → o ≡ Some p → P
   unlinked p o gone e = absurd cc
@@ -104,6 +103,7 @@ tree_attached defs clocks order rates c parent tree place there can =
     record {
       rows = length-set clocks c row ∙ tree.rows;
       rated = tree.rated;
+      lines = tree.lines;
       linked = λ k p e. elim (link-set clocks c row k p within e) [
         | inl own ↦ ap (λ (n : ℕ). registered (slice_set clocks c row) n) (sym own.0) ∙ ap (λ (r : ClockRow). r.registered) (row_of-set_same clocks c row within)
         | inr was ↦ registered-more clocks c row k within refl (tree.linked k p was)
@@ -127,22 +127,6 @@ pub order-few : (defs : Description) (clocks : List ClockRow) (order rates : Lis
 order-few defs clocks order rates tree =
     few_once order (length defs) tree.order_lists.once
     (λ q m. let below : q < length clocks = registered-lt clocks q (sym (tree.order_lists.listed q) ∙ m) in let len = tree.rows in omega arith)
-
--- a clock that is attached has room in front
-pub room_in_front : (defs : Description) (clocks : List ClockRow) (order rates : List ℕ) (most c : ℕ) → IsHeld defs clocks order rates most → c < length defs
-    → length (to_front c order) ≤ most
-room_in_front defs clocks order rates most c held place =
-    let few : length (to_front c order) ≤ length defs =
-    few_once (to_front c order) (length defs) (once-to_front c order held.tree.order_lists.once)
-    (λ q m. elim (first (nat_eq c q) (is_in q order) (sym (is_in-to_front q c order) ∙ m)) [
-      | inl same ↦ let is : c ≡ q = same_from_test c q same in omega arith
-      | inr was ↦ let below : q < length clocks = registered-lt clocks q (sym (held.tree.order_lists.listed q) ∙ was) in let len = held.tree.rows in omega arith
-    ]) in
-    let fits = held.room in
-    omega arith where
-      first : (a b : Bool) → (a || b) ≡ true → (a ≡ true) ⊎ (b ≡ true)
-      first true b h = inl refl
-      first false b h = inr h
 
 -- ---- last requests
 
@@ -178,39 +162,9 @@ tree_requested defs clocks order rates c rate tree place =
     record {
       rows = length-set clocks c _ ∙ tree.rows;
       rated = tree.rated;
+      lines = tree.lines;
       linked = λ k p e. registered-requested clocks c rate k within ∙ tree.linked k p (sym (link-requested clocks c rate k within) ∙ e);
       links = λ k p e. registered-requested clocks c rate p within ∙ tree.links k p (sym (link-requested clocks c rate k within) ∙ e);
       possible = λ k p e. tree.possible k p (sym (link-requested clocks c rate k within) ∙ e);
       order_lists = record { once = tree.order_lists.once; listed = λ k. tree.order_lists.listed k ∙ sym (registered-requested clocks c rate k within) };
-    }
-
--- ---- the fields of a tree
-
--- a written row with a parent keeps what the fields keep
-pub held_attached : (defs : Description) (clocks found : List ClockRow) (order new rates : List ℕ) (most room c : ℕ) (parent : Option ClockId) (row : ClockRow)
-    → IsHeld defs clocks order rates most → c < length defs
-    → IfSome parent (λ q. registered clocks q.0 ≡ true) → IfSome parent (λ q. is_in q.0 (parents_of defs c) ≡ true)
-    → row ≡ row_of found c → found ≡ clocks → new ≡ to_front c order → room ≡ most
-    → IsHeld defs (slice_set clocks c (record row { registered = true; link = parent })) new rates room
-held_attached defs clocks found order new rates most room c parent row held place there can is same front kept =
-    let at : row ≡ row_of clocks c = is ∙ ap (λ (rows : List ClockRow). row_of rows c) same in
-    record {
-      tree =
-          subst (λ (r : ClockRow). IsTree defs (slice_set clocks c (record r { registered = true; link = parent })) new rates) (sym at)
-          (subst (λ (cs : List ℕ). IsTree defs (attached clocks c parent) cs rates) (sym front)
-          (tree_attached defs clocks order rates c parent held.tree place there can));
-      room = let fits = held.room in omega arith;
-    }
-
--- and one with a last request
-pub held_requested : (defs : Description) (clocks found : List ClockRow) (order rates : List ℕ) (most c rate : ℕ) (row : ClockRow)
-    → IsHeld defs clocks order rates most → c < length defs → row ≡ row_of found c → found ≡ clocks
-    → IsHeld defs (slice_set clocks c (record row { last_request = rate })) order rates most
-held_requested defs clocks found order rates most c rate row held place is same =
-    let at : row ≡ row_of clocks c = is ∙ ap (λ (rows : List ClockRow). row_of rows c) same in
-    record {
-      tree =
-          subst (λ (r : ClockRow). IsTree defs (slice_set clocks c (record r { last_request = rate })) order rates) (sym at)
-          (tree_requested defs clocks order rates c rate held.tree place);
-      room = held.room;
     }

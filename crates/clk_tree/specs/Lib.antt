@@ -1,5 +1,9 @@
+pub mod Rings
 pub mod TreeState
 pub mod Groups
+pub mod Held
+pub mod Refreshed
+pub mod PllCounts
 pub mod Readable
 pub mod Plans
 pub mod Examples

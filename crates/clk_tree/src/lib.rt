@@ -8,10 +8,11 @@
 mod chain;
 mod group;
 mod kind;
-mod order;
 mod path;
 mod plan;
+mod plls;
 mod refresh;
+mod ring;
 mod tree;
 mod view;
 mod walk_rates;

@@ -1,48 +1,64 @@
 //! Rates by the registers.
 
-ghost use Rattle.std.specs.Prelude.{◌≡◌, ℕ, ◌<◌, ◌≤◌, true, false, length, slice_index, IfSome};
-ghost use Rattle.clk_model.specs.State.{registered};
-ghost use Rattle.clk_model.specs.Rate.{rate, rate_within};
+ghost use Rattle.std.specs.Prelude.{◌≡◌, ℕ, ◌+◌, ◌<◌, ◌≤◌, true, false, List, length, slice_index, IfSome};
+ghost use Rattle.std.specs.Option.{option_map_or};
+ghost use Rattle.clk_base.specs.Description.{kind_of};
+ghost use Rattle.clk_model.specs.Lists.{is_in};
+ghost use Rattle.clk_model.specs.Rate.{rate_over};
+ghost use Rattle.clk_model.specs.Walk.{below_within};
+ghost use Rattle.clk_tree.specs.Refreshed.{AreKidRings, AreOver};
 
+use crate::group::count_of;
 use crate::kind::{kind_of, rate_over};
-use crate::path::{is_registered, link_of};
-use clk_base::{ClockId, ValidDesc, depth};
-use clk_model::ClockRow;
+use crate::ring::Ring;
+use clk_base::{ClockId, ValidDesc};
 use reg_bank::Bank;
 
-// The rate of a clock in Hz, by the clocks of its path within so many levels.
-fn rate_above<B: Bank>(
-    levels: u32,
-    desc: &ValidDesc,
-    clocks: &[ClockRow],
-    bank: &B,
-    clock: ClockId,
-) -> u64
-    requires { desc.now.words ≤ B.size bank.now }
-    ensures { IfSome (B.contents bank.now) (λ regs. result ≡ rate_within desc.now.defs regs clocks.now levels clock.0) }
+/// The rate of the clock that a link leads to, and 0 without one.
+pub(crate) fn rate_behind(rates: &[u64], link: Option<ClockId>) -> u64
+    requires { IfSome link (λ p. p.0 < length rates.now) }
+    ensures { result ≡ option_map_or (λ p. slice_index rates.now p.0) link 0 }
 {
-    if levels == 0 {
-        return 0;
-    }
-    let parent = match link_of(clocks, clock) {
-        Some(parent) => rate_above(levels - 1, desc, clocks, bank, parent),
+    match link {
+        Some(parent) => rates[parent.0 as usize],
         None => 0,
-    };
-    rate_over(kind_of(desc, clock), bank, parent)
+    }
 }
 
-/// Puts the rate of every registered clock by the registers in its place. Other places stay.
-pub(crate) fn refresh<B: Bank>(desc: &ValidDesc, clocks: &[ClockRow], bank: &B, rates: &mut [u64])
+/// Computes the rate of a clock over this rate of its parent, and the rates of the clocks below it,
+/// within so many levels. Other rates stay.
+pub(crate) fn refresh_below<B: Bank>(
+    levels: u32,
+    desc: &ValidDesc,
+    siblings: &Ring,
+    bank: &B,
+    clock: ClockId,
+    parent: u64,
+    rates: &mut [u64],
+)
     requires bank { desc.now.words ≤ B.size bank.now }
-    requires places { length rates.old ≡ length desc.now.defs }
-    ensures places { length rates.new ≡ length rates.old }
-    ensures rates { IfSome (B.contents bank.now) (λ regs. (c : ℕ) → c < length rates.old → registered clocks.now c ≡ true → slice_index rates.new c ≡ rate desc.now.defs regs clocks.now c) }
-    ensures others { (c : ℕ) → registered clocks.now c ≡ false → slice_index rates.new c ≡ slice_index rates.old c }
+    requires rings { length siblings.now ≡ length desc.now.defs + length desc.now.defs + 2 }
+    requires place { clock.0 < length desc.now.defs }
+    requires rated { length rates.old ≡ length desc.now.defs }
+    ensures rated { length rates.new ≡ length rates.old }
+    ensures below { IfSome (B.contents bank.now) (λ regs. (kids : ℕ → List ℕ) (rate : ℕ → ℕ) → AreKidRings (length desc.now.defs) siblings.now kids → AreOver desc.now.defs regs kids rate
+        → rate clock.0 ≡ rate_over (kind_of desc.now.defs clock.0) regs parent
+        → (k : ℕ) → is_in k (below_within kids levels clock.0) ≡ true → slice_index rates.new k ≡ rate k) }
+    ensures others { (kids : ℕ → List ℕ) → AreKidRings (length desc.now.defs) siblings.now kids
+        → (k : ℕ) → is_in k (below_within kids levels clock.0) ≡ false → slice_index rates.new k ≡ slice_index rates.old k }
 {
-    for place in 0..desc.len() {
-        let clock = ClockId(place as u32);
-        if is_registered(clocks, clock) {
-            rates[place] = rate_above(depth(), desc, clocks, bank, clock);
+    if levels == 0 {
+        return;
+    }
+    let rate = rate_over(kind_of(desc, clock), bank, parent);
+    rates[clock.0 as usize] = rate;
+    let count = count_of(desc);
+    let mut at = siblings.after(count + clock.0);
+    for _step in 0..count {
+        if at >= count {
+            return;
         }
+        refresh_below(levels - 1, desc, siblings, bank, ClockId(at), rate, rates);
+        at = siblings.after(at);
     }
 }

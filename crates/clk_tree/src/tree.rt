@@ -1,23 +1,24 @@
 //! The tree.
 
-ghost use Rattle.std.specs.Prelude.{◌≡◌, ◌<◌, ◌≤◌, ℕ, true, false, [], ◌++◌, length, replicate, slice_get, slice_index, IfSome, IfOk};
+ghost use Rattle.std.specs.Prelude.{◌≡◌, ◌<◌, ◌≤◌, ℕ, ◌+◌, true, false, [], ◌++◌, length, replicate, slice_get, slice_index, IfSome, IfOk};
 ghost use Rattle.std.specs.Option.{option_map};
 ghost use Rattle.clk_base.specs.Description.{parents_of};
 ghost use Rattle.clk_model.specs.Lists.{is_in, to_front};
 ghost use Rattle.clk_model.specs.State.{row_of, registered, link_in, unregistered_row};
 ghost use Rattle.clk_model.specs.Tree.{rooted, children, roots, orphans};
-ghost use Rattle.clk_model.specs.Rate.{rate};
+ghost use Rattle.clk_model.specs.Script.{plls};
+ghost use Rattle.clk_tree.specs.Refreshed.{is_below, IsFresh};
 
-use crate::group::{Group, count_members, nth_member};
-use crate::order::move_to_front;
+use crate::group::{Group, as_clock, count_of, end_of, group_of, nth_behind};
 use crate::path::{has_root, is_registered, link_of, row_of, unregistered};
-use crate::refresh::refresh;
+use crate::plls::most_plls;
+use crate::refresh::{rate_behind, refresh_below};
+use crate::ring::Ring;
 use clk_base::{ClockId, ValidDesc, depth};
 use clk_io::NoMemory;
 use clk_model::ClockRow;
 use reg_bank::Bank;
 use std::alloc::Global;
-use std::collections::VecDeque;
 use std::marker::Model;
 
 /// The links of the clocks of a description, the order in which they were attached, and a kept
@@ -29,26 +30,32 @@ use std::marker::Model;
 pub struct Tree {
     desc: ValidDesc,
     clocks: Vec<ClockRow>,
-    // The registered clocks, the newest attached first. There is room for every clock.
-    order: VecDeque<ClockId>,
     rates: Vec<u64>,
+    // The registered clocks, the newest attached first, behind the number of all clocks.
+    turns: Ring,
+    // The children of each clock, the roots and the orphans, the newest attached first, each group
+    // behind its end.
+    siblings: Ring,
+    // The greatest number of PLLs on a line of possible parents.
+    plls: u32,
 }
 
 impl Model for Tree {
-    ghost use Rattle.std.specs.VecDeque.{deque_capacity};
-    ghost use Rattle.clk_base.specs.Places.{places};
-    ghost use Rattle.clk_tree.specs.TreeState.{TreeState, IsHeld};
+    ghost use Rattle.std.specs.Prelude.{length};
+    ghost use Rattle.clk_tree.specs.Rings.{ring_of};
+    ghost use Rattle.clk_tree.specs.TreeState.{TreeState};
+    ghost use Rattle.clk_tree.specs.Held.{IsHeld};
 
     ghost Value = { TreeState };
 
     ghost view = { λ t. record {
       defs = t.desc.defs;
       clocks = t.clocks.items;
-      order = places t.order.items;
+      order = ring_of t.turns (length t.desc.defs);
       rates = t.rates.items;
     } };
 
-    ghost invariant = { λ t. IsHeld t.desc.defs t.clocks.items (places t.order.items) t.rates.items (deque_capacity t.order) };
+    ghost invariant = { λ t. IsHeld t.desc.defs t.clocks.items t.rates.items t.turns t.siblings t.plls };
 }
 
 impl Tree {
@@ -64,13 +71,18 @@ impl Tree {
         ensures stands { IfOk result (λ tree. IsTree tree.defs tree.clocks tree.order tree.rates) }
     {
         let clocks = vec![in alloc; unregistered(); desc.len()]?;
-        let order = VecDeque::with_capacity(alloc, desc.len())?;
         let rates = vec![in alloc; 0u64; desc.len()]?;
+        let count = count_of(desc);
+        let turns = Ring::alone(alloc, count + 1)?;
+        let siblings = Ring::alone(alloc, count + count + 2)?;
+        let plls = most_plls(alloc, desc)?;
         Ok(Tree {
             desc: desc.copy(alloc)?,
             clocks,
-            order,
             rates,
+            turns,
+            siblings,
+            plls,
         })
     }
 
@@ -112,13 +124,42 @@ impl Tree {
         ensures child { option_map (λ c. c.0) result ≡ slice_get (children self.now.order self.now.clocks p.0) k }
         ensures stands { IsTree self.now.defs self.now.clocks self.now.order self.now.rates }
     {
-        nth_member(
-            Group::ChildrenOf(p),
-            &self.desc,
-            &self.clocks,
-            &self.order,
-            k,
-        )
+        let count = count_of(&self.desc);
+        if p.0 >= count {
+            return None;
+        }
+        let end = end_of(count, Group::ChildrenOf(p));
+        nth_behind(&self.siblings, count, end, k).ok()
+    }
+
+    /// The newest child of a clock. No search.
+    pub fn first_child(&self, p: ClockId) -> Option<ClockId>
+        ensures first { option_map (λ c. c.0) result ≡ slice_get (children self.now.order self.now.clocks p.0) 0 }
+        ensures inside { IfSome result (λ c. c.0 < length self.now.defs) }
+        ensures stands { IsTree self.now.defs self.now.clocks self.now.order self.now.rates }
+    {
+        let count = count_of(&self.desc);
+        if p.0 >= count {
+            return None;
+        }
+        let end = end_of(count, Group::ChildrenOf(p));
+        as_clock(count, self.siblings.after(end))
+    }
+
+    /// The next older one of the clocks that a clock stands with: the children of its parent, the
+    /// roots or the orphans. None behind the last, and of a clock that isn't registered. No search.
+    pub fn next_sibling(&self, c: ClockId) -> Option<ClockId>
+        ensures child { (p k : ℕ) → slice_get (children self.now.order self.now.clocks p) k ≡ Some c.0 → option_map (λ d. d.0) result ≡ slice_get (children self.now.order self.now.clocks p) (k + 1) }
+        ensures root { (k : ℕ) → slice_get (roots self.now.defs self.now.order) k ≡ Some c.0 → option_map (λ d. d.0) result ≡ slice_get (roots self.now.defs self.now.order) (k + 1) }
+        ensures orphan { (k : ℕ) → slice_get (orphans self.now.defs self.now.order self.now.clocks) k ≡ Some c.0 → option_map (λ d. d.0) result ≡ slice_get (orphans self.now.defs self.now.order self.now.clocks) (k + 1) }
+        ensures alone { registered self.now.clocks c.0 ≡ false → result ≡ None }
+        ensures inside { IfSome result (λ d. d.0 < length self.now.defs) }
+        ensures stands { IsTree self.now.defs self.now.clocks self.now.order self.now.rates }
+    {
+        if !is_registered(&self.clocks, c) {
+            return None;
+        }
+        as_clock(count_of(&self.desc), self.siblings.after(c.0))
     }
 
     /// The k-th, from 0, of the roots and then the orphans, the newest attached first of each.
@@ -126,19 +167,24 @@ impl Tree {
         ensures top { option_map (λ c. c.0) result ≡ slice_get (roots self.now.defs self.now.order ++ orphans self.now.defs self.now.order self.now.clocks) k }
         ensures stands { IsTree self.now.defs self.now.clocks self.now.order self.now.rates }
     {
-        let roots = count_members(Group::Roots, &self.desc, &self.clocks, &self.order);
-        if k < roots {
-            nth_member(Group::Roots, &self.desc, &self.clocks, &self.order, k)
-        } else {
-            let behind = k - roots;
-            nth_member(
-                Group::Orphans,
-                &self.desc,
-                &self.clocks,
-                &self.order,
-                behind,
-            )
+        let count = count_of(&self.desc);
+        let roots = end_of(count, Group::Roots);
+        match nth_behind(&self.siblings, count, roots, k) {
+            Ok(root) => Some(root),
+            Err(left) => {
+                let orphans = end_of(count, Group::Orphans);
+                nth_behind(&self.siblings, count, orphans, left).ok()
+            }
         }
+    }
+
+    /// The greatest number of PLLs on one line of possible parents. It was counted when the tree was
+    /// made.
+    pub fn plls(&self) -> u32
+        ensures plls { result ≡ plls self.now.defs }
+        ensures stands { IsTree self.now.defs self.now.clocks self.now.order self.now.rates }
+    {
+        self.plls
     }
 
     /// The last requested rate of a clock in Hz.
@@ -167,7 +213,10 @@ impl Tree {
             ..row_of(&self.clocks, c)
         };
         self.clocks[c.0 as usize] = row;
-        move_to_front(&mut self.order, c);
+        let count = count_of(&self.desc);
+        let end = end_of(count, group_of(&self.desc, c, p));
+        self.siblings.move_behind(end, c.0);
+        self.turns.move_behind(count, c.0);
     }
 
     /// Keeps a rate in Hz as the last requested one of a clock.
@@ -186,17 +235,33 @@ impl Tree {
         self.clocks[c.0 as usize] = row;
     }
 
-    /// Computes the kept rate of every registered clock anew from the registers.
-    pub fn refresh_all<B: Bank>(&mut self, desc: &ValidDesc, bank: &B)
+    /// Brings the kept rates of a clock and of all clocks below it up to date with the registers.
+    /// Other kept rates stay.
+    pub fn refresh<B: Bank>(&mut self, desc: &ValidDesc, bank: &B, c: ClockId)
         requires made { desc.now.defs ≡ self.old.defs }
         requires bank { desc.now.words ≤ B.size bank.now }
-        ensures rates { IfSome (B.contents bank.now) (λ regs. (c : ℕ) → registered self.old.clocks c ≡ true → slice_index self.new.rates c ≡ rate self.old.defs regs self.old.clocks c) }
-        ensures others { (c : ℕ) → registered self.old.clocks c ≡ false → slice_index self.new.rates c ≡ slice_index self.old.rates c }
+        requires place { c.0 < length self.old.defs }
+        ensures below { IfSome (B.contents bank.now) (λ regs. ((p : ℕ) → link_in self.old.clocks c.0 ≡ Some p → IsFresh self.old.defs regs self.old.clocks self.old.rates p)
+            → (k : ℕ) → is_below self.old.clocks c.0 k ≡ true → IsFresh self.old.defs regs self.old.clocks self.new.rates k) }
+        ensures rates { IfSome (B.contents bank.now) (λ regs. ((k : ℕ) → registered self.old.clocks k ≡ true → is_below self.old.clocks c.0 k ≡ false → IsFresh self.old.defs regs self.old.clocks self.old.rates k)
+            → (k : ℕ) → registered self.old.clocks k ≡ true → IsFresh self.old.defs regs self.old.clocks self.new.rates k) }
+        ensures others { (k : ℕ) → is_below self.old.clocks c.0 k ≡ false → slice_index self.new.rates k ≡ slice_index self.old.rates k }
         ensures rows { self.new.clocks ≡ self.old.clocks }
         ensures order { self.new.order ≡ self.old.order }
         ensures defs { self.new.defs ≡ self.old.defs }
         ensures stands { IsTree self.new.defs self.new.clocks self.new.order self.new.rates }
     {
-        refresh(desc, &self.clocks, bank, &mut self.rates);
+        let link = link_of(&self.clocks, c);
+        let parent = rate_behind(&self.rates, link);
+        let levels = depth();
+        refresh_below(
+            levels,
+            desc,
+            &self.siblings,
+            bank,
+            c,
+            parent,
+            &mut self.rates,
+        );
     }
 }

@@ -1,7 +1,7 @@
 //! What no contract says: that `create` gets on where there is memory, and trees, rates and plans
 //! that were worked out by hand.
 
-ghost use Rattle.std.specs.Prelude.{◌≡◌, ◌<◌, true, false, length, IfOk};
+ghost use Rattle.std.specs.Prelude.{◌≡◌, ◌<◌, ◌≤◌, true, false, length, IfOk};
 ghost use Rattle.clk_base.specs.Description.{parents_of};
 ghost use Rattle.clk_model.specs.Lists.{is_in};
 
@@ -73,6 +73,16 @@ fn attach_alone(rt: &impl Abort, tree: &mut Tree, desc: &ValidDesc, c: ClockId)
 {
     assert!(rt; (c.0 as usize) < desc.len());
     tree.attach(c, None);
+}
+
+// Brings the rates of a clock and of all below it up to date, and ends the test of a place outside.
+fn refresh_from<B: Bank>(rt: &impl Abort, tree: &mut Tree, desc: &ValidDesc, bank: &B, c: ClockId)
+    requires made { desc.now.defs ≡ tree.old.defs }
+    requires bank { desc.now.words ≤ B.size bank.now }
+    ensures { tree.new.defs ≡ tree.old.defs }
+{
+    assert!(rt; (c.0 as usize) < desc.len());
+    tree.refresh(desc, bank, c);
 }
 
 // The kept rate of a clock, and 0 of a place outside.
@@ -156,15 +166,28 @@ fn rates_are_kept_until_they_are_refreshed(rt: HostRuntime) -> Result<(), Fail> 
     let desc = four_clocks(rt.alloc())?;
     let bank = MemBank::new(rt.alloc())?;
     let mut tree = tree_of_four(&rt, rt.alloc(), &desc)?;
-    tree.refresh_all(&desc, &bank);
+    refresh_from(&rt, &mut tree, &desc, &bank, OSC);
     assert_eq!(rt; kept(&tree, &desc, OSC), 24_000_000);
-    assert_eq!(rt; kept(&tree, &desc, RTC), 32_768);
     assert_eq!(rt; kept(&tree, &desc, UART), 24_000_000);
-    assert_eq!(rt; kept(&tree, &desc, SPI), 0);
+    assert_eq!(rt; kept(&tree, &desc, RTC), 0);
     attach_to(&rt, &mut tree, &desc, SPI, OSC);
     assert_eq!(rt; kept(&tree, &desc, SPI), 0);
-    tree.refresh_all(&desc, &bank);
+    refresh_from(&rt, &mut tree, &desc, &bank, SPI);
     assert_eq!(rt; kept(&tree, &desc, SPI), 24_000_000);
+    Ok(())
+}
+
+#[test]
+fn clocks_that_stand_together_are_gone_along(rt: HostRuntime) -> Result<(), Fail> {
+    let desc = four_clocks(rt.alloc())?;
+    let mut tree = tree_of_four(&rt, rt.alloc(), &desc)?;
+    attach_to(&rt, &mut tree, &desc, SPI, OSC);
+    assert_eq!(rt; tree.first_child(OSC), Some(SPI));
+    assert_eq!(rt; tree.next_sibling(SPI), Some(UART));
+    assert_eq!(rt; tree.next_sibling(UART), None);
+    assert_eq!(rt; tree.next_sibling(RTC), Some(OSC));
+    assert_eq!(rt; tree.first_child(RTC), None);
+    assert_eq!(rt; tree.plls(), 0);
     Ok(())
 }
 
@@ -267,7 +290,8 @@ fn check_rates(rt: &impl Abort, alloc: Global, words: [u32; 2], rows: &[Row]) ->
     let desc = desc.check(alloc, 2)?;
     let mut tree = Tree::create(alloc, &desc)?;
     attach_all(rt, &mut tree, &desc, rows);
-    tree.refresh_all(&desc, &bank);
+    refresh_from(rt, &mut tree, &desc, &bank, OSC);
+    assert_eq!(rt; tree.plls(), 1);
     for place in 0..rows.len() {
         assert!(rt; place < 100);
         assert_eq!(rt; kept(&tree, &desc, ClockId(place as u32)), rows[place].2);

@@ -1,28 +1,39 @@
-use Rattle.std.proofs.Common.{◌≡◌, ◌<◌, true, length}
-use Rattle.std.specs.Prelude.{IfSome}
-use Rattle.std.specs.VecDeque.{deque_capacity}
+-- The tree with the clock in front of its group and of all.
+use Rattle.std.proofs.Common.{◌≡◌, ◌<◌, true, ℕ, length, ap, subst, ◌∙◌}
+use Rattle.std.specs.Prelude.{IfSome, slice_set}
 use Rattle.clk_base.specs.Description.{parents_of}
-use Rattle.clk_base.specs.Places.{places}
-use Rattle.clk_model.specs.Lists.{is_in}
+use Rattle.clk_model.specs.Lists.{is_in, to_front}
 use Rattle.clk_model.specs.State.{registered}
-use Rattle.clk_tree.proofs.Rows.{room_in_front, held_attached}
+use Rattle.clk_tree.specs.declared.group.Group.{Group}
+use Rattle.clk_tree.specs.Groups.{end_of, group_of}
+use Rattle.clk_tree.specs.Held.{IsHeld}
+use Rattle.clk_tree.specs.Rings.{ring_of}
+use Rattle.clk_tree.proofs.GroupLaws.{Moves}
+use Rattle.clk_tree.proofs.HeldLaws.{held_attached}
 use Rattle.clk_tree.proofs.tree.Tree.attach.Goals as goal
 
-pub move_to_front-requires : goal.move_to_front-requires
-move_to_front-requires c =
+after : (c : goal.After-move_behind-2) → (ring_of c.move_behind-2.new.self (length c.self.inside.desc.defs) ≡ to_front c.args.c.0 (ring_of c.self.inside.turns (length c.self.inside.desc.defs)))
+    × IsHeld c.self.inside.desc.defs (slice_set c.self.inside.clocks.items c.args.c.0 (record c.row_of.result { registered = true; link = c.args.p })) c.self.inside.rates.items c.move_behind-2.new.self c.move_behind.new.self c.self.inside.plls
+after c =
     let m = c.self.inside in
-    let place : c.args.c.0 < length m.desc.defs = rw (← c.self.view_is) at c.requires.place in
-    room_in_front m.desc.defs m.clocks.items (places m.order.items) m.rates.items (deque_capacity m.order) c.args.c.0 c.self.invariant place
-
-pub invariant_of-self : goal.invariant_of-self
-invariant_of-self c =
-    let m = c.self.inside in
+    let n = c.count_of-count.ensures.count in
     let place : c.args.c.0 < length m.desc.defs = rw (← c.self.view_is) at c.requires.place in
     let there : IfSome c.args.p (λ q. registered m.clocks.items q.0 ≡ true) = rw (← c.self.view_is) at c.requires.there in
     let can : IfSome c.args.p (λ q. is_in q.0 (parents_of m.desc.defs c.args.c.0) ≡ true) = rw (← c.self.view_is) at c.requires.possible in
-    held_attached m.desc.defs m.clocks.items c.deref.result.now (places m.order.items) (places c.move_to_front.new.order.items) m.rates.items
-    (deque_capacity m.order) (deque_capacity c.move_to_front.new.order) c.args.c.0 c.args.p c.row_of.result
-    c.self.invariant place there can c.row_of.ensures c.deref.ensures.value c.move_to_front.ensures.order c.move_to_front.ensures.capacity
+    let ends : c.end_of-end.result ≡ end_of (length m.desc.defs) (group_of m.desc.defs c.args.c.0 c.args.p) =
+    c.end_of-end.ensures ∙ ap (λ (k : ℕ). end_of k c.group_of.result) n ∙ ap (λ (g : Group). end_of (length m.desc.defs) g) c.group_of.ensures in
+    held_attached m.desc.words m.desc.defs m.clocks.items c.deref.result.now m.rates.items m.turns m.siblings c.move_behind-2.new.self c.move_behind.new.self m.plls c.args.c.0 c.args.p c.row_of.result
+    c.count_of-count.ensures.valid c.self.invariant place there can c.row_of.ensures c.deref.ensures.value
+    (subst (λ (e : ℕ). Moves m.siblings c.move_behind.new.self e c.args.c.0) ends
+    (record { size = c.move_behind.ensures.size; front = c.move_behind.ensures.front; others = c.move_behind.ensures.others }))
+    (subst (λ (e : ℕ). Moves m.turns c.move_behind-2.new.self e c.args.c.0) n
+    (record { size = c.move_behind-2.ensures.size; front = c.move_behind-2.ensures.front; others = c.move_behind-2.ensures.others }))
+
+pub invariant_of-self : goal.invariant_of-self
+invariant_of-self c = (after c).1
+
+pub returns-clause-newest : goal.returns-clause-newest
+returns-clause-newest c = rw (← c.self.view_is) (after c).0
 
 pub returns-clause-stands : goal.returns-clause-stands
-returns-clause-stands c = (invariant_of-self c).tree
+returns-clause-stands c = (after c).1.tree

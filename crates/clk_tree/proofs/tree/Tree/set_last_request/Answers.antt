@@ -1,14 +1,13 @@
+-- The tree with another last request.
 use Rattle.std.proofs.Common.{◌<◌, length}
-use Rattle.std.specs.VecDeque.{deque_capacity}
-use Rattle.clk_base.specs.Places.{places}
-use Rattle.clk_tree.proofs.Rows.{held_requested}
+use Rattle.clk_tree.proofs.HeldLaws.{held_requested}
 use Rattle.clk_tree.proofs.tree.Tree.set_last_request.Goals as goal
 
 pub invariant_of-self : goal.invariant_of-self
 invariant_of-self c =
     let m = c.self.inside in
     let place : c.args.c.0 < length m.desc.defs = rw (← c.self.view_is) at c.requires.place in
-    held_requested m.desc.defs m.clocks.items c.deref.result.now (places m.order.items) m.rates.items (deque_capacity m.order)
+    held_requested m.desc.defs m.clocks.items c.deref.result.now m.rates.items m.turns m.siblings m.plls
     c.args.c.0 c.args.rate c.row_of.result c.self.invariant place c.row_of.ensures c.deref.ensures.value
 
 pub returns-clause-stands : goal.returns-clause-stands

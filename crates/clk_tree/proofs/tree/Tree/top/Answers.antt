@@ -1,32 +1,33 @@
-use Rattle.std.proofs.Common.{◌≡◌, ◌+◌, ◌-◌, ◌<◌, ◌∙◌, ap, sym, List, length, arith}
-use Rattle.std.specs.Prelude.{slice_get}
-use Rattle.std.proofs.lemmas.List.Sums.{length-filter}
-use Rattle.clk_base.specs.Places.{places}
-use Rattle.clk_base.specs.Description.{kind_of}
-use Rattle.clk_model.specs.declared.row.ClockRow.{ClockRow}
-use Rattle.clk_model.specs.Kinds.{is_fixed}
+-- A place among the roots, or behind them among the orphans.
+use Rattle.std.proofs.Common.{ap, ◌∙◌, sym, length, Option, Ok, Err}
+use Rattle.std.specs.Option.{option_map}
+use Rattle.clk_base.specs.declared.clock.ClockId.{ClockId}
 use Rattle.clk_model.specs.Tree.{roots, orphans}
-use Rattle.clk_tree.proofs.Ordering.{slice_get-first, slice_get-second}
+use Rattle.clk_tree.specs.declared.group.Group.TheVariants.{Roots, Orphans}
+use Rattle.clk_tree.specs.Rings.{ring_of}
+use Rattle.clk_tree.proofs.Along.{clock_at, get_first, get_second}
+use Rattle.clk_tree.proofs.HeldLaws.{at_place}
 use Rattle.clk_tree.proofs.tree.Tree.top.Goals as goal
 
-pub returns-then-k-roots-clause-top : goal.returns-then-k-roots-clause-top
-returns-then-k-roots-clause-top c =
+pub returns-in-Ok-clause-top : goal.returns-in-Ok-clause-top
+returns-in-Ok-clause-top c =
     let m = c.self.inside in
-    let order = places m.order.items in
-    let counted : c.count_members-roots.result ≡ length (roots m.desc.defs order) =
-    c.count_members-roots.ensures ∙ sym (length-filter (λ a. is_fixed (kind_of m.desc.defs a)) order) in
-    let few : c.args.k < length (roots m.desc.defs order) = let lt = c.if-k-roots.true in omega arith in
+    let order = ring_of m.turns (length m.desc.defs) in
     rw (← c.self.view_is)
-    (c.nth_member.ensures ∙ sym (slice_get-first (roots m.desc.defs order) (orphans m.desc.defs order m.clocks.items) c.args.k few))
+    (sym (get_first (roots m.desc.defs order) (orphans m.desc.defs order m.clocks.items) c.args.k c.in-Ok.root.0
+    (at_place m.desc.defs m.clocks.items m.rates.items m.turns m.siblings m.plls c.count_of-count.result c.end_of-roots.result c.args.k Roots (Ok c.in-Ok.root)
+    c.self.invariant tt c.count_of-count.ensures.count c.end_of-roots.ensures c.in-Ok.ensures)))
 
-pub returns-else-k-roots-clause-top : goal.returns-else-k-roots-clause-top
-returns-else-k-roots-clause-top c =
+pub returns-in-Err-clause-top : goal.returns-in-Err-clause-top
+returns-in-Err-clause-top c =
     let m = c.self.inside in
-    let order = places m.order.items in
-    let counted : c.count_members-roots.result ≡ length (roots m.desc.defs order) =
-    c.count_members-roots.ensures ∙ sym (length-filter (λ a. is_fixed (kind_of m.desc.defs a)) order) in
-    let behind : c.args.k ≡ length (roots m.desc.defs order) + (c.args.k - c.count_members-roots.result) = let le = c.if-k-roots.false in omega arith in
+    let order = ring_of m.turns (length m.desc.defs) in
+    let left = c.in-Err.left in
     rw (← c.self.view_is)
-    (c.nth_member-else-k-roots.ensures
-    ∙ ap (λ (rows : List ClockRow). slice_get (orphans m.desc.defs order rows) (c.args.k - c.count_members-roots.result)) c.deref-else-k-roots.ensures.value
-    ∙ sym (slice_get-second (roots m.desc.defs order) (orphans m.desc.defs order m.clocks.items) c.args.k (c.args.k - c.count_members-roots.result) behind))
+    (ap (λ (o : Option ClockId). option_map (λ d. d.0) o) c.ok.ensures.value
+    ∙ clock_at (orphans m.desc.defs order m.clocks.items) left c.nth_behind-in-Err.result
+    (at_place m.desc.defs m.clocks.items m.rates.items m.turns m.siblings m.plls c.count_of-count.result c.end_of-orphans.result left Orphans c.nth_behind-in-Err.result
+    c.self.invariant tt c.count_of-count.ensures.count c.end_of-orphans.ensures c.nth_behind-in-Err.ensures)
+    ∙ sym (get_second (roots m.desc.defs order) (orphans m.desc.defs order m.clocks.items) c.args.k left
+    (at_place m.desc.defs m.clocks.items m.rates.items m.turns m.siblings m.plls c.count_of-count.result c.end_of-roots.result c.args.k Roots (Err left)
+    c.self.invariant tt c.count_of-count.ensures.count c.end_of-roots.ensures c.in-Err.ensures)))

@@ -1,0 +1,10 @@
+-- So far each number stands at its own place.
+use Rattle.std.proofs.Common.{◌≡◌, ℕ, ◌<◌, length}
+use Rattle.std.specs.Prelude.{slice_index}
+use Rattle.clk_tree.proofs.ring.numbers.Given as goal
+
+abbrev pub invariant-loop-number : goal.invariant-loop-number
+invariant-loop-number l = record {
+  size : length l.numbers.items ≡ l.number;
+  own : (i : ℕ) → i < l.number → slice_index l.numbers.items i ≡ i;
+}
