@@ -1,7 +1,7 @@
 //! A core from its opening to the way back: what no contract says, that the calls get on where there
 //! is memory, and in which order one call writes its words.
 
-ghost use Rattle.std.specs.Prelude.{true};
+ghost use Rattle.std.specs.Prelude.{◌≡◌, true};
 ghost use Rattle.clk_machine.specs.Sound.{IsPlaced};
 
 mod noting;
