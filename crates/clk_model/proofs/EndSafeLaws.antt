@@ -140,7 +140,8 @@ prepared_behind s number row fit free at powered =
       | inr under ↦ powered c under
     ])
 
-by_live : (P : State → Type 0) (o : Option HandleRow) (f : HandleRow → State) (u : State) → (o ≡ None → P u) → ((row : HandleRow) → o ≡ Some row → P (f row)) → P (option_map_or f o u)
+-- what holds in each case of a live handle holds of the chosen one
+pub by_live : (P : State → Type 0) (o : Option HandleRow) (f : HandleRow → State) (u : State) → (o ≡ None → P u) → ((row : HandleRow) → o ≡ Some row → P (f row)) → P (option_map_or f o u)
 by_live P None f u none some = none refl
 by_live P (Some row) f u none some = some row refl
 

@@ -38,7 +38,7 @@ keeps_same s = record { gates = λ c gate at act is. is; powers = λ c power at 
 -- ---- a bit
 
 -- a bit that is put leaves each field that lies apart from its own
-put_leaves : (words : ℕ) (defs : Description) (regs : Registers) (c i word bit : ℕ) (value : Bool) (d j : ℕ) (f : Field) → IsValid words defs
+pub put_leaves : (words : ℕ) (defs : Description) (regs : Registers) (c i word bit : ℕ) (value : Bool) (d j : ℕ) (f : Field) → IsValid words defs
     → slice_get (fields_of (kind_of defs c)) i ≡ Some (bit_field word bit) → slice_get (fields_of (kind_of defs d)) j ≡ Some f → (d ≡ c → j ≢ i)
     → field (put_bit regs word bit value) f.word f.shift f.width ≡ field regs f.word f.shift f.width
 put_leaves words defs regs c i word bit value d j f valid own other apart =

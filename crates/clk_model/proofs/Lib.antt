@@ -86,3 +86,5 @@ pub mod BeginSafeLaws
 pub mod BesideSafeLaws
 pub mod SafeRunLaws
 pub mod RunsFedLaws
+pub mod FieldLaws
+pub mod KeptPathLaws
