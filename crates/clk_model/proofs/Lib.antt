@@ -88,3 +88,7 @@ pub mod SafeRunLaws
 pub mod RunsFedLaws
 pub mod FieldLaws
 pub mod KeptPathLaws
+pub mod ScriptLaws
+pub mod CalmScriptLaws
+pub mod OffPathLaws
+pub mod ExclusiveLaws

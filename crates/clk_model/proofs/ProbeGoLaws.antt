@@ -87,11 +87,11 @@ none_linked None e = refl
 none_linked (Some x) e = absurd cc
 
 -- an orphan that can be adopted has no link, and its parent is there
-record CanAdopt (r : State) (d : ℕ) : Type 0 where
-  unlinked : link_in r.clocks d ≡ None
-  listed : is_in d r.order ≡ true
+pub record CanAdopt (r : State) (d : ℕ) : Type 0 where
+  pub unlinked : link_in r.clocks d ≡ None
+  pub listed : is_in d r.order ≡ true
 
-can_adopt : (r : State) (d : ℕ) → is_in d (adoptable r) ≡ true → CanAdopt r d
+pub can_adopt : (r : State) (d : ℕ) → is_in d (adoptable r) ≡ true → CanAdopt r d
 can_adopt r d m =
     let orphan = is_in-filter (λ a. option_map_or (λ p. true) (link_given r.defs r.regs r.clocks a) false) d (orphans r.defs r.order r.clocks) m in
     let is = filter_passes (is_orphan r.defs r.clocks) d r.order orphan in
