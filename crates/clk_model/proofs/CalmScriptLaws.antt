@@ -1,17 +1,16 @@
 -- Laws on scripts and one path: what scripts of calls don't disturb.
-use Rattle.std.proofs.Common.{◌≡◌, ℕ, zero, suc, ◌<◌, ◌^◌, ◌||◌, Bool, true, false, not, cond, List, [], ◌∷◌, Option, Some, None, refl, sym, ap, subst, ◌∙◌, ◌⊎◌, inl, inr, arith, length, nat_lt}
+use Rattle.std.proofs.Common.{◌≡◌, ℕ, zero, suc, ◌<◌, ◌^◌, ◌||◌, Bool, true, false, not, List, [], ◌∷◌, Option, Some, None, refl, sym, ap, subst, ◌∙◌, inl, inr, arith, length, nat_lt}
 use Rattle.std.proofs.lemmas.Bool.Decides.{nat_tests}
 use Rattle.std.specs.Prelude.{if◌then◌else◌}
 use Rattle.std.specs.List.{list_any, AllByRecursion}
 use Rattle.std.specs.Option.{option_map_or}
 use Rattle.clk_base.specs.declared.call.Micro.{Micro}
 use Rattle.clk_base.specs.declared.call.Micro.TheVariants as micro
-use Rattle.clk_base.specs.declared.clock.ClockId.{ClockId}
 use Rattle.clk_base.specs.Description.{Description, kind_of, parents_of}
 use Rattle.clk_base.specs.Fields.{Field}
 use Rattle.clk_base.specs.Valid.{IsValid}
 use Rattle.clk_model.specs.Lists.{is_in}
-use Rattle.clk_model.specs.Kinds.{is_fixed, mux_field}
+use Rattle.clk_model.specs.Kinds.{mux_field}
 use Rattle.clk_model.specs.State.{State, ChainStep, registered, link_in}
 use Rattle.clk_model.specs.Tree.{path, link_given}
 use Rattle.clk_model.specs.Holders.{prepared}

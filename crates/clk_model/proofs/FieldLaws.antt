@@ -1,5 +1,5 @@
 -- Laws on the fields by which clocks select, divide and multiply: what each write of a step leaves of them.
-use Rattle.std.proofs.Common.{◌≡◌, ℕ, ◌<◌, ◌^◌, Bool, true, false, Option, Some, None, refl, sym, ap, ◌∙◌, ◌⊎◌, inl, inr, arith, length}
+use Rattle.std.proofs.Common.{◌≡◌, ℕ, ◌<◌, ◌^◌, Bool, true, false, Option, Some, None, refl, sym, ap, ◌∙◌, arith, length}
 use Rattle.std.specs.Prelude.{IfSome, if◌then◌else◌}
 use Rattle.std.specs.Option.{option_map_or}
 use Rattle.clk_base.specs.declared.clock.Kind.{Kind}

@@ -1,8 +1,8 @@
 -- Laws on steps and one clock: a step that doesn't disturb its path leaves its path, its rate and the handles on it.
-use Rattle.std.proofs.Common.{◌≡◌, ℕ, zero, suc, ◌+◌, ◌-◌, ◌<◌, ◌^◌, ◌||◌, Bool, true, false, not, cond, set, List, [], ◌∷◌, Option, Some, None, refl, sym, ap, subst, ◌∙◌, ◌⊎◌, inl, inr, arith, length, nat_lt}
+use Rattle.std.proofs.Common.{◌≡◌, ℕ, zero, suc, ◌+◌, ◌-◌, ◌<◌, ◌^◌, ◌||◌, Bool, true, false, not, cond, set, List, [], ◌∷◌, Option, Some, None, refl, sym, ap, ◌∙◌, ◌⊎◌, inl, inr, arith, length, nat_lt}
 use Rattle.std.proofs.Math.Path.{fun_ext}
 use Rattle.std.proofs.lemmas.Bool.Decides.{nat_tests}
-use Rattle.std.specs.Prelude.{◌==◌, find, nat_le, reverse, slice_get, option_map, if◌then◌else◌}
+use Rattle.std.specs.Prelude.{◌==◌, find, nat_le, reverse, slice_get, option_map}
 use Rattle.std.specs.List.{AllByRecursion}
 use Rattle.std.specs.Option.{option_map_or}
 use Rattle.clk_base.specs.declared.call.Micro.{Micro}
@@ -33,7 +33,6 @@ use Rattle.clk_model.proofs.Cases.{by_option, by_test}
 use Rattle.clk_model.proofs.WholePathLaws.{relinks_leave_paths, other_member, same_or_not}
 use Rattle.clk_model.proofs.RateLaws.{rate-links, relinks_leave_rates, registers_leave_others, writes_leave_rates}
 use Rattle.clk_model.proofs.HoldSteps.{link_set_same, settled_links}
-use Rattle.clk_model.proofs.LinkBegins.{register_defs}
 use Rattle.clk_model.proofs.KeepLaws.{mux_written}
 use Rattle.clk_model.proofs.RestLaws.{clock_of_handle, clock_at-set}
 use Rattle.clk_model.proofs.EndSafeLaws.{by_live}

@@ -1,6 +1,6 @@
 -- Laws on tests that no step of a script passes, for each script of a call and each end that a timeout leaves of it.
 use Rattle.std.proofs.Common.{◌≡◌, ℕ, ◌||◌, ◌&&◌, Bool, true, false, cond, List, [], ◌∷◌, ◌++◌, Option, Some, None, refl, sym, ap, ◌∙◌, length}
-use Rattle.std.specs.Prelude.{◌==◌, filter, flat_map, slice_index, if◌then◌else◌}
+use Rattle.std.specs.Prelude.{◌==◌, filter, flat_map, slice_index}
 use Rattle.std.specs.List.{list_any, AllByRecursion}
 use Rattle.std.specs.Option.{option_map_or}
 use Rattle.clk_base.specs.declared.call.Micro.{Micro}
@@ -16,9 +16,9 @@ use Rattle.clk_model.specs.Lists.{is_in}
 use Rattle.clk_model.specs.State.{State, ChainStep, NotifierRow}
 use Rattle.clk_model.specs.Holders.{prepared}
 use Rattle.clk_model.specs.Round.{wiring}
-use Rattle.clk_model.specs.Chain.{clock_id, moves, outcome}
+use Rattle.clk_model.specs.Chain.{clock_id, moves}
 use Rattle.clk_model.specs.Walk.{walk, changing}
-use Rattle.clk_model.specs.Notices.{Rates, vetoes, notifiers_of, until_veto, is_veto, pre_list, abort_list}
+use Rattle.clk_model.specs.Notices.{Rates, vetoes, notifiers_of, until_veto, is_veto, abort_list}
 use Rattle.clk_model.specs.Script.{move, move_of, planned, adoption, adoptable, adoption_order, probe_script}
 use Rattle.clk_model.specs.Step.{cut_short}
 use Rattle.clk_model.specs.Laws.Flight.{plan_rates, pre_notices, abort_notices}
