@@ -45,8 +45,8 @@ record IsLast (s : State) (k : Change) (late : Option ℕ) : Type 0 where
 last_of : (s : State) (k : Change) (late cover : Option ℕ) (m : Micro) (ms : List Micro) → m ≡ micro.End → FirstGoes s.defs k.call k.timed_out cover (scene late s) m ms
     → ((x c : ℕ) → cover ≡ Some x → is_in c (path_to_be s.defs s.regs s.clocks x) ≡ true → IfSome (power_of (kind_of s.defs c)) (λ power. is_powered s.regs power ≡ true)) → IsLast s k late
 last_of s k late cover m ms end (first_raises x is open_ goes cut) powered = let no : micro.End ≡ micro.Raise x = sym end ∙ is in absurd cc
-last_of s k late cover m ms end (first_makes plain serves grows goes) powered = let no : false ≡ true = ap is_plain (sym end) ∙ plain in absurd cc
-last_of s k late cover m ms end (first_ends is free prep) powered = record { cover = cover; free = free; prepare = prep; powered = powered }
+last_of s k late cover m ms end (first_makes plain serves grows stays goes) powered = let no : false ≡ true = ap is_plain (sym end) ∙ plain in absurd cc
+last_of s k late cover m ms end (first_ends is free alone prep) powered = record { cover = cover; free = free; prepare = prep; powered = powered }
 
 last_step : (s : State) (k : Change) (m : Micro) → m ≡ micro.End → (c : InCall s k) → comes_next m (todo k) ≡ true → IsLast s k c.late
 last_step s k m end in_call first = by_stand in_call.stands where

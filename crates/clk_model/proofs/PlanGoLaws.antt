@@ -188,7 +188,7 @@ walk_over s what c ks settles over cuts no_prepare leaves none = record {
   no_prepare = no_prepare;
   tail_ends = from_first_past is_end settles (micro.End ∷ []) none;
   tail_goes = λ timed a sound.
-      goes_past s.defs what timed (holding a [] [] None) settles (micro.End ∷ []) leaves sound (ends sound (record { prepares = refl; enables = refl; late = refl }) (no_prepare timed None (holding a [] [] None)));
+      goes_past s.defs what timed (holding a [] [] None) settles (micro.End ∷ []) leaves sound (ends sound (record { prepares = refl; enables = refl; late = refl }) tt (no_prepare timed None (holding a [] [] None)));
   no_end = λ cs. none_flat_map is_end (walked_at s ks) cs (λ d. none_append is_end (move_of s.defs s.clocks (prepared s) ks d) (micro.Visit (clock_id d) ∷ []) (moves_no_end s c ks over d) refl);
   movers = movers_of s c ks over;
 }
@@ -232,7 +232,7 @@ planned_goes s what c ks settles over cuts no_prepare leaves none =
 
       by_veto : (v : Bool) → GoesWell s.defs what false None b (middle v ++ micro.End ∷ [])
       by_veto true =
-          goes_past s.defs what false b (abort_notices s ks) (micro.End ∷ []) (leaves_aborts s ks) sound (ends sound (record { prepares = refl; enables = refl; late = refl }) (no_prepare false None b))
+          goes_past s.defs what false b (abort_notices s ks) (micro.End ∷ []) (leaves_aborts s ks) sound (ends sound (record { prepares = refl; enables = refl; late = refl }) tt (no_prepare false None b))
       by_veto false =
           subst (λ (ms : List Micro). GoesWell s.defs what false None b ms) (sym (append_assoc (walked s ks) settles (micro.End ∷ [])))
           (walked_goes s what ks (settles ++ micro.End ∷ []) (walk s.order (wiring s) ks) false (scene None s) (walk_over s what c ks settles over cuts no_prepare leaves none) (to_walk s c ks over))

@@ -41,7 +41,7 @@ use Rattle.clk_model.proofs.VetoLaws.{of_change}
 use Rattle.clk_model.proofs.FlightLaws.{IsStep, begin_is}
 use Rattle.clk_model.proofs.FlightSafeLaws.{step_goes}
 use Rattle.clk_model.proofs.BesideSafeLaws.{beside_goes, beside_rests}
-use Rattle.clk_model.proofs.Scenes.{scene, GoesWell, makes, ends, EnablesPrepared, IsSound, IsAtRest}
+use Rattle.clk_model.proofs.Scenes.{scene, GoesWell, uncovered, makes, ends, EnablesPrepared, IsSound, IsAtRest}
 use Rattle.clk_model.proofs.ArriveLaws.{IsFit, wired_before, prepared_told}
 use Rattle.clk_model.proofs.StandLaws.{Goes}
 use Rattle.clk_model.proofs.RestLaws.{alike_put, alike_noted, fit_alike, fit_given, fit_taken}
@@ -96,8 +96,8 @@ goes_from q n d what k rest (lowering_handle h row is at gives_up) =
       regs = refl;
       empty = refl;
       none = refl;
-      goes = makes (micro.Lower row.clock) refl fit.sound tt (λ c prep. inl prep)
-          (ends fit.sound (record { prepares = rest.prepares; enables = rest.enables; late = refl }) (λ g e. let no : call.Unprepare h ≡ call.Prepare g = sym is ∙ e in absurd cc));
+      goes = makes (micro.Lower row.clock) refl fit.sound tt (λ c prep. inl prep) (λ c was. uncovered was)
+          (ends fit.sound (record { prepares = rest.prepares; enables = rest.enables; late = refl }) tt (λ g e. let no : call.Unprepare h ≡ call.Prepare g = sym is ∙ e in absurd cc));
     }
 goes_from q n d what k rest (planning _ number row over x ks range planned_ at is rates) =
     let there = planned_over q n rest planned_ in
