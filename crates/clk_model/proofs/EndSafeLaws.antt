@@ -107,7 +107,7 @@ set_none-same (o ∷ handles) zero at = ap (λ (p : Option HandleRow). p ∷ han
 set_none-same (o ∷ handles) (suc n) at = ap (λ (hs : List (Option HandleRow)). o ∷ hs) (set_none-same handles n at)
 
 -- a range that is put back
-unranged_alike : (s : State) (what : Sleeping) (range : Option (ℕ × ℕ)) → Alike s (record s { handles = range_back what range s.handles })
+pub unranged_alike : (s : State) (what : Sleeping) (range : Option (ℕ × ℕ)) → Alike s (record s { handles = range_back what range s.handles })
 unranged_alike s (call.SetRange h least most) (Some range) = by_row (handle_at s.handles h.number) refl where
   by_row : (o : Option HandleRow) → handle_at s.handles h.number ≡ o → Alike s (record s { handles = set s.handles h.number (option_map (with_range range) o) })
   by_row None at = subst (λ (hs : List (Option HandleRow)). Alike s (record s { handles = hs })) (sym (set_none-same s.handles h.number at)) (alike_self s)

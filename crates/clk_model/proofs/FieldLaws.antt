@@ -5,11 +5,11 @@ use Rattle.std.specs.Option.{option_map_or}
 use Rattle.clk_base.specs.declared.clock.Kind.{Kind}
 use Rattle.clk_base.specs.declared.clock.Kind.TheVariants.{FixedRate, Factor, Gate, Mux, Divider, Pll}
 use Rattle.clk_base.specs.Description.{Description, kind_of}
-use Rattle.clk_base.specs.Fields.{Field, GateBit, PowerBit, gate_of, power_of, field_of}
+use Rattle.clk_base.specs.Fields.{Field, GateBit, PowerBit, bit_field, gate_of, power_of, field_of}
 use Rattle.clk_base.specs.Valid.{IsValid}
 use Rattle.clk_base.proofs.Valid.{gate-field, power-field, field-field}
 use Rattle.reg_bank.specs.Registers.{Registers, field, put}
-use Rattle.clk_model.specs.Kinds.{mux_field, with_gate, with_power}
+use Rattle.clk_model.specs.Kinds.{mux_field, is_powered, with_gate, with_power}
 use Rattle.clk_model.specs.State.{State, Change}
 use Rattle.clk_model.specs.Holders.{active}
 use Rattle.clk_model.specs.Gates.{settled}
@@ -20,7 +20,7 @@ use Rattle.clk_model.specs.Laws.Paths.{scales_by}
 use Rattle.clk_model.specs.Laws.Plans.{LieApart}
 use Rattle.clk_model.proofs.ApartLaws.{fields_apart, mux_is_field, gate_or_field}
 use Rattle.clk_model.proofs.OutcomeLaws.{field-put_outside}
-use Rattle.clk_model.proofs.SettingLaws.{settings_fit}
+use Rattle.clk_model.proofs.SettingLaws.{settings_fit, bit_same}
 use Rattle.clk_model.proofs.GatesFollowLaws.{settled_follows_gates}
 use Rattle.clk_model.proofs.KeepLaws.{put_leaves, mux_written}
 
@@ -101,3 +101,45 @@ set_stays s k words c d valid other f at = one (planned_rate k c) where
   one : (o : Option ℕ) → field (option_map_or (λ planned. setting (kind_of s.defs c) (parent_rate_in (wiring s) c) planned s.regs) o s.regs) f.word f.shift f.width ≡ field s.regs f.word f.shift f.width
   one None = refl
   one (Some planned) = (settings_fit words s.defs valid c).put_ (parent_rate_in (wiring s) c) planned s.regs f (off (field_of (kind_of s.defs c)) refl)
+
+-- ---- power bits
+
+-- the field of a mux leaves all power bits
+pub written_power : (s : State) (words c place d : ℕ) (power : PowerBit) → IsValid words s.defs → ((f : Field) → mux_field (kind_of s.defs c) ≡ Some f → place < 2 ^ f.width)
+    → power_of (kind_of s.defs d) ≡ Some power → is_powered (mux_written s c place) power ≡ is_powered s.regs power
+written_power s words c place d power valid fits at = one (mux_field (kind_of s.defs c)) refl where
+  one : (o : Option Field) → mux_field (kind_of s.defs c) ≡ o → is_powered (option_map_or (λ g. put s.regs g.word g.shift g.width place) o s.regs) power ≡ is_powered s.regs power
+  one None own = refl
+  one (Some g) own =
+      bit_same (put s.regs g.word g.shift g.width place) s.regs power.word power.bit
+      (field-put_outside s.regs (bit_field power.word power.bit) g place
+      (fields_apart words s.defs valid d 1 (bit_field power.word power.bit) c 0 g (power-field (kind_of s.defs d) power at)
+      (field-field (kind_of s.defs c) g (mux_is_field (kind_of s.defs c) g own)) (λ same equal. omega arith)) (fits g own))
+
+-- so does the setting of a clock of the chain
+pub set_power : (s : State) (k : Change) (words c d : ℕ) (power : PowerBit) → IsValid words s.defs → power_of (kind_of s.defs d) ≡ Some power
+    → is_powered (set_in_chain s k c) power ≡ is_powered s.regs power
+set_power s k words c d power valid at = one (planned_rate k c) where
+  off : (o : Option Field) → field_of (kind_of s.defs c) ≡ o → IfSome o (LieApart (bit_field power.word power.bit))
+  off None own = tt
+  off (Some g) own =
+      fields_apart words s.defs valid d 1 (bit_field power.word power.bit) c 0 g (power-field (kind_of s.defs d) power at) (field-field (kind_of s.defs c) g own) (λ same equal. omega arith)
+
+  one : (o : Option ℕ) → is_powered (option_map_or (λ planned. setting (kind_of s.defs c) (parent_rate_in (wiring s) c) planned s.regs) o s.regs) power ≡ is_powered s.regs power
+  one None = refl
+  one (Some planned) =
+      bit_same (setting (kind_of s.defs c) (parent_rate_in (wiring s) c) planned s.regs) s.regs power.word power.bit
+      ((settings_fit words s.defs valid c).put_ (parent_rate_in (wiring s) c) planned s.regs (bit_field power.word power.bit) (off (field_of (kind_of s.defs c)) refl))
+
+-- and so does a gate that is closed
+pub closed_power : (s : State) (words c d : ℕ) (power : PowerBit) → IsValid words s.defs → power_of (kind_of s.defs d) ≡ Some power
+    → is_powered (if active s c then s.regs else option_map_or (λ gate. with_gate s.regs gate false) (gate_of (kind_of s.defs c)) s.regs) power ≡ is_powered s.regs power
+closed_power s words c d power valid at = by_active (active s c) (gate_of (kind_of s.defs c)) refl where
+  by_active : (t : Bool) (o : Option GateBit) → gate_of (kind_of s.defs c) ≡ o
+      → is_powered (if t then s.regs else option_map_or (λ gate. with_gate s.regs gate false) o s.regs) power ≡ is_powered s.regs power
+  by_active true o own = refl
+  by_active false None own = refl
+  by_active false (Some gate) own =
+      bit_same (with_gate s.regs gate false) s.regs power.word power.bit
+      (put_leaves words s.defs s.regs c 0 gate.word gate.bit _ d 1 (bit_field power.word power.bit) valid (gate-field (kind_of s.defs c) gate own) (power-field (kind_of s.defs d) power at)
+      (λ same equal. omega arith))

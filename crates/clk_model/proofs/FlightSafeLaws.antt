@@ -43,7 +43,7 @@ pub data FirstGoes (defs : Description) (what : Sleeping) (timed : Bool) (cover 
       → FirstGoes defs what timed cover a m ms
   first_makes : is_plain m ≡ true → Serves defs cover a m → Grows defs cover a (after defs a m) → Stays defs cover a m ms → GoesWell defs what timed None (after defs a m) ms
       → FirstGoes defs what timed cover a m ms
-  first_ends : m ≡ micro.End → IsFree a → EndsRaise what cover → EndsPrepare what timed cover a → FirstGoes defs what timed cover a m ms
+  first_ends : m ≡ micro.End → IsFree a → EndsRaise what timed cover → EndsPrepare what timed cover a → FirstGoes defs what timed cover a m ms
 
 head_same : (m n : Micro) (ms ns : List Micro) → m ∷ ms ≡ n ∷ ns → m ≡ n
 head_same m n ms ns e = cc

@@ -179,10 +179,10 @@ pub uncovered : {P Q : Type 0} → P ⊎ ⊥ → P ⊎ Q
 uncovered (inl p) = inl p
 uncovered (inr never) = absurd never
 
--- only the end of a prepare comes behind a raise
-abbrev pub EndsRaise : Sleeping → Option ℕ → Type 0
-EndsRaise what None = Unit {0}
-EndsRaise what (Some x) = (h : Handle) × (what ≡ call.Prepare h)
+-- only the end of a prepare comes behind a raise, and there no poll has timed out
+abbrev pub EndsRaise : Sleeping → Bool → Option ℕ → Type 0
+EndsRaise what timed None = Unit {0}
+EndsRaise what timed (Some x) = (timed ≡ false) × ((h : Handle) × (what ≡ call.Prepare h))
 
 -- at the end of a prepare the path of its clock was raised, unless a poll has timed out
 abbrev pub EndsPrepare : Sleeping → Bool → Option ℕ → Scene → Type 0
@@ -196,7 +196,7 @@ pub data GoesWell (defs : Description) (what : Sleeping) : Bool → Option ℕ �
       → GoesWell defs what true None a (cut_short what ms) → GoesWell defs what timed None a (micro.Raise x ∷ ms)
   makes : {timed : Bool} {cover : Option ℕ} {a : Scene} {ms : List Micro} (m : Micro) → is_plain m ≡ true → IsSound defs a → Serves defs cover a m
       → Grows defs cover a (after defs a m) → Stays defs cover a m ms → GoesWell defs what timed None (after defs a m) ms → GoesWell defs what timed cover a (m ∷ ms)
-  ends : {timed : Bool} {cover : Option ℕ} {a : Scene} → IsSound defs a → IsFree a → EndsRaise what cover → EndsPrepare what timed cover a → GoesWell defs what timed cover a (micro.End ∷ [])
+  ends : {timed : Bool} {cover : Option ℕ} {a : Scene} → IsSound defs a → IsFree a → EndsRaise what timed cover → EndsPrepare what timed cover a → GoesWell defs what timed cover a (micro.End ∷ [])
 
 -- ---- safe states
 
