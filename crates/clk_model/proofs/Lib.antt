@@ -92,3 +92,4 @@ pub mod ScriptLaws
 pub mod CalmScriptLaws
 pub mod OffPathLaws
 pub mod ExclusiveLaws
+pub mod RaisedLaws
