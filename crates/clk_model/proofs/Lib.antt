@@ -93,3 +93,4 @@ pub mod CalmScriptLaws
 pub mod OffPathLaws
 pub mod ExclusiveLaws
 pub mod RaisedLaws
+pub mod RaisedStepLaws

@@ -101,7 +101,7 @@ two_of (x ∷ []) y z at m other =
     ]
 two_of (x ∷ w ∷ xs) y z at m other = grind (arith, nat_tests)
 
-lower_accounts : (s : State) (k : Change) (x y : ℕ) → IsValid (length s.regs) s.defs → (prepared s y ≡ true) ⊎ (is_in y (path s.clocks x) ≡ true) ⊎ (runs s.defs s.regs y ≡ false)
+pub lower_accounts : (s : State) (k : Change) (x y : ℕ) → IsValid (length s.regs) s.defs → (prepared s y ≡ true) ⊎ (is_in y (path s.clocks x) ≡ true) ⊎ (runs s.defs s.regs y ≡ false)
     → AccountedIn (lower s k x) (lower s k x).change y
 lower_accounts s k x y valid was = one (slice_get (to_lower s x) 0) refl was where
   none_in : slice_get (to_lower s x) 0 ≡ None → is_in y (to_lower s x) ≡ true → ⊥
@@ -150,7 +150,7 @@ running_raised s z y valid other = one (power_of (kind_of s.defs z)) refl where
   one (Some power) at =
       runs_still s.defs s.regs (with_power s.regs power true) y (λ p at'. power_leaves_power (length s.regs) s.defs s.regs z power true y p valid at at' (λ same. other (sym same)))
 
-raise_accounts : (s : State) (k : Change) (x y : ℕ) → IsValid (length s.regs) s.defs → (prepared s y ≡ true) ⊎ (is_in y k.raised ≡ true) ⊎ (runs s.defs s.regs y ≡ false)
+pub raise_accounts : (s : State) (k : Change) (x y : ℕ) → IsValid (length s.regs) s.defs → (prepared s y ≡ true) ⊎ (is_in y k.raised ≡ true) ⊎ (runs s.defs s.regs y ≡ false)
     → AccountedIn (raise s k x) (raise s k x).change y
 raise_accounts s k x y valid was =
     by_option (λ u. AccountedIn u u.change y) (slice_get (reverse (to_raise s k x)) 0) (raise_one s k x) (on s (record k { again = 0 })) (same was) (λ z. more z was (same_or_not z y)) where
@@ -175,7 +175,7 @@ without_other x y (z ∷ zs) other m = by_test (nat_eq z x) refl (is_in_cases y 
   by_test false e (inl own) rest = ap (λ (v : ℕ). is_in y (v ∷ without_one x zs)) own ∙ is_in_head y (without_one x zs)
   by_test false e (inr later) rest = is_in_tail y z (without_one x zs) (rest later)
 
-fall_accounts : (s : State) (k : Change) (z y : ℕ) → IsValid (length s.regs) s.defs → (prepared s y ≡ true) ⊎ (is_in y k.raised ≡ true) ⊎ (runs s.defs s.regs y ≡ false)
+pub fall_accounts : (s : State) (k : Change) (z y : ℕ) → IsValid (length s.regs) s.defs → (prepared s y ≡ true) ⊎ (is_in y k.raised ≡ true) ⊎ (runs s.defs s.regs y ≡ false)
     → AccountedIn (fall s k z) (fall s k z).change y
 fall_accounts s k z y valid (inl prep) = kept prep
 fall_accounts s k z y valid (inr (inl m)) = elim (same_or_not y z) [
@@ -218,7 +218,7 @@ drop_lowers s k answer (micro.DropPrepare o) late y empty low = one k.left refl 
 drop_lowers s k answer m late y empty low = absurd low
 
 -- a plain step but a lower, which comes from the script
-plain_accounts : (s : State) (k : Change) (answer : Option Bool) (m : Micro) (cover late : Option ℕ) (y : ℕ) → IsWired (length s.regs) (wiring s) → is_plain m ≡ true → k.front ≡ []
+pub plain_accounts : (s : State) (k : Change) (answer : Option Bool) (m : Micro) (cover late : Option ℕ) (y : ℕ) → IsWired (length s.regs) (wiring s) → is_plain m ≡ true → k.front ≡ []
     → Serves s.defs cover (scene late s) m → Stays s.defs cover (scene late s) m k.left → ((x : ClockId) → m ≡ micro.Lower x → ⊥)
     → (prepared s y ≡ true) ⊎ IsCovered cover (scene late s) y ⊎ (runs s.defs s.regs y ≡ false) → (j : Change) → (stepped s k answer m).0.change ≡ Some j
     → Accounted (stepped s k answer m).0 j y
