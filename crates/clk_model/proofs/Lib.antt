@@ -94,3 +94,4 @@ pub mod OffPathLaws
 pub mod ExclusiveLaws
 pub mod RaisedLaws
 pub mod RaisedStepLaws
+pub mod RaisedEndLaws

@@ -1,40 +1,37 @@
 -- Laws on raised PLLs: through each step one that was raised is unpowered, prepared, still to be held or to fall, or lowered next.
-use Rattle.std.proofs.Common.{◌≡◌, ℕ, ◌+◌, ◌-◌, ◌<◌, ◌≤◌, ◌^◌, ◌||◌, ◌&&◌, Bool, true, false, not, cond, map, List, [], ◌∷◌, ◌++◌, Option, Some, None, refl, sym, ap, subst, ◌∙◌, ◌⊎◌, inl, inr, arith, length, nat_eq}
+use Rattle.std.proofs.Common.{◌≡◌, ℕ, ◌+◌, ◌&&◌, Bool, true, false, not, List, [], ◌∷◌, ◌++◌, Option, Some, None, refl, sym, ap, subst, ◌∙◌, ◌⊎◌, inl, inr, arith, length, nat_eq}
 use Rattle.std.proofs.lemmas.Bool.{and_from}
 use Rattle.std.proofs.lemmas.Bool.Decides.{nat_tests}
-use Rattle.std.specs.Prelude.{filter, nat_le, reverse, slice_get, if◌then◌else◌}
-use Rattle.std.specs.List.{list_all, list_any}
+use Rattle.std.specs.Prelude.{nat_le, reverse, slice_get, if◌then◌else◌}
 use Rattle.std.specs.Option.{option_map_or}
 use Rattle.clk_base.specs.declared.call.Micro.{Micro}
 use Rattle.clk_base.specs.declared.call.Micro.TheVariants as micro
 use Rattle.clk_base.specs.declared.clock.ClockId.{ClockId}
-use Rattle.clk_base.specs.declared.event.Turn.TheVariants as turn
 use Rattle.clk_base.specs.Description.{Description, kind_of}
-use Rattle.clk_base.specs.Fields.{Field, PowerBit, power_of}
+use Rattle.clk_base.specs.Fields.{PowerBit, power_of}
 use Rattle.clk_base.specs.Valid.{IsValid}
 use Rattle.reg_bank.specs.Registers.{Registers}
 use Rattle.clk_model.specs.Lists.{is_in, without_one}
-use Rattle.clk_model.specs.Kinds.{is_pll, mux_field, is_powered, with_power}
+use Rattle.clk_model.specs.Kinds.{is_pll, is_powered, with_power}
 use Rattle.clk_model.specs.State.{State, Change}
-use Rattle.clk_model.specs.Tree.{path, path_to_be}
+use Rattle.clk_model.specs.Tree.{path}
 use Rattle.clk_model.specs.Holders.{prepared}
-use Rattle.clk_model.specs.Gates.{settled}
 use Rattle.clk_model.specs.Round.{wiring}
 use Rattle.clk_model.specs.Chain.{clock_id}
 use Rattle.clk_model.specs.Script.{unprepared_plls, runs}
 use Rattle.clk_model.specs.Begin.{register}
-use Rattle.clk_model.specs.Step.{todo, taken, set_in_chain, on, powered, timed_out, to_raise, raise_one, raise, poll, is_yes, fall, to_lower, lower_one, lower, stepped}
+use Rattle.clk_model.specs.Step.{todo, set_in_chain, on, powered, to_raise, raise_one, raise, fall, to_lower, lower_one, lower, stepped}
 use Rattle.clk_model.specs.Wired.{IsWired}
-use Rattle.clk_model.proofs.Members.{is_in_head, is_in_tail, is_in_cases, test_same, same_from_test}
+use Rattle.clk_model.proofs.Members.{is_in_head, is_in_tail, is_in_cases, same_from_test}
 use Rattle.clk_model.proofs.OnceLaws.{filter_keeps}
 use Rattle.clk_model.proofs.Cases.{by_option}
 use Rattle.clk_model.proofs.WholePathLaws.{same_or_not}
-use Rattle.clk_model.proofs.PowerLaws.{running_before, stopped, runs_same}
+use Rattle.clk_model.proofs.PowerLaws.{running_before, stopped}
 use Rattle.clk_model.proofs.KeepLaws.{power_leaves_power, mux_written}
 use Rattle.clk_model.proofs.FieldLaws.{written_power, set_power, closed_power}
-use Rattle.clk_model.proofs.Scenes.{Scene, scene, prepared_in, after, is_plain, Serves, LowersNext, Stays, IsCovered}
+use Rattle.clk_model.proofs.Scenes.{scene, prepared_in, after, is_plain, Serves, LowersNext, Stays, IsCovered}
 use Rattle.clk_model.proofs.SceneStepLaws.{Lands, fits_of, step_lands}
-use Rattle.clk_model.proofs.ArriveLaws.{prepared_told, to_be_told, power_is_pll}
+use Rattle.clk_model.proofs.ArriveLaws.{prepared_told, power_is_pll}
 
 -- ---- what is accounted for
 

@@ -1,48 +1,32 @@
 -- Laws on the steps of a call and the PLLs that it raised: each step that isn't the end leaves each accounted for, and the end leaves it
 -- powered exactly where it is prepared.
-use Rattle.std.proofs.Common.{◌≡◌, ℕ, ◌+◌, ◌-◌, ◌||◌, ◌&&◌, Bool, true, false, cond, map, set, List, [], ◌∷◌, ◌++◌, Option, Some, None, refl, sym, ap, subst, ◌∙◌, ◌⊎◌, inl, inr, arith, length, nat_lt}
-use Rattle.std.proofs.lemmas.Bool.Decides.{nat_tests}
-use Rattle.std.specs.Prelude.{nat_le, option_map, reverse, slice_get}
+use Rattle.std.proofs.Common.{◌≡◌, ℕ, ◌-◌, ◌||◌, Bool, true, false, map, List, [], ◌∷◌, ◌++◌, Option, Some, None, refl, sym, ap, subst, ◌∙◌, ◌⊎◌, inl, inr, length}
+use Rattle.std.specs.Prelude.{nat_le, reverse, slice_get}
 use Rattle.std.specs.List.{list_all, list_any}
-use Rattle.std.specs.Option.{option_map_or}
 use Rattle.clk_base.specs.declared.call.Micro.{Micro}
 use Rattle.clk_base.specs.declared.call.Micro.TheVariants as micro
-use Rattle.clk_base.specs.declared.call.Notice.TheVariants as notice
-use Rattle.clk_base.specs.declared.call.Sleeping.{Sleeping}
-use Rattle.clk_base.specs.declared.call.Sleeping.TheVariants as call
 use Rattle.clk_base.specs.declared.clock.ClockId.{ClockId}
-use Rattle.clk_base.specs.declared.event.Reply.{Reply}
 use Rattle.clk_base.specs.declared.event.Turn.TheVariants as turn
-use Rattle.clk_base.specs.declared.handle.Handle.{Handle}
 use Rattle.clk_base.specs.Valid.{IsValid}
-use Rattle.clk_model.specs.declared.row.HandleRow.{HandleRow}
 use Rattle.clk_model.specs.Lists.{is_in}
-use Rattle.clk_model.specs.State.{State, Change, registered, handle_at, requested}
-use Rattle.clk_model.specs.Tree.{path, path_to_be, link_given}
-use Rattle.clk_model.specs.Holders.{is_prepared, critical_clocks, is_held, prepared}
-use Rattle.clk_model.specs.Gates.{settled}
+use Rattle.clk_model.specs.State.{State, Change}
+use Rattle.clk_model.specs.Tree.{path}
+use Rattle.clk_model.specs.Holders.{prepared}
 use Rattle.clk_model.specs.Round.{wiring}
 use Rattle.clk_model.specs.Chain.{clock_id}
 use Rattle.clk_model.specs.Script.{runs}
-use Rattle.clk_model.specs.Begin.{prepared_once_more, held_once_more, request_between}
-use Rattle.clk_model.specs.Step.{todo, rest_of, taken, sets_parent, aborts_of, on, timed_out, to_raise, raise_one, raise, poll, is_yes, fall, lower, ended_well, unranged, end_of, stepped}
+use Rattle.clk_model.specs.Step.{todo, rest_of, taken, sets_parent, aborts_of, on, timed_out, to_raise, raise_one, poll, is_yes, stepped}
 use Rattle.clk_model.specs.Machine.{comes_next}
 use Rattle.clk_model.specs.Wired.{IsWired}
-use Rattle.clk_model.proofs.Members.{is_in_head, both_left, both_right, not_either}
+use Rattle.clk_model.proofs.Members.{is_in_head, both_left, both_right}
 use Rattle.clk_model.proofs.NoneLaws.{none_append, none_map, none_if, none_rest}
 use Rattle.clk_model.proofs.MicroLaws.{comes_first}
 use Rattle.clk_model.proofs.Cases.{by_option, by_test}
-use Rattle.clk_model.proofs.HolderLaws.{is_under, held_by, held_by-set_more}
-use Rattle.clk_model.proofs.SupplyLaws.{prepared_parts}
-use Rattle.clk_model.proofs.PowerLaws.{runs_same}
 use Rattle.clk_model.proofs.StepLaws.{raises, IsAfter, step_after}
 use Rattle.clk_model.proofs.FlightLaws.{IsStep}
-use Rattle.clk_model.proofs.VetoLaws.{ends_it, end_state}
 use Rattle.clk_model.proofs.Scenes.{scene, is_plain, Serves, Stays, IsCovered, GoesWell, RaisedWell, RaisingFront, raised, asks, asks_first, comes_again, is_calm, Stands, calm, raising, InCall}
-use Rattle.clk_model.proofs.ArriveLaws.{wired_before, prepared_told, to_be_told}
+use Rattle.clk_model.proofs.ArriveLaws.{to_be_told}
 use Rattle.clk_model.proofs.FlightSafeLaws.{FirstGoes, first_raises, first_makes, first_ends, first_goes, front_step, script_step}
-use Rattle.clk_model.proofs.RestLaws.{Alike, alike_self, alike_far, alike_put, alike_requested}
-use Rattle.clk_model.proofs.EndSafeLaws.{unranged_alike, by_live}
 use Rattle.clk_model.proofs.ScriptLaws.{none_aborts}
 use Rattle.clk_model.proofs.RaisedLaws.{IsLowering, Accounted, stopped_, kept, raised_, lowering, AccountedIn, lower_accounts, raise_accounts, fall_accounts, plain_accounts}
 
@@ -52,7 +36,7 @@ use Rattle.clk_model.proofs.RaisedLaws.{IsLowering, Accounted, stopped_, kept, r
 pub record PolledRaised (k : Change) : Type 0 where
   pub polled : (z : ClockId) (rest : List Micro) → k.front ≡ micro.Poll z ∷ rest → is_in z.0 k.raised ≡ true
 
-abbrev PolledIn : Option Change → Type 0
+abbrev pub PolledIn : Option Change → Type 0
 PolledIn None = ⊥
 PolledIn (Some k) = PolledRaised k
 
@@ -88,18 +72,18 @@ polled_behind s k answer m going gentle none =
 -- ---- a step, before the gates follow
 
 -- the change behind a step: a polled PLL is on the raised list, and this one is accounted for
-record Tells (u : State) (y : ℕ) : Type 0 where
-  polled : PolledIn u.change
-  accounted : AccountedIn u u.change y
+pub record Tells (u : State) (y : ℕ) : Type 0 where
+  pub polled : PolledIn u.change
+  pub accounted : AccountedIn u u.change y
 
-abbrev StepTells : State → Change → Option Bool → Micro → ℕ → Type 0
+abbrev pub StepTells : State → Change → Option Bool → Micro → ℕ → Type 0
 StepTells s k answer m y = Tells (stepped s k answer m).0 y
 
 -- where it was, before a step that isn't a lower
 abbrev Was : State → List ℕ → ℕ → Type 0
 Was s ys y = (prepared s y ≡ true) ⊎ (is_in y ys ≡ true) ⊎ (runs s.defs s.regs y ≡ false)
 
-lowering_first : (s : State) (k : Change) (m : Micro) (y : ℕ) → (l : IsLowering s k y) → comes_next m (todo k) ≡ true → m ≡ micro.Lower l.clock
+pub lowering_first : (s : State) (k : Change) (m : Micro) (y : ℕ) → (l : IsLowering s k y) → comes_next m (todo k) ≡ true → m ≡ micro.Lower l.clock
 lowering_first s k m y l first =
     let at = comes_first m (todo k) first in
     let both : m ∷ at.0 ≡ micro.Lower l.clock ∷ l.rest = sym at.1 ∙ l.next in
@@ -202,7 +186,8 @@ end_stops s k answer m is going = let e : (stepped s k answer micro.End).1 ≡ t
 
 -- ---- each step
 
-step_tells : (s t : State) (d : ℕ) (m : Micro) (answer : Option Bool) (k : Change) (y : ℕ) → IsStep s t d m answer turn.Going k → InCall s k → PolledRaised k → Accounted s k y → StepTells s (taken k) answer m y
+-- each step but the end leaves a polled PLL on the raised list, and each that is accounted for so
+pub step_tells : (s t : State) (d : ℕ) (m : Micro) (answer : Option Bool) (k : Change) (y : ℕ) → IsStep s t d m answer turn.Going k → InCall s k → PolledRaised k → Accounted s k y → StepTells s (taken k) answer m y
 step_tells s t d m answer k y step in_call polled_ was = by_stand in_call.stands where
   late : Option ℕ
   late = in_call.late

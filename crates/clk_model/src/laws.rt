@@ -1,5 +1,6 @@
 //! Laws of the definitions: each is the contract of a function that does nothing.
 
+pub mod ends;
 pub mod exclusives;
 pub mod feeding;
 pub mod flights;
