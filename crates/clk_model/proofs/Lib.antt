@@ -95,3 +95,4 @@ pub mod ExclusiveLaws
 pub mod RaisedLaws
 pub mod RaisedStepLaws
 pub mod RaisedEndLaws
+pub mod TimeoutLaws

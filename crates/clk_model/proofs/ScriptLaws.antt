@@ -37,7 +37,8 @@ none_cut p what ms none =
     let at = short_is_end what ms in
     none_behind p at.0 (cut_short what ms) (ap (λ (ns : List Micro). list_any p ns) (sym at.1) ∙ none)
 
-none_flat_in : (p : Micro → Bool) (f : ℕ → List Micro) (xs : List ℕ) → ((x : ℕ) → is_in x xs ≡ true → list_any p (f x) ≡ false) → list_any p (flat_map f xs) ≡ false
+-- nor do the steps of a list
+pub none_flat_in : (p : Micro → Bool) (f : ℕ → List Micro) (xs : List ℕ) → ((x : ℕ) → is_in x xs ≡ true → list_any p (f x) ≡ false) → list_any p (flat_map f xs) ≡ false
 none_flat_in p f [] each = refl
 none_flat_in p f (x ∷ xs) each = none_append p (f x) (flat_map f xs) (each x (is_in_head x xs)) (none_flat_in p f xs (λ y m. each y (is_in_tail y x xs m)))
 
@@ -51,7 +52,8 @@ none_until_veto p rates c (n ∷ ns) none =
       both : (a b : Bool) → a ≡ false → b ≡ false → (a || b) ≡ false
       both a b e f = ap (λ (t : Bool). t || b) e ∙ f
 
-none_pre : (p : Micro → Bool) (s : State) (ks : List ChainStep) → NoNotice p → list_any p (pre_notices s ks) ≡ false
+-- notices alone
+pub none_pre : (p : Micro → Bool) (s : State) (ks : List ChainStep) → NoNotice p → list_any p (pre_notices s ks) ≡ false
 none_pre p s ks none =
     none_flat_map p (λ c. until_veto (plan_rates s ks) c (notifiers_of s.notifiers c)) (changing s.order (wiring s) ks)
     (λ c. none_until_veto p (plan_rates s ks) c (notifiers_of s.notifiers c) none)
@@ -82,19 +84,33 @@ none_move_of p defs clocks prep (k ∷ ks) c each = one ((k.clock == c) && moves
       none_append p (option_map_or (move defs clocks prep c) k.parent []) (move_of defs clocks prep ks c) (own k.parent refl (same_from_test k.clock c (both_left (k.clock == c) (moves clocks k) e))) rest
   one false e rest = rest
 
--- the script of a plan passes no test that no notice, no move, no visit, nothing behind the walk and no end passes
-pub none_planned : (p : Micro → Bool) (s : State) (ks : List ChainStep) (settles : List Micro) → NoNotice p → ((c : ℕ) → list_any p (move_of s.defs s.clocks (prepared s) ks c) ≡ false)
-    → ((c : ℕ) → p (micro.Visit (clock_id c)) ≡ false) → list_any p settles ≡ false → p micro.End ≡ false → list_any p (planned s ks settles).steps ≡ false
+-- the script of a plan in front of its end
+abbrev pub planned_front : State → List ChainStep → List Micro → List Micro
+planned_front s ks settles = pre_notices s ks ++ cond (list_any is_veto (pre_notices s ks)) (abort_notices s ks) (walked s ks ++ settles)
+
+pub planned_is : (s : State) (ks : List ChainStep) (settles : List Micro) → (planned s ks settles).steps ≡ planned_front s ks settles ++ micro.End ∷ []
 unfolding planned
-none_planned p s ks settles none moved visited settled_ ended =
-    none_append p (pre_notices s ks ++ cond (list_any is_veto (pre_notices s ks)) (abort_notices s ks) (walked s ks ++ settles)) (micro.End ∷ [])
-    (none_append p (pre_notices s ks) (cond (list_any is_veto (pre_notices s ks)) (abort_notices s ks) (walked s ks ++ settles)) (none_pre p s ks none)
+planned_is s ks settles = refl
+
+alone : (a : Bool) → a ≡ false → (a || false) ≡ false
+alone a e = ap (λ (t : Bool). t || false) e
+
+-- it passes no test that no notice, no move, no visit and nothing behind the walk passes
+pub none_planned_front : (p : Micro → Bool) (s : State) (ks : List ChainStep) (settles : List Micro) → NoNotice p → ((c : ℕ) → list_any p (move_of s.defs s.clocks (prepared s) ks c) ≡ false)
+    → ((c : ℕ) → p (micro.Visit (clock_id c)) ≡ false) → list_any p settles ≡ false → list_any p (planned_front s ks settles) ≡ false
+none_planned_front p s ks settles none moved visited settled_ =
+    none_append p (pre_notices s ks) (cond (list_any is_veto (pre_notices s ks)) (abort_notices s ks) (walked s ks ++ settles)) (none_pre p s ks none)
     (none_if p (list_any is_veto (pre_notices s ks)) (abort_notices s ks) (walked s ks ++ settles) (none_aborts p (plan_rates s ks) s.notifiers (changing s.order (wiring s) ks) none)
     (none_append p (walked s ks) settles
     (none_flat_map p (walked_at s ks) (walk s.order (wiring s) ks) (λ c. none_append p (move_of s.defs s.clocks (prepared s) ks c) (micro.Visit (clock_id c) ∷ []) (moved c) (alone _ (visited c))))
-    settled_))) (alone _ ended) where
-      alone : (a : Bool) → a ≡ false → (a || false) ≡ false
-      alone a e = ap (λ (t : Bool). t || false) e
+    settled_))
+
+-- so does the whole, where the end doesn't pass
+pub none_planned : (p : Micro → Bool) (s : State) (ks : List ChainStep) (settles : List Micro) → NoNotice p → ((c : ℕ) → list_any p (move_of s.defs s.clocks (prepared s) ks c) ≡ false)
+    → ((c : ℕ) → p (micro.Visit (clock_id c)) ≡ false) → list_any p settles ≡ false → p micro.End ≡ false → list_any p (planned s ks settles).steps ≡ false
+none_planned p s ks settles none moved visited settled_ ended =
+    ap (list_any p) (planned_is s ks settles)
+    ∙ none_append p (planned_front s ks settles) (micro.End ∷ []) (none_planned_front p s ks settles none moved visited settled_) (alone _ ended)
 
 -- ---- registrations
 
@@ -108,6 +124,4 @@ none_probe p r c raised made adopted ended =
     none_append p ((first ++ micro.Register (clock_id c) ∷ []) ++ adoptions) (micro.End ∷ [])
     (none_append p (first ++ micro.Register (clock_id c) ∷ []) adoptions
     (none_append p first (micro.Register (clock_id c) ∷ []) (none_if p (is_critical r.defs c) (micro.Raise (clock_id c) ∷ []) [] (alone _ raised) refl) (alone _ made))
-    (none_flat_in p (adoption r) (adoption_order (length (adoptable r)) r (adoptable r)) adopted)) (alone _ ended) where
-      alone : (a : Bool) → a ≡ false → (a || false) ≡ false
-      alone a e = ap (λ (t : Bool). t || false) e
+    (none_flat_in p (adoption r) (adoption_order (length (adoptable r)) r (adoptable r)) adopted)) (alone _ ended)

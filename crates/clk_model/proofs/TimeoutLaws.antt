@@ -1,0 +1,450 @@
+-- Laws on timeouts of prepares and changes of parents: nothing but power bits changes before the last raise, and nothing else behind a timeout.
+use Rattle.std.proofs.Common.{◌≡◌, ℕ, zero, suc, ◌+◌, ◌-◌, ◌||◌, ◌&&◌, Bool, true, false, not, cond, map, List, [], ◌∷◌, ◌++◌, Option, Some, None, refl, sym, ap, subst, ◌∙◌, ◌⊎◌, inl, inr, arith, length, nat_eq}
+use Rattle.std.proofs.lemmas.Bool.Decides.{nat_tests}
+use Rattle.std.proofs.lemmas.List.{append_assoc}
+use Rattle.std.proofs.lemmas.Option.{same_Some}
+use Rattle.std.specs.Prelude.{◌==◌, filter, flat_map, nat_le, option_map, reverse, slice_get, if◌then◌else◌}
+use Rattle.std.specs.List.{list_any, AllByRecursion}
+use Rattle.std.specs.Option.{option_map_or}
+use Rattle.clk_base.specs.declared.call.Micro.{Micro}
+use Rattle.clk_base.specs.declared.call.Micro.TheVariants as micro
+use Rattle.clk_base.specs.declared.call.Sleeping.{Sleeping}
+use Rattle.clk_base.specs.declared.call.Sleeping.TheVariants as call
+use Rattle.clk_base.specs.declared.event.Errno.TheVariants as errno
+use Rattle.clk_base.specs.declared.event.Event.{Event}
+use Rattle.clk_base.specs.declared.event.Event.TheVariants as event
+use Rattle.clk_base.specs.declared.event.Reply.{Reply}
+use Rattle.clk_base.specs.declared.event.Reply.TheVariants as reply
+use Rattle.clk_base.specs.declared.event.Turn.{Turn}
+use Rattle.clk_base.specs.declared.event.Turn.TheVariants as turn
+use Rattle.clk_base.specs.Description.{Description, kind_of, parents_of}
+use Rattle.clk_base.specs.Fields.{Field, GateBit, field_of, gate_of}
+use Rattle.clk_base.specs.Valid.{IsValid}
+use Rattle.clk_base.proofs.Valid.{field-field}
+use Rattle.reg_bank.specs.Registers.{Registers, field}
+use Rattle.clk_model.specs.declared.row.ClockRow.{ClockRow}
+use Rattle.clk_model.specs.Lists.{is_in, none_twice}
+use Rattle.clk_model.specs.State.{State, Change, ChainStep, link_in, handle_at}
+use Rattle.clk_model.specs.Rate.{rate}
+use Rattle.clk_model.specs.Holders.{prepared}
+use Rattle.clk_model.specs.Gates.{settled}
+use Rattle.clk_model.specs.Round.{wiring}
+use Rattle.clk_model.specs.Chain.{clock_id, moves, place_of}
+use Rattle.clk_model.specs.Walk.{walk, changing}
+use Rattle.clk_model.specs.Notices.{is_veto}
+use Rattle.clk_model.specs.Script.{move, move_of, planned}
+use Rattle.clk_model.specs.Begin.{begun, reparenting}
+use Rattle.clk_model.specs.Step.{todo, rest_of, left_behind, taken, is_end, from_first, cut_short, on, powered, timed_out, to_raise, raise_one, raise, poll, is_yes, to_lower, lower_one, lower, end_of, unranged, stepped}
+use Rattle.clk_model.specs.Machine.{comes_next, next}
+use Rattle.clk_model.specs.Journal.{replay, opening}
+use Rattle.clk_model.specs.Prep.{without_enables}
+use Rattle.clk_model.specs.Tier.{is_enable_tier}
+use Rattle.clk_model.specs.Wired.{IsWired, IsOrder}
+use Rattle.clk_model.specs.Laws.Plans.{LeadsFrom}
+use Rattle.clk_model.specs.Laws.Walks.{IsWalk}
+use Rattle.clk_model.specs.Laws.Flight.{Flight, begins, goes_on, beside, may_be_put, IsFront, nothing, plan_rates, abort_notices, pre_notices}
+use Rattle.clk_model.specs.Laws.NothingLeft.{DiffersInPower, is_dropped_whole, TimeoutsLeaveNothing}
+use Rattle.clk_model.proofs.Members.{not_either, both_left, both_right, same_from_test}
+use Rattle.clk_model.proofs.NoneLaws.{none_append, none_flat_map, none_front, none_rest, none_if}
+use Rattle.clk_model.proofs.MicroLaws.{comes_first}
+use Rattle.clk_model.proofs.Cases.{by_option, by_test}
+use Rattle.clk_model.proofs.OnceLaws.{once_head}
+use Rattle.clk_model.proofs.ApartLaws.{gate_or_field}
+use Rattle.clk_model.proofs.RateLaws.{writes_leave_rates}
+use Rattle.clk_model.proofs.TierLaws.{enable_tier_leaves_prep, beside_change}
+use Rattle.clk_model.proofs.PrepToldLaws.{prep_tells}
+use Rattle.clk_model.proofs.StepLaws.{raises, IsAfter, step_after}
+use Rattle.clk_model.proofs.FrontLaws.{front_after}
+use Rattle.clk_model.proofs.BeginLaws.{walked_at, walked}
+use Rattle.clk_model.proofs.WalkLaws.{walks_list}
+use Rattle.clk_model.proofs.FlightLaws.{IsStep, begin_is, first_put, front_put, next_is}
+use Rattle.clk_model.proofs.VetoLaws.{of_change, ends_it, end_state}
+use Rattle.clk_model.proofs.ArriveLaws.{wired_before}
+use Rattle.clk_model.proofs.WalkGoLaws.{from_first_past}
+use Rattle.clk_model.proofs.BeginsLaws.{changes_rate, Starts, raising_handle, lowering_handle, planning, reparents, probing, sweeping, Begins, answers, gives, takes, adjusts, prepares, unprepares, notes, registers, begins_so}
+use Rattle.clk_model.proofs.SafeRunLaws.{IsRun, run_goes_on}
+use Rattle.clk_model.proofs.RunsFedLaws.{run_of}
+use Rattle.clk_model.proofs.FieldLaws.{FieldStays, scale_is_field, powered_stays, closed_stays, settled_stays}
+use Rattle.clk_model.proofs.ScriptLaws.{NoMove, none_cut, none_flat_in, none_move_of, none_pre, none_aborts, planned_front, planned_is, none_planned_front}
+
+-- ---- steps that do more than power
+
+-- whether a step changes more than power bits and gates
+abbrev pub does_more : Micro → Bool
+does_more (micro.HoldPrepare x) = true
+does_more (micro.HoldEnable x) = true
+does_more (micro.Relink c p) = true
+does_more (micro.WriteMux c place) = true
+does_more (micro.DropEnable x) = true
+does_more (micro.DropPrepare x) = true
+does_more (micro.Visit c) = true
+does_more (micro.Register c) = true
+does_more (micro.Settle c) = true
+does_more _ = false
+
+-- whether a raise stands behind a step that does more
+abbrev pub raises_late : List Micro → Bool
+raises_late [] = false
+raises_late (m ∷ ms) = (does_more m && list_any raises ms) || raises_late ms
+
+-- where nothing raises, nothing raises late
+late_calm : (ms : List Micro) → list_any raises ms ≡ false → raises_late ms ≡ false
+late_calm [] none = refl
+late_calm (m ∷ ms) none =
+    let rest = none_rest raises m ms none in
+    ap (λ (t : Bool). (does_more m && t) || raises_late ms) rest ∙ one (does_more m) (late_calm ms rest) where
+      one : (b : Bool) → raises_late ms ≡ false → ((b && false) || raises_late ms) ≡ false
+      one true e = e
+      one false e = e
+
+-- behind steps that do no more, the rest raises late
+late_past : (xs ys : List Micro) → list_any does_more xs ≡ false → raises_late ys ≡ false → raises_late (xs ++ ys) ≡ false
+late_past [] ys none late = late
+late_past (x ∷ xs) ys none late =
+    ap (λ (t : Bool). (t && list_any raises (xs ++ ys)) || raises_late (xs ++ ys)) (none_front does_more x xs none) ∙ late_past xs ys (none_rest does_more x xs none) late
+
+-- in front of steps that don't raise, only the first part raises late
+late_front : (xs ys : List Micro) → list_any raises ys ≡ false → raises_late xs ≡ false → raises_late (xs ++ ys) ≡ false
+late_front [] ys none late = late_calm ys none
+late_front (x ∷ xs) ys none late =
+    let parts = not_either (does_more x && list_any raises xs) (raises_late xs) late in
+    both (does_more x) (list_any raises xs) refl parts.0 (late_front xs ys none parts.1) where
+      both : (a b : Bool) → list_any raises xs ≡ b → (a && b) ≡ false → raises_late (xs ++ ys) ≡ false → ((a && list_any raises (xs ++ ys)) || raises_late (xs ++ ys)) ≡ false
+      both false b e f rest = rest
+      both true true e f rest = absurd cc
+      both true false e f rest = ap (λ (t : Bool). t || raises_late (xs ++ ys)) (none_append raises xs ys e none) ∙ rest
+
+-- what a timeout leaves raises late no more than the whole does
+late_from : (ms : List Micro) → raises_late ms ≡ false → raises_late (from_first is_end ms) ≡ false
+late_from [] late = refl
+late_from (m ∷ ms) late = one (is_end m) (late_from ms (not_either (does_more m && list_any raises ms) (raises_late ms) late).1) where
+  one : (t : Bool) → raises_late (from_first is_end ms) ≡ false → raises_late (if t then m ∷ ms else from_first is_end ms) ≡ false
+  one true rest = late
+  one false rest = rest
+
+from_twice : (ms : List Micro) → from_first is_end (from_first is_end ms) ≡ from_first is_end ms
+from_twice [] = refl
+from_twice (m ∷ ms) = one (is_end m) refl (from_twice ms) where
+  one : (t : Bool) → is_end m ≡ t → from_first is_end (from_first is_end ms) ≡ from_first is_end ms → from_first is_end (if t then m ∷ ms else from_first is_end ms) ≡ (if t then m ∷ ms else from_first is_end ms)
+  one true e rest = ap (λ (t : Bool). if t then m ∷ ms else from_first is_end ms) e
+  one false e rest = rest
+
+cut_is_from : (what : Sleeping) (ms : List Micro) → is_dropped_whole what ≡ true → cut_short what ms ≡ from_first is_end ms
+cut_is_from (call.Prepare h) ms is = refl
+cut_is_from (call.SetParent h p) ms is = refl
+cut_is_from _ ms is = absurd cc
+
+-- ---- what steps leave that do no more
+
+-- a state has all of another but power bits, gates and enables
+record IsPowered (q s : State) : Type 0 where
+  defs : s.defs ≡ q.defs
+  clocks : s.clocks ≡ q.clocks
+  order : s.order ≡ q.order
+  handles : (number : ℕ) → option_map without_enables (handle_at s.handles number) ≡ option_map without_enables (handle_at q.handles number)
+  notifiers : s.notifiers ≡ q.notifiers
+  prepare_holds : s.prepare_holds ≡ q.prepare_holds
+  fields : (c : ℕ) → FieldStays q.defs q.regs s.regs c
+
+-- so it has its rates
+differs_of : (q s : State) → IsPowered q s → DiffersInPower q s
+differs_of q s is = record {
+  defs = is.defs;
+  clocks = is.clocks;
+  order = is.order;
+  handles = is.handles;
+  notifiers = is.notifiers;
+  prepare_holds = is.prepare_holds;
+  fields = λ c f at. is.fields c f at;
+  rates = λ c.
+      ap (λ (ds : Description). rate ds s.regs s.clocks c) is.defs ∙ ap (λ (rs : List ClockRow). rate q.defs s.regs rs c) is.clocks
+      ∙ writes_leave_rates q.defs q.regs s.regs q.clocks c (λ a m f at. is.fields a f (scale_is_field (kind_of q.defs a) f at));
+}
+
+-- the same of a state that differs in its registers alone, which keep all fields
+powered_over : (q s u : State) → IsPowered q s → u.defs ≡ s.defs → u.clocks ≡ s.clocks → u.order ≡ s.order → u.handles ≡ s.handles → u.notifiers ≡ s.notifiers → u.prepare_holds ≡ s.prepare_holds
+    → ((c : ℕ) → FieldStays s.defs s.regs u.regs c) → IsPowered q u
+powered_over q s u is defs clocks order handles notifiers holds fields = record {
+  defs = defs ∙ is.defs;
+  clocks = clocks ∙ is.clocks;
+  order = order ∙ is.order;
+  handles = λ number. ap (λ hs. option_map without_enables (handle_at hs number)) handles ∙ is.handles number;
+  notifiers = notifiers ∙ is.notifiers;
+  prepare_holds = holds ∙ is.prepare_holds;
+  fields = λ c f at. fields c f (ap (λ (ds : Description). field_of (kind_of ds c)) is.defs ∙ at) ∙ is.fields c f at;
+}
+
+powered_settled : (q s u : State) (spent steps : ℕ) → IsValid (length u.regs) u.defs → IsPowered q u → IsPowered q (record (settled s u) { spent = spent; steps = steps })
+unfolding settled
+powered_settled q s u spent steps valid is = powered_over q u _ is refl refl refl refl refl refl (λ c. settled_stays s u c valid)
+
+-- the state before the gates follow
+powered_same : (q s : State) (change : Option Change) → IsPowered q s → IsPowered q (record s { change = change })
+powered_same q s change is = powered_over q s _ is refl refl refl refl refl refl (λ c f at. refl)
+
+powered_bit : (q s : State) (z : ℕ) (up : Bool) (k : Change) → IsValid (length s.regs) s.defs → IsPowered q s → IsPowered q (on (powered s z up) k)
+powered_bit q s z up k valid is = powered_over q s _ is refl refl refl refl refl refl (λ c. powered_stays s (length s.regs) z up c valid)
+
+-- a step that does no more leaves it so
+step_powers : (q s : State) (k : Change) (answer : Option Bool) (m : Micro) → IsValid (length s.regs) s.defs → does_more m ≡ false → is_end m ≡ false → IsPowered q s → IsPowered q (stepped s k answer m).0
+unfolding stepped
+step_powers q s k answer (micro.Notify kind c id old new) valid less going is = powered_same q s (Some k) is
+step_powers q s k answer (micro.Raise x) valid less going is =
+    by_option (IsPowered q) (slice_get (reverse (to_raise s k x.0)) 0) (raise_one s k x.0) (on s (record k { again = 0 })) (powered_same q s _ is) (λ y. powered_bit q s y true _ valid is)
+step_powers q s k answer (micro.Lower x) valid less going is =
+    by_option (IsPowered q) (slice_get (to_lower s x.0) 0) (lower_one s k x.0) (on s (record k { again = 0 })) (powered_same q s _ is) (λ y. powered_bit q s y false _ valid is)
+step_powers q s k answer (micro.Poll y) valid less going is = by_yes (is_yes answer) where
+  by_yes : (b : Bool) → IsPowered q (poll s k y.0 b)
+  by_yes true = powered_same q s _ is
+  by_yes false =
+      by_test (IsPowered q) (nat_le k.polls 1) (timed_out s (record k { polls = 0 })) (on s (record k { polls = k.polls - 1; front = micro.Poll (clock_id y.0) ∷ k.front })) (powered_same q s _ is) (powered_same q s _ is)
+step_powers q s k answer (micro.Fall y) valid less going is = powered_bit q s y.0 false _ valid is
+step_powers q s k answer (micro.Unpower c) valid less going is = powered_bit q s c.0 false k valid is
+step_powers q s k answer (micro.Close c) valid less going is = powered_over q s _ is refl refl refl refl refl refl (λ d. closed_stays s (length s.regs) c.0 d valid)
+step_powers q s k answer micro.End valid less going is = absurd cc
+step_powers q s k answer _ valid less going is = absurd cc
+
+-- an event of the enable tier does, too
+no_gate : (defs : Description) (c : ℕ) (f : Field) → field_of (kind_of defs c) ≡ Some f → gate_of (kind_of defs c) ≡ None
+no_gate defs c f at = one (gate_of (kind_of defs c)) refl where
+  one : (o : Option GateBit) → gate_of (kind_of defs c) ≡ o → o ≡ None
+  one None own = refl
+  one (Some gate) own = absurd (gate_or_field (kind_of defs c) gate f own at)
+
+tier_powers : (q s t : State) (d : ℕ) (e : Event) (x : Turn) → IsValid (length s.regs) s.defs → is_enable_tier e ≡ true → next s d e ≡ Some (t, x) → IsPowered q s → IsPowered q t
+tier_powers q s t d e x valid tier step is =
+    let told = prep_tells s t valid (enable_tier_leaves_prep s t d e x tier step) in
+    record {
+      defs = told.defs ∙ is.defs;
+      clocks = told.clocks ∙ is.clocks;
+      order = told.order ∙ is.order;
+      handles = λ number. told.handles number ∙ is.handles number;
+      notifiers = told.notifiers ∙ is.notifiers;
+      prepare_holds = told.prepare_holds ∙ is.prepare_holds;
+      fields = λ c f at.
+          let own : field_of (kind_of s.defs c) ≡ Some f = ap (λ (ds : Description). field_of (kind_of ds c)) is.defs ∙ at in
+          told.fields c 0 f (field-field (kind_of s.defs c) f own) (no_gate s.defs c f own) ∙ is.fields c f at;
+    }
+
+-- ---- a flight
+
+-- a call in flight that a timeout drops whole: nothing but power bits has changed, and no raise stands behind a step that does more; or no
+-- poll can time out any more
+data Stage (q s : State) (k : Change) : Type 0 where
+  early : IsPowered q s → raises_late k.left ≡ false → list_any does_more (from_first is_end k.left) ≡ false → (k.timed_out ≡ true → list_any does_more k.left ≡ false) → Stage q s k
+  past : k.timed_out ≡ false → list_any raises k.front ≡ false → list_any raises k.left ≡ false → Stage q s k
+
+record IsDropping (q s : State) (what : Sleeping) : Type 0 where
+  run : IsRun s
+  now : Change
+  at : s.change ≡ Some now
+  call : now.call ≡ what
+  front : IsFront now
+  stage : Stage q s now
+
+put_less : (m : Micro) → may_be_put m ≡ true → does_more m ≡ false
+put_less (micro.HoldPrepare x) put = absurd cc
+put_less (micro.HoldEnable x) put = absurd cc
+put_less (micro.Relink c p) put = absurd cc
+put_less (micro.WriteMux c place) put = absurd cc
+put_less (micro.DropEnable x) put = absurd cc
+put_less (micro.DropPrepare x) put = absurd cc
+put_less (micro.Visit c) put = absurd cc
+put_less (micro.Register c) put = absurd cc
+put_less (micro.Settle c) put = absurd cc
+put_less m put = refl
+
+put_going : (m : Micro) → may_be_put m ≡ true → is_end m ≡ false
+put_going micro.End put = absurd cc
+put_going m put = refl
+
+more_gentle : (m : Micro) → does_more m ≡ true → raises m ≡ false
+more_gentle (micro.Raise x) more = absurd cc
+more_gentle (micro.Poll x) more = absurd cc
+more_gentle m more = refl
+
+-- what is left of a script behind the step that comes next: the step was in front, or it was the script's first
+data Comes (front left : List Micro) (m : Micro) : Type 0 where
+  was_put : may_be_put m ≡ true → left_behind front left ≡ left → Comes front left m
+  was_own : front ≡ [] → left ≡ m ∷ left_behind front left → Comes front left m
+
+comes_of : (front left : List Micro) (m : Micro) → comes_next m (front ++ left) ≡ true → first_put front ≡ true → Comes front left m
+comes_of [] [] m first put = absurd cc
+comes_of [] (n ∷ ns) m first put = was_own refl (ap (λ (x : Micro). x ∷ ns) (next_is m n ns first))
+comes_of (n ∷ ns) left m first put = was_put (ap may_be_put (sym (next_is m n (ns ++ left) first)) ∙ put) refl
+
+going_no_end : (s : State) (k : Change) (answer : Option Bool) (m : Micro) → (stepped s k answer m).1 ≡ turn.Going → is_end m ≡ false
+unfolding stepped
+going_no_end s k answer micro.End going = absurd cc
+going_no_end s k answer m going = refl
+
+first_none : (p : Micro → Bool) (m : Micro) (ms : List Micro) → comes_next m ms ≡ true → list_any p ms ≡ false → p m ≡ false
+first_none p m ms first none =
+    let at = comes_first m ms first in
+    none_front p m at.0 (ap (list_any p) (sym at.1) ∙ none)
+
+rest_none : (p : Micro → Bool) (front left : List Micro) → list_any p front ≡ false → list_any p left ≡ false → (list_any p (rest_of front) ≡ false) × (list_any p (left_behind front left) ≡ false)
+rest_none p [] [] e f = (refl, refl)
+rest_none p [] (n ∷ ns) e f = (refl, none_rest p n ns f)
+rest_none p (n ∷ ns) left e f = (none_rest p n ns e, f)
+
+-- the change behind a step
+stage_steps : (q s t : State) (d : ℕ) (m : Micro) (answer : Option Bool) (k : Change) → IsStep s t d m answer turn.Going k → IsWired (length s.regs) (wiring s) → IsWired (length t.regs) (wiring t)
+    → is_dropped_whole k.call ≡ true → IsFront k → Stage q s k → (j : Change) → IsAfter m (taken k) j → Stage q t j
+stage_steps q s t d m answer k step wired wired_t drops front (past on_time none_front_ none_left) j is =
+    let gentle : raises m ≡ false = first_none raises m (todo k) step.first (none_append raises k.front k.left none_front_ none_left) in
+    let rest = rest_none raises k.front k.left none_front_ none_left in
+    elim is.left [
+      | inl same ↦ past (same.1 ∙ on_time) (is.calm gentle rest.0) (ap (list_any raises) same.0 ∙ rest.1)
+      | inr late ↦ let no : true ≡ false = sym late.0 ∙ gentle in absurd cc
+    ]
+stage_steps q s t d m answer k step wired wired_t drops front (early powers late only timed) j is = by_place (comes_of k.front k.left m step.first (front_put k front)) where
+  u : State
+  u = (stepped s (taken k) answer m).0
+
+  valid_u : IsValid (length u.regs) u.defs
+  valid_u = (wired_before s u (subst (λ (v : State). IsWired (length v.regs) (wiring v)) (sym step.state) wired_t)).valid
+
+  going : is_end m ≡ false
+  going = going_no_end s (taken k) answer m step.answered
+
+  powers_t : does_more m ≡ false → IsPowered q t
+  powers_t less = subst (λ (v : State). IsPowered q v) step.state (powered_settled q s u (settled s u).spent (s.steps + 1) valid_u (step_powers q s (taken k) answer m wired.valid less going powers))
+
+  -- behind a step that does no more, where so much of the script was left
+  go_on : (ms : List Micro) → does_more m ≡ false → (taken k).left ≡ ms → raises_late ms ≡ false → list_any does_more (from_first is_end ms) ≡ false → (k.timed_out ≡ true → list_any does_more ms ≡ false) → Stage q t j
+  go_on ms less left late' only' timed' = elim is.left [
+    | inl same ↦
+        let here : j.left ≡ ms = same.0 ∙ left in
+        early (powers_t less) (ap raises_late here ∙ late') (ap (λ (ns : List Micro). list_any does_more (from_first is_end ns)) here ∙ only')
+        (λ e. ap (list_any does_more) here ∙ timed' (sym same.1 ∙ e))
+    | inr cut ↦
+        let here : j.left ≡ from_first is_end ms = cut.1 ∙ cut_is_from k.call (taken k).left drops ∙ ap (from_first is_end) left in
+        early (powers_t less) (ap raises_late here ∙ late_from ms late') (ap (λ (ns : List Micro). list_any does_more (from_first is_end ns)) here ∙ ap (list_any does_more) (from_twice ms) ∙ only')
+        (λ e. ap (list_any does_more) here ∙ only')
+  ]
+
+  by_more : (ms : List Micro) → k.front ≡ [] → k.left ≡ m ∷ ms → (taken k).left ≡ ms → (b : Bool) → does_more m ≡ b → Stage q t j
+  by_more ms empty left rest false less =
+      go_on ms less rest (not_either (does_more m && list_any raises ms) (raises_late ms) (sym (ap raises_late left) ∙ late)).1
+      (sym (ap (λ (t' : Bool). list_any does_more (if t' then m ∷ ms else from_first is_end ms)) going) ∙ sym (ap (λ (ns : List Micro). list_any does_more (from_first is_end ns)) left) ∙ only)
+      (λ e. none_rest does_more m ms (sym (ap (list_any does_more) left) ∙ timed e))
+  by_more ms empty left rest true more = elim is.left [
+    | inr cut ↦ let no : true ≡ false = sym cut.0 ∙ more_gentle m more in absurd cc
+    | inl same ↦
+        past (same.1 ∙ on_time k.timed_out refl)
+        (is.calm (more_gentle m more) (ap (λ (ns : List Micro). list_any raises (rest_of ns)) empty))
+        (ap (list_any raises) (same.0 ∙ rest)
+        ∙ sym (ap (λ (b : Bool). b && list_any raises ms) more) ∙ (not_either (does_more m && list_any raises ms) (raises_late ms) (sym (ap raises_late left) ∙ late)).0)
+  ] where
+    on_time : (b : Bool) → k.timed_out ≡ b → b ≡ false
+    on_time false e = refl
+    on_time true e = let no : true ≡ false = sym more ∙ none_front does_more m ms (sym (ap (list_any does_more) left) ∙ timed e) in absurd cc
+
+  by_place : Comes k.front k.left m → Stage q t j
+  by_place (was_put put same) = go_on k.left (put_less m put) same late only timed
+  by_place (was_own empty left) = by_more (taken k).left empty left refl (does_more m) refl
+
+dropping_steps : (q s t : State) (d : ℕ) (what : Sleeping) (m : Micro) (answer : Option Bool) → is_dropped_whole what ≡ true → IsDropping q s what → next s d (event.Step m answer) ≡ Some (t, turn.Going) → IsDropping q t what
+unfolding settled
+dropping_steps q s t d what m answer drops is step =
+    let k : Change = is.now in
+    let of = of_change s t d m answer turn.Going k is.at step in
+    let run_t = run_goes_on s t d (event.Step m answer) turn.Going is.run step in
+    let after = step_after s (taken k) answer m of.answered in
+    record {
+      run = run_t;
+      now = after.0;
+      at = sym (ap (λ (u : State). u.change) of.state) ∙ after.1;
+      call = after.2.call ∙ is.call;
+      front = front_after s k after.0 answer m is.front of.first of.answered after.1;
+      stage = stage_steps q s t d m answer k of is.run.wired run_t.wired (ap is_dropped_whole is.call ∙ drops) is.front is.stage after.0 after.2;
+    }
+
+dropping_beside : (q s t : State) (other : ℕ) (what : Sleeping) (e : Event) (x : Turn) → is_enable_tier e ≡ true → IsDropping q s what → next s other e ≡ Some (t, x) → IsDropping q t what
+dropping_beside q s t other what e x tier is step = record {
+  run = run_goes_on s t other e x is.run step;
+  now = is.now;
+  at = beside_change s t other e x tier step ∙ is.at;
+  call = is.call;
+  front = is.front;
+  stage = by_stage is.stage;
+} where
+  by_stage : Stage q s is.now → Stage q t is.now
+  by_stage (early powers late only timed) = early (tier_powers q s t other e x is.run.wired.valid tier step powers) late only timed
+  by_stage (past on_time none_front_ none_left) = past on_time none_front_ none_left
+
+-- ---- beginnings
+
+-- the script of a change of parent: its one raise stands in front of all that does more
+late_move : (q : State) (c p : ℕ) → raises_late (move q.defs q.clocks (prepared q) c p) ≡ false
+late_move q c p = one (prepared q c) (link_in q.clocks c) where
+  one : (t : Bool) (l : Option ℕ) → raises_late (if t
+      then micro.Raise (clock_id p) ∷ micro.HoldPrepare (clock_id p) ∷ micro.HoldEnable (clock_id p) ∷ micro.HoldEnable (clock_id c)
+      ∷ micro.Relink (clock_id c) (clock_id p) ∷ micro.WriteMux (clock_id c) (place_of q.defs c p) ∷ micro.DropEnable (clock_id c)
+      ∷ option_map_or (λ o. micro.DropEnable (clock_id o) ∷ micro.DropPrepare (clock_id o) ∷ micro.Lower (clock_id o) ∷ []) l []
+      else micro.Relink (clock_id c) (clock_id p) ∷ micro.WriteMux (clock_id c) (place_of q.defs c p) ∷ []) ≡ false
+  one true None = refl
+  one true (Some o) = refl
+  one false l = refl
+
+move_no_end : (q : State) (c p : ℕ) → list_any is_end (move q.defs q.clocks (prepared q) c p) ≡ false
+move_no_end q c p = one (prepared q c) (link_in q.clocks c) where
+  one : (t : Bool) (l : Option ℕ) → list_any is_end (if t
+      then micro.Raise (clock_id p) ∷ micro.HoldPrepare (clock_id p) ∷ micro.HoldEnable (clock_id p) ∷ micro.HoldEnable (clock_id c)
+      ∷ micro.Relink (clock_id c) (clock_id p) ∷ micro.WriteMux (clock_id c) (place_of q.defs c p) ∷ micro.DropEnable (clock_id c)
+      ∷ option_map_or (λ o. micro.DropEnable (clock_id o) ∷ micro.DropPrepare (clock_id o) ∷ micro.Lower (clock_id o) ∷ []) l []
+      else micro.Relink (clock_id c) (clock_id p) ∷ micro.WriteMux (clock_id c) (place_of q.defs c p) ∷ []) ≡ false
+  one true None = refl
+  one true (Some o) = refl
+  one false l = refl
+
+-- a chain of one step
+late_own : (q : State) (k : ChainStep) (w : ℕ) → raises_late (move_of q.defs q.clocks (prepared q) (k ∷ []) w) ≡ false
+late_own q k w = one ((k.clock == w) && moves q.clocks k) k.parent where
+  nothing_more : (ms : List Micro) → raises_late ms ≡ false → raises_late (ms ++ []) ≡ false
+  nothing_more ms late = late_front ms [] refl late
+
+  by_parent : (o : Option ℕ) → raises_late (option_map_or (move q.defs q.clocks (prepared q) w) o []) ≡ false
+  by_parent None = refl
+  by_parent (Some p) = late_move q w p
+
+  one : (t : Bool) (o : Option ℕ) → raises_late (flat_map (λ l. option_map_or (move q.defs q.clocks (prepared q) w) l.parent []) (cond t (k ∷ []) [])) ≡ false
+  one false o = refl
+  one true o = nothing_more (option_map_or (move q.defs q.clocks (prepared q) w) k.parent []) (by_parent k.parent)
+
+late_walked : (q : State) (k : ChainStep) (ws : List ℕ) → slice_get ws 0 ≡ Some k.clock → none_twice ws ≡ true → raises_late (flat_map (walked_at q (k ∷ [])) ws) ≡ false
+late_walked q k [] at once = absurd cc
+late_walked q k (w ∷ ws) at once =
+    late_front (walked_at q (k ∷ []) w) (flat_map (walked_at q (k ∷ [])) ws)
+    (none_flat_in raises (walked_at q (k ∷ [])) ws
+    (λ x m. none_append raises (move_of q.defs q.clocks (prepared q) (k ∷ []) x) (micro.Visit (clock_id x) ∷ [])
+    (none_move_of raises q.defs q.clocks (prepared q) (k ∷ []) x ((λ same p is. absurd (twice x m same)), tt)) refl))
+    (late_front (move_of q.defs q.clocks (prepared q) (k ∷ []) w) (micro.Visit (clock_id w) ∷ []) refl (late_own q k w)) where
+      twice : (x : ℕ) → is_in x ws ≡ true → k.clock ≡ x → ⊥
+      twice x m same =
+          let first : w ≡ k.clock = cc in
+          let no : false ≡ true = sym (once_head w ws once).0 ∙ ap (λ (v : ℕ). is_in v ws) (first ∙ same) ∙ m in
+          cc
+
+parent_stage : (q : State) (k : ChainStep) (settles : List Micro) → IsRun q → LeadsFrom (wiring q) k.clock (k ∷ []) → list_any raises settles ≡ false → list_any is_end settles ≡ false
+    → (raises_late (planned q (k ∷ []) settles).steps ≡ false) × (list_any does_more (from_first is_end (planned q (k ∷ []) settles).steps) ≡ false)
+parent_stage q k settles run leads calm none = (
+  ap raises_late (planned_is q (k ∷ []) settles)
+      ∙ late_front (planned_front q (k ∷ []) settles) (micro.End ∷ []) refl
+      (late_past (pre_notices q (k ∷ [])) _ (none_pre does_more q (k ∷ []) (λ kind c id old new. refl)) (middle (list_any is_veto (pre_notices q (k ∷ []))))),
+  ap (λ (ms : List Micro). list_any does_more (from_first is_end ms)) (planned_is q (k ∷ []) settles)
+      ∙ ap (list_any does_more)
+      (from_first_past is_end (planned_front q (k ∷ []) settles) (micro.End ∷ [])
+      (none_planned_front is_end q (k ∷ []) settles (λ kind c id old new. refl)
+      (λ c. none_move_of is_end q.defs q.clocks (prepared q) (k ∷ []) c ((λ same p is. move_no_end q c p), tt)) (λ c. refl) none)),
+) where
+  ws : List ℕ
+  ws = walk q.order (wiring q) (k ∷ [])
+
+  is_walk : IsWalk q.order (wiring q) (k ∷ [])
+  is_walk = (walks_list (length q.regs) q.order (wiring q) k.clock (k ∷ []) run.wired run.keeps.order leads).0
+
+  middle : (v : Bool) → raises_late (cond v (abort_notices q (k ∷ [])) (walked q (k ∷ []) ++ settles)) ≡ false
+  middle true = late_calm (abort_notices q (k ∷ [])) (none_aborts raises (plan_rates q (k ∷ [])) q.notifiers (changing q.order (wiring q) (k ∷ [])) (λ kind c id old new. refl))
+  middle false = late_front (walked q (k ∷ [])) settles calm (late_walked q k ws is_walk.first is_walk.once)
