@@ -55,7 +55,7 @@ use Rattle.clk_model.proofs.BeginSafeLaws.{path_powered, resting, rests, begins_
 -- ---- scripts over a state at rest
 
 -- a chain of one step that gives a clock a rooted parent
-one_step_leads : (s : State) (c p rate : ℕ) → is_in p (parents_of s.defs c) ≡ true → LeadsFrom (wiring s) c (record { clock = c; rate = rate; parent = Some p } ∷ [])
+pub one_step_leads : (s : State) (c p rate : ℕ) → is_in p (parents_of s.defs c) ≡ true → LeadsFrom (wiring s) c (record { clock = c; rate = rate; parent = Some p } ∷ [])
 one_step_leads s c p rate m = record {
   first = refl;
   leads = tt;

@@ -1,10 +1,7 @@
 -- Laws on timeouts of prepares and changes of parents: nothing but power bits changes before the last raise, and nothing else behind a timeout.
-use Rattle.std.proofs.Common.{◌≡◌, ℕ, zero, suc, ◌+◌, ◌-◌, ◌||◌, ◌&&◌, Bool, true, false, not, cond, map, List, [], ◌∷◌, ◌++◌, Option, Some, None, refl, sym, ap, subst, ◌∙◌, ◌⊎◌, inl, inr, arith, length, nat_eq}
-use Rattle.std.proofs.lemmas.Bool.Decides.{nat_tests}
-use Rattle.std.proofs.lemmas.List.{append_assoc}
-use Rattle.std.proofs.lemmas.Option.{same_Some}
-use Rattle.std.specs.Prelude.{◌==◌, filter, flat_map, nat_le, option_map, reverse, slice_get, if◌then◌else◌}
-use Rattle.std.specs.List.{list_any, AllByRecursion}
+use Rattle.std.proofs.Common.{◌≡◌, ℕ, ◌+◌, ◌-◌, ◌||◌, ◌&&◌, Bool, true, false, cond, List, [], ◌∷◌, ◌++◌, Option, Some, None, refl, sym, ap, subst, ◌∙◌, inl, inr, length}
+use Rattle.std.specs.Prelude.{◌==◌, flat_map, nat_le, option_map, reverse, slice_get, if◌then◌else◌}
+use Rattle.std.specs.List.{list_any}
 use Rattle.std.specs.Option.{option_map_or}
 use Rattle.clk_base.specs.declared.call.Micro.{Micro}
 use Rattle.clk_base.specs.declared.call.Micro.TheVariants as micro
@@ -13,39 +10,38 @@ use Rattle.clk_base.specs.declared.call.Sleeping.TheVariants as call
 use Rattle.clk_base.specs.declared.event.Errno.TheVariants as errno
 use Rattle.clk_base.specs.declared.event.Event.{Event}
 use Rattle.clk_base.specs.declared.event.Event.TheVariants as event
-use Rattle.clk_base.specs.declared.event.Reply.{Reply}
 use Rattle.clk_base.specs.declared.event.Reply.TheVariants as reply
 use Rattle.clk_base.specs.declared.event.Turn.{Turn}
 use Rattle.clk_base.specs.declared.event.Turn.TheVariants as turn
-use Rattle.clk_base.specs.Description.{Description, kind_of, parents_of}
+use Rattle.clk_base.specs.Description.{Description, kind_of}
 use Rattle.clk_base.specs.Fields.{Field, GateBit, field_of, gate_of}
 use Rattle.clk_base.specs.Valid.{IsValid}
 use Rattle.clk_base.proofs.Valid.{field-field}
-use Rattle.reg_bank.specs.Registers.{Registers, field}
 use Rattle.clk_model.specs.declared.row.ClockRow.{ClockRow}
+use Rattle.clk_model.specs.declared.row.HandleRow.{HandleRow}
 use Rattle.clk_model.specs.Lists.{is_in, none_twice}
 use Rattle.clk_model.specs.State.{State, Change, ChainStep, link_in, handle_at}
 use Rattle.clk_model.specs.Rate.{rate}
 use Rattle.clk_model.specs.Holders.{prepared}
 use Rattle.clk_model.specs.Gates.{settled}
-use Rattle.clk_model.specs.Round.{wiring}
-use Rattle.clk_model.specs.Chain.{clock_id, moves, place_of}
+use Rattle.clk_model.specs.Round.{wiring, rate_in}
+use Rattle.clk_model.specs.Chain.{clock_id, moves, outcome, place_of}
 use Rattle.clk_model.specs.Walk.{walk, changing}
 use Rattle.clk_model.specs.Notices.{is_veto}
 use Rattle.clk_model.specs.Script.{move, move_of, planned}
-use Rattle.clk_model.specs.Begin.{begun, reparenting}
-use Rattle.clk_model.specs.Step.{todo, rest_of, left_behind, taken, is_end, from_first, cut_short, on, powered, timed_out, to_raise, raise_one, raise, poll, is_yes, to_lower, lower_one, lower, end_of, unranged, stepped}
+use Rattle.clk_model.specs.Begin.{begun}
+use Rattle.clk_model.specs.Step.{todo, rest_of, left_behind, taken, is_end, from_first, cut_short, on, powered, timed_out, to_raise, raise_one, poll, is_yes, to_lower, lower_one, ended_well, range_back, end_of, unranged, stepped}
 use Rattle.clk_model.specs.Machine.{comes_next, next}
 use Rattle.clk_model.specs.Journal.{replay, opening}
 use Rattle.clk_model.specs.Prep.{without_enables}
 use Rattle.clk_model.specs.Tier.{is_enable_tier}
-use Rattle.clk_model.specs.Wired.{IsWired, IsOrder}
+use Rattle.clk_model.specs.Wired.{IsWired}
 use Rattle.clk_model.specs.Laws.Plans.{LeadsFrom}
 use Rattle.clk_model.specs.Laws.Walks.{IsWalk}
 use Rattle.clk_model.specs.Laws.Flight.{Flight, begins, goes_on, beside, may_be_put, IsFront, nothing, plan_rates, abort_notices, pre_notices}
 use Rattle.clk_model.specs.Laws.NothingLeft.{DiffersInPower, is_dropped_whole, TimeoutsLeaveNothing}
-use Rattle.clk_model.proofs.Members.{not_either, both_left, both_right, same_from_test}
-use Rattle.clk_model.proofs.NoneLaws.{none_append, none_flat_map, none_front, none_rest, none_if}
+use Rattle.clk_model.proofs.Members.{not_either}
+use Rattle.clk_model.proofs.NoneLaws.{none_append, none_front, none_rest}
 use Rattle.clk_model.proofs.MicroLaws.{comes_first}
 use Rattle.clk_model.proofs.Cases.{by_option, by_test}
 use Rattle.clk_model.proofs.OnceLaws.{once_head}
@@ -61,11 +57,11 @@ use Rattle.clk_model.proofs.FlightLaws.{IsStep, begin_is, first_put, front_put, 
 use Rattle.clk_model.proofs.VetoLaws.{of_change, ends_it, end_state}
 use Rattle.clk_model.proofs.ArriveLaws.{wired_before}
 use Rattle.clk_model.proofs.WalkGoLaws.{from_first_past}
-use Rattle.clk_model.proofs.BeginsLaws.{changes_rate, Starts, raising_handle, lowering_handle, planning, reparents, probing, sweeping, Begins, answers, gives, takes, adjusts, prepares, unprepares, notes, registers, begins_so}
-use Rattle.clk_model.proofs.SafeRunLaws.{IsRun, run_goes_on}
+use Rattle.clk_model.proofs.BeginsLaws.{changes_rate, Starts, raising_handle, lowering_handle, planning, reparents, probing, sweeping, Begins, answers, gives, takes, adjusts, prepares, unprepares, notes, registers, goes_on as goes_in, begins_so}
+use Rattle.clk_model.proofs.SafeRunLaws.{one_step_leads, IsRun, run_goes_on}
 use Rattle.clk_model.proofs.RunsFedLaws.{run_of}
 use Rattle.clk_model.proofs.FieldLaws.{FieldStays, scale_is_field, powered_stays, closed_stays, settled_stays}
-use Rattle.clk_model.proofs.ScriptLaws.{NoMove, none_cut, none_flat_in, none_move_of, none_pre, none_aborts, planned_front, planned_is, none_planned_front}
+use Rattle.clk_model.proofs.ScriptLaws.{none_flat_in, none_move_of, none_pre, none_aborts, planned_front, planned_is, none_planned_front}
 
 -- ---- steps that do more than power
 
@@ -448,3 +444,131 @@ parent_stage q k settles run leads calm none = (
   middle : (v : Bool) → raises_late (cond v (abort_notices q (k ∷ [])) (walked q (k ∷ []) ++ settles)) ≡ false
   middle true = late_calm (abort_notices q (k ∷ [])) (none_aborts raises (plan_rates q (k ∷ [])) q.notifiers (changing q.order (wiring q) (k ∷ [])) (λ kind c id old new. refl))
   middle false = late_front (walked q (k ∷ [])) settles calm (late_walked q k ws is_walk.first is_walk.once)
+
+dropped_parent : (what : Sleeping) → changes_rate what ≡ true → is_dropped_whole what ≡ true → ⊥
+dropped_parent (call.SetRate h x) is drops = absurd cc
+dropped_parent (call.SetRateExclusive h x) is drops = absurd cc
+dropped_parent (call.SetRange h least most) is drops = absurd cc
+dropped_parent _ is drops = absurd cc
+
+-- the change that such a call begins with
+starts_early : (q n : State) (d : ℕ) (what : Sleeping) (k : Change) → IsRun q → is_dropped_whole what ≡ true → Starts q d what n k → ((n ≡ q) × (k.front ≡ []) × (k.call ≡ what))
+    × (raises_late k.left ≡ false) × (list_any does_more (from_first is_end k.left) ≡ false) × (k.timed_out ≡ false)
+starts_early q n d what k run drops (raising_handle h row is at) = ((refl, refl, refl), refl, refl, refl)
+starts_early q n d what k run drops (lowering_handle h row is at gives_up) = let no : false ≡ true = ap is_dropped_whole (sym is) ∙ drops in absurd cc
+starts_early q n d what k run drops (planning _ number row over x ks range planned_ at is rates) = absurd (dropped_parent what rates drops)
+starts_early q n d what k run drops (reparents number row p sets at away mux m root) =
+    let rate_ : ℕ = rate_in (outcome (record { clock = row.clock.0; rate = 0; parent = Some p } ∷ []) (wiring q)) row.clock.0 in
+    let stage = parent_stage q (record { clock = row.clock.0; rate = rate_; parent = Some p }) (micro.Settle row.clock ∷ []) run (one_step_leads q row.clock.0 p rate_ m) refl refl in
+    ((refl, refl, refl), stage.0, stage.1, refl)
+starts_early q n d what k run drops (probing c is free) = let no : false ≡ true = ap is_dropped_whole (sym is) ∙ drops in absurd cc
+starts_early q n d what k run drops (sweeping is) = let no : false ≡ true = ap is_dropped_whole (sym is) ∙ drops in absurd cc
+
+powered_start : (q : State) → IsPowered q q
+powered_start q = record { defs = refl; clocks = refl; order = refl; handles = λ number. refl; notifiers = refl; prepare_holds = refl; fields = λ c f at. refl }
+
+dropping_begins : (q s : State) (d : ℕ) (what : Sleeping) → IsRun q → is_dropped_whole what ≡ true → next q d (event.Begin what) ≡ Some (s, turn.Going) → IsDropping q s what
+unfolding settled
+dropping_begins q s d what run drops step = by_case (begun q d what) (begins_so q d what) start.2 start.1 where
+  start : (q.change ≡ None) × (record (settled q (begun q d what).0) { spent = q.spent + 1 } ≡ s) × ((begun q d what).1 ≡ turn.Going)
+  start = begin_is q s d what turn.Going step
+
+  run_s : IsRun s
+  run_s = run_goes_on q s d (event.Begin what) turn.Going run step
+
+  goes_ : (n : State) (k : Change) → Starts q d what n k → record (settled q (record n { change = Some k })) { spent = q.spent + 1 } ≡ s → IsDropping q s what
+  goes_ n k starts_ state =
+      let is = starts_early q n d what k run drops starts_ in
+      let u : State = record n { change = Some k } in
+      let valid_u = (wired_before q u (subst (λ (v : State). IsWired (length v.regs) (wiring v)) (sym state) run_s.wired)).valid in
+      let powers_u : IsPowered q u = powered_same q n (Some k) (subst (λ (v : State). IsPowered q v) (sym is.0.0) (powered_start q)) in
+      record {
+        run = run_s;
+        now = k;
+        at = sym (ap (λ (v : State). v.change) state);
+        call = is.0.2;
+        front = nothing is.0.1;
+        stage = early (subst (λ (v : State). IsPowered q v) state (powered_settled q q u (q.spent + 1) (settled q u).steps valid_u powers_u)) is.1 is.2 (λ e. let no : true ≡ false = sym e ∙ is.3 in absurd cc);
+      }
+
+  by_case : (y : State × Turn) → Begins q d what y → y.1 ≡ turn.Going → record (settled q y.0) { spent = q.spent + 1 } ≡ s → IsDropping q s what
+  by_case y (goes_in n k starts_) going state = goes_ n k starts_ state
+  by_case y (answers r) going state = absurd cc
+  by_case y (gives c root) going state = absurd cc
+  by_case y (takes number row at idle) going state = absurd cc
+  by_case y (adjusts number old new r adjusted) going state = absurd cc
+  by_case y (prepares number row at calm_) going state = absurd cc
+  by_case y (unprepares number row at gives_up) going state = absurd cc
+  by_case y (notes notifiers r) going state = absurd cc
+  by_case y (registers c free calm_) going state = absurd cc
+
+dropping_of : (q : State) (d : ℕ) (what : Sleeping) → IsRun q → is_dropped_whole what ≡ true → {s : State} {made : List Micro} → Flight q d what s made → IsDropping q s what
+dropping_of q d what run drops {s = s} (begins step) = dropping_begins q s d what run drops step
+dropping_of q d what run drops {s = t} (goes_on {s = s} m answer flight step) = dropping_steps q s t d what m answer drops (dropping_of q d what run drops flight) step
+dropping_of q d what run drops {s = t} (beside {s = s} {x = x} other e tier flight step) = dropping_beside q s t other what e x tier (dropping_of q d what run drops flight) step
+
+-- ---- the end
+
+-- a call that is refused by ETIMEDOUT has timed out
+late_reply : (s : State) (k : Change) → (end_of s k).1 ≡ turn.Done (reply.Refused errno.ETIMEDOUT) → k.timed_out ≡ true
+late_reply s k e = both k.vetoed k.timed_out e where
+  both : (v b : Bool) → turn.Done (if v then reply.Refused errno.EBUSY else if b then reply.Refused errno.ETIMEDOUT else reply.Fine) ≡ turn.Done (reply.Refused errno.ETIMEDOUT) → b ≡ true
+  both v true f = refl
+  both true false f = absurd cc
+  both false false f = absurd cc
+
+ranged_same : (what : Sleeping) (range : Option (ℕ × ℕ)) (handles : List (Option HandleRow)) → is_dropped_whole what ≡ true → range_back what range handles ≡ handles
+ranged_same (call.Prepare h) range handles drops = refl
+ranged_same (call.SetParent h p) range handles drops = refl
+ranged_same _ range handles drops = absurd cc
+
+end_powers : (q s : State) (k : Change) → is_dropped_whole k.call ≡ true → k.timed_out ≡ true → IsPowered q s → IsPowered q (end_of s k).0
+end_powers q s k drops late is = either k.vetoed k.timed_out late where
+  kept : IsPowered q (record (unranged s k) { change = None })
+  kept = powered_over q s _ is refl refl refl (ranged_same k.call k.range s.handles drops) refl refl (λ c f at. refl)
+
+  either : (v b : Bool) → b ≡ true → IsPowered q (record (cond (v || b) (unranged s k) (ended_well s k.driver k.call)) { change = None })
+  either true b e = kept
+  either false true e = kept
+  either false false e = absurd cc
+
+end_turn : (s : State) (k : Change) (answer : Option Bool) (m : Micro) → m ≡ micro.End → (stepped s k answer m).1 ≡ (end_of s k).1
+unfolding stepped
+end_turn s k answer m is = ap (λ (n : Micro). (stepped s k answer n).1) is
+
+pub timeouts_leave_nothing : TimeoutsLeaveNothing
+timeouts_leave_nothing defs regs ignore_unused credits before s t d what made m answer valid drops flight step = by_stage is.stage where
+  q : State
+  q = replay (opening defs regs ignore_unused credits) before
+
+  is : IsDropping q s what
+  is = dropping_of q d what (run_of defs regs ignore_unused credits before valid) drops flight
+
+  k : Change
+  k = is.now
+
+  of : IsStep s t d m answer (turn.Done (reply.Refused errno.ETIMEDOUT)) k
+  of = of_change s t d m answer (turn.Done (reply.Refused errno.ETIMEDOUT)) k is.at step
+
+  end_ : m ≡ micro.End
+  end_ = ends_it s (taken k) answer m (reply.Refused errno.ETIMEDOUT) of.answered
+
+  late : k.timed_out ≡ true
+  late = late_reply s (taken k) (sym (end_turn s (taken k) answer m end_) ∙ of.answered)
+
+  u : State
+  u = (end_of s (taken k)).0
+
+  state : record (settled s u) { steps = s.steps + 1 } ≡ t
+  state = ap (λ (v : State). let x : State = record (settled s v) { steps = s.steps + 1 } in x) (sym (end_state s (taken k) answer m end_)) ∙ of.state
+
+  run_t : IsRun t
+  run_t = run_goes_on s t d (event.Step m answer) (turn.Done (reply.Refused errno.ETIMEDOUT)) is.run step
+
+  by_stage : Stage q s k → DiffersInPower q t
+  by_stage (past on_time none_front_ none_left) = let no : true ≡ false = sym late ∙ on_time in absurd cc
+  by_stage (early powers late_ only timed) =
+      let valid_u = (wired_before s u (subst (λ (v : State). IsWired (length v.regs) (wiring v)) (sym state) run_t.wired)).valid in
+      differs_of q t
+      (subst (λ (v : State). IsPowered q v) state
+      (powered_settled q s u (settled s u).spent (s.steps + 1) valid_u (end_powers q s (taken k) (ap is_dropped_whole is.call ∙ drops) late powers)))
