@@ -95,4 +95,6 @@ pub mod ExclusiveLaws
 pub mod RaisedLaws
 pub mod RaisedStepLaws
 pub mod RaisedEndLaws
+pub mod RaisedFlightLaws
+pub mod TimeoutStepLaws
 pub mod TimeoutLaws

@@ -1,4 +1,4 @@
-use Rattle.clk_model.proofs.RaisedEndLaws as laws
+use Rattle.clk_model.proofs.RaisedFlightLaws as laws
 use Rattle.clk_model.proofs.laws.ends.raised_end_as_prepared.Goals as goal
 
 pub returns : goal.returns
