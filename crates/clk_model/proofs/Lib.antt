@@ -98,3 +98,4 @@ pub mod RaisedEndLaws
 pub mod RaisedFlightLaws
 pub mod TimeoutStepLaws
 pub mod TimeoutLaws
+pub mod OutcomeRateLaws
