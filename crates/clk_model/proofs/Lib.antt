@@ -99,3 +99,4 @@ pub mod RaisedFlightLaws
 pub mod TimeoutStepLaws
 pub mod TimeoutLaws
 pub mod OutcomeRateLaws
+pub mod FollowLaws

@@ -130,7 +130,7 @@ all_apart : (s : State) (ks : List ChainStep) (up : ℕ → Option ℕ) (cs : Li
 all_apart s ks up [] down apart = tt
 all_apart s ks up (c ∷ cs) down apart = ((λ d p o q r m first second. apart c d p o q r first second (down.0 d m)), all_apart s ks up cs down.1 apart)
 
-plan_of : (s : State) (c : ℕ) (ks : List ChainStep) → PlanOver s c ks → Planned_ (length s.regs) s.order (wiring s) ks (outcome ks (wiring s))
+pub plan_of : (s : State) (c : ℕ) (ks : List ChainStep) → PlanOver s c ks → Planned_ (length s.regs) s.order (wiring s) ks (outcome ks (wiring s))
 plan_of s c ks over = record {
   wired = over.fit.wired;
   ordered = over.order;
@@ -140,7 +140,7 @@ plan_of s c ks over = record {
 }
 
 -- the links of the chain after the plan
-planned_links : (s : State) (c : ℕ) (ks : List ChainStep) → PlanOver s c ks → AllByRecursion (λ k. link_in (outcome ks (wiring s)).clocks k.clock ≡ k.parent) ks
+pub planned_links : (s : State) (c : ℕ) (ks : List ChainStep) → PlanOver s c ks → AllByRecursion (λ k. link_in (outcome ks (wiring s)).clocks k.clock ≡ k.parent) ks
 planned_links s c ks over =
     all_both (λ k. k.clock < length s.clocks → row_of (outcome ks (wiring s)).clocks k.clock ≡ record (row_of s.clocks k.clock) { link = option_map clock_id k.parent }) (StepsRooted (wiring s))
     (λ k. link_in (outcome ks (wiring s)).clocks k.clock ≡ k.parent) ks
