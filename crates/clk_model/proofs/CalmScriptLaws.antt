@@ -40,7 +40,7 @@ LeaveAlone defs kept ms = list_any (disturbs defs kept) ms ≡ false
 -- ---- plans
 
 -- the place of a possible parent fits the field of a mux
-place_calm : (defs : Description) (words c q : ℕ) (kept : List ℕ) → IsValid words defs → is_in q (parents_of defs c) ≡ true → disturbs defs kept (micro.WriteMux (clock_id c) (place_of defs c q)) ≡ false
+pub place_calm : (defs : Description) (words c q : ℕ) (kept : List ℕ) → IsValid words defs → is_in q (parents_of defs c) ≡ true → disturbs defs kept (micro.WriteMux (clock_id c) (place_of defs c q)) ≡ false
 place_calm defs words c q kept valid m = one (mux_field (kind_of defs c)) refl where
   one : (o : Option Field) → mux_field (kind_of defs c) ≡ o → option_map_or (λ f. not (nat_lt (place_of defs c q) (2 ^ f.width))) o false ≡ false
   one None at = refl

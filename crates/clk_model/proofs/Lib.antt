@@ -100,3 +100,4 @@ pub mod TimeoutStepLaws
 pub mod TimeoutLaws
 pub mod OutcomeRateLaws
 pub mod FollowLaws
+pub mod FollowScriptLaws
