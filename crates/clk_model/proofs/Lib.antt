@@ -96,6 +96,7 @@ pub mod RaisedLaws
 pub mod RaisedStepLaws
 pub mod RaisedEndLaws
 pub mod RaisedFlightLaws
+pub mod NextLaws
 pub mod TimeoutStepLaws
 pub mod TimeoutLaws
 pub mod OutcomeRateLaws

@@ -39,6 +39,7 @@ use Rattle.clk_model.proofs.NoneLaws.{none_append, none_front, none_rest}
 use Rattle.clk_model.proofs.MicroLaws.{comes_first}
 use Rattle.clk_model.proofs.OnceLaws.{once_head}
 use Rattle.clk_model.proofs.TierLaws.{beside_change}
+use Rattle.clk_model.proofs.NextLaws.{first_none, Comes, was_put, was_own, comes_of, going_no_end}
 use Rattle.clk_model.proofs.StepLaws.{raises, IsAfter, step_after}
 use Rattle.clk_model.proofs.FrontLaws.{front_after}
 use Rattle.clk_model.proofs.BeginLaws.{walked_at, walked}
@@ -85,26 +86,6 @@ more_gentle : (m : Micro) → does_more m ≡ true → raises m ≡ false
 more_gentle (micro.Raise x) more = absurd cc
 more_gentle (micro.Poll x) more = absurd cc
 more_gentle m more = refl
-
--- what is left of a script behind the step that comes next: the step was in front, or it was the script's first
-data Comes (front left : List Micro) (m : Micro) : Type 0 where
-  was_put : may_be_put m ≡ true → left_behind front left ≡ left → Comes front left m
-  was_own : front ≡ [] → left ≡ m ∷ left_behind front left → Comes front left m
-
-comes_of : (front left : List Micro) (m : Micro) → comes_next m (front ++ left) ≡ true → first_put front ≡ true → Comes front left m
-comes_of [] [] m first put = absurd cc
-comes_of [] (n ∷ ns) m first put = was_own refl (ap (λ (x : Micro). x ∷ ns) (next_is m n ns first))
-comes_of (n ∷ ns) left m first put = was_put (ap may_be_put (sym (next_is m n (ns ++ left) first)) ∙ put) refl
-
-going_no_end : (s : State) (k : Change) (answer : Option Bool) (m : Micro) → (stepped s k answer m).1 ≡ turn.Going → is_end m ≡ false
-unfolding stepped
-going_no_end s k answer micro.End going = absurd cc
-going_no_end s k answer m going = refl
-
-first_none : (p : Micro → Bool) (m : Micro) (ms : List Micro) → comes_next m ms ≡ true → list_any p ms ≡ false → p m ≡ false
-first_none p m ms first none =
-    let at = comes_first m ms first in
-    none_front p m at.0 (ap (list_any p) (sym at.1) ∙ none)
 
 rest_none : (p : Micro → Bool) (front left : List Micro) → list_any p front ≡ false → list_any p left ≡ false → (list_any p (rest_of front) ≡ false) × (list_any p (left_behind front left) ≡ false)
 rest_none p [] [] e f = (refl, refl)
@@ -165,7 +146,7 @@ stage_steps q s t d m answer k step wired wired_t drops front (early powers late
     on_time true e = let no : true ≡ false = sym more ∙ none_front does_more m ms (sym (ap (list_any does_more) left) ∙ timed e) in absurd cc
 
   by_place : Comes k.front k.left m → Stage q t j
-  by_place (was_put put same) = go_on k.left (put_less m put) same late only timed
+  by_place (was_put front_ put same) = go_on k.left (put_less m put) same late only timed
   by_place (was_own empty left) = by_more (taken k).left empty left refl (does_more m) refl
 
 dropping_steps : (q s t : State) (d : ℕ) (what : Sleeping) (m : Micro) (answer : Option Bool) → is_dropped_whole what ≡ true → IsDropping q s what → next s d (event.Step m answer) ≡ Some (t, turn.Going) → IsDropping q t what

@@ -16,3 +16,4 @@ pub mod RunsEnd
 pub mod RunsFed
 pub mod Exclusive
 pub mod NothingLeft
+pub mod ChangesTold
