@@ -1,10 +1,8 @@
 -- Laws on the way to an outcome: a planned script leads, visit by visit, to the links of its outcome and to what its clocks divide and
 -- multiply by there; so at each visit the clock has the rate that it has in the outcome.
-use Rattle.std.proofs.Common.{◌≡◌, ◌≢◌, ℕ, zero, suc, ◌-◌, ◌<◌, ◌^◌, ◌&&◌, ◌||◌, Bool, true, false, not, cond, List, [], ◌∷◌, ◌++◌, Option, Some, None, refl, sym, ap, subst, ◌∙◌, ◌⊎◌, inl, inr, arith, length, nat_eq, nat_lt}
-use Rattle.std.proofs.lemmas.Bool.Decides.{nat_tests}
-use Rattle.std.proofs.lemmas.List.{append_assoc}
-use Rattle.std.specs.Prelude.{◌==◌, filter, find, flat_map, option_map, reverse, slice_get, if◌then◌else◌}
-use Rattle.std.specs.List.{list_any, AllByRecursion}
+use Rattle.std.proofs.Common.{◌≡◌, ℕ, ◌^◌, Bool, true, false, not, List, [], ◌∷◌, ◌++◌, Option, Some, None, refl, sym, ap, subst, ◌∙◌, ◌⊎◌, inl, inr, length, nat_lt}
+use Rattle.std.specs.Prelude.{◌==◌, find, option_map}
+use Rattle.std.specs.List.{list_any}
 use Rattle.std.specs.Option.{option_map_or}
 use Rattle.clk_base.specs.declared.call.Micro.{Micro}
 use Rattle.clk_base.specs.declared.call.Micro.TheVariants as micro
@@ -13,40 +11,24 @@ use Rattle.clk_base.specs.Description.{Description, kind_of, parents_of}
 use Rattle.clk_base.specs.Fields.{Field}
 use Rattle.clk_base.specs.Levels.{depth}
 use Rattle.clk_base.specs.Valid.{IsValid}
-use Rattle.clk_base.proofs.Valid.{field-field, lines_end}
+use Rattle.clk_base.proofs.Valid.{lines_end}
 use Rattle.reg_bank.specs.Registers.{Registers, field}
-use Rattle.clk_model.specs.declared.row.ClockRow.{ClockRow}
-use Rattle.clk_model.specs.Lists.{is_in, none_twice}
+use Rattle.clk_model.specs.Lists.{is_in}
 use Rattle.clk_model.specs.Kinds.{mux_field}
 use Rattle.clk_model.specs.State.{State, Change, ChainStep, link_in}
-use Rattle.clk_model.specs.Tree.{path}
-use Rattle.clk_model.specs.Holders.{prepared}
 use Rattle.clk_model.specs.Rate.{rate}
 use Rattle.clk_model.specs.Round.{Wiring, wiring, rate_in, parent_rate_in}
-use Rattle.clk_model.specs.Chain.{clock_id, moves, setting, outcome, place_of}
-use Rattle.clk_model.specs.Walk.{walk, changing}
-use Rattle.clk_model.specs.Notices.{is_veto}
-use Rattle.clk_model.specs.Script.{move, move_of, planned}
-use Rattle.clk_model.specs.Step.{planned_rate, set_in_chain}
+use Rattle.clk_model.specs.Chain.{setting, outcome}
+use Rattle.clk_model.specs.Step.{set_in_chain}
 use Rattle.clk_model.specs.Laws.Paths.{scales_by, ScalesAlike}
-use Rattle.clk_model.specs.Laws.Plans.{clocks_in, HasParent}
-use Rattle.clk_model.specs.Laws.Flight.{plan_rates, pre_notices, abort_notices}
-use Rattle.clk_model.proofs.Members.{is_in_head, is_in_tail, is_in_cases, same_from_test, test_same, not_either}
-use Rattle.clk_model.proofs.NoneLaws.{none_front, none_rest, none_append}
-use Rattle.clk_model.proofs.OnceLaws.{once_head}
+use Rattle.clk_model.proofs.NoneLaws.{none_front, none_rest}
 use Rattle.clk_model.proofs.BelowLaws.{IsUp, rises_on, no_round}
-use Rattle.clk_model.proofs.AboveLaws.{put_at, put_same, put_other, differs, Above, above_here, above_link, path_above}
+use Rattle.clk_model.proofs.AboveLaws.{put_at, put_same, put_other, Above, above_link, path_above}
 use Rattle.clk_model.proofs.WholePathLaws.{same_or_not}
-use Rattle.clk_model.proofs.SettingLaws.{settings_fit, outcomes_keep}
-use Rattle.clk_model.proofs.BeginLaws.{walked_at, walked}
-use Rattle.clk_model.proofs.WalkLaws.{links_after, walks_list}
-use Rattle.clk_model.proofs.WalkOrderLaws.{Descends, below_descends}
-use Rattle.clk_model.proofs.PlanRootLaws.{StepsRooted}
-use Rattle.clk_model.proofs.PlannedGoLaws.{all_both, moves_here, OneStep, one_step}
-use Rattle.clk_model.proofs.PlanGoLaws.{PlanOver, plan_of, planned_links}
+use Rattle.clk_model.proofs.WalkLaws.{links_after}
+use Rattle.clk_model.proofs.PlanGoLaws.{PlanOver, plan_of}
 use Rattle.clk_model.proofs.FieldLaws.{scale_is_field, set_stays}
-use Rattle.clk_model.proofs.ScriptLaws.{none_pre, none_aborts, planned_front, planned_is}
-use Rattle.clk_model.proofs.OutcomeRateLaws.{rates_alike, SetRight, Sets, settings_right, moved_no_scale}
+use Rattle.clk_model.proofs.OutcomeRateLaws.{rates_alike}
 
 -- ---- where the clocks are on the way
 

@@ -1,24 +1,23 @@
 -- Laws on planned scripts and outcomes: each planned script leads to its outcome.
-use Rattle.std.proofs.Common.{◌≡◌, ◌≢◌, ℕ, zero, suc, ◌&&◌, ◌||◌, Bool, true, false, not, cond, List, [], ◌∷◌, ◌++◌, Option, Some, None, refl, sym, ap, subst, ◌∙◌, ◌⊎◌, inl, inr, length, nat_eq}
+use Rattle.std.proofs.Common.{◌≡◌, ℕ, ◌&&◌, ◌||◌, Bool, true, false, not, cond, List, [], ◌∷◌, ◌++◌, Option, Some, None, refl, sym, ap, subst, ◌∙◌, ◌⊎◌, inl, inr, length}
 use Rattle.std.proofs.lemmas.List.{append_assoc}
 use Rattle.std.specs.Prelude.{◌==◌, filter, find, flat_map, option_map, if◌then◌else◌}
 use Rattle.std.specs.List.{list_any, AllByRecursion}
 use Rattle.std.specs.Option.{option_map_or}
 use Rattle.clk_base.specs.declared.call.Micro.{Micro}
 use Rattle.clk_base.specs.declared.call.Micro.TheVariants as micro
-use Rattle.clk_base.specs.Description.{Description, kind_of, parents_of}
+use Rattle.clk_base.specs.Description.{kind_of, parents_of}
 use Rattle.clk_base.specs.Fields.{Field}
 use Rattle.clk_base.specs.Levels.{depth}
 use Rattle.clk_base.specs.Valid.{IsValid}
 use Rattle.clk_base.proofs.Valid.{field-field, lines_end}
-use Rattle.reg_bank.specs.Registers.{Registers, field}
+use Rattle.reg_bank.specs.Registers.{field}
 use Rattle.clk_model.specs.declared.row.ClockRow.{ClockRow}
 use Rattle.clk_model.specs.Lists.{is_in, none_twice, same_place}
-use Rattle.clk_model.specs.State.{State, Change, ChainStep, link_in}
-use Rattle.clk_model.specs.Tree.{path}
+use Rattle.clk_model.specs.State.{State, ChainStep, link_in}
 use Rattle.clk_model.specs.Holders.{prepared}
-use Rattle.clk_model.specs.Round.{Wiring, wiring, parent_rate_in}
-use Rattle.clk_model.specs.Chain.{clock_id, moves, setting, outcome, place_of}
+use Rattle.clk_model.specs.Round.{wiring, parent_rate_in}
+use Rattle.clk_model.specs.Chain.{clock_id, moves, setting, place_of}
 use Rattle.clk_model.specs.Walk.{top_of, kids_after, walk, changing}
 use Rattle.clk_model.specs.Notices.{is_veto}
 use Rattle.clk_model.specs.Script.{move, move_of, planned}
@@ -26,10 +25,8 @@ use Rattle.clk_model.specs.Laws.Paths.{scales_by, ScalesAlike}
 use Rattle.clk_model.specs.Laws.Plans.{clocks_in, HasParent, LeadsUp, DiffersIn, LeavesFields}
 use Rattle.clk_model.specs.Laws.Walks.{IsWalk}
 use Rattle.clk_model.specs.Laws.Flight.{plan_rates, pre_notices, abort_notices}
-use Rattle.clk_model.proofs.Members.{is_in_head, is_in_tail, is_in_cases, same_from_test, test_same, not_either}
-use Rattle.clk_model.proofs.NoneLaws.{none_front, none_rest, none_append}
+use Rattle.clk_model.proofs.Members.{is_in_head, is_in_cases, same_from_test, test_same}
 use Rattle.clk_model.proofs.OnceLaws.{once_head}
-use Rattle.clk_model.proofs.BelowLaws.{IsUp}
 use Rattle.clk_model.proofs.AboveLaws.{put_at, put_same, put_other, Above, above_here, above_link, above_path}
 use Rattle.clk_model.proofs.WholePathLaws.{same_or_not}
 use Rattle.clk_model.proofs.OutcomeLaws.{same_from_place, not_false}
@@ -41,10 +38,10 @@ use Rattle.clk_model.proofs.PlanRootLaws.{StepsRooted}
 use Rattle.clk_model.proofs.PlannedGoLaws.{all_both, moves_here, OneStep, one_step}
 use Rattle.clk_model.proofs.PlanGoLaws.{PlanOver, plan_of, planned_links}
 use Rattle.clk_model.proofs.FieldLaws.{scale_is_field}
-use Rattle.clk_model.proofs.ScriptLaws.{none_pre, none_aborts, planned_front, planned_is}
+use Rattle.clk_model.proofs.ScriptLaws.{none_pre, none_aborts, planned_is}
 use Rattle.clk_model.proofs.CalmScriptLaws.{place_calm}
-use Rattle.clk_model.proofs.OutcomeRateLaws.{SetRight, Sets, settings_right, moved_no_scale}
-use Rattle.clk_model.proofs.FollowLaws.{outcome_of, Agrees, AgreesAll, NoScale, SetsTo, planned_in, IsVisit, moved, stays, AboveDone, stirs, Follows, stops, idles, links, visits, follows_idle}
+use Rattle.clk_model.proofs.OutcomeRateLaws.{SetRight, settings_right, moved_no_scale}
+use Rattle.clk_model.proofs.FollowLaws.{outcome_of, Agrees, AgreesAll, NoScale, SetsTo, IsVisit, moved, stays, AboveDone, stirs, Follows, stops, idles, links, visits, follows_idle}
 
 -- ---- the steps of a chain
 

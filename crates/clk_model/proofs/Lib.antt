@@ -102,3 +102,6 @@ pub mod TimeoutLaws
 pub mod OutcomeRateLaws
 pub mod FollowLaws
 pub mod FollowScriptLaws
+pub mod FollowStepLaws
+pub mod ToldLaws
+pub mod ToldStepLaws

@@ -1,7 +1,7 @@
 -- Laws on outcomes and rates: the setting of each clock of a chain is over the rate that its parent has in the whole outcome.
-use Rattle.std.proofs.Common.{◌≡◌, ◌≢◌, ℕ, zero, suc, ◌<◌, ◌&&◌, Bool, true, false, not, cond, List, [], ◌∷◌, Option, Some, None, refl, sym, ap, subst, ◌∙◌, ◌⊎◌, inl, inr, arith, length}
+use Rattle.std.proofs.Common.{◌≡◌, ◌≢◌, ℕ, zero, suc, ◌<◌, Bool, true, false, not, cond, List, [], ◌∷◌, Option, Some, None, refl, sym, ap, subst, ◌∙◌, inl, inr, arith, length}
 use Rattle.std.proofs.lemmas.Bool.{and_parts, eqb-true}
-use Rattle.std.specs.Prelude.{◌==◌, ◌||◌, IfSome, option_map, slice_get}
+use Rattle.std.specs.Prelude.{◌==◌, IfSome, option_map}
 use Rattle.std.specs.List.{AllByRecursion}
 use Rattle.std.specs.Option.{option_map_or}
 use Rattle.clk_base.specs.declared.clock.Kind.{Kind}
@@ -21,19 +21,19 @@ use Rattle.clk_model.specs.Round.{Wiring, rate_in, parent_rate_in}
 use Rattle.clk_model.specs.Chain.{moves, select, setting, linked, set_one, outcome}
 use Rattle.clk_model.specs.Laws.Paths.{scales_by, ScalesAlike}
 use Rattle.clk_model.specs.Laws.Plans.{clocks_in, HasParent, LeadsUp, LieApart, DiffersIn}
-use Rattle.clk_model.specs.Wired.{IsWired, IsOrder, LinesEnd}
+use Rattle.clk_model.specs.Wired.{IsWired, IsOrder}
 use Rattle.clk_model.proofs.Members.{is_in_cases, test_same, not_either}
 use Rattle.clk_model.proofs.OnceLaws.{once_head}
 use Rattle.clk_model.proofs.PlanLaws.{IsAbove, above_parent, not_above_parent}
 use Rattle.clk_model.proofs.ApartLaws.{ranges_hold, fields_apart, fielded_lt}
 use Rattle.clk_model.proofs.OutcomeLaws.{SetsOne, sets_one, FitsKind, differs_in}
 use Rattle.clk_model.proofs.SettingLaws.{settings_fit, setting_same}
-use Rattle.clk_model.proofs.RateLaws.{over_same, IsAlike, rate_agree}
+use Rattle.clk_model.proofs.RateLaws.{over_same, rate_agree}
 use Rattle.clk_model.proofs.BelowLaws.{Rises, IsUp}
 use Rattle.clk_model.proofs.AboveLaws.{path_above}
 use Rattle.clk_model.proofs.WalkLaws.{Planned_, links_after}
 use Rattle.clk_model.proofs.FieldLaws.{scale_is_field}
-use Rattle.clk_model.proofs.PlanRootLaws.{IsRooted, StepsRooted, rooted_linked}
+use Rattle.clk_model.proofs.PlanRootLaws.{StepsRooted, rooted_linked}
 
 -- ---- rates of trees that are alike
 

@@ -63,7 +63,7 @@ one_step_leads s c p rate m = record {
   once = refl;
 }
 
-one_step_rooted : (s : State) (c p rate : ℕ) → is_in p (parents_of s.defs c) ≡ true → IsRooted s.defs s.clocks c → rooted s.defs s.clocks p ≡ true
+pub one_step_rooted : (s : State) (c p rate : ℕ) → is_in p (parents_of s.defs c) ≡ true → IsRooted s.defs s.clocks c → rooted s.defs s.clocks p ≡ true
     → AllByRecursion (StepsRooted (wiring s)) (record { clock = c; rate = rate; parent = Some p } ∷ [])
 one_step_rooted s c p rate m own root = (
   record {
@@ -74,7 +74,7 @@ one_step_rooted s c p rate m own root = (
   tt,
 )
 
-plan_over : (n : State) (c : ℕ) (ks : List ChainStep) → Resting n → LeadsFrom (wiring n) c ks → AllByRecursion (StepsRooted (wiring n)) ks → PlanOver n c ks
+pub plan_over : (n : State) (c : ℕ) (ks : List ChainStep) → Resting n → LeadsFrom (wiring n) c ks → AllByRecursion (StepsRooted (wiring n)) ks → PlanOver n c ks
 plan_over n c ks rest leads steps = record { fit = rest.fit; prepares = rest.prepares; enables = rest.enables; order = rest.keeps.order; leads = leads; steps = steps }
 
 -- the state and the change that a call goes on with: its script goes well

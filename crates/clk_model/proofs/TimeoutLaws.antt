@@ -26,7 +26,7 @@ use Rattle.clk_model.specs.Notices.{is_veto}
 use Rattle.clk_model.specs.Script.{move, move_of, planned}
 use Rattle.clk_model.specs.Begin.{begun}
 use Rattle.clk_model.specs.Step.{todo, rest_of, left_behind, taken, is_end, from_first, ended_well, range_back, end_of, unranged, stepped}
-use Rattle.clk_model.specs.Machine.{comes_next, next}
+use Rattle.clk_model.specs.Machine.{next}
 use Rattle.clk_model.specs.Journal.{replay, opening}
 use Rattle.clk_model.specs.Tier.{is_enable_tier}
 use Rattle.clk_model.specs.Wired.{IsWired}
@@ -36,7 +36,6 @@ use Rattle.clk_model.specs.Laws.Flight.{Flight, begins, goes_on, beside, may_be_
 use Rattle.clk_model.specs.Laws.NothingLeft.{DiffersInPower, is_dropped_whole, TimeoutsLeaveNothing}
 use Rattle.clk_model.proofs.Members.{not_either}
 use Rattle.clk_model.proofs.NoneLaws.{none_append, none_front, none_rest}
-use Rattle.clk_model.proofs.MicroLaws.{comes_first}
 use Rattle.clk_model.proofs.OnceLaws.{once_head}
 use Rattle.clk_model.proofs.TierLaws.{beside_change}
 use Rattle.clk_model.proofs.NextLaws.{first_none, Comes, was_put, was_own, comes_of, going_no_end}
@@ -44,7 +43,7 @@ use Rattle.clk_model.proofs.StepLaws.{raises, IsAfter, step_after}
 use Rattle.clk_model.proofs.FrontLaws.{front_after}
 use Rattle.clk_model.proofs.BeginLaws.{walked_at, walked}
 use Rattle.clk_model.proofs.WalkLaws.{walks_list}
-use Rattle.clk_model.proofs.FlightLaws.{IsStep, begin_is, first_put, front_put, next_is}
+use Rattle.clk_model.proofs.FlightLaws.{IsStep, begin_is, front_put}
 use Rattle.clk_model.proofs.VetoLaws.{of_change, ends_it, end_state}
 use Rattle.clk_model.proofs.ArriveLaws.{wired_before}
 use Rattle.clk_model.proofs.WalkGoLaws.{from_first_past}
