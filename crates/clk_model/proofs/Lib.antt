@@ -105,3 +105,4 @@ pub mod FollowScriptLaws
 pub mod FollowStepLaws
 pub mod ToldLaws
 pub mod ToldStepLaws
+pub mod ToldFlightLaws
