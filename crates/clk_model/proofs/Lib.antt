@@ -106,3 +106,4 @@ pub mod FollowStepLaws
 pub mod ToldLaws
 pub mod ToldStepLaws
 pub mod ToldFlightLaws
+pub mod ToldRunLaws

@@ -191,7 +191,7 @@ late_move q c p = one (prepared q c) (link_in q.clocks c) where
   one true (Some o) = refl
   one false l = refl
 
-move_no_end : (q : State) (c p : ℕ) → list_any is_end (move q.defs q.clocks (prepared q) c p) ≡ false
+pub move_no_end : (q : State) (c p : ℕ) → list_any is_end (move q.defs q.clocks (prepared q) c p) ≡ false
 move_no_end q c p = one (prepared q c) (link_in q.clocks c) where
   one : (t : Bool) (l : Option ℕ) → list_any is_end (if t
       then micro.Raise (clock_id p) ∷ micro.HoldPrepare (clock_id p) ∷ micro.HoldEnable (clock_id p) ∷ micro.HoldEnable (clock_id c)

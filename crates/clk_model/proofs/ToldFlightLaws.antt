@@ -1,79 +1,40 @@
 -- Laws on changes that go well: each clock that the notices before the change were for is told of it once.
-use Rattle.std.proofs.Common.{◌≡◌, ℕ, ◌+◌, ◌&&◌, ◌||◌, Bool, true, false, not, cond, List, [], ◌∷◌, ◌++◌, Option, Some, None, refl, sym, ap, subst, ◌∙◌, ◌⊎◌, inl, inr, length, nat_eq}
+use Rattle.std.proofs.Common.{◌≡◌, ℕ, ◌||◌, Bool, true, false, not, cond, List, [], ◌∷◌, ◌++◌, Option, Some, None, refl, sym, ap, ◌∙◌, inl, inr, length}
 use Rattle.std.proofs.lemmas.List.{append_assoc}
 use Rattle.std.proofs.lemmas.List.Folds.{list_any-append}
-use Rattle.std.specs.Prelude.{◌==◌, filter, flat_map, if◌then◌else◌}
+use Rattle.std.specs.Prelude.{◌==◌, flat_map, if◌then◌else◌}
 use Rattle.std.specs.List.{list_any, AllByRecursion}
 use Rattle.std.specs.Option.{option_map_or}
 use Rattle.clk_base.specs.declared.call.Micro.{Micro}
 use Rattle.clk_base.specs.declared.call.Micro.TheVariants as micro
 use Rattle.clk_base.specs.declared.call.Sleeping.{Sleeping}
-use Rattle.clk_base.specs.declared.call.Sleeping.TheVariants as call
-use Rattle.clk_base.specs.declared.event.Errno.TheVariants as errno
-use Rattle.clk_base.specs.declared.event.Event.{Event}
-use Rattle.clk_base.specs.declared.event.Event.TheVariants as event
-use Rattle.clk_base.specs.declared.event.Reply.TheVariants as reply
-use Rattle.clk_base.specs.declared.event.Turn.{Turn}
-use Rattle.clk_base.specs.declared.event.Turn.TheVariants as turn
-use Rattle.clk_base.specs.Description.{Description, kind_of}
-use Rattle.clk_base.specs.Fields.{Field}
-use Rattle.clk_base.specs.Valid.{IsValid}
-use Rattle.clk_base.proofs.Valid.{field-field}
-use Rattle.reg_bank.specs.Registers.{Registers, field}
-use Rattle.clk_model.specs.declared.row.ClockRow.{ClockRow}
 use Rattle.clk_model.specs.declared.row.HandleRow.{HandleRow}
 use Rattle.clk_model.specs.Lists.{is_in, none_twice}
 use Rattle.clk_model.specs.State.{State, Change, ChainStep, link_in, handle_at}
-use Rattle.clk_model.specs.Tree.{path}
 use Rattle.clk_model.specs.Holders.{prepared}
-use Rattle.clk_model.specs.Gates.{settled}
-use Rattle.clk_model.specs.Round.{Wiring, wiring, rate_in}
+use Rattle.clk_model.specs.Round.{wiring, rate_in}
 use Rattle.clk_model.specs.Chain.{clock_id, outcome, place_of}
-use Rattle.clk_model.specs.Walk.{walk, changing, differs, rates_in}
-use Rattle.clk_model.specs.Notices.{is_veto, post_list}
+use Rattle.clk_model.specs.Walk.{walk, changing, rates_in}
+use Rattle.clk_model.specs.Notices.{is_veto}
 use Rattle.clk_model.specs.Script.{move, move_of, planned}
-use Rattle.clk_model.specs.Begin.{put_handle, begun, reparenting}
-use Rattle.clk_model.specs.Step.{todo, taken, end_of, stepped}
-use Rattle.clk_model.specs.Machine.{next}
-use Rattle.clk_model.specs.Journal.{replay, opening}
-use Rattle.clk_model.specs.Tier.{is_enable_tier}
-use Rattle.clk_model.specs.Wired.{IsWired}
-use Rattle.clk_model.specs.Laws.Paths.{scales_by}
-use Rattle.clk_model.specs.Laws.Walks.{IsWalk, AreChanging}
-use Rattle.clk_model.specs.Laws.LinksKept.{HasShapeOf}
-use Rattle.clk_model.specs.Laws.Flight.{Flight, begins, goes_on, beside, plan, plan_rates, IsFront, nothing, pre_notices, abort_notices}
-use Rattle.clk_model.specs.Laws.ChangesTold.{is_post_of, plans_change, ChangesAreTold}
-use Rattle.clk_model.proofs.Members.{is_in_head, is_in_tail, is_in_cases, same_from_test, test_same, not_either, or_left, or_right}
+use Rattle.clk_model.specs.Step.{is_end}
+use Rattle.clk_model.specs.Laws.Flight.{pre_notices, abort_notices}
+use Rattle.clk_model.specs.Laws.ChangesTold.{is_post_of, plans_change}
+use Rattle.clk_model.proofs.Members.{is_in_cases, same_from_test, test_same, not_either, or_left, or_right}
 use Rattle.clk_model.proofs.NoneLaws.{none_append}
 use Rattle.clk_model.proofs.OnceLaws.{once_head}
-use Rattle.clk_model.proofs.TierLaws.{enable_tier_leaves_prep, beside_change}
-use Rattle.clk_model.proofs.PrepToldLaws.{prep_tells}
-use Rattle.clk_model.proofs.StepLaws.{step_after}
-use Rattle.clk_model.proofs.FrontLaws.{front_after}
 use Rattle.clk_model.proofs.BeginLaws.{walked_at, walked}
-use Rattle.clk_model.proofs.FlightLaws.{IsStep, begin_is}
-use Rattle.clk_model.proofs.VetoLaws.{of_change, ends_it}
-use Rattle.clk_model.proofs.ShapeLaws.{events_keep_shape}
 use Rattle.clk_model.proofs.PlanLaws.{chains_lead}
 use Rattle.clk_model.proofs.WalkLaws.{walks_list}
-use Rattle.clk_model.proofs.PathLaws.{some_levels, path_cons}
-use Rattle.clk_model.proofs.ArriveLaws.{wired_before}
-use Rattle.clk_model.proofs.FieldLaws.{scale_is_field}
 use Rattle.clk_model.proofs.PlanRootLaws.{IsRooted, plan_rooted}
 use Rattle.clk_model.proofs.PlanGoLaws.{PlanOver}
 use Rattle.clk_model.proofs.ProbeGoLaws.{Resting}
-use Rattle.clk_model.proofs.BeginsLaws.{changes_rate, IsPlannedOver, over_itself, over_range, Starts, raising_handle, lowering_handle, planning, reparents, probing, sweeping, Begins, answers, gives, takes, adjusts, prepares, unprepares, notes, registers, goes_on as goes_in, begins_so}
-use Rattle.clk_model.proofs.BeginSafeLaws.{resting, handle_rooted, planned_over}
-use Rattle.clk_model.proofs.SafeRunLaws.{one_step_leads, one_step_rooted, plan_over, IsRunning, quietly, in_flight, IsRun, run_goes_on}
-use Rattle.clk_model.proofs.RunsFedLaws.{run_of}
-use Rattle.clk_model.proofs.ScriptLaws.{NoMove, none_flat_in, none_move_of, none_pre, none_planned, planned_front, planned_is}
-use Rattle.clk_model.proofs.NextLaws.{going_no_end}
-use Rattle.clk_model.proofs.TimeoutStepLaws.{no_gate}
-use Rattle.clk_model.proofs.FollowLaws.{outcome_of, Agrees, AgreesAll, stirs}
-use Rattle.clk_model.proofs.FollowScriptLaws.{planned_follows, off_walk, start_agrees}
-use Rattle.clk_model.proofs.FollowStepLaws.{Alike_, alike_same, numbers_after, posts}
-use Rattle.clk_model.proofs.ToldLaws.{agrees_alike, settled_alike, expected, visits_of, to_come, visits_once, OnTime, Telling, late, called_off, on_time}
-use Rattle.clk_model.proofs.ToldStepLaws.{Following, HasNumbers, telling_step}
+use Rattle.clk_model.proofs.BeginsLaws.{IsPlannedOver, over_itself, over_range, Starts, raising_handle, lowering_handle, planning, reparents, probing, sweeping}
+use Rattle.clk_model.proofs.BeginSafeLaws.{handle_rooted, planned_over}
+use Rattle.clk_model.proofs.SafeRunLaws.{one_step_leads, one_step_rooted, plan_over}
+use Rattle.clk_model.proofs.ScriptLaws.{NoMove, none_flat_in, none_move_of, none_pre, planned_is}
+use Rattle.clk_model.proofs.FollowLaws.{outcome_of, stirs}
+use Rattle.clk_model.proofs.ToldLaws.{expected, visits_of, visits_once}
 
 -- ---- a script visits each clock of its walk once
 
@@ -88,7 +49,7 @@ move_no_visit n c x p = one (prepared n x) (link_in n.clocks x) where
   one true (Some o) = refl
   one false l = refl
 
-move_no_post : (n : State) (c x p : ℕ) → list_any (is_post_of c) (move n.defs n.clocks (prepared n) x p) ≡ false
+pub move_no_post : (n : State) (c x p : ℕ) → list_any (is_post_of c) (move n.defs n.clocks (prepared n) x p) ≡ false
 move_no_post n c x p = one (prepared n x) (link_in n.clocks x) where
   one : (t : Bool) (l : Option ℕ) → list_any (is_post_of c) (if t
       then micro.Raise (clock_id p) ∷ micro.HoldPrepare (clock_id p) ∷ micro.HoldEnable (clock_id p) ∷ micro.HoldEnable (clock_id x)
@@ -99,7 +60,7 @@ move_no_post n c x p = one (prepared n x) (link_in n.clocks x) where
   one true (Some o) = refl
   one false l = refl
 
-all_moves : (P : ChainStep → Type 0) (ks : List ChainStep) → ((k : ChainStep) → P k) → AllByRecursion P ks
+pub all_moves : (P : ChainStep → Type 0) (ks : List ChainStep) → ((k : ChainStep) → P k) → AllByRecursion P ks
 all_moves P [] each = tt
 all_moves P (k ∷ ks) each = (each k, all_moves P ks each)
 
@@ -154,7 +115,7 @@ walk_visits n ks c (w ∷ ws) m =
     ]
 
 -- the script of a plan that isn't called off
-planned_visits : (n : State) (base : ℕ) (ks : List ChainStep) (settles : List Micro) (c : ℕ) → PlanOver n base ks → list_any is_veto (pre_notices n ks) ≡ false → is_in c (walk n.order (wiring n) ks) ≡ true
+pub planned_visits : (n : State) (base : ℕ) (ks : List ChainStep) (settles : List Micro) (c : ℕ) → PlanOver n base ks → list_any is_veto (pre_notices n ks) ≡ false → is_in c (walk n.order (wiring n) ks) ≡ true
     → list_any (visits_of c) settles ≡ false → (list_any (visits_of c) (planned n ks settles).steps ≡ true) × (visits_once c (planned n ks settles).steps ≡ true)
 planned_visits n base ks settles c over calm m none = (
   ap (list_any (visits_of c)) shape
@@ -186,26 +147,27 @@ planned_visits n base ks settles c over calm m none = (
 -- ---- beginnings
 
 -- what a change of rates or of a parent begins with
-record PlanBegins (q n : State) (k : Change) : Type 0 where
-  base : ℕ
-  settles : List Micro
-  over : PlanOver n base k.chain
-  left : k.left ≡ (planned n k.chain settles).steps
-  calm : list_any (stirs n.defs) settles ≡ false
-  front : k.front ≡ []
-  before : k.before ≡ rates_in (wiring n)
-  outcome_is : k.outcome ≡ rates_in (outcome_of n k.chain)
-  vetoed : k.vetoed ≡ list_any is_veto (pre_notices n k.chain)
-  on_time_ : k.timed_out ≡ false
-  silent : (c : ℕ) → (list_any (visits_of c) settles ≡ false) × (list_any (is_post_of c) settles ≡ false)
-  hears : (c : ℕ) → expected n k.chain c ≡ expected q k.chain c
-  changes : changing n.order (wiring n) k.chain ≡ changing q.order (wiring q) k.chain
+pub record PlanBegins (q n : State) (k : Change) : Type 0 where
+  pub base : ℕ
+  pub settles : List Micro
+  pub ends : list_any is_end settles ≡ false
+  pub over : PlanOver n base k.chain
+  pub left : k.left ≡ (planned n k.chain settles).steps
+  pub calm : list_any (stirs n.defs) settles ≡ false
+  pub front : k.front ≡ []
+  pub before : k.before ≡ rates_in (wiring n)
+  pub outcome_is : k.outcome ≡ rates_in (outcome_of n k.chain)
+  pub vetoed : k.vetoed ≡ list_any is_veto (pre_notices n k.chain)
+  pub on_time_ : k.timed_out ≡ false
+  pub silent : (c : ℕ) → (list_any (visits_of c) settles ≡ false) × (list_any (is_post_of c) settles ≡ false)
+  pub hears : (c : ℕ) → expected n k.chain c ≡ expected q k.chain c
+  pub changes : changing n.order (wiring n) k.chain ≡ changing q.order (wiring q) k.chain
 
 rooted_over : (s m : State) (i : ℕ) (r : HandleRow) → Resting s → IsPlannedOver s m → handle_at s.handles i ≡ Some r → IsRooted m.defs m.clocks r.clock.0
 rooted_over s m i r rest over_itself f = handle_rooted s i r rest.fit f
 rooted_over s m i r rest (over_range j old new adjusted) f = let is_ = handle_rooted s i r rest.fit f in record { there = is_.there; root = is_.root }
 
-plan_begins : (q n : State) (d : ℕ) (what : Sleeping) (k : Change) → Resting q → plans_change what ≡ true → Starts q d what n k → PlanBegins q n k
+pub plan_begins : (q n : State) (d : ℕ) (what : Sleeping) (k : Change) → Resting q → plans_change what ≡ true → Starts q d what n k → PlanBegins q n k
 unfolding planned
 plan_begins q n d what k rest plans_ (raising_handle h row is at) = let no : false ≡ true = ap plans_change (sym is) ∙ plans_ in absurd cc
 plan_begins q n d what k rest plans_ (lowering_handle h row is at gives_up) = let no : false ≡ true = ap plans_change (sym is) ∙ plans_ in absurd cc
@@ -219,6 +181,7 @@ plan_begins q n d what k rest plans_ (planning _ number row over x ks range plan
     record {
       base = row.clock.0;
       settles = [];
+      ends = refl;
       over = plan_over n row.clock.0 ks rest_n leads steps;
       left = refl;
       calm = refl;
@@ -246,6 +209,7 @@ plan_begins q n d what k rest plans_ (reparents number row p sets at away mux m 
     record {
       base = c;
       settles = micro.Settle (clock_id c) ∷ [];
+      ends = refl;
       over = plan_over q c ks rest (one_step_leads q c p rate_ m) (one_step_rooted q c p rate_ m own root);
       left = refl;
       calm = refl;

@@ -5,6 +5,7 @@ pub mod exclusives;
 pub mod feeding;
 pub mod flights;
 pub mod links;
+pub mod notices;
 pub mod paths;
 pub mod plans;
 pub mod refusals;
