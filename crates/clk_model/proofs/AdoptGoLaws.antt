@@ -118,7 +118,7 @@ adoption_cut x c p ms none = ap (λ (t : Bool). if t then from_first is_end ms e
 -- the adoptions of a list go well, one after the other
 pub adopted_goes : (s : State) (x : ClockId) (cs : List ℕ) (timed : Bool) (a : Scene) → LinesEnd s.defs → SettingsFit s.defs → ToAdopt s a cs
     → GoesWell s.defs (call.Probe x) timed None (holding a [] [] None) (flat_map (adoption s) cs ++ micro.End ∷ [])
-adopted_goes s x [] timed a lines fits to = ends to.sound (record { prepares = refl; enables = refl; late = refl }) (λ h e. absurd cc)
+adopted_goes s x [] timed a lines fits to = ends to.sound (record { prepares = refl; enables = refl; late = refl }) tt (λ h e. absurd cc)
 adopted_goes s x (c ∷ cs) timed a lines fits to =
     subst (λ (ms : List Micro). GoesWell s.defs (call.Probe x) timed None (holding a [] [] None) ms) (sym (append_assoc (adoption s c) (flat_map (adoption s) cs) (micro.End ∷ [])))
     (by_link (link_given s.defs s.regs s.clocks c) refl (λ timed' b to'. adopted_goes s x cs timed' b lines fits to')) where

@@ -143,9 +143,9 @@ handle_rooted s number row fit at = let is = fit.sound.tree.rooted number row.cl
 pub raise_goes : (q : State) (what : Sleeping) (h : Handle) (row : HandleRow) → Resting q → what ≡ call.Prepare h → handle_at q.handles h.number ≡ Some row
     → GoesWell q.defs what false None (scene None q) (micro.Raise row.clock ∷ micro.End ∷ [])
 raise_goes q what h row rest is at =
-    raises row.clock rest.fit.sound (ends rest.fit.sound (record { prepares = rest.prepares; enables = rest.enables; late = refl }) prepared_)
+    raises row.clock rest.fit.sound (ends rest.fit.sound (record { prepares = rest.prepares; enables = rest.enables; late = refl }) (refl, (h, is)) prepared_)
     (subst (λ (w : Sleeping). GoesWell q.defs what true None (scene None q) (cut_short w (micro.End ∷ []))) (sym is)
-    (ends rest.fit.sound (record { prepares = rest.prepares; enables = rest.enables; late = refl }) (λ g e. inl refl))) where
+    (ends rest.fit.sound (record { prepares = rest.prepares; enables = rest.enables; late = refl }) tt (λ g e. inl refl))) where
       prepared_ : EndsPrepare what false (Some row.clock.0) (scene None q)
       prepared_ g e =
           let both : call.Prepare h ≡ call.Prepare g = sym is ∙ e in

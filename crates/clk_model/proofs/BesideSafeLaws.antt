@@ -34,11 +34,11 @@ use Rattle.clk_model.proofs.RestLaws.{Alike, alike_self, alike_counted, fit_alik
 -- ---- what an event of the enable tier leaves
 
 -- an answer leaves a state like this one, with its change and its holds
-record LeavesAlike (s : State) (y : State × Turn) : Type 0 where
-  alike : Alike s y.0
-  change : y.0.change ≡ s.change
-  prepares : y.0.prepare_holds ≡ s.prepare_holds
-  enables : y.0.enable_holds ≡ s.enable_holds
+pub record LeavesAlike (s : State) (y : State × Turn) : Type 0 where
+  pub alike : Alike s y.0
+  pub change : y.0.change ≡ s.change
+  pub prepares : y.0.prepare_holds ≡ s.prepare_holds
+  pub enables : y.0.enable_holds ≡ s.enable_holds
 
 alike_answer : (s : State) (x : Turn) → LeavesAlike s (s, x)
 alike_answer s x = record { alike = alike_self s; change = refl; prepares = refl; enables = refl }
@@ -69,12 +69,12 @@ running_alike : (s : State) (d n : ℕ) → LeavesAlike s (with_handle s d n (ru
 running_alike s d n = with_handle_either (LeavesAlike s) s d n (running s) (alike_answer s _) (λ h own. alike_answer s _)
 
 -- the state that an event of the enable tier settles
-record TierEvent (s t : State) : Type 0 where
-  left : State × Turn
-  leaves : LeavesAlike s left
-  state : record (settled s left.0) { spent = s.spent + 1 } ≡ t
+pub record TierEvent (s t : State) : Type 0 where
+  pub left : State × Turn
+  pub leaves : LeavesAlike s left
+  pub state : record (settled s left.0) { spent = s.spent + 1 } ≡ t
 
-tier_event : (s t : State) (d : ℕ) (e : Event) (x : Turn) → is_enable_tier e ≡ true → next s d e ≡ Some (t, x) → TierEvent s t
+pub tier_event : (s t : State) (d : ℕ) (e : Event) (x : Turn) → is_enable_tier e ≡ true → next s d e ≡ Some (t, x) → TierEvent s t
 unfolding next
 tier_event s t d (event.Enable n) x tier step = record { left = with_handle s d n (enabled s n); leaves = enable_alike s d n; state = (paid_is s t (with_handle s d n (enabled s n)) x step).0 }
 tier_event s t d (event.Disable n) x tier step = record { left = with_handle s d n (disabled s n); leaves = disable_alike s d n; state = (paid_is s t (with_handle s d n (disabled s n)) x step).0 }

@@ -15,9 +15,9 @@ use Rattle.clk_model.specs.Chain.{clock_id, place_of}
 use Rattle.clk_model.specs.Step.{passed_over, cut_short}
 use Rattle.clk_model.specs.Wired.{LinesEnd}
 use Rattle.clk_model.proofs.Members.{is_in_head, is_in_tail, test_same}
-use Rattle.clk_model.proofs.BelowLaws.{IsUp}
-use Rattle.clk_model.proofs.AboveLaws.{put_at, differs, Above, above_here, above_link, above_path, not_above_link, Holder, holder_of, held_from, holder_above, MayLink, may_still, above_before, holder_clock, held_before}
-use Rattle.clk_model.proofs.Scenes.{Scene, holding, keepers, prepared_in, to_be, IsSound, Grows, GoesWell, raises, makes}
+use Rattle.clk_model.proofs.BelowLaws.{IsUp, rises_on, no_round}
+use Rattle.clk_model.proofs.AboveLaws.{put_at, differs, Above, above_here, above_link, above_path, path_above, not_above_link, Holder, holder_of, held_from, holder_above, MayLink, may_still, above_before, above_still, above_clock, clock_before, above_through, holder_clock, held_before}
+use Rattle.clk_model.proofs.Scenes.{Scene, holding, keepers, prepared_in, to_be, IsSound, Grows, GoesWell, uncovered, raises, makes}
 use Rattle.clk_model.proofs.SoundLaws.{in_one, in_two, prepare_cases, keeper_prepares, hold_prepares, kept_alone, one_holder, held_by_one, sound_holding, WillMove, linked_in, may_link, late_behind, sound_linked, moved_in, sound_moved, sound_adopted, late_none}
 
 -- ---- holds that are passed over and dropped
@@ -55,6 +55,10 @@ goes_with defs what timed a ps ps' es es' late late' ms prepares enables lates g
     subst (λ (x : List ℕ). GoesWell defs what timed None (holding a x es late) ms) (sym prepares)
     (subst (λ (x : List ℕ). GoesWell defs what timed None (holding a ps' x late) ms) (sym enables)
     (subst (λ (x : Option ℕ). GoesWell defs what timed None (holding a ps' es' x) ms) (sym lates) goes))
+
+only_prepared : {P : Type 0} → P ⊎ ⊥ → P
+only_prepared (inl p) = p
+only_prepared (inr never) = absurd never
 
 -- ---- what a block is made in
 
@@ -108,6 +112,50 @@ link_prepares defs a c p ps es ps' es' late can parent each d prep = by_holder (
 prepared_with : (defs : Description) (a : Scene) (ps ps' es : List ℕ) (late : Option ℕ) (d : ℕ) → ps ≡ ps' → prepared_in defs (holding a ps es late) d ≡ true → prepared_in defs (holding a ps' es late) d ≡ true
 prepared_with defs a ps ps' es late d same prep = subst (λ (x : List ℕ). prepared_in defs (holding a x es late) d ≡ true) same prep
 
+-- ---- what a new link keeps prepared
+
+-- where the clock is prepared by nobody, all else stays prepared
+link_keeps_bare : (defs : Description) (a : Scene) (c p d : ℕ) (ps es : List ℕ) (late : Option ℕ) → CanMove defs a c p → prepared_in defs (holding a [] [] None) c ≡ false
+    → prepared_in defs (holding a [] [] None) d ≡ true → prepared_in defs (holding (linked_in a c p) ps es late) d ≡ true
+link_keeps_bare defs a c p d ps es late can idle prep =
+    let keeper = kept_alone defs a [] None d prep in
+    elim (above_still a.up c p keeper.0 d keeper.2) [
+      | inl there ↦ keeper_prepares defs (linked_in a c p) ps es late d can.ends (possible_still defs a c p can) (keeper.0, keeper.1, there)
+      | inr both ↦
+          let low = clock_before defs a.up c p keeper.0 (may_link defs a c p can.ends can.sound.tree.possible can.will) both.0 in
+          let own = keeper_prepares defs a [] [] None c can.ends can.sound.tree.possible (keeper.0, keeper.1, low) in
+          let no : false ≡ true = sym idle ∙ own in
+          absurd cc
+    ]
+
+-- where the clock is kept, and its new parent is held before and its old one behind, all that was prepared is so still
+link_keeps_held : (defs : Description) (a : Scene) (c p d : ℕ) (ps es es' : List ℕ) (late : Option ℕ) → CanMove defs a c p → Holder a.up (keepers defs a) c
+    → ((o : ℕ) → a.up c ≡ Some o → is_in o ps ≡ true) → prepared_in defs (holding a (p ∷ []) es None) d ≡ true → prepared_in defs (holding (linked_in a c p) ps es' late) d ≡ true
+link_keeps_held defs a c p d ps es es' late can kept olds prep = by_case (prepare_cases defs a (p ∷ []) es None d prep) where
+  is : IsUp (parents_of defs) (put_at c (Some p) a.up)
+  is = possible_still defs a c p can
+
+  may : MayLink defs a.up c p
+  may = may_link defs a c p can.ends can.sound.tree.possible can.will
+
+  -- what is above the old parent is held by it
+  old : (o : ℕ) → a.up c ≡ Some o → Above a.up o d → Holder (put_at c (Some p) a.up) ps d
+  old o at high = elim (above_still a.up c p o d high) [
+    | inl there ↦ (o, olds o at, there)
+    | inr both ↦
+        let low = clock_before defs a.up c p o may both.0 in
+        absurd (no_round (parents_of defs) a.up depth low.0 o can.sound.tree.possible (can.ends o) (rises_on a.up low.0 o c o low.1 at))
+  ]
+
+  by_case : Holder a.up (keepers defs a) d ⊎ Holder a.up (p ∷ []) d → prepared_in defs (holding (linked_in a c p) ps es' late) d ≡ true
+  by_case (inr hold) =
+      keeper_prepares defs (linked_in a c p) ps es' late d can.ends is
+      (kept.0, kept.1, above_through defs a.up c p kept.0 d may (above_clock a.up c p kept.0 kept.2) (held_by_one a.up p d hold))
+  by_case (inl keeper) = elim (above_still a.up c p keeper.0 d keeper.2) [
+    | inl there ↦ keeper_prepares defs (linked_in a c p) ps es' late d can.ends is (keeper.0, keeper.1, there)
+    | inr both ↦ hold_prepares defs (linked_in a c p) ps es' late d can.ends is (old both.1.0 both.1.1 both.1.2)
+  ]
+
 -- ---- an unprepared clock
 
 unprepared_still : (defs : Description) (a : Scene) (c p : ℕ) (es : List ℕ) (late : Option ℕ) → CanMove defs a c p → prepared_in defs (holding a [] [] None) c ≡ false
@@ -127,10 +175,11 @@ bare_move defs what timed a c p ms can unprepared rest =
     makes (micro.Relink (clock_id c) (clock_id p)) refl can.sound can.will.possible
     (λ d prep. inl (link_prepares defs a c p [] [] [] left (late_behind defs a c p) can (λ own. let no : false ≡ true = sym unprepared ∙ own in absurd cc) (λ h m. absurd cc) d
     (prepared_with defs (linked_in a c p) left [] left (late_behind defs a c p) d none prep)))
+    (λ d was. inl (link_keeps_bare defs a c p d left left (late_behind defs a c p) can unprepared (only_prepared was)))
     (goes_with defs what timed (linked_in a c p) left [] left [] (late_behind defs a c p) (late_behind defs a c p) (micro.WriteMux (clock_id c) (place_of defs c p) ∷ ms) none none refl
     (makes (micro.WriteMux (clock_id c) (place_of defs c p)) refl
     (sound_linked defs a c p [] [] can.ends can.sound can.will (λ h m. absurd cc) (λ prep. absurd (unprepared_still defs a c p [] None can unprepared prep)))
-    can.fits (λ d prep. inl prep) rest))
+    can.fits (λ d prep. inl prep) (λ d was. uncovered was) rest))
 
 -- and behind the bare adoption of one
 pub bare_adoption : (defs : Description) (what : Sleeping) (timed : Bool) (a : Scene) (c p : ℕ) (ms : List Micro) → CanMove defs a c p → a.sel c ≡ Some p
@@ -142,8 +191,9 @@ bare_adoption defs what timed a c p ms can sel unprepared rest =
     makes (micro.Relink (clock_id c) (clock_id p)) refl can.sound can.will.possible
     (λ d prep. inl (link_prepares defs a c p [] [] [] left (late_behind defs a c p) can (λ own. let no : false ≡ true = sym unprepared ∙ own in absurd cc) (λ h m. absurd cc) d
     (prepared_with defs (linked_in a c p) left [] left (late_behind defs a c p) d none prep)))
+    (λ d was. inl (link_keeps_bare defs a c p d left left (late_behind defs a c p) can unprepared (only_prepared was)))
     (goes_with defs what timed (linked_in a c p) left [] left [] (late_behind defs a c p) None (micro.Settle (clock_id c) ∷ ms) none none (late_none defs a c p sel)
-    (makes (micro.Settle (clock_id c)) refl (sound_adopted defs a c p [] [] can.ends can.sound can.will sel (λ h m. absurd cc)) tt (λ d prep. inl prep) rest))
+    (makes (micro.Settle (clock_id c)) refl (sound_adopted defs a c p [] [] can.ends can.sound can.will sel (λ h m. absurd cc)) tt (λ d prep. inl prep) (λ d was. uncovered was) rest))
 
 -- ---- a prepared clock: its new parent is held first
 
@@ -153,6 +203,7 @@ record HoldsParent (defs : Description) (a : Scene) (c p : ℕ) : Type 0 where
   parent : IsSound defs (holding a (p ∷ []) (p ∷ []) None)
   both : IsSound defs (holding a (p ∷ []) (c ∷ p ∷ []) None)
   grows : Grows defs (Some p) (holding a [] [] None) (holding a (p ∷ []) [] None)
+  covers : (d : ℕ) → (prepared_in defs (holding a [] [] None) d ≡ true) ⊎ (is_in d (to_be (holding a [] [] None) p) ≡ true) → prepared_in defs (holding a (p ∷ []) [] None) d ≡ true
   own : (es : List ℕ) → prepared_in defs (holding a (p ∷ []) es None) p ≡ true
 
 holds_parent : (defs : Description) (a : Scene) (c p : ℕ) → CanMove defs a c p → Holder a.up (keepers defs a) c → HoldsParent defs a c p
@@ -163,10 +214,19 @@ holds_parent defs a c p can kept = record {
       (λ h m. in_two (λ x. prepared_in defs (holding a (p ∷ []) (c ∷ p ∷ []) None) x ≡ true) h c p m
       (keeper_prepares defs a (p ∷ []) (c ∷ p ∷ []) None c can.ends can.sound.tree.possible kept) (here (c ∷ p ∷ [])));
   grows = λ d prep. by_holder d (prepare_cases defs a (p ∷ []) [] None d prep);
+  covers = covered;
   own = here;
 } where
   here : (es : List ℕ) → prepared_in defs (holding a (p ∷ []) es None) p ≡ true
   here es = hold_prepares defs a (p ∷ []) es None p can.ends can.sound.tree.possible (one_holder a.up p p (above_here a.up p))
+
+  covered : (d : ℕ) → (prepared_in defs (holding a [] [] None) d ≡ true) ⊎ (is_in d (to_be (holding a [] [] None) p) ≡ true) → prepared_in defs (holding a (p ∷ []) [] None) d ≡ true
+  covered d (inl prep) = keeper_prepares defs a (p ∷ []) [] None d can.ends can.sound.tree.possible (kept_alone defs a [] None d prep)
+  covered d (inr m) =
+      hold_prepares defs a (p ∷ []) [] None d can.ends can.sound.tree.possible
+      (one_holder a.up p d (path_above a.up p d
+      (sym (ap (λ (t : Bool). is_in d (if t then path_within a.up depth p else p ∷ option_map_or (path_within a.up depth) (option_and_then (λ x. if a.there x then Some x else None) (a.sel p)) [])) can.will.parent_there)
+      ∙ m)))
 
   by_holder : (d : ℕ) → Holder a.up (keepers defs a) d ⊎ Holder a.up (p ∷ []) d → (prepared_in defs (holding a [] [] None) d ≡ true) ⊎ (is_in d (to_be (holding a [] [] None) p) ≡ true)
   by_holder d (inl keeper) = inl (keeper_prepares defs a [] [] None d can.ends can.sound.tree.possible keeper)
@@ -177,20 +237,21 @@ holds_parent defs a c p can kept = record {
 -- the new parent is raised and held, and the clock with it; then comes the new link
 held_first : (defs : Description) (what : Sleeping) (timed : Bool) (a : Scene) (c p : ℕ) (ps es : List ℕ) (late : Option ℕ) (ms : List Micro) → CanMove defs a c p → Holder a.up (keepers defs a) c
     → passed_over p (a.up c) (p ∷ []) ≡ ps → passed_over p (a.up c) (c ∷ p ∷ []) ≡ es → late_behind defs a c p ≡ late
-    → ((h : ℕ) → is_in h ps ≡ true → prepared_in defs (holding a (p ∷ []) (c ∷ p ∷ []) None) h ≡ true)
+    → ((h : ℕ) → is_in h ps ≡ true → prepared_in defs (holding a (p ∷ []) (c ∷ p ∷ []) None) h ≡ true) → ((o : ℕ) → a.up c ≡ Some o → is_in o ps ≡ true)
     → GoesWell defs what true None (holding a [] [] None) (cut_short what (micro.HoldPrepare (clock_id p) ∷ micro.HoldEnable (clock_id p) ∷ micro.HoldEnable (clock_id c) ∷ micro.Relink (clock_id c) (clock_id p) ∷ ms))
     → GoesWell defs what timed None (holding (linked_in a c p) ps es late) ms
     → GoesWell defs what timed None (holding a [] [] None)
     (micro.Raise (clock_id p) ∷ micro.HoldPrepare (clock_id p) ∷ micro.HoldEnable (clock_id p) ∷ micro.HoldEnable (clock_id c) ∷ micro.Relink (clock_id c) (clock_id p) ∷ ms)
-held_first defs what timed a c p ps es late ms can kept prepares enables lates each cut rest =
+held_first defs what timed a c p ps es late ms can kept prepares enables lates each olds cut rest =
     let h = holds_parent defs a c p can kept in
     raises (clock_id p) can.sound
-    (makes (micro.HoldPrepare (clock_id p)) refl can.sound (refl, can.will.parent_there) h.grows
-    (makes (micro.HoldEnable (clock_id p)) refl h.first tt (λ d prep. inl prep)
-    (makes (micro.HoldEnable (clock_id c)) refl h.parent tt (λ d prep. inl prep)
+    (makes (micro.HoldPrepare (clock_id p)) refl can.sound (refl, can.will.parent_there) h.grows (λ d was. inl (h.covers d was))
+    (makes (micro.HoldEnable (clock_id p)) refl h.first tt (λ d prep. inl prep) (λ d was. uncovered was)
+    (makes (micro.HoldEnable (clock_id c)) refl h.parent tt (λ d prep. inl prep) (λ d was. uncovered was)
     (makes (micro.Relink (clock_id c) (clock_id p)) refl h.both can.will.possible
     (λ d prep. inl (link_prepares defs a c p (p ∷ []) (c ∷ p ∷ []) ps (passed_over p (a.up c) (c ∷ p ∷ [])) (late_behind defs a c p) can (λ own. h.own (c ∷ p ∷ [])) each d
     (prepared_with defs (linked_in a c p) (passed_over p (a.up c) (p ∷ [])) ps (passed_over p (a.up c) (c ∷ p ∷ [])) (late_behind defs a c p) d prepares prep)))
+    (λ d was. inl (link_keeps_held defs a c p d (passed_over p (a.up c) (p ∷ [])) (c ∷ p ∷ []) (passed_over p (a.up c) (c ∷ p ∷ [])) (late_behind defs a c p) can kept (λ o at. ap (is_in o) prepares ∙ olds o at) (only_prepared was)))
     (goes_with defs what timed (linked_in a c p) (passed_over p (a.up c) (p ∷ [])) ps (passed_over p (a.up c) (c ∷ p ∷ [])) es (late_behind defs a c p) late ms prepares enables lates rest)))))
     cut
 
@@ -216,6 +277,15 @@ drop_prepares : (defs : Description) (a : Scene) (ps es es' : List ℕ) (late : 
     → prepared_in defs (holding a [] es late) d ≡ true → prepared_in defs (holding a ps es' late) d ≡ true
 drop_prepares defs a ps es es' late d ends is prep = keeper_prepares defs a ps es' late d ends is (kept_alone defs a es late d prep)
 
+-- what a dropped hold prepared is prepared still, or on the path that is lowered next
+dropped_stays : (defs : Description) (a : Scene) (o d : ℕ) → LinesEnd defs → IsUp (parents_of defs) a.up → prepared_in defs (holding a (o ∷ []) [] None) d ≡ true
+    → (prepared_in defs (holding a (without_one o (o ∷ [])) [] None) d ≡ true) ⊎ (is_in d (path_within a.up depth o) ≡ true)
+dropped_stays defs a o d ends is prep =
+    elim (prepare_cases defs a (o ∷ []) [] None d prep) [
+      | inl keeper ↦ inl (keeper_prepares defs a (without_one o (o ∷ [])) [] None d ends is keeper)
+      | inr hold ↦ inr (above_path defs a.up o d ends is (held_by_one a.up o d hold))
+    ]
+
 -- behind the write the clock is no longer held, then its old parent
 dropped_after : (defs : Description) (what : Sleeping) (timed : Bool) (a : Scene) (c p o : ℕ) (ms : List Micro) → CanMove defs a c p → Holder a.up (keepers defs a) c
     → GoesWell defs what timed None (holding (moved_in defs a c p) [] [] None) ms
@@ -225,17 +295,18 @@ dropped_after defs what timed a c p o ms can kept rest =
     let b : Scene = moved_in defs a c p in
     let after_both : List Micro = micro.DropEnable (clock_id o) ∷ micro.DropPrepare (clock_id o) ∷ micro.Lower (clock_id o) ∷ ms in
     let after_old : List Micro = micro.DropPrepare (clock_id o) ∷ micro.Lower (clock_id o) ∷ ms in
-    makes (micro.DropEnable (clock_id c)) refl (sound_moved defs a c p (o ∷ []) (c ∷ o ∷ []) can.ends can.sound can.will (both_prepared defs a c p o can kept)) tt (λ d prep. inl prep)
+    makes (micro.DropEnable (clock_id c)) refl (sound_moved defs a c p (o ∷ []) (c ∷ o ∷ []) can.ends can.sound can.will (both_prepared defs a c p o can kept)) tt (λ d prep. inl prep) (λ d was. uncovered was)
     (goes_with defs what timed b (o ∷ []) (o ∷ []) (without_one c (c ∷ o ∷ [])) (o ∷ []) None None after_both refl (dropped_first c (o ∷ [])) refl
     (makes (micro.DropEnable (clock_id o)) refl
     (sound_moved defs a c p (o ∷ []) (o ∷ []) can.ends can.sound can.will
     (λ h m. in_one (λ x. prepared_in defs (holding (linked_in a c p) (o ∷ []) (o ∷ []) None) x ≡ true) h o m (old_prepared defs a c p o (o ∷ []) can)))
-    tt (λ d prep. inl prep)
+    tt (λ d prep. inl prep) (λ d was. uncovered was)
     (goes_with defs what timed b (o ∷ []) (o ∷ []) (without_one o (o ∷ [])) [] None None after_old refl (dropped_first o []) refl
     (makes (micro.DropPrepare (clock_id o)) refl (sound_moved defs a c p (o ∷ []) [] can.ends can.sound can.will (λ h m. absurd cc)) tt
     (λ d prep. inl (drop_prepares defs b (o ∷ []) [] [] None d can.ends (possible_still defs a c p can) (prepared_with defs b (without_one o (o ∷ [])) [] [] None d (dropped_first o []) prep)))
+    (λ d was. dropped_stays defs b o d can.ends (possible_still defs a c p can) (only_prepared was))
     (goes_with defs what timed b (without_one o (o ∷ [])) [] [] [] None None (micro.Lower (clock_id o) ∷ ms) (dropped_first o []) refl refl
-    (makes (micro.Lower (clock_id o)) refl (sound_moved defs a c p [] [] can.ends can.sound can.will (λ h m. absurd cc)) tt (λ d prep. inl prep) rest))))))
+    (makes (micro.Lower (clock_id o)) refl (sound_moved defs a c p [] [] can.ends can.sound can.will (λ h m. absurd cc)) tt (λ d prep. inl prep) (λ d was. uncovered was) rest))))))
 
 -- the steps of the move of a prepared clock behind its raise
 abbrev pub move_behind : Description → ℕ → ℕ → ℕ → List Micro → List Micro
@@ -257,11 +328,12 @@ prepared_move defs what timed a c p o ms can at prep cut rest =
     can kept (passed_one p o (a.up c) at) (passed_two c p o (a.up c) (apart_parent defs a c p can) at) refl
     (λ h m. in_one (λ x. prepared_in defs (holding a (p ∷ []) (c ∷ p ∷ []) None) x ≡ true) h o m
     (prepared_above defs a (p ∷ []) (c ∷ p ∷ []) None c o can.ends is (keeper_prepares defs a (p ∷ []) (c ∷ p ∷ []) None c can.ends is kept) (above_link a.up c o o at (above_here a.up o))))
+    (λ q is'. let both : Some q ≡ Some o = sym is' ∙ at in let same : q ≡ o = cc in ap (λ (x : ℕ). is_in x (o ∷ [])) same ∙ is_in_head o [])
     cut
     (makes (micro.WriteMux (clock_id c) (place_of defs c p)) refl
     (sound_linked defs a c p (o ∷ []) (c ∷ o ∷ []) can.ends can.sound can.will (both_prepared defs a c p o can kept)
     (λ own. inr (o, at, held_from defs (put_at c (Some p) a.up) (c ∷ o ∷ []) o can.ends (possible_still defs a c p can) (o, is_in_tail o c (o ∷ []) (is_in_head o []), above_here (put_at c (Some p) a.up) o))))
-    can.fits (λ d prep'. inl prep') (dropped_after defs what timed a c p o ms can kept rest))
+    can.fits (λ d prep'. inl prep') (λ d was. uncovered was) (dropped_after defs what timed a c p o ms can kept rest))
 
 -- ---- a prepared orphan is adopted
 
@@ -280,10 +352,10 @@ prepared_adoption defs what timed a c p ms can none sel prep cut rest =
     let kept = kept_alone defs a [] None c prep in
     let other : c ≡ p → ⊥ = apart_parent defs a c p can in
     held_first defs what timed a c p [] (c ∷ []) None (micro.DropEnable (clock_id c) ∷ micro.Settle (clock_id c) ∷ ms)
-    can kept (ended_one p (a.up c) none) (ended_two c p (a.up c) (λ same. other (sym same)) none) (late_none defs a c p sel) (λ h m. absurd cc) cut
+    can kept (ended_one p (a.up c) none) (ended_two c p (a.up c) (λ same. other (sym same)) none) (late_none defs a c p sel) (λ h m. absurd cc) (λ o at. let no : None ≡ Some o = sym none ∙ at in absurd cc) cut
     (makes (micro.DropEnable (clock_id c)) refl
     (sound_adopted defs a c p [] (c ∷ []) can.ends can.sound can.will sel
     (λ h m. in_one (λ x. prepared_in defs (holding (linked_in a c p) [] (c ∷ []) None) x ≡ true) h c m (own_prepared defs a c p [] (c ∷ []) can kept)))
-    tt (λ d prep'. inl prep')
+    tt (λ d prep'. inl prep') (λ d was. uncovered was)
     (goes_with defs what timed (linked_in a c p) [] [] (without_one c (c ∷ [])) [] None None (micro.Settle (clock_id c) ∷ ms) refl (dropped_first c []) refl
-    (makes (micro.Settle (clock_id c)) refl (sound_adopted defs a c p [] [] can.ends can.sound can.will sel (λ h m. absurd cc)) tt (λ d prep'. inl prep') rest)))
+    (makes (micro.Settle (clock_id c)) refl (sound_adopted defs a c p [] [] can.ends can.sound can.will sel (λ h m. absurd cc)) tt (λ d prep'. inl prep') (λ d was. uncovered was) rest)))

@@ -45,8 +45,8 @@ record IsLast (s : State) (k : Change) (late : Option ℕ) : Type 0 where
 last_of : (s : State) (k : Change) (late cover : Option ℕ) (m : Micro) (ms : List Micro) → m ≡ micro.End → FirstGoes s.defs k.call k.timed_out cover (scene late s) m ms
     → ((x c : ℕ) → cover ≡ Some x → is_in c (path_to_be s.defs s.regs s.clocks x) ≡ true → IfSome (power_of (kind_of s.defs c)) (λ power. is_powered s.regs power ≡ true)) → IsLast s k late
 last_of s k late cover m ms end (first_raises x is open_ goes cut) powered = let no : micro.End ≡ micro.Raise x = sym end ∙ is in absurd cc
-last_of s k late cover m ms end (first_makes plain serves grows goes) powered = let no : false ≡ true = ap is_plain (sym end) ∙ plain in absurd cc
-last_of s k late cover m ms end (first_ends is free prep) powered = record { cover = cover; free = free; prepare = prep; powered = powered }
+last_of s k late cover m ms end (first_makes plain serves grows stays goes) powered = let no : false ≡ true = ap is_plain (sym end) ∙ plain in absurd cc
+last_of s k late cover m ms end (first_ends is free alone prep) powered = record { cover = cover; free = free; prepare = prep; powered = powered }
 
 last_step : (s : State) (k : Change) (m : Micro) → m ≡ micro.End → (c : InCall s k) → comes_next m (todo k) ≡ true → IsLast s k c.late
 last_step s k m end in_call first = by_stand in_call.stands where
@@ -107,7 +107,7 @@ set_none-same (o ∷ handles) zero at = ap (λ (p : Option HandleRow). p ∷ han
 set_none-same (o ∷ handles) (suc n) at = ap (λ (hs : List (Option HandleRow)). o ∷ hs) (set_none-same handles n at)
 
 -- a range that is put back
-unranged_alike : (s : State) (what : Sleeping) (range : Option (ℕ × ℕ)) → Alike s (record s { handles = range_back what range s.handles })
+pub unranged_alike : (s : State) (what : Sleeping) (range : Option (ℕ × ℕ)) → Alike s (record s { handles = range_back what range s.handles })
 unranged_alike s (call.SetRange h least most) (Some range) = by_row (handle_at s.handles h.number) refl where
   by_row : (o : Option HandleRow) → handle_at s.handles h.number ≡ o → Alike s (record s { handles = set s.handles h.number (option_map (with_range range) o) })
   by_row None at = subst (λ (hs : List (Option HandleRow)). Alike s (record s { handles = hs })) (sym (set_none-same s.handles h.number at)) (alike_self s)
@@ -140,7 +140,8 @@ prepared_behind s number row fit free at powered =
       | inr under ↦ powered c under
     ])
 
-by_live : (P : State → Type 0) (o : Option HandleRow) (f : HandleRow → State) (u : State) → (o ≡ None → P u) → ((row : HandleRow) → o ≡ Some row → P (f row)) → P (option_map_or f o u)
+-- what holds in each case of a live handle holds of the chosen one
+pub by_live : (P : State → Type 0) (o : Option HandleRow) (f : HandleRow → State) (u : State) → (o ≡ None → P u) → ((row : HandleRow) → o ≡ Some row → P (f row)) → P (option_map_or f o u)
 by_live P None f u none some = none refl
 by_live P (Some row) f u none some = some row refl
 

@@ -29,7 +29,7 @@ use Rattle.clk_model.proofs.Members.{is_in_head, is_in_tail}
 use Rattle.clk_model.proofs.MicroLaws.{comes_first}
 use Rattle.clk_model.proofs.FlightLaws.{IsStep}
 use Rattle.clk_model.proofs.Members.{both_left, both_right}
-use Rattle.clk_model.proofs.Scenes.{Scene, scene, IsSound, IsFree, EndsPrepare, after, is_plain, Serves, Grows, GoesWell, raises, makes, ends, IsSafe, RaisedWell, RaisingFront, raised, asks, asks_first, comes_again, is_calm, Stands, calm, raising, InCall}
+use Rattle.clk_model.proofs.Scenes.{Scene, scene, IsSound, IsFree, EndsPrepare, after, is_plain, Serves, Grows, Stays, EndsRaise, GoesWell, raises, makes, ends, IsSafe, RaisedWell, RaisingFront, raised, asks, asks_first, comes_again, is_calm, Stands, calm, raising, InCall}
 use Rattle.clk_model.proofs.SceneStepLaws.{step_lands}
 use Rattle.clk_model.proofs.ArriveLaws.{Powers, to_be_told, covered_powered}
 use Rattle.clk_model.proofs.StandLaws.{Goes, IsEvent, stands_calm, arrive_at, change_after, fall_goes, told_goes, lower_goes, lowered_change}
@@ -41,9 +41,9 @@ use Rattle.clk_model.proofs.RaiseLaws.{calm_map, calm_append, raise_goes, all_ra
 pub data FirstGoes (defs : Description) (what : Sleeping) (timed : Bool) (cover : Option ℕ) (a : Scene) (m : Micro) (ms : List Micro) : Type 0 where
   first_raises : (x : ClockId) → m ≡ micro.Raise x → cover ≡ None → GoesWell defs what timed (Some x.0) a ms → GoesWell defs what true None a (cut_short what ms)
       → FirstGoes defs what timed cover a m ms
-  first_makes : is_plain m ≡ true → Serves defs cover a m → Grows defs cover a (after defs a m) → GoesWell defs what timed None (after defs a m) ms
+  first_makes : is_plain m ≡ true → Serves defs cover a m → Grows defs cover a (after defs a m) → Stays defs cover a m ms → GoesWell defs what timed None (after defs a m) ms
       → FirstGoes defs what timed cover a m ms
-  first_ends : m ≡ micro.End → IsFree a → EndsPrepare what timed cover a → FirstGoes defs what timed cover a m ms
+  first_ends : m ≡ micro.End → IsFree a → EndsRaise what timed cover → EndsPrepare what timed cover a → FirstGoes defs what timed cover a m ms
 
 head_same : (m n : Micro) (ms ns : List Micro) → m ∷ ms ≡ n ∷ ns → m ≡ n
 head_same m n ms ns e = cc
@@ -57,18 +57,18 @@ first_goes defs what m ms {timed = timed} {cover = cover} {a = a} (raises {ms = 
     let tail : ns ≡ ms = tail_same (micro.Raise x) m ns ms e in
     first_raises x (sym (head_same (micro.Raise x) m ns ms e)) refl
     (subst (λ (us : List Micro). GoesWell defs what timed (Some x.0) a us) tail goes) (subst (λ (us : List Micro). GoesWell defs what true None a (cut_short what us)) tail cut)
-first_goes defs what m ms {timed = timed} {cover = cover} {a = a} (makes {ms = ns} n plain sound serves grows goes) e =
+first_goes defs what m ms {timed = timed} {cover = cover} {a = a} (makes {ms = ns} n plain sound serves grows stays goes) e =
     let tail : ns ≡ ms = tail_same n m ns ms e in
     let head : n ≡ m = head_same n m ns ms e in
     subst (λ (x : Micro). FirstGoes defs what timed cover a x ms) head
-    (first_makes plain serves grows (subst (λ (us : List Micro). GoesWell defs what timed None (after defs a n) us) tail goes))
-first_goes defs what m ms (ends sound free prep) e = first_ends (sym (head_same micro.End m [] ms e)) free prep
+    (first_makes plain serves grows (subst (λ (us : List Micro). Stays defs cover a n us) tail stays) (subst (λ (us : List Micro). GoesWell defs what timed None (after defs a n) us) tail goes))
+first_goes defs what m ms (ends sound free alone prep) e = first_ends (sym (head_same micro.End m [] ms e)) free alone prep
 
 -- the scene of a script that goes well is sound
 pub goes_sound : (defs : Description) (what : Sleeping) {timed : Bool} {cover : Option ℕ} {a : Scene} {ms : List Micro} → GoesWell defs what timed cover a ms → IsSound defs a
 goes_sound defs what (raises x sound goes cut) = sound
-goes_sound defs what (makes m plain sound serves grows goes) = sound
-goes_sound defs what (ends sound free prep) = sound
+goes_sound defs what (makes m plain sound serves grows stays goes) = sound
+goes_sound defs what (ends sound free alone prep) = sound
 
 -- ---- the change behind a plain step
 
@@ -235,15 +235,15 @@ calm_script : (s t : State) (k : Change) (answer : Option Bool) (m : Micro) (lat
     → FirstGoes s.defs k.call k.timed_out None (scene late s) m k.left → GoesOn s k answer t m → Goes t
 calm_script s t k answer m late safe none empty going (first_raises x is open_ goes cut) event =
     raise_goes s t k late x.0 safe (none_raised s k x.0 none) empty goes cut (raise_first s t k answer x (subst (λ (n : Micro). GoesOn s k answer t n) is event))
-calm_script s t k answer m late safe none empty going (first_makes plain serves grows goes) event =
+calm_script s t k answer m late safe none empty going (first_makes plain serves grows stays goes) event =
     plain_goes s t k answer m None late safe plain serves goes (λ c prep. elim (grows c prep) [ inl was ↦ inl was | inr never ↦ absurd never ]) (calm_behind s k answer m plain empty none) event
-calm_script s t k answer m late safe none empty going (first_ends is free prep) event = absurd (end_stops s k answer (subst (λ (n : Micro). (stepped s k answer n).1 ≡ turn.Going) is going))
+calm_script s t k answer m late safe none empty going (first_ends is free alone prep) event = absurd (end_stops s k answer (subst (λ (n : Micro). (stepped s k answer n).1 ≡ turn.Going) is going))
 
 -- a step of the script behind a raise
 covered_script : (s t : State) (k : Change) (answer : Option Bool) (m : Micro) (late : Option ℕ) (x : ℕ) → IsSafe late s → RaisedWell s k x → to_raise s k x ≡ [] → k.front ≡ []
     → (stepped s k answer m).1 ≡ turn.Going → FirstGoes s.defs k.call k.timed_out (Some x) (scene late s) m k.left → GoesOn s k answer t m → Goes t
 covered_script s t k answer m late x safe well all empty going (first_raises y is open_ goes cut) event = absurd cc
-covered_script s t k answer m late x safe well all empty going (first_makes plain serves grows goes) event =
+covered_script s t k answer m late x safe well all empty going (first_makes plain serves grows stays goes) event =
     let behind = covered_behind s k answer m late x serves empty well.within plain in
     plain_goes s t k answer m (Some x) late safe plain serves goes
     (λ c prep. elim (grows c prep) [
@@ -251,7 +251,7 @@ covered_script s t k answer m late x safe well all empty going (first_makes plai
       | inr covered ↦ inr (subst (λ (regs : Registers). IfSome (power_of (kind_of s.defs c)) (λ power. is_powered regs power ≡ true)) (sym behind.1)
           (covered_powered s k x c safe.powers well all (ap (is_in c) (to_be_told late s (scene late s) x refl) ∙ covered)))
     ]) behind.0 event
-covered_script s t k answer m late x safe well all empty going (first_ends is free prep) event = absurd (end_stops s k answer (subst (λ (n : Micro). (stepped s k answer n).1 ≡ turn.Going) is going))
+covered_script s t k answer m late x safe well all empty going (first_ends is free alone prep) event = absurd (end_stops s k answer (subst (λ (n : Micro). (stepped s k answer n).1 ≡ turn.Going) is going))
 
 -- each step of a change that isn't the end leaves it safe
 pub step_goes : (s t : State) (d : ℕ) (m : Micro) (answer : Option Bool) (k : Change) → IsStep s t d m answer turn.Going k → InCall s k → IsWired (length t.regs) (wiring t) → Goes t

@@ -38,7 +38,7 @@ keeps_same s = record { gates = λ c gate at act is. is; powers = λ c power at 
 -- ---- a bit
 
 -- a bit that is put leaves each field that lies apart from its own
-put_leaves : (words : ℕ) (defs : Description) (regs : Registers) (c i word bit : ℕ) (value : Bool) (d j : ℕ) (f : Field) → IsValid words defs
+pub put_leaves : (words : ℕ) (defs : Description) (regs : Registers) (c i word bit : ℕ) (value : Bool) (d j : ℕ) (f : Field) → IsValid words defs
     → slice_get (fields_of (kind_of defs c)) i ≡ Some (bit_field word bit) → slice_get (fields_of (kind_of defs d)) j ≡ Some f → (d ≡ c → j ≢ i)
     → field (put_bit regs word bit value) f.word f.shift f.width ≡ field regs f.word f.shift f.width
 put_leaves words defs regs c i word bit value d j f valid own other apart =
@@ -55,7 +55,7 @@ power_leaves_gate words defs regs y power up c gate valid own at =
     (put_leaves words defs regs y 1 power.word power.bit up c 0 (bit_field gate.word gate.bit) valid (power-field (kind_of defs y) power own) (gate-field (kind_of defs c) gate at) (λ same equal. omega arith))
 
 -- and the power bits of other PLLs
-power_leaves_power : (words : ℕ) (defs : Description) (regs : Registers) (y : ℕ) (power : PowerBit) (up : Bool) (c : ℕ) (other : PowerBit) → IsValid words defs
+pub power_leaves_power : (words : ℕ) (defs : Description) (regs : Registers) (y : ℕ) (power : PowerBit) (up : Bool) (c : ℕ) (other : PowerBit) → IsValid words defs
     → power_of (kind_of defs y) ≡ Some power → power_of (kind_of defs c) ≡ Some other → (y ≡ c → ⊥) → is_powered (with_power regs power up) other ≡ is_powered regs other
 power_leaves_power words defs regs y power up c other valid own at apart =
     bit_same (with_power regs power up) regs other.word other.bit

@@ -80,7 +80,7 @@ length-slice_set [] c row = refl
 length-slice_set (r ∷ clocks) zero row = refl
 length-slice_set (r ∷ clocks) (suc c) row = let rest = length-slice_set clocks c row in omega arith
 
-same_from_place : (o q : Option ℕ) → same_place o q ≡ true → o ≡ q
+pub same_from_place : (o q : Option ℕ) → same_place o q ≡ true → o ≡ q
 same_from_place None None e = refl
 same_from_place None (Some y) e = absurd cc
 same_from_place (Some x) None e = absurd cc
@@ -93,7 +93,7 @@ row_link row o e = ap (λ (l : Option _). let r : ClockRow = record row { link =
   back None = refl
   back (Some p) = refl
 
-not_false : (t : Bool) → not t ≡ false → t ≡ true
+pub not_false : (t : Bool) → not t ≡ false → t ≡ true
 not_false true e = refl
 not_false false e = absurd cc
 

@@ -130,7 +130,7 @@ all_apart : (s : State) (ks : List ChainStep) (up : ℕ → Option ℕ) (cs : Li
 all_apart s ks up [] down apart = tt
 all_apart s ks up (c ∷ cs) down apart = ((λ d p o q r m first second. apart c d p o q r first second (down.0 d m)), all_apart s ks up cs down.1 apart)
 
-plan_of : (s : State) (c : ℕ) (ks : List ChainStep) → PlanOver s c ks → Planned_ (length s.regs) s.order (wiring s) ks (outcome ks (wiring s))
+pub plan_of : (s : State) (c : ℕ) (ks : List ChainStep) → PlanOver s c ks → Planned_ (length s.regs) s.order (wiring s) ks (outcome ks (wiring s))
 plan_of s c ks over = record {
   wired = over.fit.wired;
   ordered = over.order;
@@ -140,7 +140,7 @@ plan_of s c ks over = record {
 }
 
 -- the links of the chain after the plan
-planned_links : (s : State) (c : ℕ) (ks : List ChainStep) → PlanOver s c ks → AllByRecursion (λ k. link_in (outcome ks (wiring s)).clocks k.clock ≡ k.parent) ks
+pub planned_links : (s : State) (c : ℕ) (ks : List ChainStep) → PlanOver s c ks → AllByRecursion (λ k. link_in (outcome ks (wiring s)).clocks k.clock ≡ k.parent) ks
 planned_links s c ks over =
     all_both (λ k. k.clock < length s.clocks → row_of (outcome ks (wiring s)).clocks k.clock ≡ record (row_of s.clocks k.clock) { link = option_map clock_id k.parent }) (StepsRooted (wiring s))
     (λ k. link_in (outcome ks (wiring s)).clocks k.clock ≡ k.parent) ks
@@ -188,7 +188,7 @@ walk_over s what c ks settles over cuts no_prepare leaves none = record {
   no_prepare = no_prepare;
   tail_ends = from_first_past is_end settles (micro.End ∷ []) none;
   tail_goes = λ timed a sound.
-      goes_past s.defs what timed (holding a [] [] None) settles (micro.End ∷ []) leaves sound (ends sound (record { prepares = refl; enables = refl; late = refl }) (no_prepare timed None (holding a [] [] None)));
+      goes_past s.defs what timed (holding a [] [] None) settles (micro.End ∷ []) leaves sound (ends sound (record { prepares = refl; enables = refl; late = refl }) tt (no_prepare timed None (holding a [] [] None)));
   no_end = λ cs. none_flat_map is_end (walked_at s ks) cs (λ d. none_append is_end (move_of s.defs s.clocks (prepared s) ks d) (micro.Visit (clock_id d) ∷ []) (moves_no_end s c ks over d) refl);
   movers = movers_of s c ks over;
 }
@@ -232,7 +232,7 @@ planned_goes s what c ks settles over cuts no_prepare leaves none =
 
       by_veto : (v : Bool) → GoesWell s.defs what false None b (middle v ++ micro.End ∷ [])
       by_veto true =
-          goes_past s.defs what false b (abort_notices s ks) (micro.End ∷ []) (leaves_aborts s ks) sound (ends sound (record { prepares = refl; enables = refl; late = refl }) (no_prepare false None b))
+          goes_past s.defs what false b (abort_notices s ks) (micro.End ∷ []) (leaves_aborts s ks) sound (ends sound (record { prepares = refl; enables = refl; late = refl }) tt (no_prepare false None b))
       by_veto false =
           subst (λ (ms : List Micro). GoesWell s.defs what false None b ms) (sym (append_assoc (walked s ks) settles (micro.End ∷ [])))
           (walked_goes s what ks (settles ++ micro.End ∷ []) (walk s.order (wiring s) ks) false (scene None s) (walk_over s what c ks settles over cuts no_prepare leaves none) (to_walk s c ks over))

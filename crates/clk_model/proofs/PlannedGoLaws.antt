@@ -20,7 +20,7 @@ use Rattle.clk_model.specs.Laws.Plans.{clocks_in}
 use Rattle.clk_model.specs.Laws.Flight.{plan_rates, pre_notices, abort_notices}
 use Rattle.clk_model.proofs.Members.{is_in_head, is_in_tail, both_left, both_right, same_from_test}
 use Rattle.clk_model.proofs.OnceLaws.{once_head}
-use Rattle.clk_model.proofs.Scenes.{Scene, IsSound, GoesWell, makes}
+use Rattle.clk_model.proofs.Scenes.{Scene, IsSound, GoesWell, uncovered, makes}
 
 -- ---- steps that leave the scene
 
@@ -35,11 +35,11 @@ leaves_scene _ = false
 
 one_past : (defs : Description) (what : Sleeping) (timed : Bool) (a : Scene) (m : Micro) (ms : List Micro) → leaves_scene m ≡ true → IsSound defs a → GoesWell defs what timed None a ms
     → GoesWell defs what timed None a (m ∷ ms)
-one_past defs what timed a (micro.Notify kind c id old new) ms leaves sound goes = makes (micro.Notify kind c id old new) refl sound tt (λ d prep. inl prep) goes
-one_past defs what timed a (micro.Lower x) ms leaves sound goes = makes (micro.Lower x) refl sound tt (λ d prep. inl prep) goes
-one_past defs what timed a (micro.Visit c) ms leaves sound goes = makes (micro.Visit c) refl sound tt (λ d prep. inl prep) goes
-one_past defs what timed a (micro.Settle c) ms leaves sound goes = makes (micro.Settle c) refl sound tt (λ d prep. inl prep) goes
-one_past defs what timed a (micro.Close c) ms leaves sound goes = makes (micro.Close c) refl sound tt (λ d prep. inl prep) goes
+one_past defs what timed a (micro.Notify kind c id old new) ms leaves sound goes = makes (micro.Notify kind c id old new) refl sound tt (λ d prep. inl prep) (λ d was. uncovered was) goes
+one_past defs what timed a (micro.Lower x) ms leaves sound goes = makes (micro.Lower x) refl sound tt (λ d prep. inl prep) (λ d was. uncovered was) goes
+one_past defs what timed a (micro.Visit c) ms leaves sound goes = makes (micro.Visit c) refl sound tt (λ d prep. inl prep) (λ d was. uncovered was) goes
+one_past defs what timed a (micro.Settle c) ms leaves sound goes = makes (micro.Settle c) refl sound tt (λ d prep. inl prep) (λ d was. uncovered was) goes
+one_past defs what timed a (micro.Close c) ms leaves sound goes = makes (micro.Close c) refl sound tt (λ d prep. inl prep) (λ d was. uncovered was) goes
 one_past defs what timed a (micro.Raise x) ms leaves sound goes = absurd cc
 one_past defs what timed a (micro.Poll x) ms leaves sound goes = absurd cc
 one_past defs what timed a (micro.Fall x) ms leaves sound goes = absurd cc

@@ -89,7 +89,7 @@ pub settled_raise : (s y : State) (words n : ℕ) (k : Change) (x : ℕ) → IsV
 unfolding settled
 settled_raise s y words n k x valid = to_raise_over y (settled s y).regs k x (settled_muxes s y words valid)
 
-runs_same : (s y : State) (words c : ℕ) → IsValid words y.defs → runs y.defs (settled s y).regs c ≡ runs y.defs y.regs c
+pub runs_same : (s y : State) (words c : ℕ) → IsValid words y.defs → runs y.defs (settled s y).regs c ≡ runs y.defs y.regs c
 runs_same s y words c valid = one (power_of (kind_of y.defs c)) (λ power at. settled_power s y words c power valid at) where
   one : (o : Option PowerBit) → ((power : PowerBit) → o ≡ Some power → is_powered (settled s y).regs power ≡ is_powered y.regs power)
       → option_map_or (is_powered (settled s y).regs) o false ≡ option_map_or (is_powered y.regs) o false
@@ -148,7 +148,8 @@ still_running regs power other e within =
       | inr apart ↦ sym (is_set-put_bit_other regs power.word power.bit false other.word other.bit apart) ∙ e
     ]
 
-running_before : (s : State) (z c : ℕ) → IsValid (length s.regs) s.defs → runs s.defs (powered s z false).regs c ≡ true → runs s.defs s.regs c ≡ true
+-- what another one's powering off leaves running was running
+pub running_before : (s : State) (z c : ℕ) → IsValid (length s.regs) s.defs → runs s.defs (powered s z false).regs c ≡ true → runs s.defs s.regs c ≡ true
 running_before s z c valid e = one (power_of (kind_of s.defs z)) refl (power_of (kind_of s.defs c)) e where
   one : (o : Option PowerBit) → power_of (kind_of s.defs z) ≡ o → (p : Option PowerBit)
       → option_map_or (is_powered (option_map_or (λ power. with_power s.regs power false) o s.regs)) p false ≡ true → option_map_or (is_powered s.regs) p false ≡ true
@@ -158,7 +159,8 @@ running_before s z c valid e = one (power_of (kind_of s.defs z)) refl (power_of 
       still_running s.regs power other f
       (power-within (length s.regs) s.defs valid z power (fielded_lt s.defs z 1 (bit_field power.word power.bit) (power-field (kind_of s.defs z) power at)) at).0
 
-stopped : (s : State) (z : ℕ) → IsValid (length s.regs) s.defs → runs s.defs (powered s z false).regs z ≡ false
+-- a PLL whose power bit is cleared doesn't run
+pub stopped : (s : State) (z : ℕ) → IsValid (length s.regs) s.defs → runs s.defs (powered s z false).regs z ≡ false
 stopped s z valid = one (power_of (kind_of s.defs z)) refl where
   one : (o : Option PowerBit) → power_of (kind_of s.defs z) ≡ o → option_map_or (is_powered (option_map_or (λ power. with_power s.regs power false) o s.regs)) o false ≡ false
   one None at = refl

@@ -29,13 +29,13 @@ use Rattle.clk_model.proofs.SettingLaws.{settings_fit}
 use Rattle.clk_model.proofs.PllLaws.{selected_possible, link_given_possible}
 use Rattle.clk_model.proofs.WalkLaws.{turned_off}
 use Rattle.clk_model.proofs.LinkBegins.{keeps_register}
-use Rattle.clk_model.proofs.Scenes.{Scene, scene, holding, prepared_in, given_in, to_be, IsSound, after, GoesWell, raises, makes, ends}
+use Rattle.clk_model.proofs.Scenes.{Scene, scene, holding, prepared_in, given_in, to_be, IsSound, after, GoesWell, raises, uncovered, makes, ends}
 use Rattle.clk_model.proofs.ArriveLaws.{IsFit, to_be_told}
 use Rattle.clk_model.proofs.SceneStepLaws.{register_scene, parent_lt}
 use Rattle.clk_model.proofs.WalkGoLaws.{from_first_past}
 use Rattle.clk_model.proofs.PlannedGoLaws.{goes_past, leaves_map}
 use Rattle.clk_model.proofs.PlanGoLaws.{free_scene}
-use Rattle.clk_model.proofs.RegisterGoLaws.{CanRegister, given_is, register_sound, register_prepares}
+use Rattle.clk_model.proofs.RegisterGoLaws.{CanRegister, given_is, register_sound, register_prepares, register_keeps}
 use Rattle.clk_model.proofs.AdoptGoLaws.{adopts, ToAdopt, adoptions_no_end, adopted_goes, ordered_in, ordered_once, ordered_next}
 
 -- a fit state between calls, whose order is kept
@@ -87,11 +87,11 @@ none_linked None e = refl
 none_linked (Some x) e = absurd cc
 
 -- an orphan that can be adopted has no link, and its parent is there
-record CanAdopt (r : State) (d : ℕ) : Type 0 where
-  unlinked : link_in r.clocks d ≡ None
-  listed : is_in d r.order ≡ true
+pub record CanAdopt (r : State) (d : ℕ) : Type 0 where
+  pub unlinked : link_in r.clocks d ≡ None
+  pub listed : is_in d r.order ≡ true
 
-can_adopt : (r : State) (d : ℕ) → is_in d (adoptable r) ≡ true → CanAdopt r d
+pub can_adopt : (r : State) (d : ℕ) → is_in d (adoptable r) ≡ true → CanAdopt r d
 can_adopt r d m =
     let orphan = is_in-filter (λ a. option_map_or (λ p. true) (link_given r.defs r.regs r.clocks a) false) d (orphans r.defs r.order r.clocks) m in
     let is = filter_passes (is_orphan r.defs r.clocks) d r.order orphan in
@@ -176,27 +176,36 @@ probe_goes s c rest free = by_critical (is_critical (register s c.0).defs c.0) (
         | inr new ↦ inr (new.0, ap (is_in x) (sym (to_be_told None s a c.0 refl)) ∙ new.1)
       ]
 
+  stays : (x : ℕ) → (prepared_in s.defs a x ≡ true) ⊎ ((is_critical s.defs c.0 ≡ true) × (is_in x (to_be a c.0) ≡ true)) → prepared_in s.defs b x ≡ true
+  stays x was =
+      subst (λ (y : Scene). prepared_in s.defs (after s.defs y (micro.Register c)) x ≡ true) (sym (free_scene s rest.prepares rest.enables))
+      (register_keeps s.defs a c x (can_register s c.0 rest free)
+      (elim was [
+        | inl prep ↦ inl (subst (λ (y : Scene). prepared_in s.defs y x ≡ true) (free_scene s rest.prepares rest.enables) prep)
+        | inr new ↦ inr new
+      ]))
+
   only_end : (timed : Bool) → GoesWell s.defs (call.Probe c) timed None a (micro.End ∷ [])
-  only_end timed = ends rest.fit.sound (record { prepares = rest.prepares; enables = rest.enables; late = refl }) (λ h e. absurd cc)
+  only_end timed = ends rest.fit.sound (record { prepares = rest.prepares; enables = rest.enables; late = refl }) tt (λ h e. absurd cc)
 
   by_critical : (t : Bool) → t ≡ is_critical s.defs c.0
       → GoesWell s.defs (call.Probe c) false None a ((((if t then micro.Raise (clock_id c.0) ∷ [] else []) ++ micro.Register (clock_id c.0) ∷ []) ++ adoptions) ++ micro.End ∷ [])
   by_critical true is =
       raises (clock_id c.0) rest.fit.sound
-      (makes {cover = Some c.0} (micro.Register (clock_id c.0)) refl rest.fit.sound refl (λ x prep. elim (grows x prep) [ inl was ↦ inl was | inr new ↦ inr new.1 ]) (rest_goes false))
+      (makes {cover = Some c.0} (micro.Register (clock_id c.0)) refl rest.fit.sound refl (λ x prep. elim (grows x prep) [ inl was ↦ inl was | inr new ↦ inr new.1 ]) (λ x was. inl (stays x (elim was [ inl prep ↦ inl prep | inr covered ↦ inr (sym is, covered) ]))) (rest_goes false))
       (subst (λ (ms : List Micro). GoesWell s.defs (call.Probe c) true None a ms)
       (sym (from_first_past is_end adoptions (micro.End ∷ []) (adoptions_no_end r (adoption_order (length (adoptable r)) r (adoptable r))))) (only_end true))
   by_critical false is =
       makes {cover = None} (micro.Register (clock_id c.0)) refl rest.fit.sound tt
-      (λ x prep. elim (grows x prep) [ inl was ↦ inl was | inr new ↦ absurd (let no : false ≡ true = is ∙ new.0 in cc) ]) (rest_goes false)
+      (λ x prep. elim (grows x prep) [ inl was ↦ inl was | inr new ↦ absurd (let no : false ≡ true = is ∙ new.0 in cc) ]) (λ x was. inl (stays x (uncovered was))) (rest_goes false)
 
 -- ---- the sweep
 
 unpowers_go : (s : State) (cs : List ℕ) → Resting s → ((c : ℕ) → is_in c cs ≡ true → prepared s c ≡ false)
     → GoesWell s.defs call.Sweep false None (scene None s) (map (λ c. micro.Unpower (clock_id c)) cs ++ micro.End ∷ [])
-unpowers_go s [] rest idle = ends rest.fit.sound (record { prepares = rest.prepares; enables = rest.enables; late = refl }) (λ h e. absurd cc)
+unpowers_go s [] rest idle = ends rest.fit.sound (record { prepares = rest.prepares; enables = rest.enables; late = refl }) tt (λ h e. absurd cc)
 unpowers_go s (c ∷ cs) rest idle =
-    makes (micro.Unpower (clock_id c)) refl rest.fit.sound (idle c (is_in_head c cs)) (λ d prep. inl prep) (unpowers_go s cs rest (λ d m. idle d (is_in_tail d c cs m)))
+    makes (micro.Unpower (clock_id c)) refl rest.fit.sound (idle c (is_in_head c cs)) (λ d prep. inl prep) (λ d was. uncovered was) (unpowers_go s cs rest (λ d m. idle d (is_in_tail d c cs m)))
 
 -- it goes well
 pub sweep_goes : (s : State) → Resting s → GoesWell s.defs call.Sweep false None (scene None s) (sweep_script s)

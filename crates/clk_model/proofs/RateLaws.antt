@@ -35,16 +35,16 @@ over_same (Pll word shift width power_word power_bit least most m) old new same 
     ap (λ (n : ℕ). pll_rate x n m) (same (record { word = word; shift = shift; width = width }) refl)
 
 -- a clock has the same link, and the same rate over each rate of a parent
-record IsAlike (defs : Description) (old new : Registers) (before after : List ClockRow) (a : ℕ) : Type 0 where
-  link : link_in after a ≡ link_in before a
-  over : (x : ℕ) → rate_over (kind_of defs a) new x ≡ rate_over (kind_of defs a) old x
+pub record IsAlike (defs : Description) (old new : Registers) (before after : List ClockRow) (a : ℕ) : Type 0 where
+  pub link : link_in after a ≡ link_in before a
+  pub over : (x : ℕ) → rate_over (kind_of defs a) new x ≡ rate_over (kind_of defs a) old x
 
 rate_above : (f g : ℕ → ℕ) (o : Option ℕ) → ((p : ℕ) → o ≡ Some p → f p ≡ g p) → option_map_or f o 0 ≡ option_map_or g o 0
 rate_above f g None same = refl
 rate_above f g (Some p) same = same p refl
 
 -- where the clocks on a path are alike, the rate is the same
-rate_agree : (defs : Description) (old new : Registers) (before after : List ClockRow) (n d : ℕ)
+pub rate_agree : (defs : Description) (old new : Registers) (before after : List ClockRow) (n d : ℕ)
     → ((a : ℕ) → is_in a (path_within (link_in before) n d) ≡ true → IsAlike defs old new before after a)
     → rate_within defs new after n d ≡ rate_within defs old before n d
 rate_agree defs old new before after zero d alike = refl

@@ -1,25 +1,28 @@
 -- Laws on registrations: a registration leaves a sound scene, and prepares nothing but the path of a critical clock.
-use Rattle.std.proofs.Common.{◌≡◌, ℕ, zero, suc, ◌≤◌, Bool, true, false, not, ◌&&◌, ◌||◌, cond, List, [], ◌∷◌, Option, Some, None, refl, sym, ap, subst, ◌∙◌, ◌⊎◌, inl, inr, arith, length, nat_lt}
+use Rattle.std.proofs.Common.{◌≡◌, ℕ, zero, suc, ◌<◌, ◌≤◌, Bool, true, false, not, ◌&&◌, ◌||◌, cond, List, [], ◌∷◌, Option, Some, None, refl, sym, ap, subst, ◌∙◌, ◌⊎◌, inl, inr, arith, length, nat_lt}
+use Rattle.std.proofs.lemmas.Bool.{and_from, cases_lt}
 use Rattle.std.proofs.lemmas.Bool.Decides.{nat_tests}
+use Rattle.std.proofs.lemmas.List.{get_or_past}
 use Rattle.std.specs.Prelude.{filter, if◌then◌else◌, option_and_then}
 use Rattle.std.specs.Option.{option_map_or}
 use Rattle.clk_base.specs.declared.call.Micro.TheVariants as micro
+use Rattle.clk_base.specs.declared.clock.ClockDef.{ClockDef}
 use Rattle.clk_base.specs.declared.clock.ClockId.{ClockId}
-use Rattle.clk_base.specs.Description.{Description, kind_of, parents_of}
+use Rattle.clk_base.specs.Description.{Description, nobody, kind_of, parents_of}
 use Rattle.clk_base.specs.Fields.{Field}
-use Rattle.clk_base.specs.Flags.{is_critical}
+use Rattle.clk_base.specs.Flags.{has_flag, is_critical}
 use Rattle.clk_base.specs.Levels.{depth}
 use Rattle.clk_model.specs.Lists.{is_in, count_from, without}
 use Rattle.clk_model.specs.Kinds.{mux_field}
 use Rattle.clk_model.specs.Tree.{path_within}
 use Rattle.clk_model.specs.Wired.{LinesEnd}
-use Rattle.clk_model.proofs.Members.{is_in_head, is_in_tail, is_in_cases, both_left, both_right}
+use Rattle.clk_model.proofs.Members.{is_in_head, is_in_tail, is_in_cases, is_in-count_from, or_left, or_right, both_left, both_right}
 use Rattle.clk_model.proofs.OnceLaws.{in_append, is_in-append, is_in-filter, filter_passes, filter_keeps}
 use Rattle.clk_model.proofs.BelowLaws.{Rises, IsUp}
 use Rattle.clk_model.proofs.WholePathLaws.{same_or_not}
-use Rattle.clk_model.proofs.AboveLaws.{put_at, put_same, put_other, above_path, Holder}
+use Rattle.clk_model.proofs.AboveLaws.{put_at, put_same, put_other, Above, above_link, above_path, path_above, Holder}
 use Rattle.clk_model.proofs.Scenes.{Scene, holding, keepers, prepared_in, fed_by, given_in, to_be, IsTree, IsSound, after}
-use Rattle.clk_model.proofs.SoundLaws.{prepare_cases, keeper_prepares}
+use Rattle.clk_model.proofs.SoundLaws.{prepare_cases, keeper_prepares, kept_alone}
 
 -- what a registration is made in: a sound scene without holds, in which the clock isn't registered, selected parents are possible ones,
 -- and the clocks of prepared handles are registered
@@ -226,3 +229,86 @@ register_prepares defs a c x can prep = by_size (nat_lt c.0 (length defs)) refl 
       → (prepared_in defs (holding a [] [] None) x ≡ true) ⊎ ((is_critical defs c.0 ≡ true) × (is_in x (to_be a c.0) ≡ true))
   by_size true inside p = by_holder (prepare_cases defs (registered_in a c.0) [] [] None x p)
   by_size false beyond p = inl p
+
+-- ---- what it keeps prepared
+
+-- a critical clock is a clock of the description
+critical_lt : (defs : Description) (c : ℕ) → is_critical defs c ≡ true → c < length defs
+critical_lt defs c critical =
+    elim (cases_lt c (length defs)) [
+      | inl inside ↦ inside
+      | inr outside ↦
+          let none : is_critical defs c ≡ false = ap (λ (d : ClockDef). has_flag d.flags 32) (get_or_past defs c nobody outside) in
+          let no : true ≡ false = sym critical ∙ none in
+          absurd cc
+    ]
+
+-- a keeper is one behind a registration, and registered
+keeper_still : (defs : Description) (a : Scene) (c h : ℕ) → CanRegister defs a c → is_in h (keepers defs a) ≡ true → (is_in h (keepers defs (registered_in a c)) ≡ true) × (a.there h ≡ true)
+keeper_still defs a c h can m = by_list (in_append h a.prepares (filter (λ d. is_critical defs d && a.there d) (count_from 0 (length defs))) m) where
+  by_list : (is_in h a.prepares ≡ true) ⊎ (is_in h (filter (λ d. is_critical defs d && a.there d) (count_from 0 (length defs))) ≡ true)
+      → (is_in h (keepers defs (registered_in a c)) ≡ true) × (a.there h ≡ true)
+  by_list (inl prepares) = (
+    is_in-append h a.prepares (filter (λ d. is_critical defs d && put_at c true a.there d) (count_from 0 (length defs))) ∙ or_left (is_in h a.prepares) _ prepares,
+    can.used h prepares,
+  )
+  by_list (inr critical) =
+      let passes = filter_passes (λ d. is_critical defs d && a.there d) h (count_from 0 (length defs)) critical in
+      let there = both_right (is_critical defs h) (a.there h) passes in (
+        is_in-append h a.prepares (filter (λ d. is_critical defs d && put_at c true a.there d) (count_from 0 (length defs)))
+            ∙ or_right (is_in h a.prepares) _
+            (filter_keeps (λ d. is_critical defs d && put_at c true a.there d) h (count_from 0 (length defs))
+            (and_from (is_critical defs h) (put_at c true a.there h) (both_left (is_critical defs h) (a.there h) passes) (there_still a c h there))
+            (is_in-filter (λ d. is_critical defs d && a.there d) h (count_from 0 (length defs)) critical)),
+        there,
+      )
+
+-- the new clock keeps the path that it was to have, where it is critical
+new_keeps : (defs : Description) (a : Scene) (c x : ℕ) → CanRegister defs a c → is_critical defs c ≡ true → is_in x (to_be a c) ≡ true → Holder (put_at c (given_in a c) a.up) (keepers defs (registered_in a c)) x
+new_keeps defs a c x can critical m = (c, kept, above_) where
+  inside : c < length defs
+  inside = critical_lt defs c critical
+
+  kept : is_in c (keepers defs (registered_in a c)) ≡ true
+  kept =
+      is_in-append c a.prepares (filter (λ d. is_critical defs d && put_at c true a.there d) (count_from 0 (length defs)))
+      ∙ or_right (is_in c a.prepares) _
+      (filter_keeps (λ d. is_critical defs d && put_at c true a.there d) c (count_from 0 (length defs))
+      (and_from (is_critical defs c) (put_at c true a.there c) critical (put_same c c true a.there refl)) (is_in-count_from c 0 (length defs) (omega arith) (omega (arith, inside))))
+
+  by_given : (o : Option ℕ) → given_in a c ≡ o → is_in x (option_map_or (path_within a.up depth) o []) ≡ true → Above (put_at c (given_in a c) a.up) c x
+  by_given None at n = absurd cc
+  by_given (Some p) at n =
+      let high = path_above a.up p x n in
+      above_link (put_at c (given_in a c) a.up) c p x (put_same c c (given_in a c) a.up refl ∙ at) (high.0, rises_still defs a c high.0 p x can (given_is a c p at).1 high.1)
+
+  above_ : Above (put_at c (given_in a c) a.up) c x
+  above_ =
+      elim (is_in_cases x c (option_map_or (path_within a.up depth) (given_in a c) [])
+      (sym (ap (λ (t : Bool). is_in x (if t then path_within a.up depth c else c ∷ option_map_or (path_within a.up depth) (given_in a c) [])) can.free) ∙ m)) [
+        | inl same ↦ (zero, same)
+        | inr later ↦ by_given (given_in a c) refl later
+      ]
+
+-- what was prepared, and the path that a critical clock was to have, are prepared behind its registration
+pub register_keeps : (defs : Description) (a : Scene) (c : ClockId) (x : ℕ) → CanRegister defs a c.0
+    → (prepared_in defs (holding a [] [] None) x ≡ true) ⊎ ((is_critical defs c.0 ≡ true) × (is_in x (to_be a c.0) ≡ true))
+    → prepared_in defs (after defs (holding a [] [] None) (micro.Register c)) x ≡ true
+register_keeps defs a c x can was = by_size (nat_lt c.0 (length defs)) refl was where
+  is : IsUp (parents_of defs) (put_at c.0 (given_in a c.0) a.up)
+  is = possible_registered defs a c.0 can
+
+  by_size : (t : Bool) → nat_lt c.0 (length defs) ≡ t
+      → (prepared_in defs (holding a [] [] None) x ≡ true) ⊎ ((is_critical defs c.0 ≡ true) × (is_in x (to_be a c.0) ≡ true))
+      → prepared_in defs (record (holding a [] [] None) {
+        up = cond t (put_at c.0 (given_in a c.0) a.up) a.up;
+        there = cond t (put_at c.0 true a.there) a.there;
+        order = c.0 ∷ without (c.0 ∷ []) a.order;
+      }) x ≡ true
+  by_size true inside (inl prep) =
+      let keeper = kept_alone defs a [] None x prep in
+      let still_ = keeper_still defs a c.0 keeper.0 can keeper.1 in
+      keeper_prepares defs (registered_in a c.0) [] [] None x can.lines is (keeper.0, still_.0, (keeper.2.0, rises_still defs a c.0 keeper.2.0 keeper.0 x can still_.1 keeper.2.1))
+  by_size true inside (inr new) = keeper_prepares defs (registered_in a c.0) [] [] None x can.lines is (new_keeps defs a c.0 x can new.0 new.1)
+  by_size false beyond (inl prep) = prep
+  by_size false beyond (inr new) = absurd (let inside = critical_lt defs c.0 new.0 in grind (arith, nat_tests))

@@ -52,7 +52,7 @@ abbrev pub clock_of_handle : List (Option HandleRow) → ℕ → Option ℕ
 clock_of_handle handles n = option_map (λ h. h.clock.0) (handle_at handles n)
 
 -- it stays with such a handle
-clock_at-set : (handles : List (Option HandleRow)) (n m : ℕ) (old new : HandleRow) → handle_at handles n ≡ Some old → new.clock ≡ old.clock
+pub clock_at-set : (handles : List (Option HandleRow)) (n m : ℕ) (old new : HandleRow) → handle_at handles n ≡ Some old → new.clock ≡ old.clock
     → clock_of_handle (set handles n (Some new)) m ≡ clock_of_handle handles m
 clock_at-set [] n m old new at clock = refl
 clock_at-set (h ∷ handles) zero zero old new at clock = ap (λ (k : _). Some k.0) clock ∙ ap (option_map (λ r. r.clock.0)) (sym at)

@@ -70,7 +70,7 @@ replay_runs (e ∷ es) s run = by_next (next s e.driver e.event) refl (λ u r. r
   by_next None at rest = rest s run
   by_next (Some x) at rest = rest x.0 (run_goes_on s x.0 e.driver e.event x.1 run at)
 
-run_of : (defs : Description) (regs : Registers) (ignore_unused : Bool) (credits : ℕ) (journal : List Entry) → IsValid (length regs) defs → IsRun (replay (opening defs regs ignore_unused credits) journal)
+pub run_of : (defs : Description) (regs : Registers) (ignore_unused : Bool) (credits : ℕ) (journal : List Entry) → IsValid (length regs) defs → IsRun (replay (opening defs regs ignore_unused credits) journal)
 run_of defs regs ignore_unused credits journal valid = replay_runs journal (opening defs regs ignore_unused credits) (opening_runs defs regs ignore_unused credits valid)
 
 -- ---- each active clock is fed

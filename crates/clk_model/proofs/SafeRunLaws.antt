@@ -41,7 +41,7 @@ use Rattle.clk_model.proofs.VetoLaws.{of_change}
 use Rattle.clk_model.proofs.FlightLaws.{IsStep, begin_is}
 use Rattle.clk_model.proofs.FlightSafeLaws.{step_goes}
 use Rattle.clk_model.proofs.BesideSafeLaws.{beside_goes, beside_rests}
-use Rattle.clk_model.proofs.Scenes.{scene, GoesWell, makes, ends, EnablesPrepared, IsSound, IsAtRest}
+use Rattle.clk_model.proofs.Scenes.{scene, GoesWell, uncovered, makes, ends, EnablesPrepared, IsSound, IsAtRest}
 use Rattle.clk_model.proofs.ArriveLaws.{IsFit, wired_before, prepared_told}
 use Rattle.clk_model.proofs.StandLaws.{Goes}
 use Rattle.clk_model.proofs.RestLaws.{alike_put, alike_noted, fit_alike, fit_given, fit_taken}
@@ -55,7 +55,7 @@ use Rattle.clk_model.proofs.BeginSafeLaws.{path_powered, resting, rests, begins_
 -- ---- scripts over a state at rest
 
 -- a chain of one step that gives a clock a rooted parent
-one_step_leads : (s : State) (c p rate : ℕ) → is_in p (parents_of s.defs c) ≡ true → LeadsFrom (wiring s) c (record { clock = c; rate = rate; parent = Some p } ∷ [])
+pub one_step_leads : (s : State) (c p rate : ℕ) → is_in p (parents_of s.defs c) ≡ true → LeadsFrom (wiring s) c (record { clock = c; rate = rate; parent = Some p } ∷ [])
 one_step_leads s c p rate m = record {
   first = refl;
   leads = tt;
@@ -63,7 +63,7 @@ one_step_leads s c p rate m = record {
   once = refl;
 }
 
-one_step_rooted : (s : State) (c p rate : ℕ) → is_in p (parents_of s.defs c) ≡ true → IsRooted s.defs s.clocks c → rooted s.defs s.clocks p ≡ true
+pub one_step_rooted : (s : State) (c p rate : ℕ) → is_in p (parents_of s.defs c) ≡ true → IsRooted s.defs s.clocks c → rooted s.defs s.clocks p ≡ true
     → AllByRecursion (StepsRooted (wiring s)) (record { clock = c; rate = rate; parent = Some p } ∷ [])
 one_step_rooted s c p rate m own root = (
   record {
@@ -74,7 +74,7 @@ one_step_rooted s c p rate m own root = (
   tt,
 )
 
-plan_over : (n : State) (c : ℕ) (ks : List ChainStep) → Resting n → LeadsFrom (wiring n) c ks → AllByRecursion (StepsRooted (wiring n)) ks → PlanOver n c ks
+pub plan_over : (n : State) (c : ℕ) (ks : List ChainStep) → Resting n → LeadsFrom (wiring n) c ks → AllByRecursion (StepsRooted (wiring n)) ks → PlanOver n c ks
 plan_over n c ks rest leads steps = record { fit = rest.fit; prepares = rest.prepares; enables = rest.enables; order = rest.keeps.order; leads = leads; steps = steps }
 
 -- the state and the change that a call goes on with: its script goes well
@@ -96,8 +96,8 @@ goes_from q n d what k rest (lowering_handle h row is at gives_up) =
       regs = refl;
       empty = refl;
       none = refl;
-      goes = makes (micro.Lower row.clock) refl fit.sound tt (λ c prep. inl prep)
-          (ends fit.sound (record { prepares = rest.prepares; enables = rest.enables; late = refl }) (λ g e. let no : call.Unprepare h ≡ call.Prepare g = sym is ∙ e in absurd cc));
+      goes = makes (micro.Lower row.clock) refl fit.sound tt (λ c prep. inl prep) (λ c was. uncovered was)
+          (ends fit.sound (record { prepares = rest.prepares; enables = rest.enables; late = refl }) tt (λ g e. let no : call.Unprepare h ≡ call.Prepare g = sym is ∙ e in absurd cc));
     }
 goes_from q n d what k rest (planning _ number row over x ks range planned_ at is rates) =
     let there = planned_over q n rest planned_ in

@@ -188,7 +188,7 @@ possible_of : (defs : Description) (cover : Option ℕ) (a : Scene) (c p : Clock
 possible_of defs None a c p serves = serves
 possible_of defs (Some x) a c p serves = absurd serves
 
-fits_of : (defs : Description) (cover : Option ℕ) (a : Scene) (c : ClockId) (place : ℕ) → Serves defs cover a (micro.WriteMux c place) → (f : Field) → mux_field (kind_of defs c.0) ≡ Some f → place < 2 ^ f.width
+pub fits_of : (defs : Description) (cover : Option ℕ) (a : Scene) (c : ClockId) (place : ℕ) → Serves defs cover a (micro.WriteMux c place) → (f : Field) → mux_field (kind_of defs c.0) ≡ Some f → place < 2 ^ f.width
 fits_of defs None a c place serves = serves
 fits_of defs (Some x) a c place serves = absurd serves
 

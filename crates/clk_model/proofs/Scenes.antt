@@ -1,5 +1,6 @@
 -- What the steps of a script read and change of a state, when that is sound, and when a script goes well over it: whatever enables
 -- and disables come between its steps, each active clock stays fed.
+use Rattle.std.proofs.Common.{inl, inr}
 use Rattle.std.specs.Prelude.{◌≡◌, ◌⊎◌, ℕ, ◌<◌, ◌≤◌, ◌^◌, ◌++◌, List, [], ◌∷◌, Bool, true, false, cond, ◌&&◌, nat_lt, Option, Some, None, filter, length, if◌then◌else◌, option_map, option_and_then, slice_get, map, IfSome}
 use Rattle.std.specs.List.{list_all}
 use Rattle.std.specs.Option.{option_map_or}
@@ -164,6 +165,25 @@ IsCovered (Some x) a c = is_in c (to_be a x) ≡ true
 abbrev pub Grows : Description → Option ℕ → Scene → Scene → Type 0
 Grows defs cover a b = (c : ℕ) → prepared_in defs b c ≡ true → (prepared_in defs a c ≡ true) ⊎ IsCovered cover a c
 
+-- whether a step lets go of a clock on the path that the lower behind it lowers
+abbrev pub LowersNext : Scene → Micro → List Micro → ℕ → Type 0
+LowersNext a (micro.DropPrepare o) (micro.Lower x ∷ ms) c = is_in c (path_within a.up depth x.0) ≡ true
+LowersNext a _ _ c = ⊥
+
+-- what is prepared before a step, or was raised for it, is prepared behind it, unless the lower that comes next lowers it
+abbrev pub Stays : Description → Option ℕ → Scene → Micro → List Micro → Type 0
+Stays defs cover a m ms = (c : ℕ) → (prepared_in defs a c ≡ true) ⊎ IsCovered cover a c → (prepared_in defs (after defs a m) c ≡ true) ⊎ LowersNext a m ms c
+
+-- where nothing was raised
+pub uncovered : {P Q : Type 0} → P ⊎ ⊥ → P ⊎ Q
+uncovered (inl p) = inl p
+uncovered (inr never) = absurd never
+
+-- only the end of a prepare comes behind a raise, and there no poll has timed out
+abbrev pub EndsRaise : Sleeping → Bool → Option ℕ → Type 0
+EndsRaise what timed None = Unit {0}
+EndsRaise what timed (Some x) = (timed ≡ false) × ((h : Handle) × (what ≡ call.Prepare h))
+
 -- at the end of a prepare the path of its clock was raised, unless a poll has timed out
 abbrev pub EndsPrepare : Sleeping → Bool → Option ℕ → Scene → Type 0
 EndsPrepare what timed cover a = (h : Handle) → what ≡ call.Prepare h
@@ -175,8 +195,8 @@ pub data GoesWell (defs : Description) (what : Sleeping) : Bool → Option ℕ �
   raises : {timed : Bool} {a : Scene} {ms : List Micro} (x : ClockId) → IsSound defs a → GoesWell defs what timed (Some x.0) a ms
       → GoesWell defs what true None a (cut_short what ms) → GoesWell defs what timed None a (micro.Raise x ∷ ms)
   makes : {timed : Bool} {cover : Option ℕ} {a : Scene} {ms : List Micro} (m : Micro) → is_plain m ≡ true → IsSound defs a → Serves defs cover a m
-      → Grows defs cover a (after defs a m) → GoesWell defs what timed None (after defs a m) ms → GoesWell defs what timed cover a (m ∷ ms)
-  ends : {timed : Bool} {cover : Option ℕ} {a : Scene} → IsSound defs a → IsFree a → EndsPrepare what timed cover a → GoesWell defs what timed cover a (micro.End ∷ [])
+      → Grows defs cover a (after defs a m) → Stays defs cover a m ms → GoesWell defs what timed None (after defs a m) ms → GoesWell defs what timed cover a (m ∷ ms)
+  ends : {timed : Bool} {cover : Option ℕ} {a : Scene} → IsSound defs a → IsFree a → EndsRaise what timed cover → EndsPrepare what timed cover a → GoesWell defs what timed cover a (micro.End ∷ [])
 
 -- ---- safe states
 

@@ -19,12 +19,15 @@ use Rattle.kind_math.specs.Plls.{multipliers, pll_multiplier}
 use Rattle.kind_math.proofs.Chosen.{max_prefers, fold_keeps, each-filter}
 use Rattle.kind_math.proofs.Ranges.{each_in_range, chosen_keeps}
 use Rattle.kind_math.proofs.DivisorLaws.{valid_fields_some}
-use Rattle.reg_bank.specs.Registers.{Registers, field, is_set}
+use Rattle.reg_bank.specs.Registers.{Registers, field, put, is_set}
+use Rattle.reg_bank.proofs.FieldLaws.{field-put_same}
+use Rattle.std.proofs.lemmas.Option.{same_Some}
 use Rattle.clk_model.specs.Lists.{is_in}
 use Rattle.clk_model.specs.State.{ChainStep}
 use Rattle.clk_model.specs.Rate.{style_of}
 use Rattle.clk_model.specs.Round.{Wiring}
-use Rattle.clk_model.specs.Chain.{outcome}
+use Rattle.clk_model.specs.Chain.{setting, outcome}
+use Rattle.clk_model.specs.Laws.Paths.{scales_by}
 use Rattle.clk_model.specs.Laws.Plans.{clocks_in, LieApart, LiesOutside, DiffersIn, LeavesFields, OutcomesKeep}
 use Rattle.clk_model.proofs.Members.{is_in_head, is_in_tail, is_in_cases, test_other}
 use Rattle.clk_model.proofs.ApartLaws.{ranges_hold, fields_apart, gate_or_field}
@@ -167,3 +170,33 @@ pub outcomes_keep : OutcomesKeep
 outcomes_keep words w c ks valid leads =
     let differs = differs_in ks w (settings_fit words w.defs valid) leads.parents leads.once in
     (differs, leaves_fields words ks w (outcome ks w) valid differs)
+
+-- ---- a setting reads the same, whatever it is put into
+
+put_same : (regs regs' : Registers) (word shift width value : ℕ) → word < length regs → word < length regs' → value < 2 ^ width
+    → field (put regs word shift width value) word shift width ≡ field (put regs' word shift width value) word shift width
+put_same regs regs' word shift width value within within' fits = field-put_same regs word shift width value within fits ∙ sym (field-put_same regs' word shift width value within' fits)
+
+-- the field by which a clock divides or multiplies reads the same behind its setting
+pub setting_same : (kind : Kind) (parents : ℕ) (f : Field) (parent planned : ℕ) (regs regs' : Registers) → has_ranges kind parents ≡ true → scales_by kind ≡ Some f → f.word < length regs → f.word < length regs'
+    → field (setting kind parent planned regs) f.word f.shift f.width ≡ field (setting kind parent planned regs') f.word f.shift f.width
+setting_same (FixedRate rate) parents f parent planned regs regs' is at within within' = absurd cc
+setting_same (Factor mult div) parents f parent planned regs regs' is at within within' = absurd cc
+setting_same (Gate word bit set_to_disable) parents f parent planned regs regs' is at within within' = absurd cc
+setting_same (Mux word shift width read_only) parents f parent planned regs regs' is at within within' = absurd cc
+setting_same (Divider word shift width one_based power_of_two) parents f parent planned regs regs' is at within within' =
+    let same : record { word = word; shift = shift; width = width } ≡ f = same_Some (record { word = word; shift = shift; width = width }) f at in
+    let w : word ≡ f.word = ap (λ (g : Field). g.word) same in
+    subst (λ (g : Field). field (setting (Divider word shift width one_based power_of_two) parent planned regs) g.word g.shift g.width
+    ≡ field (setting (Divider word shift width one_based power_of_two) parent planned regs') g.word g.shift g.width) same
+    (put_same regs regs' word shift width _ (omega arith) (omega arith) (div_setting-fits (style_of one_based power_of_two) parent planned width (divider_wide one_based power_of_two width is)))
+setting_same (Pll word shift width power_word power_bit least most m) parents f parent planned regs regs' is at within within' =
+    let same : record { word = word; shift = shift; width = width } ≡ f = same_Some (record { word = word; shift = shift; width = width }) f at in
+    let w : word ≡ f.word = ap (λ (g : Field). g.word) same in
+    let parts = and_parts _ _ is in
+    let order = leb-true least most (and_parts _ _ parts.0).1 in
+    let below = ltb-true most (2 ^ width) parts.1 in
+    let le = pll_multiplier-le parent planned least most m order in
+    subst (λ (g : Field). field (setting (Pll word shift width power_word power_bit least most m) parent planned regs) g.word g.shift g.width
+    ≡ field (setting (Pll word shift width power_word power_bit least most m) parent planned regs') g.word g.shift g.width) same
+    (put_same regs regs' word shift width _ (omega arith) (omega arith) (omega arith))

@@ -21,7 +21,7 @@ use Rattle.clk_model.proofs.OutcomeLaws.{SettingsFit}
 use Rattle.clk_model.proofs.BeginLaws.{walked_at}
 use Rattle.clk_model.proofs.BelowLaws.{IsUp}
 use Rattle.clk_model.proofs.AboveLaws.{put_at, put_other, Above, above_here, HasRoot, root_still, holder_still, holder_before, MayLink, may_still}
-use Rattle.clk_model.proofs.Scenes.{Scene, holding, keepers, prepared_in, IsSound, EndsPrepare, GoesWell, makes, ends}
+use Rattle.clk_model.proofs.Scenes.{Scene, holding, keepers, prepared_in, IsSound, EndsPrepare, GoesWell, uncovered, makes, ends}
 use Rattle.clk_model.proofs.SoundLaws.{keeper_prepares, kept_alone, WillMove, linked_in, may_link, moved_in, sound_moved}
 use Rattle.clk_model.proofs.BlockLaws.{CanMove, move_behind, prepared_move, bare_move}
 
@@ -153,7 +153,7 @@ walk_moved s ks a c p o cs lines mover to_walk =
 -- a visit leaves the scene
 visit_goes : (defs : Description) (what : Sleeping) (timed : Bool) (a : Scene) (c : ℕ) (ms : List Micro) → IsSound defs (holding a [] [] None) → GoesWell defs what timed None (holding a [] [] None) ms
     → GoesWell defs what timed None (holding a [] [] None) (micro.Visit (clock_id c) ∷ ms)
-visit_goes defs what timed a c ms sound goes = makes (micro.Visit (clock_id c)) refl sound tt (λ d prep. inl prep) goes
+visit_goes defs what timed a c ms sound goes = makes (micro.Visit (clock_id c)) refl sound tt (λ d prep. inl prep) (λ d was. uncovered was) goes
 
 -- where a raise times out the move is dropped, and the rest goes well
 cut_goes : (s : State) (what : Sleeping) (ks : List ChainStep) (tail : List Micro) (a : Scene) (c p o : ℕ) (cs : List ℕ) → WalkOver s what ks tail → IsSound s.defs (holding a [] [] None)
@@ -167,7 +167,7 @@ cut_goes s what ks tail a c p o cs over sound rest = by_cut over.cuts where
   by_cut (at_end is) =
       subst (λ (ms : List Micro). GoesWell s.defs what true None (holding a [] [] None) ms)
       (sym (is (move_behind s.defs c p o (micro.Visit (clock_id c) ∷ (flat_map (walked_at s ks) cs ++ tail))) ∙ from_first_past is_end (flat_map (walked_at s ks) cs) tail (over.no_end cs) ∙ over.tail_ends))
-      (ends sound (record { prepares = refl; enables = refl; late = refl }) (over.no_prepare true None (holding a [] [] None)))
+      (ends sound (record { prepares = refl; enables = refl; late = refl }) tt (over.no_prepare true None (holding a [] [] None)))
 
 -- the moves of a walk go well, one after the other
 pub walked_goes : (s : State) (what : Sleeping) (ks : List ChainStep) (tail : List Micro) (cs : List ℕ) (timed : Bool) (a : Scene) → WalkOver s what ks tail → ToWalk s ks a cs

@@ -14,3 +14,6 @@ pub mod Weight
 pub mod Paced
 pub mod RunsEnd
 pub mod RunsFed
+pub mod Exclusive
+pub mod NothingLeft
+pub mod ChangesTold

@@ -1,8 +1,11 @@
 //! Laws of the definitions: each is the contract of a function that does nothing.
 
+pub mod ends;
+pub mod exclusives;
 pub mod feeding;
 pub mod flights;
 pub mod links;
+pub mod notices;
 pub mod paths;
 pub mod plans;
 pub mod refusals;

@@ -1,0 +1,5 @@
+use Rattle.clk_model.proofs.ToldRunLaws as laws
+use Rattle.clk_model.proofs.laws.notices.changes_are_told.Goals as goal
+
+pub returns : goal.returns
+returns c = record { law = laws.changes_are_told }

@@ -1,0 +1,15 @@
+//! Laws of the ends of calls.
+
+ghost use Rattle.clk_model.specs.Laws.NothingLeft.{RaisedEndAsPrepared, TimeoutsLeaveNothing};
+
+/// At the end of each call, whether it went well, was called off or timed out, each PLL that it raised is powered exactly where it
+/// is prepared: what it raised for nothing has fallen, and what it let go has been lowered.
+pub fn raised_end_as_prepared()
+    ensures law { RaisedEndAsPrepared }
+{}
+
+/// A prepare or a change of parent that is refused since a PLL didn't lock leaves all as it was but power bits, and what enables
+/// and disables of any driver have done meanwhile: no prepare, no link, no rate and no field has changed.
+pub fn timeouts_leave_nothing()
+    ensures law { TimeoutsLeaveNothing }
+{}
