@@ -86,3 +86,4 @@ pub mod BeginSafeLaws
 pub mod BesideSafeLaws
 pub mod SafeRunLaws
 pub mod RunsFedLaws
+pub mod SameRateLaws

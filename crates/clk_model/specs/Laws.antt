@@ -14,3 +14,4 @@ pub mod Weight
 pub mod Paced
 pub mod RunsEnd
 pub mod RunsFed
+pub mod PlansRead
