@@ -87,3 +87,4 @@ pub mod BesideSafeLaws
 pub mod SafeRunLaws
 pub mod RunsFedLaws
 pub mod SameRateLaws
+pub mod SameSettingLaws
