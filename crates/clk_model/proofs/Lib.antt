@@ -88,3 +88,5 @@ pub mod SafeRunLaws
 pub mod RunsFedLaws
 pub mod SameRateLaws
 pub mod SameSettingLaws
+pub mod BareHandleLaws
+pub mod PlannedSameLaws
