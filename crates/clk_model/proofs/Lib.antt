@@ -90,3 +90,4 @@ pub mod SameRateLaws
 pub mod SameSettingLaws
 pub mod BareHandleLaws
 pub mod PlannedSameLaws
+pub mod PlansReadLaws

@@ -1,33 +1,33 @@
 -- Laws on states that differ in the enable tier's part alone: who is held is the same, and so are the changes that planned chains give.
-use Rattle.std.proofs.Common.{◌≡◌, ℕ, ◌+◌, Bool, true, false, not, ◌&&◌, ◌||◌, cond, List, [], ◌∷◌, ◌++◌, Option, Some, None, refl, sym, ap, ◌∙◌, map, length, nat_lt}
+use Rattle.std.proofs.Common.{◌≡◌, ℕ, Bool, not, ◌&&◌, List, [], ◌∷◌, ◌++◌, Option, refl, ap, ◌∙◌, map, length}
 use mathlib.Core.Path.{fun_ext}
-use Rattle.std.specs.Prelude.{filter, flat_map, fold, min, max, sum_by, if◌then◌else◌, ◌==◌}
+use Rattle.std.specs.Prelude.{filter, flat_map, fold, min, max, if◌then◌else◌, ◌==◌}
 use Rattle.std.specs.List.{AllByRecursion, list_any}
 use Rattle.clk_base.specs.declared.call.Micro.{Micro}
 use Rattle.clk_base.specs.declared.call.Micro.TheVariants as micro
 use Rattle.clk_base.specs.declared.call.Sleeping.{Sleeping}
-use Rattle.clk_base.specs.Description.{Description, kind_of}
+use Rattle.clk_base.specs.Description.{Description}
 use Rattle.clk_base.specs.Flags.{sets_rate_gate}
 use Rattle.clk_base.specs.Levels.{depth}
 use Rattle.clk_base.specs.Valid.{IsValid}
 use Rattle.reg_bank.specs.Registers.{Registers}
 use Rattle.clk_model.specs.declared.row.ClockRow.{ClockRow}
 use Rattle.clk_model.specs.declared.row.HandleRow.{HandleRow}
-use Rattle.clk_model.specs.Lists.{count_from, present, is_in}
-use Rattle.clk_model.specs.State.{State, Change, ChainStep, NotifierRow}
+use Rattle.clk_model.specs.Lists.{count_from, is_in}
+use Rattle.clk_model.specs.State.{State, Change, ChainStep}
 use Rattle.clk_model.specs.Tree.{path}
 use Rattle.clk_model.specs.Rate.{rate}
 use Rattle.clk_model.specs.Holders.{clocks_of, is_prepared, is_exclusive, critical_clocks, prepare_holders, is_held, protect_holders}
-use Rattle.clk_model.specs.Round.{Wiring, View, wiring, most_rate, rate_in}
+use Rattle.clk_model.specs.Round.{Wiring, View, most_rate, rate_in}
 use Rattle.clk_model.specs.Chain.{clock_id, outcome}
 use Rattle.clk_model.specs.Walk.{top_of, kids_after, below_within, walk, changing, rates_in}
 use Rattle.clk_model.specs.Notices.{Rates, is_veto, pre_list, abort_list}
 use Rattle.clk_model.specs.Views.{view, free_view, cut_at}
-use Rattle.clk_model.specs.Script.{Planned, move_of, planned, weight, is_raise, notices_of}
+use Rattle.clk_model.specs.Script.{Planned, move_of, planned}
 use Rattle.clk_model.specs.Begin.{change_of, change_along}
 use Rattle.clk_model.proofs.BareHandleLaws.{bare, values_same}
 use Rattle.clk_model.proofs.SameRateLaws.{tree_over}
-use Rattle.clk_model.proofs.SameSettingLaws.{SameFields, rates_same, SameTree, tree_rates, IsPossible, outcome_same}
+use Rattle.clk_model.proofs.SameSettingLaws.{SameFields, rates_same, tree_rates, IsPossible, outcome_same}
 
 -- ---- states
 
@@ -160,6 +160,12 @@ along_same s old new before after x y d what ks settles range here possible =
     let v : Wiring = tree_over s.defs s.clocks new in
     let w : Wiring = tree_over s.defs s.clocks old in
     let made : Planned → List ℕ → Change = (λ p rates. record (change_of (beside s old before x) d what p.steps) {
-      before = rates; chain = ks; changing = p.changing; outcome = p.outcome; vetoed = p.vetoed; range = range }) in
+      before = rates;
+      chain = ks;
+      changing = p.changing;
+      outcome = p.outcome;
+      vetoed = p.vetoed;
+      range = range;
+    }) in
     ap (λ (p : Planned). made p (rates_in v)) (planned_same s old new before after x y ks settles here possible)
     ∙ ap (λ (rates : List ℕ). made (planned (beside s old before x) ks settles) rates) (list_rates v w refl (rates_same s.defs s.clocks old new here.regs))

@@ -1,7 +1,7 @@
 -- Laws on trees with the same links and rates: rounding is the same over them.
-use Rattle.std.proofs.Common.{◌≡◌, ℕ, zero, suc, Bool, true, false, ◌&&◌, cond, List, [], ◌∷◌, Option, Some, None, refl, sym, ap, subst, ◌∙◌}
+use Rattle.std.proofs.Common.{◌≡◌, ℕ, zero, suc, Bool, true, false, List, Option, Some, None, refl, ap, ◌∙◌}
 use mathlib.Core.Path.{fun_ext}
-use Rattle.std.specs.Prelude.{◌*◌, ◌/◌, ◌==◌, nat_le, max, filter, find, option_map, option_and_then}
+use Rattle.std.specs.Prelude.{◌*◌, ◌/◌, ◌==◌, nat_le, max, filter, find, option_map}
 use Rattle.std.specs.List.{filter_map}
 use Rattle.std.specs.Option.{option_map_or}
 use Rattle.std.specs.Int.{div_ceil}

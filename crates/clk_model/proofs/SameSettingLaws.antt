@@ -1,8 +1,8 @@
 -- Laws on trees with the same links, and the same fields by which clocks select, divide and multiply: their rates are the same, and so are
 -- the outcomes of plans and the plans.
-use Rattle.std.proofs.Common.{◌≡◌, ℕ, zero, suc, ◌+◌, ◌-◌, ◌^◌, ◌<◌, ◌≤◌, Bool, true, false, not, ◌&&◌, ◌||◌, cond, List, [], ◌∷◌, Option, Some, None, refl, sym, ap, subst, ◌∙◌, ◌⊎◌, inl, inr, arith, length}
+use Rattle.std.proofs.Common.{◌≡◌, ℕ, zero, suc, ◌^◌, ◌<◌, ◌≤◌, Bool, true, false, not, ◌&&◌, ◌||◌, cond, List, [], ◌∷◌, Option, Some, None, refl, sym, ap, subst, ◌∙◌, ◌⊎◌, inl, inr, arith, length}
 use mathlib.Core.Path.{fun_ext}
-use Rattle.std.specs.Prelude.{IfSome, if◌then◌else◌, nat_le, option_map, option_and_then, slice_get}
+use Rattle.std.specs.Prelude.{IfSome, if◌then◌else◌, nat_le, option_map, option_and_then}
 use Rattle.std.specs.List.{AllByRecursion, list_all}
 use Rattle.std.specs.Option.{option_map_or}
 use Rattle.std.proofs.lemmas.Bool.{and_parts, leb-true, ltb-true, cases_lt}
@@ -25,9 +25,9 @@ use Rattle.clk_model.specs.Kinds.{mux_field, can_round}
 use Rattle.clk_model.specs.State.{ChainStep, link_in}
 use Rattle.clk_model.specs.Rate.{style_of, rate}
 use Rattle.clk_model.specs.Round.{Wiring, View, Rounded, rate_in, parent_rate_in, passes_on, round}
-use Rattle.clk_model.specs.Chain.{linked, moves, place_of, select, setting, set_one, outcome, chain_from, chain_within, keeps_boundaries, chain}
-use Rattle.clk_model.specs.Wired.{LinesEnd, LinksArePossible}
-use Rattle.clk_model.specs.Laws.Plans.{HasParent, LieApart}
+use Rattle.clk_model.specs.Chain.{moves, place_of, select, setting, set_one, outcome, chain_from, chain_within, keeps_boundaries, chain}
+use Rattle.clk_model.specs.Wired.{LinksArePossible}
+use Rattle.clk_model.specs.Laws.Plans.{HasParent}
 use Rattle.clk_model.proofs.ApartLaws.{ranges_hold, fields_apart}
 use Rattle.clk_model.proofs.GateRateLaws.{scales_is_field}
 use Rattle.clk_model.proofs.OutcomeLaws.{field-put_outside}
@@ -223,7 +223,7 @@ within_same (suc levels) defs clocks old new view same = fun_ext (λ c. fun_ext 
       ∙ from_same (more old) defs clocks old new view c x r same)
 
 -- the parents of a chain are possible ones
-possible_in : (w : Wiring) (ks : List ChainStep) → AllByRecursion (HasParent w) ks → AllByRecursion (IsPossible w.defs) ks
+pub possible_in : (w : Wiring) (ks : List ChainStep) → AllByRecursion (HasParent w) ks → AllByRecursion (IsPossible w.defs) ks
 possible_in w [] has = tt
 possible_in w (k ∷ ks) has = (has.0.possible, possible_in w ks has.1)
 
