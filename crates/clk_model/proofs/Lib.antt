@@ -91,3 +91,4 @@ pub mod SameSettingLaws
 pub mod BareHandleLaws
 pub mod PlannedSameLaws
 pub mod PlansReadLaws
+pub mod CallCauseLaws

@@ -15,3 +15,4 @@ pub mod Paced
 pub mod RunsEnd
 pub mod RunsFed
 pub mod PlansRead
+pub mod CallCauses

@@ -1,0 +1,518 @@
+-- Each call begins for its cause.
+use Rattle.std.proofs.Common.{◌≡◌, ℕ, ℤ, ◌+◌, ◌-◌, ◌<◌, ◌≤◌, ◌&&◌, ◌||◌, Bool, true, false, not, cond, List, [], ◌∷◌, Option, Some, None, refl, sym, ap, subst, ◌∙◌, ◌⊎◌, inl, inr, arith, nat_eq, nat_lt, nat_le, length}
+use Rattle.std.specs.Prelude.{option_map, slice_get, is_none, is_some, filter}
+use Rattle.std.specs.Option.{option_map_or}
+use Rattle.std.proofs.lemmas.Bool.Decides.{nat_tests}
+use Rattle.std.proofs.lemmas.Bool.{and_from, not-true}
+use Rattle.clk_base.specs.declared.call.Micro.TheVariants as micro
+use Rattle.clk_base.specs.declared.call.Sleeping.{Sleeping}
+use Rattle.clk_base.specs.declared.call.Sleeping.TheVariants as call
+use Rattle.clk_base.specs.declared.clock.ClockId.{ClockId}
+use Rattle.clk_base.specs.declared.event.Errno.TheVariants as errno
+use Rattle.clk_base.specs.declared.event.Event.TheVariants as event
+use Rattle.clk_base.specs.declared.event.Reply.TheVariants as reply
+use Rattle.clk_base.specs.declared.event.Turn.{Turn}
+use Rattle.clk_base.specs.declared.event.Turn.TheVariants as turn
+use Rattle.clk_base.specs.declared.handle.Handle.{Handle}
+use Rattle.clk_base.specs.declared.handle.Policy.{Policy}
+use Rattle.clk_base.specs.Description.{kind_of, parents_of}
+use Rattle.clk_base.specs.Fields.{Field}
+use Rattle.clk_base.specs.Flags.{is_critical, sets_parent_gate}
+use Rattle.clk_model.specs.declared.row.HandleRow.{HandleRow}
+use Rattle.clk_model.specs.Lists.{is_in, is_at}
+use Rattle.clk_model.specs.Kinds.{mux_field, is_read_only}
+use Rattle.clk_model.specs.State.{State, Change, ChainStep, is_quiet, registered, link_in}
+use Rattle.clk_model.specs.Tree.{path, path_to_be, rooted}
+use Rattle.clk_model.specs.Rate.{rate}
+use Rattle.clk_model.specs.Holders.{prepared, guarded}
+use Rattle.clk_model.specs.Round.{wiring, round_rate}
+use Rattle.clk_model.specs.Chain.{clock_id, chain}
+use Rattle.clk_model.specs.Notices.{notifiers_of}
+use Rattle.clk_model.specs.Views.{view, free_view, lift}
+use Rattle.clk_model.specs.Script.{unprepared_plls, runs, adoptable, probe_script, sweep_script}
+use Rattle.clk_model.specs.Begin.{done, refused, pick, most_credits, weight_of, starts, change_of, change_along, put_handle, own_handle, with_handle, got, holds_something, put_back, prepare, keeps_prepare, unprepare, rounded, request, range_set, misses, request_between, reparenting, parent_set, exclusive_put, most_notifiers, has_notifier, notifier_added, notifier_removed, register, probed, swept, held_once_more, begun}
+use Rattle.clk_model.specs.Machine.{paid, next}
+use Rattle.clk_model.specs.Laws.Causes.{Lacks, HoldsSomething, KeepsPrepare}
+use Rattle.clk_model.specs.Laws.CallCauses.{Comes, refusal, fine, warned, HasRoom, GoesOnWhere, OnHandle, OnlyUnknown, GetTurns, PutTurns, NoneToRaise, PrepareTurns, one_less, NoneToLower, UnprepareTurns, RoundTurns, KeepsRate, HasPlan, RequestTurns, with_limits, RangeTurns, IsBound, IsBusy, IsCandidate, MayMove, ParentTurns, ExclusivePutTurns, NotifierAddTurns, NotifierRemoveTurns, IsPlain, ProbeTurns, SweepTurns, CallTurns, CallsHaveCauses}
+use Rattle.clk_model.proofs.CauseLaws.{keeps_tells, holds_tells}
+use Rattle.clk_model.proofs.Members.{or_cases, or_right, both_left, both_right, not_either}
+use Rattle.clk_model.proofs.TierLaws.{pick_either, paid_is}
+
+-- ---- words
+
+-- this turn was given, and its cause holds
+came : {wanted given : Turn} {cause : Type 0} → given ≡ wanted → cause → Comes wanted given cause
+came is why = (λ _. why, λ _. is)
+
+-- another turn was given, and its cause doesn't hold
+not_came : {wanted given : Turn} {cause : Type 0} → (given ≡ wanted → ⊥) → (cause → ⊥) → Comes wanted given cause
+not_came isnt never = (λ is. absurd (isnt is), λ why. absurd (never why))
+
+at_some : (x : ℕ) (o : Option ℕ) → o ≡ Some x → is_at x o ≡ true
+at_some x None e = absurd cc
+at_some x (Some y) e = let same : y ≡ x = cc in grind (arith, nat_tests)
+
+some_at : (x : ℕ) (o : Option ℕ) → is_at x o ≡ true → o ≡ Some x
+some_at x None e = absurd cc
+some_at x (Some y) e = let same : y ≡ x = grind (arith, nat_tests) in ap (λ (z : ℕ). Some z) same
+
+not_at : (x : ℕ) (o : Option ℕ) → is_at x o ≡ false → o ≡ Some x → ⊥
+not_at x o e is = let at = at_some x o is in cc
+
+none_first : (xs : List ℕ) → is_none (slice_get xs 0) ≡ true → xs ≡ []
+none_first [] e = refl
+none_first (x ∷ xs) e = absurd cc
+
+some_first : (xs : List ℕ) → is_none (slice_get xs 0) ≡ false → xs ≡ [] → ⊥
+some_first [] e none = cc
+some_first (x ∷ xs) e none = cc
+
+-- ---- going on
+
+-- how a call starts: it is refused for want of room, or goes on
+data HowStarted (given : Turn) (n : State) (k : Change) : Type 0 where
+  short : given ≡ refusal errno.ENOSPC → (HasRoom n k → ⊥) → HowStarted given n k
+  roomy : given ≡ turn.Going → HasRoom n k → HowStarted given n k
+
+started : (o n : State) (k : Change) → HowStarted (starts o n k).1 n k
+started o n k =
+    pick_either (λ y. HowStarted y.1 n k) _ _ _
+    (λ e. short refl (λ room. let no : nat_lt most_credits (n.credits + n.steps + weight_of n k) ≡ false = grind (arith, nat_tests) in cc))
+    (λ e. roomy refl (grind (arith, nat_tests)))
+
+rest_is : (given : Turn) (left : Type 0) (n : State) (k : Change) → HowStarted given n k → left → GoesOnWhere given left n k
+rest_is given left n k (short is never) holds = record { full = came is (holds, never); going = not_came (λ no. cc) (λ why. never why.1) }
+rest_is given left n k (roomy is room) holds = record { full = not_came (λ no. cc) (λ why. why.1 room); going = came is (holds, room) }
+
+-- a call that starts isn't answered otherwise
+no_answer : (given wanted : Turn) (n : State) (k : Change) → HowStarted given n k → (refusal errno.ENOSPC ≡ wanted → ⊥) → (turn.Going ≡ wanted → ⊥) → given ≡ wanted → ⊥
+no_answer given wanted n k (short is never) a b e = a (sym is ∙ e)
+no_answer given wanted n k (roomy is room) a b e = b (sym is ∙ e)
+
+-- an answer at once, where nothing is left to do
+rest_not : (given : Turn) (left : Type 0) (n : State) (k : Change) → (given ≡ refusal errno.ENOSPC → ⊥) → (given ≡ turn.Going → ⊥) → (left → ⊥) → GoesOnWhere given left n k
+rest_not given left n k a b never = record { full = not_came a (λ why. never why.0); going = not_came b (λ why. never why.0) }
+
+-- ---- calls on a handle
+
+same_row : {a b : HandleRow} → Some a ≡ Some b → a ≡ b
+same_row e = cc
+
+only_unknown : (s : State) (d n : ℕ) (f : HandleRow → State × Turn) (K : HandleRow → Turn → Type 0)
+    → ((row : HandleRow) → K row (f row).1 × ((f row).1 ≡ refusal errno.ENOENT → ⊥)) → OnlyUnknown s d n (with_handle s d n f).1 (λ row. K row (with_handle s d n f).1)
+only_unknown s d n f K each = by (own_handle s d n) refl where
+  by : (o : Option HandleRow) → own_handle s d n ≡ o
+      → OnlyUnknown s d n (option_map_or f o (refused s errno.ENOENT)).1 (λ row. K row (option_map_or f o (refused s errno.ENOENT)).1)
+  by None lacks = record { unknown = came refl lacks; known = λ row own. let no : None ≡ Some row = sym lacks ∙ own in absurd cc }
+  by (Some r) own = record {
+    unknown = not_came (each r).1 (λ lacks. let no : None ≡ Some r = sym lacks ∙ own in cc);
+    known = λ row own'. subst (λ (g : HandleRow). K g (f r).1) (same_row (sym own ∙ own')) (each r).0;
+  }
+
+on_handle : (s : State) (d n : ℕ) (f : HandleRow → State × Turn) (K : HandleRow → Turn → Type 0) → ((row : HandleRow) → K row (f row).1)
+    → OnHandle s d n (with_handle s d n f).1 (λ row. K row (with_handle s d n f).1)
+on_handle s d n f K each = by (own_handle s d n) refl where
+  by : (o : Option HandleRow) → own_handle s d n ≡ o → OnHandle s d n (option_map_or f o (refused s errno.ENOENT)).1 (λ row. K row (option_map_or f o (refused s errno.ENOENT)).1)
+  by None lacks = record { unknown = λ e. refl; known = λ row own. let no : None ≡ Some row = sym lacks ∙ own in absurd cc }
+  by (Some r) own = record {
+    unknown = λ lacks. let no : None ≡ Some r = sym lacks ∙ own in absurd cc;
+    known = λ row own'. subst (λ (g : HandleRow). K g (f r).1) (same_row (sym own ∙ own')) (each r);
+  }
+
+-- what a call on a handle comes to with a handle: its causes, and no refusal for want of one
+abbrev Known : (Turn → Type 0) → State × Turn → Type 0
+Known K y = K y.1 × (y.1 ≡ refusal errno.ENOENT → ⊥)
+
+-- ---- handles
+
+get_turns : (s : State) (d : ℕ) (found : Option ClockId) → GetTurns s d found (got s d (option_map (λ c. c.0) found)).1
+get_turns s d None = record { unknown = came refl refl; deferred = not_came (λ is. cc) (λ why. let no : None ≡ Some why.0 = why.1 in cc); given_ = λ c e. absurd cc }
+get_turns s d (Some c) =
+    pick_either (λ y. GetTurns s d (Some c) y.1) _ _ _
+    (λ e. record {
+      unknown = not_came (λ is. cc) (λ none. cc);
+      deferred = not_came (λ is. cc) (λ why. let is : c ≡ why.0 = same why.1 in let no = ap (λ (x : ClockId). rooted s.defs s.clocks x.0) is ∙ why.2 in cc);
+      given_ = λ a is root. refl;
+    })
+    (λ e. record {
+      unknown = not_came (λ is. cc) (λ none. cc);
+      deferred = came refl (c, refl, e);
+      given_ = λ a is root. let no : rooted s.defs s.clocks c.0 ≡ true = ap (λ (x : ClockId). rooted s.defs s.clocks x.0) (same is) ∙ root in absurd cc;
+    }) where
+      same : {a b : ClockId} → Some a ≡ Some b → a ≡ b
+      same e = cc
+
+put_turns : (s : State) (number : ℕ) (row : HandleRow) → Known (PutTurns row) (put_back s number row)
+put_turns s number row =
+    pick_either (Known (PutTurns row)) _ _ _
+    (λ e. (record { busy = came refl ((holds_tells row).0 e); done = not_came (λ is. cc) (λ never. never ((holds_tells row).0 e)) }, λ is. cc))
+    (λ e. (record { busy = not_came (λ is. cc) ((holds_tells row).1 e); done = came refl ((holds_tells row).1 e) }, λ is. cc))
+
+-- ---- prepares
+
+prepare_turns : (s : State) (d : ℕ) (what : Sleeping) (number : ℕ) (row : HandleRow) → Known (PrepareTurns s d what row) (prepare s d what number row)
+prepare_turns s d what number row =
+    pick_either (Known (PrepareTurns s d what row)) _ _ _
+    (λ e. let none = none_first (unprepared_plls s (path s.clocks row.clock.0)) e in
+    (record { done = came refl none; rest = rest_not fine (NoneToRaise s row.clock.0 → ⊥) s _ (λ is. cc) (λ is. cc) (λ some. some none) }, λ is. cc))
+    (λ e. goes (some_first (unprepared_plls s (path s.clocks row.clock.0)) e) (starts s s k).1 (started s s k)) where
+      k : Change
+      k = change_of s d what (micro.Raise row.clock ∷ micro.End ∷ [])
+
+      goes : (NoneToRaise s row.clock.0 → ⊥) → (given : Turn) → HowStarted given s k → PrepareTurns s d what row given × (given ≡ refusal errno.ENOENT → ⊥)
+      goes some given how = (
+        record { done = not_came (no_answer given fine s k how (λ is. cc) (λ is. cc)) some; rest = rest_is given (NoneToRaise s row.clock.0 → ⊥) s k how some },
+        no_answer given (refusal errno.ENOENT) s k how (λ is. cc) (λ is. cc),
+      )
+
+unprepare_turns : (s : State) (d : ℕ) (what : Sleeping) (number : ℕ) (row : HandleRow) → Known (UnprepareTurns s d what number row) (unprepare s d what number row)
+unprepare_turns s d what number row =
+    pick_either (Known (UnprepareTurns s d what number row)) _ _ _
+    (λ e. let has = (keeps_tells row).0 e in
+    (record { kept = came refl has; done = not_came (λ is. cc) (λ why. why.0 has); rest = rest_not warned left less k (λ is. cc) (λ is. cc) (λ why. why.0 has) }, λ is. cc))
+    (λ e. let free = (keeps_tells row).1 e in
+    pick_either (Known (UnprepareTurns s d what number row)) _ _ _
+    (λ f. let none = none_first (filter (runs s.defs s.regs) (unprepared_plls less (path s.clocks row.clock.0))) f in
+    (record { kept = not_came (λ is. cc) free; done = came refl (free, none); rest = rest_not fine left less k (λ is. cc) (λ is. cc) (λ why. why.1 none) }, λ is. cc))
+    (λ f. goes free (some_first (filter (runs s.defs s.regs) (unprepared_plls less (path s.clocks row.clock.0))) f) (starts s less k).1 (started s less k))) where
+      less : State
+      less = one_less s number row
+
+      k : Change
+      k = change_of s d what (micro.Lower row.clock ∷ micro.End ∷ [])
+
+      left : Type 0
+      left = (KeepsPrepare row → ⊥) × (NoneToLower less row.clock.0 → ⊥)
+
+      goes : (KeepsPrepare row → ⊥) → (NoneToLower less row.clock.0 → ⊥) → (given : Turn) → HowStarted given less k → UnprepareTurns s d what number row given × (given ≡ refusal errno.ENOENT → ⊥)
+      goes free some given how = (
+        record {
+          kept = not_came (no_answer given warned less k how (λ is. cc) (λ is. cc)) free;
+          done = not_came (no_answer given fine less k how (λ is. cc) (λ is. cc)) (λ why. some why.1);
+          rest = rest_is given left less k how (free, some);
+        },
+        no_answer given (refusal errno.ENOENT) less k how (λ is. cc) (λ is. cc),
+      )
+
+-- ---- rates
+
+round_turns : (s : State) (number : ℕ) (row : HandleRow) (x : ℕ) → Known (RoundTurns s number row x) (rounded s number row x)
+round_turns s number row x = by (round_rate (wiring s) (view (lift s number)) row.clock.0 x) refl where
+  by : (o : Option ℕ) → round_rate (wiring s) (view (lift s number)) row.clock.0 x ≡ o
+      → Known (RoundTurns s number row x) (option_map_or (λ r. done s (reply.Rate r)) o (refused s errno.EINVAL))
+  by None e = (record { told = λ r is. let no : None ≡ Some r = sym e ∙ is in absurd cc; none = came refl e }, λ is. cc)
+  by (Some r) e = (
+    record {
+      told = λ y is. ap (λ (z : ℕ). turn.Done (reply.Rate z)) (inside (sym e ∙ is));
+      none = not_came (λ is. cc) (λ none. let no : None ≡ Some r = sym none ∙ e in cc);
+    },
+    λ is. cc,
+  ) where
+    inside : {a b : ℕ} → Some a ≡ Some b → a ≡ b
+    inside is = cc
+
+same_plan : {a b : List ChainStep} → Some a ≡ Some b → a ≡ b
+same_plan e = cc
+
+request_turns : (o n f lifted : State) (d : ℕ) (what : Sleeping) (c x : ℕ) (range : Option (ℕ × ℕ)) → Known (RequestTurns n lifted d what c x range) (request o n f lifted d what c x range)
+request_turns o n f lifted d what c x range =
+    pick_either (Known (RequestTurns n lifted d what c x range)) _ _ _
+    (λ e. let keeps = some_at (rate n.defs n.regs n.clocks c) (round_rate (wiring n) (free_view lifted c) c x) e in
+    (record {
+      done = came refl keeps;
+      busy = not_came (λ is. cc) (λ why. why.0 keeps);
+      no_plan = not_came (λ is. cc) (λ why. why.0 keeps);
+      full = not_came (λ is. cc) (λ why. why.1.0 keeps);
+      going = not_came (λ is. cc) (λ why. why.1.0 keeps);
+    }, λ is. cc))
+    (λ e. let changes = not_at (rate n.defs n.regs n.clocks c) (round_rate (wiring n) (free_view lifted c) c x) e in
+    pick_either (Known (RequestTurns n lifted d what c x range)) _ _ _
+    (λ g. (record {
+      done = not_came (λ is. cc) changes;
+      busy = came refl (changes, g);
+      no_plan = not_came (λ is. cc) (λ why. let no = why.1 in cc);
+      full = not_came (λ is. cc) (λ why. let no = why.1.1 in cc);
+      going = not_came (λ is. cc) (λ why. let no = why.1.1 in cc);
+    }, λ is. cc))
+    (λ g. by changes g (chain (wiring n) (view lifted) c x) refl)) where
+      with_plan : (KeepsRate n lifted c x → ⊥) → guarded lifted c ≡ false → (ks : List ChainStep) → chain (wiring n) (view lifted) c x ≡ Some ks → (given : Turn) → HowStarted given n (change_along n d what ks [] range)
+          → RequestTurns n lifted d what c x range given × (given ≡ refusal errno.ENOENT → ⊥)
+      with_plan changes g ks at given how = (
+        record {
+          done = not_came (no_answer given fine n _ how (λ is. cc) (λ is. cc)) changes;
+          busy = not_came (no_answer given (refusal errno.EBUSY) n _ how (λ is. cc) (λ is. cc)) (λ why. let no = why.1 in cc);
+          no_plan = not_came (no_answer given (refusal errno.EINVAL) n _ how (λ is. cc) (λ is. cc)) (λ why. let no : None ≡ Some ks = sym why.2 ∙ at in cc);
+          full = full_of how;
+          going = going_of how;
+        },
+        no_answer given (refusal errno.ENOENT) n _ how (λ is. cc) (λ is. cc),
+      ) where
+        full_of : HowStarted given n (change_along n d what ks [] range) → Comes (refusal errno.ENOSPC) given
+            ((js : List ChainStep) × HasPlan n lifted c x (Some js) × (HasRoom n (change_along n d what js [] range) → ⊥))
+        full_of (short is never) = came is (ks, (changes, g, at), never)
+        full_of (roomy is room) =
+            not_came (λ no. cc) (λ why. why.2 (subst (λ (js : List ChainStep). HasRoom n (change_along n d what js [] range)) (same_plan (sym at ∙ why.1.2)) room))
+
+        going_of : HowStarted given n (change_along n d what ks [] range) → Comes turn.Going given
+            ((js : List ChainStep) × HasPlan n lifted c x (Some js) × HasRoom n (change_along n d what js [] range))
+        going_of (short is never) =
+            not_came (λ no. cc) (λ why. never (subst (λ (js : List ChainStep). HasRoom n (change_along n d what js [] range)) (sym (same_plan (sym at ∙ why.1.2))) why.2))
+        going_of (roomy is room) = came is (ks, (changes, g, at), room)
+
+      by : (KeepsRate n lifted c x → ⊥) → guarded lifted c ≡ false → (plan : Option (List ChainStep)) → chain (wiring n) (view lifted) c x ≡ plan
+          → Known (RequestTurns n lifted d what c x range) (option_map_or (λ ks. starts o n (change_along n d what ks [] range)) plan (refused o errno.EINVAL))
+      by changes g None at = (
+        record {
+          done = not_came (λ is. cc) changes;
+          busy = not_came (λ is. cc) (λ why. let no = why.1 in cc);
+          no_plan = came refl (changes, g, at);
+          full = not_came (λ is. cc) (λ why. let no : None ≡ Some why.0 = sym at ∙ why.1.2 in cc);
+          going = not_came (λ is. cc) (λ why. let no : None ≡ Some why.0 = sym at ∙ why.1.2 in cc);
+        },
+        λ is. cc,
+      )
+      by changes g (Some ks) at = with_plan changes g ks at (starts o n (change_along n d what ks [] range)).1 (started o n (change_along n d what ks [] range))
+
+range_turns : (s : State) (d : ℕ) (what : Sleeping) (number : ℕ) (row : HandleRow) (least most : ℕ) → Known (RangeTurns s d what number row least most) (range_set s d what number row least most)
+range_turns s d what number row least most =
+    let n : State = with_limits s number row least most in
+    pick_either (Known (RangeTurns s d what number row least most)) _ _ _
+    (λ e. (record { missed = λ is. refl; asked = λ fits. absurd cc }, λ is. cc))
+    (λ e. let asked = request_turns s n n (lift n number) d what row.clock.0 (request_between s.clocks row.clock.0 least most) (Some (row.min, row.max)) in
+    (record { missed = λ is. absurd cc; asked = λ fits. asked.0 }, asked.1))
+
+-- ---- parents
+
+bound_is : (s : State) (c : ℕ) → (is_read_only (kind_of s.defs c) && nat_le 2 (length (parents_of s.defs c))) ≡ true → IsBound s c
+bound_is s c e =
+    let few = both_right (is_read_only (kind_of s.defs c)) (nat_le 2 (length (parents_of s.defs c))) e in
+    (both_left (is_read_only (kind_of s.defs c)) (nat_le 2 (length (parents_of s.defs c))) e, grind (arith, nat_tests))
+
+bound_not : (s : State) (c : ℕ) → (is_read_only (kind_of s.defs c) && nat_le 2 (length (parents_of s.defs c))) ≡ false → IsBound s c → ⊥
+bound_not s c e (read, more) =
+    let few : nat_le 2 (length (parents_of s.defs c)) ≡ true = grind (arith, nat_tests) in
+    let both : (is_read_only (kind_of s.defs c) && nat_le 2 (length (parents_of s.defs c))) ≡ true = and_from (is_read_only (kind_of s.defs c)) (nat_le 2 (length (parents_of s.defs c))) read few in
+    cc
+
+busy_is : (s lifted : State) (c : ℕ) → ((sets_parent_gate s.defs c && prepared s c) || guarded lifted c) ≡ true → IsBusy s lifted c
+busy_is s lifted c e = by (or_cases (sets_parent_gate s.defs c && prepared s c) (guarded lifted c) e) where
+  by : ((sets_parent_gate s.defs c && prepared s c) ≡ true) ⊎ (guarded lifted c ≡ true) → IsBusy s lifted c
+  by (inl keeps) = inl (both_left (sets_parent_gate s.defs c) (prepared s c) keeps, both_right (sets_parent_gate s.defs c) (prepared s c) keeps)
+  by (inr guards) = inr guards
+
+busy_not : (s lifted : State) (c : ℕ) → ((sets_parent_gate s.defs c && prepared s c) || guarded lifted c) ≡ false → IsBusy s lifted c → ⊥
+busy_not s lifted c e (inl keeps) =
+    let both = and_from (sets_parent_gate s.defs c) (prepared s c) keeps.0 keeps.1 in
+    let no = (not_either (sets_parent_gate s.defs c && prepared s c) (guarded lifted c) e).0 in
+    cc
+busy_not s lifted c e (inr guards) = let no = (not_either (sets_parent_gate s.defs c && prepared s c) (guarded lifted c) e).1 in cc
+
+some_is : (o : Option Field) → is_some o ≡ true → o ≡ None → ⊥
+some_is None e none = cc
+some_is (Some f) e none = cc
+
+is_some_from : (o : Option Field) → (o ≡ None → ⊥) → is_some o ≡ true
+is_some_from None never = absurd (never refl)
+is_some_from (Some f) never = refl
+
+candidate_is : (s : State) (c p : ℕ) → (is_some (mux_field (kind_of s.defs c)) && is_in p (parents_of s.defs c) && rooted s.defs s.clocks p) ≡ true → IsCandidate s c p
+candidate_is s c p e =
+    let first = both_left (is_some (mux_field (kind_of s.defs c)) && is_in p (parents_of s.defs c)) (rooted s.defs s.clocks p) e in
+    record {
+      mux = some_is (mux_field (kind_of s.defs c)) (both_left (is_some (mux_field (kind_of s.defs c))) (is_in p (parents_of s.defs c)) first);
+      parent = both_right (is_some (mux_field (kind_of s.defs c))) (is_in p (parents_of s.defs c)) first;
+      root = both_right (is_some (mux_field (kind_of s.defs c)) && is_in p (parents_of s.defs c)) (rooted s.defs s.clocks p) e;
+    }
+
+candidate_not : (s : State) (c p : ℕ) → (is_some (mux_field (kind_of s.defs c)) && is_in p (parents_of s.defs c) && rooted s.defs s.clocks p) ≡ false → IsCandidate s c p → ⊥
+candidate_not s c p e is =
+    let first = and_from (is_some (mux_field (kind_of s.defs c))) (is_in p (parents_of s.defs c)) (is_some_from (mux_field (kind_of s.defs c)) is.mux) is.parent in
+    let all = and_from (is_some (mux_field (kind_of s.defs c)) && is_in p (parents_of s.defs c)) (rooted s.defs s.clocks p) first is.root in
+    cc
+
+parent_turns : (s lifted : State) (d : ℕ) (what : Sleeping) (c p : ℕ) → Known (ParentTurns s lifted d what c p) (parent_set s lifted d what c p)
+parent_turns s lifted d what c p =
+    pick_either (Known (ParentTurns s lifted d what c p)) _ _ _
+    (λ e. let at = some_at p (link_in s.clocks c) e in
+    (record {
+      done = came refl at;
+      bound = not_came (λ is. cc) (λ why. why.0 at);
+      busy = not_came (λ is. cc) (λ why. why.0 at);
+      no_candidate = not_came (λ is. cc) (λ why. why.0.another at);
+      rest = rest_not fine left s k (λ is. cc) (λ is. cc) (λ why. why.0.another at);
+    }, λ is. cc))
+    (λ e. let away = not_at p (link_in s.clocks c) e in
+    pick_either (Known (ParentTurns s lifted d what c p)) _ _ _
+    (λ b. let bound = bound_is s c b in
+    (record {
+      done = not_came (λ is. cc) away;
+      bound = came refl (away, bound);
+      busy = not_came (λ is. cc) (λ why. why.1 bound);
+      no_candidate = not_came (λ is. cc) (λ why. why.0.unbound bound);
+      rest = rest_not (refusal errno.EPERM) left s k (λ is. cc) (λ is. cc) (λ why. why.0.unbound bound);
+    }, λ is. cc))
+    (λ b. let unbound = bound_not s c b in
+    pick_either (Known (ParentTurns s lifted d what c p)) _ _ _
+    (λ g. let busy = busy_is s lifted c g in
+    (record {
+      done = not_came (λ is. cc) away;
+      bound = not_came (λ is. cc) (λ why. unbound why.1);
+      busy = came refl (away, unbound, busy);
+      no_candidate = not_came (λ is. cc) (λ why. why.0.idle busy);
+      rest = rest_not (refusal errno.EBUSY) left s k (λ is. cc) (λ is. cc) (λ why. why.0.idle busy);
+    }, λ is. cc))
+    (λ g. let idle = busy_not s lifted c g in
+    let may : MayMove s lifted c p = record { another = away; unbound = unbound; idle = idle } in
+    pick_either (Known (ParentTurns s lifted d what c p)) _ _ _
+    (λ h. goes may (candidate_is s c p h) (starts s s k).1 (started s s k))
+    (λ h. let never = candidate_not s c p h in
+    (record {
+      done = not_came (λ is. cc) away;
+      bound = not_came (λ is. cc) (λ why. unbound why.1);
+      busy = not_came (λ is. cc) (λ why. idle why.2);
+      no_candidate = came refl (may, never);
+      rest = rest_not (refusal errno.EINVAL) left s k (λ is. cc) (λ is. cc) (λ why. never why.1);
+    }, λ is. cc))))) where
+      k : Change
+      k = reparenting s d what c p
+
+      left : Type 0
+      left = MayMove s lifted c p × IsCandidate s c p
+
+      goes : MayMove s lifted c p → IsCandidate s c p → (given : Turn) → HowStarted given s k → ParentTurns s lifted d what c p given × (given ≡ refusal errno.ENOENT → ⊥)
+      goes may is given how = (
+        record {
+          done = not_came (no_answer given fine s k how (λ is. cc) (λ is. cc)) may.another;
+          bound = not_came (no_answer given (refusal errno.EPERM) s k how (λ is. cc) (λ is. cc)) (λ why. may.unbound why.1);
+          busy = not_came (no_answer given (refusal errno.EBUSY) s k how (λ is. cc) (λ is. cc)) (λ why. may.idle why.2);
+          no_candidate = not_came (no_answer given (refusal errno.EINVAL) s k how (λ is. cc) (λ is. cc)) (λ why. why.1 is);
+          rest = rest_is given left s k how (may, is);
+        },
+        no_answer given (refusal errno.ENOENT) s k how (λ is. cc) (λ is. cc),
+      )
+
+-- ---- exclusives and notifiers
+
+exclusive_turns : (s : State) (number : ℕ) (row : HandleRow) → Known (ExclusivePutTurns row) (exclusive_put s number row)
+exclusive_turns s number row =
+    pick_either (Known (ExclusivePutTurns row)) _ _ _
+    (λ e. (record { none = came refl (grind (arith, nat_tests)); done = not_came (λ is. cc) (λ some. grind (arith, nat_tests)) }, λ is. cc))
+    (λ e. (record { none = not_came (λ is. cc) (λ none. grind (arith, nat_tests)); done = came refl (grind (arith, nat_tests)) }, λ is. cc))
+
+added_turns : (s : State) (c id : ℕ) (priority : ℤ) (policy : Policy) → Known (NotifierAddTurns s c id) (notifier_added s c id priority policy)
+added_turns s c id priority policy =
+    pick_either (Known (NotifierAddTurns s c id)) _ _ _
+    (λ e. (record { known = came refl e; full = not_came (λ is. cc) (λ why. let no = why.0 in cc); done = not_came (λ is. cc) (λ why. let no = why.0 in cc) }, λ is. cc))
+    (λ e. pick_either (Known (NotifierAddTurns s c id)) _ _ _
+    (λ f. let many : most_notifiers ≤ length (notifiers_of s.notifiers c) = grind (arith, nat_tests) in
+    (record { known = not_came (λ is. cc) (λ is. cc); full = came refl (e, many); done = not_came (λ is. cc) (λ why. let few = why.1 in omega arith) }, λ is. cc))
+    (λ f. let few : length (notifiers_of s.notifiers c) < most_notifiers = grind (arith, nat_tests) in
+    (record { known = not_came (λ is. cc) (λ is. cc); full = not_came (λ is. cc) (λ why. let many = why.1 in omega arith); done = came refl (e, few) }, λ is. cc)))
+
+removed_turns : (s : State) (c id : ℕ) → NotifierRemoveTurns s c id (notifier_removed s c id).1
+removed_turns s c id =
+    pick_either (λ y. NotifierRemoveTurns s c id y.1) _ _ _
+    (λ e. record { lacking = not_came (λ is. cc) (λ no. cc); done = came refl e })
+    (λ e. record { lacking = came refl e; done = not_came (λ is. cc) (λ no. cc) })
+
+-- ---- registration and the sweep
+
+plain_is : (s : State) (c : ℕ) → (is_none (slice_get (adoptable (register s c)) 0) && (not (is_critical s.defs c) || is_none (slice_get (unprepared_plls s (path_to_be s.defs s.regs s.clocks c)) 0))) ≡ true
+    → IsPlain s c
+plain_is s c e =
+    let first = both_left (is_none (slice_get (adoptable (register s c)) 0)) _ e in
+    let second = both_right (is_none (slice_get (adoptable (register s c)) 0)) _ e in
+    (none_first (adoptable (register s c)) first, by (or_cases (not (is_critical s.defs c)) (is_none (slice_get (unprepared_plls s (path_to_be s.defs s.regs s.clocks c)) 0)) second)) where
+      by : (not (is_critical s.defs c) ≡ true) ⊎ (is_none (slice_get (unprepared_plls s (path_to_be s.defs s.regs s.clocks c)) 0) ≡ true)
+          → (is_critical s.defs c ≡ false) ⊎ (unprepared_plls s (path_to_be s.defs s.regs s.clocks c) ≡ [])
+      by (inl off) = inl (not-true (is_critical s.defs c) off)
+      by (inr none) = inr (none_first (unprepared_plls s (path_to_be s.defs s.regs s.clocks c)) none)
+
+plain_not : (s : State) (c : ℕ) → (is_none (slice_get (adoptable (register s c)) 0) && (not (is_critical s.defs c) || is_none (slice_get (unprepared_plls s (path_to_be s.defs s.regs s.clocks c)) 0))) ≡ false
+    → IsPlain s c → ⊥
+plain_not s c e plain =
+    let first : is_none (slice_get (adoptable (register s c)) 0) ≡ true = ap (λ (cs : List ℕ). is_none (slice_get cs 0)) plain.0 in
+    let second : (not (is_critical s.defs c) || is_none (slice_get (unprepared_plls s (path_to_be s.defs s.regs s.clocks c)) 0)) ≡ true = by plain.1 in
+    let both = and_from (is_none (slice_get (adoptable (register s c)) 0)) _ first second in
+    cc where
+      by : (is_critical s.defs c ≡ false) ⊎ (unprepared_plls s (path_to_be s.defs s.regs s.clocks c) ≡ [])
+          → (not (is_critical s.defs c) || is_none (slice_get (unprepared_plls s (path_to_be s.defs s.regs s.clocks c)) 0)) ≡ true
+      by (inl off) = ap (λ (b : Bool). not b || is_none (slice_get (unprepared_plls s (path_to_be s.defs s.regs s.clocks c)) 0)) off
+      by (inr none) = or_right (not (is_critical s.defs c)) _ (ap (λ (cs : List ℕ). is_none (slice_get cs 0)) none)
+
+probe_turns : (s : State) (d : ℕ) (what : Sleeping) (c : ℕ) → ProbeTurns s d what c (probed s d what c).1
+probe_turns s d what c =
+    pick_either (λ y. ProbeTurns s d what c y.1) _ _ _
+    (λ e. record { known = came refl e; done = not_came (λ is. cc) (λ why. let no = why.0 in cc); rest = rest_not (refusal errno.EEXIST) left s k (λ is. cc) (λ is. cc) (λ why. let no = why.0 in cc) })
+    (λ e. pick_either (λ y. ProbeTurns s d what c y.1) _ _ _
+    (λ f. let plain = plain_is s c f in
+    record { known = not_came (λ is. cc) (λ is. cc); done = came refl (e, plain); rest = rest_not fine left s k (λ is. cc) (λ is. cc) (λ why. why.1 plain) })
+    (λ f. goes e (plain_not s c f) (starts s s k).1 (started s s k))) where
+      k : Change
+      k = change_of s d what (probe_script (register s c) c)
+
+      left : Type 0
+      left = (registered s.clocks c ≡ false) × (IsPlain s c → ⊥)
+
+      goes : registered s.clocks c ≡ false → (IsPlain s c → ⊥) → (given : Turn) → HowStarted given s k → ProbeTurns s d what c given
+      goes free more given how = record {
+        known = not_came (no_answer given (refusal errno.EEXIST) s k how (λ is. cc) (λ is. cc)) (λ is. cc);
+        done = not_came (no_answer given fine s k how (λ is. cc) (λ is. cc)) (λ why. more why.1);
+        rest = rest_is given left s k how (free, more);
+      }
+
+sweep_turns : (s : State) (d : ℕ) (what : Sleeping) → SweepTurns s d what (swept s d what).1
+sweep_turns s d what =
+    pick_either (λ y. SweepTurns s d what y.1) _ _ _
+    (λ e. record { done = came refl e; rest = rest_not fine (s.ignore_unused ≡ false) s k (λ is. cc) (λ is. cc) (λ no. cc) })
+    (λ e. goes e (starts s s k).1 (started s s k)) where
+      k : Change
+      k = change_of s d what (sweep_script s)
+
+      goes : s.ignore_unused ≡ false → (given : Turn) → HowStarted given s k → SweepTurns s d what given
+      goes on given how = record { done = not_came (no_answer given fine s k how (λ is. cc) (λ is. cc)) (λ is. cc); rest = rest_is given (s.ignore_unused ≡ false) s k how on }
+
+-- ---- each call
+
+begun_turns : (s : State) (d : ℕ) (what : Sleeping) → CallTurns s d what (begun s d what).1
+unfolding begun
+begun_turns s d (call.Get found) = get_turns s d found
+begun_turns s d (call.Put h) = only_unknown s d h.number (put_back s h.number) PutTurns (put_turns s h.number)
+begun_turns s d (call.Prepare h) = only_unknown s d h.number (prepare s d (call.Prepare h) h.number) (PrepareTurns s d (call.Prepare h)) (prepare_turns s d (call.Prepare h) h.number)
+begun_turns s d (call.Unprepare h) =
+    only_unknown s d h.number (unprepare s d (call.Unprepare h) h.number) (UnprepareTurns s d (call.Unprepare h) h.number) (unprepare_turns s d (call.Unprepare h) h.number)
+begun_turns s d (call.GetRate h) =
+    only_unknown s d h.number (λ row. done s (reply.Rate (rate s.defs s.regs s.clocks row.clock.0))) (λ row x. x ≡ turn.Done (reply.Rate (rate s.defs s.regs s.clocks row.clock.0))) (λ row. (refl, λ is. cc))
+begun_turns s d (call.RoundRate h y) = only_unknown s d h.number (λ row. rounded s h.number row y) (λ row. RoundTurns s h.number row y) (λ row. round_turns s h.number row y)
+begun_turns s d (call.SetRate h y) =
+    only_unknown s d h.number (λ row. request s s s (lift s h.number) d (call.SetRate h y) row.clock.0 y None) (λ row. RequestTurns s (lift s h.number) d (call.SetRate h y) row.clock.0 y None)
+    (λ row. request_turns s s s (lift s h.number) d (call.SetRate h y) row.clock.0 y None)
+begun_turns s d (call.SetRateExclusive h y) =
+    only_unknown s d h.number (λ row. request s s (held_once_more s h.number row) s d (call.SetRateExclusive h y) row.clock.0 y None)
+    (λ row. RequestTurns s s d (call.SetRateExclusive h y) row.clock.0 y None)
+    (λ row. request_turns s s (held_once_more s h.number row) s d (call.SetRateExclusive h y) row.clock.0 y None)
+begun_turns s d (call.SetRange h least most) =
+    only_unknown s d h.number (λ row. range_set s d (call.SetRange h least most) h.number row least most) (λ row. RangeTurns s d (call.SetRange h least most) h.number row least most)
+    (λ row. range_turns s d (call.SetRange h least most) h.number row least most)
+begun_turns s d (call.SetParent h p) =
+    only_unknown s d h.number (λ row. parent_set s (lift s h.number) d (call.SetParent h p) row.clock.0 p.0) (λ row. ParentTurns s (lift s h.number) d (call.SetParent h p) row.clock.0 p.0)
+    (λ row. parent_turns s (lift s h.number) d (call.SetParent h p) row.clock.0 p.0)
+begun_turns s d (call.GetParent h) =
+    only_unknown s d h.number (λ row. done s (reply.Clock (option_map clock_id (link_in s.clocks row.clock.0)))) (λ row x. x ≡ turn.Done (reply.Clock (option_map clock_id (link_in s.clocks row.clock.0))))
+    (λ row. (refl, λ is. cc))
+begun_turns s d (call.ExclusiveGet h) = only_unknown s d h.number (λ row. done (held_once_more s h.number row) reply.Fine) (λ row x. x ≡ fine) (λ row. (refl, λ is. cc))
+begun_turns s d (call.ExclusivePut h) = only_unknown s d h.number (exclusive_put s h.number) ExclusivePutTurns (exclusive_turns s h.number)
+begun_turns s d (call.NotifierAdd h id priority policy) =
+    only_unknown s d h.number (λ row. notifier_added s row.clock.0 id priority policy) (λ row. NotifierAddTurns s row.clock.0 id) (λ row. added_turns s row.clock.0 id priority policy)
+begun_turns s d (call.NotifierRemove h id) =
+    on_handle s d h.number (λ row. notifier_removed s row.clock.0 id) (λ row. NotifierRemoveTurns s row.clock.0 id) (λ row. removed_turns s row.clock.0 id)
+begun_turns s d (call.Probe c) = probe_turns s d (call.Probe c) c.0
+begun_turns s d call.Sweep = sweep_turns s d call.Sweep
+
+-- each call begins for its cause
+pub calls_have_causes : CallsHaveCauses
+unfolding next
+calls_have_causes s t d what x comes = by s.change refl comes where
+  by : (o : Option Change) → s.change ≡ o → cond (is_quiet o) (paid s (begun s d what)) None ≡ Some (t, x) → (s.change ≡ None) × CallTurns s d what x
+  by None quiet some = (quiet, subst (λ (y : Turn). CallTurns s d what y) (paid_is s t (begun s d what) x some).1 (begun_turns s d what))
+  by (Some k) busy some = absurd cc
