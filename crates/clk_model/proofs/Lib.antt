@@ -92,3 +92,5 @@ pub mod BareHandleLaws
 pub mod PlannedSameLaws
 pub mod PlansReadLaws
 pub mod CallCauseLaws
+pub mod PolledLaws
+pub mod EndCauseLaws

@@ -16,3 +16,4 @@ pub mod RunsEnd
 pub mod RunsFed
 pub mod PlansRead
 pub mod CallCauses
+pub mod EndCauses
