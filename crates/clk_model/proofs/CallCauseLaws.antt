@@ -1,5 +1,5 @@
 -- Each call begins for its cause.
-use Rattle.std.proofs.Common.{◌≡◌, ℕ, ℤ, ◌+◌, ◌-◌, ◌<◌, ◌≤◌, ◌&&◌, ◌||◌, Bool, true, false, not, cond, List, [], ◌∷◌, Option, Some, None, refl, sym, ap, subst, ◌∙◌, ◌⊎◌, inl, inr, arith, nat_eq, nat_lt, nat_le, length}
+use Rattle.std.proofs.Common.{◌≡◌, ℕ, ℤ, ◌+◌, ◌<◌, ◌≤◌, ◌&&◌, ◌||◌, Bool, true, false, not, cond, List, [], ◌∷◌, Option, Some, None, refl, sym, ap, subst, ◌∙◌, ◌⊎◌, inl, inr, arith, nat_eq, nat_lt, nat_le, length}
 use Rattle.std.specs.Prelude.{option_map, slice_get, is_none, is_some, filter}
 use Rattle.std.specs.Option.{option_map_or}
 use Rattle.std.proofs.lemmas.Bool.Decides.{nat_tests}
@@ -9,11 +9,12 @@ use Rattle.clk_base.specs.declared.call.Sleeping.{Sleeping}
 use Rattle.clk_base.specs.declared.call.Sleeping.TheVariants as call
 use Rattle.clk_base.specs.declared.clock.ClockId.{ClockId}
 use Rattle.clk_base.specs.declared.event.Errno.TheVariants as errno
+use Rattle.clk_base.specs.declared.event.Event.{Event}
 use Rattle.clk_base.specs.declared.event.Event.TheVariants as event
+use Rattle.clk_base.specs.declared.event.Reply.{Reply}
 use Rattle.clk_base.specs.declared.event.Reply.TheVariants as reply
 use Rattle.clk_base.specs.declared.event.Turn.{Turn}
 use Rattle.clk_base.specs.declared.event.Turn.TheVariants as turn
-use Rattle.clk_base.specs.declared.handle.Handle.{Handle}
 use Rattle.clk_base.specs.declared.handle.Policy.{Policy}
 use Rattle.clk_base.specs.Description.{kind_of, parents_of}
 use Rattle.clk_base.specs.Fields.{Field}
@@ -24,19 +25,21 @@ use Rattle.clk_model.specs.Kinds.{mux_field, is_read_only}
 use Rattle.clk_model.specs.State.{State, Change, ChainStep, is_quiet, registered, link_in}
 use Rattle.clk_model.specs.Tree.{path, path_to_be, rooted}
 use Rattle.clk_model.specs.Rate.{rate}
-use Rattle.clk_model.specs.Holders.{prepared, guarded}
+use Rattle.clk_model.specs.Holders.{active, prepared, guarded}
 use Rattle.clk_model.specs.Round.{wiring, round_rate}
 use Rattle.clk_model.specs.Chain.{clock_id, chain}
 use Rattle.clk_model.specs.Notices.{notifiers_of}
 use Rattle.clk_model.specs.Views.{view, free_view, lift}
 use Rattle.clk_model.specs.Script.{unprepared_plls, runs, adoptable, probe_script, sweep_script}
-use Rattle.clk_model.specs.Begin.{done, refused, pick, most_credits, weight_of, starts, change_of, change_along, put_handle, own_handle, with_handle, got, holds_something, put_back, prepare, keeps_prepare, unprepare, rounded, request, range_set, misses, request_between, reparenting, parent_set, exclusive_put, most_notifiers, has_notifier, notifier_added, notifier_removed, register, probed, swept, held_once_more, begun}
-use Rattle.clk_model.specs.Machine.{paid, next}
-use Rattle.clk_model.specs.Laws.Causes.{Lacks, HoldsSomething, KeepsPrepare}
-use Rattle.clk_model.specs.Laws.CallCauses.{Comes, refusal, fine, warned, HasRoom, GoesOnWhere, OnHandle, OnlyUnknown, GetTurns, PutTurns, NoneToRaise, PrepareTurns, one_less, NoneToLower, UnprepareTurns, RoundTurns, KeepsRate, HasPlan, RequestTurns, with_limits, RangeTurns, IsBound, IsBusy, IsCandidate, MayMove, ParentTurns, ExclusivePutTurns, NotifierAddTurns, NotifierRemoveTurns, IsPlain, ProbeTurns, SweepTurns, CallTurns, CallsHaveCauses}
-use Rattle.clk_model.proofs.CauseLaws.{keeps_tells, holds_tells}
+use Rattle.clk_model.specs.Begin.{done, refused, most_credits, weight_of, starts, change_of, change_along, own_handle, with_handle, got, put_back, prepare, unprepare, rounded, request, range_set, request_between, reparenting, parent_set, exclusive_put, most_notifiers, notifier_added, notifier_removed, register, probed, swept, held_once_more, begun}
+use Rattle.clk_model.specs.Machine.{enabled, disabled, running, paid, next}
+use Rattle.clk_model.specs.Journal.{slotless}
+use Rattle.clk_model.specs.Tier.{is_enable_tier}
+use Rattle.clk_model.specs.Laws.Causes.{KeepsPrepare}
+use Rattle.clk_model.specs.Laws.CallCauses.{Comes, refusal, fine, warned, HasRoom, GoesOnWhere, OnHandle, OnlyUnknown, GetTurns, PutTurns, NoneToRaise, PrepareTurns, one_less, NoneToLower, UnprepareTurns, RoundTurns, KeepsRate, HasPlan, RequestTurns, with_limits, RangeTurns, IsBound, IsBusy, IsCandidate, MayMove, ParentTurns, ExclusivePutTurns, NotifierAddTurns, NotifierRemoveTurns, IsPlain, ProbeTurns, SweepTurns, CallTurns, CallsHaveCauses, TierHasCauses}
+use Rattle.clk_model.proofs.CauseLaws.{keeps_tells, holds_tells, enable_causes, disable_causes, running_causes}
 use Rattle.clk_model.proofs.Members.{or_cases, or_right, both_left, both_right, not_either}
-use Rattle.clk_model.proofs.TierLaws.{pick_either, paid_is}
+use Rattle.clk_model.proofs.TierLaws.{pick_either, with_handle_either, paid_is}
 
 -- ---- words
 
@@ -217,23 +220,28 @@ same_plan e = cc
 request_turns : (o n f lifted : State) (d : ℕ) (what : Sleeping) (c x : ℕ) (range : Option (ℕ × ℕ)) → Known (RequestTurns n lifted d what c x range) (request o n f lifted d what c x range)
 request_turns o n f lifted d what c x range =
     pick_either (Known (RequestTurns n lifted d what c x range)) _ _ _
-    (λ e. let keeps = some_at (rate n.defs n.regs n.clocks c) (round_rate (wiring n) (free_view lifted c) c x) e in
-    (record {
-      done = came refl keeps;
-      busy = not_came (λ is. cc) (λ why. why.0 keeps);
-      no_plan = not_came (λ is. cc) (λ why. why.0 keeps);
-      full = not_came (λ is. cc) (λ why. why.1.0 keeps);
-      going = not_came (λ is. cc) (λ why. why.1.0 keeps);
-    }, λ is. cc))
+    (λ e. let keeps = some_at (rate n.defs n.regs n.clocks c) (round_rate (wiring n) (free_view lifted c) c x) e in (
+      record {
+        done = came refl keeps;
+        busy = not_came (λ is. cc) (λ why. why.0 keeps);
+        no_plan = not_came (λ is. cc) (λ why. why.0 keeps);
+        full = not_came (λ is. cc) (λ why. why.1.0 keeps);
+        going = not_came (λ is. cc) (λ why. why.1.0 keeps);
+      },
+      λ is. cc,
+    ))
     (λ e. let changes = not_at (rate n.defs n.regs n.clocks c) (round_rate (wiring n) (free_view lifted c) c x) e in
     pick_either (Known (RequestTurns n lifted d what c x range)) _ _ _
-    (λ g. (record {
-      done = not_came (λ is. cc) changes;
-      busy = came refl (changes, g);
-      no_plan = not_came (λ is. cc) (λ why. let no = why.1 in cc);
-      full = not_came (λ is. cc) (λ why. let no = why.1.1 in cc);
-      going = not_came (λ is. cc) (λ why. let no = why.1.1 in cc);
-    }, λ is. cc))
+    (λ g. (
+      record {
+        done = not_came (λ is. cc) changes;
+        busy = came refl (changes, g);
+        no_plan = not_came (λ is. cc) (λ why. let no = why.1 in cc);
+        full = not_came (λ is. cc) (λ why. let no = why.1.1 in cc);
+        going = not_came (λ is. cc) (λ why. let no = why.1.1 in cc);
+      },
+      λ is. cc,
+    ))
     (λ g. by changes g (chain (wiring n) (view lifted) c x) refl)) where
       with_plan : (KeepsRate n lifted c x → ⊥) → guarded lifted c ≡ false → (ks : List ChainStep) → chain (wiring n) (view lifted) c x ≡ Some ks → (given : Turn) → HowStarted given n (change_along n d what ks [] range)
           → RequestTurns n lifted d what c x range given × (given ≡ refusal errno.ENOENT → ⊥)
@@ -333,46 +341,54 @@ candidate_not s c p e is =
 parent_turns : (s lifted : State) (d : ℕ) (what : Sleeping) (c p : ℕ) → Known (ParentTurns s lifted d what c p) (parent_set s lifted d what c p)
 parent_turns s lifted d what c p =
     pick_either (Known (ParentTurns s lifted d what c p)) _ _ _
-    (λ e. let at = some_at p (link_in s.clocks c) e in
-    (record {
-      done = came refl at;
-      bound = not_came (λ is. cc) (λ why. why.0 at);
-      busy = not_came (λ is. cc) (λ why. why.0 at);
-      no_candidate = not_came (λ is. cc) (λ why. why.0.another at);
-      rest = rest_not fine left s k (λ is. cc) (λ is. cc) (λ why. why.0.another at);
-    }, λ is. cc))
+    (λ e. let at = some_at p (link_in s.clocks c) e in (
+      record {
+        done = came refl at;
+        bound = not_came (λ is. cc) (λ why. why.0 at);
+        busy = not_came (λ is. cc) (λ why. why.0 at);
+        no_candidate = not_came (λ is. cc) (λ why. why.0.another at);
+        rest = rest_not fine left s k (λ is. cc) (λ is. cc) (λ why. why.0.another at);
+      },
+      λ is. cc,
+    ))
     (λ e. let away = not_at p (link_in s.clocks c) e in
     pick_either (Known (ParentTurns s lifted d what c p)) _ _ _
-    (λ b. let bound = bound_is s c b in
-    (record {
-      done = not_came (λ is. cc) away;
-      bound = came refl (away, bound);
-      busy = not_came (λ is. cc) (λ why. why.1 bound);
-      no_candidate = not_came (λ is. cc) (λ why. why.0.unbound bound);
-      rest = rest_not (refusal errno.EPERM) left s k (λ is. cc) (λ is. cc) (λ why. why.0.unbound bound);
-    }, λ is. cc))
+    (λ b. let bound = bound_is s c b in (
+      record {
+        done = not_came (λ is. cc) away;
+        bound = came refl (away, bound);
+        busy = not_came (λ is. cc) (λ why. why.1 bound);
+        no_candidate = not_came (λ is. cc) (λ why. why.0.unbound bound);
+        rest = rest_not (refusal errno.EPERM) left s k (λ is. cc) (λ is. cc) (λ why. why.0.unbound bound);
+      },
+      λ is. cc,
+    ))
     (λ b. let unbound = bound_not s c b in
     pick_either (Known (ParentTurns s lifted d what c p)) _ _ _
-    (λ g. let busy = busy_is s lifted c g in
-    (record {
-      done = not_came (λ is. cc) away;
-      bound = not_came (λ is. cc) (λ why. unbound why.1);
-      busy = came refl (away, unbound, busy);
-      no_candidate = not_came (λ is. cc) (λ why. why.0.idle busy);
-      rest = rest_not (refusal errno.EBUSY) left s k (λ is. cc) (λ is. cc) (λ why. why.0.idle busy);
-    }, λ is. cc))
+    (λ g. let busy = busy_is s lifted c g in (
+      record {
+        done = not_came (λ is. cc) away;
+        bound = not_came (λ is. cc) (λ why. unbound why.1);
+        busy = came refl (away, unbound, busy);
+        no_candidate = not_came (λ is. cc) (λ why. why.0.idle busy);
+        rest = rest_not (refusal errno.EBUSY) left s k (λ is. cc) (λ is. cc) (λ why. why.0.idle busy);
+      },
+      λ is. cc,
+    ))
     (λ g. let idle = busy_not s lifted c g in
     let may : MayMove s lifted c p = record { another = away; unbound = unbound; idle = idle } in
     pick_either (Known (ParentTurns s lifted d what c p)) _ _ _
     (λ h. goes may (candidate_is s c p h) (starts s s k).1 (started s s k))
-    (λ h. let never = candidate_not s c p h in
-    (record {
-      done = not_came (λ is. cc) away;
-      bound = not_came (λ is. cc) (λ why. unbound why.1);
-      busy = not_came (λ is. cc) (λ why. idle why.2);
-      no_candidate = came refl (may, never);
-      rest = rest_not (refusal errno.EINVAL) left s k (λ is. cc) (λ is. cc) (λ why. never why.1);
-    }, λ is. cc))))) where
+    (λ h. let never = candidate_not s c p h in (
+      record {
+        done = not_came (λ is. cc) away;
+        bound = not_came (λ is. cc) (λ why. unbound why.1);
+        busy = not_came (λ is. cc) (λ why. idle why.2);
+        no_candidate = came refl (may, never);
+        rest = rest_not (refusal errno.EINVAL) left s k (λ is. cc) (λ is. cc) (λ why. never why.1);
+      },
+      λ is. cc,
+    ))))) where
       k : Change
       k = reparenting s d what c p
 
@@ -516,3 +532,57 @@ calls_have_causes s t d what x comes = by s.change refl comes where
   by : (o : Option Change) → s.change ≡ o → cond (is_quiet o) (paid s (begun s d what)) None ≡ Some (t, x) → (s.change ≡ None) × CallTurns s d what x
   by None quiet some = (quiet, subst (λ (y : Turn). CallTurns s d what y) (paid_is s t (begun s d what) x some).1 (begun_turns s d what))
   by (Some k) busy some = absurd cc
+
+-- ---- the enable tier
+
+-- whether a turn is an answer without a handle
+abbrev is_plain : Turn → Bool
+is_plain turn.Going = false
+is_plain (turn.Done (reply.Handle h)) = false
+is_plain _ = true
+
+abbrev IsPlainAnswer : State × Turn → Type 0
+IsPlainAnswer y = is_plain y.1 ≡ true
+
+told_plain : (b : Bool) → is_plain (turn.Done (cond b reply.Yes reply.No)) ≡ true
+told_plain true = refl
+told_plain false = refl
+
+plain_answer : (s t : State) (d : ℕ) (e : Event) (x : Turn) → next s d e ≡ Some (t, x) → is_enable_tier e ≡ true → is_plain x ≡ true
+unfolding next
+plain_answer s t d (event.Enable n) x step tier =
+    ap is_plain (sym (paid_is s t (with_handle s d n (enabled s n)) x step).1)
+    ∙ with_handle_either IsPlainAnswer s d n (enabled s n) refl (λ h own. pick_either IsPlainAnswer (nat_eq h.prepares 0) _ _ (λ e. refl) (λ e. refl))
+plain_answer s t d (event.Disable n) x step tier =
+    ap is_plain (sym (paid_is s t (with_handle s d n (disabled s n)) x step).1)
+    ∙ with_handle_either IsPlainAnswer s d n (disabled s n) refl (λ h own. pick_either IsPlainAnswer (nat_eq h.enables 0) _ _ (λ e. refl) (λ e. refl))
+plain_answer s t d (event.Running n) x step tier =
+    ap is_plain (sym (paid_is s t (with_handle s d n (running s)) x step).1)
+    ∙ with_handle_either IsPlainAnswer s d n (running s) refl (λ h own. told_plain (active s h.clock.0))
+plain_answer s t d (event.Begin what) x step tier = absurd cc
+plain_answer s t d (event.Step m answer) x step tier = absurd cc
+
+-- a plain answer has no slot
+no_slot : (s t : State) (d : ℕ) (e : Event) (r : Reply) → is_plain (turn.Done r) ≡ true → next s d e ≡ Some (t, turn.Done r) → next s d e ≡ Some (t, slotless (turn.Done r))
+no_slot s t d e (reply.Handle h) plain step = absurd cc
+no_slot s t d e reply.Fine plain step = step
+no_slot s t d e reply.Warn plain step = step
+no_slot s t d e reply.Yes plain step = step
+no_slot s t d e reply.No plain step = step
+no_slot s t d e (reply.Rate x) plain step = step
+no_slot s t d e (reply.Clock c) plain step = step
+no_slot s t d e (reply.Refused x) plain step = step
+
+-- and each answer of the enable tier comes for its cause
+pub tier_has_causes : TierHasCauses
+tier_has_causes s t d (event.Enable n) (turn.Done r) step tier =
+    enable_causes s t d n r (no_slot s t d (event.Enable n) r (plain_answer s t d (event.Enable n) (turn.Done r) step tier) step)
+tier_has_causes s t d (event.Disable n) (turn.Done r) step tier =
+    disable_causes s t d n r (no_slot s t d (event.Disable n) r (plain_answer s t d (event.Disable n) (turn.Done r) step tier) step)
+tier_has_causes s t d (event.Running n) (turn.Done r) step tier =
+    running_causes s t d n r (no_slot s t d (event.Running n) r (plain_answer s t d (event.Running n) (turn.Done r) step tier) step)
+tier_has_causes s t d (event.Enable n) turn.Going step tier = let no = plain_answer s t d (event.Enable n) turn.Going step tier in absurd cc
+tier_has_causes s t d (event.Disable n) turn.Going step tier = let no = plain_answer s t d (event.Disable n) turn.Going step tier in absurd cc
+tier_has_causes s t d (event.Running n) turn.Going step tier = let no = plain_answer s t d (event.Running n) turn.Going step tier in absurd cc
+tier_has_causes s t d (event.Begin what) x step tier = absurd cc
+tier_has_causes s t d (event.Step m answer) x step tier = absurd cc

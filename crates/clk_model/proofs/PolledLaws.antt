@@ -1,5 +1,5 @@
 -- Laws on polls: a call is late exactly where all polls of a PLL since one raise have answered no.
-use Rattle.std.proofs.Common.{◌≡◌, ◌↔◌, ℕ, ◌+◌, ◌-◌, ◌<◌, ◌≤◌, ◌&&◌, ◌||◌, Bool, true, false, not, cond, List, [], ◌∷◌, ◌++◌, Option, Some, None, refl, sym, ap, subst, ◌∙◌, ◌⊎◌, inl, inr, arith, nat_eq, nat_le, map, count_by, length}
+use Rattle.std.proofs.Common.{◌≡◌, ◌↔◌, ℕ, ◌+◌, ◌-◌, ◌<◌, ◌&&◌, ◌||◌, Bool, true, false, not, cond, List, [], ◌∷◌, ◌++◌, Option, Some, refl, sym, ap, subst, ◌∙◌, ◌⊎◌, inl, inr, arith, nat_eq, nat_le, map, count_by, length}
 use Rattle.std.specs.Prelude.{slice_get, slice_index, reverse}
 use Rattle.std.specs.List.{list_any}
 use Rattle.std.proofs.lemmas.Bool.Decides.{nat_tests}
@@ -14,13 +14,13 @@ use Rattle.clk_base.specs.declared.event.Turn.TheVariants as turn
 use Rattle.clk_model.specs.State.{State, Change}
 use Rattle.clk_model.specs.Chain.{clock_id}
 use Rattle.clk_model.specs.Notices.{Rates, notifiers_of, abort_list}
-use Rattle.clk_model.specs.Step.{todo, rest_of, taken, sets_parent, cut_short, aborts_of, on, timed_out, to_raise, most_polls, raise_one, raise, poll, is_yes, stepped}
+use Rattle.clk_model.specs.Step.{todo, rest_of, taken, sets_parent, cut_short, aborts_of, on, timed_out, to_raise, most_polls, raise_one, poll, is_yes, stepped}
 use Rattle.clk_model.specs.Machine.{comes_next, is_poll}
 use Rattle.clk_model.specs.Laws.EndCauses.{noes_after, is_last_no}
 use Rattle.clk_model.specs.Laws.Flight.{is_no_abort, is_no_post, IsFront, nothing, polling, polling_first, raise_again, lower_again, falling, telling}
-use Rattle.clk_model.proofs.Cases.{by_option, by_test}
+use Rattle.clk_model.proofs.Cases.{by_option}
 use Rattle.clk_model.proofs.FlightLaws.{next_is, first_none}
-use Rattle.clk_model.proofs.Members.{or_cases, both_left, both_right, test_same, same_from_test}
+use Rattle.clk_model.proofs.Members.{test_same, same_from_test}
 use Rattle.clk_model.proofs.NoneLaws.{none_front, none_rest, none_append, none_map, none_flat_map, none_if}
 use Rattle.clk_model.proofs.StepLaws.{raises, IsAfter, step_after}
 

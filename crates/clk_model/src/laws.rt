@@ -1,5 +1,6 @@
 //! Laws of the definitions: each is the contract of a function that does nothing.
 
+pub mod causes;
 pub mod feeding;
 pub mod flights;
 pub mod links;

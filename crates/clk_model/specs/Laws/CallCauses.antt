@@ -1,6 +1,6 @@
 -- Why each call begins as it does: each of its turns comes exactly where its cause holds, over the state before it. A cause holds only
 -- where those that stand before it don't.
-use Rattle.std.specs.Prelude.{◌≡◌, ◌↔◌, ◌⊎◌, ◌<◌, ◌≤◌, ℕ, ℤ, ◌+◌, ◌-◌, Bool, true, false, List, [], ◌∷◌, Option, Some, None, filter, length, option_map}
+use Rattle.std.specs.Prelude.{◌≡◌, ◌↔◌, ◌⊎◌, ◌<◌, ◌≤◌, ℕ, ◌+◌, ◌-◌, true, false, List, [], ◌∷◌, Option, Some, None, filter, length, option_map}
 use Rattle.clk_base.specs.declared.call.Micro.TheVariants as micro
 use Rattle.clk_base.specs.declared.call.Sleeping.{Sleeping}
 use Rattle.clk_base.specs.declared.call.Sleeping.TheVariants as call
@@ -9,7 +9,6 @@ use Rattle.clk_base.specs.declared.event.Errno.{Errno}
 use Rattle.clk_base.specs.declared.event.Errno.TheVariants as errno
 use Rattle.clk_base.specs.declared.event.Event.{Event}
 use Rattle.clk_base.specs.declared.event.Event.TheVariants as event
-use Rattle.clk_base.specs.declared.event.Reply.{Reply}
 use Rattle.clk_base.specs.declared.event.Reply.TheVariants as reply
 use Rattle.clk_base.specs.declared.event.Turn.{Turn}
 use Rattle.clk_base.specs.declared.event.Turn.TheVariants as turn
@@ -30,7 +29,7 @@ use Rattle.clk_model.specs.Script.{unprepared_plls, runs, adoptable, probe_scrip
 use Rattle.clk_model.specs.Begin.{most_credits, weight_of, change_of, change_along, put_handle, own_handle, misses, request_between, reparenting, most_notifiers, has_notifier, register}
 use Rattle.clk_model.specs.Machine.{next}
 use Rattle.clk_model.specs.Tier.{is_enable_tier}
-use Rattle.clk_model.specs.Laws.Causes.{Lacks, HoldsSomething, KeepsPrepare}
+use Rattle.clk_model.specs.Laws.Causes.{Lacks, HoldsSomething, KeepsPrepare, EnableCauses, DisableCauses, RunningCauses}
 
 -- ---- words
 
@@ -239,3 +238,14 @@ CallsHaveCauses = (s t : State) (d : ℕ) (what : Sleeping) (x : Turn) → next 
 abbrev pub GoingLeavesChanges : Type 0
 GoingLeavesChanges = (s t : State) (d : ℕ) (e : Event) (x : Turn) → next s d e ≡ Some (t, x) → is_enable_tier e ≡ false
     → (x ≡ turn.Going) ↔ ((k : Change) × (t.change ≡ Some k))
+
+-- each answer of the enable tier has its cause, whatever is in flight
+abbrev pub TierTurns : State → ℕ → Event → Turn → Type 0
+TierTurns s d (event.Enable number) (turn.Done r) = EnableCauses s d number r
+TierTurns s d (event.Disable number) (turn.Done r) = DisableCauses s d number r
+TierTurns s d (event.Running number) (turn.Done r) = RunningCauses s d number r
+TierTurns s d _ turn.Going = ⊥
+TierTurns s d _ _ = Unit {0}
+
+abbrev pub TierHasCauses : Type 0
+TierHasCauses = (s t : State) (d : ℕ) (e : Event) (x : Turn) → next s d e ≡ Some (t, x) → is_enable_tier e ≡ true → TierTurns s d e x
