@@ -94,3 +94,5 @@ pub mod PlansReadLaws
 pub mod CallCauseLaws
 pub mod PolledLaws
 pub mod EndCauseLaws
+pub mod ActedLaws
+pub mod WalkedLaws

@@ -54,7 +54,7 @@ unfolding put
 put_past regs word shift width value past = set_past regs word _ past
 
 -- what is put in the field of a clock, where it fits, leaves them the same
-put_same : (words : ℕ) (defs : Description) (old new : Registers) (k : ℕ) (g : Field) (value : ℕ) → IsValid words defs → field_of (kind_of defs k) ≡ Some g → value < 2 ^ g.width → SameFields defs old new
+pub put_same : (words : ℕ) (defs : Description) (old new : Registers) (k : ℕ) (g : Field) (value : ℕ) → IsValid words defs → field_of (kind_of defs k) ≡ Some g → value < 2 ^ g.width → SameFields defs old new
     → SameFields defs (put old g.word g.shift g.width value) (put new g.word g.shift g.width value)
 put_same words defs old new k g value valid at fits same = record {
   words = length-put new g.word g.shift g.width value ∙ same.words ∙ sym (length-put old g.word g.shift g.width value);
@@ -85,7 +85,7 @@ put_same words defs old new k g value valid at fits same = record {
 
 -- ---- settings
 
-setting_of : (words : ℕ) (defs : Description) (old new : Registers) (k parent planned : ℕ) (kind : Kind) → IsValid words defs → kind_of defs k ≡ kind → SameFields defs old new
+pub setting_of : (words : ℕ) (defs : Description) (old new : Registers) (k parent planned : ℕ) (kind : Kind) → IsValid words defs → kind_of defs k ≡ kind → SameFields defs old new
     → SameFields defs (setting kind parent planned old) (setting kind parent planned new)
 setting_of words defs old new k parent planned (FixedRate r) valid is same = same
 setting_of words defs old new k parent planned (Factor mult div) valid is same = same
@@ -113,7 +113,7 @@ setting_same words defs clocks old new k planned valid same =
     (ap (λ (rates : ℕ → ℕ). option_map_or rates (link_in clocks k) 0) (sym (rates_same defs clocks old new same)))
     (setting_of words defs old new k (parent_rate_in (tree_over defs clocks old) k) planned (kind_of defs k) valid refl same)
 
-mux_is_field : (kind : Kind) (f : Field) → mux_field kind ≡ Some f → field_of kind ≡ Some f
+pub mux_is_field : (kind : Kind) (f : Field) → mux_field kind ≡ Some f → field_of kind ≡ Some f
 mux_is_field (FixedRate r) f at = absurd cc
 mux_is_field (Factor mult div) f at = absurd cc
 mux_is_field (Gate word bit set_to_disable) f at = absurd cc

@@ -17,3 +17,4 @@ pub mod RunsFed
 pub mod PlansRead
 pub mod CallCauses
 pub mod EndCauses
+pub mod Outcomes
