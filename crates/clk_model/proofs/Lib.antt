@@ -96,3 +96,4 @@ pub mod PolledLaws
 pub mod EndCauseLaws
 pub mod ActedLaws
 pub mod WalkedLaws
+pub mod MuxLaws

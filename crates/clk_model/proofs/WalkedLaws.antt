@@ -1,13 +1,16 @@
 -- Laws on the outcome of a walk: the moves and visits of a walk, from the top down, make of a tree the outcome of the chain.
-use Rattle.std.proofs.Common.{◌≡◌, ℕ, zero, suc, Bool, true, false, not, ◌&&◌, ◌||◌, cond, List, [], ◌∷◌, ◌++◌, Option, Some, None, refl, sym, ap, subst, ◌∙◌, ◌⊎◌, inl, inr, nat_eq, true≢false, append-nil}
+use Rattle.std.proofs.Common.{◌≡◌, ℕ, zero, suc, Bool, true, false, not, ◌&&◌, ◌||◌, cond, List, [], ◌∷◌, ◌++◌, Option, Some, None, refl, sym, ap, subst, ◌∙◌, ◌⊎◌, inl, inr, nat_eq, true≢false, append-nil, ◌<◌, ◌≤◌, arith, length}
 use Rattle.std.specs.Prelude.{filter, find, flat_map, if◌then◌else◌, option_map, is_some}
 use Rattle.std.specs.List.{AllByRecursion}
+use Rattle.std.proofs.lemmas.Bool.{cases_lt}
 use Rattle.std.specs.Option.{option_map_or}
 use Rattle.clk_base.specs.declared.call.Micro.{Micro}
 use Rattle.clk_base.specs.declared.call.Micro.TheVariants as micro
 use Rattle.clk_base.specs.declared.clock.Kind.{Kind}
 use Rattle.clk_base.specs.declared.clock.Kind.TheVariants.{FixedRate, Factor, Gate, Mux, Divider, Pll}
-use Rattle.clk_base.specs.Description.{Description, kind_of}
+use Rattle.clk_base.specs.Description.{Description, kind_of, parents_of}
+use Rattle.clk_base.specs.Levels.{depth}
+use Rattle.clk_base.proofs.Valid.{lines_end}
 use Rattle.reg_bank.specs.Registers.{Registers}
 use Rattle.clk_model.specs.declared.row.ClockRow.{ClockRow}
 use Rattle.clk_model.specs.Lists.{is_in, same_place, none_twice}
@@ -16,14 +19,19 @@ use Rattle.clk_model.specs.State.{ChainStep, row_of, link_in}
 use Rattle.clk_model.specs.Round.{Wiring, parent_rate_in}
 use Rattle.clk_model.specs.Chain.{clock_id, linked, moves, place_of, select, setting, set_one, outcome}
 use Rattle.clk_model.specs.Script.{move, move_of}
-use Rattle.clk_model.specs.Laws.Plans.{clocks_in, LeadsUp, HasParent, DiffersIn}
+use Rattle.clk_model.specs.Walk.{top_of, kids_after, walk}
+use Rattle.clk_model.specs.Wired.{IsWired, IsOrder}
+use Rattle.clk_model.specs.Laws.Plans.{clocks_in, LeadsUp, HasParent, DiffersIn, LeadsFrom}
 use Rattle.clk_model.proofs.ActedLaws.{planned_in, act, acted, acted_append}
-use Rattle.clk_model.proofs.AboveLaws.{Above}
+use Rattle.clk_model.proofs.AboveLaws.{Above, above_link}
+use Rattle.clk_model.proofs.BelowLaws.{rises_path, few_steps}
 use Rattle.clk_model.proofs.Members.{is_in_head, is_in_tail, is_in_cases, not_either, test_same, same_from_test}
 use Rattle.clk_model.proofs.OnceLaws.{in_append, is_in-append, once_head, once_cons}
 use Rattle.clk_model.proofs.OutcomeLaws.{SettingsFit, differs_in}
-use Rattle.clk_model.proofs.PlannedGoLaws.{moves_here, filter_off}
-use Rattle.clk_model.proofs.WalkOrderLaws.{Descends, head_below, tail_leads}
+use Rattle.clk_model.proofs.PlannedGoLaws.{all_both, moves_here, filter_off}
+use Rattle.clk_model.proofs.SettingLaws.{settings_fit}
+use Rattle.clk_model.proofs.WalkLaws.{linked_lt, Planned_, parented_lt, links_after, kids_are, walks_list}
+use Rattle.clk_model.proofs.WalkOrderLaws.{Descends, below_descends, head_below, tail_leads}
 
 -- ---- one clock
 
@@ -300,3 +308,64 @@ along_is up w (k ∷ ks) cs walks =
                 by_place : (k.clock ≡ c) ⊎ (is_in c back ≡ true) → is_in c front ≡ true
                 by_place (inl same) = absurd (true≢false (sym m ∙ ap (λ (x : ℕ). is_in x (clocks_in ks)) (sym same) ∙ own.0))
                 by_place (inr behind) = absurd (true≢false (sym (is_in_tail c k.clock (clocks_in ks) m) ∙ off c behind))
+
+-- ---- the walk of a plan
+
+-- each clock of a chain is below its top
+to_top : (up : ℕ → Option ℕ) (ks : List ChainStep) (c : ℕ) → LeadsUp ks → AllByRecursion (λ l. up l.clock ≡ l.parent) ks → is_in c (clocks_in ks) ≡ true → Above up c (top_of ks)
+to_top up [] c leads links m = absurd cc
+to_top up (k ∷ []) c leads links m = by (is_in_cases c k.clock [] m) where
+  by : (k.clock ≡ c) ⊎ (is_in c [] ≡ true) → Above up c k.clock
+  by (inl same) = (zero, sym same)
+  by (inr none) = absurd (true≢false (sym none))
+to_top up (k ∷ l ∷ ks) c leads links m = by (is_in_cases c k.clock (clocks_in (l ∷ ks)) m) (λ d n. to_top up (l ∷ ks) d leads.1 links.1 n) where
+  by : (k.clock ≡ c) ⊎ (is_in c (clocks_in (l ∷ ks)) ≡ true) → ((d : ℕ) → is_in d (clocks_in (l ∷ ks)) ≡ true → Above up d (top_of (l ∷ ks))) → Above up c (top_of (l ∷ ks))
+  by (inl same) rest = subst (λ (x : ℕ). Above up x (top_of (l ∷ ks))) same (above_link up k.clock l.clock (top_of (l ∷ ks)) (links.0 ∙ leads.0) (rest l.clock (is_in_head l.clock (clocks_in ks))))
+  by (inr later) rest = rest c later
+
+-- the links of the chain after the plan
+chain_links : (words : ℕ) (order : List ℕ) (w : Wiring) (ks : List ChainStep) → Planned_ words order w ks (outcome ks w) → AllByRecursion (λ l. link_in (outcome ks w).clocks l.clock ≡ l.parent) ks
+chain_links words order w ks plan =
+    all_both (λ l. l.clock < length w.clocks → row_of v.clocks l.clock ≡ record (row_of w.clocks l.clock) { link = option_map clock_id l.parent }) (HasParent w) (λ l. link_in v.clocks l.clock ≡ l.parent) ks
+    (λ l row has. by l row has (cases_lt l.clock (length w.clocks)) l.parent refl) plan.differs.links plan.parents where
+      v : Wiring
+      v = outcome ks w
+
+      back : (o : Option ℕ) → option_map (λ p. p.0) (option_map clock_id o) ≡ o
+      back None = refl
+      back (Some p) = refl
+
+      no_link : (c : ℕ) → length w.clocks ≤ c → (o : Option ℕ) → link_in (outcome ks w).clocks c ≡ o → o ≡ None
+      no_link c past None e = refl
+      no_link c past (Some q) e = let inside = linked_lt (outcome ks w).clocks c q e in let size = plan.differs.size in absurd (omega arith)
+
+      by : (l : ChainStep) → (l.clock < length w.clocks → row_of (outcome ks w).clocks l.clock ≡ record (row_of w.clocks l.clock) { link = option_map clock_id l.parent }) → HasParent w l
+          → (l.clock < length w.clocks) ⊎ (length w.clocks ≤ l.clock) → (o : Option ℕ) → l.parent ≡ o → link_in (outcome ks w).clocks l.clock ≡ l.parent
+      by l row has (inl within) o at = ap (λ (r : ClockRow). option_map (λ p. p.0) r.link) (row within) ∙ back l.parent
+      by l row has (inr past) None at = no_link l.clock past (link_in (outcome ks w).clocks l.clock) refl ∙ sym at
+      by l row has (inr past) (Some p) at = let inside = parented_lt words w l.clock p plan.wired (has.possible p at) in absurd (omega arith)
+
+-- the walk of a plan is walked so
+pub plan_walks : (words : ℕ) (order : List ℕ) (w : Wiring) (c : ℕ) (ks : List ChainStep) → IsWired words w → IsOrder order w.clocks → LeadsFrom w c ks
+    → Walks (link_in (outcome ks w).clocks) w ks (walk order w ks)
+unfolding walk
+plan_walks words order w c ks wired ordered leads =
+    let fits = settings_fit words w.defs wired.valid in
+    let plan : Planned_ words order w ks (outcome ks w) = record { wired = wired; ordered = ordered; parents = leads.parents; once = leads.once; differs = differs_in ks w fits leads.parents leads.once } in
+    let up : ℕ → Option ℕ = link_in (outcome ks w).clocks in
+    let links = chain_links words order w ks plan in
+    let is = links_after words order w ks (outcome ks w) plan in
+    let ends = lines_end words w.defs wired.valid in
+    let list = (walks_list words order w c ks wired ordered leads).0 in
+    record {
+      fits = fits;
+      parents = leads.parents;
+      once = leads.once;
+      leads = leads.leads;
+      links = links;
+      listed = λ d m.
+          let high = to_top up ks d leads.leads links m in
+          list.listed d ∙ rises_path up depth high.0 d (top_of ks) high.1 (few_steps (parents_of w.defs) up depth high.0 d (top_of ks) is (ends d) high.1);
+      few = list.once;
+      descends = below_descends (parents_of w.defs) (kids_after order w.clocks ks) up depth depth (top_of ks) is ends (kids_are words order w ks (outcome ks w) plan);
+    }
