@@ -109,9 +109,12 @@ links_same old new c p rows same d = by (same_or_not c d) (cases_lt c (length ol
   by (inl is) (inr past) =
       ap (λ (rows : List ClockRow). link_in rows d) (linked_past new c p (omega arith)) ∙ same d ∙ ap (λ (rows : List ClockRow). link_in rows d) (sym (linked_past old c p past))
 
--- whether what a step writes in the field of a mux fits it
+-- whether a step can be one of a plan: it neither registers nor sweeps, and what it writes in the field of a mux fits it
 abbrev pub writes_fit : Description → Micro → Bool
 writes_fit defs (micro.WriteMux c place) = option_map_or (λ f. nat_lt place (2 ^ f.width)) (mux_field (kind_of defs c.0)) true
+writes_fit defs (micro.Register c) = false
+writes_fit defs (micro.Close c) = false
+writes_fit defs (micro.Unpower c) = false
 writes_fit defs _ = true
 
 written_same : (words : ℕ) (w : Wiring) (new : Registers) (c place : ℕ) → IsValid words w.defs → SameFields w.defs w.regs new → option_map_or (λ f. nat_lt place (2 ^ f.width)) (mux_field (kind_of w.defs c)) true ≡ true
@@ -184,3 +187,12 @@ acted_same words ks (m ∷ ms) v w valid fit same =
     acted_same words ks ms (act ks m v) (act ks m w) (subst (IsValid words) (sym (act_defs ks m w)) valid)
     (subst (λ (defs : Description). list_all (writes_fit defs) ms ≡ true) (sym (act_defs ks m w)) (both_right (writes_fit w.defs m) (list_all (writes_fit w.defs) ms) fit))
     (act_same words ks m v w valid (both_left (writes_fit w.defs m) (list_all (writes_fit w.defs) ms) fit) same)
+
+pub settings_back : (v w : Wiring) → SameSettings v w → SameSettings w v
+settings_back v w same = record {
+  defs = sym same.defs;
+  rows = sym same.rows;
+  words = sym same.words;
+  links = λ c. sym (same.links c);
+  fields = λ c f at. sym (same.fields c f (ap (λ (ds : Description). field_of (kind_of ds c)) (sym same.defs) ∙ at));
+}

@@ -97,3 +97,5 @@ pub mod EndCauseLaws
 pub mod ActedLaws
 pub mod WalkedLaws
 pub mod MuxLaws
+pub mod StepActLaws
+pub mod PlanScriptLaws

@@ -329,7 +329,7 @@ unfolding prep
 is_beside s t same =
     ap (λ (a : State). let u : State = record t { defs = a.defs; clocks = a.clocks; order = a.order; notifiers = a.notifiers; prepare_holds = a.prepare_holds; credits = a.credits; ignore_unused = a.ignore_unused } in u) same
 
-same_here : (s t : State) → IsValid (length s.regs) s.defs → prep t ≡ prep s → SameHere s s.regs t.regs s.handles t.handles
+pub same_here : (s t : State) → IsValid (length s.regs) s.defs → prep t ≡ prep s → SameHere s s.regs t.regs s.handles t.handles
 unfolding prep
 same_here s t valid same =
     let masks : masked s.defs t.regs ≡ masked s.defs s.regs =
