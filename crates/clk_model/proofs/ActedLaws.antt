@@ -1,7 +1,7 @@
 -- Laws on what the steps of a script make of a tree, without anything else.
-use Rattle.std.proofs.Common.{◌≡◌, ℕ, zero, suc, ◌+◌, ◌^◌, ◌<◌, ◌≤◌, Bool, true, false, cond, List, [], ◌∷◌, ◌++◌, Option, Some, None, refl, sym, ap, subst, ◌∙◌, ◌⊎◌, inl, inr, arith, length, nat_lt}
+use Rattle.std.proofs.Common.{◌≡◌, ℕ, ◌^◌, ◌<◌, ◌≤◌, Bool, true, false, List, [], ◌∷◌, ◌++◌, Option, Some, None, refl, sym, ap, subst, ◌∙◌, ◌⊎◌, inl, inr, arith, length, nat_lt}
 use mathlib.Core.Path.{fun_ext}
-use Rattle.std.specs.Prelude.{option_map, find, ◌==◌, slice_set}
+use Rattle.std.specs.Prelude.{option_map, find, ◌==◌}
 use Rattle.std.specs.List.{list_all}
 use Rattle.std.specs.Option.{option_map_or}
 use Rattle.std.proofs.lemmas.Bool.{cases_lt}
@@ -23,7 +23,6 @@ use Rattle.clk_model.specs.Laws.Outcomes.{SameSettings}
 use Rattle.clk_model.proofs.Members.{both_left, both_right}
 use Rattle.clk_model.proofs.OutcomeLaws.{length-slice_set}
 use Rattle.clk_model.proofs.RateLaws.{rate-links}
-use Rattle.clk_model.proofs.SameRateLaws.{tree_over}
 use Rattle.clk_model.proofs.SameSettingLaws.{SameFields, rates_same, put_same, mux_is_field, setting_of}
 use Rattle.clk_model.proofs.WholePathLaws.{linked_same, linked_other, same_or_not}
 

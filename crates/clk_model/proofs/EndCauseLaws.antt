@@ -196,7 +196,7 @@ reaches q t d final what r last answer polls (e ∷ es) s made k noes way comes 
     (record { legal = comes.legal.2; one = parts.1; ending = subst (λ (u : State). next u final (event.Step last answer) ≡ Some (t, turn.Done r)) (sym back) comes.ending }))
 
 -- a call begins with no flag and nothing in front
-begun_fresh : (q s : State) (d : ℕ) (what : Sleeping) → next q d (event.Begin what) ≡ Some (s, turn.Going) → (k : Change) → s.change ≡ Some k → (k.timed_out ≡ false) × (k.front ≡ [])
+pub begun_fresh : (q s : State) (d : ℕ) (what : Sleeping) → next q d (event.Begin what) ≡ Some (s, turn.Going) → (k : Change) → s.change ≡ Some k → (k.timed_out ≡ false) × (k.front ≡ [])
 unfolding settled
 begun_fresh q s d what step k at =
     let start = begin_is q s d what turn.Going step in
@@ -207,7 +207,7 @@ begun_fresh q s d what step k at =
 -- ---- ends
 
 -- the reply of an end
-ends_so : (s t : State) (d : ℕ) (m : Micro) (answer : Option Bool) (r : Reply) (k : Change) → IsStep s t d m answer (turn.Done r) k
+pub ends_so : (s t : State) (d : ℕ) (m : Micro) (answer : Option Bool) (r : Reply) (k : Change) → IsStep s t d m answer (turn.Done r) k
     → cond k.vetoed (reply.Refused errno.EBUSY) (cond k.timed_out (reply.Refused errno.ETIMEDOUT) reply.Fine) ≡ r
 unfolding stepped
 ends_so s t d m answer r k is =

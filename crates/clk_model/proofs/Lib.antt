@@ -99,3 +99,4 @@ pub mod WalkedLaws
 pub mod MuxLaws
 pub mod StepActLaws
 pub mod PlanScriptLaws
+pub mod OutcomeWrittenLaws

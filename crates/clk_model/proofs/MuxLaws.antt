@@ -1,5 +1,5 @@
 -- Laws on the clocks that plans move: they are muxes.
-use Rattle.std.proofs.Common.{◌≡◌, ℕ, zero, suc, Bool, true, false, not, ◌&&◌, cond, List, [], ◌∷◌, Option, Some, None, refl, sym, ap, subst, ◌∙◌, ◌⊎◌, inl, inr, true≢false}
+use Rattle.std.proofs.Common.{◌≡◌, ℕ, Bool, true, false, not, List, Option, Some, None, refl, sym, ap, ◌∙◌, ◌⊎◌, inl, inr, true≢false}
 use Rattle.std.specs.Prelude.{◌*◌, ◌/◌, ◌==◌, nat_le, max, filter, find, IfSome, option_map, option_and_then, is_some}
 use Rattle.std.specs.List.{filter_map, AllByRecursion}
 use Rattle.std.specs.Int.{div_ceil}
@@ -10,7 +10,6 @@ use Rattle.clk_base.specs.Levels.{depth}
 use Rattle.kind_math.specs.Rates.{capped, factor_rate}
 use Rattle.kind_math.specs.Choices.{greatest_of}
 use Rattle.kind_math.specs.Dividers.{valid_divisors, div_round}
-use Rattle.clk_model.specs.declared.row.ClockRow.{ClockRow}
 use Rattle.clk_model.specs.Lists.{same_place}
 use Rattle.clk_model.specs.Kinds.{mux_field, can_round}
 use Rattle.clk_model.specs.State.{ChainStep, link_in}

@@ -1,6 +1,6 @@
 -- Laws on the scripts of plans: what they make of a tree is the outcome; and how calls that plan begin.
-use Rattle.std.proofs.Common.{◌≡◌, ℕ, zero, suc, ◌^◌, ◌<◌, Bool, true, false, not, ◌&&◌, ◌||◌, cond, List, [], ◌∷◌, ◌++◌, Option, Some, None, refl, sym, ap, subst, ◌∙◌, inl, inr, arith, length, nat_lt, nat_eq, true≢false}
-use Rattle.std.specs.Prelude.{filter, flat_map, if◌then◌else◌, is_some, option_map, ◌==◌}
+use Rattle.std.proofs.Common.{◌≡◌, ℕ, ◌^◌, Bool, true, false, not, ◌&&◌, cond, List, [], ◌∷◌, ◌++◌, Option, Some, None, refl, sym, ap, subst, ◌∙◌, arith, length, nat_lt, nat_eq, true≢false}
+use Rattle.std.specs.Prelude.{filter, flat_map, if◌then◌else◌, ◌==◌}
 use Rattle.std.specs.List.{AllByRecursion, list_all, list_any}
 use Rattle.std.specs.Option.{option_map_or}
 use Rattle.std.proofs.lemmas.Bool.{and_from}
@@ -9,12 +9,10 @@ use Rattle.std.proofs.lemmas.List.Folds.{list_all-append}
 use Rattle.clk_base.specs.declared.call.Micro.{Micro}
 use Rattle.clk_base.specs.declared.call.Micro.TheVariants as micro
 use Rattle.clk_base.specs.declared.call.Sleeping.{Sleeping}
-use Rattle.clk_base.specs.declared.call.Sleeping.TheVariants as call
 use Rattle.clk_base.specs.declared.event.Turn.{Turn}
 use Rattle.clk_base.specs.declared.event.Turn.TheVariants as turn
 use Rattle.clk_base.specs.Description.{Description, kind_of, parents_of}
 use Rattle.clk_base.specs.Fields.{Field}
-use Rattle.clk_base.specs.Valid.{IsValid}
 use Rattle.clk_base.proofs.Valid.{lines_end}
 use Rattle.clk_model.specs.declared.row.ClockRow.{ClockRow}
 use Rattle.clk_model.specs.Lists.{is_in, same_place}
@@ -23,22 +21,21 @@ use Rattle.clk_model.specs.State.{State, Change, ChainStep, link_in}
 use Rattle.clk_model.specs.Holders.{prepared}
 use Rattle.clk_model.specs.Round.{Wiring, wiring, rate_in}
 use Rattle.clk_model.specs.Chain.{clock_id, moves, place_of, outcome}
-use Rattle.clk_model.specs.Walk.{walk, rates_in, changing}
-use Rattle.clk_model.specs.Notices.{Rates, is_veto, abort_list, pre_list}
-use Rattle.clk_model.specs.Script.{move, move_of, Planned, planned}
-use Rattle.clk_model.specs.Begin.{change_along, reparenting, begun}
+use Rattle.clk_model.specs.Walk.{walk}
+use Rattle.clk_model.specs.Notices.{is_veto}
+use Rattle.clk_model.specs.Script.{move, move_of, planned}
+use Rattle.clk_model.specs.Begin.{begun}
 use Rattle.clk_model.specs.Wired.{IsWired, IsOrder}
 use Rattle.clk_model.specs.Laws.Flight.{pre_notices, abort_notices}
-use Rattle.clk_model.specs.Laws.Plans.{clocks_in, HasParent, LeadsFrom}
+use Rattle.clk_model.specs.Laws.Plans.{HasParent, LeadsFrom}
 use Rattle.clk_model.specs.Laws.PlansRead.{plans}
 use Rattle.clk_model.proofs.ActedLaws.{acted, acted_append, leaves_tree, all_left, writes_fit}
 use Rattle.clk_model.proofs.BeginsLaws.{Starts, raising_handle, lowering_handle, planning, reparents, probing, sweeping, IsPlannedOver, over_itself, over_range, Begins, answers, gives, takes, adjusts, prepares, unprepares, notes, registers, goes_on, begins_so}
-use Rattle.clk_model.proofs.Members.{both_left, both_right, same_from_test, test_same}
+use Rattle.clk_model.proofs.Members.{same_from_test, test_same}
 use Rattle.clk_model.proofs.MuxLaws.{IsMux, moved_are_muxes}
 use Rattle.clk_model.proofs.NoneLaws.{none_front, none_rest}
 use Rattle.clk_model.proofs.OutcomeLaws.{SettingsFit}
 use Rattle.clk_model.proofs.PlanLaws.{chains_lead}
-use Rattle.clk_model.proofs.SettingLaws.{settings_fit}
 use Rattle.clk_model.proofs.VetoLaws.{is_other, pre_are_notices, abort_are_notices}
 use Rattle.clk_model.proofs.WalkedLaws.{walked, MovesMux, walk_acts, plan_walks, along_is}
 
@@ -225,11 +222,19 @@ starts_plan q n d what k wired plan (reparents number row p sets at away mux par
       fits = refl;
     }
 
+starts_tree : (q n : State) (d : ℕ) (what : Sleeping) (k : Change) → plans what ≡ true → Starts q d what n k → wiring n ≡ wiring q
+starts_tree q n d what k plan (raising_handle h row is at) = absurd (true≢false (sym plan ∙ ap plans is))
+starts_tree q n d what k plan (lowering_handle h row is at keeps) = absurd (true≢false (sym plan ∙ ap plans is))
+starts_tree q n d what k plan (probing c is free) = absurd (true≢false (sym plan ∙ ap plans is))
+starts_tree q n d what k plan (sweeping is) = absurd (true≢false (sym plan ∙ ap plans is))
+starts_tree q n d what k plan (planning m number row plans_over x ks range over at chained rates) = (wiring_over q n over).0
+starts_tree q n d what k plan (reparents number row p sets at away mux parent root) = refl
+
 -- so begins each call that plans and goes on
 pub begins_plan : (q : State) (d : ℕ) (what : Sleeping) → IsWired (length q.regs) (wiring q) → plans what ≡ true → (begun q d what).1 ≡ turn.Going
-    → (k : Change) × ((begun q d what).0.change ≡ Some k) × AlongPlan q k
+    → (k : Change) × ((begun q d what).0.change ≡ Some k) × AlongPlan q k × (wiring (begun q d what).0 ≡ wiring q)
 begins_plan q d what wired plan going = by (begun q d what) (begins_so q d what) going where
-  by : (y : State × Turn) → Begins q d what y → y.1 ≡ turn.Going → (k : Change) × (y.0.change ≡ Some k) × AlongPlan q k
+  by : (y : State × Turn) → Begins q d what y → y.1 ≡ turn.Going → (k : Change) × (y.0.change ≡ Some k) × AlongPlan q k × (wiring y.0 ≡ wiring q)
   by y (answers r) e = absurd cc
   by y (gives c root) e = absurd cc
   by y (takes number row at free) e = absurd cc
@@ -238,4 +243,4 @@ begins_plan q d what wired plan going = by (begun q d what) (begins_so q d what)
   by y (unprepares number row at keeps) e = absurd cc
   by y (notes notifiers r) e = absurd cc
   by y (registers c free plain) e = absurd cc
-  by y (goes_on n k starts) e = (k, refl, starts_plan q n d what k wired plan starts)
+  by y (goes_on n k starts) e = (k, refl, starts_plan q n d what k wired plan starts, starts_tree q n d what k plan starts)

@@ -1,17 +1,16 @@
 -- Laws on what each step of a plan makes of the tree of a state, and puts in front of the script.
-use Rattle.std.proofs.Common.{◌≡◌, ℕ, zero, suc, ◌+◌, ◌-◌, ◌^◌, ◌<◌, ◌&&◌, ◌||◌, Bool, true, false, cond, List, [], ◌∷◌, ◌++◌, Option, Some, None, refl, sym, ap, subst, ◌∙◌, ◌⊎◌, inl, inr, arith, length, nat_le, map, true≢false}
+use Rattle.std.proofs.Common.{◌≡◌, ℕ, zero, suc, ◌+◌, ◌-◌, Bool, true, false, cond, List, [], ◌∷◌, ◌++◌, Option, Some, None, refl, sym, ap, ◌∙◌, ◌⊎◌, inl, inr, arith, length, nat_le, map, true≢false}
 use Rattle.std.specs.Prelude.{slice_get, slice_set, slice_index, reverse, option_map, ◌==◌}
-use Rattle.std.specs.List.{list_all, list_any}
+use Rattle.std.specs.List.{list_all}
 use Rattle.std.specs.Option.{option_map_or}
 use Rattle.std.proofs.lemmas.Bool.{and_from}
-use Rattle.std.proofs.lemmas.List.Folds.{list_all-append}
 use Rattle.clk_base.specs.declared.call.Micro.{Micro}
 use Rattle.clk_base.specs.declared.call.Micro.TheVariants as micro
 use Rattle.clk_base.specs.declared.call.Notice.TheVariants as notice
 use Rattle.clk_base.specs.declared.clock.ClockId.{ClockId}
 use Rattle.clk_base.specs.declared.event.Turn.TheVariants as turn
-use Rattle.clk_base.specs.Description.{Description, kind_of}
-use Rattle.clk_base.specs.Fields.{Field, PowerBit, bit_field, field_of, power_of}
+use Rattle.clk_base.specs.Description.{kind_of}
+use Rattle.clk_base.specs.Fields.{Field, PowerBit, bit_field, power_of}
 use Rattle.clk_base.specs.Valid.{IsValid}
 use Rattle.clk_base.proofs.Valid.{field-field, power-field}
 use Rattle.reg_bank.specs.Registers.{Registers, field, put_bit}
@@ -23,20 +22,18 @@ use Rattle.clk_base.specs.Levels.{depth}
 use Rattle.clk_model.specs.Tree.{children}
 use Rattle.clk_model.specs.Walk.{below_within}
 use Rattle.clk_model.specs.Rate.{rate}
-use Rattle.clk_model.specs.Round.{Wiring, wiring}
+use Rattle.clk_model.specs.Round.{wiring}
 use Rattle.clk_model.specs.Chain.{clock_id}
 use Rattle.clk_model.specs.Notices.{Rates, notifiers_of, post_list}
 use Rattle.clk_model.specs.Step.{cut_short, aborts_of, on, powered, timed_out, to_raise, raise_one, raise, poll, is_yes, to_lower, lower_one, lower, set_in_chain, visit, settle_all, stepped}
 use Rattle.clk_model.specs.Prep.{prep}
 use Rattle.clk_model.specs.Laws.Outcomes.{SameSettings}
 use Rattle.clk_model.specs.Laws.Plans.{LieApart}
-use Rattle.clk_model.proofs.ActedLaws.{act, acted, writes_fit, same_settings}
+use Rattle.clk_model.proofs.ActedLaws.{act, writes_fit, same_settings}
 use Rattle.clk_model.proofs.ApartLaws.{fields_apart}
 use Rattle.clk_model.proofs.Cases.{by_option, by_test}
-use Rattle.clk_model.proofs.Members.{both_left, both_right}
 use Rattle.clk_model.proofs.OutcomeLaws.{field-put_outside}
 use Rattle.clk_model.proofs.PlansReadLaws.{same_here}
-use Rattle.clk_model.proofs.WholePathLaws.{linked_other, same_or_not}
 
 -- ---- states
 
@@ -78,7 +75,7 @@ power_settings s y up valid = record {
       (λ same equal. omega arith));
 }
 
-link_row : (clocks : List ClockRow) (c : ℕ) (row : ClockRow) → row.link ≡ (row_of clocks c).link → (d : ℕ) → link_in (slice_set clocks c row) d ≡ link_in clocks d
+pub link_row : (clocks : List ClockRow) (c : ℕ) (row : ClockRow) → row.link ≡ (row_of clocks c).link → (d : ℕ) → link_in (slice_set clocks c row) d ≡ link_in clocks d
 link_row [] c row same d = refl
 link_row (r ∷ clocks) zero row same zero = ap (λ (o : Option ClockId). option_map (λ p. p.0) o) same
 link_row (r ∷ clocks) zero row same (suc d) = refl

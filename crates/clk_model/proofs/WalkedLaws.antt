@@ -1,5 +1,5 @@
 -- Laws on the outcome of a walk: the moves and visits of a walk, from the top down, make of a tree the outcome of the chain.
-use Rattle.std.proofs.Common.{◌≡◌, ℕ, zero, suc, Bool, true, false, not, ◌&&◌, ◌||◌, cond, List, [], ◌∷◌, ◌++◌, Option, Some, None, refl, sym, ap, subst, ◌∙◌, ◌⊎◌, inl, inr, nat_eq, true≢false, append-nil, ◌<◌, ◌≤◌, arith, length}
+use Rattle.std.proofs.Common.{◌≡◌, ℕ, zero, Bool, true, false, not, ◌&&◌, ◌||◌, cond, List, [], ◌∷◌, ◌++◌, Option, Some, None, refl, sym, ap, subst, ◌∙◌, ◌⊎◌, inl, inr, nat_eq, true≢false, append-nil, ◌<◌, ◌≤◌, arith, length}
 use Rattle.std.specs.Prelude.{filter, find, flat_map, if◌then◌else◌, option_map, is_some}
 use Rattle.std.specs.List.{AllByRecursion}
 use Rattle.std.proofs.lemmas.Bool.{cases_lt}
@@ -21,7 +21,7 @@ use Rattle.clk_model.specs.Chain.{clock_id, linked, moves, place_of, select, set
 use Rattle.clk_model.specs.Script.{move, move_of}
 use Rattle.clk_model.specs.Walk.{top_of, kids_after, walk}
 use Rattle.clk_model.specs.Wired.{IsWired, IsOrder}
-use Rattle.clk_model.specs.Laws.Plans.{clocks_in, LeadsUp, HasParent, DiffersIn, LeadsFrom}
+use Rattle.clk_model.specs.Laws.Plans.{clocks_in, LeadsUp, HasParent, LeadsFrom}
 use Rattle.clk_model.proofs.ActedLaws.{planned_in, act, acted, acted_append}
 use Rattle.clk_model.proofs.AboveLaws.{Above, above_link}
 use Rattle.clk_model.proofs.BelowLaws.{rises_path, few_steps}

@@ -4,6 +4,7 @@ pub mod causes;
 pub mod feeding;
 pub mod flights;
 pub mod links;
+pub mod outcomes;
 pub mod paths;
 pub mod plans;
 pub mod refusals;
