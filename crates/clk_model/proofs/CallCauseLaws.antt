@@ -1,13 +1,10 @@
 -- Each call begins for its cause.
-use Rattle.std.proofs.Common.{◌≡◌, ℕ, ℤ, ◌+◌, ◌<◌, ◌≤◌, ◌&&◌, ◌||◌, Bool, true, false, not, cond, List, [], ◌∷◌, Option, Some, None, refl, sym, ap, subst, ◌∙◌, ◌⊎◌, inl, inr, arith, nat_eq, nat_lt, nat_le, length}
-use Rattle.std.specs.Prelude.{option_map, slice_get, is_none, is_some, filter}
-use Rattle.std.specs.Option.{option_map_or}
+use Rattle.std.proofs.Common.{◌≡◌, ℕ, ℤ, ◌<◌, ◌≤◌, ◌&&◌, ◌||◌, Bool, true, false, not, cond, List, [], Option, Some, None, refl, sym, ap, subst, ◌∙◌, ◌⊎◌, inl, inr, arith, nat_eq, nat_le, length}
+use Rattle.std.specs.Prelude.{option_map, slice_get, is_none, is_some}
 use Rattle.std.proofs.lemmas.Bool.Decides.{nat_tests}
 use Rattle.std.proofs.lemmas.Bool.{and_from, not-true}
-use Rattle.clk_base.specs.declared.call.Micro.TheVariants as micro
 use Rattle.clk_base.specs.declared.call.Sleeping.{Sleeping}
 use Rattle.clk_base.specs.declared.call.Sleeping.TheVariants as call
-use Rattle.clk_base.specs.declared.clock.ClockId.{ClockId}
 use Rattle.clk_base.specs.declared.event.Errno.TheVariants as errno
 use Rattle.clk_base.specs.declared.event.Event.{Event}
 use Rattle.clk_base.specs.declared.event.Event.TheVariants as event
@@ -20,274 +17,27 @@ use Rattle.clk_base.specs.Description.{kind_of, parents_of}
 use Rattle.clk_base.specs.Fields.{Field}
 use Rattle.clk_base.specs.Flags.{is_critical, sets_parent_gate}
 use Rattle.clk_model.specs.declared.row.HandleRow.{HandleRow}
-use Rattle.clk_model.specs.Lists.{is_in, is_at}
+use Rattle.clk_model.specs.Lists.{is_in}
 use Rattle.clk_model.specs.Kinds.{mux_field, is_read_only}
-use Rattle.clk_model.specs.State.{State, Change, ChainStep, is_quiet, registered, link_in}
-use Rattle.clk_model.specs.Tree.{path, path_to_be, rooted}
+use Rattle.clk_model.specs.State.{State, Change, is_quiet, registered, link_in}
+use Rattle.clk_model.specs.Tree.{path_to_be, rooted}
 use Rattle.clk_model.specs.Rate.{rate}
 use Rattle.clk_model.specs.Holders.{active, prepared, guarded}
-use Rattle.clk_model.specs.Round.{wiring, round_rate}
-use Rattle.clk_model.specs.Chain.{clock_id, chain}
+use Rattle.clk_model.specs.Chain.{clock_id}
 use Rattle.clk_model.specs.Notices.{notifiers_of}
-use Rattle.clk_model.specs.Views.{view, free_view, lift}
-use Rattle.clk_model.specs.Script.{unprepared_plls, runs, adoptable, probe_script, sweep_script}
-use Rattle.clk_model.specs.Begin.{done, refused, most_credits, weight_of, starts, change_of, change_along, own_handle, with_handle, got, put_back, prepare, unprepare, rounded, request, range_set, request_between, reparenting, parent_set, exclusive_put, most_notifiers, notifier_added, notifier_removed, register, probed, swept, held_once_more, begun}
+use Rattle.clk_model.specs.Views.{lift}
+use Rattle.clk_model.specs.Script.{unprepared_plls, adoptable, probe_script, sweep_script}
+use Rattle.clk_model.specs.Begin.{done, starts, change_of, with_handle, put_back, prepare, unprepare, rounded, request, range_set, reparenting, parent_set, exclusive_put, most_notifiers, notifier_added, notifier_removed, register, probed, swept, held_once_more, begun}
 use Rattle.clk_model.specs.Machine.{enabled, disabled, running, paid, next}
 use Rattle.clk_model.specs.Journal.{slotless}
 use Rattle.clk_model.specs.Tier.{is_enable_tier}
-use Rattle.clk_model.specs.Laws.Causes.{KeepsPrepare}
-use Rattle.clk_model.specs.Laws.CallCauses.{Comes, refusal, fine, warned, HasRoom, GoesOnWhere, OnHandle, OnlyUnknown, GetTurns, PutTurns, NoneToRaise, PrepareTurns, one_less, NoneToLower, UnprepareTurns, RoundTurns, KeepsRate, HasPlan, RequestTurns, with_limits, RangeTurns, IsBound, IsBusy, IsCandidate, MayMove, ParentTurns, ExclusivePutTurns, NotifierAddTurns, NotifierRemoveTurns, IsPlain, ProbeTurns, SweepTurns, CallTurns, CallsHaveCauses, TierHasCauses}
-use Rattle.clk_model.proofs.CauseLaws.{keeps_tells, holds_tells, enable_causes, disable_causes, running_causes}
+use Rattle.clk_model.specs.Laws.CallCauses.{refusal, fine, PutTurns, PrepareTurns, UnprepareTurns, RoundTurns, RequestTurns, RangeTurns, IsBound, IsBusy, IsCandidate, MayMove, ParentTurns, ExclusivePutTurns, NotifierAddTurns, NotifierRemoveTurns, IsPlain, ProbeTurns, SweepTurns, CallTurns, CallsHaveCauses, TierHasCauses}
+use Rattle.clk_model.proofs.CauseLaws.{enable_causes, disable_causes, running_causes}
 use Rattle.clk_model.proofs.Members.{or_cases, or_right, both_left, both_right, not_either}
 use Rattle.clk_model.proofs.TierLaws.{pick_either, with_handle_either, paid_is}
-
--- ---- words
-
--- this turn was given, and its cause holds
-came : {wanted given : Turn} {cause : Type 0} → given ≡ wanted → cause → Comes wanted given cause
-came is why = (λ _. why, λ _. is)
-
--- another turn was given, and its cause doesn't hold
-not_came : {wanted given : Turn} {cause : Type 0} → (given ≡ wanted → ⊥) → (cause → ⊥) → Comes wanted given cause
-not_came isnt never = (λ is. absurd (isnt is), λ why. absurd (never why))
-
-at_some : (x : ℕ) (o : Option ℕ) → o ≡ Some x → is_at x o ≡ true
-at_some x None e = absurd cc
-at_some x (Some y) e = let same : y ≡ x = cc in grind (arith, nat_tests)
-
-some_at : (x : ℕ) (o : Option ℕ) → is_at x o ≡ true → o ≡ Some x
-some_at x None e = absurd cc
-some_at x (Some y) e = let same : y ≡ x = grind (arith, nat_tests) in ap (λ (z : ℕ). Some z) same
-
-not_at : (x : ℕ) (o : Option ℕ) → is_at x o ≡ false → o ≡ Some x → ⊥
-not_at x o e is = let at = at_some x o is in cc
-
-none_first : (xs : List ℕ) → is_none (slice_get xs 0) ≡ true → xs ≡ []
-none_first [] e = refl
-none_first (x ∷ xs) e = absurd cc
-
-some_first : (xs : List ℕ) → is_none (slice_get xs 0) ≡ false → xs ≡ [] → ⊥
-some_first [] e none = cc
-some_first (x ∷ xs) e none = cc
-
--- ---- going on
-
--- how a call starts: it is refused for want of room, or goes on
-data HowStarted (given : Turn) (n : State) (k : Change) : Type 0 where
-  short : given ≡ refusal errno.ENOSPC → (HasRoom n k → ⊥) → HowStarted given n k
-  roomy : given ≡ turn.Going → HasRoom n k → HowStarted given n k
-
-started : (o n : State) (k : Change) → HowStarted (starts o n k).1 n k
-started o n k =
-    pick_either (λ y. HowStarted y.1 n k) _ _ _
-    (λ e. short refl (λ room. let no : nat_lt most_credits (n.credits + n.steps + weight_of n k) ≡ false = grind (arith, nat_tests) in cc))
-    (λ e. roomy refl (grind (arith, nat_tests)))
-
-rest_is : (given : Turn) (left : Type 0) (n : State) (k : Change) → HowStarted given n k → left → GoesOnWhere given left n k
-rest_is given left n k (short is never) holds = record { full = came is (holds, never); going = not_came (λ no. cc) (λ why. never why.1) }
-rest_is given left n k (roomy is room) holds = record { full = not_came (λ no. cc) (λ why. why.1 room); going = came is (holds, room) }
-
--- a call that starts isn't answered otherwise
-no_answer : (given wanted : Turn) (n : State) (k : Change) → HowStarted given n k → (refusal errno.ENOSPC ≡ wanted → ⊥) → (turn.Going ≡ wanted → ⊥) → given ≡ wanted → ⊥
-no_answer given wanted n k (short is never) a b e = a (sym is ∙ e)
-no_answer given wanted n k (roomy is room) a b e = b (sym is ∙ e)
-
--- an answer at once, where nothing is left to do
-rest_not : (given : Turn) (left : Type 0) (n : State) (k : Change) → (given ≡ refusal errno.ENOSPC → ⊥) → (given ≡ turn.Going → ⊥) → (left → ⊥) → GoesOnWhere given left n k
-rest_not given left n k a b never = record { full = not_came a (λ why. never why.0); going = not_came b (λ why. never why.0) }
-
--- ---- calls on a handle
-
-same_row : {a b : HandleRow} → Some a ≡ Some b → a ≡ b
-same_row e = cc
-
-only_unknown : (s : State) (d n : ℕ) (f : HandleRow → State × Turn) (K : HandleRow → Turn → Type 0)
-    → ((row : HandleRow) → K row (f row).1 × ((f row).1 ≡ refusal errno.ENOENT → ⊥)) → OnlyUnknown s d n (with_handle s d n f).1 (λ row. K row (with_handle s d n f).1)
-only_unknown s d n f K each = by (own_handle s d n) refl where
-  by : (o : Option HandleRow) → own_handle s d n ≡ o
-      → OnlyUnknown s d n (option_map_or f o (refused s errno.ENOENT)).1 (λ row. K row (option_map_or f o (refused s errno.ENOENT)).1)
-  by None lacks = record { unknown = came refl lacks; known = λ row own. let no : None ≡ Some row = sym lacks ∙ own in absurd cc }
-  by (Some r) own = record {
-    unknown = not_came (each r).1 (λ lacks. let no : None ≡ Some r = sym lacks ∙ own in cc);
-    known = λ row own'. subst (λ (g : HandleRow). K g (f r).1) (same_row (sym own ∙ own')) (each r).0;
-  }
-
-on_handle : (s : State) (d n : ℕ) (f : HandleRow → State × Turn) (K : HandleRow → Turn → Type 0) → ((row : HandleRow) → K row (f row).1)
-    → OnHandle s d n (with_handle s d n f).1 (λ row. K row (with_handle s d n f).1)
-on_handle s d n f K each = by (own_handle s d n) refl where
-  by : (o : Option HandleRow) → own_handle s d n ≡ o → OnHandle s d n (option_map_or f o (refused s errno.ENOENT)).1 (λ row. K row (option_map_or f o (refused s errno.ENOENT)).1)
-  by None lacks = record { unknown = λ e. refl; known = λ row own. let no : None ≡ Some row = sym lacks ∙ own in absurd cc }
-  by (Some r) own = record {
-    unknown = λ lacks. let no : None ≡ Some r = sym lacks ∙ own in absurd cc;
-    known = λ row own'. subst (λ (g : HandleRow). K g (f r).1) (same_row (sym own ∙ own')) (each r);
-  }
-
--- what a call on a handle comes to with a handle: its causes, and no refusal for want of one
-abbrev Known : (Turn → Type 0) → State × Turn → Type 0
-Known K y = K y.1 × (y.1 ≡ refusal errno.ENOENT → ⊥)
-
--- ---- handles
-
-get_turns : (s : State) (d : ℕ) (found : Option ClockId) → GetTurns s d found (got s d (option_map (λ c. c.0) found)).1
-get_turns s d None = record { unknown = came refl refl; deferred = not_came (λ is. cc) (λ why. let no : None ≡ Some why.0 = why.1 in cc); given_ = λ c e. absurd cc }
-get_turns s d (Some c) =
-    pick_either (λ y. GetTurns s d (Some c) y.1) _ _ _
-    (λ e. record {
-      unknown = not_came (λ is. cc) (λ none. cc);
-      deferred = not_came (λ is. cc) (λ why. let is : c ≡ why.0 = same why.1 in let no = ap (λ (x : ClockId). rooted s.defs s.clocks x.0) is ∙ why.2 in cc);
-      given_ = λ a is root. refl;
-    })
-    (λ e. record {
-      unknown = not_came (λ is. cc) (λ none. cc);
-      deferred = came refl (c, refl, e);
-      given_ = λ a is root. let no : rooted s.defs s.clocks c.0 ≡ true = ap (λ (x : ClockId). rooted s.defs s.clocks x.0) (same is) ∙ root in absurd cc;
-    }) where
-      same : {a b : ClockId} → Some a ≡ Some b → a ≡ b
-      same e = cc
-
-put_turns : (s : State) (number : ℕ) (row : HandleRow) → Known (PutTurns row) (put_back s number row)
-put_turns s number row =
-    pick_either (Known (PutTurns row)) _ _ _
-    (λ e. (record { busy = came refl ((holds_tells row).0 e); done = not_came (λ is. cc) (λ never. never ((holds_tells row).0 e)) }, λ is. cc))
-    (λ e. (record { busy = not_came (λ is. cc) ((holds_tells row).1 e); done = came refl ((holds_tells row).1 e) }, λ is. cc))
-
--- ---- prepares
-
-prepare_turns : (s : State) (d : ℕ) (what : Sleeping) (number : ℕ) (row : HandleRow) → Known (PrepareTurns s d what row) (prepare s d what number row)
-prepare_turns s d what number row =
-    pick_either (Known (PrepareTurns s d what row)) _ _ _
-    (λ e. let none = none_first (unprepared_plls s (path s.clocks row.clock.0)) e in
-    (record { done = came refl none; rest = rest_not fine (NoneToRaise s row.clock.0 → ⊥) s _ (λ is. cc) (λ is. cc) (λ some. some none) }, λ is. cc))
-    (λ e. goes (some_first (unprepared_plls s (path s.clocks row.clock.0)) e) (starts s s k).1 (started s s k)) where
-      k : Change
-      k = change_of s d what (micro.Raise row.clock ∷ micro.End ∷ [])
-
-      goes : (NoneToRaise s row.clock.0 → ⊥) → (given : Turn) → HowStarted given s k → PrepareTurns s d what row given × (given ≡ refusal errno.ENOENT → ⊥)
-      goes some given how = (
-        record { done = not_came (no_answer given fine s k how (λ is. cc) (λ is. cc)) some; rest = rest_is given (NoneToRaise s row.clock.0 → ⊥) s k how some },
-        no_answer given (refusal errno.ENOENT) s k how (λ is. cc) (λ is. cc),
-      )
-
-unprepare_turns : (s : State) (d : ℕ) (what : Sleeping) (number : ℕ) (row : HandleRow) → Known (UnprepareTurns s d what number row) (unprepare s d what number row)
-unprepare_turns s d what number row =
-    pick_either (Known (UnprepareTurns s d what number row)) _ _ _
-    (λ e. let has = (keeps_tells row).0 e in
-    (record { kept = came refl has; done = not_came (λ is. cc) (λ why. why.0 has); rest = rest_not warned left less k (λ is. cc) (λ is. cc) (λ why. why.0 has) }, λ is. cc))
-    (λ e. let free = (keeps_tells row).1 e in
-    pick_either (Known (UnprepareTurns s d what number row)) _ _ _
-    (λ f. let none = none_first (filter (runs s.defs s.regs) (unprepared_plls less (path s.clocks row.clock.0))) f in
-    (record { kept = not_came (λ is. cc) free; done = came refl (free, none); rest = rest_not fine left less k (λ is. cc) (λ is. cc) (λ why. why.1 none) }, λ is. cc))
-    (λ f. goes free (some_first (filter (runs s.defs s.regs) (unprepared_plls less (path s.clocks row.clock.0))) f) (starts s less k).1 (started s less k))) where
-      less : State
-      less = one_less s number row
-
-      k : Change
-      k = change_of s d what (micro.Lower row.clock ∷ micro.End ∷ [])
-
-      left : Type 0
-      left = (KeepsPrepare row → ⊥) × (NoneToLower less row.clock.0 → ⊥)
-
-      goes : (KeepsPrepare row → ⊥) → (NoneToLower less row.clock.0 → ⊥) → (given : Turn) → HowStarted given less k → UnprepareTurns s d what number row given × (given ≡ refusal errno.ENOENT → ⊥)
-      goes free some given how = (
-        record {
-          kept = not_came (no_answer given warned less k how (λ is. cc) (λ is. cc)) free;
-          done = not_came (no_answer given fine less k how (λ is. cc) (λ is. cc)) (λ why. some why.1);
-          rest = rest_is given left less k how (free, some);
-        },
-        no_answer given (refusal errno.ENOENT) less k how (λ is. cc) (λ is. cc),
-      )
-
--- ---- rates
-
-round_turns : (s : State) (number : ℕ) (row : HandleRow) (x : ℕ) → Known (RoundTurns s number row x) (rounded s number row x)
-round_turns s number row x = by (round_rate (wiring s) (view (lift s number)) row.clock.0 x) refl where
-  by : (o : Option ℕ) → round_rate (wiring s) (view (lift s number)) row.clock.0 x ≡ o
-      → Known (RoundTurns s number row x) (option_map_or (λ r. done s (reply.Rate r)) o (refused s errno.EINVAL))
-  by None e = (record { told = λ r is. let no : None ≡ Some r = sym e ∙ is in absurd cc; none = came refl e }, λ is. cc)
-  by (Some r) e = (
-    record {
-      told = λ y is. ap (λ (z : ℕ). turn.Done (reply.Rate z)) (inside (sym e ∙ is));
-      none = not_came (λ is. cc) (λ none. let no : None ≡ Some r = sym none ∙ e in cc);
-    },
-    λ is. cc,
-  ) where
-    inside : {a b : ℕ} → Some a ≡ Some b → a ≡ b
-    inside is = cc
-
-same_plan : {a b : List ChainStep} → Some a ≡ Some b → a ≡ b
-same_plan e = cc
-
-request_turns : (o n f lifted : State) (d : ℕ) (what : Sleeping) (c x : ℕ) (range : Option (ℕ × ℕ)) → Known (RequestTurns n lifted d what c x range) (request o n f lifted d what c x range)
-request_turns o n f lifted d what c x range =
-    pick_either (Known (RequestTurns n lifted d what c x range)) _ _ _
-    (λ e. let keeps = some_at (rate n.defs n.regs n.clocks c) (round_rate (wiring n) (free_view lifted c) c x) e in (
-      record {
-        done = came refl keeps;
-        busy = not_came (λ is. cc) (λ why. why.0 keeps);
-        no_plan = not_came (λ is. cc) (λ why. why.0 keeps);
-        full = not_came (λ is. cc) (λ why. why.1.0 keeps);
-        going = not_came (λ is. cc) (λ why. why.1.0 keeps);
-      },
-      λ is. cc,
-    ))
-    (λ e. let changes = not_at (rate n.defs n.regs n.clocks c) (round_rate (wiring n) (free_view lifted c) c x) e in
-    pick_either (Known (RequestTurns n lifted d what c x range)) _ _ _
-    (λ g. (
-      record {
-        done = not_came (λ is. cc) changes;
-        busy = came refl (changes, g);
-        no_plan = not_came (λ is. cc) (λ why. let no = why.1 in cc);
-        full = not_came (λ is. cc) (λ why. let no = why.1.1 in cc);
-        going = not_came (λ is. cc) (λ why. let no = why.1.1 in cc);
-      },
-      λ is. cc,
-    ))
-    (λ g. by changes g (chain (wiring n) (view lifted) c x) refl)) where
-      with_plan : (KeepsRate n lifted c x → ⊥) → guarded lifted c ≡ false → (ks : List ChainStep) → chain (wiring n) (view lifted) c x ≡ Some ks → (given : Turn) → HowStarted given n (change_along n d what ks [] range)
-          → RequestTurns n lifted d what c x range given × (given ≡ refusal errno.ENOENT → ⊥)
-      with_plan changes g ks at given how = (
-        record {
-          done = not_came (no_answer given fine n _ how (λ is. cc) (λ is. cc)) changes;
-          busy = not_came (no_answer given (refusal errno.EBUSY) n _ how (λ is. cc) (λ is. cc)) (λ why. let no = why.1 in cc);
-          no_plan = not_came (no_answer given (refusal errno.EINVAL) n _ how (λ is. cc) (λ is. cc)) (λ why. let no : None ≡ Some ks = sym why.2 ∙ at in cc);
-          full = full_of how;
-          going = going_of how;
-        },
-        no_answer given (refusal errno.ENOENT) n _ how (λ is. cc) (λ is. cc),
-      ) where
-        full_of : HowStarted given n (change_along n d what ks [] range) → Comes (refusal errno.ENOSPC) given
-            ((js : List ChainStep) × HasPlan n lifted c x (Some js) × (HasRoom n (change_along n d what js [] range) → ⊥))
-        full_of (short is never) = came is (ks, (changes, g, at), never)
-        full_of (roomy is room) =
-            not_came (λ no. cc) (λ why. why.2 (subst (λ (js : List ChainStep). HasRoom n (change_along n d what js [] range)) (same_plan (sym at ∙ why.1.2)) room))
-
-        going_of : HowStarted given n (change_along n d what ks [] range) → Comes turn.Going given
-            ((js : List ChainStep) × HasPlan n lifted c x (Some js) × HasRoom n (change_along n d what js [] range))
-        going_of (short is never) =
-            not_came (λ no. cc) (λ why. never (subst (λ (js : List ChainStep). HasRoom n (change_along n d what js [] range)) (sym (same_plan (sym at ∙ why.1.2))) why.2))
-        going_of (roomy is room) = came is (ks, (changes, g, at), room)
-
-      by : (KeepsRate n lifted c x → ⊥) → guarded lifted c ≡ false → (plan : Option (List ChainStep)) → chain (wiring n) (view lifted) c x ≡ plan
-          → Known (RequestTurns n lifted d what c x range) (option_map_or (λ ks. starts o n (change_along n d what ks [] range)) plan (refused o errno.EINVAL))
-      by changes g None at = (
-        record {
-          done = not_came (λ is. cc) changes;
-          busy = not_came (λ is. cc) (λ why. let no = why.1 in cc);
-          no_plan = came refl (changes, g, at);
-          full = not_came (λ is. cc) (λ why. let no : None ≡ Some why.0 = sym at ∙ why.1.2 in cc);
-          going = not_came (λ is. cc) (λ why. let no : None ≡ Some why.0 = sym at ∙ why.1.2 in cc);
-        },
-        λ is. cc,
-      )
-      by changes g (Some ks) at = with_plan changes g ks at (starts o n (change_along n d what ks [] range)).1 (started o n (change_along n d what ks [] range))
-
-range_turns : (s : State) (d : ℕ) (what : Sleeping) (number : ℕ) (row : HandleRow) (least most : ℕ) → Known (RangeTurns s d what number row least most) (range_set s d what number row least most)
-range_turns s d what number row least most =
-    let n : State = with_limits s number row least most in
-    pick_either (Known (RangeTurns s d what number row least most)) _ _ _
-    (λ e. (record { missed = λ is. refl; asked = λ fits. absurd cc }, λ is. cc))
-    (λ e. let asked = request_turns s n n (lift n number) d what row.clock.0 (request_between s.clocks row.clock.0 least most) (Some (row.min, row.max)) in
-    (record { missed = λ is. absurd cc; asked = λ fits. asked.0 }, asked.1))
+use Rattle.clk_model.proofs.RateCauseLaws.{get_turns, put_turns, prepare_turns, unprepare_turns, round_turns, request_turns, range_turns}
+use Rattle.clk_model.proofs.TurnLaws.{came, not_came, not_at, none_first, started, rest_is, no_answer, rest_not, only_unknown, on_handle, HowStarted, Known}
+use Rattle.clk_model.proofs.WalkLaws.{is_at_same}
 
 -- ---- parents
 
@@ -341,7 +91,7 @@ candidate_not s c p e is =
 parent_turns : (s lifted : State) (d : ℕ) (what : Sleeping) (c p : ℕ) → Known (ParentTurns s lifted d what c p) (parent_set s lifted d what c p)
 parent_turns s lifted d what c p =
     pick_either (Known (ParentTurns s lifted d what c p)) _ _ _
-    (λ e. let at = some_at p (link_in s.clocks c) e in (
+    (λ e. let at = is_at_same p (link_in s.clocks c) e in (
       record {
         done = came refl at;
         bound = not_came (λ is. cc) (λ why. why.0 at);

@@ -91,6 +91,8 @@ pub mod SameSettingLaws
 pub mod BareHandleLaws
 pub mod PlannedSameLaws
 pub mod PlansReadLaws
+pub mod TurnLaws
+pub mod RateCauseLaws
 pub mod CallCauseLaws
 pub mod PolledLaws
 pub mod EndCauseLaws
@@ -100,3 +102,4 @@ pub mod MuxLaws
 pub mod StepActLaws
 pub mod PlanScriptLaws
 pub mod OutcomeWrittenLaws
+pub mod JournalCauseLaws

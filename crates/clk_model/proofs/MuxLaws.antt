@@ -100,7 +100,8 @@ rounds_stay : (w : Wiring) (view : View) (c x : ℕ) → IfSome (round w view c 
 unfolding round
 rounds_stay w view c x = by_stays (rate_for depth w view) w view c x
 
-place_self : (o : Option ℕ) → same_place o o ≡ true
+-- a place is the same as itself
+pub place_self : (o : Option ℕ) → same_place o o ≡ true
 place_self None = refl
 place_self (Some x) = test_same x
 

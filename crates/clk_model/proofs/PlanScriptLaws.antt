@@ -31,8 +31,8 @@ use Rattle.clk_model.specs.Laws.Plans.{HasParent, LeadsFrom}
 use Rattle.clk_model.specs.Laws.PlansRead.{plans}
 use Rattle.clk_model.proofs.ActedLaws.{acted, acted_append, leaves_tree, all_left, writes_fit}
 use Rattle.clk_model.proofs.BeginsLaws.{Starts, raising_handle, lowering_handle, planning, reparents, probing, sweeping, IsPlannedOver, over_itself, over_range, Begins, answers, gives, takes, adjusts, prepares, unprepares, notes, registers, goes_on, begins_so}
-use Rattle.clk_model.proofs.Members.{same_from_test, test_same}
-use Rattle.clk_model.proofs.MuxLaws.{IsMux, moved_are_muxes}
+use Rattle.clk_model.proofs.Members.{same_from_test}
+use Rattle.clk_model.proofs.MuxLaws.{place_self, IsMux, moved_are_muxes}
 use Rattle.clk_model.proofs.NoneLaws.{none_front, none_rest}
 use Rattle.clk_model.proofs.OutcomeLaws.{SettingsFit}
 use Rattle.clk_model.proofs.PlanLaws.{chains_lead}
@@ -157,10 +157,7 @@ pub record AlongPlan (q : State) (k : Change) : Type 0 where
 
 stays_put : (clocks : List ClockRow) (k : ChainStep) → moves clocks k ≡ true → k.parent ≡ link_in clocks k.clock → ⊥
 stays_put clocks k away same =
-    true≢false (sym away ∙ ap (λ (o : Option ℕ). not (same_place o (link_in clocks k.clock))) same ∙ ap not (self (link_in clocks k.clock))) where
-      self : (o : Option ℕ) → same_place o o ≡ true
-      self None = refl
-      self (Some x) = test_same x
+    true≢false (sym away ∙ ap (λ (o : Option ℕ). not (same_place o (link_in clocks k.clock))) same ∙ ap not (place_self (link_in clocks k.clock)))
 
 -- a moved clock of a plan is a mux, and gets a parent
 muxes_of : (w : Wiring) (ks : List ChainStep) → AllByRecursion (HasParent w) ks → AllByRecursion (IsMux w) ks → AllByRecursion (MovesMux w.defs w.clocks) ks

@@ -180,18 +180,19 @@ along_off before ks (c ∷ cs) w off =
     ap (λ (o : Option ChainStep). set_along before ks cs (option_map_or (λ k. set_planned before k w) o w)) (find_none c ks (off c (is_in_head c cs)))
     ∙ along_off before ks cs w (λ d m. off d (is_in_tail d c cs m))
 
+turned_test : (a b : ℕ) → nat_eq b a ≡ false → nat_eq a b ≡ false
+turned_test a b e = by (nat_eq a b) refl where
+  by : (t : Bool) → nat_eq a b ≡ t → t ≡ false
+  by false f = refl
+  by true f = absurd (true≢false (sym (test_same b) ∙ ap (λ (z : ℕ). nat_eq b z) (sym (same_from_test a b f)) ∙ e))
+
 -- a step whose clock isn't in the list
 along_less : (before : List ClockRow) (k : ChainStep) (ks : List ChainStep) (cs : List ℕ) (w : Wiring) → is_in k.clock cs ≡ false → set_along before (k ∷ ks) cs w ≡ set_along before ks cs w
 along_less before k ks [] w out = refl
 along_less before k ks (c ∷ cs) w out =
     let parts = not_either (nat_eq c k.clock) (is_in k.clock cs) out in
-    ap (λ (o : Option ChainStep). set_along before (k ∷ ks) cs (option_map_or (λ l. set_planned before l w) o w)) (find_past c k ks (other_way c k.clock parts.0))
-    ∙ along_less before k ks cs (set_at before ks c w) parts.1 where
-      other_way : (a b : ℕ) → nat_eq a b ≡ false → nat_eq b a ≡ false
-      other_way a b e = by (nat_eq b a) refl where
-        by : (t : Bool) → nat_eq b a ≡ t → t ≡ false
-        by false f = refl
-        by true f = absurd (true≢false (sym (test_same a) ∙ ap (λ (x : ℕ). nat_eq a x) (sym (same_from_test b a f)) ∙ e))
+    ap (λ (o : Option ChainStep). set_along before (k ∷ ks) cs (option_map_or (λ l. set_planned before l w) o w)) (find_past c k ks (turned_test k.clock c parts.0))
+    ∙ along_less before k ks cs (set_at before ks c w) parts.1
 
 split_at : (c : ℕ) (cs : List ℕ) → is_in c cs ≡ true → (front : List ℕ) × (back : List ℕ) × (cs ≡ front ++ c ∷ back)
 split_at c [] m = absurd cc
@@ -224,16 +225,10 @@ once_split (x ∷ xs) c ys once =
     let rest = once_split xs c ys head.1 in
     let apart = not_either (is_in x xs) (is_in x (c ∷ ys)) (sym (is_in-append x xs (c ∷ ys)) ∙ head.0) in
     let other = (not_either (nat_eq c x) (is_in x ys) apart.1).0 in
-    (both (nat_eq x c) (turned x c other) rest.0, rest.1) where
+    (both (nat_eq x c) (turned_test x c other) rest.0, rest.1) where
       both : (t : Bool) → t ≡ false → is_in c xs ≡ false → (t || is_in c xs) ≡ false
       both true e f = absurd (true≢false e)
       both false e f = f
-
-      turned : (a b : ℕ) → nat_eq b a ≡ false → nat_eq a b ≡ false
-      turned a b e = by (nat_eq a b) refl where
-        by : (t : Bool) → nat_eq a b ≡ t → t ≡ false
-        by false f = refl
-        by true f = absurd (true≢false (sym (test_same b) ∙ ap (λ (z : ℕ). nat_eq b z) (sym (same_from_test a b f)) ∙ e))
 
 -- ---- the outcome
 

@@ -1,5 +1,5 @@
 -- Why a call that goes on ends as it does: each reply comes exactly where its cause holds, over the call's own entries.
-use Rattle.std.specs.Prelude.{◌≡◌, ◌↔◌, ◌<◌, ℕ, ◌+◌, ◌==◌, List, [], ◌∷◌, Bool, true, false, not, ◌&&◌, ◌||◌, if◌then◌else◌, Option, Some, nat_le, count_by}
+use Rattle.std.specs.Prelude.{◌≡◌, ◌↔◌, ◌<◌, ℕ, ◌+◌, ◌==◌, List, [], ◌∷◌, ◌++◌, Bool, true, false, not, ◌&&◌, ◌||◌, if◌then◌else◌, Option, Some, None, nat_le, count_by}
 use Rattle.std.specs.List.{list_any}
 use Rattle.clk_base.specs.declared.call.Micro.{Micro}
 use Rattle.clk_base.specs.declared.call.Micro.TheVariants as micro
@@ -72,6 +72,25 @@ pub record IsCall (q : State) (d : ℕ) (what : Sleeping) (since : List Entry) (
 -- each call that goes on ends for its cause
 abbrev pub EndsHaveCauses : Type 0
 EndsHaveCauses = (q t : State) (d : ℕ) (what : Sleeping) (since : List Entry) (r : Reply) → IsCall q d what since t r → EndCauses since r
+
+-- an end in a journal is that of a call of the same driver that has begun in it, where none was in flight, and has its cause over the
+-- entries since then
+pub record EndsCall (start : State) (journal : List Entry) (last : Entry) (r : Reply) : Type 0 where
+  pub before : List Entry
+  pub first : Entry
+  pub since : List Entry
+  pub what : Sleeping
+  pub parts : journal ≡ before ++ first ∷ since
+  pub quiet : (replay start before).change ≡ None
+  pub beginning : first.event ≡ event.Begin what
+  pub own : last.driver ≡ first.driver
+  pub one : list_any (λ e. begins_call e.event) since ≡ false
+  pub causes : EndCauses since r
+
+-- so it is with each end in each legal journal that starts with no call in flight
+abbrev pub JournalsHaveCauses : Type 0
+JournalsHaveCauses = (start : State) (journal : List Entry) (last : Entry) (m : Micro) (answer : Option Bool) (r : Reply) → start.change ≡ None → Legal start (journal ++ last ∷ [])
+    → last.event ≡ event.Step m answer → last.turn ≡ turn.Done r → EndsCall start journal last r
 
 -- a PLL that doesn't lock has a longer delay than a call polls, where entries are legal and their polls answer by the delays of the
 -- PLLs, whatever was polled before
