@@ -96,6 +96,7 @@ pub mod RateCauseLaws
 pub mod CallCauseLaws
 pub mod PolledLaws
 pub mod EndCauseLaws
+pub mod DelayLaws
 pub mod ActedLaws
 pub mod WalkedLaws
 pub mod MuxLaws

@@ -1,4 +1,5 @@
-use Rattle.clk_model.proofs.EndCauseLaws.{ends_have_causes, late_have_delays}
+use Rattle.clk_model.proofs.DelayLaws.{late_have_delays}
+use Rattle.clk_model.proofs.EndCauseLaws.{ends_have_causes}
 use Rattle.clk_model.proofs.JournalCauseLaws.{journals_have_causes}
 use Rattle.clk_model.proofs.laws.causes.ends_have_causes.Goals as goal
 
