@@ -177,6 +177,48 @@ running_causes s t d n r comes = by (own_handle s d n) refl where
       }
   by (Some h) own = told h (active s h.clock.0) own refl
 
+-- ---- handles
+
+some_held : (a b c : ℕ) → (nat_lt 0 a || nat_lt 0 b || nat_lt 0 c) ≡ true → (0 < a) ⊎ ((0 < b) ⊎ (0 < c))
+some_held zero zero zero e = absurd cc
+some_held zero zero (suc c) e = inr (inr (omega arith))
+some_held zero (suc b) c e = inr (inl (omega arith))
+some_held (suc a) b c e = inl (omega arith)
+
+zero_from : (a : ℕ) → nat_lt 0 a ≡ false → 0 < a → ⊥
+zero_from a e more = let is : nat_lt 0 a ≡ true = grind (arith, nat_tests) in let no : true ≡ false = sym is ∙ e in cc
+
+none_held : (a b c : ℕ) → (nat_lt 0 a || nat_lt 0 b || nat_lt 0 c) ≡ false → (0 < a) ⊎ ((0 < b) ⊎ (0 < c)) → ⊥
+none_held a b c e (inl more) = zero_from a (not_either (nat_lt 0 a) (nat_lt 0 b) (not_either (nat_lt 0 a || nat_lt 0 b) (nat_lt 0 c) e).0).0 more
+none_held a b c e (inr (inl more)) = zero_from b (not_either (nat_lt 0 a) (nat_lt 0 b) (not_either (nat_lt 0 a || nat_lt 0 b) (nat_lt 0 c) e).0).1 more
+none_held a b c e (inr (inr more)) = zero_from c (not_either (nat_lt 0 a || nat_lt 0 b) (nat_lt 0 c) e).1 more
+
+-- the test tells whether a handle holds something
+pub holds_tells : (row : HandleRow) → (holds_something row ≡ true → HoldsSomething row) × (holds_something row ≡ false → HoldsSomething row → ⊥)
+holds_tells row = (some_held row.prepares row.enables row.exclusives, none_held row.prepares row.enables row.exclusives)
+
+keeps : (row : HandleRow) → keeps_prepare row ≡ true → KeepsPrepare row
+keeps row e = elim (nat_eq row.prepares 0) as (λ b. nat_eq row.prepares 0 ≡ b → (b || (nat_eq row.prepares 1 && nat_lt 0 row.enables)) ≡ true → KeepsPrepare row) [
+  | true ↦ λ zero_ _. inl (grind (arith, nat_tests))
+  | false ↦ λ more both. inr (grind (arith, nat_tests), grind (arith, nat_tests))
+] refl e
+
+gives_up : (row : HandleRow) → keeps_prepare row ≡ false → KeepsPrepare row → ⊥
+gives_up row e (inl none_) = let no : nat_eq row.prepares 0 ≡ true = grind (arith, nat_tests) in let is : true ≡ false = sym (ap (λ (b : Bool). b || (nat_eq row.prepares 1 && nat_lt 0 row.enables)) no) ∙ e in cc
+gives_up row e (inr one) =
+    let p : nat_eq row.prepares 1 ≡ true = (let is = one.0 in grind (arith, nat_tests)) in
+    let q : nat_lt 0 row.enables ≡ true = (let some = one.1 in grind (arith, nat_tests)) in
+    absurd (three (nat_eq row.prepares 0) _ _ p q e) where
+      three : (a b c : Bool) → b ≡ true → c ≡ true → (a || (b && c)) ≡ false → ⊥
+      three true b c p q e = cc
+      three false true true p q e = cc
+      three false true false p q e = cc
+      three false false c p q e = cc
+
+-- and whether it keeps its prepare
+pub keeps_tells : (row : HandleRow) → (keeps_prepare row ≡ true → KeepsPrepare row) × (keeps_prepare row ≡ false → KeepsPrepare row → ⊥)
+keeps_tells row = (keeps row, gives_up row)
+
 -- ---- calls
 
 pub get_causes : (s t : State) (d : ℕ) (found : Option ClockId) (r : Reply) → s.change ≡ None → next s d (event.Begin (call.Get found)) ≡ Some (t, slotless (turn.Done r))
@@ -225,24 +267,10 @@ get_causes s t d (Some c) r quiet comes = by (rooted s.defs s.clocks c.0) refl w
 pub put_causes : (s t : State) (d : ℕ) (h : Handle) (r : Reply) → s.change ≡ None → next s d (event.Begin (call.Put h)) ≡ Some (t, slotless (turn.Done r))
     → PutCauses s d h.number r
 put_causes s t d h r quiet comes = by (own_handle s d h.number) refl where
-  some : (a b c : ℕ) → (nat_lt 0 a || nat_lt 0 b || nat_lt 0 c) ≡ true → (0 < a) ⊎ ((0 < b) ⊎ (0 < c))
-  some zero zero zero e = absurd cc
-  some zero zero (suc c) e = inr (inr (omega arith))
-  some zero (suc b) c e = inr (inl (omega arith))
-  some (suc a) b c e = inl (omega arith)
-
-  zero_from : (a : ℕ) → nat_lt 0 a ≡ false → 0 < a → ⊥
-  zero_from a e more = let is : nat_lt 0 a ≡ true = grind (arith, nat_tests) in let no : true ≡ false = sym is ∙ e in cc
-
-  none : (a b c : ℕ) → (nat_lt 0 a || nat_lt 0 b || nat_lt 0 c) ≡ false → (0 < a) ⊎ ((0 < b) ⊎ (0 < c)) → ⊥
-  none a b c e (inl more) = zero_from a (not_either (nat_lt 0 a) (nat_lt 0 b) (not_either (nat_lt 0 a || nat_lt 0 b) (nat_lt 0 c) e).0).0 more
-  none a b c e (inr (inl more)) = zero_from b (not_either (nat_lt 0 a) (nat_lt 0 b) (not_either (nat_lt 0 a || nat_lt 0 b) (nat_lt 0 c) e).0).1 more
-  none a b c e (inr (inr more)) = zero_from c (not_either (nat_lt 0 a || nat_lt 0 b) (nat_lt 0 c) e).1 more
-
   told : (row : HandleRow) (b : Bool) → own_handle s d h.number ≡ Some row → holds_something row ≡ b → PutCauses s d h.number r
   told row true own holds =
       let is = replies s s t d (event.Begin (call.Put h)) r (reply.Refused errno.EBUSY) comes (put-busy s d h row quiet own holds) refl in
-      let has : HoldsSomething row = some row.prepares row.enables row.exclusives holds in
+      let has : HoldsSomething row = (holds_tells row).0 holds in
       record {
         unknown = other (λ e. cc) (has_not_lacks s d h.number row own);
         busy = this is (row, own, has);
@@ -250,7 +278,7 @@ put_causes s t d h r quiet comes = by (own_handle s d h.number) refl where
       }
   told row false own free =
       let is = replies s _ t d (event.Begin (call.Put h)) r reply.Fine comes (put-fine s d h row quiet own free) refl in
-      let never : HoldsSomething row → ⊥ = none row.prepares row.enables row.exclusives free in
+      let never : HoldsSomething row → ⊥ = (holds_tells row).1 free in
       record {
         unknown = other (λ e. cc) (has_not_lacks s d h.number row own);
         busy = other (λ e. cc) (has_not s d h.number row HoldsSomething own never);
@@ -282,38 +310,20 @@ pub unprepare_causes : (s t : State) (d : ℕ) (h : Handle) (r : Reply) → s.ch
     → ((row : HandleRow) → own_handle s d h.number ≡ Some row → keeps_prepare row ≡ false → unprepared_plls (prepared_once_less s h.number row) (path s.clocks row.clock.0) ≡ [])
     → next s d (event.Begin (call.Unprepare h)) ≡ Some (t, slotless (turn.Done r)) → UnprepareCauses s d h.number r
 unprepare_causes s t d h r quiet none comes = by (own_handle s d h.number) refl where
-  keeps : (row : HandleRow) → keeps_prepare row ≡ true → KeepsPrepare row
-  keeps row e = elim (nat_eq row.prepares 0) as (λ b. nat_eq row.prepares 0 ≡ b → (b || (nat_eq row.prepares 1 && nat_lt 0 row.enables)) ≡ true → KeepsPrepare row) [
-    | true ↦ λ zero_ _. inl (grind (arith, nat_tests))
-    | false ↦ λ more both. inr (grind (arith, nat_tests), grind (arith, nat_tests))
-  ] refl e
-
-  gives_up : (row : HandleRow) → keeps_prepare row ≡ false → KeepsPrepare row → ⊥
-  gives_up row e (inl none_) = let no : nat_eq row.prepares 0 ≡ true = grind (arith, nat_tests) in let is : true ≡ false = sym (ap (λ (b : Bool). b || (nat_eq row.prepares 1 && nat_lt 0 row.enables)) no) ∙ e in cc
-  gives_up row e (inr one) =
-      let p : nat_eq row.prepares 1 ≡ true = (let is = one.0 in grind (arith, nat_tests)) in
-      let q : nat_lt 0 row.enables ≡ true = (let some = one.1 in grind (arith, nat_tests)) in
-      absurd (three (nat_eq row.prepares 0) _ _ p q e) where
-        three : (a b c : Bool) → b ≡ true → c ≡ true → (a || (b && c)) ≡ false → ⊥
-        three true b c p q e = cc
-        three false true true p q e = cc
-        three false true false p q e = cc
-        three false false c p q e = cc
-
   told : (row : HandleRow) (b : Bool) → own_handle s d h.number ≡ Some row → keeps_prepare row ≡ b → UnprepareCauses s d h.number r
   told row true own kept =
       let is = replies s s t d (event.Begin (call.Unprepare h)) r reply.Warn comes (unprepare-warned s d h row quiet own kept) refl in
       record {
         unknown = other (λ e. cc) (has_not_lacks s d h.number row own);
-        kept = this is (row, own, keeps row kept);
-        fine = other (λ e. cc) (has_not s d h.number row (λ g. KeepsPrepare g → ⊥) own (λ never. never (keeps row kept)));
+        kept = this is (row, own, (keeps_tells row).0 kept);
+        fine = other (λ e. cc) (has_not s d h.number row (λ g. KeepsPrepare g → ⊥) own (λ never. never ((keeps_tells row).0 kept)));
       }
   told row false own free =
       let is = replies s _ t d (event.Begin (call.Unprepare h)) r reply.Fine comes (unprepare-fine s d h row quiet own free (none row own free)) refl in
       record {
         unknown = other (λ e. cc) (has_not_lacks s d h.number row own);
-        kept = other (λ e. cc) (has_not s d h.number row KeepsPrepare own (gives_up row free));
-        fine = this is (row, own, gives_up row free);
+        kept = other (λ e. cc) (has_not s d h.number row KeepsPrepare own ((keeps_tells row).1 free));
+        fine = this is (row, own, (keeps_tells row).1 free);
       }
 
   by : (o : Option HandleRow) → own_handle s d h.number ≡ o → UnprepareCauses s d h.number r

@@ -285,7 +285,7 @@ taken_none p [] (n ∷ ns) e f = (refl, none_rest p n ns f)
 taken_none p (n ∷ ns) left e f = (none_rest p n ns e, f)
 
 -- a step that comes next is none, where none of the steps to come is
-first_none : (p : Micro → Bool) (m : Micro) (ms : List Micro) → comes_next m ms ≡ true → list_any p ms ≡ false → p m ≡ false
+pub first_none : (p : Micro → Bool) (m : Micro) (ms : List Micro) → comes_next m ms ≡ true → list_any p ms ≡ false → p m ≡ false
 first_none p m ms e none =
     let first = comes_first m ms e in
     none_front p m first.0 (ap (λ (ns : List Micro). list_any p ns) (sym first.1) ∙ none)

@@ -24,7 +24,7 @@ selected-moved words defs before after cs regs c valid =
     (λ f at. field-gates_moved defs before after cs regs f (mux_off_gates words defs cs c f valid at))
 
 -- the field by which a clock divides or multiplies is its field
-scales_is_field : (kind : Kind) (f : Field) → scales_by kind ≡ Some f → field_of kind ≡ Some f
+pub scales_is_field : (kind : Kind) (f : Field) → scales_by kind ≡ Some f → field_of kind ≡ Some f
 scales_is_field (FixedRate rate) f at = absurd cc
 scales_is_field (Factor mult div) f at = absurd cc
 scales_is_field (Gate word bit set_to_disable) f at = absurd cc

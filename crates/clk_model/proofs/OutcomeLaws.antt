@@ -75,7 +75,7 @@ pub record SetsOne (k : ChainStep) (w v : Wiring) : Type 0 where
   pub link : k.clock < length w.clocks → row_of v.clocks k.clock ≡ record (row_of w.clocks k.clock) { link = option_map clock_id k.parent }
   pub fields : (f : Field) → IfSome (field_of (kind_of w.defs k.clock)) (LieApart f) → field v.regs f.word f.shift f.width ≡ field w.regs f.word f.shift f.width
 
-length-slice_set : (clocks : List ClockRow) (c : ℕ) (row : ClockRow) → length (slice_set clocks c row) ≡ length clocks
+pub length-slice_set : (clocks : List ClockRow) (c : ℕ) (row : ClockRow) → length (slice_set clocks c row) ≡ length clocks
 length-slice_set [] c row = refl
 length-slice_set (r ∷ clocks) zero row = refl
 length-slice_set (r ∷ clocks) (suc c) row = let rest = length-slice_set clocks c row in omega arith

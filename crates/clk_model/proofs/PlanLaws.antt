@@ -41,9 +41,9 @@ not_above_parent parents levels c p ends m a =
 -- ---- the chain
 
 -- a chain from a clock, each of whose clocks is above that one
-record Climbs (w : Wiring) (c : ℕ) (ks : List ChainStep) : Type 0 where
-  leads : LeadsFrom w c ks
-  above : AllByRecursion (λ k. IsAbove (parents_of w.defs) c k.clock) ks
+pub record Climbs (w : Wiring) (c : ℕ) (ks : List ChainStep) : Type 0 where
+  pub leads : LeadsFrom w c ks
+  pub above : AllByRecursion (λ k. IsAbove (parents_of w.defs) c k.clock) ks
 
 -- the step of a clock that is rounded so
 abbrev pub step_of : ℕ → Rounded → ChainStep
@@ -122,7 +122,7 @@ unfolding round
 climbs_here levels w view c x ends links each =
     climbs_rounded (chain_within levels w view) w view c x (round w view c x) ends (fits_round (rate_for depth w view) w view c x links) each
 
-climbs_within : (levels : ℕ) (w : Wiring) (view : View) (c x : ℕ) → LinesEnd w.defs → LinksArePossible w.defs w.clocks → IfSome (chain_within levels w view c x) (Climbs w c)
+pub climbs_within : (levels : ℕ) (w : Wiring) (view : View) (c x : ℕ) → LinesEnd w.defs → LinksArePossible w.defs w.clocks → IfSome (chain_within levels w view c x) (Climbs w c)
 climbs_within zero w view c x ends links = tt
 climbs_within (suc levels) w view c x ends links = both (can_round (kind_of w.defs c) || passes_on w c) (climbs_here levels w view c x ends links (λ p y. climbs_within levels w view p y ends links)) where
   both : (t : Bool) → IfSome (option_and_then (λ r. chain_from (chain_within levels w view) w view c x r) (round w view c x)) (Climbs w c) → IfSome (elim t [

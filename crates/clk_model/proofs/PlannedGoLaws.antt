@@ -108,7 +108,7 @@ registered_lt (row ∷ clocks) (suc c) e = let below : c < length clocks = regis
 abbrev pub moves_here : List ClockRow → ℕ → ChainStep → Bool
 moves_here clocks c k = (k.clock == c) && moves clocks k
 
-filter_off : (clocks : List ClockRow) (c : ℕ) (ks : List ChainStep) → is_in c (clocks_in ks) ≡ false → filter (moves_here clocks c) ks ≡ []
+pub filter_off : (clocks : List ClockRow) (c : ℕ) (ks : List ChainStep) → is_in c (clocks_in ks) ≡ false → filter (moves_here clocks c) ks ≡ []
 filter_off clocks c [] out = refl
 filter_off clocks c (k ∷ ks) out = by_test (nat_eq k.clock c) out (λ rest. filter_off clocks c ks rest) where
   by_test : (t : Bool) → (t || is_in c (clocks_in ks)) ≡ false → (is_in c (clocks_in ks) ≡ false → filter (moves_here clocks c) ks ≡ [])

@@ -30,7 +30,7 @@ field-cleared None regs f apart = refl
 field-cleared (Some gate) regs f apart = field-put_off regs f gate false (apart gate refl)
 
 -- gates that are cleared leave a field that lies apart from them
-field-gates_cleared : (defs : Description) (cs : List ℕ) (regs : Registers) (f : Field) → LiesOffGates defs cs f
+pub field-gates_cleared : (defs : Description) (cs : List ℕ) (regs : Registers) (f : Field) → LiesOffGates defs cs f
     → field (gates_cleared defs cs regs) f.word f.shift f.width ≡ field regs f.word f.shift f.width
 field-gates_cleared defs [] regs f off = refl
 field-gates_cleared defs (c ∷ cs) regs f off =
@@ -38,7 +38,7 @@ field-gates_cleared defs (c ∷ cs) regs f off =
     ∙ field-gates_cleared defs cs regs f (λ d gate m e. off d gate (is_in_tail d c cs m) e)
 
 -- so it reads the same in registers that are the same without their gates
-same_field : (defs : Description) (xs ys : Registers) (f : Field) → LiesOffGates defs (count_from 0 (length defs)) f → masked defs xs ≡ masked defs ys
+pub same_field : (defs : Description) (xs ys : Registers) (f : Field) → LiesOffGates defs (count_from 0 (length defs)) f → masked defs xs ≡ masked defs ys
     → field xs f.word f.shift f.width ≡ field ys f.word f.shift f.width
 unfolding masked
 same_field defs xs ys f off same =
@@ -46,7 +46,7 @@ same_field defs xs ys f off same =
     ∙ ap (λ (regs : Registers). field regs f.word f.shift f.width) same
     ∙ field-gates_cleared defs (count_from 0 (length defs)) ys f off
 
-same_words : (defs : Description) (xs ys : Registers) → masked defs xs ≡ masked defs ys → length xs ≡ length ys
+pub same_words : (defs : Description) (xs ys : Registers) → masked defs xs ≡ masked defs ys → length xs ≡ length ys
 unfolding masked
 same_words defs xs ys same =
     sym (length-gates_cleared defs (count_from 0 (length defs)) xs)
@@ -55,7 +55,7 @@ same_words defs xs ys same =
 
 -- ---- handles
 
-handle_masked : (handles : List (Option HandleRow)) (n : ℕ) → option_map without_enables (handle_at handles n) ≡ handle_at (map (option_map without_enables) handles) n
+pub handle_masked : (handles : List (Option HandleRow)) (n : ℕ) → option_map without_enables (handle_at handles n) ≡ handle_at (map (option_map without_enables) handles) n
 handle_masked [] n = refl
 handle_masked (o ∷ handles) zero = refl
 handle_masked (o ∷ handles) (suc n) = handle_masked handles n
@@ -63,7 +63,7 @@ handle_masked (o ∷ handles) (suc n) = handle_masked handles n
 -- ---- states
 
 -- a field of a clock that isn't a gate lies off the gates
-off_gates : (words : ℕ) (defs : Description) (c j : ℕ) (f : Field) → IsValid words defs → slice_get (fields_of (kind_of defs c)) j ≡ Some f
+pub off_gates : (words : ℕ) (defs : Description) (c j : ℕ) (f : Field) → IsValid words defs → slice_get (fields_of (kind_of defs c)) j ≡ Some f
     → gate_of (kind_of defs c) ≡ None → LiesOffGates defs (count_from 0 (length defs)) f
 off_gates words defs c j f valid at none d gate m at' =
     fields_apart words defs valid c j f d 0 (bit_field gate.word gate.bit) at (gate-field (kind_of defs d) gate at')

@@ -51,7 +51,7 @@ round_better P x best r old new =
       | false ↦ old
     ]
 
-round_fold : (P : Rounded → Type 0) (x : ℕ) (best : Option Rounded) (tries : List Rounded) → IfSome best P → AllByRecursion P tries
+pub round_fold : (P : Rounded → Type 0) (x : ℕ) (best : Option Rounded) (tries : List Rounded) → IfSome best P → AllByRecursion P tries
     → IfSome (fold (better x) best tries) P
 round_fold P x best [] old each = old
 round_fold P x best (r ∷ tries) old each = round_fold P x (better x best r) tries (round_better P x best r old each.0) each.1
@@ -60,7 +60,7 @@ round_consed : (P : Rounded → Type 0) (o : Option Rounded) (rs : List Rounded)
 round_consed P None rs here rest = rest
 round_consed P (Some r) rs here rest = (here, rest)
 
-round_tries : (P : Rounded → Type 0) (try : ℕ → Option Rounded) (xs : List ℕ) → ((x : ℕ) → is_in x xs ≡ true → IfSome (try x) P)
+pub round_tries : (P : Rounded → Type 0) (try : ℕ → Option Rounded) (xs : List ℕ) → ((x : ℕ) → is_in x xs ≡ true → IfSome (try x) P)
     → AllByRecursion P (filter_map try xs)
 round_tries P try [] each = tt
 round_tries P try (x ∷ xs) each =
@@ -68,7 +68,7 @@ round_tries P try (x ∷ xs) each =
 
 -- ---- dividers and muxes
 
-round_or : (P : Rounded → Type 0) (first second : Option Rounded) → IfSome first P → IfSome second P
+pub round_or : (P : Rounded → Type 0) (first second : Option Rounded) → IfSome first P → IfSome second P
     → IfSome (elim first [ Some r ↦ Some r | None ↦ second ]) P
 round_or P None second f g = g
 round_or P (Some r) second f g = f

@@ -66,14 +66,14 @@ chosen_fits style width p wide =
     subst (λ (xs : List ℕ). least_or_greatest p xs < 2 ^ width) (sym some.2)
     (chosen_keeps (λ n. n < 2 ^ width) p some.0 some.1 (subst (λ (xs : List ℕ). AllByRecursion (λ n. n < 2 ^ width) xs) some.2 (fields_fit style width)))
 
-div_setting-fits : (style : DivStyle) (parent rate width : ℕ) → IsDividerWidth style width → div_setting parent rate width style < 2 ^ width
+pub div_setting-fits : (style : DivStyle) (parent rate width : ℕ) → IsDividerWidth style width → div_setting parent rate width style < 2 ^ width
 unfolding div_setting
 div_setting-fits style parent rate width wide = chosen_fits style width _ wide
 
 is_wide : (most width : ℕ) → is_width most width ≡ true → (1 ≤ width) × (width ≤ most)
 is_wide most width is = let parts = and_parts _ _ is in ((let low = ltb-true 0 width parts.0 in omega arith), leb-true width most parts.1)
 
-divider_wide : (one_based power_of_two : Bool) (width : ℕ) → cond power_of_two (is_width 5 width && not one_based) (is_width 16 width) ≡ true
+pub divider_wide : (one_based power_of_two : Bool) (width : ℕ) → cond power_of_two (is_width 5 width && not one_based) (is_width 16 width) ≡ true
     → IsDividerWidth (style_of one_based power_of_two) width
 divider_wide one_based true width is = is_wide 5 width (and_parts _ _ is).0
 divider_wide true false width is = is_wide 16 width is

@@ -78,7 +78,7 @@ below_descends parents kids up most (suc levels) t is ends are = (
 -- ---- a chain is a line
 
 -- the first clock of a chain is below each clock of it
-head_below : (up : ℕ → Option ℕ) (k : ChainStep) (ks : List ChainStep) (d : ℕ) → LeadsUp (k ∷ ks) → AllByRecursion (λ l. up l.clock ≡ l.parent) (k ∷ ks) → is_in d (clocks_in (k ∷ ks)) ≡ true
+pub head_below : (up : ℕ → Option ℕ) (k : ChainStep) (ks : List ChainStep) (d : ℕ) → LeadsUp (k ∷ ks) → AllByRecursion (λ l. up l.clock ≡ l.parent) (k ∷ ks) → is_in d (clocks_in (k ∷ ks)) ≡ true
     → Above up k.clock d
 head_below up k [] d leads links m =
     elim (is_in_cases d k.clock [] m) [
@@ -91,7 +91,7 @@ head_below up k (l ∷ ks) d leads links m =
       | inr later ↦ above_link up k.clock l.clock d (links.0 ∙ leads.0) (head_below up l ks d leads.1 links.1 later)
     ]
 
-tail_leads : (k : ChainStep) (ks : List ChainStep) → LeadsUp (k ∷ ks) → LeadsUp ks
+pub tail_leads : (k : ChainStep) (ks : List ChainStep) → LeadsUp (k ∷ ks) → LeadsUp ks
 tail_leads k [] leads = tt
 tail_leads k (l ∷ ks) leads = leads.1
 

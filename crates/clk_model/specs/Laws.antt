@@ -17,3 +17,7 @@ pub mod RunsFed
 pub mod Exclusive
 pub mod NothingLeft
 pub mod ChangesTold
+pub mod PlansRead
+pub mod CallCauses
+pub mod EndCauses
+pub mod Outcomes

@@ -1,11 +1,13 @@
 //! Laws of the definitions: each is the contract of a function that does nothing.
 
+pub mod causes;
 pub mod ends;
 pub mod exclusives;
 pub mod feeding;
 pub mod flights;
 pub mod links;
 pub mod notices;
+pub mod outcomes;
 pub mod paths;
 pub mod plans;
 pub mod refusals;
