@@ -1,6 +1,7 @@
 //! How often each clock is enabled, prepared and protected, kept as three counts a clock.
 #![tactic(auto)]
 
+mod children;
 mod counts;
 mod coupled;
 mod flags;
