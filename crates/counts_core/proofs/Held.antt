@@ -121,7 +121,7 @@ few_taken own c v links few size within is d =
 -- ---- the three counts
 
 -- a flag outside of the description
-past_flag : (defs : Description) (d : ℕ) → length defs ≤ d → sets_rate_gate defs d ≡ false
+pub past_flag : (defs : Description) (d : ℕ) → length defs ≤ d → sets_rate_gate defs d ≡ false
 past_flag defs d past = ap (λ (def : ClockDef). has_flag def.flags 1) (get_or_past defs d nobody past)
 
 pub flags_all : (defs : Description) (gated : List Bool) → length gated ≡ length defs → ((d : ℕ) → d < length defs → get_or gated d false ≡ sets_rate_gate defs d)

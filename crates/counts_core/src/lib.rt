@@ -5,6 +5,7 @@ mod children;
 mod counts;
 mod coupled;
 mod flags;
+pub mod laws;
 mod tally;
 mod walk;
 
