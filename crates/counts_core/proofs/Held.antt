@@ -145,7 +145,7 @@ none_of zero d = refl
 none_of (suc n) zero = refl
 none_of (suc n) (suc d) = none_of n d
 
-nowhere : (n d : ℕ) → get_or (replicate n (none_link tt)) d None ≡ None
+pub nowhere : (n d : ℕ) → get_or (replicate n (none_link tt)) d None ≡ None
 nowhere zero d = refl
 nowhere (suc n) zero = refl
 nowhere (suc n) (suc d) = nowhere n d

@@ -8,3 +8,4 @@ pub mod Moving
 pub mod Listing
 pub mod Holding
 pub mod Standing
+pub mod Linking
