@@ -18,13 +18,13 @@ use Rattle.counts_core.specs.Counted.{is_held, sum_over}
 
 -- ---- children that count
 
-counts_true : (n : ℕ) → nat_lt 0 n ≡ true → 0 < n
+pub counts_true : (n : ℕ) → nat_lt 0 n ≡ true → 0 < n
 counts_true n e = grind (arith, nat_tests)
 
 pub true_counts : (n : ℕ) → 0 < n → nat_lt 0 n ≡ true
 true_counts n e = grind (arith, nat_tests)
 
-both_true : (a b : Bool) → a ≡ true → b ≡ true → (a && b) ≡ true
+pub both_true : (a b : Bool) → a ≡ true → b ≡ true → (a && b) ≡ true
 both_true true b e f = f
 both_true false b e f = cc
 
@@ -48,13 +48,13 @@ kids-some (l ∷ ls) (n ∷ ns) d some =
     ] refl some
 
 -- a link that leads to a clock
-leads_up : (links : List (Option ClockId)) (b d : ℕ) → leads d (get_or links b None) ≡ true → up_in links b ≡ Some d
+pub leads_up : (links : List (Option ClockId)) (b d : ℕ) → leads d (get_or links b None) ≡ true → up_in links b ≡ Some d
 leads_up links b d e = to (get_or links b None) e where
   to : (o : Option ClockId) → leads d o ≡ true → option_map (λ q. q.0) o ≡ Some d
   to None e = absurd (false≢true e)
   to (Some p) e = ap (λ (x : ℕ). Some x) (same_from_test p.0 d e)
 
-up_leads : (links : List (Option ClockId)) (b d : ℕ) → up_in links b ≡ Some d → leads d (get_or links b None) ≡ true
+pub up_leads : (links : List (Option ClockId)) (b d : ℕ) → up_in links b ≡ Some d → leads d (get_or links b None) ≡ true
 up_leads links b d e = to (get_or links b None) e where
   to : (o : Option ClockId) → option_map (λ q. q.0) o ≡ Some d → leads d o ≡ true
   to None e = absurd cc
@@ -95,14 +95,14 @@ holder_below links own counts sums (suc fuel) c some =
     ])
     (cases_lt 0 (get_or own c 0))
 
-own_within : (links : List (Option ClockId)) (own : List ℕ) (h : ℕ) → length own ≡ length links → 0 < get_or own h 0 → h < length links
+pub own_within : (links : List (Option ClockId)) (own : List ℕ) (h : ℕ) → length own ≡ length links → 0 < get_or own h 0 → h < length links
 own_within links own h long some =
     ⊎_elim
     (λ (less : h < length own). omega arith)
     (λ (past : length own ≤ h). let none = get_or_past own h 0 past in absurd (omega arith))
     (cases_lt h (length own))
 
-same_tests : (a b : Bool) → (a ≡ true → b ≡ true) → (b ≡ true → a ≡ true) → a ≡ b
+pub same_tests : (a b : Bool) → (a ≡ true → b ≡ true) → (b ≡ true → a ≡ true) → a ≡ b
 same_tests true b f g = sym (f refl)
 same_tests false true f g = g refl
 same_tests false false f g = refl

@@ -51,6 +51,9 @@ grows_less gated links own0 prep0 own prep own' prep' a grown step taken d =
     let less = taken d in
     omega arith
 
+pub grows_both : (gated : List Bool) (own0 prep0 own1 prep1 own2 prep2 : List ℕ) → Grows gated own0 prep0 own1 prep1 → Grows gated own1 prep1 own2 prep2 → Grows gated own0 prep0 own2 prep2
+grows_both gated own0 prep0 own1 prep1 own2 prep2 first second d = let before = first d in let more = second d in omega arith
+
 -- protections stay small
 pub part-le : (gated : List Bool) (prep : List ℕ) (d : ℕ) → gated_part gated prep d ≤ get_or prep d 0
 part-le gated prep d = elim (get_or gated d false) as (λ t. cond t (get_or prep d 0) 0 ≤ get_or prep d 0) [ true ↦ omega arith | false ↦ omega arith ]

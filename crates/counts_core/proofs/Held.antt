@@ -14,7 +14,7 @@ use Rattle.clk_model.specs.Lists.{is_in}
 use Rattle.clk_model.specs.Tree.{path_within}
 use Rattle.clk_model.proofs.Members.{same_from_test}
 use Rattle.counts_core.specs.Sums.{up_in, one, kids, AreSums, Begins, gated_part}
-use Rattle.counts_core.specs.Counted.{is_held, protect_own}
+use Rattle.counts_core.specs.Counted.{AreCounts, is_held, protect_own}
 use Rattle.counts_core.specs.CountsKept.{AreFew, IsCounted}
 use Rattle.counts_core.proofs.Walking.{count-more}
 use Rattle.counts_core.proofs.Steps.{steps_down}
@@ -121,7 +121,7 @@ few_taken own c v links few size within is d =
 -- ---- the three counts
 
 -- a flag outside of the description
-past_flag : (defs : Description) (d : ℕ) → length defs ≤ d → sets_rate_gate defs d ≡ false
+pub past_flag : (defs : Description) (d : ℕ) → length defs ≤ d → sets_rate_gate defs d ≡ false
 past_flag defs d past = ap (λ (def : ClockDef). has_flag def.flags 1) (get_or_past defs d nobody past)
 
 pub flags_all : (defs : Description) (gated : List Bool) → length gated ≡ length defs → ((d : ℕ) → d < length defs → get_or gated d false ≡ sets_rate_gate defs d)
@@ -145,7 +145,7 @@ none_of zero d = refl
 none_of (suc n) zero = refl
 none_of (suc n) (suc d) = none_of n d
 
-nowhere : (n d : ℕ) → get_or (replicate n (none_link tt)) d None ≡ None
+pub nowhere : (n d : ℕ) → get_or (replicate n (none_link tt)) d None ≡ None
 nowhere zero d = refl
 nowhere (suc n) zero = refl
 nowhere (suc n) (suc d) = nowhere n d
@@ -218,6 +218,18 @@ protect_own_is {defs} {links} {gated} {en} {pr} {ex} {enc} {prc} {po} {pc} k d =
     k.coupled d
     ∙ ap (λ (t : Bool). get_or ex d 0 + cond t (get_or prc d 0) 0) (k.flagged d)
     ∙ ap (λ (m : ℕ). get_or ex d 0 + cond (sets_rate_gate defs d) m 0) (counts_sum (parents_of defs) links pr prc (links_end k) k.prepare_sums d)
+
+-- what the fields keep, all counts keep
+pub counts_stand : {defs : Description} {links : List (Option ClockId)} {gated : List Bool} {en pr ex enc prc po pc : List ℕ} → IsCounted defs links gated en pr ex enc prc po pc
+    → AreCounts (record { defs = defs; links = links; enables = en; prepares = pr; exclusives = ex })
+counts_stand k = record {
+  links = k.size;
+  enables = k.enable_sums.owned ∙ k.size;
+  prepares = k.prepare_sums.owned ∙ k.size;
+  exclusives = k.exclusive_size ∙ k.size;
+  possible = k.possible;
+  lines = k.lines;
+}
 
 -- the same lists keep the same
 pub counted_same : {defs defs' : Description} {links links' : List (Option ClockId)} {gated : List Bool} {en en' pr pr' ex ex' enc enc' prc prc' po po' pc pc' : List ℕ}

@@ -5,3 +5,7 @@ pub mod Definitions
 pub mod Growing
 pub mod Held
 pub mod Moving
+pub mod Listing
+pub mod Holding
+pub mod Standing
+pub mod Linking

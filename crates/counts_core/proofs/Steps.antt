@@ -88,6 +88,15 @@ in_path_more up (suc k) c t d rises =
       or_assoc true y z = refl
       or_assoc false y z = refl
 
+-- a path along which so many links lead has a clock more than that
+path_long : (up : ℕ → Option ℕ) (k c t : ℕ) → Rises up k c t → length (path_within up (suc k) c) ≡ suc k
+path_long up zero c t rises = ap (λ (n : ℕ). suc n) (nothing (up c)) where
+  nothing : (o : Option ℕ) → length (above up 0 o) ≡ 0
+  nothing None = refl
+  nothing (Some p) = refl
+path_long up (suc k) c t rises =
+    ap (λ (o : Option ℕ). suc (length (above up (suc k) o))) rises.1 ∙ ap (λ (n : ℕ). suc n) (path_long up k rises.0 t rises.2)
+
 -- ---- going up
 
 -- behind some steps: one holder more is owed to the clock where the walk is, and the clocks below it begin to count
@@ -101,7 +110,7 @@ pub raise_starts : (links : List (Option ClockId)) (old : List ℕ) (c : ℕ) �
 raise_starts links old c = record {
   size = refl;
   sums = λ d. omega arith;
-  begins = record { off = λ d e. absurd (false≢true e); on = λ d e. absurd (false≢true e); others = λ d e. refl };
+  begins = record { many = refl; off = λ d e. absurd (false≢true e); on = λ d e. absurd (false≢true e); others = λ d e. refl };
   rises = refl;
 }
 
@@ -122,7 +131,7 @@ counting n m some = grind (arith, nat_tests)
 -- the clock where the walk is begins to count
 begins_more : (links : List (Option ClockId)) (old now next : List ℕ) (c at k : ℕ) → Begins links old now c k → Rises (up_in links) k c at → Steps links now next at → get_or now at 0 ≡ 0
     → Begins links old next c (suc k)
-begins_more links old now next c at k begins rises step none = record { off = off; on = on; others = others } where
+begins_more links old now next c at k begins rises step none = record { many = path_long (up_in links) k c at rises; off = off; on = on; others = others } where
   fresh : is_in at (path_within (up_in links) k c) ≡ false
   fresh = first_count links old now c at k begins none
 
@@ -156,7 +165,7 @@ begins_more links old now next c at k begins rises step none = record { off = of
 
 -- a clock that counted before counts as before
 begins_same : (links : List (Option ClockId)) (old now next : List ℕ) (c at k : ℕ) → Begins links old now c k → Steps links now next at → 0 < get_or now at 0 → Begins links old next c k
-begins_same links old now next c at k begins step some = record { off = begins.off; on = on; others = others } where
+begins_same links old now next c at k begins step some = record { many = begins.many; off = begins.off; on = on; others = others } where
   on : (d : ℕ) → is_in d (path_within (up_in links) k c) ≡ true → 0 < get_or next d 0
   on d e = let before = begins.on d e in let up = step.counts d in omega arith
 
@@ -229,7 +238,7 @@ pub lower_starts : (links : List (Option ClockId)) (old : List ℕ) (c : ℕ) �
 lower_starts links old c = record {
   size = refl;
   sums = λ d. omega arith;
-  begins = record { off = λ d e. absurd (false≢true e); on = λ d e. absurd (false≢true e); others = λ d e. refl };
+  begins = record { many = refl; off = λ d e. absurd (false≢true e); on = λ d e. absurd (false≢true e); others = λ d e. refl };
   rises = refl;
 }
 
@@ -255,7 +264,7 @@ counts_from n e = grind (arith, nat_tests)
 -- the clock where the walk is stops to count
 stops_more : (links : List (Option ClockId)) (old now next : List ℕ) (c at k : ℕ) → Begins links now old c k → Rises (up_in links) k c at → Steps links next now at → get_or next at 0 ≡ 0
     → Begins links next old c (suc k)
-stops_more links old now next c at k begins rises step none = record { off = off; on = on; others = others } where
+stops_more links old now next c at k begins rises step none = record { many = path_long (up_in links) k c at rises; off = off; on = on; others = others } where
   one_here : one at at ≡ 1
   one_here = ap (λ (t : Bool). cond t 1 0) (test_same at)
 
@@ -295,7 +304,7 @@ stops_more links old now next c at k begins rises step none = record { off = off
 
 -- a clock that still counts counts as before
 stops_same : (links : List (Option ClockId)) (old now next : List ℕ) (c at k : ℕ) → Begins links now old c k → Steps links next now at → 0 < get_or next at 0 → Begins links next old c k
-stops_same links old now next c at k begins step some = record { off = off; on = begins.on; others = others } where
+stops_same links old now next c at k begins step some = record { many = begins.many; off = off; on = begins.on; others = others } where
   off : (d : ℕ) → is_in d (path_within (up_in links) k c) ≡ true → get_or next d 0 ≡ 0
   off d e = let gone = begins.off d e in let up = step.counts d in omega arith
 

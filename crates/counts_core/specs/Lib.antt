@@ -1,3 +1,4 @@
 pub mod Sums
 pub mod Counted
 pub mod CountsKept
+pub mod Standing

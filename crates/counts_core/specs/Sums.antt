@@ -33,13 +33,20 @@ pub record AreSums (links : List (Option ClockId)) (own counts : List ℕ) : Typ
   pub counted : length counts ≡ length links
   pub sums : (d : ℕ) → slice_index own d + kids links counts d ≡ slice_index counts d
 
+-- counts that are sums but for a child: where it counts, one for it is counted already of the clock that this link of it leads to
+pub record AreOwed (links : List (Option ClockId)) (own counts : List ℕ) (child : ℕ) (link : Option ClockId) : Type 0 where
+  pub owned : length own ≡ length links
+  pub counted : length counts ≡ length links
+  pub sums : (d : ℕ) → slice_index own d + kids links counts d + mark (leads d link) (slice_index counts child) ≡ slice_index counts d
+
 -- between two lists of counts there is one holder of the clock more, whatever the others have
 pub record OneMore (links : List (Option ClockId)) (less more : List ℕ) (c : ℕ) : Type 0 where
   pub size : length more ≡ length less
   pub sums : (d : ℕ) → slice_index more d + kids links less d ≡ slice_index less d + kids links more d + one c d
 
--- the first so many clocks of a path are those that count in the longer list and not in the shorter; all others count in both or in none
+-- the path has so many clocks, and its first so many are those that count in the longer list and not in the shorter; all others count in both or in none
 pub record Begins (links : List (Option ClockId)) (less more : List ℕ) (c k : ℕ) : Type 0 where
+  pub many : length (path_within (up_in links) k c) ≡ k
   pub off : (d : ℕ) → is_in d (path_within (up_in links) k c) ≡ true → slice_index less d ≡ 0
   pub on : (d : ℕ) → is_in d (path_within (up_in links) k c) ≡ true → 0 < slice_index more d
   pub others : (d : ℕ) → is_in d (path_within (up_in links) k c) ≡ false → nat_lt 0 (slice_index more d) ≡ nat_lt 0 (slice_index less d)

@@ -1,9 +1,12 @@
 //! The three counts of all clocks.
 
-ghost use Rattle.std.specs.Prelude.{◌≡◌, ℕ, ◌+◌, ◌-◌, ◌<◌, ◌&&◌, not, length, replicate, slice_index, slice_set, IfOk, None};
+ghost use Rattle.std.specs.Prelude.{◌≡◌, ℕ, ◌+◌, ◌-◌, ◌<◌, ◌&&◌, not, length, replicate, slice_index, slice_set, nat_lt, IfOk, None};
+ghost use Rattle.std.specs.Option.{option_map};
 ghost use Rattle.clk_model.specs.Lists.{is_in};
+ghost use Rattle.clk_model.specs.State.{row_of};
 ghost use Rattle.clk_model.specs.Tree.{path_within};
 
+use crate::children::{child_joins, child_leaves};
 use crate::coupled::{hold_up, release_up};
 use crate::flags::{gated_clocks, no_holders, no_links};
 use crate::tally::Tally;
@@ -45,7 +48,7 @@ impl Model for Counts {
 
 impl Counts {
     ghost use Rattle.counts_core.specs.Sums.{up_in};
-    ghost use Rattle.counts_core.specs.Counted.{CountState, HasLinks, is_held, enable_sum, prepare_sum, protect_sum};
+    ghost use Rattle.counts_core.specs.Counted.{CountState, AreCounts, HasLinks, HasOtherLinks, is_active, is_prepared, is_guarded, enable_sum, prepare_sum, protect_sum};
 
     /// Nobody holds a clock, and no clock has a link.
     pub fn create(alloc: Global, desc: &ValidDesc) -> Result<Counts, NoMemory>
@@ -54,6 +57,7 @@ impl Counts {
         ensures enables { IfOk result (λ made. made.enables ≡ replicate (length desc.now.defs) 0) }
         ensures prepares { IfOk result (λ made. made.prepares ≡ replicate (length desc.now.defs) 0) }
         ensures exclusives { IfOk result (λ made. made.exclusives ≡ replicate (length desc.now.defs) 0) }
+        ensures stands { IfOk result AreCounts }
     {
         let clocks = desc.len();
         let links = no_links(alloc, clocks)?;
@@ -80,7 +84,9 @@ impl Counts {
         requires links { HasLinks _tree.now.clocks self.old.links }
         requires room { slice_index self.old.enables c.0 < 8388608 }
         ensures holders { self.new ≡ record self.old { enables = slice_set self.old.enables c.0 (slice_index self.old.enables c.0 + 1) } }
-        ensures begun { (d : ℕ) → is_in d (path_within (up_in self.old.links) result c.0) ≡ (is_held self.old.links (slice_index self.new.enables) d && not (is_held self.old.links (slice_index self.old.enables) d)) }
+        ensures begun { (d : ℕ) → is_in d (path_within (up_in self.old.links) result c.0) ≡ (is_active self.new d && not (is_active self.old d)) }
+        ensures many { length (path_within (up_in self.old.links) result c.0) ≡ result }
+        ensures stands { AreCounts self.new }
     {
         self.enables.add(&self.links, c)
     }
@@ -92,7 +98,9 @@ impl Counts {
         requires links { HasLinks _tree.now.clocks self.old.links }
         requires held { 0 < slice_index self.old.enables c.0 }
         ensures holders { self.new ≡ record self.old { enables = slice_set self.old.enables c.0 (slice_index self.old.enables c.0 - 1) } }
-        ensures stopped { (d : ℕ) → is_in d (path_within (up_in self.old.links) result c.0) ≡ (is_held self.old.links (slice_index self.old.enables) d && not (is_held self.old.links (slice_index self.new.enables) d)) }
+        ensures stopped { (d : ℕ) → is_in d (path_within (up_in self.old.links) result c.0) ≡ (is_active self.old d && not (is_active self.new d)) }
+        ensures many { length (path_within (up_in self.old.links) result c.0) ≡ result }
+        ensures stands { AreCounts self.new }
     {
         self.enables.take(&self.links, c)
     }
@@ -104,7 +112,9 @@ impl Counts {
         requires links { HasLinks _tree.now.clocks self.old.links }
         requires room { slice_index self.old.prepares c.0 < 8388608 }
         ensures holders { self.new ≡ record self.old { prepares = slice_set self.old.prepares c.0 (slice_index self.old.prepares c.0 + 1) } }
-        ensures begun { (d : ℕ) → is_in d (path_within (up_in self.old.links) result c.0) ≡ (is_held self.old.links (slice_index self.new.prepares) d && not (is_held self.old.links (slice_index self.old.prepares) d)) }
+        ensures begun { (d : ℕ) → is_in d (path_within (up_in self.old.links) result c.0) ≡ (is_prepared self.new d && not (is_prepared self.old d)) }
+        ensures many { length (path_within (up_in self.old.links) result c.0) ≡ result }
+        ensures stands { AreCounts self.new }
     {
         self.prepares.own[c.0 as usize] += 1;
         hold_up(
@@ -123,7 +133,9 @@ impl Counts {
         requires links { HasLinks _tree.now.clocks self.old.links }
         requires held { 0 < slice_index self.old.prepares c.0 }
         ensures holders { self.new ≡ record self.old { prepares = slice_set self.old.prepares c.0 (slice_index self.old.prepares c.0 - 1) } }
-        ensures stopped { (d : ℕ) → is_in d (path_within (up_in self.old.links) result c.0) ≡ (is_held self.old.links (slice_index self.old.prepares) d && not (is_held self.old.links (slice_index self.new.prepares) d)) }
+        ensures stopped { (d : ℕ) → is_in d (path_within (up_in self.old.links) result c.0) ≡ (is_prepared self.old d && not (is_prepared self.new d)) }
+        ensures many { length (path_within (up_in self.old.links) result c.0) ≡ result }
+        ensures stands { AreCounts self.new }
     {
         self.prepares.own[c.0 as usize] -= 1;
         release_up(
@@ -140,7 +152,8 @@ impl Counts {
         requires place { c.0 < length self.old.links }
         requires links { HasLinks _tree.now.clocks self.old.links }
         requires room { slice_index self.old.exclusives c.0 < 8388608 }
-        ensures { self.new ≡ record self.old { exclusives = slice_set self.old.exclusives c.0 (slice_index self.old.exclusives c.0 + 1) } }
+        ensures holders { self.new ≡ record self.old { exclusives = slice_set self.old.exclusives c.0 (slice_index self.old.exclusives c.0 + 1) } }
+        ensures stands { AreCounts self.new }
     {
         self.exclusives[c.0 as usize] += 1;
         self.protects.add(&self.links, c);
@@ -151,32 +164,71 @@ impl Counts {
         requires place { c.0 < length self.old.links }
         requires links { HasLinks _tree.now.clocks self.old.links }
         requires held { 0 < slice_index self.old.exclusives c.0 }
-        ensures { self.new ≡ record self.old { exclusives = slice_set self.old.exclusives c.0 (slice_index self.old.exclusives c.0 - 1) } }
+        ensures holders { self.new ≡ record self.old { exclusives = slice_set self.old.exclusives c.0 (slice_index self.old.exclusives c.0 - 1) } }
+        ensures stands { AreCounts self.new }
     {
         self.exclusives[c.0 as usize] -= 1;
         self.protects.take(&self.links, c);
     }
 
-    /// How often a clock is enabled. It is active where this isn't 0.
+    /// The sums are over the tree's links from now on, where a clock has another parent than it had.
+    pub fn moved(&mut self, tree: &Tree, c: ClockId, from: Option<ClockId>)
+        requires place { c.0 < length self.old.links }
+        requires made { tree.now.defs ≡ self.old.defs }
+        requires from { up_in self.old.links c.0 ≡ option_map (λ p. p.0) from }
+        requires others { HasOtherLinks tree.now.clocks self.old.links c.0 }
+        ensures moved { self.new ≡ record self.old { links = slice_set self.old.links c.0 (row_of tree.now.clocks c.0).link } }
+        ensures links { HasLinks tree.now.clocks self.new.links }
+        ensures stands { AreCounts self.new }
+    {
+        let to = tree.parent(c);
+        child_joins(
+            &self.links,
+            &self.gated,
+            &mut self.enables,
+            &mut self.prepares,
+            &mut self.protects,
+            c,
+            to,
+        );
+        self.links[c.0 as usize] = to;
+        child_leaves(
+            &self.links,
+            &self.gated,
+            &mut self.enables,
+            &mut self.prepares,
+            &mut self.protects,
+            c,
+            from,
+        );
+    }
+
+    /// How often a clock is enabled. It is active exactly where this isn't 0.
     pub fn enabled(&self, c: ClockId) -> u32
-        requires { c.0 < length self.now.links }
-        ensures { result ≡ enable_sum self.now c.0 }
+        requires place { c.0 < length self.now.links }
+        ensures count { result ≡ enable_sum self.now c.0 }
+        ensures active { nat_lt 0 result ≡ is_active self.now c.0 }
+        ensures stands { AreCounts self.now }
     {
         self.enables.counts[c.0 as usize]
     }
 
-    /// How often a clock is prepared.
+    /// How often a clock is prepared. It is prepared exactly where this isn't 0.
     pub fn prepared(&self, c: ClockId) -> u32
-        requires { c.0 < length self.now.links }
-        ensures { result ≡ prepare_sum self.now c.0 }
+        requires place { c.0 < length self.now.links }
+        ensures count { result ≡ prepare_sum self.now c.0 }
+        ensures prepared { nat_lt 0 result ≡ is_prepared self.now c.0 }
+        ensures stands { AreCounts self.now }
     {
         self.prepares.counts[c.0 as usize]
     }
 
-    /// How often a clock's rate is protected. It is guarded where this isn't 0.
+    /// How often a clock's rate is protected. It is guarded exactly where this isn't 0.
     pub fn protected(&self, c: ClockId) -> u32
-        requires { c.0 < length self.now.links }
-        ensures { result ≡ protect_sum self.now c.0 }
+        requires place { c.0 < length self.now.links }
+        ensures count { result ≡ protect_sum self.now c.0 }
+        ensures guarded { nat_lt 0 result ≡ is_guarded self.now c.0 }
+        ensures stands { AreCounts self.now }
     {
         self.protects.counts[c.0 as usize]
     }

@@ -1,5 +1,12 @@
-//! Tests of the parts of the core: each call with ample memory, worked out by hand.
+//! Tests of the parts of the core: each call with ample memory, worked out by hand, and long runs
+//! beside plain lists.
 #![tactic(auto)]
 
+#[cfg(test)]
+mod beside;
+#[cfg(test)]
+mod plain;
+#[cfg(test)]
+mod runs;
 #[cfg(test)]
 mod tests;

@@ -20,5 +20,5 @@ returns-clause-stopped c = λ d.
     let n = c.args.c.0 in
     let sums = subst (λ (ls : List (Option ClockId)). AreSums ls c.take.new.self.own.items c.take.new.self.counts.items) c.deref.ensures.value c.take.ensures.sums in
     let begins = subst (λ (ls : List (Option ClockId)). Begins ls c.take.new.self.counts.items s.enables.counts.items n c.take.result) c.deref.ensures.value c.take.ensures.stops in
-    subst (λ (t : CountState). is_in d (path_within (up_in t.links) c.take.result n) ≡ (is_held t.links (slice_index t.enables) d && not (is_held t.links (slice_index c.take.new.self.own.items) d))) c.self.view_is
+    subst (λ (t : CountState). is_in d (path_within (up_in t.links) c.take.result n) ≡ (is_held t.links (slice_index t.enables) d && not (is_held s.links.items (slice_index c.take.new.self.own.items) d))) c.self.view_is
     (begins_held (parents_of s.desc.defs) s.links.items c.take.new.self.own.items c.take.new.self.counts.items s.enables.own.items s.enables.counts.items n c.take.result (links_end k) sums k.enable_sums begins d)

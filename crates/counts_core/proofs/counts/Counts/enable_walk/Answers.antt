@@ -20,5 +20,5 @@ returns-clause-begun c = λ d.
     let n = c.args.c.0 in
     let sums = subst (λ (ls : List (Option ClockId)). AreSums ls c.add.new.self.own.items c.add.new.self.counts.items) c.deref.ensures.value c.add.ensures.sums in
     let begins = subst (λ (ls : List (Option ClockId)). Begins ls s.enables.counts.items c.add.new.self.counts.items n c.add.result) c.deref.ensures.value c.add.ensures.begins in
-    subst (λ (t : CountState). is_in d (path_within (up_in t.links) c.add.result n) ≡ (is_held t.links (slice_index c.add.new.self.own.items) d && not (is_held t.links (slice_index t.enables) d))) c.self.view_is
+    subst (λ (t : CountState). is_in d (path_within (up_in t.links) c.add.result n) ≡ (is_held s.links.items (slice_index c.add.new.self.own.items) d && not (is_held t.links (slice_index t.enables) d))) c.self.view_is
     (begins_held (parents_of s.desc.defs) s.links.items s.enables.own.items s.enables.counts.items c.add.new.self.own.items c.add.new.self.counts.items n c.add.result (links_end k) k.enable_sums sums begins d)

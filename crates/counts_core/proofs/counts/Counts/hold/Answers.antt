@@ -68,5 +68,5 @@ returns-clause-begun c = λ d.
     (subst (λ (ls : List (Option ClockId)). Begins ls c.deref_mut.result.now c.hold_up.new.prepares n c.hold_up.result) c.deref.ensures.value c.hold_up.ensures.begins) in
     let sums = subst (λ (m : ℕ). AreSums s.links.items (set s.prepares.own.items n (m + 1)) c.hold_up.new.prepares) (sym value)
     (sums_added s.links.items s.prepares.own.items s.prepares.counts.items c.hold_up.new.prepares n k.prepare_sums more within) in
-    subst (λ (t : CountState). is_in d (path_within (up_in t.links) c.hold_up.result n) ≡ (is_held t.links (slice_index (set s.prepares.own.items n (c.index_mut.result.now + 1))) d && not (is_held t.links (slice_index t.prepares) d))) c.self.view_is
+    subst (λ (t : CountState). is_in d (path_within (up_in t.links) c.hold_up.result n) ≡ (is_held s.links.items (slice_index (set s.prepares.own.items n (c.index_mut.result.now + 1))) d && not (is_held t.links (slice_index t.prepares) d))) c.self.view_is
     (begins_held (parents_of s.desc.defs) s.links.items s.prepares.own.items s.prepares.counts.items (set s.prepares.own.items n (c.index_mut.result.now + 1)) c.hold_up.new.prepares n c.hold_up.result (links_end k) k.prepare_sums sums begins d)

@@ -58,5 +58,5 @@ returns-clause-stopped c = λ d.
     (subst (λ (ls : List (Option ClockId)). Begins ls c.release_up.new.prepares c.deref_mut.result.now n c.release_up.result) c.deref.ensures.value c.release_up.ensures.stops) in
     let sums = subst (λ (m : ℕ). AreSums s.links.items (set s.prepares.own.items n (m - 1)) c.release_up.new.prepares) (sym value)
     (sums_taken s.links.items s.prepares.own.items s.prepares.counts.items c.release_up.new.prepares n k.prepare_sums more within held) in
-    subst (λ (t : CountState). is_in d (path_within (up_in t.links) c.release_up.result n) ≡ (is_held t.links (slice_index t.prepares) d && not (is_held t.links (slice_index (set s.prepares.own.items n (c.index_mut.result.now - 1))) d))) c.self.view_is
+    subst (λ (t : CountState). is_in d (path_within (up_in t.links) c.release_up.result n) ≡ (is_held t.links (slice_index t.prepares) d && not (is_held s.links.items (slice_index (set s.prepares.own.items n (c.index_mut.result.now - 1))) d))) c.self.view_is
     (begins_held (parents_of s.desc.defs) s.links.items (set s.prepares.own.items n (c.index_mut.result.now - 1)) c.release_up.new.prepares s.prepares.own.items s.prepares.counts.items n c.release_up.result (links_end k) sums k.prepare_sums begins d)

@@ -1,0 +1,13 @@
+-- What counts and the plain lists beside them keep.
+use Rattle.std.specs.Prelude.{◌≡◌, ℕ, List}
+use Rattle.clk_tree.specs.TreeState.{TreeState}
+use Rattle.counts_core.specs.Counted.{CountState, AreCounts, HasLinks}
+
+-- the sums are over the tree's links, and the plain lists are the holders
+pub record AreBeside (tree : TreeState) (counts : CountState) (enables prepares exclusives : List ℕ) : Type 0 where
+  pub made : tree.defs ≡ counts.defs
+  pub links : HasLinks tree.clocks counts.links
+  pub stands : AreCounts counts
+  pub enabled : counts.enables ≡ enables
+  pub prepared : counts.prepares ≡ prepares
+  pub excluded : counts.exclusives ≡ exclusives
