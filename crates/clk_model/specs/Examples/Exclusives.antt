@@ -1,12 +1,14 @@
 -- Exclusive holds of a rate, and the clocks that protect their rate while they are prepared.
-use Rattle.std.specs.Prelude.{◌≡◌, List, [], ◌∷◌, ◌++◌, false, codes, refl}
+use Rattle.std.specs.Prelude.{◌≡◌, List, [], ◌∷◌, ◌++◌, true, false, pos, codes, refl}
 use Rattle.clk_base.specs.declared.clock.Kind.TheVariants as kinds
 use Rattle.clk_base.specs.declared.call.Micro.TheVariants as micro
+use Rattle.clk_base.specs.declared.call.Notice.TheVariants as notice
 use Rattle.clk_base.specs.declared.call.Sleeping.TheVariants as call
 use Rattle.clk_base.specs.declared.event.Entry.{Entry}
 use Rattle.clk_base.specs.declared.event.Errno.TheVariants as errno
 use Rattle.clk_base.specs.declared.event.Reply.TheVariants as reply
 use Rattle.clk_base.specs.declared.handle.Handle.{Handle}
+use Rattle.clk_base.specs.declared.handle.Policy.TheVariants as policy
 use Rattle.clk_base.specs.Description.{Description}
 use Rattle.clk_model.specs.State.{State}
 use Rattle.clk_model.specs.Chain.{clock_id}
@@ -120,6 +122,21 @@ exclusive_requests =
 pub exclusive_requests_turns : turns divided_start exclusive_requests ≡ stated exclusive_requests
 unfolding turns
 exclusive_requests_turns = refl
+
+-- a request that a notifier vetoes takes no exclusive hold
+abbrev vetoed_exclusive : List Entry
+vetoed_exclusive =
+    boot 2 ++ gets 1 div 0
+    ∷ begins 1 (call.NotifierAdd d 1 (pos 0) policy.VetoAll) reply.Fine
+    ∷ goes_on 1 (call.SetRateExclusive d 50)
+    ∷ step 1 (micro.Notify (notice.Pre true) div 1 100 50) ∷ step 1 (micro.Notify notice.Abort div 1 100 50)
+    ∷ ends 1 (reply.Refused errno.EBUSY)
+    ∷ begins 1 (call.ExclusivePut d) reply.Warn
+    ∷ []
+
+pub vetoed_exclusive_turns : turns divided_start vetoed_exclusive ≡ stated vetoed_exclusive
+unfolding turns
+vetoed_exclusive_turns = refl
 
 -- `fixed ref 100`, `divider s ref 0 0 3`, `factor u s 1 2`
 abbrev below : Description

@@ -15,6 +15,7 @@ use Rattle.clk_model.specs.State.{State}
 use Rattle.clk_model.specs.Chain.{clock_id}
 use Rattle.clk_model.specs.Journal.{opening, replay}
 use Rattle.clk_model.specs.Examples.Rows.{turns, stated, clock, flagged, set_rate_parent, handle, answers, begins, goes_on, step, ends, boot, gets}
+use Rattle.clk_model.specs.Examples.Rounding.{divided_start, div}
 
 -- ---- notices in the order of the walk
 
@@ -170,7 +171,30 @@ pub policies_turns : turns vetoed_start policies ≡ stated policies
 unfolding turns
 policies_turns = refl
 
--- ---- a clock whose rate stays
+-- of equal priorities the one added first is told first, whatever its id; one that was removed and added again comes last
+abbrev equals : List Entry
+equals =
+    boot 2 ++ gets 1 div 0
+    ∷ begins 1 (call.NotifierAdd (handle 0 1) 7 (pos 0) policy.Accept) reply.Fine
+    ∷ begins 1 (call.NotifierAdd (handle 0 1) 5 (pos 0) policy.Accept) reply.Fine
+    ∷ begins 1 (call.NotifierAdd (handle 0 1) 6 (pos 0) policy.Accept) reply.Fine
+    ∷ goes_on 1 (call.SetRate (handle 0 1) 50)
+    ∷ pre div 7 100 50 false ∷ pre div 5 100 50 false ∷ pre div 6 100 50 false
+    ∷ step 1 (micro.Visit div) ∷ post div 7 100 50 ∷ post div 5 100 50 ∷ post div 6 100 50
+    ∷ ends 1 reply.Fine
+    ∷ begins 1 (call.NotifierRemove (handle 0 1) 7) reply.Fine
+    ∷ begins 1 (call.NotifierAdd (handle 0 1) 7 (pos 0) policy.Accept) reply.Fine
+    ∷ goes_on 1 (call.SetRate (handle 0 1) 25)
+    ∷ pre div 5 50 25 false ∷ pre div 6 50 25 false ∷ pre div 7 50 25 false
+    ∷ step 1 (micro.Visit div) ∷ post div 5 50 25 ∷ post div 6 50 25 ∷ post div 7 50 25
+    ∷ ends 1 reply.Fine
+    ∷ []
+
+pub equals_turns : turns divided_start equals ≡ stated equals
+unfolding turns
+equals_turns = refl
+
+-- ---- clocks whose rate stays
 
 -- `fixed ref 100`, `divider s ref 0 0 3`, `factor z s 1 200`
 abbrev unmoved : Description
@@ -189,3 +213,48 @@ no_notice =
 pub no_notice_turns : turns (opening unmoved (0 ∷ []) false 100) no_notice ≡ stated no_notice
 unfolding turns
 no_notice_turns = refl
+
+-- `fixed ref 1000`, `divider s ref 0 0 3`, `factor x s 1 100 set-rate-parent`, `divider d x 1 0 1 set-rate-parent`
+abbrev kept_between : Description
+kept_between =
+    clock (codes "ref") (kinds.FixedRate 1000) []
+    ∷ clock (codes "s") (kinds.Divider 0 0 3 false false) (0 ∷ [])
+    ∷ flagged set_rate_parent (codes "x") (kinds.Factor 1 100) (1 ∷ [])
+    ∷ flagged set_rate_parent (codes "d") (kinds.Divider 1 0 1 false false) (2 ∷ []) ∷ []
+
+-- the dividers' fields are 4 and 1, so s has the rate 200, x has 2, and d has 1
+abbrev kept_between_start : State
+kept_between_start = opening kept_between (4 ∷ 1 ∷ []) false 100
+
+abbrev hundredth : ClockId
+hundredth = clock_id 2
+
+abbrev lowest : ClockId
+lowest = clock_id 3
+
+-- for 4 the lower divider wants 3 of the factor, which for 3 gets 250 of the upper divider: a hundredth of it is 2, as before. The
+-- factor stands still, so neither it nor the divider behind it is asked, and both vetoes stay unheard. The lower divider now
+-- divides 2 by 1, and its notifier is told so
+abbrev still_between : List Entry
+still_between =
+    boot 4 ++ gets 1 s 0 ∷ gets 1 hundredth 1 ∷ gets 1 lowest 2
+    ∷ begins 1 (call.NotifierAdd (handle 0 1) 1 (pos 0) policy.Accept) reply.Fine
+    ∷ begins 1 (call.NotifierAdd (handle 1 1) 1 (pos 0) policy.VetoAll) reply.Fine
+    ∷ begins 1 (call.NotifierAdd (handle 2 1) 1 (pos 0) policy.VetoAll) reply.Fine
+    ∷ begins 1 (call.RoundRate (handle 2 1) 4) (reply.Rate 3)
+    ∷ goes_on 1 (call.SetRate (handle 2 1) 4)
+    ∷ pre s 1 200 250 false
+    ∷ step 1 (micro.Visit s) ∷ post s 1 200 250
+    ∷ step 1 (micro.Visit hundredth)
+    ∷ step 1 (micro.Visit lowest) ∷ post lowest 1 1 2
+    ∷ ends 1 reply.Fine
+    ∷ begins 1 (call.GetRate (handle 2 1)) (reply.Rate 2)
+    ∷ []
+
+pub still_between_turns : turns kept_between_start still_between ≡ stated still_between
+unfolding turns
+still_between_turns = refl
+
+pub still_between_registers : (replay kept_between_start still_between).regs ≡ 3 ∷ 0 ∷ []
+unfolding turns
+still_between_registers = refl

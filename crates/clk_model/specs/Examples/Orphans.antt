@@ -1,5 +1,5 @@
 -- Clocks whose parent is registered late, or never.
-use Rattle.std.specs.Prelude.{◌≡◌, List, [], ◌∷◌, ◌++◌, false, Some, None, codes, map, refl}
+use Rattle.std.specs.Prelude.{◌≡◌, List, [], ◌∷◌, ◌++◌, true, false, Some, None, codes, map, refl}
 use Rattle.clk_base.specs.declared.clock.ClockId.{ClockId}
 use Rattle.clk_base.specs.declared.clock.Kind.TheVariants as kinds
 use Rattle.clk_base.specs.declared.call.Micro.TheVariants as micro
@@ -13,7 +13,7 @@ use Rattle.clk_model.specs.Chain.{clock_id}
 use Rattle.clk_model.specs.Tree.{children}
 use Rattle.clk_model.specs.Counts.{enable_count, prepare_count}
 use Rattle.clk_model.specs.Journal.{opening, replay}
-use Rattle.clk_model.specs.Examples.Rows.{turns, stated, words_after, clock, flagged, critical, handle, begins, goes_on, step, ends, probe, boot, gets}
+use Rattle.clk_model.specs.Examples.Rows.{turns, stated, words_after, clock, flagged, critical, handle, begins, goes_on, step, poll, in_vain, ends, probe, boot, gets}
 
 -- ---- an adoption
 
@@ -147,3 +147,46 @@ pub two_adoptions_children :
     children (replay (opening two_gates (0 ∷ []) false 100) two_adoptions).order (replay (opening two_gates (0 ∷ []) false 100) two_adoptions).clocks 0 ≡ 1 ∷ 2 ∷ []
 unfolding turns
 two_adoptions_children = refl
+
+-- ---- an orphan above an orphan
+
+-- `fixed src 24000000`, `gate b src 0 0`, `pll p b 1 0 9 1 31 100 400 24`, `gate a p 0 1 critical`
+abbrev stacked : Description
+stacked =
+    clock (codes "src") (kinds.FixedRate 24000000) [] ∷ clock (codes "b") (kinds.Gate 0 0 false) (0 ∷ [])
+    ∷ clock (codes "p") (kinds.Pll 1 0 9 1 31 100 400 24) (1 ∷ []) ∷ flagged critical (codes "a") (kinds.Gate 0 1 false) (2 ∷ []) ∷ []
+
+abbrev b : ClockId
+b = clock_id 1
+
+abbrev p : ClockId
+p = clock_id 2
+
+abbrev a : ClockId
+a = clock_id 3
+
+abbrev stacked_start : State
+stacked_start = opening stacked (0 ∷ 0x64 ∷ []) false 100
+
+-- the PLL doesn't lock when it comes, so the critical clock stays an orphan. It is newer than the gate above the PLL, but when
+-- that gate's parent comes the gate is adopted first, for it is on the path of the critical clock's new parent
+abbrev upper_first : List Entry
+upper_first =
+    probe 1 ∷ probe 3
+    ∷ goes_on 1 (call.Probe p) ∷ step 1 (micro.Register p) ∷ in_vain 1 p p ++ ends 1 (reply.Refused errno.ETIMEDOUT)
+    ∷ goes_on 1 (call.Probe (clock_id 0)) ∷ step 1 (micro.Register (clock_id 0))
+    ∷ step 1 (micro.Relink b (clock_id 0)) ∷ step 1 (micro.Settle b)
+    ∷ step 1 (micro.Raise p) ∷ poll 1 p true ∷ step 1 (micro.HoldPrepare p) ∷ step 1 (micro.HoldEnable p) ∷ step 1 (micro.HoldEnable a)
+    ∷ step 1 (micro.Relink a p) ∷ step 1 (micro.DropEnable a) ∷ step 1 (micro.Settle a)
+    ∷ ends 1 reply.Fine
+    ∷ gets 1 a 0
+    ∷ begins 1 (call.GetRate (handle 0 1)) (reply.Rate 100000000)
+    ∷ []
+
+pub upper_first_turns : turns stacked_start upper_first ≡ stated upper_first
+unfolding turns
+upper_first_turns = refl
+
+pub upper_first_registers : (replay stacked_start upper_first).regs ≡ 3 ∷ 0x80000064 ∷ []
+unfolding turns
+upper_first_registers = refl

@@ -1,13 +1,15 @@
 -- Requests that are passed on to the parent.
-use Rattle.std.specs.Prelude.{◌≡◌, List, [], ◌∷◌, ◌++◌, false, codes, refl}
+use Rattle.std.specs.Prelude.{◌≡◌, List, [], ◌∷◌, ◌++◌, false, pos, codes, refl}
 use Rattle.clk_base.specs.declared.clock.ClockId.{ClockId}
 use Rattle.clk_base.specs.declared.clock.Kind.TheVariants as kinds
 use Rattle.clk_base.specs.declared.call.Micro.TheVariants as micro
+use Rattle.clk_base.specs.declared.call.Notice.TheVariants as notice
 use Rattle.clk_base.specs.declared.call.Sleeping.TheVariants as call
 use Rattle.clk_base.specs.declared.event.Entry.{Entry}
 use Rattle.clk_base.specs.declared.event.Errno.TheVariants as errno
 use Rattle.clk_base.specs.declared.event.Reply.TheVariants as reply
 use Rattle.clk_base.specs.declared.handle.Handle.{Handle}
+use Rattle.clk_base.specs.declared.handle.Policy.TheVariants as policy
 use Rattle.clk_base.specs.Description.{Description}
 use Rattle.clk_model.specs.State.{State}
 use Rattle.clk_model.specs.Chain.{clock_id}
@@ -137,6 +139,27 @@ pub gate_passes_registers : (replay gated_start gate_passes).regs ≡ 3 ∷ 0 �
 unfolding turns
 gate_passes_registers = refl
 
+-- the divider's field is 2, so its rate is 334, and the range of its own handle is 300 to 400. For 310 the gate would get 250, which
+-- the divider may not have, so there is no plan; with a range from 200 on there is one
+abbrev upper_range : List Entry
+upper_range =
+    boot 3 ++ gets 1 upper 0 ∷ gets 1 lower 1
+    ∷ begins 1 (call.SetRange a 300 400) reply.Fine
+    ∷ begins 1 (call.RoundRate b 310) (reply.Rate 250)
+    ∷ begins 1 (call.SetRate b 310) (reply.Refused errno.EINVAL)
+    ∷ begins 1 (call.SetRange a 200 400) reply.Fine
+    ∷ goes_on 1 (call.SetRate b 310) ∷ step 1 (micro.Visit upper) ∷ step 1 (micro.Visit lower) ∷ ends 1 reply.Fine
+    ∷ begins 1 (call.GetRate b) (reply.Rate 250)
+    ∷ []
+
+pub upper_range_turns : turns (opening gated (2 ∷ 0 ∷ []) false 100) upper_range ≡ stated upper_range
+unfolding turns
+upper_range_turns = refl
+
+pub upper_range_registers : (replay (opening gated (2 ∷ 0 ∷ []) false 100) upper_range).regs ≡ 3 ∷ 0 ∷ []
+unfolding turns
+upper_range_registers = refl
+
 -- ---- a mux that moves below the clock that changes
 
 -- `fixed ref 1000`, `divider s ref 0 0 3`, `factor u s 1 2 set-rate-parent`, `factor w s 1 5 set-rate-parent`,
@@ -179,3 +202,96 @@ moving_below_turns = refl
 pub moving_below_registers : (replay shared_source_start moving_below).regs ≡ 3 ∷ 1 ∷ []
 unfolding turns
 moving_below_registers = refl
+
+-- `fixed ref 1000`, `divider s ref 0 0 3`, `gate x s 1 0`, `factor y x 1 2`, `fixed other 7`, `mux m 2 0 1 2 other s set-rate-parent`
+abbrev joined : Description
+joined =
+    clock (codes "ref") (kinds.FixedRate 1000) [] ∷ clock (codes "s") (kinds.Divider 0 0 3 false false) (0 ∷ [])
+    ∷ clock (codes "x") (kinds.Gate 1 0 false) (1 ∷ []) ∷ clock (codes "y") (kinds.Factor 1 2) (2 ∷ [])
+    ∷ clock (codes "other") (kinds.FixedRate 7) []
+    ∷ flagged set_rate_parent (codes "m") (kinds.Mux 2 0 1 false) (4 ∷ 1 ∷ []) ∷ []
+
+abbrev below_lower : ClockId
+below_lower = clock_id 3
+
+abbrev joining : ClockId
+joining = clock_id 5
+
+abbrev joined_start : State
+joined_start = opening joined (0 ∷ 0 ∷ 0 ∷ []) false 100
+
+-- the clock that moves in comes last, behind the clocks that stay and all that is below them, though it is the newest of all
+abbrev mover_last : List Entry
+mover_last =
+    boot 6 ++ gets 1 joining 0 ∷ gets 1 below_lower 1
+    ∷ begins 1 (call.NotifierAdd a 1 (pos 0) policy.Accept) reply.Fine
+    ∷ begins 1 (call.NotifierAdd b 1 (pos 0) policy.Accept) reply.Fine
+    ∷ goes_on 1 (call.SetRate a 250)
+    ∷ step 1 (micro.Notify (notice.Pre false) below_lower 1 500 125) ∷ step 1 (micro.Notify (notice.Pre false) joining 1 7 250)
+    ∷ step 1 (micro.Visit upper) ∷ step 1 (micro.Visit lower)
+    ∷ step 1 (micro.Visit below_lower) ∷ step 1 (micro.Notify notice.Post below_lower 1 500 125)
+    ∷ step 1 (micro.Relink joining upper) ∷ step 1 (micro.WriteMux joining 1)
+    ∷ step 1 (micro.Visit joining) ∷ step 1 (micro.Notify notice.Post joining 1 7 250)
+    ∷ ends 1 reply.Fine
+    ∷ []
+
+pub mover_last_turns : turns joined_start mover_last ≡ stated mover_last
+unfolding turns
+mover_last_turns = refl
+
+pub mover_last_registers : (replay joined_start mover_last).regs ≡ 3 ∷ 0 ∷ 1 ∷ []
+unfolding turns
+mover_last_registers = refl
+
+-- ---- products above the greatest rate
+
+-- `fixed f 18446744073709551615`, `divider s f 0 0 3`, `factor x s 1 4 set-rate-parent`
+abbrev quartered : Description
+quartered =
+    clock (codes "f") (kinds.FixedRate 18446744073709551615) [] ∷ clock (codes "s") (kinds.Divider 0 0 3 false false) (0 ∷ [])
+    ∷ flagged set_rate_parent (codes "x") (kinds.Factor 1 4) (1 ∷ []) ∷ []
+
+-- four times the greatest rate counts as the greatest rate, which the divider gives with its divisor 1
+abbrev factor_asks_for_most : List Entry
+factor_asks_for_most =
+    boot 3 ++ gets 1 lower 0
+    ∷ begins 1 (call.RoundRate a 18446744073709551615) (reply.Rate 4611686018427387903)
+    ∷ goes_on 1 (call.SetRate a 18446744073709551615) ∷ step 1 (micro.Visit upper) ∷ step 1 (micro.Visit lower) ∷ ends 1 reply.Fine
+    ∷ []
+
+pub factor_asks_for_most_turns : turns (opening quartered (1 ∷ []) false 100) factor_asks_for_most ≡ stated factor_asks_for_most
+unfolding turns
+factor_asks_for_most_turns = refl
+
+pub factor_asks_for_most_registers : (replay (opening quartered (1 ∷ []) false 100) factor_asks_for_most).regs ≡ 0 ∷ []
+unfolding turns
+factor_asks_for_most_registers = refl
+
+-- `fixed f 18446744073709551615`, `fixed e 5`, `mux s 0 0 1 2 f e`, `divider d s 1 0 1 set-rate-parent`
+abbrev most_or_five : Description
+most_or_five =
+    clock (codes "f") (kinds.FixedRate 18446744073709551615) [] ∷ clock (codes "e") (kinds.FixedRate 5) []
+    ∷ clock (codes "s") (kinds.Mux 0 0 1 false) (0 ∷ 1 ∷ [])
+    ∷ flagged set_rate_parent (codes "d") (kinds.Divider 1 0 1 false false) (2 ∷ []) ∷ []
+
+abbrev most_or_five_start : State
+most_or_five_start = opening most_or_five (0 ∷ 0 ∷ []) false 100
+
+-- twice 9223372036854775809 is above the greatest rate, so the divisor 2 isn't tried, though half of the greatest rate would be
+-- near; with the divisor 1 the mux has only 5 to give
+abbrev divisor_too_great : List Entry
+divisor_too_great =
+    boot 4 ++ gets 1 (clock_id 3) 0
+    ∷ begins 1 (call.RoundRate a 9223372036854775809) (reply.Rate 5)
+    ∷ goes_on 1 (call.SetRate a 9223372036854775809)
+    ∷ step 1 (micro.Relink (clock_id 2) (clock_id 1)) ∷ step 1 (micro.WriteMux (clock_id 2) 1)
+    ∷ step 1 (micro.Visit (clock_id 2)) ∷ step 1 (micro.Visit (clock_id 3)) ∷ ends 1 reply.Fine
+    ∷ []
+
+pub divisor_too_great_turns : turns most_or_five_start divisor_too_great ≡ stated divisor_too_great
+unfolding turns
+divisor_too_great_turns = refl
+
+pub divisor_too_great_registers : (replay most_or_five_start divisor_too_great).regs ≡ 1 ∷ 0 ∷ []
+unfolding turns
+divisor_too_great_registers = refl

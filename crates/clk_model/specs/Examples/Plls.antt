@@ -208,3 +208,23 @@ pub leaving_words : words_after (replay left_start before_leaving) leaving ≡
     replicate 6 (0x80000064 ∷ 1 ∷ []) ++ replicate 4 (0x80000064 ∷ 0 ∷ []) ++ replicate 3 (0x64 ∷ 0 ∷ [])
 unfolding turns
 leaving_words = refl
+
+-- ---- two PLLs that are lowered
+
+abbrev both_raised : List Entry
+both_raised =
+    two_plls_get ++ goes_on 1 (call.Prepare a)
+    ∷ step 1 (micro.Raise gq) ∷ poll 1 p true ∷ step 1 (micro.Raise gq) ∷ poll 1 q true ∷ ends 1 reply.Fine ∷ []
+
+abbrev both_lowered : List Entry
+both_lowered = goes_on 1 (call.Unprepare a) ∷ step 1 (micro.Lower gq) ∷ step 1 (micro.Lower gq) ∷ ends 1 reply.Fine ∷ []
+
+pub both_lowered_turns : turns two_plls_start (both_raised ++ both_lowered) ≡ stated (both_raised ++ both_lowered)
+unfolding turns
+both_lowered_turns = refl
+
+-- the lower PLL is powered off before the one that feeds it
+pub both_lowered_words : words_after (replay two_plls_start both_raised) both_lowered ≡
+    (0x80000064 ∷ 0x80000064 ∷ 0 ∷ []) ∷ (0x80000064 ∷ 0x64 ∷ 0 ∷ []) ∷ (0x64 ∷ 0x64 ∷ 0 ∷ []) ∷ (0x64 ∷ 0x64 ∷ 0 ∷ []) ∷ []
+unfolding turns
+both_lowered_words = refl

@@ -91,3 +91,52 @@ guarded_range =
 pub guarded_range_turns : turns ranged_start guarded_range ≡ stated guarded_range
 unfolding turns
 guarded_range_turns = refl
+
+-- a range for which the divider has no rate is the old one again: 210 to 290 would give 200, which isn't in it
+abbrev empty_range : List Entry
+empty_range =
+    boot 2 ++ gets 1 div 0
+    ∷ begins 1 (call.SetRange a 210 290) (reply.Refused errno.EINVAL)
+    ∷ begins 1 (call.RoundRate a 100) (reply.Rate 100)
+    ∷ []
+
+pub empty_range_turns : turns ranged_start empty_range ≡ stated empty_range
+unfolding turns
+empty_range_turns = refl
+
+-- a range weighs 2 here, a visit and an end; where they have no room it is the old one again
+abbrev full_range : List Entry
+full_range =
+    boot 2 ++ gets 1 div 0
+    ∷ begins 1 (call.SetRange a 200 300) (reply.Refused errno.ENOSPC)
+    ∷ begins 1 (call.RoundRate a 100) (reply.Rate 100)
+    ∷ []
+
+pub full_range_turns : turns (opening ranged (3 ∷ []) false 4194303) full_range ≡ stated full_range
+unfolding turns
+full_range_turns = refl
+
+abbrev fitting_range : List Entry
+fitting_range =
+    boot 2 ++ gets 1 div 0
+    ∷ goes_on 1 (call.SetRange a 200 300) ∷ step 1 (micro.Visit div) ∷ ends 1 reply.Fine
+    ∷ begins 1 (call.RoundRate a 100) (reply.Rate 200)
+    ∷ []
+
+pub fitting_range_turns : turns (opening ranged (3 ∷ []) false 4194302) fitting_range ≡ stated fitting_range
+unfolding turns
+fitting_range_turns = refl
+
+-- a range takes the place of its own handle's, and needn't meet that one
+abbrev own_range : List Entry
+own_range =
+    boot 2 ++ gets 1 div 0
+    ∷ begins 1 (call.SetRange a 100 200) reply.Fine
+    ∷ goes_on 1 (call.SetRange a 300 400) ∷ step 1 (micro.Visit div) ∷ ends 1 reply.Fine
+    ∷ begins 1 (call.GetRate a) (reply.Rate 300)
+    ∷ begins 1 (call.RoundRate a 100) (reply.Rate 300)
+    ∷ []
+
+pub own_range_turns : turns ranged_start own_range ≡ stated own_range
+unfolding turns
+own_range_turns = refl

@@ -139,6 +139,59 @@ pub kept_parent_rates_turns : turns (opening kept_parents (0 ∷ []) false 100) 
 unfolding turns
 kept_parent_rates_turns = refl
 
+-- `fixed c 48000000`, `fixed a 30000000`, `fixed b 30000000`, `mux m 0 0 2 3 c a b`
+abbrev equal_sources : Description
+equal_sources =
+    clock (codes "c") (kinds.FixedRate 48000000) [] ∷ clock (codes "a") (kinds.FixedRate 30000000) [] ∷ clock (codes "b") (kinds.FixedRate 30000000) []
+    ∷ clock (codes "m") (kinds.Mux 0 0 2 false) (0 ∷ 1 ∷ 2 ∷ []) ∷ []
+
+abbrev equal_m : ClockId
+equal_m = clock_id 3
+
+-- of parents with equal rates a mux takes the first
+abbrev first_of_equals : List Entry
+first_of_equals =
+    boot 4 ++ gets 1 equal_m 0
+    ∷ goes_on 1 (call.SetRate h 40000000)
+    ∷ step 1 (micro.Relink equal_m b) ∷ step 1 (micro.WriteMux equal_m 1) ∷ step 1 (micro.Visit equal_m) ∷ ends 1 reply.Fine
+    ∷ begins 1 (call.GetParent h) (reply.Clock (Some b))
+    ∷ []
+
+pub first_of_equals_turns : turns (opening equal_sources (0 ∷ []) false 100) first_of_equals ≡ stated first_of_equals
+unfolding turns
+first_of_equals_turns = refl
+
+-- a mux that has the last of them has that rate already, and stays where it is
+abbrev last_of_equals : List Entry
+last_of_equals =
+    boot 4 ++ gets 1 equal_m 0
+    ∷ begins 1 (call.SetRate h 40000000) reply.Fine
+    ∷ begins 1 (call.GetParent h) (reply.Clock (Some (clock_id 2)))
+    ∷ []
+
+pub last_of_equals_turns : turns (opening equal_sources (2 ∷ []) false 100) last_of_equals ≡ stated last_of_equals
+unfolding turns
+last_of_equals_turns = refl
+
+-- `fixed f 100`, `factor z f 1 200`, `mux m 0 0 1 2 f z`
+abbrev still_source : Description
+still_source =
+    clock (codes "f") (kinds.FixedRate 100) [] ∷ clock (codes "z") (kinds.Factor 1 200) (0 ∷ [])
+    ∷ clock (codes "m") (kinds.Mux 0 0 1 false) (0 ∷ 1 ∷ []) ∷ []
+
+-- a parent with the rate 0 is never taken
+abbrev no_rate : List Entry
+no_rate =
+    boot 3 ++ gets 1 m 0
+    ∷ begins 1 (call.RoundRate h 50) (reply.Refused errno.EINVAL)
+    ∷ begins 1 (call.SetRate h 50) (reply.Refused errno.EINVAL)
+    ∷ begins 1 (call.RoundRate h 100) (reply.Rate 100)
+    ∷ []
+
+pub no_rate_turns : turns (opening still_source (0 ∷ []) false 100) no_rate ≡ stated no_rate
+unfolding turns
+no_rate_turns = refl
+
 -- a parent that isn't registered is no candidate, and can't be had
 abbrev late_candidate : List Entry
 late_candidate =
@@ -174,3 +227,27 @@ greatest_rates =
 pub greatest_rates_turns : turns (opening greatest (0 ∷ []) false 100) greatest_rates ≡ stated greatest_rates
 unfolding turns
 greatest_rates_turns = refl
+
+-- ---- a PLL
+
+-- `fixed f 18446744073709551615`, `pll p f 0 0 3 0 31 1 4 3`
+abbrev greatest_pll : Description
+greatest_pll =
+    clock (codes "f") (kinds.FixedRate 18446744073709551615) [] ∷ clock (codes "p") (kinds.Pll 0 0 3 0 31 1 4 3) (0 ∷ []) ∷ []
+
+-- two thirds of the greatest rate are exact; four thirds count as the greatest rate, so they aren't above it
+abbrev pll_rates : List Entry
+pll_rates =
+    boot 2 ++ gets 1 (clock_id 1) 0
+    ∷ begins 1 (call.GetRate h) (reply.Rate 12297829382473034410)
+    ∷ goes_on 1 (call.SetRate h 18446744073709551615) ∷ step 1 (micro.Visit (clock_id 1)) ∷ ends 1 reply.Fine
+    ∷ begins 1 (call.GetRate h) (reply.Rate 18446744073709551615)
+    ∷ []
+
+pub pll_rates_turns : turns (opening greatest_pll (2 ∷ []) false 100) pll_rates ≡ stated pll_rates
+unfolding turns
+pll_rates_turns = refl
+
+pub pll_rates_registers : (replay (opening greatest_pll (2 ∷ []) false 100) pll_rates).regs ≡ 4 ∷ []
+unfolding turns
+pll_rates_registers = refl

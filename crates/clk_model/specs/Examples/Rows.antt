@@ -1,5 +1,5 @@
 -- How a worked run is written: a list of entries, each with the turn that it has to have.
-use Rattle.std.specs.Prelude.{ℕ, List, [], ◌∷◌, Bool, false, Some, None, map, replicate}
+use Rattle.std.specs.Prelude.{ℕ, List, [], ◌∷◌, ◌++◌, Bool, false, Some, None, map, replicate}
 use Rattle.std.specs.Option.{option_map_or}
 use Rattle.clk_base.specs.declared.clock.ClockDef.{ClockDef}
 use Rattle.clk_base.specs.declared.clock.Kind.{Kind}
@@ -98,6 +98,10 @@ ends driver reply = answers driver (event.Step micro.End None) reply
 -- so many polls of a PLL that hasn't locked
 abbrev pub polls_in_vain : ℕ → ℕ → ClockId → List Entry
 polls_in_vain count driver y = replicate count (poll driver y false)
+
+-- a raise for a clock whose PLL times out, and its fall
+abbrev pub in_vain : ℕ → ClockId → ClockId → List Entry
+in_vain driver x y = step driver (micro.Raise x) ∷ polls_in_vain 32 driver y ++ step driver (micro.Fall y) ∷ []
 
 -- boot probes a clock
 abbrev pub probe : ℕ → Entry

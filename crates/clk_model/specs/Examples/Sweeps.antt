@@ -106,3 +106,29 @@ prepared_pll =
 pub prepared_pll_turns : turns (unused_start false) prepared_pll ≡ stated prepared_pll
 unfolding turns
 prepared_pll_turns = refl
+
+-- `fixed osc 24000000`, `pll p osc 0 0 9 0 31 100 400 24`, `gate g p 1 0`, `pll q g 2 0 9 2 31 100 400 24`
+abbrev gate_between : Description
+gate_between =
+    clock (codes "osc") (kinds.FixedRate 24000000) [] ∷ clock (codes "p") (kinds.Pll 0 0 9 0 31 100 400 24) (0 ∷ [])
+    ∷ clock (codes "g") (kinds.Gate 1 0 false) (1 ∷ []) ∷ clock (codes "q") (kinds.Pll 2 0 9 2 31 100 400 24) (2 ∷ []) ∷ []
+
+abbrev gate_between_start : State
+gate_between_start = opening gate_between (0x80000064 ∷ 1 ∷ 0x80000064 ∷ []) false 100
+
+-- all gates come before the PLLs, also before one below them; of the PLLs the lower one is powered off first
+abbrev gates_before_plls : List Entry
+gates_before_plls =
+    boot 4
+    ++ goes_on 1 call.Sweep
+    ∷ step 1 (micro.Close (clock_id 2)) ∷ step 1 (micro.Unpower (clock_id 3)) ∷ step 1 (micro.Unpower (clock_id 1))
+    ∷ ends 1 reply.Fine
+    ∷ []
+
+pub gates_before_plls_turns : turns gate_between_start gates_before_plls ≡ stated gates_before_plls
+unfolding turns
+gates_before_plls_turns = refl
+
+pub gates_before_plls_registers : (replay gate_between_start gates_before_plls).regs ≡ 0x64 ∷ 0 ∷ 0x64 ∷ []
+unfolding turns
+gates_before_plls_registers = refl

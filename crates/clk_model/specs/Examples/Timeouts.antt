@@ -1,5 +1,5 @@
 -- Moves, registrations and adoptions whose PLL doesn't lock in time.
-use Rattle.std.specs.Prelude.{◌≡◌, ℕ, List, [], ◌∷◌, ◌++◌, true, false, Some, None, pos, codes, map, refl, length}
+use Rattle.std.specs.Prelude.{◌≡◌, List, [], ◌∷◌, ◌++◌, true, false, Some, None, pos, codes, map, refl, length}
 use Rattle.clk_base.specs.declared.clock.ClockId.{ClockId}
 use Rattle.clk_base.specs.declared.clock.Kind.TheVariants as kinds
 use Rattle.clk_base.specs.declared.call.Micro.TheVariants as micro
@@ -14,15 +14,11 @@ use Rattle.clk_base.specs.Description.{Description}
 use Rattle.clk_model.specs.State.{State, link_in}
 use Rattle.clk_model.specs.Chain.{clock_id}
 use Rattle.clk_model.specs.Journal.{opening, replay}
-use Rattle.clk_model.specs.Examples.Rows.{turns, stated, clock, flagged, critical, handle, begins, goes_on, step, poll, polls_in_vain, ends, probe, boot, gets}
+use Rattle.clk_model.specs.Examples.Rows.{turns, stated, clock, flagged, critical, handle, begins, goes_on, step, poll, in_vain, ends, probe, boot, gets}
 use Rattle.clk_model.specs.Examples.Plls.{board_start, p, m}
 
 abbrev a : Handle
 a = handle 0 1
-
--- a raise of the PLL that times out, and its fall
-abbrev in_vain : ℕ → ClockId → ClockId → List Entry
-in_vain driver x y = step driver (micro.Raise x) ∷ polls_in_vain 32 driver y ++ step driver (micro.Fall y) ∷ []
 
 -- ---- a change of parent
 
@@ -249,3 +245,67 @@ registered_all_the_same_turns = refl
 pub registered_all_the_same_registers : (replay two_plls_start registered_all_the_same).regs ≡ 0x64 ∷ 0x80000064 ∷ 3 ∷ []
 unfolding turns
 registered_all_the_same_registers = refl
+
+-- ---- PLLs that are held by the time that another one doesn't lock
+
+-- `fixed osc 24000000`, `pll p osc 0 0 9 0 31 100 400 24`, `pll r osc 1 0 9 1 31 100 400 24`, `pll s r 2 0 9 2 31 100 400 24`,
+-- `gate gs s 3 0`, `gate cp p 3 1 critical`, `gate cs gs 3 2 critical`
+abbrev three_plls : Description
+three_plls =
+    clock (codes "osc") (kinds.FixedRate 24000000) [] ∷ clock (codes "p") (kinds.Pll 0 0 9 0 31 100 400 24) (0 ∷ [])
+    ∷ clock (codes "r") (kinds.Pll 1 0 9 1 31 100 400 24) (0 ∷ []) ∷ clock (codes "s") (kinds.Pll 2 0 9 2 31 100 400 24) (2 ∷ [])
+    ∷ clock (codes "gs") (kinds.Gate 3 0 false) (3 ∷ []) ∷ flagged critical (codes "cp") (kinds.Gate 3 1 false) (1 ∷ [])
+    ∷ flagged critical (codes "cs") (kinds.Gate 3 2 false) (4 ∷ []) ∷ []
+
+abbrev r : ClockId
+r = clock_id 2
+
+abbrev s : ClockId
+s = clock_id 3
+
+abbrev gs : ClockId
+gs = clock_id 4
+
+abbrev cs : ClockId
+cs = clock_id 6
+
+abbrev three_plls_start : State
+three_plls_start = opening three_plls (0x64 ∷ 0x64 ∷ 0x64 ∷ 0 ∷ []) false 100
+
+-- the critical clock cp waits, for its PLL p didn't lock
+abbrev waiting : List Entry
+waiting = goes_on 1 (call.Probe p) ∷ step 1 (micro.Register p) ∷ in_vain 1 p p ++ ends 1 (reply.Refused errno.ETIMEDOUT) ∷ []
+
+-- the hold on a gate holds both PLLs above it, so neither of them falls with the one that then doesn't lock
+abbrev whole_path_held : List Entry
+whole_path_held =
+    probe 0 ∷ probe 2 ∷ probe 3 ∷ probe 5 ∷ probe 6 ∷ waiting
+    ++ goes_on 1 (call.Probe gs) ∷ step 1 (micro.Register gs)
+    ∷ step 1 (micro.Raise gs) ∷ poll 1 r true ∷ step 1 (micro.Raise gs) ∷ poll 1 s true
+    ∷ step 1 (micro.HoldPrepare gs) ∷ step 1 (micro.HoldEnable gs) ∷ step 1 (micro.HoldEnable cs)
+    ∷ step 1 (micro.Relink cs gs) ∷ step 1 (micro.DropEnable cs) ∷ step 1 (micro.Settle cs)
+    ∷ in_vain 1 p p ++ ends 1 (reply.Refused errno.ETIMEDOUT) ∷ []
+
+pub whole_path_held_turns : turns three_plls_start whole_path_held ≡ stated whole_path_held
+unfolding turns
+whole_path_held_turns = refl
+
+pub whole_path_held_registers : (replay three_plls_start whole_path_held).regs ≡ 0x64 ∷ 0x80000064 ∷ 0x80000064 ∷ 7 ∷ []
+unfolding turns
+whole_path_held_registers = refl
+
+-- the registration of a critical clock holds them too
+abbrev whole_path_registered : List Entry
+whole_path_registered =
+    probe 0 ∷ probe 2 ∷ probe 3 ∷ probe 4 ∷ probe 5 ∷ waiting
+    ++ goes_on 1 (call.Probe cs)
+    ∷ step 1 (micro.Raise cs) ∷ poll 1 r true ∷ step 1 (micro.Raise cs) ∷ poll 1 s true ∷ step 1 (micro.Register cs)
+    ∷ in_vain 1 p p ++ ends 1 (reply.Refused errno.ETIMEDOUT) ∷ []
+
+pub whole_path_registered_turns : turns three_plls_start whole_path_registered ≡ stated whole_path_registered
+unfolding turns
+whole_path_registered_turns = refl
+
+pub whole_path_registered_registers : (replay three_plls_start whole_path_registered).regs ≡ 0x64 ∷ 0x80000064 ∷ 0x80000064 ∷ 7 ∷ []
+unfolding turns
+whole_path_registered_registers = refl
