@@ -107,3 +107,4 @@ pub mod ToldLaws
 pub mod ToldStepLaws
 pub mod ToldFlightLaws
 pub mod ToldRunLaws
+pub mod UnmovedLaws
