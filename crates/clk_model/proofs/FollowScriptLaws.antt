@@ -1,6 +1,6 @@
 -- Laws on planned scripts and outcomes: each planned script leads to its outcome.
 use Rattle.std.proofs.Common.{◌≡◌, ℕ, ◌&&◌, ◌||◌, Bool, true, false, not, cond, List, [], ◌∷◌, ◌++◌, Option, Some, None, refl, sym, ap, subst, ◌∙◌, ◌⊎◌, inl, inr, length}
-use Rattle.std.proofs.lemmas.List.{append_assoc}
+use Rattle.std.proofs.lemmas.List.{append-nil, append_assoc}
 use Rattle.std.specs.Prelude.{◌==◌, filter, find, flat_map, option_map, if◌then◌else◌}
 use Rattle.std.specs.List.{list_any, AllByRecursion}
 use Rattle.std.specs.Option.{option_map_or}
@@ -218,16 +218,12 @@ block_follows n base ks tail c cs done over to go_on =
             none_ : NoScale n c
             none_ f at = moved_no_scale (length n.regs) (wiring n) one.step f over.fit.wired one.has.parent one.has.rooted one.moves_ (ap (λ (x : ℕ). scales_by (kind_of n.defs x)) one.clock ∙ at)
 
-            nothing_more : (ms : List Micro) → ms ++ [] ≡ ms
-            nothing_more [] = refl
-            nothing_more (x ∷ xs) = ap (λ (ns : List Micro). x ∷ ns) (nothing_more xs)
-
             by_parent : (o : Option ℕ) → one.step.parent ≡ o → Follows n ks done ((option_map_or (move n.defs n.clocks (prepared n) c) o [] ++ []) ++ micro.Visit (clock_id c) ∷ rest)
             by_parent None e =
                 let no : true ≡ false = sym one.moves_ ∙ ap (λ (q : Option ℕ). not (same_place q (link_in n.clocks one.step.clock))) (e ∙ sym (one.has.parent.none e)) ∙ self (link_in n.clocks one.step.clock) in
                 absurd cc
             by_parent (Some p) e =
-                subst (λ (ms : List Micro). Follows n ks done (ms ++ micro.Visit (clock_id c) ∷ rest)) (sym (nothing_more (move n.defs n.clocks (prepared n) c p)))
+                subst (λ (ms : List Micro). Follows n ks done (ms ++ micro.Visit (clock_id c) ∷ rest)) (sym (append-nil (move n.defs n.clocks (prepared n) c p)))
                 (follows_move n ks done c p (micro.Visit (clock_id c) ∷ rest) over.fit.wired.valid
                 (subst (λ (x : ℕ). link_in (outcome_of n ks).clocks x ≡ Some p) one.clock (one.has.link ∙ e)) none_
                 (subst (λ (x : ℕ). is_in p (parents_of n.defs x) ≡ true) one.clock (one.has.parent.possible p e))

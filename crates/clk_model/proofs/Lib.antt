@@ -125,3 +125,4 @@ pub mod StepActLaws
 pub mod PlanScriptLaws
 pub mod OutcomeWrittenLaws
 pub mod JournalCauseLaws
+pub mod UnmovedLaws

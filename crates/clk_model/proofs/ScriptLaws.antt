@@ -1,7 +1,7 @@
 -- Laws on tests that no step of a script passes, for each script of a call and each end that a timeout leaves of it.
 use Rattle.std.proofs.Common.{◌≡◌, ℕ, ◌||◌, ◌&&◌, Bool, true, false, cond, List, [], ◌∷◌, ◌++◌, Option, Some, None, refl, sym, ap, ◌∙◌, length}
-use Rattle.std.specs.Prelude.{◌==◌, filter, flat_map, slice_index}
-use Rattle.std.specs.List.{list_any, AllByRecursion}
+use Rattle.std.specs.Prelude.{◌==◌, filter, flat_map, slice_index, if◌then◌else◌}
+use Rattle.std.specs.List.{list_any, AllByRecursion, list_all}
 use Rattle.std.specs.Option.{option_map_or}
 use Rattle.clk_base.specs.declared.call.Micro.{Micro}
 use Rattle.clk_base.specs.declared.call.Micro.TheVariants as micro
@@ -13,16 +13,16 @@ use Rattle.clk_base.specs.Description.{Description}
 use Rattle.clk_base.specs.Flags.{is_critical}
 use Rattle.clk_model.specs.declared.row.ClockRow.{ClockRow}
 use Rattle.clk_model.specs.Lists.{is_in}
-use Rattle.clk_model.specs.State.{State, ChainStep, NotifierRow}
+use Rattle.clk_model.specs.State.{State, ChainStep, NotifierRow, link_in}
 use Rattle.clk_model.specs.Holders.{prepared}
 use Rattle.clk_model.specs.Round.{wiring}
-use Rattle.clk_model.specs.Chain.{clock_id, moves}
+use Rattle.clk_model.specs.Chain.{clock_id, moves, place_of}
 use Rattle.clk_model.specs.Walk.{walk, changing}
 use Rattle.clk_model.specs.Notices.{Rates, vetoes, notifiers_of, until_veto, is_veto, abort_list}
 use Rattle.clk_model.specs.Script.{move, move_of, planned, adoption, adoptable, adoption_order, probe_script}
 use Rattle.clk_model.specs.Step.{cut_short}
 use Rattle.clk_model.specs.Laws.Flight.{plan_rates, pre_notices, abort_notices}
-use Rattle.clk_model.proofs.Members.{is_in_head, is_in_tail, same_from_test, both_left}
+use Rattle.clk_model.proofs.Members.{is_in_head, is_in_tail, same_from_test, both_left, both_right}
 use Rattle.clk_model.proofs.NoneLaws.{none_append, none_map, none_flat_map, none_if, none_behind}
 use Rattle.clk_model.proofs.BeginLaws.{walked_at, walked}
 use Rattle.clk_model.proofs.BalancedScripts.{short_is_end}
@@ -62,6 +62,37 @@ pub none_aborts : (p : Micro → Bool) (rates : Rates) (ns : List NotifierRow) (
 none_aborts p rates ns cs none =
     none_flat_map p (λ c. _) cs
     (λ c. none_map p (λ (n : NotifierRow). micro.Notify notice.Abort (clock_id c) n.id (slice_index rates.before c) (slice_index rates.outcome c)) (notifiers_of ns c) (λ n. none notice.Abort (clock_id c) n.id _ _))
+
+-- the steps that moves are made of
+abbrev pub is_moving : Micro → Bool
+is_moving (micro.Raise c) = true
+is_moving (micro.HoldPrepare c) = true
+is_moving (micro.HoldEnable c) = true
+is_moving (micro.Relink c p) = true
+is_moving (micro.WriteMux c place) = true
+is_moving (micro.DropEnable c) = true
+is_moving (micro.DropPrepare c) = true
+is_moving (micro.Lower c) = true
+is_moving _ = false
+
+-- a move passes no test that none of these passes
+none_moving : (p : Micro → Bool) (ms : List Micro) → ((m : Micro) → is_moving m ≡ true → p m ≡ false) → list_all is_moving ms ≡ true → list_any p ms ≡ false
+none_moving p [] each all = refl
+none_moving p (m ∷ ms) each all =
+    let here : is_moving m ≡ true = both_left (is_moving m) (list_all is_moving ms) all in
+    let rest : list_all is_moving ms ≡ true = both_right (is_moving m) (list_all is_moving ms) all in
+    ap (λ (b : Bool). b || list_any p ms) (each m here) ∙ none_moving p ms each rest
+
+pub none_move : (p : Micro → Bool) (s : State) (c q : ℕ) → ((m : Micro) → is_moving m ≡ true → p m ≡ false) → list_any p (move s.defs s.clocks (prepared s) c q) ≡ false
+none_move p s c q each = none_moving p (move s.defs s.clocks (prepared s) c q) each (one (prepared s c) (link_in s.clocks c)) where
+  one : (t : Bool) (l : Option ℕ) → list_all is_moving (if t
+      then micro.Raise (clock_id q) ∷ micro.HoldPrepare (clock_id q) ∷ micro.HoldEnable (clock_id q) ∷ micro.HoldEnable (clock_id c)
+      ∷ micro.Relink (clock_id c) (clock_id q) ∷ micro.WriteMux (clock_id c) (place_of s.defs c q) ∷ micro.DropEnable (clock_id c)
+      ∷ option_map_or (λ o. micro.DropEnable (clock_id o) ∷ micro.DropPrepare (clock_id o) ∷ micro.Lower (clock_id o) ∷ []) l []
+      else micro.Relink (clock_id c) (clock_id q) ∷ micro.WriteMux (clock_id c) (place_of s.defs c q) ∷ []) ≡ true
+  one true None = refl
+  one true (Some o) = refl
+  one false l = refl
 
 -- a move of a clock by a step of the chain passes no test
 abbrev pub NoMove : (Micro → Bool) → Description → List ClockRow → (ℕ → Bool) → ℕ → ChainStep → Type 0

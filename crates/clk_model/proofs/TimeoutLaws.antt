@@ -44,13 +44,13 @@ use Rattle.clk_model.proofs.FrontLaws.{front_after}
 use Rattle.clk_model.proofs.BeginLaws.{walked_at, walked}
 use Rattle.clk_model.proofs.WalkLaws.{walks_list}
 use Rattle.clk_model.proofs.FlightLaws.{IsStep, begin_is, front_put}
-use Rattle.clk_model.proofs.VetoLaws.{of_change, ends_it, end_state}
+use Rattle.clk_model.proofs.VetoLaws.{of_change, ends_it, end_state, end_turn}
 use Rattle.clk_model.proofs.ArriveLaws.{wired_before}
 use Rattle.clk_model.proofs.WalkGoLaws.{from_first_past}
 use Rattle.clk_model.proofs.BeginsLaws.{changes_rate, Starts, raising_handle, lowering_handle, planning, reparents, probing, sweeping, Begins, answers, gives, takes, adjusts, prepares, unprepares, notes, registers, goes_on as goes_in, begins_so}
 use Rattle.clk_model.proofs.SafeRunLaws.{one_step_leads, IsRun, run_goes_on}
 use Rattle.clk_model.proofs.RunsFedLaws.{run_of}
-use Rattle.clk_model.proofs.ScriptLaws.{none_flat_in, none_move_of, none_pre, none_aborts, planned_front, planned_is, none_planned_front}
+use Rattle.clk_model.proofs.ScriptLaws.{none_flat_in, none_move_of, none_pre, none_aborts, planned_front, planned_is, none_planned_front, is_moving, none_move}
 use Rattle.clk_model.proofs.TimeoutStepLaws.{does_more, raises_late, late_calm, late_past, late_front, late_from, from_twice, cut_is_from, IsPowered, differs_of, powered_over, powered_settled, powered_same, step_powers, tier_powers}
 
 -- ---- a flight
@@ -191,16 +191,9 @@ late_move q c p = one (prepared q c) (link_in q.clocks c) where
   one true (Some o) = refl
   one false l = refl
 
-pub move_no_end : (q : State) (c p : ℕ) → list_any is_end (move q.defs q.clocks (prepared q) c p) ≡ false
-move_no_end q c p = one (prepared q c) (link_in q.clocks c) where
-  one : (t : Bool) (l : Option ℕ) → list_any is_end (if t
-      then micro.Raise (clock_id p) ∷ micro.HoldPrepare (clock_id p) ∷ micro.HoldEnable (clock_id p) ∷ micro.HoldEnable (clock_id c)
-      ∷ micro.Relink (clock_id c) (clock_id p) ∷ micro.WriteMux (clock_id c) (place_of q.defs c p) ∷ micro.DropEnable (clock_id c)
-      ∷ option_map_or (λ o. micro.DropEnable (clock_id o) ∷ micro.DropPrepare (clock_id o) ∷ micro.Lower (clock_id o) ∷ []) l []
-      else micro.Relink (clock_id c) (clock_id p) ∷ micro.WriteMux (clock_id c) (place_of q.defs c p) ∷ []) ≡ false
-  one true None = refl
-  one true (Some o) = refl
-  one false l = refl
+no_end : (m : Micro) → is_moving m ≡ true → is_end m ≡ false
+no_end micro.End moves_ = absurd cc
+no_end m moves_ = refl
 
 -- a chain of one step
 late_own : (q : State) (k : ChainStep) (w : ℕ) → raises_late (move_of q.defs q.clocks (prepared q) (k ∷ []) w) ≡ false
@@ -240,7 +233,7 @@ parent_stage q k settles run leads calm none = (
       ∙ ap (list_any does_more)
       (from_first_past is_end (planned_front q (k ∷ []) settles) (micro.End ∷ [])
       (none_planned_front is_end q (k ∷ []) settles (λ kind c id old new. refl)
-      (λ c. none_move_of is_end q.defs q.clocks (prepared q) (k ∷ []) c ((λ same p is. move_no_end q c p), tt)) (λ c. refl) none)),
+      (λ c. none_move_of is_end q.defs q.clocks (prepared q) (k ∷ []) c ((λ same p is. none_move is_end q c p no_end), tt)) (λ c. refl) none)),
 ) where
   ws : List ℕ
   ws = walk q.order (wiring q) (k ∷ [])
@@ -338,10 +331,6 @@ end_powers q s k drops late is = either k.vetoed k.timed_out late where
   either true b e = kept
   either false true e = kept
   either false false e = absurd cc
-
-end_turn : (s : State) (k : Change) (answer : Option Bool) (m : Micro) → m ≡ micro.End → (stepped s k answer m).1 ≡ (end_of s k).1
-unfolding stepped
-end_turn s k answer m is = ap (λ (n : Micro). (stepped s k answer n).1) is
 
 pub timeouts_leave_nothing : TimeoutsLeaveNothing
 timeouts_leave_nothing defs regs ignore_unused credits before s t d what made m answer valid drops flight step = by_stage is.stage where

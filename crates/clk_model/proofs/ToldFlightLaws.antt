@@ -1,22 +1,21 @@
 -- Laws on changes that go well: each clock that the notices before the change were for is told of it once.
-use Rattle.std.proofs.Common.{◌≡◌, ℕ, ◌||◌, Bool, true, false, not, cond, List, [], ◌∷◌, ◌++◌, Option, Some, None, refl, sym, ap, ◌∙◌, inl, inr, length}
+use Rattle.std.proofs.Common.{◌≡◌, ℕ, ◌||◌, Bool, true, false, not, cond, List, [], ◌∷◌, ◌++◌, Some, refl, sym, ap, ◌∙◌, inl, inr, length}
 use Rattle.std.proofs.lemmas.List.{append_assoc}
 use Rattle.std.proofs.lemmas.List.Folds.{list_any-append}
 use Rattle.std.specs.Prelude.{◌==◌, flat_map, if◌then◌else◌}
 use Rattle.std.specs.List.{list_any, AllByRecursion}
-use Rattle.std.specs.Option.{option_map_or}
 use Rattle.clk_base.specs.declared.call.Micro.{Micro}
 use Rattle.clk_base.specs.declared.call.Micro.TheVariants as micro
 use Rattle.clk_base.specs.declared.call.Sleeping.{Sleeping}
 use Rattle.clk_model.specs.declared.row.HandleRow.{HandleRow}
 use Rattle.clk_model.specs.Lists.{is_in, none_twice}
-use Rattle.clk_model.specs.State.{State, Change, ChainStep, link_in, handle_at}
+use Rattle.clk_model.specs.State.{State, Change, ChainStep, handle_at}
 use Rattle.clk_model.specs.Holders.{prepared}
 use Rattle.clk_model.specs.Round.{wiring, rate_in}
-use Rattle.clk_model.specs.Chain.{clock_id, outcome, place_of}
+use Rattle.clk_model.specs.Chain.{clock_id, outcome}
 use Rattle.clk_model.specs.Walk.{walk, changing, rates_in}
 use Rattle.clk_model.specs.Notices.{is_veto}
-use Rattle.clk_model.specs.Script.{move, move_of, planned}
+use Rattle.clk_model.specs.Script.{move_of, planned}
 use Rattle.clk_model.specs.Step.{is_end}
 use Rattle.clk_model.specs.Laws.Flight.{pre_notices, abort_notices}
 use Rattle.clk_model.specs.Laws.ChangesTold.{is_post_of, plans_change}
@@ -32,40 +31,22 @@ use Rattle.clk_model.proofs.ProbeGoLaws.{Resting}
 use Rattle.clk_model.proofs.BeginsLaws.{IsPlannedOver, over_itself, over_range, Starts, raising_handle, lowering_handle, planning, reparents, probing, sweeping}
 use Rattle.clk_model.proofs.BeginSafeLaws.{handle_rooted, planned_over}
 use Rattle.clk_model.proofs.SafeRunLaws.{one_step_leads, one_step_rooted, plan_over}
-use Rattle.clk_model.proofs.ScriptLaws.{NoMove, none_flat_in, none_move_of, none_pre, planned_is}
+use Rattle.clk_model.proofs.ScriptLaws.{NoMove, none_flat_in, none_move_of, none_pre, planned_is, is_moving, none_move}
 use Rattle.clk_model.proofs.FollowLaws.{outcome_of, stirs}
 use Rattle.clk_model.proofs.ToldLaws.{expected, visits_of, visits_once}
 
 -- ---- a script visits each clock of its walk once
 
-move_no_visit : (n : State) (c x p : ℕ) → list_any (visits_of c) (move n.defs n.clocks (prepared n) x p) ≡ false
-move_no_visit n c x p = one (prepared n x) (link_in n.clocks x) where
-  one : (t : Bool) (l : Option ℕ) → list_any (visits_of c) (if t
-      then micro.Raise (clock_id p) ∷ micro.HoldPrepare (clock_id p) ∷ micro.HoldEnable (clock_id p) ∷ micro.HoldEnable (clock_id x)
-      ∷ micro.Relink (clock_id x) (clock_id p) ∷ micro.WriteMux (clock_id x) (place_of n.defs x p) ∷ micro.DropEnable (clock_id x)
-      ∷ option_map_or (λ o. micro.DropEnable (clock_id o) ∷ micro.DropPrepare (clock_id o) ∷ micro.Lower (clock_id o) ∷ []) l []
-      else micro.Relink (clock_id x) (clock_id p) ∷ micro.WriteMux (clock_id x) (place_of n.defs x p) ∷ []) ≡ false
-  one true None = refl
-  one true (Some o) = refl
-  one false l = refl
-
-pub move_no_post : (n : State) (c x p : ℕ) → list_any (is_post_of c) (move n.defs n.clocks (prepared n) x p) ≡ false
-move_no_post n c x p = one (prepared n x) (link_in n.clocks x) where
-  one : (t : Bool) (l : Option ℕ) → list_any (is_post_of c) (if t
-      then micro.Raise (clock_id p) ∷ micro.HoldPrepare (clock_id p) ∷ micro.HoldEnable (clock_id p) ∷ micro.HoldEnable (clock_id x)
-      ∷ micro.Relink (clock_id x) (clock_id p) ∷ micro.WriteMux (clock_id x) (place_of n.defs x p) ∷ micro.DropEnable (clock_id x)
-      ∷ option_map_or (λ o. micro.DropEnable (clock_id o) ∷ micro.DropPrepare (clock_id o) ∷ micro.Lower (clock_id o) ∷ []) l []
-      else micro.Relink (clock_id x) (clock_id p) ∷ micro.WriteMux (clock_id x) (place_of n.defs x p) ∷ []) ≡ false
-  one true None = refl
-  one true (Some o) = refl
-  one false l = refl
+no_visit : (c : ℕ) (m : Micro) → is_moving m ≡ true → visits_of c m ≡ false
+no_visit c (micro.Visit d) moves_ = absurd cc
+no_visit c m moves_ = refl
 
 pub all_moves : (P : ChainStep → Type 0) (ks : List ChainStep) → ((k : ChainStep) → P k) → AllByRecursion P ks
 all_moves P [] each = tt
 all_moves P (k ∷ ks) each = (each k, all_moves P ks each)
 
 moves_no_visit : (n : State) (ks : List ChainStep) (c x : ℕ) → list_any (visits_of c) (move_of n.defs n.clocks (prepared n) ks x) ≡ false
-moves_no_visit n ks c x = none_move_of (visits_of c) n.defs n.clocks (prepared n) ks x (all_moves (NoMove (visits_of c) n.defs n.clocks (prepared n) x) ks (λ k same p at. move_no_visit n c x p))
+moves_no_visit n ks c x = none_move_of (visits_of c) n.defs n.clocks (prepared n) ks x (all_moves (NoMove (visits_of c) n.defs n.clocks (prepared n) x) ks (λ k same p at. none_move (visits_of c) n x p (no_visit c)))
 
 visits_past : (c : ℕ) (xs ys : List Micro) → list_any (visits_of c) xs ≡ false → visits_once c (xs ++ ys) ≡ visits_once c ys
 visits_past c [] ys none = refl

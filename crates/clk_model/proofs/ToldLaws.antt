@@ -1,7 +1,7 @@
 -- Laws on changes that go well and their notices: each visit of a clock whose rate the plan changes tells it, and nothing else does.
 use Rattle.std.proofs.Common.{◌≡◌, ℕ, zero, suc, ◌+◌, ◌<◌, Bool, true, false, not, map, List, [], ◌∷◌, ◌++◌, Option, Some, refl, sym, ap, subst, ◌∙◌, ◌⊎◌, inl, inr, arith, length, nat_eq}
 use Rattle.std.proofs.lemmas.Bool.{cases_lt}
-use Rattle.std.proofs.lemmas.List.{get_or_past}
+use Rattle.std.proofs.lemmas.List.{get_or_past, append-nil}
 use Rattle.std.proofs.lemmas.Option.{same_Some}
 use Rattle.std.specs.Prelude.{◌==◌, slice_index, if◌then◌else◌}
 use Rattle.std.specs.List.{list_any}
@@ -159,13 +159,9 @@ pub visit_tells : (n : State) (base : ℕ) (ks : List ChainStep) (c : ℕ) (s : 
     → k.before ≡ rates_in (wiring n) → k.outcome ≡ rates_in (outcome_of n ks) → s.notifiers ≡ n.notifiers → k.front ≡ [] → rate s.defs (set_in_chain s k d.0) s.clocks d.0 ≡ rate_in (outcome_of n ks) d.0
     → (stepped s k answer (micro.Visit d)).0.change ≡ Some j → posts c j.front ≡ (if d.0 == c then expected n ks c else [])
 visit_tells n base ks c s k answer d j over differs_ before out_ notifiers empty rate_is at =
-    ap (posts c) (visit_front s k answer d j at) ∙ posts_append c told k.front ∙ ap (λ (ms : List Micro). posts c told ++ posts c ms) empty ∙ nothing_more (posts c told) ∙ by_clock (d.0 == c) refl where
+    ap (posts c) (visit_front s k answer d j at) ∙ posts_append c told k.front ∙ ap (λ (ms : List Micro). posts c told ++ posts c ms) empty ∙ append-nil (posts c told) ∙ by_clock (d.0 == c) refl where
       told : List Micro
       told = if rate s.defs (set_in_chain s k d.0) s.clocks d.0 == slice_index k.before d.0 then [] else post_list (record { before = k.before; outcome = k.outcome }) s.notifiers d.0
-
-      nothing_more : (ms : List Micro) → ms ++ [] ≡ ms
-      nothing_more [] = refl
-      nothing_more (x ∷ xs) = ap (λ (ns : List Micro). x ∷ ns) (nothing_more xs)
 
       whole : (x : ℕ) → post_list (record { before = k.before; outcome = k.outcome }) s.notifiers x ≡ expected n ks x
       whole x =

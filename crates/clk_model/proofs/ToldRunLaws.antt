@@ -1,5 +1,6 @@
 -- Laws on changes that go well, from their beginning to their end: what was told at the end is what each clock was to hear.
 use Rattle.std.proofs.Common.{◌≡◌, ℕ, ◌+◌, Bool, true, false, cond, List, [], ◌∷◌, ◌++◌, Option, Some, None, refl, sym, ap, subst, ◌∙◌, ◌⊎◌, inl, inr, length}
+use Rattle.std.proofs.lemmas.List.{append-nil}
 use Rattle.std.specs.Prelude.{filter, if◌then◌else◌}
 use Rattle.std.specs.List.{list_any}
 use Rattle.std.specs.Option.{option_map_or}
@@ -26,7 +27,7 @@ use Rattle.clk_model.specs.Walk.{walk, changing, differs}
 use Rattle.clk_model.specs.Notices.{is_veto}
 use Rattle.clk_model.specs.Script.{move_of, planned}
 use Rattle.clk_model.specs.Begin.{begun}
-use Rattle.clk_model.specs.Step.{taken, is_end, end_of, stepped}
+use Rattle.clk_model.specs.Step.{taken, is_end, end_of}
 use Rattle.clk_model.specs.Machine.{next}
 use Rattle.clk_model.specs.Tier.{is_enable_tier}
 use Rattle.clk_model.specs.Wired.{IsWired}
@@ -43,7 +44,7 @@ use Rattle.clk_model.proofs.StepLaws.{step_after}
 use Rattle.clk_model.proofs.FrontLaws.{front_after}
 use Rattle.clk_model.proofs.BeginLaws.{walked_at, walked}
 use Rattle.clk_model.proofs.FlightLaws.{IsStep, begin_is}
-use Rattle.clk_model.proofs.VetoLaws.{of_change, ends_it}
+use Rattle.clk_model.proofs.VetoLaws.{of_change, ends_it, end_turn}
 use Rattle.clk_model.proofs.ShapeLaws.{events_keep_shape}
 use Rattle.clk_model.proofs.WalkLaws.{walks_list}
 use Rattle.clk_model.proofs.PathLaws.{some_levels, path_cons}
@@ -55,7 +56,7 @@ use Rattle.clk_model.proofs.BeginsLaws.{Begins, answers, gives, takes, adjusts, 
 use Rattle.clk_model.proofs.BeginSafeLaws.{resting}
 use Rattle.clk_model.proofs.SafeRunLaws.{IsRunning, quietly, in_flight, IsRun, run_goes_on}
 use Rattle.clk_model.proofs.RunsFedLaws.{run_of}
-use Rattle.clk_model.proofs.ScriptLaws.{NoMove, none_move_of, planned_front, planned_is}
+use Rattle.clk_model.proofs.ScriptLaws.{NoMove, none_move_of, planned_front, planned_is, is_moving, none_move}
 use Rattle.clk_model.proofs.NextLaws.{going_no_end}
 use Rattle.clk_model.proofs.TimeoutStepLaws.{no_gate}
 use Rattle.clk_model.proofs.FollowLaws.{outcome_of, AgreesAll}
@@ -77,11 +78,18 @@ use Rattle.clk_model.proofs.WalkGoLaws.{from_first_past}
 use Rattle.clk_model.proofs.NextLaws.{Comes, was_put, was_own, comes_of}
 use Rattle.clk_model.proofs.FlightLaws.{front_put}
 use Rattle.clk_model.proofs.StepLaws.{IsAfter}
-use Rattle.clk_model.proofs.TimeoutLaws.{move_no_end}
 use Rattle.clk_model.proofs.FollowLaws.{Follows}
-use Rattle.clk_model.proofs.ToldFlightLaws.{all_moves, move_no_post, planned_visits, PlanBegins, plan_begins}
+use Rattle.clk_model.proofs.ToldFlightLaws.{all_moves, planned_visits, PlanBegins, plan_begins}
 
 -- ---- scripts
+
+no_post : (c : ℕ) (m : Micro) → is_moving m ≡ true → is_post_of c m ≡ false
+no_post c (micro.Notify kind d id old new) moves_ = absurd cc
+no_post c m moves_ = refl
+
+no_end : (m : Micro) → is_moving m ≡ true → is_end m ≡ false
+no_end micro.End moves_ = absurd cc
+no_end m moves_ = refl
 
 -- no script of a plan tells that a rate has changed: the visits do
 quiet_posts : (n : State) (ks : List ChainStep) (settles : List Micro) (c : ℕ) → list_any (is_post_of c) settles ≡ false → list_any (is_post_of c) (planned n ks settles).steps ≡ false
@@ -96,7 +104,7 @@ quiet_posts n ks settles c silent =
     (none_append (is_post_of c) (walked n ks) settles
     (none_flat_map (is_post_of c) (walked_at n ks) (walk n.order (wiring n) ks)
     (λ x. none_append (is_post_of c) (move_of n.defs n.clocks (prepared n) ks x) (micro.Visit (clock_id x) ∷ [])
-    (none_move_of (is_post_of c) n.defs n.clocks (prepared n) ks x (all_moves (NoMove (is_post_of c) n.defs n.clocks (prepared n) x) ks (λ k same p at. move_no_post n c x p))) refl))
+    (none_move_of (is_post_of c) n.defs n.clocks (prepared n) ks x (all_moves (NoMove (is_post_of c) n.defs n.clocks (prepared n) x) ks (λ k same p at. none_move (is_post_of c) n x p (no_post c)))) refl))
     silent))) refl where
       before : (x : ℕ) (ns : List NotifierRow) → list_any (is_post_of c) (until_veto (plan_rates n ks) x ns) ≡ false
       before x [] = refl
@@ -109,7 +117,7 @@ none_behind_end n ks settles c none =
     ∙ ap (list_any (visits_of c))
     (from_first_past is_end (planned_front n ks settles) (micro.End ∷ [])
     (none_planned_front is_end n ks settles (λ kind x id old new. refl)
-    (λ x. none_move_of is_end n.defs n.clocks (prepared n) ks x (all_moves (NoMove is_end n.defs n.clocks (prepared n) x) ks (λ k same p at. move_no_end n x p))) (λ x. refl) none))
+    (λ x. none_move_of is_end n.defs n.clocks (prepared n) ks x (all_moves (NoMove is_end n.defs n.clocks (prepared n) x) ks (λ k same p at. none_move is_end n x p no_end))) (λ x. refl) none))
 
 abbrev Behind : ℕ → Change → Type 0
 Behind c k = (k.timed_out ≡ true) ⊎ (list_any (visits_of c) (from_first is_end k.left) ≡ false)
@@ -328,10 +336,6 @@ went_well s k e = both k.vetoed k.timed_out e where
   both true b f = absurd cc
   both false true f = absurd cc
 
-end_turn : (s : State) (k : Change) (answer : Option Bool) (m : Micro) → m ≡ micro.End → (stepped s k answer m).1 ≡ (end_of s k).1
-unfolding stepped
-end_turn s k answer m is = ap (λ (n : Micro). (stepped s k answer n).1) is
-
 pub changes_are_told : ChangesAreTold
 changes_are_told defs regs ignore_unused credits before q s t d what made m answer valid plans_ replayed flight step c mem = by_telling is.telling where
   run : IsRun q
@@ -360,16 +364,12 @@ changes_are_told defs regs ignore_unused credits before q s t d what made m answ
       let whole : k.left ≡ micro.End ∷ (taken k).left = left ∙ ap (λ (x : Micro). x ∷ (taken k).left) end_ in
       (empty, ap (list_any (visits_of c)) whole ∙ ap (λ (ms : List Micro). list_any (visits_of c) (from_first is_end ms)) (sym whole) ∙ none)
 
-  nothing_more : (xs : List Micro) → xs ++ [] ≡ xs
-  nothing_more [] = refl
-  nothing_more (x ∷ xs) = ap (λ (ns : List Micro). x ∷ ns) (nothing_more xs)
-
   by_telling : Telling is.n is.ks c s k made → filter (is_post_of c) made ≡ expected q (plan q d what) c
   by_telling (late e) = let no : true ≡ false = sym e ∙ well.1 in absurd cc
   by_telling (called_off e) = let no : true ≡ false = sym e ∙ well.0 in absurd cc
   by_telling (on_time e way) =
       let last = ended (comes_of k.front k.left m of.first (front_put k is.front)) is.behind in
-      sym (nothing_more (posts c made))
+      sym (append-nil (posts c made))
       ∙ ap (λ (b : Bool). posts c made ++ (if b then expected is.n is.ks c else [])) (sym last.1)
       ∙ ap (λ (ms : List Micro). posts c made ++ (posts c ms ++ to_come is.n is.ks c k.left)) (sym last.0)
       ∙ way.total ∙ is.hears

@@ -1,6 +1,6 @@
 -- Laws on the steps of changes and their notices: each step of a change on its way leaves it on its way.
 use Rattle.std.proofs.Common.{◌≡◌, ℕ, ◌+◌, ◌||◌, Bool, true, false, not, List, [], ◌∷◌, ◌++◌, Option, Some, refl, sym, ap, subst, ◌∙◌, ◌⊎◌, inl, inr, length}
-use Rattle.std.proofs.lemmas.List.{append_assoc}
+use Rattle.std.proofs.lemmas.List.{append_assoc, append-nil}
 use Rattle.std.specs.Prelude.{◌==◌, if◌then◌else◌}
 use Rattle.std.specs.List.{list_any}
 use Rattle.clk_base.specs.declared.call.Micro.{Micro}
@@ -207,16 +207,12 @@ telling_step n base ks c s t d m answer k j made plan step wired wired_t shape f
         let parts = not_either (visits_of c y) (list_any (visits_of c) ys) f in
         ap (λ (b : Bool). if b then not (list_any (visits_of c) ys) else visits_once c ys) parts.0 ∙ once_none ys parts.1
 
-    nothing_more : (xs : List Micro) → xs ++ [] ≡ xs
-    nothing_more [] = refl
-    nothing_more (y ∷ ys) = ap (λ (ns : List Micro). y ∷ ns) (nothing_more ys)
-
     by_clock : (b : Bool) → (if b then not (list_any (visits_of c) ms) else visits_once c ms) ≡ true
         → (visits_once c ms ≡ true) × ((if b then expected n ks c else []) ++ to_come n ks c ms ≡ (if (b || list_any (visits_of c) ms) then expected n ks c else []))
     by_clock false f = (f, refl)
     by_clock true f =
         let none = rest_none_ (list_any (visits_of c) ms) f in
-        (once_none ms none, ap (λ (b : Bool). expected n ks c ++ (if b then expected n ks c else [])) none ∙ nothing_more (expected n ks c))
+        (once_none ms none, ap (λ (b : Bool). expected n ks c ++ (if b then expected n ks c else [])) none ∙ append-nil (expected n ks c))
 
     visited : Telling n ks c t j (made ++ m ∷ [])
     visited =

@@ -180,7 +180,7 @@ coming_first : (q s : State) (d : ℕ) (what : Sleeping) (made : List Micro) (m 
 coming_first q s d what made m off first =
     ap (λ (ms : List Micro). comes_next m ms) (sym (ap (λ (ms : List Micro). ms ++ off.now.left) off.front ∙ off.left)) ∙ first
 
-end_turn : (s : State) (k : Change) (answer : Option Bool) (m : Micro) → m ≡ micro.End → (stepped s k answer m).1 ≡ (end_of s k).1
+pub end_turn : (s : State) (k : Change) (answer : Option Bool) (m : Micro) → m ≡ micro.End → (stepped s k answer m).1 ≡ (end_of s k).1
 unfolding stepped
 end_turn s k answer m e = ap (λ (n : Micro). (stepped s k answer n).1) e
 

@@ -1,4 +1,5 @@
--- That a call leaves nothing behind its end that it only had for its way: the laws of PLLs that were raised, and of timeouts.
+-- That a call leaves nothing behind its end that it only had for its way: the laws of PLLs that were raised, of timeouts, and of moves
+-- that weren't made.
 use Rattle.std.specs.Prelude.{◌≡◌, ℕ, ◌==◌, List, Bool, true, false, Option, Some, length, option_map}
 use Rattle.std.specs.List.{list_any}
 use Rattle.clk_base.specs.declared.call.Micro.{Micro}
@@ -10,13 +11,14 @@ use Rattle.clk_base.specs.declared.event.Event.TheVariants as event
 use Rattle.clk_base.specs.declared.event.Errno.TheVariants as errno
 use Rattle.clk_base.specs.declared.event.Reply.{Reply}
 use Rattle.clk_base.specs.declared.event.Reply.TheVariants as reply
+use Rattle.clk_base.specs.declared.event.Turn.{Turn}
 use Rattle.clk_base.specs.declared.event.Turn.TheVariants as turn
 use Rattle.clk_base.specs.Description.{Description, kind_of}
 use Rattle.clk_base.specs.Fields.{Field, PowerBit, field_of, power_of}
 use Rattle.clk_base.specs.Valid.{IsValid}
 use Rattle.reg_bank.specs.Registers.{Registers, field}
 use Rattle.clk_model.specs.Kinds.{is_powered}
-use Rattle.clk_model.specs.State.{State, handle_at}
+use Rattle.clk_model.specs.State.{State, link_in, handle_at}
 use Rattle.clk_model.specs.Rate.{rate}
 use Rattle.clk_model.specs.Holders.{prepared}
 use Rattle.clk_model.specs.Prep.{without_enables}
@@ -66,3 +68,17 @@ TimeoutsLeaveNothing = (defs : Description) (regs : Registers) (ignore_unused : 
     (m : Micro) (answer : Option Bool) → IsValid (length regs) defs → is_dropped_whole what ≡ true
     → Flight (replay (opening defs regs ignore_unused credits) before) d what s made → next s d (event.Step m answer) ≡ Some (t, turn.Done (reply.Refused errno.ETIMEDOUT))
     → DiffersInPower (replay (opening defs regs ignore_unused credits) before) t
+
+-- ---- moves that weren't made
+
+-- whether a step gives this clock a link
+abbrev pub gives_link : ℕ → Micro → Bool
+gives_link c (micro.Relink d p) = d.0 == c
+gives_link c (micro.Register d) = d.0 == c
+gives_link c _ = false
+
+-- through each call and at its end, however it ends, each clock that none of its steps gave a link has the parent that it had before the
+-- call: so has one whose move was dropped, since a PLL above its new parent didn't lock
+abbrev pub UnmovedStay : Type 0
+UnmovedStay = (q s t : State) (d : ℕ) (what : Sleeping) (made : List Micro) (m : Micro) (answer : Option Bool) (x : Turn) → Flight q d what s made → next s d (event.Step m answer) ≡ Some (t, x)
+    → (c : ℕ) → list_any (gives_link c) made ≡ false → gives_link c m ≡ false → link_in t.clocks c ≡ link_in q.clocks c

@@ -1,6 +1,6 @@
 //! Laws of the ends of calls.
 
-ghost use Rattle.clk_model.specs.Laws.NothingLeft.{RaisedEndAsPrepared, TimeoutsLeaveNothing};
+ghost use Rattle.clk_model.specs.Laws.NothingLeft.{RaisedEndAsPrepared, TimeoutsLeaveNothing, UnmovedStay};
 
 /// At the end of each call, whether it went well, was called off or timed out, each PLL that it raised is powered exactly where it
 /// is prepared: what it raised for nothing has fallen, and what it let go has been lowered.
@@ -12,4 +12,10 @@ pub fn raised_end_as_prepared()
 /// and disables of any driver have done meanwhile: no prepare, no link, no rate and no field has changed.
 pub fn timeouts_leave_nothing()
     ensures law { TimeoutsLeaveNothing }
+{}
+
+/// Through each call and at its end, however it ends, each clock that none of its steps gave a link has the parent that it had
+/// before the call: so has one whose move was dropped, since a PLL above its new parent didn't lock.
+pub fn unmoved_stay()
+    ensures law { UnmovedStay }
 {}
