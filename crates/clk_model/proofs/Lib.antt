@@ -104,3 +104,4 @@ pub mod StepActLaws
 pub mod PlanScriptLaws
 pub mod OutcomeWrittenLaws
 pub mod JournalCauseLaws
+pub mod CopyLaws
