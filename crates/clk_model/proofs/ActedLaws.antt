@@ -61,10 +61,10 @@ left_tree ks (micro.WriteMux c place) w e = absurd cc
 left_tree ks (micro.Visit c) w e = absurd cc
 left_tree ks _ w e = refl
 
-pub all_left : (ks : List ChainStep) (ms : List Micro) (w : Wiring) → list_all leaves_tree ms ≡ true → acted ks ms w ≡ w
-all_left ks [] w e = refl
-all_left ks (m ∷ ms) w e =
-    ap (λ (v : Wiring). acted ks ms v) (left_tree ks m w (both_left (leaves_tree m) (list_all leaves_tree ms) e)) ∙ all_left ks ms w (both_right (leaves_tree m) (list_all leaves_tree ms) e)
+pub all_leave : (ks : List ChainStep) (ms : List Micro) (w : Wiring) → list_all leaves_tree ms ≡ true → acted ks ms w ≡ w
+all_leave ks [] w e = refl
+all_leave ks (m ∷ ms) w e =
+    ap (λ (v : Wiring). acted ks ms v) (left_tree ks m w (both_left (leaves_tree m) (list_all leaves_tree ms) e)) ∙ all_leave ks ms w (both_right (leaves_tree m) (list_all leaves_tree ms) e)
 
 -- ---- trees with the same settings
 

@@ -28,7 +28,7 @@ use Rattle.clk_model.specs.Laws.EndCauses.{noes_after, is_last_no, never_locks, 
 use Rattle.clk_model.proofs.BeginLaws.{begun_going}
 use Rattle.clk_model.proofs.CallBeginLaws.{calls_begin_paced}
 use Rattle.clk_model.proofs.FlightLaws.{IsStep, step_is, begin_is, course_of, left_is_end}
-use Rattle.clk_model.proofs.InFlightLaws.{answered_quiet, end_quiet}
+use Rattle.clk_model.proofs.InFlightLaws.{answered_quiet, busy_cannot_begin, end_quiet}
 use Rattle.clk_model.proofs.Members.{or_cases, or_left, or_right, both_left, both_right, not_either}
 use Rattle.clk_model.proofs.NoneLaws.{none_append, none_behind, none_front, none_rest}
 use Rattle.clk_model.proofs.PolledLaws.{Counts, step_tells, no_polls}
@@ -305,9 +305,7 @@ ends_have_causes q t d what since r call =
 
 -- ---- going on
 
-none_some : {o : Option Change} {k : Change} → o ≡ None → o ≡ Some k → ⊥
-none_some e f = let no : None ≡ Some _ = sym e ∙ f in cc
-
+-- a call goes on exactly where a change is left in flight
 pub going_leaves_changes : GoingLeavesChanges
 unfolding settled
 going_leaves_changes s t d (event.Enable n) x step other = absurd (true≢false other)
@@ -316,11 +314,11 @@ going_leaves_changes s t d (event.Running n) x step other = absurd (true≢false
 going_leaves_changes s t d (event.Begin what) turn.Going step other =
     let course = course_of s d what (begins step) in (λ _. (course.now, course.at), λ _. refl)
 going_leaves_changes s t d (event.Begin what) (turn.Done r) step other =
-    (λ no. absurd cc, λ left. absurd (none_some (answered_quiet s t d what r step) left.1))
+    (λ no. absurd cc, λ left. absurd (busy_cannot_begin t.change left.0 left.1 (answered_quiet s t d what r step)))
 going_leaves_changes s t d (event.Step m answer) turn.Going step other =
     let is = step_is s t d m answer turn.Going step in
     let after = step_after s (taken is.0) answer m is.1.answered in
     (λ _. (after.0, sym (ap (λ (u : State). u.change) is.1.state) ∙ after.1), λ _. refl)
 going_leaves_changes s t d (event.Step m answer) (turn.Done r) step other =
     let is = step_is s t d m answer (turn.Done r) step in
-    (λ no. absurd cc, λ left. absurd (none_some (end_quiet s t d m answer r is.0 is.1) left.1))
+    (λ no. absurd cc, λ left. absurd (busy_cannot_begin t.change left.0 left.1 (end_quiet s t d m answer r is.0 is.1)))

@@ -167,7 +167,8 @@ one_more start journal e t at f flight = record {
       (sym (steps_append f.since (e ∷ []) ∙ ap (λ (ms : List Micro). steps_of f.since ++ ms) (nothing_more (step_of e.event)))) flight);
 }
 
-busy_cannot_begin : (o : Option Change) (k : Change) → o ≡ Some k → o ≡ None → ⊥
+-- a state with a change in flight isn't quiet
+pub busy_cannot_begin : (o : Option Change) (k : Change) → o ≡ Some k → o ≡ None → ⊥
 busy_cannot_begin o k e f = let no : Some k ≡ None = sym e ∙ f in absurd cc
 
 -- an event where no call is in flight

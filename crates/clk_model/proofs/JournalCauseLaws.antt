@@ -24,7 +24,7 @@ use Rattle.clk_model.specs.Laws.Flight.{begins}
 use Rattle.clk_model.specs.Laws.EndCauses.{begins_call, JournalsHaveCauses}
 use Rattle.clk_model.proofs.EndCauseLaws.{ends_so, ends_have_causes}
 use Rattle.clk_model.proofs.FlightLaws.{step_is, begin_is, course_of}
-use Rattle.clk_model.proofs.InFlightLaws.{answered_quiet, end_quiet}
+use Rattle.clk_model.proofs.InFlightLaws.{answered_quiet, busy_cannot_begin, end_quiet}
 use Rattle.clk_model.proofs.JournalLaws as journals
 use Rattle.clk_model.proofs.StepLaws.{step_after}
 use Rattle.clk_model.proofs.TierLaws.{beside_change}
@@ -51,9 +51,6 @@ record HasBegun (start : State) (journal : List Entry) : Type 0 where
 -- behind a journal no call is in flight, or one that has begun in it
 abbrev QuietOrBegun : State → List Entry → Type 0
 QuietOrBegun start journal = ((replay start journal).change ≡ None) ⊎ HasBegun start journal
-
-busy_not_quiet : (o : Option Change) (k : Change) → o ≡ Some k → o ≡ None → ⊥
-busy_not_quiet o k e f = let no : Some k ≡ None = sym e ∙ f in cc
 
 -- an entry more of the call, or beside it
 goes_further : (start t : State) (journal : List Entry) (e : Entry) (b : HasBegun start journal) → next (replay start journal) e.driver e.event ≡ Some (t, slotless e.turn) → begins_call e.event ≡ false
@@ -90,7 +87,7 @@ from_quiet start t journal e (event.Enable n) x is quiet step at = inl (ap (λ (
 from_quiet start t journal e (event.Disable n) x is quiet step at = inl (ap (λ (u : State). u.change) at ∙ beside_change (replay start journal) t e.driver (event.Disable n) x refl step ∙ quiet)
 from_quiet start t journal e (event.Running n) x is quiet step at = inl (ap (λ (u : State). u.change) at ∙ beside_change (replay start journal) t e.driver (event.Running n) x refl step ∙ quiet)
 from_quiet start t journal e (event.Step m answer) x is quiet step at =
-    let k = step_is (replay start journal) t e.driver m answer x step in absurd (busy_not_quiet (replay start journal).change k.0 k.1.at quiet)
+    let k = step_is (replay start journal) t e.driver m answer x step in absurd (busy_cannot_begin (replay start journal).change k.0 k.1.at quiet)
 from_quiet start t journal e (event.Begin what) (turn.Done r) is quiet step at = inl (ap (λ (u : State). u.change) at ∙ answered_quiet (replay start journal) t e.driver what r step)
 from_quiet start t journal e (event.Begin what) turn.Going is quiet step at =
     let course = course_of (replay start journal) e.driver what (begins step) in
@@ -121,7 +118,7 @@ back start t journal e ev x is turned step =
 from_call : (start t : State) (journal : List Entry) (e : Entry) (ev : Event) (x : Turn) → e.event ≡ ev → slotless e.turn ≡ x → HasBegun start journal
     → next (replay start journal) e.driver ev ≡ Some (t, x) → replay start (journal ++ e ∷ []) ≡ t → QuietOrBegun start (journal ++ e ∷ [])
 unfolding settled
-from_call start t journal e (event.Begin what) x is turned b step at = absurd (busy_not_quiet (replay start journal).change b.now b.at (begin_is (replay start journal) t e.driver what x step).0)
+from_call start t journal e (event.Begin what) x is turned b step at = absurd (busy_cannot_begin (replay start journal).change b.now b.at (begin_is (replay start journal) t e.driver what x step).0)
 from_call start t journal e (event.Enable n) x is turned b step at =
     inr (goes_further start t journal e b (back start t journal e (event.Enable n) x is turned step) (ap begins_call is) b.now (beside_change (replay start journal) t e.driver (event.Enable n) x refl step ∙ b.at) b.driver)
 from_call start t journal e (event.Disable n) x is turned b step at =
@@ -186,7 +183,7 @@ journals_have_causes start journal last m answer r quiet legal is turned =
     (ap (λ (v : Event). next (replay start journal) last.driver v) (sym is) ∙ parts.1.1 ∙ ap (λ (z : Turn). let y : State × Turn = (t, slotless z) in Some y) turned) in
     let k = step_is (replay start journal) t last.driver m answer (turn.Done r) step in
     elim (more_entries start [] journal (inl quiet) parts.0) [
-      | inl none ↦ absurd (busy_not_quiet (replay start journal).change k.0 k.1.at none)
+      | inl none ↦ absurd (busy_cannot_begin (replay start journal).change k.0 k.1.at none)
       | inr b ↦ let own : last.driver ≡ b.first.driver = sym k.1.driver ∙ ap (λ (l : Change). l.driver) (same_Some k.0 b.now (sym k.1.at ∙ b.at)) ∙ b.driver in record {
         before = b.before;
         first = b.first;

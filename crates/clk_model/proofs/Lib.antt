@@ -126,3 +126,4 @@ pub mod PlanScriptLaws
 pub mod OutcomeWrittenLaws
 pub mod JournalCauseLaws
 pub mod UnmovedLaws
+pub mod CopyLaws

@@ -34,18 +34,19 @@ use Rattle.clk_model.specs.Laws.LinksKept.{HasShapeOf}
 use Rattle.clk_model.specs.Laws.Outcomes.{SameSettings, OutcomesWritten, RunsWriteOutcomes}
 use Rattle.clk_model.specs.Laws.Paced.{ends_last}
 use Rattle.clk_model.specs.Laws.PlansRead.{plans}
-use Rattle.clk_model.proofs.ActedLaws.{act, acted, acted_append, leaves_tree, all_left, same_settings, settings_through, settings_back, writes_fit, acted_same}
+use Rattle.clk_model.proofs.ActedLaws.{act, acted, acted_append, leaves_tree, all_leave, same_settings, settings_through, settings_back, writes_fit, acted_same}
 use Rattle.clk_model.proofs.CallBeginLaws.{calls_begin_paced}
 use Rattle.clk_model.proofs.Cases.{by_handle}
 use Rattle.clk_model.proofs.EndCauseLaws.{ends_so, begun_fresh}
 use Rattle.clk_model.proofs.FlightLaws.{IsStep, step_is, begin_is, course_of, left_is_end, first_put, front_put, next_is}
 use Rattle.clk_model.proofs.LinkLaws.{runs_are_wired}
 use Rattle.clk_model.proofs.Members.{both_left, both_right}
+use Rattle.clk_model.proofs.OutcomeLaws.{length-slice_set}
 use Rattle.clk_model.proofs.PlanScriptLaws.{AllFit, fit_append, planned_fits, planned_acts, AlongPlan, begins_plan}
 use Rattle.clk_model.proofs.PrepLaws.{prep-settled, prep-spent, prep-steps}
 use Rattle.clk_model.proofs.SettingLaws.{settings_fit}
 use Rattle.clk_model.proofs.ShapeLaws.{events_keep_shape}
-use Rattle.clk_model.proofs.StepActLaws.{prep_settings, link_row, length-row, step_tree, is_light, Adds, step_adds}
+use Rattle.clk_model.proofs.StepActLaws.{prep_settings, link_row, step_tree, is_light, Adds, step_adds}
 use Rattle.clk_model.proofs.StepLaws.{IsAfter, step_after}
 use Rattle.clk_model.proofs.TierLaws.{enable_tier_leaves_prep, beside_change}
 use Rattle.clk_model.proofs.VetoLaws.{end_state, ends_it}
@@ -192,7 +193,7 @@ leads_on target s t d m answer k k' valid valid' defs is adds chain early leads 
             (sym (ap (λ (ms : List Micro). acted k'.chain ms (wiring t)) ahead
             ∙ ap (λ (ks : List ChainStep). acted ks (more.0 ++ rest) (wiring t)) chain
             ∙ acted_append k.chain more.0 rest (wiring t)
-            ∙ ap (λ (w : Wiring). acted k.chain rest w) (all_left k.chain more.0 (wiring t) light.1)))
+            ∙ ap (λ (w : Wiring). acted k.chain rest w) (all_leave k.chain more.0 (wiring t) light.1)))
             (settings_through (acted k.chain rest (wiring t)) (acted k.chain rest (act k.chain m (wiring s))) target
             (acted_same (length s.regs) k.chain rest (wiring t) (act k.chain m (wiring s)) valid_act fit_act like)
             (subst (λ (ms : List Micro). SameSettings (acted k.chain ms (wiring s)) target) first leads.same));
@@ -270,7 +271,7 @@ flags_fine false false e = (refl, refl)
 row_settings : (s : State) (c r : ℕ) → SameSettings (wiring (record s { clocks = requested s.clocks c r })) (wiring s)
 row_settings s c r = record {
   defs = refl;
-  rows = length-row s.clocks c _;
+  rows = length-slice_set s.clocks c _;
   words = refl;
   links = link_row s.clocks c _ refl;
   fields = λ d f at. refl;

@@ -29,7 +29,7 @@ use Rattle.clk_model.specs.Wired.{IsWired, IsOrder}
 use Rattle.clk_model.specs.Laws.Flight.{pre_notices, abort_notices}
 use Rattle.clk_model.specs.Laws.Plans.{HasParent, LeadsFrom}
 use Rattle.clk_model.specs.Laws.PlansRead.{plans}
-use Rattle.clk_model.proofs.ActedLaws.{acted, acted_append, leaves_tree, all_left, writes_fit}
+use Rattle.clk_model.proofs.ActedLaws.{acted, acted_append, leaves_tree, all_leave, writes_fit}
 use Rattle.clk_model.proofs.BeginsLaws.{Starts, raising_handle, lowering_handle, planning, reparents, probing, sweeping, IsPlannedOver, over_itself, over_range, Begins, answers, gives, takes, adjusts, prepares, unprepares, notes, registers, goes_on, begins_so}
 use Rattle.clk_model.proofs.Members.{same_from_test}
 use Rattle.clk_model.proofs.MuxLaws.{place_self, IsMux, moved_are_muxes}
@@ -131,9 +131,9 @@ planned_acts s c ks settles wired ordered leads muxes settling calm =
     ap (λ (t : Bool). acted ks ((pre_notices s ks ++ cond t (abort_notices s ks) (walk_steps ++ settles)) ++ micro.End ∷ []) w) calm
     ∙ acted_append ks (pre_notices s ks ++ (walk_steps ++ settles)) (micro.End ∷ []) w
     ∙ acted_append ks (pre_notices s ks) (walk_steps ++ settles) w
-    ∙ ap (λ (v : Wiring). acted ks (walk_steps ++ settles) v) (all_left ks (pre_notices s ks) w (notices_leave (pre_notices s ks) (pre_are_notices s ks)))
+    ∙ ap (λ (v : Wiring). acted ks (walk_steps ++ settles) v) (all_leave ks (pre_notices s ks) w (notices_leave (pre_notices s ks) (pre_are_notices s ks)))
     ∙ acted_append ks walk_steps settles w
-    ∙ all_left ks settles (acted ks walk_steps w) settling
+    ∙ all_leave ks settles (acted ks walk_steps w) settling
     ∙ walk_acts ks s.defs s.clocks (prepared s) (walk s.order w ks) w refl leads.once muxes
     ∙ along_is (link_in (outcome ks w).clocks) w ks (walk s.order w ks) (plan_walks (length s.regs) s.order w c ks wired ordered leads)
 

@@ -49,7 +49,7 @@ same_by_bits xs ys long same =
 -- ---- cleared gates
 
 -- whether the clock has its gate at this bit
-abbrev is_gate_at : Description → ℕ → ℕ → ℕ → Bool
+abbrev pub is_gate_at : Description → ℕ → ℕ → ℕ → Bool
 is_gate_at defs word bit c = option_map_or (λ gate. nat_eq gate.word word && nat_eq gate.bit bit) (gate_of (kind_of defs c)) false
 
 cleared_here : (regs : Registers) (gate : GateBit) (word bit : ℕ) → gate.word ≡ word → gate.bit ≡ bit → is_set (put_bit regs gate.word gate.bit false) word bit ≡ false
@@ -88,7 +88,7 @@ cleared_twice true b x = refl
 cleared_twice false b x = refl
 
 -- after clearing, a bit with a gate of one of these clocks is 0, and another is as it was
-is_set-gates_cleared : (defs : Description) (cs : List ℕ) (regs : Registers) (word bit : ℕ)
+pub is_set-gates_cleared : (defs : Description) (cs : List ℕ) (regs : Registers) (word bit : ℕ)
     → is_set (gates_cleared defs cs regs) word bit ≡ cond (list_any (is_gate_at defs word bit) cs) false (is_set regs word bit)
 is_set-gates_cleared defs [] regs word bit = refl
 is_set-gates_cleared defs (c ∷ cs) regs word bit =

@@ -32,7 +32,7 @@ use Rattle.clk_model.specs.Laws.Plans.{LieApart}
 use Rattle.clk_model.proofs.ActedLaws.{act, writes_fit, same_settings}
 use Rattle.clk_model.proofs.ApartLaws.{fields_apart}
 use Rattle.clk_model.proofs.Cases.{by_option, by_test}
-use Rattle.clk_model.proofs.OutcomeLaws.{field-put_outside}
+use Rattle.clk_model.proofs.OutcomeLaws.{field-put_outside, length-slice_set}
 use Rattle.clk_model.proofs.PlansReadLaws.{same_here}
 
 -- ---- states
@@ -82,11 +82,6 @@ link_row (r ∷ clocks) zero row same (suc d) = refl
 link_row (r ∷ clocks) (suc c) row same zero = refl
 link_row (r ∷ clocks) (suc c) row same (suc d) = link_row clocks c row same d
 
-pub length-row : (clocks : List ClockRow) (c : ℕ) (row : ClockRow) → length (slice_set clocks c row) ≡ length clocks
-length-row [] c row = refl
-length-row (r ∷ clocks) zero row = refl
-length-row (r ∷ clocks) (suc c) row = let rest = length-row clocks c row in omega arith
-
 -- a last request is none either
 settle_links : (s : State) (cs : List ℕ) (d : ℕ) → link_in (settle_all s cs) d ≡ link_in s.clocks d
 settle_links s [] d = refl
@@ -94,7 +89,7 @@ settle_links s (c ∷ cs) d = link_row (settle_all s cs) c _ refl d ∙ settle_l
 
 settle_rows : (s : State) (cs : List ℕ) → length (settle_all s cs) ≡ length s.clocks
 settle_rows s [] = refl
-settle_rows s (c ∷ cs) = length-row (settle_all s cs) c _ ∙ settle_rows s cs
+settle_rows s (c ∷ cs) = length-slice_set (settle_all s cs) c _ ∙ settle_rows s cs
 
 -- ---- what a step leaves of a tree
 

@@ -37,13 +37,15 @@ use Rattle.clk_model.specs.Laws.Causes.{Lacks, HoldsSomething, KeepsPrepare, Ena
 abbrev pub Comes : Turn → Turn → Type 0 → Type 0
 Comes wanted given cause = (given ≡ wanted) ↔ cause
 
--- the turn of a refusal, of an answer that all went well, and of a warning
+-- the turn of a refusal
 abbrev pub refusal : Errno → Turn
 refusal e = turn.Done (reply.Refused e)
 
+-- the turn that says that all went well
 abbrev pub fine : Turn
 fine = turn.Done reply.Fine
 
+-- the turn of a warning
 abbrev pub warned : Turn
 warned = turn.Done reply.Warn
 
@@ -247,5 +249,6 @@ TierTurns s d (event.Running number) (turn.Done r) = RunningCauses s d number r
 TierTurns s d _ turn.Going = ⊥
 TierTurns s d _ _ = Unit {0}
 
+-- so it is with each event of the enable tier
 abbrev pub TierHasCauses : Type 0
 TierHasCauses = (s t : State) (d : ℕ) (e : Event) (x : Turn) → next s d e ≡ Some (t, x) → is_enable_tier e ≡ true → TierTurns s d e x

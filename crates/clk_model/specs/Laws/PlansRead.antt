@@ -53,13 +53,23 @@ abbrev pub PlansReadPrep : Type 0
 PlansReadPrep = (s t : State) (d : ℕ) (what : Sleeping) → IsWired (length s.regs) (wiring s) → prep t ≡ prep s → plans what ≡ true
     → s.change ≡ None → ComesToSame s t (begun s d what) (begun t d what)
 
--- so it is with the states behind two journals of one opening with a valid description
+-- a call that asks or plans over the prepare tier's part of a state itself comes to the same
+pub record CopyServes (s : State) (d : ℕ) (what : Sleeping) : Type 0 where
+  pub answers : asks what ≡ true → (begun (prep s) d what).1 ≡ (begun s d what).1
+  pub plans : plans what ≡ true → s.change ≡ None → ComesToSame s (prep s) (begun s d what) (begun (prep s) d what)
+
+-- so it is in each wired tree
+abbrev pub CopiesServe : Type 0
+CopiesServe = (s : State) (d : ℕ) (what : Sleeping) → IsWired (length s.regs) (wiring s) → CopyServes s d what
+
+-- a call that asks or plans comes to the same behind two journals of one opening
 pub record RunsReadPrep (defs : Description) (regs : Registers) (ignore_unused : Bool) (credits : ℕ) (one other : List Entry) (d : ℕ) (what : Sleeping) : Type 0 where
   pub answers : asks what ≡ true → (begun (replay (opening defs regs ignore_unused credits) other) d what).1 ≡ (begun (replay (opening defs regs ignore_unused credits) one) d what).1
   pub plans : plans what ≡ true → (replay (opening defs regs ignore_unused credits) one).change ≡ None
       → ComesToSame (replay (opening defs regs ignore_unused credits) one) (replay (opening defs regs ignore_unused credits) other)
       (begun (replay (opening defs regs ignore_unused credits) one) d what) (begun (replay (opening defs regs ignore_unused credits) other) d what)
 
+-- so it is where their states have the same part of the prepare tier, and the description is valid
 abbrev pub PlanningReadsPrep : Type 0
 PlanningReadsPrep = (defs : Description) (regs : Registers) (ignore_unused : Bool) (credits : ℕ) (one other : List Entry) (d : ℕ) (what : Sleeping) → IsValid (length regs) defs
     → prep (replay (opening defs regs ignore_unused credits) other) ≡ prep (replay (opening defs regs ignore_unused credits) one)

@@ -7,7 +7,7 @@ ghost use Rattle.clk_model.specs.State.{State, Change};
 ghost use Rattle.clk_model.specs.Machine.{next};
 ghost use Rattle.clk_model.specs.Prep.{prep};
 ghost use Rattle.clk_model.specs.Laws.PrepTold.{PrepTells};
-ghost use Rattle.clk_model.specs.Laws.PlansRead.{AnswersReadPrep, PlansReadPrep, PlanningReadsPrep};
+ghost use Rattle.clk_model.specs.Laws.PlansRead.{AnswersReadPrep, PlansReadPrep, CopiesServe, PlanningReadsPrep};
 ghost use Rattle.clk_model.specs.Tier.{is_enable_tier, is_step};
 
 /// What planning reads of a state isn't changed by an enable, a disable or the question whether a
@@ -37,9 +37,11 @@ pub fn prep_tells()
 /// Planning reads the prepare tier's part of a state alone. Where that part is the same in two states, over a
 /// wired tree, a rate, a rounding or a parent that is asked for is answered alike; and a change of a rate, of
 /// a range or of a parent is answered alike, or goes on with the same plan and the same script, room for its
-/// steps aside. So it is with the states behind any two journals of one opening with a valid description.
+/// steps aside. So a call can be planned over that part itself; and so it is with the states behind any two
+/// journals of one opening with a valid description.
 pub fn planning_reads_prep()
     ensures answers { AnswersReadPrep }
     ensures plans { PlansReadPrep }
+    ensures copies { CopiesServe }
     ensures runs { PlanningReadsPrep }
 {}
