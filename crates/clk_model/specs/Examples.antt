@@ -19,6 +19,7 @@ pub mod Room
 pub mod Orders
 pub mod Summaries
 pub mod Passing
+pub mod NoRates
 pub mod Gates
 pub mod Preps
 pub mod Descriptions

@@ -13,7 +13,7 @@ use Rattle.clk_base.specs.Description.{Description}
 use Rattle.clk_model.specs.State.{State}
 use Rattle.clk_model.specs.Chain.{clock_id}
 use Rattle.clk_model.specs.Journal.{opening, replay}
-use Rattle.clk_model.specs.Examples.Rows.{turns, stated, clock, flagged, set_rate_gate, handle, begins, goes_on, step, ends, boot, gets}
+use Rattle.clk_model.specs.Examples.Rows.{turns, stated, clock, flagged, set_rate_gate, set_rate_parent, handle, begins, goes_on, step, ends, boot, gets}
 use Rattle.clk_model.specs.Examples.Rounding.{divided_start, div}
 
 abbrev d : Handle
@@ -159,3 +159,25 @@ hold_below =
 pub hold_below_turns : turns (opening below (0 ∷ []) false 100) hold_below ≡ stated hold_below
 unfolding turns
 hold_below_turns = refl
+
+-- `fixed ref 100`, `divider s ref 0 0 3`, `gate g s 1 0 set-rate-parent`
+abbrev passing : Description
+passing =
+    clock (codes "ref") (kinds.FixedRate 100) [] ∷ clock (codes "s") (kinds.Divider 0 0 3 false false) (0 ∷ [])
+    ∷ flagged set_rate_parent (codes "g") (kinds.Gate 1 0 false) (1 ∷ []) ∷ []
+
+-- what the gate would get is asked as if nobody held it, so its own hold refuses the request; a hold on the divider above it
+-- leaves it only the rate that it has, and there is nothing to change
+abbrev own_and_others : List Entry
+own_and_others =
+    boot 3 ++ gets 1 (clock_id 2) 0 ∷ gets 1 (clock_id 2) 1 ∷ gets 1 div 2
+    ∷ begins 1 (call.ExclusiveGet e) reply.Fine
+    ∷ begins 1 (call.SetRate d 50) (reply.Refused errno.EBUSY)
+    ∷ begins 1 (call.ExclusivePut e) reply.Fine
+    ∷ begins 1 (call.ExclusiveGet (handle 2 1)) reply.Fine
+    ∷ begins 1 (call.SetRate d 50) reply.Fine
+    ∷ []
+
+pub own_and_others_turns : turns (opening passing (0 ∷ 0 ∷ []) false 100) own_and_others ≡ stated own_and_others
+unfolding turns
+own_and_others_turns = refl

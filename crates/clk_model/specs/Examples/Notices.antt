@@ -194,6 +194,22 @@ pub equals_turns : turns divided_start equals ≡ stated equals
 unfolding turns
 equals_turns = refl
 
+-- a veto above a rate, or below it, lets the rate itself pass
+abbrev just_allowed : List Entry
+just_allowed =
+    boot 2 ++ gets 1 div 0
+    ∷ begins 1 (call.NotifierAdd (handle 0 1) 1 (pos 0) (policy.VetoAbove 50)) reply.Fine
+    ∷ begins 1 (call.NotifierAdd (handle 0 1) 2 (pos 0) (policy.VetoBelow 50)) reply.Fine
+    ∷ goes_on 1 (call.SetRate (handle 0 1) 50)
+    ∷ pre div 1 100 50 false ∷ pre div 2 100 50 false
+    ∷ step 1 (micro.Visit div) ∷ post div 1 100 50 ∷ post div 2 100 50
+    ∷ ends 1 reply.Fine
+    ∷ []
+
+pub just_allowed_turns : turns divided_start just_allowed ≡ stated just_allowed
+unfolding turns
+just_allowed_turns = refl
+
 -- ---- clocks whose rate stays
 
 -- `fixed ref 100`, `divider s ref 0 0 3`, `factor z s 1 200`

@@ -15,7 +15,7 @@ use Rattle.clk_model.specs.State.{State}
 use Rattle.clk_model.specs.Chain.{clock_id}
 use Rattle.clk_model.specs.Journal.{opening, replay}
 use Rattle.clk_model.specs.Examples.Rows.{turns, stated, clock, flagged, set_parent_gate, handle, answers, begins, goes_on, step, ends, boot, gets}
-use Rattle.clk_model.specs.Examples.Rounding.{two_sources_start, b, m}
+use Rattle.clk_model.specs.Examples.Rounding.{two_sources, two_sources_start, b, m}
 
 -- ---- parents and rates that boot assigns
 
@@ -185,3 +185,44 @@ no_other_parent =
 pub no_other_parent_turns : turns (opening one_parent (0 ∷ []) false 100) no_other_parent ≡ stated no_other_parent
 unfolding turns
 no_other_parent_turns = refl
+
+-- ---- what a request for a parent leaves
+
+-- `fixed a 48000000`, `fixed b 30000000`, `mux m 0 0 1 2 a b`, `factor f m 1 2`
+abbrev factor_below : Description
+factor_below = two_sources ++ clock (codes "f") (kinds.Factor 1 2) (2 ∷ []) ∷ []
+
+abbrev factor_below_start : State
+factor_below_start = opening factor_below (0 ∷ []) false 100
+
+abbrev settled_below : List Entry
+settled_below =
+    boot 4 ++ gets 1 m 0
+    ∷ goes_on 1 (call.SetParent (handle 0 1) b)
+    ∷ step 1 (micro.Relink m b) ∷ step 1 (micro.WriteMux m 1) ∷ step 1 (micro.Visit m) ∷ step 1 (micro.Visit (clock_id 3))
+    ∷ step 1 (micro.Settle m) ∷ ends 1 reply.Fine
+    ∷ []
+
+pub settled_below_turns : turns factor_below_start settled_below ≡ stated settled_below
+unfolding turns
+settled_below_turns = refl
+
+-- the clock below the mux has its new rate as its last request too
+pub settled_below_requests :
+    map (λ row. row.last_request) (replay factor_below_start settled_below).clocks ≡ 48000000 ∷ 30000000 ∷ 30000000 ∷ 15000000 ∷ []
+unfolding turns
+settled_below_requests = refl
+
+-- a range doesn't keep a clock from another parent
+abbrev out_of_range : List Entry
+out_of_range =
+    boot 3 ++ gets 1 m 0
+    ∷ begins 1 (call.SetRange (handle 0 1) 40000000 50000000) reply.Fine
+    ∷ goes_on 1 (call.SetParent (handle 0 1) b)
+    ∷ step 1 (micro.Relink m b) ∷ step 1 (micro.WriteMux m 1) ∷ step 1 (micro.Visit m) ∷ step 1 (micro.Settle m) ∷ ends 1 reply.Fine
+    ∷ begins 1 (call.GetRate (handle 0 1)) (reply.Rate 30000000)
+    ∷ []
+
+pub out_of_range_turns : turns two_sources_start out_of_range ≡ stated out_of_range
+unfolding turns
+out_of_range_turns = refl

@@ -1,5 +1,5 @@
 -- Requests that are passed on to the parent.
-use Rattle.std.specs.Prelude.{◌≡◌, List, [], ◌∷◌, ◌++◌, false, pos, codes, refl}
+use Rattle.std.specs.Prelude.{◌≡◌, ◌+◌, List, [], ◌∷◌, ◌++◌, false, pos, codes, refl}
 use Rattle.clk_base.specs.declared.clock.ClockId.{ClockId}
 use Rattle.clk_base.specs.declared.clock.Kind.TheVariants as kinds
 use Rattle.clk_base.specs.declared.call.Micro.TheVariants as micro
@@ -14,7 +14,7 @@ use Rattle.clk_base.specs.Description.{Description}
 use Rattle.clk_model.specs.State.{State}
 use Rattle.clk_model.specs.Chain.{clock_id}
 use Rattle.clk_model.specs.Journal.{opening, replay}
-use Rattle.clk_model.specs.Examples.Rows.{turns, stated, clock, flagged, set_rate_parent, handle, begins, goes_on, step, ends, boot, gets}
+use Rattle.clk_model.specs.Examples.Rows.{turns, stated, clock, flagged, set_rate_parent, no_reparent, handle, begins, goes_on, step, ends, boot, gets}
 
 abbrev a : Handle
 a = handle 0 1
@@ -242,6 +242,49 @@ mover_last_turns = refl
 pub mover_last_registers : (replay joined_start mover_last).regs ≡ 3 ∷ 0 ∷ 1 ∷ []
 unfolding turns
 mover_last_registers = refl
+
+-- ---- clocks that keep their parent, or never ask it
+
+-- `fixed ref 1000`, `divider s ref 0 0 3`, `fixed e 7`, `mux m 1 0 1 2 s e no-reparent set-rate-parent`
+abbrev kept_source : Description
+kept_source =
+    clock (codes "ref") (kinds.FixedRate 1000) [] ∷ clock (codes "s") (kinds.Divider 0 0 3 false false) (0 ∷ [])
+    ∷ clock (codes "e") (kinds.FixedRate 7) []
+    ∷ flagged (set_rate_parent + no_reparent) (codes "m") (kinds.Mux 1 0 1 false) (1 ∷ 2 ∷ []) ∷ []
+
+-- a mux that keeps its parent asks it, and it alone: for 7 the divider has 125, though the other parent would fit
+abbrev kept_parent_asked : List Entry
+kept_parent_asked =
+    boot 4 ++ gets 1 (clock_id 3) 0
+    ∷ begins 1 (call.RoundRate a 7) (reply.Rate 125)
+    ∷ goes_on 1 (call.SetRate a 250) ∷ step 1 (micro.Visit upper) ∷ step 1 (micro.Visit (clock_id 3)) ∷ ends 1 reply.Fine
+    ∷ []
+
+pub kept_parent_asked_turns : turns (opening kept_source (0 ∷ 0 ∷ []) false 100) kept_parent_asked ≡ stated kept_parent_asked
+unfolding turns
+kept_parent_asked_turns = refl
+
+pub kept_parent_asked_registers : (replay (opening kept_source (0 ∷ 0 ∷ []) false 100) kept_parent_asked).regs ≡ 3 ∷ 0 ∷ []
+unfolding turns
+kept_parent_asked_registers = refl
+
+-- `fixed ref 24000000`, `divider s ref 0 0 3`, `pll p s 1 0 9 1 31 100 400 24 set-rate-parent`
+abbrev pll_below : Description
+pll_below =
+    clock (codes "ref") (kinds.FixedRate 24000000) [] ∷ clock (codes "s") (kinds.Divider 0 0 3 false false) (0 ∷ [])
+    ∷ flagged set_rate_parent (codes "p") (kinds.Pll 1 0 9 1 31 100 400 24) (1 ∷ []) ∷ []
+
+-- a PLL never asks its parent, which could give it less: 100000000 is its least rate over 24000000
+abbrev pll_asks_nobody : List Entry
+pll_asks_nobody =
+    boot 3 ++ gets 1 lower 0
+    ∷ begins 1 (call.RoundRate a 12000000) (reply.Rate 100000000)
+    ∷ begins 1 (call.SetRate a 12000000) reply.Fine
+    ∷ []
+
+pub pll_asks_nobody_turns : turns (opening pll_below (0 ∷ 0x64 ∷ []) false 100) pll_asks_nobody ≡ stated pll_asks_nobody
+unfolding turns
+pll_asks_nobody_turns = refl
 
 -- ---- products above the greatest rate
 

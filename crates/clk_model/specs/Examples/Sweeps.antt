@@ -132,3 +132,16 @@ gates_before_plls_turns = refl
 pub gates_before_plls_registers : (replay gate_between_start gates_before_plls).regs ≡ 0x64 ∷ 0 ∷ 0x64 ∷ []
 unfolding turns
 gates_before_plls_registers = refl
+
+-- `fixed osc 24000000`, `pll p osc 0 0 9 0 31 100 400 24 ignore-unused`
+abbrev ignored_pll : Description
+ignored_pll =
+    clock (codes "osc") (kinds.FixedRate 24000000) [] ∷ flagged ignore_unused (codes "p") (kinds.Pll 0 0 9 0 31 100 400 24) (0 ∷ []) ∷ []
+
+-- a PLL that is to be ignored stays powered too
+abbrev nothing_swept : List Entry
+nothing_swept = boot 2 ++ goes_on 1 call.Sweep ∷ ends 1 reply.Fine ∷ []
+
+pub nothing_swept_turns : turns (opening ignored_pll (0x80000064 ∷ []) false 100) nothing_swept ≡ stated nothing_swept
+unfolding turns
+nothing_swept_turns = refl

@@ -96,6 +96,11 @@ pub moving_registers : (replay moved_start whole_moving).regs ≡ 0x64 ∷ 0 ∷
 unfolding turns
 moving_registers = refl
 
+-- the last request is the rate of the registration, as before
+pub moving_requests : map (λ row. row.last_request) (replay moved_start whole_moving).clocks ≡ 24000000 ∷ 100000000 ∷ 24000000 ∷ []
+unfolding turns
+moving_requests = refl
+
 pub moving_prepare_holds : (replay moved_start whole_moving).prepare_holds ≡ []
 unfolding turns
 moving_prepare_holds = refl
