@@ -18,7 +18,8 @@ use Rattle.clk_model.specs.Notices.{is_veto}
 use Rattle.clk_model.specs.Script.{move_of, planned}
 use Rattle.clk_model.specs.Step.{is_end}
 use Rattle.clk_model.specs.Laws.Flight.{pre_notices, abort_notices}
-use Rattle.clk_model.specs.Laws.ChangesTold.{is_post_of, plans_change}
+use Rattle.clk_model.specs.Laws.ChangesTold.{is_post_of}
+use Rattle.clk_model.specs.Laws.PlansRead.{plans}
 use Rattle.clk_model.proofs.Members.{is_in_cases, same_from_test, test_same, not_either, or_left, or_right}
 use Rattle.clk_model.proofs.NoneLaws.{none_append}
 use Rattle.clk_model.proofs.OnceLaws.{once_head}
@@ -148,12 +149,12 @@ rooted_over : (s m : State) (i : ℕ) (r : HandleRow) → Resting s → IsPlanne
 rooted_over s m i r rest over_itself f = handle_rooted s i r rest.fit f
 rooted_over s m i r rest (over_range j old new adjusted) f = let is_ = handle_rooted s i r rest.fit f in record { there = is_.there; root = is_.root }
 
-pub plan_begins : (q n : State) (d : ℕ) (what : Sleeping) (k : Change) → Resting q → plans_change what ≡ true → Starts q d what n k → PlanBegins q n k
+pub plan_begins : (q n : State) (d : ℕ) (what : Sleeping) (k : Change) → Resting q → plans what ≡ true → Starts q d what n k → PlanBegins q n k
 unfolding planned
-plan_begins q n d what k rest plans_ (raising_handle h row is at) = let no : false ≡ true = ap plans_change (sym is) ∙ plans_ in absurd cc
-plan_begins q n d what k rest plans_ (lowering_handle h row is at gives_up) = let no : false ≡ true = ap plans_change (sym is) ∙ plans_ in absurd cc
-plan_begins q n d what k rest plans_ (probing c is free) = let no : false ≡ true = ap plans_change (sym is) ∙ plans_ in absurd cc
-plan_begins q n d what k rest plans_ (sweeping is) = let no : false ≡ true = ap plans_change (sym is) ∙ plans_ in absurd cc
+plan_begins q n d what k rest plans_ (raising_handle h row is at) = let no : false ≡ true = ap plans (sym is) ∙ plans_ in absurd cc
+plan_begins q n d what k rest plans_ (lowering_handle h row is at gives_up) = let no : false ≡ true = ap plans (sym is) ∙ plans_ in absurd cc
+plan_begins q n d what k rest plans_ (probing c is free) = let no : false ≡ true = ap plans (sym is) ∙ plans_ in absurd cc
+plan_begins q n d what k rest plans_ (sweeping is) = let no : false ≡ true = ap plans (sym is) ∙ plans_ in absurd cc
 plan_begins q n d what k rest plans_ (planning _ number row over x ks range planned_ at is rates) =
     let rest_n = (planned_over q n rest planned_).0 in
     let own : IsRooted n.defs n.clocks row.clock.0 = rooted_over q n number row rest planned_ at in

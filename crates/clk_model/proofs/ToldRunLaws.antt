@@ -32,7 +32,8 @@ use Rattle.clk_model.specs.Machine.{next}
 use Rattle.clk_model.specs.Tier.{is_enable_tier}
 use Rattle.clk_model.specs.Wired.{IsWired}
 use Rattle.clk_model.specs.Laws.Flight.{Flight, begins, goes_on, beside, plan, plan_rates, IsFront, nothing, pre_notices, abort_notices}
-use Rattle.clk_model.specs.Laws.ChangesTold.{is_post_of, plans_change, ChangesAreTold}
+use Rattle.clk_model.specs.Laws.ChangesTold.{is_post_of, ChangesAreTold}
+use Rattle.clk_model.specs.Laws.PlansRead.{plans}
 use Rattle.clk_model.proofs.Members.{is_in_head}
 use Rattle.clk_model.specs.Holders.{active}
 use Rattle.clk_model.specs.Lists.{count_from}
@@ -240,7 +241,7 @@ told_beside q ps c s t other e x made tier is step = record {
 abbrev chain_of : State → List ChainStep
 chain_of s = option_map_or (λ k. k.chain) s.change []
 
-told_begins : (q s : State) (d : ℕ) (what : Sleeping) (c : ℕ) → IsRun q → plans_change what ≡ true → next q d (event.Begin what) ≡ Some (s, turn.Going) → is_in c (changing q.order (wiring q) (plan q d what)) ≡ true
+told_begins : (q s : State) (d : ℕ) (what : Sleeping) (c : ℕ) → IsRun q → plans what ≡ true → next q d (event.Begin what) ≡ Some (s, turn.Going) → is_in c (changing q.order (wiring q) (plan q d what)) ≡ true
     → IsTold q (plan q d what) c s []
 unfolding settled
 told_begins q s d what c run plans_ step m = by_case (begun q d what) (begins_so q d what) start.2 start.1 m where
@@ -320,7 +321,7 @@ told_begins q s d what c run plans_ step m = by_case (begun q d what) (begins_so
   by_case y (notes notifiers r) going state mem = absurd cc
   by_case y (registers x free calm_) going state mem = absurd cc
 
-told_of : (q : State) (d : ℕ) (what : Sleeping) (c : ℕ) → IsRun q → plans_change what ≡ true → is_in c (changing q.order (wiring q) (plan q d what)) ≡ true → {s : State} {made : List Micro} → Flight q d what s made
+told_of : (q : State) (d : ℕ) (what : Sleeping) (c : ℕ) → IsRun q → plans what ≡ true → is_in c (changing q.order (wiring q) (plan q d what)) ≡ true → {s : State} {made : List Micro} → Flight q d what s made
     → IsTold q (plan q d what) c s made
 told_of q d what c run plans_ m {s = s} (begins step) = told_begins q s d what c run plans_ step m
 told_of q d what c run plans_ m {s = t} (goes_on {s = s} {made = made} x answer flight step) = told_steps q (plan q d what) c s t d x answer made (told_of q d what c run plans_ m flight) step

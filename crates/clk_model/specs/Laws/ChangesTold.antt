@@ -20,25 +20,18 @@ use Rattle.clk_model.specs.Notices.{post_list}
 use Rattle.clk_model.specs.Machine.{next}
 use Rattle.clk_model.specs.Journal.{replay, opening}
 use Rattle.clk_model.specs.Laws.Flight.{Flight, plan, plan_rates}
+use Rattle.clk_model.specs.Laws.PlansRead.{plans}
 
 -- whether a step tells a notifier of this clock that its rate has changed
 abbrev pub is_post_of : ℕ → Micro → Bool
 is_post_of c (micro.Notify notice.Post d id old new) = d.0 == c
 is_post_of c _ = false
 
--- the calls that plan a change of rates or of a parent
-abbrev pub plans_change : Sleeping → Bool
-plans_change (call.SetRate h x) = true
-plans_change (call.SetRateExclusive h x) = true
-plans_change (call.SetRange h least most) = true
-plans_change (call.SetParent h p) = true
-plans_change _ = false
-
--- at the end of such a call that went well, without veto and timeout, each clock that the notices before the change were for has been told
+-- at the end of a change of rates or of a parent that went well, without veto and timeout, each clock that the notices before the change were for has been told
 -- of it once: over all its notifiers, in their order, with the rates of those notices
 abbrev pub ChangesAreTold : Type 0
 ChangesAreTold = (defs : Description) (regs : Registers) (ignore_unused : Bool) (credits : ℕ) (before : List Entry) (q s t : State) (d : ℕ) (what : Sleeping) (made : List Micro)
-    (m : Micro) (answer : Option Bool) → IsValid (length regs) defs → plans_change what ≡ true → replay (opening defs regs ignore_unused credits) before ≡ q
+    (m : Micro) (answer : Option Bool) → IsValid (length regs) defs → plans what ≡ true → replay (opening defs regs ignore_unused credits) before ≡ q
     → Flight q d what s made → next s d (event.Step m answer) ≡ Some (t, turn.Done reply.Fine)
     → (c : ℕ) → is_in c (changing q.order (wiring q) (plan q d what)) ≡ true
     → filter (is_post_of c) made ≡ post_list (plan_rates q (plan q d what)) q.notifiers c
