@@ -231,7 +231,7 @@ unfolding turns
 no_notice_turns = refl
 
 -- `fixed ref 1000`, `divider s ref 0 0 3`, `factor x s 1 100 set-rate-parent`, `divider d x 1 0 1 set-rate-parent`
-abbrev kept_between : Description
+abbrev pub kept_between : Description
 kept_between =
     clock (codes "ref") (kinds.FixedRate 1000) []
     ∷ clock (codes "s") (kinds.Divider 0 0 3 false false) (0 ∷ [])
@@ -239,7 +239,7 @@ kept_between =
     ∷ flagged set_rate_parent (codes "d") (kinds.Divider 1 0 1 false false) (2 ∷ []) ∷ []
 
 -- the dividers' fields are 4 and 1, so s has the rate 200, x has 2, and d has 1
-abbrev kept_between_start : State
+abbrev pub kept_between_start : State
 kept_between_start = opening kept_between (4 ∷ 1 ∷ []) false 100
 
 abbrev hundredth : ClockId

@@ -15,6 +15,7 @@ use Rattle.clk_model.specs.State.{State}
 use Rattle.clk_model.specs.Chain.{clock_id}
 use Rattle.clk_model.specs.Journal.{opening, replay}
 use Rattle.clk_model.specs.Examples.Rows.{turns, stated, clock, flagged, set_rate_parent, no_reparent, handle, begins, goes_on, step, ends, boot, gets}
+use Rattle.clk_model.specs.Examples.Notices.{kept_between_start}
 
 abbrev a : Handle
 a = handle 0 1
@@ -159,6 +160,24 @@ upper_range_turns = refl
 pub upper_range_registers : (replay (opening gated (2 ∷ 0 ∷ []) false 100) upper_range).regs ≡ 3 ∷ 0 ∷ []
 unfolding turns
 upper_range_registers = refl
+
+-- over the clocks of `kept_between` the lowest one has the range 3 to 10 and the rate 1. For 4 it is planned to get 3, but what
+-- comes out is 2, so there is no plan
+abbrev outcome_counts : List Entry
+outcome_counts =
+    boot 4 ++ gets 1 upper 0 ∷ gets 1 lowest 1
+    ∷ goes_on 1 (call.SetRange b 3 10)
+    ∷ step 1 (micro.Visit upper) ∷ step 1 (micro.Visit lower) ∷ step 1 (micro.Visit lowest) ∷ ends 1 reply.Fine
+    ∷ goes_on 1 (call.SetRate a 200)
+    ∷ step 1 (micro.Visit upper) ∷ step 1 (micro.Visit lower) ∷ step 1 (micro.Visit lowest) ∷ ends 1 reply.Fine
+    ∷ begins 1 (call.GetRate b) (reply.Rate 1)
+    ∷ begins 1 (call.RoundRate b 4) (reply.Rate 3)
+    ∷ begins 1 (call.SetRate b 4) (reply.Refused errno.EINVAL)
+    ∷ []
+
+pub outcome_counts_turns : turns kept_between_start outcome_counts ≡ stated outcome_counts
+unfolding turns
+outcome_counts_turns = refl
 
 -- ---- a mux that moves below the clock that changes
 
