@@ -1,8 +1,10 @@
 #!/bin/sh
-# Times the calls of the parts of the core, in nanoseconds. Each folder of bench/parts is a program, which is proved and
-# built in a folder of its own, which is removed at the end. Its files end in .txt, since it is no part of the gate; the
-# file `crates`, where it is there, names the crates that the program stands on, in place of those below. With words, only
-# the programs of these names are run: `bench/parts.sh counts`.
+# Times the calls of the parts of the core, in nanoseconds.
+#
+# Each folder of bench/parts is a program, which is proved and built in a folder of its own, which
+# is removed at the end; a file beside them is a script. A program's files end in .txt, since it is
+# no part of the gate. Its file `crates`, where it has one, names the crates that it stands on, in
+# place of those below. With words, only these are run: `bench/parts.sh counts`.
 set -eu
 top=$(cd "$(dirname "$0")/.." && pwd)
 below='counts_core clk_tree notifiers rate_requests clock_lines bundle_text clk_model clk_base reg_bank kind_math clk_io slab indexmap bitflags anyhow'
@@ -42,5 +44,9 @@ if [ $# -eq 0 ]; then
 fi
 for name in "$@"; do
     echo "== $name"
-    run_program "$name" "$scratch/$name"
+    if [ -d "$top/bench/parts/$name" ]; then
+        run_program "$name" "$scratch/$name"
+    else
+        sh "$top/bench/parts/$name"
+    fi
 done
