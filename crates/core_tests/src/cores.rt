@@ -1,13 +1,13 @@
 //! A core from its opening to the way back: what no contract says, that the calls get on where there
 //! is memory, and in which order one call writes its words.
 
-ghost use Rattle.std.specs.Prelude.{◌≡◌, true};
+ghost use Rattle.std.specs.Prelude.{◌≡◌, true, IfOk};
 ghost use Rattle.clk_machine.specs.Sound.{IsPlaced};
 
 mod noting;
 
 use crate::clocks::clock;
-use clk_base::{ClockId, Desc, Handle, Kind, Parents, Reply, Sleeping, Turn, ValidDesc};
+use clk_base::{AddFault, ClockId, Desc, Handle, Kind, Parents, Reply, Sleeping, Turn, ValidDesc};
 use clk_io::NoMemory;
 use clk_machine::{Core, Row, first_unfit};
 use noting::Noting;
@@ -26,24 +26,34 @@ const MIDDLE: ClockId = ClockId(2);
 
 const LAST: ClockId = ClockId(3);
 
+// The gate at this bit of word 0, over the clock that was added last.
+fn add_gate(alloc: Global, desc: &mut Desc, name: &str, bit: u32) -> Result<(), AddFault> {
+    let last = desc.len();
+    if last == 0 || last >= 100 {
+        return Err(AddFault::NoMemory);
+    }
+    let kind = Kind::Gate {
+        word: 0,
+        bit,
+        set_to_disable: false,
+    };
+    let over = Parents::new(vec![in alloc; ClockId(last as u32 - 1)]?);
+    desc.add(clock(alloc, name, kind, over)?)?;
+    Ok(())
+}
+
 // A fixed clock, and three gates in a row below it, at the bits 0 to 2 of word 0.
-fn three_gates(alloc: Global) -> Result<ValidDesc, Fail> {
+fn three_gates(rt: &impl Abort, alloc: Global) -> Result<ValidDesc, Fail>
+    ensures { IfOk result (λ desc. desc.words ≡ 1) }
+{
     let mut desc = Desc::new(alloc);
     let none = Parents::new(Vec::new(alloc));
     desc.add(clock(alloc, "osc", Kind::FixedRate { rate: RATE }, none)?)?;
-    for (bit, name) in [(0u32, "top"), (1, "middle"), (2, "last")] {
-        let kind = Kind::Gate {
-            word: 0,
-            bit,
-            set_to_disable: false,
-        };
-        let over = Parents::new(vec![in alloc; ClockId(bit)]?);
-        desc.add(clock(alloc, name, kind, over)?)?;
-    }
+    add_gate(alloc, &mut desc, "top", 0)?;
+    add_gate(alloc, &mut desc, "middle", 1)?;
+    add_gate(alloc, &mut desc, "last", 2)?;
     let complete = desc.has_all_parents();
-    if !complete {
-        return Err(Fail::from(NoMemory));
-    }
+    assert!(rt; complete);
     Ok(desc.check(alloc, 1)?)
 }
 
@@ -120,7 +130,7 @@ fn row(enable: u32, prepare: u32, on: Option<bool>) -> Option<Row> {
 
 #[test]
 fn a_gate_is_used_and_left(rt: HostRuntime) -> Result<(), Fail> {
-    let desc = three_gates(rt.alloc())?;
+    let desc = three_gates(&rt, rt.alloc())?;
     assert!(rt; first_unfit(&desc) == None);
     let mut core = Core::create(rt.alloc(), desc, Noting::new(), &[0], false, 100)?;
     let steps = [
