@@ -316,7 +316,7 @@ plan_orderly q n ks settles order tree calm none plain = (
 )
 
 -- a call that goes on has an orderly script, where its plan is plain, and it isn't a registration
-begun_orderly : (q n : State) (d : ℕ) (what : Sleeping) (k : Change) → IsBegun q d what n k → ((c : ClockId) → what ≡ call.Probe c → ⊥) → (plans what ≡ true → IsPlain q k.chain) → IsOrderly q k.left
+pub begun_orderly : (q n : State) (d : ℕ) (what : Sleeping) (k : Change) → IsBegun q d what n k → ((c : ClockId) → what ≡ call.Probe c → ⊥) → (plans what ≡ true → IsPlain q k.chain) → IsOrderly q k.left
 begun_orderly q n d what k h no_probe plain = by_script h.has where
   as_script : {ms : List Micro} → k.left ≡ ms → IsOrderly q ms → IsOrderly q k.left
   as_script is o = subst (λ (ws : List Micro). IsOrderly q ws) (sym is) o

@@ -5,9 +5,11 @@ use Rattle.std.specs.List.{AllByRecursion}
 use Rattle.std.specs.Option.{option_map_or}
 use Rattle.clk_base.specs.Description.{kind_of, parents_of}
 use Rattle.clk_base.specs.Levels.{depth}
+use Rattle.clk_base.specs.declared.call.Micro.{Micro}
 use Rattle.clk_base.specs.declared.call.Sleeping.{Sleeping}
 use Rattle.clk_base.specs.declared.call.Sleeping.TheVariants as call
 use Rattle.clk_base.specs.declared.event.Errno.TheVariants as errno
+use Rattle.clk_base.specs.declared.event.Event.TheVariants as event
 use Rattle.clk_base.specs.declared.event.Turn.{Turn}
 use Rattle.clk_base.specs.declared.event.Turn.TheVariants as turn
 use Rattle.clk_base.proofs.Valid.{lines_end}
@@ -19,8 +21,9 @@ use Rattle.clk_model.specs.Tree.{rooted}
 use Rattle.clk_model.specs.Round.{Wiring, wiring}
 use Rattle.clk_model.specs.Chain.{chain}
 use Rattle.clk_model.specs.Views.{lift, view}
+use Rattle.clk_model.specs.Machine.{next}
 use Rattle.clk_model.specs.Begin.{change_along, starts, refused, most_credits, weight_of, pick, request, request_between, put_handle, held_once_more, own_handle, with_handle, reparenting, parent_set, begun}
-use Rattle.clk_model.specs.Laws.Flight.{plan}
+use Rattle.clk_model.specs.Laws.Flight.{script, plan}
 use Rattle.clk_model.specs.Laws.Plans.{HasParent, LeadsFrom}
 use Rattle.clk_model.specs.Laws.HoldsLeft.{is_probe, CallsLeaveNoHold}
 use Rattle.clk_model.proofs.Members.{both_left, both_right, same_from_test}
@@ -29,7 +32,8 @@ use Rattle.clk_model.proofs.FlightLaws.{begin_is}
 use Rattle.clk_model.proofs.PlanLaws.{chains_lead, not_above_parent}
 use Rattle.clk_model.proofs.WalkLaws.{walks_list}
 use Rattle.clk_model.proofs.HoldSteps.{holds_of}
-use Rattle.clk_model.proofs.BalanceLaws.{none_below_itself, IsPlain, began, planned_call_leaves_no_hold}
+use Rattle.clk_model.proofs.BalancedScripts.{relinks_once}
+use Rattle.clk_model.proofs.BalanceLaws.{none_below_itself, IsPlain, began, begun_orderly, planned_call_leaves_no_hold}
 use Rattle.clk_model.specs.Wired.{IsWired, IsOrder}
 
 -- ---- plans
@@ -133,7 +137,20 @@ call_leads words q d (call.NotifierRemove h id) wired none is = absurd cc
 call_leads words q d (call.Probe c) wired none is = absurd cc
 call_leads words q d call.Sweep wired none is = absurd cc
 
--- ---- the law
+-- ---- the laws
+
+-- the script of a call that isn't a registration relinks no clock twice
+pub script_once : (words : ℕ) (q s : State) (d : ℕ) (what : Sleeping) → IsWired words (wiring q) → IsOrder q.order q.clocks → is_probe what ≡ false
+    → next q d (event.Begin what) ≡ Some (s, turn.Going) → relinks_once (script q d what)
+script_once words q s d what wired ordered other step =
+    let start = begin_is q s d what turn.Going step in
+    let going = (begun_going q d what).from start.2 in
+    let k : Change = going.1 in
+    let changed : (begun q d what).0.change ≡ Some k = ap (λ (u : State). u.change) going.2 in
+    let own : script q d what ≡ k.left = ap (λ (o : Option Change). option_map_or (λ j. j.left) o []) changed in
+    subst (λ (ms : List Micro). relinks_once ms) (sym own)
+    (begun_orderly q going.0 d what k going.3 (λ c is. let no : true ≡ false = ap (λ (w : Sleeping). is_probe w) (sym is) ∙ other in absurd cc)
+    (λ is. let leads = (call_leads words q d what wired start.0 is).chain k changed in plain_of words q leads.0 k.chain wired ordered leads.1)).1
 
 pub calls_leave_no_hold : CallsLeaveNoHold
 calls_leave_no_hold words q s t d what made m answer r wired ordered nothing other flight step =

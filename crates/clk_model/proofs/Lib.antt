@@ -108,3 +108,4 @@ pub mod ToldStepLaws
 pub mod ToldFlightLaws
 pub mod ToldRunLaws
 pub mod UnmovedLaws
+pub mod DroppedMoveLaws
