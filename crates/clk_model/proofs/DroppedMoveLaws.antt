@@ -1,4 +1,4 @@
--- Laws on moves: no call but a registration moves a clock twice, and after a move that has timed out its clock is on its old parent.
+-- Laws on moves: no call moves a clock twice, and after a move that has timed out its clock is on its old parent.
 use Rattle.std.proofs.Common.{◌≡◌, ℕ, ◌-◌, ◌≤◌, ◌||◌, Bool, true, false, cond, inl, inr, List, [], ◌∷◌, ◌++◌, Option, Some, refl, sym, ap, subst, ◌∙◌, arith}
 use Rattle.std.specs.Prelude.{nat_le, length}
 use Rattle.std.specs.List.{list_any}
@@ -18,11 +18,10 @@ use Rattle.reg_bank.specs.Registers.{Registers}
 use Rattle.clk_model.specs.State.{State, Change}
 use Rattle.clk_model.specs.Gates.{settled}
 use Rattle.clk_model.specs.Chain.{clock_id}
-use Rattle.clk_model.specs.Step.{todo, rest_of, left_behind, taken, is_end, is_visit, is_settle, from_first, cut_short, on, timed_out, stepped}
+use Rattle.clk_model.specs.Step.{todo, rest_of, left_behind, taken, is_end, is_visit, is_register, is_settle, from_first, behind_first, cut_short, on, timed_out, stepped}
 use Rattle.clk_model.specs.Machine.{comes_next}
 use Rattle.clk_model.specs.Journal.{replay, opening}
 use Rattle.clk_model.specs.Laws.Flight.{Flight, goes_on, beside, script, may_be_put, IsLeftOf, all_left, own_made, put_made, cut}
-use Rattle.clk_model.specs.Laws.HoldsLeft.{is_probe}
 use Rattle.clk_model.specs.Laws.NothingLeft.{gives_link, MovesOnce, TimesOut, move_left, StaysInFlight, here, goes_on as goes_further, beside as beside_it, TimedOutMovesStay}
 use Rattle.clk_model.proofs.Members.{or_cases, or_left, or_right}
 use Rattle.clk_model.proofs.NoneLaws.{none_append, none_if, none_front, none_rest, none_behind}
@@ -92,22 +91,22 @@ behind_none p [] (m ∷ ms) none = none_rest p m ms none
 behind_none p (n ∷ ns) left none = none
 
 flight_once : (defs : Description) (regs : Registers) (ignore_unused : Bool) (credits : ℕ) (before : List Entry) (d : ℕ) (what : Sleeping) {s : State} {made : List Micro}
-    → IsValid (length regs) defs → is_probe what ≡ false → Flight (replay (opening defs regs ignore_unused credits) before) d what s made
+    → IsValid (length regs) defs → Flight (replay (opening defs regs ignore_unused credits) before) d what s made
     → relinks_once (script (replay (opening defs regs ignore_unused credits) before) d what)
-flight_once defs regs ignore_unused credits before d what valid other flight =
+flight_once defs regs ignore_unused credits before d what valid flight =
     let q : State = replay (opening defs regs ignore_unused credits) before in
     let run : IsRun q = run_of defs regs ignore_unused credits before valid in
     let first = began q d what flight in
-    script_once (length q.regs) q first.0 d what run.wired run.keeps.order other first.1
+    script_once (length q.regs) q first.0 d what run.wired run.keeps first.1
 
 pub moves_once : MovesOnce
-moves_once defs regs ignore_unused credits before s t d what made m answer x valid other flight step c gives =
+moves_once defs regs ignore_unused credits before s t d what made m answer x valid flight step c gives =
     let q : State = replay (opening defs regs ignore_unused credits) before in
     let course : IsCourse q d what s made = course_of q d what flight in
     let k : Change = course.now in
     let is : IsStep s t d m answer x k = of_change s t d m answer x k course.at step in
     give_is c made
-    ∙ made_apart what (script q d what) c course.left (flight_once defs regs ignore_unused credits before d what valid other flight)
+    ∙ made_apart what (script q d what) c course.left (flight_once defs regs ignore_unused credits before d what valid flight)
     (next_relinks k.front k.left m c is.first (front_put k course.front) (sym (gives_is c m) ∙ gives))
 
 -- ---- what a timeout drops
@@ -133,6 +132,24 @@ from_drops test c stop (m ∷ ms) once some = by_stop (stops m) (test m) refl re
     | inr later ↦ rest later
   ]
 
+behind_first_none : (p test : Micro → Bool) (ms : List Micro) → list_any p ms ≡ false → list_any p (behind_first test ms) ≡ false
+behind_first_none p test [] none = refl
+behind_first_none p test (m ∷ ms) none = none_if p (test m) ms (behind_first test ms) (none_rest p m ms none) (behind_first_none p test ms (none_rest p m ms none))
+
+-- and so behind such a step
+behind_drops : (test : Micro → Bool) (c : ℕ) → ((m : Micro) → test m ≡ true → stops m ≡ true) → (ms : List Micro) → relinks_once ms → list_any (relinks c) (move_left ms) ≡ true
+    → list_any (relinks c) (behind_first test ms) ≡ false
+behind_drops test c stop [] once some = absurd cc
+behind_drops test c stop (m ∷ ms) once some = by_stop (stops m) (test m) refl refl some (λ later. behind_drops test c stop ms once.1 later) where
+  by_stop : (b t : Bool) → stops m ≡ b → test m ≡ t → list_any (relinks c) (cond b [] (m ∷ move_left ms)) ≡ true
+      → (list_any (relinks c) (move_left ms) ≡ true → list_any (relinks c) (behind_first test ms) ≡ false) → list_any (relinks c) (cond t ms (behind_first test ms)) ≡ false
+  by_stop true t e f there rest = absurd cc
+  by_stop false true e f there rest = let no : true ≡ false = sym (stop m f) ∙ e in absurd cc
+  by_stop false false e f there rest = elim (or_cases (relinks c m) (list_any (relinks c) (move_left ms)) there) [
+    | inl is ↦ behind_first_none (relinks c) test ms (once.0 c is)
+    | inr later ↦ rest later
+  ]
+
 end_stops : (m : Micro) → is_end m ≡ true → stops m ≡ true
 end_stops micro.End e = refl
 end_stops m e = absurd cc
@@ -141,15 +158,20 @@ visit_stops : (m : Micro) → is_visit m ≡ true → stops m ≡ true
 visit_stops (micro.Visit c) e = refl
 visit_stops m e = absurd cc
 
-cut_drops : (what : Sleeping) (c : ℕ) (ms : List Micro) → is_probe what ≡ false → may_raise what ≡ true → relinks_once ms → list_any (relinks c) (move_left ms) ≡ true
+settle_stops : (m : Micro) → is_settle m ≡ true → stops m ≡ true
+settle_stops (micro.Settle c) e = refl
+settle_stops m e = absurd cc
+
+cut_drops : (what : Sleeping) (c : ℕ) (ms : List Micro) → may_raise what ≡ true → relinks_once ms → list_any (relinks c) (move_left ms) ≡ true
     → list_any (relinks c) (cut_short what ms) ≡ false
-cut_drops (call.Prepare h) c ms other raising once some = from_drops is_end c end_stops ms once some
-cut_drops (call.SetParent h p) c ms other raising once some = from_drops is_end c end_stops ms once some
-cut_drops (call.SetRate h x) c ms other raising once some = from_drops is_visit c visit_stops ms once some
-cut_drops (call.SetRateExclusive h x) c ms other raising once some = from_drops is_visit c visit_stops ms once some
-cut_drops (call.SetRange h least most) c ms other raising once some = from_drops is_visit c visit_stops ms once some
-cut_drops (call.Probe d) c ms other raising once some = absurd cc
-cut_drops _ c ms other raising once some = absurd cc
+cut_drops (call.Prepare h) c ms raising once some = from_drops is_end c end_stops ms once some
+cut_drops (call.SetParent h p) c ms raising once some = from_drops is_end c end_stops ms once some
+cut_drops (call.SetRate h x) c ms raising once some = from_drops is_visit c visit_stops ms once some
+cut_drops (call.SetRateExclusive h x) c ms raising once some = from_drops is_visit c visit_stops ms once some
+cut_drops (call.SetRange h least most) c ms raising once some = from_drops is_visit c visit_stops ms once some
+cut_drops (call.Probe d) c ms raising once some =
+    none_if (relinks c) (list_any is_register ms) (from_first is_end ms) (behind_first is_settle ms) (from_drops is_end c end_stops ms once some) (behind_drops is_settle c settle_stops ms once some)
+cut_drops _ c ms raising once some = absurd cc
 
 -- a move is what the script begins with
 in_left : (p : Micro → Bool) (ms : List Micro) → list_any p (move_left ms) ≡ true → list_any p ms ≡ true
@@ -236,7 +258,7 @@ raising_call q s d what made y course first = by_test (may_raise what) refl wher
       absurd cc
 
 pub timed_out_moves_stay : TimedOutMovesStay
-timed_out_moves_stay defs regs ignore_unused credits before s u t v d what made k m answer x valid other flight late later step c some =
+timed_out_moves_stay defs regs ignore_unused credits before s u t v d what made k m answer x valid flight late later step c some =
     let behind = still_left q u d what (made ++ micro.Poll late.polled ∷ []) c flight_u none_made none_left later in
     let course : IsCourse q d what t behind.0 = course_of q d what behind.1 in
     let is : IsStep t v d m answer x course.now = of_change t v d m answer x course.now course.at step in
@@ -261,7 +283,7 @@ timed_out_moves_stay defs regs ignore_unused credits before s u t v d what made 
       left_k = subst (λ (j : Change). IsLeftOf what (script q d what) made j.timed_out j.left) same course_s.left
 
       once : relinks_once (script q d what)
-      once = flight_once defs regs ignore_unused credits before d what valid other flight
+      once = flight_once defs regs ignore_unused credits before d what valid flight
 
       to_come : list_any (relinks c) (move_left k.left) ≡ true
       to_come = sym (give_is c (move_left k.left)) ∙ some
@@ -278,7 +300,7 @@ timed_out_moves_stay defs regs ignore_unused credits before s u t v d what made 
       none_left j at =
           ap (λ (ms : List Micro). list_any (relinks c) ms) (sym (ap (λ (o : Option Change). option_map_or (λ i. i.left) o []) at) ∙ late_left s u d k late)
           ∙ ap (λ (w : Sleeping). list_any (relinks c) (cut_short w (left_behind k.front k.left))) (sym (ap (λ (i : Change). i.call) same) ∙ course_s.call)
-          ∙ cut_drops what c (left_behind k.front k.left) other
+          ∙ cut_drops what c (left_behind k.front k.left)
           (raising_call q s d what made late.polled course_s (ap (λ (i : Change). comes_next (micro.Poll late.polled) (todo i)) same ∙ first))
           (rest_once k.front k.left (left_once what (script q d what) left_k once))
           (poll_behind k.front k.left late.polled c first to_come)

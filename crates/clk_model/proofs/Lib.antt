@@ -108,4 +108,5 @@ pub mod ToldStepLaws
 pub mod ToldFlightLaws
 pub mod ToldRunLaws
 pub mod UnmovedLaws
+pub mod AdoptOnceLaws
 pub mod DroppedMoveLaws

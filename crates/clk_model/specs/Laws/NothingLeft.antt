@@ -29,7 +29,6 @@ use Rattle.clk_model.specs.Machine.{next}
 use Rattle.clk_model.specs.Tier.{is_enable_tier}
 use Rattle.clk_model.specs.Journal.{replay, opening}
 use Rattle.clk_model.specs.Laws.Flight.{Flight}
-use Rattle.clk_model.specs.Laws.HoldsLeft.{is_probe}
 
 -- ---- PLLs that were raised
 
@@ -88,10 +87,10 @@ abbrev pub UnmovedStay : Type 0
 UnmovedStay = (q s t : State) (d : ℕ) (what : Sleeping) (made : List Micro) (m : Micro) (answer : Option Bool) (x : Turn) → Flight q d what s made → next s d (event.Step m answer) ≡ Some (t, x)
     → (c : ℕ) → list_any (gives_link c) made ≡ false → gives_link c m ≡ false → link_in t.clocks c ≡ link_in q.clocks c
 
--- a step that gives a clock a link is the first of its call that does, where the call isn't a registration: none moves a clock twice
+-- a step that gives a clock a link is the first of its call that does: no call moves a clock twice
 abbrev pub MovesOnce : Type 0
 MovesOnce = (defs : Description) (regs : Registers) (ignore_unused : Bool) (credits : ℕ) (before : List Entry) (s t : State) (d : ℕ) (what : Sleeping) (made : List Micro)
-    (m : Micro) (answer : Option Bool) (x : Turn) → IsValid (length regs) defs → is_probe what ≡ false
+    (m : Micro) (answer : Option Bool) (x : Turn) → IsValid (length regs) defs
     → Flight (replay (opening defs regs ignore_unused credits) before) d what s made → next s d (event.Step m answer) ≡ Some (t, x)
     → (c : ℕ) → gives_link c m ≡ true → list_any (gives_link c) made ≡ false
 
@@ -120,6 +119,6 @@ pub data StaysInFlight (d : ℕ) (u : State) : State → Type 0 where
 -- link, that clock has the parent that it had before the call, behind each later step of the call and at its end
 abbrev pub TimedOutMovesStay : Type 0
 TimedOutMovesStay = (defs : Description) (regs : Registers) (ignore_unused : Bool) (credits : ℕ) (before : List Entry) (s u t v : State) (d : ℕ) (what : Sleeping) (made : List Micro)
-    (k : Change) (m : Micro) (answer : Option Bool) (x : Turn) → IsValid (length regs) defs → is_probe what ≡ false
+    (k : Change) (m : Micro) (answer : Option Bool) (x : Turn) → IsValid (length regs) defs
     → Flight (replay (opening defs regs ignore_unused credits) before) d what s made → TimesOut s d k u → StaysInFlight d u t → next t d (event.Step m answer) ≡ Some (v, x)
     → (c : ℕ) → list_any (gives_link c) (move_left k.left) ≡ true → link_in v.clocks c ≡ link_in (replay (opening defs regs ignore_unused credits) before).clocks c

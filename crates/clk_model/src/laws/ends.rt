@@ -20,8 +20,7 @@ pub fn unmoved_stay()
     ensures law { UnmovedStay }
 {}
 
-/// A step that gives a clock a link is the first of its call that does, where the call isn't a registration: no call moves a clock
-/// twice.
+/// A step that gives a clock a link is the first of its call that does: no call moves a clock twice.
 pub fn moves_once()
     ensures law { MovesOnce }
 {}
