@@ -108,8 +108,8 @@ none_of : (b : Bool) → (b ≡ true → ⊥) → b ≡ false
 none_of false never = refl
 none_of true never = absurd (never refl)
 
-to_front_once : (s : State) (c : ℕ) → IsOrder (register s c).order (register s c).clocks → none_twice (adoptable (register s c)) ≡ true
-to_front_once s c ordered =
+adoptable_once : (s : State) (c : ℕ) → IsOrder (register s c).order (register s c).clocks → none_twice (adoptable (register s c)) ≡ true
+adoptable_once s c ordered =
     let r : State = register s c in
     once_filter (λ a. option_map_or (λ p. true) (link_given r.defs r.regs r.clocks a) false) (orphans r.defs r.order r.clocks) (once_filter (is_orphan r.defs r.clocks) r.order ordered.once)
 
@@ -131,7 +131,7 @@ probe_once words s c wired ordered = by_critical (is_critical r.defs c.0) where
   registering : relinks_once (micro.Register (clock_id c.0) ∷ (adoptions ++ micro.End ∷ []))
   registering = (
     (λ d e. none_append (relinks d) adoptions (micro.End ∷ []) (adoptions_none r order d (ap (λ (x : ℕ). is_in x order) (sym (same_from_test c.0 d e)) ∙ not_listed)) refl),
-    relinks_append adoptions (micro.End ∷ []) (adoptions_once r order (ordered_once (length (adoptable r)) r (adoptable r) (to_front_once s c.0 ordered))) ((λ d e. absurd cc), tt) (λ d e. refl),
+    relinks_append adoptions (micro.End ∷ []) (adoptions_once r order (ordered_once (length (adoptable r)) r (adoptable r) (adoptable_once s c.0 ordered))) ((λ d e. absurd cc), tt) (λ d e. refl),
   )
 
   by_critical : (b : Bool) → relinks_once (((cond b (micro.Raise (clock_id c.0) ∷ []) [] ++ micro.Register (clock_id c.0) ∷ []) ++ adoptions) ++ micro.End ∷ [])

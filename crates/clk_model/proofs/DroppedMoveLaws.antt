@@ -24,7 +24,7 @@ use Rattle.clk_model.specs.Journal.{replay, opening}
 use Rattle.clk_model.specs.Laws.Flight.{Flight, goes_on, beside, script, may_be_put, IsLeftOf, all_left, own_made, put_made, cut}
 use Rattle.clk_model.specs.Laws.NothingLeft.{gives_link, MovesOnce, TimesOut, move_left, StaysInFlight, here, goes_on as goes_further, beside as beside_it, TimedOutMovesStay}
 use Rattle.clk_model.proofs.Members.{or_cases, or_left, or_right}
-use Rattle.clk_model.proofs.NoneLaws.{none_append, none_if, none_front, none_rest, none_behind}
+use Rattle.clk_model.proofs.NoneLaws.{none_append, none_if, none_front, none_rest}
 use Rattle.clk_model.proofs.MicroLaws.{comes_first}
 use Rattle.clk_model.proofs.TierLaws.{beside_change}
 use Rattle.clk_model.proofs.StepLaws.{raises, step_after}
@@ -32,7 +32,8 @@ use Rattle.clk_model.proofs.BeginLaws.{may_raise}
 use Rattle.clk_model.proofs.FlightLaws.{IsStep, IsCourse, course_of, left_is_end, first_put, front_put, next_is}
 use Rattle.clk_model.proofs.VetoLaws.{of_change}
 use Rattle.clk_model.proofs.HoldSteps.{relinks}
-use Rattle.clk_model.proofs.BalancedScripts.{relinks_once, once_behind, short_is_end}
+use Rattle.clk_model.proofs.BalancedScripts.{relinks_once, once_behind}
+use Rattle.clk_model.proofs.ScriptLaws.{none_cut}
 use Rattle.clk_model.proofs.HoldLaws.{some_behind, put_relinks_none}
 use Rattle.clk_model.proofs.BalanceLaws.{began}
 use Rattle.clk_model.proofs.HoldsLeftLaws.{script_once}
@@ -221,10 +222,7 @@ step_leaves_it q s t d what made m answer c course is none j at =
     ap (λ (l : Change). list_any (relinks c) l.left) same
     ∙ elim after.2.left [
       | inl same_left ↦ ap (λ (ms : List Micro). list_any (relinks c) ms) same_left.0 ∙ rest
-      | inr late ↦
-          let short = short_is_end k.call (left_behind k.front k.left) in
-          ap (λ (ms : List Micro). list_any (relinks c) ms) late.1
-          ∙ none_behind (relinks c) short.0 (cut_short k.call (left_behind k.front k.left)) (sym (ap (λ (ms : List Micro). list_any (relinks c) ms) short.1) ∙ rest)
+      | inr late ↦ ap (λ (ms : List Micro). list_any (relinks c) ms) late.1 ∙ none_cut (relinks c) k.call (left_behind k.front k.left) rest
     ]
 
 -- a call that was to give a clock no more link doesn't
