@@ -149,7 +149,7 @@ planned_balanced s ks settles none calm =
 
 -- ---- no clock is relinked twice
 
-relinks_append : (xs ys : List Micro) → relinks_once xs → relinks_once ys → ((c : ℕ) → list_any (relinks c) xs ≡ true → list_any (relinks c) ys ≡ false) → relinks_once (xs ++ ys)
+pub relinks_append : (xs ys : List Micro) → relinks_once xs → relinks_once ys → ((c : ℕ) → list_any (relinks c) xs ≡ true → list_any (relinks c) ys ≡ false) → relinks_once (xs ++ ys)
 relinks_append [] ys f g apart = g
 relinks_append (m ∷ xs) ys f g apart = (
   λ c e. none_append (relinks c) xs ys (f.0 c e) (apart c (or_left (relinks c m) (list_any (relinks c) xs) e)),
@@ -157,7 +157,7 @@ relinks_append (m ∷ xs) ys f g apart = (
 )
 
 -- steps that relink no clock
-once_none : (ms : List Micro) → ((c : ℕ) → list_any (relinks c) ms ≡ false) → relinks_once ms
+pub once_none : (ms : List Micro) → ((c : ℕ) → list_any (relinks c) ms ≡ false) → relinks_once ms
 once_none [] none = tt
 once_none (m ∷ ms) none = (λ c e. none_rest (relinks c) m ms (none c), once_none ms (λ c. none_rest (relinks c) m ms (none c)))
 
@@ -316,7 +316,7 @@ plan_orderly q n ks settles order tree calm none plain = (
 )
 
 -- a call that goes on has an orderly script, where its plan is plain, and it isn't a registration
-begun_orderly : (q n : State) (d : ℕ) (what : Sleeping) (k : Change) → IsBegun q d what n k → ((c : ClockId) → what ≡ call.Probe c → ⊥) → (plans what ≡ true → IsPlain q k.chain) → IsOrderly q k.left
+pub begun_orderly : (q n : State) (d : ℕ) (what : Sleeping) (k : Change) → IsBegun q d what n k → ((c : ClockId) → what ≡ call.Probe c → ⊥) → (plans what ≡ true → IsPlain q k.chain) → IsOrderly q k.left
 begun_orderly q n d what k h no_probe plain = by_script h.has where
   as_script : {ms : List Micro} → k.left ≡ ms → IsOrderly q ms → IsOrderly q k.left
   as_script is o = subst (λ (ws : List Micro). IsOrderly q ws) (sym is) o

@@ -47,7 +47,7 @@ pub record IsHeld (q : State) (d : ℕ) (what : Sleeping) (s : State) (now : Cha
   pub links : (c : ℕ) → list_any (relinks c) now.left ≡ true → link_in s.clocks c ≡ link_in q.clocks c
   pub once : relinks_once now.left
 
-some_behind : (p : Micro → Bool) (front left : List Micro) → list_any p left ≡ true → list_any p (front ++ left) ≡ true
+pub some_behind : (p : Micro → Bool) (front left : List Micro) → list_any p left ≡ true → list_any p (front ++ left) ≡ true
 some_behind p [] left e = e
 some_behind p (m ∷ front) left e = or_right (p m) (list_any p (front ++ left)) (some_behind p front left e)
 
@@ -74,7 +74,7 @@ put_is_no_hold (micro.DropEnable x) e = absurd cc
 put_is_no_hold (micro.DropPrepare x) e = absurd cc
 put_is_no_hold m e = refl
 
-put_relinks_none : (m : Micro) (c : ℕ) → may_be_put m ≡ true → relinks c m ≡ false
+pub put_relinks_none : (m : Micro) (c : ℕ) → may_be_put m ≡ true → relinks c m ≡ false
 put_relinks_none (micro.Relink d p) c e = absurd cc
 put_relinks_none (micro.Register d) c e = absurd cc
 put_relinks_none m c e = refl

@@ -5,9 +5,11 @@ use Rattle.std.specs.List.{AllByRecursion}
 use Rattle.std.specs.Option.{option_map_or}
 use Rattle.clk_base.specs.Description.{kind_of, parents_of}
 use Rattle.clk_base.specs.Levels.{depth}
+use Rattle.clk_base.specs.declared.call.Micro.{Micro}
 use Rattle.clk_base.specs.declared.call.Sleeping.{Sleeping}
 use Rattle.clk_base.specs.declared.call.Sleeping.TheVariants as call
 use Rattle.clk_base.specs.declared.event.Errno.TheVariants as errno
+use Rattle.clk_base.specs.declared.event.Event.TheVariants as event
 use Rattle.clk_base.specs.declared.event.Turn.{Turn}
 use Rattle.clk_base.specs.declared.event.Turn.TheVariants as turn
 use Rattle.clk_base.proofs.Valid.{lines_end}
@@ -19,17 +21,24 @@ use Rattle.clk_model.specs.Tree.{rooted}
 use Rattle.clk_model.specs.Round.{Wiring, wiring}
 use Rattle.clk_model.specs.Chain.{chain}
 use Rattle.clk_model.specs.Views.{lift, view}
+use Rattle.clk_model.specs.Machine.{next}
 use Rattle.clk_model.specs.Begin.{change_along, starts, refused, most_credits, weight_of, pick, request, request_between, put_handle, held_once_more, own_handle, with_handle, reparenting, parent_set, begun}
-use Rattle.clk_model.specs.Laws.Flight.{plan}
+use Rattle.clk_model.specs.Laws.Flight.{script, plan}
 use Rattle.clk_model.specs.Laws.Plans.{HasParent, LeadsFrom}
+use Rattle.clk_model.specs.Script.{sweep_script}
+use Rattle.clk_model.specs.Gates.{settled}
+use Rattle.clk_model.specs.Laws.LinksKept.{KeepsLinks}
 use Rattle.clk_model.specs.Laws.HoldsLeft.{is_probe, CallsLeaveNoHold}
 use Rattle.clk_model.proofs.Members.{both_left, both_right, same_from_test}
-use Rattle.clk_model.proofs.BeginLaws.{plans, begun_going}
+use Rattle.clk_model.proofs.BeginLaws.{sweep_has_no, plans, HasScript, raised_alone, lowered_alone, by_rate, by_parent, by_registration, by_sweep, IsBegun, begun_going}
 use Rattle.clk_model.proofs.FlightLaws.{begin_is}
 use Rattle.clk_model.proofs.PlanLaws.{chains_lead, not_above_parent}
 use Rattle.clk_model.proofs.WalkLaws.{walks_list}
-use Rattle.clk_model.proofs.HoldSteps.{holds_of}
-use Rattle.clk_model.proofs.BalanceLaws.{none_below_itself, IsPlain, began, planned_call_leaves_no_hold}
+use Rattle.clk_model.proofs.HoldSteps.{relinks, holds_of}
+use Rattle.clk_model.proofs.LinkBegins.{keeps_register}
+use Rattle.clk_model.proofs.AdoptOnceLaws.{probe_once}
+use Rattle.clk_model.proofs.BalancedScripts.{relinks_once}
+use Rattle.clk_model.proofs.BalanceLaws.{none_below_itself, once_none, IsPlain, began, begun_orderly, planned_call_leaves_no_hold}
 use Rattle.clk_model.specs.Wired.{IsWired, IsOrder}
 
 -- ---- plans
@@ -133,7 +142,40 @@ call_leads words q d (call.NotifierRemove h id) wired none is = absurd cc
 call_leads words q d (call.Probe c) wired none is = absurd cc
 call_leads words q d call.Sweep wired none is = absurd cc
 
--- ---- the law
+-- ---- the laws
+
+-- no script relinks a clock twice
+pub script_once : (words : ℕ) (q s : State) (d : ℕ) (what : Sleeping) → IsWired words (wiring q) → KeepsLinks q → next q d (event.Begin what) ≡ Some (s, turn.Going) → relinks_once (script q d what)
+script_once words q s d what wired keeps step =
+    subst (λ (ms : List Micro). relinks_once ms) (sym (ap (λ (o : Option Change). option_map_or (λ j. j.left) o []) changed)) (by_script going.3.has) where
+      start : (q.change ≡ None) × (record (settled q (begun q d what).0) { spent = q.spent + 1 } ≡ s) × ((begun q d what).1 ≡ turn.Going)
+      start = begin_is q s d what turn.Going step
+
+      going : (n : State) × (k : Change) × ((begun q d what).0 ≡ record n { change = Some k }) × IsBegun q d what n k
+      going = (begun_going q d what).from start.2
+
+      n : State
+      n = going.0
+
+      k : Change
+      k = going.1
+
+      changed : (begun q d what).0.change ≡ Some k
+      changed = ap (λ (u : State). u.change) going.2
+
+      by_plan : plans k.call ≡ true → relinks_once k.left
+      by_plan is =
+          (begun_orderly q n d what k going.3
+          (λ c probe. let no : false ≡ true = ap (λ (w : Sleeping). plans w) (sym probe ∙ sym going.3.call) ∙ is in absurd cc)
+          (λ e. let leads = (call_leads words q d what wired start.0 e).chain k changed in plain_of words q leads.0 k.chain wired keeps.order leads.1)).1
+
+      by_script : HasScript q n k → relinks_once k.left
+      by_script (raised_alone x is) = subst (λ (ms : List Micro). relinks_once ms) (sym is) ((λ c e. absurd cc), ((λ c e. absurd cc), tt))
+      by_script (lowered_alone x is) = subst (λ (ms : List Micro). relinks_once ms) (sym is) ((λ c e. absurd cc), ((λ c e. absurd cc), tt))
+      by_script (by_rate is steps order tree) = by_plan is
+      by_script (by_parent is c steps order tree) = by_plan is
+      by_script (by_registration c probe is) = subst (λ (ms : List Micro). relinks_once ms) (sym is) (probe_once words q c wired (keeps_register q c.0 keeps).order)
+      by_script (by_sweep is) = subst (λ (ms : List Micro). relinks_once ms) (sym is) (once_none (sweep_script q) (λ c. sweep_has_no (relinks c) q (λ e. refl) (λ e. refl) refl))
 
 pub calls_leave_no_hold : CallsLeaveNoHold
 calls_leave_no_hold words q s t d what made m answer r wired ordered nothing other flight step =

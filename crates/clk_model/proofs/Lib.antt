@@ -127,3 +127,5 @@ pub mod OutcomeWrittenLaws
 pub mod JournalCauseLaws
 pub mod UnmovedLaws
 pub mod CopyLaws
+pub mod AdoptOnceLaws
+pub mod DroppedMoveLaws

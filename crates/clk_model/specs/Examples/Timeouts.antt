@@ -1,5 +1,6 @@
 -- Moves, registrations and adoptions whose PLL doesn't lock in time.
-use Rattle.std.specs.Prelude.{◌≡◌, List, [], ◌∷◌, ◌++◌, true, false, Some, None, pos, codes, map, refl, length}
+use Rattle.std.specs.Prelude.{◌≡◌, List, [], ◌∷◌, ◌++◌, true, false, Some, None, pos, codes, map, refl, length, option_map}
+use Rattle.std.specs.List.{list_any}
 use Rattle.clk_base.specs.declared.clock.ClockId.{ClockId}
 use Rattle.clk_base.specs.declared.clock.Kind.TheVariants as kinds
 use Rattle.clk_base.specs.declared.call.Micro.TheVariants as micro
@@ -14,7 +15,8 @@ use Rattle.clk_base.specs.Description.{Description}
 use Rattle.clk_model.specs.State.{State, link_in}
 use Rattle.clk_model.specs.Chain.{clock_id}
 use Rattle.clk_model.specs.Journal.{opening, replay}
-use Rattle.clk_model.specs.Examples.Rows.{turns, stated, clock, flagged, critical, handle, begins, goes_on, step, poll, in_vain, ends, probe, boot, gets}
+use Rattle.clk_model.specs.Laws.NothingLeft.{gives_link, move_left}
+use Rattle.clk_model.specs.Examples.Rows.{turns, stated, clock, flagged, critical, handle, begins, goes_on, step, poll, polls_in_vain, in_vain, ends, probe, boot, gets}
 use Rattle.clk_model.specs.Examples.Plls.{board_start, p, m}
 
 abbrev a : Handle
@@ -91,6 +93,21 @@ moving_turns = refl
 
 pub moving_length : length moving ≡ 37
 moving_length = refl
+
+-- before the last poll that is answered by no
+abbrev nearly_timed_out : List Entry
+nearly_timed_out =
+    boot 3 ++ gets 1 mover 0 ∷ begins 1 (call.Prepare a) reply.Fine
+    ∷ goes_on 1 (call.SetRate a 100000000) ∷ step 1 (micro.Raise p) ∷ polls_in_vain 31 1 p
+
+-- the move at hand is still to give the mux its link, and the poll may not ask again
+pub moving_at_hand : option_map (λ k. list_any (gives_link mover.0) (move_left k.left)) (replay moved_start nearly_timed_out).change ≡ Some true
+unfolding turns
+moving_at_hand = refl
+
+pub moving_last_poll : option_map (λ k. k.polls) (replay moved_start nearly_timed_out).change ≡ Some 1
+unfolding turns
+moving_last_poll = refl
 
 pub moving_registers : (replay moved_start whole_moving).regs ≡ 0x64 ∷ 0 ∷ []
 unfolding turns

@@ -4,7 +4,6 @@ use Rattle.clk_base.specs.declared.call.Micro.{Micro}
 use Rattle.clk_base.specs.declared.call.Micro.TheVariants as micro
 use Rattle.clk_base.specs.declared.call.Notice.TheVariants as notice
 use Rattle.clk_base.specs.declared.call.Sleeping.{Sleeping}
-use Rattle.clk_base.specs.declared.call.Sleeping.TheVariants as call
 use Rattle.clk_base.specs.declared.event.Entry.{Entry}
 use Rattle.clk_base.specs.declared.event.Event.TheVariants as event
 use Rattle.clk_base.specs.declared.event.Reply.TheVariants as reply

@@ -1,12 +1,14 @@
 -- That a call leaves nothing behind its end that it only had for its way: the laws of PLLs that were raised, of timeouts, and of moves
 -- that weren't made.
-use Rattle.std.specs.Prelude.{◌≡◌, ℕ, ◌==◌, List, Bool, true, false, Option, Some, length, option_map}
+use Rattle.std.specs.Prelude.{◌≡◌, ℕ, ◌==◌, ◌≤◌, ◌||◌, List, [], ◌∷◌, Bool, true, false, Option, Some, length, option_map, if◌then◌else◌}
 use Rattle.std.specs.List.{list_any}
 use Rattle.clk_base.specs.declared.call.Micro.{Micro}
 use Rattle.clk_base.specs.declared.call.Micro.TheVariants as micro
 use Rattle.clk_base.specs.declared.call.Sleeping.{Sleeping}
 use Rattle.clk_base.specs.declared.call.Sleeping.TheVariants as call
+use Rattle.clk_base.specs.declared.clock.ClockId.{ClockId}
 use Rattle.clk_base.specs.declared.event.Entry.{Entry}
+use Rattle.clk_base.specs.declared.event.Event.{Event}
 use Rattle.clk_base.specs.declared.event.Event.TheVariants as event
 use Rattle.clk_base.specs.declared.event.Errno.TheVariants as errno
 use Rattle.clk_base.specs.declared.event.Reply.{Reply}
@@ -18,11 +20,13 @@ use Rattle.clk_base.specs.Fields.{Field, PowerBit, field_of, power_of}
 use Rattle.clk_base.specs.Valid.{IsValid}
 use Rattle.reg_bank.specs.Registers.{Registers, field}
 use Rattle.clk_model.specs.Kinds.{is_powered}
-use Rattle.clk_model.specs.State.{State, link_in, handle_at}
+use Rattle.clk_model.specs.State.{State, Change, link_in, handle_at}
 use Rattle.clk_model.specs.Rate.{rate}
 use Rattle.clk_model.specs.Holders.{prepared}
 use Rattle.clk_model.specs.Prep.{without_enables}
+use Rattle.clk_model.specs.Step.{is_end, is_visit, is_settle}
 use Rattle.clk_model.specs.Machine.{next}
+use Rattle.clk_model.specs.Tier.{is_enable_tier}
 use Rattle.clk_model.specs.Journal.{replay, opening}
 use Rattle.clk_model.specs.Laws.Flight.{Flight}
 
@@ -82,3 +86,39 @@ gives_link c _ = false
 abbrev pub UnmovedStay : Type 0
 UnmovedStay = (q s t : State) (d : ℕ) (what : Sleeping) (made : List Micro) (m : Micro) (answer : Option Bool) (x : Turn) → Flight q d what s made → next s d (event.Step m answer) ≡ Some (t, x)
     → (c : ℕ) → list_any (gives_link c) made ≡ false → gives_link c m ≡ false → link_in t.clocks c ≡ link_in q.clocks c
+
+-- a step that gives a clock a link is the first of its call that does: no call moves a clock twice
+abbrev pub MovesOnce : Type 0
+MovesOnce = (defs : Description) (regs : Registers) (ignore_unused : Bool) (credits : ℕ) (before : List Entry) (s t : State) (d : ℕ) (what : Sleeping) (made : List Micro)
+    (m : Micro) (answer : Option Bool) (x : Turn) → IsValid (length regs) defs
+    → Flight (replay (opening defs regs ignore_unused credits) before) d what s made → next s d (event.Step m answer) ≡ Some (t, x)
+    → (c : ℕ) → gives_link c m ≡ true → list_any (gives_link c) made ≡ false
+
+-- ---- moves that time out
+
+-- a poll of this driver's change times out: it is answered by no, and may not ask again
+pub record TimesOut (s : State) (d : ℕ) (k : Change) (u : State) : Type 0 where
+  pub at : s.change ≡ Some k
+  pub last : k.polls ≤ 1
+  pub polled : ClockId
+  pub step : next s d (event.Step (micro.Poll polled) (Some false)) ≡ Some (u, turn.Going)
+
+-- what is left of the move at hand: the steps up to the next visit, the next settling of a last request, or the end
+abbrev pub move_left : List Micro → List Micro
+move_left [] = []
+move_left (m ∷ ms) = if is_visit m || is_settle m || is_end m then [] else m ∷ move_left ms
+
+-- this driver's call, in flight in one state, is still so in another, which further steps of it have led to. Events of the enable tier,
+-- of any driver, may stand between
+pub data StaysInFlight (d : ℕ) (u : State) : State → Type 0 where
+  here : StaysInFlight d u u
+  goes_on : {s t : State} (m : Micro) (answer : Option Bool) → StaysInFlight d u s → next s d (event.Step m answer) ≡ Some (t, turn.Going) → StaysInFlight d u t
+  beside : {s t : State} {x : Turn} (other : ℕ) (e : Event) → is_enable_tier e ≡ true → StaysInFlight d u s → next s other e ≡ Some (t, x) → StaysInFlight d u t
+
+-- after a move that has timed out its clock is on its old parent: where a poll times out, and the move at hand was still to give a clock its
+-- link, that clock has the parent that it had before the call, behind each later step of the call and at its end
+abbrev pub TimedOutMovesStay : Type 0
+TimedOutMovesStay = (defs : Description) (regs : Registers) (ignore_unused : Bool) (credits : ℕ) (before : List Entry) (s u t v : State) (d : ℕ) (what : Sleeping) (made : List Micro)
+    (k : Change) (m : Micro) (answer : Option Bool) (x : Turn) → IsValid (length regs) defs
+    → Flight (replay (opening defs regs ignore_unused credits) before) d what s made → TimesOut s d k u → StaysInFlight d u t → next t d (event.Step m answer) ≡ Some (v, x)
+    → (c : ℕ) → list_any (gives_link c) (move_left k.left) ≡ true → link_in v.clocks c ≡ link_in (replay (opening defs regs ignore_unused credits) before).clocks c
