@@ -1,0 +1,59 @@
+-- What the code's roundings mean, and what they ask of the kind of a clock.
+use Rattle.std.specs.Prelude.{◌≡◌, ℕ, ◌*◌, ◌<◌, ◌≤◌, List, true, false, Option, Some, None, IfSome, filter, max, nat_le}
+use Rattle.std.specs.List.{filter_map}
+use Rattle.std.specs.Int.{div_ceil}
+use Rattle.std.specs.Option.{option_map}
+use Rattle.clk_base.specs.declared.clock.ClockId.{ClockId}
+use Rattle.clk_base.specs.declared.clock.Kind.{Kind}
+use Rattle.clk_base.specs.declared.clock.Kind.TheVariants.{FixedRate, Factor, Gate, Mux, Divider, Pll}
+use Rattle.kind_math.specs.declared.div_style.DivStyle.{DivStyle}
+use Rattle.kind_math.specs.Dividers.{IsDividerWidth, valid_divisors, div_round}
+use Rattle.clk_base.specs.Flags.{keeps_parent}
+use Rattle.clk_model.specs.declared.row.ClockRow.{ClockRow}
+use Rattle.clk_model.specs.Rate.{style_of}
+use Rattle.clk_model.specs.Round as round
+use Rattle.clk_model.specs.State.{registered}
+use Rattle.rate_planner.specs.declared.rounded.Rounded.{Rounded}
+
+-- a rounding as the definitions have it
+abbrev pub rounded_of : Rounded → round.Rounded
+rounded_of r = record { rate = r.rate; parent = option_map (λ p. p.0) r.parent; parent_rate = r.parent_rate }
+
+-- the parent that a rounding names is registered
+abbrev pub NamesRegistered : List ClockRow → Option Rounded → Type 0
+NamesRegistered clocks result = IfSome result (λ r. IfSome r.parent (λ p. registered clocks p.0 ≡ true))
+
+-- the parameters by which a kind divides and multiplies are in their ranges
+abbrev pub CanScale : Kind → Type 0
+CanScale (FixedRate rate) = Unit {0}
+CanScale (Factor mult div) = (0 < mult) × (0 < div)
+CanScale (Gate word bit set_to_disable) = Unit {0}
+CanScale (Mux word shift width read_only) = Unit {0}
+CanScale (Divider word shift width one_based power_of_two) = IsDividerWidth (style_of one_based power_of_two) width
+CanScale (Pll word shift width power_word power_bit least most m) = (least ≤ most) × (0 < m)
+
+-- the best so far after one more try: a try that gives nothing leaves it
+abbrev pub after_try : ℕ → Option round.Rounded → Option round.Rounded → Option round.Rounded
+after_try x best None = best
+after_try x best (Some r) = round.better x best r
+
+-- the best over what the linked parent gives for the product of a wanted rate with each of these divisors
+abbrev pub best_of_divisors : (ℕ → ℕ → Option ℕ) → round.Wiring → ℕ → ℕ → List ℕ → Option round.Rounded
+best_of_divisors ask w c x divisors =
+    round.best_of x (filter_map (λ i. round.over_link ask w c (x * i) (λ r. div_ceil r i)) (filter (λ i. nat_le (x * i) round.most_rate) divisors))
+
+-- the rounding of a divider by its style, as the definitions have it of its kind
+abbrev pub divider_rounding : (ℕ → ℕ → Option ℕ) → round.Wiring → ℕ → ℕ → ℕ → DivStyle → Option round.Rounded
+divider_rounding ask w c x width style =
+    elim (round.passes_on w c) [
+      | true ↦ round.by_divisor ask w c (max x 1) (valid_divisors style width)
+      | false ↦ Some (round.over_parent w c (div_ceil (round.parent_rate_in w c) (div_round (round.parent_rate_in w c) x width style)))
+    ]
+
+-- the rounding of a mux, which is the same of every field
+abbrev pub mux_rounding : (ℕ → ℕ → Option ℕ) → round.Wiring → ℕ → ℕ → Option round.Rounded
+mux_rounding ask w c x =
+    elim (keeps_parent w.defs c) [
+      | true ↦ elim (round.passes_on w c) [ true ↦ round.over_link ask w c x (λ r. r) | false ↦ Some (round.over_parent w c (round.parent_rate_in w c)) ]
+      | false ↦ round.by_candidate ask w c x
+    ]

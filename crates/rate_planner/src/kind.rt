@@ -1,0 +1,72 @@
+//! What a clock's kind and flags say.
+
+ghost use Rattle.std.specs.Prelude.{◌≡◌};
+ghost use Rattle.clk_base.specs.Description.{kind_of};
+ghost use Rattle.clk_base.specs.Flags as flags;
+ghost use Rattle.clk_model.specs.Kinds.{can_round};
+ghost use Rattle.clk_model.specs.Rate.{style_of};
+ghost use Rattle.rate_planner.specs.Given.{CanScale};
+
+use bitflags::Flags;
+use clk_base::{ClkFlags, ClockId, Kind, ValidDesc};
+use kind_math::DivStyle;
+
+/// The kind of a clock. A place outside of the description counts as a fixed clock of 0 Hz.
+pub(crate) fn kind_of(desc: &ValidDesc, clock: ClockId) -> Kind
+    ensures kind { result ≡ kind_of desc.now.defs clock.0 }
+    ensures scales { CanScale result }
+{
+    if (clock.0 as usize) < desc.len() {
+        desc.def(clock).kind
+    } else {
+        Kind::FixedRate { rate: 0 }
+    }
+}
+
+/// Whether a request for a rate may change something of a clock of this kind.
+pub(crate) fn can_round(kind: Kind) -> bool
+    ensures { result ≡ can_round kind }
+{
+    match kind {
+        Kind::FixedRate { .. } | Kind::Gate { .. } => false,
+        Kind::Mux { read_only, .. } => !read_only,
+        Kind::Factor { .. } | Kind::Divider { .. } | Kind::Pll { .. } => true,
+    }
+}
+
+/// How the field of a divider gives its divisor.
+pub(crate) fn style_of(one_based: bool, power_of_two: bool) -> DivStyle
+    ensures { result ≡ style_of one_based power_of_two }
+{
+    if power_of_two {
+        DivStyle::PowerOfTwo
+    } else if one_based {
+        DivStyle::OneBased
+    } else {
+        DivStyle::Plain
+    }
+}
+
+/// Whether a request for a rate is passed on to the parent.
+pub(crate) fn sets_rate_parent(desc: &ValidDesc, clock: ClockId) -> bool
+    ensures { result ≡ flags.sets_rate_parent desc.now.defs clock.0 }
+{
+    (clock.0 as usize) < desc.len()
+        && Flags::contains(&desc.def(clock).flags, ClkFlags::SET_RATE_PARENT)
+}
+
+/// Whether a prepared clock keeps its parent.
+pub(crate) fn sets_parent_gate(desc: &ValidDesc, clock: ClockId) -> bool
+    ensures { result ≡ flags.sets_parent_gate desc.now.defs clock.0 }
+{
+    (clock.0 as usize) < desc.len()
+        && Flags::contains(&desc.def(clock).flags, ClkFlags::SET_PARENT_GATE)
+}
+
+/// Whether a request for a rate doesn't move the clock to another parent.
+pub(crate) fn keeps_parent(desc: &ValidDesc, clock: ClockId) -> bool
+    ensures { result ≡ flags.keeps_parent desc.now.defs clock.0 }
+{
+    (clock.0 as usize) < desc.len()
+        && Flags::contains(&desc.def(clock).flags, ClkFlags::NO_REPARENT)
+}
