@@ -1,0 +1,3 @@
+pub mod Scaling
+pub mod DivisorChoice
+pub mod Best

@@ -1,5 +1,5 @@
 -- What the code's roundings mean, and what they ask of the kind of a clock.
-use Rattle.std.specs.Prelude.{◌≡◌, ℕ, ◌*◌, ◌<◌, ◌≤◌, List, true, false, Option, Some, None, IfSome, filter, max, nat_le}
+use Rattle.std.specs.Prelude.{◌≡◌, ℕ, ◌*◌, ◌<◌, ◌≤◌, List, true, false, Option, Some, None, IfSome, filter, fold, max, nat_le}
 use Rattle.std.specs.List.{filter_map}
 use Rattle.std.specs.Int.{div_ceil}
 use Rattle.std.specs.Option.{option_map}
@@ -13,6 +13,7 @@ use Rattle.clk_model.specs.declared.row.ClockRow.{ClockRow}
 use Rattle.clk_model.specs.Rate.{style_of}
 use Rattle.clk_model.specs.Round as round
 use Rattle.clk_model.specs.State.{registered}
+use Rattle.clk_model.specs.Tree.{rooted}
 use Rattle.rate_planner.specs.declared.rounded.Rounded.{Rounded}
 
 -- a rounding as the definitions have it
@@ -37,10 +38,19 @@ abbrev pub after_try : ℕ → Option round.Rounded → Option round.Rounded →
 after_try x best None = best
 after_try x best (Some r) = round.better x best r
 
--- the best over what the linked parent gives for the product of a wanted rate with each of these divisors
-abbrev pub best_of_divisors : (ℕ → ℕ → Option ℕ) → round.Wiring → ℕ → ℕ → List ℕ → Option round.Rounded
-best_of_divisors ask w c x divisors =
-    round.best_of x (filter_map (λ i. round.over_link ask w c (x * i) (λ r. div_ceil r i)) (filter (λ i. nat_le (x * i) round.most_rate) divisors))
+-- the best after what the linked parent gives for the product of a wanted rate with each of these divisors
+abbrev pub after_divisors : (ℕ → ℕ → Option ℕ) → round.Wiring → ℕ → ℕ → Option round.Rounded → List ℕ → Option round.Rounded
+after_divisors ask w c x best divisors =
+    fold (round.better x) best (filter_map (λ i. round.over_link ask w c (x * i) (λ r. div_ceil r i)) (filter (λ i. nat_le (x * i) round.most_rate) divisors))
+
+-- what a possible parent of a mux gives, and nothing where it isn't rooted
+abbrev pub over_rooted : (ℕ → ℕ → Option ℕ) → round.Wiring → ℕ → ℕ → ℕ → Option round.Rounded
+over_rooted ask w c x p = elim (rooted w.defs w.clocks p) [ true ↦ round.over_candidate ask w c x p | false ↦ None ]
+
+-- the best after what each of these possible parents gives
+abbrev pub after_candidates : (ℕ → ℕ → Option ℕ) → round.Wiring → ℕ → ℕ → Option round.Rounded → List ℕ → Option round.Rounded
+after_candidates ask w c x best parents =
+    fold (round.better x) best (filter_map (round.over_candidate ask w c x) (filter (rooted w.defs w.clocks) parents))
 
 -- the rounding of a divider by its style, as the definitions have it of its kind
 abbrev pub divider_rounding : (ℕ → ℕ → Option ℕ) → round.Wiring → ℕ → ℕ → ℕ → DivStyle → Option round.Rounded

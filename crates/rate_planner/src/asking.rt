@@ -1,13 +1,13 @@
 //! What a clock and its possible parents give for a request, level by level.
 
-ghost use Rattle.std.specs.Prelude.{◌≡◌, ◌<◌, ◌≤◌, true, length, max};
+ghost use Rattle.std.specs.Prelude.{◌≡◌, ◌<◌, ◌≤◌, true, None, length};
 ghost use Rattle.std.specs.Option.{option_map};
 ghost use Rattle.std.specs.Int.{div_ceil};
 ghost use Rattle.clk_base.specs.declared.clock.Kind.TheVariants as kinds;
 ghost use Rattle.kind_math.specs.Dividers.{IsDividerWidth, valid_divisors};
 ghost use Rattle.clk_model.specs.Round as round;
 ghost use Rattle.clk_model.specs.State.{registered};
-ghost use Rattle.rate_planner.specs.Given.{rounded_of, NamesRegistered, CanScale, best_of_divisors, divider_rounding, mux_rounding};
+ghost use Rattle.rate_planner.specs.Given.{rounded_of, NamesRegistered, CanScale, after_divisors, over_rooted, divider_rounding, mux_rounding};
 ghost use Rattle.rate_planner.specs.Kept.{Always};
 
 use crate::divisors::{divisor_of, end_of_fields, exact_fit, first_field, greatest_divisor};
@@ -71,7 +71,7 @@ fn over_link<V: View, W: Rest>(
 }
 
 // What a possible parent of a mux gives: its rounding where requests are passed on, else its rate
-// now.
+// now; nothing where it isn't rooted.
 #[cycle(asking)]
 fn over_candidate<V: View, W: Rest>(
     levels: u32,
@@ -86,10 +86,13 @@ fn over_candidate<V: View, W: Rest>(
     requires made { desc.now.defs ≡ tree.now.defs }
     requires seen { V.size view.now ≡ length tree.now.defs }
     requires there { registered tree.now.clocks clock.0 ≡ true }
-    requires registered { registered tree.now.clocks candidate.0 ≡ true }
-    ensures rounding { Always desc.now.defs tree.now (λ w. option_map rounded_of result ≡ round.over_candidate (round.rate_for levels w (V.means view.now)) w clock.0 x candidate.0) }
+    ensures rounding { Always desc.now.defs tree.now (λ w. option_map rounded_of result ≡ over_rooted (round.rate_for levels w (V.means view.now)) w clock.0 x candidate.0) }
     ensures names { NamesRegistered tree.now.clocks result }
 {
+    if !tree.rooted(candidate) {
+        return None;
+    }
+    rest.rest();
     if sets_rate_parent(desc, clock) {
         match rate_for(levels, desc, tree, view, rest, candidate, x) {
             Some(rate) => Some(given(candidate, rate)),
@@ -120,11 +123,8 @@ fn by_candidate<V: View, W: Rest>(
     let mut best = None;
     let _place = rate_now(desc, tree, clock);
     for candidate in desc.def(clock).parents.as_slice() {
-        if tree.rooted(*candidate) {
-            rest.rest();
-            let tried = over_candidate(levels, desc, tree, view, rest, clock, *candidate, x);
-            best = better(x, best, tried);
-        }
+        let tried = over_candidate(levels, desc, tree, view, rest, clock, *candidate, x);
+        best = better(x, best, tried);
     }
     best
 }
@@ -172,7 +172,7 @@ fn best_divisor<V: View, W: Rest>(
     requires seen { V.size view.now ≡ length tree.now.defs }
     requires there { registered tree.now.clocks clock.0 ≡ true }
     requires right { IsDividerWidth style width }
-    ensures rounding { Always desc.now.defs tree.now (λ w. option_map rounded_of result ≡ best_of_divisors (round.rate_for levels w (V.means view.now)) w clock.0 x (valid_divisors style width)) }
+    ensures rounding { Always desc.now.defs tree.now (λ w. option_map rounded_of result ≡ after_divisors (round.rate_for levels w (V.means view.now)) w clock.0 x None (valid_divisors style width)) }
     ensures names { NamesRegistered tree.now.clocks result }
 {
     let mut best = None;

@@ -30,8 +30,10 @@ pub(crate) fn end_of_fields(width: u32) -> u32
 /// What a field of this width divides by.
 pub(crate) fn divisor_of(field: u32, width: u32, style: DivStyle) -> u64
     requires right { IsDividerWidth style width }
+    requires first { first_field style ≤ field }
     requires fits { field < 2 ^ width }
-    ensures { result ≡ divisor style field }
+    ensures value { result ≡ divisor style field }
+    ensures divides { 0 < result }
 {
     match style {
         DivStyle::Plain => u64::from(field) + 1,
