@@ -1,5 +1,5 @@
 -- What the code's roundings mean, and what they ask of the kind of a clock.
-use Rattle.std.specs.Prelude.{◌≡◌, ℕ, ◌*◌, ◌<◌, ◌≤◌, List, true, false, Option, Some, None, IfSome, filter, fold, max, nat_le}
+use Rattle.std.specs.Prelude.{◌≡◌, ℕ, ◌*◌, ◌^◌, ◌<◌, ◌≤◌, List, true, false, Option, Some, None, IfSome, filter, fold, max, nat_le}
 use Rattle.std.specs.List.{filter_map}
 use Rattle.std.specs.Int.{div_ceil}
 use Rattle.std.specs.Option.{option_map}
@@ -31,7 +31,7 @@ CanScale (Factor mult div) = (0 < mult) × (0 < div)
 CanScale (Gate word bit set_to_disable) = Unit {0}
 CanScale (Mux word shift width read_only) = Unit {0}
 CanScale (Divider word shift width one_based power_of_two) = IsDividerWidth (style_of one_based power_of_two) width
-CanScale (Pll word shift width power_word power_bit least most m) = (least ≤ most) × (0 < m)
+CanScale (Pll word shift width power_word power_bit least most m) = (least ≤ most) × (0 < m) × (most < 2 ^ width)
 
 -- the best so far after one more try: a try that gives nothing leaves it
 abbrev pub after_try : ℕ → Option round.Rounded → Option round.Rounded → Option round.Rounded

@@ -5,11 +5,15 @@
 #![tactic(auto)]
 
 mod asking;
+mod climb;
 mod divisors;
 mod kind;
+mod next;
 mod now;
 mod rest;
 mod rounded;
 mod rounding;
+mod settings;
 
 pub use rounding::{round, round_now};
+pub use settings::setting;
