@@ -5,3 +5,6 @@ pub mod Climbing
 pub mod ChainSteps
 pub mod OutcomeRates
 pub mod WholeOutcome
+pub mod ListSteps
+pub mod Walking
+pub mod Planning

@@ -1,5 +1,5 @@
 -- The rates that a plan gives the clocks of its walk.
-use Rattle.std.specs.Prelude.{◌≡◌, ℕ, ◌==◌, ◌++◌, List, [], ◌∷◌, true, not, Bool, if◌then◌else◌, map, Option, IfSome}
+use Rattle.std.specs.Prelude.{◌≡◌, ℕ, ◌==◌, ◌++◌, List, [], ◌∷◌, true, not, Bool, if◌then◌else◌, map, Option, Some, IfSome}
 use Rattle.std.specs.List.{AllByRecursion}
 use Rattle.clk_base.specs.Description.{Description, kind_of}
 use Rattle.reg_bank.specs.Registers.{Registers}
@@ -44,3 +44,9 @@ AreWalked defs regs t ks rates rated =
 abbrev pub Walks : Option Registers → Description → TreeState → List ChainStep → List ℕ → ℕ → ℕ → List ClockRate → List ClockRate → List ℕ → Type 0
 Walks told defs t ks rates clock rate old new added =
     IfSome told (λ regs. (rated : ℕ → ℕ) → AreWalked defs regs t ks rates rated → rated clock ≡ rate → new ≡ old ++ map (at_rate rated) added)
+
+-- the chain of a change of parent: the clock alone with its new parent, and the rate that comes out of that
+abbrev pub parent_chain : Wiring → ℕ → ℕ → List ChainStep
+parent_chain w c p =
+    let bare : List ChainStep = record { clock = c; rate = 0; parent = Some p } ∷ [] in
+    record { clock = c; rate = rate_in (outcome bare w) c; parent = Some p } ∷ []

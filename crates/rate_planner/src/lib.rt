@@ -10,10 +10,16 @@ mod divisors;
 mod kind;
 mod next;
 mod now;
+mod outcome;
+mod parent;
+mod request;
 mod rest;
 mod rounded;
 mod rounding;
 mod settings;
+mod walk;
 
+pub use parent::plan_parent;
+pub use request::{plan, plan_now};
 pub use rounding::{round, round_now};
 pub use settings::setting;
