@@ -8,3 +8,4 @@ pub mod WholeOutcome
 pub mod ListSteps
 pub mod Walking
 pub mod Planning
+pub mod ParentPlans

@@ -94,3 +94,15 @@ parent_walked told words size defs t c rate above p new valid fits sized tree ma
     (one_step words defs regs t c rate p valid (omega arith) (subst (λ (ds : Description). IsTree ds t.clocks t.order t.rates) (sym made) tree) there possible) (omega arith)
     (ap (λ (r : ℕ). r ∷ []) (both.0 ∙ ap (rate_over (kind_of defs c) regs) (above_is regs kept)) ∙ sym (one_out (wired defs regs t) c rate p other)) both.1)
     sized (told_both told _ _ _ (λ regs i w. (i, w)) is walks)
+
+-- ---- lists of one
+
+pub pushed_one : {X : Type 0} (items old : List X) (x : X) → items ≡ old ++ x ∷ [] → old ≡ [] → items ≡ x ∷ []
+pushed_one items old x pushed none = pushed ∙ ap (λ xs. xs ++ x ∷ []) none
+
+pub parent_walks : (told : Option Registers) (defs : Description) (t : TreeState) (c rate p : ℕ) (ks : List state.ChainStep) (rates : List ℕ) (new : List ClockRate) → ks ≡ to_parent c rate p ∷ [] → rates ≡ rate ∷ []
+    → Walks told defs t ks rates (top_of ks) (slice_index rates (length rates - 1)) [] new (below_within (kids_after t.order t.clocks ks) depth (top_of ks))
+    → Walks told defs t (to_parent c rate p ∷ []) (rate ∷ []) c rate [] new (below_within (kids_after t.order t.clocks (to_parent c rate p ∷ [])) depth c)
+parent_walks told defs t c rate p ks rates new is is' walks =
+    subst (λ (ls : List state.ChainStep). Walks told defs t ls (rate ∷ []) (top_of ls) rate [] new (below_within (kids_after t.order t.clocks ls) depth (top_of ls))) is
+    (subst (λ (rs : List ℕ). Walks told defs t ks rs (top_of ks) (slice_index rs (length rs - 1)) [] new (below_within (kids_after t.order t.clocks ks) depth (top_of ks))) is' walks)

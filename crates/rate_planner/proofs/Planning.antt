@@ -70,9 +70,10 @@ first_same rs rs' place r same = ap (λ (xs : List ℕ). first_or (drop place xs
 
 steps_within : (defs : Description) (t : TreeState) (steps : List ChainStep) → length t.clocks ≡ length defs → All (IsThere t.clocks) steps → AllByRecursion (λ k. k.clock < length defs) (chain_of steps)
 steps_within defs t [] rows each = tt
-steps_within defs t (s ∷ steps) rows each =
-    (let here = (each 0 s (omega arith)).clock in let below : s.clock.0 < length t.clocks = registered-lt t.clocks s.clock.0 here in omega arith,
-    steps_within defs t steps rows (λ i d less. each (suc i) d (omega arith)))
+steps_within defs t (s ∷ steps) rows each = (
+  let here = (each 0 s (omega arith)).clock in let below : s.clock.0 < length t.clocks = registered-lt t.clocks s.clock.0 here in omega arith,
+  steps_within defs t steps rows (λ i d less. each (suc i) d (omega arith)),
+)
 
 -- a chain that was climbed over a tree
 pub chain_given : (words : ℕ) (defs : Description) (regs : Registers) (t : TreeState) (view : View) (c x : ℕ) (steps : List ChainStep) → IsValid words defs → words ≤ length regs

@@ -68,11 +68,12 @@ chain_planned words order w ks chain = record {
 pub outside_chain : (words : ℕ) (defs : Description) (c : ℕ) (f : Field) (ks : List ChainStep) → IsValid words defs → field_of (kind_of defs c) ≡ Some f → is_in c (clocks_in ks) ≡ false → LiesOutside defs ks f
 outside_chain words defs c f [] valid at out = tt
 outside_chain words defs c f (l ∷ ks) valid at out =
-    let parts = not_either (nat_eq l.clock c) (is_in c (clocks_in ks)) out in
-    (if_field (field_of (kind_of defs l.clock)) (LieApart f)
-        (λ g at'. fields_apart words defs valid c 0 f l.clock 0 g (field-field (kind_of defs c) f at) (field-field (kind_of defs l.clock) g at')
-        (λ same. absurd (test_other l.clock c parts.0 (sym same)))),
-    outside_chain words defs c f ks valid at parts.1)
+    let parts = not_either (nat_eq l.clock c) (is_in c (clocks_in ks)) out in (
+      if_field (field_of (kind_of defs l.clock)) (LieApart f)
+          (λ g at'. fields_apart words defs valid c 0 f l.clock 0 g (field-field (kind_of defs c) f at) (field-field (kind_of defs l.clock) g at')
+          (λ same. absurd (test_other l.clock c parts.0 (sym same)))),
+      outside_chain words defs c f ks valid at parts.1,
+    )
 
 each_step : (P Q : ChainStep → Type 0) (ks : List ChainStep) → ((k : ChainStep) → P k → Q k) → AllByRecursion P ks → AllByRecursion Q ks
 each_step P Q [] more each = tt

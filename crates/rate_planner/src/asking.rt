@@ -178,7 +178,9 @@ fn best_divisor<V: View, W: Rest>(
     let mut best = None;
     for field in first_field(style)..end_of_fields(width) {
         let divisor = divisor_of(field, width, style);
-        let Some(product) = x.checked_mul(divisor) else { return best };
+        let Some(product) = x.checked_mul(divisor) else {
+            return best
+        };
         rest.rest();
         let tried = over_divisor(levels, desc, tree, view, rest, clock, product, divisor);
         best = better(x, best, tried);
@@ -273,7 +275,17 @@ fn by_divider<V: View, W: Rest>(
     ensures names { NamesRegistered tree.now.clocks result }
 {
     if passes_on(desc, tree, clock) {
-        return by_divisor(levels, desc, tree, view, rest, clock, x.max(1), width, style);
+        return by_divisor(
+            levels,
+            desc,
+            tree,
+            view,
+            rest,
+            clock,
+            x.max(1),
+            width,
+            style,
+        );
     }
     let parent = parent_rate_now(desc, tree, clock);
     let divisor = div_round(parent, x, width, style);
@@ -329,7 +341,12 @@ fn by_kind<V: View, W: Rest>(
         Kind::Factor { mult, div } => {
             by_factor(levels, desc, tree, view, rest, clock, x, mult, div)
         }
-        Kind::Divider { width, one_based, power_of_two, .. } => {
+        Kind::Divider {
+            width,
+            one_based,
+            power_of_two,
+            ..
+        } => {
             let style = style_of(one_based, power_of_two);
             by_divider(levels, desc, tree, view, rest, clock, x, width, style)
         }
@@ -375,5 +392,14 @@ pub(crate) fn round_by<V: View, W: Rest>(
         return Some(over_parent(desc, tree, clock, now));
     }
     let (low, high) = view.bounds(clock);
-    by_kind(levels, desc, tree, view, rest, clock, kind, x.max(low).min(high))
+    by_kind(
+        levels,
+        desc,
+        tree,
+        view,
+        rest,
+        clock,
+        kind,
+        x.max(low).min(high),
+    )
 }

@@ -84,13 +84,23 @@ pub(crate) fn rate_over<B: Bank>(kind: Kind, bank: &B, parent: u64) -> u64
         Kind::FixedRate { rate } => rate,
         Kind::Factor { mult, div } => factor_rate(parent, mult, div),
         Kind::Gate { .. } | Kind::Mux { .. } => parent,
-        Kind::Divider { word, shift, width, one_based, power_of_two } => {
+        Kind::Divider {
+            word,
+            shift,
+            width,
+            one_based,
+            power_of_two,
+        } => {
             let field = read_field(bank, word as usize, shift, width);
             div_rate(parent, field, style_of(one_based, power_of_two))
         }
-        Kind::Pll { word, shift, width, m, .. } => {
-            pll_rate(parent, read_field(bank, word as usize, shift, width), m)
-        }
+        Kind::Pll {
+            word,
+            shift,
+            width,
+            m,
+            ..
+        } => { pll_rate(parent, read_field(bank, word as usize, shift, width), m) }
     }
 }
 
@@ -101,7 +111,12 @@ pub(crate) fn set_rate<B: Bank>(kind: Kind, bank: &B, parent: u64, planned: u64)
     ensures { IfSome (B.contents bank.now) (λ regs. result ≡ set_rate kind regs parent planned) }
 {
     match kind {
-        Kind::Divider { width, one_based, power_of_two, .. } => {
+        Kind::Divider {
+            width,
+            one_based,
+            power_of_two,
+            ..
+        } => {
             let style = style_of(one_based, power_of_two);
             div_rate(parent, div_setting(parent, planned, width, style), style)
         }

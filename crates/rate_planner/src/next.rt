@@ -69,7 +69,9 @@ fn continue_from<V: View>(
     if !sets_rate_parent(desc, clock) {
         return Next::Last(step);
     }
-    let Some(parent) = rounded.parent else { return Next::NoPlan };
+    let Some(parent) = rounded.parent else {
+        return Next::NoPlan
+    };
     if rounded.parent_rate == rate_now(desc, tree, parent) {
         return Next::Last(step);
     }

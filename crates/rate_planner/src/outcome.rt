@@ -44,13 +44,7 @@ fn parent_now(desc: &ValidDesc, tree: &Tree, step: ChainStep) -> u64
 }
 
 // The rate at a place of those that came out, and the rate of the planned parent behind the last.
-fn rate_above(
-    desc: &ValidDesc,
-    tree: &Tree,
-    step: ChainStep,
-    rates: &[u64],
-    place: usize,
-) -> u64
+fn rate_above(desc: &ValidDesc, tree: &Tree, step: ChainStep, rates: &[u64], place: usize) -> u64
     requires made { desc.now.defs ≡ tree.now.defs }
     requires there { IsThere tree.now.clocks step }
     ensures { Always desc.now.defs tree.now (λ w. result ≡ first_or (drop place rates.now) (option_map_or (rate_in w) (step_of step).parent 0)) }

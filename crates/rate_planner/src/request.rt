@@ -74,7 +74,9 @@ fn plan_resting<B: Bank, V: View, W: Rest>(
     ensures set_parent { IfOk result (λ found. IfSome found (λ plan. plan.set_parent ≡ false)) }
     ensures there { IfOk result (λ found. IfSome found (λ plan. AreThere tree.now.clocks plan.rates)) }
 {
-    let Some(steps) = climb(alloc, desc, tree, view, rest, c, x)? else { return Ok(None) };
+    let Some(steps) = climb(alloc, desc, tree, view, rest, c, x)? else {
+        return Ok(None)
+    };
     match walk_of(alloc, desc, tree, bank, view, steps.as_slice())? {
         Some(walk) => Ok(Some(Plan {
             chain: PlannedChain::new(steps),

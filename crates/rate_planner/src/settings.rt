@@ -24,12 +24,7 @@ pub fn setting(desc: &ValidDesc, c: ClockId, parent: u64, rate: u64) -> Option<u
             one_based,
             power_of_two,
             ..
-        } => Some(div_setting(
-            parent,
-            rate,
-            width,
-            style_of(one_based, power_of_two),
-        )),
+        } => Some(div_setting(parent, rate, width, style_of(one_based, power_of_two))),
         Kind::Pll { least, most, m, .. } => Some(pll_setting(parent, rate, least, most, m)),
         Kind::FixedRate { .. } | Kind::Factor { .. } | Kind::Gate { .. } | Kind::Mux { .. } => None,
     }

@@ -97,8 +97,28 @@ fn walk_below<B: Bank>(
         return Ok(());
     }
     into.push(WalkRate { clock, rate })?;
-    stay_below(levels - 1, desc, tree, bank, steps, rates, clock, rate, into)?;
-    move_below(levels - 1, desc, tree, bank, steps, rates, clock, rate, into)?;
+    stay_below(
+        levels - 1,
+        desc,
+        tree,
+        bank,
+        steps,
+        rates,
+        clock,
+        rate,
+        into,
+    )?;
+    move_below(
+        levels - 1,
+        desc,
+        tree,
+        bank,
+        steps,
+        rates,
+        clock,
+        rate,
+        into,
+    )?;
     Ok(())
 }
 
@@ -126,7 +146,9 @@ fn stay_below<B: Bank>(
     let mut at = tree.first_child(clock);
     for _step in 0..desc.len() {
         let Some(child) = at else { return Ok(()) };
-        stay_one(levels, desc, tree, bank, steps, rates, clock, rate, child, into)?;
+        stay_one(
+            levels, desc, tree, bank, steps, rates, clock, rate, child, into,
+        )?;
         at = tree.next_sibling(child);
     }
     Ok(())
@@ -186,7 +208,9 @@ fn move_below<B: Bank>(
     ensures there { IfOk result (λ done. AreThere tree.now.clocks (rates_of into.old.items) → AreThere tree.now.clocks (rates_of into.new.items)) }
 {
     for place in 0..steps.len() {
-        move_one(levels, desc, tree, bank, steps, rates, clock, rate, place, into)?;
+        move_one(
+            levels, desc, tree, bank, steps, rates, clock, rate, place, into,
+        )?;
     }
     Ok(())
 }
@@ -220,7 +244,9 @@ fn move_one<B: Bank>(
         return Ok(());
     }
     let own = kid_rate(desc, bank, steps, rates, step.clock, rate);
-    walk_below(levels, desc, tree, bank, steps, rates, step.clock, own, into)?;
+    walk_below(
+        levels, desc, tree, bank, steps, rates, step.clock, own, into,
+    )?;
     Ok(())
 }
 
@@ -246,6 +272,16 @@ pub(crate) fn walk_rates<B: Bank>(
     let top = steps[last].clock;
     let rate = rates[rates.len() - 1];
     let mut into = Vec::new(alloc);
-    walk_below(depth(), desc, tree, bank, steps, rates, top, rate, &mut into)?;
+    walk_below(
+        depth(),
+        desc,
+        tree,
+        bank,
+        steps,
+        rates,
+        top,
+        rate,
+        &mut into,
+    )?;
     Ok(into)
 }
