@@ -94,10 +94,8 @@ fn over_candidate<V: View, W: Rest>(
     }
     rest.rest();
     if sets_rate_parent(desc, clock) {
-        match rate_for(levels, desc, tree, view, rest, candidate, x) {
-            Some(rate) => Some(given(candidate, rate)),
-            None => None,
-        }
+        let rate = rate_for(levels, desc, tree, view, rest, candidate, x)?;
+        Some(given(candidate, rate))
     } else {
         Some(given(candidate, rate_now(desc, tree, candidate)))
     }
@@ -148,10 +146,8 @@ fn over_divisor<V: View, W: Rest>(
     ensures rounding { Always desc.now.defs tree.now (λ w. option_map rounded_of result ≡ round.over_link (round.rate_for levels w (V.means view.now)) w clock.0 product (λ r. div_ceil r divisor)) }
     ensures names { NamesRegistered tree.now.clocks result }
 {
-    match over_link(levels, desc, tree, view, rest, clock, product) {
-        Some(given) => Some(with_rate(given, given.rate.div_ceil(divisor))),
-        None => None,
-    }
+    let given = over_link(levels, desc, tree, view, rest, clock, product)?;
+    Some(with_rate(given, given.rate.div_ceil(divisor)))
 }
 
 // The best over what the parent of a divider gives for each divisor. A greater divisor has a greater
@@ -248,10 +244,8 @@ fn by_factor<V: View, W: Rest>(
         return Some(over_parent(desc, tree, clock, rate_now(desc, tree, clock)));
     }
     let wanted = (x / u64::from(mult)).saturating_mul(u64::from(div));
-    match over_link(levels, desc, tree, view, rest, clock, wanted) {
-        Some(given) => Some(with_rate(given, factor_rate(given.rate, mult, div))),
-        None => None,
-    }
+    let given = over_link(levels, desc, tree, view, rest, clock, wanted)?;
+    Some(with_rate(given, factor_rate(given.rate, mult, div)))
 }
 
 // A divider over its parent's rate as it is, or one that asks its parent.
