@@ -1,0 +1,11 @@
+pub mod Scaling
+pub mod DivisorChoice
+pub mod Best
+pub mod Climbing
+pub mod ChainSteps
+pub mod OutcomeRates
+pub mod WholeOutcome
+pub mod ListSteps
+pub mod Walking
+pub mod Planning
+pub mod ParentPlans

@@ -1,0 +1,7 @@
+pub mod Kept
+pub mod Given
+pub mod Divisors
+pub mod Settings
+pub mod Chains
+pub mod Outcomes
+pub mod Walks

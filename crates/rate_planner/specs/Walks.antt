@@ -1,0 +1,52 @@
+-- The rates that a plan gives the clocks of its walk.
+use Rattle.std.specs.Prelude.{◌≡◌, ℕ, ◌==◌, ◌++◌, List, [], ◌∷◌, true, not, Bool, if◌then◌else◌, map, Option, Some, IfSome}
+use Rattle.std.specs.List.{AllByRecursion}
+use Rattle.clk_base.specs.Description.{Description, kind_of}
+use Rattle.reg_bank.specs.Registers.{Registers}
+use Rattle.clk_model.specs.declared.row.ClockRow.{ClockRow}
+use Rattle.clk_model.specs.Lists.{is_in}
+use Rattle.clk_model.specs.Rate.{rate_over}
+use Rattle.clk_model.specs.Round.{Wiring, rate_in}
+use Rattle.clk_model.specs.Chain.{outcome}
+use Rattle.clk_model.specs.State.{ChainStep, registered}
+use Rattle.clk_model.specs.Walk.{kids_after, moves_away, walk}
+use Rattle.clk_tree.specs.Plans.{ClockRate}
+use Rattle.clk_tree.specs.TreeState.{TreeState}
+
+-- a clock with its rate
+abbrev pub at_rate : (ℕ → ℕ) → ℕ → ClockRate
+at_rate rated c = record { clock = c; rate = rated c }
+
+-- the clocks of a plan's walk with their rates in the outcome
+abbrev pub walked_rates : List ℕ → Wiring → List ChainStep → List ClockRate
+walked_rates order w ks = map (at_rate (rate_in (outcome ks w))) (walk order w ks)
+
+-- the clocks of these rates are registered
+abbrev pub AreThere : List ClockRow → List ClockRate → Type 0
+AreThere clocks rates = AllByRecursion (λ r. registered clocks r.clock ≡ true) rates
+
+-- whether a child stays with its parent
+abbrev pub stays : List ClockRow → List ChainStep → ℕ → Bool
+stays clocks ks c = not (moves_away clocks ks c)
+
+-- the rate of a clock below a parent of this rate: of a clock of the chain the one that comes out, of another that of its kind
+abbrev pub kid_rate : Description → Registers → List ChainStep → List ℕ → ℕ → ℕ → ℕ
+kid_rate defs regs [] rates c parent = rate_over (kind_of defs c) regs parent
+kid_rate defs regs (k ∷ ks) [] c parent = rate_over (kind_of defs c) regs parent
+kid_rate defs regs (k ∷ ks) (r ∷ rates) c parent = if k.clock == c then r else kid_rate defs regs ks rates c parent
+
+-- the rate of each child after the plan is that over its parent's
+abbrev pub AreWalked : Description → Registers → TreeState → List ChainStep → List ℕ → (ℕ → ℕ) → Type 0
+AreWalked defs regs t ks rates rated =
+    (p d : ℕ) → is_in d (kids_after t.order t.clocks ks p) ≡ true → rated d ≡ kid_rate defs regs ks rates d (rated p)
+
+-- to some rates those of these clocks are added, where a clock has this rate
+abbrev pub Walks : Option Registers → Description → TreeState → List ChainStep → List ℕ → ℕ → ℕ → List ClockRate → List ClockRate → List ℕ → Type 0
+Walks told defs t ks rates clock rate old new added =
+    IfSome told (λ regs. (rated : ℕ → ℕ) → AreWalked defs regs t ks rates rated → rated clock ≡ rate → new ≡ old ++ map (at_rate rated) added)
+
+-- the chain of a change of parent: the clock alone with its new parent, and the rate that comes out of that
+abbrev pub parent_chain : Wiring → ℕ → ℕ → List ChainStep
+parent_chain w c p =
+    let bare : List ChainStep = record { clock = c; rate = 0; parent = Some p } ∷ [] in
+    record { clock = c; rate = rate_in (outcome bare w) c; parent = Some p } ∷ []

@@ -1,0 +1,25 @@
+//! Rounding and planning: the rate that a clock would get for a request, and the chain of clocks that
+//! the request changes.
+//!
+//! What is promised of the answers holds where the tree keeps the rates that the registers give.
+#![tactic(auto)]
+
+mod asking;
+mod climb;
+mod divisors;
+mod kind;
+mod next;
+mod now;
+mod outcome;
+mod parent;
+mod request;
+mod rest;
+mod rounded;
+mod rounding;
+mod settings;
+mod walk;
+
+pub use parent::plan_parent;
+pub use request::{plan, plan_now};
+pub use rounding::{round, round_now};
+pub use settings::setting;

@@ -1,0 +1,116 @@
+//! One clock of a chain, and how the chain goes on from it.
+
+ghost use Rattle.std.specs.Prelude.{◌≡◌, ℕ, ◌||◌, true, List, Option, Some, length};
+ghost use Rattle.clk_base.specs.Description.{kind_of};
+ghost use Rattle.clk_model.specs.Kinds.{can_round};
+ghost use Rattle.clk_model.specs.Round.{passes_on};
+ghost use Rattle.clk_model.specs.State as state;
+ghost use Rattle.clk_model.specs.State.{registered};
+ghost use Rattle.clk_model.specs.Chain as chain;
+ghost use Rattle.rate_planner.specs.Chains.{step_of, continued, chain_here, NextIsThere};
+ghost use Rattle.rate_planner.specs.Given.{rounded_of, NamesRegistered};
+ghost use Rattle.rate_planner.specs.Kept.{Always};
+
+use crate::asking::round_by;
+use crate::kind::{can_round, kind_of, sets_parent_gate, sets_rate_parent};
+use crate::now::{passes_on, rate_now};
+use crate::rest::Rest;
+use crate::rounded::Rounded;
+use clk_base::{ClockId, ValidDesc, depth};
+use clk_tree::{ChainStep, Tree, View};
+
+/// How a chain goes on from a clock.
+#[derive(Clone, Copy, Debug, PartialEq, Eq)]
+pub(crate) enum Next {
+    /// There is no plan.
+    NoPlan,
+    /// This is the step of the top.
+    Last(ChainStep),
+    /// Behind this step comes that of the parent, asked for this rate in Hz.
+    More(ChainStep, ClockId, u64),
+}
+
+/// Whether the planned parent of a clock is another than the one it has.
+pub(crate) fn moves(tree: &Tree, step: ChainStep) -> bool
+    ensures { result ≡ chain.moves tree.now.clocks (step_of step) }
+{
+    match (step.parent, tree.parent(step.clock)) {
+        (Some(planned), Some(parent)) => planned.0 != parent.0,
+        (None, None) => false,
+        _ => true,
+    }
+}
+
+// How a chain goes on from a clock that is rounded so.
+fn continue_from<V: View>(
+    desc: &ValidDesc,
+    tree: &Tree,
+    view: &V,
+    clock: ClockId,
+    x: u64,
+    rounded: Rounded,
+) -> Next
+    requires made { desc.now.defs ≡ tree.now.defs }
+    requires seen { V.size view.now ≡ length tree.now.defs }
+    requires there { registered tree.now.clocks clock.0 ≡ true }
+    requires names { NamesRegistered tree.now.clocks (Some rounded) }
+    ensures next { Always desc.now.defs tree.now (λ w. (more : ℕ → ℕ → Option (List state.ChainStep)) → continued more result ≡ chain.chain_from more w (V.means view.now) clock.0 x (rounded_of rounded)) }
+    ensures there { NextIsThere tree.now.clocks result }
+{
+    let step = ChainStep {
+        clock,
+        rate: rounded.rate,
+        parent: rounded.parent,
+    };
+    let _place = rate_now(desc, tree, clock);
+    if moves(tree, step) && sets_parent_gate(desc, clock) && view.prepared(clock) {
+        return Next::NoPlan;
+    }
+    if !sets_rate_parent(desc, clock) {
+        return Next::Last(step);
+    }
+    let Some(parent) = rounded.parent else {
+        return Next::NoPlan
+    };
+    if rounded.parent_rate == rate_now(desc, tree, parent) {
+        return Next::Last(step);
+    }
+    let request = if can_round(kind_of(desc, clock)) {
+        rounded.parent_rate
+    } else {
+        x
+    };
+    Next::More(step, parent, request)
+}
+
+// Whether a clock can round or passes requests on.
+fn takes_requests(desc: &ValidDesc, tree: &Tree, clock: ClockId) -> bool
+    ensures { Always desc.now.defs tree.now (λ w. result ≡ (can_round (kind_of w.defs clock.0) || passes_on w clock.0)) }
+{
+    can_round(kind_of(desc, clock)) || passes_on(desc, tree, clock)
+}
+
+/// How a chain goes on from a clock that is asked for a rate.
+pub(crate) fn next_step<V: View, W: Rest>(
+    desc: &ValidDesc,
+    tree: &Tree,
+    view: &V,
+    rest: &W,
+    clock: ClockId,
+    x: u64,
+) -> Next
+    requires made { desc.now.defs ≡ tree.now.defs }
+    requires seen { V.size view.now ≡ length tree.now.defs }
+    requires there { registered tree.now.clocks clock.0 ≡ true }
+    ensures next { Always desc.now.defs tree.now (λ w. (more : ℕ → ℕ → Option (List state.ChainStep)) → continued more result ≡ chain_here more w (V.means view.now) clock.0 x) }
+    ensures there { NextIsThere tree.now.clocks result }
+{
+    if takes_requests(desc, tree, clock) {
+        match round_by(depth(), desc, tree, view, rest, clock, x) {
+            Some(rounded) => continue_from(desc, tree, view, clock, x, rounded),
+            None => Next::NoPlan,
+        }
+    } else {
+        Next::NoPlan
+    }
+}

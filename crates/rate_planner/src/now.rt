@@ -1,0 +1,56 @@
+//! Rates as the tree keeps them.
+
+ghost use Rattle.std.specs.Prelude.{◌≡◌, ◌<◌, true, Some, length};
+ghost use Rattle.std.specs.Option.{option_map};
+ghost use Rattle.clk_model.specs.Round as round;
+ghost use Rattle.clk_model.specs.State.{registered};
+ghost use Rattle.rate_planner.specs.Given.{rounded_of, NamesRegistered};
+ghost use Rattle.rate_planner.specs.Kept.{Always};
+
+use crate::kind::sets_rate_parent;
+use crate::rounded::Rounded;
+use clk_base::{ClockId, ValidDesc};
+use clk_tree::Tree;
+
+/// The rate of a registered clock now.
+pub(crate) fn rate_now(desc: &ValidDesc, tree: &Tree, clock: ClockId) -> u64
+    requires made { desc.now.defs ≡ tree.now.defs }
+    requires there { registered tree.now.clocks clock.0 ≡ true }
+    ensures rate { Always desc.now.defs tree.now (λ w. result ≡ round.rate_in w clock.0) }
+    ensures place { clock.0 < length tree.now.defs }
+{
+    let _there = tree.registered(clock);
+    tree.rate(clock)
+}
+
+/// The rate of a clock's parent now, 0 where it has none.
+pub(crate) fn parent_rate_now(desc: &ValidDesc, tree: &Tree, clock: ClockId) -> u64
+    requires made { desc.now.defs ≡ tree.now.defs }
+    ensures { Always desc.now.defs tree.now (λ w. result ≡ round.parent_rate_in w clock.0) }
+{
+    match tree.parent(clock) {
+        Some(parent) => rate_now(desc, tree, parent),
+        None => 0,
+    }
+}
+
+/// Whether a clock passes requests on to its parent.
+pub(crate) fn passes_on(desc: &ValidDesc, tree: &Tree, clock: ClockId) -> bool
+    ensures { Always desc.now.defs tree.now (λ w. result ≡ round.passes_on w clock.0) }
+{
+    sets_rate_parent(desc, clock) && tree.parent(clock).is_some()
+}
+
+/// A rounding that leaves the parent as it is and gives this rate.
+pub(crate) fn over_parent(desc: &ValidDesc, tree: &Tree, clock: ClockId, rate: u64) -> Rounded
+    requires made { desc.now.defs ≡ tree.now.defs }
+    ensures rounding { Always desc.now.defs tree.now (λ w. rounded_of result ≡ round.over_parent w clock.0 rate) }
+    ensures names { NamesRegistered tree.now.clocks (Some result) }
+{
+    let parent = tree.parent(clock);
+    Rounded {
+        rate,
+        parent,
+        parent_rate: parent_rate_now(desc, tree, clock),
+    }
+}

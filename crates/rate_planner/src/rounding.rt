@@ -1,0 +1,71 @@
+//! Rounding.
+
+ghost use Rattle.std.specs.Prelude.{◌≡◌, true, length};
+ghost use Rattle.clk_model.specs.Round.{round_rate};
+ghost use Rattle.clk_model.specs.State.{registered};
+ghost use Rattle.rate_planner.specs.Given.{rounded_of, NamesRegistered};
+ghost use Rattle.rate_planner.specs.Kept.{Always, Told};
+
+use crate::asking::round_by;
+use crate::rest::{NoRest, Pausing, Rest};
+use clk_base::{ClockId, Pause, ValidDesc, depth};
+use clk_tree::{Tree, View};
+use reg_bank::Bank;
+use std::sync::Wait;
+
+// The rate that a clock would get for a request.
+fn round_resting<V: View, W: Rest>(
+    desc: &ValidDesc,
+    tree: &Tree,
+    view: &V,
+    rest: &W,
+    c: ClockId,
+    x: u64,
+) -> Option<u64>
+    requires made { desc.now.defs ≡ tree.now.defs }
+    requires seen { V.size view.now ≡ length tree.now.defs }
+    requires there { registered tree.now.clocks c.0 ≡ true }
+    ensures { Always desc.now.defs tree.now (λ w. result ≡ round_rate w (V.means view.now) c.0 x) }
+{
+    match round_by(depth(), desc, tree, view, rest, c, x) {
+        Some(rounded) => Some(rounded.rate),
+        None => None,
+    }
+}
+
+/// The rate in Hz that a clock would get for a request; none where it can't be given one. Pauses at
+/// `Place::Planning` once a candidate. Takes no memory.
+pub fn round<R: Wait + Sync, B: Bank, V: View, Q: Pause>(
+    rt: &R,
+    desc: &ValidDesc,
+    tree: &Tree,
+    _bank: &B,
+    view: &V,
+    c: ClockId,
+    x: u64,
+    pause: &Q,
+) -> Option<u64>
+    requires made { desc.now.defs ≡ tree.now.defs }
+    requires seen { V.size view.now ≡ length tree.now.defs }
+    requires there { registered tree.now.clocks c.0 ≡ true }
+    ensures rate { Told (B.contents _bank.now) desc.now.defs tree.now (λ w. result ≡ round_rate w (V.means view.now) c.0 x) }
+{
+    round_resting(desc, tree, view, &Pausing { rt, pause }, c, x)
+}
+
+/// The same without a pause.
+pub fn round_now<B: Bank, V: View>(
+    desc: &ValidDesc,
+    tree: &Tree,
+    _bank: &B,
+    view: &V,
+    c: ClockId,
+    x: u64,
+) -> Option<u64>
+    requires made { desc.now.defs ≡ tree.now.defs }
+    requires seen { V.size view.now ≡ length tree.now.defs }
+    requires there { registered tree.now.clocks c.0 ≡ true }
+    ensures rate { Told (B.contents _bank.now) desc.now.defs tree.now (λ w. result ≡ round_rate w (V.means view.now) c.0 x) }
+{
+    round_resting(desc, tree, view, &NoRest, c, x)
+}
