@@ -49,7 +49,12 @@ pub(crate) fn link_beside<B: Bank>(
 }
 
 // The parent that a clock is attached to, where the new one has this link.
-fn parent_beside(tree: &Tree, new: ClockId, link: Option<ClockId>, clock: ClockId) -> Option<ClockId>
+fn parent_beside(
+    tree: &Tree,
+    new: ClockId,
+    link: Option<ClockId>,
+    clock: ClockId,
+) -> Option<ClockId>
     ensures { option_map (λ p. p.0) result ≡ up_beside tree.now.clocks new.0 (option_map (λ p. p.0) link) clock.0 }
 {
     if clock == new {

@@ -19,7 +19,11 @@ pub(crate) fn is_marked(marks: &[bool], clock: ClockId) -> bool
 }
 
 /// The marks of these among so many clocks.
-pub(crate) fn marks_of(alloc: Global, count: usize, clocks: &[ClockId]) -> Result<Vec<bool>, NoMemory>
+pub(crate) fn marks_of(
+    alloc: Global,
+    count: usize,
+    clocks: &[ClockId],
+) -> Result<Vec<bool>, NoMemory>
     requires { All (λ c. c.0 < count) clocks.now }
     ensures size { IfOk result (λ marks. length marks.items ≡ count) }
     ensures marked { (x : ℕ) → IfOk result (λ marks. flag_at marks.items x ≡ is_in x (map (λ c. c.0) clocks.now)) }

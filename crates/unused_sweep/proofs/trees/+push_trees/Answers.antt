@@ -48,7 +48,7 @@ loop-count-preserved t c =
     record {
       room = let sum : length c.push.new.self.items ≡ length c.push_trees.new.order.items + 1 = ap length one ∙ length-append c.push_trees.new.order.items (c.in-Some.clock ∷ []) in
           let longer = longer_by c.loop-count.order.items c.push_trees.new.order.items (trees tree (c.args.levels - 1) (drop 0 (children tree.order tree.clocks c.in-Some.clock.0)))
-              (c.in_ok-push_trees.ensures.pushed (children tree.order tree.clocks c.in-Some.clock.0) 0 (inl (c.in-Some.clock.0, refl)) c.first_child.ensures.first) in
+          (c.in_ok-push_trees.ensures.pushed (children tree.order tree.clocks c.in-Some.clock.0) 0 (inl (c.in-Some.clock.0, refl)) c.first_child.ensures.first) in
           let room = c.loop-count.invariant.room in omega arith;
       along = λ cs k are at.
           let is : slice_get cs (k + n) ≡ Some c.in-Some.clock.0 = sym (c.loop-count.invariant.along cs k are at) ∙ ap (option_map (λ (d : ClockId). d.0)) c.in-Some.is in
