@@ -1,0 +1,4 @@
+pub mod LinkLaws
+pub mod BesideLaws
+pub mod WaitingLaws
+pub mod AdoptionLaws

@@ -1,0 +1,48 @@
+//! The order of adoptions.
+
+ghost use Rattle.std.specs.Prelude.{◌≡◌, ◌<◌, ◌≤◌, Some, false, length, map, IfOk};
+ghost use Rattle.clk_model.specs.State.{State, registered};
+ghost use Rattle.clk_model.specs.Script.{adoptable, adoption_order};
+ghost use Rattle.clk_model.specs.Begin.{register};
+
+use crate::link::link_of;
+use crate::marks::marks_of;
+use crate::waiting::{first_free, waiting};
+use clk_base::{ClockId, ValidDesc};
+use clk_io::NoMemory;
+use clk_tree::Tree;
+use reg_bank::Bank;
+use std::alloc::Global;
+
+/// The orphans that are adopted when a new clock is registered, in the order of their adoption: the
+/// next is always the newest attached of those left above whose new parent none of the others stands.
+pub fn adoptable<B: Bank>(
+    alloc: Global,
+    desc: &ValidDesc,
+    tree: &Tree,
+    bank: &B,
+    new: ClockId,
+) -> Result<Vec<ClockId>, NoMemory>
+    requires place { new.0 < length desc.now.defs }
+    requires made { tree.now.defs ≡ desc.now.defs }
+    requires bank { desc.now.words ≤ B.size bank.now }
+    requires free { registered tree.now.clocks new.0 ≡ false }
+    ensures { (s : State) → s.defs ≡ desc.now.defs → s.clocks ≡ tree.now.clocks → s.order ≡ tree.now.order → B.contents bank.now ≡ Some s.regs
+        → IfOk result (λ list. map (λ c. c.0) list.items ≡ adoption_order (length (adoptable (register s new.0))) (register s new.0) (adoptable (register s new.0))) }
+{
+    let link = link_of(desc, tree, bank, new);
+    let mut left = waiting(alloc, desc, tree, bank, new)?;
+    let mut marks = marks_of(alloc, desc.len(), &left)?;
+    let mut order = Vec::new(alloc);
+    for turn in 0..left.len() {
+        match first_free(desc, tree, bank, new, link, &marks, &left) {
+            None => return Ok(order),
+            Some(place) => {
+                let clock = left.remove(place);
+                marks[clock.0 as usize] = false;
+                order.push(clock)?;
+            }
+        }
+    }
+    Ok(order)
+}
