@@ -107,6 +107,7 @@ pub mod ToldLaws
 pub mod ToldStepLaws
 pub mod ToldFlightLaws
 pub mod ToldRunLaws
+pub mod AskedLaws
 pub mod SameRateLaws
 pub mod SameSettingLaws
 pub mod BareHandleLaws

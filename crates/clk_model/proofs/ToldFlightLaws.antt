@@ -18,7 +18,7 @@ use Rattle.clk_model.specs.Notices.{is_veto}
 use Rattle.clk_model.specs.Script.{move_of, planned}
 use Rattle.clk_model.specs.Step.{is_end}
 use Rattle.clk_model.specs.Laws.Flight.{pre_notices, abort_notices}
-use Rattle.clk_model.specs.Laws.ChangesTold.{is_post_of}
+use Rattle.clk_model.specs.Laws.ChangesTold.{is_post_of, is_pre}
 use Rattle.clk_model.specs.Laws.PlansRead.{plans}
 use Rattle.clk_model.proofs.Members.{is_in_cases, same_from_test, test_same, not_either, or_left, or_right}
 use Rattle.clk_model.proofs.NoneLaws.{none_append}
@@ -144,6 +144,8 @@ pub record PlanBegins (q n : State) (k : Change) : Type 0 where
   pub silent : (c : ℕ) → (list_any (visits_of c) settles ≡ false) × (list_any (is_post_of c) settles ≡ false)
   pub hears : (c : ℕ) → expected n k.chain c ≡ expected q k.chain c
   pub changes : changing n.order (wiring n) k.chain ≡ changing q.order (wiring q) k.chain
+  pub asks : pre_notices n k.chain ≡ pre_notices q k.chain
+  pub unasking : list_any is_pre settles ≡ false
 
 rooted_over : (s m : State) (i : ℕ) (r : HandleRow) → Resting s → IsPlannedOver s m → handle_at s.handles i ≡ Some r → IsRooted m.defs m.clocks r.clock.0
 rooted_over s m i r rest over_itself f = handle_rooted s i r rest.fit f
@@ -175,7 +177,13 @@ plan_begins q n d what k rest plans_ (planning _ number row over x ks range plan
       silent = λ c. (refl, refl);
       hears = λ c. by_state planned_ c;
       changes = by_changing planned_;
+      asks = by_asking planned_;
+      unasking = refl;
     } where
+      by_asking : {m : State} → IsPlannedOver q m → pre_notices m ks ≡ pre_notices q ks
+      by_asking over_itself = refl
+      by_asking (over_range i old new adjusted) = refl
+
       by_state : {m : State} → IsPlannedOver q m → (c : ℕ) → expected m ks c ≡ expected q ks c
       by_state over_itself c = refl
       by_state (over_range i old new adjusted) c = refl
@@ -203,4 +211,6 @@ plan_begins q n d what k rest plans_ (reparents number row p sets at away mux m 
       silent = λ e. (refl, refl);
       hears = λ e. refl;
       changes = refl;
+      asks = refl;
+      unasking = refl;
     }

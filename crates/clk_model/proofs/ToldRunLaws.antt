@@ -88,7 +88,7 @@ no_post : (c : ℕ) (m : Micro) → is_moving m ≡ true → is_post_of c m ≡ 
 no_post c (micro.Notify kind d id old new) moves_ = absurd cc
 no_post c m moves_ = refl
 
-no_end : (m : Micro) → is_moving m ≡ true → is_end m ≡ false
+pub no_end : (m : Micro) → is_moving m ≡ true → is_end m ≡ false
 no_end micro.End moves_ = absurd cc
 no_end m moves_ = refl
 
@@ -330,7 +330,7 @@ told_of q d what c run plans_ m {s = t} {made = made} (beside {s = s} {x = x} ot
 -- ---- the end
 
 -- a call that went well was neither called off nor timed out
-went_well : (s : State) (k : Change) → (end_of s k).1 ≡ turn.Done reply.Fine → (k.vetoed ≡ false) × (k.timed_out ≡ false)
+pub went_well : (s : State) (k : Change) → (end_of s k).1 ≡ turn.Done reply.Fine → (k.vetoed ≡ false) × (k.timed_out ≡ false)
 went_well s k e = both k.vetoed k.timed_out e where
   both : (v b : Bool) → turn.Done (if v then reply.Refused errno.EBUSY else if b then reply.Refused errno.ETIMEDOUT else reply.Fine) ≡ turn.Done reply.Fine → (v ≡ false) × (b ≡ false)
   both false false f = (refl, refl)

@@ -18,7 +18,7 @@ use Rattle.clk_model.specs.Walk.{changing}
 use Rattle.clk_model.specs.Notices.{post_list}
 use Rattle.clk_model.specs.Machine.{next}
 use Rattle.clk_model.specs.Journal.{replay, opening}
-use Rattle.clk_model.specs.Laws.Flight.{Flight, plan, plan_rates}
+use Rattle.clk_model.specs.Laws.Flight.{Flight, plan, plan_rates, pre_notices}
 use Rattle.clk_model.specs.Laws.PlansRead.{plans}
 
 -- whether a step tells a notifier of this clock that its rate has changed
@@ -34,3 +34,15 @@ ChangesAreTold = (defs : Description) (regs : Registers) (ignore_unused : Bool) 
     → Flight q d what s made → next s d (event.Step m answer) ≡ Some (t, turn.Done reply.Fine)
     → (c : ℕ) → is_in c (changing q.order (wiring q) (plan q d what)) ≡ true
     → filter (is_post_of c) made ≡ post_list (plan_rates q (plan q d what)) q.notifiers c
+
+-- whether a step asks a notifier before a change
+abbrev pub is_pre : Micro → Bool
+is_pre (micro.Notify (notice.Pre veto) c id old new) = true
+is_pre _ = false
+
+-- and no others have been asked: the notices before such a change were those of its plan, over the clocks whose rate it changes, each once
+abbrev pub ChangesAreAsked : Type 0
+ChangesAreAsked = (defs : Description) (regs : Registers) (ignore_unused : Bool) (credits : ℕ) (before : List Entry) (q s t : State) (d : ℕ) (what : Sleeping) (made : List Micro)
+    (m : Micro) (answer : Option Bool) → IsValid (length regs) defs → plans what ≡ true → replay (opening defs regs ignore_unused credits) before ≡ q
+    → Flight q d what s made → next s d (event.Step m answer) ≡ Some (t, turn.Done reply.Fine)
+    → filter is_pre made ≡ pre_notices q (plan q d what)
