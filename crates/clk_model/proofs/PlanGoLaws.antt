@@ -24,6 +24,7 @@ use Rattle.clk_model.specs.Wired.{IsWired, IsOrder}
 use Rattle.clk_model.specs.Laws.Plans.{HasParent, LeadsFrom}
 use Rattle.clk_model.specs.Laws.Flight.{pre_notices, abort_notices}
 use Rattle.clk_model.proofs.Members.{test_same}
+use Rattle.clk_model.proofs.StateLaws.{registered_lt}
 use Rattle.clk_model.proofs.NoneLaws.{none_append, none_flat_map}
 use Rattle.clk_model.proofs.OutcomeLaws.{differs_in}
 use Rattle.clk_model.proofs.SettingLaws.{settings_fit}
@@ -35,7 +36,7 @@ use Rattle.clk_model.proofs.Scenes.{Scene, scene, holding, prepared_in, IsSound,
 use Rattle.clk_model.proofs.ArriveLaws.{IsFit}
 use Rattle.clk_model.proofs.PlanRootLaws.{IsRooted, StepsRooted, rooted_linked}
 use Rattle.clk_model.proofs.WalkGoLaws.{from_first_past, CutsAt, block, IsMover, Apart, AllApart, WalkOver, ToWalk, walked_goes}
-use Rattle.clk_model.proofs.PlannedGoLaws.{leaves_scene, goes_past, leaves_notices, leaves_aborts, all_both, registered_lt, moves_here, OneStep, one_step}
+use Rattle.clk_model.proofs.PlannedGoLaws.{leaves_scene, goes_past, leaves_notices, leaves_aborts, all_both, moves_here, OneStep, one_step}
 
 -- ---- what a plan is made in
 

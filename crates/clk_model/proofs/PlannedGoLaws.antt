@@ -1,5 +1,5 @@
 -- Laws on the scripts of plans: they go well.
-use Rattle.std.proofs.Common.{◌≡◌, ℕ, zero, suc, ◌<◌, Bool, true, false, ◌&&◌, ◌||◌, cond, map, List, [], ◌∷◌, ◌++◌, None, refl, sym, ap, ◌∙◌, ◌⊎◌, inl, inr, arith, length, nat_eq}
+use Rattle.std.proofs.Common.{◌≡◌, ℕ, Bool, true, false, ◌&&◌, ◌||◌, cond, map, List, [], ◌∷◌, ◌++◌, None, refl, sym, ap, ◌∙◌, ◌⊎◌, inl, inr, nat_eq}
 use Rattle.std.specs.Prelude.{◌==◌, filter, flat_map, slice_index, if◌then◌else◌}
 use Rattle.std.specs.List.{list_all, AllByRecursion}
 use Rattle.std.proofs.lemmas.Bool.{and_from}
@@ -11,7 +11,7 @@ use Rattle.clk_base.specs.declared.call.Sleeping.{Sleeping}
 use Rattle.clk_base.specs.Description.{Description}
 use Rattle.clk_model.specs.declared.row.ClockRow.{ClockRow}
 use Rattle.clk_model.specs.Lists.{is_in, none_twice}
-use Rattle.clk_model.specs.State.{State, ChainStep, NotifierRow, registered}
+use Rattle.clk_model.specs.State.{State, ChainStep, NotifierRow}
 use Rattle.clk_model.specs.Round.{wiring}
 use Rattle.clk_model.specs.Chain.{clock_id, moves}
 use Rattle.clk_model.specs.Walk.{changing}
@@ -98,11 +98,6 @@ leaves_aborts s ks =
 pub all_both : (P Q R : ChainStep → Type 0) (ks : List ChainStep) → ((k : ChainStep) → P k → Q k → R k) → AllByRecursion P ks → AllByRecursion Q ks → AllByRecursion R ks
 all_both P Q R [] join first second = tt
 all_both P Q R (k ∷ ks) join first second = (join k first.0 second.0, all_both P Q R ks join first.1 second.1)
-
-pub registered_lt : (clocks : List ClockRow) (c : ℕ) → registered clocks c ≡ true → c < length clocks
-registered_lt [] c e = absurd cc
-registered_lt (row ∷ clocks) zero e = omega arith
-registered_lt (row ∷ clocks) (suc c) e = let below : c < length clocks = registered_lt clocks c e in omega arith
 
 -- whether a step of a chain moves this clock
 abbrev pub moves_here : List ClockRow → ℕ → ChainStep → Bool

@@ -1,5 +1,5 @@
 -- Laws on siblings: children, roots and orphans against links, and what attaching a clock leaves of their order.
-use Rattle.std.proofs.Common.{◌≡◌, ℕ, zero, suc, ◌<◌, ◌≤◌, Bool, true, false, not, ◌&&◌, ◌||◌, nat_eq, cond, List, [], ◌∷◌, length, Option, Some, None, refl, sym, ap, ◌∙◌, ◌⊎◌, inl, inr, arith}
+use Rattle.std.proofs.Common.{◌≡◌, ℕ, ◌<◌, ◌≤◌, Bool, true, false, not, ◌&&◌, ◌||◌, nat_eq, cond, List, [], ◌∷◌, length, Option, Some, None, refl, sym, ap, ◌∙◌, ◌⊎◌, inl, inr}
 use Rattle.std.specs.Prelude.{filter, is_none}
 use Rattle.std.proofs.lemmas.Bool.{cases_lt}
 use Rattle.std.proofs.lemmas.List.{get_or_past}
@@ -19,7 +19,7 @@ use Rattle.clk_model.specs.Begin.{registered_rows, register}
 use Rattle.clk_model.specs.Step.{relink}
 use Rattle.clk_model.specs.Laws.Siblings.{IsAttached, front_if, IsUnattached, RegistersUnattached, HasOnePlace, ChildrenTellLinks, RegistersAttach, RelinksAttach, RegistersAreListed, RelinksAreListed}
 use Rattle.clk_model.proofs.Members.{is_in_head, is_in_tail, is_in_cases, both_left, both_right, same_from_test}
-use Rattle.clk_model.proofs.StateLaws.{row_of-set_same, row_of-set_other}
+use Rattle.clk_model.proofs.StateLaws.{row_of-set_same, row_of-set_other, registered_lt}
 use Rattle.clk_model.proofs.OnceLaws.{filter_passes, filter_keeps}
 use Rattle.clk_model.proofs.WalkLaws.{is_at_same, at_same, turned_off}
 use Rattle.clk_model.proofs.WholePathLaws.{given_link, given_others, same_or_not, linked_same, linked_other}
@@ -218,11 +218,6 @@ pub relinks_attach : RelinksAttach
 relinks_attach s k c p within = attached s (relink s k c p) c p refl refl (linked_same s.clocks c p within) (linked_other s.clocks c p)
 
 -- ---- the order
-
-registered_lt : (clocks : List ClockRow) (c : ℕ) → registered clocks c ≡ true → c < length clocks
-registered_lt [] c here = absurd cc
-registered_lt (row ∷ clocks) zero here = omega arith
-registered_lt (row ∷ clocks) (suc c) here = let below : c < length clocks = registered_lt clocks c here in omega arith
 
 -- a number stands in a list without another as in the list
 pub stays_in : (c d : ℕ) (xs : List ℕ) → (c ≡ d → ⊥) → is_in d (without (c ∷ []) xs) ≡ is_in d xs

@@ -214,6 +214,12 @@ held_by-set_unregistered clocks c row test handles x links free handled =
     (λ h m. let found = in_clocks_of test handles h m in
     path-set_unregistered clocks c row h links free (ap (registered clocks) (sym found.3) ∙ handled found.0 found.1 found.2))
 
+-- a registered clock has a row
+pub registered_lt : (clocks : List ClockRow) (c : ℕ) → registered clocks c ≡ true → c < length clocks
+registered_lt [] c e = absurd cc
+registered_lt (row ∷ clocks) zero e = omega arith
+registered_lt (row ∷ clocks) (suc c) e = let below : c < length clocks = registered_lt clocks c e in omega arith
+
 pub filter_none : (p : ℕ → Bool) (xs : List ℕ) → ((x : ℕ) → is_in x xs ≡ true → p x ≡ false) → filter p xs ≡ []
 filter_none p [] fails = refl
 filter_none p (x ∷ xs) fails =

@@ -115,3 +115,26 @@ pub clock_at : (xs : List ℕ) (k : ℕ) (found : Result ClockId ℕ) → MatchR
     → option_map (λ c. c.0) (result_ok found) ≡ slice_get xs k
 clock_at xs k (Ok c) is = sym is
 clock_at xs k (Err left) is = sym (get_past xs k (let e : k ≡ length xs + left = is in omega arith))
+
+-- ---- places in lists
+
+pub drop_zero : (xs : List ℕ) → drop 0 xs ≡ xs
+drop_zero [] = refl
+drop_zero (x ∷ xs) = refl
+
+-- where a number stands in a list, it is the first of what is left there
+pub drop_at : (xs : List ℕ) (k x : ℕ) → slice_get xs k ≡ Some x → drop k xs ≡ x ∷ drop (suc k) xs
+drop_at [] k x at = absurd cc
+drop_at (y ∷ xs) zero x at = let same : y ≡ x = cc in ap (λ (z : ℕ). z ∷ xs) same ∙ ap (λ (ys : List ℕ). x ∷ ys) (sym (drop_zero xs))
+drop_at (y ∷ xs) (suc k) x at = drop_at xs k x at
+
+-- where none stands, nothing is left
+pub few_at : (xs : List ℕ) (k : ℕ) → slice_get xs k ≡ None → length xs ≤ k
+few_at [] k at = omega arith
+few_at (y ∷ xs) zero at = absurd cc
+few_at (y ∷ xs) (suc k) at = let few : length xs ≤ k = few_at xs k at in omega arith
+
+pub within_at : (xs : List ℕ) (k x : ℕ) → slice_get xs k ≡ Some x → k + 1 ≤ length xs
+within_at [] k x at = absurd cc
+within_at (y ∷ xs) zero x at = omega arith
+within_at (y ∷ xs) (suc k) x at = let less : k + 1 ≤ length xs = within_at xs k x at in omega arith

@@ -1,27 +1,26 @@
 -- Laws on the order of adoptions.
-use Rattle.std.proofs.Common.{◌≡◌, ◌⊎◌, ℕ, zero, suc, ◌+◌, ◌<◌, ◌≤◌, ◌++◌, ◌||◌, ◌&&◌, Bool, true, false, not, cond, List, [], ◌∷◌, Option, Some, None, refl, sym, ap, subst, ◌∙◌, inl, inr, arith, length, drop, take, map, nat_eq}
-use Rattle.std.specs.Prelude.{filter, slice_get, slice_set, find, option_and_then}
+use Rattle.std.proofs.Common.{◌≡◌, ℕ, zero, suc, ◌<◌, ◌++◌, ◌||◌, ◌&&◌, Bool, true, false, not, cond, List, [], ◌∷◌, Option, Some, None, refl, sym, ap, ◌∙◌, inl, inr, arith, length, drop, take, nat_eq}
+use Rattle.std.specs.Prelude.{filter, slice_get, slice_set, find}
 use Rattle.std.specs.List.{list_any, list_all}
-use Rattle.std.specs.Option.{option_map, option_map_or}
+use Rattle.std.specs.Option.{option_map_or}
 use Rattle.std.proofs.Math.Path.{fun_ext}
-use Rattle.std.proofs.lemmas.Bool.{cases_Bool, both_ways, false_from_ne_true, true_from_ne_false}
+use Rattle.std.proofs.lemmas.Bool.{both_ways, false_from_ne_true}
 use Rattle.std.proofs.lemmas.List.{append-nil, append_assoc, length-set, get_or-set_same, get_or-set_other}
-use Rattle.clk_base.specs.Description.{Description, kind_of, parents_of}
-use Rattle.clk_base.specs.Fields.{Field}
+use Rattle.clk_base.specs.Description.{kind_of, parents_of}
 use Rattle.clk_base.specs.Levels.{depth, ends_within}
 use Rattle.clk_base.specs.Tables.{flag_at}
-use Rattle.reg_bank.specs.Registers.{Registers, field}
-use Rattle.clk_model.specs.Kinds.{is_fixed, mux_field}
+use Rattle.clk_model.specs.Kinds.{is_fixed}
 use Rattle.clk_model.specs.Lists.{is_in, none_twice, without, without_one, to_front}
 use Rattle.clk_model.specs.State.{State, registered}
 use Rattle.clk_model.specs.Tree.{path, selected, orphans, is_orphan, link_given}
 use Rattle.clk_model.specs.Script.{adoptable, is_next, adoption_order}
 use Rattle.clk_model.specs.Begin.{register, registered_rows}
-use Rattle.clk_model.specs.Laws.Siblings.{front_if, IsAttached, IsUnattached}
+use Rattle.clk_model.specs.Laws.Siblings.{front_if}
 use Rattle.clk_model.specs.Wired.{LinesEnd, ListsRegistered}
-use Rattle.clk_model.proofs.Members.{any_in, any_from_in, same_from_test, test_same, test_other, is_in_head, is_in_tail, is_in_cases, both_left, both_right, not_either}
+use Rattle.clk_model.proofs.Members.{any_in, any_from_in, same_from_test, test_same, test_other, is_in_cases, both_left, both_right, not_either}
 use Rattle.clk_model.proofs.OnceLaws.{once_head, once_cons, is_in-filter}
 use Rattle.clk_model.proofs.SiblingLaws.{registers_attach, registers_unattached}
+use Rattle.clk_model.proofs.PllLaws.{selected_possible}
 use Rattle.clk_tree.proofs.Along.{get_in}
 use Rattle.orphans.specs.Beside.{AreMarked, is_free, has_parent}
 use Rattle.orphans.proofs.LinkLaws.{given_none, given_there, given_away}
@@ -142,14 +141,6 @@ no_own_parent parents (suc levels) c ends m = no_own_parent parents levels c (ea
         | inl same ↦ ap (ends_within parents levels) (sym same) ∙ both_left (ends_within parents levels p) (list_all (ends_within parents levels) ps) all
         | inr later ↦ each ps (both_right (ends_within parents levels p) (list_all (ends_within parents levels) ps) all) later
       ]
-
--- what is selected is a possible parent
-selected_possible : (defs : Description) (regs : Registers) (c p : ℕ) → selected defs regs c ≡ Some p → is_in p (parents_of defs c) ≡ true
-selected_possible defs regs c p e = by_field (mux_field (kind_of defs c)) e where
-  by_field : (o : Option Field) → option_map_or (λ f. slice_get (parents_of defs c) (field regs f.word f.shift f.width)) o (slice_get (parents_of defs c) 0) ≡ Some p
-      → is_in p (parents_of defs c) ≡ true
-  by_field None at = get_in (parents_of defs c) 0 p at
-  by_field (Some f) at = get_in (parents_of defs c) (field regs f.word f.shift f.width) p at
 
 -- a clock that is registered without a parent waits for none
 waits_not : (s : State) (c : ℕ) → LinesEnd s.defs → c < length s.clocks → link_given s.defs s.regs s.clocks c ≡ None

@@ -1,5 +1,5 @@
 -- Laws on the tree with one clock more.
-use Rattle.std.proofs.Common.{◌≡◌, ◌<◌, ◌||◌, ◌&&◌, ℕ, zero, suc, Bool, true, false, not, cond, List, [], ◌∷◌, Option, Some, None, refl, sym, ap, ◌∙◌, length, nat_eq}
+use Rattle.std.proofs.Common.{◌≡◌, ◌<◌, ◌||◌, ◌&&◌, ℕ, Bool, true, false, not, cond, List, Option, Some, None, refl, sym, ap, ◌∙◌, length, nat_eq}
 use Rattle.std.specs.List.{list_any}
 use Rattle.std.specs.Option.{option_map, option_map_or}
 use Rattle.clk_base.specs.Description.{Description}
@@ -10,7 +10,7 @@ use Rattle.clk_model.specs.declared.row.ClockRow.{ClockRow}
 use Rattle.clk_model.specs.Chain.{clock_id}
 use Rattle.clk_model.specs.State.{registered, link_in}
 use Rattle.clk_model.specs.Tree.{path_within, path, link_given}
-use Rattle.clk_model.specs.Begin.{registered_row, registered_rows}
+use Rattle.clk_model.specs.Begin.{registered_rows}
 use Rattle.clk_model.proofs.Members.{same_from_test, test_other}
 use Rattle.clk_model.proofs.PathLaws.{path_agree}
 use Rattle.clk_model.proofs.StateLaws.{row_of-set_same, row_of-set_other}

@@ -1,49 +1,23 @@
 -- Laws on the orphans that wait for a parent.
-use Rattle.std.proofs.Common.{◌≡◌, ◌⊎◌, ℕ, zero, suc, ◌+◌, ◌<◌, ◌≤◌, ◌++◌, ◌||◌, ◌&&◌, Bool, true, false, not, cond, List, [], ◌∷◌, Option, Some, None, refl, sym, ap, subst, ◌∙◌, inl, inr, arith, length, drop, map, nat_eq}
-use Rattle.std.specs.Prelude.{IfSome, filter, slice_get, find, option_and_then}
-use Rattle.std.specs.List.{list_any}
+use Rattle.std.proofs.Common.{◌≡◌, ℕ, suc, ◌+◌, ◌<◌, ◌≤◌, ◌++◌, Bool, true, false, cond, List, [], ◌∷◌, Option, Some, None, refl, sym, ap, subst, ◌∙◌, inl, inr, arith, length, drop}
+use Rattle.std.specs.Prelude.{IfSome, filter, slice_get, find}
 use Rattle.std.specs.Option.{option_map, option_map_or}
 use Rattle.std.proofs.lemmas.List.{append-nil, append_assoc}
 use Rattle.clk_base.specs.declared.clock.ClockId.{ClockId}
-use Rattle.clk_base.specs.Description.{Description, kind_of}
+use Rattle.clk_base.specs.Description.{kind_of}
 use Rattle.clk_base.specs.Valid.{IsValid}
 use Rattle.reg_bank.specs.Registers.{Registers}
 use Rattle.clk_model.specs.declared.row.ClockRow.{ClockRow}
 use Rattle.clk_model.specs.Kinds.{is_fixed}
-use Rattle.clk_model.specs.Lists.{is_in}
-use Rattle.clk_model.specs.State.{registered}
-use Rattle.clk_model.specs.Tree.{roots, orphans, is_orphan, link_given}
+use Rattle.clk_model.specs.Tree.{roots, orphans, is_orphan}
 use Rattle.clk_model.proofs.OnceLaws.{in_append, is_in-filter, filter_passes, length-filter-le}
 use Rattle.clk_model.proofs.StateLaws.{filter_none}
 use Rattle.clk_tree.specs.TreeState.{TreeState, IsTree}
-use Rattle.clk_tree.proofs.Along.{get_second, none_left, get_in}
+use Rattle.clk_tree.proofs.Along.{get_second, none_left, get_in, drop_zero, drop_at}
 use Rattle.clk_tree.proofs.GroupLaws.{order_below}
 use Rattle.clk_tree.proofs.Rows.{order-few}
 use Rattle.orphans.specs.Beside.{has_parent, StandTogether}
 use Rattle.orphans.proofs.LinkLaws.{given_fixed}
-
--- ---- places in lists
-
-pub drop_zero : (xs : List ℕ) → drop 0 xs ≡ xs
-drop_zero [] = refl
-drop_zero (x ∷ xs) = refl
-
--- where a number stands in a list, it is the first of what is left there
-pub drop_at : (xs : List ℕ) (k x : ℕ) → slice_get xs k ≡ Some x → drop k xs ≡ x ∷ drop (suc k) xs
-drop_at [] k x at = absurd cc
-drop_at (y ∷ xs) zero x at = let same : y ≡ x = cc in ap (λ (z : ℕ). z ∷ xs) same ∙ ap (λ (ys : List ℕ). x ∷ ys) (sym (drop_zero xs))
-drop_at (y ∷ xs) (suc k) x at = drop_at xs k x at
-
--- where none stands, nothing is left
-pub few_at : (xs : List ℕ) (k : ℕ) → slice_get xs k ≡ None → length xs ≤ k
-few_at [] k at = omega arith
-few_at (y ∷ xs) zero at = absurd cc
-few_at (y ∷ xs) (suc k) at = let few : length xs ≤ k = few_at xs k at in omega arith
-
-pub within_at : (xs : List ℕ) (k x : ℕ) → slice_get xs k ≡ Some x → k + 1 ≤ length xs
-within_at [] k x at = absurd cc
-within_at (y ∷ xs) zero x at = omega arith
-within_at (y ∷ xs) (suc k) x at = let less : k + 1 ≤ length xs = within_at xs k x at in omega arith
 
 -- ---- the roots and the orphans
 

@@ -1,10 +1,10 @@
 -- Laws on the divisors of a divider: the first that passes, the greatest, and those that are left.
-use Rattle.std.proofs.Common.{◌≡◌, ◌≢◌, ℕ, zero, suc, ◌+◌, ◌-◌, ◌*◌, ◌^◌, ◌<◌, ◌≤◌, Bool, true, false, cond, List, [], ◌∷◌, map, Option, Some, None, refl, sym, ap, subst, ◌∙◌, inl, inr, arith, max, nat_le, nat_eq}
+use Rattle.std.proofs.Common.{◌≡◌, ◌≢◌, ℕ, zero, suc, ◌+◌, ◌-◌, ◌*◌, ◌^◌, ◌<◌, ◌≤◌, Bool, true, false, cond, List, [], ◌∷◌, map, Some, None, refl, sym, ap, subst, ◌∙◌, inl, inr, arith, max, nat_le}
 use Rattle.std.specs.Prelude.{◌==◌, filter, find, min}
 use Rattle.std.specs.List.{AllByRecursion, range_with_len, reduce}
 use Rattle.std.specs.Option.{unwrap_or}
 use Rattle.std.specs.Int.{div_ceil}
-use Rattle.std.proofs.lemmas.Bool.{cases_Bool, both_ways, eq-eqb, ne_eqb, le-leb, leb-true, cond-true, cond-false}
+use Rattle.std.proofs.lemmas.Bool.{both_ways, eq-eqb, le-leb, leb-true, cond-true, cond-false}
 use Rattle.std.proofs.lemmas.Nat.{pow_pos}
 use Rattle.std.proofs.Math.Nat.{pow-le-pow_right, mul-le-mul_left}
 use Rattle.kind_math.specs.declared.div_style.DivStyle.{DivStyle}
@@ -13,11 +13,11 @@ use Rattle.kind_math.specs.Rates.{divisor}
 use Rattle.kind_math.specs.Choices.{least, greatest_of}
 use Rattle.kind_math.specs.Dividers.{IsDividerWidth, valid_fields, valid_divisors, least_or_greatest, div_round}
 use Rattle.kind_math.proofs.Chosen.{IsIn, min_prefers, filter_none, reduce_is}
-use Rattle.kind_math.proofs.Ranges.{each_in_range, greatest_of_range, least_or_greatest-map, chosen_keeps}
+use Rattle.kind_math.proofs.Ranges.{greatest_of_range, least_or_greatest-map, chosen_keeps}
 use Rattle.kind_math.proofs.DivisorLaws.{Divides, valid_divide, divisor_keeps_order, divisor_rises, valid_fields_some, round_by_field}
 use Rattle.kind_math.proofs.Quotients.{ceil-le, ceil-reaches}
 use Rattle.clk_model.specs.Round.{most_rate}
-use Rattle.clk_model.proofs.Members.{same_from_test, test_other}
+use Rattle.clk_model.proofs.Members.{same_from_test}
 use Rattle.rate_planner.specs.Divisors.{first_field, divisors_from}
 
 -- ---- searches

@@ -1,12 +1,12 @@
 -- Lists that are gone through place by place.
-use Rattle.std.proofs.Common.{◌≡◌, ℕ, zero, suc, ◌+◌, ◌-◌, ◌<◌, ◌≤◌, Bool, true, false, ◌&&◌, ◌||◌, List, [], ◌∷◌, ◌++◌, Option, Some, None, refl, sym, ap, ◌∙◌, arith, add-one, drop, take, length, get_or, nat_eq, nat_le, cond}
-use Rattle.std.specs.Prelude.{IfSome, slice_get}
+use Rattle.std.proofs.Common.{◌≡◌, ℕ, zero, suc, ◌+◌, ◌<◌, ◌≤◌, Bool, true, false, ◌&&◌, ◌||◌, List, [], ◌∷◌, Option, Some, None, refl, sym, ap, ◌∙◌, arith, add-one, drop, length, get_or, nat_eq, nat_le, cond}
+use Rattle.std.specs.Prelude.{IfSome}
 use Rattle.std.proofs.lemmas.Bool.{cond-true, cond-false}
 use Rattle.clk_base.specs.Description.{Description}
 use Rattle.reg_bank.specs.Registers.{Registers}
 use Rattle.clk_model.specs.declared.row.ClockRow.{ClockRow}
 use Rattle.clk_model.specs.Chain.{moves}
-use Rattle.clk_model.specs.Round.{View, Wiring}
+use Rattle.clk_model.specs.Round.{View}
 use Rattle.clk_model.specs.State as state
 use Rattle.clk_model.specs.Walk.{moves_away}
 use Rattle.clk_tree.specs.declared.chain.ChainStep.{ChainStep}

@@ -1,46 +1,44 @@
 -- The rates that come out of a chain from the top down are those of its outcome.
-use Rattle.std.proofs.Common.{◌≡◌, ◌≢◌, ℕ, zero, suc, ◌+◌, ◌<◌, ◌≤◌, Bool, true, false, not, ◌||◌, cond, List, [], ◌∷◌, map, Option, Some, None, refl, sym, ap, subst, ◌∙◌, ◌⊎◌, inl, inr, arith, length, nat_eq}
-use Rattle.std.specs.Prelude.{IfSome, option_map, slice_get}
+use Rattle.std.proofs.Common.{◌≡◌, ℕ, zero, suc, ◌<◌, ◌≤◌, Bool, true, false, not, ◌||◌, cond, List, [], ◌∷◌, Option, Some, None, refl, sym, ap, subst, ◌∙◌, inl, inr, arith, length, nat_eq}
+use Rattle.std.specs.Prelude.{IfSome, option_map}
 use Rattle.std.specs.List.{AllByRecursion}
 use Rattle.std.specs.Option.{option_map_or}
-use Rattle.std.proofs.lemmas.Bool.{cases_Bool, false_from_ne_true}
-use Rattle.clk_base.specs.declared.clock.ClockId.{ClockId}
+use Rattle.std.proofs.lemmas.Bool.{false_from_ne_true}
 use Rattle.clk_base.specs.declared.clock.Kind.{Kind}
 use Rattle.clk_base.specs.declared.clock.Kind.TheVariants.{FixedRate, Factor, Gate, Mux, Divider, Pll}
 use Rattle.clk_base.specs.Description.{Description, kind_of, parents_of}
-use Rattle.clk_base.specs.Fields.{Field, field_of, fields_of}
+use Rattle.clk_base.specs.Fields.{Field, field_of}
 use Rattle.clk_base.specs.Levels.{depth, ends_within, reaches_within}
 use Rattle.clk_base.specs.Valid.{IsValid}
-use Rattle.clk_base.proofs.Valid.{lines_end, field-field, fields-within}
+use Rattle.clk_base.proofs.Valid.{field-field, fields-within}
 use Rattle.kind_math.specs.Rates.{div_rate, pll_rate}
 use Rattle.kind_math.specs.Dividers.{div_setting}
 use Rattle.kind_math.specs.Plls.{pll_multiplier}
 use Rattle.reg_bank.specs.Registers.{Registers, field, put}
 use Rattle.reg_bank.proofs.FieldLaws.{field-put_same}
 use Rattle.clk_model.specs.declared.row.ClockRow.{ClockRow}
-use Rattle.clk_model.specs.Lists.{is_in, same_place, none_twice}
+use Rattle.clk_model.specs.Lists.{is_in, same_place}
 use Rattle.clk_model.specs.Kinds.{mux_field}
-use Rattle.clk_model.specs.State.{ChainStep, row_of, link_in}
-use Rattle.clk_model.specs.Tree.{path_within, path}
+use Rattle.clk_model.specs.State.{ChainStep, link_in}
+use Rattle.clk_model.specs.Tree.{path}
 use Rattle.clk_model.specs.Rate.{style_of, rate_over, rate}
 use Rattle.clk_model.specs.Round.{Wiring, rate_in, parent_rate_in}
-use Rattle.clk_model.specs.Chain.{clock_id, moves, place_of, select, setting, set_one, outcome}
+use Rattle.clk_model.specs.Chain.{clock_id, moves, place_of, select, setting, set_one}
 use Rattle.clk_model.specs.Wired.{LinksArePossible, IsWired}
-use Rattle.clk_model.specs.Laws.Plans.{clocks_in, HasParent, LeadsUp, LieApart, DiffersIn, LeavesFields, LeadsFrom}
+use Rattle.clk_model.specs.Laws.Plans.{HasParent, LeadsUp, LieApart}
 use Rattle.clk_model.specs.Laws.Paths.{scales_by}
 use Rattle.clk_model.proofs.Members.{any_in, or_cases, same_from_test}
-use Rattle.clk_model.proofs.OnceLaws.{once_head}
 use Rattle.clk_model.proofs.PlanLaws.{IsAbove, above_parent, not_above_parent}
 use Rattle.clk_model.proofs.ApartLaws.{fields_apart}
-use Rattle.clk_model.proofs.OutcomeLaws.{FitsKind, SetsOne, sets_one, differs_in, SettingsFit}
-use Rattle.clk_model.proofs.SettingLaws.{settings_fit, outcomes_keep, pll_multiplier-le}
-use Rattle.clk_model.proofs.BelowLaws.{IsUp, path_rises, rises_above}
-use Rattle.clk_model.proofs.RateLaws.{over_same, rate_leaves, writes_leave_rates, rates_are_over_links}
+use Rattle.clk_model.proofs.OutcomeLaws.{SetsOne}
+use Rattle.clk_model.proofs.SettingLaws.{pll_multiplier-le}
+use Rattle.clk_model.proofs.BelowLaws.{path_rises, rises_above}
+use Rattle.clk_model.proofs.RateLaws.{over_same, rate_leaves, writes_leave_rates}
 use Rattle.clk_model.proofs.WholePathLaws.{other_member}
-use Rattle.clk_model.proofs.WalkLaws.{links_after, Planned_}
 use Rattle.rate_planner.specs.Given.{CanScale}
-use Rattle.rate_planner.specs.Outcomes.{set_rate, out_rate, out_rates, first_or}
-use Rattle.rate_planner.proofs.Scaling.{can_scale, div_setting_fits}
+use Rattle.rate_planner.specs.Outcomes.{set_rate, out_rate}
+use Rattle.rate_planner.proofs.Scaling.{can_scale}
+use Rattle.clk_model.proofs.SettingLaws.{div_setting-fits}
 
 -- ---- a tree over a bank that has its words
 
@@ -137,7 +135,7 @@ setting_scales (Mux word shift width read_only) regs parent planned scales lies 
 setting_scales (Divider word shift width one_based power_of_two) regs parent planned scales lies =
     ap (λ (n : ℕ). div_rate parent n (style_of one_based power_of_two))
     (field-put_same regs word shift width (div_setting parent planned width (style_of one_based power_of_two)) (lies (record { word = word; shift = shift; width = width }) refl)
-    (div_setting_fits (style_of one_based power_of_two) parent planned width scales))
+    (div_setting-fits (style_of one_based power_of_two) parent planned width scales))
 setting_scales (Pll word shift width power_word power_bit least most m) regs parent planned scales lies =
     ap (λ (n : ℕ). pll_rate parent n m)
     (field-put_same regs word shift width (pll_multiplier parent planned least most m) (lies (record { word = word; shift = shift; width = width }) refl)

@@ -1,7 +1,6 @@
 -- Laws on plans of a change of parent.
 use Rattle.std.proofs.Common.{◌≡◌, ◌≢◌, ℕ, ◌-◌, ◌<◌, ◌≤◌, Bool, true, false, not, cond, List, [], ◌∷◌, ◌++◌, map, Option, Some, None, refl, sym, ap, subst, ◌∙◌, arith, length}
-use Rattle.std.specs.Prelude.{IfSome, option_map, slice_index}
-use Rattle.std.proofs.lemmas.Bool.{cases_Bool}
+use Rattle.std.specs.Prelude.{IfSome, slice_index}
 use Rattle.clk_base.specs.Description.{Description, kind_of, parents_of}
 use Rattle.clk_base.specs.Levels.{depth}
 use Rattle.clk_base.specs.Valid.{IsValid}
@@ -11,7 +10,7 @@ use Rattle.clk_model.specs.State as state
 use Rattle.clk_model.specs.State.{registered, link_in}
 use Rattle.clk_model.specs.Rate.{rate_over}
 use Rattle.clk_model.specs.Round.{Wiring, rate_in}
-use Rattle.clk_model.specs.Chain.{moves, outcome}
+use Rattle.clk_model.specs.Chain.{outcome}
 use Rattle.clk_model.specs.Walk.{kids_after, top_of, below_within}
 use Rattle.clk_model.proofs.Members.{same_from_test}
 use Rattle.clk_tree.specs.Plans.{ClockRate}

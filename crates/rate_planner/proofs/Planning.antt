@@ -1,12 +1,11 @@
 -- Laws on plans: the chain that was climbed, what comes out of it, and its walk.
-use Rattle.std.proofs.Common.{◌≡◌, ℕ, zero, suc, ◌+◌, ◌-◌, ◌<◌, ◌≤◌, Bool, true, false, not, ◌&&◌, ◌||◌, cond, List, [], ◌∷◌, ◌++◌, map, Option, Some, None, refl, sym, ap, subst, ◌∙◌, inl, inr, arith, length, get_or, nat_le, nat_eq, drop}
-use Rattle.std.specs.Prelude.{IfSome, option_map, option_and_then, slice_index, slice_set}
+use Rattle.std.proofs.Common.{◌≡◌, ℕ, suc, ◌+◌, ◌-◌, ◌<◌, ◌≤◌, Bool, true, false, ◌&&◌, ◌||◌, cond, List, [], ◌∷◌, map, Option, Some, None, refl, sym, ap, subst, ◌∙◌, inl, inr, arith, length, get_or, nat_le, nat_eq, drop}
+use Rattle.std.specs.Prelude.{IfSome, option_and_then, slice_index, slice_set}
 use Rattle.std.specs.List.{All, AllByRecursion, list_all}
 use Rattle.std.specs.Option.{option_map_or}
-use Rattle.std.proofs.lemmas.Bool.{cases_Bool, both_ways}
+use Rattle.std.proofs.lemmas.Bool.{cases_Bool}
 use Rattle.std.proofs.lemmas.List.{drop-set}
-use Rattle.clk_base.specs.Description.{Description, kind_of, parents_of}
-use Rattle.clk_base.specs.Fields.{Field}
+use Rattle.clk_base.specs.Description.{Description, kind_of}
 use Rattle.clk_base.specs.Levels.{depth}
 use Rattle.clk_base.specs.Valid.{IsValid}
 use Rattle.clk_base.proofs.Valid.{lines_end}
@@ -18,8 +17,7 @@ use Rattle.clk_model.specs.Rate.{rate_over, rate}
 use Rattle.clk_model.specs.Round.{Wiring, View, rate_in}
 use Rattle.clk_model.specs.Chain.{outcome, chain_within, chain, keeps_boundaries}
 use Rattle.clk_model.specs.Walk.{kids_after, top_of, below_within, walk}
-use Rattle.clk_model.specs.Laws.Plans.{clocks_in, LeadsFrom}
-use Rattle.clk_model.specs.Wired.{IsWired, IsOrder}
+use Rattle.clk_model.specs.Laws.Plans.{clocks_in}
 use Rattle.clk_model.proofs.Members.{same_from_test}
 use Rattle.clk_model.proofs.RateLaws.{over_same, rates_are_over_links}
 use Rattle.clk_model.proofs.WalkLaws.{kids_are, links_after}
@@ -31,10 +29,10 @@ use Rattle.rate_planner.specs.Chains.{step_of, IsThere}
 use Rattle.rate_planner.specs.Kept.{KeepsRates, wired, Always, Told}
 use Rattle.rate_planner.specs.Outcomes.{out_rate, out_rates, first_or, rates_within}
 use Rattle.rate_planner.specs.Walks.{at_rate, AreWalked, Walks, kid_rate, walked_rates}
-use Rattle.rate_planner.proofs.Climbing.{GoesUp, up_within}
-use Rattle.rate_planner.proofs.OutcomeRates.{IsGround, scales_field}
+use Rattle.clk_model.proofs.PlanLaws.{Climbs, climbs_within}
+use Rattle.rate_planner.proofs.OutcomeRates.{scales_field}
 use Rattle.rate_planner.proofs.WholeOutcome.{IsChain, chain_differs, chain_planned, outside_chain, rates_out}
-use Rattle.rate_planner.proofs.ListSteps.{told_both, told_on, steps_left, length-chain}
+use Rattle.rate_planner.proofs.ListSteps.{told_both, steps_left, length-chain}
 
 -- ---- the rates that come out, one by one
 
@@ -79,8 +77,8 @@ steps_within defs t (s ∷ steps) rows each = (
 pub chain_given : (words : ℕ) (defs : Description) (regs : Registers) (t : TreeState) (view : View) (c x : ℕ) (steps : List ChainStep) → IsValid words defs → words ≤ length regs
     → IsTree defs t.clocks t.order t.rates → All (IsThere t.clocks) steps → Some (chain_of steps) ≡ chain_within depth (wired defs regs t) view c x → IsChain words t.order (wired defs regs t) (chain_of steps)
 chain_given words defs regs t view c x steps valid fits tree there is =
-    let up : GoesUp (wired defs regs t) c (chain_of steps) =
-    subst (λ (o : Option (List state.ChainStep)). IfSome o (GoesUp (wired defs regs t) c)) (sym is) (up_within depth (wired defs regs t) view c x tree.lines tree.possible) in
+    let up : Climbs (wired defs regs t) c (chain_of steps) =
+    subst (λ (o : Option (List state.ChainStep)). IfSome o (Climbs (wired defs regs t) c)) (sym is) (climbs_within depth (wired defs regs t) view c x tree.lines tree.possible) in
     record {
       ground = record { wired = record { valid = valid; rows = tree.rows; links = tree.possible }; bank = fits };
       ordered = record { once = tree.order_lists.once; linked = λ d p e. tree.order_lists.listed d ∙ tree.linked d p e };

@@ -1,5 +1,5 @@
 -- Laws on a walk that is made clock by clock.
-use Rattle.std.proofs.Common.{◌≡◌, ℕ, zero, suc, ◌+◌, ◌-◌, ◌<◌, ◌≤◌, Bool, true, false, not, ◌&&◌, ◌||◌, cond, List, [], ◌∷◌, ◌++◌, map, Option, Some, None, refl, sym, ap, subst, ◌∙◌, inl, inr, arith, add-one, append_assoc, append-nil, drop, take, length, get_or}
+use Rattle.std.proofs.Common.{◌≡◌, ℕ, zero, suc, ◌+◌, ◌-◌, ◌<◌, ◌≤◌, Bool, true, false, not, ◌&&◌, cond, List, [], ◌∷◌, ◌++◌, map, Option, Some, None, refl, sym, ap, subst, ◌∙◌, arith, add-one, append_assoc, append-nil, drop, take, length, get_or}
 use Rattle.std.specs.Prelude.{IfSome, filter, flat_map, option_map, slice_get, slice_index}
 use Rattle.clk_base.specs.Levels.{depth}
 use Rattle.std.specs.List.{AllByRecursion}
@@ -27,7 +27,7 @@ use Rattle.clk_tree.proofs.Along.{get_in}
 use Rattle.clk_tree.proofs.Rows.{order-few}
 use Rattle.rate_planner.specs.Chains.{step_of}
 use Rattle.rate_planner.specs.Walks.{at_rate, AreThere, AreWalked, Walks, kid_rate, stays}
-use Rattle.rate_planner.proofs.ListSteps.{told_on, told_both, told_always, steps_left}
+use Rattle.rate_planner.proofs.ListSteps.{told_both, told_always, steps_left}
 
 -- ---- rates that are added
 

@@ -1,6 +1,5 @@
 -- The steps of a chain in code, and how a chain goes on.
 use Rattle.std.specs.Prelude.{◌≡◌, ℕ, true, false, ◌||◌, List, [], ◌∷◌, Option, Some, None, IfSome, option_map, option_and_then}
-use Rattle.std.specs.List.{All}
 use Rattle.clk_base.specs.Description.{kind_of}
 use Rattle.clk_model.specs.declared.row.ClockRow.{ClockRow}
 use Rattle.clk_model.specs.Kinds.{can_round}

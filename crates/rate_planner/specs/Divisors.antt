@@ -1,5 +1,5 @@
 -- The divisors of a divider that are left to try.
-use Rattle.std.specs.Prelude.{ℕ, ◌-◌, ◌^◌, List, map}
+use Rattle.std.specs.Prelude.{ℕ, ◌-◌, List, map}
 use Rattle.std.specs.List.{range_with_len}
 use Rattle.kind_math.specs.declared.div_style.DivStyle.{DivStyle}
 use Rattle.kind_math.specs.declared.div_style.DivStyle.TheVariants.{Plain, OneBased, PowerOfTwo}

@@ -1,6 +1,6 @@
 -- Laws on trees that are gone along, one beside the other.
-use Rattle.std.proofs.Common.{◌≡◌, ◌⊎◌, ℕ, zero, suc, ◌+◌, ◌<◌, ◌≤◌, ◌++◌, List, [], ◌∷◌, Option, Some, None, refl, sym, ap, subst, ◌∙◌, inl, inr, arith, length, drop, map, append_assoc}
-use Rattle.std.specs.Prelude.{flat_map, slice_get}
+use Rattle.std.proofs.Common.{◌≡◌, ℕ, suc, ◌+◌, ◌<◌, ◌≤◌, ◌++◌, List, [], ◌∷◌, Option, Some, refl, sym, ap, ◌∙◌, inl, inr, arith, length, drop, append_assoc}
+use Rattle.std.specs.Prelude.{slice_get}
 use Rattle.std.specs.Option.{option_map}
 use Rattle.std.proofs.lemmas.Grind.{flat_map-append}
 use Rattle.std.proofs.lemmas.List.{append-nil}
@@ -11,31 +11,8 @@ use Rattle.clk_model.specs.Tree.{children, roots, orphans}
 use Rattle.clk_model.specs.Script.{sweep_order, tree_within}
 use Rattle.clk_model.proofs.PathLaws.{some_levels}
 use Rattle.clk_tree.specs.TreeState.{TreeState}
-use Rattle.clk_tree.proofs.Along.{get_second, none_left}
+use Rattle.clk_tree.proofs.Along.{get_second, none_left, drop_zero}
 use Rattle.unused_sweep.specs.Together.{StandTogether, trees}
-
--- ---- places in lists
-
-pub drop_zero : (xs : List ℕ) → drop 0 xs ≡ xs
-drop_zero [] = refl
-drop_zero (x ∷ xs) = refl
-
--- where a number stands in a list, it is the first of what is left there
-pub drop_at : (xs : List ℕ) (k x : ℕ) → slice_get xs k ≡ Some x → drop k xs ≡ x ∷ drop (suc k) xs
-drop_at [] k x at = absurd cc
-drop_at (y ∷ xs) zero x at = let same : y ≡ x = cc in ap (λ (z : ℕ). z ∷ xs) same ∙ ap (λ (ys : List ℕ). x ∷ ys) (sym (drop_zero xs))
-drop_at (y ∷ xs) (suc k) x at = drop_at xs k x at
-
--- where none stands, nothing is left
-pub few_at : (xs : List ℕ) (k : ℕ) → slice_get xs k ≡ None → length xs ≤ k
-few_at [] k at = omega arith
-few_at (y ∷ xs) zero at = absurd cc
-few_at (y ∷ xs) (suc k) at = let few : length xs ≤ k = few_at xs k at in omega arith
-
-pub within_at : (xs : List ℕ) (k x : ℕ) → slice_get xs k ≡ Some x → k + 1 ≤ length xs
-within_at [] k x at = absurd cc
-within_at (y ∷ xs) zero x at = omega arith
-within_at (y ∷ xs) (suc k) x at = let less : k + 1 ≤ length xs = within_at xs k x at in omega arith
 
 -- ---- one clock
 

@@ -1,15 +1,14 @@
 -- Turn by turn, the first that is free.
-use Rattle.std.proofs.Common.{◌≡◌, ◌∙◌, ◌+◌, ◌<◌, ◌++◌, Bool, true, false, List, [], ◌∷◌, Some, None, Option, ℕ, suc, refl, sym, ap, subst, arith, length, map, take, drop}
-use Rattle.std.specs.Prelude.{find, filter, slice_get, slice_set, option_and_then, All}
+use Rattle.std.proofs.Common.{◌≡◌, ◌∙◌, ◌<◌, ◌++◌, Bool, true, false, List, [], ◌∷◌, Some, None, Option, ℕ, suc, sym, ap, subst, arith, length, map, take, drop}
+use Rattle.std.specs.Prelude.{find, filter, slice_get, slice_set, All}
 use Rattle.std.specs.Option.{option_map}
 use Rattle.std.proofs.lemmas.List.{append-nil, map-append, length-map, take-map, drop-map}
 use Rattle.std.proofs.lemmas.List.Elements.{All-append, All-take, All-drop}
 use Rattle.std.proofs.lemmas.Option.{slice_get-map, slice_get-get_or}
 use Rattle.clk_base.specs.declared.clock.ClockId.{ClockId}
 use Rattle.clk_base.specs.Description.{Description}
-use Rattle.reg_bank.specs.Registers.{Registers}
 use Rattle.clk_model.specs.declared.row.ClockRow.{ClockRow}
-use Rattle.clk_model.specs.Lists.{is_in, none_twice, without_one}
+use Rattle.clk_model.specs.Lists.{is_in, none_twice}
 use Rattle.clk_model.specs.State.{State, registered}
 use Rattle.clk_model.specs.Tree.{orphans, is_orphan}
 use Rattle.clk_model.specs.Script.{adoptable, adoption_order}

@@ -1,5 +1,5 @@
 -- Those so far stand in the order of their adoption, and those left in that of the rest.
-use Rattle.std.proofs.Common.{◌≡◌, ℕ, ◌+◌, ◌-◌, ◌<◌, ◌++◌, Some, length, map}
+use Rattle.std.proofs.Common.{◌≡◌, ◌+◌, ◌<◌, ◌++◌, Some, length, map}
 use Rattle.std.specs.Prelude.{All}
 use Rattle.reg_bank.specs.Registers.{Registers}
 use Rattle.clk_model.specs.State.{State}

@@ -1,5 +1,5 @@
 -- The clocks on the path of the parent that would be given.
-use Rattle.std.proofs.Common.{◌≡◌, ◌<◌, ◌∙◌, ◌&&◌, Bool, List, Some, None, Option, ℕ, not, refl, sym, ap, arith, length, nat_eq}
+use Rattle.std.proofs.Common.{◌<◌, ◌∙◌, ◌&&◌, Bool, Some, ℕ, not, sym, ap, arith, length, nat_eq}
 use Rattle.std.specs.List.{list_any}
 use Rattle.std.specs.Option.{option_map}
 use Rattle.clk_base.specs.declared.clock.ClockId.{ClockId}

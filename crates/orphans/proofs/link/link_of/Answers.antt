@@ -1,5 +1,5 @@
 -- The parent that is selected, if it is registered.
-use Rattle.std.proofs.Common.{◌≡◌, ◌∙◌, None, Option, ℕ, refl, sym, ap}
+use Rattle.std.proofs.Common.{◌∙◌, sym, ap}
 use Rattle.std.specs.Option.{option_map}
 use Rattle.clk_base.specs.declared.clock.ClockId.{ClockId}
 use Rattle.orphans.proofs.LinkLaws.{given_none, given_there, given_away}

@@ -1,5 +1,5 @@
 -- Clock by clock.
-use Rattle.std.proofs.Common.{◌≡◌, ◌∙◌, ◌+◌, ◌<◌, ◌≤◌, ◌++◌, Bool, List, [], ◌∷◌, Some, None, Option, ℕ, suc, refl, sym, ap, subst, arith, length, drop, map}
+use Rattle.std.proofs.Common.{◌≡◌, ◌∙◌, ◌+◌, ◌<◌, ◌≤◌, ◌++◌, Bool, List, ◌∷◌, Some, None, ℕ, suc, sym, ap, subst, arith, length, drop, map}
 use Rattle.std.specs.Prelude.{filter, slice_get, IfSome}
 use Rattle.std.specs.Option.{option_map}
 use Rattle.std.proofs.lemmas.List.{append-nil}
@@ -8,7 +8,8 @@ use Rattle.clk_base.specs.Description.{Description}
 use Rattle.clk_model.specs.Begin.{registered_rows}
 use Rattle.clk_tree.proofs.Along.{none_left}
 use Rattle.orphans.specs.Beside.{has_parent}
-use Rattle.orphans.proofs.WaitingLaws.{drop_at, few_at, within_at, next_along, together_few, one_more}
+use Rattle.clk_tree.proofs.Along.{drop_at, few_at, within_at}
+use Rattle.orphans.proofs.WaitingLaws.{next_along, together_few, one_more}
 use Rattle.orphans.proofs.waiting.push_waiting.Goals as goal
 
 pub returns-in_default-clause-pushed : goal.returns-in_default-clause-pushed

@@ -1,5 +1,5 @@
 -- The roots, of which none waits, and the orphans.
-use Rattle.std.proofs.Common.{◌≡◌, ◌<◌, ◌≤◌, ◌∙◌, ◌++◌, ℕ, Bool, List, map, refl, sym, ap, subst, inl, inr, length}
+use Rattle.std.proofs.Common.{◌∙◌, ◌++◌, List, map, refl, sym, ap, subst, inl, inr, length}
 use Rattle.std.specs.Prelude.{drop, filter}
 use Rattle.clk_base.specs.declared.clock.ClockId.{ClockId}
 use Rattle.clk_base.specs.Description.{Description}

@@ -1,12 +1,12 @@
 -- What is left of the candidates falls, and the answers are those of the definitions.
-use Rattle.std.proofs.Common.{◌≡◌, ◌<◌, ◌≤◌, ◌*◌, ◌-◌, ap, sym, subst, ◌∙◌, arith, refl, get_or, None, Some}
+use Rattle.std.proofs.Common.{◌<◌, ◌≤◌, ◌*◌, sym, subst, arith, refl, get_or, None, Some}
 use Rattle.std.specs.Option.{option_map}
 use Rattle.kind_math.specs.Dividers.{valid_divisors}
 use Rattle.clk_model.specs.Round as round
 use Rattle.rate_planner.specs.Given.{rounded_of, after_divisors}
 use Rattle.rate_planner.specs.Kept.{wired}
 use Rattle.rate_planner.proofs.DivisorChoice.{round_divides}
-use Rattle.rate_planner.proofs.Best.{divisors_begin, divisor_step, divisors_above, divisors_end, candidate_step, rate_level}
+use Rattle.rate_planner.proofs.Best.{divisors_begin, divisor_step, divisors_above, candidate_step, rate_level}
 use Rattle.rate_planner.proofs.asking.+asking.Goals as goal
 
 pub best_divisor-loop-field-init : goal.best_divisor-loop-field-init

@@ -1,5 +1,5 @@
 -- The chain so far and what is left of it.
-use Rattle.std.proofs.Common.{◌≡◌, ◌-◌, ◌<◌, ◌≤◌, Some, None, ap, sym, subst, ◌∙◌, arith}
+use Rattle.std.proofs.Common.{◌-◌, Some, ap, ◌∙◌, arith}
 use Rattle.std.proofs.lemmas.List.Elements.{All-push}
 use Rattle.clk_model.specs.Chain.{chain_within}
 use Rattle.clk_tree.specs.Plans.{chain_of}

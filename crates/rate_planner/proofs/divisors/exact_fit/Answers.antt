@@ -1,8 +1,5 @@
 -- The divisor that is taken is the one that fits, or none does.
-use Rattle.std.proofs.Common.{◌≡◌, ◌*◌, ◌<◌, ◌≤◌, Some, None, sym, ap, subst, ◌∙◌, arith}
-use Rattle.std.specs.Prelude.{◌==◌, filter, find, nat_le}
-use Rattle.kind_math.specs.Dividers.{valid_divisors, div_round}
-use Rattle.clk_model.specs.Round.{most_rate}
+use Rattle.std.proofs.Common.{◌≡◌, ◌*◌, ◌<◌, Some, sym, ap, subst, ◌∙◌, arith}
 use Rattle.rate_planner.proofs.DivisorChoice.{fit_found, fit_missed, round_divides}
 use Rattle.rate_planner.proofs.divisors.exact_fit.Goals as goal
 

@@ -1,5 +1,5 @@
 -- The greatest divisor is that of the last field.
-use Rattle.std.proofs.Common.{◌≡◌, ◌-◌, ◌^◌, ◌≤◌, ap, sym, subst, ◌∙◌}
+use Rattle.std.proofs.Common.{◌-◌, ◌≤◌, ap, sym, subst, ◌∙◌}
 use Rattle.kind_math.specs.Rates.{divisor}
 use Rattle.rate_planner.specs.Divisors.{first_field}
 use Rattle.rate_planner.proofs.DivisorChoice.{greatest_is, last_field}

@@ -1,5 +1,4 @@
 -- The steps one by one.
-use Rattle.std.proofs.Common.{◌≡◌, ◌≤◌, sym, ◌∙◌, arith, length}
 use Rattle.clk_tree.specs.Plans.{chain_of}
 use Rattle.rate_planner.specs.Outcomes.{rates_within}
 use Rattle.rate_planner.proofs.ListSteps.{within_fails, within_passes}

@@ -1,9 +1,6 @@
 -- The rate of one clock more comes out.
-use Rattle.std.proofs.Common.{◌≡◌, ◌+◌, ◌-◌, ◌<◌, ◌≤◌, refl, sym, ap, subst, ◌∙◌, arith, length, drop}
+use Rattle.std.proofs.Common.{◌+◌, ◌-◌, refl, ◌∙◌, length}
 use Rattle.std.proofs.lemmas.List.{length-set}
-use Rattle.std.specs.Option.{option_map_or}
-use Rattle.clk_model.specs.Round.{rate_in}
-use Rattle.rate_planner.specs.Outcomes.{first_or}
 use Rattle.rate_planner.proofs.Planning.{outcome_step, first_same}
 use Rattle.rate_planner.proofs.outcome.outcome_rates.Goals as goal
 

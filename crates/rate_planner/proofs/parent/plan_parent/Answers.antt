@@ -3,7 +3,6 @@ use Rattle.std.proofs.Common.{◌≡◌, ◌∷◌, [], Some, ap, sym, ◌∙◌
 use Rattle.clk_base.specs.Description.{kind_of}
 use Rattle.reg_bank.specs.Registers.{Registers}
 use Rattle.clk_model.specs.Rate.{rate_over}
-use Rattle.clk_model.specs.State as state
 use Rattle.clk_tree.specs.declared.chain.ChainStep.{ChainStep}
 use Rattle.clk_tree.specs.Plans.{chain_of, rates_of}
 use Rattle.rate_planner.specs.Kept.{KeepsRates, wired}

@@ -1,7 +1,4 @@
 -- Without a chain there is no plan.
-use Rattle.std.proofs.Common.{◌≡◌, None, ap, sym, subst, ◌∙◌}
-use Rattle.clk_base.specs.Levels.{depth}
-use Rattle.clk_model.specs.Chain.{chain, chain_within}
 use Rattle.rate_planner.specs.Kept.{wired}
 use Rattle.rate_planner.proofs.ListSteps.{told_always}
 use Rattle.rate_planner.proofs.Planning.{chain_missing}

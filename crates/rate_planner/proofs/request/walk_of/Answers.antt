@@ -1,5 +1,5 @@
 -- A chain is planned where what comes out keeps the boundaries.
-use Rattle.std.proofs.Common.{◌≡◌, true, false, Some, None, ap, sym, ◌∙◌}
+use Rattle.std.proofs.Common.{◌≡◌, true, false, ap, sym, ◌∙◌}
 use Rattle.reg_bank.specs.Registers.{Registers}
 use Rattle.clk_tree.specs.Plans.{chain_of, rates_of}
 use Rattle.rate_planner.specs.Kept.{KeepsRates, wired}

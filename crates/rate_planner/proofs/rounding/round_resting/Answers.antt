@@ -1,7 +1,5 @@
 -- The rounding of the definitions is that over all levels.
-use Rattle.std.proofs.Common.{Some, None, ap, ◌∙◌}
-use Rattle.std.specs.Option.{option_map}
-use Rattle.clk_model.specs.Round as round
+use Rattle.std.proofs.Common.{Some, None}
 use Rattle.rate_planner.specs.Given.{rounded_of}
 use Rattle.rate_planner.specs.Kept.{wired}
 use Rattle.rate_planner.proofs.Best.{rate_whole}

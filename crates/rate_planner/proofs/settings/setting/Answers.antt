@@ -1,15 +1,12 @@
 -- The number fits the field.
-use Rattle.std.proofs.Common.{◌≡◌, ◌^◌, ◌<◌, ◌≤◌, Some, sym, ap, subst, ◌∙◌, arith}
+use Rattle.std.proofs.Common.{◌^◌, ◌<◌, sym, ap, subst, ◌∙◌, arith}
 use Rattle.std.specs.Prelude.{IfSome}
 use Rattle.clk_base.specs.declared.clock.Kind.{Kind}
-use Rattle.clk_base.specs.declared.clock.Kind.TheVariants.{Divider, Pll}
-use Rattle.clk_base.specs.Description.{kind_of}
 use Rattle.clk_base.specs.Fields.{field_of}
-use Rattle.kind_math.specs.Dividers.{IsDividerWidth, div_setting}
-use Rattle.kind_math.specs.declared.div_style.DivStyle.{DivStyle}
+use Rattle.kind_math.specs.Dividers.{div_setting}
 use Rattle.clk_model.proofs.SettingLaws.{pll_multiplier-le}
 use Rattle.clk_model.specs.Rate.{style_of}
-use Rattle.rate_planner.proofs.Scaling.{div_setting_fits}
+use Rattle.clk_model.proofs.SettingLaws.{div_setting-fits}
 use Rattle.rate_planner.proofs.settings.setting.Goals as goal
 
 pub returns-in-Divider-clause-fits : goal.returns-in-Divider-clause-fits
@@ -17,7 +14,7 @@ returns-in-Divider-clause-fits c =
     subst (λ (kind : Kind). IfSome (field_of kind) (λ f. c.div_setting.result < 2 ^ f.width)) (sym c.in-Divider.is ∙ c.kind_of.ensures.kind)
     (subst (λ n. n < 2 ^ c.in-Divider.width)
     (sym (c.div_setting.ensures.value ∙ ap (div_setting c.args.parent c.args.rate c.in-Divider.width) c.style_of.ensures))
-    (div_setting_fits (style_of c.in-Divider.one_based c.in-Divider.power_of_two) c.args.parent c.args.rate c.in-Divider.width c.in-Divider.ensures.scales))
+    (div_setting-fits (style_of c.in-Divider.one_based c.in-Divider.power_of_two) c.args.parent c.args.rate c.in-Divider.width c.in-Divider.ensures.scales))
 
 pub returns-in-Pll-clause-fits : goal.returns-in-Pll-clause-fits
 returns-in-Pll-clause-fits c =

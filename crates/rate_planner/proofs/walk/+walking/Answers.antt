@@ -1,12 +1,12 @@
 -- What is added clock by clock is the walk.
-use Rattle.std.proofs.Common.{◌≡◌, ◌+◌, ◌-◌, ◌<◌, ◌≤◌, true, false, ◌∷◌, [], Some, None, refl, ap, sym, subst, ◌∙◌, arith, drop, take, length, get_or}
+use Rattle.std.proofs.Common.{◌≡◌, ◌+◌, ◌∷◌, [], Some, refl, ap, sym, subst, ◌∙◌, arith, drop, take, length}
 use Rattle.std.specs.Prelude.{filter, flat_map, option_map, slice_get}
 use Rattle.clk_base.specs.declared.clock.ClockId.{ClockId}
 use Rattle.clk_model.specs.Tree.{children}
 use Rattle.clk_model.specs.Walk.{below_within, kids_after, movers_to}
 use Rattle.clk_tree.specs.Plans.{chain_of, rates_of}
-use Rattle.rate_planner.specs.Walks.{AreThere, Walks, stays}
-use Rattle.rate_planner.proofs.Walking.{walks_none, walks_on, walks_own, walks_all, there_pushed, stays_walks, stays_none, moves_walks, moves_none, stays_next, stays_past, stays_whole, movers_next, movers_whole, child_told, children_few}
+use Rattle.rate_planner.specs.Walks.{Walks, stays}
+use Rattle.rate_planner.proofs.Walking.{walks_none, walks_on, walks_own, walks_all, stays_walks, moves_walks, moves_none, stays_next, stays_whole, movers_next, child_told, children_few}
 use Rattle.rate_planner.proofs.walk.+walking.Goals as goal
 
 pub move_below-loop-place-preserved : goal.move_below-loop-place-preserved

@@ -1,5 +1,5 @@
 -- The steps one by one.
-use Rattle.std.proofs.Common.{◌≡◌, ◌≤◌, sym, ◌∙◌, arith, length, eq-eqb}
+use Rattle.std.proofs.Common.{eq-eqb}
 use Rattle.std.proofs.lemmas.Bool.{ne_eqb}
 use Rattle.clk_tree.specs.Plans.{chain_of}
 use Rattle.rate_planner.specs.Walks.{kid_rate}

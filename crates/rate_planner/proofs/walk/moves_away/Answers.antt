@@ -1,5 +1,5 @@
 -- The steps one by one.
-use Rattle.std.proofs.Common.{◌≡◌, ◌≤◌, sym, ◌∙◌, arith, length}
+use Rattle.std.proofs.Common.{sym, ◌∙◌}
 use Rattle.clk_model.specs.Walk.{moves_away}
 use Rattle.clk_tree.specs.Plans.{chain_of}
 use Rattle.rate_planner.proofs.ListSteps.{moves_found, moves_passed}

@@ -1,6 +1,5 @@
 -- The walk begins at the top.
-use Rattle.std.proofs.Common.{◌≡◌, ◌-◌, ◌<◌, refl, sym, ap, ◌∙◌, arith, length}
-use Rattle.clk_tree.specs.Plans.{chain_of}
+use Rattle.std.proofs.Common.{refl}
 use Rattle.rate_planner.proofs.Walking.{walks_top}
 use Rattle.rate_planner.proofs.walk.walk_rates.Goals as goal
 

@@ -1,5 +1,5 @@
 -- Clock by clock, what is below it and then the clock.
-use Rattle.std.proofs.Common.{◌≡◌, ℕ, suc, ◌+◌, ◌-◌, ◌<◌, ◌≤◌, ◌++◌, List, [], ◌∷◌, Option, Some, None, refl, sym, ap, ◌∙◌, inl, arith, length, drop, map}
+use Rattle.std.proofs.Common.{◌≡◌, ℕ, suc, ◌+◌, ◌-◌, ◌≤◌, ◌++◌, List, [], ◌∷◌, Some, None, refl, sym, ap, ◌∙◌, inl, arith, length, drop, map}
 use Rattle.std.specs.Prelude.{slice_get}
 use Rattle.std.specs.Option.{option_map}
 use Rattle.std.proofs.lemmas.List.{append-nil, map-append, length-append, length-map}
@@ -7,7 +7,8 @@ use Rattle.clk_base.specs.declared.clock.ClockId.{ClockId}
 use Rattle.clk_model.specs.Tree.{children}
 use Rattle.clk_tree.proofs.Along.{none_left}
 use Rattle.unused_sweep.specs.Together.{trees}
-use Rattle.unused_sweep.proofs.Sweeping.{drop_zero, drop_at, few_at, within_at, no_trees, next_along, one_tree}
+use Rattle.clk_tree.proofs.Along.{drop_zero, drop_at, few_at, within_at}
+use Rattle.unused_sweep.proofs.Sweeping.{no_trees, next_along, one_tree}
 use Rattle.unused_sweep.proofs.trees.+push_trees.Goals as goal
 
 -- clocks with more clocks behind them are as many or more

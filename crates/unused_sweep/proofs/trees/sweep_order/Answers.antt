@@ -1,8 +1,7 @@
 -- The roots, or without any the orphans, and then the orphans that are left.
-use Rattle.std.proofs.Common.{◌≡◌, ◌∙◌, ◌<◌, ◌++◌, ℕ, List, map, refl, sym, ap, subst, inl, inr}
+use Rattle.std.proofs.Common.{◌∙◌, ◌<◌, ◌++◌, ℕ, List, map, refl, sym, ap, subst, inl, inr}
 use Rattle.std.specs.Prelude.{drop}
 use Rattle.clk_base.specs.declared.clock.ClockId.{ClockId}
-use Rattle.clk_base.specs.Levels.{depth}
 use Rattle.clk_model.specs.Tree.{roots, orphans}
 use Rattle.unused_sweep.specs.Together.{trees}
 use Rattle.unused_sweep.proofs.Sweeping.{both_lists, sweeps_trees}
