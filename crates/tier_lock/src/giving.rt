@@ -53,7 +53,6 @@ impl<T: Kept> Lock<T> {
         let shared = &self.table.shared;
         refill(shared, &mut pass.seat, value);
         shared.fetch_add::<Give<T>>(&mut pass.seat, 0, 1);
-        shared.wake_one(0);
         pass.room -= cost;
     }
 
@@ -74,6 +73,5 @@ impl<T: Kept> Lock<T> {
         let shared = &self.table.shared;
         refill(shared, &mut pass.seat, value);
         shared.fetch_sub::<GiveBack<T>>(&mut pass.seat, 0, 1);
-        shared.wake_one(0);
     }
 }

@@ -30,3 +30,32 @@ pub trait Kept: Drop {
 
     ghost costs_little: { (e : Self.Entry) → cost e ≤ 1 };
 }
+
+/// A value in a box moves into a turn and out of it by its pointer, however long it is.
+impl<T: Kept> Kept for Box<T> {
+    type Entry = T::Entry;
+
+    type Fixed = T::Fixed;
+
+    ghost entries = { λ b. T.entries b.value };
+
+    ghost fixed = { λ b. T.fixed b.value };
+
+    ghost by = { T.by };
+
+    ghost prep = { T.prep };
+
+    ghost cost = { T.cost };
+
+    ghost most = { T.most };
+
+    fn total(&self) -> u32 {
+        (**self).total()
+    }
+
+    fn last_cost(&self) -> u32 {
+        (**self).last_cost()
+    }
+
+    ghost costs_little = { λ e. T.costs_little e };
+}

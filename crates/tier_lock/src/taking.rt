@@ -12,9 +12,6 @@ use crate::rule::{SeatOf, SharedOf};
 use crossbeam_utils::Backoff;
 use std::sync::Wait;
 
-// Threads sleep on the low half of the word.
-const LOW_HALF: u64 = 0xffff_ffff;
-
 // One try, at the word that was just read. It fails where the lock is taken, or where another pass came first.
 fn try_take<T: Kept>(shared: &SharedOf<T>, seat: &mut SeatOf<T>, word: u64) -> Option<T>
     requires table { IsOf shared.now.table_id seat.old.table_id }
@@ -36,7 +33,7 @@ fn try_take<T: Kept>(shared: &SharedOf<T>, seat: &mut SeatOf<T>, word: u64) -> O
     Some(value)
 }
 
-// Until this seat is the one that wins. It sleeps only while the lock is taken, since who took it wakes a sleeper as it gives.
+// Until this seat is the one that wins. Between two tries it spins: a turn is short, and to sleep and be woken costs calls of the system.
 fn take_value<T: Kept, R: Wait>(rt: &R, shared: &SharedOf<T>, seat: &mut SeatOf<T>) -> T
     requires table { IsOf shared.now.table_id seat.old.table_id }
     requires free { IsFree seat.old.me }
@@ -49,11 +46,7 @@ fn take_value<T: Kept, R: Wait>(rt: &R, shared: &SharedOf<T>, seat: &mut SeatOf<
         if let Some(value) = try_take(shared, seat, word) {
             return value;
         }
-        if backoff.is_completed() && word % 2 == 1 {
-            shared.park(rt, 0, (word & LOW_HALF) as u32);
-        } else {
-            backoff.snooze();
-        }
+        backoff.snooze();
     }
     unreachable!()
 }
