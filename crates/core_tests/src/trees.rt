@@ -85,6 +85,15 @@ fn refresh_from<B: Bank>(rt: &impl Abort, tree: &mut Tree, desc: &ValidDesc, ban
     tree.refresh(desc, bank, c);
 }
 
+// Makes a rate the last request of a clock, and ends the test of a place outside.
+fn request(rt: &impl Abort, tree: &mut Tree, desc: &ValidDesc, c: ClockId, rate: u64)
+    requires { desc.now.defs ≡ tree.old.defs }
+    ensures { tree.new.defs ≡ tree.old.defs }
+{
+    assert!(rt; (c.0 as usize) < desc.len());
+    tree.set_last_request(c, rate);
+}
+
 // The kept rate of a clock, and 0 of a place outside.
 fn kept(tree: &Tree, desc: &ValidDesc, c: ClockId) -> u64
     requires { desc.now.defs ≡ tree.now.defs }
@@ -104,104 +113,139 @@ const UART: ClockId = ClockId(2);
 
 const SPI: ClockId = ClockId(3);
 
-// The tree of the four clocks, with the gate `spi` still an orphan.
-fn tree_of_four(rt: &impl Abort, alloc: Global, desc: &ValidDesc) -> Result<Tree, Fail>
-    ensures { IfOk result (λ tree. tree.defs ≡ desc.now.defs) }
+/// What is done with a tree, or looked at.
+#[derive(Drop)]
+enum Step {
+    /// The clock is registered, or attached anew, without a parent.
+    Alone(ClockId),
+    /// The clock is attached to the parent behind it.
+    Under(ClockId, ClockId),
+    /// The rates of the clock and of all below it are brought up to date.
+    Refresh(ClockId),
+    /// The clock's last request is this rate.
+    Request(ClockId, u64),
+    Registered(ClockId, bool),
+    Rooted(ClockId, bool),
+    Parent(ClockId, Option<ClockId>),
+    /// The clock at a place among the roots and then the orphans.
+    Top(usize, Option<ClockId>),
+    /// The child of a clock at a place.
+    Child(ClockId, usize, Option<ClockId>),
+    FirstChild(ClockId, Option<ClockId>),
+    NextSibling(ClockId, Option<ClockId>),
+    Rate(ClockId, u64),
+    LastRequest(ClockId, u64),
+}
+
+// Changes the tree where the step says so.
+fn change<B: Bank>(rt: &impl Abort, tree: &mut Tree, desc: &ValidDesc, bank: &B, step: &Step)
+    requires made { desc.now.defs ≡ tree.old.defs }
+    requires bank { desc.now.words ≤ B.size bank.now }
+    ensures { tree.new.defs ≡ tree.old.defs }
 {
-    let mut tree = Tree::create(alloc, desc)?;
-    attach_alone(rt, &mut tree, desc, OSC);
-    attach_alone(rt, &mut tree, desc, RTC);
-    attach_to(rt, &mut tree, desc, UART, OSC);
-    attach_alone(rt, &mut tree, desc, SPI);
-    Ok(tree)
+    match step {
+        Step::Alone(c) => attach_alone(rt, tree, desc, *c),
+        Step::Under(c, p) => attach_to(rt, tree, desc, *c, *p),
+        Step::Refresh(c) => refresh_from(rt, tree, desc, bank, *c),
+        Step::Request(c, rate) => request(rt, tree, desc, *c, *rate),
+        _ => {}
+    }
 }
 
-#[test]
-fn a_new_tree_is_empty(rt: HostRuntime) -> Result<(), Fail> {
-    let desc = four_clocks(rt.alloc())?;
-    let tree = Tree::create(rt.alloc(), &desc)?;
-    assert!(rt; !tree.registered(OSC));
-    assert!(rt; !tree.rooted(OSC));
-    assert_eq!(rt; tree.parent(UART), None);
-    assert_eq!(rt; tree.top(0), None);
-    assert_eq!(rt; kept(&tree, &desc, OSC), 0);
+// Whether the tree is as the step says, where it says how the tree is.
+fn is_as_said(tree: &Tree, desc: &ValidDesc, step: &Step) -> bool
+    requires { desc.now.defs ≡ tree.now.defs }
+{
+    match step {
+        Step::Registered(c, there) => tree.registered(*c) == *there,
+        Step::Rooted(c, rooted) => tree.rooted(*c) == *rooted,
+        Step::Parent(c, parent) => tree.parent(*c) == *parent,
+        Step::Top(place, c) => tree.top(*place) == *c,
+        Step::Child(p, place, c) => tree.child(*p, *place) == *c,
+        Step::FirstChild(p, c) => tree.first_child(*p) == *c,
+        Step::NextSibling(c, next) => tree.next_sibling(*c) == *next,
+        Step::Rate(c, rate) => kept(tree, desc, *c) == *rate,
+        Step::LastRequest(c, rate) => tree.last_request(*c) == *rate,
+        _ => true,
+    }
+}
+
+// Takes the steps one after the other.
+fn take_all<B: Bank>(rt: &impl Abort, tree: &mut Tree, desc: &ValidDesc, bank: &B, steps: &[Step])
+    requires made { desc.now.defs ≡ tree.old.defs }
+    requires bank { desc.now.words ≤ B.size bank.now }
+    ensures { tree.new.defs ≡ tree.old.defs }
+{
+    for step in steps {
+        change(rt, tree, desc, bank, step);
+        assert!(rt; is_as_said(tree, desc, step));
+    }
+}
+
+// Takes the steps over a new tree of the four clocks.
+fn check_steps(rt: &impl Abort, alloc: Global, steps: &[Step]) -> Result<(), Fail> {
+    let desc = four_clocks(alloc)?;
+    let bank = MemBank::new(alloc)?;
+    let mut tree = Tree::create(alloc, &desc)?;
+    take_all(rt, &mut tree, &desc, &bank, steps);
+    assert!(rt; tree.plls() == 0);
     Ok(())
 }
 
 #[test]
-fn roots_stand_before_orphans(rt: HostRuntime) -> Result<(), Fail> {
-    let desc = four_clocks(rt.alloc())?;
-    let tree = tree_of_four(&rt, rt.alloc(), &desc)?;
-    assert_eq!(rt; tree.top(0), Some(RTC));
-    assert_eq!(rt; tree.top(1), Some(OSC));
-    assert_eq!(rt; tree.top(2), Some(SPI));
-    assert_eq!(rt; tree.top(3), None);
-    assert!(rt; tree.rooted(UART));
-    assert!(rt; tree.registered(SPI));
-    assert!(rt; !tree.rooted(SPI));
-    assert_eq!(rt; tree.parent(UART), Some(OSC));
-    assert_eq!(rt; tree.parent(SPI), None);
-    Ok(())
-}
-
-#[test]
-fn the_newest_child_comes_first(rt: HostRuntime) -> Result<(), Fail> {
-    let desc = four_clocks(rt.alloc())?;
-    let mut tree = tree_of_four(&rt, rt.alloc(), &desc)?;
-    assert_eq!(rt; tree.child(OSC, 0), Some(UART));
-    assert_eq!(rt; tree.child(OSC, 1), None);
-    attach_to(&rt, &mut tree, &desc, SPI, OSC);
-    assert_eq!(rt; tree.child(OSC, 0), Some(SPI));
-    assert_eq!(rt; tree.child(OSC, 1), Some(UART));
-    assert_eq!(rt; tree.top(2), None);
-    attach_to(&rt, &mut tree, &desc, UART, OSC);
-    assert_eq!(rt; tree.child(OSC, 0), Some(UART));
-    assert_eq!(rt; tree.child(OSC, 1), Some(SPI));
-    assert_eq!(rt; tree.child(RTC, 0), None);
-    Ok(())
-}
-
-#[test]
-fn rates_are_kept_until_they_are_refreshed(rt: HostRuntime) -> Result<(), Fail> {
-    let desc = four_clocks(rt.alloc())?;
-    let bank = MemBank::new(rt.alloc())?;
-    let mut tree = tree_of_four(&rt, rt.alloc(), &desc)?;
-    refresh_from(&rt, &mut tree, &desc, &bank, OSC);
-    assert_eq!(rt; kept(&tree, &desc, OSC), 24_000_000);
-    assert_eq!(rt; kept(&tree, &desc, UART), 24_000_000);
-    assert_eq!(rt; kept(&tree, &desc, RTC), 0);
-    attach_to(&rt, &mut tree, &desc, SPI, OSC);
-    assert_eq!(rt; kept(&tree, &desc, SPI), 0);
-    refresh_from(&rt, &mut tree, &desc, &bank, SPI);
-    assert_eq!(rt; kept(&tree, &desc, SPI), 24_000_000);
-    Ok(())
-}
-
-#[test]
-fn clocks_that_stand_together_are_gone_along(rt: HostRuntime) -> Result<(), Fail> {
-    let desc = four_clocks(rt.alloc())?;
-    let mut tree = tree_of_four(&rt, rt.alloc(), &desc)?;
-    attach_to(&rt, &mut tree, &desc, SPI, OSC);
-    assert_eq!(rt; tree.first_child(OSC), Some(SPI));
-    assert_eq!(rt; tree.next_sibling(SPI), Some(UART));
-    assert_eq!(rt; tree.next_sibling(UART), None);
-    assert_eq!(rt; tree.next_sibling(RTC), Some(OSC));
-    assert_eq!(rt; tree.first_child(RTC), None);
-    assert_eq!(rt; tree.plls(), 0);
-    Ok(())
-}
-
-#[test]
-fn a_last_request_is_kept(rt: HostRuntime) -> Result<(), Fail> {
-    let desc = four_clocks(rt.alloc())?;
-    let mut tree = tree_of_four(&rt, rt.alloc(), &desc)?;
-    assert_eq!(rt; tree.last_request(UART), 0);
-    assert!(rt; (UART.0 as usize) < desc.len());
-    tree.set_last_request(UART, 115_200);
-    attach_to(&rt, &mut tree, &desc, UART, OSC);
-    assert_eq!(rt; tree.last_request(UART), 115_200);
-    assert_eq!(rt; tree.last_request(SPI), 0);
-    Ok(())
+fn a_tree_is_as_it_was_attached(rt: HostRuntime) -> Result<(), Fail> {
+    let steps = [
+        // a new tree is empty
+        Step::Registered(OSC, false),
+        Step::Rooted(OSC, false),
+        Step::Parent(UART, None),
+        Step::Top(0, None),
+        Step::Rate(OSC, 0),
+        // roots stand before orphans
+        Step::Alone(OSC),
+        Step::Alone(RTC),
+        Step::Under(UART, OSC),
+        Step::Alone(SPI),
+        Step::Top(0, Some(RTC)),
+        Step::Top(1, Some(OSC)),
+        Step::Top(2, Some(SPI)),
+        Step::Top(3, None),
+        Step::Rooted(UART, true),
+        Step::Registered(SPI, true),
+        Step::Rooted(SPI, false),
+        Step::Parent(UART, Some(OSC)),
+        Step::Parent(SPI, None),
+        // rates are kept until they are refreshed
+        Step::Refresh(OSC),
+        Step::Rate(OSC, 24_000_000),
+        Step::Rate(UART, 24_000_000),
+        Step::Rate(RTC, 0),
+        Step::Child(OSC, 0, Some(UART)),
+        Step::Child(OSC, 1, None),
+        Step::Under(SPI, OSC),
+        Step::Rate(SPI, 0),
+        Step::Refresh(SPI),
+        Step::Rate(SPI, 24_000_000),
+        // clocks that stand together are gone along, the newest child first
+        Step::FirstChild(OSC, Some(SPI)),
+        Step::NextSibling(SPI, Some(UART)),
+        Step::NextSibling(UART, None),
+        Step::NextSibling(RTC, Some(OSC)),
+        Step::FirstChild(RTC, None),
+        Step::Child(OSC, 0, Some(SPI)),
+        Step::Child(OSC, 1, Some(UART)),
+        Step::Top(2, None),
+        // a last request is kept
+        Step::LastRequest(UART, 0),
+        Step::Request(UART, 115_200),
+        Step::Under(UART, OSC),
+        Step::LastRequest(UART, 115_200),
+        Step::LastRequest(SPI, 0),
+        Step::Child(OSC, 0, Some(UART)),
+        Step::Child(OSC, 1, Some(SPI)),
+        Step::Child(RTC, 0, None),
+    ];
+    check_steps(&rt, rt.alloc(), &steps)
 }
 
 // A PLL whose multiplier is in the first bits of word 0.
@@ -291,10 +335,10 @@ fn check_rates(rt: &impl Abort, alloc: Global, words: [u32; 2], rows: &[Row]) ->
     let mut tree = Tree::create(alloc, &desc)?;
     attach_all(rt, &mut tree, &desc, rows);
     refresh_from(rt, &mut tree, &desc, &bank, OSC);
-    assert_eq!(rt; tree.plls(), 1);
+    assert!(rt; tree.plls() == 1);
     for place in 0..rows.len() {
         assert!(rt; place < 100);
-        assert_eq!(rt; kept(&tree, &desc, ClockId(place as u32)), rows[place].2);
+        assert!(rt; kept(&tree, &desc, ClockId(place as u32)) == rows[place].2);
     }
     Ok(())
 }
@@ -382,15 +426,15 @@ fn a_plan_gives_its_lists_back(rt: HostRuntime) -> Result<(), Fail> {
         rates: WalkRates::new(vec![in rt.alloc(); rate]?),
         set_parent: false,
     };
-    assert_eq!(rt; plan.chain.as_slice().first(), Some(&step));
-    assert_eq!(rt; plan.rates.as_slice().first(), Some(&rate));
+    assert!(rt; plan.chain.as_slice() == [step].as_slice());
+    assert!(rt; plan.rates.as_slice() == [rate].as_slice());
     assert!(rt; !plan.set_parent);
     let Plan {
         chain,
         rates,
         set_parent: _,
     } = plan;
-    assert_eq!(rt; chain.into_steps().len(), 1);
-    assert_eq!(rt; rates.into_rates().len(), 1);
+    assert!(rt; chain.into_steps().len() == 1);
+    assert!(rt; rates.into_rates().len() == 1);
     Ok(())
 }
