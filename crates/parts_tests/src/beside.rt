@@ -1,10 +1,11 @@
 //! Counts beside plain lists of holders.
 
-ghost use Rattle.std.specs.Prelude.{◌≡◌, ◌<◌, true, length, IfOk, IfSome};
+ghost use Rattle.std.specs.Prelude.{◌≡◌, ◌<◌, true, length, replicate, IfOk, IfSome};
 ghost use Rattle.clk_base.specs.Description.{parents_of};
 ghost use Rattle.clk_model.specs.Lists.{is_in};
 ghost use Rattle.clk_model.specs.State.{registered};
 
+use crate::clocks::is_possible;
 use crate::plain::{count_held, plain_sums};
 use clk_base::{ClockId, ValidDesc};
 use clk_tree::Tree;
@@ -14,14 +15,33 @@ use std::marker::Model;
 use std::process::Abort;
 use std::test::Fail;
 
-/// A tree, its counts, and how many holders of each kind each clock has.
+/// How many holders of each kind each clock has.
+#[derive(Drop)]
+struct Holders {
+    enables: Vec<u32>,
+    prepares: Vec<u32>,
+    exclusives: Vec<u32>,
+}
+
+// Nobody holds one of so many clocks.
+fn no_holders(alloc: Global, clocks: usize) -> Result<Holders, AllocError>
+    ensures enables { IfOk result (λ made. made.enables.items ≡ replicate clocks 0) }
+    ensures prepares { IfOk result (λ made. made.prepares.items ≡ replicate clocks 0) }
+    ensures exclusives { IfOk result (λ made. made.exclusives.items ≡ replicate clocks 0) }
+{
+    Ok(Holders {
+        enables: vec![in alloc; 0u32; clocks]?,
+        prepares: vec![in alloc; 0u32; clocks]?,
+        exclusives: vec![in alloc; 0u32; clocks]?,
+    })
+}
+
+/// A tree, its counts, and the holders beside them.
 #[derive(Drop)]
 pub(crate) struct Beside {
     tree: Tree,
     counts: Counts,
-    enables: Vec<u32>,
-    prepares: Vec<u32>,
-    exclusives: Vec<u32>,
+    own: Holders,
 }
 
 impl Model for Beside {
@@ -33,20 +53,7 @@ impl Model for Beside {
 
     ghost view = { λ b. b.tree.defs };
 
-    ghost invariant = { λ b. AreBeside b.tree b.counts b.enables.items b.prepares.items b.exclusives.items };
-}
-
-// Whether a clock is a possible parent of another.
-fn is_possible(desc: &ValidDesc, c: ClockId, p: ClockId) -> bool
-    requires { c.0 < length desc.now.defs }
-    ensures { result ≡ is_in p.0 (parents_of desc.now.defs c.0) }
-{
-    for parent in desc.def(c).parents.as_slice() {
-        if parent.0 == p.0 {
-            return true;
-        }
-    }
-    false
+    ghost invariant = { λ b. AreBeside b.tree b.counts b.own.enables.items b.own.prepares.items b.own.exclusives.items };
 }
 
 // The clock as a parent, if it is registered and a possible one.
@@ -72,14 +79,10 @@ impl Beside {
     pub(crate) fn create(alloc: Global, desc: &ValidDesc) -> Result<Beside, Fail>
         ensures { IfOk result (λ made. made ≡ desc.now.defs) }
     {
-        let clocks = desc.len();
-        Ok(Beside {
-            tree: Tree::create(alloc, desc)?,
-            counts: Counts::create(alloc, desc)?,
-            enables: vec![in alloc; 0u32; clocks]?,
-            prepares: vec![in alloc; 0u32; clocks]?,
-            exclusives: vec![in alloc; 0u32; clocks]?,
-        })
+        let own = no_holders(alloc, desc.len())?;
+        let tree = Tree::create(alloc, desc)?;
+        let counts = Counts::create(alloc, desc)?;
+        Ok(Beside { tree, counts, own })
     }
 
     /// One enable holder more, and how many clocks became active.
@@ -87,10 +90,10 @@ impl Beside {
         ensures { self.new ≡ self.old }
     {
         let at = c.0 as usize;
-        if at >= self.enables.len() || self.enables[at] >= 1000 {
+        if at >= self.own.enables.len() || self.own.enables[at] >= 1000 {
             return 0;
         }
-        self.enables[at] += 1;
+        self.own.enables[at] += 1;
         self.counts.enable_walk(&self.tree, c)
     }
 
@@ -99,10 +102,10 @@ impl Beside {
         ensures { self.new ≡ self.old }
     {
         let at = c.0 as usize;
-        if at >= self.enables.len() || self.enables[at] == 0 {
+        if at >= self.own.enables.len() || self.own.enables[at] == 0 {
             return 0;
         }
-        self.enables[at] -= 1;
+        self.own.enables[at] -= 1;
         self.counts.disable_walk(&self.tree, c)
     }
 
@@ -111,10 +114,10 @@ impl Beside {
         ensures { self.new ≡ self.old }
     {
         let at = c.0 as usize;
-        if at >= self.prepares.len() || self.prepares[at] >= 1000 {
+        if at >= self.own.prepares.len() || self.own.prepares[at] >= 1000 {
             return 0;
         }
-        self.prepares[at] += 1;
+        self.own.prepares[at] += 1;
         self.counts.hold(&self.tree, c)
     }
 
@@ -123,10 +126,10 @@ impl Beside {
         ensures { self.new ≡ self.old }
     {
         let at = c.0 as usize;
-        if at >= self.prepares.len() || self.prepares[at] == 0 {
+        if at >= self.own.prepares.len() || self.own.prepares[at] == 0 {
             return 0;
         }
-        self.prepares[at] -= 1;
+        self.own.prepares[at] -= 1;
         self.counts.release(&self.tree, c)
     }
 
@@ -135,8 +138,8 @@ impl Beside {
         ensures { self.new ≡ self.old }
     {
         let at = c.0 as usize;
-        if at < self.exclusives.len() && self.exclusives[at] < 1000 {
-            self.exclusives[at] += 1;
+        if at < self.own.exclusives.len() && self.own.exclusives[at] < 1000 {
+            self.own.exclusives[at] += 1;
             self.counts.protect(&self.tree, c);
         }
     }
@@ -146,8 +149,8 @@ impl Beside {
         ensures { self.new ≡ self.old }
     {
         let at = c.0 as usize;
-        if at < self.exclusives.len() && self.exclusives[at] > 0 {
-            self.exclusives[at] -= 1;
+        if at < self.own.exclusives.len() && self.own.exclusives[at] > 0 {
+            self.own.exclusives[at] -= 1;
             self.counts.unprotect(&self.tree, c);
         }
     }
@@ -168,7 +171,7 @@ impl Beside {
 
     // The three kept counts of a clock of the description.
     fn kept(&self, c: ClockId) -> Option<(u32, u32, u32)> {
-        if c.0 as usize >= self.enables.len() {
+        if c.0 as usize >= self.own.enables.len() {
             return None;
         }
         let counts = &self.counts;
@@ -179,7 +182,7 @@ impl Beside {
     fn links(&self, alloc: Global) -> Result<Vec<Option<ClockId>>, AllocError> {
         let mut links = Vec::new(alloc);
         let mut place = 0u32;
-        for _count in &self.enables {
+        for _count in &self.own.enables {
             links.push(self.tree.parent(ClockId(place)))?;
             place = place.wrapping_add(1);
         }
@@ -189,15 +192,15 @@ impl Beside {
     /// How many clocks are active, and how many are prepared.
     pub(crate) fn held(&self, alloc: Global) -> Result<(usize, usize), AllocError> {
         let links = self.links(alloc)?;
-        let active = count_held(alloc, links.as_slice(), self.enables.as_slice())?;
-        let prepared = count_held(alloc, links.as_slice(), self.prepares.as_slice())?;
+        let active = count_held(alloc, links.as_slice(), self.own.enables.as_slice())?;
+        let prepared = count_held(alloc, links.as_slice(), self.own.prepares.as_slice())?;
         Ok((active, prepared))
     }
 
     // What each clock has of protections of its own.
     fn protections(&self, alloc: Global, prepares: &[u32]) -> Result<Vec<u32>, AllocError> {
         let mut own = Vec::new(alloc);
-        for (place, (count, prepared)) in self.exclusives.iter().zip(prepares).enumerate() {
+        for (place, (count, prepared)) in self.own.exclusives.iter().zip(prepares).enumerate() {
             let gated = if is_gated(place) { *prepared } else { 0 };
             own.push(count.saturating_add(gated))?;
         }
@@ -207,11 +210,11 @@ impl Beside {
     /// The kept counts are the plain sums.
     pub(crate) fn expect_sums(&self, rt: &impl Abort, alloc: Global) -> Result<(), AllocError> {
         let links = self.links(alloc)?;
-        let enables = plain_sums(alloc, links.as_slice(), self.enables.as_slice())?;
-        let prepares = plain_sums(alloc, links.as_slice(), self.prepares.as_slice())?;
+        let enables = plain_sums(alloc, links.as_slice(), self.own.enables.as_slice())?;
+        let prepares = plain_sums(alloc, links.as_slice(), self.own.prepares.as_slice())?;
         let own = self.protections(alloc, prepares.as_slice())?;
         let protects = plain_sums(alloc, links.as_slice(), own.as_slice())?;
-        assert!(rt; enables.len() == self.enables.len());
+        assert!(rt; enables.len() == self.own.enables.len());
         let mut c = 0u32;
         for ((enabled, prepared), protected) in enables.iter().zip(&prepares).zip(&protects) {
             assert!(rt; self.kept(ClockId(c)) == Some((*enabled, *prepared, *protected)));

@@ -5,7 +5,11 @@
 #[cfg(test)]
 mod beside;
 #[cfg(test)]
+mod clocks;
+#[cfg(test)]
 mod plain;
+#[cfg(test)]
+mod plans;
 #[cfg(test)]
 mod runs;
 #[cfg(test)]

@@ -1,13 +1,10 @@
-//! Long runs of calls beside plain lists.
+//! A long run of calls beside plain lists of holders.
 
-ghost use Rattle.std.specs.Prelude.{◌≡◌, ◌<◌, length};
+ghost use Rattle.std.specs.Prelude.{◌≡◌};
 
 use crate::beside::Beside;
-use bundle_text::TextLines;
-use clk_base::{ClockId, Handle, Policy, ValidDesc};
-use clock_lines::read_clocks;
-use notifiers::{ChainFault, Notifiers};
-use rate_requests::Requests;
+use crate::clocks::described;
+use clk_base::{ClockId, ValidDesc};
 use std::alloc::Global;
 use std::process::Abort;
 use std::test::Fail;
@@ -36,14 +33,6 @@ mux m10 10 0 2 3 m9 m8 m5\n\
 mux m11 11 0 2 3 m10 m9 m5 set-rate-gate\n\
 mux m12 12 0 2 3 m11 m10 m6\n\
 mux m13 13 0 2 3 m12 m11 m6\n";
-
-// The description of these lines.
-fn muxes(rt: &impl Abort, alloc: Global) -> Result<ValidDesc, Fail> {
-    let lines = TextLines::new(alloc, CLOCK_LINES.as_bytes())?;
-    assert!(rt; lines.len() == CLOCKS as usize);
-    let list = read_clocks(alloc, &lines, 0, lines.len())?;
-    Ok(list.desc.check(alloc, CLOCKS)?)
-}
 
 // One call, and by how many the active and the prepared clocks are to change.
 fn turn(beside: &mut Beside, what: u32, c: ClockId) -> (usize, usize)
@@ -116,193 +105,8 @@ fn turns(rt: &impl Abort, alloc: Global, beside: &mut Beside, desc: &ValidDesc) 
 
 #[test]
 fn kept_counts_are_plain_sums(rt: HostRuntime) -> Result<(), Fail> {
-    let desc = muxes(&rt, rt.alloc())?;
+    let desc = described(&rt, rt.alloc(), CLOCK_LINES, CLOCKS)?;
     let mut beside = Beside::create(rt.alloc(), &desc)?;
     attach_all(&mut beside, &desc);
     turns(&rt, rt.alloc(), &mut beside, &desc)
-}
-
-// A notifier as it was added.
-#[derive(Clone, Copy, PartialEq, Drop)]
-struct Added {
-    clock: u32,
-    id: u32,
-    priority: i32,
-}
-
-// A clock's chain is its notifiers by falling priority, equals in the order of adding.
-fn expect_chain(rt: &impl Abort, chains: &Notifiers, added: &[Added], c: u32) {
-    let chain = chains.chain(ClockId(c));
-    let mut at = 0;
-    for priority in [3, 2, 1, 0, -1, -2, -3] {
-        for one in added {
-            if one.clock == c && one.priority == priority {
-                assert!(rt; at < chain.len());
-                assert!(rt; chain[at].id == one.id && chain[at].priority == one.priority);
-                at += 1;
-            }
-        }
-    }
-    assert!(rt; at == chain.len());
-}
-
-// Adds a notifier where its clock has none of its id.
-fn add_beside(
-    rt: &impl Abort,
-    chains: &mut Notifiers,
-    added: &mut Vec<Added>,
-    one: Added,
-) -> Result<(), Fail>
-    requires { one.clock < length chains.old }
-    ensures { length chains.new ≡ length chains.old }
-{
-    let there = added
-        .iter()
-        .any(|other| other.clock == one.clock && other.id == one.id);
-    let done = chains.add(ClockId(one.clock), one.id, one.priority, Policy::Accept);
-    if there {
-        assert!(rt; done == Err(ChainFault::Exists));
-    } else {
-        assert!(rt; done == Ok(()));
-        added.push(one)?;
-    }
-    Ok(())
-}
-
-// Removes a notifier where its clock has one of its id.
-fn remove_beside(rt: &impl Abort, chains: &mut Notifiers, added: &mut Vec<Added>, c: u32, id: u32)
-    ensures { length chains.new ≡ length chains.old }
-{
-    let before = added.len();
-    added.retain(|one| !(one.clock == c && one.id == id));
-    assert!(rt; chains.remove(ClockId(c), id) == (added.len() < before));
-}
-
-#[test]
-fn chains_are_plain_lists(rt: HostRuntime) -> Result<(), Fail> {
-    let alloc = rt.alloc();
-    let desc = muxes(&rt, alloc)?;
-    assert!(rt; desc.len() >= 3);
-    let mut chains = Notifiers::create(alloc, &desc)?;
-    let mut added = Vec::new(alloc);
-    let mut seed = 1;
-    for _turn in 0..300 {
-        let clock = draw(&mut seed) % 3;
-        let id = draw(&mut seed) % 12;
-        let priority = (draw(&mut seed) % 7) as i32 - 3;
-        if draw(&mut seed) % 3 < 2 {
-            add_beside(
-                &rt,
-                &mut chains,
-                &mut added,
-                Added {
-                    clock,
-                    id,
-                    priority,
-                },
-            )?;
-        } else {
-            remove_beside(&rt, &mut chains, &mut added, clock, id);
-        }
-        expect_chain(&rt, &chains, added.as_slice(), clock);
-    }
-    Ok(())
-}
-
-// A handle, and its range while it is live.
-#[derive(Clone, Copy, PartialEq, Drop)]
-struct Ranged {
-    handle: Handle,
-    clock: u32,
-    range: Option<(u64, u64)>,
-}
-
-// The boundaries of a clock are the greatest minimum and the least maximum of its live handles.
-fn expect_boundaries(rt: &impl Abort, requests: &Requests, handles: &[Ranged], c: u32) {
-    let mut low = 0;
-    let mut high = u64::MAX;
-    for one in handles {
-        if let Some((min, max)) = one.range
-            && one.clock == c
-        {
-            low = low.max(min);
-            high = high.min(max);
-        }
-    }
-    assert!(rt; requests.boundaries(ClockId(c)) == (low, high));
-}
-
-// Whether a range isn't empty and misses none of the other live handles of the clock.
-fn plain_fits(handles: &[Ranged], at: usize, c: u32, min: u64, max: u64) -> bool {
-    let mut fits = min <= max;
-    for (place, one) in handles.iter().enumerate() {
-        if let Some((low, high)) = one.range
-            && one.clock == c
-            && place != at
-        {
-            fits = fits && min <= high && low <= max;
-        }
-    }
-    fits
-}
-
-// Sets the range of a live handle, or puts it back.
-fn range_beside(
-    rt: &impl Abort,
-    requests: &mut Requests,
-    handles: &mut [Ranged],
-    at: usize,
-    range: Option<(u64, u64)>,
-) {
-    assert!(rt; at < handles.len());
-    let one = handles[at];
-    assert!(rt; requests.live(1, one.handle) == one.range.is_some());
-    if !requests.live(1, one.handle) {
-        return;
-    }
-    match range {
-        Some((min, max)) => {
-            let fits = plain_fits(handles, at, one.clock, min, max);
-            assert!(rt; requests.fits(one.handle, min, max) == fits);
-            requests.set_range(one.handle, min, max);
-        }
-        None => requests.remove(one.handle),
-    }
-    handles[at] = Ranged { range, ..one };
-}
-
-#[test]
-fn boundaries_are_those_of_plain_lists(rt: HostRuntime) -> Result<(), Fail> {
-    let alloc = rt.alloc();
-    let desc = muxes(&rt, alloc)?;
-    assert!(rt; desc.len() >= 3);
-    let mut requests = Requests::create(alloc, &desc)?;
-    let mut handles = Vec::new(alloc);
-    let mut seed = 1;
-    for made in 0..40u32 {
-        let clock = made % 3;
-        let handle = requests.add(1, ClockId(clock))?;
-        assert!(rt; handle.number == made);
-        handles.push(Ranged {
-            handle,
-            clock,
-            range: Some((0, u64::MAX)),
-        })?;
-    }
-    for _turn in 0..300 {
-        let at = draw(&mut seed) % 40;
-        let low = u64::from(draw(&mut seed) % 100);
-        let high = low + u64::from(draw(&mut seed) % 100);
-        let put_back = draw(&mut seed) % 16 == 0;
-        let range = if put_back { None } else { Some((low, high)) };
-        range_beside(
-            &rt,
-            &mut requests,
-            handles.as_mut_slice(),
-            at as usize,
-            range,
-        );
-        expect_boundaries(&rt, &requests, handles.as_slice(), at % 3);
-    }
-    Ok(())
 }

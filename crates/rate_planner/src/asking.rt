@@ -119,6 +119,7 @@ fn by_candidate<V: View, W: Rest>(
     ensures names { NamesRegistered tree.now.clocks result }
 {
     let mut best = None;
+    // Its clause says that the clock is one of the description.
     let _place = rate_now(desc, tree, clock);
     for candidate in desc.def(clock).parents.as_slice() {
         let tried = over_candidate(levels, desc, tree, view, rest, clock, *candidate, x);

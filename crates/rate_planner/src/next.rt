@@ -62,6 +62,7 @@ fn continue_from<V: View>(
         rate: rounded.rate,
         parent: rounded.parent,
     };
+    // Its clause says that the clock is one of the description.
     let _place = rate_now(desc, tree, clock);
     if moves(tree, step) && sets_parent_gate(desc, clock) && view.prepared(clock) {
         return Next::NoPlan;

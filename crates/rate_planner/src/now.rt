@@ -19,6 +19,7 @@ pub(crate) fn rate_now(desc: &ValidDesc, tree: &Tree, clock: ClockId) -> u64
     ensures rate { Always desc.now.defs tree.now (λ w. result ≡ round.rate_in w clock.0) }
     ensures place { clock.0 < length tree.now.defs }
 {
+    // Its clause says that the tree stands, so a registered clock is one of the description.
     let _there = tree.registered(clock);
     tree.rate(clock)
 }

@@ -36,6 +36,7 @@ pub fn plan_parent<B: Bank>(
     ensures set_parent { IfOk result (λ plan. plan.set_parent ≡ true) }
     ensures there { IfOk result (λ plan. AreThere tree.now.clocks plan.rates) }
 {
+    // The clauses of these two calls say that the description is valid and that the tree stands.
     let _size = desc.len();
     let _there = tree.registered(c);
     let rate = rate_over(kind_of(desc, c), bank, rate_now(desc, tree, p));

@@ -43,6 +43,7 @@ fn walk_of<B: Bank, V: View>(
         → rates_of walk.items ≡ walked_rates tree.now.order w (chain_of steps.now)))) }
     ensures there { IfOk result (λ found. IfSome found (λ walk. AreThere tree.now.clocks (rates_of walk.items))) }
 {
+    // The clauses of these two calls say that the description is valid and that the tree stands.
     let _size = desc.len();
     let _there = tree.registered(steps[0].clock);
     let out = outcome_rates(alloc, desc, tree, bank, steps)?;

@@ -10,14 +10,14 @@ use Rattle.parts_tests.proofs.beside.Beside.create.Goals as goal
 pub invariant_of-result : goal.invariant_of-result
 invariant_of-result c =
     let n = length c.args.desc.now.defs in
-    let many = ap (λ (k : ℕ). replicate k 0) (sym c.len-clocks.ensures.len) in
+    let many = ap (λ (k : ℕ). replicate k 0) (sym c.len.ensures.len) in
     record {
-      made = c.in_ok-create.ensures.defs ∙ sym c.in_ok-create-2.ensures.defs;
+      made = c.in_ok-tree.ensures.defs ∙ sym c.in_ok-counts.ensures.defs;
       links =
-          subst (λ (rows : List ClockRow). HasLinks rows c.in_ok-create-2.field-0.links) (sym c.in_ok-create.ensures.rows)
-          (subst (λ (ls : List (Option ClockId)). HasLinks (replicate n unregistered_row) ls) (sym c.in_ok-create-2.ensures.links) (links_at_first n n));
-      stands = c.in_ok-create-2.ensures.stands;
-      enabled = c.in_ok-create-2.ensures.enables ∙ many ∙ sym (c.in_ok-vec.ensures.items_if_clones_equal (λ y h. h));
-      prepared = c.in_ok-create-2.ensures.prepares ∙ many ∙ sym (c.in_ok-vec-2.ensures.items_if_clones_equal (λ y h. h));
-      excluded = c.in_ok-create-2.ensures.exclusives ∙ many ∙ sym (c.in_ok-vec-3.ensures.items_if_clones_equal (λ y h. h));
+          subst (λ (rows : List ClockRow). HasLinks rows c.in_ok-counts.counts.links) (sym c.in_ok-tree.ensures.rows)
+          (subst (λ (ls : List (Option ClockId)). HasLinks (replicate n unregistered_row) ls) (sym c.in_ok-counts.ensures.links) (links_at_first n n));
+      stands = c.in_ok-counts.ensures.stands;
+      enabled = c.in_ok-counts.ensures.enables ∙ many ∙ sym c.in_ok-own.ensures.enables;
+      prepared = c.in_ok-counts.ensures.prepares ∙ many ∙ sym c.in_ok-own.ensures.prepares;
+      excluded = c.in_ok-counts.ensures.exclusives ∙ many ∙ sym c.in_ok-own.ensures.exclusives;
     }
