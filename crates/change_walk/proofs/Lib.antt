@@ -1,0 +1,6 @@
+pub mod Rests
+pub mod Telling
+pub mod Descending
+pub mod PlanWalks
+pub mod Whole
+pub mod Weighing

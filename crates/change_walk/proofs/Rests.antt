@@ -1,0 +1,63 @@
+-- Lists that are gone through place by place: what is done with what is left makes the whole.
+use Rattle.std.proofs.Common.{◌≡◌, ℕ, zero, suc, ◌+◌, ◌<◌, ◌≤◌, ◌++◌, true, List, [], ◌∷◌, Some, refl, sym, ap, ◌∙◌, arith, length, drop, map, append_assoc, append-nil, get_or}
+use Rattle.std.specs.Prelude.{flat_map, option_map, slice_get}
+use Rattle.std.proofs.lemmas.Option.{slice_get-map}
+use Rattle.clk_model.specs.declared.row.ClockRow.{ClockRow}
+use Rattle.clk_model.specs.State.{registered}
+use Rattle.clk_tree.specs.declared.walk_rates.WalkRate.{WalkRate}
+use Rattle.clk_tree.specs.Plans.{rates_of}
+use Rattle.clk_tree.proofs.Rows.{registered-lt}
+use Rattle.change_walk.specs.Changes.{AreThere}
+
+pub drop_none : {X : Type 0} (xs : List X) → drop 0 xs ≡ xs
+drop_none [] = refl
+drop_none (x ∷ xs) = refl
+
+-- what stands at a place is the first of what is left there
+pub rest_at : {X : Type 0} (xs : List X) (k : ℕ) (x : X) → slice_get xs k ≡ Some x → drop k xs ≡ x ∷ drop (k + 1) xs
+rest_at [] k x at = absurd cc
+rest_at (y ∷ xs) zero x at = let same : y ≡ x = cc in ap (λ z. z ∷ xs) same ∙ ap (λ ys. x ∷ ys) (sym (drop_none xs))
+rest_at (y ∷ xs) (suc k) x at = rest_at xs k x at ∙ ap (λ (n : ℕ). x ∷ drop n (y ∷ xs)) (let next : suc (k + 1) ≡ suc k + 1 = omega arith in next)
+
+pub none_left : {X : Type 0} (xs : List X) (k : ℕ) → length xs ≤ k → drop k xs ≡ []
+none_left [] zero few = refl
+none_left [] (suc k) few = refl
+none_left (x ∷ xs) zero few = absurd (omega arith)
+none_left (x ∷ xs) (suc k) few = none_left xs k (omega arith)
+
+-- one more was added
+pub added_on : {X Y : Type 0} (f : X → List Y) (xs : List X) (k : ℕ) (x : X) (old new whole : List Y) → slice_get xs k ≡ Some x → new ≡ old ++ f x
+    → old ++ flat_map f (drop k xs) ≡ whole → new ++ flat_map f (drop (k + 1) xs) ≡ whole
+added_on f xs k x old new whole at one all =
+    ap (λ ys. ys ++ flat_map f (drop (k + 1) xs)) one
+    ∙ append_assoc old (f x) (flat_map f (drop (k + 1) xs))
+    ∙ ap (λ ys. old ++ flat_map f ys) (sym (rest_at xs k x at))
+    ∙ all
+
+pub added_all : {X Y : Type 0} (f : X → List Y) (xs : List X) (k : ℕ) (old whole : List Y) → length xs ≤ k → old ++ flat_map f (drop k xs) ≡ whole → old ≡ whole
+added_all f xs k old whole few all = sym (append-nil old) ∙ ap (λ ys. old ++ flat_map f ys) (sym (none_left xs k few)) ∙ all
+
+-- one more element was pushed
+pub pushed_on : {X Y : Type 0} (f : X → Y) (xs : List X) (k : ℕ) (x : X) (old new whole : List Y) → slice_get xs k ≡ Some x → new ≡ old ++ f x ∷ []
+    → old ++ map f (drop k xs) ≡ whole → new ++ map f (drop (k + 1) xs) ≡ whole
+pushed_on f xs k x old new whole at one all =
+    ap (λ ys. ys ++ map f (drop (k + 1) xs)) one
+    ∙ append_assoc old (f x ∷ []) (map f (drop (k + 1) xs))
+    ∙ ap (λ ys. old ++ map f ys) (sym (rest_at xs k x at))
+    ∙ all
+
+-- ---- clocks that are there
+
+-- the clock at a place of a walk is registered
+pub there_at : (clocks : List ClockRow) (rates : List WalkRate) (k : ℕ) (d : WalkRate) → k < length rates → AreThere clocks (rates_of rates) → registered clocks (get_or rates k d).clock.0 ≡ true
+there_at clocks [] k d less there = absurd (omega arith)
+there_at clocks (r ∷ rates) zero d less there = there.0
+there_at clocks (r ∷ rates) (suc k) d less there = there_at clocks rates k d (omega arith) there.1
+
+-- a registered clock is one of the description
+pub registered_inside : (clocks : List ClockRow) (n c : ℕ) → length clocks ≡ n → registered clocks c ≡ true → c < n
+registered_inside clocks n c rows on = let less = registered-lt clocks c on in omega arith
+
+-- and so of what they are made into
+pub rest_of : {X Y : Type 0} (f : X → Y) (xs : List X) (k : ℕ) (x : X) → slice_get xs k ≡ Some x → drop k (map f xs) ≡ f x ∷ drop (k + 1) (map f xs)
+rest_of f xs k x at = rest_at (map f xs) k (f x) (slice_get-map f xs k ∙ ap (option_map f) at)

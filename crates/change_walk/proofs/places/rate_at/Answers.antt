@@ -1,0 +1,16 @@
+-- The clock is one of those that are there.
+use Rattle.std.proofs.Common.{sym, ◌∙◌, length}
+use Rattle.change_walk.proofs.Rests.{there_at, registered_inside}
+use Rattle.change_walk.proofs.places.rate_at.Goals as goal
+
+pub returns-clause-there : goal.returns-clause-there
+returns-clause-there c = there_at c.args.tree.now.clocks c.args.rates.now c.args.place _ c.requires.place c.requires.there
+
+pub returns-clause-inside : goal.returns-clause-inside
+returns-clause-inside c =
+    registered_inside c.args.tree.now.clocks (length c.args.tree.now.defs) _ c.registered-there.ensures.stands.rows (there_at c.args.tree.now.clocks c.args.rates.now c.args.place _ c.requires.place c.requires.there)
+
+pub returns-clause-rated : goal.returns-clause-rated
+returns-clause-rated c =
+    registered_inside c.args.tree.now.clocks (length c.args.tree.now.rates) _ (c.registered-there.ensures.stands.rows ∙ sym c.registered-there.ensures.stands.rated)
+    (there_at c.args.tree.now.clocks c.args.rates.now c.args.place _ c.requires.place c.requires.there)

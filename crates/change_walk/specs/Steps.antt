@@ -1,0 +1,43 @@
+-- The steps of a walk in code.
+use Rattle.std.specs.Prelude.{ℕ, ◌++◌, List, [], ◌∷◌, Bool, if◌then◌else◌, flat_map, option_map}
+use Rattle.std.specs.List.{list_any}
+use Rattle.std.specs.Option.{option_map_or}
+use Rattle.clk_base.specs.declared.call.Micro.{Micro}
+use Rattle.clk_base.specs.declared.call.Micro.TheVariants as micro
+use Rattle.clk_base.specs.Description.{Description}
+use Rattle.clk_model.specs.declared.row.ClockRow.{ClockRow}
+use Rattle.clk_model.specs.Chain.{clock_id}
+use Rattle.clk_model.specs.Notices.{is_veto}
+use Rattle.clk_model.specs.Script.{move_of}
+use Rattle.clk_model.specs.State as state
+use Rattle.clk_model.specs.State.{link_in}
+use Rattle.clk_tree.specs.declared.chain.ChainStep.{ChainStep}
+use Rattle.clk_tree.specs.declared.plan.Plan.{Plan}
+use Rattle.clk_tree.specs.Plans.{ClockRate}
+use Rattle.clk_tree.specs.TreeState.{TreeState}
+use Rattle.notifiers.specs.declared.notifier.Notifier.{Notifier}
+use Rattle.change_walk.specs.declared.changes.Changed.{Changed}
+use Rattle.change_walk.specs.Given.{settles}
+use Rattle.change_walk.specs.Tellings.{notifiers_at, tell_before, tell_off}
+
+-- a step of a chain as the definitions have it
+abbrev pub step_of : ChainStep → state.ChainStep
+step_of s = record { clock = s.clock.0; rate = s.rate; parent = option_map (λ p. p.0) s.parent }
+
+-- what a prepared clock lets go of when it has moved
+abbrev pub drops : List ClockRow → ℕ → List Micro
+drops clocks c = option_map_or (λ o. micro.DropEnable (clock_id o) ∷ micro.DropPrepare (clock_id o) ∷ micro.Lower (clock_id o) ∷ []) (link_in clocks c) []
+
+-- each clock of a walk with its move, and then its visit
+abbrev pub visits : Description → List ClockRow → (ℕ → Bool) → List state.ChainStep → List ClockRate → List Micro
+visits defs clocks prepared ks rates = flat_map (λ r. move_of defs clocks prepared ks r.clock ++ micro.Visit (clock_id r.clock) ∷ []) rates
+
+-- the steps of a script, where these clocks change: the notices, then where one vetoes those that it is called off, else the walk and
+-- what is settled behind it, and the end
+abbrev pub steps_for : TreeState → (ℕ → Bool) → List (List Notifier) → Plan → List Changed → List Micro
+steps_for t prepared notifiers plan changed =
+    let told = flat_map (λ x. tell_before x (notifiers_at notifiers x)) changed in
+    told
+    ++ (if list_any is_veto told then flat_map (λ x. tell_off x (notifiers_at notifiers x)) changed
+    else visits t.defs t.clocks prepared plan.chain plan.rates ++ settles plan.set_parent plan.chain)
+    ++ micro.End ∷ []

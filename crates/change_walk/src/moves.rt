@@ -1,0 +1,171 @@
+//! The moves and visits of a walk.
+
+ghost use Rattle.std.specs.Prelude.{◌≡◌, ◌<◌, ◌≤◌, ◌==◌, ◌++◌, ◌∷◌, [], true, false, length, flat_map, filter, ◌&&◌, IfOk};
+ghost use Rattle.std.specs.List.{position_or_len};
+ghost use Rattle.std.specs.Option.{option_map_or};
+ghost use Rattle.clk_base.specs.declared.call.Micro.TheVariants as micro;
+ghost use Rattle.clk_model.specs.Chain as chain;
+ghost use Rattle.clk_model.specs.Script as script;
+ghost use Rattle.clk_tree.specs.Plans.{chain_of, rates_of};
+ghost use Rattle.change_walk.specs.Changes.{AreThere};
+ghost use Rattle.change_walk.specs.Steps.{drops, step_of, visits};
+
+use crate::places::{rate_at, step_at};
+use clk_base::{ClockId, Micro, ValidDesc};
+use clk_io::NoMemory;
+use clk_tree::{ChainStep, Tree, View, WalkRate};
+
+// The first place of a parent in a list, or behind its end.
+fn place_in(parents: &[ClockId], parent: ClockId) -> usize
+    ensures place { result ≡ position_or_len (λ other. other.0 == parent.0) parents.now }
+    ensures few { result ≤ length parents.now }
+{
+    for place in 0..parents.len() {
+        if parents[place].0 == parent.0 {
+            return place;
+        }
+    }
+    parents.len()
+}
+
+// The place of a parent in the list of a clock.
+fn place_of(desc: &ValidDesc, clock: ClockId, parent: ClockId) -> u32
+    requires { clock.0 < length desc.now.defs }
+    ensures { result ≡ chain.place_of desc.now.defs clock.0 parent.0 }
+{
+    let place = place_in(desc.def(clock).parents.as_slice(), parent);
+    place as u32
+}
+
+// Whether the planned parent of a clock is another than the one it has.
+fn moves(tree: &Tree, step: ChainStep) -> bool
+    ensures { result ≡ chain.moves tree.now.clocks (step_of step) }
+{
+    match (step.parent, tree.parent(step.clock)) {
+        (Some(planned), Some(parent)) => planned.0 != parent.0,
+        (None, None) => false,
+        _ => true,
+    }
+}
+
+// Moves a clock that isn't prepared to a parent.
+fn relink(
+    steps: &mut Vec<Micro>,
+    desc: &ValidDesc,
+    clock: ClockId,
+    parent: ClockId,
+) -> Result<(), NoMemory>
+    requires { clock.0 < length desc.now.defs }
+    ensures { IfOk result (λ done. steps.new.items ≡ steps.old.items ++ micro.Relink clock parent ∷ micro.WriteMux clock (chain.place_of desc.now.defs clock.0 parent.0) ∷ []) }
+{
+    let place = place_of(desc, clock, parent);
+    steps.extend_from_slice(&[Micro::Relink(clock, parent), Micro::WriteMux(clock, place)])?;
+    Ok(())
+}
+
+// Lets go of the parent that a prepared clock had, if it had one.
+fn drop_old(steps: &mut Vec<Micro>, tree: &Tree, clock: ClockId) -> Result<(), NoMemory>
+    ensures { IfOk result (λ done. steps.new.items ≡ steps.old.items ++ drops tree.now.clocks clock.0) }
+{
+    let Some(old) = tree.parent(clock) else {
+        return Ok(())
+    };
+    steps.extend_from_slice(&[
+        Micro::DropEnable(old),
+        Micro::DropPrepare(old),
+        Micro::Lower(old),
+    ])?;
+    Ok(())
+}
+
+// Moves a prepared clock to a parent, which runs before, while the old one runs on until after.
+fn move_held(
+    steps: &mut Vec<Micro>,
+    desc: &ValidDesc,
+    tree: &Tree,
+    clock: ClockId,
+    parent: ClockId,
+) -> Result<(), NoMemory>
+    requires { clock.0 < length desc.now.defs }
+    ensures { IfOk result (λ done. steps.new.items ≡ steps.old.items ++ script.move desc.now.defs tree.now.clocks (λ c. true) clock.0 parent.0) }
+{
+    let place = place_of(desc, clock, parent);
+    steps.extend_from_slice(&[
+        Micro::Raise(parent),
+        Micro::HoldPrepare(parent),
+        Micro::HoldEnable(parent),
+        Micro::HoldEnable(clock),
+        Micro::Relink(clock, parent),
+        Micro::WriteMux(clock, place),
+        Micro::DropEnable(clock),
+    ])?;
+    drop_old(steps, tree, clock)?;
+    Ok(())
+}
+
+// The move of a clock by a step of the chain, where the step is of this clock and moves it.
+fn move_by(
+    steps: &mut Vec<Micro>,
+    desc: &ValidDesc,
+    tree: &Tree,
+    step: ChainStep,
+    held: bool,
+    clock: ClockId,
+) -> Result<(), NoMemory>
+    requires { clock.0 < length desc.now.defs }
+    ensures { IfOk result (λ done. steps.new.items ≡ steps.old.items ++ script.move_of desc.now.defs tree.now.clocks (λ c. held) (step_of step ∷ []) clock.0) }
+{
+    if step.clock.0 != clock.0 || !moves(tree, step) {
+        return Ok(());
+    }
+    let Some(parent) = step.parent else {
+        return Ok(())
+    };
+    if held {
+        move_held(steps, desc, tree, clock, parent)?;
+    } else {
+        relink(steps, desc, clock, parent)?;
+    }
+    Ok(())
+}
+
+// The move of a clock, where the chain moves it.
+fn move_of(
+    steps: &mut Vec<Micro>,
+    desc: &ValidDesc,
+    tree: &Tree,
+    chain: &[ChainStep],
+    held: bool,
+    clock: ClockId,
+) -> Result<(), NoMemory>
+    requires { clock.0 < length desc.now.defs }
+    ensures { IfOk result (λ done. steps.new.items ≡ steps.old.items ++ script.move_of desc.now.defs tree.now.clocks (λ c. held) (chain_of chain.now) clock.0) }
+{
+    for place in 0..chain.len() {
+        move_by(steps, desc, tree, step_at(chain, place), held, clock)?;
+    }
+    Ok(())
+}
+
+/// Each clock of the walk with its move where it moves, and then its visit.
+pub(crate) fn visit_all<V: View>(
+    steps: &mut Vec<Micro>,
+    desc: &ValidDesc,
+    tree: &Tree,
+    view: &V,
+    chain: &[ChainStep],
+    rates: &[WalkRate],
+) -> Result<(), NoMemory>
+    requires made { desc.now.defs ≡ tree.now.defs }
+    requires seen { V.size view.now ≡ length tree.now.defs }
+    requires there { AreThere tree.now.clocks (rates_of rates.now) }
+    ensures { IfOk result (λ done. steps.new.items ≡ steps.old.items ++ visits desc.now.defs tree.now.clocks (V.means view.now).prepared (chain_of chain.now) (rates_of rates.now)) }
+{
+    for place in 0..rates.len() {
+        let clock = rate_at(tree, rates, place).clock;
+        let held = view.prepared(clock);
+        move_of(steps, desc, tree, chain, held, clock)?;
+        steps.push(Micro::Visit(clock))?;
+    }
+    Ok(())
+}
