@@ -1,0 +1,4 @@
+pub mod ChangeLaws
+pub mod Cutting
+pub mod KeptLaws
+pub mod Listing
