@@ -13,10 +13,10 @@ use Rattle.clk_model.specs.Step.{rest_of, cut_short}
 use Rattle.clk_model.proofs.WeightLaws.{cut_short-le}
 use Rattle.clk_flight.specs.declared.front.Front.{Front}
 use Rattle.clk_flight.specs.declared.front.Front.TheVariants.{Empty, Poll, Raise, Lower, Falls, Posts}
-use Rattle.clk_flight.specs.Fronts.{falls, posts, aborts_behind, front_behind, script_behind}
+use Rattle.clk_flight.specs.Fronts.{falls, posts, aborts_behind, front_behind, script_behind, HasSteps, IsCounted}
 use Rattle.clk_flight.specs.Flights.{FlightState, own_first, own_step, seeks_plls}
 use Rattle.clk_flight.specs.Moves.{others, gone_on, found_none, comes_again, once_more, raised_once, lowered_once, timed_out_in, is_last_no, front_polled, front_fallen, with_raised, visited, landed}
-use Rattle.clk_flight.specs.Kept.{room_for, front_room, HasSteps, IsKept}
+use Rattle.clk_flight.specs.Kept.{room_for, front_room, IsKept}
 
 -- ---- what stands in front
 
@@ -32,32 +32,57 @@ posts_room plls again c told left old new = one (nat_eq left 0) where
   one true = refl
   one false = refl
 
-falls_steps : (raised : List ℕ) (told left : ℕ) → told + left < 2 ^ 64 → HasSteps (length raised) (falls raised told left)
-falls_steps [] told left fits = one (nat_eq left 0) refl where
+pub falls_steps : (raised : List ℕ) (told left : ℕ) → HasSteps (length raised) (falls raised told left)
+falls_steps [] told left = one (nat_eq left 0) refl where
   one : (t : Bool) → nat_eq left 0 ≡ t → HasSteps 0 (cond t Empty (Falls told left))
   one true is = tt
-  one false is = (grind (arith, nat_tests), fits)
-falls_steps (y ∷ ys) told left fits = (omega arith, fits)
+  one false is = grind (arith, nat_tests)
+falls_steps (y ∷ ys) told left = omega arith
 
-posts_steps : (raised : ℕ) (c : ClockId) (told left old new : ℕ) → told + left < 2 ^ 64 → HasSteps raised (posts c told left old new)
-posts_steps raised c told left old new fits = one (nat_eq left 0) refl where
+pub posts_steps : (raised : ℕ) (c : ClockId) (told left old new : ℕ) → HasSteps raised (posts c told left old new)
+posts_steps raised c told left old new = one (nat_eq left 0) refl where
   one : (t : Bool) → nat_eq left 0 ≡ t → HasSteps raised (cond t Empty (Posts c told left old new))
   one true is = tt
-  one false is = (grind (arith, nat_tests), fits)
+  one false is = grind (arith, nat_tests)
+
+falls_counted : (raised : List ℕ) (told left : ℕ) → told + left < 2 ^ 64 → IsCounted (falls raised told left)
+falls_counted raised told left fits = one (is_none (slice_get raised 0) && nat_eq left 0) where
+  one : (t : Bool) → IsCounted (cond t Empty (Falls told left))
+  one true = tt
+  one false = fits
+
+posts_counted : (c : ClockId) (told left old new : ℕ) → told + left < 2 ^ 64 → IsCounted (posts c told left old new)
+posts_counted c told left old new fits = one (nat_eq left 0) where
+  one : (t : Bool) → IsCounted (cond t Empty (Posts c told left old new))
+  one true = tt
+  one false = fits
 
 aborts_steps : (raised : List ℕ) (told left : ℕ) → HasSteps (length raised) (Falls told left) → HasSteps (length raised) (aborts_behind raised told left)
-aborts_steps [] told left has = falls_steps [] (told + 1) (left - 1) (let some : 0 < left + 0 = has.0 in let fits : told + left < 2 ^ 64 = has.1 in omega arith)
+aborts_steps [] told left has = falls_steps [] (told + 1) (left - 1)
 aborts_steps (y ∷ ys) told left has = has
 
-behind_steps : (raised : List ℕ) (front : Front) → HasSteps (length raised) front → HasSteps (length raised) (front_behind raised front)
+pub behind_steps : (raised : List ℕ) (front : Front) → HasSteps (length raised) front → HasSteps (length raised) (front_behind raised front)
 behind_steps raised Empty has = tt
 behind_steps raised (Poll pll polls None) has = tt
 behind_steps raised (Poll pll polls (Some x)) has = tt
 behind_steps raised (Raise x) has = tt
 behind_steps raised (Lower x) has = tt
 behind_steps raised (Falls told left) has = aborts_steps raised told left has
-behind_steps raised (Posts c told left old new) has =
-    posts_steps (length raised) c (told + 1) (left - 1) old new (let some : 0 < left = has.0 in let fits : told + left < 2 ^ 64 = has.1 in omega arith)
+behind_steps raised (Posts c told left old new) has = posts_steps (length raised) c (told + 1) (left - 1) old new
+
+aborts_counted : (raised : List ℕ) (told left : ℕ) → 0 < left + length raised → told + left < 2 ^ 64 → IsCounted (aborts_behind raised told left)
+aborts_counted [] told left some fits = falls_counted [] (told + 1) (left - 1) (let has : 0 < left + 0 = some in omega arith)
+aborts_counted (y ∷ ys) told left some fits = fits
+
+behind_counted : (raised : List ℕ) (front : Front) → HasSteps (length raised) front → IsCounted front → IsCounted (front_behind raised front)
+behind_counted raised Empty has fits = tt
+behind_counted raised (Poll pll polls None) has fits = tt
+behind_counted raised (Poll pll polls (Some x)) has fits = tt
+behind_counted raised (Raise x) has fits = tt
+behind_counted raised (Lower x) has fits = tt
+behind_counted raised (Falls told left) has fits = aborts_counted raised told left has fits
+behind_counted raised (Posts c told left old new) has fits =
+    posts_counted c (told + 1) (left - 1) old new (let some : 0 < left = has in let few : told + left < 2 ^ 64 = fits in omega arith)
 
 aborts_room : (plls again : ℕ) (raised : List ℕ) (told left : ℕ) → front_room plls again (aborts_behind raised told left) ≡ 0
 aborts_room plls again [] told left = falls_room plls again [] (told + 1) (left - 1)
@@ -91,6 +116,7 @@ script_behind-le weigh (Posts c told n old new) left = omega arith
 pub gone_on-keeps : (f : FlightState) (room : ℕ) → IsKept f room → IsKept (gone_on f) room
 gone_on-keeps f room kept = record {
   steps = behind_steps f.raised f.front kept.steps;
+  counted = behind_counted f.raised f.front kept.steps kept.counted;
   again = kept.again;
   room =
       let script = script_behind-le (room_for f.plls) f.front f.left in
@@ -115,6 +141,7 @@ while_going false first seeks = absurd cc
 pub found_none-keeps : (f : FlightState) (room : ℕ) → seeks_plls (own_step f) ≡ true → IsKept f room → IsKept (found_none f) room
 found_none-keeps f room seeks kept = record {
   steps = behind_steps f.raised f.front kept.steps;
+  counted = behind_counted f.raised f.front kept.steps kept.counted;
   again = omega arith;
   room =
       let script = script_behind-le (room_for f.plls) f.front f.left in
@@ -169,10 +196,11 @@ raised_once-keeps f x y more room is fits kept = one (comes_again f more) refl w
   }) room
   one true comes = record {
     steps = omega arith;
+    counted = tt;
     again = let lt = below more (nat_lt (f.again + 1) f.plls) comes in omega arith;
     room = let had = kept.room in let room_left = own in omega arith;
   }
-  one false comes = record { steps = omega arith; again = omega arith; room = let had = kept.room in let room_left = own in omega arith }
+  one false comes = record { steps = omega arith; counted = tt; again = omega arith; room = let had = kept.room in let room_left = own in omega arith }
 
 pub lowered_once-keeps : (f : FlightState) (x : ClockId) (more : Bool) (room : ℕ) → own_step f ≡ Some (micro.Lower x) → IsKept f room → IsKept (lowered_once f x more) room
 lowered_once-keeps f x more room is kept = one (comes_again f more) refl where
@@ -190,18 +218,21 @@ lowered_once-keeps f x more room is kept = one (comes_again f more) refl where
   }) room
   one true comes = record {
     steps = tt;
+    counted = tt;
     again = let lt = below more comes in omega arith;
     room = let had = kept.room in let script = script_behind-le (room_for f.plls) f.front f.left in omega arith;
   }
   one false comes = record {
     steps = behind_steps f.raised f.front kept.steps;
+    counted = behind_counted f.raised f.front kept.steps kept.counted;
     again = omega arith;
     room = let had = kept.room in let script = script_behind-le (room_for f.plls) f.front f.left in let none = alone in omega arith;
   }
 
 pub timed_out-keeps : (f : FlightState) (room : ℕ) → f.extra < 2 ^ 64 → IsKept f room → IsKept (timed_out_in f) room
 timed_out-keeps f room fits kept = record {
-  steps = falls_steps f.raised 0 f.extra (omega arith);
+  steps = falls_steps f.raised 0 f.extra;
+  counted = falls_counted f.raised 0 f.extra (omega arith);
   again = omega arith;
   room =
       let none = falls_room f.plls 0 f.raised 0 f.extra in
@@ -210,11 +241,12 @@ timed_out-keeps f room fits kept = record {
       omega arith;
 }
 
-pub polled-keeps : (f : FlightState) (answer : Bool) (room : ℕ) → is_last_no f.front answer ≡ false → IsKept f room → IsKept (record f { front = front_polled f.front answer }) room
+pub polled-keeps : (f : FlightState) (answer : Bool) (room : ℕ) → is_last_no f.front answer ≡ false → IsKept f room → IsKept (record f { front = front_polled f.front answer; left = script_behind f.front f.left }) room
 polled-keeps f answer room more kept = record {
   steps = steps answer f.front more kept.steps;
+  counted = counted answer f.front kept.counted;
   again = kept.again;
-  room = let had = kept.room in let same = same_room answer f.front in omega arith;
+  room = let had = kept.room in let same = same_room answer f.front in let script = script_behind-le (room_for f.plls) f.front f.left in omega arith;
 } where
   steps : (t : Bool) (front : Front) → is_last_no front t ≡ false → HasSteps (length f.raised) front → HasSteps (length f.raised) (front_polled front t)
   steps t Empty e has = has
@@ -225,6 +257,16 @@ polled-keeps f answer room more kept = record {
   steps t (Lower x) e has = has
   steps t (Falls told left) e has = has
   steps t (Posts c told left old new) e has = has
+
+  counted : (t : Bool) (front : Front) → IsCounted front → IsCounted (front_polled front t)
+  counted t Empty fits = fits
+  counted true (Poll pll polls None) fits = tt
+  counted true (Poll pll polls (Some x)) fits = tt
+  counted false (Poll pll polls again) fits = tt
+  counted t (Raise x) fits = fits
+  counted t (Lower x) fits = fits
+  counted t (Falls told left) fits = fits
+  counted t (Posts c told left old new) fits = fits
 
   same_room : (t : Bool) (front : Front) → front_room f.plls f.again (front_polled front t) ≡ front_room f.plls f.again front
   same_room t Empty = refl
@@ -242,6 +284,7 @@ without-le dropped xs = length-filter-le (λ x. not (is_in x dropped)) xs
 pub with_raised-keeps : (f : FlightState) (ys : List ℕ) (room : ℕ) → length ys ≤ length f.raised → IsKept f room → IsKept (with_raised f ys) room
 with_raised-keeps f ys room fewer kept = record {
   steps = steps f.front kept.steps;
+  counted = counted f.front kept.counted;
   again = kept.again;
   room = let had = kept.room in let same = same_room f.front in omega arith;
 } where
@@ -250,8 +293,16 @@ with_raised-keeps f ys room fewer kept = record {
   steps (Poll pll polls again) has = has
   steps (Raise x) has = tt
   steps (Lower x) has = tt
-  steps (Falls told left) has = falls_steps ys told left has.1
+  steps (Falls told left) has = falls_steps ys told left
   steps (Posts c told left old new) has = has
+
+  counted : (front : Front) → IsCounted front → IsCounted (front_fallen ys front)
+  counted Empty fits = tt
+  counted (Poll pll polls again) fits = tt
+  counted (Raise x) fits = tt
+  counted (Lower x) fits = tt
+  counted (Falls told left) fits = falls_counted ys told left fits
+  counted (Posts c told left old new) fits = fits
 
   same_room : (front : Front) → front_room f.plls f.again (front_fallen ys front) ≡ front_room f.plls f.again front
   same_room Empty = refl
@@ -263,7 +314,8 @@ with_raised-keeps f ys room fewer kept = record {
 
 pub visited-keeps : (f : FlightState) (c : ClockId) (told old new room : ℕ) → told < 2 ^ 64 → IsKept f room → IsKept (visited f c told old new) room
 visited-keeps f c told old new room fits kept = record {
-  steps = posts_steps (length f.raised) c 0 told old new (omega arith);
+  steps = posts_steps (length f.raised) c 0 told old new;
+  counted = posts_counted c 0 told old new (omega arith);
   again = kept.again;
   room =
       let none = posts_room f.plls f.again c 0 told old new in
@@ -290,4 +342,4 @@ timeout-keeps f script left front room fits is cut kept =
     let left_is : left ≡ cut_short f.call f.left = cut in
     subst (λ (fr : Front). IsKept (record f { timed_out = true; again = 0; extra = 0; front = fr; script = script; left = left }) room) (sym is)
     (subst (λ (ms : List Micro). IsKept (record f { timed_out = true; again = 0; extra = 0; front = falls f.raised 0 f.extra; script = script; left = ms }) room) (sym cut)
-    (record { steps = k.steps; again = k.again; room = k.room }))
+    (record { steps = k.steps; counted = k.counted; again = k.again; room = k.room }))

@@ -1,8 +1,8 @@
 -- How a change in flight begins.
-use Rattle.std.specs.Prelude.{◌≡◌, ℕ, List, [], Bool, true, false, map, take}
-use Rattle.std.specs.List.{list_any}
+use Rattle.std.specs.Prelude.{◌≡◌, ℕ, List, [], Bool, true, false, map, take, length, ◌≤◌}
+use Rattle.std.specs.List.{list_any, list_all}
 use Rattle.clk_model.specs.State.{NotifierRow, Change}
-use Rattle.clk_model.specs.Laws.Paced.{may_time_out}
+use Rattle.clk_model.specs.Laws.Paced.{may_time_out, is_notice}
 use Rattle.clk_flight.specs.declared.front.Front.TheVariants.{Empty}
 use Rattle.clk_flight.specs.declared.start.Start.{Start}
 use Rattle.clk_flight.specs.Fronts.{called_off}
@@ -37,6 +37,8 @@ pub record StartsAs (notifiers : List NotifierRow) (start : Start) (k : Change) 
   pub raised : k.raised ≡ []
   pub range : k.range ≡ start.range
   pub extra : k.extra ≡ start.extra
+  pub fits : start.extra ≤ length start.script.items
+  pub calls_off : list_all is_notice (map called_off (take start.extra start.script.items)) ≡ true
   pub vetoed : k.vetoed ≡ start.vetoed
   pub timed_out : k.timed_out ≡ false
   -- where a step may time out, the notices that this calls off stand at the head of the script

@@ -1,6 +1,6 @@
 -- A change in flight: what is kept of it, and the change of the definitions that it stands for.
-use Rattle.std.specs.Prelude.{◌≡◌, ℕ, List, [], ◌∷◌, Bool, true, false, Option, Some, None, map, take, slice_get, is_none, if◌then◌else◌}
-use Rattle.std.specs.List.{list_any}
+use Rattle.std.specs.Prelude.{◌≡◌, ℕ, List, [], ◌∷◌, Bool, true, false, Option, Some, None, map, take, length, slice_get, option_and_then, if◌then◌else◌, ◌≤◌}
+use Rattle.std.specs.List.{list_any, list_all}
 use Rattle.std.specs.Option.{option_map}
 use Rattle.clk_base.specs.declared.call.Micro.{Micro}
 use Rattle.clk_base.specs.declared.call.Micro.TheVariants as micro
@@ -9,10 +9,10 @@ use Rattle.clk_model.specs.State.{NotifierRow, Change}
 use Rattle.clk_model.specs.Chain.{clock_id}
 use Rattle.clk_model.specs.Notices.{notifiers_of, abort_list}
 use Rattle.clk_model.specs.Step.{todo, sets_parent}
-use Rattle.clk_model.specs.Laws.Paced.{may_time_out}
+use Rattle.clk_model.specs.Laws.Paced.{may_time_out, is_notice}
 use Rattle.clk_flight.specs.declared.front.Front.{Front}
 use Rattle.clk_flight.specs.declared.front.Front.TheVariants.{Empty, Poll, Raise, Lower, Falls, Posts}
-use Rattle.clk_flight.specs.Fronts.{is_empty, polls_of, called_off, post_to, front_steps}
+use Rattle.clk_flight.specs.Fronts.{polls_of, called_off, abort_of, post_to, front_steps, front_aborts, front_count, HasSteps}
 
 -- what is kept of a change in flight
 pub record FlightState : Type 0 where
@@ -42,7 +42,7 @@ pub record FlightState : Type 0 where
 
 -- the fall of the PLL that was raised last, or else the notice at a place of the script, as one that the change is called off
 abbrev pub fall_or_abort : List Micro → ℕ → List ℕ → Option Micro
-fall_or_abort script told [] = option_map called_off (slice_get script told)
+fall_or_abort script told [] = option_and_then abort_of (slice_get script told)
 fall_or_abort script told (y ∷ ys) = Some (micro.Fall (clock_id y))
 
 -- the first step of what stands in front, or else of the script
@@ -88,13 +88,17 @@ pub record IsChange (notifiers : List NotifierRow) (f : FlightState) (k : Change
   pub driver : k.driver ≡ f.driver
   pub call : k.call ≡ f.call
   pub front : k.front ≡ front_steps notifiers f.script f.raised f.front
-  pub full : is_none (slice_get k.front 0) ≡ is_empty f.front
+  pub count : length k.front ≡ front_count (length f.raised) f.front
+  pub steps : HasSteps (length f.raised) f.front
+  pub notices : list_all is_notice (front_aborts f.script f.front) ≡ true
   pub left : k.left ≡ f.left
   pub polls : k.polls ≡ polls_of f.front
   pub again : k.again ≡ f.again
   pub raised : k.raised ≡ f.raised
   pub range : k.range ≡ f.range
   pub extra : k.extra ≡ f.extra
+  pub fits : f.extra ≤ length f.script
+  pub calls_off : list_all is_notice (map called_off (take f.extra f.script)) ≡ true
   pub vetoed : k.vetoed ≡ f.vetoed
   pub timed_out : k.timed_out ≡ f.timed_out
   -- what a timeout calls off stands at the head of the script, as long as a step may time out

@@ -1,5 +1,5 @@
 -- What stands in front of a script.
-use Rattle.std.specs.Prelude.{ℕ, ◌+◌, ◌-◌, ◌==◌, ◌&&◌, List, [], ◌∷◌, ◌++◌, Bool, true, false, Option, Some, None, map, take, drop, slice_get, is_none, if◌then◌else◌}
+use Rattle.std.specs.Prelude.{ℕ, ◌+◌, ◌-◌, ◌<◌, ◌^◌, ◌==◌, ◌&&◌, List, [], ◌∷◌, ◌++◌, Bool, true, false, Option, Some, None, map, take, drop, slice_get, is_none, if◌then◌else◌}
 use Rattle.std.specs.Option.{option_map, option_map_or}
 use Rattle.clk_base.specs.declared.clock.ClockId.{ClockId}
 use Rattle.clk_base.specs.declared.call.Micro.{Micro}
@@ -9,6 +9,7 @@ use Rattle.clk_model.specs.State.{NotifierRow}
 use Rattle.clk_model.specs.Chain.{clock_id}
 use Rattle.clk_model.specs.Notices.{notifiers_of}
 use Rattle.clk_model.specs.Step.{rest_of}
+use Rattle.clk_model.specs.Laws.Paced.{is_notice}
 use Rattle.clk_flight.specs.declared.front.Front.{Front}
 use Rattle.clk_flight.specs.declared.front.Front.TheVariants.{Empty, Poll, Raise, Lower, Falls, Posts}
 
@@ -27,6 +28,10 @@ abbrev pub called_off : Micro → Micro
 called_off (micro.Notify kind c id old new) = micro.Notify notice.Abort c id old new
 called_off m = m
 
+-- a notice as one that the change is called off, if it is one
+abbrev pub abort_of : Micro → Option Micro
+abort_of m = if is_notice m then Some (called_off m) else None
+
 -- the notice that a clock's rate has changed, to one of its notifiers
 abbrev pub post_to : ClockId → ℕ → ℕ → NotifierRow → Micro
 post_to c old new n = micro.Notify notice.Post c n.id old new
@@ -42,6 +47,33 @@ front_steps notifiers script raised (Lower x) = micro.Lower x ∷ []
 front_steps notifiers script raised (Falls told left) =
     map (λ y. micro.Fall (clock_id y)) raised ++ take left (drop told (map called_off script))
 front_steps notifiers script raised (Posts c told left old new) = take left (drop told (map (post_to c old new) (notifiers_of notifiers c.0)))
+
+-- the notices that the change is called off among them
+abbrev pub front_aborts : List Micro → Front → List Micro
+front_aborts script (Falls told left) = take left (drop told (map called_off script))
+front_aborts script _ = []
+
+-- how many they are
+abbrev pub front_count : ℕ → Front → ℕ
+front_count raised Empty = 0
+front_count raised (Poll pll polls again) = 1 + option_map_or (λ x. 1) again 0
+front_count raised (Raise x) = 1
+front_count raised (Lower x) = 1
+front_count raised (Falls told left) = raised + left
+front_count raised (Posts c told left old new) = left
+
+-- what stands in front has a step
+abbrev pub HasSteps : ℕ → Front → Type 0
+HasSteps raised (Poll pll polls again) = 0 < polls
+HasSteps raised (Falls told left) = 0 < left + raised
+HasSteps raised (Posts c told left old new) = 0 < left
+HasSteps raised _ = Unit {0}
+
+-- its places are counted by machine numbers
+abbrev pub IsCounted : Front → Type 0
+IsCounted (Falls told left) = told + left < 2 ^ 64
+IsCounted (Posts c told left old new) = told + left < 2 ^ 64
+IsCounted _ = Unit {0}
 
 -- the falls of raised PLLs and so many notices behind them, if there are any
 abbrev pub falls : List ℕ → ℕ → ℕ → Front

@@ -5,6 +5,7 @@ use Rattle.clk_base.specs.declared.call.Micro.{Micro}
 use Rattle.clk_model.specs.Script.{is_raise}
 use Rattle.clk_flight.specs.declared.front.Front.{Front}
 use Rattle.clk_flight.specs.declared.front.Front.TheVariants.{Empty, Poll, Raise, Lower, Falls, Posts}
+use Rattle.clk_flight.specs.Fronts.{HasSteps, IsCounted}
 use Rattle.clk_flight.specs.Flights.{FlightState}
 
 -- the room that a step of a script may need: a raise takes as many PLLs as a line has
@@ -17,16 +18,10 @@ front_room plls again (Poll pll polls behind) = option_map_or (λ x. plls - agai
 front_room plls again (Raise x) = plls - again
 front_room plls again _ = 0
 
--- what stands in front has a step, and its places are counted by machine numbers
-abbrev pub HasSteps : ℕ → Front → Type 0
-HasSteps raised (Poll pll polls again) = 0 < polls
-HasSteps raised (Falls told left) = (0 < left + raised) × (told + left < 2 ^ 64)
-HasSteps raised (Posts c told left old new) = (0 < left) × (told + left < 2 ^ 64)
-HasSteps raised _ = Unit {0}
-
--- what a flight keeps with room for so many raised PLLs: what stands in front has a step, nothing has come again more often than a
+-- what a flight keeps with room for so many raised PLLs: what stands in front has a step and is counted by machine numbers, nothing has come again more often than a
 -- line has PLLs, and there is room for all PLLs that are still to be raised
 pub record IsKept (f : FlightState) (capacity : ℕ) : Type 0 where
   pub steps : HasSteps (length f.raised) f.front
+  pub counted : IsCounted f.front
   pub again : f.again ≤ f.plls
   pub room : length f.raised + sum_by (room_for f.plls) f.left + front_room f.plls f.again f.front ≤ capacity

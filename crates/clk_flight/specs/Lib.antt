@@ -6,3 +6,4 @@ pub mod Kept
 pub mod LeftOver
 pub mod Moves
 pub mod Parts
+pub mod Steps

@@ -74,7 +74,7 @@ front_polled front answer = front
 
 -- the poll in front is answered
 abbrev pub polled_in : FlightState → Bool → FlightState
-polled_in f answer = if is_last_no f.front answer then timed_out_in f else record f { front = front_polled f.front answer }
+polled_in f answer = if is_last_no f.front answer then timed_out_in f else record f { front = front_polled f.front answer; left = script_behind f.front f.left }
 
 -- what stands in front behind a fall
 abbrev pub front_fallen : List ℕ → Front → Front
@@ -87,7 +87,7 @@ with_raised f ys = record f { raised = ys; front = front_fallen ys f.front }
 
 -- the PLL that was raised last has fallen
 abbrev pub fallen : FlightState → FlightState
-fallen f = with_raised f (others f.raised)
+fallen f = record (with_raised f (others f.raised)) { left = script_behind f.front f.left }
 
 -- a PLL counts as raised no more
 abbrev pub let_go_of : FlightState → ClockId → FlightState

@@ -1,15 +1,18 @@
 //! A change in flight.
 
-ghost use Rattle.std.specs.Prelude.{◌≡◌, ℕ, false, List, OnOk, OnErr, slice_get, map};
+ghost use Rattle.std.specs.Prelude.{◌≡◌, ℕ, false, Some, List, OnOk, OnErr, slice_get, map};
 ghost use Rattle.std.specs.Option.{option_map};
+ghost use Rattle.clk_base.specs.declared.call.Micro.{Micro};
 ghost use Rattle.clk_model.specs.State.{NotifierRow, Change};
+ghost use Rattle.clk_model.specs.Laws.Paced.{is_notice};
 ghost use Rattle.clk_model.specs.Step.{todo};
 ghost use Rattle.clk_flight.specs.Begun.{begun, StartsAs};
 ghost use Rattle.clk_flight.specs.Fronts.{post_to};
-ghost use Rattle.clk_flight.specs.Flights.{IsChange, comes_next, fall_or_abort};
+ghost use Rattle.clk_flight.specs.Flights.{IsChange, own_step, comes_next, fall_or_abort};
+ghost use Rattle.clk_flight.specs.Steps.{is_fall};
 ghost use Rattle.notifiers.specs.Chains.{Tells, row_on};
 
-use crate::front::{Front, called_off};
+use crate::front::{Front, abort_of};
 use crate::raised::Raised;
 use crate::script::{Script, room_for};
 use crate::start::Start;
@@ -80,7 +83,7 @@ fn fall_or_abort(script: &Script, told: usize, raised: &Raised) -> Option<Micro>
         return Some(Micro::Fall(pll));
     }
     match script.at_place(told) {
-        Some(step) => Some(called_off(step)),
+        Some(step) => abort_of(step),
         None => None,
     }
 }
@@ -134,6 +137,7 @@ impl Flight {
     /// The step that comes next, while a change is in flight.
     pub fn next(&self, notifiers: &Notifiers) -> Option<Micro>
         ensures step { (rows : List NotifierRow) → Tells notifiers.now rows → result ≡ comes_next rows self.now }
+        ensures own { (m : Micro) → result ≡ Some m → is_notice m ≡ false → is_fall m ≡ false → own_step self.now ≡ Some m }
         ensures first { (rows : List NotifierRow) (k : Change) → Tells notifiers.now rows → IsChange rows self.now k → result ≡ slice_get (todo k) 0 }
     {
         if !self.going {

@@ -2,9 +2,8 @@
 
 ghost use Rattle.std.specs.Prelude.{◌≡◌, ℕ, ◌+◌, ◌<◌, ◌^◌, List, length};
 ghost use Rattle.std.specs.Option.{option_map_or};
-ghost use Rattle.clk_flight.specs.Fronts.{called_off, is_empty, falls, aborts_behind, posts, front_behind};
+ghost use Rattle.clk_flight.specs.Fronts.{abort_of, is_empty, falls, aborts_behind, posts, front_behind, HasSteps, IsCounted};
 ghost use Rattle.clk_flight.specs.Moves.{front_fallen};
-ghost use Rattle.clk_flight.specs.Kept.{HasSteps};
 
 use clk_base::{ClockId, Micro, Notice};
 
@@ -39,9 +38,9 @@ pub(crate) enum Front {
     },
 }
 
-/// A notice as one that the change is called off.
-pub(crate) fn called_off(step: Micro) -> Micro
-    ensures { result ≡ called_off step }
+/// A notice as one that the change is called off, if it is one.
+pub(crate) fn abort_of(step: Micro) -> Option<Micro>
+    ensures { result ≡ abort_of step }
 {
     match step {
         Micro::Notify {
@@ -50,14 +49,14 @@ pub(crate) fn called_off(step: Micro) -> Micro
             old,
             new,
             ..
-        } => Micro::Notify {
+        } => Some(Micro::Notify {
             kind: Notice::Abort,
             clock,
             id,
             old,
             new,
-        },
-        other => other,
+        }),
+        _ => None,
     }
 }
 
@@ -111,7 +110,8 @@ fn aborts_behind(raised: usize, told: usize, left: usize) -> Front
 
 /// What stands in front behind the first step of it, where that is no fall.
 pub(crate) fn behind(front: Front, raised: usize) -> Front
-    requires { HasSteps raised front }
+    requires steps { HasSteps raised front }
+    requires counted { IsCounted front }
     ensures { (ys : List ℕ) → raised ≡ length ys → result ≡ front_behind ys front }
 {
     match front {

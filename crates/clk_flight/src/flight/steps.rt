@@ -1,10 +1,16 @@
 //! What each step of the call makes of the change in flight itself.
 
-ghost use Rattle.std.specs.Prelude.{◌≡◌, true, false, ◌+◌, ◌<◌, ◌^◌, ◌&&◌, ℕ, Some, None, List, IsTrue, nat_lt, if◌then◌else◌};
+ghost use Rattle.std.specs.Prelude.{◌≡◌, true, false, ◌+◌, ◌<◌, ◌≤◌, ◌^◌, length, ◌&&◌, ℕ, Some, None, List, IsTrue, nat_lt, if◌then◌else◌};
+ghost use Rattle.clk_base.specs.declared.call.Micro.{Micro};
 ghost use Rattle.clk_base.specs.declared.call.Micro.TheVariants as micro;
+ghost use Rattle.clk_base.specs.declared.clock.ClockId.{ClockId};
+ghost use Rattle.clk_model.specs.State.{NotifierRow};
+ghost use Rattle.clk_model.specs.Notices.{notifiers_of};
 ghost use Rattle.clk_flight.specs.Fronts.{script_behind, is_empty};
-ghost use Rattle.clk_flight.specs.Flights.{own_step, seeks_plls};
+ghost use Rattle.clk_flight.specs.Flights.{own_step, seeks_plls, comes_next};
+ghost use Rattle.clk_flight.specs.LeftOver.{left_over};
 ghost use Rattle.clk_flight.specs.Moves.{gone_on, found_none, raised_in, lowered_once, is_last_no, front_polled, polled_in, fallen, let_go_of, visited, landed};
+ghost use Rattle.clk_flight.specs.Steps.{GoesOn, FindsNone, Raises, LowersOne, Polls, Drops, LetsGo, Visits, LeavesLess, LeavesLessAt, is_taken, is_fall};
 
 use super::Flight;
 use crate::front::{Front, behind, fallen, falls, is_empty, posts, raise_again};
@@ -94,6 +100,8 @@ impl Flight {
     /// visit and the end.
     pub fn go_on(&mut self)
         ensures flight { self.new ≡ gone_on self.old }
+        ensures change { GoesOn self.old self.new }
+        ensures less { LeavesLessAt is_taken self.old self.new }
     {
         take_own(self.front, &mut self.script);
         self.front = behind(self.front, self.raised.len());
@@ -103,6 +111,8 @@ impl Flight {
     pub fn find_none(&mut self)
         requires next { seeks_plls (own_step self.old) ≡ true }
         ensures flight { self.new ≡ found_none self.old }
+        ensures change { FindsNone self.old self.new }
+        ensures less { LeavesLess self.old self.new }
     {
         take_own(self.front, &mut self.script);
         self.front = behind(self.front, self.raised.len());
@@ -113,6 +123,8 @@ impl Flight {
     pub fn raise(&mut self, x: ClockId, pll: ClockId, more: bool)
         requires next { own_step self.old ≡ Some (micro.Raise x) }
         ensures flight { self.new ≡ raised_in self.old x pll more }
+        ensures change { Raises x pll more self.old self.new }
+        ensures less { LeavesLess self.old self.new }
     {
         if self.again >= self.plls {
             self.find_none();
@@ -129,6 +141,8 @@ impl Flight {
     pub fn lower(&mut self, x: ClockId, more: bool)
         requires next { own_step self.old ≡ Some (micro.Lower x) }
         ensures flight { self.new ≡ lowered_once self.old x more }
+        ensures change { LowersOne x more self.old self.new }
+        ensures less { LeavesLess self.old self.new }
     {
         let comes = comes_again(more, self.again, self.plls);
         take_own(self.front, &mut self.script);
@@ -140,6 +154,8 @@ impl Flight {
     /// The poll in front is answered.
     pub fn poll(&mut self, yes: bool)
         ensures flight { self.new ≡ polled_in self.old yes }
+        ensures change { Polls yes self.old self.new }
+        ensures less { (y : ClockId) → own_step self.old ≡ Some (micro.Poll y) → LeavesLess self.old self.new }
     {
         if is_last_no(self.front, yes) {
             self.front = falls(self.raised.len(), 0, self.extra);
@@ -149,13 +165,17 @@ impl Flight {
             self.timed_out = true;
             return;
         }
+        take_own(self.front, &mut self.script);
         self.front = polled(self.front, yes);
     }
 
     /// The PLL that was raised last has fallen.
     pub fn fall(&mut self)
         ensures flight { self.new ≡ fallen self.old }
+        ensures change { Drops self.old self.new }
+        ensures less { LeavesLessAt is_fall self.old self.new }
     {
+        take_own(self.front, &mut self.script);
         self.raised.pop();
         self.front = fallen(self.front, self.raised.len());
     }
@@ -163,6 +183,8 @@ impl Flight {
     /// A PLL is held by a prepare from now on, or is prepared, and counts as raised no more.
     pub fn let_go(&mut self, pll: ClockId)
         ensures flight { self.new ≡ let_go_of self.old pll }
+        ensures change { LetsGo pll self.old self.new }
+        ensures less { (notifiers : List NotifierRow) → left_over notifiers self.new ≤ left_over notifiers self.old }
     {
         self.raised.let_go(pll);
         self.front = fallen(self.front, self.raised.len());
@@ -174,6 +196,8 @@ impl Flight {
     pub fn visit(&mut self, clock: ClockId, told: usize, old: u64, new: u64)
         requires next { own_step self.old ≡ Some (micro.Visit clock) }
         ensures flight { self.new ≡ visited self.old clock told old new }
+        ensures change { Visits clock told old new self.old self.new }
+        ensures less { (notifiers : List NotifierRow) → told ≤ length (notifiers_of notifiers clock.0) → left_over notifiers self.new < left_over notifiers self.old }
     {
         take_own(self.front, &mut self.script);
         self.front = posts(clock, 0, told, old, new);
@@ -182,6 +206,8 @@ impl Flight {
     /// The change has ended.
     pub fn end(&mut self)
         ensures flight { self.new ≡ landed self.old }
+        ensures quiet { self.new.going ≡ false }
+        ensures less { (notifiers : List NotifierRow) (m : Micro) → comes_next notifiers self.old ≡ Some m → left_over notifiers self.new < left_over notifiers self.old }
     {
         self.script.finish();
         self.raised.clear();
