@@ -5,6 +5,7 @@ ghost use Rattle.std.specs.Option.{option_map};
 ghost use Rattle.clk_base.specs.declared.call.Micro.{Micro};
 ghost use Rattle.clk_model.specs.State.{NotifierRow, Change};
 ghost use Rattle.clk_model.specs.Laws.Paced.{is_notice};
+ghost use Rattle.clk_model.specs.Lists.{is_in};
 ghost use Rattle.clk_model.specs.Step.{todo};
 ghost use Rattle.clk_flight.specs.Begun.{begun, StartsAs};
 ghost use Rattle.clk_flight.specs.Fronts.{post_to};
@@ -178,6 +179,13 @@ impl Flight {
         ensures { result ≡ self.now.call }
     {
         self.call
+    }
+
+    /// Whether the call has raised a PLL that nothing holds yet.
+    pub fn has_raised(&self, pll: ClockId) -> bool
+        ensures { result ≡ is_in pll.0 self.now.raised }
+    {
+        self.raised.contains(pll)
     }
 
     /// The least and the greatest rate in Hz that the handle allowed before the call, where it sets

@@ -1,8 +1,9 @@
 //! The PLLs that a change has raised.
 
 ghost use Rattle.std.specs.Prelude.{◌≡◌, ◌==◌, ◌<◌, ◌≤◌, [], ◌∷◌, not, filter, length, slice_get, vec_capacity, OnOk, OnErr};
+ghost use Rattle.std.specs.List.{list_any};
 ghost use Rattle.std.specs.Option.{option_map};
-ghost use Rattle.clk_model.specs.Lists.{without};
+ghost use Rattle.clk_model.specs.Lists.{is_in, without};
 ghost use Rattle.clk_flight.specs.Moves.{others};
 
 use clk_base::ClockId;
@@ -24,6 +25,13 @@ impl Model for Raised {
     ghost Value = { RaisedState };
 
     ghost view = { λ r. record { plls = reverse (map (λ c. c.0) r.clocks.items); room = vec_capacity r.clocks } };
+}
+
+// Whether the clock of this number is in the list.
+fn has(clocks: &[ClockId], number: u32) -> bool
+    ensures { result ≡ list_any (λ c. c.0 == number) clocks.now }
+{
+    clocks.iter().any(|other| other.0 == number)
 }
 
 // The list without the clock of this number.
@@ -68,6 +76,13 @@ impl Raised {
         ensures { option_map (λ c. c.0) result ≡ slice_get self.now.plls 0 }
     {
         self.clocks.last().copied()
+    }
+
+    /// Whether a PLL is among them.
+    pub(crate) fn contains(&self, pll: ClockId) -> bool
+        ensures { result ≡ is_in pll.0 self.now.plls }
+    {
+        has(&self.clocks, pll.0)
     }
 
     /// A PLL is raised.
