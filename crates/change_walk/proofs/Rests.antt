@@ -6,8 +6,8 @@ use Rattle.clk_model.specs.declared.row.ClockRow.{ClockRow}
 use Rattle.clk_model.specs.State.{registered}
 use Rattle.clk_tree.specs.declared.walk_rates.WalkRate.{WalkRate}
 use Rattle.clk_tree.specs.Plans.{rates_of}
-use Rattle.clk_tree.proofs.Rows.{registered-lt}
 use Rattle.change_walk.specs.Changes.{AreThere}
+use Rattle.clk_model.proofs.StateLaws.{registered_lt}
 
 pub drop_none : {X : Type 0} (xs : List X) → drop 0 xs ≡ xs
 drop_none [] = refl
@@ -56,7 +56,7 @@ there_at clocks (r ∷ rates) (suc k) d less there = there_at clocks rates k d (
 
 -- a registered clock is one of the description
 pub registered_inside : (clocks : List ClockRow) (n c : ℕ) → length clocks ≡ n → registered clocks c ≡ true → c < n
-registered_inside clocks n c rows on = let less = registered-lt clocks c on in omega arith
+registered_inside clocks n c rows on = let less = registered_lt clocks c on in omega arith
 
 -- and so of what they are made into
 pub rest_of : {X Y : Type 0} (f : X → Y) (xs : List X) (k : ℕ) (x : X) → slice_get xs k ≡ Some x → drop k (map f xs) ≡ f x ∷ drop (k + 1) (map f xs)

@@ -22,7 +22,6 @@ use Rattle.clk_model.proofs.WalkLaws.{walks_list}
 use Rattle.clk_tree.specs.declared.plan.Plan.{Plan}
 use Rattle.clk_tree.specs.Plans.{ClockRate}
 use Rattle.clk_tree.specs.TreeState.{TreeState, IsTree}
-use Rattle.clk_tree.proofs.Rows.{registered-lt}
 use Rattle.notifiers.specs.declared.notifier.Notifier.{Notifier}
 use Rattle.notifiers.specs.Chains.{row_on}
 use Rattle.change_walk.specs.declared.changes.Changed.{Changed}
@@ -32,6 +31,7 @@ use Rattle.change_walk.specs.Steps.{steps_for, visits}
 use Rattle.change_walk.specs.Tellings.{notifiers_at, tell_before, tell_off}
 use Rattle.change_walk.proofs.Descending.{rated_at}
 use Rattle.change_walk.proofs.PlanWalks.{changing_found, found_alike, plan_of}
+use Rattle.clk_model.proofs.StateLaws.{registered_lt}
 
 -- all that a script is made of: a plan for a state that a tree tells, and clocks that are there
 pub record Fits (words : ℕ) (s : State) (t : TreeState) (held : ℕ → Bool) (lists : List (List Notifier)) (plan : Plan) : Type 0 where
@@ -77,7 +77,7 @@ pub walk_there : (words : ℕ) (s : State) (t : TreeState) (held : ℕ → Bool)
     → (c : ℕ) → is_in c (walk s.order (wiring s) plan.chain) ≡ true → c < length t.defs
 walk_there words s t held lists plan fits c m =
     let on_ = all_in (λ r. registered t.clocks r.clock ≡ true) (rate_in (outcome plan.chain (wiring s))) (walk s.order (wiring s) plan.chain) (subst (AreThere t.clocks) fits.planned.rates fits.there) c m in
-    let less = registered-lt t.clocks c on_ in
+    let less = registered_lt t.clocks c on_ in
     let rows = fits.stands.rows in
     omega arith
 

@@ -12,14 +12,14 @@ use Rattle.clk_model.specs.State.{registered, link_in, handle_at}
 use Rattle.clk_model.proofs.Members.{count_from-below}
 use Rattle.clk_model.proofs.GateLaws.{GatesLie}
 use Rattle.clk_tree.specs.TreeState.{IsTree}
-use Rattle.clk_tree.proofs.Rows.{registered-lt}
+use Rattle.clk_model.proofs.StateLaws.{registered_lt}
 
 -- ---- clocks
 
 -- a registered clock is a clock of the description
 pub registered_lies : (defs : Description) (clocks : List ClockRow) (order rates : List ℕ) (c : ℕ) → IsTree defs clocks order rates → registered clocks c ≡ true → c < length defs
 registered_lies defs clocks order rates c tree there =
-    let below : c < length clocks = registered-lt clocks c there in
+    let below : c < length clocks = registered_lt clocks c there in
     let len = tree.rows in omega arith
 
 -- and so is the parent that a clock is attached to

@@ -23,7 +23,8 @@ use Rattle.clk_model.specs.Laws.Outcomes.{SameSettings}
 use Rattle.clk_model.proofs.Members.{both_left, both_right}
 use Rattle.clk_model.proofs.OutcomeLaws.{length-slice_set}
 use Rattle.clk_model.proofs.RateLaws.{rate-links}
-use Rattle.clk_model.proofs.SameSettingLaws.{SameFields, rates_same, put_same, mux_is_field, setting_of}
+use Rattle.clk_model.proofs.SameSettingLaws.{SameFields, rates_same, put_same, setting_of}
+use Rattle.clk_model.proofs.ApartLaws.{mux_is_field}
 use Rattle.clk_model.proofs.WholePathLaws.{linked_same, linked_other, same_or_not}
 
 -- ---- steps on a tree

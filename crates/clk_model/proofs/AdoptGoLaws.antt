@@ -163,7 +163,7 @@ left_was x d (y ∷ ys) m = by_test (nat_eq y x) m (λ n. left_was x d ys n) whe
     | inr later ↦ is_in_tail d y ys (rest later)
   ]
 
-left_once : (x : ℕ) (xs : List ℕ) → none_twice xs ≡ true → none_twice (without_one x xs) ≡ true
+pub left_once : (x : ℕ) (xs : List ℕ) → none_twice xs ≡ true → none_twice (without_one x xs) ≡ true
 left_once x [] once = refl
 left_once x (y ∷ ys) once = by_test (nat_eq y x) (left_once x ys (once_head y ys once).1) where
   by_test : (t : Bool) → none_twice (without_one x ys) ≡ true → none_twice (if t then ys else y ∷ without_one x ys) ≡ true

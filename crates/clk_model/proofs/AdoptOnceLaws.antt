@@ -33,6 +33,7 @@ use Rattle.clk_model.proofs.BalancedScripts.{relinks_once}
 use Rattle.clk_model.proofs.BalanceLaws.{relinks_append}
 use Rattle.clk_model.proofs.AdoptGoLaws.{ordered_in, ordered_once}
 use Rattle.clk_model.proofs.ProbeGoLaws.{can_adopt}
+use Rattle.clk_model.proofs.SiblingLaws.{refuted}
 
 -- ---- adoptions
 
@@ -104,10 +105,6 @@ adopts_itself words s c wired m = by_given (selected s.defs s.regs c) refl there
 
 -- ---- the script
 
-none_of : (b : Bool) → (b ≡ true → ⊥) → b ≡ false
-none_of false never = refl
-none_of true never = absurd (never refl)
-
 adoptable_once : (s : State) (c : ℕ) → IsOrder (register s c).order (register s c).clocks → none_twice (adoptable (register s c)) ≡ true
 adoptable_once s c ordered =
     let r : State = register s c in
@@ -126,7 +123,7 @@ probe_once words s c wired ordered = by_critical (is_critical r.defs c.0) where
   adoptions = flat_map (adoption r) order
 
   not_listed : is_in c.0 order ≡ false
-  not_listed = none_of (is_in c.0 order) (λ m. adopts_itself words s c.0 wired (ordered_in (length (adoptable r)) r (adoptable r) c.0 m))
+  not_listed = refuted (is_in c.0 order) (λ m. adopts_itself words s c.0 wired (ordered_in (length (adoptable r)) r (adoptable r) c.0 m))
 
   registering : relinks_once (micro.Register (clock_id c.0) ∷ (adoptions ++ micro.End ∷ []))
   registering = (

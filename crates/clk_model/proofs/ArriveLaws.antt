@@ -26,7 +26,7 @@ use Rattle.clk_model.specs.Laws.Supplied.{GatesOpen, IsFeeder, IsReady, Supplies
 use Rattle.clk_model.proofs.Members.{is_in_head, is_in_tail, is_in_cases}
 use Rattle.clk_model.proofs.OnceLaws.{is_in-append, in_append}
 use Rattle.clk_model.proofs.GateLaws.{length-gates_moved}
-use Rattle.clk_model.proofs.SupplyLaws.{selected_same, settled_is_supplied}
+use Rattle.clk_model.proofs.SupplyLaws.{selected_same, settled_is_supplied, if_one}
 use Rattle.clk_model.proofs.PowerLaws.{settled_muxes}
 use Rattle.clk_model.proofs.OnceLaws.{filter_keeps}
 use Rattle.std.proofs.lemmas.Bool.{and_from}
@@ -38,10 +38,6 @@ use Rattle.clk_model.proofs.SceneStepLaws.{Lands, reselected}
 
 pub some_one : {X : Type 0} (P : X → Type 0) (o : Option X) (x : X) → IfSome o P → o ≡ Some x → P x
 some_one P o x each e = subst (λ u. IfSome u P) e each
-
-pub if_one : {X : Type 0} (P : X → Type 0) (o : Option X) → ((x : X) → o ≡ Some x → P x) → IfSome o P
-if_one P None each = tt
-if_one P (Some x) each = each x refl
 
 -- ---- safe states are supplied
 

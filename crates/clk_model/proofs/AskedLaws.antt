@@ -24,7 +24,7 @@ use Rattle.clk_model.specs.Script.{move_of, planned}
 use Rattle.clk_model.specs.Begin.{begun}
 use Rattle.clk_model.specs.Step.{taken, is_end, from_first}
 use Rattle.clk_model.specs.Machine.{next}
-use Rattle.clk_model.specs.Laws.Flight.{Flight, begins, goes_on, beside, plan, plan_rates, script, pre_notices, abort_notices, may_be_put, IsLeftOf, all_left, own_made, put_made, cut, IsUnderWay}
+use Rattle.clk_model.specs.Laws.Flight.{plan, plan_rates, script, pre_notices, abort_notices, may_be_put, IsLeftOf, all_left, own_made, put_made, cut, IsUnderWay}
 use Rattle.clk_model.specs.Laws.ChangesTold.{is_pre, ChangesAreAsked}
 use Rattle.clk_model.specs.Laws.PlansRead.{plans}
 use Rattle.clk_model.proofs.NoneLaws.{none_append, none_map, none_flat_map, none_if, none_front, none_rest, none_behind}
@@ -40,7 +40,9 @@ use Rattle.clk_model.proofs.BeginSafeLaws.{resting}
 use Rattle.clk_model.proofs.SafeRunLaws.{IsRunning, quietly, in_flight, IsRun}
 use Rattle.clk_model.proofs.RunsFedLaws.{run_of}
 use Rattle.clk_model.proofs.ToldFlightLaws.{all_moves, PlanBegins, plan_begins}
-use Rattle.clk_model.proofs.ToldRunLaws.{no_end, went_well}
+use Rattle.clk_model.proofs.ToldRunLaws.{went_well}
+use Rattle.clk_model.proofs.TimeoutLaws.{no_end}
+use Rattle.clk_model.proofs.BalanceLaws.{began}
 
 -- ---- lists of steps
 
@@ -150,11 +152,6 @@ begins_asking q s d what run plans_ step = by_case (begun q d what) (begins_so q
   by_case y (notes notifiers r) going = absurd cc
   by_case y (registers x free calm_) going = absurd cc
 
-begin_of : (q : State) (d : ℕ) (what : Sleeping) {s : State} {made : List Micro} → Flight q d what s made → (n : State) × (next q d (event.Begin what) ≡ Some (n, turn.Going))
-begin_of q d what {s = s} (begins step) = (s, step)
-begin_of q d what (goes_on m answer flight step) = begin_of q d what flight
-begin_of q d what (beside other e tier flight step) = begin_of q d what flight
-
 -- ---- on the way
 
 put_asks_nobody : (m : Micro) → may_be_put m ≡ true → is_pre m ≡ false
@@ -193,7 +190,7 @@ changes_are_asked defs regs ignore_unused credits before q s t d what made m ans
       run = subst (λ (v : State). IsRun v) replayed (run_of defs regs ignore_unused credits before valid)
 
       first : AsksFirst q (plan q d what) (script q d what)
-      first = let begin = begin_of q d what flight in begins_asking q begin.0 d what run plans_ begin.1
+      first = let begin = began q d what flight in begins_asking q begin.0 d what run plans_ begin.1
 
       is : IsUnderWay q d what s made
       is = script_left q s d what made flight

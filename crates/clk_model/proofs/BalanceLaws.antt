@@ -36,6 +36,7 @@ use Rattle.clk_model.proofs.HoldSteps.{relinks, is_holding, held_after_steps, ho
 use Rattle.clk_model.proofs.BalancedScripts.{relinks_once, IsBalanced, ended, elsewhere, block}
 use Rattle.clk_model.proofs.HoldLaws.{no_hold_left}
 use Rattle.clk_model.proofs.OnceLaws.{once_head}
+use Rattle.std.proofs.lemmas.List.{append-nil}
 
 balanced_append : (link : ℕ → Option ℕ) {xs : List Micro} (ys : List Micro) → IsBalanced link xs → IsBalanced link ys → IsBalanced link (xs ++ ys)
 balanced_append link ys ended g = g
@@ -61,7 +62,7 @@ all_calm link (m ∷ ms) none = elsewhere m (none_front is_holding m ms none) (a
 
 -- ---- moves
 
-no_holds_pass : (p : ℕ) (o : Option ℕ) → passed_over p o [] ≡ []
+pub no_holds_pass : (p : ℕ) (o : Option ℕ) → passed_over p o [] ≡ []
 no_holds_pass p None = refl
 no_holds_pass p (Some o) = refl
 
@@ -72,7 +73,7 @@ move_drains : (link : ℕ → Option ℕ) (c p o place : ℕ) → link c ≡ Som
     ∷ micro.DropEnable (clock_id c) ∷ micro.DropEnable (clock_id o) ∷ micro.DropPrepare (clock_id o) ∷ []) ([], []) ≡ ([], [])
 move_drains link c p o place from other = rw (from, other, test_same p, test_same c, test_same o) refl
 
-other_way : (c p : ℕ) → nat_eq c p ≡ false → nat_eq p c ≡ false
+pub other_way : (c p : ℕ) → nat_eq c p ≡ false → nat_eq p c ≡ false
 other_way c p e = grind (arith, nat_tests)
 
 -- one from no parent takes them away as it relinks
@@ -236,10 +237,6 @@ none_of_it defs clocks held (k ∷ ks) c none =
     (cond (b && moves clocks k) (k ∷ filter (λ j. nat_eq j.clock c && moves clocks j) ks) (filter (λ j. nat_eq j.clock c && moves clocks j) ks))) both.0
     ∙ none_of_it defs clocks held ks c both.1
 
-nothing_behind : (ms : List Micro) → ms ++ [] ≡ ms
-nothing_behind [] = refl
-nothing_behind (m ∷ ms) = ap (λ (ns : List Micro). m ∷ ns) (nothing_behind ms)
-
 moves_once : (defs : Description) (clocks : List ClockRow) (held : ℕ → Bool) (ks : List ChainStep) (c : ℕ) → none_twice (clocks_in ks) ≡ true → relinks_once (move_of defs clocks held ks c)
 moves_once defs clocks held [] c distinct = tt
 moves_once defs clocks held (k ∷ ks) c distinct = by_test (nat_eq k.clock c) (moves clocks k) refl (moves_once defs clocks held ks c (once_head k.clock (clocks_in ks) distinct).1) where
@@ -254,7 +251,7 @@ moves_once defs clocks held (k ∷ ks) c distinct = by_test (nat_eq k.clock c) (
   by_test true true e rest =
       let gone : move_of defs clocks held ks c ≡ [] = none_of_it defs clocks held ks c (ap (λ (x : ℕ). is_in x (clocks_in ks)) (sym (same_from_test k.clock c e)) ∙ (once_head k.clock (clocks_in ks) distinct).0) in
       subst (λ (ms : List Micro). relinks_once (option_map_or (move defs clocks held c) k.parent [] ++ ms)) (sym gone)
-      (subst (λ (ms : List Micro). relinks_once ms) (sym (nothing_behind (option_map_or (move defs clocks held c) k.parent []))) (by_parent k.parent))
+      (subst (λ (ms : List Micro). relinks_once ms) (sym (append-nil (option_map_or (move defs clocks held c) k.parent []))) (by_parent k.parent))
 
 walked_of_its_own : (s : State) (ks : List ChainStep) (c d : ℕ) → nat_eq c d ≡ false → list_any (relinks d) (walked_at s ks c) ≡ false
 walked_of_its_own s ks c d other = none_append (relinks d) (move_of s.defs s.clocks (prepared s) ks c) (micro.Visit (clock_id c) ∷ []) (moves_of_its_own s.defs s.clocks (prepared s) ks c d other) refl

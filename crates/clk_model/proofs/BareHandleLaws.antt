@@ -85,7 +85,7 @@ pub data SameOwn : Option HandleRow → Option HandleRow → Type 0 where
   neither : SameOwn None None
   both_have : (row row' : HandleRow) → without_enables row' ≡ without_enables row → SameOwn (Some row) (Some row')
 
-inside : {a b : HandleRow} → Some a ≡ Some b → a ≡ b
+pub inside : {a b : HandleRow} → Some a ≡ Some b → a ≡ b
 inside e = cc
 
 own_of : (d : ℕ) (row row' : HandleRow) (t : Bool) → without_enables row' ≡ without_enables row → SameOwn (cond t (Some row) None) (cond t (Some row') None)

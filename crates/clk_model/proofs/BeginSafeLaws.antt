@@ -23,7 +23,8 @@ use Rattle.clk_model.specs.Laws.LinksKept.{KeepsLinks}
 use Rattle.clk_model.proofs.Members.{not_either}
 use Rattle.clk_model.proofs.OnceLaws.{filter_keeps}
 use Rattle.clk_model.proofs.Scenes.{Scene, scene, EndsPrepare, GoesWell, raises, ends, PowersOn, IsSafe, calm, IsAtRest}
-use Rattle.clk_model.proofs.ArriveLaws.{IsFit, fit_of, settled_safe, settled_scene, safe_recounted, if_one, some_one, power_is_pll}
+use Rattle.clk_model.proofs.ArriveLaws.{IsFit, fit_of, settled_safe, settled_scene, safe_recounted, some_one, power_is_pll}
+use Rattle.clk_model.proofs.SupplyLaws.{if_one}
 use Rattle.clk_model.proofs.StandLaws.{Goes, goes_told}
 use Rattle.clk_model.proofs.RestLaws.{alike_put, fit_alike, fit_counted, prepared_less, gates_alike}
 use Rattle.clk_model.proofs.PlanRootLaws.{IsRooted}
@@ -33,7 +34,7 @@ use Rattle.clk_model.proofs.BeginsLaws.{changes_rate, IsPlannedOver, over_itself
 
 -- ---- PLLs of a path
 
-first_none : (xs : List ℕ) → is_none (slice_get xs 0) ≡ true → xs ≡ []
+pub first_none : (xs : List ℕ) → is_none (slice_get xs 0) ≡ true → xs ≡ []
 first_none [] e = refl
 first_none (x ∷ xs) e = absurd cc
 

@@ -28,6 +28,7 @@ use Rattle.clk_model.specs.Step.{sets_parent}
 use Rattle.clk_model.proofs.Members.{both_left, both_right}
 use Rattle.clk_model.proofs.EventLaws.{own_is_live}
 use Rattle.clk_model.proofs.TierLaws.{pick_either, with_handle_either}
+use Rattle.clk_model.proofs.Cases.{by_found}
 
 -- ---- calls that go on
 
@@ -95,10 +96,6 @@ on_handle s d what number f each =
 by_plan : (P : State × Turn → Type 0) (o : Option (List ChainStep)) (f : List ChainStep → State × Turn) (x : State × Turn) → P x → ((ks : List ChainStep) → o ≡ Some ks → P (f ks)) → P (option_map_or f o x)
 by_plan P None f x none some = none
 by_plan P (Some ks) f x none some = some ks refl
-
-by_rate : (P : State × Turn → Type 0) (o : Option ℕ) (f : ℕ → State × Turn) (x : State × Turn) → P x → ((y : ℕ) → P (f y)) → P (option_map_or f o x)
-by_rate P None f x none some = none
-by_rate P (Some y) f x none some = some y
 
 got_begins : (s : State) (d : ℕ) (what : Sleeping) (found : Option ℕ) → Begins s d what (got s d found)
 got_begins s d what None = answers (reply.Refused errno.ENOENT)
@@ -172,7 +169,7 @@ begins_so s d (call.Unprepare h) = on_handle s d (call.Unprepare h) h.number (un
 begins_so s d (call.GetRate h) = on_handle s d (call.GetRate h) h.number _ (λ row at. answers _)
 begins_so s d (call.RoundRate h x) =
     on_handle s d (call.RoundRate h x) h.number (λ row. rounded s h.number row x)
-    (λ row at. by_rate (Begins s d (call.RoundRate h x)) (round_rate (wiring s) (view (lift s h.number)) row.clock.0 x) (λ r. done s (reply.Rate r)) (refused s errno.EINVAL) (answers (reply.Refused errno.EINVAL)) (λ r. answers (reply.Rate r)))
+    (λ row at. by_found (Begins s d (call.RoundRate h x)) (round_rate (wiring s) (view (lift s h.number)) row.clock.0 x) (λ r. done s (reply.Rate r)) (refused s errno.EINVAL) (answers (reply.Refused errno.EINVAL)) (λ r. answers (reply.Rate r)))
 begins_so s d (call.SetRate h x) =
     on_handle s d (call.SetRate h x) h.number (λ row. request s s s (lift s h.number) d (call.SetRate h x) row.clock.0 x None)
     (λ row at. request_begins s s s (lift s h.number) d (call.SetRate h x) h.number row x None over_itself at refl (answers reply.Fine))

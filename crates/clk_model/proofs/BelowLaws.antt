@@ -22,7 +22,7 @@ Rises up (suc n) c t = (p : ℕ) × (up c ≡ Some p) × Rises up n p t
 abbrev pub IsUp : (ℕ → List ℕ) → (ℕ → Option ℕ) → Type 0
 IsUp parents up = (c p : ℕ) → up c ≡ Some p → is_in p (parents c) ≡ true
 
-same_parent : (up : ℕ → Option ℕ) (c p q : ℕ) → up c ≡ Some p → up c ≡ Some q → p ≡ q
+pub same_parent : (up : ℕ → Option ℕ) (c p q : ℕ) → up c ≡ Some p → up c ≡ Some q → p ≡ q
 same_parent up c p q e f = let both : Some p ≡ Some q = sym e ∙ f in cc
 
 pub rises_on : (up : ℕ → Option ℕ) (n c t p : ℕ) → Rises up n c t → up t ≡ Some p → Rises up (suc n) c p

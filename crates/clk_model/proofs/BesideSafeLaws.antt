@@ -27,7 +27,8 @@ use Rattle.clk_model.proofs.EventLaws.{own_is_live}
 use Rattle.clk_model.proofs.TierLaws.{pick_either, with_handle_either, paid_is}
 use Rattle.clk_model.proofs.PowerLaws.{settled_power}
 use Rattle.clk_model.proofs.Scenes.{scene, IsSafe, IsAtRest, RaisingFront, raised, asks, asks_first, comes_again, Stands, calm, raising}
-use Rattle.clk_model.proofs.ArriveLaws.{fit_of, wired_before, settled_safe, settled_scene, safe_recounted, prepared_told, to_be_told, some_one, if_one}
+use Rattle.clk_model.proofs.ArriveLaws.{fit_of, wired_before, settled_safe, settled_scene, safe_recounted, prepared_told, to_be_told, some_one}
+use Rattle.clk_model.proofs.SupplyLaws.{if_one}
 use Rattle.clk_model.proofs.StandLaws.{Goes, goes_told}
 use Rattle.clk_model.proofs.RestLaws.{Alike, alike_self, alike_counted, fit_alike, gates_alike}
 

@@ -19,12 +19,9 @@ use Rattle.clk_model.proofs.BelowLaws.{IsUp, rises_on, no_round}
 use Rattle.clk_model.proofs.AboveLaws.{put_at, differs, Above, above_here, above_link, above_path, path_above, not_above_link, Holder, holder_of, held_from, holder_above, MayLink, may_still, above_before, above_still, above_clock, clock_before, above_through, holder_clock, held_before}
 use Rattle.clk_model.proofs.Scenes.{Scene, holding, keepers, prepared_in, to_be, IsSound, Grows, GoesWell, uncovered, raises, makes}
 use Rattle.clk_model.proofs.SoundLaws.{in_one, in_two, prepare_cases, keeper_prepares, hold_prepares, kept_alone, one_holder, held_by_one, sound_holding, WillMove, linked_in, may_link, late_behind, sound_linked, moved_in, sound_moved, sound_adopted, late_none}
+use Rattle.clk_model.proofs.BalanceLaws.{no_holds_pass}
 
 -- ---- holds that are passed over and dropped
-
-passed_nothing : (p : ℕ) (o : Option ℕ) → passed_over p o [] ≡ []
-passed_nothing p None = refl
-passed_nothing p (Some o) = refl
 
 passed_one : (p o : ℕ) (u : Option ℕ) → u ≡ Some o → passed_over p u (p ∷ []) ≡ o ∷ []
 passed_one p o u at = ap (λ (x : Option ℕ). passed_over p x (p ∷ [])) at ∙ ap (λ (t : Bool). cond t o p ∷ []) (test_same p)
@@ -171,7 +168,7 @@ pub bare_move : (defs : Description) (what : Sleeping) (timed : Bool) (a : Scene
     → GoesWell defs what timed None (holding a [] [] None) (micro.Relink (clock_id c) (clock_id p) ∷ micro.WriteMux (clock_id c) (place_of defs c p) ∷ ms)
 bare_move defs what timed a c p ms can unprepared rest =
     let left : List ℕ = passed_over p (a.up c) [] in
-    let none : left ≡ [] = passed_nothing p (a.up c) in
+    let none : left ≡ [] = no_holds_pass p (a.up c) in
     makes (micro.Relink (clock_id c) (clock_id p)) refl can.sound can.will.possible
     (λ d prep. inl (link_prepares defs a c p [] [] [] left (late_behind defs a c p) can (λ own. let no : false ≡ true = sym unprepared ∙ own in absurd cc) (λ h m. absurd cc) d
     (prepared_with defs (linked_in a c p) left [] left (late_behind defs a c p) d none prep)))
@@ -187,7 +184,7 @@ pub bare_adoption : (defs : Description) (what : Sleeping) (timed : Bool) (a : S
     → GoesWell defs what timed None (holding a [] [] None) (micro.Relink (clock_id c) (clock_id p) ∷ micro.Settle (clock_id c) ∷ ms)
 bare_adoption defs what timed a c p ms can sel unprepared rest =
     let left : List ℕ = passed_over p (a.up c) [] in
-    let none : left ≡ [] = passed_nothing p (a.up c) in
+    let none : left ≡ [] = no_holds_pass p (a.up c) in
     makes (micro.Relink (clock_id c) (clock_id p)) refl can.sound can.will.possible
     (λ d prep. inl (link_prepares defs a c p [] [] [] left (late_behind defs a c p) can (λ own. let no : false ≡ true = sym unprepared ∙ own in absurd cc) (λ h m. absurd cc) d
     (prepared_with defs (linked_in a c p) left [] left (late_behind defs a c p) d none prep)))

@@ -36,7 +36,8 @@ use Rattle.clk_model.proofs.CauseLaws.{enable_causes, disable_causes, running_ca
 use Rattle.clk_model.proofs.Members.{or_cases, or_right, both_left, both_right, not_either}
 use Rattle.clk_model.proofs.TierLaws.{pick_either, with_handle_either, paid_is}
 use Rattle.clk_model.proofs.RateCauseLaws.{get_turns, put_turns, prepare_turns, unprepare_turns, round_turns, request_turns, range_turns}
-use Rattle.clk_model.proofs.TurnLaws.{came, not_came, not_at, none_first, started, rest_is, no_answer, rest_not, only_unknown, on_handle, HowStarted, Known}
+use Rattle.clk_model.proofs.TurnLaws.{came, not_came, not_at, started, rest_is, no_answer, rest_not, only_unknown, on_handle, HowStarted, Known}
+use Rattle.clk_model.proofs.BeginSafeLaws.{first_none}
 use Rattle.clk_model.proofs.WalkLaws.{is_at_same}
 
 -- ---- parents
@@ -188,11 +189,11 @@ plain_is : (s : State) (c : ℕ) → (is_none (slice_get (adoptable (register s 
 plain_is s c e =
     let first = both_left (is_none (slice_get (adoptable (register s c)) 0)) _ e in
     let second = both_right (is_none (slice_get (adoptable (register s c)) 0)) _ e in
-    (none_first (adoptable (register s c)) first, by (or_cases (not (is_critical s.defs c)) (is_none (slice_get (unprepared_plls s (path_to_be s.defs s.regs s.clocks c)) 0)) second)) where
+    (first_none (adoptable (register s c)) first, by (or_cases (not (is_critical s.defs c)) (is_none (slice_get (unprepared_plls s (path_to_be s.defs s.regs s.clocks c)) 0)) second)) where
       by : (not (is_critical s.defs c) ≡ true) ⊎ (is_none (slice_get (unprepared_plls s (path_to_be s.defs s.regs s.clocks c)) 0) ≡ true)
           → (is_critical s.defs c ≡ false) ⊎ (unprepared_plls s (path_to_be s.defs s.regs s.clocks c) ≡ [])
       by (inl off) = inl (not-true (is_critical s.defs c) off)
-      by (inr none) = inr (none_first (unprepared_plls s (path_to_be s.defs s.regs s.clocks c)) none)
+      by (inr none) = inr (first_none (unprepared_plls s (path_to_be s.defs s.regs s.clocks c)) none)
 
 plain_not : (s : State) (c : ℕ) → (is_none (slice_get (adoptable (register s c)) 0) && (not (is_critical s.defs c) || is_none (slice_get (unprepared_plls s (path_to_be s.defs s.regs s.clocks c)) 0))) ≡ false
     → IsPlain s c → ⊥

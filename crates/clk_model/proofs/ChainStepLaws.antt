@@ -55,7 +55,7 @@ pub no_step : (test : ChainStep → Bool) (ks : List ChainStep) → list_any tes
 no_step test [] none = tt
 no_step test (k ∷ ks) none = let parts = not_either (test k) (list_any test ks) none in (parts.0, no_step test ks parts.1)
 
-AllSteps-more : (P Q : ChainStep → Type 0) (ks : List ChainStep) → ((k : ChainStep) → P k → Q k) → AllByRecursion P ks → AllByRecursion Q ks
+pub AllSteps-more : (P Q : ChainStep → Type 0) (ks : List ChainStep) → ((k : ChainStep) → P k → Q k) → AllByRecursion P ks → AllByRecursion Q ks
 AllSteps-more P Q [] more each = tt
 AllSteps-more P Q (k ∷ ks) more each = (more k each.0, AllSteps-more P Q ks more each.1)
 

@@ -22,7 +22,7 @@ use Rattle.clk_model.specs.Rate.{rate}
 use Rattle.clk_model.specs.Holders.{is_exclusive}
 use Rattle.clk_model.specs.Gates.{settled}
 use Rattle.clk_model.specs.Round.{wiring}
-use Rattle.clk_model.specs.Begin.{put_handle, register, begun}
+use Rattle.clk_model.specs.Begin.{put_handle, begun}
 use Rattle.clk_model.specs.Step.{left_behind, taken, stepped}
 use Rattle.clk_model.specs.Machine.{comes_next, next}
 use Rattle.clk_model.specs.Journal.{replay, opening}
@@ -41,7 +41,7 @@ use Rattle.clk_model.proofs.FrontLaws.{front_after}
 use Rattle.clk_model.proofs.FlightLaws.{IsStep, begin_is, first_put, front_put, next_is}
 use Rattle.clk_model.proofs.VetoLaws.{of_change}
 use Rattle.clk_model.proofs.InFlightLaws.{end_quiet}
-use Rattle.clk_model.proofs.ShapeLaws.{no_step}
+use Rattle.clk_model.proofs.ShapeLaws.{no_step, register_change}
 use Rattle.clk_model.proofs.PlanLaws.{chains_lead}
 use Rattle.clk_model.proofs.Scenes.{IsAtRest}
 use Rattle.clk_model.proofs.ArriveLaws.{wired_before}
@@ -218,10 +218,6 @@ starts_coming c q n d what k on keeps (sweeping is) off = record { front = nothi
 
 -- ---- each event
 
-register_quiet : (s : State) (c : ℕ) → (register s c).change ≡ s.change
-unfolding register
-register_quiet s c = refl
-
 on_root : (s : State) (number c : ℕ) → IsAtRest s → clock_of_handle s.handles number ≡ Some c → OnRoot s c
 on_root s number c rest at =
     let is = rest.safe.sound.tree.rooted number c at in
@@ -274,7 +270,7 @@ begin_keeps number c rate_ s t d what x run run_t kept held holds other step = b
     by_case y (prepares i row e calm) off' k at = let no : None ≡ Some k = sym quiet ∙ at in absurd cc
     by_case y (unprepares i row e gives_up) off' k at = let no : None ≡ Some k = sym quiet ∙ at in absurd cc
     by_case y (notes notifiers r) off' k at = let no : None ≡ Some k = sym quiet ∙ at in absurd cc
-    by_case y (registers e free calm) off' k at = let no : None ≡ Some k = sym quiet ∙ sym (register_quiet s e) ∙ at in absurd cc
+    by_case y (registers e free calm) off' k at = let no : None ≡ Some k = sym quiet ∙ sym (register_change s e) ∙ at in absurd cc
     by_case y (goes_on n j starts_) off' k at =
         subst (λ (i : Change). IsComing s.defs (path s.clocks c) i) (same_Some j k at) (starts_coming c s n d what j on run.keeps starts_ (off'.off refl j refl))
 

@@ -28,15 +28,6 @@ use Rattle.clk_model.proofs.KeepLaws.{put_leaves, mux_written}
 abbrev pub FieldStays : Description → Registers → Registers → ℕ → Type 0
 FieldStays defs regs regs' d = (f : Field) → field_of (kind_of defs d) ≡ Some f → field regs' f.word f.shift f.width ≡ field regs f.word f.shift f.width
 
--- what a clock divides or multiplies by stands in that field
-pub scale_is_field : (kind : Kind) (f : Field) → scales_by kind ≡ Some f → field_of kind ≡ Some f
-scale_is_field (Divider word shift width one_based power_of_two) f e = e
-scale_is_field (Pll word shift width power_word power_bit least most m) f e = e
-scale_is_field (FixedRate rate) f e = absurd cc
-scale_is_field (Factor mult div) f e = absurd cc
-scale_is_field (Gate word bit set_to_disable) f e = absurd cc
-scale_is_field (Mux word shift width read_only) f e = absurd cc
-
 -- a mux divides and multiplies by nothing
 pub mux_no_scale : (kind : Kind) (f g : Field) → mux_field kind ≡ Some f → scales_by kind ≡ Some g → ⊥
 mux_no_scale (Mux word shift width read_only) f g at e = absurd cc

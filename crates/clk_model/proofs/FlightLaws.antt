@@ -278,7 +278,7 @@ taken_left what whole made late [] (n ∷ ns) m e put h =
 taken_left what whole made late (n ∷ ns) left m e put h =
     subst (λ (x : Micro). IsLeftOf what whole (made ++ x ∷ []) late left) (next_is m n (ns ++ left) e) (put_made n put h)
 
-taken_none : (p : Micro → Bool) (front left : List Micro) → list_any p front ≡ false → list_any p left ≡ false
+pub taken_none : (p : Micro → Bool) (front left : List Micro) → list_any p front ≡ false → list_any p left ≡ false
     → (list_any p (rest_of front) ≡ false) × (list_any p (left_behind front left) ≡ false)
 taken_none p [] [] e f = (refl, refl)
 taken_none p [] (n ∷ ns) e f = (refl, none_rest p n ns f)

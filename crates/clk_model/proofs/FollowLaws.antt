@@ -27,7 +27,8 @@ use Rattle.clk_model.proofs.AboveLaws.{put_at, put_same, put_other, Above, above
 use Rattle.clk_model.proofs.WholePathLaws.{same_or_not}
 use Rattle.clk_model.proofs.WalkLaws.{links_after}
 use Rattle.clk_model.proofs.PlanGoLaws.{PlanOver, plan_of}
-use Rattle.clk_model.proofs.FieldLaws.{scale_is_field, set_stays}
+use Rattle.clk_model.proofs.FieldLaws.{set_stays}
+use Rattle.clk_model.proofs.GateRateLaws.{scales_is_field}
 use Rattle.clk_model.proofs.OutcomeRateLaws.{rates_alike}
 
 -- ---- where the clocks are on the way
@@ -164,7 +165,7 @@ visit_done n ks done s k c base over chain valid agrees above visit_ = record { 
   rest : (a : ℕ) → (c ≡ a → ⊥) → ScalesAlike n.defs s.regs regs a
   rest a other f at =
       let there : scales_by (kind_of s.defs a) ≡ Some f = ap (λ (ds : Description). scales_by (kind_of ds a)) agrees.defs ∙ at in
-      set_stays s k (length s.regs) c a valid (λ same. other (sym same)) f (scale_is_field (kind_of s.defs a) f there)
+      set_stays s k (length s.regs) c a valid (λ same. other (sym same)) f (scales_is_field (kind_of s.defs a) f there)
 
   still_agrees : (a : ℕ) → (c ≡ a → ⊥) → (b : Bool) → Agrees n ks s b a → Agrees n ks (record s { regs = regs }) b a
   still_agrees a other true was = (was.0, (λ f at. rest a other f at ∙ was.1 f at))

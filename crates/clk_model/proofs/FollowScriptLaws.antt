@@ -37,7 +37,7 @@ use Rattle.clk_model.proofs.WalkOrderLaws.{Descends, below_descends}
 use Rattle.clk_model.proofs.PlanRootLaws.{StepsRooted}
 use Rattle.clk_model.proofs.PlannedGoLaws.{all_both, moves_here, OneStep, one_step}
 use Rattle.clk_model.proofs.PlanGoLaws.{PlanOver, plan_of, planned_links}
-use Rattle.clk_model.proofs.FieldLaws.{scale_is_field}
+use Rattle.clk_model.proofs.GateRateLaws.{scales_is_field}
 use Rattle.clk_model.proofs.ScriptLaws.{none_pre, none_aborts, planned_is}
 use Rattle.clk_model.proofs.CalmScriptLaws.{place_calm}
 use Rattle.clk_model.proofs.OutcomeRateLaws.{SetRight, settings_right, moved_no_scale}
@@ -108,7 +108,7 @@ outside_link : (n : State) (base : ℕ) (ks : List ChainStep) (a : ℕ) → Plan
 outside_link n base ks a over out = ap (λ (r : ClockRow). option_map (λ p. p.0) r.link) ((keeps_of n base ks over).0.others a out)
 
 outside_scale : (n : State) (base : ℕ) (ks : List ChainStep) (a : ℕ) → PlanOver n base ks → is_in a (clocks_in ks) ≡ false → ScalesAlike n.defs n.regs (outcome_of n ks).regs a
-outside_scale n base ks a over out f at = (keeps_of n base ks over).1.others a 0 f out (field-field (kind_of n.defs a) f (scale_is_field (kind_of n.defs a) f at))
+outside_scale n base ks a over out f at = (keeps_of n base ks over).1.others a 0 f out (field-field (kind_of n.defs a) f (scales_is_field (kind_of n.defs a) f at))
 
 -- ---- a clock of the walk
 

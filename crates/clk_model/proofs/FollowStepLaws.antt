@@ -28,7 +28,8 @@ use Rattle.clk_model.proofs.Cases.{by_option, by_test}
 use Rattle.clk_model.proofs.WholePathLaws.{same_or_not}
 use Rattle.clk_model.proofs.HoldSteps.{settled_links}
 use Rattle.clk_model.proofs.KeepLaws.{mux_written}
-use Rattle.clk_model.proofs.FieldLaws.{FieldStays, scale_is_field, mux_no_scale, powered_stays, closed_stays, written_stays}
+use Rattle.clk_model.proofs.FieldLaws.{FieldStays, mux_no_scale, powered_stays, closed_stays, written_stays}
+use Rattle.clk_model.proofs.GateRateLaws.{scales_is_field}
 use Rattle.clk_model.proofs.FollowLaws.{stirs}
 
 -- ---- steps that don't stir
@@ -47,7 +48,7 @@ alike_same s u defs clocks regs = record {
 }
 
 alike_regs : (s : State) (regs : Registers) (change : Option Change) → ((a : ℕ) → FieldStays s.defs s.regs regs a) → Alike_ s (record s { regs = regs; change = change })
-alike_regs s regs change stays_ = record { defs = refl; link = λ a. refl; scale = λ a f at. stays_ a f (scale_is_field (kind_of s.defs a) f at) }
+alike_regs s regs change stays_ = record { defs = refl; link = λ a. refl; scale = λ a f at. stays_ a f (scales_is_field (kind_of s.defs a) f at) }
 
 alike_bit : (s : State) (z : ℕ) (up : Bool) (k : Change) → IsValid (length s.regs) s.defs → Alike_ s (on (powered s z up) k)
 alike_bit s z up k valid = alike_regs s (powered s z up).regs (Some k) (λ a. powered_stays s (length s.regs) z up a valid)
@@ -63,7 +64,7 @@ alike_muxed s k d place valid calm = record { defs = refl; link = λ a. refl; sc
         below false e fine = absurd cc
 
   by_clock : (a : ℕ) → (a ≡ d) ⊎ (a ≡ d → ⊥) → ScalesAlike s.defs s.regs (mux_written s d place) a
-  by_clock a (inr other) = λ f at. written_stays s (length s.regs) d place a valid fits other f (scale_is_field (kind_of s.defs a) f at)
+  by_clock a (inr other) = λ f at. written_stays s (length s.regs) d place a valid fits other f (scales_is_field (kind_of s.defs a) f at)
   by_clock a (inl same) = by_mux (mux_field (kind_of s.defs d)) refl where
     by_mux : (o : Option Field) → mux_field (kind_of s.defs d) ≡ o → ScalesAlike s.defs s.regs (mux_written s d place) a
     by_mux None own = λ f at. ap (λ (p : Option Field). field (option_map_or (λ g. put s.regs g.word g.shift g.width place) p s.regs) f.word f.shift f.width) own

@@ -189,7 +189,7 @@ like_same false false h = refl
 like_same true false h = absurd cc
 like_same false true h = absurd cc
 
-and_false : (a b : Bool) → (a && b) ≡ false → a ≡ true → b ≡ false
+pub and_false : (a b : Bool) → (a && b) ≡ false → a ≡ true → b ≡ false
 and_false true b h e = h
 and_false false b h e = absurd cc
 

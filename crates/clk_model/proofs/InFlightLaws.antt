@@ -31,9 +31,10 @@ use Rattle.clk_model.specs.Laws.Flight.{Flight, begins, goes_on, beside, step_of
 use Rattle.clk_model.proofs.JournalLaws as journals
 use Rattle.clk_model.proofs.TierLaws.{pick_either, with_handle_either, beside_change}
 use Rattle.clk_model.proofs.FlightLaws.{IsStep, step_is, begin_is, course_of}
-use Rattle.clk_model.proofs.VetoLaws.{ends_it, end_state, of_change}
+use Rattle.clk_model.proofs.VetoLaws.{ends_it, end_state, of_change, not_done}
 use Rattle.clk_model.proofs.Cases.{by_plan, by_found}
 use Rattle.std.proofs.lemmas.Option.{same_Some}
+use Rattle.std.proofs.lemmas.List.{append-nil}
 
 -- ---- a call that is answered at once
 
@@ -110,9 +111,6 @@ begun_or q d (call.Probe c) =
     (λ e. starts_or q q (change_of q d (call.Probe c) (probe_script (register q c.0) c.0))))
 begun_or q d call.Sweep = pick_either (GoesOrHas (in_flight q)) _ _ _ (λ e. record { is = inr refl }) (λ e. starts_or q q (change_of q d call.Sweep (sweep_script q)))
 
-going_or_done : (r : Reply) → turn.Done r ≡ turn.Going → ⊥
-going_or_done r e = absurd cc
-
 -- a call that is answered at once leaves what is held
 pub answered_leaves : (q s : State) (d : ℕ) (what : Sleeping) (r : Reply) → next q d (event.Begin what) ≡ Some (s, turn.Done r) → in_flight s ≡ in_flight q
 unfolding settled
@@ -120,7 +118,7 @@ answered_leaves q s d what r step =
     let start = begin_is q s d what (turn.Done r) step in
     sym (ap (λ (u : State). in_flight u) start.1)
     ∙ elim (begun_or q d what).is [
-      | inl going ↦ absurd (going_or_done r (sym start.2 ∙ going))
+      | inl going ↦ absurd (not_done r (sym start.2 ∙ going))
       | inr same ↦ same
     ]
 
@@ -147,10 +145,6 @@ no_step (event.Running n) tier = refl
 no_step (event.Begin what) tier = refl
 no_step (event.Step m answer) tier = absurd cc
 
-nothing_more : (ms : List Micro) → ms ++ [] ≡ ms
-nothing_more [] = refl
-nothing_more (m ∷ ms) = ap (λ (ns : List Micro). m ∷ ns) (nothing_more ms)
-
 -- the flight goes on with these steps of an entry
 one_more : (start : State) (journal : List Entry) (e : Entry) (t : State) → replay start (journal ++ e ∷ []) ≡ t → (f : IsInFlight start journal)
     → Flight (replay start f.before) f.first.driver f.what t (steps_of f.since ++ step_of e.event) → IsInFlight start (journal ++ e ∷ [])
@@ -164,7 +158,7 @@ one_more start journal e t at f flight = record {
   beginning = f.beginning;
   flight = subst (λ (u : State). Flight (replay start f.before) f.first.driver f.what u (steps_of (f.since ++ e ∷ []))) (sym at)
       (subst (λ (ms : List Micro). Flight (replay start f.before) f.first.driver f.what t ms)
-      (sym (steps_append f.since (e ∷ []) ∙ ap (λ (ms : List Micro). steps_of f.since ++ ms) (nothing_more (step_of e.event)))) flight);
+      (sym (steps_append f.since (e ∷ []) ∙ ap (λ (ms : List Micro). steps_of f.since ++ ms) (append-nil (step_of e.event)))) flight);
 }
 
 -- a state with a change in flight isn't quiet
@@ -202,7 +196,7 @@ beside_it : (start t : State) (journal : List Entry) (e : Entry) (event_ : Event
 beside_it start t journal e event_ x is tier f step at =
     one_more start journal e t at f
     (subst (λ (ms : List Micro). Flight (replay start f.before) f.first.driver f.what t ms)
-    (sym (ap (λ (ms : List Micro). steps_of f.since ++ ms) (same_step e event_ is ∙ no_step event_ tier) ∙ nothing_more (steps_of f.since)))
+    (sym (ap (λ (ms : List Micro). steps_of f.since ++ ms) (same_step e event_ is ∙ no_step event_ tier) ∙ append-nil (steps_of f.since)))
     (beside e.driver event_ tier f.flight step))
 
 -- an event while a call is in flight

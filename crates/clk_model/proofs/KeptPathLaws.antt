@@ -36,7 +36,8 @@ use Rattle.clk_model.proofs.HoldSteps.{link_set_same, settled_links}
 use Rattle.clk_model.proofs.KeepLaws.{mux_written}
 use Rattle.clk_model.proofs.RestLaws.{clock_of_handle, clock_at-set}
 use Rattle.clk_model.proofs.EndSafeLaws.{by_live}
-use Rattle.clk_model.proofs.FieldLaws.{FieldStays, scale_is_field, mux_no_scale, powered_stays, closed_stays, settled_stays, written_stays, set_stays}
+use Rattle.clk_model.proofs.FieldLaws.{FieldStays, mux_no_scale, powered_stays, closed_stays, settled_stays, written_stays, set_stays}
+use Rattle.clk_model.proofs.GateRateLaws.{scales_is_field}
 
 -- whether a step might change the links or the fields of clocks on this path: it relinks or registers one, or writes a place that
 -- doesn't fit its field
@@ -97,7 +98,7 @@ leaves_written c s regs change stays = record {
   handles = λ number at. inl at;
 } where
   one : (a : ℕ) (f : Field) → scales_by (kind_of s.defs a) ≡ Some f → ScaleStays s regs a → field regs f.word f.shift f.width ≡ field s.regs f.word f.shift f.width
-  one a f at (inl same) = same f (scale_is_field (kind_of s.defs a) f at)
+  one a f at (inl same) = same f (scales_is_field (kind_of s.defs a) f at)
   one a f at (inr none) = absurd (none f at)
 
 -- ---- PLLs
@@ -277,6 +278,6 @@ unfolding settled
 leaves_settled c s q u spent steps valid left = record {
   defs = left.defs;
   path_is = left.path_is;
-  rate_is = writes_leave_rates u.defs u.regs (settled q u).regs u.clocks c (λ a m f at. settled_stays q u a valid f (scale_is_field (kind_of u.defs a) f at)) ∙ left.rate_is;
+  rate_is = writes_leave_rates u.defs u.regs (settled q u).regs u.clocks c (λ a m f at. settled_stays q u a valid f (scales_is_field (kind_of u.defs a) f at)) ∙ left.rate_is;
   handles = left.handles;
 }

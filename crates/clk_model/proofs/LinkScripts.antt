@@ -27,6 +27,7 @@ use Rattle.clk_model.proofs.NoneLaws.{none_front, none_rest}
 use Rattle.clk_model.proofs.BeginLaws.{sweep_has_no}
 use Rattle.clk_model.proofs.ScriptLaws.{NoMove, none_aborts, none_move_of, none_planned, none_probe, none_cut}
 use Rattle.std.proofs.lemmas.Bool.{and_from}
+use Rattle.clk_model.proofs.ChainStepLaws.{AllSteps-more}
 
 -- ---- lists of steps
 
@@ -92,16 +93,12 @@ move_stays defs clocks prep c p possible = one (prep c) (link_in clocks c) where
   one true (Some o) = own false refl
   one false l = own false refl
 
-each_step : (P Q : ChainStep → Type 0) (ks : List ChainStep) → ((k : ChainStep) → P k → Q k) → AllByRecursion P ks → AllByRecursion Q ks
-each_step P Q [] more each = tt
-each_step P Q (k ∷ ks) more each = (more k each.0, each_step P Q ks more each.1)
-
 -- the move of a clock links its planned parent, which is a possible one
 move_of_stays : (w : Wiring) (clocks : List ClockRow) (prep : ℕ → Bool) (ks : List ChainStep) (c : ℕ) → AllByRecursion (HasParent w) ks
     → list_any (strays w.defs) (move_of w.defs clocks prep ks c) ≡ false
 move_of_stays w clocks prep ks c parents =
     none_move_of (strays w.defs) w.defs clocks prep ks c
-    (each_step (HasParent w) (NoMove (strays w.defs) w.defs clocks prep c) ks
+    (AllSteps-more (HasParent w) (NoMove (strays w.defs) w.defs clocks prep c) ks
     (λ k has same p up. move_stays w.defs clocks prep c p (ap (λ (x : ℕ). is_in p (parents_of w.defs x)) (sym same) ∙ has.possible p up)) parents)
 
 -- ---- scripts

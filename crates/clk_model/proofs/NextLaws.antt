@@ -1,6 +1,5 @@
 -- Laws on the step that comes next: where it was taken from, and what it leaves of the script.
 use Rattle.std.proofs.Common.{◌≡◌, Bool, true, false, List, [], ◌∷◌, ◌++◌, Option, refl, sym, ap, ◌∙◌}
-use Rattle.std.specs.List.{list_any}
 use Rattle.clk_base.specs.declared.call.Micro.{Micro}
 use Rattle.clk_base.specs.declared.call.Micro.TheVariants as micro
 use Rattle.clk_base.specs.declared.event.Turn.TheVariants as turn
@@ -8,15 +7,7 @@ use Rattle.clk_model.specs.State.{State, Change}
 use Rattle.clk_model.specs.Step.{rest_of, left_behind, is_end, stepped}
 use Rattle.clk_model.specs.Machine.{comes_next}
 use Rattle.clk_model.specs.Laws.Flight.{may_be_put}
-use Rattle.clk_model.proofs.MicroLaws.{comes_first}
-use Rattle.clk_model.proofs.NoneLaws.{none_front}
 use Rattle.clk_model.proofs.FlightLaws.{first_put, next_is}
-
--- a step that comes next passes no test that no step to come passes
-pub first_none : (p : Micro → Bool) (m : Micro) (ms : List Micro) → comes_next m ms ≡ true → list_any p ms ≡ false → p m ≡ false
-first_none p m ms first none =
-    let at = comes_first m ms first in
-    none_front p m at.0 (ap (list_any p) (sym at.1) ∙ none)
 
 -- it was the first of what stood in front, or of the script with nothing in front
 pub data Comes (front left : List Micro) (m : Micro) : Type 0 where

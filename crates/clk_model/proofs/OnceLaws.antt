@@ -172,7 +172,7 @@ length-filter-le test (x ∷ xs) = one (test x) (length-filter-le test xs) where
   one true rest = omega arith
   one false rest = omega arith
 
-turned : (a b : ℕ) → nat_eq a b ≡ nat_eq b a
+pub turned : (a b : ℕ) → nat_eq a b ≡ nat_eq b a
 turned a b = grind (arith, nat_tests)
 
 is_in-any : (q : ℕ) (xs : List ℕ) → list_any (eqb q) xs ≡ is_in q xs

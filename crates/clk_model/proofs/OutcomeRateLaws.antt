@@ -32,8 +32,9 @@ use Rattle.clk_model.proofs.RateLaws.{over_same, rate_agree}
 use Rattle.clk_model.proofs.BelowLaws.{Rises, IsUp}
 use Rattle.clk_model.proofs.AboveLaws.{path_above}
 use Rattle.clk_model.proofs.WalkLaws.{Planned_, links_after}
-use Rattle.clk_model.proofs.FieldLaws.{scale_is_field}
+use Rattle.clk_model.proofs.GateRateLaws.{scales_is_field}
 use Rattle.clk_model.proofs.PlanRootLaws.{StepsRooted, rooted_linked}
+use Rattle.clk_model.proofs.WalkOrderLaws.{tail_leads}
 
 -- ---- rates of trees that are alike
 
@@ -48,7 +49,7 @@ rates_alike defs old new before after d same =
 
 scale_lt : (words : ℕ) (defs : Description) (c : ℕ) (f : Field) → IsValid words defs → scales_by (kind_of defs c) ≡ Some f → f.word < words
 scale_lt words defs c f valid at =
-    let own = field-field (kind_of defs c) f (scale_is_field (kind_of defs c) f at) in
+    let own = field-field (kind_of defs c) f (scales_is_field (kind_of defs c) f at) in
     (fields-within words defs valid c 0 f (fielded_lt defs c 0 f own) own).0
 
 -- it leaves what other clocks divide and multiply by
@@ -57,7 +58,7 @@ one_scales words k u v a valid one other f at = one.fields f (off (field_of (kin
   off : (o : Option Field) → field_of (kind_of u.defs k.clock) ≡ o → IfSome o (LieApart f)
   off None own = tt
   off (Some g) own =
-      fields_apart words u.defs valid a 0 f k.clock 0 g (field-field (kind_of u.defs a) f (scale_is_field (kind_of u.defs a) f at)) (field-field (kind_of u.defs k.clock) g own) (λ same. absurd (other same))
+      fields_apart words u.defs valid a 0 f k.clock 0 g (field-field (kind_of u.defs a) f (scales_is_field (kind_of u.defs a) f at)) (field-field (kind_of u.defs k.clock) g own) (λ same. absurd (other same))
 
 one_link : (k : ChainStep) (u v : Wiring) (a : ℕ) → SetsOne k u v → a ≢ k.clock → link_in v.clocks a ≡ link_in u.clocks a
 one_link k u v a one other = ap (λ (r : ClockRow). option_map (λ p. p.0) r.link) (one.others a other)
@@ -121,10 +122,6 @@ planned_of words order w ks sets = record {
   once = sets.once;
   differs = differs_in ks w (settings_fit words w.defs sets.wired.valid) sets.parents sets.once;
 }
-
-tail_leads : (k : ChainStep) (ks : List ChainStep) → LeadsUp (k ∷ ks) → LeadsUp ks
-tail_leads k [] leads = tt
-tail_leads k (l ∷ ks) leads = leads.1
 
 sets_rest : (words : ℕ) (order : List ℕ) (w : Wiring) (k : ChainStep) (ks : List ChainStep) → Sets words order w (k ∷ ks) → Sets words order w ks
 sets_rest words order w k ks sets = record {
@@ -227,7 +224,7 @@ settings_right words order w (k ∷ ks) sets = (head, tail ks (chain_above w k k
 -- a clock that divides or multiplies has one possible parent
 one_parent : (words : ℕ) (defs : Description) (c : ℕ) (f : Field) → IsValid words defs → scales_by (kind_of defs c) ≡ Some f → length (parents_of defs c) ≡ 1
 one_parent words defs c f valid at =
-    let inside = fielded_lt defs c 0 f (field-field (kind_of defs c) f (scale_is_field (kind_of defs c) f at)) in
+    let inside = fielded_lt defs c 0 f (field-field (kind_of defs c) f (scales_is_field (kind_of defs c) f at)) in
     by_kind (kind_of defs c) at (and_parts _ _ (valid.parents c inside)).0 where
       by_kind : (kind : Kind) → scales_by kind ≡ Some f → can_have_parents kind (length (parents_of defs c)) ≡ true → length (parents_of defs c) ≡ 1
       by_kind (Divider word shift width one_based power_of_two) e fits = eqb-true _ 1 fits

@@ -50,6 +50,7 @@ use Rattle.clk_model.proofs.StepActLaws.{prep_settings, link_row, step_tree, is_
 use Rattle.clk_model.proofs.StepLaws.{IsAfter, step_after}
 use Rattle.clk_model.proofs.TierLaws.{enable_tier_leaves_prep, beside_change}
 use Rattle.clk_model.proofs.VetoLaws.{end_state, ends_it}
+use Rattle.clk_model.proofs.BalanceLaws.{began}
 
 -- ---- steps that are put in front
 
@@ -243,11 +244,6 @@ script_ends q s d what step =
     let change : (begun q d what).0.change ≡ Some found.0 = ap (λ (u : State). u.change) start.1 ∙ found.1.change in
     ap (λ (o : Option Change). ends_last (option_map_or (λ k. k.left) o [])) change ∙ found.1.paced.last
 
-flight_begins : (q : State) (d : ℕ) (what : Sleeping) {s : State} {made : List Micro} → Flight q d what s made → (u : State) × (next q d (event.Begin what) ≡ Some (u, turn.Going))
-flight_begins q d what {s = s} (begins step) = (s, step)
-flight_begins q d what (goes_on m answer flight step) = flight_begins q d what flight
-flight_begins q d what (beside other e tier flight step) = flight_begins q d what flight
-
 nothing_behind : (rest : List Micro) → ends_last (micro.End ∷ rest) ≡ true → rest ≡ []
 nothing_behind [] e = refl
 nothing_behind (m ∷ rest) e = absurd (true≢false (sym e))
@@ -309,7 +305,7 @@ outcomes_written q s t d what made m answer wired ordered planning flight step =
     let last : m ≡ micro.End = ends_it s (taken k) answer m reply.Fine is.answered in
     let same_now : course.now ≡ k = same_Some course.now k (sym course.at ∙ carries.at) in
     let behind = left_is_end what (script q d what) course.left in
-    let begun_at = flight_begins q d what flight in
+    let begun_at = began q d what flight in
     let left_last : ends_last k.left ≡ true =
     ap (λ (l : Change). ends_last l.left) (sym same_now) ∙ last_behind behind.0 course.now.left (ap ends_last (sym behind.1) ∙ script_ends q begun_at.0 d what begun_at.1) in
     let put : first_put k.front ≡ true = ap (λ (l : Change). first_put l.front) (sym same_now) ∙ front_put course.now course.front in

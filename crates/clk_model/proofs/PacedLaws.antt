@@ -52,7 +52,7 @@ falls_wind (y ∷ ys) ms all =
     ap (λ (t : Bool). (t || is_in y ys) && winds_down (map (λ z. micro.Fall (clock_id z)) ys ++ ms) (if t then ys else y ∷ without_one y ys)) (test_same y)
     ∙ falls_wind ys ms all
 
-notice_calm : (m : Micro) → is_notice m ≡ true → may_time_out m ≡ false
+pub notice_calm : (m : Micro) → is_notice m ≡ true → may_time_out m ≡ false
 notice_calm (micro.Notify kind c id old new) e = refl
 notice_calm (micro.Raise x) e = absurd cc
 notice_calm (micro.Poll y) e = absurd cc
@@ -131,7 +131,7 @@ cuts_well (call.ExclusivePut h) ms all last = cut_first is_visit ms all last
 cuts_well (call.NotifierAdd h id priority policy) ms all last = cut_first is_visit ms all last
 cuts_well (call.NotifierRemove h id) ms all last = cut_first is_visit ms all last
 
-end_calm : (m : Micro) → is_end m ≡ true → may_time_out m ≡ false
+pub end_calm : (m : Micro) → is_end m ≡ true → may_time_out m ≡ false
 end_calm micro.End e = refl
 end_calm (micro.Notify kind c id old new) e = refl
 end_calm (micro.Raise x) e = absurd cc
@@ -155,7 +155,7 @@ nothing_left [] e = refl
 nothing_left (m ∷ ms) e = absurd cc
 
 -- from its end on a script doesn't time out
-ending_calm : (ms : List Micro) → ends_last ms ≡ true → list_any may_time_out (from_first is_end ms) ≡ false
+pub ending_calm : (ms : List Micro) → ends_last ms ≡ true → list_any may_time_out (from_first is_end ms) ≡ false
 ending_calm [] last = refl
 ending_calm (m ∷ ms) last = one (is_end m) refl (ending_calm ms (both_right (not (is_end m) || is_none (slice_get ms 0)) (ends_last ms) last)) where
   one : (t : Bool) → is_end m ≡ t → list_any may_time_out (from_first is_end ms) ≡ false → list_any may_time_out (if t then m ∷ ms else from_first is_end ms) ≡ false

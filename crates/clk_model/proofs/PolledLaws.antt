@@ -23,6 +23,7 @@ use Rattle.clk_model.proofs.FlightLaws.{next_is, first_none}
 use Rattle.clk_model.proofs.Members.{test_same, same_from_test}
 use Rattle.clk_model.proofs.NoneLaws.{none_front, none_rest, none_append, none_map, none_flat_map, none_if}
 use Rattle.clk_model.proofs.StepLaws.{raises, IsAfter, step_after}
+use Rattle.clk_model.proofs.RaisedStepLaws.{taken_none}
 
 -- the PLL that is polled next has as many polls left as it hasn't answered no
 abbrev pub Counts : Change → List ℕ → Type 0
@@ -236,10 +237,6 @@ other_step s k noes micro.End answer isnt none going = calm_step s k noes micro.
 
 -- ---- each step
 
-rest_calm : (ms : List Micro) → list_any raises ms ≡ false → list_any raises (rest_of ms) ≡ false
-rest_calm [] none = refl
-rest_calm (m ∷ ms) none = none_rest raises m ms none
-
 -- what comes next, where this stands in front
 first_in : (k : Change) (m : Micro) (front : List Micro) → comes_next m (todo k) ≡ true → k.front ≡ front → comes_next m (front ++ k.left) ≡ true
 first_in k m front first is = ap (λ (ms : List Micro). comes_next m (ms ++ k.left)) (sym is) ∙ first
@@ -272,7 +269,7 @@ step_tells s k noes m answer (lower_again x is) left counts first going =
     quiet_step s k noes m answer left first going (ap (λ (ms : List Micro). list_any is_poll ms) is) (ap (λ (ms : List Micro). list_any raises (rest_of ms)) is)
 step_tells s k noes m answer (falling aborts late only is) left counts first going =
     let calm = ap (λ (ms : List Micro). list_any raises ms) is ∙ falls_calm k.raised aborts (none_where is_no_abort raises aborts abort_calm only) in
-    quiet_step s k noes m answer left first going (none_where raises is_poll k.front calm_polls calm) (rest_calm k.front calm)
+    quiet_step s k noes m answer left first going (none_where raises is_poll k.front calm_polls calm) (taken_none k.front calm)
 step_tells s k noes m answer (telling only) left counts first going =
     let calm = none_where is_no_post raises k.front post_calm only in
-    quiet_step s k noes m answer left first going (none_where raises is_poll k.front calm_polls calm) (rest_calm k.front calm)
+    quiet_step s k noes m answer left first going (none_where raises is_poll k.front calm_polls calm) (taken_none k.front calm)

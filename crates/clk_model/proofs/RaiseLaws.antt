@@ -30,7 +30,8 @@ use Rattle.clk_model.proofs.PowerLaws.{settled_raise, settled_power, raised_fewe
 use Rattle.clk_model.proofs.Scenes.{scene, GoesWell, IsSafe, RaisedWell, RaisingFront, raised, asks, asks_first, comes_again, is_calm, raising}
 use Rattle.clk_model.proofs.KeepLaws.{keeps_raised, raised_powers}
 use Rattle.clk_model.proofs.SceneStepLaws.{lands_on, lands_same, unprepared_idle}
-use Rattle.clk_model.proofs.ArriveLaws.{Arrives, prepared_told, to_be_told, some_one, if_one}
+use Rattle.clk_model.proofs.ArriveLaws.{Arrives, prepared_told, to_be_told, some_one}
+use Rattle.clk_model.proofs.SupplyLaws.{if_one}
 use Rattle.clk_model.proofs.StandLaws.{Goes, goes_told, stands_calm, IsEvent, arrive_same, change_after}
 
 -- ---- what is raised after an event

@@ -57,7 +57,7 @@ plain_none (micro.Raise x) e = absurd cc
 plain_none (micro.Poll x) e = absurd cc
 plain_none m e = refl
 
-taken_none : (ms : List Micro) → list_any raises ms ≡ false → list_any raises (rest_of ms) ≡ false
+pub taken_none : (ms : List Micro) → list_any raises ms ≡ false → list_any raises (rest_of ms) ≡ false
 taken_none [] none = refl
 taken_none (m ∷ ms) none = none_rest raises m ms none
 

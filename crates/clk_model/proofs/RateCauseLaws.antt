@@ -23,7 +23,8 @@ use Rattle.clk_model.specs.Laws.Causes.{KeepsPrepare}
 use Rattle.clk_model.specs.Laws.CallCauses.{Comes, refusal, fine, warned, HasRoom, GetTurns, PutTurns, NoneToRaise, PrepareTurns, one_less, NoneToLower, UnprepareTurns, RoundTurns, KeepsRate, HasPlan, RequestTurns, with_limits, RangeTurns}
 use Rattle.clk_model.proofs.CauseLaws.{keeps_tells, holds_tells}
 use Rattle.clk_model.proofs.TierLaws.{pick_either}
-use Rattle.clk_model.proofs.TurnLaws.{came, not_came, not_at, none_first, some_first, started, rest_is, no_answer, rest_not, HowStarted, short, roomy, Known}
+use Rattle.clk_model.proofs.TurnLaws.{came, not_came, not_at, some_first, started, rest_is, no_answer, rest_not, HowStarted, short, roomy, Known}
+use Rattle.clk_model.proofs.BeginSafeLaws.{first_none}
 use Rattle.clk_model.proofs.WalkLaws.{is_at_same}
 
 -- ---- handles
@@ -56,7 +57,7 @@ put_turns s number row =
 pub prepare_turns : (s : State) (d : ℕ) (what : Sleeping) (number : ℕ) (row : HandleRow) → Known (PrepareTurns s d what row) (prepare s d what number row)
 prepare_turns s d what number row =
     pick_either (Known (PrepareTurns s d what row)) _ _ _
-    (λ e. let none = none_first (unprepared_plls s (path s.clocks row.clock.0)) e in
+    (λ e. let none = first_none (unprepared_plls s (path s.clocks row.clock.0)) e in
     (record { done = came refl none; rest = rest_not fine (NoneToRaise s row.clock.0 → ⊥) s _ (λ is. cc) (λ is. cc) (λ some. some none) }, λ is. cc))
     (λ e. goes (some_first (unprepared_plls s (path s.clocks row.clock.0)) e) (starts s s k).1 (started s s k)) where
       k : Change
@@ -75,7 +76,7 @@ unprepare_turns s d what number row =
     (record { kept = came refl has; done = not_came (λ is. cc) (λ why. why.0 has); rest = rest_not warned left less k (λ is. cc) (λ is. cc) (λ why. why.0 has) }, λ is. cc))
     (λ e. let free = (keeps_tells row).1 e in
     pick_either (Known (UnprepareTurns s d what number row)) _ _ _
-    (λ f. let none = none_first (filter (runs s.defs s.regs) (unprepared_plls less (path s.clocks row.clock.0))) f in
+    (λ f. let none = first_none (filter (runs s.defs s.regs) (unprepared_plls less (path s.clocks row.clock.0))) f in
     (record { kept = not_came (λ is. cc) free; done = came refl (free, none); rest = rest_not fine left less k (λ is. cc) (λ is. cc) (λ why. why.1 none) }, λ is. cc))
     (λ f. goes free (some_first (filter (runs s.defs s.regs) (unprepared_plls less (path s.clocks row.clock.0))) f) (starts s less k).1 (started s less k))) where
       less : State

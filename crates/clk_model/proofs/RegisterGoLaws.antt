@@ -233,7 +233,7 @@ register_prepares defs a c x can prep = by_size (nat_lt c.0 (length defs)) refl 
 -- ---- what it keeps prepared
 
 -- a critical clock is a clock of the description
-critical_lt : (defs : Description) (c : ℕ) → is_critical defs c ≡ true → c < length defs
+pub critical_lt : (defs : Description) (c : ℕ) → is_critical defs c ≡ true → c < length defs
 critical_lt defs c critical =
     elim (cases_lt c (length defs)) [
       | inl inside ↦ inside

@@ -58,7 +58,7 @@ last_is_fixed words defs clocks valid links (suc n) c ends any =
       | inr later ↦ rest p e later
     ]
 
-both_from : (a b : Bool) → a ≡ true → b ≡ true → (a && b) ≡ true
+pub both_from : (a b : Bool) → a ≡ true → b ≡ true → (a && b) ≡ true
 both_from a b e f = rw (e, f) refl
 
 -- a clock is rooted where it is registered and its path ends in a fixed clock

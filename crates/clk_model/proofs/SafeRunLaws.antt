@@ -51,6 +51,7 @@ use Rattle.clk_model.proofs.PlanGoLaws.{PlanOver, planned_goes}
 use Rattle.clk_model.proofs.ProbeGoLaws.{Resting, registered_sound, registered_prepares, probe_goes, sweep_goes}
 use Rattle.clk_model.proofs.BeginsLaws.{changes_rate, IsPlannedOver, over_itself, over_range, Starts, raising_handle, lowering_handle, planning, reparents, probing, sweeping, Begins, answers, gives, takes, adjusts, prepares, unprepares, notes, registers, goes_on, begins_so}
 use Rattle.clk_model.proofs.BeginSafeLaws.{path_powered, resting, rests, begins_going, rate_cuts, parent_cuts, no_prepare, handle_rooted, raise_goes, fit_less, planned_over}
+use Rattle.clk_model.proofs.InFlightLaws.{busy_cannot_begin}
 
 -- ---- scripts over a state at rest
 
@@ -236,13 +237,10 @@ wired_after s t d e x keeps wired step =
       },
     )
 
-busy : (o : Option Change) (k : Change) → o ≡ Some k → o ≡ None → ⊥
-busy o k e f = let no : Some k ≡ None = sym e ∙ f in absurd cc
-
 begin_runs : (s t : State) (d : ℕ) (what : Sleeping) (x : Turn) → IsRun s → next s d (event.Begin what) ≡ Some (t, x) → IsWired (length t.regs) (wiring t) → IsRunning t
 begin_runs s t d what x run step wired = by_running run.running_ where
   by_running : IsRunning s → IsRunning t
-  by_running (in_flight goes) = absurd (busy s.change goes.change goes.at (begin_is s t d what x step).0)
+  by_running (in_flight goes) = absurd (busy_cannot_begin s.change goes.change goes.at (begin_is s t d what x step).0)
   by_running (quietly quiet rest) =
       begun_runs s t d what (begun s d what) rest (resting s rest run.keeps) quiet (begins_so s d what) (begin_is s t d what x step).1 wired
 

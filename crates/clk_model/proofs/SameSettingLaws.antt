@@ -28,7 +28,7 @@ use Rattle.clk_model.specs.Round.{Wiring, View, Rounded, rate_in, parent_rate_in
 use Rattle.clk_model.specs.Chain.{moves, place_of, select, setting, set_one, outcome, chain_from, chain_within, keeps_boundaries, chain}
 use Rattle.clk_model.specs.Wired.{LinksArePossible}
 use Rattle.clk_model.specs.Laws.Plans.{HasParent}
-use Rattle.clk_model.proofs.ApartLaws.{ranges_hold, fields_apart}
+use Rattle.clk_model.proofs.ApartLaws.{ranges_hold, fields_apart, mux_is_field}
 use Rattle.clk_model.proofs.GateRateLaws.{scales_is_field}
 use Rattle.clk_model.proofs.OutcomeLaws.{field-put_outside}
 use Rattle.clk_model.proofs.PlanLaws.{Climbs, climbs_within, step_of}
@@ -112,14 +112,6 @@ setting_same words defs clocks old new k planned valid same =
     subst (λ (parent : ℕ). SameFields defs (setting (kind_of defs k) (parent_rate_in (tree_over defs clocks old) k) planned old) (setting (kind_of defs k) parent planned new))
     (ap (λ (rates : ℕ → ℕ). option_map_or rates (link_in clocks k) 0) (sym (rates_same defs clocks old new same)))
     (setting_of words defs old new k (parent_rate_in (tree_over defs clocks old) k) planned (kind_of defs k) valid refl same)
-
-pub mux_is_field : (kind : Kind) (f : Field) → mux_field kind ≡ Some f → field_of kind ≡ Some f
-mux_is_field (FixedRate r) f at = absurd cc
-mux_is_field (Factor mult div) f at = absurd cc
-mux_is_field (Gate word bit set_to_disable) f at = absurd cc
-mux_is_field (Mux word shift width read_only) f at = at
-mux_is_field (Divider word shift width one_based power_of_two) f at = absurd cc
-mux_is_field (Pll word shift width power_word power_bit least most m) f at = absurd cc
 
 -- so does a place that is put in the field of a mux, where it is that of a possible parent
 pub place_same : (words : ℕ) (defs : Description) (old new : Registers) (k p : ℕ) → IsValid words defs → is_in p (parents_of defs k) ≡ true → SameFields defs old new

@@ -70,7 +70,7 @@ pub div_setting-fits : (style : DivStyle) (parent rate width : ℕ) → IsDivide
 unfolding div_setting
 div_setting-fits style parent rate width wide = chosen_fits style width _ wide
 
-is_wide : (most width : ℕ) → is_width most width ≡ true → (1 ≤ width) × (width ≤ most)
+pub is_wide : (most width : ℕ) → is_width most width ≡ true → (1 ≤ width) × (width ≤ most)
 is_wide most width is = let parts = and_parts _ _ is in ((let low = ltb-true 0 width parts.0 in omega arith), leb-true width most parts.1)
 
 pub divider_wide : (one_based power_of_two : Bool) (width : ℕ) → cond power_of_two (is_width 5 width && not one_based) (is_width 16 width) ≡ true

@@ -85,7 +85,7 @@ register_shape : (s : State) (c : ℕ) → IsSame s (register s c)
 unfolding register
 register_shape s c = record { defs = refl; rows = simp length-set; words = refl; credits = refl; spent = refl; steps = refl }
 
-register_change : (s : State) (c : ℕ) → (register s c).change ≡ s.change
+pub register_change : (s : State) (c : ℕ) → (register s c).change ≡ s.change
 unfolding register
 register_change s c = refl
 
@@ -192,7 +192,7 @@ length-set_in_chain s k c = one (planned_rate k c) where
   one None = refl
   one (Some planned) = length-setting (kind_of s.defs c) (parent_rate_in (wiring s) c) planned s.regs
 
-length-settle_all : (s : State) (cs : List ℕ) → length (settle_all s cs) ≡ length s.clocks
+pub length-settle_all : (s : State) (cs : List ℕ) → length (settle_all s cs) ≡ length s.clocks
 length-settle_all s [] = refl
 length-settle_all s (c ∷ cs) =
     length-set_row (settle_all s cs) c (record (row_of (settle_all s cs) c) { last_request = rate s.defs s.regs s.clocks c }) ∙ length-settle_all s cs where

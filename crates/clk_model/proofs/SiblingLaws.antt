@@ -42,7 +42,7 @@ in_listed : (order : List ℕ) (clocks : List ClockRow) (test : ℕ → Bool) (c
 in_listed order clocks test c lists here pass = filter_keeps test c order pass (lists.listed c ∙ here)
 
 -- what can't be true is false
-refuted : (t : Bool) → (t ≡ true → ⊥) → t ≡ false
+pub refuted : (t : Bool) → (t ≡ true → ⊥) → t ≡ false
 refuted true never = absurd (never refl)
 refuted false never = refl
 

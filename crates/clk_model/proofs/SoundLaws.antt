@@ -8,7 +8,7 @@ use Rattle.clk_model.specs.Lists.{is_in, same_place, without, to_front}
 use Rattle.clk_model.specs.Kinds.{mux_field}
 use Rattle.clk_model.specs.Chain.{place_of}
 use Rattle.clk_model.specs.Wired.{LinesEnd}
-use Rattle.clk_model.proofs.Members.{or_left, or_right, is_in_head, is_in_cases, same_from_test, test_same}
+use Rattle.clk_model.proofs.Members.{or_left, or_right, is_in_head, is_in_cases, test_same}
 use Rattle.clk_model.proofs.OnceLaws.{is_in-filter}
 use Rattle.clk_model.proofs.MovedLaws.{place_holds}
 use Rattle.clk_model.proofs.BelowLaws.{IsUp}
@@ -16,6 +16,7 @@ use Rattle.clk_model.proofs.OnceLaws.{is_in-append}
 use Rattle.clk_model.proofs.WholePathLaws.{same_or_not}
 use Rattle.clk_model.proofs.AboveLaws.{put_at, put_same, put_other, Above, Holder, holder_of, held_from, holder_cases, MayLink, may_still, HasRoot, root_still, held_up}
 use Rattle.clk_model.proofs.Scenes.{Scene, holding, keepers, prepared_in, fed_by, IsTree, IsSound}
+use Rattle.clk_model.proofs.OutcomeLaws.{same_from_place}
 
 -- ---- lists
 
@@ -115,12 +116,6 @@ fed_by_field defs a c p o = by_mux (mux_field (kind_of defs c)) where
   by_mux None = inl refl
   by_mux (Some f) = inr refl
 
-same_place-true : (x y : Option ℕ) → same_place x y ≡ true → x ≡ y
-same_place-true None None e = refl
-same_place-true None (Some y) e = absurd cc
-same_place-true (Some x) None e = absurd cc
-same_place-true (Some x) (Some y) e = ap (λ (n : ℕ). Some n) (same_from_test x y e)
-
 -- the mux that is late behind a new link
 abbrev pub late_behind : Description → Scene → ℕ → ℕ → Option ℕ
 late_behind defs a c p = cond (same_place (fed_by defs a c p) (Some p)) None (Some c)
@@ -128,7 +123,7 @@ late_behind defs a c p = cond (same_place (fed_by defs a c p) (Some p)) None (So
 late_or_fed : (x y : Option ℕ) (c : ℕ) → (x ≡ y) ⊎ (cond (same_place x y) None (Some c) ≡ Some c)
 late_or_fed x y c = by_test (same_place x y) refl where
   by_test : (t : Bool) → same_place x y ≡ t → (x ≡ y) ⊎ (cond t None (Some c) ≡ Some c)
-  by_test true e = inl (same_place-true x y e)
+  by_test true e = inl (same_from_place x y e)
   by_test false e = inr refl
 
 late_is : (t : Bool) (c d : ℕ) → cond t None (Some c) ≡ Some d → c ≡ d

@@ -1,5 +1,5 @@
 -- Laws on what each step of a plan makes of the tree of a state, and puts in front of the script.
-use Rattle.std.proofs.Common.{◌≡◌, ℕ, zero, suc, ◌+◌, ◌-◌, Bool, true, false, cond, List, [], ◌∷◌, ◌++◌, Option, Some, None, refl, sym, ap, ◌∙◌, ◌⊎◌, inl, inr, arith, length, nat_le, map, true≢false}
+use Rattle.std.proofs.Common.{◌≡◌, ℕ, zero, suc, ◌+◌, ◌-◌, Bool, true, false, cond, List, [], ◌∷◌, ◌++◌, Option, Some, None, refl, sym, ap, ◌⊎◌, inl, inr, arith, length, nat_le, map, true≢false}
 use Rattle.std.specs.Prelude.{slice_get, slice_set, slice_index, reverse, option_map, ◌==◌}
 use Rattle.std.specs.List.{list_all}
 use Rattle.std.specs.Option.{option_map_or}
@@ -25,15 +25,17 @@ use Rattle.clk_model.specs.Rate.{rate}
 use Rattle.clk_model.specs.Round.{wiring}
 use Rattle.clk_model.specs.Chain.{clock_id}
 use Rattle.clk_model.specs.Notices.{Rates, notifiers_of, post_list}
-use Rattle.clk_model.specs.Step.{cut_short, aborts_of, on, powered, timed_out, to_raise, raise_one, raise, poll, is_yes, to_lower, lower_one, lower, set_in_chain, visit, settle_all, stepped}
+use Rattle.clk_model.specs.Step.{cut_short, aborts_of, on, powered, timed_out, to_raise, raise_one, raise, poll, is_yes, to_lower, lower_one, lower, set_in_chain, visit, stepped}
 use Rattle.clk_model.specs.Prep.{prep}
 use Rattle.clk_model.specs.Laws.Outcomes.{SameSettings}
 use Rattle.clk_model.specs.Laws.Plans.{LieApart}
 use Rattle.clk_model.proofs.ActedLaws.{act, writes_fit, same_settings}
 use Rattle.clk_model.proofs.ApartLaws.{fields_apart}
 use Rattle.clk_model.proofs.Cases.{by_option, by_test}
-use Rattle.clk_model.proofs.OutcomeLaws.{field-put_outside, length-slice_set}
+use Rattle.clk_model.proofs.OutcomeLaws.{field-put_outside}
 use Rattle.clk_model.proofs.PlansReadLaws.{same_here}
+use Rattle.clk_model.proofs.HoldSteps.{settled_links}
+use Rattle.clk_model.proofs.ShapeLaws.{length-settle_all}
 
 -- ---- states
 
@@ -82,15 +84,6 @@ link_row (r ∷ clocks) zero row same (suc d) = refl
 link_row (r ∷ clocks) (suc c) row same zero = refl
 link_row (r ∷ clocks) (suc c) row same (suc d) = link_row clocks c row same d
 
--- a last request is none either
-settle_links : (s : State) (cs : List ℕ) (d : ℕ) → link_in (settle_all s cs) d ≡ link_in s.clocks d
-settle_links s [] d = refl
-settle_links s (c ∷ cs) d = link_row (settle_all s cs) c _ refl d ∙ settle_links s cs d
-
-settle_rows : (s : State) (cs : List ℕ) → length (settle_all s cs) ≡ length s.clocks
-settle_rows s [] = refl
-settle_rows s (c ∷ cs) = length-slice_set (settle_all s cs) c _ ∙ settle_rows s cs
-
 -- ---- what a step leaves of a tree
 
 -- the tree after a step is what the step makes of it
@@ -117,7 +110,7 @@ step_tree s k answer (micro.Lower x) valid fits going =
 step_tree s k answer (micro.Visit c) valid fits going = same_settings (act k.chain (micro.Visit c) (wiring s))
 step_tree s k answer (micro.Register c) valid fits going = absurd (true≢false (sym fits))
 step_tree s k answer (micro.Settle c) valid fits going =
-    record { defs = refl; rows = settle_rows s (below_within (children s.order s.clocks) depth c.0); words = refl; links = λ d. settle_links s (below_within (children s.order s.clocks) depth c.0) d; fields = λ d f at. refl }
+    record { defs = refl; rows = length-settle_all s (below_within (children s.order s.clocks) depth c.0); words = refl; links = λ d. settled_links s (below_within (children s.order s.clocks) depth c.0) d; fields = λ d f at. refl }
 step_tree s k answer (micro.Close c) valid fits going = absurd (true≢false (sym fits))
 step_tree s k answer (micro.Unpower c) valid fits going = absurd (true≢false (sym fits))
 step_tree s k answer micro.End valid fits going = absurd cc

@@ -43,7 +43,7 @@ held_active : (s : State) (c : ℕ) → is_held s.clocks s.enable_holds c ≡ tr
 held_active s c held =
     active_parts s c ∙ or_right (held_by s.clocks is_enabled s.handles c || is_held s.clocks (critical_clocks s) c) (is_held s.clocks s.enable_holds c) held
 
-if_one : {X : Type 0} (P : X → Type 0) (o : Option X) → ((x : X) → o ≡ Some x → P x) → IfSome o P
+pub if_one : {X : Type 0} (P : X → Type 0) (o : Option X) → ((x : X) → o ≡ Some x → P x) → IfSome o P
 if_one P None each = tt
 if_one P (Some x) each = each x refl
 

@@ -25,7 +25,7 @@ use Rattle.clk_model.specs.Walk.{walk, changing}
 use Rattle.clk_model.specs.Notices.{is_veto}
 use Rattle.clk_model.specs.Script.{move, move_of, planned}
 use Rattle.clk_model.specs.Begin.{begun}
-use Rattle.clk_model.specs.Step.{todo, rest_of, left_behind, taken, is_end, from_first, ended_well, range_back, end_of, unranged, stepped}
+use Rattle.clk_model.specs.Step.{todo, rest_of, taken, is_end, from_first, ended_well, range_back, end_of, unranged, stepped}
 use Rattle.clk_model.specs.Machine.{next}
 use Rattle.clk_model.specs.Journal.{replay, opening}
 use Rattle.clk_model.specs.Tier.{is_enable_tier}
@@ -38,12 +38,13 @@ use Rattle.clk_model.proofs.Members.{not_either}
 use Rattle.clk_model.proofs.NoneLaws.{none_append, none_front, none_rest}
 use Rattle.clk_model.proofs.OnceLaws.{once_head}
 use Rattle.clk_model.proofs.TierLaws.{beside_change}
-use Rattle.clk_model.proofs.NextLaws.{first_none, Comes, was_put, was_own, comes_of, going_no_end}
+use Rattle.clk_model.proofs.NextLaws.{Comes, was_put, was_own, comes_of, going_no_end}
+use Rattle.clk_model.proofs.FlightLaws.{first_none}
 use Rattle.clk_model.proofs.StepLaws.{raises, IsAfter, step_after}
 use Rattle.clk_model.proofs.FrontLaws.{front_after}
 use Rattle.clk_model.proofs.BeginLaws.{walked_at, walked}
 use Rattle.clk_model.proofs.WalkLaws.{walks_list}
-use Rattle.clk_model.proofs.FlightLaws.{IsStep, begin_is, front_put}
+use Rattle.clk_model.proofs.FlightLaws.{IsStep, begin_is, front_put, taken_none}
 use Rattle.clk_model.proofs.VetoLaws.{of_change, ends_it, end_state, end_turn}
 use Rattle.clk_model.proofs.ArriveLaws.{wired_before}
 use Rattle.clk_model.proofs.WalkGoLaws.{from_first_past}
@@ -86,17 +87,12 @@ more_gentle (micro.Raise x) more = absurd cc
 more_gentle (micro.Poll x) more = absurd cc
 more_gentle m more = refl
 
-rest_none : (p : Micro → Bool) (front left : List Micro) → list_any p front ≡ false → list_any p left ≡ false → (list_any p (rest_of front) ≡ false) × (list_any p (left_behind front left) ≡ false)
-rest_none p [] [] e f = (refl, refl)
-rest_none p [] (n ∷ ns) e f = (refl, none_rest p n ns f)
-rest_none p (n ∷ ns) left e f = (none_rest p n ns e, f)
-
 -- the change behind a step
 stage_steps : (q s t : State) (d : ℕ) (m : Micro) (answer : Option Bool) (k : Change) → IsStep s t d m answer turn.Going k → IsWired (length s.regs) (wiring s) → IsWired (length t.regs) (wiring t)
     → is_dropped_whole k.call ≡ true → IsFront k → Stage q s k → (j : Change) → IsAfter m (taken k) j → Stage q t j
 stage_steps q s t d m answer k step wired wired_t drops front (past on_time none_front_ none_left) j is =
     let gentle : raises m ≡ false = first_none raises m (todo k) step.first (none_append raises k.front k.left none_front_ none_left) in
-    let rest = rest_none raises k.front k.left none_front_ none_left in
+    let rest = taken_none raises k.front k.left none_front_ none_left in
     elim is.left [
       | inl same ↦ past (same.1 ∙ on_time) (is.calm gentle rest.0) (ap (list_any raises) same.0 ∙ rest.1)
       | inr late ↦ let no : true ≡ false = sym late.0 ∙ gentle in absurd cc
@@ -191,7 +187,7 @@ late_move q c p = one (prepared q c) (link_in q.clocks c) where
   one true (Some o) = refl
   one false l = refl
 
-no_end : (m : Micro) → is_moving m ≡ true → is_end m ≡ false
+pub no_end : (m : Micro) → is_moving m ≡ true → is_end m ≡ false
 no_end micro.End moves_ = absurd cc
 no_end m moves_ = refl
 

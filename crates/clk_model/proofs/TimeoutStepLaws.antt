@@ -30,7 +30,8 @@ use Rattle.clk_model.proofs.RateLaws.{writes_leave_rates}
 use Rattle.clk_model.proofs.TierLaws.{enable_tier_leaves_prep}
 use Rattle.clk_model.proofs.PrepToldLaws.{prep_tells}
 use Rattle.clk_model.proofs.StepLaws.{raises}
-use Rattle.clk_model.proofs.FieldLaws.{FieldStays, scale_is_field, powered_stays, closed_stays, settled_stays}
+use Rattle.clk_model.proofs.FieldLaws.{FieldStays, powered_stays, closed_stays, settled_stays}
+use Rattle.clk_model.proofs.GateRateLaws.{scales_is_field}
 
 -- ---- steps that do more than power
 
@@ -123,7 +124,7 @@ differs_of q s is = record {
   fields = λ c f at. is.fields c f at;
   rates = λ c.
       ap (λ (ds : Description). rate ds s.regs s.clocks c) is.defs ∙ ap (λ (rs : List ClockRow). rate q.defs s.regs rs c) is.clocks
-      ∙ writes_leave_rates q.defs q.regs s.regs q.clocks c (λ a m f at. is.fields a f (scale_is_field (kind_of q.defs a) f at));
+      ∙ writes_leave_rates q.defs q.regs s.regs q.clocks c (λ a m f at. is.fields a f (scales_is_field (kind_of q.defs a) f at));
 }
 
 -- the same of a state that differs in its registers alone, which keep all fields

@@ -30,7 +30,8 @@ use Rattle.clk_model.proofs.SceneStepLaws.{parent_lt}
 use Rattle.clk_model.proofs.AboveLaws.{put_at, put_same, put_other}
 use Rattle.clk_model.proofs.WholePathLaws.{same_or_not, linked_same, linked_other}
 use Rattle.clk_model.proofs.WalkLaws.{links_after}
-use Rattle.clk_model.proofs.FieldLaws.{scale_is_field, settled_stays}
+use Rattle.clk_model.proofs.FieldLaws.{settled_stays}
+use Rattle.clk_model.proofs.GateRateLaws.{scales_is_field}
 use Rattle.clk_model.proofs.PlanGoLaws.{PlanOver, plan_of}
 use Rattle.clk_model.proofs.FollowLaws.{outcome_of, Agrees, AgreesAll, NoScale, IsVisit, AboveDone, stirs, Follows, stops, idles, links, visits}
 use Rattle.clk_model.proofs.FollowStepLaws.{Alike_, posts, posts_append, posts_own, posts_other}
@@ -69,7 +70,7 @@ agrees_alike n ks s u false a defs alike was =
 
 pub settled_alike : (s u : State) (spent steps : ℕ) → IsValid (length u.regs) u.defs → Alike_ u (record (settled s u) { spent = spent; steps = steps })
 unfolding settled
-settled_alike s u spent steps valid = record { defs = refl; link = λ a. refl; scale = λ a f at. settled_stays s u a valid f (scale_is_field (kind_of u.defs a) f at) }
+settled_alike s u spent steps valid = record { defs = refl; link = λ a. refl; scale = λ a f at. settled_stays s u a valid f (scales_is_field (kind_of u.defs a) f at) }
 
 -- a new link of the outcome
 pub agrees_linked : (n : State) (ks : List ChainStep) (done : ℕ → Bool) (s : State) (k : Change) (c p : ℕ) → length s.clocks ≡ length s.defs → AgreesAll n ks done s → link_in (outcome_of n ks).clocks c ≡ Some p → NoScale n c

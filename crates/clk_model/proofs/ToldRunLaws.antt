@@ -50,7 +50,7 @@ use Rattle.clk_model.proofs.ShapeLaws.{events_keep_shape}
 use Rattle.clk_model.proofs.WalkLaws.{walks_list}
 use Rattle.clk_model.proofs.PathLaws.{some_levels, path_cons}
 use Rattle.clk_model.proofs.ArriveLaws.{wired_before}
-use Rattle.clk_model.proofs.FieldLaws.{scale_is_field}
+use Rattle.clk_model.proofs.GateRateLaws.{scales_is_field}
 use Rattle.clk_model.proofs.PlanGoLaws.{PlanOver}
 use Rattle.clk_model.proofs.ProbeGoLaws.{Resting}
 use Rattle.clk_model.proofs.BeginsLaws.{Begins, answers, gives, takes, adjusts, prepares, unprepares, notes, registers, goes_on as goes_in, begins_so}
@@ -81,16 +81,13 @@ use Rattle.clk_model.proofs.FlightLaws.{front_put}
 use Rattle.clk_model.proofs.StepLaws.{IsAfter}
 use Rattle.clk_model.proofs.FollowLaws.{Follows}
 use Rattle.clk_model.proofs.ToldFlightLaws.{all_moves, planned_visits, PlanBegins, plan_begins}
+use Rattle.clk_model.proofs.TimeoutLaws.{no_end}
 
 -- ---- scripts
 
 no_post : (c : ℕ) (m : Micro) → is_moving m ≡ true → is_post_of c m ≡ false
 no_post c (micro.Notify kind d id old new) moves_ = absurd cc
 no_post c m moves_ = refl
-
-pub no_end : (m : Micro) → is_moving m ≡ true → is_end m ≡ false
-no_end micro.End moves_ = absurd cc
-no_end m moves_ = refl
 
 -- no script of a plan tells that a rate has changed: the visits do
 quiet_posts : (n : State) (ks : List ChainStep) (settles : List Micro) (c : ℕ) → list_any (is_post_of c) settles ≡ false → list_any (is_post_of c) (planned n ks settles).steps ≡ false
@@ -220,7 +217,7 @@ told_beside q ps c s t other e x made tier is step = record {
     defs = tells.defs;
     link = λ a. ap (λ (rows : List (ClockRow)). link_in rows a) tells.clocks;
     scale = λ a f at.
-        let own = scale_is_field (kind_of s.defs a) f at in
+        let own = scales_is_field (kind_of s.defs a) f at in
         tells.fields a 0 f (field-field (kind_of s.defs a) f own) (no_gate s.defs a f own);
   }
 

@@ -1,5 +1,5 @@
 -- Laws on turns: when one comes for its cause, how a call starts, and calls on a handle.
-use Rattle.std.proofs.Common.{◌≡◌, ℕ, ◌+◌, true, false, List, [], ◌∷◌, Option, Some, None, refl, sym, subst, ◌∙◌, arith, nat_lt}
+use Rattle.std.proofs.Common.{◌≡◌, ℕ, ◌+◌, false, List, [], ◌∷◌, Option, Some, None, refl, sym, subst, ◌∙◌, arith, nat_lt}
 use Rattle.std.specs.Prelude.{slice_get, is_none}
 use Rattle.std.specs.Option.{option_map_or}
 use Rattle.std.proofs.lemmas.Bool.Decides.{nat_tests}
@@ -13,6 +13,7 @@ use Rattle.clk_model.specs.Begin.{refused, most_credits, weight_of, starts, own_
 use Rattle.clk_model.specs.Laws.CallCauses.{Comes, refusal, HasRoom, GoesOnWhere, OnHandle, OnlyUnknown}
 use Rattle.clk_model.proofs.TierLaws.{pick_either}
 use Rattle.clk_model.proofs.WalkLaws.{at_same}
+use Rattle.clk_model.proofs.BareHandleLaws.{inside}
 
 -- ---- words
 
@@ -26,10 +27,6 @@ not_came isnt never = (λ is. absurd (isnt is), λ why. absurd (never why))
 
 pub not_at : (x : ℕ) (o : Option ℕ) → is_at x o ≡ false → o ≡ Some x → ⊥
 not_at x o e is = let at = at_same x o is in cc
-
-pub none_first : (xs : List ℕ) → is_none (slice_get xs 0) ≡ true → xs ≡ []
-none_first [] e = refl
-none_first (x ∷ xs) e = absurd cc
 
 pub some_first : (xs : List ℕ) → is_none (slice_get xs 0) ≡ false → xs ≡ [] → ⊥
 some_first [] e none = cc
@@ -63,9 +60,6 @@ rest_not given left n k a b never = record { full = not_came a (λ why. never wh
 
 -- ---- calls on a handle
 
-pub same_row : {a b : HandleRow} → Some a ≡ Some b → a ≡ b
-same_row e = cc
-
 pub only_unknown : (s : State) (d n : ℕ) (f : HandleRow → State × Turn) (K : HandleRow → Turn → Type 0)
     → ((row : HandleRow) → K row (f row).1 × ((f row).1 ≡ refusal errno.ENOENT → ⊥)) → OnlyUnknown s d n (with_handle s d n f).1 (λ row. K row (with_handle s d n f).1)
 only_unknown s d n f K each = by (own_handle s d n) refl where
@@ -74,7 +68,7 @@ only_unknown s d n f K each = by (own_handle s d n) refl where
   by None lacks = record { unknown = came refl lacks; known = λ row own. let no : None ≡ Some row = sym lacks ∙ own in absurd cc }
   by (Some r) own = record {
     unknown = not_came (each r).1 (λ lacks. let no : None ≡ Some r = sym lacks ∙ own in cc);
-    known = λ row own'. subst (λ (g : HandleRow). K g (f r).1) (same_row (sym own ∙ own')) (each r).0;
+    known = λ row own'. subst (λ (g : HandleRow). K g (f r).1) (inside (sym own ∙ own')) (each r).0;
   }
 
 pub on_handle : (s : State) (d n : ℕ) (f : HandleRow → State × Turn) (K : HandleRow → Turn → Type 0) → ((row : HandleRow) → K row (f row).1)
@@ -84,7 +78,7 @@ on_handle s d n f K each = by (own_handle s d n) refl where
   by None lacks = record { unknown = λ e. refl; known = λ row own. let no : None ≡ Some row = sym lacks ∙ own in absurd cc }
   by (Some r) own = record {
     unknown = λ lacks. let no : None ≡ Some r = sym lacks ∙ own in absurd cc;
-    known = λ row own'. subst (λ (g : HandleRow). K g (f r).1) (same_row (sym own ∙ own')) (each r);
+    known = λ row own'. subst (λ (g : HandleRow). K g (f r).1) (inside (sym own ∙ own')) (each r);
   }
 
 -- what a call on a handle comes to with a handle: its causes, and no refusal for want of one

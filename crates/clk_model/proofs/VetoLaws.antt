@@ -188,7 +188,7 @@ pub end_state : (s : State) (k : Change) (answer : Option Bool) (m : Micro) → 
 unfolding stepped
 end_state s k answer m e = ap (λ (n : Micro). (stepped s k answer n).0) e
 
-not_done : (r : Reply) → turn.Done r ≡ turn.Going → ⊥
+pub not_done : (r : Reply) → turn.Done r ≡ turn.Going → ⊥
 not_done r e = absurd cc
 
 off_notice : (q s t : State) (d : ℕ) (what : Sleeping) (made : List Micro) (m : Micro) (answer : Option Bool) (x : Turn) (rest : List Micro) → (off : IsCallingOff q d what s made)

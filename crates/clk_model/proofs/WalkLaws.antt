@@ -25,6 +25,7 @@ use Rattle.clk_model.proofs.ChainStepLaws.{steps_that, step_in, chain_in, any_st
 use Rattle.clk_model.specs.Wired.{LinksArePossible, IsWired, IsOrder}
 use Rattle.clk_model.proofs.OnceLaws.{once_filter, in_append, is_in-append, once_append, is_in-filter, filter_passes, filter_keeps}
 use Rattle.clk_model.proofs.PathLaws.{some_levels}
+use Rattle.clk_model.proofs.GateLaws.{and_false}
 
 -- ---- links after the plan
 
@@ -67,7 +68,7 @@ planned_link words order w ks v l plan of within =
       back None = refl
       back (Some p) = refl
 
-not_moving : (o q : Option ℕ) → not (same_place o q) ≡ false → o ≡ q
+pub not_moving : (o q : Option ℕ) → not (same_place o q) ≡ false → o ≡ q
 not_moving None None e = refl
 not_moving None (Some y) e = absurd cc
 not_moving (Some x) None e = absurd cc
@@ -75,10 +76,6 @@ not_moving (Some x) (Some y) e = ap (λ (n : ℕ). Some n) (same_from_test x y (
   turned : (t : Bool) → not t ≡ false → t ≡ true
   turned true e' = refl
   turned false e' = absurd cc
-
-and_false_right : (a b : Bool) → (a && b) ≡ false → a ≡ true → b ≡ false
-and_false_right true b h e = h
-and_false_right false b h e = absurd cc
 
 -- a clock that doesn't move keeps its link
 still_link : (words : ℕ) (order : List ℕ) (w : Wiring) (ks : List ChainStep) (v : Wiring) (c : ℕ) → Planned_ words order w ks v
@@ -89,7 +86,7 @@ still_link words order w ks v c plan stays within = by_chain (is_in c (clocks_in
   by_chain true there =
       let l = chain_in c ks there in
       let fails = l.2 (λ k. ((k.clock == c) && moves w.clocks k) ≡ false) (no_step (λ k. (k.clock == c) && moves w.clocks k) ks stays) in
-      let still : moves w.clocks l.0 ≡ false = and_false_right (l.0.clock == c) (moves w.clocks l.0) fails (ap (λ (x : ℕ). l.0.clock == x) (sym l.1) ∙ test_same l.0.clock) in
+      let still : moves w.clocks l.0 ≡ false = and_false (l.0.clock == c) (moves w.clocks l.0) fails (ap (λ (x : ℕ). l.0.clock == x) (sym l.1) ∙ test_same l.0.clock) in
       ap (link_in v.clocks) (sym l.1)
       ∙ planned_link words order w ks v l.0 plan l.2 (subst (λ (x : ℕ). x < length w.clocks) (sym l.1) within)
       ∙ not_moving l.0.parent (link_in w.clocks l.0.clock) still
@@ -180,7 +177,7 @@ first_below : (kids : ℕ → List ℕ) (levels t : ℕ) → 0 < levels → slic
 first_below kids zero t some = absurd (omega arith)
 first_below kids (suc levels) t some = refl
 
-either_way : (a b : Bool) → (a ≡ true → b ≡ true) → (b ≡ true → a ≡ true) → a ≡ b
+pub either_way : (a b : Bool) → (a ≡ true → b ≡ true) → (b ≡ true → a ≡ true) → a ≡ b
 either_way true b f g = sym (f refl)
 either_way false true f g = g refl
 either_way false false f g = refl

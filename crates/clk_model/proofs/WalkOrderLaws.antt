@@ -13,7 +13,7 @@ use Rattle.clk_model.specs.Laws.Plans.{clocks_in, LeadsUp}
 use Rattle.clk_model.proofs.Members.{is_in_head, is_in_tail, is_in_cases}
 use Rattle.clk_model.proofs.OnceLaws.{in_append, in_flat_map, once_head}
 use Rattle.clk_model.proofs.PlanLaws.{IsAbove, above_parent}
-use Rattle.clk_model.proofs.BelowLaws.{Rises, IsUp, rises_on, rises_far, rises_both, rises_above, no_round, AreKids, below_rises}
+use Rattle.clk_model.proofs.BelowLaws.{Rises, IsUp, rises_on, rises_far, rises_both, rises_above, no_round, AreKids, below_rises, same_parent}
 use Rattle.clk_model.proofs.AboveLaws.{Above, above_here, above_link}
 
 -- behind each clock of a list stands none that is above it
@@ -29,9 +29,6 @@ descends_append up (x ∷ xs) ys first second apart = (
   descends_append up xs ys first.1 second (λ c d m n. apart c d (is_in_tail c x xs m) n),
 )
 
-same_link : (up : ℕ → Option ℕ) (c p q : ℕ) → up c ≡ Some p → up c ≡ Some q → p ≡ q
-same_link up c p q e f = let both : Some p ≡ Some q = sym e ∙ f in cc
-
 -- of two kids of a clock neither is above the other
 kids_level : (parents : ℕ → List ℕ) (up : ℕ → Option ℕ) (most t y z : ℕ) → IsUp parents up → ((c : ℕ) → ends_within parents most c ≡ true) → up y ≡ Some t → up z ≡ Some t
     → (y ≡ z → ⊥) → Above up y z → ⊥
@@ -39,7 +36,7 @@ kids_level parents up most t y z is ends own other apart high = by_way high.0 hi
   by_way : (n : ℕ) → Rises up n y z → ⊥
   by_way zero way = apart way
   by_way (suc n) way =
-      let same : way.0 ≡ t = same_link up y way.0 t way.1 own in
+      let same : way.0 ≡ t = same_parent up y way.0 t way.1 own in
       no_round parents up most n t is (ends t) (rises_on up n t z t (subst (λ (p : ℕ). Rises up n p z) same way.2) other)
 
 -- what is below a clock descends

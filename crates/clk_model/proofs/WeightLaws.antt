@@ -141,7 +141,7 @@ plain_lowers s k m rest some =
     let sum = sum_by-cons (weight s) m rest in
     omega arith
 
-without-le : (dropped xs : List ℕ) → length (without dropped xs) ≤ length xs
+pub without-le : (dropped xs : List ℕ) → length (without dropped xs) ≤ length xs
 without-le dropped xs = length-filter-le (λ x. not (is_in x dropped)) xs
 
 -- and one behind which some PLLs aren't counted as raised

@@ -9,6 +9,7 @@ use Rattle.clk_base.specs.declared.clock.ClockId.{ClockId}
 use Rattle.clk_model.specs.Lists.{is_in}
 use Rattle.clk_model.proofs.Members.{is_in_head, is_in_tail}
 use Rattle.clk_tree.specs.Rings.{Leads}
+use Rattle.clk_model.proofs.PllLaws.{at_place}
 
 -- each of these numbers is below another
 abbrev pub AreBelow : ℕ → List ℕ → Type 0
@@ -49,11 +50,6 @@ pub get_within : (xs : List ℕ) (k x : ℕ) → slice_get xs k ≡ Some x → k
 get_within [] k x at = absurd cc
 get_within (y ∷ xs) zero x at = omega arith
 get_within (y ∷ xs) (suc k) x at = let rest : k < length xs = get_within xs k x at in omega arith
-
-pub get_in : (xs : List ℕ) (k x : ℕ) → slice_get xs k ≡ Some x → is_in x xs ≡ true
-get_in [] k x at = absurd cc
-get_in (y ∷ xs) zero x at = let same : y ≡ x = cc in ap (λ (z : ℕ). is_in x (z ∷ xs)) same ∙ is_in_head x xs
-get_in (y ∷ xs) (suc k) x at = is_in_tail x y xs (get_in xs k x at)
 
 pub get_past : (xs : List ℕ) (k : ℕ) → length xs ≤ k → slice_get xs k ≡ None
 get_past [] k past = refl

@@ -18,7 +18,7 @@ use Rattle.clk_model.proofs.OnceLaws.{filter_passes, filter_keeps, once_filter, 
 use Rattle.clk_model.proofs.Members.{is_in_head}
 use Rattle.clk_model.proofs.PathLaws.{above, path_cons, some_levels}
 use Rattle.clk_model.proofs.RateLaws.{rates_are_over_links, rate_leaves}
-use Rattle.clk_model.proofs.StateLaws.{row_of-set_other}
+use Rattle.clk_model.proofs.StateLaws.{row_of-set_other, registered_lt}
 use Rattle.clk_model.proofs.WalkLaws.{is_at_same, at_same}
 use Rattle.clk_tree.specs.declared.group.Group.TheVariants.{ChildrenOf}
 use Rattle.clk_tree.specs.Groups.{AreListed}
@@ -27,7 +27,7 @@ use Rattle.clk_tree.specs.TreeState.{IsTree, attached}
 use Rattle.clk_tree.proofs.GroupLaws.{members_below}
 use Rattle.clk_tree.proofs.Refreshing.{RefreshesBelow}
 use Rattle.clk_tree.proofs.RingLaws.{same_or_two}
-use Rattle.clk_tree.proofs.Rows.{order-few, registered-lt}
+use Rattle.clk_tree.proofs.Rows.{order-few}
 
 -- ---- children
 
@@ -153,7 +153,7 @@ pub link_rated : (defs : Description) (clocks : List ClockRow) (order rates : Li
     → option_map (λ p. p.0) link ≡ link_in clocks c → n ≡ length rates → IfSome link (λ p. p.0 < n)
 link_rated defs clocks order rates c n None tree is same = tt
 link_rated defs clocks order rates c n (Some p) tree is same =
-    let lies : p.0 < length clocks = registered-lt clocks p.0 (tree.links c p.0 (sym is)) in
+    let lies : p.0 < length clocks = registered_lt clocks p.0 (tree.links c p.0 (sym is)) in
     let rows = tree.rows in
     let rated = tree.rated in
     omega arith

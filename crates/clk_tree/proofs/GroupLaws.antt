@@ -16,7 +16,7 @@ use Rattle.clk_model.specs.Laws.Siblings.{front_if}
 use Rattle.clk_model.proofs.Members.{same_from_test, test_other}
 use Rattle.clk_model.proofs.OnceLaws.{is_in-filter}
 use Rattle.clk_model.proofs.SiblingLaws.{front_by, fixed_rate}
-use Rattle.clk_model.proofs.StateLaws.{row_of-set_same, row_of-set_other, filter_none}
+use Rattle.clk_model.proofs.StateLaws.{row_of-set_same, row_of-set_other, filter_none, registered_lt}
 use Rattle.clk_tree.specs.declared.group.Group.{Group}
 use Rattle.clk_tree.specs.declared.group.Group.TheVariants.{Roots, Orphans, ChildrenOf}
 use Rattle.clk_tree.specs.Groups.{is_member, members, group_of, IsGroup, end_of, AreListed}
@@ -24,14 +24,13 @@ use Rattle.clk_tree.specs.Rings.{Leads}
 use Rattle.clk_tree.specs.TreeState.{IsTree, attached}
 use Rattle.clk_tree.proofs.Along.{AreBelow}
 use Rattle.clk_tree.proofs.RingLaws.{same_or_two}
-use Rattle.clk_tree.proofs.Rows.{registered-lt}
 
 -- ---- who is in a group
 
 -- the clocks in the order are clocks of the description
 pub order_below : (defs : Description) (clocks : List ClockRow) (order rates : List ℕ) → IsTree defs clocks order rates → AreBelow (length defs) order
 order_below defs clocks order rates tree x m =
-    let lies : x < length clocks = registered-lt clocks x (sym (tree.order_lists.listed x) ∙ m) in let rows = tree.rows in omega arith
+    let lies : x < length clocks = registered_lt clocks x (sym (tree.order_lists.listed x) ∙ m) in let rows = tree.rows in omega arith
 
 pub members_below : (defs : Description) (clocks : List ClockRow) (order rates : List ℕ) (group : Group) → IsTree defs clocks order rates
     → AreBelow (length defs) (members defs clocks order group)
@@ -45,7 +44,7 @@ end_out n end xs below le = false_from_ne_true (is_in end xs) (λ m. let less : 
 pub none_beyond : (defs : Description) (clocks : List ClockRow) (order rates : List ℕ) (p : ℕ) → IsTree defs clocks order rates → length defs ≤ p → children order clocks p ≡ []
 none_beyond defs clocks order rates p tree beyond =
     filter_none (λ c. is_at p (link_in clocks c)) order (λ c m. false_from_ne_true (is_at p (link_in clocks c)) (λ at.
-    let lies : p < length clocks = registered-lt clocks p (tree.links c p (linked (link_in clocks c) at)) in let rows = tree.rows in absurd (omega arith))) where
+    let lies : p < length clocks = registered_lt clocks p (tree.links c p (linked (link_in clocks c) at)) in let rows = tree.rows in absurd (omega arith))) where
       linked : (o : Option ℕ) → is_at p o ≡ true → o ≡ Some p
       linked None at = absurd cc
       linked (Some q) at = ap (λ (x : ℕ). Some x) (same_from_test q p at)
@@ -138,7 +137,7 @@ pub record Moves (old new : List ℕ) (end c : ℕ) : Type 0 where
 parent_within : (defs : Description) (clocks : List ClockRow) (order rates : List ℕ) (parent : Option ClockId) → IsTree defs clocks order rates
     → IfSome parent (λ q. registered clocks q.0 ≡ true) → IfSome parent (λ q. q.0 < length defs)
 parent_within defs clocks order rates None tree there = tt
-parent_within defs clocks order rates (Some q) tree there = let lies : q.0 < length clocks = registered-lt clocks q.0 there in let rows = tree.rows in omega arith
+parent_within defs clocks order rates (Some q) tree there = let lies : q.0 < length clocks = registered_lt clocks q.0 there in let rows = tree.rows in omega arith
 
 -- and a fixed clock has none
 no_parent : (words : ℕ) (defs : Description) (c : ℕ) (parent : Option ClockId) → IsValid words defs → c < length defs

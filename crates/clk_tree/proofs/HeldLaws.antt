@@ -20,10 +20,12 @@ use Rattle.clk_tree.specs.Groups.{is_member, members, group_of, IsGroup, end_of,
 use Rattle.clk_tree.specs.Held.{IsHeld}
 use Rattle.clk_tree.specs.Rings.{Leads, ring_of}
 use Rattle.clk_tree.specs.TreeState.{IsTree, attached}
-use Rattle.clk_tree.proofs.Along.{AreBelow, ComesAt, leads_comes, comes_behind, clock_first, clock_at, get_in, get_drop, in_drop}
+use Rattle.clk_tree.proofs.Along.{AreBelow, ComesAt, leads_comes, comes_behind, clock_first, clock_at, get_drop, in_drop}
 use Rattle.clk_tree.proofs.GroupLaws.{Moves, order_below, members_below, none_beyond, end_out, end_beyond, end_within, listed_attached, listed_requested}
 use Rattle.clk_tree.proofs.RingLaws.{ring_is}
-use Rattle.clk_tree.proofs.Rows.{tree_made, tree_attached, tree_requested, order-few, link-requested, registered-lt}
+use Rattle.clk_tree.proofs.Rows.{tree_made, tree_attached, tree_requested, order-few, link-requested}
+use Rattle.clk_model.proofs.StateLaws.{registered_lt}
+use Rattle.clk_model.proofs.PllLaws.{at_place as stands_in}
 
 -- the order that a ring of turns has
 abbrev order_in : Description → List ℕ → List ℕ
@@ -95,12 +97,12 @@ parent_place defs clocks order rates c p k tree here = inside (cases_lt p (lengt
 pub not_among : (defs : Description) (clocks : List ClockRow) (order rates : List ℕ) (c k : ℕ) (group : Group) → IsTree defs clocks order rates → registered clocks c ≡ false
     → slice_get (members defs clocks order group) k ≡ Some c → ⊥
 not_among defs clocks order rates c k group tree gone here =
-    let there : registered clocks c ≡ true = sym (tree.order_lists.listed c) ∙ is_in-filter (is_member defs clocks group) c order (get_in (members defs clocks order group) k c here) in cc
+    let there : registered clocks c ≡ true = sym (tree.order_lists.listed c) ∙ is_in-filter (is_member defs clocks group) c order (stands_in (members defs clocks order group) k c here) in cc
 
 -- and has a place in the rings
 pub place_in_rings : (defs : Description) (clocks : List ClockRow) (rates turns siblings : List ℕ) (most c : ℕ) → IsHeld defs clocks rates turns siblings most → registered clocks c ≡ true → c < length siblings
 place_in_rings defs clocks rates turns siblings most c held there =
-    let lies : c < length clocks = registered-lt clocks c there in let rows = held.tree.rows in let size = held.listed.size in omega arith
+    let lies : c < length clocks = registered_lt clocks c there in let rows = held.tree.rows in let size = held.listed.size in omega arith
 
 -- ---- made
 

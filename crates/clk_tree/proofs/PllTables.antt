@@ -20,7 +20,7 @@ use Rattle.clk_tree.specs.PllCounts.{TellsPlls}
 
 -- ---- the greatest of several
 
-fold_max_most : (most a : ℕ) (f : ℕ → ℕ) (xs : List ℕ) → a ≤ most → ((x : ℕ) → f x ≤ most) → fold max a (map f xs) ≤ most
+pub fold_max_most : (most a : ℕ) (f : ℕ → ℕ) (xs : List ℕ) → a ≤ most → ((x : ℕ) → f x ≤ most) → fold max a (map f xs) ≤ most
 fold_max_most most a f [] le each = le
 fold_max_most most a f (x ∷ xs) le each = let here = each x in fold_max_most most (max a (f x)) f xs (omega arith) each
 

@@ -12,8 +12,9 @@ use Rattle.clk_model.specs.Walk.{below_within}
 use Rattle.clk_model.proofs.Members.{is_in_tail, is_in_cases}
 use Rattle.clk_model.proofs.OnceLaws.{in_append, flat_map_in}
 use Rattle.clk_tree.specs.Refreshed.{AreKidRings, AreOver}
-use Rattle.clk_tree.proofs.Along.{ComesAt, leads_comes, go_on, stops, get_in, none_left}
+use Rattle.clk_tree.proofs.Along.{ComesAt, leads_comes, go_on, stops, none_left, drop_at}
 use Rattle.clk_tree.proofs.RingLaws.{not_in_cons}
+use Rattle.clk_model.proofs.PllLaws.{at_place}
 
 -- so many of a clock's children are done: what is below the clock has its rate or is below a child that is left, and the rest is as before
 pub record Refreshing (defs : Description) (told : Option Registers) (siblings old new : List ℕ) (levels clock parent at step : ℕ) : Type 0 where
@@ -56,11 +57,6 @@ own_rate defs told siblings old levels clock parent at found kind place within f
 
 -- ---- one child more
 
-drop_cons : (xs : List ℕ) (step x : ℕ) → slice_get xs step ≡ Some x → drop step xs ≡ x ∷ drop (suc step) xs
-drop_cons [] step x at = absurd cc
-drop_cons (y ∷ xs) zero x at = let same : y ≡ x = cc in ap (λ (z : ℕ). z ∷ xs) same
-drop_cons (y ∷ xs) (suc step) x at = drop_cons xs step x at
-
 pub one_child : (defs : Description) (told : Option Registers) (siblings old mid new : List ℕ) (levels clock parent at next step found : ℕ) (kind : Kind)
     → kind ≡ kind_of defs clock → IfSome told (λ regs. found ≡ rate_over kind regs parent) → at < length defs → next ≡ slice_index siblings at
     → Refreshing defs told siblings old mid levels clock parent at step → RefreshesBelow defs told siblings mid new levels at found
@@ -75,14 +71,14 @@ one_child defs told siblings old mid new levels clock parent at next step found 
       on kids are = go_on siblings (length defs + clock) at (length defs) step (kids clock) (omega arith) less (so_far.comes kids are)
 
       left : (kids : ℕ → List ℕ) → AreKidRings (length defs) siblings kids → drop step (kids clock) ≡ at ∷ drop (suc step) (kids clock)
-      left kids are = drop_cons (kids clock) step at (on kids are).0
+      left kids are = drop_at (kids clock) step at (on kids are).0
 
       -- what isn't below the clock isn't below its child
       outside : (kids : ℕ → List ℕ) → AreKidRings (length defs) siblings kids → (k : ℕ) → is_in k (below_within kids (suc levels) clock) ≡ false → is_in k (below_within kids levels at) ≡ false
       outside kids are k out = elim (cases_Bool (is_in k (below_within kids levels at))) [
         | inl there ↦ absurd (both_ways _ out
             (is_in_tail k clock (flat_map (below_within kids levels) (kids clock))
-            (flat_map_in (below_within kids levels) k at (kids clock) (get_in (kids clock) step at (on kids are).0) there)))
+            (flat_map_in (below_within kids levels) k at (kids clock) (at_place (kids clock) step at (on kids are).0) there)))
         | inr gone ↦ gone
       ]
 
@@ -99,7 +95,7 @@ one_child defs told siblings old mid new levels clock parent at next step found 
       given (Some regs) h f g = λ kids rates are over top k m.
           let here : found ≡ rates clock = h ∙ ap (λ (x : Kind). rate_over x regs parent) is ∙ sym top in
           let child_rate : rates at ≡ rate_over (kind_of defs at) regs found =
-          over clock at (get_in (kids clock) step at (on kids are).0) ∙ ap (rate_over (kind_of defs at) regs) (sym here) in
+          over clock at (at_place (kids clock) step at (on kids are).0) ∙ ap (rate_over (kind_of defs at) regs) (sym here) in
           elim (cases_Bool (is_in k (below_within kids levels at))) [
             | inl there ↦ inl (g kids rates are over child_rate k there)
             | inr gone ↦ elim (f kids rates are over top k m) [

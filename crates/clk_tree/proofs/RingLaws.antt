@@ -5,7 +5,7 @@ use Rattle.std.proofs.lemmas.List.{length-set, get_or-set_same, get_or-set_other
 use Rattle.std.proofs.lemmas.Bool.{cases_lt, false_from_ne_true}
 use Rattle.clk_model.specs.Lists.{is_in, without}
 use Rattle.clk_model.proofs.Members.{same_from_test, test_other}
-use Rattle.clk_model.proofs.OnceLaws.{is_in-filter}
+use Rattle.clk_model.proofs.OnceLaws.{is_in-filter, not_in-without}
 use Rattle.clk_model.proofs.SiblingLaws.{stays, taken_out}
 use Rattle.clk_tree.specs.Rings.{LeadsBack, AreRings, Leads, behind, ring_of}
 
@@ -46,9 +46,6 @@ without-same n y ys same =
 -- what isn't in a list isn't in the list without a number, and that number isn't in it either
 pub not_in_without : (x n : ℕ) (xs : List ℕ) → is_in x xs ≡ false → is_in x (without (n ∷ []) xs) ≡ false
 not_in_without x n xs out = false_from_ne_true (is_in x (without (n ∷ []) xs)) (λ m. let there = is_in-filter (stays n) x xs m in absurd cc)
-
-pub not_in_own : (n : ℕ) (xs : List ℕ) → is_in n (without (n ∷ []) xs) ≡ false
-not_in_own n xs = false_from_ne_true (is_in n (without (n ∷ []) xs)) (taken_out n xs)
 
 -- ---- two writes
 

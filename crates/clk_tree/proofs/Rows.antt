@@ -9,17 +9,11 @@ use Rattle.clk_model.specs.declared.row.ClockRow.{ClockRow}
 use Rattle.clk_model.specs.Lists.{is_in, to_front}
 use Rattle.clk_model.specs.State.{row_of, registered, link_in, unregistered_row, requested}
 use Rattle.clk_model.proofs.Members.{same_from_test, test_other}
-use Rattle.clk_model.proofs.StateLaws.{row_of-set_same, row_of-set_other}
+use Rattle.clk_model.proofs.StateLaws.{row_of-set_same, row_of-set_other, registered_lt}
 use Rattle.clk_model.specs.Wired.{LinesEnd}
 use Rattle.clk_tree.specs.TreeState.{IsTree, attached}
 use Rattle.clk_model.proofs.OnceLaws.{is_in-to_front, once-to_front, few_once}
 use Rattle.std.proofs.Math.Bool.{or-true}
-
--- a registered clock has a row
-pub registered-lt : (clocks : List ClockRow) (c : ℕ) → registered clocks c ≡ true → c < length clocks
-registered-lt [] c h = absurd cc
-registered-lt (row ∷ clocks) zero h = omega arith
-registered-lt (row ∷ clocks) (suc c) h = let below : c < length clocks = registered-lt clocks c h in omega arith
 
 -- ---- a tree at its making
 
@@ -126,7 +120,7 @@ tree_attached defs clocks order rates c parent tree place there can =
 pub order-few : (defs : Description) (clocks : List ClockRow) (order rates : List ℕ) → IsTree defs clocks order rates → length order ≤ length defs
 order-few defs clocks order rates tree =
     few_once order (length defs) tree.order_lists.once
-    (λ q m. let below : q < length clocks = registered-lt clocks q (sym (tree.order_lists.listed q) ∙ m) in let len = tree.rows in omega arith)
+    (λ q m. let below : q < length clocks = registered_lt clocks q (sym (tree.order_lists.listed q) ∙ m) in let len = tree.rows in omega arith)
 
 -- ---- last requests
 

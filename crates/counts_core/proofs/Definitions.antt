@@ -15,6 +15,8 @@ use Rattle.clk_model.proofs.PathLaws.{path_all}
 use Rattle.clk_model.proofs.BelowLaws.{Rises, IsUp, rises_on, few_steps, rises_path}
 use Rattle.counts_core.specs.Sums.{up_in, leads, mark, kids, AreSums}
 use Rattle.counts_core.specs.Counted.{is_held, sum_over}
+use Rattle.clk_model.proofs.WalkLaws.{either_way}
+use Rattle.clk_model.proofs.RootLaws.{both_from}
 
 -- ---- children that count
 
@@ -24,16 +26,12 @@ counts_true n e = grind (arith, nat_tests)
 pub true_counts : (n : ℕ) → 0 < n → nat_lt 0 n ≡ true
 true_counts n e = grind (arith, nat_tests)
 
-pub both_true : (a b : Bool) → a ≡ true → b ≡ true → (a && b) ≡ true
-both_true true b e f = f
-both_true false b e f = cc
-
 -- a child that counts is one
 pub kids-in : (links : List (Option ClockId)) (counts : List ℕ) (b d : ℕ) → leads d (get_or links b None) ≡ true → 0 < get_or counts b 0 → 0 < kids links counts d
 kids-in [] counts b d leads_ some = absurd (false≢true leads_)
 kids-in (l ∷ ls) [] b d leads_ some = absurd (omega arith)
 kids-in (l ∷ ls) (n ∷ ns) zero d leads_ some =
-    let here : mark (leads d l) n ≡ 1 = ap (λ (t : Bool). cond t 1 0) (both_true (leads d l) (nat_lt 0 n) leads_ (true_counts n some)) in
+    let here : mark (leads d l) n ≡ 1 = ap (λ (t : Bool). cond t 1 0) (both_from (leads d l) (nat_lt 0 n) leads_ (true_counts n some)) in
     omega arith
 kids-in (l ∷ ls) (n ∷ ns) (suc b) d leads_ some = let rest = kids-in ls ns b d leads_ some in omega arith
 
@@ -102,15 +100,10 @@ own_within links own h long some =
     (λ (past : length own ≤ h). let none = get_or_past own h 0 past in absurd (omega arith))
     (cases_lt h (length own))
 
-pub same_tests : (a b : Bool) → (a ≡ true → b ≡ true) → (b ≡ true → a ≡ true) → a ≡ b
-same_tests true b f g = sym (f refl)
-same_tests false true f g = g refl
-same_tests false false f g = refl
-
 -- a count isn't 0 exactly where the clock is on the path of a holder
 pub counts_held : (parents : ℕ → List ℕ) (links : List (Option ClockId)) (own counts : List ℕ) → LinksEnd parents links → AreSums links own counts
     → (c : ℕ) → nat_lt 0 (get_or counts c 0) ≡ is_held links (λ d. get_or own d 0) c
-counts_held parents links own counts end_ sums c = same_tests (nat_lt 0 (get_or counts c 0)) (is_held links (λ d. get_or own d 0) c) to from where
+counts_held parents links own counts end_ sums c = either_way (nat_lt 0 (get_or counts c 0)) (is_held links (λ d. get_or own d 0) c) to from where
   test : ℕ → Bool
   test h = nat_lt 0 (get_or own h 0) && is_in c (path_within (up_in links) depth h)
 
@@ -122,7 +115,7 @@ counts_held parents links own counts end_ sums c = same_tests (nat_lt 0 (get_or 
             let less = few_steps parents (up_in links) depth found.1.0 h c end_.up (end_.ends h) found.1.2 in
             any_from_in test (count_from 0 (length links)) h
             (is_in-count_from h 0 (length links) (omega arith) (let within = own_within links own h sums.owned found.1.1 in omega arith))
-            (both_true (nat_lt 0 (get_or own h 0)) (is_in c (path_within (up_in links) depth h)) (true_counts (get_or own h 0) found.1.1) (rises_path (up_in links) depth found.1.0 h c found.1.2 less))
+            (both_from (nat_lt 0 (get_or own h 0)) (is_in c (path_within (up_in links) depth h)) (true_counts (get_or own h 0) found.1.1) (rises_path (up_in links) depth found.1.0 h c found.1.2 less))
         | inr far ↦ let less = few_steps parents (up_in links) depth depth far.0 c end_.up (end_.ends far.0) far.1 in absurd (omega arith)
       ]
 

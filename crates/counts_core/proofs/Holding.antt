@@ -16,11 +16,12 @@ use Rattle.clk_model.proofs.Members.{both_left, both_right, is_in_cases, is_in-c
 use Rattle.clk_model.proofs.PathLaws.{path_agree}
 use Rattle.clk_model.proofs.BelowLaws.{Rises, rises_on, few_steps, path_rises, rises_path}
 use Rattle.clk_model.proofs.CountLaws.{count_by-agree}
-use Rattle.clk_model.proofs.WalkLaws.{is_at_same}
+use Rattle.clk_model.proofs.WalkLaws.{is_at_same, either_way}
 use Rattle.counts_core.specs.Sums.{up_in, leads}
 use Rattle.counts_core.specs.Counted.{HasLinks, is_held, sum_over}
-use Rattle.counts_core.proofs.Definitions.{LinksEnd, counts_true, true_counts, both_true, same_tests, leads_up, up_leads}
+use Rattle.counts_core.proofs.Definitions.{LinksEnd, counts_true, true_counts, leads_up, up_leads}
 use Rattle.counts_core.proofs.Listing.{tally, count_step, count_by-filter, count_by-listed}
+use Rattle.clk_model.proofs.RootLaws.{both_from}
 
 -- ---- sums and holders
 
@@ -34,7 +35,7 @@ held_from : (parents : ℕ → List ℕ) (links : List (Option ClockId)) (own : 
     → is_held links own c ≡ true
 held_from parents links own h n c end_ within some way =
     any_from_in (λ x. nat_lt 0 (own x) && is_in c (path_within (up_in links) depth x)) (count_from 0 (length links)) h (is_in-count_from h 0 (length links) (omega arith) (omega arith))
-    (both_true (nat_lt 0 (own h)) (is_in c (path_within (up_in links) depth h)) (true_counts (own h) some)
+    (both_from (nat_lt 0 (own h)) (is_in c (path_within (up_in links) depth h)) (true_counts (own h) some)
     (rises_path (up_in links) depth n h c way (few_steps parents (up_in links) depth n h c end_.up (end_.ends h) way)))
 
 held_by : (links : List (Option ClockId)) (own : ℕ → ℕ) (c : ℕ) → is_held links own c ≡ true → (h : ℕ) × (n : ℕ) × (0 < own h) × Rises (up_in links) n h c
@@ -78,7 +79,7 @@ linked_within links d c way =
 -- a sum isn't 0 exactly where the clock is on the path of a holder
 pub sum_held : (parents : ℕ → List ℕ) (links : List (Option ClockId)) (own : ℕ → ℕ) → LinksEnd parents links → ((h : ℕ) → 0 < own h → h < length links)
     → (c : ℕ) → nat_lt 0 (sum_over links own c) ≡ is_held links own c
-sum_held parents links own end_ within c = same_tests (nat_lt 0 (sum_over links own c)) (is_held links own c) to from where
+sum_held parents links own end_ within c = either_way (nat_lt 0 (sum_over links own c)) (is_held links own c) to from where
   test : ℕ → Bool
   test d = leads c (get_or links d None) && is_held links own d
 
@@ -100,7 +101,7 @@ sum_held parents links own end_ within c = same_tests (nat_lt 0 (sum_over links 
   child_counts d way held =
       let less = linked_within links d c way in
       some_counted test (count_from 0 (length links)) d (is_in-count_from d 0 (length links) (omega arith) (omega arith))
-      (both_true (leads c (get_or links d None)) (is_held links own d) (up_leads links d c way) held)
+      (both_from (leads c (get_or links d None)) (is_held links own d) (up_leads links d c way) held)
 
   by_way : (h n : ℕ) → 0 < own h → Rises (up_in links) n h c → 0 < sum_over links own c
   by_way h zero some way = let here : own h ≡ own c = ap own way in omega arith
@@ -121,7 +122,7 @@ same_path clocks links h has = path_agree (up_in links) (link_in clocks) depth h
 -- with the same holders the same clocks are held
 pub held_as : (clocks : List ClockRow) (links : List (Option ClockId)) (own : ℕ → ℕ) (hs : List ℕ) → HasLinks clocks links → ((h : ℕ) → nat_lt 0 (own h) ≡ is_in h hs)
     → ((h : ℕ) → 0 < own h → h < length links) → (c : ℕ) → is_held links own c ≡ holders.is_held clocks hs c
-held_as clocks links own hs has same within c = same_tests (is_held links own c) (holders.is_held clocks hs c) to from where
+held_as clocks links own hs has same within c = either_way (is_held links own c) (holders.is_held clocks hs c) to from where
   test : ℕ → Bool
   test h = nat_lt 0 (own h) && is_in c (path_within (up_in links) depth h)
 
@@ -139,7 +140,7 @@ held_as clocks links own hs has same within c = same_tests (is_held links own c)
       let mine = same h ∙ found.1 in
       let less = within h (counts_true (own h) mine) in
       any_from_in test (count_from 0 (length links)) h (is_in-count_from h 0 (length links) (omega arith) (omega arith))
-      (both_true (nat_lt 0 (own h)) (is_in c (path_within (up_in links) depth h)) mine (sym (ap (is_in c) (same_path clocks links h has)) ∙ found.2))
+      (both_from (nat_lt 0 (own h)) (is_in c (path_within (up_in links) depth h)) mine (sym (ap (is_in c) (same_path clocks links h has)) ∙ found.2))
 
 leads_at : (c : ℕ) (o : Option ClockId) → leads c o ≡ is_at c (option_map (λ p. p.0) o)
 leads_at c None = refl

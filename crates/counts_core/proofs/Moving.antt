@@ -9,7 +9,7 @@ use Rattle.clk_model.specs.Chain.{clock_id}
 use Rattle.clk_model.specs.Lists.{is_in}
 use Rattle.clk_model.specs.State.{link_in}
 use Rattle.clk_model.proofs.Members.{same_from_test, test_other}
-use Rattle.clk_model.proofs.PlannedGoLaws.{registered_lt}
+use Rattle.clk_model.proofs.StateLaws.{registered_lt}
 use Rattle.clk_tree.specs.TreeState.{IsTree}
 use Rattle.counts_core.specs.Sums.{up_in, leads, mark, kids, AreSums, AreOwed}
 use Rattle.counts_core.specs.Counted.{CountState, HasOtherLinks}

@@ -19,10 +19,12 @@ use Rattle.clk_model.proofs.Members.{both_left, is_in-count_from}
 use Rattle.clk_model.proofs.OnceLaws.{is_in-append, filter_passes, filter_keeps}
 use Rattle.counts_core.specs.Counted.{CountState, AreCounts, is_held, protect_own, prepare_sum}
 use Rattle.counts_core.specs.Standing.{own_enables, own_prepares, own_exclusives, StandsFor, HoldsAsIn, TellsHolds, CountsAsIn, TellsCounts}
-use Rattle.counts_core.proofs.Definitions.{LinksEnd, same_tests, own_within}
+use Rattle.counts_core.proofs.Definitions.{LinksEnd, own_within}
 use Rattle.counts_core.proofs.Held.{past_flag}
 use Rattle.counts_core.proofs.Holding.{sum_held, held_as, sum_as}
 use Rattle.counts_core.proofs.Listing.{tally, count_step}
+use Rattle.clk_model.proofs.RegisterGoLaws.{critical_lt}
+use Rattle.clk_model.proofs.WalkLaws.{either_way}
 
 -- ---- parts that aren't 0
 
@@ -79,16 +81,8 @@ counted_in c (x ∷ xs) =
 -- among all clocks of a description those that pass are those that pass
 in_passing : (t : ℕ → Bool) (c n : ℕ) → (t c ≡ true → c < n) → is_in c (filter t (count_from 0 n)) ≡ t c
 in_passing t c n within =
-    same_tests (is_in c (filter t (count_from 0 n))) (t c) (filter_passes t c (count_from 0 n))
+    either_way (is_in c (filter t (count_from 0 n))) (t c) (filter_passes t c (count_from 0 n))
     (λ e. let less = within e in filter_keeps t c (count_from 0 n) e (is_in-count_from c 0 n (omega arith) (omega arith)))
-
--- a flag is that of a clock of the description
-critical_within : (defs : Description) (c : ℕ) → is_critical defs c ≡ true → c < length defs
-critical_within defs c e =
-    ⊎_elim
-    (λ (within : c < length defs). within)
-    (λ (past : length defs ≤ c). absurd (false≢true (sym (ap (λ (def : ClockDef). has_flag def.flags 32) (get_or_past defs c nobody past)) ∙ e)))
-    (cases_lt c (length defs))
 
 gate_within : (defs : Description) (c : ℕ) → sets_rate_gate defs c ≡ true → c < length defs
 gate_within defs c e =
@@ -97,7 +91,7 @@ gate_within defs c e =
 critical_in : (s : State) (c : ℕ) → nat_lt 0 (critical_part s c) ≡ is_in c (critical_clocks s)
 critical_in s c =
     one_counts (is_critical s.defs c && registered s.clocks c)
-    ∙ sym (in_passing (λ d. is_critical s.defs d && registered s.clocks d) c (length s.defs) (λ e. critical_within s.defs c (both_left (is_critical s.defs c) (registered s.clocks c) e)))
+    ∙ sym (in_passing (λ d. is_critical s.defs d && registered s.clocks d) c (length s.defs) (λ e. critical_lt s.defs c (both_left (is_critical s.defs c) (registered s.clocks c) e)))
 
 -- ---- holders
 

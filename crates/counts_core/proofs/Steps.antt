@@ -12,6 +12,7 @@ use Rattle.clk_model.proofs.PathLaws.{above}
 use Rattle.clk_model.proofs.BelowLaws.{Rises, rises_on}
 use Rattle.counts_core.specs.Sums.{up_in, leads, one, mark, kids, OneMore, Begins}
 use Rattle.counts_core.proofs.Walking.{kids-set, count-set, count-more, kids-begun, kids-more, mark-more, mark-none, mark-first}
+use Rattle.counts_core.proofs.Definitions.{counts_true}
 
 -- ---- one count
 
@@ -258,9 +259,6 @@ still_counts links old now c at k begins some =
       | false ↦ λ e. refl
     ] refl
 
-counts_from : (n : ℕ) → nat_lt 0 n ≡ true → 0 < n
-counts_from n e = grind (arith, nat_tests)
-
 -- the clock where the walk is stops to count
 stops_more : (links : List (Option ClockId)) (old now next : List ℕ) (c at k : ℕ) → Begins links now old c k → Rises (up_in links) k c at → Steps links next now at → get_or next at 0 ≡ 0
     → Begins links next old c (suc k)
@@ -275,7 +273,7 @@ stops_more links old now next c at k begins rises step none = record { many = pa
   fresh = still_counts links old now c at k begins some
 
   was : 0 < get_or old at 0
-  was = counts_from (get_or old at 0) (begins.others at fresh ∙ counting (get_or now at 0) 0 some)
+  was = counts_true (get_or old at 0) (begins.others at fresh ∙ counting (get_or now at 0) 0 some)
 
   inside : (d : ℕ) → is_in d (path_within (up_in links) (suc k) c) ≡ true → (is_in d (path_within (up_in links) k c) ≡ true) ⊎ (nat_eq at d ≡ true)
   inside d e = or_cases (is_in d (path_within (up_in links) k c)) (nat_eq at d) (sym (in_path_more (up_in links) k c at d rises) ∙ e)

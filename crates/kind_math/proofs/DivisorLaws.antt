@@ -16,7 +16,7 @@ use Rattle.kind_math.specs.Choices.{least, greatest_of}
 use Rattle.std.specs.Option.{unwrap_or}
 
 -- two to a power that is at least 1 is at least 2
-two-le-pow : (width : ℕ) → 1 ≤ width → 2 ≤ 2 ^ width
+pub two-le-pow : (width : ℕ) → 1 ≤ width → 2 ≤ 2 ^ width
 two-le-pow width some = pow-le-pow_right {n = 2} (omega arith) {i = 1} {j = width} some
 
 -- a field of at most 5 bits is at most 31

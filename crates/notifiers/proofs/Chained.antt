@@ -11,6 +11,7 @@ use Rattle.clk_model.specs.Notices.{by_priority, notifiers_of}
 use Rattle.clk_model.proofs.NotifierLaws.{notifiers_of-push, notifiers_of-push_other, notifiers_of-filter}
 use Rattle.notifiers.specs.declared.notifier.Notifier.{Notifier}
 use Rattle.notifiers.specs.Chains.{row_on, chain_of, Tells, has_id, without_notifier}
+use Rattle.clk_model.proofs.Members.{test_same}
 
 -- ---- a chain in its place
 
@@ -26,9 +27,6 @@ chain_read items vs chains c v is within here =
 pub chain_written : {V : Type 0} (items : V → List Notifier) (vs : List V) (chains : List (List Notifier)) (c : ℕ) (w : V)
     → map items vs ≡ chains → map items (set vs c w) ≡ set chains c (items w)
 chain_written items vs chains c w is = map-set items vs c w ∙ ap (λ (cs : List (List Notifier)). set cs c (items w)) is
-
-same_place : (c : ℕ) → nat_eq c c ≡ true
-same_place c = grind (arith, nat_tests)
 
 other_place : (c d : ℕ) → d ≢ c → nat_eq c d ≡ false
 other_place c d other = grind (arith, nat_tests)
@@ -87,7 +85,7 @@ Tells-added chains c chain n ns within placed tells d =
     ⊎_elim
     (λ (e : d ≡ c).
     subst (λ (x : ℕ). chain_of (set chains c chain) x ≡ notifiers_of (ns ++ row_on c n ∷ []) x) (sym e)
-    (chain_of-set_same chains c chain within ∙ placed ∙ ap (by_priority (row_on c n)) (tells c) ∙ sym (notifiers_of-push ns (row_on c n) c (same_place c))))
+    (chain_of-set_same chains c chain within ∙ placed ∙ ap (by_priority (row_on c n)) (tells c) ∙ sym (notifiers_of-push ns (row_on c n) c (test_same c))))
     (λ (other : d ≢ c). chain_of-set_other chains c d chain other ∙ tells d ∙ sym (notifiers_of-push_other ns (row_on c n) d (other_place c d other)))
     (cases_eq d c)
 
@@ -134,7 +132,7 @@ Tells-without chains c id ns tells d =
           ∙ sym (ap (λ (ms : List Notifier). filter left (map (row_on c) ms)) (get_or_past chains c [] past)))
           (cases_lt c (length chains)) where
             own : filter left (chain_of chains c) ≡ map (row_on c) kept
-            own = filter-map left (λ n. not (nat_eq n.id id)) (row_on c) (get_or chains c []) (λ n. ap (λ (t : Bool). not (t && nat_eq n.id id)) (same_place c))
+            own = filter-map left (λ n. not (nat_eq n.id id)) (row_on c) (get_or chains c []) (λ n. ap (λ (t : Bool). not (t && nat_eq n.id id)) (test_same c))
 
       elsewhere : d ≢ c → filter left (chain_of chains d) ≡ chain_of chains d
       elsewhere other =

@@ -20,23 +20,19 @@ use Rattle.clk_model.specs.Wired.{LinesEnd, ListsRegistered}
 use Rattle.clk_model.proofs.Members.{any_in, any_from_in, same_from_test, test_same, test_other, is_in_cases, both_left, both_right, not_either}
 use Rattle.clk_model.proofs.OnceLaws.{once_head, once_cons, is_in-filter}
 use Rattle.clk_model.proofs.SiblingLaws.{registers_attach, registers_unattached}
-use Rattle.clk_model.proofs.PllLaws.{selected_possible}
-use Rattle.clk_tree.proofs.Along.{get_in}
+use Rattle.clk_model.proofs.PllLaws.{selected_possible, at_place}
 use Rattle.orphans.specs.Beside.{AreMarked, is_free, has_parent}
 use Rattle.orphans.proofs.LinkLaws.{given_none, given_there, given_away}
 use Rattle.orphans.proofs.BesideLaws.{registered_beside}
+use Rattle.clk_model.proofs.WalkLaws.{either_way}
+use Rattle.clk_model.proofs.AdoptGoLaws.{left_once}
 
 -- ---- one of the marked clocks on a path
-
-same_by : (a b : Bool) → (a ≡ true → b ≡ true) → (b ≡ true → a ≡ true) → a ≡ b
-same_by true b f g = sym (f refl)
-same_by false true f g = g refl
-same_by false false f g = refl
 
 -- that one of a list is in another is that one of the other is in it
 any_both : (xs ys : List ℕ) → list_any (λ b. is_in b ys) xs ≡ list_any (λ x. is_in x xs) ys
 any_both xs ys =
-    same_by (list_any (λ b. is_in b ys) xs) (list_any (λ x. is_in x xs) ys)
+    either_way (list_any (λ b. is_in b ys) xs) (list_any (λ x. is_in x xs) ys)
     (λ e. let found = any_in (λ b. is_in b ys) xs e in any_from_in (λ x. is_in x xs) ys found.0 found.2 found.1)
     (λ e. let found = any_in (λ x. is_in x xs) ys e in any_from_in (λ b. is_in b ys) xs found.0 found.2 found.1)
 
@@ -77,7 +73,7 @@ taken_at (y ∷ xs) zero x at once = let same : y ≡ x = cc in ap (λ (t : Bool
   first [] = refl
   first (z ∷ ys) = refl
 taken_at (y ∷ xs) (suc k) x at once =
-    let other : nat_eq y x ≡ false = false_from_ne_true (nat_eq y x) (λ e. both_ways (is_in x xs) (ap (λ (z : ℕ). is_in z xs) (sym (same_from_test y x e)) ∙ (once_head y xs once).0) (get_in xs k x at)) in
+    let other : nat_eq y x ≡ false = false_from_ne_true (nat_eq y x) (λ e. both_ways (is_in x xs) (ap (λ (z : ℕ). is_in z xs) (sym (same_from_test y x e)) ∙ (once_head y xs once).0) (at_place xs k x at)) in
     ap (λ (t : Bool). cond t xs (y ∷ without_one x xs)) other ∙ ap (λ (zs : List ℕ). y ∷ zs) (taken_at xs k x at (once_head y xs once).1)
 
 -- the first that is free is the next
@@ -87,20 +83,11 @@ turn_of s n m marks left o are found =
     ap (λ (p : Option ℕ). option_map_or (λ a. a ∷ adoption_order m s (without_one a left)) p [])
     (ap (λ (f : ℕ → Bool). find f left) (fun_ext (λ a. next_is_free s n marks left a are)) ∙ found)
 
-once_without : (b : ℕ) (xs : List ℕ) → none_twice xs ≡ true → none_twice (without_one b xs) ≡ true
-once_without b [] once = refl
-once_without b (y ∷ ys) once = by_head (once_without b ys (once_head y ys once).1) (nat_eq y b) where
-  by_head : none_twice (without_one b ys) ≡ true → (t : Bool) → none_twice (cond t ys (y ∷ without_one b ys)) ≡ true
-  by_head rest true = (once_head y ys once).1
-  by_head rest false =
-      once_cons y (without_one b ys)
-      (λ m. both_ways (is_in y ys) (once_head y ys once).0 (both_right (not (nat_eq y b)) (is_in y ys) (sym (in_without_one b y ys (once_head y ys once).1) ∙ m))) rest
-
 -- the marks with one taken away are those of the others
 pub unmarked : (n : ℕ) (marks : List Bool) (left : List ℕ) (a : ℕ) → a < n → AreMarked n marks left → AreMarked n (slice_set marks a false) (without_one a left)
 unmarked n marks left a within are = record {
   size = length-set marks a false ∙ are.size;
-  once = once_without a left are.once;
+  once = left_once a left are.once;
   inside = λ x m. are.inside x (both_right (not (nat_eq x a)) (is_in x left) (sym (in_without_one a x left are.once) ∙ m));
   marked = λ x. by_test x (nat_eq x a) refl ∙ sym (in_without_one a x left are.once);
 } where

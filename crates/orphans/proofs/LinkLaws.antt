@@ -16,12 +16,12 @@ use Rattle.clk_model.specs.Lists.{is_in}
 use Rattle.clk_model.specs.State.{registered}
 use Rattle.clk_model.specs.Tree.{selected, if_registered, link_given}
 use Rattle.clk_model.proofs.SiblingLaws.{fixed_rate}
-use Rattle.clk_tree.proofs.Along.{get_in}
+use Rattle.clk_model.proofs.PllLaws.{at_place}
 
 -- what was found at a place is a possible parent
 pub found_possible : (ps : List ℕ) (n : ℕ) (found : Option ClockId) → option_map (λ p. p.0) found ≡ slice_get ps n → IfSome found (λ p. is_in p.0 ps ≡ true)
 found_possible ps n None e = tt
-found_possible ps n (Some p) e = get_in ps n p.0 (sym e)
+found_possible ps n (Some p) e = at_place ps n p.0 (sym e)
 
 -- the field of a mux lies in the bank
 pub mux_lies : (words : ℕ) (defs : Description) (c word shift width : ℕ) (read_only : Bool) → IsValid words defs → c < length defs

@@ -13,11 +13,12 @@ use Rattle.clk_model.specs.Tree.{roots, orphans, is_orphan}
 use Rattle.clk_model.proofs.OnceLaws.{in_append, is_in-filter, filter_passes, length-filter-le}
 use Rattle.clk_model.proofs.StateLaws.{filter_none}
 use Rattle.clk_tree.specs.TreeState.{TreeState, IsTree}
-use Rattle.clk_tree.proofs.Along.{get_second, none_left, get_in, drop_zero, drop_at}
+use Rattle.clk_tree.proofs.Along.{get_second, none_left, drop_zero, drop_at}
 use Rattle.clk_tree.proofs.GroupLaws.{order_below}
 use Rattle.clk_tree.proofs.Rows.{order-few}
 use Rattle.orphans.specs.Beside.{has_parent, StandTogether}
 use Rattle.orphans.proofs.LinkLaws.{given_fixed}
+use Rattle.clk_model.proofs.PllLaws.{at_place}
 
 -- ---- the roots and the orphans
 
@@ -89,7 +90,7 @@ top_inside t k n None tree size at = tt
 top_inside t k n (Some c) tree size at =
     subst (λ (m : ℕ). c.0 < m) size
     (order_below t.defs t.clocks t.order t.rates tree c.0
-    (elim (in_append c.0 (roots t.defs t.order) (orphans t.defs t.order t.clocks) (get_in (roots t.defs t.order ++ orphans t.defs t.order t.clocks) k c.0 (sym at))) [
+    (elim (in_append c.0 (roots t.defs t.order) (orphans t.defs t.order t.clocks) (at_place (roots t.defs t.order ++ orphans t.defs t.order t.clocks) k c.0 (sym at))) [
       | inl root ↦ is_in-filter (λ d. is_fixed (kind_of t.defs d)) c.0 t.order root
       | inr orphan ↦ is_in-filter (is_orphan t.defs t.clocks) c.0 t.order orphan
     ]))

@@ -14,7 +14,7 @@ use Rattle.kind_math.specs.Choices.{least, greatest_of}
 use Rattle.kind_math.specs.Dividers.{IsDividerWidth, valid_fields, valid_divisors, least_or_greatest, div_round}
 use Rattle.kind_math.proofs.Chosen.{IsIn, min_prefers, filter_none, reduce_is}
 use Rattle.kind_math.proofs.Ranges.{greatest_of_range, least_or_greatest-map, chosen_keeps}
-use Rattle.kind_math.proofs.DivisorLaws.{Divides, valid_divide, divisor_keeps_order, divisor_rises, valid_fields_some, round_by_field}
+use Rattle.kind_math.proofs.DivisorLaws.{Divides, valid_divide, divisor_keeps_order, divisor_rises, valid_fields_some, round_by_field, two-le-pow}
 use Rattle.kind_math.proofs.Quotients.{ceil-le, ceil-reaches}
 use Rattle.clk_model.specs.Round.{most_rate}
 use Rattle.clk_model.proofs.Members.{same_from_test}
@@ -136,14 +136,11 @@ greatest_none xs = ap (λ ys. unwrap_or (reduce min ys) (greatest_of xs)) (filte
   each [] = tt
   each (y ∷ ys) = (refl, each ys)
 
-two_to : (width : ℕ) → 1 ≤ width → 2 ≤ 2 ^ width
-two_to width some = pow-le-pow_right {n = 2} (omega arith) {i = 1} {j = width} some
-
 greatest_field : (style : DivStyle) (width : ℕ) → IsDividerWidth style width → greatest_of (valid_fields style width) ≡ 2 ^ width - 1
 unfolding valid_fields
 greatest_field Plain width right = greatest_of_range 0 (2 ^ width) (pow_pos width) ∙ omega arith
 greatest_field OneBased width right =
-    let two = two_to width right.0 in
+    let two = two-le-pow width right.0 in
     greatest_of_range 1 (2 ^ width - 1) (omega (arith, two)) ∙ omega (arith, two)
 greatest_field PowerOfTwo width right = greatest_of_range 0 (2 ^ width) (pow_pos width) ∙ omega arith
 
@@ -197,5 +194,5 @@ none_product style x field end above = filter_none (λ i. nat_le (x * i) most_ra
 -- the last field is none before the first
 pub last_field : (style : DivStyle) (width : ℕ) → IsDividerWidth style width → first_field style ≤ 2 ^ width - 1
 last_field Plain width right = omega arith
-last_field OneBased width right = let two = two_to width right.0 in omega arith
+last_field OneBased width right = let two = two-le-pow width right.0 in omega arith
 last_field PowerOfTwo width right = omega arith

@@ -14,6 +14,7 @@ use Rattle.clk_tree.specs.Plans.{chain_of}
 use Rattle.rate_planner.specs.Chains.{step_of}
 use Rattle.rate_planner.specs.Outcomes.{rates_within}
 use Rattle.rate_planner.specs.Walks.{kid_rate}
+use Rattle.clk_tree.proofs.Along.{none_left}
 
 -- ---- what a bank tells
 
@@ -52,13 +53,6 @@ pub length-chain : (steps : List ChainStep) → length (chain_of steps) ≡ leng
 length-chain [] = refl
 length-chain (s ∷ steps) = let rest = length-chain steps in omega arith
 
--- behind all nothing is left
-pub nothing_left : {X : Type 0} (xs : List X) (k : ℕ) → length xs ≤ k → drop k xs ≡ []
-nothing_left [] zero few = refl
-nothing_left [] (suc k) few = refl
-nothing_left (x ∷ xs) zero few = absurd (omega arith)
-nothing_left (x ∷ xs) (suc k) few = nothing_left xs k (omega arith)
-
 -- ---- boundaries
 
 -- whether the next rate keeps the boundaries of its clock
@@ -85,7 +79,7 @@ within_passes view steps rates place d e t whole less sizes is passes left =
 pub within_ends : (view : View) (steps : List ChainStep) (rates : List ℕ) (place : ℕ) (whole : Bool) → length steps ≤ place
     → rates_within view (drop place (chain_of steps)) (drop place rates) ≡ whole → true ≡ whole
 within_ends view steps rates place whole past left =
-    sym (ap (λ (ks : List state.ChainStep). rates_within view ks (drop place rates)) (nothing_left (chain_of steps) place (let size = length-chain steps in omega arith))) ∙ left
+    sym (ap (λ (ks : List state.ChainStep). rates_within view ks (drop place rates)) (none_left (chain_of steps) place (let size = length-chain steps in omega arith))) ∙ left
 
 -- ---- the rate of a child
 
@@ -110,7 +104,7 @@ kid_passed defs regs steps rates place c parent d whole less sizes is left =
 pub kid_ends : (defs : Description) (regs : Registers) (steps : List ChainStep) (rates : List ℕ) (place c parent whole : ℕ) → length steps ≤ place
     → kid_rate defs regs (drop place (chain_of steps)) (drop place rates) c parent ≡ whole → kid_rate defs regs [] [] c parent ≡ whole
 kid_ends defs regs steps rates place c parent whole past left =
-    sym (ap (λ (ks : List state.ChainStep). kid_rate defs regs ks (drop place rates) c parent) (nothing_left (chain_of steps) place (let size = length-chain steps in omega arith))) ∙ left
+    sym (ap (λ (ks : List state.ChainStep). kid_rate defs regs ks (drop place rates) c parent) (none_left (chain_of steps) place (let size = length-chain steps in omega arith))) ∙ left
 
 -- ---- moving away
 
@@ -132,4 +126,4 @@ moves_passed clocks steps place c d whole less is left =
 
 pub moves_ends : (clocks : List ClockRow) (steps : List ChainStep) (place c : ℕ) (whole : Bool) → length steps ≤ place → moves_away clocks (drop place (chain_of steps)) c ≡ whole → false ≡ whole
 moves_ends clocks steps place c whole past left =
-    sym (ap (λ (ks : List state.ChainStep). moves_away clocks ks c) (nothing_left (chain_of steps) place (let size = length-chain steps in omega arith))) ∙ left
+    sym (ap (λ (ks : List state.ChainStep). moves_away clocks ks c) (none_left (chain_of steps) place (let size = length-chain steps in omega arith))) ∙ left

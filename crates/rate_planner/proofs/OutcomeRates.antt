@@ -39,6 +39,7 @@ use Rattle.rate_planner.specs.Given.{CanScale}
 use Rattle.rate_planner.specs.Outcomes.{set_rate, out_rate}
 use Rattle.rate_planner.proofs.Scaling.{can_scale}
 use Rattle.clk_model.proofs.SettingLaws.{div_setting-fits}
+use Rattle.clk_model.proofs.GateRateLaws.{scales_is_field}
 
 -- ---- a tree over a bank that has its words
 
@@ -84,15 +85,6 @@ above_all w k (l ∷ ks) leads has =
 
 -- ---- one setting
 
--- the field by which a clock scales is its field
-pub scales_field : (kind : Kind) (f : Field) → scales_by kind ≡ Some f → field_of kind ≡ Some f
-scales_field (FixedRate rate) f e = absurd cc
-scales_field (Factor mult div) f e = absurd cc
-scales_field (Gate word bit set_to_disable) f e = absurd cc
-scales_field (Mux word shift width read_only) f e = absurd cc
-scales_field (Divider word shift width one_based power_of_two) f e = e
-scales_field (Pll word shift width power_word power_bit least most m) f e = e
-
 pub if_field : (o : Option Field) (P : Field → Type 0) → ((g : Field) → o ≡ Some g → P g) → IfSome o P
 if_field None P some = tt
 if_field (Some g) P some = some g refl
@@ -112,7 +104,7 @@ one_leaves words k u d valid one out =
     (λ a other. ap (λ (r : ClockRow). option_map (λ p. p.0) r.link) (one.others a (λ same. other (sym same)))) out
     ∙ writes_leave_rates u.defs u.regs (set_one k u).regs u.clocks d
     (λ a m f e. one.fields f (if_field (field_of (kind_of u.defs k.clock)) (LieApart f)
-    (λ g at. fields_apart words u.defs valid a 0 f k.clock 0 g (field-field (kind_of u.defs a) f (scales_field (kind_of u.defs a) f e)) (field-field (kind_of u.defs k.clock) g at)
+    (λ g at. fields_apart words u.defs valid a 0 f k.clock 0 g (field-field (kind_of u.defs a) f (scales_is_field (kind_of u.defs a) f e)) (field-field (kind_of u.defs k.clock) g at)
     (λ same. absurd (other_member k.clock a (path u.clocks d) out m (sym same))))))
 
 -- what a mux selects doesn't scale it

@@ -15,13 +15,13 @@ use Rattle.clk_model.specs.Walk.{kids_after, top_of, below_within}
 use Rattle.clk_model.proofs.Members.{same_from_test}
 use Rattle.clk_tree.specs.Plans.{ClockRate}
 use Rattle.clk_tree.specs.TreeState.{TreeState, IsTree}
-use Rattle.clk_tree.proofs.Rows.{registered-lt}
 use Rattle.rate_planner.specs.Kept.{KeepsRates, wired, Always, Told}
 use Rattle.rate_planner.specs.Outcomes.{out_rates, set_rate}
 use Rattle.rate_planner.specs.Walks.{at_rate, AreWalked, Walks, walked_rates, parent_chain}
 use Rattle.rate_planner.proofs.WholeOutcome.{IsChain, rates_out}
 use Rattle.rate_planner.proofs.Planning.{walked_whole}
 use Rattle.rate_planner.proofs.ListSteps.{told_both}
+use Rattle.clk_model.proofs.StateLaws.{registered_lt}
 
 -- the step of a clock with a new parent
 abbrev pub to_parent : ℕ → ℕ → ℕ → state.ChainStep
@@ -36,7 +36,7 @@ one_step words defs regs t c r p valid fits tree there possible = record {
   leads = tt;
   parents = (record { possible = λ q e. let same : p ≡ q = cc in ap (λ (x : ℕ). is_in x (parents_of defs c)) (sym same) ∙ possible; none = λ e. absurd cc }, tt);
   once = refl;
-  within = (let below : c < length t.clocks = registered-lt t.clocks c there in let rows = tree.rows in omega arith, tt);
+  within = (let below : c < length t.clocks = registered_lt t.clocks c there in let rows = tree.rows in omega arith, tt);
 }
 
 -- another parent than the link is a move

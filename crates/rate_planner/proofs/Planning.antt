@@ -24,15 +24,15 @@ use Rattle.clk_model.proofs.WalkLaws.{kids_are, links_after}
 use Rattle.clk_tree.specs.declared.chain.ChainStep.{ChainStep}
 use Rattle.clk_tree.specs.Plans.{ClockRate, chain_of}
 use Rattle.clk_tree.specs.TreeState.{TreeState, IsTree}
-use Rattle.clk_tree.proofs.Rows.{registered-lt}
 use Rattle.rate_planner.specs.Chains.{step_of, IsThere}
 use Rattle.rate_planner.specs.Kept.{KeepsRates, wired, Always, Told}
 use Rattle.rate_planner.specs.Outcomes.{out_rate, out_rates, first_or, rates_within}
 use Rattle.rate_planner.specs.Walks.{at_rate, AreWalked, Walks, kid_rate, walked_rates}
 use Rattle.clk_model.proofs.PlanLaws.{Climbs, climbs_within}
-use Rattle.rate_planner.proofs.OutcomeRates.{scales_field}
 use Rattle.rate_planner.proofs.WholeOutcome.{IsChain, chain_differs, chain_planned, outside_chain, rates_out}
 use Rattle.rate_planner.proofs.ListSteps.{told_both, steps_left, length-chain}
+use Rattle.clk_model.proofs.GateRateLaws.{scales_is_field}
+use Rattle.clk_model.proofs.StateLaws.{registered_lt}
 
 -- ---- the rates that come out, one by one
 
@@ -69,7 +69,7 @@ first_same rs rs' place r same = ap (λ (xs : List ℕ). first_or (drop place xs
 steps_within : (defs : Description) (t : TreeState) (steps : List ChainStep) → length t.clocks ≡ length defs → All (IsThere t.clocks) steps → AllByRecursion (λ k. k.clock < length defs) (chain_of steps)
 steps_within defs t [] rows each = tt
 steps_within defs t (s ∷ steps) rows each = (
-  let here = (each 0 s (omega arith)).clock in let below : s.clock.0 < length t.clocks = registered-lt t.clocks s.clock.0 here in omega arith,
+  let here = (each 0 s (omega arith)).clock in let below : s.clock.0 < length t.clocks = registered_lt t.clocks s.clock.0 here in omega arith,
   steps_within defs t steps rows (λ i d less. each (suc i) d (omega arith)),
 )
 
@@ -147,7 +147,7 @@ outcome_walked words defs regs t ks is p d m =
       | inl there ↦ kid_in_chain defs regs (rate_in v) ks d (rate_in v p) there
       | inr out ↦
           kid_outside defs regs (map (λ k. rate_in v k.clock) ks) ks d (rate_in v p) out
-          ∙ sym (over ∙ over_same (kind_of defs d) regs v.regs (λ f e. differs.fields f (outside_chain words defs d f ks is.ground.wired.valid (scales_field (kind_of defs d) f e) out)) (rate_in v p))
+          ∙ sym (over ∙ over_same (kind_of defs d) regs v.regs (λ f e. differs.fields f (outside_chain words defs d f ks is.ground.wired.valid (scales_is_field (kind_of defs d) f e) out)) (rate_in v p))
     ])
 
 last_of : (f : ℕ → ℕ) (ks : List state.ChainStep) → 0 < length ks → f (top_of ks) ≡ slice_index (map (λ k. f k.clock) ks) (length (map (λ k. f k.clock) ks) - 1)

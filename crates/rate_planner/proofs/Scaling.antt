@@ -6,13 +6,7 @@ use Rattle.clk_base.specs.declared.clock.Kind.TheVariants.{FixedRate, Factor, Ga
 use Rattle.clk_base.specs.Description.{Description, kind_of, parents_of}
 use Rattle.clk_base.specs.Valid.{IsValid, has_ranges, is_width, ranges}
 use Rattle.rate_planner.specs.Given.{CanScale}
-
--- a field that is at most so wide
-width_within : (most width : ℕ) → is_width most width ≡ true → (1 ≤ width) × (width ≤ most)
-width_within most width ranged =
-    let parts = and_parts _ _ ranged in
-    let some : 0 < width = ltb-true 0 width parts.0 in
-    (omega arith, leb-true width most parts.1)
+use Rattle.clk_model.proofs.SettingLaws.{is_wide}
 
 -- a kind whose parameters are in their ranges
 scale_kind : (parents : ℕ) (kind : Kind) → has_ranges kind parents ≡ true → CanScale kind
@@ -20,9 +14,9 @@ scale_kind parents (FixedRate rate) ranged = tt
 scale_kind parents (Factor mult div) ranged = let parts = and_parts _ _ ranged in (ltb-true 0 mult parts.0, ltb-true 0 div parts.1)
 scale_kind parents (Gate word bit set_to_disable) ranged = tt
 scale_kind parents (Mux word shift width read_only) ranged = tt
-scale_kind parents (Divider word shift width one_based true) ranged = width_within 5 width (and_parts _ _ ranged).0
-scale_kind parents (Divider word shift width true false) ranged = width_within 16 width ranged
-scale_kind parents (Divider word shift width false false) ranged = width_within 16 width ranged
+scale_kind parents (Divider word shift width one_based true) ranged = is_wide 5 width (and_parts _ _ ranged).0
+scale_kind parents (Divider word shift width true false) ranged = is_wide 16 width ranged
+scale_kind parents (Divider word shift width false false) ranged = is_wide 16 width ranged
 scale_kind parents (Pll word shift width power_word power_bit least most m) ranged =
     let up = and_parts _ _ (and_parts _ _ ranged).0 in
     let some = and_parts _ _ (and_parts _ _ up.0).0 in

@@ -23,11 +23,11 @@ use Rattle.clk_tree.specs.declared.chain.ChainStep.{ChainStep}
 use Rattle.clk_tree.specs.declared.walk_rates.WalkRate.{WalkRate}
 use Rattle.clk_tree.specs.Plans.{ClockRate, chain_of, rates_of}
 use Rattle.clk_tree.specs.TreeState.{TreeState, IsTree}
-use Rattle.clk_tree.proofs.Along.{get_in}
 use Rattle.clk_tree.proofs.Rows.{order-few}
 use Rattle.rate_planner.specs.Chains.{step_of}
 use Rattle.rate_planner.specs.Walks.{at_rate, AreThere, AreWalked, Walks, kid_rate, stays}
 use Rattle.rate_planner.proofs.ListSteps.{told_both, told_always, steps_left}
+use Rattle.clk_model.proofs.PllLaws.{at_place}
 
 -- ---- rates that are added
 
@@ -228,7 +228,7 @@ movers_whole f clocks ks k c few = ap (λ (ls : List state.ChainStep). flat_map 
 pub child_listed : (defs : Description) (clocks : List ClockRow) (order rates : List ℕ) (p k d : ℕ) → IsTree defs clocks order rates → slice_get (children order clocks p) k ≡ Some d
     → (is_in d (children order clocks p) ≡ true) × (registered clocks d ≡ true)
 child_listed defs clocks order rates p k d tree at =
-    let m = get_in (children order clocks p) k d at in
+    let m = at_place (children order clocks p) k d at in
     (m, sym (tree.order_lists.listed d) ∙ is_in-filter (λ c. is_at p (link_in clocks c)) d order m)
 
 -- so is the child that comes

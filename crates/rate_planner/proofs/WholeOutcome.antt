@@ -22,9 +22,12 @@ use Rattle.clk_model.proofs.ApartLaws.{fields_apart}
 use Rattle.clk_model.proofs.OutcomeLaws.{FitsKind, SetsOne, sets_one, differs_in}
 use Rattle.clk_model.proofs.SettingLaws.{settings_fit}
 use Rattle.clk_model.proofs.RateLaws.{rates_are_over_links}
-use Rattle.clk_model.proofs.WalkLaws.{links_after, Planned_}
+use Rattle.clk_model.proofs.WalkLaws.{links_after, Planned_, not_moving}
 use Rattle.rate_planner.specs.Outcomes.{out_rate, out_rates, first_or}
-use Rattle.rate_planner.proofs.OutcomeRates.{IsGround, OverRest, off_path, above_all, one_leaves, own_rate, if_field, link_row, link_back, scales_field}
+use Rattle.rate_planner.proofs.OutcomeRates.{IsGround, OverRest, off_path, above_all, one_leaves, own_rate, if_field, link_row, link_back}
+use Rattle.clk_model.proofs.ChainStepLaws.{AllSteps-more}
+use Rattle.clk_model.proofs.WalkOrderLaws.{tail_leads}
+use Rattle.clk_model.proofs.GateRateLaws.{scales_is_field}
 
 -- a chain over a tree, before its boundaries are looked at
 pub record IsChain (words : ℕ) (order : List ℕ) (w : Wiring) (ks : List ChainStep) : Type 0 where
@@ -35,15 +38,11 @@ pub record IsChain (words : ℕ) (order : List ℕ) (w : Wiring) (ks : List Chai
   pub once : none_twice (clocks_in ks) ≡ true
   pub within : AllByRecursion (λ k. k.clock < length w.defs) ks
 
-leads_rest : (k : ChainStep) (ks : List ChainStep) → LeadsUp (k ∷ ks) → LeadsUp ks
-leads_rest k [] leads = tt
-leads_rest k (l ∷ ks) leads = leads.1
-
 chain_rest : (words : ℕ) (order : List ℕ) (w : Wiring) (k : ChainStep) (ks : List ChainStep) → IsChain words order w (k ∷ ks) → IsChain words order w ks
 chain_rest words order w k ks chain = record {
   ground = chain.ground;
   ordered = chain.ordered;
-  leads = leads_rest k ks chain.leads;
+  leads = tail_leads k ks chain.leads;
   parents = chain.parents.1;
   once = (once_head k.clock (clocks_in ks) chain.once).1;
   within = chain.within.1;
@@ -73,22 +72,9 @@ outside_chain words defs c f (l ∷ ks) valid at out =
       outside_chain words defs c f ks valid at parts.1,
     )
 
-each_step : (P Q : ChainStep → Type 0) (ks : List ChainStep) → ((k : ChainStep) → P k → Q k) → AllByRecursion P ks → AllByRecursion Q ks
-each_step P Q [] more each = tt
-each_step P Q (k ∷ ks) more each = (more k each.0, each_step P Q ks more each.1)
-
 map_each : (f g : ChainStep → ℕ) (ks : List ChainStep) → AllByRecursion (λ k. f k ≡ g k) ks → map f ks ≡ map g ks
 map_each f g [] each = refl
 map_each f g (k ∷ ks) each = ap (λ (n : ℕ). n ∷ map f ks) each.0 ∙ ap (λ (ns : List ℕ). g k ∷ ns) (map_each f g ks each.1)
-
-same_parent : (o q : Option ℕ) → not (same_place o q) ≡ false → o ≡ q
-same_parent None None e = refl
-same_parent None (Some y) e = absurd cc
-same_parent (Some x) None e = absurd cc
-same_parent (Some x) (Some y) e = ap (λ (n : ℕ). Some n) (same_from_test x y (turned (nat_eq x y) e)) where
-  turned : (t : Bool) → not t ≡ false → t ≡ true
-  turned true e' = refl
-  turned false e' = absurd cc
 
 -- ---- one step over the rest
 
@@ -125,7 +111,7 @@ over_chain words order w k ks chain =
         defs = differs.defs;
         words_ = differs.words;
         link = ap (λ (r : ClockRow). option_map (λ p. p.0) r.link) row;
-        scales = λ f e. differs.fields f (outside_chain words w.defs k.clock f ks chain.ground.wired.valid (scales_field (kind_of w.defs k.clock) f e) out);
+        scales = λ f e. differs.fields f (outside_chain words w.defs k.clock f ks chain.ground.wired.valid (scales_is_field (kind_of w.defs k.clock) f e) out);
         within = chain.within.0;
       };
       before = links_after words order w ks u (chain_planned words order w ks tail);
@@ -151,7 +137,7 @@ over_own words order w k u over =
     ∙ ap (λ (o : Option ℕ). rate_over (kind_of w.defs k.clock) v.regs (option_map_or (rate_in v) o 0)) (ap link_row (over.one.link over.row) ∙ link_back k.parent)
     ∙ ap (λ (r : ℕ). rate_over (kind_of w.defs k.clock) v.regs r) (parent_same k.parent refl)
     ∙ own_rate words w k u (option_map_or (rate_in u) k.parent 0) over.rest over.has.none
-    (λ stays. ap (λ (o : Option ℕ). option_map_or (rate_in u) o 0) (over.rest.link ∙ sym (same_parent k.parent (link_in w.clocks k.clock) stays))) where
+    (λ stays. ap (λ (o : Option ℕ). option_map_or (rate_in u) o 0) (over.rest.link ∙ sym (not_moving k.parent (link_in w.clocks k.clock) stays))) where
       parent_same : (o : Option ℕ) → k.parent ≡ o → option_map_or (rate_in (set_one k u)) o 0 ≡ option_map_or (rate_in u) o 0
       parent_same None up = refl
       parent_same (Some p) up = over_leaves words order w k u p p over up (inl refl)
@@ -160,7 +146,7 @@ rest_stays : (words : ℕ) (order : List ℕ) (w : Wiring) (k : ChainStep) (ks :
     → AllByRecursion (λ l. rate_in u l.clock ≡ rate_in (set_one k u) l.clock) ks
 rest_stays words order w k [] u over leads has = tt
 rest_stays words order w k (l ∷ ks) u over leads has =
-    each_step (λ m. IsAbove (parents_of w.defs) l.clock m.clock) (λ m. rate_in u m.clock ≡ rate_in (set_one k u) m.clock) (l ∷ ks)
+    AllSteps-more (λ m. IsAbove (parents_of w.defs) l.clock m.clock) (λ m. rate_in u m.clock ≡ rate_in (set_one k u) m.clock) (l ∷ ks)
     (λ m above. sym (over_leaves words order w k u l.clock m.clock over leads.0 above)) (above_all w l ks leads.1 has)
 
 -- ---- the whole chain

@@ -16,12 +16,8 @@ use Rattle.rate_requests.specs.Spans.{has_number, misses_span, span_of, spans_fr
 use Rattle.rate_requests.specs.Kept.{IsKept}
 use Rattle.rate_requests.proofs.Recorded.{handle_at-get_or, length-handles_of}
 use Rattle.rate_requests.proofs.Spanned.{swapped, spans_from-set, spans_from-kept, spans_from-push, replaced_at, map-spans_from, any-spans_from, any-swapped}
-
-pub same_test : (a : ℕ) → nat_eq a a ≡ true
-same_test a = grind (arith, nat_tests)
-
-other_test : (a b : ℕ) → (a ≡ b → ⊥) → nat_eq a b ≡ false
-other_test a b other = grind (arith, nat_tests)
+use Rattle.clk_model.proofs.Members.{test_same}
+use Rattle.clk_model.proofs.AboveLaws.{differs}
 
 -- a handle that changes, or goes, changes the ranges of its clock alone
 pub kept_turned : (made : ℕ) (old new : List (Option Held)) (spans : List (List Span)) (n : ℕ) (row : Option HandleRow) (h : HandleRow) (f : List Span → List Span)
@@ -40,14 +36,14 @@ kept_turned made old new spans n row h f kept turned at elsewhere none replaces 
       (replaced_at spans h.clock.0 f none
       ∙ ap f (kept.ranges h.clock.0)
       ∙ replaces (spans_from h.clock.0 0 (handles_of old made))
-      ∙ sym (spans_from-set h.clock.0 0 n n (handles_of old made) row h (omega arith) there (same_test h.clock.0))
+      ∙ sym (spans_from-set h.clock.0 0 n n (handles_of old made) row h (omega arith) there (test_same h.clock.0))
       ∙ ap (spans_from h.clock.0 0) (sym turned.handles)))
       (λ (other : h.clock.0 ≡ k → ⊥).
       get_or-set_other spans h.clock.0 k (f (get_or spans h.clock.0 [])) [] (λ e. other (sym e))
       ∙ kept.ranges k
       ∙ sym (spans_from-kept k 0 n (handles_of old made) row (Some h) there
-      (λ x. elsewhere k x (other_test h.clock.0 k other)
-      ∙ sym (ap (λ (t : Bool). cond t (record { number = x; min = h.min; max = h.max } ∷ []) []) (other_test h.clock.0 k other))))
+      (λ x. elsewhere k x (differs h.clock.0 k other)
+      ∙ sym (ap (λ (t : Bool). cond t (record { number = x; min = h.min; max = h.max } ∷ []) []) (differs h.clock.0 k other))))
       ∙ ap (spans_from k 0) (sym turned.handles))
       (cases_eq h.clock.0 k)
 
@@ -83,7 +79,7 @@ misses_kept made slots spans n least most h kept at =
     (sym (any-swapped (misses_span least most) n (get_or spans h.clock.0 []))
     ∙ ap (λ (ss : List Span). list_any (misses_span least most) (swapped n [] ss)) (kept.ranges h.clock.0)
     ∙ ap (list_any (misses_span least most))
-    (sym (spans_from-set h.clock.0 0 n n hs None h (omega arith) (sym (handle_at-get_or hs n) ∙ at) (same_test h.clock.0)))
+    (sym (spans_from-set h.clock.0 0 n n hs None h (omega arith) (sym (handle_at-get_or hs n) ∙ at) (test_same h.clock.0)))
     ∙ any-spans_from (misses_span least most) (λ o. nat_lt o.max least || nat_lt most o.min) (λ k o. refl) h.clock.0 0 (set hs n None))
 
 -- a new one comes last among those of its clock
@@ -114,11 +110,11 @@ kept_added made old new spans row kept added within = record { records = added.r
       (get_or-set_same spans row.clock.0 (get_or spans row.clock.0 [] ++ record { number = made; min = row.min; max = row.max } ∷ []) [] within
       ∙ ap (λ (ss : List Span). ss ++ record { number = made; min = row.min; max = row.max } ∷ []) (kept.ranges row.clock.0)
       ∙ sym (behind row.clock.0
-      ∙ ap (λ (t : Bool). spans_from row.clock.0 0 (handles_of old made) ++ cond t (record { number = made; min = row.min; max = row.max } ∷ []) []) (same_test row.clock.0))))
+      ∙ ap (λ (t : Bool). spans_from row.clock.0 0 (handles_of old made) ++ cond t (record { number = made; min = row.min; max = row.max } ∷ []) []) (test_same row.clock.0))))
       (λ (other : row.clock.0 ≡ k → ⊥).
       get_or-set_other spans row.clock.0 k (get_or spans row.clock.0 [] ++ record { number = made; min = row.min; max = row.max } ∷ []) [] (λ e. other (sym e))
       ∙ kept.ranges k
       ∙ sym (behind k
-      ∙ ap (λ (t : Bool). spans_from k 0 (handles_of old made) ++ cond t (record { number = made; min = row.min; max = row.max } ∷ []) []) (other_test row.clock.0 k other)
+      ∙ ap (λ (t : Bool). spans_from k 0 (handles_of old made) ++ cond t (record { number = made; min = row.min; max = row.max } ∷ []) []) (differs row.clock.0 k other)
       ∙ nothing (spans_from k 0 (handles_of old made))))
       (cases_eq row.clock.0 k)

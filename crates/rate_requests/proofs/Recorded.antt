@@ -8,6 +8,8 @@ use Rattle.clk_model.specs.declared.row.HandleRow.{HandleRow}
 use Rattle.clk_model.specs.State.{handle_at}
 use Rattle.rate_requests.specs.declared.held.Held.{Held}
 use Rattle.rate_requests.specs.Records.{is_numbered, by_number, handles_of, slot_at, AreRecords, Turned, Added}
+use Rattle.clk_model.proofs.Members.{same_from_test, test_same}
+use Rattle.clk_model.proofs.AboveLaws.{differs}
 
 -- ---- one number
 
@@ -17,19 +19,10 @@ some_same x y e = cc
 pub some_not_none : {X : Type 0} (x : X) → Some x ≡ None → ⊥
 some_not_none x e = cc
 
-same_number : (a b : ℕ) → nat_eq a b ≡ true → a ≡ b
-same_number a b e = grind (arith, nat_tests)
-
-same_test : (a : ℕ) → nat_eq a a ≡ true
-same_test a = grind (arith, nat_tests)
-
-other_test : (a b : ℕ) → (a ≡ b → ⊥) → nat_eq a b ≡ false
-other_test a b other = grind (arith, nat_tests)
-
 -- a slot with the number has a record of it
 pub numbered_record : (n : ℕ) (slot : Option Held) → is_numbered n slot ≡ true → (h : Held) × (slot ≡ Some h) × (h.number ≡ n)
 numbered_record n None e = absurd (false≢true e)
-numbered_record n (Some h) e = (h, refl, same_number h.number n e)
+numbered_record n (Some h) e = (h, refl, same_from_test h.number n e)
 
 -- where no slot has the number there is no row of it
 pub by_number-none : (n : ℕ) (slots : List (Option Held)) → ((k : ℕ) → is_numbered n (slot_at slots k) ≡ false) → by_number n slots ≡ None
@@ -47,11 +40,11 @@ by_number-at n (suc k) h (None ∷ slots) at is once =
     by_number-at n k h slots at is (λ j g at' is'. let same : suc k ≡ suc j = once (suc j) g at' is' in omega arith)
 by_number-at n zero h (Some g ∷ slots) at is once =
     let same : g ≡ h = some_same g h at in
-    ap (λ (t : Bool). cond t (Some g.row) (by_number n slots)) (ap (λ (x : Held). nat_eq x.number n) same ∙ ap (λ (m : ℕ). nat_eq m n) is ∙ same_test n)
+    ap (λ (t : Bool). cond t (Some g.row) (by_number n slots)) (ap (λ (x : Held). nat_eq x.number n) same ∙ ap (λ (m : ℕ). nat_eq m n) is ∙ test_same n)
     ∙ ap (λ (x : Held). Some x.row) same
 by_number-at n (suc k) h (Some g ∷ slots) at is once =
     ap (λ (t : Bool). cond t (Some g.row) (by_number n slots))
-    (other_test g.number n (λ e. let same : suc k ≡ 0 = once 0 g refl e in omega arith))
+    (differs g.number n (λ e. let same : suc k ≡ 0 = once 0 g refl e in omega arith))
     ∙ by_number-at n k h slots at is (λ j g' at' is'. let same : suc k ≡ suc j = once (suc j) g' at' is' in omega arith)
 
 -- either some slot has the number, or none has
@@ -71,7 +64,7 @@ numbered_or_none n (Some h ∷ slots) =
     (λ (other : h.number ≡ n → ⊥).
     elim (numbered_or_none n slots) [
       | inl found ↦ inl (suc found.0, found.1)
-      | inr none ↦ inr (behind (Some h) (other_test h.number n other) none)
+      | inr none ↦ inr (behind (Some h) (differs h.number n other) none)
     ])
     (cases_eq h.number n) where
       behind : (slot : Option Held) → is_numbered n slot ≡ false → ((k : ℕ) → is_numbered n (slot_at slots k) ≡ false) → (k : ℕ) → is_numbered n (slot_at (slot ∷ slots) k) ≡ false
@@ -156,7 +149,7 @@ record_here n (Some r) slot h here at = ap (λ (g : Held). g.number) (some_same 
 
 not_numbered : (n : ℕ) (slot : Option Held) → ((h : Held) → slot ≡ Some h → h.number ≡ n → ⊥) → is_numbered n slot ≡ false
 not_numbered n None none = refl
-not_numbered n (Some h) none = other_test h.number n (λ e. none h refl e)
+not_numbered n (Some h) none = differs h.number n (λ e. none h refl e)
 
 -- a record is in the slot that changed, or was there before
 where_now : (old new : List (Option Held)) (n : ℕ) (row : Option HandleRow) (change : ChangesSlot old new n row) (k : ℕ) (h : Held) → slot_at new k ≡ Some h
@@ -222,7 +215,7 @@ changed_others old new n made more row change before after m other =
           ∙ sym (by_number-none m old none)
     ] where
       some_number : (x : ℕ) (h : Held) → is_numbered x (Some h) ≡ false → h.number ≡ x → ⊥
-      some_number x h e is = false≢true (sym e ∙ ap (λ (y : ℕ). nat_eq y x) is ∙ same_test x)
+      some_number x h e is = false≢true (sym e ∙ ap (λ (y : ℕ). nat_eq y x) is ∙ test_same x)
 
 -- a change of one slot turns the row of its number
 pub changed_turns : (old new : List (Option Held)) (n made : ℕ) (row : Option HandleRow) → ChangesSlot old new n row → AreRecords made old → n < made → Turned made old new n row

@@ -10,6 +10,8 @@ use Rattle.clk_model.specs.declared.row.HandleRow.{HandleRow}
 use Rattle.rate_requests.specs.declared.span.Span.{Span}
 use Rattle.rate_requests.specs.Handles.{rows_on}
 use Rattle.rate_requests.specs.Spans.{lists, has_number, with_range, span_of, spans_from}
+use Rattle.clk_model.proofs.Members.{test_same}
+use Rattle.clk_model.proofs.AboveLaws.{differs}
 
 -- ---- one handle changes
 
@@ -18,18 +20,12 @@ abbrev pub swapped : ℕ → List Span → List Span → List Span
 swapped m new [] = []
 swapped m new (s ∷ ss) = cond (nat_eq s.number m) (new ++ swapped m new ss) (s ∷ swapped m new ss)
 
-other_test : (a b : ℕ) → (a ≡ b → ⊥) → nat_eq a b ≡ false
-other_test a b other = grind (arith, nat_tests)
-
-same_test : (a : ℕ) → nat_eq a a ≡ true
-same_test a = grind (arith, nat_tests)
-
 -- a range in front of others stays where it has another number
 swapped-other : (m : ℕ) (new ss : List Span) (c k : ℕ) (o : Option HandleRow) → (k ≡ m → ⊥) → swapped m new (span_of c k o ++ ss) ≡ span_of c k o ++ swapped m new ss
 swapped-other m new ss c k None other = refl
 swapped-other m new ss c k (Some h) other =
     elim (nat_eq h.clock.0 c) as (λ t. swapped m new (cond t (record { number = k; min = h.min; max = h.max } ∷ []) [] ++ ss) ≡ cond t (record { number = k; min = h.min; max = h.max } ∷ []) [] ++ swapped m new ss) [
-      | true ↦ ap (λ (t : Bool). cond t (new ++ swapped m new ss) (record { number = k; min = h.min; max = h.max } ∷ swapped m new ss)) (other_test k m other)
+      | true ↦ ap (λ (t : Bool). cond t (new ++ swapped m new ss) (record { number = k; min = h.min; max = h.max } ∷ swapped m new ss)) (differs k m other)
       | false ↦ refl
     ]
 
@@ -51,7 +47,7 @@ spans_from-set c k zero m (g ∷ hs) o h is at here =
     ∙ sym (ap (λ (x : Option HandleRow). swapped m (span_of c m o) (span_of c k x ++ spans_from c (suc k) hs)) at
     ∙ ap (λ (t : Bool). swapped m (span_of c m o) (cond t (record { number = k; min = h.min; max = h.max } ∷ []) [] ++ spans_from c (suc k) hs)) here
     ∙ ap (λ (t : Bool). cond t (span_of c m o ++ swapped m (span_of c m o) (spans_from c (suc k) hs)) (record { number = k; min = h.min; max = h.max } ∷ swapped m (span_of c m o) (spans_from c (suc k) hs)))
-    (ap (nat_eq k) same ∙ same_test k))
+    (ap (nat_eq k) same ∙ test_same k))
 spans_from-set c k (suc n) m (g ∷ hs) o h is at here =
     ap (λ (ss : List Span). span_of c k g ++ ss) (spans_from-set c (suc k) n m hs o h (omega arith) at here)
     ∙ sym (swapped-other m (span_of c m o) (spans_from c (suc k) hs) c k g (λ e. absurd (omega arith)))

@@ -15,11 +15,11 @@ use Rattle.clk_model.specs.Script.{adoptable, adoption_order}
 use Rattle.clk_model.specs.Begin.{register, registered_rows}
 use Rattle.clk_model.specs.Wired.{LinesEnd, ListsRegistered}
 use Rattle.clk_model.proofs.OnceLaws.{once_filter, is_in-filter}
-use Rattle.clk_tree.proofs.Along.{get_in}
 use Rattle.clk_tree.proofs.GroupLaws.{order_below}
 use Rattle.orphans.specs.Beside.{AreMarked, has_parent, is_free}
 use Rattle.orphans.proofs.AdoptionLaws.{taken_at, unmarked, one_turn, no_turn, waiting_are}
 use Rattle.orphans.proofs.adopting.adoptable.Goals as goal
+use Rattle.clk_model.proofs.PllLaws.{at_place}
 
 -- the clocks as numbers
 abbrev places : List ClockId → List ℕ
@@ -127,7 +127,7 @@ loop-turn-preserved g c =
       marked = λ regs told.
           let are = c.loop-turn.invariant.marked regs told in
           subst (λ (xs : List ℕ). AreMarked (length c.args.desc.now.defs) (slice_set c.loop-turn.marks.items a.0 false) xs) (taken_at (places left) k a.0 at are.once ∙ sym items)
-          (unmarked (length c.args.desc.now.defs) c.loop-turn.marks.items (places left) a.0 (are.inside a.0 (get_in (places left) k a.0 at)) are);
+          (unmarked (length c.args.desc.now.defs) c.loop-turn.marks.items (places left) a.0 (are.inside a.0 (at_place (places left) k a.0 at)) are);
       adopted = λ s defs clocks order told.
           let are = c.loop-turn.invariant.marked s.regs told in
           let t = register s c.args.new.0 in

@@ -8,8 +8,9 @@ use Rattle.rate_requests.specs.Records.{handles_of}
 use Rattle.rate_requests.specs.Spans.{lists, with_range}
 use Rattle.rate_requests.specs.Kept.{IsKept}
 use Rattle.rate_requests.proofs.Spanned.{swapped, map-with_range}
-use Rattle.rate_requests.proofs.KeptLaws.{same_test, kept_turned}
+use Rattle.rate_requests.proofs.KeptLaws.{kept_turned}
 use Rattle.rate_requests.proofs.requests.Requests.set_range.Goals as goal
+use Rattle.clk_model.proofs.Members.{test_same}
 
 pub invariant_of-self : goal.invariant_of-self
 invariant_of-self c =
@@ -26,4 +27,4 @@ invariant_of-self c =
     (c.write_row.ensures made c.self.invariant.records live) at
     (λ k x e. ap (λ (t : Bool). cond t (span x ∷ []) []) e)
     refl
-    (λ ss. map-with_range n c.args.min c.args.max ss ∙ ap (λ (t : Bool). swapped n (cond t (span n ∷ []) []) ss) (sym (same_test h.clock.0))))
+    (λ ss. map-with_range n c.args.min c.args.max ss ∙ ap (λ (t : Bool). swapped n (cond t (span n ∷ []) []) ss) (sym (test_same h.clock.0))))
