@@ -4,3 +4,4 @@ pub mod Descending
 pub mod PlanWalks
 pub mod Whole
 pub mod Weighing
+pub mod Leading
