@@ -1,10 +1,9 @@
 -- What stands in front of a flight, and that the flight stays the change of the definitions where a step is made.
-use Rattle.std.proofs.Common.{◌≡◌, ℕ, zero, suc, ◌+◌, ◌-◌, ◌<◌, ◌≤◌, ◌&&◌, ◌||◌, Bool, true, false, not, cond, List, [], ◌∷◌, ◌++◌, Option, Some, None, refl, sym, ap, ◌∙◌, subst, arith, length, map, take, drop, nat_eq, nat_lt, nat_le}
-use Rattle.std.specs.Prelude.{slice_get, is_none, option_and_then, if◌then◌else◌}
+use Rattle.std.proofs.Common.{◌≡◌, ℕ, zero, suc, ◌+◌, ◌-◌, ◌<◌, ◌&&◌, ◌||◌, Bool, true, false, cond, List, [], ◌∷◌, ◌++◌, Option, Some, None, refl, sym, ap, ◌∙◌, arith, length, map, take, drop, nat_eq}
+use Rattle.std.specs.Prelude.{slice_get, is_none, option_and_then}
 use Rattle.std.specs.List.{list_any, list_all}
-use Rattle.std.specs.Option.{option_map, option_map_or}
+use Rattle.std.specs.Option.{option_map}
 use Rattle.std.proofs.lemmas.Bool.Decides.{nat_tests}
-use Rattle.std.proofs.lemmas.List.{length-append, length-map}
 use Rattle.std.proofs.lemmas.Option.{slice_get-map}
 use Rattle.clk_base.specs.declared.clock.ClockId.{ClockId}
 use Rattle.clk_base.specs.declared.call.Micro.{Micro}
@@ -17,8 +16,8 @@ use Rattle.clk_model.specs.Laws.Paced.{may_time_out, is_notice}
 use Rattle.clk_model.proofs.Members.{both_left, both_right}
 use Rattle.clk_flight.specs.declared.front.Front.{Front}
 use Rattle.clk_flight.specs.declared.front.Front.TheVariants.{Empty, Poll, Raise, Lower, Falls, Posts}
-use Rattle.clk_flight.specs.Fronts.{is_empty, polls_of, called_off, abort_of, post_to, front_steps, front_aborts, front_count, HasSteps, falls, posts, aborts_behind, front_behind, script_behind}
-use Rattle.clk_flight.specs.Flights.{FlightState, IsChange, fall_or_abort, aborts_over, own_first, seeks_plls}
+use Rattle.clk_flight.specs.Fronts.{is_empty, polls_of, called_off, abort_of, post_to, front_steps, front_aborts, front_count, HasSteps, falls, posts, front_behind, script_behind}
+use Rattle.clk_flight.specs.Flights.{FlightState, IsChange, fall_or_abort, seeks_plls}
 use Rattle.clk_flight.specs.Moves.{gone_on, found_none}
 use Rattle.clk_flight.specs.Steps.{is_taken, GoesOn, FindsNone}
 use Rattle.clk_flight.proofs.KeptLaws.{behind_steps}
@@ -171,9 +170,6 @@ falls_steps_are notifiers script told left = one (nat_eq left 0) refl where
 pub posts_steps_are : (notifiers : List NotifierRow) (script : List Micro) (raised : List ℕ) (c : ClockId) (told left old new : ℕ)
     → front_steps notifiers script raised (posts c told left old new) ≡ take left (drop told (map (post_to c old new) (notifiers_of notifiers c.0)))
 posts_steps_are notifiers script raised c told left old new = one (nat_eq left 0) refl where
-  ms : List Micro
-  ms = map (post_to c old new) (notifiers_of notifiers c.0)
-
   one : (t : Bool) → nat_eq left 0 ≡ t → front_steps notifiers script raised (cond t Empty (Posts c told left old new)) ≡ take left (drop told (map (post_to c old new) (notifiers_of notifiers c.0)))
   one true e =
       let z : left ≡ 0 = grind (arith, nat_tests) in

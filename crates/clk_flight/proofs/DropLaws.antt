@@ -1,10 +1,10 @@
 -- The flight stays the change of the definitions through a fall, a hold and a visit.
-use Rattle.std.proofs.Common.{◌≡◌, ℕ, zero, suc, ◌+◌, ◌-◌, ◌<◌, ◌≤◌, ◌&&◌, ◌||◌, Bool, true, false, not, cond, List, [], ◌∷◌, ◌++◌, Option, Some, None, refl, sym, ap, ◌∙◌, subst, arith, length, map, take, drop, nat_eq, nat_lt, nat_le}
+use Rattle.std.proofs.Common.{◌≡◌, ℕ, suc, ◌+◌, ◌||◌, Bool, true, false, cond, List, [], ◌∷◌, ◌++◌, Some, refl, sym, ap, ◌∙◌, subst, arith, length, map, take, drop, nat_eq}
 use Rattle.std.specs.Prelude.{slice_get, slice_index, is_none, if◌then◌else◌}
 use Rattle.std.specs.List.{list_any, list_all}
-use Rattle.std.specs.Option.{option_map, option_map_or}
+use Rattle.std.specs.Option.{option_map}
 use Rattle.std.proofs.lemmas.Bool.Decides.{nat_tests}
-use Rattle.std.proofs.lemmas.List.{length-append, length-map, append-nil}
+use Rattle.std.proofs.lemmas.List.{length-map, append-nil}
 use Rattle.std.proofs.lemmas.List.Folds.{list_any-append}
 use Rattle.std.proofs.lemmas.Option.{slice_get-map}
 use Rattle.clk_base.specs.declared.clock.ClockId.{ClockId}
@@ -15,14 +15,14 @@ use Rattle.clk_model.specs.State.{State, NotifierRow, Change}
 use Rattle.clk_model.specs.Chain.{clock_id}
 use Rattle.clk_model.specs.Notices.{notifiers_of, post_list}
 use Rattle.clk_model.specs.Rate.{rate}
-use Rattle.clk_model.specs.Step.{todo, taken, rest_of, left_behind, fall, visit, set_in_chain}
+use Rattle.clk_model.specs.Step.{todo, taken, rest_of, left_behind, visit, set_in_chain}
 use Rattle.clk_model.specs.Laws.Paced.{may_time_out, is_notice, IsPaced}
 use Rattle.clk_model.proofs.WeightLaws.{posts_notices}
 use Rattle.clk_flight.specs.declared.front.Front.{Front}
 use Rattle.clk_flight.specs.declared.front.Front.TheVariants.{Empty, Poll, Raise, Lower, Falls, Posts}
-use Rattle.clk_flight.specs.Fronts.{is_empty, called_off, polls_of, post_to, front_steps, front_count, front_aborts, falls, posts, script_behind}
+use Rattle.clk_flight.specs.Fronts.{is_empty, called_off, post_to, front_steps, falls}
 use Rattle.clk_flight.specs.Flights.{FlightState, IsChange, Flies, own_first, own_step}
-use Rattle.clk_flight.specs.Moves.{others, front_fallen, fallen, let_go_of, visited}
+use Rattle.clk_flight.specs.Moves.{fallen, let_go_of, visited}
 use Rattle.clk_flight.specs.Steps.{Drops, LetsGo, Visits, told_by_visit}
 use Rattle.clk_flight.proofs.KeptLaws.{going_step, falls_steps, posts_steps}
 use Rattle.clk_flight.proofs.ChangeLaws.{full, first_in_front, first_of_part, aborts_noticed, first_noticed, posted, in_front, script_first, left_taken, times_out_before, length-rest, falls_polls, posts_polls, posts_count, posts_steps_are, posts_aborts, none_of}
@@ -163,9 +163,6 @@ told_are : (f : FlightState) (s : State) (k : Change) (c : ClockId) (told old ne
     ≡ take told (drop 0 (map (post_to c old new) (notifiers_of s.notifiers c.0)))
 told_are f s k c told old new is was will =
     one (nat_eq (rate s.defs (set_in_chain s k c.0) s.clocks c.0) (slice_index k.before c.0)) is where
-      all : List Micro
-      all = map (post_to c old new) (notifiers_of s.notifiers c.0)
-
       one : (t : Bool) → told ≡ (if t then 0 else length (notifiers_of s.notifiers c.0))
           → (if t then [] else post_list (record { before = k.before; outcome = k.outcome }) s.notifiers c.0) ≡ take told (drop 0 (map (post_to c old new) (notifiers_of s.notifiers c.0)))
       one true n = sym (ap (λ (m : ℕ). take m (drop 0 (map (post_to c old new) (notifiers_of s.notifiers c.0)))) n ∙ none_of (drop 0 (map (post_to c old new) (notifiers_of s.notifiers c.0))))
@@ -223,9 +220,6 @@ visited_still f s k c told old new is first tells was will = record {
   timed_out = is.timed_out;
   aborts = λ may. is.aborts (times_out_before k (in_time may));
 } where
-  here : List Micro
-  here = if nat_eq (rate s.defs (set_in_chain s k c.0) s.clocks c.0) (slice_index k.before c.0) then [] else post_list (record { before = k.before; outcome = k.outcome }) s.notifiers c.0
-
   nil : k.front ≡ []
   nil = (script_first s.notifiers (record f { front = Empty }) k refl is).0
 

@@ -1,7 +1,6 @@
 -- What each step keeps of a flight.
-use Rattle.std.proofs.Common.{◌≡◌, ℕ, zero, suc, ◌+◌, ◌-◌, ◌*◌, ◌<◌, ◌≤◌, ◌^◌, ◌&&◌, Bool, true, false, not, cond, List, [], ◌∷◌, Option, Some, None, refl, sym, ap, ◌∙◌, subst, arith, length, nat_eq, nat_lt, nat_le}
+use Rattle.std.proofs.Common.{◌≡◌, ℕ, ◌+◌, ◌-◌, ◌<◌, ◌≤◌, ◌^◌, ◌&&◌, Bool, true, false, not, cond, List, [], ◌∷◌, Option, Some, None, refl, sym, ap, subst, arith, length, nat_eq, nat_lt}
 use Rattle.std.specs.Prelude.{sum_by, slice_get, is_none, if◌then◌else◌}
-use Rattle.std.specs.Option.{option_map_or}
 use Rattle.std.proofs.lemmas.Bool.Decides.{nat_tests}
 use Rattle.std.proofs.lemmas.List.Sums.{sum_by-cons}
 use Rattle.clk_base.specs.declared.clock.ClockId.{ClockId}
@@ -15,7 +14,7 @@ use Rattle.clk_flight.specs.declared.front.Front.{Front}
 use Rattle.clk_flight.specs.declared.front.Front.TheVariants.{Empty, Poll, Raise, Lower, Falls, Posts}
 use Rattle.clk_flight.specs.Fronts.{falls, posts, aborts_behind, front_behind, script_behind, HasSteps, IsCounted}
 use Rattle.clk_flight.specs.Flights.{FlightState, own_first, own_step, seeks_plls}
-use Rattle.clk_flight.specs.Moves.{others, gone_on, found_none, comes_again, once_more, raised_once, lowered_once, timed_out_in, is_last_no, front_polled, front_fallen, with_raised, visited, landed}
+use Rattle.clk_flight.specs.Moves.{gone_on, found_none, comes_again, raised_once, lowered_once, timed_out_in, is_last_no, front_polled, front_fallen, with_raised, visited}
 use Rattle.clk_flight.specs.Kept.{room_for, front_room, IsKept}
 
 -- ---- what stands in front

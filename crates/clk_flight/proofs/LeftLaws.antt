@@ -1,7 +1,7 @@
 -- Each step lowers what is left over, whatever the bank answers.
-use Rattle.std.proofs.Common.{◌≡◌, ℕ, zero, suc, ◌+◌, ◌-◌, ◌*◌, ◌<◌, ◌≤◌, ◌&&◌, Bool, true, false, not, cond, List, [], ◌∷◌, Option, Some, None, refl, sym, ap, ◌∙◌, subst, arith, length, nat_eq, nat_lt, nat_le}
-use Rattle.std.specs.Prelude.{slice_get, is_none, sum_by, option_and_then, if◌then◌else◌}
-use Rattle.std.specs.Option.{option_map, option_map_or}
+use Rattle.std.proofs.Common.{◌≡◌, ℕ, suc, ◌+◌, ◌-◌, ◌*◌, ◌<◌, ◌≤◌, ◌&&◌, Bool, true, false, cond, List, [], ◌∷◌, Option, Some, None, refl, ap, ◌∙◌, arith, length, nat_eq, nat_lt}
+use Rattle.std.specs.Prelude.{slice_get, sum_by, option_and_then, if◌then◌else◌}
+use Rattle.std.specs.Option.{option_map}
 use Rattle.std.proofs.lemmas.Bool.Decides.{nat_tests}
 use Rattle.std.proofs.lemmas.List.Sums.{sum_by-cons}
 use Rattle.clk_base.specs.declared.clock.ClockId.{ClockId}
@@ -11,17 +11,17 @@ use Rattle.clk_model.specs.Lists.{without}
 use Rattle.clk_model.specs.State.{NotifierRow}
 use Rattle.clk_model.specs.Chain.{clock_id}
 use Rattle.clk_model.specs.Notices.{notifiers_of}
-use Rattle.clk_model.specs.Step.{rest_of, cut_short}
+use Rattle.clk_model.specs.Step.{rest_of}
 use Rattle.clk_model.proofs.WeightLaws.{cut_short-le}
 use Rattle.clk_flight.specs.declared.front.Front.{Front}
 use Rattle.clk_flight.specs.declared.front.Front.TheVariants.{Empty, Poll, Raise, Lower, Falls, Posts}
 use Rattle.clk_flight.specs.Fronts.{abort_of, called_off, post_to, aborts_behind, falls, posts, front_behind, script_behind, HasSteps}
 use Rattle.clk_flight.specs.Flights.{FlightState, fall_or_abort, first_step, comes_next, own_first, own_step, seeks_plls}
-use Rattle.clk_flight.specs.Moves.{others, gone_on, found_none, comes_again, once_more, raised_once, raised_in, lowered_once, timed_out_in, is_last_no, front_polled, polled_in, front_fallen, with_raised, fallen, let_go_of, visited, landed}
-use Rattle.clk_flight.specs.LeftOver.{step_weight, raise_weight, front_weight, left_over}
+use Rattle.clk_flight.specs.Moves.{others, gone_on, found_none, comes_again, raised_once, raised_in, lowered_once, timed_out_in, is_last_no, front_polled, polled_in, front_fallen, fallen, let_go_of, visited, landed}
+use Rattle.clk_flight.specs.LeftOver.{step_weight, front_weight, left_over}
 use Rattle.clk_flight.specs.Kept.{IsKept}
 use Rattle.clk_flight.specs.Steps.{is_taken, is_fall, LeavesLess, LeavesLessAt}
-use Rattle.clk_flight.proofs.KeptLaws.{going_step, script_behind-le, without-le}
+use Rattle.clk_flight.proofs.KeptLaws.{without-le}
 
 -- ---- weights
 

@@ -5,4 +5,6 @@ pub mod KeptLaws
 pub mod LeftLaws
 pub mod Listing
 pub mod PollLaws
+pub mod StartLaws
 pub mod StepLaws
+pub mod WeighLaws

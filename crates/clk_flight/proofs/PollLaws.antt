@@ -1,8 +1,8 @@
 -- The flight stays the change of the definitions through a poll, also where it times out.
-use Rattle.std.proofs.Common.{◌≡◌, ℕ, zero, suc, ◌+◌, ◌-◌, ◌<◌, ◌≤◌, ◌&&◌, ◌||◌, Bool, true, false, not, cond, List, [], ◌∷◌, ◌++◌, Option, Some, None, refl, sym, ap, ◌∙◌, subst, arith, length, map, take, drop, nat_eq, nat_lt, nat_le}
+use Rattle.std.proofs.Common.{◌≡◌, ℕ, zero, suc, ◌+◌, ◌-◌, ◌≤◌, ◌&&◌, ◌||◌, Bool, true, false, not, cond, List, [], ◌∷◌, ◌++◌, Option, Some, None, refl, sym, ap, ◌∙◌, subst, arith, length, map, take, drop, nat_eq, nat_le}
 use Rattle.std.specs.Prelude.{slice_get, is_none, if◌then◌else◌}
 use Rattle.std.specs.List.{list_any, list_all}
-use Rattle.std.specs.Option.{option_map, option_map_or}
+use Rattle.std.specs.Option.{option_map_or}
 use Rattle.std.proofs.lemmas.Bool.Decides.{nat_tests}
 use Rattle.std.proofs.lemmas.List.{length-append, length-map}
 use Rattle.std.proofs.lemmas.List.Folds.{list_any-append}
@@ -20,8 +20,8 @@ use Rattle.clk_model.proofs.Members.{both_left, both_right}
 use Rattle.clk_model.proofs.WeightLaws.{abort_notices}
 use Rattle.clk_flight.specs.declared.front.Front.{Front}
 use Rattle.clk_flight.specs.declared.front.Front.TheVariants.{Empty, Poll, Raise, Lower, Falls, Posts}
-use Rattle.clk_flight.specs.Fronts.{called_off, polls_of, front_steps, front_count, front_aborts, falls}
-use Rattle.clk_flight.specs.Flights.{FlightState, IsChange, Flies, aborts_over, own_first, own_step}
+use Rattle.clk_flight.specs.Fronts.{called_off, front_steps, front_count, front_aborts, falls}
+use Rattle.clk_flight.specs.Flights.{FlightState, IsChange, Flies, aborts_over, own_first}
 use Rattle.clk_flight.specs.Moves.{timed_out_in, polled_in}
 use Rattle.clk_flight.specs.Steps.{Polls}
 use Rattle.clk_flight.proofs.KeptLaws.{going_step, falls_steps}

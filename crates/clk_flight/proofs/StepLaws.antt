@@ -1,25 +1,24 @@
 -- The flight stays the change of the definitions through a raise, a lower, a poll, a fall and a visit.
-use Rattle.std.proofs.Common.{◌≡◌, ℕ, zero, suc, ◌+◌, ◌-◌, ◌<◌, ◌≤◌, ◌&&◌, ◌||◌, Bool, true, false, not, cond, List, [], ◌∷◌, ◌++◌, Option, Some, None, refl, sym, ap, ◌∙◌, subst, arith, length, map, take, drop, nat_eq, nat_lt, nat_le}
-use Rattle.std.specs.Prelude.{slice_get, slice_index, is_none, reverse, if◌then◌else◌}
-use Rattle.std.specs.List.{list_any, list_all}
-use Rattle.std.specs.Option.{option_map, option_map_or}
+use Rattle.std.proofs.Common.{◌≡◌, ℕ, ◌+◌, ◌<◌, ◌≤◌, ◌||◌, Bool, true, false, List, [], ◌∷◌, ◌++◌, Option, Some, None, refl, sym, ap, ◌∙◌, subst, arith, length, nat_lt, nat_le}
+use Rattle.std.specs.Prelude.{slice_get, reverse, if◌then◌else◌}
+use Rattle.std.specs.List.{list_any}
+use Rattle.std.specs.Option.{option_map_or}
 use Rattle.std.proofs.lemmas.Bool.Decides.{nat_tests}
-use Rattle.std.proofs.lemmas.List.{length-append, length-map, length-reverse, append-nil}
+use Rattle.std.proofs.lemmas.List.{length-reverse}
 use Rattle.clk_base.specs.declared.clock.ClockId.{ClockId}
 use Rattle.clk_base.specs.declared.call.Micro.{Micro}
 use Rattle.clk_base.specs.declared.call.Micro.TheVariants as micro
-use Rattle.clk_model.specs.Lists.{without, without_one}
-use Rattle.clk_model.specs.State.{State, NotifierRow, Change}
+use Rattle.clk_model.specs.State.{NotifierRow, Change}
 use Rattle.clk_model.specs.Chain.{clock_id}
 use Rattle.clk_model.specs.Script.{plls}
-use Rattle.clk_model.specs.Step.{on, todo, taken, rest_of, left_behind, to_raise, raise, raise_one, to_lower, lower, lower_one}
-use Rattle.clk_model.specs.Laws.Paced.{may_time_out, StillToRaise, StillToLower}
+use Rattle.clk_model.specs.Step.{on, todo, taken, rest_of, left_behind, to_raise, raise_one, to_lower, lower_one}
+use Rattle.clk_model.specs.Laws.Paced.{may_time_out}
 use Rattle.clk_flight.specs.declared.front.Front.{Front}
 use Rattle.clk_flight.specs.declared.front.Front.TheVariants.{Empty, Poll, Raise, Lower, Falls, Posts}
-use Rattle.clk_flight.specs.Fronts.{polls_of, front_steps, front_count, front_behind, script_behind}
+use Rattle.clk_flight.specs.Fronts.{polls_of, front_steps, front_behind, script_behind}
 use Rattle.clk_flight.specs.Flights.{FlightState, IsChange, Flies, own_first, own_step, seeks_plls}
-use Rattle.clk_flight.specs.Moves.{comes_again, once_more, raised_once, raised_in, found_none, lowered_once}
-use Rattle.clk_flight.specs.Steps.{Raises, LowersOne, is_taken}
+use Rattle.clk_flight.specs.Moves.{comes_again, raised_once, raised_in, found_none, lowered_once}
+use Rattle.clk_flight.specs.Steps.{Raises, LowersOne}
 use Rattle.clk_flight.proofs.KeptLaws.{going_step}
 use Rattle.clk_flight.proofs.ChangeLaws.{left_taken, times_out_before, gone_on-change}
 

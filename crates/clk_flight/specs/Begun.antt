@@ -1,5 +1,5 @@
 -- How a change in flight begins.
-use Rattle.std.specs.Prelude.{◌≡◌, ℕ, List, [], Bool, true, false, map, take, length, ◌≤◌}
+use Rattle.std.specs.Prelude.{◌≡◌, ℕ, List, [], true, false, map, take, length, ◌≤◌}
 use Rattle.std.specs.List.{list_any, list_all}
 use Rattle.clk_model.specs.State.{NotifierRow, Change}
 use Rattle.clk_model.specs.Laws.Paced.{may_time_out, is_notice}

@@ -1,10 +1,10 @@
 -- What a flight keeps.
-use Rattle.std.specs.Prelude.{◌≡◌, ℕ, ◌+◌, ◌-◌, ◌*◌, ◌<◌, ◌≤◌, ◌^◌, List, Option, Some, None, length, sum_by, if◌then◌else◌}
+use Rattle.std.specs.Prelude.{ℕ, ◌+◌, ◌-◌, ◌≤◌, length, sum_by, if◌then◌else◌}
 use Rattle.std.specs.Option.{option_map_or}
 use Rattle.clk_base.specs.declared.call.Micro.{Micro}
 use Rattle.clk_model.specs.Script.{is_raise}
 use Rattle.clk_flight.specs.declared.front.Front.{Front}
-use Rattle.clk_flight.specs.declared.front.Front.TheVariants.{Empty, Poll, Raise, Lower, Falls, Posts}
+use Rattle.clk_flight.specs.declared.front.Front.TheVariants.{Poll, Raise}
 use Rattle.clk_flight.specs.Fronts.{HasSteps, IsCounted}
 use Rattle.clk_flight.specs.Flights.{FlightState}
 

@@ -3,6 +3,7 @@ pub mod Fronts
 pub mod Flights
 pub mod Inside
 pub mod Kept
+pub mod Laws
 pub mod LeftOver
 pub mod Moves
 pub mod Parts

@@ -1,12 +1,11 @@
 -- What each step of a call makes of the change in flight itself.
-use Rattle.std.specs.Prelude.{ℕ, ◌+◌, ◌-◌, ◌&&◌, List, [], ◌∷◌, Bool, true, false, Option, Some, None, not, nat_lt, nat_le, if◌then◌else◌}
+use Rattle.std.specs.Prelude.{ℕ, ◌+◌, ◌-◌, ◌&&◌, List, [], ◌∷◌, Bool, true, false, Some, None, not, nat_lt, nat_le, if◌then◌else◌}
 use Rattle.std.specs.Option.{option_map_or}
 use Rattle.clk_base.specs.declared.clock.ClockId.{ClockId}
-use Rattle.clk_base.specs.declared.call.Micro.{Micro}
 use Rattle.clk_model.specs.Lists.{without}
 use Rattle.clk_model.specs.Step.{cut_short, most_polls}
 use Rattle.clk_flight.specs.declared.front.Front.{Front}
-use Rattle.clk_flight.specs.declared.front.Front.TheVariants.{Empty, Poll, Raise, Lower, Falls, Posts}
+use Rattle.clk_flight.specs.declared.front.Front.TheVariants.{Empty, Poll, Raise, Lower, Falls}
 use Rattle.clk_flight.specs.Fronts.{falls, posts, front_behind, script_behind}
 use Rattle.clk_flight.specs.Flights.{FlightState}
 

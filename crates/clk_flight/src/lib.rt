@@ -4,6 +4,7 @@
 mod cut;
 mod flight;
 mod front;
+pub mod laws;
 mod raised;
 mod script;
 mod start;

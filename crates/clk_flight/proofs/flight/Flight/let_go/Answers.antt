@@ -1,6 +1,5 @@
 -- What is raised is less, and the room is the same; so what is left over is no more.
-use Rattle.std.proofs.Common.{◌≤◌, List, rules, sym, subst}
-use Rattle.clk_model.specs.State.{NotifierRow}
+use Rattle.std.proofs.Common.{◌≤◌, rules, sym, subst}
 use Rattle.clk_flight.specs.Flights.{FlightState}
 use Rattle.clk_flight.specs.LeftOver.{left_over}
 use Rattle.clk_flight.proofs.LeftLaws.{let_go-less}
