@@ -5,6 +5,7 @@ pub mod KeptLaws
 pub mod LeftLaws
 pub mod Listing
 pub mod PollLaws
+pub mod SeekLaws
 pub mod StartLaws
 pub mod StepLaws
 pub mod WeighLaws

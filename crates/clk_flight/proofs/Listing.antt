@@ -85,3 +85,7 @@ without-append ys zs (x ∷ xs) = ap (λ (t : Bool). cond (not t) (x ∷ without
       → cond (not (t || is_in x zs)) (x ∷ without (ys ++ zs) xs) (without (ys ++ zs) xs) ≡ without zs (cond (not t) (x ∷ without ys xs) (without ys xs))
   one true rest = rest
   one false rest = ap (λ ms. cond (not (is_in x zs)) (x ∷ ms) ms) rest
+
+pub without-none : (xs : List ℕ) → without [] xs ≡ xs
+without-none [] = refl
+without-none (x ∷ xs) = ap (λ ys. x ∷ ys) (without-none xs)

@@ -1,11 +1,17 @@
 -- Laws on flights.
-use Rattle.std.specs.Prelude.{◌≡◌, ℕ, Some}
+use Rattle.std.specs.Prelude.{◌≡◌, ℕ, Some, length, slice_get}
+use Rattle.clk_base.specs.declared.call.Micro.TheVariants as micro
 use Rattle.clk_base.specs.declared.call.Sleeping.{Sleeping}
+use Rattle.clk_base.specs.declared.clock.ClockId.{ClockId}
 use Rattle.clk_base.specs.declared.event.Event.TheVariants as event
 use Rattle.clk_base.specs.declared.event.Turn.TheVariants as turn
 use Rattle.clk_model.specs.State.{State, Change}
 use Rattle.clk_model.specs.Script.{plls}
 use Rattle.clk_model.specs.Machine.{next}
+use Rattle.clk_base.specs.Valid.{IsValid}
+use Rattle.clk_model.specs.Wired.{LinksArePossible}
+use Rattle.clk_model.specs.Step.{todo}
+use Rattle.clk_model.specs.Laws.Paced.{IsPaced, StillToRaise, StillToLower}
 use Rattle.clk_model.specs.Laws.Weight.{weight_left}
 use Rattle.clk_flight.specs.declared.start.Start.{Start}
 use Rattle.clk_flight.specs.Begun.{StartsAs}
@@ -30,3 +36,9 @@ pub record IsPlanned (start : Start) (k : Change) : Type 0 where
 abbrev pub CallsStart : Type 0
 CallsStart = (s t : State) (d : ℕ) (what : Sleeping) (k : Change) (start : Start) → next s d (event.Begin what) ≡ Some (t, turn.Going) → t.change ≡ Some k
     → IsPlanned start k → StartsAs t.notifiers start k
+
+-- a raise or a lower of a paced change that comes next has, with what it has raised or lowered so far, no more PLLs still to go than a
+-- line of possible parents has
+abbrev pub PacedSeekFew : Type 0
+PacedSeekFew = (s : State) (k : Change) (x : ClockId) → IsValid (length s.regs) s.defs → LinksArePossible s.defs s.clocks → IsPaced s k
+    → (slice_get (todo k) 0 ≡ Some (micro.Raise x) → StillToRaise s k x) × (slice_get (todo k) 0 ≡ Some (micro.Lower x) → StillToLower s k x)
