@@ -60,6 +60,7 @@ type Walked<'a> = &'a [(u32, u64)];
 // them, and what it answers: roundings of rates, plans of rates, and plans of changes of parent.
 #[derive(Drop)]
 struct Row<'a> {
+    name: &'a str,
     clocks: &'a str,
     words: [u32; 3],
     links: &'a [(u32, Option<u32>)],
@@ -98,7 +99,11 @@ fn expect_rounds<B: Bank>(rt: &impl Abort, desc: &ValidDesc, tree: &Tree, bank: 
     for (clock, rate, rounded) in row.rounds {
         let c = ClockId(*clock);
         assert!(rt; tree.registered(c));
-        assert!(rt; round_now(desc, tree, bank, &row.seen, c, *rate) == *rounded);
+        assert!(rt;
+            round_now(desc, tree, bank, &row.seen, c, *rate) == *rounded,
+            "{}",
+            row.name
+        );
     }
 }
 
@@ -201,114 +206,110 @@ fn expect_row(rt: &impl Abort, alloc: Global, row: &Row<'_>) -> Result<(), Fail>
     expect_over(rt, alloc, &desc, &bank, row)
 }
 
-// So many clocks, of which none is held.
-fn free(clocks: usize) -> Seen {
-    Seen {
-        clocks,
-        one: 0,
-        bounds: (0, u64::MAX),
-        guarded: false,
-        prepared: false,
-    }
-}
+// No clock is held.
+const FREE: Seen = Seen {
+    clocks: 0,
+    one: 0,
+    bounds: (0, u64::MAX),
+    guarded: false,
+    prepared: false,
+};
 
 const DIVIDER: &str = "\
 fixed ref 100\n\
 divider div ref 0 0 3\n";
 
-#[test]
-fn a_divider_gives_the_rate_below(rt: HostRuntime) -> Result<(), Fail> {
-    let row = Row {
+const MUXES: &str = "\
+fixed a 48000000\n\
+fixed b 30000000\n\
+fixed c 10000000\n\
+mux r 0 0 1 2 a b read-only\n\
+mux s 0 1 1 2 a b set-parent-gate\n\
+mux t 0 2 1 2 a b\n";
+
+const ORPHAN: &str = "\
+fixed osc 24000000\n\
+fixed src 40000000\n\
+gate gs src 0 0\n\
+mux m 1 0 1 2 osc gs\n\
+gate c m 0 1 critical\n";
+
+static ROWS: [Row<'static>; 15] = [
+    Row {
+        name: "a divider gives the rate below",
         clocks: DIVIDER,
         words: [0, 0, 0],
         links: &[(0, None), (1, Some(0))],
-        seen: free(2),
+        seen: Seen { clocks: 2, ..FREE },
         rounds: &[(1, 30, Some(25)), (1, 0, Some(13)), (1, 500, Some(100))],
         plans: &[
             (1, 1, Some((&[(1, 13, Some(0))], &[(1, 13)]))),
             (0, 30, None),
         ],
         moves: &[],
-    };
-    expect_row(&rt, rt.alloc(), &row)
-}
-
-#[test]
-fn a_protected_divider_keeps_its_rate(rt: HostRuntime) -> Result<(), Fail> {
-    let row = Row {
+    },
+    Row {
+        name: "a protected divider keeps its rate",
         clocks: DIVIDER,
         words: [3, 0, 0],
         links: &[(0, None), (1, Some(0))],
         seen: Seen {
             one: 1,
             guarded: true,
-            ..free(2)
+            clocks: 2,
+            ..FREE
         },
         rounds: &[(1, 60, Some(25))],
         plans: &[],
         moves: &[],
-    };
-    expect_row(&rt, rt.alloc(), &row)
-}
-
-// The request is 30, and a rate between 26 and 30 can't be had.
-#[test]
-fn a_plan_keeps_boundaries(rt: HostRuntime) -> Result<(), Fail> {
-    let row = Row {
+    },
+    // The request is 30, and a rate between 26 and 30 can't be had.
+    Row {
+        name: "a plan keeps boundaries",
         clocks: DIVIDER,
         words: [0, 0, 0],
         links: &[(0, None), (1, Some(0))],
         seen: Seen {
             one: 1,
             bounds: (26, 30),
-            ..free(2)
+            clocks: 2,
+            ..FREE
         },
         rounds: &[(1, 1_000, Some(25))],
         plans: &[(1, 1_000, None)],
         moves: &[],
-    };
-    expect_row(&rt, rt.alloc(), &row)
-}
-
-#[test]
-fn a_power_of_two_is_great_enough(rt: HostRuntime) -> Result<(), Fail> {
-    let row = Row {
+    },
+    Row {
+        name: "a power of two is great enough",
         clocks: "fixed ref 10\ndivider div ref 0 0 2 power-of-two\n",
         words: [0, 0, 0],
         links: &[(0, None), (1, Some(0))],
-        seen: free(2),
+        seen: Seen { clocks: 2, ..FREE },
         rounds: &[(1, 2, Some(2))],
         plans: &[(1, 2, Some((&[(1, 2, Some(0))], &[(1, 2)])))],
         moves: &[],
-    };
-    expect_row(&rt, rt.alloc(), &row)
-}
-
-#[test]
-fn ranges_bound_a_request(rt: HostRuntime) -> Result<(), Fail> {
-    let row = Row {
+    },
+    Row {
+        name: "ranges bound a request",
         clocks: "fixed ref 600\ndivider div ref 0 0 3\n",
         words: [3, 0, 0],
         links: &[(0, None), (1, Some(0))],
         seen: Seen {
             one: 1,
             bounds: (150, 200),
-            ..free(2)
+            clocks: 2,
+            ..FREE
         },
         rounds: &[(1, 1_000, Some(200)), (1, 0, Some(150))],
         plans: &[(1, 1_000, Some((&[(1, 200, Some(0))], &[(1, 200)])))],
         moves: &[],
-    };
-    expect_row(&rt, rt.alloc(), &row)
-}
-
-#[test]
-fn a_mux_takes_the_closest_parent_below(rt: HostRuntime) -> Result<(), Fail> {
-    let row = Row {
+    },
+    Row {
+        name: "a mux takes the closest parent below",
         clocks: "fixed a 48000000\nfixed b 30000000\nmux m 0 0 1 2 a b\n",
         words: [0, 0, 0],
         links: &[(0, None), (1, None), (2, Some(0))],
-        seen: free(3),
+        seen: Seen { clocks: 3, ..FREE },
         rounds: &[
             (2, 40_000_000, Some(30_000_000)),
             (2, 30_000_000, Some(30_000_000)),
@@ -323,17 +324,13 @@ fn a_mux_takes_the_closest_parent_below(rt: HostRuntime) -> Result<(), Fail> {
             (2, 29_000_000, None),
         ],
         moves: &[],
-    };
-    expect_row(&rt, rt.alloc(), &row)
-}
-
-#[test]
-fn the_largest_rate_stays(rt: HostRuntime) -> Result<(), Fail> {
-    let row = Row {
+    },
+    Row {
+        name: "the largest rate stays",
         clocks: "fixed f 18446744073709551615\nfactor x f 3 2\nfactor y f 1 2\n",
         words: [0, 0, 0],
         links: &[(0, None), (1, Some(0)), (2, Some(0))],
-        seen: free(3),
+        seen: Seen { clocks: 3, ..FREE },
         rounds: &[
             (0, 5, Some(u64::MAX)),
             (1, 5, Some(u64::MAX)),
@@ -341,14 +338,10 @@ fn the_largest_rate_stays(rt: HostRuntime) -> Result<(), Fail> {
         ],
         plans: &[],
         moves: &[],
-    };
-    expect_row(&rt, rt.alloc(), &row)
-}
-
-// The divider takes 1 before 2, and so it asks the PLL for 150 MHz.
-#[test]
-fn a_chain_goes_up_to_a_pll(rt: HostRuntime) -> Result<(), Fail> {
-    let row = Row {
+    },
+    // The divider takes 1 before 2, and so it asks the PLL for 150 MHz.
+    Row {
+        name: "a chain goes up to a pll",
         clocks: "\
 fixed osc 24000000\n\
 pll vco osc 0 0 9 0 31 100 400 24\n\
@@ -363,7 +356,7 @@ factor y vco 1 5\n",
             (3, Some(1)),
             (4, Some(1)),
         ],
-        seen: free(5),
+        seen: Seen { clocks: 5, ..FREE },
         rounds: &[
             (2, 150_000_000, Some(150_000_000)),
             (3, 1, Some(50_000_000)),
@@ -382,13 +375,9 @@ factor y vco 1 5\n",
             )),
         )],
         moves: &[],
-    };
-    expect_row(&rt, rt.alloc(), &row)
-}
-
-#[test]
-fn a_walk_has_the_newest_child_first(rt: HostRuntime) -> Result<(), Fail> {
-    let row = Row {
+    },
+    Row {
+        name: "a walk has the newest child first",
         clocks: "\
 fixed ref 100\n\
 divider s ref 0 0 3\n\
@@ -403,7 +392,7 @@ gate q s 1 0\n",
             (3, Some(1)),
             (4, Some(1)),
         ],
-        seen: free(5),
+        seen: Seen { clocks: 5, ..FREE },
         rounds: &[(4, 50, Some(100))],
         plans: &[
             (
@@ -414,13 +403,9 @@ gate q s 1 0\n",
             (4, 50, None),
         ],
         moves: &[],
-    };
-    expect_row(&rt, rt.alloc(), &row)
-}
-
-#[test]
-fn a_prepared_mux_moves_by_its_rate_and_by_itself(rt: HostRuntime) -> Result<(), Fail> {
-    let row = Row {
+    },
+    Row {
+        name: "a prepared mux moves by its rate and by itself",
         clocks: "\
 fixed osc 24000000\n\
 fixed alt 30000000\n\
@@ -440,7 +425,8 @@ gate g m 0 2\n",
         seen: Seen {
             one: 4,
             prepared: true,
-            ..free(6)
+            clocks: 6,
+            ..FREE
         },
         rounds: &[(4, 30_000_000, Some(30_000_000))],
         plans: &[(
@@ -457,22 +443,10 @@ gate g m 0 2\n",
             &[(4, 30_000_000, Some(3))],
             &[(4, 30_000_000), (5, 30_000_000)],
         )],
-    };
-    expect_row(&rt, rt.alloc(), &row)
-}
-
-const MUXES: &str = "\
-fixed a 48000000\n\
-fixed b 30000000\n\
-fixed c 10000000\n\
-mux r 0 0 1 2 a b read-only\n\
-mux s 0 1 1 2 a b set-parent-gate\n\
-mux t 0 2 1 2 a b\n";
-
-// The mux `s` may not leave its parent while it is prepared, `r` can't, and `t` may.
-#[test]
-fn a_gate_flag_keeps_the_parent_of_a_prepared_mux(rt: HostRuntime) -> Result<(), Fail> {
-    let row = Row {
+    },
+    // The mux `s` may not leave its parent while it is prepared, `r` can't, and `t` may.
+    Row {
+        name: "a gate flag keeps the parent of a prepared mux",
         clocks: MUXES,
         words: [0, 0, 0],
         links: &[
@@ -486,7 +460,8 @@ fn a_gate_flag_keeps_the_parent_of_a_prepared_mux(rt: HostRuntime) -> Result<(),
         seen: Seen {
             one: 4,
             prepared: true,
-            ..free(6)
+            clocks: 6,
+            ..FREE
         },
         rounds: &[
             (4, 30_000_000, Some(30_000_000)),
@@ -502,13 +477,9 @@ fn a_gate_flag_keeps_the_parent_of_a_prepared_mux(rt: HostRuntime) -> Result<(),
             ),
         ],
         moves: &[(5, 1, &[(5, 30_000_000, Some(1))], &[(5, 30_000_000)])],
-    };
-    expect_row(&rt, rt.alloc(), &row)
-}
-
-#[test]
-fn a_mux_moves_to_a_pll(rt: HostRuntime) -> Result<(), Fail> {
-    let row = Row {
+    },
+    Row {
+        name: "a mux moves to a pll",
         clocks: "\
 fixed osc 24000000\n\
 pll p osc 0 0 9 0 31 100 400 24\n\
@@ -516,29 +487,18 @@ gate g p 1 0\n\
 mux m 2 0 1 2 osc p\n",
         words: [0x64, 0, 0],
         links: &[(0, None), (1, Some(0)), (2, Some(1)), (3, Some(0))],
-        seen: free(4),
+        seen: Seen { clocks: 4, ..FREE },
         rounds: &[],
         plans: &[],
         moves: &[(3, 1, &[(3, 100_000_000, Some(1))], &[(3, 100_000_000)])],
-    };
-    expect_row(&rt, rt.alloc(), &row)
-}
-
-const ORPHAN: &str = "\
-fixed osc 24000000\n\
-fixed src 40000000\n\
-gate gs src 0 0\n\
-mux m 1 0 1 2 osc gs\n\
-gate c m 0 1 critical\n";
-
-// The mux `m` is an orphan, since the parent that its field names isn't registered.
-#[test]
-fn an_orphan_asks_the_parents_that_are_there(rt: HostRuntime) -> Result<(), Fail> {
-    let row = Row {
+    },
+    // The mux `m` is an orphan, since the parent that its field names isn't registered.
+    Row {
+        name: "an orphan asks the parents that are there",
         clocks: ORPHAN,
         words: [0, 1, 0],
         links: &[(0, None), (3, None), (4, Some(3))],
-        seen: free(5),
+        seen: Seen { clocks: 5, ..FREE },
         rounds: &[
             (3, 40_000_000, Some(24_000_000)),
             (3, 20_000_000, None),
@@ -553,13 +513,9 @@ fn an_orphan_asks_the_parents_that_are_there(rt: HostRuntime) -> Result<(), Fail
             )),
         )],
         moves: &[],
-    };
-    expect_row(&rt, rt.alloc(), &row)
-}
-
-#[test]
-fn an_adopted_mux_asks_all_its_parents(rt: HostRuntime) -> Result<(), Fail> {
-    let row = Row {
+    },
+    Row {
+        name: "an adopted mux asks all its parents",
         clocks: ORPHAN,
         words: [0, 1, 0],
         links: &[
@@ -570,7 +526,7 @@ fn an_adopted_mux_asks_all_its_parents(rt: HostRuntime) -> Result<(), Fail> {
             (2, Some(1)),
             (3, Some(2)),
         ],
-        seen: free(5),
+        seen: Seen { clocks: 5, ..FREE },
         rounds: &[
             (3, 40_000_000, Some(40_000_000)),
             (3, 39_000_000, Some(24_000_000)),
@@ -585,20 +541,23 @@ fn an_adopted_mux_asks_all_its_parents(rt: HostRuntime) -> Result<(), Fail> {
             )),
         )],
         moves: &[],
-    };
-    expect_row(&rt, rt.alloc(), &row)
-}
-
-#[test]
-fn a_field_that_names_no_parent_makes_an_orphan(rt: HostRuntime) -> Result<(), Fail> {
-    let row = Row {
+    },
+    Row {
+        name: "a field that names no parent makes an orphan",
         clocks: "fixed f 5\nfixed e 6\nmux m 0 0 2 2 f e\n",
         words: [3, 0, 0],
         links: &[(0, None), (1, None), (2, None)],
-        seen: free(3),
+        seen: Seen { clocks: 3, ..FREE },
         rounds: &[(2, 5, Some(5)), (2, 7, Some(6)), (2, 4, None)],
         plans: &[(2, 7, Some((&[(2, 6, Some(1))], &[(2, 6)])))],
         moves: &[(2, 0, &[(2, 5, Some(0))], &[(2, 5)])],
-    };
-    expect_row(&rt, rt.alloc(), &row)
+    },
+];
+
+#[test]
+fn planning_answers_as_worked_out(rt: HostRuntime) -> Result<(), Fail> {
+    for row in &ROWS {
+        expect_row(&rt, rt.alloc(), row)?;
+    }
+    Ok(())
 }
