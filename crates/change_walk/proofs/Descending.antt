@@ -1,7 +1,6 @@
 -- Laws on a walk that is gone through once: it finds the clocks that change with all above them.
-use Rattle.std.proofs.Common.{◌≡◌, ℕ, zero, suc, Bool, true, false, not, ◌&&◌, ◌||◌, cond, List, [], ◌∷◌, ◌++◌, map, Option, Some, refl, sym, ap, ◌∙◌, append_assoc, append-nil, nat_eq, arith}
+use Rattle.std.proofs.Common.{◌≡◌, ℕ, zero, suc, Bool, true, false, not, ◌&&◌, ◌||◌, cond, List, [], ◌∷◌, ◌++◌, map, Option, Some, refl, sym, ap, ◌∙◌, append_assoc, append-nil, nat_eq}
 use Rattle.std.specs.Prelude.{◌==◌, filter, flat_map}
-use Rattle.std.proofs.lemmas.Bool.Decides.{nat_tests}
 use Rattle.std.proofs.lemmas.List.{map-append}
 use Rattle.clk_model.specs.Chain.{clock_id}
 use Rattle.clk_model.specs.Lists.{is_in}
@@ -12,6 +11,7 @@ use Rattle.clk_tree.specs.Plans.{ClockRate}
 use Rattle.change_walk.specs.declared.changes.Changed.{Changed}
 use Rattle.change_walk.specs.declared.changes.Passed.{Passed}
 use Rattle.change_walk.specs.Changes.{back_to, changes, changed_to, changed_along}
+use Rattle.clk_model.proofs.BalanceLaws.{other_way}
 
 -- a clock with its rate in the outcome
 abbrev pub rated_at : (ℕ → ℕ) → ℕ → ClockRate
@@ -42,15 +42,12 @@ passed_by c t = record { clock = clock_id c; changes = t }
 abbrev pub clocks_of : List Passed → List ℕ
 clocks_of ps = map (λ p. p.clock.0) ps
 
-test_turned : (a b : ℕ) → nat_eq a b ≡ false → nat_eq b a ≡ false
-test_turned a b h = grind (arith, nat_tests)
-
 -- over what isn't the parent, one goes back to the parent
 back_here : (p : ℕ) (t : Bool) (front behind : List Passed) → is_in p (clocks_of front) ≡ false → back_to (Some p) (front ++ passed_by p t ∷ behind) ≡ passed_by p t ∷ behind
 back_here p t [] behind out = ap (λ (b : Bool). cond b (passed_by p t ∷ behind) (back_to (Some p) behind)) (test_same p)
 back_here p t (o ∷ front) behind out =
     let parts = not_either (nat_eq o.clock.0 p) (is_in p (clocks_of front)) out in
-    ap (λ (b : Bool). cond b (o ∷ front ++ passed_by p t ∷ behind) (back_to (Some p) (front ++ passed_by p t ∷ behind))) (test_turned o.clock.0 p parts.0)
+    ap (λ (b : Bool). cond b (o ∷ front ++ passed_by p t ∷ behind) (back_to (Some p) (front ++ passed_by p t ∷ behind))) (other_way o.clock.0 p parts.0)
     ∙ back_here p t front behind parts.1
 
 -- ---- what is found below a clock

@@ -8,6 +8,7 @@ use Rattle.clk_tree.specs.declared.walk_rates.WalkRate.{WalkRate}
 use Rattle.clk_tree.specs.Plans.{rates_of}
 use Rattle.change_walk.specs.Changes.{AreThere}
 use Rattle.clk_model.proofs.StateLaws.{registered_lt}
+use Rattle.clk_tree.proofs.Along.{none_left}
 
 pub drop_none : {X : Type 0} (xs : List X) → drop 0 xs ≡ xs
 drop_none [] = refl
@@ -18,12 +19,6 @@ pub rest_at : {X : Type 0} (xs : List X) (k : ℕ) (x : X) → slice_get xs k �
 rest_at [] k x at = absurd cc
 rest_at (y ∷ xs) zero x at = let same : y ≡ x = cc in ap (λ z. z ∷ xs) same ∙ ap (λ ys. x ∷ ys) (sym (drop_none xs))
 rest_at (y ∷ xs) (suc k) x at = rest_at xs k x at ∙ ap (λ (n : ℕ). x ∷ drop n (y ∷ xs)) (let next : suc (k + 1) ≡ suc k + 1 = omega arith in next)
-
-pub none_left : {X : Type 0} (xs : List X) (k : ℕ) → length xs ≤ k → drop k xs ≡ []
-none_left [] zero few = refl
-none_left [] (suc k) few = refl
-none_left (x ∷ xs) zero few = absurd (omega arith)
-none_left (x ∷ xs) (suc k) few = none_left xs k (omega arith)
 
 -- one more was added
 pub added_on : {X Y : Type 0} (f : X → List Y) (xs : List X) (k : ℕ) (x : X) (old new whole : List Y) → slice_get xs k ≡ Some x → new ≡ old ++ f x

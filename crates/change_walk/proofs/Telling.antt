@@ -26,7 +26,8 @@ use Rattle.change_walk.specs.declared.changes.Passed.{Passed}
 use Rattle.change_walk.specs.Changes.{AreThere, back_to, changes, changed_to, changed_along, changes_below, parent_after}
 use Rattle.change_walk.specs.Steps.{step_of, visits}
 use Rattle.change_walk.specs.Tellings.{notify, tell_before}
-use Rattle.change_walk.proofs.Rests.{rest_at, rest_of, none_left, registered_inside}
+use Rattle.change_walk.proofs.Rests.{rest_at, rest_of, registered_inside}
+use Rattle.clk_tree.proofs.Along.{none_left}
 
 -- ---- parents after the plan
 

@@ -1,6 +1,6 @@
 -- Laws on what scripts weigh: it is what the definitions say, and fits in 64 bits.
-use Rattle.std.proofs.Common.{◌≡◌, ℕ, ◌+◌, ◌-◌, ◌*◌, ◌^◌, ◌≤◌, min, max, Bool, true, false, ◌&&◌, cond, List, [], ◌∷◌, ◌++◌, map, Option, Some, None, refl, sym, ap, subst, ◌∙◌, arith, length, nat_eq}
-use Rattle.std.specs.Prelude.{◌==◌, filter, flat_map, fold, slice_index, slice_index_or, sum_by}
+use Rattle.std.proofs.Common.{◌≡◌, ℕ, ◌+◌, ◌-◌, ◌*◌, ◌^◌, ◌≤◌, min, Bool, true, false, ◌&&◌, cond, List, [], ◌∷◌, ◌++◌, map, Option, Some, None, refl, sym, ap, subst, ◌∙◌, arith, length, nat_eq}
+use Rattle.std.specs.Prelude.{◌==◌, filter, flat_map, slice_index, slice_index_or, sum_by}
 use Rattle.std.specs.List.{list_any}
 use Rattle.std.specs.Option.{option_map_or}
 use Rattle.std.proofs.lemmas.List.{length-map}
@@ -27,7 +27,7 @@ use Rattle.clk_model.proofs.OnceLaws.{few_once, once_head}
 use Rattle.clk_model.proofs.WalkLaws.{walks_list}
 use Rattle.clk_tree.specs.declared.plan.Plan.{Plan}
 use Rattle.clk_tree.specs.TreeState.{TreeState}
-use Rattle.clk_tree.proofs.PllTables.{few_plls}
+use Rattle.clk_tree.proofs.PllTables.{few_plls, fold_max_most}
 use Rattle.notifiers.specs.declared.notifier.Notifier.{Notifier}
 use Rattle.notifiers.specs.Chains.{Tells, row_on}
 use Rattle.change_walk.specs.Given.{HasFewNotifiers, changed_in, extra_of, planned_by, settles, weight_of}
@@ -77,14 +77,10 @@ notices_count s ks lists told (c ∷ cs) =
 
 -- ---- how much it may be
 
-greatest_few : (most a : ℕ) (f : ℕ → ℕ) (xs : List ℕ) → a ≤ most → ((x : ℕ) → f x ≤ most) → fold max a (map f xs) ≤ most
-greatest_few most a f [] le each = le
-greatest_few most a f (x ∷ xs) le each = let here = each x in greatest_few most (max a (f x)) f xs (omega arith) each
-
 -- no line of possible parents has more PLLs than clocks
 pub plls_few : (defs : Description) → plls defs ≤ 64
 unfolding plls greatest_of depth
-plls_few defs = greatest_few 64 0 (plls_within defs 64) (count_from 0 (length defs)) (omega arith) (few_plls defs 64)
+plls_few defs = fold_max_most 64 0 (plls_within defs 64) (count_from 0 (length defs)) (omega arith) (few_plls defs 64)
 
 -- what is made of each of some clocks weighs 4,096 each at most
 sum_each : (w : Micro → ℕ) (f : ℕ → List Micro) (cs : List ℕ) → ((c : ℕ) → sum_by w (f c) ≤ 4096) → sum_by w (flat_map f cs) ≤ 4096 * length cs

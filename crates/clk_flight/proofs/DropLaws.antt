@@ -26,7 +26,8 @@ use Rattle.clk_flight.specs.Moves.{fallen, let_go_of, visited}
 use Rattle.clk_flight.specs.Steps.{Drops, LetsGo, Visits, told_by_visit}
 use Rattle.clk_flight.proofs.KeptLaws.{going_step, falls_steps, posts_steps}
 use Rattle.clk_flight.proofs.ChangeLaws.{full, first_in_front, first_of_part, aborts_noticed, first_noticed, posted, in_front, script_first, left_taken, times_out_before, length-rest, falls_polls, posts_polls, posts_count, posts_steps_are, posts_aborts, none_of}
-use Rattle.clk_flight.proofs.PollLaws.{not_of_script, notices_in_time, falls_are, falls_aborts, falls_count_is}
+use Rattle.clk_flight.proofs.PollLaws.{not_of_script, falls_are, falls_aborts, falls_count_is, drop_none}
+use Rattle.clk_model.proofs.PacedLaws.{notices_calm}
 
 -- ---- falls
 
@@ -153,10 +154,6 @@ take_all : (ms : List Micro) → take (length ms) ms ≡ ms
 take_all [] = refl
 take_all (m ∷ ms) = ap (λ xs. m ∷ xs) (take_all ms)
 
-drop_none : (ms : List Micro) → drop 0 ms ≡ ms
-drop_none [] = refl
-drop_none (m ∷ ms) = refl
-
 -- the notices that a visit puts in front
 told_are : (f : FlightState) (s : State) (k : Change) (c : ClockId) (told old new : ℕ) → told ≡ told_by_visit s k c.0 → old ≡ slice_index k.before c.0 → new ≡ slice_index k.outcome c.0
     → (if nat_eq (rate s.defs (set_in_chain s k c.0) s.clocks c.0) (slice_index k.before c.0) then [] else post_list (record { before = k.before; outcome = k.outcome }) s.notifiers c.0)
@@ -234,7 +231,7 @@ visited_still f s k c told old new is first tells was will = record {
       → list_any may_time_out (rest_of k.front ++ left_behind k.front k.left) ≡ true
   in_time may =
       let posts_ : List Micro = if nat_eq (rate s.defs (set_in_chain s k c.0) s.clocks c.0) (slice_index k.before c.0) then [] else post_list (record { before = k.before; outcome = k.outcome }) s.notifiers c.0 in
-      let quiet : list_any may_time_out posts_ ≡ false = notices_in_time posts_ (told_noticed s k c.0 (nat_eq (rate s.defs (set_in_chain s k c.0) s.clocks c.0) (slice_index k.before c.0))) in
+      let quiet : list_any may_time_out posts_ ≡ false = notices_calm posts_ (told_noticed s k c.0 (nat_eq (rate s.defs (set_in_chain s k c.0) s.clocks c.0) (slice_index k.before c.0))) in
       ap (λ (ms : List Micro). list_any may_time_out (rest_of ms ++ left_behind k.front k.left)) nil
       ∙ sym (ap (λ (ms : List Micro). list_any may_time_out (ms ++ left_behind k.front k.left)) front_is
       ∙ list_any-append may_time_out posts_ (left_behind k.front k.left)

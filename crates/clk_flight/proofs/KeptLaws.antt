@@ -1,21 +1,21 @@
 -- What each step keeps of a flight.
-use Rattle.std.proofs.Common.{◌≡◌, ℕ, ◌+◌, ◌-◌, ◌<◌, ◌≤◌, ◌^◌, ◌&&◌, Bool, true, false, not, cond, List, [], ◌∷◌, Option, Some, None, refl, sym, ap, subst, arith, length, nat_eq, nat_lt}
+use Rattle.std.proofs.Common.{◌≡◌, ℕ, ◌+◌, ◌-◌, ◌<◌, ◌≤◌, ◌^◌, ◌&&◌, Bool, true, false, cond, List, [], ◌∷◌, Option, Some, None, refl, sym, ap, subst, arith, length, nat_eq, nat_lt}
 use Rattle.std.specs.Prelude.{sum_by, slice_get, is_none, if◌then◌else◌}
 use Rattle.std.proofs.lemmas.Bool.Decides.{nat_tests}
 use Rattle.std.proofs.lemmas.List.Sums.{sum_by-cons}
 use Rattle.clk_base.specs.declared.clock.ClockId.{ClockId}
 use Rattle.clk_base.specs.declared.call.Micro.{Micro}
 use Rattle.clk_base.specs.declared.call.Micro.TheVariants as micro
-use Rattle.clk_model.specs.Lists.{is_in, without}
-use Rattle.clk_model.proofs.OnceLaws.{length-filter-le}
+use Rattle.clk_model.specs.Lists.{without}
 use Rattle.clk_model.specs.Step.{rest_of, cut_short}
-use Rattle.clk_model.proofs.WeightLaws.{cut_short-le}
+use Rattle.clk_model.proofs.WeightLaws.{cut_short-le, without-le}
 use Rattle.clk_flight.specs.declared.front.Front.{Front}
 use Rattle.clk_flight.specs.declared.front.Front.TheVariants.{Empty, Poll, Raise, Lower, Falls, Posts}
 use Rattle.clk_flight.specs.Fronts.{falls, posts, aborts_behind, front_behind, script_behind, HasSteps, IsCounted}
 use Rattle.clk_flight.specs.Flights.{FlightState, own_first, own_step, seeks_plls}
 use Rattle.clk_flight.specs.Moves.{gone_on, found_none, comes_again, raised_once, lowered_once, timed_out_in, is_last_no, front_polled, front_fallen, with_raised, visited}
 use Rattle.clk_flight.specs.Kept.{room_for, front_room, IsKept}
+use Rattle.clk_flight.proofs.LeftLaws.{seeks_first}
 
 -- ---- what stands in front
 
@@ -133,10 +133,6 @@ seeks_alone f (Lower x) seeks plls again = refl
 seeks_alone f (Falls told left) seeks plls again = absurd cc
 seeks_alone f (Posts c told left old new) seeks plls again = absurd cc
 
-while_going : (going : Bool) (first : Option Micro) → seeks_plls (if going then first else None) ≡ true → seeks_plls first ≡ true
-while_going true first seeks = seeks
-while_going false first seeks = absurd cc
-
 pub found_none-keeps : (f : FlightState) (room : ℕ) → seeks_plls (own_step f) ≡ true → IsKept f room → IsKept (found_none f) room
 found_none-keeps f room seeks kept = record {
   steps = behind_steps f.raised f.front kept.steps;
@@ -144,7 +140,7 @@ found_none-keeps f room seeks kept = record {
   again = omega arith;
   room =
       let script = script_behind-le (room_for f.plls) f.front f.left in
-      let front = seeks_alone f f.front (while_going f.going (own_first f f.front) seeks) f.plls 0 in
+      let front = seeks_alone f f.front (seeks_first f.going (own_first f f.front) seeks) f.plls 0 in
       let had = kept.room in
       omega arith;
 }
@@ -276,9 +272,6 @@ polled-keeps f answer room more kept = record {
   same_room t (Lower x) = refl
   same_room t (Falls told left) = refl
   same_room t (Posts c told left old new) = refl
-
-pub without-le : (dropped xs : List ℕ) → length (without dropped xs) ≤ length xs
-without-le dropped xs = length-filter-le (λ x. not (is_in x dropped)) xs
 
 pub with_raised-keeps : (f : FlightState) (ys : List ℕ) (room : ℕ) → length ys ≤ length f.raised → IsKept f room → IsKept (with_raised f ys) room
 with_raised-keeps f ys room fewer kept = record {

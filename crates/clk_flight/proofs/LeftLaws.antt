@@ -12,7 +12,7 @@ use Rattle.clk_model.specs.State.{NotifierRow}
 use Rattle.clk_model.specs.Chain.{clock_id}
 use Rattle.clk_model.specs.Notices.{notifiers_of}
 use Rattle.clk_model.specs.Step.{rest_of}
-use Rattle.clk_model.proofs.WeightLaws.{cut_short-le}
+use Rattle.clk_model.proofs.WeightLaws.{cut_short-le, without-le}
 use Rattle.clk_flight.specs.declared.front.Front.{Front}
 use Rattle.clk_flight.specs.declared.front.Front.TheVariants.{Empty, Poll, Raise, Lower, Falls, Posts}
 use Rattle.clk_flight.specs.Fronts.{abort_of, called_off, post_to, aborts_behind, falls, posts, front_behind, script_behind, HasSteps}
@@ -21,7 +21,6 @@ use Rattle.clk_flight.specs.Moves.{others, gone_on, found_none, comes_again, rai
 use Rattle.clk_flight.specs.LeftOver.{step_weight, front_weight, left_over}
 use Rattle.clk_flight.specs.Kept.{IsKept}
 use Rattle.clk_flight.specs.Steps.{is_taken, is_fall, LeavesLess, LeavesLessAt}
-use Rattle.clk_flight.proofs.KeptLaws.{without-le}
 
 -- ---- weights
 
@@ -125,7 +124,7 @@ seeks_going : (going : Bool) (o : Option Micro) → seeks_plls (if going then o 
 seeks_going true o e = refl
 seeks_going false o e = absurd cc
 
-seeks_first : (going : Bool) (o : Option Micro) → seeks_plls (if going then o else None) ≡ true → seeks_plls o ≡ true
+pub seeks_first : (going : Bool) (o : Option Micro) → seeks_plls (if going then o else None) ≡ true → seeks_plls o ≡ true
 seeks_first true o e = e
 seeks_first false o e = absurd cc
 

@@ -2,13 +2,13 @@
 use Rattle.std.proofs.Common.{◌≡◌, ℕ, zero, suc, ◌+◌, ◌||◌, Bool, true, false, not, cond, List, [], ◌∷◌, ◌++◌, refl, sym, ap, ◌∙◌, arith, drop, map, nat_eq}
 use Rattle.std.specs.Prelude.{filter, reverse}
 use Rattle.std.specs.List.{list_any}
-use Rattle.std.proofs.lemmas.Bool.Decides.{nat_tests}
 use Rattle.std.proofs.lemmas.List.Folds.{list_any-append}
 use Rattle.std.proofs.lemmas.List.{reverse-append, append-nil}
 use Rattle.clk_base.specs.declared.clock.ClockId.{ClockId}
 use Rattle.clk_base.specs.declared.call.Micro.{Micro}
 use Rattle.clk_model.specs.Lists.{is_in, without}
 use Rattle.clk_model.specs.Step.{rest_of}
+use Rattle.clk_model.proofs.OnceLaws.{turned}
 
 -- what stands behind the first of what is left
 pub drop_one : (n : ℕ) (xs : List Micro) → drop (n + 1) xs ≡ rest_of (drop n xs)
@@ -30,11 +30,8 @@ filter-append p (x ∷ xs) ys = one (p x) (filter-append p xs ys) where
 reverse-cons : (x : ℕ) (xs : List ℕ) → reverse (x ∷ xs) ≡ reverse xs ++ x ∷ []
 reverse-cons x xs = reverse-append (x ∷ []) xs
 
-same_place : (x y : ℕ) → nat_eq x y ≡ nat_eq y x
-same_place x y = grind (arith, nat_tests)
-
 kept_one : (x y : ℕ) (t : Bool) → nat_eq x y ≡ t → without (y ∷ []) (x ∷ []) ≡ cond t [] (x ∷ [])
-kept_one x y t is = ap (λ (b : Bool). cond (not (b || false)) (x ∷ []) []) (same_place y x ∙ is) ∙ each t where
+kept_one x y t is = ap (λ (b : Bool). cond (not (b || false)) (x ∷ []) []) (turned y x ∙ is) ∙ each t where
   each : (b : Bool) → cond (not (b || false)) (x ∷ []) [] ≡ cond b [] (x ∷ [])
   each true = refl
   each false = refl

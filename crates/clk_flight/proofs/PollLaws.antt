@@ -1,5 +1,5 @@
 -- The flight stays the change of the definitions through a poll, also where it times out.
-use Rattle.std.proofs.Common.{◌≡◌, ℕ, zero, suc, ◌+◌, ◌-◌, ◌≤◌, ◌&&◌, ◌||◌, Bool, true, false, not, cond, List, [], ◌∷◌, ◌++◌, Option, Some, None, refl, sym, ap, ◌∙◌, subst, arith, length, map, take, drop, nat_eq, nat_le}
+use Rattle.std.proofs.Common.{◌≡◌, ℕ, zero, suc, ◌+◌, ◌-◌, ◌≤◌, ◌&&◌, ◌||◌, Bool, true, false, cond, List, [], ◌∷◌, ◌++◌, Option, Some, None, refl, sym, ap, ◌∙◌, subst, arith, length, map, take, drop, nat_eq, nat_le}
 use Rattle.std.specs.Prelude.{slice_get, is_none, if◌then◌else◌}
 use Rattle.std.specs.List.{list_any, list_all}
 use Rattle.std.specs.Option.{option_map_or}
@@ -16,7 +16,7 @@ use Rattle.clk_model.specs.Chain.{clock_id}
 use Rattle.clk_model.specs.Notices.{abort_list}
 use Rattle.clk_model.specs.Step.{on, todo, taken, rest_of, left_behind, is_end, from_first, cut_short, sets_parent, timed_out, poll}
 use Rattle.clk_model.specs.Laws.Paced.{may_time_out, is_notice, is_scripted, ends_last, IsPaced}
-use Rattle.clk_model.proofs.Members.{both_left, both_right}
+use Rattle.clk_model.proofs.Members.{both_left}
 use Rattle.clk_model.proofs.WeightLaws.{abort_notices}
 use Rattle.clk_flight.specs.declared.front.Front.{Front}
 use Rattle.clk_flight.specs.declared.front.Front.TheVariants.{Empty, Poll, Raise, Lower, Falls, Posts}
@@ -26,6 +26,7 @@ use Rattle.clk_flight.specs.Moves.{timed_out_in, polled_in}
 use Rattle.clk_flight.specs.Steps.{Polls}
 use Rattle.clk_flight.proofs.KeptLaws.{going_step, falls_steps}
 use Rattle.clk_flight.proofs.ChangeLaws.{left_taken, times_out_before, falls_polls, none_of}
+use Rattle.clk_model.proofs.PacedLaws.{notices_calm, falls_calm, ending_calm}
 
 -- ---- the script has no poll
 
@@ -44,7 +45,7 @@ map-take zero ms = ap (map called_off) (none_of ms) ∙ sym (none_of (map called
 map-take (suc n) [] = refl
 map-take (suc n) (m ∷ ms) = ap (λ xs. called_off m ∷ xs) (map-take n ms)
 
-drop_none : (ms : List Micro) → drop 0 ms ≡ ms
+pub drop_none : (ms : List Micro) → drop 0 ms ≡ ms
 drop_none [] = refl
 drop_none (m ∷ ms) = refl
 
@@ -78,78 +79,16 @@ length-take (suc n) (m ∷ ms) le = let rest = length-take n ms (let h : suc n �
 
 -- ---- behind a timeout
 
-notice_in_time : (m : Micro) → is_notice m ≡ true → may_time_out m ≡ false
-notice_in_time (micro.Notify kind c id old new) e = refl
-notice_in_time (micro.Raise x) e = absurd cc
-notice_in_time (micro.Poll x) e = absurd cc
-notice_in_time (micro.Fall x) e = refl
-notice_in_time (micro.HoldPrepare x) e = refl
-notice_in_time (micro.HoldEnable x) e = refl
-notice_in_time (micro.Relink c p) e = refl
-notice_in_time (micro.WriteMux c p) e = refl
-notice_in_time (micro.DropEnable x) e = refl
-notice_in_time (micro.DropPrepare x) e = refl
-notice_in_time (micro.Lower x) e = refl
-notice_in_time (micro.Visit c) e = refl
-notice_in_time (micro.Register c) e = refl
-notice_in_time (micro.Settle c) e = refl
-notice_in_time (micro.Close c) e = refl
-notice_in_time (micro.Unpower c) e = refl
-notice_in_time micro.End e = refl
-
-pub notices_in_time : (ms : List Micro) → list_all is_notice ms ≡ true → list_any may_time_out ms ≡ false
-notices_in_time [] all = refl
-notices_in_time (m ∷ ms) all =
-    ap (λ (t : Bool). t || list_any may_time_out ms) (notice_in_time m (both_left (is_notice m) (list_all is_notice ms) all))
-    ∙ notices_in_time ms (both_right (is_notice m) (list_all is_notice ms) all)
-
-falls_in_time : (ys : List ℕ) → list_any may_time_out (map (λ y. micro.Fall (clock_id y)) ys) ≡ false
-falls_in_time [] = refl
-falls_in_time (y ∷ ys) = falls_in_time ys
-
-end_in_time : (m : Micro) → is_end m ≡ true → may_time_out m ≡ false
-end_in_time (micro.Raise x) e = absurd cc
-end_in_time (micro.Poll x) e = absurd cc
-end_in_time (micro.Notify kind c id old new) e = refl
-end_in_time (micro.Fall x) e = refl
-end_in_time (micro.HoldPrepare x) e = refl
-end_in_time (micro.HoldEnable x) e = refl
-end_in_time (micro.Relink c p) e = refl
-end_in_time (micro.WriteMux c p) e = refl
-end_in_time (micro.DropEnable x) e = refl
-end_in_time (micro.DropPrepare x) e = refl
-end_in_time (micro.Lower x) e = refl
-end_in_time (micro.Visit c) e = refl
-end_in_time (micro.Register c) e = refl
-end_in_time (micro.Settle c) e = refl
-end_in_time (micro.Close c) e = refl
-end_in_time (micro.Unpower c) e = refl
-end_in_time micro.End e = refl
-
--- nothing stands behind an end that times out
-ended_in_time : (ms : List Micro) → ends_last ms ≡ true → list_any may_time_out (from_first is_end ms) ≡ false
-ended_in_time [] last = refl
-ended_in_time (m ∷ ms) last = one (is_end m) refl (ended_in_time ms (both_right (not (is_end m) || is_none (slice_get ms 0)) (ends_last ms) last)) where
-  nil : (xs : List Micro) → is_none (slice_get xs 0) ≡ true → xs ≡ []
-  nil [] e = refl
-  nil (x ∷ xs) e = absurd cc
-
-  one : (t : Bool) → is_end m ≡ t → list_any may_time_out (from_first is_end ms) ≡ false → list_any may_time_out (if t then m ∷ ms else from_first is_end ms) ≡ false
-  one true e rest =
-      let alone_ : is_none (slice_get ms 0) ≡ true = sym (ap (λ (b : Bool). not b || is_none (slice_get ms 0)) e) ∙ both_left (not (is_end m) || is_none (slice_get ms 0)) (ends_last ms) last in
-      ap (λ (xs : List Micro). may_time_out m || list_any may_time_out xs) (nil ms alone_) ∙ ap (λ (b : Bool). b || false) (end_in_time m e)
-  one false e rest = rest
-
 -- so behind the timeout of a change of parent no step may time out, and no other call has notices to call off
 no_aborts_left : (what : Sleeping) (raised : List ℕ) (aborts some_ left : List Micro) → list_all is_notice aborts ≡ true → ends_last left ≡ true
     → list_any may_time_out ((map (λ y. micro.Fall (clock_id y)) raised ++ aborts) ++ cut_short what left) ≡ true → (if sets_parent what then some_ else []) ≡ []
 no_aborts_left (call.SetParent h p) raised aborts some_ left all last may =
     let front : list_any may_time_out (map (λ y. micro.Fall (clock_id y)) raised ++ aborts) ≡ false =
     list_any-append may_time_out (map (λ y. micro.Fall (clock_id y)) raised) aborts
-    ∙ ap (λ (t : Bool). t || list_any may_time_out aborts) (falls_in_time raised) ∙ notices_in_time aborts all in
+    ∙ ap (λ (t : Bool). t || list_any may_time_out aborts) (falls_calm raised) ∙ notices_calm aborts all in
     let none : list_any may_time_out ((map (λ y. micro.Fall (clock_id y)) raised ++ aborts) ++ from_first is_end left) ≡ false =
     list_any-append may_time_out (map (λ y. micro.Fall (clock_id y)) raised ++ aborts) (from_first is_end left)
-    ∙ ap (λ (t : Bool). t || list_any may_time_out (from_first is_end left)) front ∙ ended_in_time left last in
+    ∙ ap (λ (t : Bool). t || list_any may_time_out (from_first is_end left)) front ∙ ending_calm left last in
     let both : false ≡ true = sym none ∙ may in
     absurd cc
 no_aborts_left (call.Get found) raised aborts some_ left all last may = refl

@@ -1,5 +1,5 @@
 -- A raise or a lower of a paced change has no more PLLs to go than a line of possible parents has.
-use Rattle.std.proofs.Common.{◌≡◌, ◌+◌, ◌≤◌, ◌++◌, ◌∷◌, [], ℕ, Some, sym, ap, ◌∙◌, subst, arith, length, List}
+use Rattle.std.proofs.Common.{◌≡◌, ◌≤◌, ◌++◌, ◌∷◌, [], Some, sym, ap, ◌∙◌, subst, arith, length, List}
 use Rattle.std.specs.Prelude.{slice_get}
 use Rattle.clk_base.specs.declared.call.Micro.{Micro}
 use Rattle.clk_base.specs.declared.call.Micro.TheVariants as micro
@@ -8,7 +8,7 @@ use Rattle.clk_base.proofs.Valid.{lines_end}
 use Rattle.clk_model.specs.State.{State, Change}
 use Rattle.clk_model.specs.Script.{plls}
 use Rattle.clk_model.specs.Step.{todo, to_raise, to_lower}
-use Rattle.clk_model.specs.Laws.Paced.{Front, tells, polls, polls_to_raise, raises, lowers, IsPaced, StillToRaise, StillToLower}
+use Rattle.clk_model.specs.Laws.Paced.{Front, tells, polls, polls_to_raise, raises, lowers, StillToRaise, StillToLower}
 use Rattle.clk_model.proofs.PllLaws.{to_raise_few, to_lower_few}
 use Rattle.clk_flight.specs.Laws.{PacedSeekFew}
 

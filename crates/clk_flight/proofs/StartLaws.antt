@@ -4,7 +4,6 @@ use Rattle.std.specs.Prelude.{slice_index, flat_map, if◌then◌else◌}
 use Rattle.std.specs.List.{list_any, list_all}
 use Rattle.std.proofs.lemmas.List.{append_assoc, length-append, length-map}
 use Rattle.std.proofs.lemmas.List.Folds.{list_any-append, list_all-append}
-use Rattle.std.proofs.lemmas.List.Sums.{sum_by-cons}
 use Rattle.clk_base.specs.declared.call.Sleeping.{Sleeping}
 use Rattle.clk_base.specs.declared.call.Sleeping.TheVariants as call
 use Rattle.clk_base.specs.declared.call.Micro.{Micro}
@@ -23,10 +22,10 @@ use Rattle.clk_model.specs.Script.{planned, move_of, is_raise, notices_of}
 use Rattle.clk_model.specs.Begin.{begun, reparenting}
 use Rattle.clk_model.specs.Step.{sets_parent}
 use Rattle.clk_model.specs.Laws.Paced.{may_time_out, is_notice}
-use Rattle.clk_model.proofs.Members.{both_left, both_right}
+use Rattle.clk_model.proofs.Members.{both_left, both_right, not_either}
 use Rattle.clk_model.proofs.BeginsLaws.{changes_rate, Starts, raising_handle, lowering_handle, planning, reparents, probing, sweeping, Begins, answers, gives, takes, adjusts, prepares, unprepares, notes, registers, goes_on, begins_so}
 use Rattle.clk_model.proofs.FlightLaws.{begin_is}
-use Rattle.clk_model.proofs.FreshLaws.{fresh_reparenting}
+use Rattle.clk_model.proofs.FreshLaws.{fresh_reparenting, length-aborts}
 use Rattle.clk_model.proofs.WeightLaws.{abort_notices}
 use Rattle.clk_flight.specs.declared.start.Start.{Start}
 use Rattle.clk_flight.specs.Fronts.{called_off}
@@ -36,10 +35,6 @@ use Rattle.clk_flight.specs.Laws.{IsPlanned, CallsStart}
 use Rattle.clk_flight.proofs.ChangeLaws.{none_of}
 
 -- ---- notices without a veto, as notices that the change is called off
-
-either_none : (a b : Bool) → (a || b) ≡ false → (a ≡ false) × (b ≡ false)
-either_none true b e = absurd cc
-either_none false b e = (refl, e)
 
 until_called_off : (rates : Rates) (c : ℕ) (ns : List NotifierRow) → list_any is_veto (until_veto rates c ns) ≡ false
     → map called_off (until_veto rates c ns) ≡ map (λ n. micro.Notify notice.Abort (clock_id c) n.id (slice_index rates.before c) (slice_index rates.outcome c)) ns
@@ -61,20 +56,10 @@ pre_called_off : (rates : Rates) (ns : List NotifierRow) (cs : List ℕ) → lis
 pre_called_off rates ns [] none = refl
 pre_called_off rates ns (c ∷ cs) none =
     let here : List Micro = until_veto rates c (notifiers_of ns c) in
-    let parts = either_none (list_any is_veto here) (list_any is_veto (pre_list rates ns cs)) (sym (list_any-append is_veto here (pre_list rates ns cs)) ∙ none) in
+    let parts = not_either (list_any is_veto here) (list_any is_veto (pre_list rates ns cs)) (sym (list_any-append is_veto here (pre_list rates ns cs)) ∙ none) in
     map-append called_off here (pre_list rates ns cs)
     ∙ ap (λ ms. ms ++ map called_off (pre_list rates ns cs)) (until_called_off rates c (notifiers_of ns c) parts.0)
     ∙ ap (λ ms. map (λ n. micro.Notify notice.Abort (clock_id c) n.id (slice_index rates.before c) (slice_index rates.outcome c)) (notifiers_of ns c) ++ ms) (pre_called_off rates ns cs parts.1)
-
-length-aborts : (rates : Rates) (s : State) (cs : List ℕ) → length (abort_list rates s.notifiers cs) ≡ notices_of s cs
-length-aborts rates s [] = refl
-length-aborts rates s (c ∷ cs) =
-    let one : List Micro = map (λ n. micro.Notify notice.Abort (clock_id c) n.id (slice_index rates.before c) (slice_index rates.outcome c)) (notifiers_of s.notifiers c) in
-    let many : length one ≡ length (notifiers_of s.notifiers c) = length-map (notifiers_of s.notifiers c) _ in
-    let sum = sum_by-cons (λ x. length (notifiers_of s.notifiers x)) c cs in
-    let rest = length-aborts rates s cs in
-    let both = length-append one (abort_list rates s.notifiers cs) in
-    omega arith
 
 -- ---- no raise among notices
 

@@ -255,7 +255,7 @@ script_raises (m ∷ ms) all late =
       | inr later ↦ or_right (is_raise m) (list_any is_raise ms) (script_raises ms (both_right (is_scripted m) (list_all is_scripted ms) all) later)
     ]
 
-length-aborts : (rates : Rates) (s : State) (cs : List ℕ) → length (abort_list rates s.notifiers cs) ≡ notices_of s cs
+pub length-aborts : (rates : Rates) (s : State) (cs : List ℕ) → length (abort_list rates s.notifiers cs) ≡ notices_of s cs
 length-aborts rates s [] = refl
 length-aborts rates s (c ∷ cs) =
     let one : List Micro = map (λ n. micro.Notify notice.Abort (clock_id c) n.id (slice_index rates.before c) (slice_index rates.outcome c)) (notifiers_of s.notifiers c) in
