@@ -2,6 +2,7 @@
 #![tactic(auto)]
 
 mod cli;
+mod command_line;
 mod reading;
 mod usage;
 

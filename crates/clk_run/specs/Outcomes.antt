@@ -1,5 +1,5 @@
 -- What a program that ran a bundle did, and why.
-use Rattle.std.specs.Prelude.{◌≡◌, ◌⊎◌, ◌==◌, if◌then◌else◌, ℕ, List, Bool, Option, Some, None, Result, MatchResult}
+use Rattle.std.specs.Prelude.{◌≡◌, ◌⊎◌, ◌==◌, if◌then◌else◌, ℕ, List, Bool, true, false, Option, Some, None, Result, MatchResult}
 use Rattle.std.specs.Io.KnownBytes.{Appends}
 use Rattle.clk_cli.specs.declared.cli.Cli.{Cli}
 use Rattle.clk_cli.specs.Usage.{usage_line}
@@ -9,13 +9,13 @@ use Rattle.clk_io.specs.declared.faults.PrintFault.{PrintFault}
 use Rattle.clk_io.specs.declared.faults.PrintFault.TheVariants as print_fault
 use Rattle.drv_scripts.specs.declared.bundle.Bundle.{Bundle}
 use Rattle.bundle_text.specs.declared.reason.Reason.{Reason}
-use Rattle.bundle_text.specs.declared.reason.Reason.TheVariants.{TooLong}
+use Rattle.bundle_text.specs.declared.reason.Reason.TheVariants.{TooLong, NotYet}
 use Rattle.clk_io.specs.declared.reading.TheConstants.{MOST_BYTES}
 use Rattle.clk_run.specs.Built.{SpellsRun, RefusesRun}
 use Rattle.clk_run.specs.declared.sim.Stop.{Stop}
 use Rattle.clk_run.specs.declared.sim.Stop.TheVariants as stop
 use Rattle.clk_run.specs.Refusals.{refusal_text}
-use Rattle.clk_run.specs.Runs.{Printed, PrintedFront}
+use Rattle.clk_run.specs.Runs.{Printed, PrintedFront, runs}
 
 -- ---- reading
 
@@ -101,29 +101,48 @@ IsStatus status = (status ≡ 1) ⊎ IsRunStatus status
 abbrev pub MeansNothing : Option Cli → Option (List ℕ) → Option (List ℕ) → Option (List ℕ) → Option (List ℕ) → Type 0
 MeansNothing meant left left' written written' = (meant ≡ None) × (left' ≡ left) × Appends written written' usage_line
 
--- status 0: the words mean a run, and it was done
+-- the words mean this, and it can be run so far
+abbrev pub AskFor : Option Cli → Cli → Type 0
+AskFor meant cli = (meant ≡ Some cli) × (runs cli ≡ true)
+
+-- the words mean what can't be run yet
+abbrev pub AskTooEarly : Option Cli → Type 0
+AskTooEarly meant = (cli : Cli) × (meant ≡ Some cli) × (runs cli ≡ false)
+
+-- the line that says so
+abbrev pub not_yet_line : List ℕ
+not_yet_line = refusal_text 0 NotYet
+
+-- status 0: the words ask for a run, and it was done
 abbrev pub MeansDone : Option Cli → Option (List ℕ) → Option (List ℕ) → Option (List ℕ) → Option (List ℕ) → Option (List ℕ) → Option (Option (List ℕ)) → Type 0
-MeansDone meant before left left' written written' back = (cli : Cli) × (meant ≡ Some cli) × Done cli before left left' written written' back
+MeansDone meant before left left' written written' back = (cli : Cli) × AskFor meant cli × Done cli before left left' written written' back
 
--- status 2: the words mean a run, and the bundle is refused
+-- status 2: the words ask for a run, and the bundle is refused; or they ask for what can't be run yet, nothing was read, and the line was printed that says so
 abbrev pub MeansRefused : Option Cli → Option (List ℕ) → Option (List ℕ) → Option (List ℕ) → Option (List ℕ) → Type 0
-MeansRefused meant left left' written written' = (cli : Cli) × (meant ≡ Some cli) × Refused left left' written written'
+MeansRefused meant left left' written written' =
+    ((cli : Cli) × AskFor meant cli × Refused left left' written written')
+    ⊎ (AskTooEarly meant × (left' ≡ left) × Appends written written' not_yet_line)
 
--- status 4: the words mean a run, and nothing was printed
+-- status 4: the words ask for a run, and nothing was printed
 abbrev pub MeansUnread : Option Cli → Option (List ℕ) → Option (List ℕ) → Type 0
-MeansUnread meant written written' = (cli : Cli) × (meant ≡ Some cli) × (written' ≡ written)
+MeansUnread meant written written' = (cli : Cli) × AskFor meant cli × (written' ≡ written)
 
--- status 5: a front of the line that says how the program is called was printed, or of what a run prints
+-- status 5: a front was printed of the line that says how the program is called, of what a run prints, or of the line that says that the words can't be run yet
 abbrev pub MeansUnwritten : Option Cli → Bool → Option (List ℕ) → Option (List ℕ) → Option (List ℕ) → Option (List ℕ) → Type 0
 MeansUnwritten meant told left left' written written' =
     ((meant ≡ None) × AppendsFront written written' usage_line)
-    ⊎ ((cli : Cli) × (meant ≡ Some cli) × Unwritten cli told left left' written written')
+    ⊎ (((cli : Cli) × AskFor meant cli × Unwritten cli told left left' written written')
+    ⊎ (AskTooEarly meant × AppendsFront written written' not_yet_line))
 
 -- status 3: nothing was printed, or a front of what would have been
 abbrev pub MeansShort : Option Cli → Bool → Option (List ℕ) → Option (List ℕ) → Option (List ℕ) → Option (List ℕ) → Type 0
 MeansShort meant told left left' written written' = (written' ≡ written) ⊎ MeansUnwritten meant told left left' written written'
 
--- words that mean nothing end in status 1, and for the others the bytes decide
+-- what can't be run yet ends in status 2, and what can be run as the bytes decide
+abbrev pub AskDecided : Cli → Option (List ℕ) → ℕ → Type 0
+AskDecided cli left status = (runs cli ≡ false → EndsWith 2 status) × (runs cli ≡ true → Decides left status)
+
+-- words that mean nothing end in status 1, those that can't be run yet in status 2, and for the others the bytes decide
 abbrev pub MeansDecided : Option Cli → Option (List ℕ) → ℕ → Type 0
 MeansDecided None left status = EndsWith 1 status
-MeansDecided (Some cli) left status = Decides left status
+MeansDecided (Some cli) left status = AskDecided cli left status

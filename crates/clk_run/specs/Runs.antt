@@ -1,5 +1,5 @@
 -- Runs of a bundle: which journals they have, and what they print.
-use Rattle.std.specs.Prelude.{◌≡◌, ◌≤◌, ◌⊎◌, IfSome, is_some, take, drop, ℕ, ◌+◌, List, [], ◌∷◌, ◌++◌, Bool, true, Option, None, nat_lt, length, map, codes, sum_by}
+use Rattle.std.specs.Prelude.{◌≡◌, ◌≤◌, ◌⊎◌, IfSome, is_some, take, drop, ℕ, ◌+◌, List, [], ◌∷◌, ◌++◌, Bool, true, false, not, ◌&&◌, Option, None, nat_lt, length, map, codes, sum_by}
 use Rattle.std.specs.List.{list_all, AllByRecursion}
 use Rattle.std.specs.Option.{option_map}
 use Rattle.clk_base.specs.Description.{Description}
@@ -103,6 +103,17 @@ pub record IsTextOf (b : Bundle) (cli : Cli) (told : Bool) (words : Registers) (
   pub text_is : text ≡ run_text b.desc.defs (drivers_in cli.mode b) answers words
 
 -- ---- what can be run so far
+
+-- whether a command of the program can be run so far
+abbrev pub is_built_mode : Mode → Bool
+is_built_mode Check = true
+is_built_mode Sim = true
+is_built_mode Run = false
+is_built_mode (Bench n) = false
+
+-- whether what the words ask can be run so far: a command that can, and no journal
+abbrev pub runs : Cli → Bool
+runs cli = is_built_mode cli.mode && not cli.journal
 
 -- whether each of these commands can be run so far over the clocks of a description
 abbrev pub are_built : Description → List Command → Bool

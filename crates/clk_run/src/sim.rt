@@ -49,8 +49,8 @@ fn take_bundle<S: Source>(alloc: Global, input: &mut S) -> Result<Bundle, Stop>
     }
 }
 
-// The status after a fault of printing.
-fn status_of(fault: PrintFault) -> u8
+/// The status after a fault of printing.
+pub(crate) fn status_of(fault: PrintFault) -> u8
     ensures { result ≡ status_of fault }
 {
     match fault {
