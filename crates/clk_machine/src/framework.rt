@@ -30,11 +30,11 @@ pub struct Core<B: Bank> {
 }
 
 impl<B: Bank> Model for Core<B> {
-    ghost use Rattle.clk_machine.specs.Run.{Run, start_of, IsRun};
+    ghost use Rattle.clk_machine.specs.Run.{Run, run_of, IsRun};
 
     ghost Value = { Run };
 
-    ghost view = { λ c. record { start = start_of c.machine c.words.items; journal = c.log.entries; told = c.machine.told; behind = c.machine.behind } };
+    ghost view = { λ c. run_of c.machine c.words.items c.log };
 
     ghost invariant = { λ c. IsRun c.machine c.words.items c.log };
 }
@@ -96,7 +96,7 @@ impl<B: Bank> Core<B> {
         // Where the bank tells its words, a refusal spends a credit and changes nothing else.
         ensures refused { self.old.told ≡ true → LeavesRefused (Done result) (now_of self.old) (now_of self.new) }
     {
-        let reply = self.machine.enable(driver, handle.number);
+        let reply = self.machine.enable(driver, handle);
         self.log.push(Entry {
             driver,
             event: Event::Enable(handle.number),
@@ -116,7 +116,7 @@ impl<B: Bank> Core<B> {
         // Where the bank tells its words, a refusal spends a credit and changes nothing else.
         ensures refused { self.old.told ≡ true → LeavesRefused (Done result) (now_of self.old) (now_of self.new) }
     {
-        let reply = self.machine.disable(driver, handle.number);
+        let reply = self.machine.disable(driver, handle);
         self.log.push(Entry {
             driver,
             event: Event::Disable(handle.number),
@@ -136,7 +136,7 @@ impl<B: Bank> Core<B> {
         // Where the bank tells its words, a refusal spends a credit and changes nothing else.
         ensures refused { self.old.told ≡ true → LeavesRefused (Done result) (now_of self.old) (now_of self.new) }
     {
-        let reply = self.machine.running(driver, handle.number);
+        let reply = self.machine.running(driver, handle);
         self.log.push(Entry {
             driver,
             event: Event::Running(handle.number),
