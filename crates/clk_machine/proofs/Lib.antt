@@ -6,6 +6,7 @@ pub mod Shapes
 pub mod Soundness
 pub mod Kept
 pub mod Attaching
+pub mod CallEvents
 pub mod Events
 pub mod Reasons
 pub mod AlwaysFed
@@ -16,9 +17,9 @@ pub mod Room
 pub mod Writing
 pub mod Following
 pub mod Entered
-pub mod CallEvents
 pub mod Opened
 pub mod Registering
+pub mod Notifying
 pub mod Entering
 pub mod Rows
 pub mod Causing

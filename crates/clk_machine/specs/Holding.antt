@@ -1,8 +1,10 @@
--- What a handle holds more or less, and a state with a handle in its place.
-use Rattle.std.specs.Prelude.{ℕ, ◌+◌, ◌-◌, Option}
+-- What a handle holds more or less, and a state with a handle in its place or another notifier.
+use Rattle.std.specs.Prelude.{ℕ, ℤ, ◌+◌, ◌-◌, ◌++◌, [], ◌∷◌, Option}
+use Rattle.clk_base.specs.declared.handle.Policy.{Policy}
 use Rattle.clk_model.specs.declared.row.HandleRow.{HandleRow}
 use Rattle.clk_model.specs.State.{State}
 use Rattle.clk_model.specs.Begin.{put_handle, given}
+use Rattle.notifiers.specs.Chains.{without_notifier}
 
 -- one enable, one prepare or one exclusive hold more or less
 abbrev pub enabled_more : HandleRow → HandleRow
@@ -30,6 +32,13 @@ puts number o s = put_handle s number o
 -- the state with a new handle of a driver on a clock
 abbrev pub gives : ℕ → ℕ → State → State
 gives driver c s = (given s driver c).0
+
+-- the state with a notifier of a clock more, and without the one of this id
+abbrev pub notified : ℕ → ℕ → ℤ → Policy → State → State
+notified c id priority policy s = record s { notifiers = s.notifiers ++ record { clock = c; id = id; priority = priority; policy = policy } ∷ [] }
+
+abbrev pub unnotified : ℕ → ℕ → State → State
+unnotified c id s = record s { notifiers = without_notifier c id s.notifiers }
 
 -- the state as it is
 abbrev pub stays : State → State

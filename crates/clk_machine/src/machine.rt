@@ -9,7 +9,9 @@ ghost use Rattle.clk_model.specs.Begin.{most_credits};
 
 mod calls;
 mod enabling;
+mod exclusives;
 mod holding;
+mod notifying;
 mod registering;
 mod rows;
 mod telling;
@@ -137,6 +139,12 @@ impl<B: Bank> Machine<B> {
             Sleeping::Unprepare(handle) => Ok(self.unprepare(driver, handle)),
             Sleeping::GetRate(handle) => Ok(self.rate(driver, handle)),
             Sleeping::GetParent(handle) => Ok(self.parent(driver, handle)),
+            Sleeping::ExclusiveGet(handle) => Ok(self.exclusive_get(driver, handle)),
+            Sleeping::ExclusivePut(handle) => Ok(self.exclusive_put(driver, handle)),
+            Sleeping::NotifierAdd(handle, id, priority, policy) => {
+                self.notifier_add(driver, handle, id, priority, policy)
+            }
+            Sleeping::NotifierRemove(handle, id) => Ok(self.notifier_remove(driver, handle, id)),
             Sleeping::Probe(clock) => Ok(self.probe(driver, clock)),
             _ => unreachable!(),
         }

@@ -3,7 +3,7 @@
 ghost use Rattle.std.specs.Prelude.{◌≡◌, ℕ, ◌<◌, true, false, length, IfOk, OnOk, OnErr, Some, None};
 ghost use Rattle.clk_model.specs.State.{registered, handle_at};
 ghost use Rattle.clk_model.specs.Begin.{holds_something};
-ghost use Rattle.clk_machine.specs.Holding.{enabled_more, enabled_less, prepared_more, prepared_less, puts, gives};
+ghost use Rattle.clk_machine.specs.Holding.{enabled_more, enabled_less, prepared_more, prepared_less, exclusive_more, exclusive_less, puts, gives};
 ghost use Rattle.clk_machine.specs.Stands.{nothing, Becomes};
 
 use super::Machine;
@@ -65,6 +65,31 @@ impl<B: Bank> Machine<B> {
         self.counts.release(&self.tree, row.clock);
         self.handles
             .set_counts(handle, row.prepares - 1, row.enables, row.exclusives);
+        self.spent += 1;
+    }
+
+    /// One exclusive hold of a live handle more.
+    pub(super) fn add_exclusive(&mut self, handle: Handle, row: HandleRow)
+        requires credit { self.old.spent < self.old.credits }
+        requires live { handle_at self.old.table.handles handle.number ≡ Some row }
+        ensures { Becomes self.old nothing (puts handle.number (Some (exclusive_more row))) self.new }
+    {
+        self.counts.protect(&self.tree, row.clock);
+        self.handles
+            .set_counts(handle, row.prepares, row.enables, row.exclusives + 1);
+        self.spent += 1;
+    }
+
+    /// One exclusive hold of a live handle less.
+    pub(super) fn drop_exclusive(&mut self, handle: Handle, row: HandleRow)
+        requires credit { self.old.spent < self.old.credits }
+        requires live { handle_at self.old.table.handles handle.number ≡ Some row }
+        requires some { 0 < row.exclusives }
+        ensures { Becomes self.old nothing (puts handle.number (Some (exclusive_less row))) self.new }
+    {
+        self.counts.unprotect(&self.tree, row.clock);
+        self.handles
+            .set_counts(handle, row.prepares, row.enables, row.exclusives - 1);
         self.spent += 1;
     }
 

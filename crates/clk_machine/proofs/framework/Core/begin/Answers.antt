@@ -2,6 +2,8 @@ use Rattle.std.proofs.Common.{◌≡◌, true, refl}
 use Rattle.clk_base.specs.declared.event.Event.TheVariants.{Begin}
 use Rattle.clk_base.specs.declared.event.Turn.TheVariants.{Done}
 use Rattle.clk_model.specs.State.{registered}
+use Rattle.clk_model.specs.Journal.{slotless}
+use Rattle.clk_model.proofs.CallCauseLaws.{calls_have_causes}
 use Rattle.clk_machine.specs.Built.{is_built_over}
 use Rattle.clk_machine.specs.Run.{can_make, run_of, state_of}
 use Rattle.clk_machine.specs.Sound.{IsPlaced}
@@ -55,6 +57,9 @@ returns-clause-causes g c =
     rw (← c.self.view_is)
     (λ told. run_causes m.machine c.begin.new.self m.words.items m.log c.args.driver c.args.what.now c.in_ok-reply.reply c.self.invariant c.in_ok-reply.ensures.ok
     (can_take m.machine (state_of m.machine m.words.items m.log) c.args.what.now (c.self.invariant.stands told) placed begins) told)
+
+pub returns-clause-turns : goal.returns-clause-turns
+returns-clause-turns g c = λ told. (calls_have_causes _ _ c.args.driver c.args.what.now (slotless (Done c.in_ok-reply.reply)) ((returns-clause-ok g c).step told)).1
 
 pub returns-clause-refused : goal.returns-clause-refused
 returns-clause-refused g c = λ told. appends_refused _ _ c.args.driver (Begin c.args.what.now) c.in_ok-reply.reply (returns-clause-ok g c) refl told
