@@ -7,13 +7,14 @@ use Rattle.clk_base.specs.declared.event.Reply.{Reply}
 use Rattle.clk_base.specs.declared.event.Reply.TheVariants as reply
 use Rattle.clk_base.specs.declared.event.Turn.TheVariants as turn
 use Rattle.clk_model.specs.State.{State}
-use Rattle.clk_model.specs.Journal.{slotless, replay, is_paid}
+use Rattle.clk_model.specs.Journal.{slotless, is_paid}
 use Rattle.clk_model.specs.Laws.Causes.{is_refusal, BeginCauses, LeavesRefused}
 use Rattle.clk_model.proofs.RefusalLaws.{refused_keeps}
-use Rattle.clk_machine.specs.Sound.{IsSound, IsPlaced, CanBegin}
-use Rattle.clk_machine.specs.Held.{Held, Takes}
+use Rattle.clk_machine.specs.Sound.{IsSound, CanTake}
+use Rattle.clk_machine.specs.Parts.{Parts}
+use Rattle.clk_machine.specs.Stands.{is_told, Enters}
 use Rattle.clk_machine.proofs.Reasons.{sound_causes}
-use Rattle.clk_machine.specs.Run.{Run, now_of, Logged, start_of, IsRun, Appends}
+use Rattle.clk_machine.specs.Run.{Run, now_of, Logged, state_of, IsRun, Appends}
 
 slotless_refusal : (r : Reply) → is_refusal (turn.Done r) ≡ true → is_refusal (slotless (turn.Done r)) ≡ true
 slotless_refusal reply.Fine h = absurd cc
@@ -32,11 +33,11 @@ appends_refused old new d e r appends paid told refuses =
     refused_keeps (now_of old) (now_of new) d e (slotless (turn.Done r)) paid (appends.step told) (slotless_refusal r refuses)
 
 -- the same of a core and its journal
-pub run_causes : (old new : Held) (words : List ℕ) (log : Logged) (d : ℕ) (what : Sleeping) (r : Reply) → IsRun old words log → Takes old d (event.Begin what) r new
-    → CanBegin old.state what → IsPlaced old.state.defs what → old.told ≡ true
-    → BeginCauses (replay (start_of old words) log.entries) d what r
-run_causes old new words log d what r run takes can placed told =
+pub run_causes : (old new : Parts) (words : List ℕ) (log : Logged) (d : ℕ) (what : Sleeping) (r : Reply) → IsRun old words log → Enters old d (event.Begin what) (turn.Done r) new
+    → CanTake (state_of old words log) (event.Begin what) → is_told old ≡ true
+    → BeginCauses (state_of old words log) d what r
+run_causes old new words log d what r run enters can told =
+    let s : State = state_of old words log in
     let sound = run.sound told in
-    subst (λ (s : State). BeginCauses s d what r) (sym (run.stands told))
-    (sound_causes (length words) old.state new.state d what r sound placed can
-    (takes.step told (subst (λ (n : ℕ). IsSound n old.state) (sym run.size) sound)))
+    let leads = enters.step s (run.stands told) (subst (λ (n : ℕ). IsSound n s) (sym run.size) sound) in
+    sound_causes (length words) s leads.to d what r sound can.0 can.1 leads.next_

@@ -6,11 +6,11 @@ use mathlib.Core.List.{reverse-cons}
 use Rattle.clk_base.specs.declared.clock.ClockId.{ClockId}
 use Rattle.clk_base.specs.declared.clock.Kind.{Kind}
 use Rattle.clk_base.specs.Description.{Description, kind_of}
-use Rattle.clk_base.specs.Fields.{GateBit, gate_of}
+use Rattle.clk_base.specs.Fields.{gate_of}
 use Rattle.clk_model.specs.Tree.{path_within}
 use Rattle.clk_model.specs.Gates.{follow, gates_moved}
 use Rattle.clk_model.proofs.PathLaws.{above, path_cons}
-use Rattle.clk_model.proofs.GateLaws.{follow-same, gates_moved-append}
+use Rattle.clk_model.proofs.GateLaws.{gates_moved-append}
 
 -- the words after the gates of these clocks have closed but where the clocks are still active, where they are told
 abbrev pub closed : Description → (ℕ → Bool) → List ℕ → Option (List ℕ) → Option (List ℕ)
@@ -32,17 +32,6 @@ closed_own defs after c kind old mid is idle then =
       join : (old : Option (List ℕ)) → option_map (λ regs. option_map_or (follow regs true (after c)) (gate_of (kind_of defs c)) regs) old ≡ closed defs after (c ∷ []) old
       join None = refl
       join (Some regs) = refl
-
--- that of a clock that is still active stays
-pub closed_kept : (defs : Description) (after : ℕ → Bool) (c : ℕ) (old mid : Option (List ℕ)) → after c ≡ true → mid ≡ old → mid ≡ closed defs after (c ∷ []) old
-closed_kept defs after c old mid active same = same ∙ stays old where
-  own : (regs : List ℕ) (o : Option GateBit) → regs ≡ option_map_or (follow regs true (after c)) o regs
-  own regs None = refl
-  own regs (Some gate) = sym (follow-same regs true (after c) gate (sym active))
-
-  stays : (old : Option (List ℕ)) → old ≡ closed defs after (c ∷ []) old
-  stays None = refl
-  stays (Some regs) = ap (λ (rs : List ℕ). Some rs) (own regs (gate_of (kind_of defs c)))
 
 -- then those of the clocks above it
 closed_path : (defs : Description) (after : ℕ → Bool) (up : ℕ → Option ℕ) (levels c : ℕ) (old mid new : Option (List ℕ)) → 0 < levels

@@ -9,39 +9,44 @@ use Rattle.clk_base.specs.declared.call.Sleeping.TheVariants as call
 use Rattle.std.proofs.lemmas.List.Folds.{list_any-append}
 use Rattle.clk_base.specs.declared.event.Entry.{Entry}
 use Rattle.clk_base.specs.declared.event.Event.{Event}
-use Rattle.clk_base.specs.declared.event.Reply.{Reply}
+use Rattle.clk_base.specs.declared.event.Event.TheVariants as event
 use Rattle.clk_base.specs.declared.event.Turn.{Turn}
-use Rattle.clk_base.specs.declared.event.Turn.TheVariants as turn
+use Rattle.clk_base.specs.Checked.{Checked}
+use Rattle.clk_model.specs.declared.row.ClockRow.{ClockRow}
 use Rattle.clk_base.specs.Description.{Description, parents_of}
 use Rattle.clk_model.specs.State.{State, registered}
 use Rattle.clk_model.specs.Machine.{next}
 use Rattle.clk_model.specs.Journal.{slotless, replay, Legal, opening, is_paid, cost}
 use Rattle.clk_model.proofs.JournalLaws.{replay-append, Legal-append}
 use Rattle.clk_machine.specs.Fit.{CanRun}
-use Rattle.clk_machine.specs.Sound.{IsSound, CanBegin, CanTake}
-use Rattle.clk_machine.specs.Held.{Held, Stays, registers, Takes}
+use Rattle.clk_machine.specs.Sound.{IsSound, IsPlaced, CanTake}
+use Rattle.clk_machine.specs.Parts.{Parts}
+use Rattle.clk_machine.specs.Stands.{Stands, is_told, Remains, Leads, Enters, registers, price}
+use Rattle.clk_machine.specs.Built.{is_built_over}
 use Rattle.clk_base.specs.Valid.{IsValid}
 use Rattle.clk_model.specs.Fed.{Fed}
 use Rattle.clk_machine.proofs.Soundness.{Fed_sound, sound_opening}
 use Rattle.clk_machine.proofs.Events.{sound_next}
-use Rattle.clk_machine.specs.Run.{was_probed, Logged, start_of, IsRun, Appends, can_make}
+use Rattle.clk_machine.specs.Run.{was_probed, Logged, start_of, state_of, run_of, IsRun, Appends, can_make}
 use Rattle.std.proofs.Math.Bool.{or-false}
 
--- a paid entry more costs one more
-cost-append : (journal : List Entry) (e : Entry) → is_paid e.event ≡ true → cost (journal ++ e ∷ []) ≡ cost journal + 1
-cost-append journal e paid =
-    sum_by-append (λ f. cond (is_paid f.event) 1 0) journal (e ∷ []) ∙ ap (λ (n : ℕ). cost journal + n) (ap (λ (b : Bool). 0 + cond b 1 0) paid)
+-- an entry more costs its price more
+cost-append : (journal : List Entry) (e : Entry) → cost (journal ++ e ∷ []) ≡ cost journal + price e.event
+cost-append journal e =
+    sum_by-append (λ f. cond (is_paid f.event) 1 0) journal (e ∷ []) ∙ ap (λ (n : ℕ). cost journal + n) (none_first (price e.event)) where
+      none_first : (n : ℕ) → 0 + n ≡ n
+      none_first n = omega arith
 
--- the opening is that of what stays
-start_stays : (old new : Held) (words : List ℕ) → Stays old.state new.state → start_of new words ≡ start_of old words
-start_stays old new words stays =
-    ap (λ (d : Description). opening d words new.state.ignore_unused new.state.credits) stays.defs
-    ∙ ap (λ (b : Bool). opening old.state.defs words b new.state.credits) stays.ignore_unused
-    ∙ ap (λ (n : ℕ). opening old.state.defs words old.state.ignore_unused n) stays.credits
+-- the opening is that of what remains
+start_remains : (old new : Parts) (words : List ℕ) → Remains old new → start_of new words ≡ start_of old words
+start_remains old new words remains =
+    ap (λ (d : Checked). opening d.defs words new.ignore_unused new.credits) remains.desc
+    ∙ ap (λ (b : Bool). opening old.desc.defs words b new.credits) remains.ignore_unused
+    ∙ ap (λ (n : ℕ). opening old.desc.defs words old.ignore_unused n) remains.credits
 
 -- the entry of an event
-abbrev pub entry_of : ℕ → Event → Reply → Entry
-entry_of d e r = record { driver = d; event = e; turn = turn.Done r }
+abbrev pub entry_of : ℕ → Event → Turn → Entry
+entry_of d e t = record { driver = d; event = e; turn = t }
 
 -- a journal with an entry more, after which the active clocks are fed, as they were after every prefix
 fed-append : (start t : State) (turn : Turn) (entries entries' : List Entry) (e : Entry) → entries' ≡ entries ++ e ∷ [] → next (replay start entries) e.driver e.event ≡ Some (t, turn)
@@ -59,58 +64,77 @@ fed-append start t turn entries entries' e is step before after n =
           (subst (λ (s : State). Fed s) (sym (replay-append start t turn entries e step)) after)
     ] refl)
 
--- a core keeps what it keeps when an event is taken and entered
-pub entered : (old new : Held) (words : List ℕ) (log log' : Logged) (d : ℕ) (e : Event) (r : Reply) → IsRun old words log → Takes old d e r new → CanTake old.state e → is_paid e ≡ true
-    → log'.entries ≡ log.entries ++ entry_of d e r ∷ [] → log'.room + 1 ≡ log.room
-    → IsRun new words log'
-entered old new words log log' d e r run takes can paid entries room =
-    let same = start_stays old new words takes.stays in
-    let turned : old.told ≡ true → next old.state d e ≡ Some (new.state, slotless (turn.Done r)) =
-    (λ told. takes.step told (subst (λ (n : ℕ). IsSound n old.state) (sym run.size) (run.sound told))) in
-    let sound : old.told ≡ true → IsSound (length words) new.state =
-    (λ told. sound_next (length words) old.state new.state d e (slotless (turn.Done r)) (run.sound told) can (turned told)) in
-    let step : old.told ≡ true → next (replay (start_of new words) log.entries) d e ≡ Some (new.state, slotless (turn.Done r)) =
-    (λ told. ap (λ (s : State). next (replay s log.entries) d e) same ∙ ap (λ (s : State). next s d e) (run.stands told) ∙ turned told) in
-    record {
-      stands = λ told.
-          let was : old.told ≡ true = sym takes.told ∙ told in
-          ap (replay (start_of new words)) entries ∙ replay-append (start_of new words) new.state (slotless (turn.Done r)) log.entries (entry_of d e r) (step was);
-      legal = λ told.
-          let was : old.told ≡ true = sym takes.told ∙ told in
-          subst (λ (j : List Entry). Legal (start_of new words) j) (sym entries)
-          (Legal-append (start_of new words) new.state log.entries (entry_of d e r) (subst (λ (s : State). Legal s log.entries) (sym same) (run.legal was)) (step was));
-      sound = λ told. sound (sym takes.told ∙ told);
-      fed = λ told n.
-          let was : old.told ≡ true = sym takes.told ∙ told in
-          fed-append (start_of new words) new.state (slotless (turn.Done r)) log.entries log'.entries (entry_of d e r) entries (step was)
-          (λ k. subst (λ (s : State). Fed (replay s (take k log.entries))) (sym same) (run.fed was k))
-          (Fed_sound (length words) new.state (sound was)) n;
-      spent = ap cost entries ∙ cost-append log.entries (entry_of d e r) paid ∙ ap (λ (n : ℕ). n + 1) run.spent ∙ sym takes.spent;
-      room = let was = run.room in let more = takes.spent in let credits = takes.stays.credits in omega arith;
-      size = takes.size ∙ run.size;
-      probed = λ c.
-          takes.registered_ c ∙ ap (λ (b : Bool). b || registers e c) (run.probed c)
-          ∙ ap (λ (b : Bool). was_probed log.entries c || b) (sym (or-false (registers e c)))
-          ∙ sym (ap (λ (j : List Entry). was_probed j c) entries ∙ list_any-append (λ f. registers f.event c) log.entries (entry_of d e r ∷ []));
-    }
+-- an event that is taken and entered
+pub record IsEntered (old new : Parts) (words : List ℕ) (log log' : Logged) (d : ℕ) (e : Event) (t : Turn) : Type 0 where
+  pub run : IsRun old words log
+  pub enters : Enters old d e t new
+  pub can : is_told old ≡ true → CanTake (state_of old words log) e
+  pub paid : is_paid e ≡ true
+  pub entries : log'.entries ≡ log.entries ++ entry_of d e t ∷ []
+  pub room : log'.room + 1 ≡ log.room
 
--- and then the entry was appended
-pub appended : (old new : Held) (words : List ℕ) (log log' : Logged) (d : ℕ) (e : Event) (r : Reply) → IsRun old words log → Takes old d e r new → CanTake old.state e → is_paid e ≡ true
-    → log'.entries ≡ log.entries ++ entry_of d e r ∷ [] → log'.room + 1 ≡ log.room
-    → Appends (record { start = start_of old words; journal = log.entries; told = old.told; behind = old.behind }) d e (turn.Done r)
-    (record { start = start_of new words; journal = log'.entries; told = new.told; behind = new.behind })
-appended old new words log log' d e r run takes can paid entries room =
-    let after = entered old new words log log' d e r run takes can paid entries room in
-    record {
-      start = start_stays old new words takes.stays;
-      told = takes.told;
-      behind = takes.behind;
-      entry = entries;
-      step = λ told.
-          ap (λ (s : State). next s d e) (run.stands told) ∙ takes.step told (subst (λ (n : ℕ). IsSound n old.state) (sym run.size) (run.sound told))
-          ∙ ap (λ (s : State). let x : State × Turn = (s, slotless (turn.Done r)) in Some x) (sym (after.stands (takes.told ∙ told)));
-      legal = λ told. after.legal (takes.told ∙ told);
-    }
+module _ (old new : Parts) (words : List ℕ) (log log' : Logged) (d : ℕ) (e : Event) (t : Turn) (is : IsEntered old new words log log' d e t) where
+  abbrev now : State
+  now = state_of old words log
+
+  same : start_of new words ≡ start_of old words
+  same = start_remains old new words is.enters.remains
+
+  leads : is_told old ≡ true → Leads now d e t new
+  leads told = is.enters.step now (is.run.stands told) (subst (λ (n : ℕ). IsSound n now) (sym is.run.size) (is.run.sound told))
+
+  was : is_told new ≡ true → is_told old ≡ true
+  was told = sym is.enters.remains.told ∙ told
+
+  -- the state after it is the one that the machine comes to
+  comes : (told : is_told old ≡ true) → state_of new words log' ≡ (leads told).to
+  comes told =
+      ap (λ (s : State). replay s log'.entries) same ∙ ap (replay (start_of old words)) is.entries
+      ∙ replay-append (start_of old words) (leads told).to (slotless t) log.entries (entry_of d e t) (leads told).next_
+
+  sound_after : (told : is_told old ≡ true) → IsSound (length words) (leads told).to
+  sound_after told = sound_next (length words) now (leads told).to d e (slotless t) (is.run.sound told) (is.can told) (leads told).next_
+
+  legal_after : is_told old ≡ true → Legal (start_of new words) log'.entries
+  legal_after told =
+      subst (λ (s : State). Legal s log'.entries) (sym same)
+      (subst (λ (j : List Entry). Legal (start_of old words) j) (sym is.entries)
+      (Legal-append (start_of old words) (leads told).to log.entries (entry_of d e t) (is.run.legal told) (leads told).next_))
+
+  -- a core keeps what it keeps
+  pub entered : IsRun new words log'
+  entered = record {
+    stands = λ told. subst (λ (s : State). Stands new s) (sym (comes (was told))) (leads (was told)).stands;
+    legal = λ told. legal_after (was told);
+    sound = λ told. subst (λ (s : State). IsSound (length words) s) (sym (comes (was told))) (sound_after (was told));
+    fed = λ told n.
+        subst (λ (s : State). Fed (replay s (take n log'.entries))) (sym same)
+        (fed-append (start_of old words) (leads (was told)).to (slotless t) log.entries log'.entries (entry_of d e t) is.entries (leads (was told)).next_
+        (is.run.fed (was told)) (Fed_sound (length words) (leads (was told)).to (sound_after (was told))) n);
+    spent = ap cost is.entries ∙ cost-append log.entries (entry_of d e t) ∙ ap (λ (n : ℕ). n + price e) is.run.spent ∙ sym is.enters.pays;
+    room =
+        let before = is.run.room in
+        let after = is.room in
+        let pays : new.spent ≡ old.spent + 1 = is.enters.pays ∙ ap (λ (b : Bool). old.spent + cond b 1 0) is.paid in
+        let credits = is.enters.remains.credits in
+        omega arith;
+    size = is.enters.remains.size ∙ is.run.size;
+    probed = λ c.
+        is.enters.rows c ∙ ap (λ (b : Bool). b || registers e c) (is.run.probed c)
+        ∙ ap (λ (b : Bool). was_probed log.entries c || b) (sym (or-false (registers e c)))
+        ∙ sym (ap (λ (j : List Entry). was_probed j c) is.entries ∙ list_any-append (λ f. registers f.event c) log.entries (entry_of d e t ∷ []));
+  }
+
+  -- and the entry was appended
+  pub appended : Appends (run_of old words log) d e t (run_of new words log')
+  appended = record {
+    start = same;
+    told = is.enters.remains.told;
+    behind = is.enters.remains.behind;
+    entry = is.entries;
+    step = λ told. (leads told).next_ ∙ ap (λ (s : State). let x : State × Turn = (s, slotless t) in Some x) (sym (comes told));
+    legal = legal_after;
+  }
 
 -- ---- which calls can begin
 
@@ -118,37 +142,45 @@ list_all-agree : (p q : ℕ → Bool) (xs : List ℕ) → ((x : ℕ) → p x ≡
 list_all-agree p q [] same = refl
 list_all-agree p q (x ∷ xs) same = ap (λ (b : Bool). b && list_all p xs) (same x) ∙ ap (λ (b : Bool). q x && b) (list_all-agree p q xs same)
 
--- a clock is registered where it was probed, so a call that can be made can begin
-pub can_begin : (m : Held) (words : List ℕ) (log : Logged) (what : Sleeping) → IsRun m words log
-    → can_make (record { start = start_of m words; journal = log.entries; told = m.told; behind = m.behind }) what ≡ true → CanBegin m.state what
+-- a clock is registered where it was probed, so a call that can be made is built
+pub can_begin : (m : Parts) (words : List ℕ) (log : Logged) (what : Sleeping) → IsRun m words log
+    → can_make (run_of m words log) what ≡ true → is_built_over m.desc.defs (registered m.tree.clocks) what ≡ true
 can_begin m words log (call.Probe c) run built =
-    list_all-agree (registered m.state.clocks) (was_probed log.entries) (parents_of m.state.defs c.0) run.probed ∙ built
+    list_all-agree (registered m.tree.clocks) (was_probed log.entries) (parents_of m.desc.defs c.0) run.probed ∙ built
 can_begin m words log _ run built = built
+
+-- and it can begin in the state
+pub can_take : (m : Parts) (s : State) (what : Sleeping) → Stands m s → IsPlaced m.desc.defs what → is_built_over m.desc.defs (registered m.tree.clocks) what ≡ true
+    → CanTake s (event.Begin what)
+can_take m s what stands placed built =
+    subst (λ (d : Description). IsPlaced d what × (is_built_over d (registered s.clocks) what ≡ true)) (sym stands.defs)
+    (placed, ap (λ (rs : List ClockRow). is_built_over m.desc.defs (registered rs) what) stands.clocks ∙ built)
 
 -- ---- the beginning
 
 -- a core without an entry is a run
-pub begins : (m : Held) (words given : List ℕ) (log : Logged) (defs : Description) (ignore_unused : Bool) (credits : ℕ)
-    → words ≡ given → log.entries ≡ [] → log.room ≡ credits → (m.told ≡ true → m.state ≡ opening defs given ignore_unused credits)
-    → m.state.defs ≡ defs → m.state.credits ≡ credits → m.state.ignore_unused ≡ ignore_unused → m.state.spent ≡ 0
-    → ((c : ℕ) → registered m.state.clocks c ≡ false) → m.size ≡ length given → IsValid (length given) defs → CanRun defs
+pub begins : (m : Parts) (words given : List ℕ) (log : Logged) (desc : Checked) (ignore_unused : Bool) (credits : ℕ)
+    → words ≡ given → log.entries ≡ [] → log.room ≡ credits → (is_told m ≡ true → Stands m (opening desc.defs given ignore_unused credits))
+    → m.desc ≡ desc → m.credits ≡ credits → m.ignore_unused ≡ ignore_unused → m.spent ≡ 0
+    → ((c : ℕ) → registered m.tree.clocks c ≡ false) → m.window.size ≡ length given → IsValid (length given) desc.defs → CanRun desc.defs
     → IsRun m words log
-begins m words given log defs ignore_unused credits same empty room state at credit unused spent none size valid runs =
-    let start : start_of m words ≡ opening defs given ignore_unused credits =
-    ap (λ (d : Description). opening d words m.state.ignore_unused m.state.credits) at
-    ∙ ap (λ (ws : List ℕ). opening defs ws m.state.ignore_unused m.state.credits) same
-    ∙ ap (λ (b : Bool). opening defs given b m.state.credits) unused
-    ∙ ap (λ (n : ℕ). opening defs given ignore_unused n) credit in
-    let sound : IsSound (length given) (opening defs given ignore_unused credits) = sound_opening given defs ignore_unused credits valid runs in
+begins m words given log desc ignore_unused credits same empty room stands at credit unused spent none size valid runs =
+    let start : start_of m words ≡ opening desc.defs given ignore_unused credits =
+    ap (λ (d : Checked). opening d.defs words m.ignore_unused m.credits) at
+    ∙ ap (λ (ws : List ℕ). opening desc.defs ws m.ignore_unused m.credits) same
+    ∙ ap (λ (b : Bool). opening desc.defs given b m.credits) unused
+    ∙ ap (λ (n : ℕ). opening desc.defs given ignore_unused n) credit in
+    let now : state_of m words log ≡ opening desc.defs given ignore_unused credits = ap (replay (start_of m words)) empty ∙ start in
+    let sound : IsSound (length given) (opening desc.defs given ignore_unused credits) = sound_opening given desc.defs ignore_unused credits valid runs in
     record {
-      stands = λ told. ap (replay (start_of m words)) empty ∙ start ∙ sym (state told);
+      stands = λ told. subst (λ (s : State). Stands m s) (sym now) (stands told);
       legal = λ told. subst (λ (j : List Entry). Legal (start_of m words) j) (sym empty) tt;
       sound = λ told.
-          subst (λ (ws : List ℕ). IsSound (length ws) m.state) (sym same) (subst (λ (s : State). IsSound (length given) s) (sym (state told)) sound);
+          subst (λ (ws : List ℕ). IsSound (length ws) (state_of m words log)) (sym same) (subst (λ (s : State). IsSound (length given) s) (sym now) sound);
       fed = λ told n.
           subst (λ (j : List Entry). Fed (replay (start_of m words) (take n j))) (sym empty)
           (subst (λ (j : List Entry). Fed (replay (start_of m words) j)) (sym (take_all n [] (omega arith)))
-          (subst (λ (s : State). Fed s) (sym start) (Fed_sound (length given) (opening defs given ignore_unused credits) sound)));
+          (subst (λ (s : State). Fed s) (sym start) (Fed_sound (length given) (opening desc.defs given ignore_unused credits) sound)));
       spent = ap cost empty ∙ sym spent;
       room = omega arith;
       size = size ∙ sym (ap (λ (ws : List ℕ). length ws) same);

@@ -1,5 +1,5 @@
 -- Each event that can come leaves a sound state sound.
-use Rattle.std.proofs.Common.{◌≡◌, ℕ, zero, suc, ◌+◌, ◌-◌, ◌<◌, ◌&&◌, ◌||◌, Bool, true, false, cond, Option, Some, None, refl, sym, ap, subst, ◌∙◌, arith, nat_eq, nat_lt}
+use Rattle.std.proofs.Common.{◌≡◌, ℕ, zero, suc, ◌+◌, ◌-◌, ◌<◌, ◌&&◌, ◌||◌, Bool, true, false, cond, Option, Some, None, refl, sym, ap, subst, ◌∙◌, arith, length, nat_eq, nat_lt, nat_le}
 use Rattle.std.proofs.lemmas.Bool.Decides.{nat_tests}
 use Rattle.clk_base.specs.declared.call.Sleeping.{Sleeping}
 use Rattle.clk_base.specs.declared.call.Sleeping.TheVariants as call
@@ -11,17 +11,20 @@ use Rattle.clk_model.specs.State.{State, registered, handle_at}
 use Rattle.clk_model.specs.Tree.{rooted, path}
 use Rattle.clk_model.specs.Holders.{active}
 use Rattle.clk_model.specs.Gates.{settled}
-use Rattle.clk_model.specs.Begin.{put_handle, own_handle, given, register, keeps_prepare, holds_something}
+use Rattle.clk_model.specs.Begin.{put_handle, own_handle, given, register, keeps_prepare, holds_something, has_notifier, most_notifiers}
 use Rattle.clk_model.specs.Machine.{paid, next}
 use Rattle.clk_model.proofs.Members.{both_left, not_either}
 use Rattle.clk_model.proofs.StateLaws.{settled-still, active-append}
 use Rattle.clk_model.proofs.EventLaws.{own_is_live, prepared_once_less, enable-unknown, enable-unprepared, enable-fine, disable-unknown, disable-warned, disable-fine, running-unknown, running-told, get-not_found, get-deferred, get-given, put-unknown, put-busy, put-fine, prepare-unknown, prepare-fine, unprepare-unknown, unprepare-warned, unprepare-fine, rate-unknown, rate-told, parent-unknown, parent-told, probe-twice, probe-fine}
+use Rattle.clk_model.specs.Notices.{notifiers_of}
 use Rattle.clk_machine.specs.Fit.{has_pll}
+use Rattle.clk_machine.specs.Holding.{notified, unnotified}
+use Rattle.clk_machine.proofs.CallEvents.{exclusive_get-unknown, exclusive_get-fine, exclusive_put-unknown, exclusive_put-warned, exclusive_put-fine, notifier_add-unknown, notifier_add-known, notifier_add-full, notifier_add-fine, notifier_remove-unknown, notifier_remove-lacking, notifier_remove-fine}
 use Rattle.clk_machine.specs.Sound.{IsSound, CanTake}
 use Rattle.clk_machine.proofs.Fitting.{no_plls}
 use Rattle.clk_machine.proofs.Soundness.{frees-unpowered}
 use Rattle.clk_machine.proofs.Attaching.{registers_alone}
-use Rattle.clk_machine.proofs.Kept.{IsSound-spent, MayHold, IsSound-put, IsSound-given}
+use Rattle.clk_machine.proofs.Kept.{IsSound-spent, IsSound-notified, MayHold, IsSound-put, IsSound-given}
 use Rattle.std.proofs.lemmas.Bool.{not-true}
 
 -- ---- paid events
@@ -161,6 +164,54 @@ begin_sound words s t d (call.GetParent h) x sound can comes = by (own_handle s 
   by : (o : Option HandleRow) → own_handle s d h.number ≡ o → IsSound words t
   by None lacks = same_sound words s t d (event.Begin (call.GetParent h)) _ x sound (parent-unknown s d h sound.quiet lacks) comes
   by (Some row) own = same_sound words s t d (event.Begin (call.GetParent h)) _ x sound (parent-told s d h row sound.quiet own) comes
+begin_sound words s t d (call.ExclusiveGet h) x sound can comes = by (own_handle s d h.number) refl where
+  by : (o : Option HandleRow) → own_handle s d h.number ≡ o → IsSound words t
+  by None lacks = same_sound words s t d (event.Begin (call.ExclusiveGet h)) _ x sound (exclusive_get-unknown s d h sound.quiet lacks) comes
+  by (Some row) own =
+      let at = own_is_live s d h.number row own in
+      put_sound words s t h.number d (event.Begin (call.ExclusiveGet h)) _ x row (record row { exclusives = row.exclusives + 1 }) sound at refl
+      (sound.balanced h.number row at) (sound.unpowered h.number row at) (exclusive_get-fine s d h row sound.quiet own) comes
+begin_sound words s t d (call.ExclusivePut h) x sound can comes = by (own_handle s d h.number) refl where
+  held : (row : HandleRow) (k : ℕ) → own_handle s d h.number ≡ Some row → row.exclusives ≡ k → IsSound words t
+  held row zero own none = same_sound words s t d (event.Begin (call.ExclusivePut h)) _ x sound (exclusive_put-warned s d h row sound.quiet own none) comes
+  held row (suc k) own some =
+      let at = own_is_live s d h.number row own in
+      put_sound words s t h.number d (event.Begin (call.ExclusivePut h)) _ x row (record row { exclusives = row.exclusives - 1 }) sound at refl
+      (sound.balanced h.number row at) (sound.unpowered h.number row at) (exclusive_put-fine s d h row sound.quiet own (omega arith)) comes
+
+  by : (o : Option HandleRow) → own_handle s d h.number ≡ o → IsSound words t
+  by None lacks = same_sound words s t d (event.Begin (call.ExclusivePut h)) _ x sound (exclusive_put-unknown s d h sound.quiet lacks) comes
+  by (Some row) own = held row row.exclusives own refl
+begin_sound words s t d (call.NotifierAdd h id priority policy) x sound can comes = by (own_handle s d h.number) refl where
+  fits : (row : HandleRow) (b : Bool) → own_handle s d h.number ≡ Some row → has_notifier s row.clock.0 id ≡ false
+      → nat_le most_notifiers (length (notifiers_of s.notifiers row.clock.0)) ≡ b → IsSound words t
+  fits row true own new full =
+      same_sound words s t d (event.Begin (call.NotifierAdd h id priority policy)) _ x sound
+      (notifier_add-full s d h id priority policy row sound.quiet own new (grind (arith, nat_tests))) comes
+  fits row false own new room =
+      comes_to words s (notified row.clock.0 id priority policy s) t d (event.Begin (call.NotifierAdd h id priority policy)) _ x
+      (stills words s (notified row.clock.0 id priority policy s) (λ c. refl) (IsSound-notified words s _ sound))
+      (notifier_add-fine s d h id priority policy row sound.quiet own new (grind (arith, nat_tests))) comes
+
+  known : (row : HandleRow) (b : Bool) → own_handle s d h.number ≡ Some row → has_notifier s row.clock.0 id ≡ b → IsSound words t
+  known row true own has =
+      same_sound words s t d (event.Begin (call.NotifierAdd h id priority policy)) _ x sound (notifier_add-known s d h id priority policy row sound.quiet own has) comes
+  known row false own new = fits row (nat_le most_notifiers (length (notifiers_of s.notifiers row.clock.0))) own new refl
+
+  by : (o : Option HandleRow) → own_handle s d h.number ≡ o → IsSound words t
+  by None lacks = same_sound words s t d (event.Begin (call.NotifierAdd h id priority policy)) _ x sound (notifier_add-unknown s d h id priority policy sound.quiet lacks) comes
+  by (Some row) own = known row (has_notifier s row.clock.0 id) own refl
+begin_sound words s t d (call.NotifierRemove h id) x sound can comes = by (own_handle s d h.number) refl where
+  known : (row : HandleRow) (b : Bool) → own_handle s d h.number ≡ Some row → has_notifier s row.clock.0 id ≡ b → IsSound words t
+  known row true own has =
+      comes_to words s (unnotified row.clock.0 id s) t d (event.Begin (call.NotifierRemove h id)) _ x
+      (stills words s (unnotified row.clock.0 id s) (λ c. refl) (IsSound-notified words s _ sound)) (notifier_remove-fine s d h id row sound.quiet own has) comes
+  known row false own lacks =
+      same_sound words s t d (event.Begin (call.NotifierRemove h id)) _ x sound (notifier_remove-lacking s d h id row sound.quiet own lacks) comes
+
+  by : (o : Option HandleRow) → own_handle s d h.number ≡ o → IsSound words t
+  by None lacks = same_sound words s t d (event.Begin (call.NotifierRemove h id)) _ x sound (notifier_remove-unknown s d h id sound.quiet lacks) comes
+  by (Some row) own = known row (has_notifier s row.clock.0 id) own refl
 begin_sound words s t d (call.Probe c) x sound can comes = by (registered s.clocks c.0) refl where
   by : (b : Bool) → registered s.clocks c.0 ≡ b → IsSound words t
   by true there = same_sound words s t d (event.Begin (call.Probe c)) _ x sound (probe-twice s d c sound.quiet there) comes
@@ -173,10 +224,6 @@ begin_sound words s t d (call.SetRate h r) x sound can comes = absurd cc
 begin_sound words s t d (call.SetRateExclusive h r) x sound can comes = absurd cc
 begin_sound words s t d (call.SetRange h least most) x sound can comes = absurd cc
 begin_sound words s t d (call.SetParent h p) x sound can comes = absurd cc
-begin_sound words s t d (call.ExclusiveGet h) x sound can comes = absurd cc
-begin_sound words s t d (call.ExclusivePut h) x sound can comes = absurd cc
-begin_sound words s t d (call.NotifierAdd h id priority policy) x sound can comes = absurd cc
-begin_sound words s t d (call.NotifierRemove h id) x sound can comes = absurd cc
 begin_sound words s t d call.Sweep x sound can comes = absurd cc
 
 -- ---- each event

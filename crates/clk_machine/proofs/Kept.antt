@@ -1,11 +1,11 @@
 -- What keeps a state sound: a credit spent, a handle that changes, is new or is put back.
-use Rattle.std.proofs.Common.{◌≡◌, ℕ, ◌<◌, false, true, Option, Some, refl, sym, ap, subst, ◌∙◌, inl, inr, arith, length, set}
+use Rattle.std.proofs.Common.{◌≡◌, ℕ, ◌<◌, false, true, List, Option, Some, refl, sym, ap, subst, ◌∙◌, inl, inr, arith, length, set}
 use Rattle.clk_base.specs.Description.{kind_of}
 use Rattle.clk_base.specs.Fields.{bit_field}
 use Rattle.clk_base.proofs.Valid.{gate-field}
 use Rattle.clk_model.specs.declared.row.HandleRow.{HandleRow}
 use Rattle.clk_model.specs.Lists.{count_from}
-use Rattle.clk_model.specs.State.{State, registered, handle_at}
+use Rattle.clk_model.specs.State.{State, NotifierRow, registered, handle_at}
 use Rattle.clk_model.specs.Holders.{active}
 use Rattle.clk_model.specs.Gates.{settled}
 use Rattle.clk_model.specs.Begin.{put_handle, given}
@@ -24,6 +24,26 @@ use Rattle.clk_machine.proofs.Shapes.{handle_at-put, handle_at-append}
 
 pub IsSound-spent : (words : ℕ) (s : State) (k : ℕ) → IsSound words s → IsSound words (record s { spent = k })
 IsSound-spent words s k sound = record {
+  valid = sound.valid;
+  runs = sound.runs;
+  size = sound.size;
+  quiet = sound.quiet;
+  no_enable_hold = sound.no_enable_hold;
+  rows = sound.rows;
+  attached = sound.attached;
+  unlinked = sound.unlinked;
+  parents = sound.parents;
+  selects = sound.selects;
+  handled = sound.handled;
+  balanced = sound.balanced;
+  unpowered = sound.unpowered;
+  open_ = sound.open_;
+}
+
+-- ---- notifiers
+
+pub IsSound-notified : (words : ℕ) (s : State) (notifiers : List NotifierRow) → IsSound words s → IsSound words (record s { notifiers = notifiers })
+IsSound-notified words s notifiers sound = record {
   valid = sound.valid;
   runs = sound.runs;
   size = sound.size;

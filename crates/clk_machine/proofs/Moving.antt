@@ -4,44 +4,41 @@ use Rattle.std.specs.Prelude.{is_some, unwrap_or}
 use Rattle.std.specs.Option.{option_map}
 use Rattle.clk_base.specs.Checked.{Checked}
 use Rattle.clk_base.specs.Description.{Description}
-use Rattle.clk_base.specs.Levels.{depth}
 use Rattle.clk_base.specs.Valid.{IsValid}
 use Rattle.reg_bank.specs.Registers.{AreWords}
 use Rattle.clk_model.specs.declared.row.ClockRow.{ClockRow}
-use Rattle.clk_model.specs.declared.row.HandleRow.{HandleRow}
 use Rattle.clk_model.specs.Lists.{is_in, count_from}
 use Rattle.clk_model.specs.State.{registered, link_in}
-use Rattle.clk_model.specs.Tree.{path}
+use Rattle.clk_model.specs.Tree.{path_within}
 use Rattle.clk_model.specs.Gates.{gates_moved}
 use Rattle.clk_model.proofs.Members.{is_in-count_from}
 use Rattle.clk_model.proofs.PathLaws.{path_all}
 use Rattle.clk_model.proofs.GateLaws.{GatesLie, GatesLie-part, AreWords-gates_moved, length-gates_moved}
 use Rattle.clk_model.proofs.GateRateLaws.{rate-moved}
-use Rattle.clk_tree.specs.TreeState.{TreeState, IsTree}
+use Rattle.clk_tree.specs.TreeState.{TreeState}
 use Rattle.clk_machine.specs.Window.{Shown, AreTold}
-use Rattle.clk_machine.specs.Held.{AreKept, IsShaped}
+use Rattle.clk_machine.specs.Parts.{AreKept, AreTied}
 use Rattle.clk_machine.specs.Shape.{LinksLie}
 use Rattle.clk_machine.proofs.Shapes.{registered_lies, link_lies, gates_lie}
 
--- the clocks of a path are clocks of the description
-pub path_lies : (defs : Description) (clocks : List ClockRow) (order rates : List ℕ) (clock : ℕ) → IsTree defs clocks order rates → registered clocks clock ≡ true
-    → (c : ℕ) → is_in c (path clocks clock) ≡ true → c < length defs
-path_lies defs clocks order rates clock tree here c m =
-    registered_lies defs clocks order rates c tree (path_all (λ b. registered clocks b ≡ true) (link_in clocks) depth clock c (λ d p _ e. tree.links d p e) here m)
-
 -- links lead to clocks of the description
-pub links_within : (desc : Checked) (window : Shown) (tree : TreeState) (handles : List (Option HandleRow)) (credits spent : ℕ)
-    → IsShaped desc window tree handles credits spent → LinksLie desc.defs tree.clocks
-links_within desc window tree handles credits spent shape = record {
-  lie = λ c p e. subst (λ (d : Description). p < length d) shape.defs (link_lies tree.defs tree.clocks tree.order tree.rates c p shape.stands e);
+pub links_within : (desc : Checked) (window : Shown) (tree : TreeState) → AreTied desc window tree → LinksLie desc.defs tree.clocks
+links_within desc window tree tied = record {
+  lie = λ c p e. subst (λ (d : Description). p < length d) tied.defs (link_lies tree.defs tree.clocks tree.order tree.rates c p tied.stands e);
 }
 
 -- and so do the clocks of a path
-pub path_within_desc : (desc : Checked) (window : Shown) (tree : TreeState) (handles : List (Option HandleRow)) (credits spent clock : ℕ)
-    → IsShaped desc window tree handles credits spent → registered tree.clocks clock ≡ true
-    → (c : ℕ) → is_in c (path tree.clocks clock) ≡ true → c < length desc.defs
-path_within_desc desc window tree handles credits spent clock shape here c m =
-    subst (λ (d : Description). c < length d) shape.defs (path_lies tree.defs tree.clocks tree.order tree.rates clock shape.stands here c m)
+pub path_within_desc : (desc : Checked) (window : Shown) (tree : TreeState) (levels clock : ℕ) → AreTied desc window tree → registered tree.clocks clock ≡ true
+    → (c : ℕ) → is_in c (path_within (link_in tree.clocks) levels clock) ≡ true → c < length desc.defs
+path_within_desc desc window tree levels clock tied here c m =
+    subst (λ (d : Description). c < length d) tied.defs
+    (registered_lies tree.defs tree.clocks tree.order tree.rates c tied.stands
+    (path_all (λ b. registered tree.clocks b ≡ true) (link_in tree.clocks) levels clock c (λ d p _ e. tied.stands.links d p e) here m))
+
+-- so is a registered clock
+pub clock_within : (desc : Checked) (window : Shown) (tree : TreeState) (c : ℕ) → AreTied desc window tree → registered tree.clocks c ≡ true → c < length desc.defs
+clock_within desc window tree c tied here =
+    subst (λ (d : Description). c < length d) tied.defs (registered_lies tree.defs tree.clocks tree.order tree.rates c tied.stands here)
 
 pub words_told : (n : ℕ) (told : Option (List ℕ)) → AreTold n told → is_some told ≡ true → AreWords (unwrap_or told []) × (length (unwrap_or told []) ≡ n)
 words_told n None are h = absurd cc
@@ -71,27 +68,21 @@ kept_moved words None defs before after cs clocks rates valid kept = tt
 kept_moved words (Some ws) defs before after cs clocks rates valid kept =
     λ c there. kept c there ∙ sym (rate-moved words defs before after cs ws clocks c valid)
 
--- the parts after the gates of some clocks have moved
-pub shaped-moved : (desc : Checked) (window window' : Shown) (tree : TreeState) (handles : List (Option HandleRow)) (credits spent : ℕ) (before after : ℕ → Bool) (cs : List ℕ)
-    → IsShaped desc window tree handles credits spent → ((c : ℕ) → is_in c cs ≡ true → c < length desc.defs)
+-- the words and the tree after the gates of some clocks have moved
+pub tied-moved : (desc : Checked) (window window' : Shown) (tree : TreeState) (before after : ℕ → Bool) (cs : List ℕ)
+    → AreTied desc window tree → ((c : ℕ) → is_in c cs ≡ true → c < length desc.defs)
     → window'.size ≡ window.size → window'.words ≡ option_map (gates_moved desc.defs before after cs) window.words
-    → IsShaped desc window' tree handles credits spent
-shaped-moved desc window window' tree handles credits spent before after cs shape within size words = record {
-  valid = shape.valid;
-  runs = shape.runs;
-  words = size ∙ shape.words;
+    → AreTied desc window' tree
+tied-moved desc window window' tree before after cs tied within size words = record {
+  valid = tied.valid;
+  runs = tied.runs;
+  words = size ∙ tied.words;
   told = subst (λ (n : ℕ). AreTold n window'.words) (sym size)
       (subst (λ (o : Option (List ℕ)). AreTold window.size o) (sym words)
-      (told_moved window.size window.words desc.defs before after cs shape.told
-      (subst (λ (n : ℕ). GatesLie desc.defs cs n) (sym shape.words) (some_lie desc.words desc.defs cs shape.valid within))));
-  defs = shape.defs;
-  stands = shape.stands;
+      (told_moved window.size window.words desc.defs before after cs tied.told
+      (subst (λ (n : ℕ). GatesLie desc.defs cs n) (sym tied.words) (some_lie desc.words desc.defs cs tied.valid within))));
+  defs = tied.defs;
+  stands = tied.stands;
   kept = subst (λ (o : Option (List ℕ)). AreKept desc.defs o tree.clocks tree.rates) (sym words)
-      (kept_moved desc.words window.words desc.defs before after cs tree.clocks tree.rates shape.valid shape.kept);
-  handled = shape.handled;
-  unguarded = shape.unguarded;
-  few_credits = shape.few_credits;
-  spent_within = shape.spent_within;
-  few_handles = shape.few_handles;
-  few_holds = shape.few_holds;
+      (kept_moved desc.words window.words desc.defs before after cs tree.clocks tree.rates tied.valid tied.kept);
 }

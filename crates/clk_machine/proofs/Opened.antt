@@ -1,14 +1,29 @@
 -- The parts of a core at its opening.
-use Rattle.std.proofs.Common.{◌≡◌, ℕ, zero, suc, ◌≤◌, false, List, [], Option, Some, None, refl, ap, ◌∙◌, arith, length, replicate}
+use Rattle.std.proofs.Common.{◌≡◌, ℕ, zero, suc, ◌≤◌, ◌&&◌, Bool, true, false, cond, List, [], Option, Some, None, refl, sym, ap, subst, ◌∙◌, arith, length, replicate}
+use Rattle.std.specs.Prelude.{is_some, slice_index, sum_by}
+use Rattle.std.specs.Option.{option_map}
 use Rattle.clk_base.specs.Checked.{Checked}
+use Rattle.clk_base.specs.Flags.{is_critical}
 use Rattle.clk_base.specs.Valid.{IsValid}
+use Rattle.clk_base.specs.declared.clock.ClockId.{ClockId}
 use Rattle.clk_model.specs.declared.row.ClockRow.{ClockRow}
-use Rattle.clk_model.specs.State.{unregistered_row, row_of, registered}
+use Rattle.clk_model.specs.declared.row.HandleRow.{HandleRow}
+use Rattle.clk_model.specs.State.{unregistered_row, row_of, registered, handle_at}
+use Rattle.clk_model.specs.Lists.{present}
+use Rattle.clk_model.specs.Begin.{most_credits}
+use Rattle.clk_model.specs.Journal.{opening}
 use Rattle.clk_tree.specs.TreeState.{TreeState, IsTree}
+use Rattle.counts_core.specs.Counted.{CountState, AreCounts, HasLinks}
+use Rattle.counts_core.specs.Standing.{StandsFor}
+use Rattle.counts_core.proofs.Linking.{links_at_first}
+use Rattle.notifiers.specs.declared.notifier.Notifier.{Notifier}
+use Rattle.notifiers.specs.Chains.{Tells}
+use Rattle.rate_requests.specs.Handles.{HandleTable}
 use Rattle.clk_machine.specs.Window.{Shown, AreTold}
 use Rattle.clk_machine.specs.Fit.{CanRun}
-use Rattle.clk_machine.specs.Held.{AreKept, IsShaped}
-use Rattle.clk_model.specs.Begin.{most_credits}
+use Rattle.clk_machine.specs.Parts.{parts_of, bare, held_in_all, AreKept, IsWhole}
+use Rattle.clk_machine.specs.Stands.{Stands}
+use Rattle.clk_machine.proofs.Holdings.{StandsFor-same}
 
 -- no clock is registered at first
 blank_row : (n c : ℕ) → row_of (replicate n unregistered_row) c ≡ unregistered_row
@@ -19,26 +34,94 @@ blank_row (suc n) (suc c) = blank_row n c
 pub blank_registered : (clocks : List ClockRow) (n c : ℕ) → clocks ≡ replicate n unregistered_row → registered clocks c ≡ false
 blank_registered clocks n c is = ap (λ (rows : List ClockRow). registered rows c) is ∙ ap (λ (row : ClockRow). row.registered) (blank_row n c)
 
--- a core without a registered clock and a handle
-pub shaped_opening : (desc : Checked) (window : Shown) (tree : TreeState) (credits : ℕ)
+no_holder : (n c : ℕ) → slice_index (replicate n 0) c ≡ 0
+no_holder zero c = refl
+no_holder (suc n) zero = refl
+no_holder (suc n) (suc c) = no_holder n c
+
+-- one for yes
+abbrev one_for : Bool → ℕ
+one_for t = cond t 1 0
+
+-- counts that nobody holds stand for an opening
+counts_at_first : (desc : Checked) (counts : CountState) (words : List ℕ) → counts.defs ≡ desc.defs → counts.links ≡ replicate (length desc.defs) None
+    → counts.enables ≡ replicate (length desc.defs) 0 → counts.prepares ≡ replicate (length desc.defs) 0 → counts.exclusives ≡ replicate (length desc.defs) 0
+    → StandsFor counts (opening desc.defs words false 0)
+counts_at_first desc counts words defs links enables prepares exclusives = record {
+  defs = defs;
+  links = subst (λ (ls : List (Option ClockId)). HasLinks (replicate (length desc.defs) unregistered_row) ls) (sym links) (links_at_first (length desc.defs) (length desc.defs));
+  enables = λ c. let none = held_by_none counts.enables c enables in let critical = uncritical c in omega arith;
+  prepares = λ c. let none = held_by_none counts.prepares c prepares in let critical = uncritical c in omega arith;
+  exclusives = λ c. held_by_none counts.exclusives c exclusives;
+} where
+  held_by_none : (own : List ℕ) (c : ℕ) → own ≡ replicate (length desc.defs) 0 → slice_index own c ≡ 0
+  held_by_none own c is = ap (λ (xs : List ℕ). slice_index xs c) is ∙ no_holder (length desc.defs) c
+
+  and_none : (a b : Bool) → b ≡ false → (a && b) ≡ false
+  and_none true b e = e
+  and_none false b e = refl
+
+  uncritical : (c : ℕ) → one_for (is_critical desc.defs c && registered (replicate (length desc.defs) unregistered_row) c) ≡ 0
+  uncritical c =
+      ap one_for
+      (and_none (is_critical desc.defs c) _ (blank_registered (replicate (length desc.defs) unregistered_row) (length desc.defs) c refl))
+
+-- a core without a registered clock, a handle and a notifier
+pub whole_opening : (desc : Checked) (window : Shown) (tree : TreeState) (table : HandleTable) (counts : CountState) (chains : List (List Notifier)) (credits : ℕ) (ignore_unused : Bool)
     → IsValid desc.words desc.defs → CanRun desc.defs → window.size ≡ desc.words → AreTold window.size window.words
     → tree.defs ≡ desc.defs → tree.clocks ≡ replicate (length desc.defs) unregistered_row → IsTree tree.defs tree.clocks tree.order tree.rates → credits ≤ most_credits
-    → IsShaped desc window tree [] credits 0
-shaped_opening desc window tree credits valid runs size told defs blank stands few = record {
-  valid = valid;
-  runs = runs;
-  words = size;
-  told = told;
-  defs = defs;
-  stands = stands;
-  kept = none_kept window.words;
-  handled = λ n h e. absurd cc;
-  unguarded = λ n h e. absurd cc;
-  few_credits = few;
-  spent_within = omega arith;
-  few_handles = omega arith;
-  few_holds = omega arith;
+    → table.clocks ≡ length desc.defs → table.handles ≡ [] → AreCounts counts → StandsFor counts (opening desc.defs [] false 0) → length chains ≡ length desc.defs
+    → IsWhole (parts_of desc window tree table counts chains credits 0 ignore_unused)
+whole_opening desc window tree table counts chains credits ignore_unused valid runs size told defs blank stands few clocks empty keeps counted notified = record {
+  tied = record { valid = valid; runs = runs; words = size; told = told; defs = defs; stands = stands; kept = none_kept window.words };
+  paid = record {
+    few_credits = few;
+    within = omega arith;
+    few_handles = let none = ap (λ (hs : List (Option HandleRow)). length hs) empty in omega arith;
+    few_holds = let none = ap (λ (hs : List (Option HandleRow)). sums hs) empty in omega arith;
+  };
+  counted = record {
+    keeps = keeps;
+    stands = StandsFor-same counts (opening desc.defs [] false 0) (bare (parts_of desc window tree table counts chains credits 0 ignore_unused)) counted refl blank empty refl refl;
+  };
+  clocks = clocks;
+  handled = λ n h e. let none = ap (λ (hs : List (Option HandleRow)). handle_at hs n) empty in absurd cc;
+  notified = notified;
 } where
-  none_kept : (told : Option (List ℕ)) → AreKept desc.defs told tree.clocks tree.rates
+  sums : List (Option HandleRow) → ℕ
+  sums hs = sum_by held_in_all (present hs)
+
+  none_kept : (words : Option (List ℕ)) → AreKept desc.defs words tree.clocks tree.rates
   none_kept None = tt
   none_kept (Some words) = λ c there. let none = blank_registered tree.clocks (length desc.defs) c blank in absurd cc
+
+-- counts that a core begins with
+pub counts_opening : (desc : Checked) (counts : CountState) → counts.defs ≡ desc.defs → counts.links ≡ replicate (length desc.defs) None
+    → counts.enables ≡ replicate (length desc.defs) 0 → counts.prepares ≡ replicate (length desc.defs) 0 → counts.exclusives ≡ replicate (length desc.defs) 0
+    → StandsFor counts (opening desc.defs [] false 0)
+counts_opening desc counts defs links enables prepares exclusives = counts_at_first desc counts [] defs links enables prepares exclusives
+
+-- they stand for the opening, where the bank tells its words
+pub stands_opening : (desc : Checked) (window : Shown) (tree : TreeState) (table : HandleTable) (counts : CountState) (chains : List (List Notifier)) (credits : ℕ) (ignore_unused : Bool)
+    (words : List ℕ) (contents : Option (List ℕ))
+    → window.words ≡ option_map (λ _. words) contents → tree.clocks ≡ replicate (length desc.defs) unregistered_row → tree.order ≡ [] → table.handles ≡ [] → Tells chains []
+    → is_some window.words ≡ true
+    → Stands (parts_of desc window tree table counts chains credits 0 ignore_unused) (opening desc.defs words ignore_unused credits)
+stands_opening desc window tree table counts chains credits ignore_unused words contents given blank order empty notifiers told = record {
+  defs = refl;
+  regs = given ∙ all contents (sym (ap (λ (o : Option (List ℕ)). is_some o) given) ∙ told);
+  clocks = sym blank;
+  order = sym order;
+  handles = sym empty;
+  notifiers = notifiers;
+  prepare_holds = refl;
+  enable_holds = refl;
+  change = refl;
+  credits = refl;
+  spent = refl;
+  steps = refl;
+  ignore_unused = refl;
+} where
+  all : (o : Option (List ℕ)) → is_some (option_map (λ _. words) o) ≡ true → option_map (λ _. words) o ≡ Some words
+  all None e = absurd cc
+  all (Some ws) e = refl

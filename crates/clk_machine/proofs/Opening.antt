@@ -11,7 +11,6 @@ use Rattle.clk_base.specs.Fields.{GateBit, PowerBit, gate_of, power_of}
 use Rattle.clk_model.specs.Tree.{path_within}
 use Rattle.clk_model.specs.Gates.{follow, gates_moved}
 use Rattle.clk_model.proofs.PathLaws.{above, path_cons}
-use Rattle.clk_model.proofs.GateLaws.{follow-same}
 
 -- the words after the gates of these clocks have opened, where they are told
 abbrev pub opened : Description → (ℕ → Bool) → List ℕ → Option (List ℕ) → Option (List ℕ)
@@ -47,20 +46,6 @@ opened_own defs before up levels c kind old mid new some is idle first then =
           ≡ opened defs before (c ∷ above up (levels - 1) (up c)) old
       join None = refl
       join (Some regs) = refl
-
--- a clock that is active already
-pub opened_already : (defs : Description) (before : ℕ → Bool) (up : ℕ → Option ℕ) (levels c : ℕ) (old mid : Option (List ℕ))
-    → 0 < levels → before c ≡ true → mid ≡ opened defs before (above up (levels - 1) (up c)) old
-    → mid ≡ opened defs before (path_within up levels c) old
-opened_already defs before up levels c old mid some active first =
-    first ∙ stays old ∙ ap (λ (cs : List ℕ). opened defs before cs old) (sym (path_cons up levels c some)) where
-      own : (regs : List ℕ) (o : Option GateBit) → regs ≡ option_map_or (follow regs (before c) true) o regs
-      own regs None = refl
-      own regs (Some gate) = sym (follow-same regs (before c) true gate active)
-
-      stays : (old : Option (List ℕ)) → opened defs before (above up (levels - 1) (up c)) old ≡ opened defs before (c ∷ above up (levels - 1) (up c)) old
-      stays None = refl
-      stays (Some regs) = ap (λ (rs : List ℕ). Some rs) (own (gates_moved defs before (λ _. true) (above up (levels - 1) (up c)) regs) (gate_of (kind_of defs c)))
 
 -- a gate of a valid description lies in the bank
 pub gate_fits : (words : ℕ) (defs : Description) (c : ℕ) → IsValid words defs → c < length defs → IfSome (gate_of (kind_of defs c)) (λ gate. (gate.word < words) × (gate.bit < 32))

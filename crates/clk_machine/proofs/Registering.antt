@@ -1,6 +1,6 @@
 -- Registering a clock whose possible parents are registered.
-use Rattle.std.proofs.Common.{◌≡◌, ℕ, zero, suc, ◌+◌, ◌<◌, ◌≤◌, ◌||◌, Bool, true, false, List, [], ◌∷◌, Option, Some, None, refl, sym, ap, ◌∙◌, inl, inr, arith, length, take, nat_eq}
-use Rattle.std.specs.Prelude.{IfSome, is_some, slice_get, slice_index}
+use Rattle.std.proofs.Common.{◌≡◌, ◌≢◌, ℕ, zero, suc, ◌+◌, ◌<◌, ◌≤◌, ◌||◌, ◌&&◌, Bool, true, false, cond, List, [], ◌∷◌, Option, Some, None, refl, sym, ap, subst, ◌∙◌, inl, inr, arith, length, take, nat_eq}
+use Rattle.std.specs.Prelude.{IfSome, slice_get, slice_index, count_by}
 use Rattle.std.specs.List.{list_all}
 use Rattle.std.specs.Option.{option_map}
 use Rattle.std.proofs.lemmas.Bool.{cases_lt}
@@ -9,7 +9,7 @@ use Rattle.clk_base.specs.declared.clock.ClockDef.{ClockDef}
 use Rattle.clk_base.specs.declared.clock.ClockId.{ClockId}
 use Rattle.clk_base.specs.declared.clock.Kind.{Kind}
 use Rattle.clk_base.specs.declared.clock.Kind.TheVariants.{FixedRate, Factor, Gate, Mux, Divider, Pll}
-use Rattle.clk_base.specs.Checked.{Checked}
+use Rattle.clk_base.specs.Flags.{has_flag, is_critical}
 use Rattle.clk_base.specs.Description.{Description, nobody, kind_of, parents_of}
 use Rattle.clk_base.specs.Fields.{Field, fields_of}
 use Rattle.clk_base.specs.Valid.{IsValid}
@@ -18,22 +18,29 @@ use Rattle.reg_bank.specs.Registers.{Registers}
 use Rattle.clk_model.specs.declared.row.ClockRow.{ClockRow}
 use Rattle.clk_model.specs.declared.row.HandleRow.{HandleRow}
 use Rattle.clk_model.specs.Lists.{is_in, to_front}
-use Rattle.clk_model.specs.State.{State, row_of, registered, requested}
+use Rattle.clk_model.specs.State.{State, row_of, registered, link_in, requested}
 use Rattle.clk_model.specs.Tree.{selected}
 use Rattle.clk_model.specs.Rate.{rate}
 use Rattle.clk_model.specs.Begin.{registered_rows, register}
 use Rattle.clk_model.specs.Laws.Paths.{scales_by}
+use Rattle.clk_model.proofs.StateLaws.{settled-still, row_of-set_other}
 use Rattle.clk_model.proofs.Members.{is_in_head, is_in_tail, test_same}
 use Rattle.clk_model.proofs.RateLaws.{rate-links, writes_leave_rates}
 use Rattle.clk_tree.specs.TreeState.{TreeState, IsTree, attached}
+use Rattle.counts_core.specs.Sums.{up_in}
+use Rattle.counts_core.specs.Counted.{CountState, AreCounts, HasLinks, HasOtherLinks}
+use Rattle.counts_core.specs.Standing.{StandsFor}
 use Rattle.clk_tree.specs.Refreshed.{is_below, IsFresh}
 use Rattle.clk_tree.proofs.Fitting.{attached-registered}
 use Rattle.clk_tree.proofs.Freshness.{fresh_attached}
 use Rattle.clk_tree.proofs.Rows.{registered-set, registered-requested, link-requested}
-use Rattle.clk_machine.specs.Held.{AreKept, state_of, IsShaped}
-use Rattle.clk_machine.specs.Window.{Shown}
-use Rattle.clk_machine.proofs.Fitting.{all_in}
-use Rattle.clk_machine.proofs.Attaching.{link_given-selected}
+use Rattle.clk_machine.specs.Fit.{CanRun}
+use Rattle.clk_machine.specs.Parts.{Parts, bare, AreKept, ArePaid, IsWhole}
+use Rattle.clk_machine.specs.Sound.{IsSound}
+use Rattle.clk_machine.specs.Stands.{Stands, Becomes}
+use Rattle.clk_machine.proofs.Fitting.{all_in, not_critical}
+use Rattle.clk_machine.proofs.Attaching.{link_given-selected, RegistersAlone, registers_alone}
+use Rattle.clk_machine.proofs.Holdings.{sum_on}
 use Rattle.clk_machine.proofs.WindowLaws.{field-take}
 
 -- ---- the parent
@@ -135,6 +142,12 @@ registered-registered clocks c parent request k within inside =
       or_turned false true = refl
       or_turned false false = refl
 
+-- the links of the others stay
+pub links_beside : (clocks : List ClockRow) (c : ℕ) (parent : Option ClockId) (request d : ℕ) → d ≢ c → link_in (requested (attached clocks c parent) c request) d ≡ link_in clocks d
+links_beside clocks c parent request d other =
+    ap (λ (r : ClockRow). option_map (λ (p : ClockId). p.0) r.link)
+    (row_of-set_other (attached clocks c parent) c _ d (λ same. other (sym same)) ∙ row_of-set_other clocks c _ d (λ same. other (sym same)))
+
 -- a clock of the description has a row, where the tree has as many rows after it was attached
 pub row_within : (clocks new : List ClockRow) (c n : ℕ) (parent : Option ClockId) → new ≡ attached clocks c parent → length new ≡ n → c < n → c < length clocks
 row_within clocks new c n parent is rows within =
@@ -142,38 +155,152 @@ row_within clocks new c n parent is rows within =
     let same : length new ≡ length (attached clocks c parent) = ap (λ (rs : List ClockRow). length rs) is in
     omega arith
 
+-- ---- the counts after it
+
+-- no clock is critical
+uncritical : (defs : Description) → CanRun defs → (c : ℕ) → is_critical defs c ≡ false
+uncritical defs runs c = elim (cases_lt c (length defs)) [
+  | inl within ↦ not_critical defs runs c within
+  | inr past ↦ ap (λ (def : ClockDef). has_flag def.flags 32) (get_or_past defs c nobody (omega arith))
+]
+
+-- one for yes
+abbrev one_for : Bool → ℕ
+one_for t = cond t 1 0
+
+-- where no clock is critical, counts that get the links of a registration stand for what it leaves
+stands_registered : (k k' : CountState) (s t : State) → StandsFor k s → k' ≡ record k { links = k'.links } → HasLinks t.clocks k'.links
+    → t.defs ≡ s.defs → t.handles ≡ s.handles → t.prepare_holds ≡ s.prepare_holds → t.enable_holds ≡ s.enable_holds → CanRun s.defs
+    → StandsFor k' t
+stands_registered k k' s t stands is links defs handles prepare_holds enable_holds runs = record {
+  defs = ap (λ (x : CountState). x.defs) is ∙ stands.defs ∙ sym defs;
+  links = links;
+  enables = λ c.
+      ap (λ (x : CountState). slice_index x.enables c) is ∙ stands.enables c
+      ∙ own_same (λ h. h.enables) s.enable_holds t.enable_holds (sym enable_holds) c;
+  prepares = λ c.
+      ap (λ (x : CountState). slice_index x.prepares c) is ∙ stands.prepares c
+      ∙ own_same (λ h. h.prepares) s.prepare_holds t.prepare_holds (sym prepare_holds) c;
+  exclusives = λ c.
+      ap (λ (x : CountState). slice_index x.exclusives c) is ∙ stands.exclusives c
+      ∙ ap (λ (hs : List (Option HandleRow)). sum_on (λ h. h.exclusives) hs c) (sym handles);
+} where
+  own_same : (count : HandleRow → ℕ) (holds holds' : List ℕ) → holds ≡ holds' → (c : ℕ)
+      → sum_on count s.handles c + one_for (is_critical s.defs c && registered s.clocks c) + count_by (λ h. nat_eq h c) holds
+      ≡ sum_on count t.handles c + one_for (is_critical t.defs c && registered t.clocks c) + count_by (λ h. nat_eq h c) holds'
+  own_same count holds holds' same c =
+      let plain : is_critical s.defs c ≡ false = uncritical s.defs runs c in
+      let before : one_for (is_critical s.defs c && registered s.clocks c) ≡ 0 = ap (λ (b : Bool). one_for (b && registered s.clocks c)) plain in
+      let after : one_for (is_critical t.defs c && registered t.clocks c) ≡ 0 =
+      ap (λ (d : Description). one_for (is_critical d c && registered t.clocks c)) defs ∙ ap (λ (b : Bool). one_for (b && registered t.clocks c)) plain in
+      let sums = ap (λ (hs : List (Option HandleRow)). sum_on count hs c) handles in
+      let held = ap (λ (hs : List ℕ). count_by (λ h. nat_eq h c) hs) same in
+      omega arith
+
 -- ---- the parts after it
 
-pub shaped-registered : (desc : Checked) (window : Shown) (tree tree' : TreeState) (handles : List (Option HandleRow)) (credits spent c : ℕ)
-    → IsShaped desc window tree handles credits spent → spent < credits
-    → tree'.defs ≡ tree.defs → IsTree tree'.defs tree'.clocks tree'.order tree'.rates → AreKept desc.defs window.words tree'.clocks tree'.rates
-    → ((k : ℕ) → registered tree'.clocks k ≡ (registered tree.clocks k || nat_eq c k))
-    → IsShaped desc window tree' handles credits (spent + 1)
-shaped-registered desc window tree tree' handles credits spent c shape left defs stands kept rows = record {
-  valid = shape.valid;
-  runs = shape.runs;
-  words = shape.words;
-  told = shape.told;
-  defs = defs ∙ shape.defs;
-  stands = stands;
-  kept = kept;
-  handled = λ n h e. rows h.clock.0 ∙ ap (λ (b : Bool). b || nat_eq c h.clock.0) (shape.handled n h e);
-  unguarded = shape.unguarded;
-  few_credits = shape.few_credits;
-  spent_within = omega arith;
-  few_handles = let few = shape.few_handles in omega arith;
-  few_holds = let few = shape.few_holds in omega arith;
+-- a clock of a tree was registered, and nothing else changed but what follows
+pub record Registered (old : Parts) (c : ℕ) (tree' : TreeState) (counts' : CountState) : Type 0 where
+  pub place : c < length old.desc.defs
+  pub free : registered old.tree.clocks c ≡ false
+  pub parents : list_all (registered old.tree.clocks) (parents_of old.desc.defs c) ≡ true
+  pub rows : (k : ℕ) → registered tree'.clocks k ≡ (registered old.tree.clocks k || nat_eq c k)
+  pub clocks : IfSome old.window.words (λ regs. tree'.clocks ≡ registered_rows old.desc.defs regs old.tree.clocks c)
+  pub order : tree'.order ≡ to_front c old.tree.order
+  pub defs : tree'.defs ≡ old.tree.defs
+  pub kept : AreKept old.desc.defs old.window.words tree'.clocks tree'.rates
+  pub stands : IsTree tree'.defs tree'.clocks tree'.order tree'.rates
+  pub counts : counts' ≡ record old.counts { links = counts'.links }
+  pub links : HasLinks tree'.clocks counts'.links
+  pub keeps : AreCounts counts'
+
+-- the parts with this tree and these counts, and a credit spent
+abbrev pub with_registered : Parts → TreeState → CountState → Parts
+with_registered old tree' counts' = record old { tree = tree'; counts = counts'; spent = old.spent + 1 }
+
+-- a credit more is spent
+pub paid_more : (handles : List (Option HandleRow)) (credits spent : ℕ) → ArePaid handles credits spent → spent < credits → ArePaid handles credits (spent + 1)
+paid_more handles credits spent paid left = record {
+  few_credits = paid.few_credits;
+  within = omega arith;
+  few_handles = let few = paid.few_handles in omega arith;
+  few_holds = let few = paid.few_holds in omega arith;
 }
 
--- ---- the state after it
+pub whole_registered : (old : Parts) (c : ℕ) (tree' : TreeState) (counts' : CountState) → IsWhole old → Registered old c tree' counts' → old.spent < old.credits
+    → IsWhole (with_registered old tree' counts')
+whole_registered old c tree' counts' whole now left = record {
+  tied = record {
+    valid = whole.tied.valid;
+    runs = whole.tied.runs;
+    words = whole.tied.words;
+    told = whole.tied.told;
+    defs = now.defs ∙ whole.tied.defs;
+    stands = now.stands;
+    kept = now.kept;
+  };
+  paid = paid_more old.table.handles old.credits old.spent whole.paid left;
+  counted = record {
+    keeps = now.keeps;
+    stands =
+        stands_registered old.counts counts' (bare old) (bare (with_registered old tree' counts')) whole.counted.stands now.counts now.links refl refl refl refl whole.tied.runs;
+  };
+  clocks = whole.clocks;
+  handled = λ n h at. now.rows h.clock.0 ∙ ap (λ (b : Bool). b || nat_eq c h.clock.0) (whole.handled n h at);
+  notified = whole.notified;
+}
 
-pub state-registered : (defs : Description) (told : Option (List ℕ)) (clocks clocks' : List ClockRow) (order order' : List ℕ) (handles : List (Option HandleRow)) (credits spent : ℕ) (ignore_unused : Bool) (c : ℕ)
-    → is_some told ≡ true → IfSome told (λ regs. clocks' ≡ registered_rows defs regs clocks c) → order' ≡ to_front c order
-    → (let old : State = state_of defs told clocks order handles credits spent ignore_unused in
-    let new : State = state_of defs told clocks' order' handles credits (spent + 1) ignore_unused in
-    let after : State = record (register old c) { spent = spent + 1 } in new ≡ after)
+-- a registration whose possible parents are registered is all that is done to the state
+pub alone_stands : (m : Parts) (s : State) (c : ℕ) → Stands m s → IsSound m.window.size s → c < length m.desc.defs → registered m.tree.clocks c ≡ false
+    → list_all (registered m.tree.clocks) (parents_of m.desc.defs c) ≡ true → RegistersAlone m.window.size s c
+alone_stands m s c stands sound place free parents =
+    registers_alone m.window.size s c sound
+    (subst (λ (d : Description). c < length d) (sym stands.defs) place)
+    (ap (λ (rs : List ClockRow). registered rs c) stands.clocks ∙ free)
+    (ap (λ (rs : List ClockRow). list_all (registered rs) (parents_of s.defs c)) stands.clocks
+    ∙ ap (λ (d : Description). list_all (registered m.tree.clocks) (parents_of d c)) stands.defs ∙ parents)
+
+-- that is what is done to the state
+pub becomes_registered : (old : Parts) (c : ℕ) (tree' : TreeState) (counts' : CountState) → Registered old c tree' counts'
+    → Becomes old (λ k. nat_eq c k) (λ s. register s c) (with_registered old tree' counts')
 unfolding register
-state-registered defs None clocks clocks' order order' handles credits spent ignore_unused c tells rows front = absurd cc
-state-registered defs (Some regs) clocks clocks' order order' handles credits spent ignore_unused c tells rows front =
-    ap (λ (r : List ClockRow). state_of defs (Some regs) r order' handles credits (spent + 1) ignore_unused) rows
-    ∙ ap (λ (o : List ℕ). state_of defs (Some regs) (registered_rows defs regs clocks c) o handles credits (spent + 1) ignore_unused) front
+becomes_registered old c tree' counts' now = record {
+  remains = record { desc = refl; told = refl; size = refl; behind = refl; credits = refl; ignore_unused = refl };
+  spent = refl;
+  rows = now.rows;
+  stands = λ s stands sound.
+      let alone = alone_stands old s c stands sound now.place now.free now.parents in
+      let rows : tree'.clocks ≡ registered_rows old.desc.defs s.regs old.tree.clocks c =
+      subst (λ (o : Option (List ℕ)). IfSome o (λ regs. tree'.clocks ≡ registered_rows old.desc.defs regs old.tree.clocks c)) stands.regs now.clocks in
+      subst (λ (t : State). Stands (with_registered old tree' counts') (record t { spent = s.spent + 1 }))
+      (sym (settled-still s (register s c) alone.same)) (record {
+        defs = stands.defs;
+        regs = stands.regs;
+        clocks =
+            ap (λ (d : Description). registered_rows d s.regs s.clocks c) stands.defs
+            ∙ ap (λ (rs : List ClockRow). registered_rows old.desc.defs s.regs rs c) stands.clocks ∙ sym rows;
+        order = ap (to_front c) stands.order ∙ sym now.order;
+        handles = stands.handles;
+        notifiers = stands.notifiers;
+        prepare_holds = stands.prepare_holds;
+        enable_holds = stands.enable_holds;
+        change = stands.change;
+        credits = stands.credits;
+        spent = ap (λ (k : ℕ). k + 1) stands.spent;
+        steps = stands.steps;
+        ignore_unused = stands.ignore_unused;
+      });
+}
+
+-- ---- the counts get the link
+
+-- an unregistered clock has no link among those that the sums are over
+pub no_link : (m : Parts) (c : ℕ) → IsWhole m → registered m.tree.clocks c ≡ false → up_in m.counts.links c ≡ None
+no_link m c whole free = sym (whole.counted.stands.links c) ∙ by (link_in m.tree.clocks c) refl where
+  by : (o : Option ℕ) → link_in m.tree.clocks c ≡ o → o ≡ None
+  by None e = refl
+  by (Some p) e = let no : true ≡ false = sym (whole.tied.stands.linked c p e) ∙ free in absurd cc
+
+-- the other links are those of the tree
+pub other_links : (m : Parts) (c : ℕ) (clocks : List ClockRow) → IsWhole m → ((d : ℕ) → d ≢ c → link_in clocks d ≡ link_in m.tree.clocks d) → HasOtherLinks clocks m.counts.links c
+other_links m c clocks whole same d other = same d other ∙ whole.counted.stands.links d

@@ -73,14 +73,20 @@ sum_by-set count (Some h ∷ handles) (suc n) old new at =
     let two = sum_by-cons count h (present handles) in
     omega arith
 
--- without it the sum is no greater
-pub sum_by-clear : (count : HandleRow → ℕ) (handles : List (Option HandleRow)) (n : ℕ) → sum_by count (present (set handles n None)) ≤ sum_by count (present handles)
-sum_by-clear count [] n = omega arith
-sum_by-clear count (None ∷ handles) zero = omega arith
-sum_by-clear count (Some h ∷ handles) zero = let one = sum_by-cons count h (present handles) in omega arith
-sum_by-clear count (None ∷ handles) (suc n) = sum_by-clear count handles n
-sum_by-clear count (Some h ∷ handles) (suc n) =
-    let rest = sum_by-clear count handles n in
+-- without it the sum is less by that
+pub sum_by-gone : (count : HandleRow → ℕ) (handles : List (Option HandleRow)) (n : ℕ) (old : HandleRow) → handle_at handles n ≡ Some old
+    → sum_by count (present (set handles n None)) + count old ≡ sum_by count (present handles)
+sum_by-gone count [] n old at = absurd cc
+sum_by-gone count (None ∷ handles) zero old at = absurd cc
+sum_by-gone count (Some h ∷ handles) zero old at =
+    let is : count h ≡ count old = ap count (the_same h old at) in
+    let one = sum_by-cons count h (present handles) in
+    omega arith where
+      the_same : (h old : HandleRow) → Some h ≡ Some old → h ≡ old
+      the_same h old at = cc
+sum_by-gone count (None ∷ handles) (suc n) old at = sum_by-gone count handles n old at
+sum_by-gone count (Some h ∷ handles) (suc n) old at =
+    let rest = sum_by-gone count handles n old at in
     let one = sum_by-cons count h (present (set handles n None)) in
     let two = sum_by-cons count h (present handles) in
     omega arith

@@ -7,7 +7,7 @@ use Rattle.clk_base.specs.Description.{Description, parents_of}
 use Rattle.clk_machine.specs.Fit.{has_pll}
 
 -- whether a call can be made so far, where there is a PLL or none, and where these clocks can be probed: get, put, unprepare, rate and
--- parent; a prepare where there is no PLL, since it would have to raise one; and the probe of such a clock
+-- parent, exclusive holds and notifiers; a prepare where there is no PLL, since it would have to raise one; and the probe of such a clock
 abbrev pub is_built : Bool → (ℕ → Bool) → Sleeping → Bool
 is_built pll probes (call.Get found) = true
 is_built pll probes (call.Put h) = true
@@ -15,6 +15,10 @@ is_built pll probes (call.Prepare h) = not pll
 is_built pll probes (call.Unprepare h) = true
 is_built pll probes (call.GetRate h) = true
 is_built pll probes (call.GetParent h) = true
+is_built pll probes (call.ExclusiveGet h) = true
+is_built pll probes (call.ExclusivePut h) = true
+is_built pll probes (call.NotifierAdd h id priority policy) = true
+is_built pll probes (call.NotifierRemove h id) = true
 is_built pll probes (call.Probe c) = probes c.0
 is_built pll probes _ = false
 

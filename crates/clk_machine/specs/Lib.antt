@@ -2,8 +2,9 @@ pub mod Window
 pub mod Shape
 pub mod Fit
 pub mod Built
-pub mod Held
+pub mod Parts
+pub mod Stands
+pub mod Holding
 pub mod Sound
 pub mod Run
-pub mod Hold
 pub mod Row

@@ -2,7 +2,6 @@
 use Rattle.std.specs.Prelude.{◌≡◌, ℕ, ◌+◌, List, [], ◌∷◌, ◌++◌, Bool, true, Option, Some, length, take}
 use Rattle.std.specs.List.{list_any}
 use Rattle.clk_base.specs.declared.call.Sleeping.{Sleeping}
-use Rattle.clk_base.specs.declared.call.Sleeping.TheVariants as call
 use Rattle.clk_base.specs.declared.event.Entry.{Entry}
 use Rattle.clk_base.specs.declared.event.Event.{Event}
 use Rattle.clk_base.specs.declared.event.Turn.{Turn}
@@ -11,7 +10,8 @@ use Rattle.clk_model.specs.State.{State, registered}
 use Rattle.clk_model.specs.Machine.{next}
 use Rattle.clk_model.specs.Journal.{slotless, replay, Legal, opening, cost}
 use Rattle.clk_model.specs.Fed.{Fed}
-use Rattle.clk_machine.specs.Held.{Held, registers}
+use Rattle.clk_machine.specs.Parts.{Parts}
+use Rattle.clk_machine.specs.Stands.{Stands, is_told, registers}
 use Rattle.clk_machine.specs.Sound.{IsSound}
 use Rattle.clk_machine.specs.Built.{is_built_over}
 
@@ -56,17 +56,25 @@ pub record Logged : Type 0 where
   pub room : ℕ
 
 -- the opening of a machine that was made with these words
-abbrev pub start_of : Held → List ℕ → State
-start_of m words = opening m.state.defs words m.state.ignore_unused m.state.credits
+abbrev pub start_of : Parts → List ℕ → State
+start_of m words = opening m.desc.defs words m.ignore_unused m.credits
 
--- the journal is a legal run of the machine, and the state stands for its replay
-pub record IsRun (m : Held) (words : List ℕ) (log : Logged) : Type 0 where
-  pub stands : m.told ≡ true → replay (start_of m words) log.entries ≡ m.state
-  pub legal : m.told ≡ true → Legal (start_of m words) log.entries
-  pub sound : m.told ≡ true → IsSound (length words) m.state
+-- the state of a machine with this journal
+abbrev pub state_of : Parts → List ℕ → Logged → State
+state_of m words log = replay (start_of m words) log.entries
+
+-- the core of a machine with this journal
+abbrev pub run_of : Parts → List ℕ → Logged → Run
+run_of m words log = record { start = start_of m words; journal = log.entries; told = is_told m; behind = m.window.behind }
+
+-- the journal is a legal run of the machine, and the parts stand for its replay
+pub record IsRun (m : Parts) (words : List ℕ) (log : Logged) : Type 0 where
+  pub stands : is_told m ≡ true → Stands m (state_of m words log)
+  pub legal : is_told m ≡ true → Legal (start_of m words) log.entries
+  pub sound : is_told m ≡ true → IsSound (length words) (state_of m words log)
   -- after every prefix the active clocks are fed
-  pub fed : m.told ≡ true → (n : ℕ) → Fed (replay (start_of m words) (take n log.entries))
-  pub spent : cost log.entries ≡ m.state.spent
-  pub room : m.state.spent + log.room ≡ m.state.credits
-  pub size : m.size ≡ length words
-  pub probed : (c : ℕ) → registered m.state.clocks c ≡ was_probed log.entries c
+  pub fed : is_told m ≡ true → (n : ℕ) → Fed (replay (start_of m words) (take n log.entries))
+  pub spent : cost log.entries ≡ m.spent
+  pub room : m.spent + log.room ≡ m.credits
+  pub size : m.window.size ≡ length words
+  pub probed : (c : ℕ) → registered m.tree.clocks c ≡ was_probed log.entries c

@@ -55,9 +55,10 @@ IsPlaced defs _ = Unit {0}
 abbrev pub CanBegin : State → Sleeping → Type 0
 CanBegin s what = is_built_over s.defs (registered s.clocks) what ≡ true
 
--- a get takes memory, for its handle, and no other call does
+-- a get takes memory, for its handle, and so does adding a notifier; no other call does
 abbrev pub takes_memory : Sleeping → Bool
 takes_memory (call.Get found) = true
+takes_memory (call.NotifierAdd h id priority policy) = true
 takes_memory _ = false
 
 -- an event that can come in a state: one of the enable tier, or a call that can begin

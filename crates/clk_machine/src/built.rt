@@ -15,7 +15,11 @@ pub fn is_built(what: &Sleeping, pll: bool, can_register: bool) -> bool
         | Sleeping::Put(_)
         | Sleeping::Unprepare(_)
         | Sleeping::GetRate(_)
-        | Sleeping::GetParent(_) => true,
+        | Sleeping::GetParent(_)
+        | Sleeping::ExclusiveGet(_)
+        | Sleeping::ExclusivePut(_)
+        | Sleeping::NotifierAdd(_, _, _, _)
+        | Sleeping::NotifierRemove(_, _) => true,
         Sleeping::Prepare(_) => !pll,
         Sleeping::Probe(_) => can_register,
         _ => false,

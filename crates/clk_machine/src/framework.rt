@@ -30,11 +30,11 @@ pub struct Core<B: Bank> {
 }
 
 impl<B: Bank> Model for Core<B> {
-    ghost use Rattle.clk_machine.specs.Run.{Run, start_of, IsRun};
+    ghost use Rattle.clk_machine.specs.Run.{Run, run_of, IsRun};
 
     ghost Value = { Run };
 
-    ghost view = { λ c. record { start = start_of c.machine c.words.items; journal = c.log.entries; told = c.machine.told; behind = c.machine.behind } };
+    ghost view = { λ c. run_of c.machine c.words.items c.log };
 
     ghost invariant = { λ c. IsRun c.machine c.words.items c.log };
 }
@@ -44,6 +44,8 @@ impl<B: Bank> Core<B> {
     ghost use Rattle.clk_base.specs.declared.event.Turn.TheVariants.{Done};
     ghost use Rattle.clk_machine.specs.Fit.{CanRun};
     ghost use Rattle.clk_machine.specs.Sound.{IsPlaced, takes_memory};
+    ghost use Rattle.clk_model.specs.Journal.{slotless};
+    ghost use Rattle.clk_model.specs.Laws.CallCauses.{CallTurns};
     ghost use Rattle.clk_model.specs.Laws.Causes.{EnableCauses, DisableCauses, RunningCauses, TurnHasCause, LeavesRefused};
     ghost use Rattle.clk_machine.specs.Run.{Run, now_of, was_probed, can_make, IsDone, Appends};
     ghost use Rattle.clk_machine.specs.Row.{IsRowOf, IsTreeOf};
@@ -96,7 +98,7 @@ impl<B: Bank> Core<B> {
         // Where the bank tells its words, a refusal spends a credit and changes nothing else.
         ensures refused { self.old.told ≡ true → LeavesRefused (Done result) (now_of self.old) (now_of self.new) }
     {
-        let reply = self.machine.enable(driver, handle.number);
+        let reply = self.machine.enable(driver, handle);
         self.log.push(Entry {
             driver,
             event: Event::Enable(handle.number),
@@ -116,7 +118,7 @@ impl<B: Bank> Core<B> {
         // Where the bank tells its words, a refusal spends a credit and changes nothing else.
         ensures refused { self.old.told ≡ true → LeavesRefused (Done result) (now_of self.old) (now_of self.new) }
     {
-        let reply = self.machine.disable(driver, handle.number);
+        let reply = self.machine.disable(driver, handle);
         self.log.push(Entry {
             driver,
             event: Event::Disable(handle.number),
@@ -136,7 +138,7 @@ impl<B: Bank> Core<B> {
         // Where the bank tells its words, a refusal spends a credit and changes nothing else.
         ensures refused { self.old.told ≡ true → LeavesRefused (Done result) (now_of self.old) (now_of self.new) }
     {
-        let reply = self.machine.running(driver, handle.number);
+        let reply = self.machine.running(driver, handle);
         self.log.push(Entry {
             driver,
             event: Event::Running(handle.number),
@@ -160,7 +162,8 @@ impl<B: Bank> Core<B> {
 
     /// Begins a call of a driver. The calls that are built answer at once.
     ///
-    /// After `NoMemory` the core is as it was, without an entry. It comes at a get alone.
+    /// After `NoMemory` the core is as it was, without an entry. It comes at a get and where a
+    /// notifier is added.
     pub fn begin(&mut self, driver: u32, what: &Sleeping) -> Result<Turn, NoMemory>
         // A credit is left.
         requires credit { cost self.old.journal < self.old.start.credits }
@@ -174,6 +177,8 @@ impl<B: Bank> Core<B> {
         ensures at_once { IfOk result IsDone }
         // Where the bank tells its words, each answer has its cause in the state before.
         ensures causes { self.old.told ≡ true → IfOk result (TurnHasCause (now_of self.old) driver what.now) }
+        // Where the bank tells its words, the turn of each call comes exactly where its cause in the state before holds.
+        ensures turns { self.old.told ≡ true → IfOk result (λ turn. CallTurns (now_of self.old) driver what.now (slotless turn)) }
         // Where the bank tells its words, a refusal spends a credit and changes nothing else.
         ensures refused { self.old.told ≡ true → IfOk result (λ turn. LeavesRefused turn (now_of self.old) (now_of self.new)) }
         // Where memory runs out, the core is as it was.

@@ -1,4 +1,4 @@
-//! Gates, the clocks that keep them open, and what is on of a clock.
+//! Gates, and what is on of a clock.
 
 ghost use Rattle.std.specs.Prelude.{◌≡◌, ◌<◌, true, false, length, reverse, IfSome};
 ghost use Rattle.std.specs.Option.{option_map, option_map_or};
@@ -6,23 +6,13 @@ ghost use Rattle.clk_base.specs.Fields.{gate_of, power_of};
 ghost use Rattle.clk_model.specs.Summary.{is_on};
 ghost use Rattle.clk_model.specs.State.{link_in};
 ghost use Rattle.clk_model.specs.Tree.{path_within};
-ghost use Rattle.clk_model.specs.Holders.{clocks_of, is_held, is_enabled};
 ghost use Rattle.clk_model.specs.Gates.{follow, gates_moved};
 ghost use Rattle.clk_machine.specs.Shape.{LinksLie};
 
-use crate::counts::{Hold, is_held_above};
 use crate::window::Window;
 use clk_base::{ClockId, Kind, ValidDesc};
-use clk_model::HandleRow;
 use clk_tree::Tree;
 use reg_bank::Bank;
-
-/// Whether a handle with an enable keeps a clock active.
-pub(crate) fn is_enabled_above(tree: &Tree, handles: &[Option<HandleRow>], clock: ClockId) -> bool
-    ensures { result ≡ is_held tree.now.clocks (clocks_of is_enabled handles.now) clock.0 }
-{
-    is_held_above(Hold::Enable, tree, handles, clock)
-}
 
 /// Whether a gate is open or a PLL powered. A clock of another kind has nothing to switch.
 pub(crate) fn switch_state<B: Bank>(kind: Kind, window: &Window<B>) -> Option<bool>
@@ -79,12 +69,11 @@ fn close_gate<B: Bank>(kind: Kind, window: &mut Window<B>)
     }
 }
 
-/// Opens the gates on the path of a clock that no handle keeps active, parents first.
+/// Opens the gates of the first so many clocks of a path, parents first.
 pub(crate) fn open_path<B: Bank>(
-    levels: u32,
+    levels: usize,
     desc: &ValidDesc,
     tree: &Tree,
-    handles: &[Option<HandleRow>],
     window: &mut Window<B>,
     clock: ClockId,
 )
@@ -92,26 +81,23 @@ pub(crate) fn open_path<B: Bank>(
     requires links { LinksLie desc.now.defs tree.now.clocks }
     requires words { window.old.size ≡ desc.now.words }
     ensures size { window.new.size ≡ window.old.size }
-    ensures words { window.new.words ≡ option_map (gates_moved desc.now.defs (is_held tree.now.clocks (clocks_of is_enabled handles.now)) (λ _. true) (path_within (link_in tree.now.clocks) levels clock.0)) window.old.words }
+    ensures words { window.new.words ≡ option_map (gates_moved desc.now.defs (λ _. false) (λ _. true) (path_within (link_in tree.now.clocks) levels clock.0)) window.old.words }
     ensures behind { window.new.behind ≡ window.old.behind }
 {
     if levels == 0 {
         return;
     }
     if let Some(parent) = tree.parent(clock) {
-        open_path(levels - 1, desc, tree, handles, window, parent);
+        open_path(levels - 1, desc, tree, window, parent);
     }
-    if !is_enabled_above(tree, handles, clock) {
-        open_gate(desc.def(clock).kind, window);
-    }
+    open_gate(desc.def(clock).kind, window);
 }
 
-/// Closes the gates on the path of a clock that no handle keeps active, the clock's own first.
+/// Closes the gates of the first so many clocks of a path, the clock's own first.
 pub(crate) fn close_path<B: Bank>(
-    levels: u32,
+    levels: usize,
     desc: &ValidDesc,
     tree: &Tree,
-    handles: &[Option<HandleRow>],
     window: &mut Window<B>,
     clock: ClockId,
 )
@@ -119,16 +105,14 @@ pub(crate) fn close_path<B: Bank>(
     requires links { LinksLie desc.now.defs tree.now.clocks }
     requires words { window.old.size ≡ desc.now.words }
     ensures size { window.new.size ≡ window.old.size }
-    ensures words { window.new.words ≡ option_map (gates_moved desc.now.defs (λ _. true) (is_held tree.now.clocks (clocks_of is_enabled handles.now)) (reverse (path_within (link_in tree.now.clocks) levels clock.0))) window.old.words }
+    ensures words { window.new.words ≡ option_map (gates_moved desc.now.defs (λ _. true) (λ _. false) (reverse (path_within (link_in tree.now.clocks) levels clock.0))) window.old.words }
     ensures behind { window.new.behind ≡ window.old.behind }
 {
     if levels == 0 {
         return;
     }
-    if !is_enabled_above(tree, handles, clock) {
-        close_gate(desc.def(clock).kind, window);
-    }
+    close_gate(desc.def(clock).kind, window);
     if let Some(parent) = tree.parent(clock) {
-        close_path(levels - 1, desc, tree, handles, window, parent);
+        close_path(levels - 1, desc, tree, window, parent);
     }
 }

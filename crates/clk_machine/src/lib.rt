@@ -2,7 +2,6 @@
 #![tactic(auto)]
 
 mod built;
-mod counts;
 mod fit;
 mod framework;
 mod gates;
@@ -10,7 +9,6 @@ mod handles;
 mod laws;
 mod log;
 mod machine;
-mod path;
 mod register;
 mod row;
 mod window;

@@ -1,64 +1,67 @@
 //! The state of the machine, kept in parts.
 
-ghost use Rattle.std.specs.Prelude.{◌≡◌, ℕ, ◌+◌, ◌<◌, ◌≤◌, true, false, length, drop, is_some, IfSome, IfOk, IsOk, OnErr, Some, None};
+ghost use Rattle.std.specs.Prelude.{◌≡◌, ℕ, ◌<◌, ◌≤◌, true, false, length, drop, is_some, IfSome, IfOk, IsOk, OnErr, Some};
 ghost use Rattle.std.specs.Option.{option_map};
 ghost use Rattle.clk_base.specs.Valid.{IsValid};
-ghost use Rattle.clk_model.specs.State.{registered};
+ghost use Rattle.clk_model.specs.State.{registered, handle_at};
 ghost use Rattle.clk_model.specs.Journal.{opening};
 ghost use Rattle.clk_model.specs.Begin.{most_credits};
 
 mod calls;
 mod enabling;
+mod exclusives;
+mod holding;
+mod notifying;
 mod registering;
 mod rows;
 mod telling;
 
-use crate::handles::own_row;
 use crate::window::Window;
-use clk_base::{Reply, Sleeping, ValidDesc};
+use clk_base::{Handle, Reply, Sleeping, ValidDesc};
 use clk_io::NoMemory;
 use clk_model::HandleRow;
 use clk_tree::Tree;
+use counts_core::Counts;
+use notifiers::Notifiers;
+use rate_requests::Requests;
 use reg_bank::Bank;
 use std::alloc::Global;
 use std::marker::Model;
 
-/// The machine without its journal, seen by contracts as the state that its parts stand for.
+/// The machine without its journal, seen by contracts as its parts. They stand for a state of the
+/// definitions.
 #[derive(Drop)]
 pub(crate) struct Machine<B: Bank> {
     desc: ValidDesc,
     window: Window<B>,
     tree: Tree,
-    // The handles by their numbers.
-    handles: Vec<Option<HandleRow>>,
+    handles: Requests,
+    counts: Counts,
+    notifiers: Notifiers,
     credits: u32,
     spent: u32,
     ignore_unused: bool,
 }
 
 impl<B: Bank> Model for Machine<B> {
-    ghost use Rattle.std.specs.Prelude.{is_some};
-    ghost use Rattle.clk_machine.specs.Held.{Held, state_of, IsShaped};
+    ghost use Rattle.clk_machine.specs.Parts.{Parts, parts_of, IsWhole};
 
-    ghost Value = { Held };
+    ghost Value = { Parts };
 
-    ghost view = { λ m. record {
-      state = state_of m.desc.defs m.window.words m.tree.clocks m.tree.order m.handles.items m.credits m.spent m.ignore_unused;
-      told = is_some m.window.words;
-      size = m.window.size;
-      behind = m.window.behind;
-    } };
+    ghost view = { λ m. parts_of m.desc m.window m.tree m.handles m.counts m.notifiers m.credits m.spent m.ignore_unused };
 
-    ghost invariant = { λ m. IsShaped m.desc m.window m.tree m.handles.items m.credits m.spent };
+    ghost invariant = { λ m. IsWhole (parts_of m.desc m.window m.tree m.handles m.counts m.notifiers m.credits m.spent m.ignore_unused) };
 }
 
 impl<B: Bank> Machine<B> {
     ghost use Rattle.clk_base.specs.declared.event.Event.TheVariants.{Begin};
-    ghost use Rattle.clk_model.specs.State.{handle_at};
-    ghost use Rattle.clk_model.specs.Begin.{own_handle, put_handle};
+    ghost use Rattle.clk_base.specs.declared.event.Turn.TheVariants.{Done};
+    ghost use Rattle.clk_machine.specs.Built.{is_built_over};
     ghost use Rattle.clk_machine.specs.Fit.{CanRun};
-    ghost use Rattle.clk_machine.specs.Sound.{IsPlaced, CanBegin, takes_memory};
-    ghost use Rattle.clk_machine.specs.Held.{Takes};
+    ghost use Rattle.clk_machine.specs.Sound.{IsPlaced, takes_memory};
+    ghost use Rattle.clk_machine.specs.Parts.{Parts, own_in, IsWhole};
+    ghost use Rattle.clk_machine.specs.Holding.{stays};
+    ghost use Rattle.clk_machine.specs.Stands.{Stands, is_told, nothing, Becomes, Enters};
 
     /// The machine at its opening. The words are written to the bank.
     pub(crate) fn create(
@@ -73,21 +76,26 @@ impl<B: Bank> Machine<B> {
         requires words { length words.now ≡ desc.words }
         requires bank { length words.now ≤ B.size bank }
         requires credits { credits ≤ most_credits }
-        ensures told { IfOk result (λ m. m.told ≡ is_some (B.contents bank)) }
-        ensures state { IfOk result (λ m. m.told ≡ true → m.state ≡ opening desc.defs words.now ignore_unused credits) }
-        ensures fixed { IfOk result (λ m. (m.state.defs ≡ desc.defs) × (m.state.credits ≡ credits) × (m.state.ignore_unused ≡ ignore_unused) × (m.state.spent ≡ 0)) }
-        ensures none { IfOk result (λ m. (c : ℕ) → registered m.state.clocks c ≡ false) }
-        ensures size { IfOk result (λ m. m.size ≡ length words.now) }
-        ensures behind { IfOk result (λ m. m.behind ≡ option_map (drop (length words.now)) (B.contents bank)) }
+        ensures told { IfOk result (λ m. is_told m ≡ is_some (B.contents bank)) }
+        ensures stands { IfOk result (λ m. is_told m ≡ true → Stands m (opening desc.defs words.now ignore_unused credits)) }
+        ensures fixed { IfOk result (λ m. (m.desc ≡ desc) × (m.credits ≡ credits) × (m.ignore_unused ≡ ignore_unused) × (m.spent ≡ 0)) }
+        ensures none { IfOk result (λ m. (c : ℕ) → registered m.tree.clocks c ≡ false) }
+        ensures size { IfOk result (λ m. m.window.size ≡ length words.now) }
+        ensures behind { IfOk result (λ m. m.window.behind ≡ option_map (drop (length words.now)) (B.contents bank)) }
         ensures valid { IsValid (length words.now) desc.defs }
     {
         let tree = Tree::create(alloc, &desc)?;
+        let handles = Requests::create(alloc, &desc)?;
+        let counts = Counts::create(alloc, &desc)?;
+        let notifiers = Notifiers::create(alloc, &desc)?;
         let window = Window::create(bank, words);
         Ok(Machine {
             desc,
             window,
             tree,
-            handles: Vec::new(alloc),
+            handles,
+            counts,
+            notifiers,
             credits,
             spent: 0,
             ignore_unused,
@@ -96,46 +104,31 @@ impl<B: Bank> Machine<B> {
 
     // Spends a credit, and nothing else.
     fn spend(&mut self)
-        requires { self.old.state.spent < self.old.state.credits }
-        ensures spends { self.new ≡ record self.old { state = record self.old.state { spent = self.old.state.spent + 1 } } }
-        ensures quiet { self.old.state.change ≡ None }
+        requires { self.old.spent < self.old.credits }
+        ensures { Becomes self.old nothing stays self.new }
     {
         self.spent += 1;
     }
 
     // The row of a driver's own live handle.
-    fn own(&self, driver: u32, number: u32) -> Option<HandleRow>
-        ensures row { result ≡ own_handle self.now.state driver number }
-        ensures clock { IfSome result (λ row. registered self.now.state.clocks row.clock.0 ≡ true) }
-        ensures few { IfSome result (λ row. row.prepares + row.enables ≤ self.now.state.spent) }
-        ensures runs { CanRun self.now.state.defs }
-        ensures small { self.now.state.credits ≤ most_credits }
-        ensures quiet { self.now.state.change ≡ None }
+    fn own(&self, driver: u32, handle: Handle) -> Option<HandleRow>
+        ensures row { own_in self.now.table.handles driver handle.number ≡ result }
+        ensures live { IfSome result (λ row. handle_at self.now.table.handles handle.number ≡ Some row) }
+        ensures whole { IsWhole self.now }
     {
-        // the clauses on the state rest on what every machine keeps, which reading a part of it brings in
-        let _ = &self.window;
-        own_row(&self.handles, driver, number)
-    }
-
-    // Puts a row that holds at most one thing more in a handle's place, and spends a credit.
-    fn put_row(&mut self, number: u32, old: HandleRow, new: HandleRow)
-        requires credit { self.old.state.spent < self.old.state.credits }
-        requires live { handle_at self.old.state.handles number ≡ Some old }
-        requires clock { new.clock ≡ old.clock }
-        requires exclusives { new.exclusives ≡ old.exclusives }
-        requires held { new.prepares + new.enables ≤ old.prepares + old.enables + 1 }
-        ensures { self.new ≡ record self.old { state = record (put_handle self.old.state number (Some new)) { spent = self.old.state.spent + 1 } } }
-    {
-        self.handles[number as usize] = Some(new);
-        self.spent += 1;
+        if self.handles.live(driver, handle) {
+            Some(self.handles.of(handle))
+        } else {
+            None
+        }
     }
 
     /// Begins one of the calls that are built.
     pub(crate) fn begin(&mut self, driver: u32, what: Sleeping) -> Result<Reply, NoMemory>
-        requires credit { self.old.state.spent < self.old.state.credits }
-        requires place { IsPlaced self.old.state.defs what }
-        requires built { CanBegin self.old.state what }
-        ensures ok { IfOk result (λ reply. Takes self.old driver (Begin what) reply self.new) }
+        requires credit { self.old.spent < self.old.credits }
+        requires place { IsPlaced self.old.desc.defs what }
+        requires built { is_built_over self.old.desc.defs (registered self.old.tree.clocks) what ≡ true }
+        ensures ok { IfOk result (λ reply. Enters self.old driver (Begin what) (Done reply) self.new) }
         ensures err { OnErr result (self.new ≡ self.old) }
         ensures memory { takes_memory what ≡ false → IsOk result }
     {
@@ -146,6 +139,12 @@ impl<B: Bank> Machine<B> {
             Sleeping::Unprepare(handle) => Ok(self.unprepare(driver, handle)),
             Sleeping::GetRate(handle) => Ok(self.rate(driver, handle)),
             Sleeping::GetParent(handle) => Ok(self.parent(driver, handle)),
+            Sleeping::ExclusiveGet(handle) => Ok(self.exclusive_get(driver, handle)),
+            Sleeping::ExclusivePut(handle) => Ok(self.exclusive_put(driver, handle)),
+            Sleeping::NotifierAdd(handle, id, priority, policy) => {
+                self.notifier_add(driver, handle, id, priority, policy)
+            }
+            Sleeping::NotifierRemove(handle, id) => Ok(self.notifier_remove(driver, handle, id)),
             Sleeping::Probe(clock) => Ok(self.probe(driver, clock)),
             _ => unreachable!(),
         }

@@ -1,21 +1,34 @@
 //! Registering a clock.
 
-ghost use Rattle.std.specs.Prelude.{◌≡◌, ℕ, ◌<◌, ◌||◌, ◌==◌, true, length, slice_get, IfSome};
+ghost use Rattle.std.specs.Prelude.{◌≡◌, ◌≢◌, ℕ, ◌<◌, ◌||◌, ◌==◌, true, length, slice_get, IfSome};
 ghost use Rattle.std.specs.Option.{option_map};
 ghost use Rattle.std.specs.List.{list_all};
 ghost use Rattle.clk_base.specs.Description.{parents_of};
+ghost use Rattle.clk_base.specs.Places.{places};
 ghost use Rattle.clk_base.specs.Valid.{IsValid};
 ghost use Rattle.clk_model.specs.Lists.{is_in, to_front};
-ghost use Rattle.clk_model.specs.State.{registered};
+ghost use Rattle.clk_model.specs.State.{registered, link_in};
 ghost use Rattle.clk_model.specs.Tree.{selected};
 ghost use Rattle.clk_model.specs.Begin.{registered_rows};
 ghost use Rattle.clk_tree.specs.TreeState.{IsTree};
-ghost use Rattle.clk_machine.specs.Held.{AreKept};
+ghost use Rattle.clk_machine.specs.Parts.{AreKept};
 
 use crate::window::Window;
 use clk_base::{ClockId, Kind, ValidDesc};
 use clk_tree::Tree;
 use reg_bank::Bank;
+
+/// Whether all of these clocks are registered.
+pub(crate) fn are_registered(tree: &Tree, wanted: &[ClockId]) -> bool
+    ensures { result ≡ list_all (registered tree.now.clocks) (places wanted.now) }
+{
+    for clock in wanted {
+        if !tree.registered(*clock) {
+            return false;
+        }
+    }
+    true
+}
 
 // The possible parent of a clock at a place.
 fn parent_at(desc: &ValidDesc, clock: ClockId, place: u32) -> Option<ClockId>
@@ -64,6 +77,7 @@ pub(crate) fn register_clock<B: Bank>(
     requires parents { list_all (registered tree.old.clocks) (parents_of desc.now.defs clock.0) ≡ true }
     requires kept { AreKept desc.now.defs window.now.words tree.old.clocks tree.old.rates }
     ensures rows { (k : ℕ) → registered tree.new.clocks k ≡ (registered tree.old.clocks k || clock.0 == k) }
+    ensures links { (d : ℕ) → d ≢ clock.0 → link_in tree.new.clocks d ≡ link_in tree.old.clocks d }
     ensures clocks { IfSome window.now.words (λ regs. tree.new.clocks ≡ registered_rows desc.now.defs regs tree.old.clocks clock.0) }
     ensures order { tree.new.order ≡ to_front clock.0 tree.old.order }
     ensures defs { tree.new.defs ≡ tree.old.defs }

@@ -23,7 +23,7 @@ use Rattle.std.specs.Option.{option_map_or}
 use Rattle.std.proofs.lemmas.List.FromFn.{length-map-range_with_len}
 use Rattle.drv_scripts.specs.Spelled.{boot_of, probe}
 use Rattle.clk_model.specs.Follows.{Variables, variable_count, handle_of, call_of, NextFollows, FollowsFrom}
-use Rattle.clk_machine.specs.Held.{registers}
+use Rattle.clk_machine.specs.Stands.{registers}
 use Rattle.clk_machine.specs.Run.{Run, was_probed}
 use Rattle.clk_base.specs.Description.{Description, parents_of, EachClock}
 use Rattle.clk_machine.specs.Fit.{has_earlier_parents}

@@ -3,7 +3,7 @@ use Rattle.std.specs.Prelude.{IfSome, slice_index}
 use Rattle.std.specs.Option.{option_map}
 use Rattle.clk_base.specs.Description.{Description, parents_of}
 use Rattle.clk_model.specs.declared.row.ClockRow.{ClockRow}
-use Rattle.clk_model.specs.State.{registered, requested}
+use Rattle.clk_model.specs.State.{registered, link_in, requested}
 use Rattle.clk_model.specs.Rate.{rate}
 use Rattle.clk_model.specs.Tree.{selected}
 use Rattle.clk_model.specs.Begin.{registered_rows}
@@ -11,8 +11,8 @@ use Rattle.clk_base.specs.declared.clock.ClockId.{ClockId}
 use Rattle.clk_base.specs.Valid.{IsValid}
 use Rattle.clk_tree.specs.Refreshed.{is_below, IsFresh}
 use Rattle.clk_tree.specs.TreeState.{TreeState, attached}
-use Rattle.clk_machine.specs.Held.{AreKept}
-use Rattle.clk_machine.proofs.Registering.{parent_there, fresh_registered, kept_registered, rows_registered, registered-registered, row_within}
+use Rattle.clk_machine.specs.Parts.{AreKept}
+use Rattle.clk_machine.proofs.Registering.{parent_there, fresh_registered, kept_registered, rows_registered, registered-registered, links_beside, row_within}
 use Rattle.clk_machine.proofs.register.register_clock.Goals as goal
 
 -- each kept rate is the one that the registers give
@@ -49,6 +49,12 @@ returns-clause-rows g c = λ k.
     ap (λ (rs : List ClockRow). registered rs k)
     (c.set_last_request.ensures.request ∙ ap (λ (rs : List ClockRow). requested rs c.args.clock.0 c.rate-rate.result) (c.refresh.ensures.rows ∙ c.attach.ensures.link))
     ∙ registered-registered clocks c.args.clock.0 parent c.rate-rate.result k within inside
+
+pub returns-clause-links : goal.returns-clause-links
+returns-clause-links g c = λ d other.
+    ap (λ (rs : List ClockRow). link_in rs d)
+    (c.set_last_request.ensures.request ∙ ap (λ (rs : List ClockRow). requested rs c.args.clock.0 c.rate-rate.result) (c.refresh.ensures.rows ∙ c.attach.ensures.link))
+    ∙ links_beside c.args.tree.now.clocks c.args.clock.0 c.selected_parent-parent.result c.rate-rate.result d other
 
 pub returns-clause-clocks : goal.returns-clause-clocks
 returns-clause-clocks g c =

@@ -1,23 +1,25 @@
-use Rattle.std.proofs.Common.{refl, ◌∙◌, sym, arith}
+use Rattle.std.proofs.Common.{refl, ◌∙◌, arith, Some, None}
 use Rattle.clk_base.specs.declared.event.Event.TheVariants.{Disable}
 use Rattle.clk_base.specs.declared.event.Errno.TheVariants.{ENOENT}
-use Rattle.clk_base.specs.declared.event.Reply.TheVariants.{Warn}
-use Rattle.clk_model.proofs.EventLaws.{disable-unknown, disable-warned}
-use Rattle.clk_machine.proofs.Taking.{takes_refused, takes_unchanged}
-use Rattle.clk_machine.proofs.Disabling.{takes_disabled}
+use Rattle.clk_base.specs.declared.event.Reply.TheVariants.{Refused, Fine, Warn}
+use Rattle.clk_model.proofs.EventLaws.{disable-unknown, disable-warned, disable-fine}
+use Rattle.clk_machine.specs.Holding.{enabled_less, puts, stays}
+use Rattle.clk_machine.proofs.Entered.{enters, own_stands}
 use Rattle.clk_machine.proofs.machine.Machine.disable.Goals as goal
 
 pub returns-in_default : goal.returns-in_default
 returns-in_default g c =
-    takes_refused c.args.self.now c.spend.new.self c.args.driver (Disable c.args.number) ENOENT c.requires
-    (disable-unknown c.args.self.now.state c.args.driver c.args.number (sym c.own.ensures.row ∙ c.in_default.is)) c.spend.ensures.spends (λ k. refl)
+    enters c.args.self.now c.spend.new.self c.args.driver (Disable c.args.handle.number) (Refused ENOENT) stays refl c.requires c.spend.ensures
+    (λ s stands sound. disable-unknown s c.args.driver c.args.handle.number (own_stands c.args.self.now s c.args.driver c.args.handle.number None stands (c.own.ensures.row ∙ c.in_default.is)))
 
 pub returns-then-row-eq0 : goal.returns-then-row-eq0
 returns-then-row-eq0 g c =
-    takes_unchanged c.args.self.now c.spend-then-row-eq0.new.self c.args.driver (Disable c.args.number) Warn c.requires
-    (λ _ _. disable-warned c.args.self.now.state c.args.driver c.args.number c.in-Some.row (sym c.own.ensures.row ∙ c.in-Some.is) c.if-row-eq0.true) c.spend-then-row-eq0.ensures.spends (λ k. refl)
+    enters c.args.self.now c.spend-then-row-eq0.new.self c.args.driver (Disable c.args.handle.number) Warn stays refl c.requires c.spend-then-row-eq0.ensures
+    (λ s stands sound. disable-warned s c.args.driver c.args.handle.number c.in-Some.row
+    (own_stands c.args.self.now s c.args.driver c.args.handle.number (Some c.in-Some.row) stands (c.own.ensures.row ∙ c.in-Some.is)) c.if-row-eq0.true)
 
 pub returns : goal.returns
 returns g c =
-    takes_disabled c.args.self.now c.put_row.new.self c.close_above.new.self c.args.driver c.args.number c.in-Some.row c.requires
-    (sym c.own.ensures.row ∙ c.in-Some.is) (omega arith) c.put_row.ensures c.close_above.ensures.told c.close_above.ensures.size c.close_above.ensures.behind c.close_above.ensures.stays c.close_above.ensures.closes
+    enters c.args.self.now c.drop_enable.new.self c.args.driver (Disable c.args.handle.number) Fine (puts c.args.handle.number (Some (enabled_less c.in-Some.row))) refl c.requires c.drop_enable.ensures
+    (λ s stands sound. disable-fine s c.args.driver c.args.handle.number c.in-Some.row
+    (own_stands c.args.self.now s c.args.driver c.args.handle.number (Some c.in-Some.row) stands (c.own.ensures.row ∙ c.in-Some.is)) (omega arith))

@@ -1,17 +1,17 @@
-use Rattle.std.proofs.Common.{◌∙◌, sym, ap, refl, List, Option}
-use Rattle.clk_model.specs.declared.row.HandleRow.{HandleRow}
-use Rattle.clk_model.specs.State.{State}
-use Rattle.clk_model.specs.Holders.{clocks_of, is_held, is_enabled}
-use Rattle.clk_model.proofs.StateLaws.{active_by_handles}
-use Rattle.clk_machine.specs.Held.{state_of}
-use Rattle.clk_machine.proofs.Fitting.{no_critical}
+use Rattle.std.proofs.Common.{◌<◌, ◌∙◌, length}
+use Rattle.clk_machine.specs.Parts.{Parts, parts_of}
+use Rattle.clk_machine.proofs.Rows.{counted_place, holds_stand}
 use Rattle.clk_machine.proofs.machine.Machine.is_active.Goals as goal
+
+pub enabled-requires : goal.enabled-requires
+enabled-requires g c =
+    let m = c.self.inside in
+    let p : Parts = parts_of m.desc m.window m.tree m.handles m.counts m.notifiers m.credits m.spent m.ignore_unused in
+    let within : c.args.clock.0 < length m.desc.defs = rw (← c.self.view_is) at c.requires in
+    record { place = counted_place p c.args.clock.0 c.self.invariant within }
 
 pub returns : goal.returns
 returns g c =
     let m = c.self.inside in
-    let s : State = state_of m.desc.defs m.window.words m.tree.clocks m.tree.order m.handles.items m.credits m.spent m.ignore_unused in
-    rw (← c.self.view_is)
-    (c.is_enabled_above.ensures
-    ∙ ap (λ (hs : List (Option HandleRow)). is_held m.tree.clocks (clocks_of is_enabled hs) c.args.clock.0) c.deref.ensures.value
-    ∙ sym (active_by_handles s c.args.clock.0 (no_critical s c.self.invariant.runs) refl))
+    let p : Parts = parts_of m.desc m.window m.tree m.handles m.counts m.notifiers m.credits m.spent m.ignore_unused in
+    rw (← c.self.view_is) (λ s stands. c.enabled.ensures.active ∙ (holds_stand p s c.args.clock.0 c.self.invariant stands).active)

@@ -1,15 +1,14 @@
-use Rattle.std.proofs.Common.{◌∙◌, ap, cond, nat_eq, List, Option, Some, None}
-use Rattle.std.specs.Option.{option_map_or}
-use Rattle.clk_model.specs.declared.row.HandleRow.{HandleRow}
-use Rattle.clk_model.specs.State.{handle_at}
-use Rattle.clk_machine.specs.Held.{state_of}
-use Rattle.clk_machine.proofs.Putting.{own_holds}
+use Rattle.std.proofs.Common.{◌∙◌, sym}
+use Rattle.clk_machine.proofs.Owning.{own_found, own_lacking, live_there}
 use Rattle.clk_machine.proofs.machine.Machine.own.Goals as goal
 
-pub returns-clause-few : goal.returns-clause-few
-returns-clause-few g c =
-    let m = c.self.inside in
-    rw (← c.self.view_is)
-    (own_holds (state_of m.desc.defs m.window.words m.tree.clocks m.tree.order m.handles.items m.credits m.spent m.ignore_unused) c.args.driver c.args.number c.own_row.result
-    (c.own_row.ensures ∙ ap (λ (hs : List (Option HandleRow)). option_map_or (λ h. cond (nat_eq h.driver c.args.driver) (Some h) None) (handle_at hs c.args.number) None) c.deref.ensures.value)
-    c.self.invariant.few_holds)
+pub of-requires : goal.of-requires
+of-requires g c = live_there c.self.inside.handles.handles c.args.driver c.args.handle.number (sym c.live.ensures ∙ c.if-live.true)
+
+pub returns-then-live-clause-row : goal.returns-then-live-clause-row
+returns-then-live-clause-row g c =
+    rw (← c.self.view_is) (own_found c.self.inside.handles.handles c.args.driver c.args.handle.number c.of.result (sym c.live.ensures ∙ c.if-live.true) c.of.ensures)
+
+pub returns-else-live-clause-row : goal.returns-else-live-clause-row
+returns-else-live-clause-row g c =
+    rw (← c.self.view_is) (own_lacking c.self.inside.handles.handles c.args.driver c.args.handle.number (sym c.live.ensures ∙ c.if-live.false))

@@ -1,24 +1,29 @@
-use Rattle.std.proofs.Common.{refl, ◌∙◌, sym, ap, Option}
+use Rattle.std.proofs.Common.{refl, ◌∙◌, sym, ap, List, Option, Some, None}
+use Rattle.std.specs.Option.{option_map}
 use Rattle.clk_base.specs.declared.clock.ClockId.{ClockId}
 use Rattle.clk_base.specs.declared.event.Event.TheVariants.{Begin}
 use Rattle.clk_base.specs.declared.event.Errno.TheVariants.{ENOENT}
-use Rattle.clk_base.specs.declared.event.Reply.TheVariants.{Clock}
+use Rattle.clk_base.specs.declared.event.Reply.TheVariants.{Refused, Clock}
 use Rattle.clk_base.specs.declared.event.Turn.TheVariants.{Done}
 use Rattle.clk_base.specs.declared.call.Sleeping.TheVariants.{GetParent}
+use Rattle.clk_model.specs.declared.row.ClockRow.{ClockRow}
+use Rattle.clk_model.specs.State.{link_in}
+use Rattle.clk_model.specs.Chain.{clock_id}
 use Rattle.clk_model.specs.Machine.{paid}
 use Rattle.clk_model.proofs.EventLaws.{parent-unknown, parent-told}
-use Rattle.clk_machine.proofs.Taking.{takes_refused, takes_unchanged}
+use Rattle.clk_machine.specs.Holding.{stays}
+use Rattle.clk_machine.proofs.Entered.{enters, own_stands}
 use Rattle.clk_machine.proofs.machine.Machine.parent.Goals as goal
 
 pub returns-in_default : goal.returns-in_default
 returns-in_default g c =
-    takes_refused c.args.self.now c.spend.new.self c.args.driver (Begin (GetParent c.args.handle)) ENOENT c.requires
-    (parent-unknown c.args.self.now.state c.args.driver c.args.handle c.spend.ensures.quiet (sym c.own.ensures.row ∙ c.in_default.is)) c.spend.ensures.spends (λ k. refl)
+    enters c.args.self.now c.spend.new.self c.args.driver (Begin (GetParent c.args.handle)) (Refused ENOENT) stays refl c.requires c.spend.ensures
+    (λ s stands sound. parent-unknown s c.args.driver c.args.handle stands.change (own_stands c.args.self.now s c.args.driver c.args.handle.number None stands (c.own.ensures.row ∙ c.in_default.is)))
 
 pub returns : goal.returns
 returns g c =
-    let s = c.args.self.now.state in
-    takes_unchanged c.args.self.now c.spend-2.new.self c.args.driver (Begin (GetParent c.args.handle)) (Clock c.parent_of-parent.result) c.requires
-    (λ _ _. parent-told s c.args.driver c.args.handle c.in-Some.row c.own.ensures.quiet (sym c.own.ensures.row ∙ c.in-Some.is)
-    ∙ ap (λ (p : Option ClockId). paid s (s, Done (Clock p))) (sym c.parent_of-parent.ensures))
-    c.spend-2.ensures.spends (λ k. refl)
+    enters c.args.self.now c.spend-2.new.self c.args.driver (Begin (GetParent c.args.handle)) (Clock c.parent_of-parent.result) stays refl c.requires c.spend-2.ensures
+    (λ s stands sound. parent-told s c.args.driver c.args.handle c.in-Some.row stands.change
+    (own_stands c.args.self.now s c.args.driver c.args.handle.number (Some c.in-Some.row) stands (c.own.ensures.row ∙ c.in-Some.is))
+    ∙ ap (λ (p : Option ClockId). paid s (s, Done (Clock p)))
+    (ap (λ (rs : List ClockRow). option_map clock_id (link_in rs c.in-Some.row.clock.0)) stands.clocks ∙ sym c.parent_of-parent.ensures))

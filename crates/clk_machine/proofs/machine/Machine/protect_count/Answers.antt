@@ -1,9 +1,17 @@
-use Rattle.std.proofs.Common.{sym}
-use Rattle.clk_machine.proofs.Rows.{protects_none}
+use Rattle.std.proofs.Common.{◌<◌, ◌∙◌, length}
+use Rattle.clk_machine.specs.Parts.{Parts, parts_of}
+use Rattle.clk_machine.proofs.Rows.{counted_place, sums_stand}
 use Rattle.clk_machine.proofs.machine.Machine.protect_count.Goals as goal
+
+pub protected-requires : goal.protected-requires
+protected-requires g c =
+    let m = c.self.inside in
+    let p : Parts = parts_of m.desc m.window m.tree m.handles m.counts m.notifiers m.credits m.spent m.ignore_unused in
+    let within : c.args.clock.0 < length m.desc.defs = rw (← c.self.view_is) at c.requires in
+    record { place = counted_place p c.args.clock.0 c.self.invariant within }
 
 pub returns : goal.returns
 returns g c =
     let m = c.self.inside in
-    rw (← c.self.view_is) (λ k within.
-    sym (protects_none m.desc m.window m.tree m.handles.items m.credits m.spent m.ignore_unused k c.self.invariant within))
+    let p : Parts = parts_of m.desc m.window m.tree m.handles m.counts m.notifiers m.credits m.spent m.ignore_unused in
+    rw (← c.self.view_is) (λ s stands. c.protected.ensures.count ∙ (sums_stand p s c.args.clock.0 c.self.invariant stands).protects)

@@ -1,24 +1,79 @@
-use Rattle.std.proofs.Common.{◌<◌, refl}
-use Rattle.clk_machine.proofs.Registering.{shaped-registered, state-registered}
+use Rattle.std.proofs.Common.{◌≡◌, ◌<◌, ◌∙◌, ap, sym, true, false, length}
+use Rattle.std.specs.List.{list_all}
+use Rattle.clk_base.specs.Description.{parents_of}
+use Rattle.clk_model.specs.State.{registered}
+use Rattle.counts_core.specs.Counted.{CountState}
+use Rattle.clk_machine.specs.Parts.{Parts, parts_of}
+use Rattle.clk_machine.proofs.Rows.{counted_place}
+use Rattle.clk_machine.proofs.Registering.{Registered, whole_registered, becomes_registered, no_link, other_links}
 use Rattle.clk_machine.proofs.machine.Machine.register.Goals as goal
+
+pub moved-requires-clause-place : goal.moved-requires-clause-place
+moved-requires-clause-place g c =
+    let m = c.self.inside in
+    let p : Parts = parts_of m.desc m.window m.tree m.handles m.counts m.notifiers m.credits m.spent m.ignore_unused in
+    let within : c.args.clock.0 < length m.desc.defs = rw (← c.self.view_is) at c.requires.place in
+    counted_place p c.args.clock.0 c.self.invariant within
+
+pub moved-requires-clause-made : goal.moved-requires-clause-made
+moved-requires-clause-made g c = c.register_clock.ensures.defs ∙ c.self.invariant.tied.defs ∙ sym c.self.invariant.counted.stands.defs
+
+pub moved-requires-clause-from : goal.moved-requires-clause-from
+moved-requires-clause-from g c =
+    let m = c.self.inside in
+    let p : Parts = parts_of m.desc m.window m.tree m.handles m.counts m.notifiers m.credits m.spent m.ignore_unused in
+    let free : registered m.tree.clocks c.args.clock.0 ≡ false = rw (← c.self.view_is) at c.requires.free in
+    no_link p c.args.clock.0 c.self.invariant free
+
+pub moved-requires-clause-others : goal.moved-requires-clause-others
+moved-requires-clause-others g c =
+    let m = c.self.inside in
+    let p : Parts = parts_of m.desc m.window m.tree m.handles m.counts m.notifiers m.credits m.spent m.ignore_unused in
+    other_links p c.args.clock.0 c.register_clock.new.tree.clocks c.self.invariant c.register_clock.ensures.links
 
 pub invariant_of-self : goal.invariant_of-self
 invariant_of-self g c =
     let m = c.self.inside in
+    let p : Parts = parts_of m.desc m.window m.tree m.handles m.counts m.notifiers m.credits m.spent m.ignore_unused in
     let left : m.spent < m.credits = rw (← c.self.view_is) at c.requires.credit in
-    shaped-registered m.desc m.window m.tree c.register_clock.new.tree m.handles.items m.credits m.spent c.args.clock.0 c.self.invariant left
-    c.register_clock.ensures.defs c.register_clock.ensures.stands c.register_clock.ensures.kept c.register_clock.ensures.rows
+    let place : c.args.clock.0 < length m.desc.defs = rw (← c.self.view_is) at c.requires.place in
+    let free : registered m.tree.clocks c.args.clock.0 ≡ false = rw (← c.self.view_is) at c.requires.free in
+    let parents : list_all (registered m.tree.clocks) (parents_of m.desc.defs c.args.clock.0) ≡ true = rw (← c.self.view_is) at c.requires.parents in
+    let now : Registered p c.args.clock.0 c.register_clock.new.tree c.moved.new.self = record {
+      place = place;
+      free = free;
+      parents = parents;
+      rows = c.register_clock.ensures.rows;
+      clocks = c.register_clock.ensures.clocks;
+      order = c.register_clock.ensures.order;
+      defs = c.register_clock.ensures.defs;
+      kept = c.register_clock.ensures.kept;
+      stands = c.register_clock.ensures.stands;
+      counts = c.moved.ensures.moved ∙ ap (λ (k : CountState). let kept : CountState = record m.counts { links = k.links } in kept) (sym c.moved.ensures.moved);
+      links = c.moved.ensures.links;
+      keeps = c.moved.ensures.stands;
+    } in
+    whole_registered p c.args.clock.0 c.register_clock.new.tree c.moved.new.self c.self.invariant now left
 
 pub returns : goal.returns
 returns g c =
     let m = c.self.inside in
-    rw (← c.self.view_is) (record {
-      told = refl;
-      size = refl;
-      behind = refl;
-      stays = record { defs = refl; credits = refl; ignore_unused = refl };
-      spent = refl;
+    let p : Parts = parts_of m.desc m.window m.tree m.handles m.counts m.notifiers m.credits m.spent m.ignore_unused in
+    let place : c.args.clock.0 < length m.desc.defs = rw (← c.self.view_is) at c.requires.place in
+    let free : registered m.tree.clocks c.args.clock.0 ≡ false = rw (← c.self.view_is) at c.requires.free in
+    let parents : list_all (registered m.tree.clocks) (parents_of m.desc.defs c.args.clock.0) ≡ true = rw (← c.self.view_is) at c.requires.parents in
+    let now : Registered p c.args.clock.0 c.register_clock.new.tree c.moved.new.self = record {
+      place = place;
+      free = free;
+      parents = parents;
       rows = c.register_clock.ensures.rows;
-      is = λ told. state-registered m.desc.defs m.window.words m.tree.clocks c.register_clock.new.tree.clocks m.tree.order c.register_clock.new.tree.order m.handles.items m.credits m.spent m.ignore_unused
-          c.args.clock.0 told c.register_clock.ensures.clocks c.register_clock.ensures.order;
-    })
+      clocks = c.register_clock.ensures.clocks;
+      order = c.register_clock.ensures.order;
+      defs = c.register_clock.ensures.defs;
+      kept = c.register_clock.ensures.kept;
+      stands = c.register_clock.ensures.stands;
+      counts = c.moved.ensures.moved ∙ ap (λ (k : CountState). let kept : CountState = record m.counts { links = k.links } in kept) (sym c.moved.ensures.moved);
+      links = c.moved.ensures.links;
+      keeps = c.moved.ensures.stands;
+    } in
+    rw (← c.self.view_is) (becomes_registered p c.args.clock.0 c.register_clock.new.tree c.moved.new.self now)

@@ -1,31 +1,34 @@
-use Rattle.std.proofs.Common.{refl, ◌∙◌, sym, ap, Bool}
+use Rattle.std.proofs.Common.{refl, ◌∙◌, sym, ap, Bool, Some, None}
 use Rattle.std.specs.Prelude.{if◌then◌else◌}
 use Rattle.clk_base.specs.declared.event.Event.TheVariants.{Running}
 use Rattle.clk_base.specs.declared.event.Errno.TheVariants.{ENOENT}
-use Rattle.clk_base.specs.declared.event.Reply.TheVariants.{Yes, No}
+use Rattle.clk_base.specs.declared.event.Reply.TheVariants.{Refused, Yes, No}
 use Rattle.clk_base.specs.declared.event.Turn.TheVariants.{Done}
 use Rattle.clk_model.specs.Machine.{paid}
 use Rattle.clk_model.proofs.EventLaws.{running-unknown, running-told}
-use Rattle.clk_machine.proofs.Taking.{takes_refused, takes_unchanged}
+use Rattle.clk_machine.specs.Holding.{stays}
+use Rattle.clk_machine.proofs.Entered.{enters, own_stands}
+use Rattle.clk_machine.proofs.Writing.{row_place}
 use Rattle.clk_machine.proofs.machine.Machine.running.Goals as goal
+
+pub is_active-runs-requires : goal.is_active-runs-requires
+is_active-runs-requires g c = row_place c.args.self.now c.args.handle.number c.in-Some.row c.own.ensures.whole c.in-Some.ensures.live
 
 pub returns-in_default : goal.returns-in_default
 returns-in_default g c =
-    takes_refused c.args.self.now c.spend.new.self c.args.driver (Running c.args.number) ENOENT c.requires
-    (running-unknown c.args.self.now.state c.args.driver c.args.number (sym c.own.ensures.row ∙ c.in_default.is)) c.spend.ensures.spends (λ k. refl)
+    enters c.args.self.now c.spend.new.self c.args.driver (Running c.args.handle.number) (Refused ENOENT) stays refl c.requires c.spend.ensures
+    (λ s stands sound. running-unknown s c.args.driver c.args.handle.number (own_stands c.args.self.now s c.args.driver c.args.handle.number None stands (c.own.ensures.row ∙ c.in_default.is)))
 
 pub returns-then-runs : goal.returns-then-runs
 returns-then-runs g c =
-    let s = c.args.self.now.state in
-    takes_unchanged c.args.self.now c.spend-2.new.self c.args.driver (Running c.args.number) Yes c.requires
-    (λ _ _. running-told s c.args.driver c.args.number c.in-Some.row (sym c.own.ensures.row ∙ c.in-Some.is)
-    ∙ ap (λ (b : Bool). paid s (s, Done (if b then Yes else No))) (sym c.is_active-runs.ensures ∙ c.if-runs.true))
-    c.spend-2.ensures.spends (λ k. refl)
+    enters c.args.self.now c.spend-2.new.self c.args.driver (Running c.args.handle.number) Yes stays refl c.requires c.spend-2.ensures
+    (λ s stands sound. running-told s c.args.driver c.args.handle.number c.in-Some.row
+    (own_stands c.args.self.now s c.args.driver c.args.handle.number (Some c.in-Some.row) stands (c.own.ensures.row ∙ c.in-Some.is))
+    ∙ ap (λ (b : Bool). paid s (s, Done (if b then Yes else No))) (sym (c.is_active-runs.ensures s stands) ∙ c.if-runs.true))
 
 pub returns-else-runs : goal.returns-else-runs
 returns-else-runs g c =
-    let s = c.args.self.now.state in
-    takes_unchanged c.args.self.now c.spend-2.new.self c.args.driver (Running c.args.number) No c.requires
-    (λ _ _. running-told s c.args.driver c.args.number c.in-Some.row (sym c.own.ensures.row ∙ c.in-Some.is)
-    ∙ ap (λ (b : Bool). paid s (s, Done (if b then Yes else No))) (sym c.is_active-runs.ensures ∙ c.if-runs.false))
-    c.spend-2.ensures.spends (λ k. refl)
+    enters c.args.self.now c.spend-2.new.self c.args.driver (Running c.args.handle.number) No stays refl c.requires c.spend-2.ensures
+    (λ s stands sound. running-told s c.args.driver c.args.handle.number c.in-Some.row
+    (own_stands c.args.self.now s c.args.driver c.args.handle.number (Some c.in-Some.row) stands (c.own.ensures.row ∙ c.in-Some.is))
+    ∙ ap (λ (b : Bool). paid s (s, Done (if b then Yes else No))) (sym (c.is_active-runs.ensures s stands) ∙ c.if-runs.false))

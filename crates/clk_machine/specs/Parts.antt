@@ -1,0 +1,107 @@
+-- The parts of a core, and what they keep.
+use Rattle.std.specs.Prelude.{◌≡◌, ℕ, ◌+◌, ◌≤◌, ◌==◌, List, [], Bool, true, Option, Some, None, IfSome, if◌then◌else◌, length, sum_by, slice_index}
+use Rattle.std.specs.Option.{option_map_or}
+use Rattle.clk_base.specs.Checked.{Checked}
+use Rattle.clk_base.specs.Description.{Description}
+use Rattle.clk_base.specs.Valid.{IsValid}
+use Rattle.clk_model.specs.declared.row.ClockRow.{ClockRow}
+use Rattle.clk_model.specs.declared.row.HandleRow.{HandleRow}
+use Rattle.clk_model.specs.Lists.{present}
+use Rattle.clk_model.specs.State.{State, registered, handle_at}
+use Rattle.clk_model.specs.Rate.{rate}
+use Rattle.clk_model.specs.Begin.{most_credits}
+use Rattle.clk_tree.specs.TreeState.{TreeState, IsTree}
+use Rattle.counts_core.specs.Counted.{CountState, AreCounts}
+use Rattle.counts_core.specs.Standing.{StandsFor}
+use Rattle.notifiers.specs.declared.notifier.Notifier.{Notifier}
+use Rattle.rate_requests.specs.Handles.{HandleTable}
+use Rattle.clk_machine.specs.Window.{Shown, AreTold}
+use Rattle.clk_machine.specs.Fit.{CanRun}
+
+-- a core without its journal, as what contracts see of each part
+pub record Parts : Type 0 where
+  pub desc : Checked
+  pub window : Shown
+  pub tree : TreeState
+  pub table : HandleTable
+  pub counts : CountState
+  pub chains : List (List Notifier)
+  pub credits : ℕ
+  pub spent : ℕ
+  pub ignore_unused : Bool
+
+-- these parts
+abbrev pub parts_of : Checked → Shown → TreeState → HandleTable → CountState → List (List Notifier) → ℕ → ℕ → Bool → Parts
+parts_of desc window tree table counts chains credits spent ignore_unused = record {
+  desc = desc;
+  window = window;
+  tree = tree;
+  table = table;
+  counts = counts;
+  chains = chains;
+  credits = credits;
+  spent = spent;
+  ignore_unused = ignore_unused;
+}
+
+-- the state of these parts as far as they have it: without words and notifiers, and without a change in flight
+abbrev pub bare : Parts → State
+bare m = record {
+  defs = m.desc.defs;
+  regs = [];
+  clocks = m.tree.clocks;
+  order = m.tree.order;
+  handles = m.table.handles;
+  notifiers = [];
+  prepare_holds = [];
+  enable_holds = [];
+  change = None;
+  credits = m.credits;
+  spent = m.spent;
+  steps = 0;
+  ignore_unused = m.ignore_unused;
+}
+
+-- the kept rate of each registered clock is the one that the registers give, where they are told
+abbrev pub AreKept : Description → Option (List ℕ) → List ClockRow → List ℕ → Type 0
+AreKept defs words clocks rates = IfSome words (λ regs. (c : ℕ) → registered clocks c ≡ true → slice_index rates c ≡ rate defs regs clocks c)
+
+-- the words and the tree are those of a valid description whose clocks can be run
+pub record AreTied (desc : Checked) (window : Shown) (tree : TreeState) : Type 0 where
+  pub valid : IsValid desc.words desc.defs
+  pub runs : CanRun desc.defs
+  pub words : window.size ≡ desc.words
+  pub told : AreTold window.size window.words
+  pub defs : tree.defs ≡ desc.defs
+  pub stands : IsTree tree.defs tree.clocks tree.order tree.rates
+  pub kept : AreKept desc.defs window.words tree.clocks tree.rates
+
+-- the row of a driver's own live handle
+abbrev pub own_in : List (Option HandleRow) → ℕ → ℕ → Option HandleRow
+own_in handles driver number = option_map_or (λ h. if h.driver == driver then Some h else None) (handle_at handles number) None
+
+-- what a handle holds in all
+abbrev pub held_in_all : HandleRow → ℕ
+held_in_all h = h.prepares + h.enables + h.exclusives
+
+-- handles and what they hold were paid for
+pub record ArePaid (handles : List (Option HandleRow)) (credits spent : ℕ) : Type 0 where
+  pub few_credits : credits ≤ most_credits
+  pub within : spent ≤ credits
+  pub few_handles : length handles ≤ spent
+  pub few_holds : sum_by held_in_all (present handles) ≤ spent
+
+-- the counts are those of the links and of what is held
+pub record AreCounted (m : Parts) : Type 0 where
+  pub keeps : AreCounts m.counts
+  pub stands : StandsFor m.counts (bare m)
+
+-- what the parts of a core keep
+pub record IsWhole (m : Parts) : Type 0 where
+  pub tied : AreTied m.desc m.window m.tree
+  pub paid : ArePaid m.table.handles m.credits m.spent
+  pub counted : AreCounted m
+  -- handles and notifiers are of clocks of the description, and the clock of a handle is registered
+  pub clocks : m.table.clocks ≡ length m.desc.defs
+  pub handled : (n : ℕ) (h : HandleRow) → handle_at m.table.handles n ≡ Some h → registered m.tree.clocks h.clock.0 ≡ true
+  pub notified : length m.chains ≡ length m.desc.defs

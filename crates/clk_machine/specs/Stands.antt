@@ -1,0 +1,76 @@
+-- When the parts of a core stand for a state of the machine, and what an event does to both.
+use Rattle.std.specs.Prelude.{◌≡◌, ℕ, ◌+◌, ◌||◌, ◌==◌, [], Bool, false, Some, None, is_some, if◌then◌else◌}
+use Rattle.clk_base.specs.declared.call.Sleeping.TheVariants as call
+use Rattle.clk_base.specs.declared.event.Event.{Event}
+use Rattle.clk_base.specs.declared.event.Event.TheVariants as event
+use Rattle.clk_base.specs.declared.event.Turn.{Turn}
+use Rattle.clk_model.specs.State.{State, registered}
+use Rattle.clk_model.specs.Gates.{settled}
+use Rattle.clk_model.specs.Machine.{next}
+use Rattle.clk_model.specs.Journal.{slotless, is_paid}
+use Rattle.notifiers.specs.Chains.{Tells}
+use Rattle.clk_machine.specs.Parts.{Parts}
+use Rattle.clk_machine.specs.Sound.{IsSound}
+
+-- the parts stand for a state: each has what the state says of it, and the bank tells the state's words
+pub record Stands (m : Parts) (s : State) : Type 0 where
+  pub defs : s.defs ≡ m.desc.defs
+  pub regs : m.window.words ≡ Some s.regs
+  pub clocks : s.clocks ≡ m.tree.clocks
+  pub order : s.order ≡ m.tree.order
+  pub handles : s.handles ≡ m.table.handles
+  pub notifiers : Tells m.chains s.notifiers
+  -- nothing is in flight
+  pub prepare_holds : s.prepare_holds ≡ []
+  pub enable_holds : s.enable_holds ≡ []
+  pub change : s.change ≡ None
+  pub credits : s.credits ≡ m.credits
+  pub spent : s.spent ≡ m.spent
+  pub steps : s.steps ≡ 0
+  pub ignore_unused : s.ignore_unused ≡ m.ignore_unused
+
+-- whether the bank tells its words
+abbrev pub is_told : Parts → Bool
+is_told m = is_some m.window.words
+
+-- what stays in every event
+pub record Remains (old new : Parts) : Type 0 where
+  pub desc : new.desc ≡ old.desc
+  pub told : is_told new ≡ is_told old
+  pub size : new.window.size ≡ old.window.size
+  pub behind : new.window.behind ≡ old.window.behind
+  pub credits : new.credits ≡ old.credits
+  pub ignore_unused : new.ignore_unused ≡ old.ignore_unused
+
+-- what is done to a state, by parts that stood for it: its gates follow, a credit is spent, and these clocks are registered
+pub record Becomes (old : Parts) (adds : ℕ → Bool) (does : State → State) (new : Parts) : Type 0 where
+  pub remains : Remains old new
+  pub spent : new.spent ≡ old.spent + 1
+  pub rows : (c : ℕ) → registered new.tree.clocks c ≡ (registered old.tree.clocks c || adds c)
+  pub stands : (s : State) → Stands old s → IsSound old.window.size s → Stands new (record (settled s (does s)) { spent = s.spent + 1 })
+
+-- no clock is registered
+abbrev pub nothing : ℕ → Bool
+nothing c = false
+
+-- an event takes a state to one that the parts stand for, and the machine answers this turn
+pub record Leads (s : State) (driver : ℕ) (event : Event) (turn : Turn) (new : Parts) : Type 0 where
+  pub to : State
+  pub next_ : next s driver event ≡ Some (to, slotless turn)
+  pub stands : Stands new to
+
+-- whether an event registers the clock
+abbrev pub registers : Event → ℕ → Bool
+registers (event.Begin (call.Probe k)) c = k.0 == c
+registers _ c = false
+
+-- the credits that an event spends
+abbrev pub price : Event → ℕ
+price e = if is_paid e then 1 else 0
+
+-- an event of a driver with its turn takes the parts on, from each sound state that they stand for to the machine's next one
+pub record Enters (old : Parts) (driver : ℕ) (event : Event) (turn : Turn) (new : Parts) : Type 0 where
+  pub remains : Remains old new
+  pub pays : new.spent ≡ old.spent + price event
+  pub rows : (c : ℕ) → registered new.tree.clocks c ≡ (registered old.tree.clocks c || registers event c)
+  pub step : (s : State) → Stands old s → IsSound old.window.size s → Leads s driver event turn new
