@@ -1,4 +1,4 @@
-//! Descriptions and trees of clocks that clock lines say.
+//! Descriptions and trees of clocks that clock lines say, and banks.
 
 ghost use Rattle.std.specs.Prelude.{◌≡◌, ◌<◌, ◌≤◌, length, IfOk};
 ghost use Rattle.clk_base.specs.Description.{parents_of};
@@ -8,7 +8,7 @@ use bundle_text::TextLines;
 use clk_base::{ClockId, ValidDesc};
 use clk_tree::Tree;
 use clock_lines::read_clocks;
-use reg_bank::Bank;
+use reg_bank::{Bank, MemBank};
 use std::alloc::Global;
 use std::process::Abort;
 use std::test::Fail;
@@ -63,4 +63,15 @@ pub(crate) fn attach_all<B: Bank>(
         tree.attach(c, link.map(|parent| ClockId(parent)));
         tree.refresh(desc, bank, c);
     }
+}
+
+/// A bank whose first words are these.
+pub(crate) fn bank_of(alloc: Global, words: [u32; 3]) -> Result<MemBank, Fail>
+    ensures { IfOk result (λ bank. 3 ≤ length bank.words) }
+{
+    let mut bank = MemBank::new(alloc)?;
+    bank.write(0, words[0]);
+    bank.write(1, words[1]);
+    bank.write(2, words[2]);
+    Ok(bank)
 }

@@ -7,6 +7,8 @@ mod beside;
 #[cfg(test)]
 mod clocks;
 #[cfg(test)]
+mod orders;
+#[cfg(test)]
 mod plain;
 #[cfg(test)]
 mod plans;

@@ -2,11 +2,11 @@
 
 ghost use Rattle.std.specs.Prelude.{◌≡◌, ◌≤◌, length, IfOk};
 
-use crate::clocks::{attach_all, described, is_possible};
+use crate::clocks::{attach_all, bank_of, described, is_possible};
 use clk_base::{ClockId, ValidDesc};
 use clk_tree::{ChainStep, Plan, Tree, View, WalkRate};
 use rate_planner::{plan_now, plan_parent, round_now};
-use reg_bank::{Bank, MemBank};
+use reg_bank::Bank;
 use std::alloc::Global;
 use std::process::Abort;
 use std::test::Fail;
@@ -186,17 +186,6 @@ fn expect_over<B: Bank>(
     let mut tree = Tree::create(alloc, desc)?;
     attach_all(rt, &mut tree, desc, bank, row.links);
     expect_answers(rt, alloc, desc, &tree, bank, row)
-}
-
-// The registers of a row.
-fn bank_of(alloc: Global, words: [u32; 3]) -> Result<MemBank, Fail>
-    ensures { IfOk result (λ bank. 3 ≤ length bank.words) }
-{
-    let mut bank = MemBank::new(alloc)?;
-    bank.write(0, words[0]);
-    bank.write(1, words[1]);
-    bank.write(2, words[2]);
-    Ok(bank)
 }
 
 // Planning answers as the row says.

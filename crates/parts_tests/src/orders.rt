@@ -1,0 +1,576 @@
+//! Scripts of changes, the order of adoptions and that of the sweep, worked out by hand.
+
+ghost use Rattle.std.specs.Prelude.{◌≡◌, ◌≤◌, length, false, IfOk};
+ghost use Rattle.change_walk.specs.Changes.{AreThere};
+
+use crate::clocks::{attach_all, bank_of, described, is_possible};
+use change_walk::{StepList, script};
+use clk_base::{ClockId, Micro, Notice, Policy, ValidDesc};
+use clk_tree::{Plan, Tree, View};
+use notifiers::Notifiers;
+use orphans::{adoptable, link_of};
+use rate_planner::{plan_now, plan_parent};
+use reg_bank::Bank;
+use std::alloc::Global;
+use std::process::Abort;
+use std::test::Fail;
+use unused_sweep::sweep_order;
+
+// So many clocks, of which all are prepared or none is, without boundaries and exclusive holds.
+#[derive(Clone, Copy, Drop)]
+struct Still {
+    clocks: usize,
+    prepared: bool,
+}
+
+impl View for Still {
+    ghost size = { λ v. v.clocks };
+
+    ghost means = { λ v. record {
+      low = λ c. 0;
+      high = λ c. 18446744073709551615;
+      guarded = λ c. false;
+      prepared = λ c. v.prepared;
+    } };
+
+    fn bounds(&self, _c: ClockId) -> (u64, u64) {
+        (0, u64::MAX)
+    }
+
+    fn guarded(&self, _c: ClockId) -> bool {
+        false
+    }
+
+    fn prepared(&self, _c: ClockId) -> bool {
+        self.prepared
+    }
+}
+
+// A notice: its kind, the clock and the notifier, and the rates in Hz before and after.
+type Told = (Notice, u32, u32, u64, u64);
+
+// The notices at the head of a script and the steps behind them, what it weighs, and how many notices
+// a timeout may bring.
+type Script<'a> = (&'a [Told], &'a [Micro], u64, u64);
+
+// Clocks that are registered in this order over three words of registers, their notifiers, and what
+// follows: scripts of rates and of changes of parent, the parent that a registration would give, the
+// adoptions that one brings, and the order of the sweep.
+#[derive(Drop)]
+struct Row<'a> {
+    name: &'a str,
+    clocks: &'a str,
+    words: [u32; 3],
+    links: &'a [(u32, Option<u32>)],
+    notifiers: &'a [(u32, u32, i32, Policy)],
+    seen: Still,
+    sets: &'a [(u32, u64, Script<'a>)],
+    moves: &'a [(u32, u32, Script<'a>)],
+    parents: &'a [(u32, Option<u32>)],
+    adopted: &'a [(u32, &'a [u32])],
+    sweep: &'a [u32],
+}
+
+// Whether the first steps of a script are these notices.
+fn tells(list: &StepList, told: &[Told]) -> bool {
+    for k in 0..told.len() {
+        let (kind, clock, id, old, new) = told[k];
+        let notice = Micro::Notify {
+            kind,
+            clock: ClockId(clock),
+            id,
+            old,
+            new,
+        };
+        if list.at(k) != Some(notice) {
+            return false;
+        }
+    }
+    true
+}
+
+// Whether the steps of a script from a place on are these, and no others.
+fn goes_on(list: &StepList, place: usize, steps: &[Micro]) -> bool
+    requires few { (place ≤ 100) × (length steps.now ≤ 100) }
+{
+    for k in 0..steps.len() {
+        if list.at(place + k) != Some(steps[k]) {
+            return false;
+        }
+    }
+    list.len() == place + steps.len() && list.at(list.len()).is_none()
+}
+
+// The script of a plan is the one that is wanted.
+fn expect_script(
+    rt: &impl Abort,
+    alloc: Global,
+    desc: &ValidDesc,
+    tree: &Tree,
+    told: &Notifiers,
+    row: &Row<'_>,
+    plan: &Plan,
+    wanted: Script<'_>,
+) -> Result<(), Fail>
+    requires made { desc.now.defs ≡ tree.now.defs }
+    requires seen { row.now.seen.clocks ≡ length tree.now.defs }
+    requires there { AreThere tree.now.clocks plan.now.rates }
+{
+    let list = script(alloc, desc, tree, &row.seen, told, plan)?;
+    let (notices, steps, weight, extra) = wanted;
+    assert!(rt; notices.len() < 100 && steps.len() < 100);
+    assert!(rt;
+        tells(&list, notices) && goes_on(&list, notices.len(), steps),
+        "{}",
+        row.name
+    );
+    assert!(rt;
+        list.weight() == weight && list.extra() == extra,
+        "{}",
+        row.name
+    );
+    Ok(())
+}
+
+// Each request for a rate has the script that the row says.
+fn expect_sets<B: Bank>(
+    rt: &impl Abort,
+    alloc: Global,
+    desc: &ValidDesc,
+    tree: &Tree,
+    bank: &B,
+    told: &Notifiers,
+    row: &Row<'_>,
+) -> Result<(), Fail>
+    requires made { desc.now.defs ≡ tree.now.defs }
+    requires bank { desc.now.words ≤ B.size bank.now }
+    requires seen { row.now.seen.clocks ≡ length tree.now.defs }
+{
+    for (clock, rate, wanted) in row.sets {
+        let c = ClockId(*clock);
+        assert!(rt; tree.registered(c));
+        let plan = plan_now(alloc, desc, tree, bank, &row.seen, c, *rate)?;
+        assert!(rt; plan.is_some(), "{}", row.name);
+        if let Some(plan) = plan {
+            expect_script(rt, alloc, desc, tree, told, row, &plan, *wanted)?;
+        }
+    }
+    Ok(())
+}
+
+// Each change of parent has the script that the row says.
+fn expect_moves<B: Bank>(
+    rt: &impl Abort,
+    alloc: Global,
+    desc: &ValidDesc,
+    tree: &Tree,
+    bank: &B,
+    told: &Notifiers,
+    row: &Row<'_>,
+) -> Result<(), Fail>
+    requires made { desc.now.defs ≡ tree.now.defs }
+    requires bank { desc.now.words ≤ B.size bank.now }
+    requires seen { row.now.seen.clocks ≡ length tree.now.defs }
+{
+    for (clock, parent, wanted) in row.moves {
+        let (c, p) = (ClockId(*clock), ClockId(*parent));
+        assert!(rt; tree.registered(c) && tree.registered(p));
+        assert!(rt; (*clock as usize) < desc.len());
+        assert!(rt; is_possible(desc, c, p) && tree.parent(c) != Some(p));
+        let plan = plan_parent(alloc, desc, tree, bank, c, p)?;
+        expect_script(rt, alloc, desc, tree, told, row, &plan, *wanted)?;
+    }
+    Ok(())
+}
+
+// Whether a list has these clocks.
+fn are(found: &[ClockId], wanted: &[u32]) -> bool {
+    found.len() == wanted.len() && found.iter().zip(wanted).all(|(c, place)| c.0 == *place)
+}
+
+// Registrations give the parents and bring the adoptions that the row says, and the sweep has its order.
+fn expect_orders<B: Bank>(
+    rt: &impl Abort,
+    alloc: Global,
+    desc: &ValidDesc,
+    tree: &Tree,
+    bank: &B,
+    row: &Row<'_>,
+) -> Result<(), Fail>
+    requires made { tree.now.defs ≡ desc.now.defs }
+    requires bank { desc.now.words ≤ B.size bank.now }
+{
+    for (clock, parent) in row.parents {
+        assert!(rt; (*clock as usize) < desc.len());
+        let link = link_of(desc, tree, bank, ClockId(*clock));
+        assert!(rt; link.map(|p| p.0) == *parent, "{}", row.name);
+    }
+    for (clock, wanted) in row.adopted {
+        assert!(rt; (*clock as usize) < desc.len() && !tree.registered(ClockId(*clock)));
+        let adopted = adoptable(alloc, desc, tree, bank, ClockId(*clock))?;
+        assert!(rt; are(&adopted, wanted), "{}", row.name);
+    }
+    let order = sweep_order(alloc, tree)?;
+    assert!(rt; are(&order, row.sweep), "{}", row.name);
+    Ok(())
+}
+
+// The notifiers of a row are added in their order.
+fn add_all(
+    rt: &impl Abort,
+    told: &mut Notifiers,
+    desc: &ValidDesc,
+    rows: &[(u32, u32, i32, Policy)],
+) -> Result<(), Fail>
+    requires { length told.old ≡ length desc.now.defs }
+{
+    for (clock, id, priority, policy) in rows {
+        assert!(rt; (*clock as usize) < desc.len());
+        told.add(ClockId(*clock), *id, *priority, *policy)?;
+    }
+    Ok(())
+}
+
+// Scripts and orders over this tree are those of the row.
+fn expect_answers<B: Bank>(
+    rt: &impl Abort,
+    alloc: Global,
+    desc: &ValidDesc,
+    tree: &Tree,
+    bank: &B,
+    row: &Row<'_>,
+) -> Result<(), Fail>
+    requires made { desc.now.defs ≡ tree.now.defs }
+    requires bank { desc.now.words ≤ B.size bank.now }
+{
+    assert!(rt; row.seen.clocks == desc.len());
+    let mut told = Notifiers::create(alloc, desc)?;
+    add_all(rt, &mut told, desc, row.notifiers)?;
+    expect_sets(rt, alloc, desc, tree, bank, &told, row)?;
+    expect_moves(rt, alloc, desc, tree, bank, &told, row)?;
+    expect_orders(rt, alloc, desc, tree, bank, row)
+}
+
+// Scripts and orders over a tree of these clocks are those of the row.
+fn expect_over<B: Bank>(
+    rt: &impl Abort,
+    alloc: Global,
+    desc: &ValidDesc,
+    bank: &B,
+    row: &Row<'_>,
+) -> Result<(), Fail>
+    requires { desc.now.words ≤ B.size bank.now }
+{
+    let mut tree = Tree::create(alloc, desc)?;
+    attach_all(rt, &mut tree, desc, bank, row.links);
+    expect_answers(rt, alloc, desc, &tree, bank, row)
+}
+
+// Scripts and orders are those of the row.
+fn expect_row(rt: &impl Abort, alloc: Global, row: &Row<'_>) -> Result<(), Fail> {
+    let bank = bank_of(alloc, row.words)?;
+    let desc = described(rt, alloc, row.clocks, 3)?;
+    expect_over(rt, alloc, &desc, &bank, row)
+}
+
+const STILL: Still = Still {
+    clocks: 0,
+    prepared: false,
+};
+
+const EMPTY: Row<'static> = Row {
+    name: "",
+    clocks: "",
+    words: [0, 0, 0],
+    links: &[],
+    notifiers: &[],
+    seen: STILL,
+    sets: &[],
+    moves: &[],
+    parents: &[],
+    adopted: &[],
+    sweep: &[],
+};
+
+const MIGRATION: &str = "\
+fixed osc 24000000\n\
+fixed alt 30000000\n\
+gate ga osc 0 0\n\
+gate gb alt 0 1\n\
+mux m 1 0 1 2 ga gb\n\
+gate g m 0 2\n";
+
+const ORPHAN: &str = "\
+fixed osc 24000000\n\
+fixed src 40000000\n\
+gate gs src 0 0\n\
+mux m 1 0 1 2 osc gs\n\
+gate c m 0 1 critical\n";
+
+static ROWS: [Row<'static>; 9] = [
+    Row {
+        name: "notices go down the walk",
+        clocks: "fixed osc 24000000\n\
+                 pll vco osc 0 0 9 0 31 100 400 24\n\
+                 divider d vco 1 0 2 set-rate-parent\n\
+                 factor x vco 1 4\n\
+                 factor y vco 1 5\n",
+        words: [0x8000_00c8, 1, 0],
+        links: &[
+            (0, None),
+            (1, Some(0)),
+            (2, Some(1)),
+            (3, Some(1)),
+            (4, Some(1)),
+        ],
+        notifiers: &[
+            (1, 1, 0, Policy::Accept),
+            (4, 1, 0, Policy::Accept),
+            (3, 1, 0, Policy::Accept),
+            (2, 1, 0, Policy::Accept),
+        ],
+        seen: Still { clocks: 5, ..STILL },
+        sets: &[(
+            2,
+            150_000_000,
+            (
+                &[
+                    (Notice::Pre(false), 1, 1, 200_000_000, 150_000_000),
+                    (Notice::Pre(false), 4, 1, 40_000_000, 30_000_000),
+                    (Notice::Pre(false), 3, 1, 50_000_000, 37_500_000),
+                    (Notice::Pre(false), 2, 1, 100_000_000, 150_000_000),
+                ],
+                &[
+                    Micro::Visit(ClockId(1)),
+                    Micro::Visit(ClockId(4)),
+                    Micro::Visit(ClockId(3)),
+                    Micro::Visit(ClockId(2)),
+                    Micro::End,
+                ],
+                13,
+                0,
+            ),
+        )],
+        sweep: &[4, 3, 2, 1, 0],
+        ..EMPTY
+    },
+    Row {
+        name: "a prepared mux moves under holds",
+        clocks: MIGRATION,
+        links: &[
+            (0, None),
+            (1, None),
+            (2, Some(0)),
+            (3, Some(1)),
+            (4, Some(2)),
+            (5, Some(4)),
+        ],
+        seen: Still {
+            clocks: 6,
+            prepared: true,
+        },
+        sets: &[(
+            4,
+            30_000_000,
+            (
+                &[],
+                &[
+                    Micro::Raise(ClockId(3)),
+                    Micro::HoldPrepare(ClockId(3)),
+                    Micro::HoldEnable(ClockId(3)),
+                    Micro::HoldEnable(ClockId(4)),
+                    Micro::Relink(ClockId(4), ClockId(3)),
+                    Micro::WriteMux(ClockId(4), 1),
+                    Micro::DropEnable(ClockId(4)),
+                    Micro::DropEnable(ClockId(2)),
+                    Micro::DropPrepare(ClockId(2)),
+                    Micro::Lower(ClockId(2)),
+                    Micro::Visit(ClockId(4)),
+                    Micro::Visit(ClockId(5)),
+                    Micro::End,
+                ],
+                13,
+                0,
+            ),
+        )],
+        sweep: &[3, 1, 5, 4, 2, 0],
+        ..EMPTY
+    },
+    Row {
+        name: "a mux that nobody prepares is only relinked",
+        clocks: MIGRATION,
+        links: &[
+            (0, None),
+            (1, None),
+            (2, Some(0)),
+            (3, Some(1)),
+            (4, Some(2)),
+            (5, Some(4)),
+        ],
+        seen: Still { clocks: 6, ..STILL },
+        sets: &[(
+            4,
+            30_000_000,
+            (
+                &[],
+                &[
+                    Micro::Relink(ClockId(4), ClockId(3)),
+                    Micro::WriteMux(ClockId(4), 1),
+                    Micro::Visit(ClockId(4)),
+                    Micro::Visit(ClockId(5)),
+                    Micro::End,
+                ],
+                5,
+                0,
+            ),
+        )],
+        sweep: &[3, 1, 5, 4, 2, 0],
+        ..EMPTY
+    },
+    Row {
+        name: "a veto leaves no notifier untold",
+        clocks: "fixed ref 100\n\
+                 divider s ref 0 0 3\n\
+                 factor u s 1 2\n\
+                 factor w s 1 4\n\
+                 gate q s 1 0\n",
+        links: &[
+            (0, None),
+            (1, Some(0)),
+            (2, Some(1)),
+            (3, Some(1)),
+            (4, Some(1)),
+        ],
+        notifiers: &[
+            (3, 1, 10, Policy::Accept),
+            (3, 2, 5, Policy::VetoAll),
+            (3, 3, 1, Policy::Accept),
+            (2, 4, 0, Policy::Accept),
+        ],
+        seen: Still { clocks: 5, ..STILL },
+        sets: &[(
+            1,
+            50,
+            (
+                &[
+                    (Notice::Pre(false), 3, 1, 25, 12),
+                    (Notice::Pre(true), 3, 2, 25, 12),
+                    (Notice::Pre(false), 2, 4, 50, 25),
+                    (Notice::Abort, 3, 1, 25, 12),
+                    (Notice::Abort, 3, 2, 25, 12),
+                    (Notice::Abort, 3, 3, 25, 12),
+                    (Notice::Abort, 2, 4, 50, 25),
+                ],
+                &[Micro::End],
+                8,
+                0,
+            ),
+        )],
+        sweep: &[4, 3, 2, 1, 0],
+        ..EMPTY
+    },
+    // The raise of one PLL weighs 35, and a timeout brings one notice.
+    Row {
+        name: "a change of parent settles, and weighs a timeout",
+        clocks: "fixed osc 24000000\n\
+                 pll p osc 0 0 9 0 31 100 400 24\n\
+                 gate g p 1 0\n\
+                 mux m 2 0 1 2 osc p\n",
+        words: [0x64, 0, 0],
+        links: &[(0, None), (1, Some(0)), (2, Some(1)), (3, Some(0))],
+        notifiers: &[(3, 1, 0, Policy::Accept)],
+        seen: Still {
+            clocks: 4,
+            prepared: true,
+        },
+        moves: &[(
+            3,
+            1,
+            (
+                &[(Notice::Pre(false), 3, 1, 24_000_000, 100_000_000)],
+                &[
+                    Micro::Raise(ClockId(1)),
+                    Micro::HoldPrepare(ClockId(1)),
+                    Micro::HoldEnable(ClockId(1)),
+                    Micro::HoldEnable(ClockId(3)),
+                    Micro::Relink(ClockId(3), ClockId(1)),
+                    Micro::WriteMux(ClockId(3), 1),
+                    Micro::DropEnable(ClockId(3)),
+                    Micro::DropEnable(ClockId(0)),
+                    Micro::DropPrepare(ClockId(0)),
+                    Micro::Lower(ClockId(0)),
+                    Micro::Visit(ClockId(3)),
+                    Micro::Settle(ClockId(3)),
+                    Micro::End,
+                ],
+                51,
+                1,
+            ),
+        )],
+        sweep: &[3, 2, 1, 0],
+        ..EMPTY
+    },
+    Row {
+        name: "an orphan waits for the parent that its field selects",
+        clocks: ORPHAN,
+        words: [1, 1, 0],
+        links: &[(0, None), (3, None), (4, Some(3))],
+        seen: Still { clocks: 5, ..STILL },
+        parents: &[(2, None), (3, None)],
+        adopted: &[(1, &[])],
+        sweep: &[0, 4, 3],
+        ..EMPTY
+    },
+    Row {
+        name: "an orphan is adopted when its parent comes",
+        clocks: ORPHAN,
+        words: [1, 1, 0],
+        links: &[(0, None), (3, None), (4, Some(3)), (1, None)],
+        seen: Still { clocks: 5, ..STILL },
+        parents: &[(2, Some(1)), (3, None)],
+        adopted: &[(2, &[3])],
+        sweep: &[1, 0, 4, 3],
+        ..EMPTY
+    },
+    Row {
+        name: "of two orphans that wait for one parent the newest is adopted first",
+        clocks: "fixed osc 24000000\n\
+                 gate x osc 0 0\n\
+                 mux a 1 0 1 2 osc x\n\
+                 mux b 1 1 1 2 osc x\n",
+        words: [0, 3, 0],
+        links: &[(0, None), (2, None), (3, None)],
+        seen: Still { clocks: 4, ..STILL },
+        parents: &[(1, Some(0)), (2, None)],
+        adopted: &[(1, &[3, 2])],
+        sweep: &[0, 3, 2],
+        ..EMPTY
+    },
+    Row {
+        name: "the sweep goes from the newest child up",
+        clocks: "fixed osc 24000000\n\
+                 gate g1 osc 0 0\n\
+                 gate g2 osc 0 1 ignore-unused\n\
+                 gate g3 osc 0 2 critical\n\
+                 pll p osc 1 0 9 1 31 100 400 24\n",
+        words: [3, 0x8000_0064, 0],
+        links: &[
+            (0, None),
+            (1, Some(0)),
+            (2, Some(0)),
+            (3, Some(0)),
+            (4, Some(0)),
+        ],
+        seen: Still { clocks: 5, ..STILL },
+        sweep: &[4, 3, 2, 1, 0],
+        ..EMPTY
+    },
+];
+
+#[test]
+fn scripts_and_orders_are_as_worked_out(rt: HostRuntime) -> Result<(), Fail> {
+    for row in &ROWS {
+        expect_row(&rt, rt.alloc(), row)?;
+    }
+    Ok(())
+}
