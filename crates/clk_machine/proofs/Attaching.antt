@@ -10,19 +10,21 @@ use Rattle.reg_bank.specs.Registers.{Registers}
 use Rattle.clk_model.specs.declared.row.ClockRow.{ClockRow}
 use Rattle.clk_model.specs.Lists.{is_in, without}
 use Rattle.clk_model.specs.Kinds.{is_fixed}
-use Rattle.clk_model.specs.State.{State, registered, link_in}
+use Rattle.clk_model.specs.State.{State, registered, link_in, handle_at}
 use Rattle.clk_model.specs.Tree.{selected, if_registered, link_given, is_orphan}
 use Rattle.clk_model.specs.Holders.{is_enabled, active}
 use Rattle.clk_model.specs.Begin.{registered_rows, register}
 use Rattle.clk_model.specs.Script.{adoptable}
-use Rattle.clk_model.proofs.Members.{both_right, is_in_cases, same_from_test, test_other, test_same}
+use Rattle.clk_model.proofs.Members.{both_left, both_right, is_in_cases, same_from_test, test_other, test_same}
 use Rattle.clk_model.proofs.OnceLaws.{filter_passes}
 use Rattle.clk_model.proofs.StateLaws.{row_of-set_same, row_of-set_other, filter_none, active_by_handles, held_by-set_unregistered}
 use Rattle.clk_model.proofs.PllLaws.{selected_possible}
 use Rattle.clk_model.proofs.WholePathLaws.{same_or_not, given_link, given_others}
-use Rattle.clk_machine.specs.Sound.{IsSound}
+use Rattle.clk_machine.specs.Sound.{IsNarrow, IsSound}
 use Rattle.clk_machine.proofs.Fitting.{all_in, all_from_in, not_critical, no_critical}
-use Rattle.clk_machine.proofs.Soundness.{link_is_registered}
+use Rattle.clk_machine.proofs.Soundness.{link_is_registered, settled_reached}
+use Rattle.clk_model.specs.Laws.RunsFed.{IsSettled}
+use Rattle.clk_model.specs.declared.row.HandleRow.{HandleRow}
 use Rattle.clk_model.proofs.OnceLaws.{is_in-filter}
 use Rattle.std.proofs.Math.Bool.{or-false, or-true}
 
@@ -76,17 +78,19 @@ link_in-register_other s c k other = given_others s c k other
 -- ---- who is active
 
 -- no clock becomes active
-pub active-register : (words : ℕ) (s : State) (c : ℕ) → IsSound words s → registered s.clocks c ≡ false → (x : ℕ) → active s x ≡ active (register s c) x
+pub active-register : (words : ℕ) (s : State) (c : ℕ) → IsNarrow words s → IsSettled s → registered s.clocks c ≡ false → (x : ℕ) → active s x ≡ active (register s c) x
 unfolding register
-active-register words s c sound free x =
-    active_by_handles s x (no_critical s sound.runs) sound.no_enable_hold
-    ∙ sym (held_by-set_unregistered s.clocks c _ is_enabled s.handles x (link_is_registered words s sound) free sound.handled)
-    ∙ sym (active_by_handles (register s c) x (no_critical (register s c) sound.runs) sound.no_enable_hold)
+active-register words s c sound settled_ free x =
+    active_by_handles s x (no_critical s sound.runs) settled_.holds.enables
+    ∙ sym (held_by-set_unregistered s.clocks c _ is_enabled s.handles x (link_is_registered words s sound) free handled)
+    ∙ sym (active_by_handles (register s c) x (no_critical (register s c) sound.runs) settled_.holds.enables) where
+      handled : (n : ℕ) (h : HandleRow) → handle_at s.handles n ≡ Some h → registered s.clocks h.clock.0 ≡ true
+      handled n h at = both_left (registered s.clocks h.clock.0) _ (settled_.rooted_ n h at)
 
 -- ---- orphans
 
 -- an orphan of a sound state is a mux whose field selects no parent, so there is none to adopt
-pub adoptable-sound : (words : ℕ) (s : State) → IsSound words s → adoptable s ≡ []
+pub adoptable-sound : (words : ℕ) (s : State) → IsNarrow words s → adoptable s ≡ []
 unfolding link_given
 adoptable-sound words s sound =
     filter_none (λ a. option_map_or (λ p. true) (link_given s.defs s.regs s.clocks a) false) (filter (is_orphan s.defs s.clocks) s.order)
@@ -100,24 +104,18 @@ adoptable-sound words s sound =
 
 -- ---- the state after it
 
-pub IsSound-register : (words : ℕ) (s : State) (c : ℕ) → IsSound words s → c < length s.defs → registered s.clocks c ≡ false
-    → list_all (registered s.clocks) (parents_of s.defs c) ≡ true → IsSound words (register s c)
+pub IsNarrow-register : (words : ℕ) (s : State) (c : ℕ) → IsNarrow words s → c < length s.defs → registered s.clocks c ≡ false
+    → list_all (registered s.clocks) (parents_of s.defs c) ≡ true → IsNarrow words (register s c)
 unfolding register
-IsSound-register words s c sound within free parents = record {
+IsNarrow-register words s c sound within free parents = record {
   valid = sound.valid;
   runs = sound.runs;
-  size = sound.size;
-  quiet = sound.quiet;
-  no_enable_hold = sound.no_enable_hold;
   rows = length-set s.clocks c _ ∙ sound.rows;
   attached = λ d m. by_place d (is_in_cases d c (without (c ∷ []) s.order) m);
   unlinked = λ d free'. by_row_unlinked d free' (same_or_not c d);
   parents = λ d there. by_row_parents d there (same_or_not c d);
   selects = λ d there. by_row_selects d there (same_or_not c d);
-  handled = λ n h at. more h.clock.0 (sound.handled n h at);
-  balanced = sound.balanced;
   unpowered = sound.unpowered;
-  open_ = λ d gate act at. sound.open_ d gate (active-register words s c sound free d ∙ act) at;
 } where
   inside : c < length s.clocks
   inside = let rows = sound.rows in omega arith
@@ -158,16 +156,17 @@ pub record RegistersAlone (words : ℕ) (s : State) (c : ℕ) : Type 0 where
   pub none : adoptable (register s c) ≡ []
   pub same : (x : ℕ) → active s x ≡ active (register s c) x
   pub rows : (k : ℕ) → registered (register s c).clocks k ≡ (registered s.clocks k || nat_eq c k)
-  pub sound : IsSound words (register s c)
+  pub narrow : IsNarrow words (register s c)
 
-pub registers_alone : (words : ℕ) (s : State) (c : ℕ) → IsSound words s → c < length s.defs → registered s.clocks c ≡ false
+pub registers_alone : (words : ℕ) (s : State) (c : ℕ) → IsSound words s → s.change ≡ None → c < length s.defs → registered s.clocks c ≡ false
     → list_all (registered s.clocks) (parents_of s.defs c) ≡ true → RegistersAlone words s c
-registers_alone words s c sound within free parents =
-    let after = IsSound-register words s c sound within free parents in
+registers_alone words s c sound quiet within free parents =
+    let narrow = sound.narrow in
+    let after = IsNarrow-register words s c narrow within free parents in
     record {
-      uncritical = not_critical s.defs sound.runs c within;
+      uncritical = not_critical s.defs narrow.runs c within;
       none = adoptable-sound words (register s c) after;
-      same = active-register words s c sound free;
-      rows = λ k. registered-register s c k (let rows = sound.rows in omega arith);
-      sound = after;
+      same = active-register words s c narrow (settled_reached words s sound.reached quiet) free;
+      rows = λ k. registered-register s c k (let rows = narrow.rows in omega arith);
+      narrow = after;
     }

@@ -40,4 +40,4 @@ run_causes old new words log d what r run enters can told =
     let s : State = state_of old words log in
     let sound = run.sound told in
     let leads = enters.step s (run.stands told) (subst (λ (n : ℕ). IsSound n s) (sym run.size) sound) in
-    sound_causes (length words) s leads.to d what r sound can.0 can.1 leads.next_
+    sound_causes (length words) s leads.to d what r sound (run.stands told).change can.0 can.1 leads.next_

@@ -25,7 +25,8 @@ use Rattle.clk_machine.specs.Stands.{Stands, is_told, Remains, Leads, Enters, re
 use Rattle.clk_machine.specs.Built.{is_built_over}
 use Rattle.clk_base.specs.Valid.{IsValid}
 use Rattle.clk_model.specs.Fed.{Fed}
-use Rattle.clk_machine.proofs.Soundness.{Fed_sound, sound_opening}
+use Rattle.clk_machine.proofs.Soundness.{fed_reached, sound_opening}
+use Rattle.clk_model.specs.Begin.{most_credits}
 use Rattle.clk_machine.proofs.Events.{sound_next}
 use Rattle.clk_machine.specs.Run.{was_probed, Logged, start_of, state_of, run_of, IsRun, Appends, can_make}
 use Rattle.std.proofs.Math.Bool.{or-false}
@@ -110,7 +111,7 @@ module _ (old new : Parts) (words : List ℕ) (log log' : Logged) (d : ℕ) (e :
     fed = λ told n.
         subst (λ (s : State). Fed (replay s (take n log'.entries))) (sym same)
         (fed-append (start_of old words) (leads (was told)).to (slotless t) log.entries log'.entries (entry_of d e t) is.entries (leads (was told)).next_
-        (is.run.fed (was told)) (Fed_sound (length words) (leads (was told)).to (sound_after (was told))) n);
+        (is.run.fed (was told)) (fed_reached (length words) (leads (was told)).to (sound_after (was told)).reached) n);
     spent = ap cost is.entries ∙ cost-append log.entries (entry_of d e t) ∙ ap (λ (n : ℕ). n + price e) is.run.spent ∙ sym is.enters.pays;
     room =
         let before = is.run.room in
@@ -162,16 +163,16 @@ can_take m s what stands placed built =
 pub begins : (m : Parts) (words given : List ℕ) (log : Logged) (desc : Checked) (ignore_unused : Bool) (credits : ℕ)
     → words ≡ given → log.entries ≡ [] → log.room ≡ credits → (is_told m ≡ true → Stands m (opening desc.defs given ignore_unused credits))
     → m.desc ≡ desc → m.credits ≡ credits → m.ignore_unused ≡ ignore_unused → m.spent ≡ 0
-    → ((c : ℕ) → registered m.tree.clocks c ≡ false) → m.window.size ≡ length given → IsValid (length given) desc.defs → CanRun desc.defs
+    → ((c : ℕ) → registered m.tree.clocks c ≡ false) → m.window.size ≡ length given → IsValid (length given) desc.defs → CanRun desc.defs → credits ≤ most_credits
     → IsRun m words log
-begins m words given log desc ignore_unused credits same empty room stands at credit unused spent none size valid runs =
+begins m words given log desc ignore_unused credits same empty room stands at credit unused spent none size valid runs few =
     let start : start_of m words ≡ opening desc.defs given ignore_unused credits =
     ap (λ (d : Checked). opening d.defs words m.ignore_unused m.credits) at
     ∙ ap (λ (ws : List ℕ). opening desc.defs ws m.ignore_unused m.credits) same
     ∙ ap (λ (b : Bool). opening desc.defs given b m.credits) unused
     ∙ ap (λ (n : ℕ). opening desc.defs given ignore_unused n) credit in
     let now : state_of m words log ≡ opening desc.defs given ignore_unused credits = ap (replay (start_of m words)) empty ∙ start in
-    let sound : IsSound (length given) (opening desc.defs given ignore_unused credits) = sound_opening given desc.defs ignore_unused credits valid runs in
+    let sound : IsSound (length given) (opening desc.defs given ignore_unused credits) = sound_opening given desc.defs ignore_unused credits valid runs few in
     record {
       stands = λ told. subst (λ (s : State). Stands m s) (sym now) (stands told);
       legal = λ told. subst (λ (j : List Entry). Legal (start_of m words) j) (sym empty) tt;
@@ -180,7 +181,7 @@ begins m words given log desc ignore_unused credits same empty room stands at cr
       fed = λ told n.
           subst (λ (j : List Entry). Fed (replay (start_of m words) (take n j))) (sym empty)
           (subst (λ (j : List Entry). Fed (replay (start_of m words) j)) (sym (take_all n [] (omega arith)))
-          (subst (λ (s : State). Fed s) (sym start) (Fed_sound (length given) (opening desc.defs given ignore_unused credits) sound)));
+          (subst (λ (s : State). Fed s) (sym start) (fed_reached (length given) (opening desc.defs given ignore_unused credits) sound.reached)));
       spent = ap cost empty ∙ sym spent;
       room = omega arith;
       size = size ∙ sym (ap (λ (ws : List ℕ). length ws) same);

@@ -9,7 +9,6 @@ pub mod Attaching
 pub mod CallEvents
 pub mod Events
 pub mod Reasons
-pub mod AlwaysFed
 pub mod Moving
 pub mod Holdings
 pub mod Owning

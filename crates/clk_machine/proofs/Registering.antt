@@ -254,7 +254,7 @@ whole_registered old c tree' counts' whole now left = record {
 pub alone_stands : (m : Parts) (s : State) (c : ℕ) → Stands m s → IsSound m.window.size s → c < length m.desc.defs → registered m.tree.clocks c ≡ false
     → list_all (registered m.tree.clocks) (parents_of m.desc.defs c) ≡ true → RegistersAlone m.window.size s c
 alone_stands m s c stands sound place free parents =
-    registers_alone m.window.size s c sound
+    registers_alone m.window.size s c sound stands.change
     (subst (λ (d : Description). c < length d) (sym stands.defs) place)
     (ap (λ (rs : List ClockRow). registered rs c) stands.clocks ∙ free)
     (ap (λ (rs : List ClockRow). list_all (registered rs) (parents_of s.defs c)) stands.clocks

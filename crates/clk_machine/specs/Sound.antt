@@ -1,34 +1,40 @@
 -- What every state of a core keeps, where only calls are made that can be made so far.
-use Rattle.std.specs.Prelude.{◌≡◌, ℕ, ◌<◌, List, [], ◌∷◌, Bool, true, false, Some, None, length}
+use Rattle.std.specs.Prelude.{◌≡◌, ℕ, ◌<◌, ◌≤◌, List, Bool, true, false, Some, None, length}
 use Rattle.std.specs.List.{list_all}
-use Rattle.std.specs.Option.{option_map_or}
 use Rattle.clk_base.specs.declared.call.Sleeping.{Sleeping}
 use Rattle.clk_base.specs.declared.call.Sleeping.TheVariants as call
 use Rattle.clk_base.specs.declared.event.Entry.{Entry}
 use Rattle.clk_base.specs.declared.event.Event.{Event}
 use Rattle.clk_base.specs.declared.event.Event.TheVariants as event
-use Rattle.clk_base.specs.Description.{Description, kind_of, parents_of}
-use Rattle.clk_base.specs.Fields.{GateBit, gate_of}
+use Rattle.clk_base.specs.Description.{Description, parents_of}
 use Rattle.clk_base.specs.Valid.{IsValid}
+use Rattle.reg_bank.specs.Registers.{Registers}
 use Rattle.clk_model.specs.declared.row.HandleRow.{HandleRow}
 use Rattle.clk_model.specs.Lists.{is_in}
-use Rattle.clk_model.specs.Kinds.{is_open}
 use Rattle.clk_model.specs.State.{State, registered, link_in, handle_at}
 use Rattle.clk_model.specs.Tree.{selected}
-use Rattle.clk_model.specs.Holders.{active}
-use Rattle.clk_model.specs.Machine.{next}
+use Rattle.clk_model.specs.Begin.{most_credits}
+use Rattle.clk_model.specs.Journal.{opening, replay}
 use Rattle.clk_machine.specs.Fit.{CanRun, has_pll}
 use Rattle.clk_machine.specs.Built.{is_built_over}
 
--- what every state of a core keeps
-pub record IsSound (words : ℕ) (s : State) : Type 0 where
+-- a journal leads to the state, from the opening of a valid description with so many words and as many credits as there may be
+pub record IsReached (words : ℕ) (s : State) : Type 0 where
+  pub defs : Description
+  pub regs : Registers
+  pub ignore_unused : Bool
+  pub credits : ℕ
+  pub journal : List Entry
+  pub valid : IsValid (length regs) defs
+  pub size : length regs ≡ words
+  pub few : credits ≤ most_credits
+  pub leads : s ≡ replay (opening defs regs ignore_unused credits) journal
+
+-- what is kept so far, where only calls are made that can be made so far
+pub record IsNarrow (words : ℕ) (s : State) : Type 0 where
   -- the description is valid for so many words, and each clock can be run
   pub valid : IsValid words s.defs
   pub runs : CanRun s.defs
-  pub size : length s.regs ≡ words
-  -- no change is in flight, and no enable is held for one
-  pub quiet : s.change ≡ None
-  pub no_enable_hold : s.enable_holds ≡ []
   -- each clock has a row, and those in the order are registered
   pub rows : length s.clocks ≡ length s.defs
   pub attached : (c : ℕ) → is_in c s.order ≡ true → registered s.clocks c ≡ true
@@ -37,12 +43,13 @@ pub record IsSound (words : ℕ) (s : State) : Type 0 where
   pub unlinked : (c : ℕ) → registered s.clocks c ≡ false → link_in s.clocks c ≡ None
   pub parents : (c : ℕ) → registered s.clocks c ≡ true → list_all (registered s.clocks) (parents_of s.defs c) ≡ true
   pub selects : (c : ℕ) → registered s.clocks c ≡ true → link_in s.clocks c ≡ selected s.defs s.regs c
-  -- the clock of a handle is registered; a handle is enabled only while it is prepared, and prepared only where there is no PLL
-  pub handled : (n : ℕ) (h : HandleRow) → handle_at s.handles n ≡ Some h → registered s.clocks h.clock.0 ≡ true
-  pub balanced : (n : ℕ) (h : HandleRow) → handle_at s.handles n ≡ Some h → 0 < h.enables → 0 < h.prepares
+  -- a handle is prepared only where there is no PLL
   pub unpowered : (n : ℕ) (h : HandleRow) → handle_at s.handles n ≡ Some h → 0 < h.prepares → has_pll s.defs ≡ false
-  -- the gates of active clocks are open
-  pub open_ : (c : ℕ) (gate : GateBit) → active s c ≡ true → gate_of (kind_of s.defs c) ≡ Some gate → is_open s.regs gate ≡ true
+
+-- what every state of a core keeps: all that holds behind a journal, and what is kept so far
+pub record IsSound (words : ℕ) (s : State) : Type 0 where
+  pub reached : IsReached words s
+  pub narrow : IsNarrow words s
 
 -- the clocks that a call names are clocks of the description
 abbrev pub IsPlaced : Description → Sleeping → Type 0
@@ -66,8 +73,3 @@ abbrev pub CanTake : State → Event → Type 0
 CanTake s (event.Begin what) = IsPlaced s.defs what × CanBegin s what
 CanTake s (event.Step m answer) = ⊥
 CanTake s e = Unit {0}
-
--- each entry of a journal can come where it stands
-abbrev pub CanTakeAll : State → List Entry → Type 0
-CanTakeAll s [] = Unit {0}
-CanTakeAll s (e ∷ es) = CanTake s e.event × CanTakeAll (option_map_or (λ x. x.0) (next s e.driver e.event) s) es

@@ -5,16 +5,12 @@ ghost use Rattle.clk_base.specs.Description.{Description};
 ghost use Rattle.clk_base.specs.Valid.{IsValid};
 ghost use Rattle.clk_base.specs.declared.event.Entry.{Entry};
 ghost use Rattle.clk_model.specs.Fed.{Fed};
-ghost use Rattle.clk_model.specs.Journal.{opening, replay, Legal};
-ghost use Rattle.clk_machine.specs.Fit.{CanRun};
-ghost use Rattle.clk_machine.specs.Sound.{CanTakeAll};
+ghost use Rattle.clk_model.specs.Journal.{opening, replay};
 
-/// In each legal journal of the calls that can be made so far, from an opening over clocks that can
-/// be run, the active clocks are fed after every prefix. Whose calls they are and in which order
-/// they come doesn't matter.
+/// Behind every prefix of a journal, from an opening with a valid description, the active clocks are
+/// fed. Whose calls they are and in which order they come doesn't matter.
 pub fn always_fed()
     ensures { (words : List ℕ) (defs : Description) (ignore_unused : Bool) (credits : ℕ) (journal : List Entry)
-        → IsValid (length words) defs → CanRun defs
-        → CanTakeAll (opening defs words ignore_unused credits) journal → Legal (opening defs words ignore_unused credits) journal
+        → IsValid (length words) defs
         → (n : ℕ) → Fed (replay (opening defs words ignore_unused credits) (take n journal)) }
 {}

@@ -33,4 +33,4 @@ returns g c =
     let own = own_stands c.args.self.now s c.args.driver c.args.handle.number (Some c.in-Some.row) stands (c.own.ensures.row ∙ c.in-Some.is) in
     unprepare-fine s c.args.driver c.args.handle c.in-Some.row stands.change own free
     (no_plls (prepared_once_less s c.args.handle.number c.in-Some.row) (path s.clocks c.in-Some.row.clock.0)
-    (frees-unpowered c.args.self.now.window.size s sound c.args.handle.number c.in-Some.row (own_is_live s c.args.driver c.args.handle.number c.in-Some.row own) free)))
+    (frees-unpowered c.args.self.now.window.size s sound.narrow c.args.handle.number c.in-Some.row (own_is_live s c.args.driver c.args.handle.number c.in-Some.row own) free)))
