@@ -17,9 +17,11 @@ use Rattle.clk_model.proofs.Members.{both_left, not_either}
 use Rattle.clk_model.proofs.StateLaws.{settled-still, active-append}
 use Rattle.clk_model.proofs.EventLaws.{own_is_live, prepared_once_less, enable-unknown, enable-unprepared, enable-fine, disable-unknown, disable-warned, disable-fine, running-unknown, running-told, get-not_found, get-deferred, get-given, put-unknown, put-busy, put-fine, prepare-unknown, prepare-fine, unprepare-unknown, unprepare-warned, unprepare-fine, rate-unknown, rate-told, parent-unknown, parent-told, probe-twice, probe-fine}
 use Rattle.clk_model.specs.Notices.{notifiers_of}
+use Rattle.clk_model.specs.Round.{wiring, round_rate}
+use Rattle.clk_model.specs.Views.{view, lift}
 use Rattle.clk_machine.specs.Fit.{has_pll}
 use Rattle.clk_machine.specs.Holding.{notified, unnotified}
-use Rattle.clk_machine.proofs.CallEvents.{exclusive_get-unknown, exclusive_get-fine, exclusive_put-unknown, exclusive_put-warned, exclusive_put-fine, notifier_add-unknown, notifier_add-known, notifier_add-full, notifier_add-fine, notifier_remove-unknown, notifier_remove-lacking, notifier_remove-fine}
+use Rattle.clk_machine.proofs.CallEvents.{exclusive_get-unknown, exclusive_get-fine, exclusive_put-unknown, exclusive_put-warned, exclusive_put-fine, notifier_add-unknown, notifier_add-known, notifier_add-full, notifier_add-fine, notifier_remove-unknown, notifier_remove-lacking, notifier_remove-fine, round-unknown, round-told, round-none}
 use Rattle.clk_machine.specs.Sound.{IsNarrow, IsSound, CanTake}
 use Rattle.clk_machine.proofs.Fitting.{no_plls}
 use Rattle.clk_model.proofs.FlightLaws.{begin_is}
@@ -204,7 +206,14 @@ begin_sound words s t d (call.Probe c) x whole quiet sound can comes = by (regis
       let alone = registers_alone words s c.0 whole quiet can.0 free can.1 in
       comes_to words s (register s c.0) t d (event.Begin (call.Probe c)) _ x (stills words s (register s c.0) alone.same alone.narrow)
       (probe-fine s d c quiet free alone.none alone.uncritical) comes
-begin_sound words s t d (call.RoundRate h r) x whole quiet sound can comes = absurd cc
+begin_sound words s t d (call.RoundRate h r) x whole quiet sound can comes = by (own_handle s d h.number) refl where
+  given_rate : (row : HandleRow) (o : Option ℕ) → own_handle s d h.number ≡ Some row → round_rate (wiring s) (view (lift s h.number)) row.clock.0 r ≡ o → IsNarrow words t
+  given_rate row None own none = same_sound words s t d (event.Begin (call.RoundRate h r)) _ x sound (round-none s d h r row quiet own none) comes
+  given_rate row (Some rate) own gives = same_sound words s t d (event.Begin (call.RoundRate h r)) _ x sound (round-told s d h r row rate quiet own gives) comes
+
+  by : (o : Option HandleRow) → own_handle s d h.number ≡ o → IsNarrow words t
+  by None lacks = same_sound words s t d (event.Begin (call.RoundRate h r)) _ x sound (round-unknown s d h r quiet lacks) comes
+  by (Some row) own = given_rate row (round_rate (wiring s) (view (lift s h.number)) row.clock.0 r) own refl
 begin_sound words s t d (call.SetRate h r) x whole quiet sound can comes = absurd cc
 begin_sound words s t d (call.SetRateExclusive h r) x whole quiet sound can comes = absurd cc
 begin_sound words s t d (call.SetRange h least most) x whole quiet sound can comes = absurd cc

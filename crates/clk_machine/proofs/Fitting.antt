@@ -7,7 +7,7 @@ use Rattle.clk_base.specs.declared.clock.Kind.{Kind}
 use Rattle.clk_base.specs.declared.clock.Kind.TheVariants.{FixedRate, Factor, Gate, Mux, Divider, Pll}
 use Rattle.clk_base.specs.Description.{Description, nobody, kind_of}
 use Rattle.clk_base.specs.Fields.{power_of}
-use Rattle.clk_base.specs.Flags.{is_critical, sets_rate_gate}
+use Rattle.clk_base.specs.Flags.{is_critical}
 use Rattle.clk_model.specs.Lists.{is_in}
 use Rattle.clk_model.specs.Kinds.{is_pll}
 use Rattle.clk_model.specs.State.{State}
@@ -40,10 +40,7 @@ not_true true h = absurd cc
 not_true false h = refl
 
 pub not_critical : (defs : Description) → CanRun defs → (c : ℕ) → c < length defs → is_critical defs c ≡ false
-not_critical defs runs c within = not_true _ (both_right _ _ (both_left _ _ (runs c within)))
-
-pub not_guarding : (defs : Description) → CanRun defs → (c : ℕ) → c < length defs → sets_rate_gate defs c ≡ false
-not_guarding defs runs c within = not_true _ (both_right _ _ (runs c within))
+not_critical defs runs c within = not_true _ (both_right _ _ (runs c within))
 
 pub no_critical : (s : State) → CanRun s.defs → critical_clocks s ≡ []
 no_critical s runs = critical_clocks-none s (not_critical s.defs runs)

@@ -8,11 +8,11 @@ pub mod Kept
 pub mod Attaching
 pub mod CallEvents
 pub mod Events
-pub mod Reasons
 pub mod Moving
 pub mod Holdings
 pub mod Owning
 pub mod Room
+pub mod Rounding
 pub mod Writing
 pub mod Following
 pub mod Entered

@@ -6,14 +6,15 @@ use Rattle.clk_base.specs.declared.call.Sleeping.TheVariants as call
 use Rattle.clk_base.specs.Description.{Description, parents_of}
 use Rattle.clk_machine.specs.Fit.{has_pll}
 
--- whether a call can be made so far, where there is a PLL or none, and where these clocks can be probed: get, put, unprepare, rate and
--- parent, exclusive holds and notifiers; a prepare where there is no PLL, since it would have to raise one; and the probe of such a clock
+-- whether a call can be made so far, where there is a PLL or none, and where these clocks can be probed: get, put, unprepare, rate,
+-- rounded rate and parent, exclusive holds and notifiers; a prepare where there is no PLL, since it would have to raise one; and the probe of such a clock
 abbrev pub is_built : Bool → (ℕ → Bool) → Sleeping → Bool
 is_built pll probes (call.Get found) = true
 is_built pll probes (call.Put h) = true
 is_built pll probes (call.Prepare h) = not pll
 is_built pll probes (call.Unprepare h) = true
 is_built pll probes (call.GetRate h) = true
+is_built pll probes (call.RoundRate h x) = true
 is_built pll probes (call.GetParent h) = true
 is_built pll probes (call.ExclusiveGet h) = true
 is_built pll probes (call.ExclusivePut h) = true

@@ -2,17 +2,16 @@
 use Rattle.std.specs.Prelude.{ℕ, Bool, not, ◌&&◌, nat_lt}
 use Rattle.std.specs.List.{list_all, list_any}
 use Rattle.clk_base.specs.Description.{Description, parents_of, EachClock}
-use Rattle.clk_base.specs.Flags.{is_critical, sets_rate_gate}
+use Rattle.clk_base.specs.Flags.{is_critical}
 use Rattle.clk_model.specs.Kinds.{is_pll}
 
 -- each possible parent of the clock is an earlier clock
 abbrev pub has_earlier_parents : Description → ℕ → Bool
 has_earlier_parents defs c = list_all (λ p. nat_lt p c) (parents_of defs c)
 
--- a clock that this core can run: its possible parents are earlier clocks, and it is neither critical nor protects its rate
--- while it is prepared
+-- a clock that this core can run: its possible parents are earlier clocks, and it isn't critical
 abbrev pub can_run : Description → ℕ → Bool
-can_run defs c = has_earlier_parents defs c && not (is_critical defs c) && not (sets_rate_gate defs c)
+can_run defs c = has_earlier_parents defs c && not (is_critical defs c)
 
 abbrev pub CanRun : Description → Type 0
 CanRun defs = EachClock defs (can_run defs)

@@ -8,3 +8,4 @@ pub mod Holding
 pub mod Sound
 pub mod Run
 pub mod Row
+pub mod Seen

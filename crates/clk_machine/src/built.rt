@@ -15,6 +15,7 @@ pub fn is_built(what: &Sleeping, pll: bool, can_register: bool) -> bool
         | Sleeping::Put(_)
         | Sleeping::Unprepare(_)
         | Sleeping::GetRate(_)
+        | Sleeping::RoundRate(_, _)
         | Sleeping::GetParent(_)
         | Sleeping::ExclusiveGet(_)
         | Sleeping::ExclusivePut(_)

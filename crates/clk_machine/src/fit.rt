@@ -11,7 +11,7 @@ use bitflags::Flags;
 use clk_base::{ClkFlags, ClockId, Kind, ValidDesc};
 
 /// The first clock that a core can't run, if there is one: it runs clocks over earlier clocks that
-/// are neither critical nor protect their rate while they are prepared.
+/// aren't critical.
 pub fn first_unfit(desc: &ValidDesc) -> Option<ClockId>
     ensures { FindsFirst desc.now.defs (can_run desc.now.defs) result }
 {
@@ -30,9 +30,7 @@ pub fn is_fit(desc: &ValidDesc, clock: ClockId) -> bool
     ensures { result ≡ can_run desc.now.defs clock.0 }
 {
     let def = desc.def(clock);
-    are_before(def.parents.as_slice(), clock)
-        && !Flags::contains(&def.flags, ClkFlags::CRITICAL)
-        && !Flags::contains(&def.flags, ClkFlags::SET_RATE_GATE)
+    are_before(def.parents.as_slice(), clock) && !Flags::contains(&def.flags, ClkFlags::CRITICAL)
 }
 
 // Whether all of these clocks stand before the clock.

@@ -46,7 +46,7 @@ impl<B: Bank> Core<B> {
     ghost use Rattle.clk_machine.specs.Sound.{IsPlaced, takes_memory};
     ghost use Rattle.clk_model.specs.Journal.{slotless};
     ghost use Rattle.clk_model.specs.Laws.CallCauses.{CallTurns};
-    ghost use Rattle.clk_model.specs.Laws.Causes.{EnableCauses, DisableCauses, RunningCauses, TurnHasCause, LeavesRefused};
+    ghost use Rattle.clk_model.specs.Laws.Causes.{EnableCauses, DisableCauses, RunningCauses, LeavesRefused};
     ghost use Rattle.clk_machine.specs.Run.{Run, now_of, was_probed, can_make, IsDone, Appends};
     ghost use Rattle.clk_machine.specs.Row.{IsRowOf, IsTreeOf};
 
@@ -175,8 +175,6 @@ impl<B: Bank> Core<B> {
         ensures ok { IfOk result (λ turn. Appends self.old driver (Begin what.now) turn self.new) }
         // The call is answered at once.
         ensures at_once { IfOk result IsDone }
-        // Where the bank tells its words, each answer has its cause in the state before.
-        ensures causes { self.old.told ≡ true → IfOk result (TurnHasCause (now_of self.old) driver what.now) }
         // Where the bank tells its words, the turn of each call comes exactly where its cause in the state before holds.
         ensures turns { self.old.told ≡ true → IfOk result (λ turn. CallTurns (now_of self.old) driver what.now (slotless turn)) }
         // Where the bank tells its words, a refusal spends a credit and changes nothing else.

@@ -11,6 +11,7 @@ mod log;
 mod machine;
 mod register;
 mod row;
+mod seen;
 mod window;
 
 pub use built::is_built;

@@ -13,6 +13,7 @@ mod exclusives;
 mod holding;
 mod notifying;
 mod registering;
+mod rounding;
 mod rows;
 mod telling;
 
@@ -138,6 +139,7 @@ impl<B: Bank> Machine<B> {
             Sleeping::Prepare(handle) => Ok(self.prepare(driver, handle)),
             Sleeping::Unprepare(handle) => Ok(self.unprepare(driver, handle)),
             Sleeping::GetRate(handle) => Ok(self.rate(driver, handle)),
+            Sleeping::RoundRate(handle, rate) => Ok(self.round(driver, handle, rate)),
             Sleeping::GetParent(handle) => Ok(self.parent(driver, handle)),
             Sleeping::ExclusiveGet(handle) => Ok(self.exclusive_get(driver, handle)),
             Sleeping::ExclusivePut(handle) => Ok(self.exclusive_put(driver, handle)),

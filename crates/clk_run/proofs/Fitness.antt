@@ -3,7 +3,6 @@ use Rattle.std.proofs.Common.{◌≡◌, ◌∙◌, ap, refl, ℕ, zero, suc, �
 use Rattle.std.specs.List.{reduce, filter_map, cons_option, AllByRecursion}
 use Rattle.bundle_text.specs.Firsts.{onto, said_from}
 use Rattle.clk_base.specs.Description.{Description, EachClock}
-use Rattle.clk_base.specs.Flags.{is_critical}
 use Rattle.clk_base.specs.declared.command.Command.{Command}
 use Rattle.clk_machine.specs.Fit.{has_earlier_parents, can_run, CanRun}
 use Rattle.drv_scripts.specs.declared.bundle.Bundle.{Bundle}
@@ -80,4 +79,4 @@ built_all b e =
 
 -- the possible parents of clocks that can be run are earlier clocks
 pub earlier_all : (defs : Description) → CanRun defs → EachClock defs (has_earlier_parents defs)
-earlier_all defs runs c lt = both_left (has_earlier_parents defs c) _ (both_left (has_earlier_parents defs c && not (is_critical defs c)) _ (runs c lt))
+earlier_all defs runs c lt = both_left (has_earlier_parents defs c) _ (runs c lt)

@@ -8,7 +8,7 @@ use Rattle.clk_machine.specs.Built.{is_built_over}
 use Rattle.clk_machine.specs.Run.{can_make, run_of, state_of}
 use Rattle.clk_machine.specs.Sound.{IsPlaced}
 use Rattle.clk_machine.proofs.Entering.{entered, appended, can_begin, can_take}
-use Rattle.clk_machine.proofs.Causing.{run_causes, appends_refused}
+use Rattle.clk_machine.proofs.Causing.{appends_refused}
 use Rattle.clk_machine.proofs.framework.Core.begin.Goals as goal
 
 pub begin-requires-clause-built : goal.begin-requires-clause-built
@@ -47,16 +47,6 @@ returns-clause-ok g c =
       entries = c.push.ensures.entries;
       room = c.push.ensures.room;
     }))
-
-pub returns-clause-causes : goal.returns-clause-causes
-returns-clause-causes g c =
-    let m = c.self.inside in
-    let built : can_make (run_of m.machine m.words.items m.log) c.args.what.now ≡ true = rw (← c.self.view_is) at c.requires.built in
-    let placed : IsPlaced m.machine.desc.defs c.args.what.now = rw (← c.self.view_is) at c.requires.place in
-    let begins : is_built_over m.machine.desc.defs (registered m.machine.tree.clocks) c.args.what.now ≡ true = can_begin m.machine m.words.items m.log c.args.what.now c.self.invariant built in
-    rw (← c.self.view_is)
-    (λ told. run_causes m.machine c.begin.new.self m.words.items m.log c.args.driver c.args.what.now c.in_ok-reply.reply c.self.invariant c.in_ok-reply.ensures.ok
-    (can_take m.machine (state_of m.machine m.words.items m.log) c.args.what.now (c.self.invariant.stands told) placed begins) told)
 
 pub returns-clause-turns : goal.returns-clause-turns
 returns-clause-turns g c = λ told. (calls_have_causes _ _ c.args.driver c.args.what.now (slotless (Done c.in_ok-reply.reply)) ((returns-clause-ok g c).step told)).1
