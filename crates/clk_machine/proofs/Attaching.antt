@@ -1,30 +1,25 @@
--- A registration whose possible parents are registered: it is all that is done, and the state stays sound.
+-- A registration whose possible parents are registered: no orphan is to be adopted behind it, and what is kept so far stays so.
 use Rattle.std.proofs.Common.{◌≡◌, ℕ, ◌<◌, ◌||◌, Bool, true, false, cond, not, List, [], ◌∷◌, Option, Some, None, refl, sym, ap, subst, ◌∙◌, ◌⊎◌, inl, inr, arith, length, nat_eq}
 use Rattle.std.specs.Prelude.{filter, is_none, option_and_then}
 use Rattle.std.specs.List.{list_all}
 use Rattle.std.specs.Option.{option_map_or}
 use Rattle.std.proofs.lemmas.List.{length-set}
 use Rattle.clk_base.specs.Description.{Description, kind_of, parents_of}
-use Rattle.clk_base.specs.Flags.{is_critical}
 use Rattle.reg_bank.specs.Registers.{Registers}
 use Rattle.clk_model.specs.declared.row.ClockRow.{ClockRow}
 use Rattle.clk_model.specs.Lists.{is_in, without}
 use Rattle.clk_model.specs.Kinds.{is_fixed}
-use Rattle.clk_model.specs.State.{State, registered, link_in, handle_at}
+use Rattle.clk_model.specs.State.{State, registered, link_in}
 use Rattle.clk_model.specs.Tree.{selected, if_registered, link_given, is_orphan}
-use Rattle.clk_model.specs.Holders.{is_enabled, active}
 use Rattle.clk_model.specs.Begin.{registered_rows, register}
 use Rattle.clk_model.specs.Script.{adoptable}
-use Rattle.clk_model.proofs.Members.{both_left, both_right, is_in_cases, same_from_test, test_other, test_same}
+use Rattle.clk_model.proofs.Members.{both_right, is_in_cases, same_from_test, test_other, test_same}
 use Rattle.clk_model.proofs.OnceLaws.{filter_passes}
-use Rattle.clk_model.proofs.StateLaws.{row_of-set_same, row_of-set_other, filter_none, active_by_handles, held_by-set_unregistered}
+use Rattle.clk_model.proofs.StateLaws.{row_of-set_same, row_of-set_other, filter_none}
 use Rattle.clk_model.proofs.PllLaws.{selected_possible}
 use Rattle.clk_model.proofs.WholePathLaws.{same_or_not, given_link, given_others}
-use Rattle.clk_machine.specs.Sound.{IsNarrow, IsSound}
-use Rattle.clk_machine.proofs.Fitting.{all_in, all_from_in, not_critical, no_critical}
-use Rattle.clk_machine.proofs.Soundness.{link_is_registered, settled_reached}
-use Rattle.clk_model.specs.Laws.RunsFed.{IsSettled}
-use Rattle.clk_model.specs.declared.row.HandleRow.{HandleRow}
+use Rattle.clk_machine.specs.Sound.{IsNarrow}
+use Rattle.clk_machine.proofs.Fitting.{all_in, all_from_in}
 use Rattle.clk_model.proofs.OnceLaws.{is_in-filter}
 use Rattle.std.proofs.Math.Bool.{or-false, or-true}
 
@@ -74,18 +69,6 @@ link_in-register_same s c within parents = given_link s c within ∙ link_given-
 pub link_in-register_other : (s : State) (c k : ℕ) → (c ≡ k → ⊥) → link_in (register s c).clocks k ≡ link_in s.clocks k
 unfolding register
 link_in-register_other s c k other = given_others s c k other
-
--- ---- who is active
-
--- no clock becomes active
-pub active-register : (words : ℕ) (s : State) (c : ℕ) → IsNarrow words s → IsSettled s → registered s.clocks c ≡ false → (x : ℕ) → active s x ≡ active (register s c) x
-unfolding register
-active-register words s c sound settled_ free x =
-    active_by_handles s x (no_critical s sound.runs) settled_.holds.enables
-    ∙ sym (held_by-set_unregistered s.clocks c _ is_enabled s.handles x (link_is_registered words s sound) free handled)
-    ∙ sym (active_by_handles (register s c) x (no_critical (register s c) sound.runs) settled_.holds.enables) where
-      handled : (n : ℕ) (h : HandleRow) → handle_at s.handles n ≡ Some h → registered s.clocks h.clock.0 ≡ true
-      handled n h at = both_left (registered s.clocks h.clock.0) _ (settled_.rooted_ n h at)
 
 -- ---- orphans
 
@@ -147,26 +130,3 @@ IsNarrow-register words s c sound within free parents = record {
   by_row_selects : (d : ℕ) → registered (register s c).clocks d ≡ true → (c ≡ d) ⊎ (c ≡ d → ⊥) → link_in (register s c).clocks d ≡ selected s.defs s.regs d
   by_row_selects d there (inl same) = subst (λ (k : ℕ). link_in (register s c).clocks k ≡ selected s.defs s.regs k) same (link_in-register_same s c inside parents)
   by_row_selects d there (inr other) = link_in-register_other s c d other ∙ sound.selects d (was_there d other there)
-
--- ---- all that is done
-
--- such a registration is all that is done: the clock isn't critical, no orphan can be adopted, and no clock becomes active
-pub record RegistersAlone (words : ℕ) (s : State) (c : ℕ) : Type 0 where
-  pub uncritical : is_critical s.defs c ≡ false
-  pub none : adoptable (register s c) ≡ []
-  pub same : (x : ℕ) → active s x ≡ active (register s c) x
-  pub rows : (k : ℕ) → registered (register s c).clocks k ≡ (registered s.clocks k || nat_eq c k)
-  pub narrow : IsNarrow words (register s c)
-
-pub registers_alone : (words : ℕ) (s : State) (c : ℕ) → IsSound words s → s.change ≡ None → c < length s.defs → registered s.clocks c ≡ false
-    → list_all (registered s.clocks) (parents_of s.defs c) ≡ true → RegistersAlone words s c
-registers_alone words s c sound quiet within free parents =
-    let narrow = sound.narrow in
-    let after = IsNarrow-register words s c narrow within free parents in
-    record {
-      uncritical = not_critical s.defs narrow.runs c within;
-      none = adoptable-sound words (register s c) after;
-      same = active-register words s c narrow (settled_reached words s sound.reached quiet) free;
-      rows = λ k. registered-register s c k (let rows = narrow.rows in omega arith);
-      narrow = after;
-    }

@@ -8,26 +8,26 @@ use Rattle.clk_base.specs.declared.event.Event.TheVariants as event
 use Rattle.clk_base.specs.declared.event.Turn.{Turn}
 use Rattle.clk_model.specs.declared.row.HandleRow.{HandleRow}
 use Rattle.clk_model.specs.State.{State, registered, handle_at}
-use Rattle.clk_model.specs.Tree.{rooted, path}
+use Rattle.clk_model.specs.Tree.{rooted, path, path_to_be}
 use Rattle.clk_model.specs.Holders.{active}
 use Rattle.clk_model.specs.Gates.{settled}
 use Rattle.clk_model.specs.Begin.{put_handle, own_handle, given, register, keeps_prepare, holds_something, has_notifier, most_notifiers}
 use Rattle.clk_model.specs.Machine.{paid, next}
 use Rattle.clk_model.proofs.Members.{both_left, not_either}
 use Rattle.clk_model.proofs.StateLaws.{settled-still, active-append}
-use Rattle.clk_model.proofs.EventLaws.{own_is_live, prepared_once_less, enable-unknown, enable-unprepared, enable-fine, disable-unknown, disable-warned, disable-fine, running-unknown, running-told, get-not_found, get-deferred, get-given, put-unknown, put-busy, put-fine, prepare-unknown, prepare-fine, unprepare-unknown, unprepare-warned, unprepare-fine, rate-unknown, rate-told, parent-unknown, parent-told, probe-twice, probe-fine}
+use Rattle.clk_model.proofs.EventLaws.{own_is_live, prepared_once_less, enable-unknown, enable-unprepared, enable-fine, disable-unknown, disable-warned, disable-fine, running-unknown, running-told, get-not_found, get-deferred, get-given, put-unknown, put-busy, put-fine, prepare-unknown, prepare-fine, unprepare-unknown, unprepare-warned, unprepare-fine, rate-unknown, rate-told, parent-unknown, parent-told, probe-twice}
 use Rattle.clk_model.specs.Notices.{notifiers_of}
 use Rattle.clk_model.specs.Round.{wiring, round_rate}
 use Rattle.clk_model.specs.Views.{view, lift}
 use Rattle.clk_machine.specs.Fit.{has_pll}
 use Rattle.clk_machine.specs.Holding.{notified, unnotified}
-use Rattle.clk_machine.proofs.CallEvents.{exclusive_get-unknown, exclusive_get-fine, exclusive_put-unknown, exclusive_put-warned, exclusive_put-fine, notifier_add-unknown, notifier_add-known, notifier_add-full, notifier_add-fine, notifier_remove-unknown, notifier_remove-lacking, notifier_remove-fine, round-unknown, round-told, round-none}
+use Rattle.clk_machine.proofs.CallEvents.{exclusive_get-unknown, exclusive_get-fine, exclusive_put-unknown, exclusive_put-warned, exclusive_put-fine, notifier_add-unknown, notifier_add-known, notifier_add-full, notifier_add-fine, notifier_remove-unknown, notifier_remove-lacking, notifier_remove-fine, round-unknown, round-told, round-none, probe-alone}
 use Rattle.clk_machine.specs.Sound.{IsNarrow, IsSound, CanTake}
-use Rattle.clk_machine.proofs.Fitting.{no_plls}
+use Rattle.clk_machine.proofs.Fitting.{no_plls, calm_path}
 use Rattle.clk_model.proofs.FlightLaws.{begin_is}
 use Rattle.clk_machine.proofs.Soundness.{frees-unpowered, reached_next}
-use Rattle.clk_machine.proofs.Attaching.{registers_alone}
-use Rattle.clk_machine.proofs.Kept.{IsNarrow-spent, IsNarrow-notified, IsNarrow-put, IsNarrow-given}
+use Rattle.clk_machine.proofs.Attaching.{IsNarrow-register, adoptable-sound}
+use Rattle.clk_machine.proofs.Kept.{IsNarrow-spent, IsNarrow-notified, IsNarrow-settled, IsNarrow-put, IsNarrow-given}
 use Rattle.std.proofs.lemmas.Bool.{not-true}
 
 -- ---- paid events
@@ -203,9 +203,9 @@ begin_sound words s t d (call.Probe c) x whole quiet sound can comes = by (regis
   by : (b : Bool) → registered s.clocks c.0 ≡ b → IsNarrow words t
   by true there = same_sound words s t d (event.Begin (call.Probe c)) _ x sound (probe-twice s d c quiet there) comes
   by false free =
-      let alone = registers_alone words s c.0 whole quiet can.0 free can.1 in
-      comes_to words s (register s c.0) t d (event.Begin (call.Probe c)) _ x (stills words s (register s c.0) alone.same alone.narrow)
-      (probe-fine s d c quiet free alone.none alone.uncritical) comes
+      let after = IsNarrow-register words s c.0 sound can.0 free can.1 in
+      comes_to words s (register s c.0) t d (event.Begin (call.Probe c)) _ x (IsNarrow-settled words s (register s c.0) after)
+      (probe-alone s d c quiet free (adoptable-sound words (register s c.0) after) (calm_path s c.0 (path_to_be s.defs s.regs s.clocks c.0) sound.runs can.0)) comes
 begin_sound words s t d (call.RoundRate h r) x whole quiet sound can comes = by (own_handle s d h.number) refl where
   given_rate : (row : HandleRow) (o : Option ℕ) → own_handle s d h.number ≡ Some row → round_rate (wiring s) (view (lift s h.number)) row.clock.0 r ≡ o → IsNarrow words t
   given_rate row None own none = same_sound words s t d (event.Begin (call.RoundRate h r)) _ x sound (round-none s d h r row quiet own none) comes

@@ -1,5 +1,6 @@
 -- What a description says whose clocks can all be run.
-use Rattle.std.proofs.Common.{◌≡◌, ℕ, zero, suc, ◌<◌, ◌&&◌, Bool, true, false, not, cond, List, [], ◌∷◌, None, refl, ap, sym, ◌∙◌, inl, inr, arith, length}
+use Rattle.std.proofs.Common.{◌≡◌, ℕ, zero, suc, ◌<◌, ◌&&◌, Bool, true, false, not, ◌||◌, cond, List, [], ◌∷◌, None, refl, ap, sym, ◌∙◌, inl, inr, arith, length}
+use Rattle.std.specs.Prelude.{is_none, slice_get}
 use Rattle.std.specs.List.{list_all}
 use Rattle.std.proofs.lemmas.List.{get_or_past}
 use Rattle.clk_base.specs.declared.clock.ClockDef.{ClockDef}
@@ -11,11 +12,10 @@ use Rattle.clk_base.specs.Flags.{is_critical}
 use Rattle.clk_model.specs.Lists.{is_in}
 use Rattle.clk_model.specs.Kinds.{is_pll}
 use Rattle.clk_model.specs.State.{State}
-use Rattle.clk_model.specs.Holders.{critical_clocks, prepared}
+use Rattle.clk_model.specs.Holders.{prepared}
 use Rattle.clk_model.specs.Script.{unprepared_plls}
 use Rattle.clk_model.proofs.Members.{both_left, both_right, not_either, is_in_head, is_in_tail, is_in_cases}
-use Rattle.clk_model.proofs.StateLaws.{critical_clocks-none}
-use Rattle.clk_machine.specs.Fit.{CanRun, has_pll}
+use Rattle.clk_machine.specs.Fit.{CanRun, has_earlier_parents, has_pll}
 
 -- ---- tests on all members of a list
 
@@ -35,15 +35,9 @@ all_from_in test (x ∷ xs) each =
 
 -- ---- clocks that can be run
 
-not_true : (a : Bool) → not a ≡ true → a ≡ false
-not_true true h = absurd cc
-not_true false h = refl
-
-pub not_critical : (defs : Description) → CanRun defs → (c : ℕ) → c < length defs → is_critical defs c ≡ false
-not_critical defs runs c within = not_true _ (both_right _ _ (runs c within))
-
-pub no_critical : (s : State) → CanRun s.defs → critical_clocks s ≡ []
-no_critical s runs = critical_clocks-none s (not_critical s.defs runs)
+-- one that is critical stands in a description without a PLL
+pub calm_critical : (defs : Description) → CanRun defs → (c : ℕ) → c < length defs → (not (is_critical defs c) || not (has_pll defs)) ≡ true
+calm_critical defs runs c within = both_right (has_earlier_parents defs c) _ (runs c within)
 
 -- ---- descriptions without a PLL
 
@@ -70,3 +64,11 @@ pub no_plls : (s : State) (cs : List ℕ) → has_pll s.defs ≡ false → unpre
 no_plls s [] none = refl
 no_plls s (c ∷ cs) none =
     ap (λ (t : Bool). cond (t && not (prepared s c)) (c ∷ unprepared_plls s cs) (unprepared_plls s cs)) (no_pll s.defs c none) ∙ no_plls s cs none
+
+-- so a clock that can be run has no PLL to be raised for it, or isn't critical
+pub calm_path : (s : State) (c : ℕ) (cs : List ℕ) → CanRun s.defs → c < length s.defs → (not (is_critical s.defs c) || is_none (slice_get (unprepared_plls s cs) 0)) ≡ true
+calm_path s c cs runs within = by (not (is_critical s.defs c)) (has_pll s.defs) refl (calm_critical s.defs runs c within) where
+  by : (plain pll : Bool) → has_pll s.defs ≡ pll → (plain || not pll) ≡ true → (plain || is_none (slice_get (unprepared_plls s cs) 0)) ≡ true
+  by true pll e calm = refl
+  by false false e calm = ap (λ (xs : List ℕ). is_none (slice_get xs 0)) (no_plls s cs e)
+  by false true e calm = absurd cc

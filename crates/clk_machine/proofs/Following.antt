@@ -33,7 +33,7 @@ use Rattle.clk_machine.proofs.Writing.{counts_stand, Written, with_written, writ
 -- ---- gates of some clocks among those of all
 
 -- where these clocks are those that became active, and none stopped, their gates open and no other moves
-opens_all : (defs : Description) (before after : ℕ → Bool) (cs : List ℕ) (regs : Registers) → AreWords regs → GatesLie defs (count_from 0 (length defs)) (length regs)
+pub opens_all : (defs : Description) (before after : ℕ → Bool) (cs : List ℕ) (regs : Registers) → AreWords regs → GatesLie defs (count_from 0 (length defs)) (length regs)
     → ((c : ℕ) → is_in c cs ≡ true → c < length defs) → ((c : ℕ) → is_in c cs ≡ (after c && not (before c))) → ((c : ℕ) → before c ≡ true → after c ≡ true)
     → gates_moved defs before after (count_from 0 (length defs)) regs ≡ gates_moved defs (λ _. false) (λ _. true) cs regs
 opens_all defs before after cs regs words lie within began grows =
@@ -78,7 +78,7 @@ closes_all defs before after cs regs words lie within stopped shrinks =
 
 -- ---- words that are told
 
-told_mapped : (f : List ℕ → List ℕ) (o : Option (List ℕ)) → is_some (option_map f o) ≡ is_some o
+pub told_mapped : (f : List ℕ → List ℕ) (o : Option (List ℕ)) → is_some (option_map f o) ≡ is_some o
 told_mapped f None = refl
 told_mapped f (Some ws) = refl
 
@@ -112,7 +112,7 @@ or_more false u e = absurd cc
 positive : (k : ℕ) → nat_lt 0 (k + 1) ≡ true
 positive k = grind (arith, nat_tests)
 
-lists_alike : (a b a' b' : Bool) → a ≡ a' → b ≡ b' → (a && not b) ≡ (a' && not b')
+pub lists_alike : (a b a' b' : Bool) → a ≡ a' → b ≡ b' → (a && not b) ≡ (a' && not b')
 lists_alike a b a' b' e f = ap (λ (t : Bool). t && not b) e ∙ ap (λ (t : Bool). a' && not t) f
 
 module _ (old : Parts) (n levels : ℕ) (row new : HandleRow) (window' : Shown) (table' : HandleTable) (counts' : CountState)

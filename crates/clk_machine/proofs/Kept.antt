@@ -48,6 +48,22 @@ IsNarrow-notified words s notifiers sound = record {
   unpowered = sound.unpowered;
 }
 
+-- ---- gates
+
+-- gates have no part in it
+pub IsNarrow-settled : (words : ℕ) (old new : State) → IsNarrow words new → IsNarrow words (settled old new)
+unfolding settled
+IsNarrow-settled words old new sound = record {
+  valid = sound.valid;
+  runs = sound.runs;
+  rows = sound.rows;
+  attached = sound.attached;
+  unlinked = sound.unlinked;
+  parents = sound.parents;
+  selects = λ c there. sound.selects c there ∙ sym (selected-moved words new.defs (active old) (active new) (count_from 0 (length new.defs)) new.regs c sound.valid);
+  unpowered = sound.unpowered;
+}
+
 -- ---- handles
 
 -- what such a state asks of a handle
@@ -57,24 +73,24 @@ MayHold s h = 0 < h.prepares → has_pll s.defs ≡ false
 -- a handle that changes or is put back, with the gates that follow
 pub IsNarrow-put : (words : ℕ) (s : State) (n : ℕ) (o : Option HandleRow) → IsNarrow words s → ((h : HandleRow) → o ≡ Some h → MayHold s h)
     → IsNarrow words (settled s (put_handle s n o))
-unfolding settled
-IsNarrow-put words s n o sound may = record {
-  valid = sound.valid;
-  runs = sound.runs;
-  rows = sound.rows;
-  attached = sound.attached;
-  unlinked = sound.unlinked;
-  parents = sound.parents;
-  selects = λ c there. sound.selects c there ∙ sym (selected-moved words s.defs (active s) (active (put_handle s n o)) (count_from 0 (length s.defs)) s.regs c sound.valid);
-  unpowered = λ k h at. may_hold k h at;
-} where
-  may_hold : (k : ℕ) (h : HandleRow) → handle_at (set s.handles n o) k ≡ Some h → MayHold s h
-  may_hold k h at = elim (handle_at-put s.handles n o k h at) [
-    | inl new ↦ may h new
-    | inr was ↦ sound.unpowered k h was
-  ]
+IsNarrow-put words s n o sound may =
+    IsNarrow-settled words s (put_handle s n o) (record {
+      valid = sound.valid;
+      runs = sound.runs;
+      rows = sound.rows;
+      attached = sound.attached;
+      unlinked = sound.unlinked;
+      parents = sound.parents;
+      selects = sound.selects;
+      unpowered = λ k h at. may_hold k h at;
+    }) where
+      may_hold : (k : ℕ) (h : HandleRow) → handle_at (set s.handles n o) k ≡ Some h → MayHold s h
+      may_hold k h at = elim (handle_at-put s.handles n o k h at) [
+        | inl new ↦ may h new
+        | inr was ↦ sound.unpowered k h was
+      ]
 
--- a new handle of a registered clock
+-- a new handle
 pub IsNarrow-given : (words : ℕ) (s : State) (d c : ℕ) → IsNarrow words s → IsNarrow words (given s d c).0
 IsNarrow-given words s d c sound =
     let y : State = (given s d c).0 in

@@ -6,6 +6,7 @@ pub mod Shapes
 pub mod Soundness
 pub mod Kept
 pub mod Attaching
+pub mod Attached
 pub mod CallEvents
 pub mod Events
 pub mod Moving
@@ -18,6 +19,7 @@ pub mod Following
 pub mod Entered
 pub mod Opened
 pub mod Registering
+pub mod Critical
 pub mod Notifying
 pub mod Entering
 pub mod Rows

@@ -1,5 +1,5 @@
 -- Registering a clock whose possible parents are registered.
-use Rattle.std.proofs.Common.{◌≡◌, ◌≢◌, ℕ, zero, suc, ◌+◌, ◌<◌, ◌≤◌, ◌||◌, ◌&&◌, Bool, true, false, cond, List, [], ◌∷◌, Option, Some, None, refl, sym, ap, subst, ◌∙◌, inl, inr, arith, length, take, nat_eq}
+use Rattle.std.proofs.Common.{◌≡◌, ◌≢◌, ℕ, zero, suc, ◌+◌, ◌<◌, ◌≤◌, ◌||◌, ◌&&◌, Bool, true, false, cond, List, [], ◌∷◌, Option, Some, None, refl, sym, ap, subst, ◌∙◌, inl, inr, arith, length, set, take, nat_eq}
 use Rattle.std.specs.Prelude.{IfSome, slice_get, slice_index, count_by}
 use Rattle.std.specs.List.{list_all}
 use Rattle.std.specs.Option.{option_map}
@@ -9,7 +9,7 @@ use Rattle.clk_base.specs.declared.clock.ClockDef.{ClockDef}
 use Rattle.clk_base.specs.declared.clock.ClockId.{ClockId}
 use Rattle.clk_base.specs.declared.clock.Kind.{Kind}
 use Rattle.clk_base.specs.declared.clock.Kind.TheVariants.{FixedRate, Factor, Gate, Mux, Divider, Pll}
-use Rattle.clk_base.specs.Flags.{has_flag, is_critical}
+use Rattle.clk_base.specs.Flags.{is_critical}
 use Rattle.clk_base.specs.Description.{Description, nobody, kind_of, parents_of}
 use Rattle.clk_base.specs.Fields.{Field, fields_of}
 use Rattle.clk_base.specs.Valid.{IsValid}
@@ -34,13 +34,16 @@ use Rattle.clk_tree.specs.Refreshed.{is_below, IsFresh}
 use Rattle.clk_tree.proofs.Fitting.{attached-registered}
 use Rattle.clk_tree.proofs.Freshness.{fresh_attached}
 use Rattle.clk_tree.proofs.Rows.{registered-set, registered-requested, link-requested}
-use Rattle.clk_machine.specs.Fit.{CanRun}
-use Rattle.clk_machine.specs.Parts.{Parts, bare, AreKept, ArePaid, IsWhole}
-use Rattle.clk_machine.specs.Sound.{IsSound}
+use Rattle.clk_machine.specs.Parts.{Parts, bare, AreKept, AreTied, ArePaid, IsWhole}
+use Rattle.clk_machine.specs.Window.{Shown}
 use Rattle.clk_machine.specs.Stands.{Stands, Becomes}
-use Rattle.clk_machine.proofs.Fitting.{all_in, not_critical}
-use Rattle.clk_machine.proofs.Attaching.{link_given-selected, RegistersAlone, registers_alone}
-use Rattle.clk_machine.proofs.Holdings.{sum_on}
+use Rattle.clk_machine.proofs.Fitting.{all_in}
+use Rattle.clk_machine.proofs.Attaching.{link_given-selected}
+use Rattle.clk_machine.proofs.Attached.{critical_more, active_beside, IsAttached, stands_attached}
+use Rattle.clk_machine.proofs.Writing.{counts_stand}
+use Rattle.counts_core.proofs.Standing.{tells_holds}
+use Rattle.counts_core.specs.Counted.{is_active}
+use Rattle.clk_model.specs.Holders.{active}
 use Rattle.clk_machine.proofs.WindowLaws.{field-take}
 
 -- ---- the parent
@@ -155,48 +158,6 @@ row_within clocks new c n parent is rows within =
     let same : length new ≡ length (attached clocks c parent) = ap (λ (rs : List ClockRow). length rs) is in
     omega arith
 
--- ---- the counts after it
-
--- no clock is critical
-uncritical : (defs : Description) → CanRun defs → (c : ℕ) → is_critical defs c ≡ false
-uncritical defs runs c = elim (cases_lt c (length defs)) [
-  | inl within ↦ not_critical defs runs c within
-  | inr past ↦ ap (λ (def : ClockDef). has_flag def.flags 32) (get_or_past defs c nobody (omega arith))
-]
-
--- one for yes
-abbrev one_for : Bool → ℕ
-one_for t = cond t 1 0
-
--- where no clock is critical, counts that get the links of a registration stand for what it leaves
-stands_registered : (k k' : CountState) (s t : State) → StandsFor k s → k' ≡ record k { links = k'.links } → HasLinks t.clocks k'.links
-    → t.defs ≡ s.defs → t.handles ≡ s.handles → t.prepare_holds ≡ s.prepare_holds → t.enable_holds ≡ s.enable_holds → CanRun s.defs
-    → StandsFor k' t
-stands_registered k k' s t stands is links defs handles prepare_holds enable_holds runs = record {
-  defs = ap (λ (x : CountState). x.defs) is ∙ stands.defs ∙ sym defs;
-  links = links;
-  enables = λ c.
-      ap (λ (x : CountState). slice_index x.enables c) is ∙ stands.enables c
-      ∙ own_same (λ h. h.enables) s.enable_holds t.enable_holds (sym enable_holds) c;
-  prepares = λ c.
-      ap (λ (x : CountState). slice_index x.prepares c) is ∙ stands.prepares c
-      ∙ own_same (λ h. h.prepares) s.prepare_holds t.prepare_holds (sym prepare_holds) c;
-  exclusives = λ c.
-      ap (λ (x : CountState). slice_index x.exclusives c) is ∙ stands.exclusives c
-      ∙ ap (λ (hs : List (Option HandleRow)). sum_on (λ h. h.exclusives) hs c) (sym handles);
-} where
-  own_same : (count : HandleRow → ℕ) (holds holds' : List ℕ) → holds ≡ holds' → (c : ℕ)
-      → sum_on count s.handles c + one_for (is_critical s.defs c && registered s.clocks c) + count_by (λ h. nat_eq h c) holds
-      ≡ sum_on count t.handles c + one_for (is_critical t.defs c && registered t.clocks c) + count_by (λ h. nat_eq h c) holds'
-  own_same count holds holds' same c =
-      let plain : is_critical s.defs c ≡ false = uncritical s.defs runs c in
-      let before : one_for (is_critical s.defs c && registered s.clocks c) ≡ 0 = ap (λ (b : Bool). one_for (b && registered s.clocks c)) plain in
-      let after : one_for (is_critical t.defs c && registered t.clocks c) ≡ 0 =
-      ap (λ (d : Description). one_for (is_critical d c && registered t.clocks c)) defs ∙ ap (λ (b : Bool). one_for (b && registered t.clocks c)) plain in
-      let sums = ap (λ (hs : List (Option HandleRow)). sum_on count hs c) handles in
-      let held = ap (λ (hs : List ℕ). count_by (λ h. nat_eq h c) hs) same in
-      omega arith
-
 -- ---- the parts after it
 
 -- a clock of a tree was registered, and nothing else changed but what follows
@@ -210,13 +171,14 @@ pub record Registered (old : Parts) (c : ℕ) (tree' : TreeState) (counts' : Cou
   pub defs : tree'.defs ≡ old.tree.defs
   pub kept : AreKept old.desc.defs old.window.words tree'.clocks tree'.rates
   pub stands : IsTree tree'.defs tree'.clocks tree'.order tree'.rates
-  pub counts : counts' ≡ record old.counts { links = counts'.links }
+  pub link : Option ClockId
+  pub counts : counts' ≡ record old.counts { links = set old.counts.links c link }
   pub links : HasLinks tree'.clocks counts'.links
   pub keeps : AreCounts counts'
 
--- the parts with this tree and these counts, and a credit spent
-abbrev pub with_registered : Parts → TreeState → CountState → Parts
-with_registered old tree' counts' = record old { tree = tree'; counts = counts'; spent = old.spent + 1 }
+-- the parts with these words, this tree and these counts, and a credit spent
+abbrev pub with_registered : Parts → Shown → TreeState → CountState → Parts
+with_registered old window' tree' counts' = record old { window = window'; tree = tree'; counts = counts'; spent = old.spent + 1 }
 
 -- a credit more is spent
 pub paid_more : (handles : List (Option HandleRow)) (credits spent : ℕ) → ArePaid handles credits spent → spent < credits → ArePaid handles credits (spent + 1)
@@ -227,69 +189,128 @@ paid_more handles credits spent paid left = record {
   few_holds = let few = paid.few_holds in omega arith;
 }
 
-pub whole_registered : (old : Parts) (c : ℕ) (tree' : TreeState) (counts' : CountState) → IsWhole old → Registered old c tree' counts' → old.spent < old.credits
-    → IsWhole (with_registered old tree' counts')
-whole_registered old c tree' counts' whole now left = record {
-  tied = record {
-    valid = whole.tied.valid;
-    runs = whole.tied.runs;
-    words = whole.tied.words;
-    told = whole.tied.told;
-    defs = now.defs ∙ whole.tied.defs;
-    stands = now.stands;
-    kept = now.kept;
-  };
+-- the tree goes on with the words
+pub tied_registered : (old : Parts) (c : ℕ) (tree' : TreeState) (counts' : CountState) → IsWhole old → Registered old c tree' counts' → AreTied old.desc old.window tree'
+tied_registered old c tree' counts' whole now = record {
+  valid = whole.tied.valid;
+  runs = whole.tied.runs;
+  words = whole.tied.words;
+  told = whole.tied.told;
+  defs = now.defs ∙ whole.tied.defs;
+  stands = now.stands;
+  kept = now.kept;
+}
+
+-- the parts behind it, with these words, this tree and counts that stand for the tree, stay whole
+pub whole_attached : (old : Parts) (c : ℕ) (window' : Shown) (tree' : TreeState) (counts' held : CountState) → IsWhole old → Registered old c tree' counts' → old.spent < old.credits
+    → AreTied old.desc window' tree' → AreCounts held → StandsFor held (bare (with_registered old window' tree' held)) → IsWhole (with_registered old window' tree' held)
+whole_attached old c window' tree' counts' held whole now left tied keeps stands = record {
+  tied = tied;
   paid = paid_more old.table.handles old.credits old.spent whole.paid left;
-  counted = record {
-    keeps = now.keeps;
-    stands =
-        stands_registered old.counts counts' (bare old) (bare (with_registered old tree' counts')) whole.counted.stands now.counts now.links refl refl refl refl whole.tied.runs;
-  };
+  counted = record { keeps = keeps; stands = stands };
   clocks = whole.clocks;
   handled = λ n h at. now.rows h.clock.0 ∙ ap (λ (b : Bool). b || nat_eq c h.clock.0) (whole.handled n h at);
   notified = whole.notified;
 }
 
--- a registration whose possible parents are registered is all that is done to the state
-pub alone_stands : (m : Parts) (s : State) (c : ℕ) → Stands m s → IsSound m.window.size s → c < length m.desc.defs → registered m.tree.clocks c ≡ false
-    → list_all (registered m.tree.clocks) (parents_of m.desc.defs c) ≡ true → RegistersAlone m.window.size s c
-alone_stands m s c stands sound place free parents =
-    registers_alone m.window.size s c sound stands.change
-    (subst (λ (d : Description). c < length d) (sym stands.defs) place)
-    (ap (λ (rs : List ClockRow). registered rs c) stands.clocks ∙ free)
-    (ap (λ (rs : List ClockRow). list_all (registered rs) (parents_of s.defs c)) stands.clocks
-    ∙ ap (λ (d : Description). list_all (registered m.tree.clocks) (parents_of d c)) stands.defs ∙ parents)
+-- ---- a clock that isn't critical
+
+none_more : (defs : Description) (c : ℕ) (xs ys : List ℕ) → is_critical defs c ≡ false → ys ≡ xs → (d : ℕ) → slice_index ys d ≡ slice_index xs d + critical_more defs c d
+none_more defs c xs ys plain same d =
+    let first = ap (λ (zs : List ℕ). slice_index zs d) same in
+    let none : critical_more defs c d ≡ 0 = ap (λ (t : Bool). cond (t && nat_eq c d) 1 0) plain in
+    omega arith
+
+-- its counts stand for what it leaves
+plain_stands : (old : Parts) (c : ℕ) (tree' : TreeState) (counts' : CountState) (s t : State) → Registered old c tree' counts' → is_critical s.defs c ≡ false
+    → StandsFor old.counts s → IsAttached s t c → t.clocks ≡ tree'.clocks → StandsFor counts' t
+plain_stands old c tree' counts' s t now plain stands is rows =
+    stands_attached old.counts counts' s t c stands is (subst (λ (rs : List ClockRow). HasLinks rs counts'.links) (sym rows) now.links) (ap (λ (k : CountState). k.defs) now.counts)
+    (none_more s.defs c old.counts.enables counts'.enables plain (ap (λ (k : CountState). k.enables) now.counts))
+    (none_more s.defs c old.counts.prepares counts'.prepares plain (ap (λ (k : CountState). k.prepares) now.counts))
+    (ap (λ (k : CountState). k.exclusives) now.counts)
+
+-- the parts without their words and notifiers, with the clock attached
+pub bare_attached : (old : Parts) (c : ℕ) (window' : Shown) (tree' : TreeState) (counts' held : CountState) → Registered old c tree' counts'
+    → IsAttached (bare old) (bare (with_registered old window' tree' held)) c
+bare_attached old c window' tree' counts' held now = record { free = now.free; rows = now.rows; defs = refl; handles = refl; prepare_holds = refl; enable_holds = refl }
+
+pub whole_registered : (old : Parts) (c : ℕ) (tree' : TreeState) (counts' : CountState) → IsWhole old → Registered old c tree' counts' → is_critical old.desc.defs c ≡ false
+    → old.spent < old.credits → IsWhole (with_registered old old.window tree' counts')
+whole_registered old c tree' counts' whole now plain left =
+    whole_attached old c old.window tree' counts' counts' whole now left (tied_registered old c tree' counts' whole now) now.keeps
+    (plain_stands old c tree' counts' (bare old) (bare (with_registered old old.window tree' counts')) now plain whole.counted.stands (bare_attached old c old.window tree' counts' counts' now) refl)
+
+-- ---- the state after it
+
+-- the state's rows are those of the tree
+pub rows_stand : (old : Parts) (c : ℕ) (tree' : TreeState) (counts' : CountState) (s : State) → Registered old c tree' counts' → Stands old s → (register s c).clocks ≡ tree'.clocks
+unfolding register
+rows_stand old c tree' counts' s now stands =
+    let rows : tree'.clocks ≡ registered_rows old.desc.defs s.regs old.tree.clocks c =
+    subst (λ (o : Option (List ℕ)). IfSome o (λ regs. tree'.clocks ≡ registered_rows old.desc.defs regs old.tree.clocks c)) stands.regs now.clocks in
+    ap (λ (d : Description). registered_rows d s.regs s.clocks c) stands.defs
+    ∙ ap (λ (rs : List ClockRow). registered_rows old.desc.defs s.regs rs c) stands.clocks ∙ sym rows
+
+pub register_rest : (s : State) (c : ℕ) → ((register s c).defs ≡ s.defs) × ((register s c).handles ≡ s.handles) × ((register s c).prepare_holds ≡ s.prepare_holds) × ((register s c).enable_holds ≡ s.enable_holds)
+unfolding register
+register_rest s c = (refl, refl, refl, refl)
+
+pub state_attached : (old : Parts) (c : ℕ) (tree' : TreeState) (counts' : CountState) (s : State) → Registered old c tree' counts' → Stands old s → IsAttached s (register s c) c
+state_attached old c tree' counts' s now stands =
+    let rest = register_rest s c in
+    record {
+      free = ap (λ (rs : List ClockRow). registered rs c) stands.clocks ∙ now.free;
+      rows = λ d. ap (λ (rs : List ClockRow). registered rs d) (rows_stand old c tree' counts' s now stands) ∙ now.rows d
+          ∙ ap (λ (rs : List ClockRow). registered rs d || nat_eq c d) (sym stands.clocks);
+      defs = rest.0;
+      handles = rest.1;
+      prepare_holds = rest.2;
+      enable_holds = rest.3;
+    }
+
+-- the parts with these words, this tree and these counts stand for it, with a credit spent
+pub registered_stands : (old : Parts) (c : ℕ) (window' : Shown) (tree' : TreeState) (counts' held : CountState) (s : State) (regs' : List ℕ) → Registered old c tree' counts' → Stands old s
+    → window'.words ≡ Some regs' → Stands (with_registered old window' tree' held) (record (register s c) { regs = regs'; spent = s.spent + 1 })
+unfolding register
+registered_stands old c window' tree' counts' held s regs' now stands words = record {
+  defs = stands.defs;
+  regs = words;
+  clocks = rows_stand old c tree' counts' s now stands;
+  order = ap (to_front c) stands.order ∙ sym now.order;
+  handles = stands.handles;
+  notifiers = stands.notifiers;
+  prepare_holds = stands.prepare_holds;
+  enable_holds = stands.enable_holds;
+  change = stands.change;
+  credits = stands.credits;
+  spent = ap (λ (k : ℕ). k + 1) stands.spent;
+  steps = stands.steps;
+  ignore_unused = stands.ignore_unused;
+}
+
+-- who is active in the counts with the link, and in the state before
+pub active_linked : (old : Parts) (c : ℕ) (tree' : TreeState) (counts' : CountState) (s : State) (d : ℕ) → IsWhole old → Registered old c tree' counts' → Stands old s
+    → is_active counts' d ≡ active s d
+active_linked old c tree' counts' s d whole now stands =
+    ap (λ (k : CountState). is_active k d) now.counts ∙ active_beside old c now.link d whole now.free
+    ∙ (tells_holds old.counts s whole.counted.keeps (counts_stand old s whole stands) d).active
 
 -- that is what is done to the state
-pub becomes_registered : (old : Parts) (c : ℕ) (tree' : TreeState) (counts' : CountState) → Registered old c tree' counts'
-    → Becomes old (λ k. nat_eq c k) (λ s. register s c) (with_registered old tree' counts')
+pub becomes_registered : (old : Parts) (c : ℕ) (tree' : TreeState) (counts' : CountState) → IsWhole old → Registered old c tree' counts' → is_critical old.desc.defs c ≡ false
+    → Becomes old (λ k. nat_eq c k) (λ s. register s c) (with_registered old old.window tree' counts')
 unfolding register
-becomes_registered old c tree' counts' now = record {
+becomes_registered old c tree' counts' whole now plain = record {
   remains = record { desc = refl; told = refl; size = refl; behind = refl; credits = refl; ignore_unused = refl };
   spent = refl;
   rows = now.rows;
   stands = λ s stands sound.
-      let alone = alone_stands old s c stands sound now.place now.free now.parents in
-      let rows : tree'.clocks ≡ registered_rows old.desc.defs s.regs old.tree.clocks c =
-      subst (λ (o : Option (List ℕ)). IfSome o (λ regs. tree'.clocks ≡ registered_rows old.desc.defs regs old.tree.clocks c)) stands.regs now.clocks in
-      subst (λ (t : State). Stands (with_registered old tree' counts') (record t { spent = s.spent + 1 }))
-      (sym (settled-still s (register s c) alone.same)) (record {
-        defs = stands.defs;
-        regs = stands.regs;
-        clocks =
-            ap (λ (d : Description). registered_rows d s.regs s.clocks c) stands.defs
-            ∙ ap (λ (rs : List ClockRow). registered_rows old.desc.defs s.regs rs c) stands.clocks ∙ sym rows;
-        order = ap (to_front c) stands.order ∙ sym now.order;
-        handles = stands.handles;
-        notifiers = stands.notifiers;
-        prepare_holds = stands.prepare_holds;
-        enable_holds = stands.enable_holds;
-        change = stands.change;
-        credits = stands.credits;
-        spent = ap (λ (k : ℕ). k + 1) stands.spent;
-        steps = stands.steps;
-        ignore_unused = stands.ignore_unused;
-      });
+      let plain_s : is_critical s.defs c ≡ false = ap (λ (ds : Description). is_critical ds c) stands.defs ∙ plain in
+      let after = plain_stands old c tree' counts' s (register s c) now plain_s (counts_stand old s whole stands) (state_attached old c tree' counts' s now stands)
+          (rows_stand old c tree' counts' s now stands) in
+      subst (λ (t : State). Stands (with_registered old old.window tree' counts') (record t { spent = s.spent + 1 }))
+      (sym (settled-still s (register s c) (λ d. sym (active_linked old c tree' counts' s d whole now stands) ∙ (tells_holds counts' (register s c) now.keeps after d).active)))
+      (registered_stands old c old.window tree' counts' counts' s s.regs now stands stands.regs);
 }
 
 -- ---- the counts get the link

@@ -1,5 +1,5 @@
 -- The clocks that a core can run so far.
-use Rattle.std.specs.Prelude.{ℕ, Bool, not, ◌&&◌, nat_lt}
+use Rattle.std.specs.Prelude.{ℕ, Bool, not, ◌&&◌, ◌||◌, nat_lt}
 use Rattle.std.specs.List.{list_all, list_any}
 use Rattle.clk_base.specs.Description.{Description, parents_of, EachClock}
 use Rattle.clk_base.specs.Flags.{is_critical}
@@ -9,13 +9,14 @@ use Rattle.clk_model.specs.Kinds.{is_pll}
 abbrev pub has_earlier_parents : Description → ℕ → Bool
 has_earlier_parents defs c = list_all (λ p. nat_lt p c) (parents_of defs c)
 
--- a clock that this core can run: its possible parents are earlier clocks, and it isn't critical
-abbrev pub can_run : Description → ℕ → Bool
-can_run defs c = has_earlier_parents defs c && not (is_critical defs c)
-
-abbrev pub CanRun : Description → Type 0
-CanRun defs = EachClock defs (can_run defs)
-
 -- whether a clock of the description is a PLL
 abbrev pub has_pll : Description → Bool
 has_pll defs = list_any (λ d. is_pll d.kind) defs
+
+-- a clock that this core can run: its possible parents are earlier clocks, and it isn't critical where there is a PLL, which might
+-- have to be raised for it
+abbrev pub can_run : Description → ℕ → Bool
+can_run defs c = has_earlier_parents defs c && (not (is_critical defs c) || not (has_pll defs))
+
+abbrev pub CanRun : Description → Type 0
+CanRun defs = EachClock defs (can_run defs)

@@ -4,6 +4,7 @@ ghost use Rattle.std.specs.Prelude.{◌≡◌, ◌<◌, length, nat_lt};
 ghost use Rattle.std.specs.List.{list_all};
 ghost use Rattle.clk_base.specs.Description.{FindsFirst, kind_of};
 ghost use Rattle.clk_base.specs.Places.{places};
+ghost use Rattle.clk_base.specs.Flags.{is_critical};
 ghost use Rattle.clk_model.specs.Kinds.{is_pll};
 ghost use Rattle.clk_machine.specs.Fit.{can_run, has_pll};
 
@@ -11,7 +12,7 @@ use bitflags::Flags;
 use clk_base::{ClkFlags, ClockId, Kind, ValidDesc};
 
 /// The first clock that a core can't run, if there is one: it runs clocks over earlier clocks that
-/// aren't critical.
+/// aren't critical, or are so where no clock is a PLL.
 pub fn first_unfit(desc: &ValidDesc) -> Option<ClockId>
     ensures { FindsFirst desc.now.defs (can_run desc.now.defs) result }
 {
@@ -30,7 +31,15 @@ pub fn is_fit(desc: &ValidDesc, clock: ClockId) -> bool
     ensures { result ≡ can_run desc.now.defs clock.0 }
 {
     let def = desc.def(clock);
-    are_before(def.parents.as_slice(), clock) && !Flags::contains(&def.flags, ClkFlags::CRITICAL)
+    are_before(def.parents.as_slice(), clock) && (!is_critical(desc, clock) || !has_pll(desc))
+}
+
+/// Whether a clock is prepared and enabled from its registration on.
+pub(crate) fn is_critical(desc: &ValidDesc, clock: ClockId) -> bool
+    requires { clock.0 < length desc.now.defs }
+    ensures { result ≡ is_critical desc.now.defs clock.0 }
+{
+    Flags::contains(&desc.def(clock).flags, ClkFlags::CRITICAL)
 }
 
 // Whether all of these clocks stand before the clock.

@@ -3,14 +3,18 @@
 ghost use Rattle.std.specs.Prelude.{◌≡◌, ◌<◌, ◌==◌, true, false, length};
 ghost use Rattle.std.specs.List.{list_all};
 ghost use Rattle.clk_base.specs.Description.{parents_of};
+ghost use Rattle.clk_base.specs.Flags.{is_critical};
 ghost use Rattle.clk_base.specs.declared.event.Event.TheVariants.{Begin};
 ghost use Rattle.clk_base.specs.declared.event.Turn.TheVariants.{Done};
 ghost use Rattle.clk_base.specs.declared.call.Sleeping.TheVariants.{Probe};
 ghost use Rattle.clk_model.specs.State.{registered};
 ghost use Rattle.clk_model.specs.Begin.{register};
+ghost use Rattle.clk_machine.specs.Parts.{IsWhole};
 ghost use Rattle.clk_machine.specs.Stands.{Becomes, Enters};
 
 use super::Machine;
+use crate::fit::is_critical;
+use crate::gates::open_path;
 use crate::register::{are_registered, register_clock};
 use clk_base::{ClockId, Errno, Reply};
 use reg_bank::Bank;
@@ -31,17 +35,45 @@ impl<B: Bank> Machine<B> {
         are_registered(&self.tree, self.desc.def(clock).parents.as_slice())
     }
 
-    // Registers a clock whose possible parents are registered, and spends a credit.
+    // Registers a clock whose possible parents are registered and that isn't critical, and spends a
+    // credit.
     fn register(&mut self, clock: ClockId)
         requires credit { self.old.spent < self.old.credits }
         requires place { clock.0 < length self.old.desc.defs }
         requires free { registered self.old.tree.clocks clock.0 ≡ false }
         requires parents { list_all (registered self.old.tree.clocks) (parents_of self.old.desc.defs clock.0) ≡ true }
+        requires plain { is_critical self.old.desc.defs clock.0 ≡ false }
         ensures { Becomes self.old (λ k. clock.0 == k) (λ s. register s clock.0) self.new }
     {
         register_clock(&self.desc, &self.window, &mut self.tree, clock);
         self.counts.moved(&self.tree, clock, None);
         self.spent += 1;
+    }
+
+    // The same of a critical clock: it is prepared and enabled from now on.
+    fn register_critical(&mut self, clock: ClockId)
+        requires credit { self.old.spent < self.old.credits }
+        requires place { clock.0 < length self.old.desc.defs }
+        requires free { registered self.old.tree.clocks clock.0 ≡ false }
+        requires parents { list_all (registered self.old.tree.clocks) (parents_of self.old.desc.defs clock.0) ≡ true }
+        requires critical { is_critical self.old.desc.defs clock.0 ≡ true }
+        ensures { Becomes self.old (λ k. clock.0 == k) (λ s. register s clock.0) self.new }
+    {
+        register_clock(&self.desc, &self.window, &mut self.tree, clock);
+        self.counts.moved(&self.tree, clock, None);
+        self.counts.hold(&self.tree, clock);
+        let begun = self.counts.enable_walk(&self.tree, clock);
+        open_path(begun, &self.desc, &self.tree, &mut self.window, clock);
+        self.spent += 1;
+    }
+
+    // Whether a clock is critical.
+    fn is_critical(&self, clock: ClockId) -> bool
+        requires { clock.0 < length self.now.desc.defs }
+        ensures critical { result ≡ is_critical self.now.desc.defs clock.0 }
+        ensures whole { IsWhole self.now }
+    {
+        is_critical(&self.desc, clock)
     }
 
     /// Registers a clock whose possible parents are registered, unless it is registered already.
@@ -54,6 +86,10 @@ impl<B: Bank> Machine<B> {
         if self.is_registered(clock) {
             self.spend();
             return Reply::Refused(Errno::EEXIST);
+        }
+        if self.is_critical(clock) {
+            self.register_critical(clock);
+            return Reply::Fine;
         }
         self.register(clock);
         Reply::Fine

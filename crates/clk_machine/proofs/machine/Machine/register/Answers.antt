@@ -1,8 +1,8 @@
 use Rattle.std.proofs.Common.{◌≡◌, ◌<◌, ◌∙◌, ap, sym, true, false, length}
 use Rattle.std.specs.List.{list_all}
 use Rattle.clk_base.specs.Description.{parents_of}
-use Rattle.clk_model.specs.State.{registered}
-use Rattle.counts_core.specs.Counted.{CountState}
+use Rattle.clk_base.specs.Flags.{is_critical}
+use Rattle.clk_model.specs.State.{registered, row_of}
 use Rattle.clk_machine.specs.Parts.{Parts, parts_of}
 use Rattle.clk_machine.proofs.Rows.{counted_place}
 use Rattle.clk_machine.proofs.Registering.{Registered, whole_registered, becomes_registered, no_link, other_links}
@@ -49,11 +49,13 @@ invariant_of-self g c =
       defs = c.register_clock.ensures.defs;
       kept = c.register_clock.ensures.kept;
       stands = c.register_clock.ensures.stands;
-      counts = c.moved.ensures.moved ∙ ap (λ (k : CountState). let kept : CountState = record m.counts { links = k.links } in kept) (sym c.moved.ensures.moved);
+      link = (row_of c.register_clock.new.tree.clocks c.args.clock.0).link;
+      counts = c.moved.ensures.moved;
       links = c.moved.ensures.links;
       keeps = c.moved.ensures.stands;
     } in
-    whole_registered p c.args.clock.0 c.register_clock.new.tree c.moved.new.self c.self.invariant now left
+    let plain : is_critical m.desc.defs c.args.clock.0 ≡ false = rw (← c.self.view_is) at c.requires.plain in
+    whole_registered p c.args.clock.0 c.register_clock.new.tree c.moved.new.self c.self.invariant now plain left
 
 pub returns : goal.returns
 returns g c =
@@ -72,8 +74,10 @@ returns g c =
       defs = c.register_clock.ensures.defs;
       kept = c.register_clock.ensures.kept;
       stands = c.register_clock.ensures.stands;
-      counts = c.moved.ensures.moved ∙ ap (λ (k : CountState). let kept : CountState = record m.counts { links = k.links } in kept) (sym c.moved.ensures.moved);
+      link = (row_of c.register_clock.new.tree.clocks c.args.clock.0).link;
+      counts = c.moved.ensures.moved;
       links = c.moved.ensures.links;
       keeps = c.moved.ensures.stands;
     } in
-    rw (← c.self.view_is) (becomes_registered p c.args.clock.0 c.register_clock.new.tree c.moved.new.self now)
+    let plain : is_critical m.desc.defs c.args.clock.0 ≡ false = rw (← c.self.view_is) at c.requires.plain in
+    rw (← c.self.view_is) (becomes_registered p c.args.clock.0 c.register_clock.new.tree c.moved.new.self c.self.invariant now plain)
