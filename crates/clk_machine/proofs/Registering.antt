@@ -40,6 +40,7 @@ use Rattle.clk_machine.specs.Sound.{IsSound}
 use Rattle.clk_machine.specs.Stands.{Stands, Becomes}
 use Rattle.clk_machine.proofs.Fitting.{all_in, not_critical}
 use Rattle.clk_machine.proofs.Attaching.{link_given-selected, RegistersAlone, registers_alone}
+use Rattle.clk_machine.proofs.Flying.{never_flown, quiet_stands}
 use Rattle.clk_machine.proofs.Holdings.{sum_on}
 use Rattle.clk_machine.proofs.WindowLaws.{field-take}
 
@@ -227,9 +228,9 @@ paid_more handles credits spent paid left = record {
   few_holds = let few = paid.few_holds in omega arith;
 }
 
-pub whole_registered : (old : Parts) (c : ℕ) (tree' : TreeState) (counts' : CountState) → IsWhole old → Registered old c tree' counts' → old.spent < old.credits
+pub whole_registered : (old : Parts) (c : ℕ) (tree' : TreeState) (counts' : CountState) → IsWhole old → old.flight.going ≡ false → Registered old c tree' counts' → old.spent < old.credits
     → IsWhole (with_registered old tree' counts')
-whole_registered old c tree' counts' whole now left = record {
+whole_registered old c tree' counts' whole quiet now left = record {
   tied = record {
     valid = whole.tied.valid;
     runs = whole.tied.runs;
@@ -248,28 +249,32 @@ whole_registered old c tree' counts' whole now left = record {
   clocks = whole.clocks;
   handled = λ n h at. now.rows h.clock.0 ∙ ap (λ (b : Bool). b || nat_eq c h.clock.0) (whole.handled n h at);
   notified = whole.notified;
+  flown = λ going. never_flown old.flight quiet going;
+  room = whole.room;
 }
 
 -- a registration whose possible parents are registered is all that is done to the state
-pub alone_stands : (m : Parts) (s : State) (c : ℕ) → Stands m s → IsSound m.window.size s → c < length m.desc.defs → registered m.tree.clocks c ≡ false
+pub alone_stands : (m : Parts) (s : State) (c : ℕ) → Stands m s → m.flight.going ≡ false → IsSound m.window.size s → c < length m.desc.defs → registered m.tree.clocks c ≡ false
     → list_all (registered m.tree.clocks) (parents_of m.desc.defs c) ≡ true → RegistersAlone m.window.size s c
-alone_stands m s c stands sound place free parents =
-    registers_alone m.window.size s c sound stands.change
+alone_stands m s c stands quiet sound place free parents =
+    registers_alone m.window.size s c sound (quiet_stands m s stands quiet)
     (subst (λ (d : Description). c < length d) (sym stands.defs) place)
     (ap (λ (rs : List ClockRow). registered rs c) stands.clocks ∙ free)
     (ap (λ (rs : List ClockRow). list_all (registered rs) (parents_of s.defs c)) stands.clocks
     ∙ ap (λ (d : Description). list_all (registered m.tree.clocks) (parents_of d c)) stands.defs ∙ parents)
 
 -- that is what is done to the state
-pub becomes_registered : (old : Parts) (c : ℕ) (tree' : TreeState) (counts' : CountState) → Registered old c tree' counts'
+pub becomes_registered : (old : Parts) (c : ℕ) (tree' : TreeState) (counts' : CountState) → old.flight.going ≡ false → Registered old c tree' counts'
     → Becomes old (λ k. nat_eq c k) (λ s. register s c) (with_registered old tree' counts')
 unfolding register
-becomes_registered old c tree' counts' now = record {
+becomes_registered old c tree' counts' quiet now = record {
   remains = record { desc = refl; told = refl; size = refl; behind = refl; credits = refl; ignore_unused = refl };
   spent = refl;
+  flight = refl;
+  steps = refl;
   rows = now.rows;
   stands = λ s stands sound.
-      let alone = alone_stands old s c stands sound now.place now.free now.parents in
+      let alone = alone_stands old s c stands quiet sound now.place now.free now.parents in
       let rows : tree'.clocks ≡ registered_rows old.desc.defs s.regs old.tree.clocks c =
       subst (λ (o : Option (List ℕ)). IfSome o (λ regs. tree'.clocks ≡ registered_rows old.desc.defs regs old.tree.clocks c)) stands.regs now.clocks in
       subst (λ (t : State). Stands (with_registered old tree' counts') (record t { spent = s.spent + 1 }))

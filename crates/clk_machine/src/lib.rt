@@ -9,9 +9,12 @@ mod handles;
 mod laws;
 mod log;
 mod machine;
+mod plls;
+mod power;
 mod register;
 mod row;
 mod window;
+mod work;
 
 pub use built::is_built;
 pub use fit::{first_unfit, has_pll, is_fit};
