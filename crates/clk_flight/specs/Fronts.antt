@@ -18,6 +18,11 @@ abbrev pub is_empty : Front → Bool
 is_empty Empty = true
 is_empty _ = false
 
+-- whether notices stand in front that a clock's rate has changed
+abbrev pub is_posts : Front → Bool
+is_posts (Posts c told left old new) = true
+is_posts _ = false
+
 -- how often the poll in front may ask
 abbrev pub polls_of : Front → ℕ
 polls_of (Poll pll polls again) = polls

@@ -8,7 +8,7 @@ ghost use Rattle.clk_model.specs.Laws.Paced.{is_notice};
 ghost use Rattle.clk_model.specs.Lists.{is_in};
 ghost use Rattle.clk_model.specs.Step.{todo};
 ghost use Rattle.clk_flight.specs.Begun.{begun, StartsAs};
-ghost use Rattle.clk_flight.specs.Fronts.{post_to};
+ghost use Rattle.clk_flight.specs.Fronts.{is_posts, post_to};
 ghost use Rattle.clk_flight.specs.Flights.{IsChange, own_step, comes_next, fall_or_abort};
 ghost use Rattle.clk_flight.specs.Steps.{is_fall};
 ghost use Rattle.notifiers.specs.Chains.{Tells, row_on};
@@ -138,6 +138,7 @@ impl Flight {
     /// The step that comes next, while a change is in flight.
     pub fn next(&self, notifiers: &Notifiers) -> Option<Micro>
         ensures step { (rows : List NotifierRow) → Tells notifiers.now rows → result ≡ comes_next rows self.now }
+        ensures untold { is_posts self.now.front ≡ false → (rows : List NotifierRow) → result ≡ comes_next rows self.now }
         ensures own { (m : Micro) → result ≡ Some m → is_notice m ≡ false → is_fall m ≡ false → own_step self.now ≡ Some m }
         ensures first { (rows : List NotifierRow) (k : Change) → Tells notifiers.now rows → IsChange rows self.now k → result ≡ slice_get (todo k) 0 }
     {

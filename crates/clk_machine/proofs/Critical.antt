@@ -34,6 +34,7 @@ use Rattle.clk_machine.specs.Stands.{Stands, Becomes}
 use Rattle.clk_machine.proofs.Attaching.{IsNarrow-register, adoptable-sound}
 use Rattle.clk_machine.proofs.CallEvents.{probe-alone}
 use Rattle.clk_machine.proofs.Fitting.{calm_path}
+use Rattle.clk_machine.proofs.Flying.{quiet_stands}
 use Rattle.clk_machine.proofs.Attached.{critical_more, held_more, IsAttached, stands_attached}
 use Rattle.clk_machine.proofs.Following.{opens_all, told_mapped, regs_told, regs_lie, lists_alike}
 use Rattle.clk_machine.proofs.Moving.{path_within_desc, tied-moved}
@@ -68,7 +69,7 @@ held_begun counts' mid held c levels one began d =
     ap (λ (k : CountState). is_in d (path_within (up_in k.links) levels c)) (sym one) ∙ began d ∙ ap (λ (k : CountState). is_active held d && not (is_active k d)) one
 
 module _ (old : Parts) (c : ℕ) (tree' : TreeState) (counts' held : CountState) (window' : Shown) (levels : ℕ)
-    (whole : IsWhole old) (now : Registered old c tree' counts') (holds : IsHeld counts' held c) (critical : is_critical old.desc.defs c ≡ true) where
+    (whole : IsWhole old) (quiet : old.flight.going ≡ false) (now : Registered old c tree' counts') (holds : IsHeld counts' held c) (critical : is_critical old.desc.defs c ≡ true) where
   -- one more of each for the clock
   one_more : (defs : Description) (before xs ys : List ℕ) → is_critical defs c ≡ true → c < length xs → xs ≡ before → ys ≡ set xs c (get_or xs c 0 + 1)
       → (d : ℕ) → slice_index ys d ≡ slice_index before d + critical_more defs c d
@@ -110,7 +111,7 @@ module _ (old : Parts) (c : ℕ) (tree' : TreeState) (counts' held : CountState)
   pub whole_critical : old.spent < old.credits → window'.size ≡ old.window.size → window'.words ≡ option_map (gates_moved old.desc.defs (λ _. false) (λ _. true) cs) old.window.words
       → IsWhole (with_registered old window' tree' held)
   whole_critical left size words =
-      whole_attached old c window' tree' counts' held whole now left
+      whole_attached old c window' tree' counts' held whole quiet now left
       (tied-moved old.desc old.window window' tree' (λ _. false) (λ _. true) cs (tied_registered old c tree' counts' whole now) in_desc size words) holds.keeps
       (held_stands (bare old) (bare (with_registered old window' tree' held)) critical whole.counted.stands (bare_attached old c window' tree' counts' held now) refl)
 
@@ -134,6 +135,8 @@ module _ (old : Parts) (c : ℕ) (tree' : TreeState) (counts' held : CountState)
   becomes_critical size behind began words = record {
     remains = record { desc = refl; told = ap (λ (o : Option (List ℕ)). is_some o) words ∙ told_mapped _ old.window.words; size = size; behind = behind; credits = refl; ignore_unused = refl };
     spent = refl;
+    flight = refl;
+    steps = refl;
     rows = now.rows;
     stands = λ s stands sound.
         let r : State = register s c in
@@ -159,15 +162,15 @@ module _ (old : Parts) (c : ℕ) (tree' : TreeState) (counts' held : CountState)
 -- ---- the probe
 
 -- a probe of a clock that isn't registered, and whose possible parents are, registers it at once
-pub probe_stands : (m : Parts) (s : State) (d : ℕ) (c : ClockId) → Stands m s → IsSound m.window.size s → c.0 < length m.desc.defs → registered m.tree.clocks c.0 ≡ false
+pub probe_stands : (m : Parts) (s : State) (d : ℕ) (c : ClockId) → Stands m s → m.flight.going ≡ false → IsSound m.window.size s → c.0 < length m.desc.defs → registered m.tree.clocks c.0 ≡ false
     → list_all (registered m.tree.clocks) (parents_of m.desc.defs c.0) ≡ true → next s d (event.Begin (call.Probe c)) ≡ paid s (register s c.0, turn.Done reply.Fine)
-probe_stands m s d c stands sound place free parents =
+probe_stands m s d c stands quiet sound place free parents =
     let words : ℕ = m.window.size in
     let within : c.0 < length s.defs = subst (λ (ds : Description). c.0 < length ds) (sym stands.defs) place in
     let free_s : registered s.clocks c.0 ≡ false = ap (λ (rs : List ClockRow). registered rs c.0) stands.clocks ∙ free in
     let parents_s : list_all (registered s.clocks) (parents_of s.defs c.0) ≡ true =
     ap (λ (rs : List ClockRow). list_all (registered rs) (parents_of s.defs c.0)) stands.clocks
     ∙ ap (λ (ds : Description). list_all (registered m.tree.clocks) (parents_of ds c.0)) stands.defs ∙ parents in
-    probe-alone s d c stands.change free_s
+    probe-alone s d c (quiet_stands m s stands quiet) free_s
     (adoptable-sound words (register s c.0) (IsNarrow-register words s c.0 sound.narrow within free_s parents_s))
     (calm_path s c.0 (path_to_be s.defs s.regs s.clocks c.0) sound.narrow.runs within)

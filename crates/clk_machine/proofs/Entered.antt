@@ -1,5 +1,5 @@
 -- From what is done to a state to the event that does it.
-use Rattle.std.proofs.Common.{◌≡◌, ℕ, ◌+◌, ◌<◌, ◌&&◌, ◌||◌, Bool, true, false, List, Option, refl, sym, ap, ◌∙◌, arith, nat_lt, nat_eq, cond}
+use Rattle.std.proofs.Common.{◌≡◌, ℕ, ◌+◌, ◌<◌, ◌&&◌, ◌||◌, Bool, true, false, List, [], ◌≤◌, Option, refl, sym, ap, ◌∙◌, arith, nat_lt, nat_eq, cond}
 use Rattle.std.proofs.lemmas.Bool.Decides.{nat_tests}
 use Rattle.clk_base.specs.Description.{Description}
 use Rattle.clk_base.specs.declared.call.Sleeping.TheVariants as call
@@ -20,6 +20,10 @@ use Rattle.clk_model.specs.Machine.{paid, next}
 use Rattle.clk_model.specs.Journal.{slotless, is_paid}
 use Rattle.clk_model.proofs.StateLaws.{paid-left}
 use Rattle.clk_model.proofs.Members.{same_from_test, not_either}
+use Rattle.std.specs.Prelude.{if◌then◌else◌}
+use Rattle.clk_model.specs.Tier.{is_enable_tier}
+use Rattle.clk_flight.specs.Flights.{FlightState}
+use Rattle.clk_flight.specs.LeftOver.{left_over}
 use Rattle.clk_machine.specs.Holding.{stays}
 use Rattle.clk_machine.specs.Parts.{Parts, own_in}
 use Rattle.clk_machine.specs.Sound.{IsSound}
@@ -34,12 +38,16 @@ abbrev pub Comes : Parts → ℕ → Event → Reply → (State → State) → T
 Comes old d event r does = (s : State) → Stands old s → IsSound old.window.size s → next s d event ≡ paid s (does s, slotless (turn.Done r))
 
 -- an event that comes to what is done to the state takes the parts on
-pub enters : (old new : Parts) (d : ℕ) (event : Event) (r : Reply) (does : State → State) → is_paid event ≡ true → old.spent < old.credits
+pub enters : (old new : Parts) (d : ℕ) (event : Event) (r : Reply) (does : State → State) → is_paid event ≡ true → old.flight.going ≡ (if is_enable_tier event then old.flight.going else false) → old.spent < old.credits
     → Becomes old (registers event) does new → Comes old d event r does → Enters old d event (turn.Done r) new
-enters old new d event r does pays left becomes comes = record {
+enters old new d event r does pays going left becomes comes = record {
   remains = becomes.remains;
   pays = becomes.spent ∙ sym (ap (λ (b : Bool). old.spent + cond b 1 0) pays);
   rows = becomes.rows;
+  going = ap (λ (f : FlightState). f.going) becomes.flight ∙ going;
+  fewer = λ free. let no : true ≡ false = sym pays ∙ free in absurd cc;
+  begun = λ paid goes. absurd cc;
+  no_more = λ paid done. let same = ap (λ (f : FlightState). left_over [] f) becomes.flight in omega arith;
   step = λ s stands sound.
       let spends : s.spent < s.credits = let one = stands.spent in let two = stands.credits in omega arith in
       record {
@@ -61,13 +69,15 @@ frees_some row free =
     grind (arith, nat_tests)
 
 -- the probe of a clock that is registered already registers nothing
-pub enters_known : (old new : Parts) (d : ℕ) (c : ClockId) → old.spent < old.credits → Becomes old nothing stays new → registered old.tree.clocks c.0 ≡ true
+pub enters_known : (old new : Parts) (d : ℕ) (c : ClockId) → old.flight.going ≡ false → old.spent < old.credits → Becomes old nothing stays new → registered old.tree.clocks c.0 ≡ true
     → ((s : State) → Stands old s → IsSound old.window.size s → next s d (event.Begin (call.Probe c)) ≡ paid s (s, turn.Done (reply.Refused errno.EEXIST)))
     → Enters old d (event.Begin (call.Probe c)) (turn.Done (reply.Refused errno.EEXIST)) new
-enters_known old new d c left becomes there comes =
-    enters old new d (event.Begin (call.Probe c)) (reply.Refused errno.EEXIST) stays refl left (record {
+enters_known old new d c quiet left becomes there comes =
+    enters old new d (event.Begin (call.Probe c)) (reply.Refused errno.EEXIST) stays refl quiet left (record {
       remains = becomes.remains;
       spent = becomes.spent;
+      flight = becomes.flight;
+      steps = becomes.steps;
       rows = λ k. becomes.rows k ∙ known k;
       stands = becomes.stands;
     }) comes where

@@ -16,11 +16,14 @@ use Rattle.clk_model.specs.declared.row.ClockRow.{ClockRow}
 use Rattle.clk_base.specs.Description.{Description, parents_of}
 use Rattle.clk_model.specs.State.{State, registered}
 use Rattle.clk_model.specs.Machine.{next}
-use Rattle.clk_model.specs.Journal.{slotless, replay, Legal, opening, is_paid, cost}
+use Rattle.clk_model.specs.Journal.{slotless, replay, Legal, opening, is_paid, is_going, cost}
 use Rattle.clk_model.proofs.JournalLaws.{replay-append, Legal-append}
 use Rattle.clk_machine.specs.Fit.{CanRun}
 use Rattle.clk_machine.specs.Sound.{IsSound, IsPlaced, CanTake}
-use Rattle.clk_machine.specs.Parts.{Parts}
+use Rattle.clk_machine.specs.Parts.{Parts, steps_left}
+use Rattle.clk_machine.proofs.Flying.{none_left}
+use Rattle.std.specs.Prelude.{if◌then◌else◌}
+use Rattle.clk_model.specs.Tier.{is_enable_tier}
 use Rattle.clk_machine.specs.Stands.{Stands, is_told, Remains, Leads, Enters, registers, price}
 use Rattle.clk_machine.specs.Built.{is_built_over}
 use Rattle.clk_base.specs.Valid.{IsValid}
@@ -28,7 +31,7 @@ use Rattle.clk_model.specs.Fed.{Fed}
 use Rattle.clk_machine.proofs.Soundness.{fed_reached, sound_opening}
 use Rattle.clk_model.specs.Begin.{most_credits}
 use Rattle.clk_machine.proofs.Events.{sound_next}
-use Rattle.clk_machine.specs.Run.{was_probed, Logged, start_of, state_of, run_of, IsRun, Appends, can_make}
+use Rattle.clk_machine.specs.Run.{was_probed, going_after, in_flight, Logged, start_of, state_of, run_of, IsRun, Appends, can_make}
 use Rattle.std.proofs.Math.Bool.{or-false}
 
 -- an entry more costs its price more
@@ -65,14 +68,37 @@ fed-append start t turn entries entries' e is step before after n =
           (subst (λ (s : State). Fed s) (sym (replay-append start t turn entries e step)) after)
     ] refl)
 
+-- a call is in flight behind a journal with an entry more where it goes on, or was before one of the enable tier
+pub going_append : (going : Bool) (entries : List Entry) (e : Entry) → going_after going (entries ++ e ∷ []) ≡ (if is_enable_tier e.event then going_after going entries else is_going e.turn)
+going_append going [] e = refl
+going_append going (f ∷ entries) e = going_append (if is_enable_tier f.event then going else is_going f.turn) entries e
+
 -- an event that is taken and entered
 pub record IsEntered (old new : Parts) (words : List ℕ) (log log' : Logged) (d : ℕ) (e : Event) (t : Turn) : Type 0 where
   pub run : IsRun old words log
   pub enters : Enters old d e t new
   pub can : is_told old ≡ true → CanTake (state_of old words log) e
-  pub paid : is_paid e ≡ true
   pub entries : log'.entries ≡ log.entries ++ entry_of d e t ∷ []
-  pub room : log'.room + 1 ≡ log.room
+  pub room : new.credits + steps_left new ≤ new.spent + log'.room
+  pub done : is_going t ≡ false
+
+-- one that is paid and answered at once leaves room for the entries to come
+pub answered : (old new : Parts) (words : List ℕ) (log log' : Logged) (d : ℕ) (e : Event) (t : Turn) → IsRun old words log → Enters old d e t new
+    → (is_told old ≡ true → CanTake (state_of old words log) e) → is_paid e ≡ true → is_going t ≡ false → log'.entries ≡ log.entries ++ entry_of d e t ∷ [] → log'.room + 1 ≡ log.room
+    → IsEntered old new words log log' d e t
+answered old new words log log' d e t run enters can paid done entries taken = record {
+  run = run;
+  enters = enters;
+  can = can;
+  entries = entries;
+  room =
+      let before = run.room in
+      let pays : new.spent ≡ old.spent + 1 = enters.pays ∙ ap (λ (b : Bool). old.spent + cond b 1 0) paid in
+      let credits = enters.remains.credits in
+      let less = enters.no_more paid done in
+      omega arith;
+  done = done;
+}
 
 module _ (old new : Parts) (words : List ℕ) (log log' : Logged) (d : ℕ) (e : Event) (t : Turn) (is : IsEntered old new words log log' d e t) where
   abbrev now : State
@@ -102,6 +128,10 @@ module _ (old new : Parts) (words : List ℕ) (log log' : Logged) (d : ℕ) (e :
       (subst (λ (j : List Entry). Legal (start_of old words) j) (sym is.entries)
       (Legal-append (start_of old words) (leads told).to log.entries (entry_of d e t) (is.run.legal told) (leads told).next_))
 
+  either : (b : Bool) → (if b then in_flight log.entries else is_going t) ≡ false
+  either true = is.run.idle
+  either false = is.done
+
   -- a core keeps what it keeps
   pub entered : IsRun new words log'
   entered = record {
@@ -113,12 +143,9 @@ module _ (old new : Parts) (words : List ℕ) (log log' : Logged) (d : ℕ) (e :
         (fed-append (start_of old words) (leads (was told)).to (slotless t) log.entries log'.entries (entry_of d e t) is.entries (leads (was told)).next_
         (is.run.fed (was told)) (fed_reached (length words) (leads (was told)).to (sound_after (was told)).reached) n);
     spent = ap cost is.entries ∙ cost-append log.entries (entry_of d e t) ∙ ap (λ (n : ℕ). n + price e) is.run.spent ∙ sym is.enters.pays;
-    room =
-        let before = is.run.room in
-        let after = is.room in
-        let pays : new.spent ≡ old.spent + 1 = is.enters.pays ∙ ap (λ (b : Bool). old.spent + cond b 1 0) is.paid in
-        let credits = is.enters.remains.credits in
-        omega arith;
+    room = is.room;
+    idle = ap in_flight is.entries ∙ going_append false log.entries (entry_of d e t) ∙ either (is_enable_tier e);
+    going = is.enters.going ∙ ap (λ (b : Bool). if is_enable_tier e then b else is_going t) is.run.going ∙ sym (ap in_flight is.entries ∙ going_append false log.entries (entry_of d e t));
     size = is.enters.remains.size ∙ is.run.size;
     probed = λ c.
         is.enters.rows c ∙ ap (λ (b : Bool). b || registers e c) (is.run.probed c)
@@ -163,9 +190,9 @@ can_take m s what stands placed built =
 pub begins : (m : Parts) (words given : List ℕ) (log : Logged) (desc : Checked) (ignore_unused : Bool) (credits : ℕ)
     → words ≡ given → log.entries ≡ [] → log.room ≡ credits → (is_told m ≡ true → Stands m (opening desc.defs given ignore_unused credits))
     → m.desc ≡ desc → m.credits ≡ credits → m.ignore_unused ≡ ignore_unused → m.spent ≡ 0
-    → ((c : ℕ) → registered m.tree.clocks c ≡ false) → m.window.size ≡ length given → IsValid (length given) desc.defs → CanRun desc.defs → credits ≤ most_credits
+    → ((c : ℕ) → registered m.tree.clocks c ≡ false) → m.window.size ≡ length given → IsValid (length given) desc.defs → CanRun desc.defs → credits ≤ most_credits → m.flight.going ≡ false
     → IsRun m words log
-begins m words given log desc ignore_unused credits same empty room stands at credit unused spent none size valid runs few =
+begins m words given log desc ignore_unused credits same empty room stands at credit unused spent none size valid runs few quiet =
     let start : start_of m words ≡ opening desc.defs given ignore_unused credits =
     ap (λ (d : Checked). opening d.defs words m.ignore_unused m.credits) at
     ∙ ap (λ (ws : List ℕ). opening desc.defs ws m.ignore_unused m.credits) same
@@ -183,7 +210,9 @@ begins m words given log desc ignore_unused credits same empty room stands at cr
           (subst (λ (j : List Entry). Fed (replay (start_of m words) j)) (sym (take_all n [] (omega arith)))
           (subst (λ (s : State). Fed s) (sym start) (fed_reached (length given) (opening desc.defs given ignore_unused credits) sound.reached)));
       spent = ap cost empty ∙ sym spent;
-      room = omega arith;
+      room = let nothing_left = none_left m.flight quiet in omega arith;
+      going = quiet ∙ sym (ap in_flight empty);
+      idle = ap in_flight empty;
       size = size ∙ sym (ap (λ (ws : List ℕ). length ws) same);
       probed = λ c. none c ∙ sym (ap (λ (j : List Entry). was_probed j c) empty);
     }

@@ -139,6 +139,8 @@ module _ (old : Parts) (n levels : ℕ) (row new : HandleRow) (window' : Shown) 
   becomes_moved before after xs words follows = record {
     remains = record { desc = refl; told = ap (λ (o : Option (List ℕ)). is_some o) words ∙ told_mapped _ old.window.words; size = size; behind = behind; credits = refl; ignore_unused = refl };
     spent = refl;
+    flight = refl;
+    steps = refl;
     rows = λ c. sym (or-false (registered old.tree.clocks c));
     stands = λ s stands sound.
         subst (λ (regs : List ℕ). Stands (with_written old window' table' counts') (record (put_handle s n (Some new)) { regs = regs; spent = s.spent + 1 }))

@@ -1,4 +1,8 @@
 pub mod WindowLaws
+pub mod LockLaws
+pub mod Seeking
+pub mod Stepping
+pub mod InFlight
 pub mod Opening
 pub mod Closing
 pub mod Fitting
@@ -14,8 +18,14 @@ pub mod Holdings
 pub mod Owning
 pub mod Room
 pub mod Rounding
+pub mod Flying
 pub mod Writing
 pub mod Following
+pub mod Powering
+pub mod Making
+pub mod Raising
+pub mod Landing
+pub mod Working
 pub mod Entered
 pub mod Opened
 pub mod Registering

@@ -14,6 +14,7 @@ use Rattle.notifiers.specs.Chains.{chain_of, Tells, has_id, without_notifier}
 use Rattle.clk_machine.specs.Holding.{unnotified}
 use Rattle.clk_machine.specs.Parts.{Parts, bare, IsWhole}
 use Rattle.clk_machine.specs.Stands.{Stands, Becomes, nothing}
+use Rattle.clk_machine.proofs.Flying.{never_flown, flies_quiet}
 use Rattle.clk_machine.proofs.Holdings.{StandsFor-same}
 use Rattle.clk_machine.proofs.Registering.{paid_more}
 
@@ -22,8 +23,8 @@ abbrev pub with_chains : Parts → List (List Notifier) → Parts
 with_chains old chains' = record old { chains = chains'; spent = old.spent + 1 }
 
 -- they stay whole
-pub whole_notified : (old : Parts) (chains' : List (List Notifier)) → IsWhole old → old.spent < old.credits → length chains' ≡ length old.chains → IsWhole (with_chains old chains')
-whole_notified old chains' whole left same = record {
+pub whole_notified : (old : Parts) (chains' : List (List Notifier)) → IsWhole old → old.flight.going ≡ false → old.spent < old.credits → length chains' ≡ length old.chains → IsWhole (with_chains old chains')
+whole_notified old chains' whole quiet left same = record {
   tied = whole.tied;
   paid = paid_more old.table.handles old.credits old.spent whole.paid left;
   counted = record {
@@ -33,14 +34,18 @@ whole_notified old chains' whole left same = record {
   clocks = whole.clocks;
   handled = whole.handled;
   notified = same ∙ whole.notified;
+  flown = λ going. never_flown old.flight quiet going;
+  room = whole.room;
 }
 
 -- that is what is done to the state
-pub becomes_notified : (old : Parts) (chains' : List (List Notifier)) (f : List NotifierRow → List NotifierRow) → ((ns : List NotifierRow) → Tells old.chains ns → Tells chains' (f ns))
+pub becomes_notified : (old : Parts) (chains' : List (List Notifier)) (f : List NotifierRow → List NotifierRow) → old.flight.going ≡ false → ((ns : List NotifierRow) → Tells old.chains ns → Tells chains' (f ns))
     → Becomes old nothing (λ s. record s { notifiers = f s.notifiers }) (with_chains old chains')
-becomes_notified old chains' f tells = record {
+becomes_notified old chains' f quiet tells = record {
   remains = record { desc = refl; told = refl; size = refl; behind = refl; credits = refl; ignore_unused = refl };
   spent = refl;
+  flight = refl;
+  steps = refl;
   rows = λ c. sym (or-false (registered old.tree.clocks c));
   stands = λ s stands sound.
       subst (λ (t : State). Stands (with_chains old chains') (record t { spent = s.spent + 1 }))
@@ -53,7 +58,7 @@ becomes_notified old chains' f tells = record {
         notifiers = tells s.notifiers stands.notifiers;
         prepare_holds = stands.prepare_holds;
         enable_holds = stands.enable_holds;
-        change = stands.change;
+        change = flies_quiet s.notifiers (f s.notifiers) old.flight s.change stands.change quiet;
         credits = stands.credits;
         spent = ap (λ (k : ℕ). k + 1) stands.spent;
         steps = stands.steps;

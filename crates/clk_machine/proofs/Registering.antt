@@ -40,6 +40,7 @@ use Rattle.clk_machine.specs.Stands.{Stands, Becomes}
 use Rattle.clk_machine.proofs.Fitting.{all_in}
 use Rattle.clk_machine.proofs.Attaching.{link_given-selected}
 use Rattle.clk_machine.proofs.Attached.{critical_more, active_beside, IsAttached, stands_attached}
+use Rattle.clk_machine.proofs.Flying.{never_flown}
 use Rattle.clk_machine.proofs.Writing.{counts_stand}
 use Rattle.counts_core.proofs.Standing.{tells_holds}
 use Rattle.counts_core.specs.Counted.{is_active}
@@ -202,15 +203,17 @@ tied_registered old c tree' counts' whole now = record {
 }
 
 -- the parts behind it, with these words, this tree and counts that stand for the tree, stay whole
-pub whole_attached : (old : Parts) (c : ℕ) (window' : Shown) (tree' : TreeState) (counts' held : CountState) → IsWhole old → Registered old c tree' counts' → old.spent < old.credits
+pub whole_attached : (old : Parts) (c : ℕ) (window' : Shown) (tree' : TreeState) (counts' held : CountState) → IsWhole old → old.flight.going ≡ false → Registered old c tree' counts' → old.spent < old.credits
     → AreTied old.desc window' tree' → AreCounts held → StandsFor held (bare (with_registered old window' tree' held)) → IsWhole (with_registered old window' tree' held)
-whole_attached old c window' tree' counts' held whole now left tied keeps stands = record {
+whole_attached old c window' tree' counts' held whole quiet now left tied keeps stands = record {
   tied = tied;
   paid = paid_more old.table.handles old.credits old.spent whole.paid left;
   counted = record { keeps = keeps; stands = stands };
   clocks = whole.clocks;
   handled = λ n h at. now.rows h.clock.0 ∙ ap (λ (b : Bool). b || nat_eq c h.clock.0) (whole.handled n h at);
   notified = whole.notified;
+  flown = λ going. never_flown old.flight quiet going;
+  room = whole.room;
 }
 
 -- ---- a clock that isn't critical
@@ -235,10 +238,10 @@ pub bare_attached : (old : Parts) (c : ℕ) (window' : Shown) (tree' : TreeState
     → IsAttached (bare old) (bare (with_registered old window' tree' held)) c
 bare_attached old c window' tree' counts' held now = record { free = now.free; rows = now.rows; defs = refl; handles = refl; prepare_holds = refl; enable_holds = refl }
 
-pub whole_registered : (old : Parts) (c : ℕ) (tree' : TreeState) (counts' : CountState) → IsWhole old → Registered old c tree' counts' → is_critical old.desc.defs c ≡ false
+pub whole_registered : (old : Parts) (c : ℕ) (tree' : TreeState) (counts' : CountState) → IsWhole old → old.flight.going ≡ false → Registered old c tree' counts' → is_critical old.desc.defs c ≡ false
     → old.spent < old.credits → IsWhole (with_registered old old.window tree' counts')
-whole_registered old c tree' counts' whole now plain left =
-    whole_attached old c old.window tree' counts' counts' whole now left (tied_registered old c tree' counts' whole now) now.keeps
+whole_registered old c tree' counts' whole quiet now plain left =
+    whole_attached old c old.window tree' counts' counts' whole quiet now left (tied_registered old c tree' counts' whole now) now.keeps
     (plain_stands old c tree' counts' (bare old) (bare (with_registered old old.window tree' counts')) now plain whole.counted.stands (bare_attached old c old.window tree' counts' counts' now) refl)
 
 -- ---- the state after it
@@ -297,12 +300,14 @@ active_linked old c tree' counts' s d whole now stands =
     ∙ (tells_holds old.counts s whole.counted.keeps (counts_stand old s whole stands) d).active
 
 -- that is what is done to the state
-pub becomes_registered : (old : Parts) (c : ℕ) (tree' : TreeState) (counts' : CountState) → IsWhole old → Registered old c tree' counts' → is_critical old.desc.defs c ≡ false
+pub becomes_registered : (old : Parts) (c : ℕ) (tree' : TreeState) (counts' : CountState) → IsWhole old → old.flight.going ≡ false → Registered old c tree' counts' → is_critical old.desc.defs c ≡ false
     → Becomes old (λ k. nat_eq c k) (λ s. register s c) (with_registered old old.window tree' counts')
 unfolding register
-becomes_registered old c tree' counts' whole now plain = record {
+becomes_registered old c tree' counts' whole quiet now plain = record {
   remains = record { desc = refl; told = refl; size = refl; behind = refl; credits = refl; ignore_unused = refl };
   spent = refl;
+  flight = refl;
+  steps = refl;
   rows = now.rows;
   stands = λ s stands sound.
       let plain_s : is_critical s.defs c ≡ false = ap (λ (ds : Description). is_critical ds c) stands.defs ∙ plain in

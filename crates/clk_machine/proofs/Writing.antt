@@ -20,6 +20,7 @@ use Rattle.clk_machine.specs.Window.{Shown}
 use Rattle.clk_machine.specs.Parts.{Parts, bare, held_in_all, AreTied, ArePaid, IsWhole}
 use Rattle.clk_machine.specs.Stands.{Stands, Becomes, nothing}
 use Rattle.clk_machine.specs.Holding.{puts, gives, stays}
+use Rattle.clk_machine.proofs.Flying.{never_flown, flown_written, flown_spent}
 use Rattle.clk_machine.proofs.Shapes.{handle_at-put, handle_at-append, sum_by-set, sum_by-gone, sum_by-append}
 use Rattle.clk_machine.proofs.Moving.{clock_within}
 use Rattle.clk_machine.proofs.Holdings.{Moves, moves_one, moves_none, StandsFor-same, StandsFor-put, StandsFor-gone, StandsFor-given}
@@ -38,6 +39,7 @@ counts_stand m s whole stands =
 pub record Written (old : Parts) (n : ℕ) (row new : HandleRow) (table' : HandleTable) (counts' : CountState) : Type 0 where
   pub live : handle_at old.table.handles n ≡ Some row
   pub clock : new.clock ≡ row.clock
+  pub driver : new.driver ≡ row.driver
   pub handles : table'.handles ≡ set old.table.handles n (Some new)
   pub clocks : table'.clocks ≡ old.table.clocks
   pub keeps : AreCounts counts'
@@ -87,6 +89,9 @@ whole_written old n row new window' table' counts' whole written left tied = rec
     | inr was ↦ whole.handled k h was
   ];
   notified = whole.notified;
+  flown = λ going.
+      flown_written old.desc.defs old.tree.clocks old.table.handles table'.handles old.spent n row new old.flight (whole.flown going) written.live written.driver written.more written.handles;
+  room = whole.room;
 }
 
 -- they stand for the state with the handle written, a credit spent, and these words
@@ -119,6 +124,8 @@ pub becomes_written : (old : Parts) (n : ℕ) (row new : HandleRow) (table' : Ha
 becomes_written old n row new table' counts' written same = record {
   remains = record { desc = refl; told = refl; size = refl; behind = refl; credits = refl; ignore_unused = refl };
   spent = refl;
+  flight = refl;
+  steps = refl;
   rows = λ c. sym (or-false (registered old.tree.clocks c));
   stands = λ s stands sound.
       let at = live_in old s n row stands written.live in
@@ -134,10 +141,29 @@ counts_given handles n prepares enables exclusives row live =
     ap (λ (o : Option HandleRow). set handles n (option_map (λ (h : HandleRow). let r : HandleRow = record h { prepares = prepares; enables = enables; exclusives = exclusives } in r) o)) live
 
 -- a credit spent, and nothing else
+pub whole_spent : (old : Parts) → IsWhole old → old.spent < old.credits → IsWhole (record old { spent = old.spent + 1 })
+whole_spent old whole left = record {
+  tied = whole.tied;
+  paid = record {
+    few_credits = whole.paid.few_credits;
+    within = omega arith;
+    few_handles = let few = whole.paid.few_handles in omega arith;
+    few_holds = let few = whole.paid.few_holds in omega arith;
+  };
+  counted = record { keeps = whole.counted.keeps; stands = StandsFor-same old.counts (bare old) (bare (record old { spent = old.spent + 1 })) whole.counted.stands refl refl refl refl refl };
+  clocks = whole.clocks;
+  handled = whole.handled;
+  notified = whole.notified;
+  flown = λ going. flown_spent old.desc.defs old.tree.clocks old.table.handles old.spent old.flight (whole.flown going);
+  room = whole.room;
+}
+
 pub becomes_spent : (old : Parts) → Becomes old nothing stays (record old { spent = old.spent + 1 })
 becomes_spent old = record {
   remains = record { desc = refl; told = refl; size = refl; behind = refl; credits = refl; ignore_unused = refl };
   spent = refl;
+  flight = refl;
+  steps = refl;
   rows = λ c. sym (or-false (registered old.tree.clocks c));
   stands = λ s stands sound.
       subst (λ (t : State). Stands (record old { spent = old.spent + 1 }) (record t { spent = s.spent + 1 })) (sym (settled-still s s (λ c. refl))) (record {
@@ -166,9 +192,9 @@ with_table old table' = record old { table = table'; spent = old.spent + 1 }
 -- with another list of handles they stay whole
 whole_listed : (old : Parts) (table' : HandleTable) (handles : List (Option HandleRow)) → IsWhole old → old.spent < old.credits
     → table'.clocks ≡ old.table.clocks → table'.handles ≡ handles → length handles ≤ old.spent + 1 → sum_by held_in_all (present handles) ≤ old.spent + 1
-    → StandsFor old.counts (record (bare old) { handles = handles })
+    → StandsFor old.counts (record (bare old) { handles = handles }) → old.flight.going ≡ false
     → ((k : ℕ) (h : HandleRow) → handle_at handles k ≡ Some h → registered old.tree.clocks h.clock.0 ≡ true) → IsWhole (with_table old table')
-whole_listed old table' handles whole left clocks is few holds stands handled = record {
+whole_listed old table' handles whole left clocks is few holds stands quiet handled = record {
   tied = whole.tied;
   paid = subst (λ (hs : List (Option HandleRow)). ArePaid hs old.credits (old.spent + 1)) (sym is) (record {
     few_credits = whole.paid.few_credits;
@@ -183,6 +209,8 @@ whole_listed old table' handles whole left clocks is few holds stands handled = 
   clocks = clocks ∙ whole.clocks;
   handled = λ k h at. handled k h (sym (ap (λ (hs : List (Option HandleRow)). handle_at hs k) is) ∙ at);
   notified = whole.notified;
+  flown = λ going. never_flown old.flight quiet going;
+  room = whole.room;
 }
 
 -- where no gate moves and only the handles of a state change, that is what is done to it
@@ -193,6 +221,8 @@ becomes_listed : (old : Parts) (table' : HandleTable) (does : State → State)
 becomes_listed old table' does each beside = record {
   remains = record { desc = refl; told = refl; size = refl; behind = refl; credits = refl; ignore_unused = refl };
   spent = refl;
+  flight = refl;
+  steps = refl;
   rows = λ c. sym (or-false (registered old.tree.clocks c));
   stands = λ s stands sound.
       subst (λ (t : State). Stands (with_table old table') (record t { spent = s.spent + 1 }))
@@ -228,16 +258,16 @@ holds_nothing row free =
       none k e = grind (arith, nat_tests)
 
 -- a handle that holds nothing is taken away
-pub whole_removed : (old : Parts) (n : ℕ) (row : HandleRow) (table' : HandleTable) → IsWhole old → old.spent < old.credits → handle_at old.table.handles n ≡ Some row → holds_something row ≡ false
+pub whole_removed : (old : Parts) (n : ℕ) (row : HandleRow) (table' : HandleTable) → IsWhole old → old.flight.going ≡ false → old.spent < old.credits → handle_at old.table.handles n ≡ Some row → holds_something row ≡ false
     → table'.handles ≡ set old.table.handles n None → table'.clocks ≡ old.table.clocks → IsWhole (with_table old table')
-whole_removed old n row table' whole left live free is clocks =
+whole_removed old n row table' whole quiet left live free is clocks =
     let nothing_ = holds_nothing row free in
     let few = whole.paid.few_handles in
     let holds = whole.paid.few_holds in
     let len = length-set old.table.handles n None in
     let sums = sum_by-gone held_in_all old.table.handles n row live in
     whole_listed old table' (set old.table.handles n None) whole left clocks is (omega arith) (omega arith)
-    (StandsFor-gone old.counts (bare old) n row whole.counted.stands live nothing_.enables nothing_.prepares nothing_.exclusives)
+    (StandsFor-gone old.counts (bare old) n row whole.counted.stands live nothing_.enables nothing_.prepares nothing_.exclusives) quiet
     (λ k h at. elim (handle_at-put old.table.handles n None k h at) [
       | inl none ↦ absurd cc
       | inr was ↦ whole.handled k h was
@@ -252,16 +282,16 @@ becomes_removed old n row table' live free is =
     (λ s. refl)
 
 -- a new handle is made
-pub whole_added : (old : Parts) (driver : ℕ) (clock : ClockId) (table' : HandleTable) → IsWhole old → old.spent < old.credits → registered old.tree.clocks clock.0 ≡ true
+pub whole_added : (old : Parts) (driver : ℕ) (clock : ClockId) (table' : HandleTable) → IsWhole old → old.flight.going ≡ false → old.spent < old.credits → registered old.tree.clocks clock.0 ≡ true
     → table'.handles ≡ old.table.handles ++ Some (new_row driver clock) ∷ [] → table'.clocks ≡ old.table.clocks → IsWhole (with_table old table')
-whole_added old driver clock table' whole left there is clocks =
+whole_added old driver clock table' whole quiet left there is clocks =
     let few = whole.paid.few_handles in
     let holds = whole.paid.few_holds in
     let len = length-append old.table.handles (Some (new_row driver clock) ∷ []) in
     let sums = sum_by-append held_in_all old.table.handles (new_row driver clock) in
     let none : held_in_all (new_row driver clock) ≡ 0 = omega arith in
     whole_listed old table' (old.table.handles ++ Some (new_row driver clock) ∷ []) whole left clocks is (omega arith) (omega arith)
-    (StandsFor-given old.counts (bare old) driver clock.0 whole.counted.stands)
+    (StandsFor-given old.counts (bare old) driver clock.0 whole.counted.stands) quiet
     (λ k h at. elim (handle_at-append old.table.handles (new_row driver clock) k h at) [
       | inl new ↦ ap (λ (r : HandleRow). registered old.tree.clocks r.clock.0) new ∙ there
       | inr was ↦ whole.handled k h was
@@ -280,6 +310,7 @@ becomes_added old driver clock table' is =
 pub record Row (old : Parts) (n : ℕ) (row new : HandleRow) (table' : HandleTable) : Type 0 where
   pub live : handle_at old.table.handles n ≡ Some row
   pub clock : new.clock ≡ row.clock
+  pub driver : new.driver ≡ row.driver
   pub handles : table'.handles ≡ set old.table.handles n (Some new)
   pub clocks : table'.clocks ≡ old.table.clocks
   pub more : held_in_all new ≤ held_in_all row + 1
@@ -299,6 +330,7 @@ pub written_enables : (old : Parts) (n value : ℕ) (row new : HandleRow) (table
 written_enables old n value row new table' counts' whole wrote keeps is sum prepares exclusives = record {
   live = wrote.live;
   clock = wrote.clock;
+  driver = wrote.driver;
   handles = wrote.handles;
   clocks = wrote.clocks;
   keeps = keeps;
@@ -323,6 +355,7 @@ pub written_prepares : (old : Parts) (n value : ℕ) (row new : HandleRow) (tabl
 written_prepares old n value row new table' counts' whole wrote keeps is sum enables exclusives = record {
   live = wrote.live;
   clock = wrote.clock;
+  driver = wrote.driver;
   handles = wrote.handles;
   clocks = wrote.clocks;
   keeps = keeps;
@@ -347,6 +380,7 @@ pub written_exclusives : (old : Parts) (n value : ℕ) (row new : HandleRow) (ta
 written_exclusives old n value row new table' counts' whole wrote keeps is sum enables prepares = record {
   live = wrote.live;
   clock = wrote.clock;
+  driver = wrote.driver;
   handles = wrote.handles;
   clocks = wrote.clocks;
   keeps = keeps;

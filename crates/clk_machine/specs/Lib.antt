@@ -1,9 +1,12 @@
 pub mod Window
 pub mod Shape
 pub mod Fit
+pub mod Plls
+pub mod InFlight
 pub mod Built
 pub mod Parts
 pub mod Stands
+pub mod Making
 pub mod Holding
 pub mod Sound
 pub mod Run

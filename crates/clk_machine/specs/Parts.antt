@@ -1,9 +1,14 @@
 -- The parts of a core, and what they keep.
-use Rattle.std.specs.Prelude.{◌≡◌, ℕ, ◌+◌, ◌≤◌, ◌==◌, List, [], Bool, true, Option, Some, None, IfSome, if◌then◌else◌, length, sum_by, slice_index}
+use Rattle.std.specs.Prelude.{◌≡◌, ℕ, ◌+◌, ◌<◌, ◌≤◌, ◌==◌, List, [], is_some, Bool, true, Option, Some, None, IfSome, if◌then◌else◌, length, sum_by, slice_index}
 use Rattle.std.specs.Option.{option_map_or}
 use Rattle.clk_base.specs.Checked.{Checked}
 use Rattle.clk_base.specs.Description.{Description}
 use Rattle.clk_base.specs.Valid.{IsValid}
+use Rattle.clk_base.specs.declared.call.Sleeping.{Sleeping}
+use Rattle.clk_base.specs.declared.call.Sleeping.TheVariants as call
+use Rattle.clk_flight.specs.Flights.{FlightState}
+use Rattle.clk_flight.specs.LeftOver.{left_over}
+use Rattle.clk_model.specs.Script.{plls}
 use Rattle.clk_model.specs.declared.row.ClockRow.{ClockRow}
 use Rattle.clk_model.specs.declared.row.HandleRow.{HandleRow}
 use Rattle.clk_model.specs.Lists.{present}
@@ -17,6 +22,7 @@ use Rattle.notifiers.specs.declared.notifier.Notifier.{Notifier}
 use Rattle.rate_requests.specs.Handles.{HandleTable}
 use Rattle.clk_machine.specs.Window.{Shown, AreTold}
 use Rattle.clk_machine.specs.Fit.{CanRun}
+use Rattle.clk_machine.specs.InFlight.{IsUnderWay}
 
 -- a core without its journal, as what contracts see of each part
 pub record Parts : Type 0 where
@@ -29,10 +35,12 @@ pub record Parts : Type 0 where
   pub credits : ℕ
   pub spent : ℕ
   pub ignore_unused : Bool
+  pub flight : FlightState
+  pub steps : ℕ
 
 -- these parts
-abbrev pub parts_of : Checked → Shown → TreeState → HandleTable → CountState → List (List Notifier) → ℕ → ℕ → Bool → Parts
-parts_of desc window tree table counts chains credits spent ignore_unused = record {
+abbrev pub parts_of : Checked → Shown → TreeState → HandleTable → CountState → List (List Notifier) → ℕ → ℕ → Bool → FlightState → ℕ → Parts
+parts_of desc window tree table counts chains credits spent ignore_unused flight steps = record {
   desc = desc;
   window = window;
   tree = tree;
@@ -42,6 +50,8 @@ parts_of desc window tree table counts chains credits spent ignore_unused = reco
   credits = credits;
   spent = spent;
   ignore_unused = ignore_unused;
+  flight = flight;
+  steps = steps;
 }
 
 -- the state of these parts as far as they have it: without words and notifiers, and without a change in flight
@@ -96,6 +106,22 @@ pub record AreCounted (m : Parts) : Type 0 where
   pub keeps : AreCounts m.counts
   pub stands : StandsFor m.counts (bare m)
 
+-- the handle of the call in flight is one of its driver
+abbrev pub IsOwnCall : List (Option HandleRow) → ℕ → Sleeping → Type 0
+IsOwnCall handles driver (call.Prepare h) = is_some (own_in handles driver h.number) ≡ true
+IsOwnCall handles driver _ = Unit {0}
+
+-- what is kept of a change in flight: what is left of it to do, its call's own handle, and that the prepare which it may come to was paid for
+pub record IsFlown (defs : Description) (clocks : List ClockRow) (handles : List (Option HandleRow)) (spent : ℕ) (f : FlightState) : Type 0 where
+  pub plls_ : f.plls ≡ plls defs
+  pub way : IsUnderWay (registered clocks) f
+  pub own : IsOwnCall handles f.driver f.call
+  pub paid : sum_by held_in_all (present handles) < spent
+
+-- how many steps the change in flight may still come to; so far none of its script visits a clock or tells a notifier
+abbrev pub steps_left : Parts → ℕ
+steps_left m = left_over [] m.flight
+
 -- what the parts of a core keep
 pub record IsWhole (m : Parts) : Type 0 where
   pub tied : AreTied m.desc m.window m.tree
@@ -105,3 +131,6 @@ pub record IsWhole (m : Parts) : Type 0 where
   pub clocks : m.table.clocks ≡ length m.desc.defs
   pub handled : (n : ℕ) (h : HandleRow) → handle_at m.table.handles n ≡ Some h → registered m.tree.clocks h.clock.0 ≡ true
   pub notified : length m.chains ≡ length m.desc.defs
+  -- a change in flight is kept as it has to be, and there is room for the entries of its steps
+  pub flown : m.flight.going ≡ true → IsFlown m.desc.defs m.tree.clocks m.table.handles m.spent m.flight
+  pub room : m.credits + m.steps + steps_left m ≤ most_credits

@@ -1,5 +1,5 @@
 -- What contracts see of a core: where it began, and its journal.
-use Rattle.std.specs.Prelude.{◌≡◌, ℕ, ◌+◌, List, [], ◌∷◌, ◌++◌, Bool, true, Option, Some, length, take}
+use Rattle.std.specs.Prelude.{◌≡◌, ℕ, ◌+◌, ◌≤◌, false, if◌then◌else◌, List, [], ◌∷◌, ◌++◌, Bool, true, Option, Some, length, take}
 use Rattle.std.specs.List.{list_any}
 use Rattle.clk_base.specs.declared.call.Sleeping.{Sleeping}
 use Rattle.clk_base.specs.declared.event.Entry.{Entry}
@@ -8,9 +8,10 @@ use Rattle.clk_base.specs.declared.event.Turn.{Turn}
 use Rattle.clk_base.specs.declared.event.Turn.TheVariants as turn
 use Rattle.clk_model.specs.State.{State, registered}
 use Rattle.clk_model.specs.Machine.{next}
-use Rattle.clk_model.specs.Journal.{slotless, replay, Legal, opening, cost}
+use Rattle.clk_model.specs.Tier.{is_enable_tier}
+use Rattle.clk_model.specs.Journal.{is_going, slotless, replay, Legal, opening, cost}
 use Rattle.clk_model.specs.Fed.{Fed}
-use Rattle.clk_machine.specs.Parts.{Parts}
+use Rattle.clk_machine.specs.Parts.{Parts, steps_left}
 use Rattle.clk_machine.specs.Stands.{Stands, is_told, registers}
 use Rattle.clk_machine.specs.Sound.{IsSound}
 use Rattle.clk_machine.specs.Built.{is_built_over}
@@ -31,6 +32,15 @@ now_of run = replay run.start run.journal
 -- whether the clock was probed
 abbrev pub was_probed : List Entry → ℕ → Bool
 was_probed journal c = list_any (λ e. registers e.event c) journal
+
+-- whether a call is in flight behind these entries: the last of them that isn't of the enable tier tells that one goes on
+abbrev pub going_after : Bool → List Entry → Bool
+going_after going [] = going
+going_after going (e ∷ es) = going_after (if is_enable_tier e.event then going else is_going e.turn) es
+
+-- whether one is behind a journal
+abbrev pub in_flight : List Entry → Bool
+in_flight journal = going_after false journal
 
 -- whether a call can be made now, where the probed clocks are the registered ones
 abbrev pub can_make : Run → Sleeping → Bool
@@ -75,6 +85,9 @@ pub record IsRun (m : Parts) (words : List ℕ) (log : Logged) : Type 0 where
   -- after every prefix the active clocks are fed
   pub fed : is_told m ≡ true → (n : ℕ) → Fed (replay (start_of m words) (take n log.entries))
   pub spent : cost log.entries ≡ m.spent
-  pub room : m.spent + log.room ≡ m.credits
+  pub room : m.credits + steps_left m ≤ m.spent + log.room
+  -- a call is in flight where the journal says so; so far none goes on
+  pub going : m.flight.going ≡ in_flight log.entries
+  pub idle : in_flight log.entries ≡ false
   pub size : m.window.size ≡ length words
   pub probed : (c : ℕ) → registered m.tree.clocks c ≡ was_probed log.entries c

@@ -1,5 +1,5 @@
 -- When the parts of a core stand for a state of the machine, and what an event does to both.
-use Rattle.std.specs.Prelude.{◌≡◌, ℕ, ◌+◌, ◌||◌, ◌==◌, [], Bool, false, Some, None, is_some, if◌then◌else◌}
+use Rattle.std.specs.Prelude.{◌≡◌, ℕ, ◌+◌, ◌*◌, ◌<◌, ◌≤◌, ◌||◌, true, ◌==◌, [], Bool, false, Some, None, is_some, if◌then◌else◌}
 use Rattle.clk_base.specs.declared.call.Sleeping.TheVariants as call
 use Rattle.clk_base.specs.declared.event.Event.{Event}
 use Rattle.clk_base.specs.declared.event.Event.TheVariants as event
@@ -7,9 +7,13 @@ use Rattle.clk_base.specs.declared.event.Turn.{Turn}
 use Rattle.clk_model.specs.State.{State, registered}
 use Rattle.clk_model.specs.Gates.{settled}
 use Rattle.clk_model.specs.Machine.{next}
-use Rattle.clk_model.specs.Journal.{slotless, is_paid}
+use Rattle.clk_model.specs.Journal.{slotless, is_paid, is_going}
+use Rattle.clk_model.specs.Tier.{is_enable_tier}
+use Rattle.clk_model.specs.Script.{plls}
+use Rattle.clk_base.specs.Description.{Description}
+use Rattle.clk_flight.specs.Flights.{Flies}
 use Rattle.notifiers.specs.Chains.{Tells}
-use Rattle.clk_machine.specs.Parts.{Parts}
+use Rattle.clk_machine.specs.Parts.{Parts, steps_left}
 use Rattle.clk_machine.specs.Sound.{IsSound}
 
 -- the parts stand for a state: each has what the state says of it, and the bank tells the state's words
@@ -20,13 +24,13 @@ pub record Stands (m : Parts) (s : State) : Type 0 where
   pub order : s.order ≡ m.tree.order
   pub handles : s.handles ≡ m.table.handles
   pub notifiers : Tells m.chains s.notifiers
-  -- nothing is in flight
+  -- nothing is held for the change in flight
   pub prepare_holds : s.prepare_holds ≡ []
   pub enable_holds : s.enable_holds ≡ []
-  pub change : s.change ≡ None
+  pub change : Flies s.notifiers m.flight s.change
   pub credits : s.credits ≡ m.credits
   pub spent : s.spent ≡ m.spent
-  pub steps : s.steps ≡ 0
+  pub steps : s.steps ≡ m.steps
   pub ignore_unused : s.ignore_unused ≡ m.ignore_unused
 
 -- whether the bank tells its words
@@ -46,6 +50,8 @@ pub record Remains (old new : Parts) : Type 0 where
 pub record Becomes (old : Parts) (adds : ℕ → Bool) (does : State → State) (new : Parts) : Type 0 where
   pub remains : Remains old new
   pub spent : new.spent ≡ old.spent + 1
+  pub flight : new.flight ≡ old.flight
+  pub steps : new.steps ≡ old.steps
   pub rows : (c : ℕ) → registered new.tree.clocks c ≡ (registered old.tree.clocks c || adds c)
   pub stands : (s : State) → Stands old s → IsSound old.window.size s → Stands new (record (settled s (does s)) { spent = s.spent + 1 })
 
@@ -64,6 +70,12 @@ abbrev pub registers : Event → ℕ → Bool
 registers (event.Begin (call.Probe k)) c = k.0 == c
 registers _ c = false
 
+-- how many steps a call may come to where it goes on: the raise of the PLLs of a path or the lower of them, and the end
+abbrev pub most_steps : Description → Event → ℕ
+most_steps defs (event.Begin (call.Prepare h)) = 34 * plls defs + 2
+most_steps defs (event.Begin (call.Unprepare h)) = plls defs + 2
+most_steps defs e = 0
+
 -- the credits that an event spends
 abbrev pub price : Event → ℕ
 price e = if is_paid e then 1 else 0
@@ -72,5 +84,11 @@ price e = if is_paid e then 1 else 0
 pub record Enters (old : Parts) (driver : ℕ) (event : Event) (turn : Turn) (new : Parts) : Type 0 where
   pub remains : Remains old new
   pub pays : new.spent ≡ old.spent + price event
+  -- the enable tier leaves a change in flight, and else there is one where the turn says that the call goes on
+  pub going : new.flight.going ≡ (if is_enable_tier event then old.flight.going else is_going turn)
+  -- a step leaves fewer steps to come, a call that begins and goes on as many as it may come to, and any other event no more
+  pub fewer : is_paid event ≡ false → steps_left new < steps_left old
+  pub begun : is_paid event ≡ true → is_going turn ≡ true → steps_left new ≤ most_steps old.desc.defs event
+  pub no_more : is_paid event ≡ true → is_going turn ≡ false → steps_left new ≤ steps_left old
   pub rows : (c : ℕ) → registered new.tree.clocks c ≡ (registered old.tree.clocks c || registers event c)
   pub step : (s : State) → Stands old s → IsSound old.window.size s → Leads s driver event turn new

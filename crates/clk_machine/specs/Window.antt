@@ -1,13 +1,28 @@
 -- The words of a bank that a description uses.
-use Rattle.std.specs.Prelude.{◌≡◌, ℕ, List, Option, IfSome, length}
+use Rattle.std.specs.Prelude.{◌≡◌, ℕ, List, Option, None, IfSome, length, map, slice_index_or}
+use Rattle.reg_bank.specs.Locks.{most_plls}
 use Rattle.reg_bank.specs.Registers.{AreWords}
+use Rattle.clk_model.specs.Lists.{count_from}
+use Rattle.reg_bank.specs.declared.pll_lock.PllLock.{PllLock}
 
--- how many words there are, and where the bank tells them the words and those behind them
+-- how many words there are, where the bank tells them the words and those behind them, and the locks of PLLs where it tells these
 pub record Shown : Type 0 where
   pub size : ℕ
   pub words : Option (List ℕ)
   pub behind : Option (List ℕ)
+  pub locks : List (Option PllLock)
 
 -- the words that are told are words of 32 bits, as many as there are
 abbrev pub AreTold : ℕ → Option (List ℕ) → Type 0
 AreTold size told = IfSome told (λ words. AreWords words × (length words ≡ size))
+
+-- as many locks as there may be PLLs
+unfoldable pub lock_count : ℕ
+lock_count = most_plls
+
+-- the locks of all PLLs as a list, and the lock of one in such a list
+abbrev pub locks_of : (ℕ → Option PllLock) → List (Option PllLock)
+locks_of lock = map lock (count_from 0 lock_count)
+
+abbrev pub lock_in : List (Option PllLock) → ℕ → Option PllLock
+lock_in locks p = slice_index_or locks p None

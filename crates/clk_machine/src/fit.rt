@@ -54,8 +54,8 @@ fn are_before(parents: &[ClockId], clock: ClockId) -> bool
     true
 }
 
-// Whether a clock is a PLL.
-fn is_pll(desc: &ValidDesc, clock: ClockId) -> bool
+/// Whether a clock is a PLL.
+pub(crate) fn is_pll(desc: &ValidDesc, clock: ClockId) -> bool
     requires { clock.0 < length desc.now.defs }
     ensures { result ≡ is_pll (kind_of desc.now.defs clock.0) }
 {

@@ -9,10 +9,13 @@ mod handles;
 mod laws;
 mod log;
 mod machine;
+mod plls;
+mod power;
 mod register;
 mod row;
 mod seen;
 mod window;
+mod work;
 
 pub use built::is_built;
 pub use fit::{first_unfit, has_pll, is_fit};

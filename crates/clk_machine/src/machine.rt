@@ -11,14 +11,17 @@ mod calls;
 mod enabling;
 mod exclusives;
 mod holding;
+mod landing;
 mod notifying;
 mod registering;
 mod rounding;
 mod rows;
+mod stepping;
 mod telling;
 
 use crate::window::Window;
 use clk_base::{Handle, Reply, Sleeping, ValidDesc};
+use clk_flight::Flight;
 use clk_io::NoMemory;
 use clk_model::HandleRow;
 use clk_tree::Tree;
@@ -42,6 +45,9 @@ pub(crate) struct Machine<B: Bank> {
     credits: u32,
     spent: u32,
     ignore_unused: bool,
+    flight: Flight,
+    /// How many steps were made.
+    steps: u32,
 }
 
 impl<B: Bank> Model for Machine<B> {
@@ -49,9 +55,9 @@ impl<B: Bank> Model for Machine<B> {
 
     ghost Value = { Parts };
 
-    ghost view = { λ m. parts_of m.desc m.window m.tree m.handles m.counts m.notifiers m.credits m.spent m.ignore_unused };
+    ghost view = { λ m. parts_of m.desc m.window m.tree m.handles m.counts m.notifiers m.credits m.spent m.ignore_unused m.flight m.steps };
 
-    ghost invariant = { λ m. IsWhole (parts_of m.desc m.window m.tree m.handles m.counts m.notifiers m.credits m.spent m.ignore_unused) };
+    ghost invariant = { λ m. IsWhole (parts_of m.desc m.window m.tree m.handles m.counts m.notifiers m.credits m.spent m.ignore_unused m.flight m.steps) };
 }
 
 impl<B: Bank> Machine<B> {
@@ -80,6 +86,7 @@ impl<B: Bank> Machine<B> {
         ensures told { IfOk result (λ m. is_told m ≡ is_some (B.contents bank)) }
         ensures stands { IfOk result (λ m. is_told m ≡ true → Stands m (opening desc.defs words.now ignore_unused credits)) }
         ensures fixed { IfOk result (λ m. (m.desc ≡ desc) × (m.credits ≡ credits) × (m.ignore_unused ≡ ignore_unused) × (m.spent ≡ 0)) }
+        ensures quiet { IfOk result (λ m. m.flight.going ≡ false) }
         ensures none { IfOk result (λ m. (c : ℕ) → registered m.tree.clocks c ≡ false) }
         ensures size { IfOk result (λ m. m.window.size ≡ length words.now) }
         ensures behind { IfOk result (λ m. m.window.behind ≡ option_map (drop (length words.now)) (B.contents bank)) }
@@ -90,6 +97,7 @@ impl<B: Bank> Machine<B> {
         let counts = Counts::create(alloc, &desc)?;
         let notifiers = Notifiers::create(alloc, &desc)?;
         let window = Window::create(bank, words);
+        let flight = Flight::create(alloc);
         Ok(Machine {
             desc,
             window,
@@ -100,6 +108,8 @@ impl<B: Bank> Machine<B> {
             credits,
             spent: 0,
             ignore_unused,
+            flight,
+            steps: 0,
         })
     }
 
@@ -127,6 +137,7 @@ impl<B: Bank> Machine<B> {
     /// Begins one of the calls that are built.
     pub(crate) fn begin(&mut self, driver: u32, what: Sleeping) -> Result<Reply, NoMemory>
         requires credit { self.old.spent < self.old.credits }
+        requires quiet { self.old.flight.going ≡ false }
         requires place { IsPlaced self.old.desc.defs what }
         requires built { is_built_over self.old.desc.defs (registered self.old.tree.clocks) what ≡ true }
         ensures ok { IfOk result (λ reply. Enters self.old driver (Begin what) (Done reply) self.new) }

@@ -1,10 +1,12 @@
 //! The words of a bank that a description uses.
 
-ghost use Rattle.std.specs.Prelude.{◌≡◌, ◌+◌, ◌<◌, ◌≤◌, IfSome, length, take, drop, slice_index};
+ghost use Rattle.std.specs.Prelude.{◌≡◌, ◌≢◌, ℕ, ◌+◌, ◌<◌, ◌≤◌, IfSome, length, take, drop, slice_index};
 ghost use Rattle.std.specs.Option.{option_map};
+ghost use Rattle.reg_bank.specs.Locks.{most_plls, started, polled, is_locked};
 ghost use Rattle.reg_bank.specs.Registers.{is_set, put_bit, field};
-ghost use Rattle.clk_machine.specs.Window.{AreTold};
+ghost use Rattle.clk_machine.specs.Window.{AreTold, locks_of, lock_in};
 
+use clk_base::ClockId;
 use reg_bank::{Bank, read_bit, read_field, write_bit};
 use std::marker::Model;
 
@@ -19,11 +21,11 @@ pub struct Window<B: Bank> {
 impl<B: Bank> Model for Window<B> {
     ghost use Rattle.std.specs.Prelude.{◌≤◌, take, drop};
     ghost use Rattle.std.specs.Option.{option_map};
-    ghost use Rattle.clk_machine.specs.Window.{Shown};
+    ghost use Rattle.clk_machine.specs.Window.{Shown, locks_of};
 
     ghost Value = { Shown };
 
-    ghost view = { λ w. record { size = w.size; words = option_map (take w.size) (B.contents w.bank); behind = option_map (drop w.size) (B.contents w.bank) } };
+    ghost view = { λ w. record { size = w.size; words = option_map (take w.size) (B.contents w.bank); behind = option_map (drop w.size) (B.contents w.bank); locks = locks_of (B.lock w.bank) } };
 
     ghost invariant = { λ w. w.size ≤ B.size w.bank };
 }
@@ -36,6 +38,7 @@ impl<B: Bank> Window<B> {
         ensures words { result.words ≡ option_map (λ _. words.now) (B.contents bank) }
         ensures behind { result.behind ≡ option_map (drop (length words.now)) (B.contents bank) }
         ensures told { AreTold result.size result.words }
+        ensures locks { result.locks ≡ locks_of (B.lock bank) }
     {
         for (place, word) in words.iter().enumerate() {
             bank.write(place, *word);
@@ -95,8 +98,34 @@ impl<B: Bank> Window<B> {
         ensures size { self.new.size ≡ self.old.size }
         ensures words { self.new.words ≡ option_map (λ words. put_bit words word bit value) self.old.words }
         ensures behind { self.new.behind ≡ self.old.behind }
+        ensures locks { self.new.locks ≡ self.old.locks }
     {
         write_bit(&mut self.bank, word as usize, bit, value);
+    }
+
+    /// Starts the lock of a PLL.
+    pub fn start(&mut self, pll: ClockId)
+        requires { pll.0 < most_plls }
+        ensures size { self.new.size ≡ self.old.size }
+        ensures words { self.new.words ≡ self.old.words }
+        ensures behind { self.new.behind ≡ self.old.behind }
+        ensures lock { lock_in self.new.locks pll.0 ≡ option_map started (lock_in self.old.locks pll.0) }
+        ensures others { (p : ℕ) → p ≢ pll.0 → lock_in self.new.locks p ≡ lock_in self.old.locks p }
+    {
+        self.bank.start(pll.0);
+    }
+
+    /// Polls the lock of a PLL.
+    pub fn locked(&mut self, pll: ClockId) -> bool
+        requires { pll.0 < most_plls }
+        ensures size { self.new.size ≡ self.old.size }
+        ensures words { self.new.words ≡ self.old.words }
+        ensures behind { self.new.behind ≡ self.old.behind }
+        ensures lock { lock_in self.new.locks pll.0 ≡ option_map polled (lock_in self.old.locks pll.0) }
+        ensures others { (p : ℕ) → p ≢ pll.0 → lock_in self.new.locks p ≡ lock_in self.old.locks p }
+        ensures answer { IfSome (lock_in self.new.locks pll.0) (λ now. result ≡ is_locked now) }
+    {
+        self.bank.locked(pll.0)
     }
 
     /// The whole bank.

@@ -32,6 +32,7 @@ impl<B: Bank> Machine<B> {
     /// Gives a handle of a clock that was found, registered and rooted.
     pub(crate) fn get(&mut self, driver: u32, found: Option<ClockId>) -> Result<Reply, NoMemory>
         requires credit { self.old.spent < self.old.credits }
+        requires quiet { self.old.flight.going ≡ false }
         requires place { ForSome found (λ c. c.0 < length self.old.desc.defs) }
         ensures ok { IfOk result (λ reply. Enters self.old driver (Begin (Get found)) (Done reply) self.new) }
         ensures err { OnErr result (self.new ≡ self.old) }
@@ -50,7 +51,8 @@ impl<B: Bank> Machine<B> {
 
     /// Takes a handle back that holds nothing.
     pub(crate) fn put(&mut self, driver: u32, handle: Handle) -> Reply
-        requires { self.old.spent < self.old.credits }
+        requires credit { self.old.spent < self.old.credits }
+        requires quiet { self.old.flight.going ≡ false }
         ensures { Enters self.old driver (Begin (Put handle)) (Done result) self.new }
     {
         let Some(row) = self.own(driver, handle) else {
@@ -68,6 +70,7 @@ impl<B: Bank> Machine<B> {
     /// Prepares a handle. There is no PLL to be raised.
     pub(crate) fn prepare(&mut self, driver: u32, handle: Handle) -> Reply
         requires credit { self.old.spent < self.old.credits }
+        requires quiet { self.old.flight.going ≡ false }
         requires plls { has_pll self.old.desc.defs ≡ false }
         ensures { Enters self.old driver (Begin (Prepare handle)) (Done result) self.new }
     {
@@ -81,7 +84,8 @@ impl<B: Bank> Machine<B> {
 
     /// Takes a prepare from a handle. Where there is a PLL, no handle has one.
     pub(crate) fn unprepare(&mut self, driver: u32, handle: Handle) -> Reply
-        requires { self.old.spent < self.old.credits }
+        requires credit { self.old.spent < self.old.credits }
+        requires quiet { self.old.flight.going ≡ false }
         ensures { Enters self.old driver (Begin (Unprepare handle)) (Done result) self.new }
     {
         let Some(row) = self.own(driver, handle) else {
@@ -106,7 +110,8 @@ impl<B: Bank> Machine<B> {
 
     /// Tells the rate of a handle's clock in Hz.
     pub(crate) fn rate(&mut self, driver: u32, handle: Handle) -> Reply
-        requires { self.old.spent < self.old.credits }
+        requires credit { self.old.spent < self.old.credits }
+        requires quiet { self.old.flight.going ≡ false }
         ensures { Enters self.old driver (Begin (GetRate handle)) (Done result) self.new }
     {
         let Some(row) = self.own(driver, handle) else {
@@ -127,7 +132,8 @@ impl<B: Bank> Machine<B> {
 
     /// Tells the parent that a handle's clock is attached to.
     pub(crate) fn parent(&mut self, driver: u32, handle: Handle) -> Reply
-        requires { self.old.spent < self.old.credits }
+        requires credit { self.old.spent < self.old.credits }
+        requires quiet { self.old.flight.going ≡ false }
         ensures { Enters self.old driver (Begin (GetParent handle)) (Done result) self.new }
     {
         let Some(row) = self.own(driver, handle) else {

@@ -1,6 +1,6 @@
 //! Exclusive holds of a rate.
 
-ghost use Rattle.std.specs.Prelude.{◌≡◌, ◌<◌};
+ghost use Rattle.std.specs.Prelude.{false, ◌≡◌, ◌<◌};
 ghost use Rattle.clk_base.specs.declared.event.Event.TheVariants.{Begin};
 ghost use Rattle.clk_base.specs.declared.event.Turn.TheVariants.{Done};
 ghost use Rattle.clk_base.specs.declared.call.Sleeping.TheVariants.{ExclusiveGet, ExclusivePut};
@@ -13,7 +13,8 @@ use reg_bank::Bank;
 impl<B: Bank> Machine<B> {
     /// Takes an exclusive hold of the rate of a handle's clock.
     pub(crate) fn exclusive_get(&mut self, driver: u32, handle: Handle) -> Reply
-        requires { self.old.spent < self.old.credits }
+        requires credit { self.old.spent < self.old.credits }
+        requires quiet { self.old.flight.going ≡ false }
         ensures { Enters self.old driver (Begin (ExclusiveGet handle)) (Done result) self.new }
     {
         let Some(row) = self.own(driver, handle) else {
@@ -26,7 +27,8 @@ impl<B: Bank> Machine<B> {
 
     /// Gives up an exclusive hold of the rate of a handle's clock.
     pub(crate) fn exclusive_put(&mut self, driver: u32, handle: Handle) -> Reply
-        requires { self.old.spent < self.old.credits }
+        requires credit { self.old.spent < self.old.credits }
+        requires quiet { self.old.flight.going ≡ false }
         ensures { Enters self.old driver (Begin (ExclusivePut handle)) (Done result) self.new }
     {
         let Some(row) = self.own(driver, handle) else {

@@ -96,6 +96,7 @@ impl<B: Bank> Machine<B> {
     /// A new handle of a registered clock, which allows every rate.
     pub(super) fn add_handle(&mut self, driver: u32, clock: ClockId) -> Result<Handle, NoMemory>
         requires credit { self.old.spent < self.old.credits }
+        requires quiet { self.old.flight.going ≡ false }
         requires there { registered self.old.tree.clocks clock.0 ≡ true }
         ensures number { IfOk result (λ h. (h.number ≡ length self.old.table.handles) × (h.driver ≡ driver)) }
         ensures ok { OnOk result (Becomes self.old nothing (gives driver clock.0) self.new) }
@@ -109,6 +110,7 @@ impl<B: Bank> Machine<B> {
     /// Takes a handle away that holds nothing. Its number isn't used again.
     pub(super) fn remove_handle(&mut self, handle: Handle, row: HandleRow)
         requires credit { self.old.spent < self.old.credits }
+        requires quiet { self.old.flight.going ≡ false }
         requires live { handle_at self.old.table.handles handle.number ≡ Some row }
         requires free { holds_something row ≡ false }
         ensures { Becomes self.old nothing (puts handle.number None) self.new }

@@ -1,6 +1,6 @@
 //! Notifiers of a clock.
 
-ghost use Rattle.std.specs.Prelude.{◌≡◌, ◌<◌, length, IfOk, IfErr, OnOk, OnErr};
+ghost use Rattle.std.specs.Prelude.{false, ◌≡◌, ◌<◌, length, IfOk, IfErr, OnOk, OnErr};
 ghost use Rattle.clk_base.specs.declared.event.Event.TheVariants.{Begin};
 ghost use Rattle.clk_base.specs.declared.event.Turn.TheVariants.{Done};
 ghost use Rattle.clk_base.specs.declared.call.Sleeping.TheVariants.{NotifierAdd, NotifierRemove};
@@ -24,6 +24,7 @@ impl<B: Bank> Machine<B> {
         policy: Policy,
     ) -> Result<(), ChainFault>
         requires credit { self.old.spent < self.old.credits }
+        requires quiet { self.old.flight.going ≡ false }
         requires place { clock.0 < length self.old.desc.defs }
         ensures ok { OnOk result (Becomes self.old nothing (notified clock.0 id priority policy) self.new) }
         ensures can { OnOk result (CanAdd id (chain_of self.old.chains clock.0)) }
@@ -37,7 +38,8 @@ impl<B: Bank> Machine<B> {
 
     // The notifier of this id less, if the clock has one, and whether it had.
     fn remove_notifier(&mut self, clock: ClockId, id: u32) -> bool
-        requires { self.old.spent < self.old.credits }
+        requires credit { self.old.spent < self.old.credits }
+        requires quiet { self.old.flight.going ≡ false }
         ensures had { result ≡ has_id id (chain_of self.old.chains clock.0) }
         ensures removed { Becomes self.old nothing (unnotified clock.0 id) self.new }
     {
@@ -55,7 +57,8 @@ impl<B: Bank> Machine<B> {
         priority: i32,
         policy: Policy,
     ) -> Result<Reply, NoMemory>
-        requires { self.old.spent < self.old.credits }
+        requires credit { self.old.spent < self.old.credits }
+        requires quiet { self.old.flight.going ≡ false }
         ensures ok { IfOk result (λ reply. Enters self.old driver (Begin (NotifierAdd handle id priority policy)) (Done reply) self.new) }
         ensures err { OnErr result (self.new ≡ self.old) }
     {
@@ -79,7 +82,8 @@ impl<B: Bank> Machine<B> {
 
     /// Takes the notifier of this id from the clock of a handle.
     pub(crate) fn notifier_remove(&mut self, driver: u32, handle: Handle, id: u32) -> Reply
-        requires { self.old.spent < self.old.credits }
+        requires credit { self.old.spent < self.old.credits }
+        requires quiet { self.old.flight.going ≡ false }
         ensures { Enters self.old driver (Begin (NotifierRemove handle id)) (Done result) self.new }
     {
         let Some(row) = self.own(driver, handle) else {

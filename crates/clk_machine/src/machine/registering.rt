@@ -39,6 +39,7 @@ impl<B: Bank> Machine<B> {
     // credit.
     fn register(&mut self, clock: ClockId)
         requires credit { self.old.spent < self.old.credits }
+        requires quiet { self.old.flight.going ≡ false }
         requires place { clock.0 < length self.old.desc.defs }
         requires free { registered self.old.tree.clocks clock.0 ≡ false }
         requires parents { list_all (registered self.old.tree.clocks) (parents_of self.old.desc.defs clock.0) ≡ true }
@@ -53,6 +54,7 @@ impl<B: Bank> Machine<B> {
     // The same of a critical clock: it is prepared and enabled from now on.
     fn register_critical(&mut self, clock: ClockId)
         requires credit { self.old.spent < self.old.credits }
+        requires quiet { self.old.flight.going ≡ false }
         requires place { clock.0 < length self.old.desc.defs }
         requires free { registered self.old.tree.clocks clock.0 ≡ false }
         requires parents { list_all (registered self.old.tree.clocks) (parents_of self.old.desc.defs clock.0) ≡ true }
@@ -79,6 +81,7 @@ impl<B: Bank> Machine<B> {
     /// Registers a clock whose possible parents are registered, unless it is registered already.
     pub(crate) fn probe(&mut self, driver: u32, clock: ClockId) -> Reply
         requires credit { self.old.spent < self.old.credits }
+        requires quiet { self.old.flight.going ≡ false }
         requires place { clock.0 < length self.old.desc.defs }
         requires parents { list_all (registered self.old.tree.clocks) (parents_of self.old.desc.defs clock.0) ≡ true }
         ensures { Enters self.old driver (Begin (Probe clock)) (Done result) self.new }

@@ -1,6 +1,6 @@
 //! What a request for a rate would give.
 
-ghost use Rattle.std.specs.Prelude.{◌≡◌, ◌<◌, true, length, IfSome, Some};
+ghost use Rattle.std.specs.Prelude.{◌≡◌, ◌<◌, true, false, length, IfSome, Some};
 ghost use Rattle.clk_base.specs.declared.event.Event.TheVariants.{Begin};
 ghost use Rattle.clk_base.specs.declared.event.Turn.TheVariants.{Done};
 ghost use Rattle.clk_base.specs.declared.call.Sleeping.TheVariants.{RoundRate};
@@ -70,7 +70,8 @@ impl<B: Bank> Machine<B> {
 
     /// Tells the rate in Hz that a handle's clock would get for a request.
     pub(crate) fn round(&mut self, driver: u32, handle: Handle, rate: u64) -> Reply
-        requires { self.old.spent < self.old.credits }
+        requires credit { self.old.spent < self.old.credits }
+        requires quiet { self.old.flight.going ≡ false }
         ensures { Enters self.old driver (Begin (RoundRate handle rate)) (Done result) self.new }
     {
         let Some(row) = self.own(driver, handle) else {

@@ -1,6 +1,6 @@
 //! What the machine tells of itself.
 
-ghost use Rattle.std.specs.Prelude.{◌≡◌, ◌+◌, ◌<◌, true, length, is_some, take, drop, slice_index, IfSome};
+ghost use Rattle.std.specs.Prelude.{◌≡◌, ◌+◌, ◌<◌, not, length, is_some, take, drop, slice_index, IfSome};
 ghost use Rattle.std.specs.Option.{option_map};
 ghost use Rattle.clk_model.specs.State.{State, is_quiet};
 ghost use Rattle.clk_machine.specs.Fit.{has_pll};
@@ -39,9 +39,9 @@ impl<B: Bank> Machine<B> {
     /// Whether no change is in flight.
     pub(crate) fn is_quiet(&self) -> bool
         ensures tells { (s : State) → Stands self.now s → result ≡ is_quiet s.change }
-        ensures none { result ≡ true }
+        ensures going { result ≡ not self.now.flight.going }
     {
-        true
+        !self.flight.going()
     }
 
     /// How many credits are left.
@@ -82,6 +82,8 @@ impl<B: Bank> Machine<B> {
             credits: _,
             spent: _,
             ignore_unused: _,
+            flight: _,
+            steps: _,
         } = self;
         window.into_bank()
     }

@@ -1,33 +1,21 @@
 use Rattle.std.proofs.Common.{refl}
 use Rattle.clk_base.specs.declared.event.Event.TheVariants.{Disable}
 use Rattle.clk_base.specs.declared.event.Turn.TheVariants.{Done}
-use Rattle.clk_machine.proofs.Entering.{entered, appended}
+use Rattle.clk_machine.proofs.Entering.{answered, entered, appended}
 use Rattle.clk_model.proofs.CauseLaws.{disable_causes}
 use Rattle.clk_machine.proofs.Causing.{appends_refused}
 use Rattle.clk_machine.proofs.framework.Core.disable.Goals as goal
 
 pub invariant_of-self : goal.invariant_of-self
 invariant_of-self g c =
-    entered c.self.inside.machine c.disable-reply.new.self c.self.inside.words.items c.self.inside.log c.push.new.self c.args.driver (Disable c.args.handle.number) (Done c.disable-reply.result) (record {
-      run = c.self.invariant;
-      enters = c.disable-reply.ensures;
-      can = λ told. tt;
-      paid = refl;
-      entries = c.push.ensures.entries;
-      room = c.push.ensures.room;
-    })
+    entered c.self.inside.machine c.disable-reply.new.self c.self.inside.words.items c.self.inside.log c.push.new.self c.args.driver (Disable c.args.handle.number) (Done c.disable-reply.result)
+    (answered c.self.inside.machine c.disable-reply.new.self c.self.inside.words.items c.self.inside.log c.push.new.self c.args.driver (Disable c.args.handle.number) (Done c.disable-reply.result) c.self.invariant c.disable-reply.ensures (λ told. tt) refl refl c.push.ensures.entries c.push.ensures.room)
 
 pub returns-clause-entry : goal.returns-clause-entry
 returns-clause-entry g c =
     rw (← c.self.view_is)
-    (appended c.self.inside.machine c.disable-reply.new.self c.self.inside.words.items c.self.inside.log c.push.new.self c.args.driver (Disable c.args.handle.number) (Done c.disable-reply.result) (record {
-      run = c.self.invariant;
-      enters = c.disable-reply.ensures;
-      can = λ told. tt;
-      paid = refl;
-      entries = c.push.ensures.entries;
-      room = c.push.ensures.room;
-    }))
+    (appended c.self.inside.machine c.disable-reply.new.self c.self.inside.words.items c.self.inside.log c.push.new.self c.args.driver (Disable c.args.handle.number) (Done c.disable-reply.result)
+    (answered c.self.inside.machine c.disable-reply.new.self c.self.inside.words.items c.self.inside.log c.push.new.self c.args.driver (Disable c.args.handle.number) (Done c.disable-reply.result) c.self.invariant c.disable-reply.ensures (λ told. tt) refl refl c.push.ensures.entries c.push.ensures.room))
 
 pub returns-clause-causes : goal.returns-clause-causes
 returns-clause-causes g c = λ told. disable_causes _ _ c.args.driver c.args.handle.number c.disable-reply.result ((returns-clause-entry g c).step told)

@@ -1,4 +1,4 @@
-use Rattle.std.proofs.Common.{◌<◌, ◌∷◌, ◌++◌, [], sym, subst, ℕ, ℤ, length, w32}
+use Rattle.std.proofs.Common.{◌≡◌, ◌<◌, ◌∷◌, ◌++◌, [], sym, subst, ℕ, ℤ, length, w32, false}
 use Rattle.std.proofs.lemmas.Int.{to_z-of_z}
 use Rattle.notifiers.specs.Chains.{Tells}
 use Rattle.clk_machine.specs.Parts.{Parts, parts_of}
@@ -14,16 +14,18 @@ add-requires g c =
 pub invariant_of-self-2 : goal.invariant_of-self-2
 invariant_of-self-2 g c =
     let m = c.self.inside in
-    let p : Parts = parts_of m.desc m.window m.tree m.handles m.counts m.notifiers m.credits m.spent m.ignore_unused in
+    let p : Parts = parts_of m.desc m.window m.tree m.handles m.counts m.notifiers m.credits m.spent m.ignore_unused m.flight m.steps in
+    let quiet : m.flight.going ≡ false = rw (← c.self.view_is) at c.requires.quiet in
     let left : m.spent < m.credits = rw (← c.self.view_is) at c.requires.credit in
-    whole_notified p c.add.new.self c.self.invariant left c.add.ensures.clocks
+    whole_notified p c.add.new.self c.self.invariant quiet left c.add.ensures.clocks
 
 pub returns-clause-ok : goal.returns-clause-ok
 returns-clause-ok g c =
     let m = c.self.inside in
-    let p : Parts = parts_of m.desc m.window m.tree m.handles m.counts m.notifiers m.credits m.spent m.ignore_unused in
+    let p : Parts = parts_of m.desc m.window m.tree m.handles m.counts m.notifiers m.credits m.spent m.ignore_unused m.flight m.steps in
+    let quiet : m.flight.going ≡ false = rw (← c.self.view_is) at c.requires.quiet in
     rw (← c.self.view_is)
-    (becomes_notified p c.add.new.self (λ ns. ns ++ record { clock = c.args.clock.0; id = c.args.id; priority = c.args.priority; policy = c.args.policy } ∷ [])
+    (becomes_notified p c.add.new.self (λ ns. ns ++ record { clock = c.args.clock.0; id = c.args.id; priority = c.args.priority; policy = c.args.policy } ∷ []) quiet
     (λ ns tells.
     subst (λ (z : ℤ). Tells c.add.new.self (ns ++ record { clock = c.args.clock.0; id = c.args.id; priority = z; policy = c.args.policy } ∷ []))
     (to_z-of_z w32 c.args.priority c.ranges.priority) (c.in_ok-add.ensures.told ns tells)))

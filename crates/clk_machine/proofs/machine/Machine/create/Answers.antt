@@ -10,7 +10,7 @@ pub invariant_of-result : goal.invariant_of-result
 invariant_of-result g c =
     let tree = c.in_ok-tree.tree in
     let made = c.in_ok-counts.ensures in
-    whole_opening c.args.desc c.create-window.result tree c.in_ok-handles.handles c.in_ok-counts.counts c.in_ok-notifiers.notifiers c.args.credits c.args.ignore_unused
+    whole_opening c.args.desc c.create-window.result tree c.in_ok-handles.handles c.in_ok-counts.counts c.in_ok-notifiers.notifiers c.args.credits c.args.ignore_unused c.create-flight.result c.create-flight.ensures.quiet
     (subst (λ (d : Checked). IsValid d.words d.defs) c.desc.view_is c.desc.invariant) c.requires.runs (c.create-window.ensures.size ∙ c.requires.words) c.create-window.ensures.told
     c.in_ok-tree.ensures.defs c.in_ok-tree.ensures.rows c.in_ok-tree.ensures.stands c.requires.credits
     c.in_ok-handles.ensures.clocks c.in_ok-handles.ensures.handles made.stands
@@ -19,8 +19,8 @@ invariant_of-result g c =
 
 pub returns-clause-stands : goal.returns-clause-stands
 returns-clause-stands g c = λ told.
-    stands_opening c.args.desc c.create-window.result c.in_ok-tree.tree c.in_ok-handles.handles c.in_ok-counts.counts c.in_ok-notifiers.notifiers c.args.credits c.args.ignore_unused
-    c.args.words.now (g.B.Bank.contents c.args.bank) c.create-window.ensures.words c.in_ok-tree.ensures.rows c.in_ok-tree.ensures.order c.in_ok-handles.ensures.handles
+    stands_opening c.args.desc c.create-window.result c.in_ok-tree.tree c.in_ok-handles.handles c.in_ok-counts.counts c.in_ok-notifiers.notifiers c.args.credits c.args.ignore_unused c.create-flight.result
+    c.args.words.now (g.B.Bank.contents c.args.bank) c.create-flight.ensures.quiet c.create-window.ensures.words c.in_ok-tree.ensures.rows c.in_ok-tree.ensures.order c.in_ok-handles.ensures.handles
     c.in_ok-notifiers.ensures.told told
 
 pub returns-clause-none : goal.returns-clause-none

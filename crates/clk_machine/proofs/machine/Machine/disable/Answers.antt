@@ -9,17 +9,17 @@ use Rattle.clk_machine.proofs.machine.Machine.disable.Goals as goal
 
 pub returns-in_default : goal.returns-in_default
 returns-in_default g c =
-    enters c.args.self.now c.spend.new.self c.args.driver (Disable c.args.handle.number) (Refused ENOENT) stays refl c.requires c.spend.ensures
+    enters c.args.self.now c.spend.new.self c.args.driver (Disable c.args.handle.number) (Refused ENOENT) stays refl refl c.requires c.spend.ensures
     (λ s stands sound. disable-unknown s c.args.driver c.args.handle.number (own_stands c.args.self.now s c.args.driver c.args.handle.number None stands (c.own.ensures.row ∙ c.in_default.is)))
 
 pub returns-then-row-eq0 : goal.returns-then-row-eq0
 returns-then-row-eq0 g c =
-    enters c.args.self.now c.spend-then-row-eq0.new.self c.args.driver (Disable c.args.handle.number) Warn stays refl c.requires c.spend-then-row-eq0.ensures
+    enters c.args.self.now c.spend-then-row-eq0.new.self c.args.driver (Disable c.args.handle.number) Warn stays refl refl c.requires c.spend-then-row-eq0.ensures
     (λ s stands sound. disable-warned s c.args.driver c.args.handle.number c.in-Some.row
     (own_stands c.args.self.now s c.args.driver c.args.handle.number (Some c.in-Some.row) stands (c.own.ensures.row ∙ c.in-Some.is)) c.if-row-eq0.true)
 
 pub returns : goal.returns
 returns g c =
-    enters c.args.self.now c.drop_enable.new.self c.args.driver (Disable c.args.handle.number) Fine (puts c.args.handle.number (Some (enabled_less c.in-Some.row))) refl c.requires c.drop_enable.ensures
+    enters c.args.self.now c.drop_enable.new.self c.args.driver (Disable c.args.handle.number) Fine (puts c.args.handle.number (Some (enabled_less c.in-Some.row))) refl refl c.requires c.drop_enable.ensures
     (λ s stands sound. disable-fine s c.args.driver c.args.handle.number c.in-Some.row
     (own_stands c.args.self.now s c.args.driver c.args.handle.number (Some c.in-Some.row) stands (c.own.ensures.row ∙ c.in-Some.is)) (omega arith))

@@ -12,7 +12,7 @@ use Rattle.clk_machine.proofs.machine.Machine.drop_enable.Goals as goal
 pub disable_walk-stopped-requires-clause-place : goal.disable_walk-stopped-requires-clause-place
 disable_walk-stopped-requires-clause-place g c =
     let m = c.self.inside in
-    let p : Parts = parts_of m.desc m.window m.tree m.handles m.counts m.notifiers m.credits m.spent m.ignore_unused in
+    let p : Parts = parts_of m.desc m.window m.tree m.handles m.counts m.notifiers m.credits m.spent m.ignore_unused m.flight m.steps in
     let row = c.args.row in
     let n = c.args.handle.number in
     let live : handle_at m.handles.handles n ≡ Some row = rw (← c.self.view_is) at c.requires.live in
@@ -21,7 +21,7 @@ disable_walk-stopped-requires-clause-place g c =
 pub disable_walk-stopped-requires-clause-links : goal.disable_walk-stopped-requires-clause-links
 disable_walk-stopped-requires-clause-links g c =
     let m = c.self.inside in
-    let p : Parts = parts_of m.desc m.window m.tree m.handles m.counts m.notifiers m.credits m.spent m.ignore_unused in
+    let p : Parts = parts_of m.desc m.window m.tree m.handles m.counts m.notifiers m.credits m.spent m.ignore_unused m.flight m.steps in
     let row = c.args.row in
     let n = c.args.handle.number in
     let live : handle_at m.handles.handles n ≡ Some row = rw (← c.self.view_is) at c.requires.live in
@@ -30,7 +30,7 @@ disable_walk-stopped-requires-clause-links g c =
 pub disable_walk-stopped-requires-clause-held : goal.disable_walk-stopped-requires-clause-held
 disable_walk-stopped-requires-clause-held g c =
     let m = c.self.inside in
-    let p : Parts = parts_of m.desc m.window m.tree m.handles m.counts m.notifiers m.credits m.spent m.ignore_unused in
+    let p : Parts = parts_of m.desc m.window m.tree m.handles m.counts m.notifiers m.credits m.spent m.ignore_unused m.flight m.steps in
     let row = c.args.row in
     let n = c.args.handle.number in
     let live : handle_at m.handles.handles n ≡ Some row = rw (← c.self.view_is) at c.requires.live in
@@ -39,7 +39,7 @@ disable_walk-stopped-requires-clause-held g c =
 pub close_path-requires-clause-place : goal.close_path-requires-clause-place
 close_path-requires-clause-place g c =
     let m = c.self.inside in
-    let p : Parts = parts_of m.desc m.window m.tree m.handles m.counts m.notifiers m.credits m.spent m.ignore_unused in
+    let p : Parts = parts_of m.desc m.window m.tree m.handles m.counts m.notifiers m.credits m.spent m.ignore_unused m.flight m.steps in
     let row = c.args.row in
     let n = c.args.handle.number in
     let live : handle_at m.handles.handles n ≡ Some row = rw (← c.self.view_is) at c.requires.live in
@@ -48,7 +48,7 @@ close_path-requires-clause-place g c =
 pub close_path-requires-clause-links : goal.close_path-requires-clause-links
 close_path-requires-clause-links g c =
     let m = c.self.inside in
-    let p : Parts = parts_of m.desc m.window m.tree m.handles m.counts m.notifiers m.credits m.spent m.ignore_unused in
+    let p : Parts = parts_of m.desc m.window m.tree m.handles m.counts m.notifiers m.credits m.spent m.ignore_unused m.flight m.steps in
     let row = c.args.row in
     let n = c.args.handle.number in
     let live : handle_at m.handles.handles n ≡ Some row = rw (← c.self.view_is) at c.requires.live in
@@ -57,7 +57,7 @@ close_path-requires-clause-links g c =
 pub invariant_of-self : goal.invariant_of-self
 invariant_of-self g c =
     let m = c.self.inside in
-    let p : Parts = parts_of m.desc m.window m.tree m.handles m.counts m.notifiers m.credits m.spent m.ignore_unused in
+    let p : Parts = parts_of m.desc m.window m.tree m.handles m.counts m.notifiers m.credits m.spent m.ignore_unused m.flight m.steps in
     let row = c.args.row in
     let n = c.args.handle.number in
     let live : handle_at m.handles.handles n ≡ Some row = rw (← c.self.view_is) at c.requires.live in
@@ -65,6 +65,7 @@ invariant_of-self g c =
     written_enables p n (get_or m.counts.enables row.clock.0 0 - 1) row (enabled_less row) c.set_counts.new.self c.disable_walk-stopped.new.self c.self.invariant (record {
       live = live;
       clock = refl;
+      driver = refl;
       handles = c.set_counts.ensures.counts ∙ counts_given m.handles.handles n row.prepares (row.enables - 1) row.exclusives row live;
       clocks = c.set_counts.ensures.clocks;
       more = omega arith;
@@ -75,7 +76,7 @@ invariant_of-self g c =
 pub returns : goal.returns
 returns g c =
     let m = c.self.inside in
-    let p : Parts = parts_of m.desc m.window m.tree m.handles m.counts m.notifiers m.credits m.spent m.ignore_unused in
+    let p : Parts = parts_of m.desc m.window m.tree m.handles m.counts m.notifiers m.credits m.spent m.ignore_unused m.flight m.steps in
     let row = c.args.row in
     let n = c.args.handle.number in
     let live : handle_at m.handles.handles n ≡ Some row = rw (← c.self.view_is) at c.requires.live in
@@ -83,6 +84,7 @@ returns g c =
     written_enables p n (get_or m.counts.enables row.clock.0 0 - 1) row (enabled_less row) c.set_counts.new.self c.disable_walk-stopped.new.self c.self.invariant (record {
       live = live;
       clock = refl;
+      driver = refl;
       handles = c.set_counts.ensures.counts ∙ counts_given m.handles.handles n row.prepares (row.enables - 1) row.exclusives row live;
       clocks = c.set_counts.ensures.clocks;
       more = omega arith;

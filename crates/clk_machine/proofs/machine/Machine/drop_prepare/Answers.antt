@@ -10,7 +10,7 @@ use Rattle.clk_machine.proofs.machine.Machine.drop_prepare.Goals as goal
 pub release-requires-clause-place : goal.release-requires-clause-place
 release-requires-clause-place g c =
     let m = c.self.inside in
-    let p : Parts = parts_of m.desc m.window m.tree m.handles m.counts m.notifiers m.credits m.spent m.ignore_unused in
+    let p : Parts = parts_of m.desc m.window m.tree m.handles m.counts m.notifiers m.credits m.spent m.ignore_unused m.flight m.steps in
     let row = c.args.row in
     let n = c.args.handle.number in
     let live : handle_at m.handles.handles n ≡ Some row = rw (← c.self.view_is) at c.requires.live in
@@ -19,7 +19,7 @@ release-requires-clause-place g c =
 pub release-requires-clause-links : goal.release-requires-clause-links
 release-requires-clause-links g c =
     let m = c.self.inside in
-    let p : Parts = parts_of m.desc m.window m.tree m.handles m.counts m.notifiers m.credits m.spent m.ignore_unused in
+    let p : Parts = parts_of m.desc m.window m.tree m.handles m.counts m.notifiers m.credits m.spent m.ignore_unused m.flight m.steps in
     let row = c.args.row in
     let n = c.args.handle.number in
     let live : handle_at m.handles.handles n ≡ Some row = rw (← c.self.view_is) at c.requires.live in
@@ -28,7 +28,7 @@ release-requires-clause-links g c =
 pub release-requires-clause-held : goal.release-requires-clause-held
 release-requires-clause-held g c =
     let m = c.self.inside in
-    let p : Parts = parts_of m.desc m.window m.tree m.handles m.counts m.notifiers m.credits m.spent m.ignore_unused in
+    let p : Parts = parts_of m.desc m.window m.tree m.handles m.counts m.notifiers m.credits m.spent m.ignore_unused m.flight m.steps in
     let row = c.args.row in
     let n = c.args.handle.number in
     let live : handle_at m.handles.handles n ≡ Some row = rw (← c.self.view_is) at c.requires.live in
@@ -37,7 +37,7 @@ release-requires-clause-held g c =
 pub invariant_of-self : goal.invariant_of-self
 invariant_of-self g c =
     let m = c.self.inside in
-    let p : Parts = parts_of m.desc m.window m.tree m.handles m.counts m.notifiers m.credits m.spent m.ignore_unused in
+    let p : Parts = parts_of m.desc m.window m.tree m.handles m.counts m.notifiers m.credits m.spent m.ignore_unused m.flight m.steps in
     let row = c.args.row in
     let n = c.args.handle.number in
     let live : handle_at m.handles.handles n ≡ Some row = rw (← c.self.view_is) at c.requires.live in
@@ -45,6 +45,7 @@ invariant_of-self g c =
     written_prepares p n (get_or m.counts.prepares row.clock.0 0 - 1) row (prepared_less row) c.set_counts.new.self c.release.new.self c.self.invariant (record {
       live = live;
       clock = refl;
+      driver = refl;
       handles = c.set_counts.ensures.counts ∙ counts_given m.handles.handles n (row.prepares - 1) row.enables row.exclusives row live;
       clocks = c.set_counts.ensures.clocks;
       more = omega arith;
@@ -55,7 +56,7 @@ invariant_of-self g c =
 pub returns : goal.returns
 returns g c =
     let m = c.self.inside in
-    let p : Parts = parts_of m.desc m.window m.tree m.handles m.counts m.notifiers m.credits m.spent m.ignore_unused in
+    let p : Parts = parts_of m.desc m.window m.tree m.handles m.counts m.notifiers m.credits m.spent m.ignore_unused m.flight m.steps in
     let row = c.args.row in
     let n = c.args.handle.number in
     let live : handle_at m.handles.handles n ≡ Some row = rw (← c.self.view_is) at c.requires.live in
@@ -63,6 +64,7 @@ returns g c =
     written_prepares p n (get_or m.counts.prepares row.clock.0 0 - 1) row (prepared_less row) c.set_counts.new.self c.release.new.self c.self.invariant (record {
       live = live;
       clock = refl;
+      driver = refl;
       handles = c.set_counts.ensures.counts ∙ counts_given m.handles.handles n (row.prepares - 1) row.enables row.exclusives row live;
       clocks = c.set_counts.ensures.clocks;
       more = omega arith;

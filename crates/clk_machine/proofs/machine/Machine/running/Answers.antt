@@ -16,19 +16,19 @@ is_active-runs-requires g c = row_place c.args.self.now c.args.handle.number c.i
 
 pub returns-in_default : goal.returns-in_default
 returns-in_default g c =
-    enters c.args.self.now c.spend.new.self c.args.driver (Running c.args.handle.number) (Refused ENOENT) stays refl c.requires c.spend.ensures
+    enters c.args.self.now c.spend.new.self c.args.driver (Running c.args.handle.number) (Refused ENOENT) stays refl refl c.requires c.spend.ensures
     (λ s stands sound. running-unknown s c.args.driver c.args.handle.number (own_stands c.args.self.now s c.args.driver c.args.handle.number None stands (c.own.ensures.row ∙ c.in_default.is)))
 
 pub returns-then-runs : goal.returns-then-runs
 returns-then-runs g c =
-    enters c.args.self.now c.spend-2.new.self c.args.driver (Running c.args.handle.number) Yes stays refl c.requires c.spend-2.ensures
+    enters c.args.self.now c.spend-2.new.self c.args.driver (Running c.args.handle.number) Yes stays refl refl c.requires c.spend-2.ensures
     (λ s stands sound. running-told s c.args.driver c.args.handle.number c.in-Some.row
     (own_stands c.args.self.now s c.args.driver c.args.handle.number (Some c.in-Some.row) stands (c.own.ensures.row ∙ c.in-Some.is))
     ∙ ap (λ (b : Bool). paid s (s, Done (if b then Yes else No))) (sym (c.is_active-runs.ensures s stands) ∙ c.if-runs.true))
 
 pub returns-else-runs : goal.returns-else-runs
 returns-else-runs g c =
-    enters c.args.self.now c.spend-2.new.self c.args.driver (Running c.args.handle.number) No stays refl c.requires c.spend-2.ensures
+    enters c.args.self.now c.spend-2.new.self c.args.driver (Running c.args.handle.number) No stays refl refl c.requires c.spend-2.ensures
     (λ s stands sound. running-told s c.args.driver c.args.handle.number c.in-Some.row
     (own_stands c.args.self.now s c.args.driver c.args.handle.number (Some c.in-Some.row) stands (c.own.ensures.row ∙ c.in-Some.is))
     ∙ ap (λ (b : Bool). paid s (s, Done (if b then Yes else No))) (sym (c.is_active-runs.ensures s stands) ∙ c.if-runs.false))

@@ -1,0 +1,417 @@
+-- What stays of a change in flight while its steps are made.
+use Rattle.std.proofs.Common.{◌≡◌, ℕ, ◌+◌, ◌<◌, ◌&&◌, ◌||◌, inl, inr, arith, length, Bool, true, false, List, [], ◌∷◌, Option, Some, None, refl, sym, ap, subst, ◌∙◌, cond}
+use Rattle.std.specs.Prelude.{sum_by, is_none, slice_get, if◌then◌else◌, option_and_then, nat_lt}
+use Rattle.std.specs.List.{list_all}
+use Rattle.std.specs.Option.{option_map_or}
+use Rattle.clk_base.specs.declared.call.Micro.{Micro}
+use Rattle.clk_base.specs.declared.call.Micro.TheVariants as micro
+use Rattle.clk_base.specs.declared.call.Sleeping.{Sleeping}
+use Rattle.clk_base.specs.declared.call.Sleeping.TheVariants as call
+use Rattle.clk_base.specs.declared.clock.ClockId.{ClockId}
+use Rattle.clk_model.specs.State.{NotifierRow}
+use Rattle.clk_model.specs.Step.{is_end, from_first, cut_short, rest_of}
+use Rattle.clk_model.proofs.Members.{or_cases, both_left, both_right, same_from_test}
+use Rattle.clk_flight.specs.declared.front.Front.{Front}
+use Rattle.clk_flight.specs.declared.front.Front.TheVariants.{Empty, Poll, Raise, Lower, Falls, Posts}
+use Rattle.clk_flight.specs.Fronts.{HasSteps, is_posts, abort_of, falls, front_behind, script_behind}
+use Rattle.clk_flight.specs.Flights.{FlightState, own_first, own_step, first_step, comes_next, fall_or_abort}
+use Rattle.clk_flight.specs.Moves.{others, found_none, comes_again, raised_once, raised_in, lowered_once, is_last_no, timed_out_in, polled_in, front_polled, fallen, front_fallen}
+use Rattle.std.proofs.lemmas.List.Sums.{sum_by-cons}
+use Rattle.clk_flight.specs.LeftOver.{step_weight, front_weight, left_over}
+use Rattle.clk_machine.specs.declared.work.Work.{Work}
+use Rattle.clk_machine.specs.declared.work.Work.TheVariants as Work
+use Rattle.clk_machine.specs.Making.{work_of}
+use Rattle.clk_machine.specs.InFlight.{may_raise, may_seek, is_script, is_front, IsUnderWay}
+
+-- the script behind a raise or a lower
+behind_seek : (what : Sleeping) (there : ℕ → Bool) (m : Micro) (ms : List Micro) → is_end m ≡ false → is_script what there (m ∷ ms) ≡ true
+    → (may_seek what there m ≡ true) × (is_script what there ms ≡ true)
+behind_seek what there m ms no_end is =
+    let rest : (may_seek what there m && is_script what there ms) ≡ true =
+    sym (ap (λ (b : Bool). (b && is_none (slice_get ms 0)) || (may_seek what there m && is_script what there ms)) no_end) ∙ is in
+    (both_left _ _ rest, both_right _ _ rest)
+
+script_rest : (f : FlightState) (there : ℕ → Bool) (front : Front) (m : Micro) → own_first f front ≡ Some m → is_end m ≡ false → is_script f.call there f.left ≡ true
+    → is_script f.call there (script_behind front f.left) ≡ true
+script_rest f there Empty m own no_end is = from f.left own is where
+  from : (left : List Micro) → slice_get left 0 ≡ Some m → is_script f.call there left ≡ true → is_script f.call there (rest_of left) ≡ true
+  from [] e h = absurd cc
+  from (n ∷ ns) e h =
+      let same : n ≡ m = cc in
+      (behind_seek f.call there n ns (ap is_end same ∙ no_end) h).1
+script_rest f there (Poll y polls again) m own no_end is = is
+script_rest f there (Raise x) m own no_end is = is
+script_rest f there (Lower x) m own no_end is = is
+script_rest f there (Falls told left) m own no_end is = is
+script_rest f there (Posts c told left old new) m own no_end is = is
+
+first_seeks : (f : FlightState) (there : ℕ → Bool) (m : Micro) → slice_get f.left 0 ≡ Some m → is_end m ≡ false → is_script f.call there f.left ≡ true → may_seek f.call there m ≡ true
+first_seeks f there m own no_end is = from f.left own is where
+  from : (left : List Micro) → slice_get left 0 ≡ Some m → is_script f.call there left ≡ true → may_seek f.call there m ≡ true
+  from [] e h = absurd cc
+  from (n ∷ ns) e h =
+      let same : n ≡ m = cc in
+      ap (may_seek f.call there) (sym same) ∙ (behind_seek f.call there n ns (ap is_end same ∙ no_end) h).0
+
+-- ---- the clock of the step that comes next
+
+own_going : (going : Bool) (o : Option Micro) (m : Micro) → (if going then o else None) ≡ Some m → o ≡ Some m
+own_going true o m e = e
+own_going false o m e = absurd cc
+
+pub raise_there : (f : FlightState) (there : ℕ → Bool) (x : ClockId) → own_step f ≡ Some (micro.Raise x) → IsUnderWay there f → (may_raise f.call && there x.0) ≡ true
+raise_there f there x own is = from f.front refl where
+  from : (front : Front) → f.front ≡ front → (may_raise f.call && there x.0) ≡ true
+  from front at = by front (ap (own_first f) (sym at) ∙ own_going f.going (own_first f f.front) (micro.Raise x) own) (ap (is_front f.call there) (sym at) ∙ is.front) where
+    by : (front : Front) → own_first f front ≡ Some (micro.Raise x) → is_front f.call there front ≡ true → (may_raise f.call && there x.0) ≡ true
+    by Empty e h = first_seeks f there (micro.Raise x) e refl is.script
+    by (Poll y polls again) e h = absurd cc
+    by (Raise z) e h = let same : z ≡ x = cc in ap (λ (z : ClockId). may_raise f.call && there z.0) (sym same) ∙ h
+    by (Lower z) e h = absurd cc
+    by (Falls told left) e h = absurd cc
+    by (Posts c told left old new) e h = absurd cc
+
+pub lower_there : (f : FlightState) (there : ℕ → Bool) (x : ClockId) → own_step f ≡ Some (micro.Lower x) → IsUnderWay there f → there x.0 ≡ true
+lower_there f there x own is = from f.front refl where
+  from : (front : Front) → f.front ≡ front → there x.0 ≡ true
+  from front at = by front (ap (own_first f) (sym at) ∙ own_going f.going (own_first f f.front) (micro.Lower x) own) (ap (is_front f.call there) (sym at) ∙ is.front) where
+    by : (front : Front) → own_first f front ≡ Some (micro.Lower x) → is_front f.call there front ≡ true → there x.0 ≡ true
+    by Empty e h = first_seeks f there (micro.Lower x) e refl is.script
+    by (Poll y polls again) e h = absurd cc
+    by (Raise z) e h = absurd cc
+    by (Lower z) e h = let same : z ≡ x = cc in ap (λ (z : ClockId). there z.0) (sym same) ∙ h
+    by (Falls told left) e h = absurd cc
+    by (Posts c told left old new) e h = absurd cc
+
+-- the poll in front
+pub record PollsInFront (f : FlightState) (y : ClockId) : Type 0 where
+  pub polls : ℕ
+  pub again : Option ClockId
+  pub front : f.front ≡ Poll y polls again
+
+pub poll_in_front : (f : FlightState) (there : ℕ → Bool) (y : ClockId) → own_step f ≡ Some (micro.Poll y) → IsUnderWay there f → PollsInFront f y
+poll_in_front f there y own is = from f.front refl where
+  from : (front : Front) → f.front ≡ front → PollsInFront f y
+  from front at = by front at (ap (own_first f) (sym at) ∙ own_going f.going (own_first f f.front) (micro.Poll y) own) where
+    by : (front : Front) → f.front ≡ front → own_first f front ≡ Some (micro.Poll y) → PollsInFront f y
+    by Empty at e = let never = first_seeks f there (micro.Poll y) e refl is.script in absurd cc
+    by (Poll z polls again) at e = let same : z ≡ y = cc in record { polls = polls; again = again; front = at ∙ ap (λ (z : ClockId). let p : Front = Poll z polls again in p) same }
+    by (Raise z) at e = absurd cc
+    by (Lower z) at e = absurd cc
+    by (Falls told left) at e = absurd cc
+    by (Posts c told left old new) at e = absurd cc
+
+-- ---- each step leaves it so
+
+seek_front : (f : FlightState) (there : ℕ → Bool) (front : Front) (m : Micro) → own_first f front ≡ Some m → may_seek f.call there m ≡ true → is_front f.call there (front_behind f.raised front) ≡ true
+seek_front f there Empty m own seeks = refl
+seek_front f there (Poll y polls again) m own seeks = let same : m ≡ micro.Poll y = cc in let never : may_seek f.call there (micro.Poll y) ≡ true = ap (may_seek f.call there) (sym same) ∙ seeks in absurd cc
+seek_front f there (Raise x) m own seeks = refl
+seek_front f there (Lower x) m own seeks = refl
+seek_front f there (Falls told left) m own seeks = absurd cc
+seek_front f there (Posts c told left old new) m own seeks = absurd cc
+
+no_end : (what : Sleeping) (there : ℕ → Bool) (m : Micro) → may_seek what there m ≡ true → is_end m ≡ false
+no_end what there micro.End e = absurd cc
+no_end what there (micro.Raise x) e = refl
+no_end what there (micro.Lower x) e = refl
+no_end what there (micro.Notify kind c id old new) e = refl
+no_end what there (micro.Poll x) e = refl
+no_end what there (micro.Fall x) e = refl
+no_end what there (micro.HoldPrepare x) e = refl
+no_end what there (micro.HoldEnable x) e = refl
+no_end what there (micro.Relink c p) e = refl
+no_end what there (micro.WriteMux c place) e = refl
+no_end what there (micro.DropEnable x) e = refl
+no_end what there (micro.DropPrepare x) e = refl
+no_end what there (micro.Visit c) e = refl
+no_end what there (micro.Register c) e = refl
+no_end what there (micro.Settle c) e = refl
+no_end what there (micro.Close c) e = refl
+no_end what there (micro.Unpower c) e = refl
+
+pub under_way-none : (f : FlightState) (there : ℕ → Bool) (m : Micro) → own_step f ≡ Some m → may_seek f.call there m ≡ true → IsUnderWay there f → IsUnderWay there (found_none f)
+under_way-none f there m own seeks is =
+    let first = own_going f.going (own_first f f.front) m own in
+    record {
+      call_ = is.call_;
+      script = script_rest f there f.front m first (no_end f.call there m seeks) is.script;
+      front = seek_front f there f.front m first seeks;
+      raised = is.raised;
+      extra = is.extra;
+      vetoed = is.vetoed;
+    }
+
+again_there : (may b y x : Bool) (c : ClockId) (there : ℕ → Bool) → may ≡ true → y ≡ true → there c.0 ≡ true → (may && y && option_map_or (λ x. there x.0) (if b then Some c else None) true) ≡ true
+again_there true true true x c there e f g = g
+again_there true false true x c there e f g = refl
+again_there true b false x c there e f g = absurd cc
+again_there false b y x c there e f g = absurd cc
+
+pub under_way-raised : (f : FlightState) (there : ℕ → Bool) (x y : ClockId) (more : Bool) → own_step f ≡ Some (micro.Raise x) → there y.0 ≡ true → IsUnderWay there f → IsUnderWay there (raised_in f x y more)
+under_way-raised f there x y more own at is = by (nat_lt f.again f.plls) where
+  may : (may_raise f.call && there x.0) ≡ true
+  may = raise_there f there x own is
+
+  first : own_first f f.front ≡ Some (micro.Raise x)
+  first = own_going f.going (own_first f f.front) (micro.Raise x) own
+
+  by : (t : Bool) → IsUnderWay there (if t then raised_once f x y more else found_none f)
+  by true = record {
+    call_ = is.call_;
+    script = script_rest f there f.front (micro.Raise x) first refl is.script;
+    front = again_there (may_raise f.call) (comes_again f more) (there y.0) true x there (both_left _ _ may) at (both_right _ _ may);
+    raised = ap (λ (b : Bool). b && list_all there f.raised) at ∙ is.raised;
+    extra = is.extra;
+    vetoed = is.vetoed;
+  }
+  by false = under_way-none f there (micro.Raise x) own may is
+
+pub under_way-lowered : (f : FlightState) (there : ℕ → Bool) (x : ClockId) (more : Bool) → own_step f ≡ Some (micro.Lower x) → IsUnderWay there f → IsUnderWay there (lowered_once f x more)
+under_way-lowered f there x more own is = record {
+  call_ = is.call_;
+  script = script_rest f there f.front (micro.Lower x) first refl is.script;
+  front = either (comes_again f more);
+  raised = is.raised;
+  extra = is.extra;
+  vetoed = is.vetoed;
+} where
+  at : there x.0 ≡ true
+  at = lower_there f there x own is
+
+  first : own_first f f.front ≡ Some (micro.Lower x)
+  first = own_going f.going (own_first f f.front) (micro.Lower x) own
+
+  either : (t : Bool) → is_front f.call there (if t then Lower x else front_behind f.raised f.front) ≡ true
+  either true = at
+  either false = seek_front f there f.front (micro.Lower x) first at
+
+-- what a timeout leaves of the script of a call that may raise
+cut_one : (what : Sleeping) (there : ℕ → Bool) (m : Micro) (ms : List Micro) (t : Bool) → is_end m ≡ t → is_script what there (m ∷ ms) ≡ true
+    → (is_script what there ms ≡ true → is_script what there (from_first is_end ms) ≡ true) → is_script what there (if t then m ∷ ms else from_first is_end ms) ≡ true
+cut_one what there m ms true at e more = e
+cut_one what there m ms false at e more = more (behind_seek what there m ms at e).1
+
+cut_end : (what : Sleeping) (there : ℕ → Bool) (ms : List Micro) → is_script what there ms ≡ true → is_script what there (from_first is_end ms) ≡ true
+cut_end what there [] e = absurd cc
+cut_end what there (m ∷ ms) e = cut_one what there m ms (is_end m) refl e (λ h. cut_end what there ms h)
+
+cut_script : (what : Sleeping) (there : ℕ → Bool) (ms : List Micro) → may_raise what ≡ true → is_script what there ms ≡ true → is_script what there (cut_short what ms) ≡ true
+cut_script (call.Prepare h) there ms may e = cut_end (call.Prepare h) there ms e
+cut_script _ there ms may e = absurd cc
+
+falls_front : (what : Sleeping) (there : ℕ → Bool) (raised : List ℕ) (left : ℕ) → left ≡ 0 → is_front what there (falls raised 0 left) ≡ true
+falls_front what there [] left none = ap (λ (n : ℕ). is_front what there (falls [] 0 n)) none
+falls_front what there (y ∷ ys) left none = ap (λ (n : ℕ). is_front what there (falls (y ∷ ys) 0 n)) none
+
+split_three : (a b c : Bool) → (a && b && c) ≡ true → (a ≡ true) × (b ≡ true) × (c ≡ true)
+split_three true true true e = (refl, refl, refl)
+split_three true true false e = absurd cc
+split_three true false c e = absurd cc
+split_three false b c e = absurd cc
+
+pub under_way-polled : (f : FlightState) (there : ℕ → Bool) (y : ClockId) (answer : Bool) → own_step f ≡ Some (micro.Poll y) → IsUnderWay there f → IsUnderWay there (polled_in f answer)
+under_way-polled f there y answer own is = by (is_last_no f.front answer) where
+  in_front : PollsInFront f y
+  in_front = poll_in_front f there y own is
+
+  parts : (may_raise f.call ≡ true) × (there y.0 ≡ true) × (option_map_or (λ x. there x.0) in_front.again true ≡ true)
+  parts = split_three _ _ _ (ap (is_front f.call there) (sym in_front.front) ∙ is.front)
+
+  behind : (b : Bool) → is_front f.call there (front_polled (Poll y in_front.polls in_front.again) b) ≡ true
+  behind true = again_in in_front.again parts.2 where
+    again_in : (o : Option ClockId) → option_map_or (λ x. there x.0) o true ≡ true → is_front f.call there (option_map_or Raise o Empty) ≡ true
+    again_in None e = refl
+    again_in (Some x) e = ap (λ (b : Bool). b && there x.0) parts.0 ∙ e
+  behind false = sym (ap (is_front f.call there) in_front.front) ∙ is.front
+
+  by : (t : Bool) → IsUnderWay there (if t then timed_out_in f else record f { front = front_polled f.front answer; left = script_behind f.front f.left })
+  by true = record {
+    call_ = is.call_;
+    script = cut_script f.call there f.left parts.0 is.script;
+    front = falls_front f.call there f.raised f.extra is.extra;
+    raised = is.raised;
+    extra = refl;
+    vetoed = is.vetoed;
+  }
+  by false = record {
+    call_ = is.call_;
+    script = script_rest f there f.front (micro.Poll y) (own_going f.going (own_first f f.front) (micro.Poll y) own) refl is.script;
+    front = ap (λ (front : Front). is_front f.call there (front_polled front answer)) in_front.front ∙ behind answer;
+    raised = is.raised;
+    extra = is.extra;
+    vetoed = is.vetoed;
+  }
+
+pub poll_there : (f : FlightState) (there : ℕ → Bool) (y : ClockId) → own_step f ≡ Some (micro.Poll y) → IsUnderWay there f → there y.0 ≡ true
+poll_there f there y own is =
+    let in_front = poll_in_front f there y own is in
+    (split_three _ _ _ (ap (is_front f.call there) (sym in_front.front) ∙ is.front)).1
+
+-- falls in front
+pub record FallsInFront (f : FlightState) : Type 0 where
+  pub told : ℕ
+  pub front : f.front ≡ Falls told 0
+
+others_all : (there : ℕ → Bool) (ys : List ℕ) → list_all there ys ≡ true → list_all there (others ys) ≡ true
+others_all there [] e = refl
+others_all there (y ∷ ys) e = both_right (there y) (list_all there ys) e
+
+pub under_way-fallen : (f : FlightState) (there : ℕ → Bool) → FallsInFront f → IsUnderWay there f → IsUnderWay there (fallen f)
+under_way-fallen f there in_front is = record {
+  call_ = is.call_;
+  script = ap (λ (front : Front). is_script f.call there (script_behind front f.left)) in_front.front ∙ is.script;
+  front = ap (λ (front : Front). is_front f.call there (front_fallen (others f.raised) front)) in_front.front ∙ both_empty (others f.raised);
+  raised = others_all there f.raised is.raised;
+  extra = is.extra;
+  vetoed = is.vetoed;
+} where
+  both_empty : (ys : List ℕ) → is_front f.call there (falls ys in_front.told 0) ≡ true
+  both_empty [] = refl
+  both_empty (y ∷ ys) = refl
+
+-- ---- which step comes next
+
+abort_no_fall : (o : Option Micro) (y : ClockId) → option_and_then abort_of o ≡ Some (micro.Fall y) → ⊥
+abort_no_fall None y e = absurd cc
+abort_no_fall (Some (micro.Notify kind c id old new)) y e = absurd cc
+abort_no_fall (Some _) y e = absurd cc
+
+-- a fall that comes next stands in front, and is that of a clock that passes the test
+pub fall_in_front : (f : FlightState) (there : ℕ → Bool) (y : ClockId) → comes_next [] f ≡ Some (micro.Fall y) → IsUnderWay there f → FallsInFront f × (there y.0 ≡ true)
+fall_in_front f there y comes is = by f.front refl (own_going f.going (first_step [] f f.front) (micro.Fall y) comes) is.front where
+  drop : (told left : ℕ) → left ≡ 0 → (raised : List ℕ) → list_all there raised ≡ true → f.front ≡ Falls told left → fall_or_abort f.script told raised ≡ Some (micro.Fall y)
+      → FallsInFront f × (there y.0 ≡ true)
+  drop told left none [] all at e = absurd (abort_no_fall (slice_get f.script told) y e)
+  drop told left none (z ∷ zs) all at e =
+      let same : z ≡ y.0 = cc in
+      (record { told = told; front = at ∙ ap (λ (n : ℕ). let front : Front = Falls told n in front) none }, ap there (sym same) ∙ both_left (there z) (list_all there zs) all)
+
+  by : (front : Front) → f.front ≡ front → first_step [] f f.front ≡ Some (micro.Fall y) → is_front f.call there f.front ≡ true → FallsInFront f × (there y.0 ≡ true)
+  by Empty at e h = let never = first_seeks f there (micro.Fall y) (sym (ap (first_step [] f) at) ∙ e) refl is.script in absurd cc
+  by (Poll z polls again) at e h = let first = sym (ap (first_step [] f) at) ∙ e in absurd cc
+  by (Raise z) at e h = let first = sym (ap (first_step [] f) at) ∙ e in absurd cc
+  by (Lower z) at e h = let first = sym (ap (first_step [] f) at) ∙ e in absurd cc
+  by (Falls told left) at e h =
+      let none : left ≡ 0 = same_from_test left 0 (sym (ap (is_front f.call there) at) ∙ h) in
+      drop told left none f.raised is.raised at (sym (ap (first_step [] f) at) ∙ e)
+  by (Posts c told left old new) at e h = let never = sym (ap (is_front f.call there) at) ∙ h in absurd cc
+
+-- ---- what is left to come
+
+weight_some : (plls_ : ℕ) (m : Micro) → 0 < step_weight [] plls_ m
+weight_some p (micro.Raise x) = omega arith
+weight_some p (micro.Lower x) = omega arith
+weight_some p (micro.Visit x) = omega arith
+weight_some p micro.End = omega arith
+weight_some p (micro.Notify kind c id old new) = omega arith
+weight_some p (micro.Poll x) = omega arith
+weight_some p (micro.Fall x) = omega arith
+weight_some p (micro.HoldPrepare x) = omega arith
+weight_some p (micro.HoldEnable x) = omega arith
+weight_some p (micro.Relink c q) = omega arith
+weight_some p (micro.WriteMux c place) = omega arith
+weight_some p (micro.DropEnable x) = omega arith
+weight_some p (micro.DropPrepare x) = omega arith
+weight_some p (micro.Register c) = omega arith
+weight_some p (micro.Settle c) = omega arith
+weight_some p (micro.Close c) = omega arith
+weight_some p (micro.Unpower c) = omega arith
+
+-- a change in flight has a step to come
+pub some_left : (f : FlightState) (there : ℕ → Bool) → f.going ≡ true → IsUnderWay there f → 0 < left_over [] f
+some_left f there going is = by f.going going where
+  some : (ms : List Micro) → is_script f.call there ms ≡ true → 0 < sum_by (step_weight [] f.plls) ms
+  some [] e = absurd cc
+  some (m ∷ ms) e = let one = weight_some f.plls m in let sum = sum_by-cons (step_weight [] f.plls) m ms in omega arith
+
+  by : (t : Bool) → t ≡ true → 0 < (if t then front_weight f.plls f.again f.front + sum_by (step_weight [] f.plls) f.left + f.extra + length f.raised else 0)
+  by true e = let few = some f.left is.script in omega arith
+  by false e = absurd cc
+
+-- ---- the end
+
+is_end_end : (m : Micro) → is_end m ≡ true → m ≡ micro.End
+is_end_end micro.End e = refl
+is_end_end (micro.Raise x) e = absurd cc
+is_end_end (micro.Lower x) e = absurd cc
+is_end_end (micro.Visit x) e = absurd cc
+is_end_end (micro.Notify kind c id old new) e = absurd cc
+is_end_end (micro.Poll x) e = absurd cc
+is_end_end (micro.Fall x) e = absurd cc
+is_end_end (micro.HoldPrepare x) e = absurd cc
+is_end_end (micro.HoldEnable x) e = absurd cc
+is_end_end (micro.Relink c q) e = absurd cc
+is_end_end (micro.WriteMux c place) e = absurd cc
+is_end_end (micro.DropEnable x) e = absurd cc
+is_end_end (micro.DropPrepare x) e = absurd cc
+is_end_end (micro.Register c) e = absurd cc
+is_end_end (micro.Settle c) e = absurd cc
+is_end_end (micro.Close c) e = absurd cc
+is_end_end (micro.Unpower c) e = absurd cc
+
+no_work : (what : Sleeping) (there : ℕ → Bool) (m : Micro) → may_seek what there m ≡ true → work_of (Some m) ≡ Work.End → ⊥
+no_work what there (micro.Raise x) e h = absurd cc
+no_work what there (micro.Lower x) e h = absurd cc
+no_work what there _ e h = absurd cc
+
+-- where no raise, poll, fall or lower comes next the end does
+pub end_comes : (rows : List NotifierRow) (f : FlightState) (there : ℕ → Bool) → f.going ≡ true → HasSteps (length f.raised) f.front → IsUnderWay there f
+    → work_of (comes_next rows f) ≡ Work.End → comes_next rows f ≡ Some micro.End
+end_comes rows f there going steps is none =
+    ap (λ (t : Bool). if t then first_step rows f f.front else None) going
+    ∙ by f.front refl steps is.front (sym (ap (λ (t : Bool). work_of (if t then first_step rows f f.front else None)) going) ∙ none) where
+      script : (ms : List Micro) → is_script f.call there ms ≡ true → work_of (slice_get ms 0) ≡ Work.End → slice_get ms 0 ≡ Some micro.End
+      script [] e h = absurd cc
+      script (m ∷ ms) e h = elim (or_cases (is_end m && is_none (slice_get ms 0)) (may_seek f.call there m && is_script f.call there ms) e) [
+        | inl last ↦ ap (λ (n : Micro). Some n) (is_end_end m (both_left (is_end m) _ last))
+        | inr seeks ↦ absurd (no_work f.call there m (both_left (may_seek f.call there m) _ seeks) h)
+      ]
+
+      fallen_first : (told left : ℕ) (raised : List ℕ) → 0 < left + length raised → left ≡ 0 → work_of (fall_or_abort f.script told raised) ≡ Work.End → fall_or_abort f.script told raised ≡ Some micro.End
+      fallen_first told left [] some zero_ h = absurd (omega arith)
+      fallen_first told left (z ∷ zs) some zero_ h = absurd cc
+
+      by : (front : Front) → f.front ≡ front → HasSteps (length f.raised) f.front → is_front f.call there f.front ≡ true → work_of (first_step rows f f.front) ≡ Work.End
+          → first_step rows f f.front ≡ Some micro.End
+      by Empty at some fits h = ap (first_step rows f) at ∙ script f.left is.script (sym (ap (λ (x : Front). work_of (first_step rows f x)) at) ∙ h)
+      by (Poll z polls again) at some fits h = let no = sym (ap (λ (x : Front). work_of (first_step rows f x)) at) ∙ h in absurd cc
+      by (Raise z) at some fits h = let no = sym (ap (λ (x : Front). work_of (first_step rows f x)) at) ∙ h in absurd cc
+      by (Lower z) at some fits h = let no = sym (ap (λ (x : Front). work_of (first_step rows f x)) at) ∙ h in absurd cc
+      by (Falls told left) at some fits h =
+          ap (first_step rows f) at
+          ∙ fallen_first told left f.raised (subst (λ (x : Front). HasSteps (length f.raised) x) at some) (same_from_test left 0 (sym (ap (is_front f.call there) at) ∙ fits))
+          (sym (ap (λ (x : Front). work_of (first_step rows f x)) at) ∙ h)
+      by (Posts c told left old new) at some fits h = let no = sym (ap (is_front f.call there) at) ∙ fits in absurd cc
+
+-- the step that each piece of work is
+pub work_raises : (o : Option Micro) (x : ClockId) → work_of o ≡ Work.Raise x → o ≡ Some (micro.Raise x)
+work_raises None x e = absurd cc
+work_raises (Some (micro.Raise y)) x e = let same : y ≡ x = cc in ap (λ (z : ClockId). Some (micro.Raise z)) same
+work_raises (Some _) x e = absurd cc
+
+pub work_polls : (o : Option Micro) (x : ClockId) → work_of o ≡ Work.Poll x → o ≡ Some (micro.Poll x)
+work_polls None x e = absurd cc
+work_polls (Some (micro.Poll y)) x e = let same : y ≡ x = cc in ap (λ (z : ClockId). Some (micro.Poll z)) same
+work_polls (Some _) x e = absurd cc
+
+pub work_falls : (o : Option Micro) (x : ClockId) → work_of o ≡ Work.Fall x → o ≡ Some (micro.Fall x)
+work_falls None x e = absurd cc
+work_falls (Some (micro.Fall y)) x e = let same : y ≡ x = cc in ap (λ (z : ClockId). Some (micro.Fall z)) same
+work_falls (Some _) x e = absurd cc
+
+pub work_lowers : (o : Option Micro) (x : ClockId) → work_of o ≡ Work.Lower x → o ≡ Some (micro.Lower x)
+work_lowers None x e = absurd cc
+work_lowers (Some (micro.Lower y)) x e = let same : y ≡ x = cc in ap (λ (z : ClockId). Some (micro.Lower z)) same
+work_lowers (Some _) x e = absurd cc
+
+-- no notice of a changed rate stands in front
+pub no_posts : (f : FlightState) (there : ℕ → Bool) → IsUnderWay there f → is_posts f.front ≡ false
+no_posts f there is = by f.front is.front where
+  by : (front : Front) → is_front f.call there front ≡ true → is_posts front ≡ false
+  by Empty e = refl
+  by (Poll y polls again) e = refl
+  by (Raise x) e = refl
+  by (Lower x) e = refl
+  by (Falls told left) e = refl
+  by (Posts c told left old new) e = absurd cc

@@ -1,0 +1,49 @@
+-- Laws on lists of locks.
+use Rattle.std.proofs.Common.{◌≡◌, ℕ, zero, suc, ◌+◌, ◌<◌, ◌≤◌, List, Option, Some, None, true, false, refl, sym, ap, ◌∙◌, arith, nat_lt}
+use Rattle.std.proofs.Math.Path.{fun_ext}
+use Rattle.std.proofs.lemmas.Bool.Decides.{nat_tests}
+use Rattle.std.specs.Prelude.{map, slice_index_or, IfSome}
+use Rattle.std.specs.Option.{option_map}
+use Rattle.reg_bank.specs.Locks.{most_plls}
+use Rattle.reg_bank.specs.declared.pll_lock.PllLock.{PllLock}
+use Rattle.clk_model.specs.Lists.{count_from}
+use Rattle.clk_machine.specs.Window.{lock_count, locks_of, lock_in}
+
+at_count : (f : ℕ → Option PllLock) (k n p : ℕ) → p < n → slice_index_or (map f (count_from k n)) p None ≡ f (k + p)
+at_count f k zero p lt = absurd (omega arith)
+at_count f k (suc n) zero lt = let same : k ≡ k + 0 = omega arith in ap f same
+at_count f k (suc n) (suc p) lt = let same : suc k + p ≡ k + suc p = omega arith in at_count f (suc k) n p (omega arith) ∙ ap f same
+
+at_beyond : (f : ℕ → Option PllLock) (k n p : ℕ) → n ≤ p → slice_index_or (map f (count_from k n)) p None ≡ None
+at_beyond f k zero p le = refl
+at_beyond f k (suc n) zero le = absurd (omega arith)
+at_beyond f k (suc n) (suc p) le = at_beyond f (suc k) n p (omega arith)
+
+-- there are as many locks as there may be PLLs
+pub counted_locks : lock_count ≡ most_plls
+unfolding lock_count
+counted_locks = refl
+
+-- the lock of a PLL stands at its place
+pub lock_of : (lock : ℕ → Option PllLock) (p : ℕ) → p < most_plls → lock_in (locks_of lock) p ≡ lock p
+lock_of lock p within =
+    let few : p < lock_count = let n = counted_locks in omega arith in
+    let same : 0 + p ≡ p = omega arith in
+    at_count lock 0 lock_count p few ∙ ap lock same
+
+-- locks that are the same are so in the list
+pub locks_same : (old new : ℕ → Option PllLock) → ((p : ℕ) → new p ≡ old p) → locks_of new ≡ locks_of old
+locks_same old new same = ap locks_of (fun_ext same)
+
+pub others_same : (old new : ℕ → Option PllLock) (y : ℕ) → ((p : ℕ) → (p ≡ y → ⊥) → new p ≡ old p) → (p : ℕ) → (p ≡ y → ⊥) → lock_in (locks_of new) p ≡ lock_in (locks_of old) p
+others_same old new y same p other = elim (nat_lt p lock_count) as (λ b. nat_lt p lock_count ≡ b → lock_in (locks_of new) p ≡ lock_in (locks_of old) p) [
+  | true ↦ λ e.
+      let few : p < lock_count = grind (arith, nat_tests) in
+      let at : 0 + p ≡ p = omega arith in
+      at_count new 0 lock_count p few ∙ ap new at ∙ same p other ∙ sym (at_count old 0 lock_count p few ∙ ap old at)
+  | false ↦ λ e. let far : lock_count ≤ p = grind (arith, nat_tests) in at_beyond new 0 lock_count p far ∙ sym (at_beyond old 0 lock_count p far)
+] refl
+
+pub lock_changed : (old new : ℕ → Option PllLock) (y : ℕ) (f : PllLock → PllLock) → y < most_plls → new y ≡ option_map f (old y)
+    → lock_in (locks_of new) y ≡ option_map f (lock_in (locks_of old) y)
+lock_changed old new y f within h = lock_of new y within ∙ h ∙ ap (option_map f) (sym (lock_of old y within))

@@ -1,0 +1,250 @@
+-- What the steps of raises, lowers, polls and falls make of the parts of a core.
+use Rattle.std.proofs.Common.{arith, ◌≡◌, ℕ, ◌+◌, ◌<◌, ◌≤◌, ◌&&◌, Bool, true, false, List, [], Option, Some, None, refl, sym, ap, subst, ◌∙◌, length, reverse, nat_le}
+use Rattle.std.specs.Prelude.{slice_get, is_some, IfSome}
+use Rattle.std.specs.Option.{option_map, option_map_or}
+use Rattle.std.proofs.lemmas.List.{length-reverse}
+use Rattle.clk_base.specs.declared.call.Micro.{Micro}
+use Rattle.clk_base.specs.declared.call.Micro.TheVariants as micro
+use Rattle.clk_base.specs.declared.call.Sleeping.{Sleeping}
+use Rattle.clk_base.specs.declared.clock.ClockId.{ClockId}
+use Rattle.clk_base.specs.declared.event.Event.TheVariants as event
+use Rattle.clk_base.specs.declared.event.Turn.TheVariants as turn
+use Rattle.clk_base.specs.declared.clock.Kind.{Kind}
+use Rattle.clk_base.specs.Description.{Description, kind_of}
+use Rattle.clk_base.specs.Fields.{power_of}
+use Rattle.clk_base.proofs.Valid.{length-valid}
+use Rattle.reg_bank.specs.Locks.{most_plls}
+use Rattle.clk_model.specs.Kinds.{with_power}
+use Rattle.clk_model.proofs.Members.{both_right}
+use Rattle.clk_base.specs.Valid.{IsValid}
+use Rattle.clk_model.specs.State.{State, Change, registered}
+use Rattle.clk_model.specs.Tree.{path}
+use Rattle.clk_model.specs.Wired.{LinksArePossible}
+use Rattle.clk_model.specs.Script.{plls}
+use Rattle.clk_model.specs.Step.{todo, taken, on, powered, to_raise, raise_one, raise, to_lower, lower_one, lower, poll, fall}
+use Rattle.clk_model.specs.Laws.Paced.{IsPaced}
+use Rattle.clk_flight.specs.Flights.{FlightState, IsChange, Flies, own_step, seeks_plls, comes_next}
+use Rattle.clk_flight.specs.Moves.{raised_in, lowered_once, found_none, polled_in, fallen}
+use Rattle.clk_flight.specs.Steps.{Raises, LowersOne, FindsNone, Polls, Drops, LeavesLess, LeavesLessAt, is_fall}
+use Rattle.clk_flight.proofs.SeekLaws.{paced_seek_few}
+use Rattle.clk_machine.specs.Window.{Shown}
+use Rattle.clk_machine.specs.InFlight.{may_seek}
+use Rattle.clk_machine.specs.Making.{ComesFirst, FindsNothing}
+use Rattle.clk_machine.specs.Parts.{Parts, AreTied, IsWhole}
+use Rattle.clk_machine.specs.Plls.{raisable, lowerable, Finds}
+use Rattle.clk_machine.specs.Sound.{IsSound}
+use Rattle.clk_machine.specs.Stands.{Stands, Leads, Enters}
+use Rattle.clk_machine.proofs.InFlight.{under_way-none, under_way-raised, under_way-lowered, under_way-polled, under_way-fallen, fall_in_front, raise_there, poll_there}
+use Rattle.clk_machine.proofs.Making.{with_step, SameCall, stands_stepped, enters_step, HasChange, change_of, next_of, to_raise_stands, to_lower_stands, raisable_there, same_raised, same_polled}
+use Rattle.clk_machine.proofs.Moving.{clock_within}
+use Rattle.clk_machine.proofs.Opening.{power_fits}
+use Rattle.clk_machine.proofs.Powering.{power_put, powered_words, told_put}
+use Rattle.clk_machine.proofs.Soundness.{wired_reached, links_reached, room_reached}
+use Rattle.clk_machine.proofs.Stepping.{raises_one, lowers_one, polls_one, falls_one}
+
+-- ---- what is known of the change
+
+-- a change of a sound state is paced, over a valid description with possible links
+pub record IsSteady (s : State) (k : Change) : Type 0 where
+  pub valid : IsValid (length s.regs) s.defs
+  pub links : LinksArePossible s.defs s.clocks
+  pub paced : IsPaced s k
+
+pub steady : (words : ℕ) (s : State) (k : Change) → IsSound words s → s.change ≡ Some k → IsSteady s k
+steady words s k sound at = record {
+  valid = subst (λ (n : ℕ). IsValid n s.defs) (sym (wired_reached words s sound.reached).size) sound.narrow.valid;
+  links = (links_reached words s sound.reached).links;
+  paced = ((room_reached words s sound.reached).change k at).paced;
+}
+
+-- ---- a raise
+
+-- a PLL that is raised
+pub record Raised (old : Parts) (x pll : ClockId) (more : Bool) (window' : Shown) (flight' : FlightState) : Type 0 where
+  pub whole : IsWhole old
+  pub going : old.flight.going ≡ true
+  pub own : own_step old.flight ≡ Some (micro.Raise x)
+  pub first : ComesFirst old (micro.Raise x)
+  pub here : registered old.tree.clocks x.0 ≡ true
+  pub found : Finds (record { pll = Some pll; more = more }) (reverse (raisable old.desc.defs old.counts old.flight.raised (path old.tree.clocks x.0)))
+  pub size : window'.size ≡ old.window.size
+  pub words : window'.words ≡ option_map (power_put old.desc.defs pll.0 true) old.window.words
+  pub behind : window'.behind ≡ old.window.behind
+  pub flight : flight' ≡ raised_in old.flight x pll more
+  pub change : Raises x pll more old.flight flight'
+  pub less : LeavesLess old.flight flight'
+
+raise_leads : (old : Parts) (x pll : ClockId) (more : Bool) (window' : Shown) (flight' : FlightState) → Raised old x pll more window' flight'
+    → (s : State) → Stands old s → IsSound old.window.size s → Leads s old.flight.driver (event.Step (micro.Raise x) None) turn.Going (with_step old window' flight')
+raise_leads old x pll more window' flight' now s stands sound =
+    let has = change_of old s stands now.going in
+    let k = has.k in
+    let first = now.first s.notifiers k stands.notifiers has.is in
+    let sure = steady old.window.size s k sound has.change in
+    let seeks : to_raise s (taken k) x.0 ≡ raisable old.desc.defs old.counts old.flight.raised (path old.tree.clocks x.0) = to_raise_stands old s k x.0 now.whole stands has.is now.here in
+    let at : slice_get (reverse (to_raise s (taken k) x.0)) 0 ≡ Some pll.0 = ap (λ (ys : List ℕ). slice_get (reverse ys) 0) seeks ∙ sym now.found.first in
+    let many : more ≡ nat_le 2 (length (to_raise s (taken k) x.0)) =
+    now.found.more ∙ ap (nat_le 2) (length-reverse (raisable old.desc.defs old.counts old.flight.raised (path old.tree.clocks x.0))) ∙ sym (ap (λ (ys : List ℕ). nat_le 2 (length ys)) seeks) in
+    let few : old.flight.plls ≡ plls s.defs = (now.whole.flown now.going).plls_ ∙ ap plls (sym stands.defs) in
+    let flies : Flies s.notifiers flight' (raise s (taken k) x.0).change =
+    now.change s k has.is few first ((paced_seek_few s k x sure.valid sure.links sure.paced).0 first) at many in
+    record {
+      to = record (raise_one s (taken k) x.0 pll.0) { steps = s.steps + 1 };
+      next_ = raises_one s old.flight.driver k x pll.0 (next_of old s (micro.Raise x) has first) at;
+      stands =
+          stands_stepped old window' flight' s (powered s pll.0 true).regs (raise_one s (taken k) x.0 pll.0).change stands
+          (powered_words old.desc.defs pll.0 true old.window.words window'.words s stands.defs stands.regs now.words)
+          (subst (λ (o : Option ℕ). Flies s.notifiers flight' (option_map_or (raise_one s (taken k) x.0) o (on s (record (taken k) { again = 0 }))).change) at flies);
+    }
+
+pub raise_enters : (old : Parts) (x pll : ClockId) (more : Bool) (window' : Shown) (flight' : FlightState) → Raised old x pll more window' flight'
+    → Enters old old.flight.driver (event.Step (micro.Raise x) None) turn.Going (with_step old window' flight')
+raise_enters old x pll more window' flight' now =
+    enters_step old window' flight' (micro.Raise x) None (told_put old.desc.defs pll.0 true old.window.words window'.words now.words) now.size now.behind
+    (ap (λ (f : FlightState). f.going) now.flight ∙ (same_raised old.flight x pll more).going ∙ now.going) (now.less []) (raise_leads old x pll more window' flight' now)
+
+-- ---- nothing found
+
+pub seeks_of : (what : Sleeping) (there : ℕ → Bool) (m : Micro) → may_seek what there m ≡ true → seeks_plls (Some m) ≡ true
+seeks_of what there (micro.Raise x) e = refl
+seeks_of what there (micro.Lower x) e = refl
+seeks_of what there _ e = absurd cc
+
+pub none_enters : (old : Parts) (step : Micro) (flight' : FlightState) → old.flight.going ≡ true → FindsNothing old step → flight' ≡ found_none old.flight → FindsNone old.flight flight'
+    → LeavesLess old.flight flight' → Enters old old.flight.driver (event.Step step None) turn.Going (with_step old old.window flight')
+none_enters old step flight' going nothing is change less =
+    enters_step old old.window flight' step None refl refl refl (ap (λ (f : FlightState). f.going) is ∙ going) (less [])
+    (λ s stands sound.
+    let has = change_of old s stands going in
+    let first = nothing.first s.notifiers has.k stands.notifiers has.is in
+    record {
+      to = record s { change = Some (record (taken has.k) { again = 0 }); steps = s.steps + 1 };
+      next_ = nothing.taken_ s has.k stands has.change has.is;
+      stands = stands_stepped old old.window flight' s s.regs (Some (record (taken has.k) { again = 0 })) stands stands.regs
+          (change s.notifiers has.k step has.is first (seeks_of old.flight.call (registered old.tree.clocks) step nothing.seeks));
+    })
+
+-- ---- a lower
+
+pub record Lowered (old : Parts) (x pll : ClockId) (more : Bool) (window' : Shown) (flight' : FlightState) : Type 0 where
+  pub whole : IsWhole old
+  pub going : old.flight.going ≡ true
+  pub first : ComesFirst old (micro.Lower x)
+  pub found : IfSome old.window.words (λ regs. Finds (record { pll = Some pll; more = more }) (lowerable old.desc.defs old.counts regs (path old.tree.clocks x.0)))
+  pub size : window'.size ≡ old.window.size
+  pub words : window'.words ≡ option_map (power_put old.desc.defs pll.0 false) old.window.words
+  pub behind : window'.behind ≡ old.window.behind
+  pub flight : flight' ≡ lowered_once old.flight x more
+  pub change : LowersOne x more old.flight flight'
+  pub less : LeavesLess old.flight flight'
+
+lower_leads : (old : Parts) (x pll : ClockId) (more : Bool) (window' : Shown) (flight' : FlightState) → Lowered old x pll more window' flight'
+    → (s : State) → Stands old s → IsSound old.window.size s → Leads s old.flight.driver (event.Step (micro.Lower x) None) turn.Going (with_step old window' flight')
+lower_leads old x pll more window' flight' now s stands sound =
+    let has = change_of old s stands now.going in
+    let k = has.k in
+    let first = now.first s.notifiers k stands.notifiers has.is in
+    let sure = steady old.window.size s k sound has.change in
+    let found : Finds (record { pll = Some pll; more = more }) (lowerable old.desc.defs old.counts s.regs (path old.tree.clocks x.0)) =
+    subst (λ (o : Option (List ℕ)). IfSome o (λ regs. Finds (record { pll = Some pll; more = more }) (lowerable old.desc.defs old.counts regs (path old.tree.clocks x.0)))) stands.regs now.found in
+    let seeks : to_lower s x.0 ≡ lowerable old.desc.defs old.counts s.regs (path old.tree.clocks x.0) = to_lower_stands old s x.0 now.whole stands in
+    let at : slice_get (to_lower s x.0) 0 ≡ Some pll.0 = ap (λ (ys : List ℕ). slice_get ys 0) seeks ∙ sym found.first in
+    let many : more ≡ nat_le 2 (length (to_lower s x.0)) = found.more ∙ sym (ap (λ (ys : List ℕ). nat_le 2 (length ys)) seeks) in
+    let few : old.flight.plls ≡ plls s.defs = (now.whole.flown now.going).plls_ ∙ ap plls (sym stands.defs) in
+    let flies : Flies s.notifiers flight' (lower s (taken k) x.0).change =
+    now.change s k pll.0 has.is few first ((paced_seek_few s k x sure.valid sure.links sure.paced).1 first) at many in
+    record {
+      to = record (lower_one s (taken k) x.0 pll.0) { steps = s.steps + 1 };
+      next_ = lowers_one s old.flight.driver k x pll.0 (next_of old s (micro.Lower x) has first) at;
+      stands =
+          stands_stepped old window' flight' s (powered s pll.0 false).regs (lower_one s (taken k) x.0 pll.0).change stands
+          (powered_words old.desc.defs pll.0 false old.window.words window'.words s stands.defs stands.regs now.words)
+          (subst (λ (o : Option ℕ). Flies s.notifiers flight' (option_map_or (lower_one s (taken k) x.0) o (on s (record (taken k) { again = 0 }))).change) at flies);
+    }
+
+pub lower_enters : (old : Parts) (x pll : ClockId) (more : Bool) (window' : Shown) (flight' : FlightState) → Lowered old x pll more window' flight'
+    → Enters old old.flight.driver (event.Step (micro.Lower x) None) turn.Going (with_step old window' flight')
+lower_enters old x pll more window' flight' now =
+    enters_step old window' flight' (micro.Lower x) None (told_put old.desc.defs pll.0 false old.window.words window'.words now.words) now.size now.behind
+    (ap (λ (f : FlightState). f.going) now.flight ∙ now.going) (now.less []) (lower_leads old x pll more window' flight' now)
+
+-- ---- a poll
+
+pub poll_enters : (old : Parts) (pll : ClockId) (answer : Bool) (window' : Shown) (flight' : FlightState) → old.flight.going ≡ true → own_step old.flight ≡ Some (micro.Poll pll)
+    → ComesFirst old (micro.Poll pll) → window'.size ≡ old.window.size → window'.words ≡ old.window.words → window'.behind ≡ old.window.behind
+    → flight' ≡ polled_in old.flight answer → Polls answer old.flight flight' → LeavesLess old.flight flight'
+    → Enters old old.flight.driver (event.Step (micro.Poll pll) (Some answer)) turn.Going (with_step old window' flight')
+poll_enters old pll answer window' flight' going own comes size words behind is change less =
+    enters_step old window' flight' (micro.Poll pll) (Some answer) (ap (λ (o : Option (List ℕ)). is_some o) words) size behind
+    (ap (λ (f : FlightState). f.going) is ∙ (same_polled old.flight answer).going ∙ going) (less [])
+    (λ s stands sound.
+    let has = change_of old s stands going in
+    let k = has.k in
+    let first = comes s.notifiers k stands.notifiers has.is in
+    let sure = steady old.window.size s k sound has.change in
+    record {
+      to = record s { change = (poll s (taken k) pll.0 answer).change; steps = s.steps + 1 };
+      next_ = polls_one s old.flight.driver k pll answer (next_of old s (micro.Poll pll) has first);
+      stands = stands_stepped old window' flight' s s.regs (poll s (taken k) pll.0 answer).change stands (words ∙ stands.regs) (change s k pll has.is own first sure.paced);
+    })
+
+-- ---- a fall
+
+pub fall_enters : (old : Parts) (pll : ClockId) (window' : Shown) (flight' : FlightState) → old.flight.going ≡ true → comes_next [] old.flight ≡ Some (micro.Fall pll)
+    → ComesFirst old (micro.Fall pll) → window'.size ≡ old.window.size → window'.words ≡ option_map (power_put old.desc.defs pll.0 false) old.window.words → window'.behind ≡ old.window.behind
+    → flight' ≡ fallen old.flight → Drops old.flight flight' → LeavesLessAt is_fall old.flight flight'
+    → Enters old old.flight.driver (event.Step (micro.Fall pll) None) turn.Going (with_step old window' flight')
+fall_enters old pll window' flight' going next comes size words behind is change less =
+    enters_step old window' flight' (micro.Fall pll) None (told_put old.desc.defs pll.0 false old.window.words window'.words words) size behind
+    (ap (λ (f : FlightState). f.going) is ∙ going) (less [] (micro.Fall pll) next refl)
+    (λ s stands sound.
+    let has = change_of old s stands going in
+    let k = has.k in
+    let first = comes s.notifiers k stands.notifiers has.is in
+    let sure = steady old.window.size s k sound has.change in
+    record {
+      to = record (fall s (taken k) pll.0) { steps = s.steps + 1 };
+      next_ = falls_one s old.flight.driver k pll (next_of old s (micro.Fall pll) has first);
+      stands =
+          stands_stepped old window' flight' s (powered s pll.0 false).regs (fall s (taken k) pll.0).change stands
+          (powered_words old.desc.defs pll.0 false old.window.words window'.words s stands.defs stands.regs words) (change s k pll has.is first sure.paced);
+    })
+
+-- ---- what the steps need
+
+-- the clock of a raise that comes next, and the PLL that it finds, are registered clocks
+pub raised_place : (m : Parts) (x pll : ClockId) (more : Bool) → IsWhole m → m.flight.going ≡ true → own_step m.flight ≡ Some (micro.Raise x)
+    → Finds (record { pll = Some pll; more = more }) (reverse (raisable m.desc.defs m.counts m.flight.raised (path m.tree.clocks x.0)))
+    → (registered m.tree.clocks x.0 ≡ true) × (registered m.tree.clocks pll.0 ≡ true) × (pll.0 < length m.desc.defs)
+raised_place m x pll more whole going own found =
+    let here : registered m.tree.clocks x.0 ≡ true = both_right _ _ (raise_there m.flight (registered m.tree.clocks) x own (whole.flown going).way) in
+    let there = raisable_there m x.0 pll.0 whole here (sym found.first) in
+    (here, there.0, there.1)
+
+-- so is the PLL that is polled next, or falls
+pub polled_place : (m : Parts) (y : ClockId) → IsWhole m → m.flight.going ≡ true → own_step m.flight ≡ Some (micro.Poll y) → y.0 < length m.desc.defs
+polled_place m y whole going own =
+    let way = (whole.flown going).way in
+    clock_within m.desc m.window m.tree y.0 whole.tied (poll_there m.flight (registered m.tree.clocks) y own way)
+
+pub fallen_place : (m : Parts) (y : ClockId) → IsWhole m → m.flight.going ≡ true → comes_next [] m.flight ≡ Some (micro.Fall y) → y.0 < length m.desc.defs
+fallen_place m y whole going next =
+    let way = (whole.flown going).way in
+    clock_within m.desc m.window m.tree y.0 whole.tied (fall_in_front m.flight (registered m.tree.clocks) y next way).1
+
+-- a PLL of the description is one that a bank knows
+pub known_pll : (m : Parts) (y : ℕ) → IsWhole m → y < length m.desc.defs → y < most_plls
+known_pll m y whole within = let few = length-valid m.desc.words m.desc.defs whole.tied.valid in omega arith
+
+-- its power lies in the words
+pub power_lies : (m : Parts) (kind : Kind) (y : ℕ) → IsWhole m → y < length m.desc.defs → kind ≡ kind_of m.desc.defs y
+    → IfSome (power_of kind) (λ power. (power.word < m.window.size) × (power.bit < 32))
+power_lies m kind y whole within is =
+    subst (λ (n : ℕ). IfSome (power_of kind) (λ power. (power.word < n) × (power.bit < 32))) (sym whole.tied.words)
+    (subst (λ (k : Kind). IfSome (power_of k) (λ power. (power.word < m.desc.words) × (power.bit < 32))) (sym is) (power_fits m.desc.words m.desc.defs y whole.tied.valid within))
+
+-- and what is made of it is the clock's power
+pub power_made : (defs : Description) (kind : Kind) (y : ℕ) (up : Bool) (told new : Option (List ℕ)) → kind ≡ kind_of defs y
+    → new ≡ option_map (λ regs. option_map_or (λ power. with_power regs power up) (power_of kind) regs) told → new ≡ option_map (power_put defs y up) told
+power_made defs kind y up told new is then =
+    then ∙ ap (λ (k : Kind). option_map (λ regs. option_map_or (λ power. with_power regs power up) (power_of k) regs) told) is

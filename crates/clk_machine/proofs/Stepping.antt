@@ -1,0 +1,171 @@
+-- What the steps of raises, polls, falls, lowers and the end come to.
+use Rattle.std.proofs.Common.{◌≡◌, ℕ, ◌+◌, ◌-◌, ◌&&◌, Bool, ◌||◌, not, true, false, List, [], ◌∷◌, Option, Some, None, refl, sym, ap, ◌∙◌, nat_eq, reverse, cond}
+use Rattle.std.specs.Prelude.{slice_get, nat_le, option_and_then, if◌then◌else◌}
+use Rattle.std.specs.Option.{option_map_or}
+use Rattle.clk_base.specs.declared.call.Micro.{Micro}
+use Rattle.clk_base.specs.declared.call.Micro.TheVariants as micro
+use Rattle.clk_base.specs.declared.clock.ClockId.{ClockId}
+use Rattle.clk_base.specs.declared.event.Event.TheVariants as event
+use Rattle.clk_base.specs.declared.event.Turn.{Turn}
+use Rattle.clk_base.specs.declared.event.Turn.TheVariants as turn
+use Rattle.clk_base.specs.declared.call.Sleeping.{Sleeping}
+use Rattle.clk_base.specs.declared.call.Sleeping.TheVariants as call
+use Rattle.clk_base.specs.declared.event.Errno.TheVariants as errno
+use Rattle.clk_base.specs.declared.event.Reply.TheVariants as reply
+use Rattle.clk_base.specs.declared.handle.Handle.{Handle}
+use Rattle.clk_model.specs.declared.row.HandleRow.{HandleRow}
+use Rattle.clk_model.specs.State.{State, Change, handle_at}
+use Rattle.clk_model.specs.Holders.{active}
+use Rattle.clk_model.specs.Begin.{prepared_once_more}
+use Rattle.clk_machine.specs.InFlight.{may_raise, may_go_on}
+use Rattle.clk_model.specs.Chain.{clock_id}
+use Rattle.clk_model.specs.Gates.{settled}
+use Rattle.clk_model.specs.Step.{todo, taken, on, timed_out, to_raise, raise_one, raise, poll, fall, to_lower, lower_one, lower, unranged, range_back, ended_well, end_of, stepped}
+use Rattle.clk_model.specs.Machine.{same_list, micro_code, comes_next, may_step, counted, next}
+use Rattle.clk_model.proofs.Members.{test_same}
+use Rattle.clk_model.proofs.StateLaws.{settled-still}
+
+same_code : (xs : List ℕ) → same_list xs xs ≡ true
+same_code [] = refl
+same_code (x ∷ xs) = ap (λ (b : Bool). b && same_list xs xs) (test_same x) ∙ same_code xs
+
+-- the first step that is left comes next
+first_comes : (m : Micro) (ms : List Micro) → slice_get ms 0 ≡ Some m → comes_next m ms ≡ true
+first_comes m [] e = absurd cc
+first_comes m (n ∷ ns) e =
+    let same : n ≡ m = cc in
+    ap (λ (o : Micro). same_list (micro_code m) (micro_code o)) same ∙ same_code (micro_code m)
+
+three : (a b : Bool) → a ≡ true → b ≡ true → (a && b && true) ≡ true
+three true true e f = refl
+three true false e f = absurd cc
+three false b e f = absurd cc
+
+-- a change in flight takes the step that its driver may make
+takes : (s : State) (k : Change) (d : ℕ) (m : Micro) (answer : Option Bool) → s.change ≡ Some k → may_step d m answer k ≡ true
+    → next s d (event.Step m answer) ≡ Some (counted s (stepped s (taken k) answer m))
+unfolding next
+takes s k d m answer at may =
+    ap (λ (o : Option Change). option_and_then (λ k. if may_step d m answer k then Some (counted s (stepped s (taken k) answer m)) else None) o) at
+    ∙ ap (λ (b : Bool). if b then Some (counted s (stepped s (taken k) answer m)) else None) may
+
+-- the gates stay where the registers alone and the change are other ones
+counted_still : (s y : State) (t : Turn) → settled s y ≡ y → counted s (y, t) ≡ (record y { steps = s.steps + 1 }, t)
+counted_still s y t still = ap (λ (z : State). let x : State × Turn = (record z { steps = s.steps + 1 }, t) in x) still
+
+-- the step that comes next of a change in flight of this driver
+pub record IsNext (s : State) (d : ℕ) (k : Change) (m : Micro) : Type 0 where
+  pub change : s.change ≡ Some k
+  pub driver : k.driver ≡ d
+  pub first : slice_get (todo k) 0 ≡ Some m
+
+mine : (s : State) (d : ℕ) (k : Change) (m : Micro) → IsNext s d k m → nat_eq k.driver d ≡ true
+mine s d k m is = ap (nat_eq k.driver) (sym is.driver) ∙ test_same k.driver
+
+-- ---- raises
+
+pub raises_one : (s : State) (d : ℕ) (k : Change) (x : ClockId) (y : ℕ) → IsNext s d k (micro.Raise x) → slice_get (reverse (to_raise s (taken k) x.0)) 0 ≡ Some y
+    → next s d (event.Step (micro.Raise x) None) ≡ Some (record (raise_one s (taken k) x.0 y) { steps = s.steps + 1 }, turn.Going)
+unfolding stepped
+raises_one s d k x y is at =
+    takes s k d (micro.Raise x) None is.change (three _ _ (mine s d k (micro.Raise x) is) (first_comes (micro.Raise x) (todo k) is.first))
+    ∙ ap (λ (y : State). Some (counted s (y, turn.Going))) (ap (λ (o : Option ℕ). option_map_or (raise_one s (taken k) x.0) o (on s (record (taken k) { again = 0 }))) at)
+    ∙ ap (λ (x : State × Turn). Some x) (counted_still s (raise_one s (taken k) x.0 y) turn.Going (settled-still s (raise_one s (taken k) x.0 y) (λ c. refl)))
+
+pub raises_none : (s : State) (d : ℕ) (k : Change) (x : ClockId) → IsNext s d k (micro.Raise x) → slice_get (reverse (to_raise s (taken k) x.0)) 0 ≡ None
+    → next s d (event.Step (micro.Raise x) None) ≡ Some (record s { change = Some (record (taken k) { again = 0 }); steps = s.steps + 1 }, turn.Going)
+unfolding stepped
+raises_none s d k x is at =
+    takes s k d (micro.Raise x) None is.change (three _ _ (mine s d k (micro.Raise x) is) (first_comes (micro.Raise x) (todo k) is.first))
+    ∙ ap (λ (y : State). Some (counted s (y, turn.Going))) (ap (λ (o : Option ℕ). option_map_or (raise_one s (taken k) x.0) o (on s (record (taken k) { again = 0 }))) at)
+    ∙ ap (λ (x : State × Turn). Some x) (counted_still s (on s (record (taken k) { again = 0 })) turn.Going (settled-still s (on s (record (taken k) { again = 0 })) (λ c. refl)))
+
+-- ---- lowers
+
+pub lowers_one : (s : State) (d : ℕ) (k : Change) (x : ClockId) (y : ℕ) → IsNext s d k (micro.Lower x) → slice_get (to_lower s x.0) 0 ≡ Some y
+    → next s d (event.Step (micro.Lower x) None) ≡ Some (record (lower_one s (taken k) x.0 y) { steps = s.steps + 1 }, turn.Going)
+unfolding stepped
+lowers_one s d k x y is at =
+    takes s k d (micro.Lower x) None is.change (three _ _ (mine s d k (micro.Lower x) is) (first_comes (micro.Lower x) (todo k) is.first))
+    ∙ ap (λ (y : State). Some (counted s (y, turn.Going))) (ap (λ (o : Option ℕ). option_map_or (lower_one s (taken k) x.0) o (on s (record (taken k) { again = 0 }))) at)
+    ∙ ap (λ (x : State × Turn). Some x) (counted_still s (lower_one s (taken k) x.0 y) turn.Going (settled-still s (lower_one s (taken k) x.0 y) (λ c. refl)))
+
+pub lowers_none : (s : State) (d : ℕ) (k : Change) (x : ClockId) → IsNext s d k (micro.Lower x) → slice_get (to_lower s x.0) 0 ≡ None
+    → next s d (event.Step (micro.Lower x) None) ≡ Some (record s { change = Some (record (taken k) { again = 0 }); steps = s.steps + 1 }, turn.Going)
+unfolding stepped
+lowers_none s d k x is at =
+    takes s k d (micro.Lower x) None is.change (three _ _ (mine s d k (micro.Lower x) is) (first_comes (micro.Lower x) (todo k) is.first))
+    ∙ ap (λ (y : State). Some (counted s (y, turn.Going))) (ap (λ (o : Option ℕ). option_map_or (lower_one s (taken k) x.0) o (on s (record (taken k) { again = 0 }))) at)
+    ∙ ap (λ (x : State × Turn). Some x) (counted_still s (on s (record (taken k) { again = 0 })) turn.Going (settled-still s (on s (record (taken k) { again = 0 })) (λ c. refl)))
+
+-- ---- polls and falls
+
+-- a poll changes nothing but the change
+polled_change : (s : State) (k : Change) (y : ℕ) (b : Bool) → poll s k y b ≡ record s { change = (poll s k y b).change }
+polled_change s k y true = refl
+polled_change s k y false = by (nat_le k.polls 1) where
+  by : (t : Bool) → (if t then timed_out s (record k { polls = 0 }) else on s (record k { polls = k.polls - 1; front = micro.Poll (clock_id y) ∷ k.front }))
+      ≡ record s { change = (if t then timed_out s (record k { polls = 0 }) else on s (record k { polls = k.polls - 1; front = micro.Poll (clock_id y) ∷ k.front })).change }
+  by true = refl
+  by false = refl
+
+pub polls_one : (s : State) (d : ℕ) (k : Change) (y : ClockId) (b : Bool) → IsNext s d k (micro.Poll y)
+    → next s d (event.Step (micro.Poll y) (Some b)) ≡ Some (record s { change = (poll s (taken k) y.0 b).change; steps = s.steps + 1 }, turn.Going)
+unfolding stepped
+polls_one s d k y b is =
+    takes s k d (micro.Poll y) (Some b) is.change (three _ _ (mine s d k (micro.Poll y) is) (first_comes (micro.Poll y) (todo k) is.first))
+    ∙ ap (λ (z : State). Some (counted s (z, turn.Going))) (polled_change s (taken k) y.0 b)
+    ∙ ap (λ (x : State × Turn). Some x)
+    (counted_still s (record s { change = (poll s (taken k) y.0 b).change }) turn.Going (settled-still s (record s { change = (poll s (taken k) y.0 b).change }) (λ c. refl)))
+
+pub falls_one : (s : State) (d : ℕ) (k : Change) (y : ClockId) → IsNext s d k (micro.Fall y)
+    → next s d (event.Step (micro.Fall y) None) ≡ Some (record (fall s (taken k) y.0) { steps = s.steps + 1 }, turn.Going)
+unfolding stepped
+falls_one s d k y is =
+    takes s k d (micro.Fall y) None is.change (three _ _ (mine s d k (micro.Fall y) is) (first_comes (micro.Fall y) (todo k) is.first))
+    ∙ ap (λ (x : State × Turn). Some x) (counted_still s (fall s (taken k) y.0) turn.Going (settled-still s (fall s (taken k) y.0) (λ c. refl)))
+
+-- ---- the end
+
+pub ends : (s : State) (d : ℕ) (k : Change) → IsNext s d k micro.End
+    → next s d (event.Step micro.End None) ≡ Some (record (settled s (end_of s (taken k)).0) { steps = s.steps + 1 }, (end_of s (taken k)).1)
+unfolding stepped
+ends s d k is = takes s k d micro.End None is.change (three _ _ (mine s d k micro.End is) (first_comes micro.End (todo k) is.first))
+
+-- what the end leaves, by whether it was vetoed and has timed out, and what else a call leaves
+abbrev left_by : State → Change → Bool → Bool → State → State × Turn
+left_by s k vetoed late well = (
+  record (if vetoed || late then unranged s k else well) { change = None },
+  turn.Done (if vetoed then reply.Refused errno.EBUSY else if late then reply.Refused errno.ETIMEDOUT else reply.Fine),
+)
+
+-- a prepare that ends well adds a prepare
+pub end_prepared : (s : State) (k : Change) (h : Handle) (row : HandleRow) → k.vetoed ≡ false → k.timed_out ≡ false → k.call ≡ call.Prepare h → handle_at s.handles h.number ≡ Some row
+    → end_of s k ≡ (record (prepared_once_more s h.number row) { change = None }, turn.Done reply.Fine)
+end_prepared s k h row vetoed late at live =
+    ap (λ (v : Bool). left_by s k v k.timed_out (ended_well s k.driver k.call)) vetoed
+    ∙ ap (λ (t : Bool). left_by s k false t (ended_well s k.driver k.call)) late
+    ∙ ap (λ (what : Sleeping). left_by s k false false (ended_well s k.driver what)) at
+    ∙ ap (λ (o : Option HandleRow). left_by s k false false (option_map_or (prepared_once_more s h.number) o s)) live
+
+-- another end leaves the state as it is
+pub end_bare : (s : State) (k : Change) → k.vetoed ≡ false → may_go_on k.call ≡ true → (k.timed_out || not (may_raise k.call)) ≡ true
+    → end_of s k ≡ (record s { change = None }, turn.Done (if k.timed_out then reply.Refused errno.ETIMEDOUT else reply.Fine))
+end_bare s k vetoed goes bare =
+    ap (λ (v : Bool). left_by s k v k.timed_out (ended_well s k.driver k.call)) vetoed
+    ∙ ap (λ (t : State). let x : State × Turn = (t, turn.Done (if k.timed_out then reply.Refused errno.ETIMEDOUT else reply.Fine)) in x) (same k.call k.timed_out goes bare) where
+      same : (what : Sleeping) (t : Bool) → may_go_on what ≡ true → (t || not (may_raise what)) ≡ true
+          → record (if t then record s { handles = range_back what k.range s.handles } else ended_well s k.driver what) { change = None } ≡ record s { change = None }
+      same (call.Prepare h) true e f = refl
+      same (call.Prepare h) false e f = absurd cc
+      same (call.Unprepare h) true e f = refl
+      same (call.Unprepare h) false e f = refl
+      same _ t e f = absurd cc
+
+-- the end of a call, where no gate moves
+pub ends_still : (s : State) (d : ℕ) (k : Change) (y : State) (t : Turn) → IsNext s d k micro.End → end_of s (taken k) ≡ (y, t) → ((c : ℕ) → active s c ≡ active y c)
+    → next s d (event.Step micro.End None) ≡ Some (record y { steps = s.steps + 1 }, t)
+ends_still s d k y t is leaves same =
+    ends s d k is
+    ∙ ap (λ (x : State × Turn). let z : State × Turn = (record (settled s x.0) { steps = s.steps + 1 }, x.1) in Some z) leaves
+    ∙ ap (λ (x : State × Turn). Some x) (counted_still s y t (settled-still s y same))

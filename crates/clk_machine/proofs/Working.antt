@@ -1,0 +1,83 @@
+-- What comes next of the change in flight, and what a search for PLLs comes to.
+use Rattle.std.proofs.Common.{◌≡◌, ℕ, ◌&&◌, Bool, true, false, List, [], Option, Some, None, refl, sym, ap, subst, ◌∙◌, reverse}
+use Rattle.std.specs.Prelude.{slice_get, IfSome}
+use Rattle.std.specs.Option.{option_map}
+use Rattle.clk_base.specs.declared.call.Micro.{Micro}
+use Rattle.clk_base.specs.declared.call.Micro.TheVariants as micro
+use Rattle.clk_base.specs.declared.clock.ClockId.{ClockId}
+use Rattle.clk_model.specs.State.{Change, NotifierRow, registered}
+use Rattle.clk_model.specs.Tree.{path}
+use Rattle.clk_model.specs.Step.{todo}
+use Rattle.clk_model.specs.Laws.Paced.{is_notice}
+use Rattle.clk_flight.specs.Fronts.{is_posts}
+use Rattle.clk_flight.specs.Flights.{IsChange, own_step, comes_next}
+use Rattle.clk_flight.specs.Steps.{is_fall}
+use Rattle.notifiers.specs.Chains.{Tells}
+use Rattle.clk_machine.specs.declared.plls.Sought.{Sought}
+use Rattle.clk_machine.specs.declared.work.Work.{Work}
+use Rattle.clk_machine.specs.declared.work.Work.TheVariants as work
+use Rattle.clk_machine.specs.Making.{ComesFirst, ComesNext, FindsNothing, work_of}
+use Rattle.clk_machine.specs.Parts.{Parts, IsWhole}
+use Rattle.clk_machine.specs.Plls.{raisable, lowerable, Finds}
+use Rattle.clk_machine.proofs.InFlight.{raise_there, lower_there, no_posts, end_comes, work_raises, work_polls, work_falls, work_lowers}
+use Rattle.clk_machine.proofs.Making.{to_raise_stands, to_lower_stands}
+use Rattle.clk_machine.proofs.Stepping.{raises_none, lowers_none}
+
+-- ---- what comes next
+
+pub works : (p : Parts) (r : Option Micro) (w : Work) → IsWhole p → p.flight.going ≡ true → w ≡ work_of r
+    → (is_posts p.flight.front ≡ false → (rows : List NotifierRow) → r ≡ comes_next rows p.flight)
+    → ((m : Micro) → r ≡ Some m → is_notice m ≡ false → is_fall m ≡ false → own_step p.flight ≡ Some m)
+    → ((rows : List NotifierRow) (k : Change) → Tells p.chains rows → IsChange rows p.flight k → r ≡ slice_get (todo k) 0)
+    → ComesNext p w
+works p r (work.Raise x) whole going is untold own first =
+    let at = work_raises r x (sym is) in
+    (own (micro.Raise x) at refl refl, λ rows k tells change. sym (first rows k tells change) ∙ at)
+works p r (work.Poll y) whole going is untold own first =
+    let at = work_polls r y (sym is) in
+    (own (micro.Poll y) at refl refl, λ rows k tells change. sym (first rows k tells change) ∙ at)
+works p r (work.Fall y) whole going is untold own first =
+    let at = work_falls r y (sym is) in
+    (sym (untold (no_posts p.flight (registered p.tree.clocks) (whole.flown going).way) []) ∙ at, λ rows k tells change. sym (first rows k tells change) ∙ at)
+works p r (work.Lower x) whole going is untold own first =
+    let at = work_lowers r x (sym is) in
+    (own (micro.Lower x) at refl refl, λ rows k tells change. sym (first rows k tells change) ∙ at)
+works p r work.End whole going is untold own first = λ rows k tells change.
+    let way = (whole.flown going).way in
+    let same = untold (no_posts p.flight (registered p.tree.clocks) way) rows in
+    sym (first rows k tells change) ∙ same ∙ end_comes rows p.flight (registered p.tree.clocks) going change.steps way (ap work_of (sym same) ∙ sym is)
+
+-- ---- a search
+
+-- what was found, where a PLL was
+pub finds_some : (found : Sought) (pll : ClockId) (xs : List ℕ) → found.pll ≡ Some pll → Finds found xs → Finds (record { pll = Some pll; more = found.more }) xs
+finds_some found pll xs at is = record { first = sym (ap (option_map (λ c. c.0)) at) ∙ is.first; more = is.more }
+
+pub finds_some_told : (found : Sought) (pll : ClockId) (words : Option (List ℕ)) (xs : List ℕ → List ℕ) → found.pll ≡ Some pll → IfSome words (λ regs. Finds found (xs regs))
+    → IfSome words (λ regs. Finds (record { pll = Some pll; more = found.more }) (xs regs))
+finds_some_told found pll None xs at is = tt
+finds_some_told found pll (Some regs) xs at is = finds_some found pll (xs regs) at is
+
+-- a raise that finds none
+pub raise_nothing : (p : Parts) (x : ClockId) (found : Sought) → IsWhole p → p.flight.going ≡ true → own_step p.flight ≡ Some (micro.Raise x) → ComesFirst p (micro.Raise x)
+    → registered p.tree.clocks x.0 ≡ true → Finds found (reverse (raisable p.desc.defs p.counts p.flight.raised (path p.tree.clocks x.0))) → found.pll ≡ None → FindsNothing p (micro.Raise x)
+raise_nothing p x found whole going own first here is none = record {
+  first = first;
+  seeks = raise_there p.flight (registered p.tree.clocks) x own (whole.flown going).way;
+  taken_ = λ s k stands change same.
+      raises_none s p.flight.driver k x (record { change = change; driver = same.driver; first = first s.notifiers k stands.notifiers same })
+      (ap (λ (ys : List ℕ). slice_get (reverse ys) 0) (to_raise_stands p s k x.0 whole stands same here) ∙ sym is.first ∙ ap (option_map (λ c. c.0)) none);
+}
+
+-- a lower that finds none
+pub lower_nothing : (p : Parts) (x : ClockId) (found : Sought) → IsWhole p → p.flight.going ≡ true → own_step p.flight ≡ Some (micro.Lower x) → ComesFirst p (micro.Lower x)
+    → IfSome p.window.words (λ regs. Finds found (lowerable p.desc.defs p.counts regs (path p.tree.clocks x.0))) → found.pll ≡ None → FindsNothing p (micro.Lower x)
+lower_nothing p x found whole going own first is none = record {
+  first = first;
+  seeks = lower_there p.flight (registered p.tree.clocks) x own (whole.flown going).way;
+  taken_ = λ s k stands change same.
+      let told : Finds found (lowerable p.desc.defs p.counts s.regs (path p.tree.clocks x.0)) =
+      subst (λ (o : Option (List ℕ)). IfSome o (λ regs. Finds found (lowerable p.desc.defs p.counts regs (path p.tree.clocks x.0)))) stands.regs is in
+      lowers_none s p.flight.driver k x (record { change = change; driver = same.driver; first = first s.notifiers k stands.notifiers same })
+      (ap (λ (ys : List ℕ). slice_get ys 0) (to_lower_stands p s x.0 whole stands) ∙ sym told.first ∙ ap (option_map (λ c. c.0)) none);
+}

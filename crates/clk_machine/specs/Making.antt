@@ -1,0 +1,43 @@
+-- What the step that comes next of a core's change in flight is to the change of the definitions.
+use Rattle.std.specs.Prelude.{◌≡◌, ℕ, ◌+◌, true, List, [], Option, Some, None, slice_get}
+use Rattle.clk_base.specs.declared.call.Micro.{Micro}
+use Rattle.clk_base.specs.declared.call.Micro.TheVariants as micro
+use Rattle.clk_base.specs.declared.event.Event.TheVariants as event
+use Rattle.clk_base.specs.declared.event.Turn.TheVariants as turn
+use Rattle.clk_model.specs.State.{State, Change, NotifierRow, registered}
+use Rattle.clk_model.specs.Step.{todo, taken}
+use Rattle.clk_model.specs.Machine.{next}
+use Rattle.clk_flight.specs.Flights.{IsChange, own_step, comes_next}
+use Rattle.notifiers.specs.Chains.{Tells}
+use Rattle.clk_machine.specs.declared.work.Work.{Work}
+use Rattle.clk_machine.specs.declared.work.Work.TheVariants as work
+use Rattle.clk_machine.specs.InFlight.{may_seek}
+use Rattle.clk_machine.specs.Parts.{Parts}
+use Rattle.clk_machine.specs.Stands.{Stands}
+
+-- the step is the first that the change has left to do
+abbrev pub ComesFirst : Parts → Micro → Type 0
+ComesFirst m step = (rows : List NotifierRow) (k : Change) → Tells m.chains rows → IsChange rows m.flight k → slice_get (todo k) 0 ≡ Some step
+
+-- a raise or a lower that comes first finds no PLL: the machine only takes it, and counts its comings anew
+pub record FindsNothing (m : Parts) (step : Micro) : Type 0 where
+  pub first : ComesFirst m step
+  pub seeks : may_seek m.flight.call (registered m.tree.clocks) step ≡ true
+  pub taken_ : (s : State) (k : Change) → Stands m s → s.change ≡ Some k → IsChange s.notifiers m.flight k
+      → next s m.flight.driver (event.Step step None) ≡ Some (record s { change = Some (record (taken k) { again = 0 }); steps = s.steps + 1 }, turn.Going)
+
+-- the work that a step is: one of these four, or the end
+abbrev pub work_of : Option Micro → Work
+work_of (Some (micro.Raise x)) = work.Raise x
+work_of (Some (micro.Poll y)) = work.Poll y
+work_of (Some (micro.Fall y)) = work.Fall y
+work_of (Some (micro.Lower x)) = work.Lower x
+work_of _ = work.End
+
+-- the work comes next
+abbrev pub ComesNext : Parts → Work → Type 0
+ComesNext m (work.Raise x) = (own_step m.flight ≡ Some (micro.Raise x)) × ComesFirst m (micro.Raise x)
+ComesNext m (work.Poll y) = (own_step m.flight ≡ Some (micro.Poll y)) × ComesFirst m (micro.Poll y)
+ComesNext m (work.Fall y) = (comes_next [] m.flight ≡ Some (micro.Fall y)) × ComesFirst m (micro.Fall y)
+ComesNext m (work.Lower x) = (own_step m.flight ≡ Some (micro.Lower x)) × ComesFirst m (micro.Lower x)
+ComesNext m work.End = ComesFirst m micro.End

@@ -1,0 +1,182 @@
+//! The steps of the change in flight.
+
+ghost use Rattle.std.specs.Prelude.{◌≡◌, ◌<◌, true, [], Some, None, length, reverse, IfSome};
+ghost use Rattle.std.specs.Option.{option_map};
+ghost use Rattle.reg_bank.specs.Locks.{polled, is_locked};
+ghost use Rattle.clk_machine.specs.Window.{lock_in};
+ghost use Rattle.clk_base.specs.declared.call.Micro.TheVariants as micro;
+ghost use Rattle.clk_base.specs.declared.event.Event.TheVariants.{Step};
+ghost use Rattle.clk_base.specs.declared.event.Turn.TheVariants.{Going};
+ghost use Rattle.clk_model.specs.State.{registered};
+ghost use Rattle.clk_model.specs.Tree.{path};
+ghost use Rattle.clk_flight.specs.Flights.{own_step, comes_next};
+ghost use Rattle.clk_machine.specs.Making.{ComesFirst, ComesNext, FindsNothing};
+ghost use Rattle.clk_machine.specs.Parts.{IsWhole};
+ghost use Rattle.clk_machine.specs.Plls.{raisable, lowerable, Finds};
+ghost use Rattle.clk_machine.specs.Stands.{Enters};
+
+use super::Machine;
+use crate::plls::{Sought, next_to_lower, next_to_raise};
+use crate::power::set_power;
+use crate::work::{Made, Work, going_on, work_of};
+use clk_base::{ClockId, Micro, Turn};
+use reg_bank::Bank;
+
+impl<B: Bank> Machine<B> {
+    // The highest PLL above a clock that is to be raised.
+    fn to_raise(&self, clock: ClockId) -> Sought
+        requires { registered self.now.tree.clocks clock.0 ≡ true }
+        ensures found { Finds result (reverse (raisable self.now.desc.defs self.now.counts self.now.flight.raised (path self.now.tree.clocks clock.0))) }
+        ensures whole { IsWhole self.now }
+    {
+        next_to_raise(&self.desc, &self.tree, &self.counts, &self.flight, clock)
+    }
+
+    // The lowest PLL above a clock that is powered without a prepare.
+    fn to_lower(&self, clock: ClockId) -> Sought
+        requires { registered self.now.tree.clocks clock.0 ≡ true }
+        ensures found { IfSome self.now.window.words (λ regs. Finds result (lowerable self.now.desc.defs self.now.counts regs (path self.now.tree.clocks clock.0))) }
+        ensures place { IfSome result.pll (λ pll. pll.0 < length self.now.desc.defs) }
+        ensures whole { IsWhole self.now }
+    {
+        next_to_lower(&self.desc, &self.tree, &self.counts, &self.window, clock)
+    }
+
+    // A raise or a lower has found no PLL.
+    fn find_none(&mut self, step: Micro)
+        requires going { self.old.flight.going ≡ true }
+        requires next { own_step self.old.flight ≡ Some step }
+        requires seeks { FindsNothing self.old step }
+        ensures { Enters self.old self.old.flight.driver (Step step None) Going self.new }
+    {
+        self.flight.find_none();
+        self.steps += 1;
+    }
+
+    // A raise has found a PLL: it is powered, and polled next.
+    fn power_up(&mut self, clock: ClockId, pll: ClockId, more: bool)
+        requires going { self.old.flight.going ≡ true }
+        requires next { own_step self.old.flight ≡ Some (micro.Raise clock) }
+        requires first { ComesFirst self.old (micro.Raise clock) }
+        requires found { Finds (record { pll = Some pll; more = more }) (reverse (raisable self.old.desc.defs self.old.counts self.old.flight.raised (path self.old.tree.clocks clock.0))) }
+        ensures { Enters self.old self.old.flight.driver (Step (micro.Raise clock) None) Going self.new }
+    {
+        set_power(self.desc.def(pll).kind, &mut self.window, true);
+        self.window.start(pll);
+        self.flight.raise(clock, pll, more);
+        self.steps += 1;
+    }
+
+    // A lower has found a PLL: it is switched off.
+    fn power_down(&mut self, clock: ClockId, pll: ClockId, more: bool)
+        requires going { self.old.flight.going ≡ true }
+        requires next { own_step self.old.flight ≡ Some (micro.Lower clock) }
+        requires first { ComesFirst self.old (micro.Lower clock) }
+        requires place { pll.0 < length self.old.desc.defs }
+        requires found { IfSome self.old.window.words (λ regs. Finds (record { pll = Some pll; more = more }) (lowerable self.old.desc.defs self.old.counts regs (path self.old.tree.clocks clock.0))) }
+        ensures { Enters self.old self.old.flight.driver (Step (micro.Lower clock) None) Going self.new }
+    {
+        set_power(self.desc.def(pll).kind, &mut self.window, false);
+        self.flight.lower(clock, more);
+        self.steps += 1;
+    }
+
+    // Powers the highest PLL above a clock that is to be raised, if there is one.
+    fn raise(&mut self, clock: ClockId)
+        requires going { self.old.flight.going ≡ true }
+        requires next { own_step self.old.flight ≡ Some (micro.Raise clock) }
+        requires first { ComesFirst self.old (micro.Raise clock) }
+        requires there { registered self.old.tree.clocks clock.0 ≡ true }
+        ensures { Enters self.old self.old.flight.driver (Step (micro.Raise clock) None) Going self.new }
+    {
+        let found = self.to_raise(clock);
+        match found.pll {
+            Some(pll) => self.power_up(clock, pll, found.more),
+            None => self.find_none(Micro::Raise(clock)),
+        }
+    }
+
+    // Switches the lowest PLL above a clock off that is powered without a prepare, if there is one.
+    fn lower(&mut self, clock: ClockId)
+        requires going { self.old.flight.going ≡ true }
+        requires next { own_step self.old.flight ≡ Some (micro.Lower clock) }
+        requires first { ComesFirst self.old (micro.Lower clock) }
+        requires there { registered self.old.tree.clocks clock.0 ≡ true }
+        ensures { Enters self.old self.old.flight.driver (Step (micro.Lower clock) None) Going self.new }
+    {
+        let found = self.to_lower(clock);
+        match found.pll {
+            Some(pll) => self.power_down(clock, pll, found.more),
+            None => self.find_none(Micro::Lower(clock)),
+        }
+    }
+
+    // Polls a PLL: the bank answers.
+    fn poll(&mut self, pll: ClockId) -> bool
+        requires going { self.old.flight.going ≡ true }
+        requires next { own_step self.old.flight ≡ Some (micro.Poll pll) }
+        requires first { ComesFirst self.old (micro.Poll pll) }
+        ensures enters { Enters self.old self.old.flight.driver (Step (micro.Poll pll) (Some result)) Going self.new }
+        ensures lock { lock_in self.new.window.locks pll.0 ≡ option_map polled (lock_in self.old.window.locks pll.0) }
+        ensures answer { IfSome (lock_in self.new.window.locks pll.0) (λ now. result ≡ is_locked now) }
+    {
+        let yes = self.window.locked(pll);
+        self.flight.poll(yes);
+        self.steps += 1;
+        yes
+    }
+
+    // The PLL that was raised last falls.
+    fn fall(&mut self, pll: ClockId)
+        requires going { self.old.flight.going ≡ true }
+        requires next { comes_next [] self.old.flight ≡ Some (micro.Fall pll) }
+        requires first { ComesFirst self.old (micro.Fall pll) }
+        ensures { Enters self.old self.old.flight.driver (Step (micro.Fall pll) None) Going self.new }
+    {
+        set_power(self.desc.def(pll).kind, &mut self.window, false);
+        self.flight.fall();
+        self.steps += 1;
+    }
+
+    // What comes next of the change in flight.
+    fn next_work(&self) -> Work
+        requires { self.now.flight.going ≡ true }
+        ensures next { ComesNext self.now result }
+        ensures whole { IsWhole self.now }
+    {
+        work_of(self.flight.next(&self.notifiers))
+    }
+
+    /// Makes the next step of the change in flight.
+    pub(crate) fn step(&mut self) -> Made
+        requires { self.old.flight.going ≡ true }
+        ensures { Enters self.old self.old.flight.driver (Step result.step result.answer) result.turn self.new }
+    {
+        match self.next_work() {
+            Work::Raise(clock) => {
+                self.raise(clock);
+                going_on(Micro::Raise(clock), None)
+            }
+            Work::Poll(pll) => {
+                let yes = self.poll(pll);
+                going_on(Micro::Poll(pll), Some(yes))
+            }
+            Work::Fall(pll) => {
+                self.fall(pll);
+                going_on(Micro::Fall(pll), None)
+            }
+            Work::Lower(clock) => {
+                self.lower(clock);
+                going_on(Micro::Lower(clock), None)
+            }
+            Work::End => {
+                let reply = self.end();
+                Made {
+                    step: Micro::End,
+                    answer: None,
+                    turn: Turn::Done(reply),
+                }
+            }
+        }
+    }
+}

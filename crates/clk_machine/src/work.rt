@@ -1,0 +1,51 @@
+//! The steps that a core makes so far.
+
+ghost use Rattle.std.specs.Prelude.{◌≡◌};
+ghost use Rattle.clk_base.specs.declared.event.Turn.TheVariants.{Going};
+ghost use Rattle.clk_machine.specs.Making.{work_of};
+
+use clk_base::{ClockId, Micro, Turn};
+
+/// What comes next of the change in flight.
+#[derive(Clone, Copy)]
+pub(crate) enum Work {
+    Raise(ClockId),
+    Poll(ClockId),
+    Fall(ClockId),
+    Lower(ClockId),
+    End,
+}
+
+/// A step that was made.
+#[derive(Clone, Copy)]
+pub(crate) struct Made {
+    pub step: Micro,
+    /// What a poll was answered.
+    pub answer: Option<bool>,
+    /// Whether the call goes on, or how it ended.
+    pub turn: Turn,
+}
+
+/// The work that a step is: any but a raise, a poll, a fall and a lower is the end.
+pub(crate) fn work_of(step: Option<Micro>) -> Work
+    ensures { result ≡ work_of step }
+{
+    match step {
+        Some(Micro::Raise(clock)) => Work::Raise(clock),
+        Some(Micro::Poll(pll)) => Work::Poll(pll),
+        Some(Micro::Fall(pll)) => Work::Fall(pll),
+        Some(Micro::Lower(clock)) => Work::Lower(clock),
+        _ => Work::End,
+    }
+}
+
+/// A step after which the call goes on.
+pub(crate) fn going_on(step: Micro, answer: Option<bool>) -> Made
+    ensures { result ≡ record { step = step; answer = answer; turn = Going } }
+{
+    Made {
+        step,
+        answer,
+        turn: Turn::Going,
+    }
+}
