@@ -1,2 +1,3 @@
+pub mod EntryTexts
 pub mod Hexadecimal
 pub mod Lines

@@ -1,12 +1,19 @@
-//! The printed text of the clock framework: the answers of a driver's commands, and the registers.
+//! The printed text of the clock framework: the answers of a driver's commands, the entries of a
+//! journal, and the registers.
 //!
 //! Each place where text is made has a type of its own whose `Display` states the bytes that it
 //! writes. A printer formats one line at a time and hands it to a `Gathered`, which writes pieces.
 #![tactic(auto)]
 
 mod answers;
+mod call;
+mod entries;
+mod event;
+mod names;
 mod registers;
 mod reply;
+mod step;
 
 pub use answers::print_answers;
+pub use entries::{print_entries, print_entry};
 pub use registers::print_registers;

@@ -1,9 +1,10 @@
 //! Replies as text.
 
 ghost use Rattle.std.specs.Prelude.{◌≡◌, Some};
-ghost use Rattle.clk_model.specs.Text.{clock_word, errno_name, reply_text};
+ghost use Rattle.clk_model.specs.Text.{errno_name, reply_text};
 
-use clk_base::{ClockId, Errno, Reply, ValidDesc};
+use crate::names::clock_word;
+use clk_base::{Errno, Reply, ValidDesc};
 use std::fmt;
 
 /// A reply, printed with the names of this description's clocks.
@@ -36,17 +37,6 @@ impl<'a> fmt::Display for ReplyText<'a> {
                 write!(f, "err {name}")
             }
         }
-    }
-}
-
-// A clock's name, which is empty outside of the description, or a dash where there is no clock.
-fn clock_word<'a>(desc: &'a ValidDesc, clock: Option<ClockId>) -> &'a str
-    ensures { result.now ≡ clock_word desc.now.defs clock }
-{
-    match clock {
-        Some(c) if (c.0 as usize) < desc.len() => desc.def(c).name.as_str(),
-        Some(_) => "",
-        None => "-",
     }
 }
 

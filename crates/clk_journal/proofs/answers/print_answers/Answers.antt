@@ -1,4 +1,4 @@
-use Rattle.std.proofs.Common.{[], refl, ◌+◌, ◌∙◌, ap, ◌++◌, arith}
+use Rattle.std.proofs.Common.{[], refl, ◌+◌, ◌∙◌, ap, ◌++◌}
 use Rattle.clk_base.specs.declared.command.Answer.TheVariants.{Skip}
 use Rattle.clk_io.proofs.Gathering.{PassesOn-none, PassesOn-after, front_of_whole}
 use Rattle.clk_journal.proofs.Lines.{Gathers-fault, answers_at, one_more}

@@ -1,5 +1,5 @@
 -- The lines of the answers before the next one were gathered, and all lines are these and those of the rest.
-use Rattle.std.proofs.Common.{◌≡◌, ◌≤◌, ◌+◌, ℕ, List, ◌++◌, drop, is_some}
+use Rattle.std.proofs.Common.{◌≡◌, ◌+◌, ℕ, List, ◌++◌, drop, is_some}
 use Rattle.clk_io.specs.Gathers.{PassesOn}
 use Rattle.clk_model.specs.Text.{answers_from, answers_text}
 use Rattle.clk_journal.proofs.answers.print_answers.Given as goal

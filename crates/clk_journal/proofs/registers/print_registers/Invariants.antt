@@ -1,5 +1,5 @@
 -- The lines of the words before the next one were gathered, and all lines are these and those of the rest.
-use Rattle.std.proofs.Common.{◌≡◌, ◌≤◌, ℕ, List, ◌++◌, drop, is_some}
+use Rattle.std.proofs.Common.{◌≡◌, ℕ, List, ◌++◌, drop, is_some}
 use Rattle.clk_io.specs.Gathers.{PassesOn}
 use Rattle.clk_model.specs.Text.{registers_from, registers_text}
 use Rattle.clk_journal.proofs.registers.print_registers.Given as goal

@@ -1,0 +1,105 @@
+-- Child by child, below the line of their parent.
+use Rattle.std.proofs.Common.{◌≡◌, ◌<◌, ◌+◌, ◌-◌, [], ◌++◌, Some, None, IfSome, sym, ap, subst, ◌∙◌, arith, length}
+use Rattle.std.specs.Prelude.{slice_get, flat_map}
+use Rattle.std.specs.Option.{option_map}
+use Rattle.clk_base.specs.Levels.{depth}
+use Rattle.clk_base.specs.declared.clock.ClockId.{ClockId}
+use Rattle.clk_io.proofs.Gathering.{PassesOn-none, PassesOn-after, front_of_whole}
+use Rattle.clk_machine.specs.Run.{now_of}
+use Rattle.clk_model.specs.Summary.{lines_within, summary_line}
+use Rattle.clk_model.specs.Tree.{children}
+use Rattle.clk_tree.proofs.Along.{drop_zero}
+use Rattle.clk_summary.proofs.Printing.{fault_leaves, one_done, all_done}
+use Rattle.clk_summary.proofs.Trees.{texts_at, none_at, none_behind, same_children, child_registered, children_few, lines_at}
+use Rattle.clk_summary.proofs.table.+print_tree.Goals as goal
+
+pub returns-in_err-print_line-clause-gathers : goal.returns-in_err-print_line-clause-gathers
+returns-in_err-print_line-clause-gathers g t c = λ told there.
+    let s = now_of c.args.core.now in
+    let clock = c.args.clock.0 in
+    let of = c.tree.ensures.tree told in
+    fault_leaves _ _ _ _ _ _ c.from_residual.ensures.0
+    (front_of_whole _ _ _ _ _ [] (summary_line s c.args.level clock) _ _ (PassesOn-none _ _)
+    (c.in_err-print_line.ensures.gathers told (sym of.defs ∙ c.tree.ensures.made) there)
+    (lines_at s c.args.level clock (omega (arith, c.if-level-depth.false, c.depth.ensures))))
+
+pub loop-place-init : goal.loop-place-init
+loop-place-init g t c =
+    let s = now_of c.args.core.now in
+    let clock = c.args.clock.0 in
+    let seen = c.tree.result.now in
+    let kids = children s.order s.clocks clock in
+    record {
+      inside = subst (λ defs. IfSome c.first_child-at.result (λ d. d.0 < length defs)) c.tree.ensures.made c.first_child-at.ensures.inside;
+      along = λ told. c.first_child-at.ensures.first ∙ ap (λ xs. slice_get xs 0) (same_children s seen clock (c.tree.ensures.tree told));
+      printed = λ told there.
+          let of = c.tree.ensures.tree told in (
+            summary_line s c.args.level clock,
+            c.in_ok-print_line.ensures.gathers told (sym of.defs ∙ c.tree.ensures.made) there,
+            lines_at s c.args.level clock (omega (arith, c.if-level-depth.false, c.depth.ensures))
+                ∙ ap (λ xs. summary_line s c.args.level clock ++ flat_map (lines_within (depth - (c.args.level + 1)) s (c.args.level + 1)) xs) (sym (drop_zero kids)),
+          );
+      tells = cc;
+      stands = c.in_ok-print_line.ensures.counts;
+    }
+
+pub returns-in_default-clause-gathers : goal.returns-in_default-clause-gathers
+returns-in_default-clause-gathers g t c = λ told there.
+    let s = now_of c.args.core.now in
+    let kids = children s.order s.clocks c.args.clock.0 in
+    let was = c.loop-place.invariant.printed told there in
+    let none : slice_get kids c.loop-place._place ≡ None = sym (c.loop-place.invariant.along told) ∙ ap (option_map (λ (d : ClockId). d.0)) c.in_default.is in
+    all_done _ _ _ _ _ was.0 _ was.1 was.2 (none_at (lines_within (depth - (c.args.level + 1)) s (c.args.level + 1)) kids c.loop-place._place none)
+
+pub returns-in_err-print_tree-clause-gathers : goal.returns-in_err-print_tree-clause-gathers
+returns-in_err-print_tree-clause-gathers g t c = λ told there.
+    let s = now_of c.args.core.now in
+    let kids = children s.order s.clocks c.args.clock.0 in
+    let below = lines_within (depth - (c.args.level + 1)) s (c.args.level + 1) in
+    let was = c.loop-place.invariant.printed told there in
+    let child = c.in-Some.child.0 in
+    let at : slice_get kids c.loop-place._place ≡ Some child = sym (c.loop-place.invariant.along told) ∙ ap (option_map (λ (d : ClockId). d.0)) c.in-Some.is in
+    let known = child_registered s c.tree.result.now c.args.clock.0 c.loop-place._place child (c.tree.ensures.tree told) c.first_child-at.ensures.stands at in
+    fault_leaves _ _ _ _ _ _ c.from_residual-in_err-print_tree.ensures.0
+    (front_of_whole _ _ _ _ _ was.0 (below child) _ _ was.1
+    (c.in_err-print_tree.ensures.gathers told known)
+    (was.2 ∙ ap (λ rest. was.0 ++ rest) (texts_at below kids c.loop-place._place child at)))
+
+pub loop-place-preserved : goal.loop-place-preserved
+loop-place-preserved g t c =
+    let s = now_of c.args.core.now in
+    let clock = c.args.clock.0 in
+    let kids = children s.order s.clocks clock in
+    let place = c.loop-place._place in
+    let child = c.in-Some.child.0 in
+    let u = c.tree-in-loop-place.result.now in
+    record {
+      inside = subst (λ defs. IfSome c.next_sibling-at.result (λ d. d.0 < length defs)) c.tree-in-loop-place.ensures.made c.next_sibling-at.ensures.inside;
+      along = λ told.
+          let at : slice_get kids place ≡ Some child = sym (c.loop-place.invariant.along told) ∙ ap (option_map (λ (d : ClockId). d.0)) c.in-Some.is in
+          let same = same_children s u clock (c.tree-in-loop-place.ensures.tree told) in
+          c.next_sibling-at.ensures.child clock place (ap (λ xs. slice_get xs place) same ∙ at) ∙ ap (λ xs. slice_get xs (place + 1)) same;
+      printed = λ told there.
+          let below = lines_within (depth - (c.args.level + 1)) s (c.args.level + 1) in
+          let was = c.loop-place.invariant.printed told there in
+          let at : slice_get kids place ≡ Some child = sym (c.loop-place.invariant.along told) ∙ ap (option_map (λ (d : ClockId). d.0)) c.in-Some.is in
+          let known = child_registered s c.tree.result.now clock place child (c.tree.ensures.tree told) c.first_child-at.ensures.stands at in (
+            _,
+            PassesOn-after _ _ _ _ _ _ _ _ was.1 (c.in_ok-print_tree.ensures.gathers told known),
+            one_done _ _ _ _ _ was.2 (texts_at below kids place child at),
+          );
+      tells = cc;
+      stands = c.in_ok-print_tree.ensures.counts ∙ c.loop-place.invariant.stands;
+    }
+
+pub returns-clause-gathers : goal.returns-clause-gathers
+returns-clause-gathers g t c = λ told there.
+    let s = now_of c.args.core.now in
+    let clock = c.args.clock.0 in
+    let kids = children s.order s.clocks clock in
+    let was = c.loop-place.invariant.printed told there in
+    let few = children_few s c.tree.result.now clock (c.tree.ensures.tree told) c.first_child-at.ensures.stands in
+    let made = ap (λ defs. length defs) c.tree.ensures.made in
+    let kept = ap (λ defs. length defs) c.desc.ensures in
+    all_done _ _ _ _ _ was.0 _ was.1 was.2
+    (none_behind (lines_within (depth - (c.args.level + 1)) s (c.args.level + 1)) kids c.loop-place._place (omega (arith, few, made, kept, c.len-place-end.ensures.len, c.loop-place-test.false)))

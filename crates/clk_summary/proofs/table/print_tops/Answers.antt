@@ -1,0 +1,89 @@
+-- Tree by tree, beside the clocks that stand at the top.
+use Rattle.std.proofs.Common.{◌≡◌, ◌<◌, ◌+◌, [], ◌++◌, true, Some, None, IfSome, refl, sym, ap, subst, ◌∙◌, arith, length}
+use Rattle.std.specs.Prelude.{slice_get, flat_map}
+use Rattle.std.specs.Option.{option_map}
+use Rattle.clk_base.specs.Levels.{depth}
+use Rattle.clk_base.specs.declared.clock.ClockId.{ClockId}
+use Rattle.clk_io.proofs.Gathering.{PassesOn-none, PassesOn-after, front_of_whole}
+use Rattle.clk_io.specs.Gathers.{PassesOn}
+use Rattle.clk_io.specs.Streams.{AppendsFront}
+use Rattle.clk_machine.specs.Run.{now_of}
+use Rattle.clk_model.specs.State.{registered}
+use Rattle.clk_model.specs.Summary.{lines_within}
+use Rattle.clk_tree.proofs.Along.{drop_zero}
+use Rattle.clk_summary.specs.Rows.{tops}
+use Rattle.clk_summary.proofs.Printing.{fault_leaves, one_done, all_done}
+use Rattle.clk_summary.proofs.Trees.{texts_at, none_at, none_behind, same_tops, top_registered, top_within, tops_few, all_levels}
+use Rattle.clk_summary.proofs.table.print_tops.Goals as goal
+
+pub loop-place-init : goal.loop-place-init
+loop-place-init g c =
+    let s = now_of c.args.core.now in
+    let t = c.tree.result.now in
+    record {
+      inside = subst (λ defs. IfSome c.top-at.result (λ d. d.0 < length defs)) c.tree.ensures.made (top_within t 0 c.top-at.result c.top-at.ensures.stands c.top-at.ensures.top);
+      along = λ told. c.top-at.ensures.top ∙ ap (λ xs. slice_get xs 0) (same_tops s t (c.tree.ensures.tree told));
+      printed = λ told. ([], PassesOn-none _ _, ap (flat_map (lines_within depth s 0)) (sym (drop_zero (tops s))));
+      tells = refl;
+      stands = refl;
+    }
+
+pub returns-in_default-clause-gathers : goal.returns-in_default-clause-gathers
+returns-in_default-clause-gathers g c = λ told.
+    let s = now_of c.args.core.now in
+    let was = c.loop-place.invariant.printed told in
+    let none : slice_get (tops s) c.loop-place.place ≡ None = sym (c.loop-place.invariant.along told) ∙ ap (option_map (λ (d : ClockId). d.0)) c.in_default.is in
+    all_done _ _ _ _ _ was.0 _ was.1 was.2 (none_at (lines_within depth s 0) (tops s) c.loop-place.place none)
+
+pub returns-in_err-print_tree-clause-gathers : goal.returns-in_err-print_tree-clause-gathers
+returns-in_err-print_tree-clause-gathers g c = λ told.
+    let s = now_of c.args.core.now in
+    let t = c.tree.result.now in
+    let of = c.tree.ensures.tree told in
+    let was = c.loop-place.invariant.printed told in
+    let clock = c.in-Some.clock.0 in
+    let at : slice_get (tops s) c.loop-place.place ≡ Some clock = sym (c.loop-place.invariant.along told) ∙ ap (option_map (λ (d : ClockId). d.0)) c.in-Some.is in
+    let there : registered s.clocks clock ≡ true = ap (λ rows. registered rows clock) (sym of.clocks)
+    ∙ top_registered t c.loop-place.place clock c.top-at.ensures.stands (ap (λ xs. slice_get xs c.loop-place.place) (same_tops s t of) ∙ at) in
+    fault_leaves _ _ _ _ _ _ c.from_residual.ensures.0
+    (front_of_whole _ _ _ _ _ was.0 (lines_within depth s 0 clock) _ _ was.1
+    (subst (λ n. AppendsFront (g.K.Sink.written c.loop-place.out) (g.K.Sink.written c.print_tree.new.out) (c.loop-place.gathered ++ lines_within n s 0 clock)) all_levels (c.in_err-print_tree.ensures.gathers told there))
+    (was.2 ∙ ap (λ rest. was.0 ++ rest) (texts_at (lines_within depth s 0) (tops s) c.loop-place.place clock at)))
+
+pub loop-place-preserved : goal.loop-place-preserved
+loop-place-preserved g c =
+    let s = now_of c.args.core.now in
+    let place = c.loop-place.place in
+    let clock = c.in-Some.clock.0 in
+    let u = c.tree-in-loop-place.result.now in
+    record {
+      inside = subst (λ defs. IfSome c.next_top-at.result (λ d. d.0 < length defs)) c.tree-in-loop-place.ensures.made c.next_top-at.ensures.inside;
+      along = λ told.
+          let at : slice_get (tops s) place ≡ Some clock = sym (c.loop-place.invariant.along told) ∙ ap (option_map (λ (d : ClockId). d.0)) c.in-Some.is in
+          let of = c.tree-in-loop-place.ensures.tree told in
+          c.next_top-at.ensures.next place refl (ap (λ xs. slice_get xs place) (same_tops s u of) ∙ at)
+          ∙ ap (λ xs. slice_get xs (place + 1)) (same_tops s u of);
+      printed = λ told.
+          let t = c.tree.result.now in
+          let of = c.tree.ensures.tree told in
+          let was = c.loop-place.invariant.printed told in
+          let at : slice_get (tops s) place ≡ Some clock = sym (c.loop-place.invariant.along told) ∙ ap (option_map (λ (d : ClockId). d.0)) c.in-Some.is in
+          let there : registered s.clocks clock ≡ true = ap (λ rows. registered rows clock) (sym of.clocks)
+          ∙ top_registered t place clock c.top-at.ensures.stands (ap (λ xs. slice_get xs place) (same_tops s t of) ∙ at) in (
+            _,
+            PassesOn-after _ _ _ _ _ _ _ _ was.1 (subst (λ n. PassesOn (g.K.Sink.written c.loop-place.out) (g.K.Sink.written c.print_tree.new.out) c.loop-place.gathered c.print_tree.new.gathered (lines_within n s 0 clock)) all_levels (c.in_ok-print_tree.ensures.gathers told there)),
+            one_done _ _ _ _ _ was.2 (texts_at (lines_within depth s 0) (tops s) place clock at),
+          );
+      tells = cc;
+      stands = c.in_ok-print_tree.ensures.counts ∙ c.loop-place.invariant.stands;
+    }
+
+pub returns-clause-gathers : goal.returns-clause-gathers
+returns-clause-gathers g c = λ told.
+    let s = now_of c.args.core.now in
+    let t = c.tree.result.now in
+    let was = c.loop-place.invariant.printed told in
+    let few = tops_few s t (c.tree.ensures.tree told) c.top-at.ensures.stands in
+    let made = ap (λ defs. length defs) c.tree.ensures.made in
+    let kept = ap (λ defs. length defs) c.desc.ensures in
+    all_done _ _ _ _ _ was.0 _ was.1 was.2 (none_behind (lines_within depth s 0) (tops s) c.loop-place.place (omega (arith, few, made, kept, c.len-place-end.ensures.len, c.loop-place-test.false)))
