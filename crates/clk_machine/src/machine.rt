@@ -15,6 +15,7 @@ mod landing;
 mod notifying;
 mod registering;
 mod rows;
+mod starting;
 mod stepping;
 mod telling;
 
@@ -45,6 +46,7 @@ pub(crate) struct Machine<B: Bank> {
     spent: u32,
     ignore_unused: bool,
     flight: Flight,
+    alloc: Global,
     /// How many steps were made.
     steps: u32,
 }
@@ -108,6 +110,7 @@ impl<B: Bank> Machine<B> {
             spent: 0,
             ignore_unused,
             flight,
+            alloc,
             steps: 0,
         })
     }
