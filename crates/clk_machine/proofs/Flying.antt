@@ -1,20 +1,19 @@
 -- A change in flight beside what else a core keeps.
-use Rattle.std.proofs.Common.{◌≡◌, ℕ, ◌+◌, ◌<◌, ◌≤◌, Bool, true, false, cond, List, [], Option, Some, None, refl, sym, ap, subst, ◌∙◌, arith, set, nat_eq}
-use Rattle.std.specs.Prelude.{sum_by, is_some}
+use Rattle.std.proofs.Common.{◌≡◌, ℕ, ◌+◌, ◌≤◌, Bool, true, false, cond, List, [], Option, Some, None, refl, sym, ap, subst, ◌∙◌, arith, set, nat_eq}
+use Rattle.std.specs.Prelude.{is_some}
 use Rattle.std.specs.Option.{option_map_or}
 use Rattle.clk_base.specs.declared.call.Sleeping.{Sleeping}
 use Rattle.clk_base.specs.declared.call.Sleeping.TheVariants as call
 use Rattle.clk_base.specs.Description.{Description}
 use Rattle.clk_model.specs.declared.row.ClockRow.{ClockRow}
 use Rattle.clk_model.specs.declared.row.HandleRow.{HandleRow}
-use Rattle.clk_model.specs.Lists.{present}
 use Rattle.clk_model.specs.State.{State, Change, NotifierRow, handle_at}
 use Rattle.clk_model.proofs.Members.{same_from_test, test_other}
 use Rattle.clk_model.proofs.StateLaws.{handle_at-set_same}
 use Rattle.clk_model.proofs.OffPathLaws.{handle_at-set_other}
-use Rattle.clk_flight.specs.Flights.{FlightState, IsChange, Flies}
+use Rattle.clk_flight.specs.Flights.{FlightState, Flies}
 use Rattle.clk_flight.specs.LeftOver.{left_over}
-use Rattle.clk_machine.specs.Parts.{Parts, held_in_all, own_in, IsOwnCall, IsFlown, steps_left}
+use Rattle.clk_machine.specs.Parts.{Parts, held_in_all, own_in, IsOwnCall, IsFlown}
 use Rattle.clk_machine.specs.Stands.{Stands}
 use Rattle.clk_machine.proofs.Shapes.{sum_by-set}
 

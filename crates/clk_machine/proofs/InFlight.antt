@@ -1,5 +1,5 @@
 -- What stays of a change in flight while its steps are made.
-use Rattle.std.proofs.Common.{◌≡◌, ℕ, ◌+◌, ◌<◌, ◌&&◌, ◌||◌, inl, inr, arith, length, Bool, true, false, List, [], ◌∷◌, Option, Some, None, refl, sym, ap, subst, ◌∙◌, cond}
+use Rattle.std.proofs.Common.{◌≡◌, ℕ, ◌+◌, ◌<◌, ◌&&◌, ◌||◌, inl, inr, arith, length, Bool, true, false, List, [], ◌∷◌, Option, Some, None, refl, sym, ap, subst, ◌∙◌}
 use Rattle.std.specs.Prelude.{sum_by, is_none, slice_get, if◌then◌else◌, option_and_then, nat_lt}
 use Rattle.std.specs.List.{list_all}
 use Rattle.std.specs.Option.{option_map_or}
@@ -19,7 +19,6 @@ use Rattle.clk_flight.specs.Moves.{others, found_none, comes_again, raised_once,
 use Rattle.std.proofs.lemmas.List.Sums.{sum_by-cons}
 use Rattle.clk_flight.specs.LeftOver.{step_weight, front_weight, left_over}
 use Rattle.clk_machine.specs.declared.work.Work.{Work}
-use Rattle.clk_machine.specs.declared.work.Work.TheVariants as Work
 use Rattle.clk_machine.specs.Making.{work_of}
 use Rattle.clk_machine.specs.InFlight.{may_raise, may_seek, is_script, is_front, IsUnderWay}
 

@@ -1,12 +1,11 @@
 -- What the end of a call that went on makes of the parts of a core.
-use Rattle.std.proofs.Common.{◌≡◌, ℕ, ◌+◌, ◌<◌, ◌≤◌, ◌||◌, not, Bool, true, false, List, [], Option, Some, None, refl, sym, ap, subst, ◌∙◌, inl, inr, arith, set, length}
-use Rattle.std.specs.Prelude.{if◌then◌else◌, sum_by, slice_get, is_some}
+use Rattle.std.proofs.Common.{◌≡◌, ℕ, ◌+◌, ◌||◌, not, Bool, true, false, List, Option, Some, None, refl, sym, ap, subst, ◌∙◌, inl, inr, arith, set}
+use Rattle.std.specs.Prelude.{if◌then◌else◌, is_some}
 use Rattle.std.proofs.Math.Bool.{or-false}
 use Rattle.std.proofs.lemmas.List.{length-set}
 use Rattle.clk_base.specs.declared.call.Micro.TheVariants as micro
 use Rattle.clk_base.specs.declared.call.Sleeping.{Sleeping}
 use Rattle.clk_base.specs.declared.call.Sleeping.TheVariants as call
-use Rattle.clk_base.specs.declared.clock.ClockId.{ClockId}
 use Rattle.clk_base.specs.declared.event.Errno.TheVariants as errno
 use Rattle.clk_base.specs.declared.event.Event.TheVariants as event
 use Rattle.clk_base.specs.declared.event.Reply.{Reply}
@@ -15,15 +14,12 @@ use Rattle.clk_base.specs.declared.event.Turn.{Turn}
 use Rattle.clk_base.specs.declared.event.Turn.TheVariants as turn
 use Rattle.clk_base.specs.declared.handle.Handle.{Handle}
 use Rattle.clk_model.specs.declared.row.HandleRow.{HandleRow}
-use Rattle.clk_model.specs.Lists.{present}
-use Rattle.clk_model.specs.State.{State, Change, registered, handle_at}
+use Rattle.clk_model.specs.State.{State, registered, handle_at}
 use Rattle.clk_model.specs.Begin.{put_handle, prepared_once_more}
-use Rattle.clk_model.specs.Step.{todo, taken, end_of}
-use Rattle.clk_model.specs.Machine.{next}
+use Rattle.clk_model.specs.Step.{taken}
 use Rattle.clk_model.specs.Journal.{slotless}
 use Rattle.clk_model.proofs.StateLaws.{active-put_same}
-use Rattle.clk_flight.specs.Flights.{FlightState, IsChange}
-use Rattle.clk_flight.specs.LeftOver.{left_over}
+use Rattle.clk_flight.specs.Flights.{FlightState}
 use Rattle.clk_flight.specs.Moves.{landed}
 use Rattle.counts_core.specs.Counted.{CountState}
 use Rattle.rate_requests.specs.Handles.{HandleTable}

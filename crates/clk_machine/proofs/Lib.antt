@@ -26,6 +26,7 @@ pub mod Making
 pub mod Raising
 pub mod Landing
 pub mod Working
+pub mod Starting
 pub mod Entered
 pub mod Opened
 pub mod Registering

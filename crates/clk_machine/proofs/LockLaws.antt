@@ -1,8 +1,8 @@
 -- Laws on lists of locks.
-use Rattle.std.proofs.Common.{◌≡◌, ℕ, zero, suc, ◌+◌, ◌<◌, ◌≤◌, List, Option, Some, None, true, false, refl, sym, ap, ◌∙◌, arith, nat_lt}
+use Rattle.std.proofs.Common.{◌≡◌, ℕ, zero, suc, ◌+◌, ◌<◌, ◌≤◌, Option, None, true, false, refl, sym, ap, ◌∙◌, arith, nat_lt}
 use Rattle.std.proofs.Math.Path.{fun_ext}
 use Rattle.std.proofs.lemmas.Bool.Decides.{nat_tests}
-use Rattle.std.specs.Prelude.{map, slice_index_or, IfSome}
+use Rattle.std.specs.Prelude.{map, slice_index_or}
 use Rattle.std.specs.Option.{option_map}
 use Rattle.reg_bank.specs.Locks.{most_plls}
 use Rattle.reg_bank.specs.declared.pll_lock.PllLock.{PllLock}

@@ -1,29 +1,22 @@
 -- The parts of a core where a step of the change in flight is made.
-use Rattle.std.proofs.Common.{◌≡◌, ℕ, ◌+◌, ◌<◌, ◌≤◌, ◌&&◌, not, Bool, true, false, cond, List, [], ◌∷◌, Option, Some, None, refl, sym, ap, subst, ◌∙◌, arith, length, filter, reverse, nat_lt}
+use Rattle.std.proofs.Common.{◌≡◌, ℕ, ◌+◌, ◌<◌, ◌&&◌, not, Bool, true, false, cond, List, [], ◌∷◌, Option, Some, None, refl, sym, ap, subst, ◌∙◌, arith, length, filter, reverse, nat_lt}
 use Rattle.std.specs.Prelude.{is_some, slice_get, if◌then◌else◌}
 use Rattle.std.specs.Option.{option_map_or}
-use Rattle.std.specs.List.{list_all}
 use Rattle.std.proofs.Math.Bool.{or-false}
 use Rattle.clk_base.specs.declared.call.Micro.{Micro}
-use Rattle.clk_base.specs.declared.call.Micro.TheVariants as micro
 use Rattle.clk_base.specs.declared.call.Sleeping.{Sleeping}
 use Rattle.clk_base.specs.declared.clock.ClockId.{ClockId}
-use Rattle.clk_base.specs.declared.event.Event.{Event}
 use Rattle.clk_base.specs.declared.event.Event.TheVariants as event
-use Rattle.clk_base.specs.declared.event.Turn.{Turn}
 use Rattle.clk_base.specs.declared.event.Turn.TheVariants as turn
 use Rattle.clk_base.specs.Description.{Description, kind_of}
 use Rattle.clk_model.specs.declared.row.ClockRow.{ClockRow}
-use Rattle.clk_model.specs.declared.row.HandleRow.{HandleRow}
 use Rattle.clk_model.specs.Lists.{is_in}
-use Rattle.clk_model.specs.State.{State, Change, NotifierRow, registered, link_in}
+use Rattle.clk_model.specs.State.{State, Change, registered, link_in}
 use Rattle.clk_model.specs.Kinds.{is_pll}
 use Rattle.clk_model.specs.Tree.{path, link_given}
 use Rattle.clk_model.specs.Holders.{prepared}
-use Rattle.clk_model.specs.Script.{plls, unprepared_plls, runs}
-use Rattle.clk_model.specs.Step.{todo, taken, powered, to_raise, raise_one, raise, to_lower, lower_one, lower}
-use Rattle.clk_model.specs.Machine.{next}
-use Rattle.clk_model.specs.Laws.Paced.{IsPaced}
+use Rattle.clk_model.specs.Script.{unprepared_plls, runs}
+use Rattle.clk_model.specs.Step.{todo, taken, to_raise, to_lower}
 use Rattle.clk_model.proofs.Members.{is_in-reverse}
 use Rattle.clk_model.proofs.PllLaws.{at_place}
 use Rattle.clk_model.proofs.PowerLaws.{filter-agree}
@@ -35,10 +28,10 @@ use Rattle.clk_flight.specs.Moves.{raised_once, raised_in, found_none, polled_in
 use Rattle.clk_flight.specs.Fronts.{script_behind}
 use Rattle.clk_machine.specs.Window.{Shown}
 use Rattle.clk_machine.specs.InFlight.{IsUnderWay}
-use Rattle.clk_machine.specs.Parts.{Parts, IsOwnCall, AreTied, IsFlown, IsWhole, steps_left}
+use Rattle.clk_machine.specs.Parts.{Parts, IsOwnCall, AreTied, IsWhole}
 use Rattle.clk_machine.specs.Plls.{is_loose, raisable, lowerable}
 use Rattle.clk_machine.specs.Sound.{IsSound}
-use Rattle.clk_machine.specs.Stands.{Stands, Remains, Leads, Enters}
+use Rattle.clk_machine.specs.Stands.{Stands, Leads, Enters}
 use Rattle.clk_machine.proofs.Moving.{path_within_desc}
 use Rattle.clk_machine.proofs.Rows.{holds_stand}
 use Rattle.clk_machine.proofs.Stepping.{IsNext}

@@ -1,17 +1,17 @@
 -- The parts of a core where a PLL is powered or switched off.
-use Rattle.std.proofs.Common.{◌≡◌, ℕ, ◌<◌, Bool, true, false, List, [], Option, Some, None, refl, sym, ap, subst, ◌∙◌, length}
-use Rattle.std.specs.Prelude.{IfSome, is_some, slice_index}
+use Rattle.std.proofs.Common.{◌≡◌, ℕ, ◌<◌, Bool, true, List, Option, Some, None, refl, sym, ap, subst, ◌∙◌, length}
+use Rattle.std.specs.Prelude.{is_some}
 use Rattle.std.specs.Option.{option_map, option_map_or}
 use Rattle.clk_base.specs.Checked.{Checked}
 use Rattle.clk_base.specs.Description.{Description, kind_of}
-use Rattle.clk_base.specs.Fields.{Field, PowerBit, power_of}
+use Rattle.clk_base.specs.Fields.{PowerBit, power_of}
 use Rattle.clk_base.specs.Valid.{IsValid}
 use Rattle.clk_base.proofs.Valid.{power-within}
 use Rattle.reg_bank.specs.Registers.{Registers, AreWords}
 use Rattle.reg_bank.proofs.BitLaws.{AreWords-put_bit, length-put_bit}
 use Rattle.clk_model.specs.declared.row.ClockRow.{ClockRow}
 use Rattle.clk_model.specs.Kinds.{with_power}
-use Rattle.clk_model.specs.State.{State, registered}
+use Rattle.clk_model.specs.State.{State}
 use Rattle.clk_model.specs.Rate.{rate}
 use Rattle.clk_model.specs.Journal.{opening}
 use Rattle.clk_model.specs.Step.{powered}

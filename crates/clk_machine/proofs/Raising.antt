@@ -1,5 +1,5 @@
 -- What the steps of raises, lowers, polls and falls make of the parts of a core.
-use Rattle.std.proofs.Common.{arith, ◌≡◌, ℕ, ◌+◌, ◌<◌, ◌≤◌, ◌&&◌, Bool, true, false, List, [], Option, Some, None, refl, sym, ap, subst, ◌∙◌, length, reverse, nat_le}
+use Rattle.std.proofs.Common.{arith, ◌≡◌, ℕ, ◌+◌, ◌<◌, Bool, true, false, List, [], Option, Some, None, refl, sym, ap, subst, ◌∙◌, length, reverse, nat_le}
 use Rattle.std.specs.Prelude.{slice_get, is_some, IfSome}
 use Rattle.std.specs.Option.{option_map, option_map_or}
 use Rattle.std.proofs.lemmas.List.{length-reverse}
@@ -21,21 +21,21 @@ use Rattle.clk_model.specs.State.{State, Change, registered}
 use Rattle.clk_model.specs.Tree.{path}
 use Rattle.clk_model.specs.Wired.{LinksArePossible}
 use Rattle.clk_model.specs.Script.{plls}
-use Rattle.clk_model.specs.Step.{todo, taken, on, powered, to_raise, raise_one, raise, to_lower, lower_one, lower, poll, fall}
+use Rattle.clk_model.specs.Step.{taken, on, powered, to_raise, raise_one, raise, to_lower, lower_one, lower, poll, fall}
 use Rattle.clk_model.specs.Laws.Paced.{IsPaced}
-use Rattle.clk_flight.specs.Flights.{FlightState, IsChange, Flies, own_step, seeks_plls, comes_next}
+use Rattle.clk_flight.specs.Flights.{FlightState, Flies, own_step, seeks_plls, comes_next}
 use Rattle.clk_flight.specs.Moves.{raised_in, lowered_once, found_none, polled_in, fallen}
 use Rattle.clk_flight.specs.Steps.{Raises, LowersOne, FindsNone, Polls, Drops, LeavesLess, LeavesLessAt, is_fall}
 use Rattle.clk_flight.proofs.SeekLaws.{paced_seek_few}
 use Rattle.clk_machine.specs.Window.{Shown}
 use Rattle.clk_machine.specs.InFlight.{may_seek}
 use Rattle.clk_machine.specs.Making.{ComesFirst, FindsNothing}
-use Rattle.clk_machine.specs.Parts.{Parts, AreTied, IsWhole}
+use Rattle.clk_machine.specs.Parts.{Parts, IsWhole}
 use Rattle.clk_machine.specs.Plls.{raisable, lowerable, Finds}
 use Rattle.clk_machine.specs.Sound.{IsSound}
 use Rattle.clk_machine.specs.Stands.{Stands, Leads, Enters}
-use Rattle.clk_machine.proofs.InFlight.{under_way-none, under_way-raised, under_way-lowered, under_way-polled, under_way-fallen, fall_in_front, raise_there, poll_there}
-use Rattle.clk_machine.proofs.Making.{with_step, SameCall, stands_stepped, enters_step, HasChange, change_of, next_of, to_raise_stands, to_lower_stands, raisable_there, same_raised, same_polled}
+use Rattle.clk_machine.proofs.InFlight.{fall_in_front, raise_there, poll_there}
+use Rattle.clk_machine.proofs.Making.{with_step, stands_stepped, enters_step, change_of, next_of, to_raise_stands, to_lower_stands, raisable_there, same_raised, same_polled}
 use Rattle.clk_machine.proofs.Moving.{clock_within}
 use Rattle.clk_machine.proofs.Opening.{power_fits}
 use Rattle.clk_machine.proofs.Powering.{power_put, powered_words, told_put}

@@ -1,5 +1,5 @@
 -- What the steps of raises, polls, falls, lowers and the end come to.
-use Rattle.std.proofs.Common.{◌≡◌, ℕ, ◌+◌, ◌-◌, ◌&&◌, Bool, ◌||◌, not, true, false, List, [], ◌∷◌, Option, Some, None, refl, sym, ap, ◌∙◌, nat_eq, reverse, cond}
+use Rattle.std.proofs.Common.{◌≡◌, ℕ, ◌+◌, ◌-◌, ◌&&◌, Bool, ◌||◌, not, true, false, List, [], ◌∷◌, Option, Some, None, refl, sym, ap, ◌∙◌, nat_eq, reverse}
 use Rattle.std.specs.Prelude.{slice_get, nat_le, option_and_then, if◌then◌else◌}
 use Rattle.std.specs.Option.{option_map_or}
 use Rattle.clk_base.specs.declared.call.Micro.{Micro}
@@ -20,7 +20,7 @@ use Rattle.clk_model.specs.Begin.{prepared_once_more}
 use Rattle.clk_machine.specs.InFlight.{may_raise, may_go_on}
 use Rattle.clk_model.specs.Chain.{clock_id}
 use Rattle.clk_model.specs.Gates.{settled}
-use Rattle.clk_model.specs.Step.{todo, taken, on, timed_out, to_raise, raise_one, raise, poll, fall, to_lower, lower_one, lower, unranged, range_back, ended_well, end_of, stepped}
+use Rattle.clk_model.specs.Step.{todo, taken, on, timed_out, to_raise, raise_one, poll, fall, to_lower, lower_one, unranged, range_back, ended_well, end_of, stepped}
 use Rattle.clk_model.specs.Machine.{same_list, micro_code, comes_next, may_step, counted, next}
 use Rattle.clk_model.proofs.Members.{test_same}
 use Rattle.clk_model.proofs.StateLaws.{settled-still}

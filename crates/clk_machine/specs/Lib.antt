@@ -7,6 +7,7 @@ pub mod Built
 pub mod Parts
 pub mod Stands
 pub mod Making
+pub mod Starting
 pub mod Holding
 pub mod Sound
 pub mod Run

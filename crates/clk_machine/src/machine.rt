@@ -16,6 +16,7 @@ mod notifying;
 mod registering;
 mod rounding;
 mod rows;
+mod starting;
 mod stepping;
 mod telling;
 
@@ -46,6 +47,7 @@ pub(crate) struct Machine<B: Bank> {
     spent: u32,
     ignore_unused: bool,
     flight: Flight,
+    alloc: Global,
     /// How many steps were made.
     steps: u32,
 }
@@ -109,6 +111,7 @@ impl<B: Bank> Machine<B> {
             spent: 0,
             ignore_unused,
             flight,
+            alloc,
             steps: 0,
         })
     }

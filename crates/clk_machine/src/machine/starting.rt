@@ -1,0 +1,117 @@
+//! The beginning of a prepare, which may go on.
+
+ghost use Rattle.std.specs.Prelude.{◌≡◌, ◌+◌, ◌*◌, ◌^◌, ◌<◌, ◌≤◌, true, false, [], ◌∷◌, Some, nat_le, IfOk, IsOk, OnOk, OnErr};
+ghost use Rattle.std.specs.List.{list_any};
+ghost use Rattle.clk_base.specs.declared.call.Micro.TheVariants.{Raise, End};
+ghost use Rattle.clk_base.specs.declared.call.Sleeping.TheVariants.{Prepare};
+ghost use Rattle.clk_base.specs.declared.event.Event.TheVariants.{Begin};
+ghost use Rattle.clk_model.specs.State.{registered, handle_at};
+ghost use Rattle.clk_model.specs.Tree.{path};
+ghost use Rattle.clk_model.specs.Begin.{most_credits};
+ghost use Rattle.clk_model.specs.Script.{plls};
+ghost use Rattle.clk_machine.specs.Parts.{own_in, IsWhole};
+ghost use Rattle.clk_machine.specs.Plls.{is_loose};
+ghost use Rattle.clk_machine.specs.Starting.{StartsCall};
+ghost use Rattle.clk_machine.specs.Stands.{Enters};
+
+use super::Machine;
+use crate::plls::is_unprepared;
+use clk_base::{ClockId, Errno, Handle, MOST_CREDITS, Micro, Reply, Sleeping, Turn};
+use clk_flight::Start;
+use clk_io::NoMemory;
+use clk_model::HandleRow;
+use reg_bank::Bank;
+use std::alloc::Global;
+
+// A script of this step and the end.
+fn ending(alloc: Global, first: Micro) -> Result<Vec<Micro>, NoMemory>
+    ensures { IfOk result (λ steps. steps.items ≡ first ∷ End ∷ []) }
+{
+    let mut steps = Vec::with_capacity(alloc, 2)?;
+    steps.push_reserved(first);
+    steps.push_reserved(Micro::End);
+    Ok(steps)
+}
+
+// How many entries a raise of a path's PLLs and the end come to at most, where a line has so many PLLs.
+fn most_to_raise(plls: u32) -> u64
+    ensures most { result ≡ 34 * plls + 2 }
+    ensures small { result < 2 ^ 63 }
+{
+    34 * u64::from(plls) + 2
+}
+
+// Whether there is room for so many entries of steps behind credits and steps that were made.
+fn has_room(credits: u32, steps: u32, most: u64) -> bool
+    requires { most < 2 ^ 63 }
+    ensures { result ≡ nat_le (credits + steps + most) most_credits }
+{
+    u64::from(credits) + u64::from(steps) + most <= u64::from(MOST_CREDITS)
+}
+
+impl<B: Bank> Machine<B> {
+    // Whether a PLL above a clock is kept powered by no prepare.
+    fn is_unprepared(&self, clock: ClockId) -> bool
+        requires { registered self.now.tree.clocks clock.0 ≡ true }
+        ensures unprepared { result ≡ list_any (is_loose self.now.desc.defs self.now.counts) (path self.now.tree.clocks clock.0) }
+        ensures whole { IsWhole self.now }
+    {
+        is_unprepared(&self.desc, &self.tree, &self.counts, clock)
+    }
+
+    // Whether there is room for the entries of a raise and the end.
+    fn can_raise(&self) -> bool
+        ensures { result ≡ nat_le (self.now.credits + self.now.steps + (34 * plls self.now.desc.defs + 2)) most_credits }
+    {
+        let most = most_to_raise(self.tree.plls());
+        has_room(self.credits, self.steps, most)
+    }
+
+    // A prepare goes on, with a raise of its clock's PLLs. All memory that it needs is taken.
+    fn start_prepare(&mut self, driver: u32, handle: Handle, row: HandleRow) -> Result<(), NoMemory>
+        requires credit { self.old.spent < self.old.credits }
+        requires quiet { self.old.flight.going ≡ false }
+        requires own { own_in self.old.table.handles driver handle.number ≡ Some row }
+        requires live { handle_at self.old.table.handles handle.number ≡ Some row }
+        requires room { self.old.credits + self.old.steps + (34 * plls self.old.desc.defs + 2) ≤ most_credits }
+        ensures ok { OnOk result (StartsCall self.old driver (Prepare handle) (Raise row.clock ∷ End ∷ []) self.new) }
+        ensures err { OnErr result (self.new ≡ self.old) }
+    {
+        let script = ending(self.alloc, Micro::Raise(row.clock))?;
+        let start = Start {
+            driver,
+            call: Sleeping::Prepare(handle),
+            script,
+            range: None,
+            extra: 0,
+            vetoed: false,
+        };
+        self.flight.begin(start, self.tree.plls())?;
+        self.spent += 1;
+        Ok(())
+    }
+
+    /// Begins a prepare: at once where no PLL above has to be raised, and else it goes on, unless there
+    /// is no room for the entries of its steps.
+    pub(crate) fn begin_prepare(&mut self, driver: u32, handle: Handle) -> Result<Turn, NoMemory>
+        requires credit { self.old.spent < self.old.credits }
+        requires quiet { self.old.flight.going ≡ false }
+        ensures ok { IfOk result (λ turn. Enters self.old driver (Begin (Prepare handle)) turn self.new) }
+        ensures err { OnErr result (self.new ≡ self.old) }
+    {
+        let Some(row) = self.own(driver, handle) else {
+            self.spend();
+            return Ok(Turn::Done(Reply::Refused(Errno::ENOENT)));
+        };
+        if !self.is_unprepared(row.clock) {
+            self.add_prepare(handle, row);
+            return Ok(Turn::Done(Reply::Fine));
+        }
+        if !self.can_raise() {
+            self.spend();
+            return Ok(Turn::Done(Reply::Refused(Errno::ENOSPC)));
+        }
+        self.start_prepare(driver, handle, row)?;
+        Ok(Turn::Going)
+    }
+}
