@@ -37,10 +37,10 @@ left_more a all end before s rest left read =
     let low = left.low in
     let some = left.tiles.1 in
     let kept : KeepsBetween (fault_among a 0 all) (begins end all) s.end = λ k from high.
-        elim (cases_lt k s.place) [
-          | inl below ↦ left.kept k from below
-          | inr here ↦ left.same k (omega (arith, here)) ∙ (among_here a before s rest k high ∙ read k (omega (arith, here)) high)
-        ] in
+    elim (cases_lt k s.place) [
+      | inl below ↦ left.kept k from below
+      | inr here ↦ left.same k (omega (arith, here)) ∙ (among_here a before s rest k high ∙ read k (omega (arith, here)) high)
+    ] in
     record {
       low = omega (arith, low, some, next);
       tiles = subst (λ n. Tiles n rest end) (sym next) left.tiles.2;

@@ -23,6 +23,7 @@ use std::alloc::Global;
 
 // The most commands of a driver, and of all drivers.
 const MOST_OWN: usize = 65_536;
+
 const MOST_ALL: usize = 1_048_576;
 
 // One command more is one too many behind so many of the driver and of those before it.

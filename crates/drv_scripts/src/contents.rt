@@ -38,12 +38,11 @@ pub(crate) fn read_contents(
     requires order { sections.now.bank.place < sections.now.bank.end }
     requires tiled { Tiles sections.now.bank.end sections.now.others (length lines.now) }
     requires few { length lines.now < 2 ^ 31 }
-    ensures read {
-        let a = with_clocks lines.now desc.now.defs (map seen_consumer consumers.now) in
+    ensures read { let a = with_clocks lines.now desc.now.defs (map seen_consumer consumers.now) in
         MatchResult result
         (λ contents. KeepsBelow (fault_at a sections.now.bank sections.now.others) (length lines.now)
-            × (contents.words.items ≡ bank_words lines.now sections.now.bank)
-            × (contents.drivers.items ≡ flat_map (scripts_in a) sections.now.others))
+        × (contents.words.items ≡ bank_words lines.now sections.now.bank)
+        × (contents.drivers.items ≡ flat_map (scripts_in a) sections.now.others))
         (StopsFirst (fault_at a sections.now.bank sections.now.others) (length lines.now)) }
     ensures size { IfOk result (λ contents. length contents.words.items ≡ sections.now.bank.words) }
     ensures few { IfOk result (λ contents. AllByRecursion (λ s. length s.commands ≤ 65536) contents.drivers.items) }

@@ -29,10 +29,7 @@ fn place_of_path(consumers: &[Consumer], path: &str) -> Option<usize>
 // The names that the path of a header gives a driver, if it has one, or nothing where no consumer
 // has the path.
 #[tactic(auto, unfolding(crate::specs::Sections::names_at))]
-fn names_at<'a>(
-    consumers: &'a [Consumer],
-    path: Option<&str>,
-) -> Option<Option<&'a [ConsumerName]>>
+fn names_at<'a>(consumers: &'a [Consumer], path: Option<&str>) -> Option<Option<&'a [ConsumerName]>>
     ensures { option_map (option_map (λ own. map seen_name own.now)) result ≡ names_at (map seen_consumer consumers.now) (option_map (λ p. p.now) path.entry) }
 {
     let Some(path) = path else {
@@ -62,8 +59,7 @@ pub(crate) fn read_driver(
     requires within { end ≤ length lines.now }
     requires few { length lines.now < 2 ^ 31 }
     requires fewer { before ≤ 1048576 }
-    ensures read {
-        let a = with_clocks lines.now desc.now.defs (map seen_consumer consumers.now) in
+    ensures read { let a = with_clocks lines.now desc.now.defs (map seen_consumer consumers.now) in
         let says = driver name.now (option_map (λ p. p.now) path.entry) in
         Reads (section_fault a before (section_from says place end)) place end
         (λ script. script ∷ [] ≡ scripts_between a says (place + 1) end) result }

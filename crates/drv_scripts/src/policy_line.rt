@@ -9,6 +9,7 @@ use clk_base::Policy;
 
 // The most below and above 0.
 const MOST_BELOW: u64 = 2_147_483_648;
+
 const MOST_ABOVE: u64 = 2_147_483_647;
 
 // The number below 0 or 0 that decimal digits behind a minus sign write.

@@ -42,8 +42,7 @@ fn read_section(
     requires within { section.now.end ≤ length lines.now }
     requires few { length lines.now < 2 ^ 31 }
     requires fewer { before ≤ 1048576 }
-    ensures read {
-        let a = with_clocks lines.now desc.now.defs (map seen_consumer consumers.now) in
+    ensures read { let a = with_clocks lines.now desc.now.defs (map seen_consumer consumers.now) in
         Reads (section_fault a before (said_section section.now)) section.now.place section.now.end
         (λ found. option_to_list found ≡ scripts_in a (said_section section.now)) result }
     ensures few { IfOk result (λ found. AllByRecursion (λ s. length s.commands ≤ 65536) (option_to_list found)) }
@@ -82,8 +81,7 @@ pub(crate) fn read_drivers(
 ) -> Result<Vec<Script>, Stop>
     requires tiled { Tiles (begins (length lines.now) (map said_section sections.now)) (map said_section sections.now) (length lines.now) }
     requires few { length lines.now < 2 ^ 31 }
-    ensures read {
-        let a = with_clocks lines.now desc.now.defs (map seen_consumer consumers.now) in
+    ensures read { let a = with_clocks lines.now desc.now.defs (map seen_consumer consumers.now) in
         let all = map said_section sections.now in
         Reads (fault_among a 0 all) (begins (length lines.now) all) (length lines.now)
         (λ drivers. drivers.items ≡ flat_map (scripts_in a) all) result }

@@ -119,7 +119,11 @@ fn each_command_has_its_numbers_and_names(rt: HostRuntime) -> Result<(), Fail> {
         &rt,
         &[
             ("round u 0x1F", Some(0), Act::RoundRate(31)),
-            ("set u 18446744073709551615", Some(0), Act::SetRate(u64::MAX)),
+            (
+                "set u 18446744073709551615",
+                Some(0),
+                Act::SetRate(u64::MAX),
+            ),
             ("\tsetx  u\t007 ", Some(0), Act::SetRateExclusive(7)),
             ("range u 1 0x2", Some(0), Act::SetRange(1, 2)),
             ("reparent u f", Some(0), Act::SetParent(ClockId(0))),
