@@ -97,7 +97,7 @@ source_decided first source =
 pub section_decided : (text : ClockText) (ls : List (List ℕ)) (s : ClockSection) → ((a : SaidClocks) × SaysIn text ls s a) ⊎ ((line : ℕ) × (reason : Reason) × RefusesIn text ls s line reason)
 section_decided Lines ls s =
     elim (line_laws.decided (s.place + 1) (lines_in ls s)) [
-      | inl x ↦ inl (record { defs = x.0; lines = x.1; assigned = [] }, record { spelled = x.2; assigned = refl })
+      | inl x ↦ inl (record { defs = x.0; lines = x.1; consumers = []; assigned = [] }, record { spelled = x.2; consumers = refl; assigned = refl })
       | inr x ↦ inr x
     ]
 section_decided DeviceTree ls s = source_decided (s.place + 2) (source_of ls s)

@@ -147,9 +147,12 @@ pub one_meaning : (text : ClockText) (ls : List (List ℕ)) (s : ClockSection) (
 one_meaning Lines ls s a b x y =
     let defs = x.spelled.desc_is ∙ sym y.spelled.desc_is in
     let lines = x.spelled.lines_are ∙ sym y.spelled.lines_are in
+    let consumers = x.consumers ∙ sym y.consumers in
     let assigned = x.assigned ∙ sym y.assigned in
-    ap (λ d. record { defs = d; lines = a.lines; assigned = a.assigned }) defs
-    ∙ (ap (λ l. record { defs = b.defs; lines = l; assigned = a.assigned }) lines ∙ ap (λ n. record { defs = b.defs; lines = b.lines; assigned = n }) assigned)
+    ap (λ d. record { defs = d; lines = a.lines; consumers = a.consumers; assigned = a.assigned }) defs
+    ∙ (ap (λ l. record { defs = b.defs; lines = l; consumers = a.consumers; assigned = a.assigned }) lines
+    ∙ (ap (λ n. record { defs = b.defs; lines = b.lines; consumers = n; assigned = a.assigned }) consumers
+    ∙ ap (λ n. record { defs = b.defs; lines = b.lines; consumers = b.consumers; assigned = n }) assigned))
 one_meaning DeviceTree ls s a b x y = tree_means (s.place + 2) (source_of ls s) a b x y
 
 pub one_refusal : (text : ClockText) (ls : List (List ℕ)) (s : ClockSection) (line other : ℕ) (reason why : Reason) → RefusesIn text ls s line reason → RefusesIn text ls s other why → (line ≡ other) × (reason ≡ why)

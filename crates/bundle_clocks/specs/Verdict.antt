@@ -1,5 +1,5 @@
 -- Which section of clocks says what, and why others are refused.
-use Rattle.std.specs.Prelude.{◌≡◌, ℕ, ◌+◌, ◌==◌, ◌⊎◌, List, [], length, map, Result, Ok, Err, if◌then◌else◌}
+use Rattle.std.specs.Prelude.{◌≡◌, ℕ, ◌+◌, ◌==◌, ◌⊎◌, List, [], length, Result, Ok, Err, if◌then◌else◌}
 use Rattle.bundle_text.specs.declared.reason.Reason.{Reason}
 use Rattle.bundle_clocks.specs.Reasons.{told, token_told, tree_told, nodes_told}
 use Rattle.bundle_clocks.specs.Said.{SaidClocks}
@@ -19,9 +19,10 @@ use Rattle.dts_tree.specs.declared.fault.TreeFault.TheVariants.{Syntax}
 use Rattle.dts_tree.specs.Parsed.{spelled}
 use Rattle.dts_tree.specs.Tree.{SeenNode}
 
--- clock lines say these clocks
+-- clock lines say these clocks, and neither consumers nor assigned clocks
 pub record LinesSay (ls : List (List ℕ)) (s : ClockSection) (said : SaidClocks) : Type 0 where
   pub spelled : line_verdict.Spells (s.place + 1) (lines_in ls s) said.defs said.lines
+  pub consumers : said.consumers ≡ []
   pub assigned : said.assigned ≡ []
 
 -- the nodes that tokens of a source spell; where there are no tokens, they are missed on its first line
@@ -34,9 +35,9 @@ pub record SourceSays (first : ℕ) (source : List ℕ) (nodes : List SeenNode) 
   pub cuts : cut.Tokens source tokens
   pub spells : nodes_of first source tokens ≡ Ok nodes
 
--- what a tree says, of which consumers are not looked at here
+-- what a tree says
 abbrev pub clocks_of_tree : SeenLoaded → SaidClocks
-clocks_of_tree loaded = record { defs = loaded.defs; lines = loaded.lines; assigned = map (λ a. a.line) loaded.assigned }
+clocks_of_tree loaded = record { defs = loaded.defs; lines = loaded.lines; consumers = loaded.consumers; assigned = loaded.assigned }
 
 -- a device tree source says these clocks
 pub record TreeSays (first : ℕ) (source : List ℕ) (said : SaidClocks) : Type 0 where

@@ -30,6 +30,7 @@ pub(crate) fn read_line_form(
     Ok(ClocksPart {
         desc: list.desc,
         lines: list.lines,
+        consumers: Vec::new(alloc),
         assigned: Vec::new(alloc),
     })
 }

@@ -1,6 +1,7 @@
 //! What the section of the clocks says.
 
 use clk_base::Desc;
+use dts_clocks::{Assigned, Consumer};
 
 /// The clocks of a bundle, with their lines, counted from 1.
 #[derive(Debug, Drop)]
@@ -8,6 +9,8 @@ pub struct ClocksPart {
     pub desc: Desc,
     /// The line of each clock, or of its node.
     pub lines: Vec<u32>,
-    /// The line of each node that assigns clocks.
-    pub assigned: Vec<u32>,
+    /// The nodes that name clocks and are no providers.
+    pub consumers: Vec<Consumer>,
+    /// What each node that assigns clocks asks for, with its line.
+    pub assigned: Vec<Assigned>,
 }

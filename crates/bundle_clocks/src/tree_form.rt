@@ -1,6 +1,6 @@
 //! The clocks as a device tree source.
 
-ghost use Rattle.std.specs.Prelude.{◌≡◌, ◌+◌, ◌<◌, ◌≤◌, ◌^◌, length, map, IfOk, IfErr};
+ghost use Rattle.std.specs.Prelude.{◌≡◌, ◌+◌, ◌<◌, ◌≤◌, ◌^◌, length, IfOk, IfErr};
 ghost use Rattle.clk_base.specs.Description.{EachClock};
 ghost use Rattle.clk_base.specs.Valid.{has_its_parents};
 ghost use Rattle.dts_tree.specs.Tree.{seen};
@@ -16,10 +16,10 @@ use crate::source::source_of;
 use bundle_sections::ClockSection;
 use bundle_text::{BundleFault, Reason, TextLines};
 use clk_io::MOST_BYTES;
-use dts_clocks::{Assigned, read_desc};
+use dts_clocks::read_desc;
 use dts_tokens::tokens;
 use dts_tree::{DtsTree, parse};
-use std::alloc::{AllocError, Global};
+use std::alloc::Global;
 
 // The tree of a source whose first line is given.
 fn read_tree(alloc: Global, source: &str, first: u32) -> Result<DtsTree, BundleFault>
@@ -43,13 +43,6 @@ fn read_tree(alloc: Global, source: &str, first: u32) -> Result<DtsTree, BundleF
     }
 }
 
-// The lines of the nodes that assign clocks.
-fn assigned_lines(alloc: Global, assigned: &[Assigned]) -> Result<Vec<u32>, AllocError>
-    ensures { IfOk result (λ lines. lines.items ≡ map (λ a. a.line) assigned.now) }
-{
-    assigned.iter().map(|a| a.line).collect(alloc)
-}
-
 // The clocks of a source whose first line is given.
 fn read_source(alloc: Global, source: &str, first: u32) -> Result<ClocksPart, BundleFault>
     requires { length source.now ≤ MOST_BYTES }
@@ -62,11 +55,11 @@ fn read_source(alloc: Global, source: &str, first: u32) -> Result<ClocksPart, Bu
         Ok(loaded) => loaded,
         Err(fault) => return Err(nodes_fault(fault)),
     };
-    let assigned = assigned_lines(alloc, &loaded.assigned)?;
     Ok(ClocksPart {
         desc: loaded.desc,
         lines: loaded.lines,
-        assigned,
+        consumers: loaded.consumers,
+        assigned: loaded.assigned,
     })
 }
 

@@ -2,67 +2,38 @@
 use Rattle.std.proofs.Common.{◌≡◌, ℕ, suc, ◌-◌, ◌≤◌, Bool, true, false, List, [], ◌∷◌, Option, Some, None, refl, sym, ap, subst, ◌∙◌, arith, length, sum_by, nat_lt, cond, take, drop}
 use Rattle.std.proofs.lemmas.List.{take_all}
 use Rattle.std.specs.List.{AllByRecursion}
-use Rattle.std.specs.Option.{option_to_list}
-use Rattle.std.specs.Str.Lines.{lines}
-use Rattle.clk_base.specs.Description.{Description}
 use Rattle.clk_base.specs.declared.command.Command.{Command}
 use Rattle.clk_base.proofs.Valid.{length-valid}
 use Rattle.drv_scripts.specs.declared.bundle.Bundle.{Bundle}
 use Rattle.drv_scripts.specs.declared.bundle.Script.{Script}
-use Rattle.drv_scripts.specs.Form.{words_end}
-use Rattle.drv_scripts.specs.Placed.{IsSound, IsScript}
-use Rattle.drv_scripts.specs.Spelled.{script_at, scripts_of}
+use Rattle.drv_scripts.specs.Placed.{IsSound}
 use Rattle.clk_run.specs.Built.{SpellsRun}
 use Rattle.clk_run.proofs.Fitness.{fit_all, built_all}
 use Rattle.clk_cli.specs.declared.cli.Mode.{Mode}
 use Rattle.clk_cli.specs.declared.cli.Mode.TheVariants.{Check, Sim, Run, Bench}
 use Rattle.clk_run.specs.Runs.{credits_of, drivers_in, IsReady}
-use Rattle.drv_scripts.proofs.Verdicts.{drivers_are, boot_is, order_is}
+use Rattle.drv_scripts.proofs.Verdicts.{boot_is, order_is}
 use Rattle.clk_run.proofs.Going.{length-boot_of}
 use Rattle.clk_model.specs.Begin.{most_credits}
-
--- ---- few drivers
-
-few_of : (o : Option Script) → length (option_to_list o) ≤ 1
-few_of None = omega arith
-few_of (Some s) = omega arith
-
-script_few : (defs : Description) (ls : List (List ℕ)) (at : ℕ) → length (script_at defs ls at) ≤ 1
-unfolding script_at
-script_few defs ls at = few_of _
-
-scripts_few : (defs : Description) (ls : List (List ℕ)) → length (scripts_of defs ls) ≤ 1
-unfolding scripts_of
-scripts_few defs ls = pick (nat_lt (words_end ls) (length ls)) where
-  pick : (b : Bool) → length (cond b (script_at defs ls (words_end ls)) []) ≤ 1
-  pick true = script_few defs ls (words_end ls)
-  pick false = omega arith
 
 -- ---- ready
 
 pub ready : (bytes : List ℕ) (b : Bundle) → SpellsRun bytes b → IsSound b → IsReady b
-ready bytes b runs sound =
-    let drivers = sym (drivers_are bytes b runs.spelled) in
-    record {
-      sound = sound;
-      fit = fit_all b runs.built;
-      boot = boot_is bytes b runs.spelled;
-      few = subst (λ (found : List Script). length found ≤ 1) drivers (scripts_few b.desc.defs (lines bytes));
-      unordered = order_is bytes b runs.spelled;
-      built = built_all b runs.built;
-    }
-
-sum_few : (clocks : ℕ) (drivers : List Script) → length drivers ≤ 1 → AllByRecursion (IsScript clocks) drivers → sum_by (λ s. length s.commands) drivers ≤ 65536
-sum_few clocks [] few all = omega arith
-sum_few clocks (s ∷ []) few all = let most = all.0.few in omega arith
-sum_few clocks (s ∷ t ∷ drivers) few all = absurd (omega arith)
+ready bytes b runs sound = record {
+  sound = sound;
+  fit = fit_all b runs.built;
+  boot = boot_is bytes b runs.spelled;
+  few = sound.drivers;
+  unordered = order_is bytes b runs.spelled;
+  built = built_all b runs.built;
+}
 
 -- its commands are few enough for the credits
 pub few_credits : (b : Bundle) → IsReady b → credits_of b ≤ most_credits
 few_credits b is =
     let clocks = length-valid b.desc.words b.desc.defs is.sound.valid in
     let boot = ap (λ (cs : List Command). length cs) is.boot ∙ length-boot_of (length b.desc.defs) in
-    let sum = sum_few (length b.desc.defs) b.drivers is.few is.sound.scripts in
+    let sum = is.sound.commands in
     omega arith
 
 -- ---- the drivers that run

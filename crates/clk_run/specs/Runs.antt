@@ -148,13 +148,13 @@ pub record HasRun (boot : List Command) (drivers : List Script) (answers : List 
 
 -- ---- bundles
 
--- a bundle that can be run: its parts fit together, boot registers each clock, and each command of its driver can be run so far,
+-- a bundle that can be run: its parts fit together, boot registers each clock, and each command of its drivers can be run so far,
 -- and it states no order of drivers
 pub record IsReady (b : Bundle) : Type 0 where
   pub sound : IsSound b
   pub fit : CanRun b.desc.defs
   pub boot : b.boot ≡ boot_of (length b.desc.defs)
-  pub few : length b.drivers ≤ 1
+  pub few : length b.drivers ≤ 64
   pub unordered : b.order ≡ []
   pub built : AllByRecursion (λ s. are_built b.desc.defs s.commands ≡ true) b.drivers
 

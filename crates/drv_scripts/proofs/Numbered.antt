@@ -10,7 +10,7 @@ use Rattle.std.proofs.lemmas.Slice.Eq.{bytes_eq-Decides}
 use Rattle.bundle_text.proofs.Found.{none_within, position-found}
 use Rattle.bundle_text.proofs.Mapped.{list_any-texts}
 use Rattle.bundle_text.specs.Words.{texts}
-use Rattle.drv_scripts.specs.CommandLines.{with_variable}
+use Rattle.drv_scripts.specs.Commands.{with_variable}
 
 -- the variables with one more
 pub texts-with : (var : Bor (List ℕ)) (vars : List (Bor (List ℕ))) → texts (cond (list_any (λ v. bytes_eq var.now v.now) vars) vars (vars ++ var ∷ [])) ≡ with_variable (texts vars) var.now

@@ -3,6 +3,7 @@ use Rattle.std.proofs.Common.{◌≡◌, ◌⊎◌, Bool, ℕ, ◌+◌, ◌<◌,
 use Rattle.std.specs.Prelude.{◌==◌, if◌then◌else◌, slice_index}
 use Rattle.std.specs.Str.Lines.{lines}
 use Rattle.std.proofs.lemmas.Bool.{both_ways, cases_lt, lt-ltb}
+use Rattle.bundle_text.specs.Firsts.{First, KeepsBelow}
 use Rattle.bundle_text.proofs.Rows.{First-kept, First-unique}
 use Rattle.bundle_clocks.specs.Said.{SaidClocks}
 use Rattle.bundle_clocks.specs.Verdict as clock_verdict
@@ -16,11 +17,10 @@ use Rattle.clk_io.specs.declared.reading.TheConstants.{MOST_BYTES}
 use Rattle.drv_scripts.specs.declared.bundle.Bundle.{Bundle}
 use Rattle.bundle_text.specs.declared.reason.Reason.{Reason}
 use Rattle.bundle_text.specs.declared.reason.Reason.TheVariants.{TooLong}
-use Rattle.drv_scripts.specs.Form.{fault_at}
 use Rattle.drv_scripts.specs.Reasons.{rule_reason}
-use Rattle.drv_scripts.specs.Spelled.{boot_of, scripts_of, bundle_of}
-use Rattle.drv_scripts.specs.Verdict.{last_line, KeepsRules, PartsSpell, Breaks, BreaksRule, LacksForm, PartsRefuse, Accepts, Refuses, IsUndivided, IsDivided}
-use Rattle.drv_scripts.proofs.Bundles.{drivers_of, boot_commands_of, order_of, desc_of}
+use Rattle.drv_scripts.specs.Spelled.{boot_of, bundle_of}
+use Rattle.drv_scripts.specs.Verdict.{last_line, line_fault, KeepsRules, PartsSpell, Breaks, BreaksRule, HasFault, PartsRefuse, Accepts, Refuses, IsUndivided, IsDivided}
+use Rattle.drv_scripts.proofs.Bundles.{boot_commands_of, order_of, desc_of}
 use Rattle.drv_scripts.proofs.Decided.{parts_decided}
 
 -- ## Rules
@@ -84,7 +84,7 @@ said_refused ls parts a line reason x y = clock_laws.never_both parts.clocks.tex
 
 pub parts_same : (ls : List (List ℕ)) (parts : Parts) (a b : Bundle) → PartsSpell ls parts a → PartsSpell ls parts b → a ≡ b
 parts_same ls parts a b x y =
-    x.content ∙ (ap (bundle_of ls parts.bank.words) (said_same ls parts x.said y.said x.says y.says) ∙ sym y.content)
+    x.content ∙ (ap (bundle_of ls parts) (said_same ls parts x.said y.said x.says y.says) ∙ sym y.content)
 
 rules_and_breaks : (ls : List (List ℕ)) (parts : Parts) (said : SaidClocks) (line : ℕ) (reason : Reason) → clock_verdict.Says ls parts.clocks said → KeepsRules parts.bank.words said.defs → BreaksRule ls parts line reason → ⊥
 rules_and_breaks ls parts said line reason says rules y =
@@ -94,16 +94,19 @@ rules_and_breaks ls parts said line reason says rules y =
 pub parts_both : (ls : List (List ℕ)) (parts : Parts) (b : Bundle) (line : ℕ) (reason : Reason) → PartsSpell ls parts b → PartsRefuse ls parts line reason → ⊥
 parts_both ls parts b line reason x (inl y) = said_refused ls parts x.said line reason x.says y
 parts_both ls parts b line reason x (inr (inl y)) = rules_and_breaks ls parts x.said line reason x.says x.rules y
-parts_both ls parts b line reason x (inr (inr y)) = First-kept (fault_at ls parts.bank.words) (length ls) y.place reason x.kept y.first
+parts_both ls parts b line reason x (inr (inr y)) =
+    let same = said_same ls parts x.said y.said x.says y.says in
+    First-kept (line_fault ls parts y.said) (length ls) y.place reason (subst (λ s. KeepsBelow (line_fault ls parts s) (length ls)) same x.kept) y.first
 
 rules_same : (ls : List (List ℕ)) (parts : Parts) (line other : ℕ) (reason why : Reason) → BreaksRule ls parts line reason → BreaksRule ls parts other why → (line ≡ other) × (reason ≡ why)
 rules_same ls parts line other reason why x y =
     let same = said_same ls parts x.said y.said x.says y.says in
     breaks_same parts.bank.words y.said.defs y.said.lines line other reason why (subst (λ s. Breaks parts.bank.words s.defs s.lines line reason) same x.breaks) y.breaks
 
-forms_same : (ls : List (List ℕ)) (parts : Parts) (line other : ℕ) (reason why : Reason) → LacksForm ls parts line reason → LacksForm ls parts other why → (line ≡ other) × (reason ≡ why)
+forms_same : (ls : List (List ℕ)) (parts : Parts) (line other : ℕ) (reason why : Reason) → HasFault ls parts line reason → HasFault ls parts other why → (line ≡ other) × (reason ≡ why)
 forms_same ls parts line other reason why x y =
-    let same = First-unique (fault_at ls parts.bank.words) (length ls) x.place y.place reason why x.first y.first in
+    let said = said_same ls parts x.said y.said x.says y.says in
+    let same = First-unique (line_fault ls parts y.said) (length ls) x.place y.place reason why (subst (λ s. First (line_fault ls parts s) (length ls) x.place reason) said x.first) y.first in
     (x.line_is ∙ (ap (λ k. k + 1) same.0 ∙ sym y.line_is), same.1)
 
 pub parts_refused_same : (ls : List (List ℕ)) (parts : Parts) (line other : ℕ) (reason why : Reason) → PartsRefuse ls parts line reason → PartsRefuse ls parts other why → (line ≡ other) × (reason ≡ why)
@@ -182,22 +185,14 @@ each_decided bytes =
       | inr fits ↦ fitting bytes (omega (arith, fits))
     ]
 
--- what is accepted has the drivers and boot's commands of its lines, and states no order of drivers yet
-pub drivers_are : (bytes : List ℕ) (b : Bundle) → Accepts bytes b → b.drivers ≡ scripts_of b.desc.defs (lines bytes)
-drivers_are bytes b x =
-    let ls = lines bytes in
-    let size = x.parts.bank.words in
-    let said = x.spelled.said in
-    let desc = ap (λ bundle. bundle.desc.defs) x.spelled.content ∙ ap (λ d. d.defs) (desc_of ls size said) in
-    ap (λ bundle. bundle.drivers) x.spelled.content ∙ (drivers_of ls size said ∙ ap (λ defs. scripts_of defs ls) (sym desc))
-
+-- what is accepted has boot's commands for its clocks, and states no order of drivers yet
 pub boot_is : (bytes : List ℕ) (b : Bundle) → Accepts bytes b → b.boot ≡ boot_of (length b.desc.defs)
 boot_is bytes b x =
     let ls = lines bytes in
-    let size = x.parts.bank.words in
+    let parts = x.parts in
     let said = x.spelled.said in
-    let desc = ap (λ bundle. bundle.desc.defs) x.spelled.content ∙ ap (λ d. d.defs) (desc_of ls size said) in
-    ap (λ bundle. bundle.boot) x.spelled.content ∙ (boot_commands_of ls size said ∙ ap (λ defs. boot_of (length defs)) (sym desc))
+    let desc = ap (λ bundle. bundle.desc.defs) x.spelled.content ∙ ap (λ d. d.defs) (desc_of ls parts said) in
+    ap (λ bundle. bundle.boot) x.spelled.content ∙ (boot_commands_of ls parts said ∙ ap (λ defs. boot_of (length defs)) (sym desc))
 
 pub order_is : (bytes : List ℕ) (b : Bundle) → Accepts bytes b → b.order ≡ []
-order_is bytes b x = ap (λ bundle. bundle.order) x.spelled.content ∙ order_of (lines bytes) x.parts.bank.words x.spelled.said
+order_is bytes b x = ap (λ bundle. bundle.order) x.spelled.content ∙ order_of (lines bytes) x.parts x.spelled.said

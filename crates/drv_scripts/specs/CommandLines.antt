@@ -1,76 +1,200 @@
--- The section `%driver`: its header, its lines, and the commands that they give.
-use Rattle.std.specs.Prelude.{ℕ, ◌&&◌, Bool, true, List, [], ◌∷◌, ◌++◌, Option, Some, None, codes, if◌then◌else◌, fold}
-use Rattle.std.specs.List.{list_any, position}
-use Rattle.std.specs.Option.{option_map, option_map_or}
+-- Lines of `%driver`, each by itself: what the words of a command say, or what is wrong with them.
+use Rattle.std.specs.Prelude.{ℕ, ℤ, pos, neg_ℤ, ◌==◌, ◌-◌, ◌^◌, List, [], ◌∷◌, drop, slice_index, Option, Some, None, Result, Ok, Err, codes, if◌then◌else◌}
+use Rattle.std.specs.Option.{option_map}
 use Rattle.std.specs.Str.{bytes_eq}
 use Rattle.clk_base.specs.declared.command.Act.{Act}
-use Rattle.clk_base.specs.declared.command.Act.TheVariants.{Get, Prepare, Unprepare, Enable, Disable, Running, GetRate, GetParent, Put}
-use Rattle.clk_base.specs.declared.command.Command.{Command}
-use Rattle.clk_base.specs.Description.{Description, clock_named}
-use Rattle.bundle_text.specs.Names.{is_driver_name, is_variable}
-use Rattle.bundle_text.specs.Words.{spaced_words, is_word}
+use Rattle.clk_base.specs.declared.command.Act.TheVariants as call
+use Rattle.clk_base.specs.declared.handle.Policy.{Policy}
+use Rattle.clk_base.specs.declared.handle.Policy.TheVariants.{Accept, VetoAbove, VetoBelow, VetoAll}
+use Rattle.bundle_text.specs.Names.{is_variable}
+use Rattle.bundle_text.specs.Numbers.{number_up_to, number_within}
+use Rattle.bundle_text.specs.declared.reason.Reason.{Reason}
+use Rattle.bundle_text.specs.declared.reason.Reason.TheVariants.{BadWords, BadNumber, UnknownCommand}
+use Rattle.drv_scripts.specs.BankLines.{most_number}
 
--- the name of a header `%driver NAME`
-unfoldable pub driver_line : List (List ℕ) → Option (List ℕ)
-driver_line (head ∷ name ∷ []) = if bytes_eq head (codes "%driver") && is_driver_name name then Some name else None
-driver_line _ = None
-
--- what a command line says: a handle of the clock of a name into a variable, or an act on the handle that a variable holds
+-- what a command line says: a handle of the clock of a name into a variable; an act on the handle that a variable holds; a new parent by its name for the clock of that handle; the registration of the clock of a name; the sweep
 pub data CommandLine : Type 0 where
   gets : (var name : List ℕ) → CommandLine
   acts : (act : Act) (var : List ℕ) → CommandLine
+  moves : (var name : List ℕ) → CommandLine
+  registers : (name : List ℕ) → CommandLine
+  sweeps : CommandLine
 
--- the act of a command's first word
-unfoldable pub act_of : List ℕ → Option Act
-act_of verb =
-    if bytes_eq verb (codes "prepare") then Some Prepare
-    else if bytes_eq verb (codes "unprepare") then Some Unprepare
-    else if bytes_eq verb (codes "enable") then Some Enable
-    else if bytes_eq verb (codes "disable") then Some Disable
-    else if bytes_eq verb (codes "running") then Some Running
-    else if bytes_eq verb (codes "rate") then Some GetRate
-    else if bytes_eq verb (codes "parent") then Some GetParent
-    else if bytes_eq verb (codes "put") then Some Put
+-- the rate that a word writes, up to the greatest of 64 bits
+abbrev pub rate_of : List ℕ → Option ℕ
+rate_of word = number_within 0 (2 ^ 64 - 1) word
+
+-- the identifier that a word writes
+abbrev pub id_of : List ℕ → Option ℕ
+id_of word = number_within 0 most_number word
+
+-- the act of a command that is a first word and a variable
+unfoldable pub plain_act : List ℕ → Option Act
+plain_act verb =
+    if bytes_eq verb (codes "put") then Some call.Put
+    else if bytes_eq verb (codes "prepare") then Some call.Prepare
+    else if bytes_eq verb (codes "unprepare") then Some call.Unprepare
+    else if bytes_eq verb (codes "enable") then Some call.Enable
+    else if bytes_eq verb (codes "disable") then Some call.Disable
+    else if bytes_eq verb (codes "running") then Some call.Running
+    else if bytes_eq verb (codes "rate") then Some call.GetRate
+    else if bytes_eq verb (codes "parent") then Some call.GetParent
+    else if bytes_eq verb (codes "lock") then Some call.ExclusiveGet
+    else if bytes_eq verb (codes "unlock") then Some call.ExclusivePut
     else None
 
--- what the words of a command line say, where they have a form
-unfoldable pub command_line : List (List ℕ) → Option CommandLine
-command_line (verb ∷ var ∷ []) = if is_variable var then option_map (λ act. acts act var) (act_of verb) else None
-command_line (verb ∷ var ∷ name ∷ []) = if bytes_eq verb (codes "get") && is_variable var && is_word name then Some (gets var name) else None
-command_line _ = None
+-- what stands behind such a first word: V
+unfoldable pub plain_line : Act → List (List ℕ) → Result CommandLine Reason
+plain_line act (var ∷ []) = if is_variable var then Ok (acts act var) else Err BadWords
+plain_line act _ = Err BadWords
 
--- the variables with the one of a `get`, unless it is among them
-abbrev pub with_variable : List (List ℕ) → List ℕ → List (List ℕ)
-with_variable vars var = if list_any (bytes_eq var) vars then vars else vars ++ var ∷ []
+-- what stands behind `get`: V NAME
+unfoldable pub get_line : List (List ℕ) → Result CommandLine Reason
+get_line (var ∷ name ∷ []) = if is_variable var then Ok (gets var name) else Err BadWords
+get_line _ = Err BadWords
 
--- the variables after a command
-abbrev pub after_command : List (List ℕ) → CommandLine → List (List ℕ)
-after_command vars (gets var name) = with_variable vars var
-after_command vars (acts act var) = vars
+-- the act of `round`, of `set` and of `setx` with a rate
+unfoldable pub rated_act : List ℕ → ℕ → Act
+rated_act verb rate =
+    if bytes_eq verb (codes "round") then call.RoundRate rate
+    else if bytes_eq verb (codes "set") then call.SetRate rate
+    else call.SetRateExclusive rate
 
--- the variables after the next line
-abbrev pub after_line : List (List ℕ) → List ℕ → List (List ℕ)
-after_line vars line = option_map_or (after_command vars) (command_line (spaced_words line)) vars
+-- an act on a variable, where its numbers could be read
+unfoldable pub acts_if : List ℕ → Option Act → Result CommandLine Reason
+acts_if var None = Err BadNumber
+acts_if var (Some act) = Ok (acts act var)
 
--- the variables that the `get`s of lines name, in the order of their first `get`
-abbrev pub variables_of : List (List ℕ) → List (List ℕ)
-variables_of lines = fold after_line [] lines
+-- the act of one of these with the rate that a word writes
+abbrev pub rated_of : List ℕ → List ℕ → Option Act
+rated_of verb word = option_map (rated_act verb) (rate_of word)
 
--- a command uses a variable that it or an earlier `get` names
-abbrev pub has_variable : List (List ℕ) → CommandLine → Bool
-has_variable vars (gets var name) = true
-has_variable vars (acts act var) = list_any (bytes_eq var) vars
+-- what stands behind `round`, `set` and `setx`: V R
+unfoldable pub rated_line : List ℕ → List (List ℕ) → Result CommandLine Reason
+rated_line verb (var ∷ rate ∷ []) =
+    if is_variable var then acts_if var (rated_of verb rate) else Err BadWords
+rated_line verb _ = Err BadWords
 
--- what a command asks for, over the clocks of a description
-abbrev pub act_in : Description → CommandLine → Act
-act_in defs (gets var name) = Get (clock_named defs name)
-act_in defs (acts act var) = act
+-- the act of `range` with two rates, where both are numbers
+unfoldable pub range_act : Option ℕ → Option ℕ → Option Act
+range_act None most = None
+range_act (Some least) None = None
+range_act (Some least) (Some most) = Some (call.SetRange least most)
 
--- the variable that a command uses
-abbrev pub variable_of : CommandLine → List ℕ
-variable_of (gets var name) = var
-variable_of (acts act var) = var
+-- what stands behind `range`: V MIN MAX
+unfoldable pub range_line : List (List ℕ) → Result CommandLine Reason
+range_line (var ∷ least ∷ most ∷ []) =
+    if is_variable var then acts_if var (range_act (rate_of least) (rate_of most)) else Err BadWords
+range_line _ = Err BadWords
 
--- the command of a line: its variable's number counts the variables from 0
-unfoldable pub command_in : Description → List (List ℕ) → ℕ → CommandLine → Command
-command_in defs vars line said = record { line = line; var = position (bytes_eq (variable_of said)) (after_command vars said); act = act_in defs said }
+-- what stands behind `reparent`: V NAME
+unfoldable pub reparent_line : List (List ℕ) → Result CommandLine Reason
+reparent_line (var ∷ name ∷ []) = if is_variable var then Ok (moves var name) else Err BadWords
+reparent_line _ = Err BadWords
+
+-- the number below 0 or 0 that decimal digits behind a minus sign write, from -2147483648 on
+abbrev pub negative : List ℕ → Option ℤ
+negative digits = option_map (λ n. neg_ℤ (pos n)) (number_up_to 2147483648 digits)
+
+-- the number from 0 to 2147483647 that decimal digits write
+abbrev pub positive : List ℕ → Option ℤ
+positive word = option_map (λ n. pos n) (number_up_to 2147483647 word)
+
+-- the number that decimal digits write, behind a minus sign or none
+unfoldable pub priority_of : List ℕ → Option ℤ
+priority_of word = if slice_index word 0 == 45 then negative (drop 1 word) else positive word
+
+-- a veto above a rate, where the word is one
+abbrev pub veto_above : List ℕ → Option Policy
+veto_above rate = option_map (λ r. VetoAbove r) (rate_of rate)
+
+-- a veto below a rate, where the word is one
+abbrev pub veto_below : List ℕ → Option Policy
+veto_below rate = option_map (λ r. VetoBelow r) (rate_of rate)
+
+-- a policy, where its rate is a number
+unfoldable pub policy_if : Option Policy → Result Policy Reason
+policy_if None = Err BadNumber
+policy_if (Some policy) = Ok policy
+
+-- a policy with a rate
+unfoldable pub bound_policy : List ℕ → List ℕ → Result Policy Reason
+bound_policy word rate =
+    if bytes_eq word (codes "above") then policy_if (veto_above rate)
+    else if bytes_eq word (codes "below") then policy_if (veto_below rate)
+    else Err BadWords
+
+-- a policy without a rate
+unfoldable pub plain_policy : List ℕ → Result Policy Reason
+plain_policy word =
+    if bytes_eq word (codes "accept") then Ok Accept
+    else if bytes_eq word (codes "veto") then Ok VetoAll
+    else Err BadWords
+
+-- a POLICY: `accept`, `veto`, `above R` or `below R`
+unfoldable pub policy_line : List (List ℕ) → Result Policy Reason
+policy_line (word ∷ []) = plain_policy word
+policy_line (word ∷ rate ∷ []) = bound_policy word rate
+policy_line _ = Err BadWords
+
+-- the act of `notify` with this identifier, priority and policy, where both are numbers
+unfoldable pub notify_act : Option ℕ → Option ℤ → Policy → Option Act
+notify_act None priority policy = None
+notify_act (Some id) None policy = None
+notify_act (Some id) (Some priority) policy = Some (call.NotifierAdd id priority policy)
+
+-- a notifier with a policy that was read or not
+unfoldable pub notify_said : List ℕ → List ℕ → List ℕ → Result Policy Reason → Result CommandLine Reason
+notify_said var id priority (Err reason) = Err reason
+notify_said var id priority (Ok policy) = acts_if var (notify_act (id_of id) (priority_of priority) policy)
+
+-- what stands behind `notify`: V ID PRIO POLICY
+unfoldable pub notify_line : List (List ℕ) → Result CommandLine Reason
+notify_line (var ∷ id ∷ priority ∷ policy) =
+    if is_variable var then notify_said var id priority (policy_line policy) else Err BadWords
+notify_line _ = Err BadWords
+
+-- the act of `unnotify` with the identifier that a word writes
+abbrev pub removal_of : List ℕ → Option Act
+removal_of word = option_map (λ n. call.NotifierRemove n) (id_of word)
+
+-- what stands behind `unnotify`: V ID
+unfoldable pub unnotify_line : List (List ℕ) → Result CommandLine Reason
+unnotify_line (var ∷ id ∷ []) =
+    if is_variable var then acts_if var (removal_of id) else Err BadWords
+unnotify_line _ = Err BadWords
+
+-- what stands behind `probe`: NAME
+unfoldable pub probe_line : List (List ℕ) → Result CommandLine Reason
+probe_line (name ∷ []) = Ok (registers name)
+probe_line _ = Err BadWords
+
+-- what stands behind `sweep`: nothing
+unfoldable pub sweep_line : List (List ℕ) → Result CommandLine Reason
+sweep_line [] = Ok sweeps
+sweep_line _ = Err BadWords
+
+-- what a first word that isn't one of the plain ones says, with what stands behind it
+unfoldable pub other_line : List ℕ → List (List ℕ) → Result CommandLine Reason
+other_line verb rest =
+    if bytes_eq verb (codes "get") then get_line rest
+    else if bytes_eq verb (codes "round") then rated_line verb rest
+    else if bytes_eq verb (codes "set") then rated_line verb rest
+    else if bytes_eq verb (codes "setx") then rated_line verb rest
+    else if bytes_eq verb (codes "range") then range_line rest
+    else if bytes_eq verb (codes "reparent") then reparent_line rest
+    else if bytes_eq verb (codes "notify") then notify_line rest
+    else if bytes_eq verb (codes "unnotify") then unnotify_line rest
+    else if bytes_eq verb (codes "probe") then probe_line rest
+    else if bytes_eq verb (codes "sweep") then sweep_line rest
+    else Err UnknownCommand
+
+-- what a first word says with what stands behind it, where it may be a plain one
+unfoldable pub verb_line : Option Act → List ℕ → List (List ℕ) → Result CommandLine Reason
+verb_line None verb rest = other_line verb rest
+verb_line (Some act) verb rest = plain_line act rest
+
+-- what the words of a command line say, or what is wrong with them
+unfoldable pub command_line : List (List ℕ) → Result CommandLine Reason
+command_line [] = Err UnknownCommand
+command_line (verb ∷ rest) = verb_line (plain_act verb) verb rest

@@ -1,9 +1,11 @@
+pub mod Judged
 pub mod BankLines
 pub mod CommandLines
-pub mod Form
+pub mod Commands
 pub mod Said
-pub mod Reasons
 pub mod Sections
+pub mod Steps
+pub mod Reasons
 pub mod Spelled
 pub mod Placed
 pub mod Verdict

@@ -7,6 +7,7 @@ use Rattle.clk_base.specs.declared.command.Command.{Command}
 use Rattle.clk_base.specs.Valid.{IsValid}
 use Rattle.drv_scripts.specs.declared.bundle.Bundle.{Bundle}
 use Rattle.drv_scripts.specs.declared.bundle.Script.{Script}
+use Rattle.drv_scripts.specs.Sections.{count_of}
 
 -- the clock that an act names is one of so many
 abbrev pub NamesPlace : ℕ → Act → Type 0
@@ -34,3 +35,5 @@ pub record IsSound (b : Bundle) : Type 0 where
   pub words : length b.words ≡ b.desc.words
   pub boot : NamePlaces (length b.desc.defs) b.boot
   pub scripts : AllByRecursion (IsScript (length b.desc.defs)) b.drivers
+  pub drivers : length b.drivers ≤ 64
+  pub commands : count_of b.drivers ≤ 1048576

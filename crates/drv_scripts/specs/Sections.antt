@@ -1,47 +1,103 @@
--- What a reader of lines promises: the lines up to a place keep the form and say this, or why not.
-use Rattle.std.specs.Prelude.{◌≡◌, ℕ, ◌+◌, ◌^◌, ◌<◌, ◌≤◌, List, length, Result, MatchResult}
-use Rattle.bundle_text.specs.Firsts.{First, KeepsBelow}
-use Rattle.bundle_text.specs.declared.fault.BundleFault.{BundleFault}
-use Rattle.bundle_text.specs.declared.fault.BundleFault.TheVariants as faults
-use Rattle.drv_scripts.specs.declared.stop.Stop.{Stop}
-use Rattle.drv_scripts.specs.declared.stop.Stop.TheVariants.{At, NoMemory}
-use Rattle.drv_scripts.specs.Form.{fault_at, clocks_end, words_end, words_before, variables_before}
+-- The lines of the sections behind the clocks, each judged by the section that it stands in.
+use Rattle.std.specs.Prelude.{ℕ, ◌+◌, ◌-◌, ◌==◌, nat_lt, List, [], ◌∷◌, length, slice_get, Option, Some, None, if◌then◌else◌}
+use Rattle.std.specs.List.{position, sum_by}
+use Rattle.std.specs.Option.{option_map, option_and_then, option_flatten, is_some}
+use Rattle.std.specs.Str.{bytes_eq}
+use Rattle.bundle_clocks.specs.Said.{SaidClocks}
+use Rattle.bundle_sections.specs.Headers.{Said, device_tree, clocks, bank, lock, late, driver, order}
+use Rattle.bundle_sections.specs.Sections.{SaidSection}
+use Rattle.bundle_sections.specs.declared.section.BankSection.{BankSection}
+use Rattle.bundle_text.specs.Faults.{unless}
+use Rattle.bundle_text.specs.declared.reason.Reason.{Reason}
+use Rattle.bundle_text.specs.declared.reason.Reason.TheVariants.{UnknownName, NotYet}
+use Rattle.clk_base.specs.Description.{Description}
+use Rattle.dts_clocks.specs.Consumers.{SeenName, SeenConsumer}
+use Rattle.drv_scripts.specs.declared.bundle.Script.{Script}
+use Rattle.drv_scripts.specs.BankLines.{word_fault}
+use Rattle.drv_scripts.specs.Commands.{command_fault, commands_of}
 
--- why the lines were not read to their end; want of memory says nothing of them
-abbrev pub Stops : List (List ℕ) → ℕ → Stop → Type 0
-Stops ls size (At place reason) = First (fault_at ls size) (length ls) place reason
-Stops ls size NoMemory = Unit {0}
+-- what a line is judged by: all lines, the clocks of the description, and the consumers
+pub record Around : Type 0 where
+  pub lines : List (List ℕ)
+  pub defs : Description
+  pub consumers : List SeenConsumer
 
--- the lines below a place have no fault, and what was read is right; or why the lines were not read
-abbrev pub Section : {X : Type 0} → List (List ℕ) → ℕ → ℕ → (X → Type 0) → Result X Stop → Type 0
-Section ls size to P r = MatchResult r (λ x. KeepsBelow (fault_at ls size) to × P x) (Stops ls size)
+-- these three together
+abbrev pub with_clocks : List (List ℕ) → Description → List SeenConsumer → Around
+with_clocks ls defs consumers = record { lines = ls; defs = defs; consumers = consumers }
 
--- the next line is one of words, the lines before it have no fault, and the bank is as they say
-pub record AtWord (ls : List (List ℕ)) (size k : ℕ) (before : List ℕ) : Type 0 where
-  pub low : 2 ≤ clocks_end ls
-  pub section : clocks_end ls < k
-  pub high : k < words_end ls
-  pub within : k < length ls
-  pub kept : KeepsBelow (fault_at ls size) k
-  pub words : before ≡ words_before ls size k
-  pub count : length before ≡ size
+-- lines, with what the section of the clocks says
+abbrev pub around : List (List ℕ) → SaidClocks → Around
+around ls said = with_clocks ls said.defs said.consumers
 
--- the next line is a command, the lines before it have no fault, and the variables are theirs
-pub record AtCommand (ls : List (List ℕ)) (size k : ℕ) (before : List (List ℕ)) : Type 0 where
-  pub low : 2 ≤ clocks_end ls
-  pub order : clocks_end ls < words_end ls
-  pub section : words_end ls < k
-  pub within : k < length ls
-  pub few : length ls < 2 ^ 31
-  pub kept : KeepsBelow (fault_at ls size) k
-  pub variables : before ≡ variables_before ls k
+-- a section with this header between these places
+abbrev pub section_from : Said → ℕ → ℕ → SaidSection
+section_from says place end = record { says = says; place = place; end = end }
 
--- the place of a stop is that of a line whose number fits
-abbrev pub IsPlaced : Stop → Type 0
-IsPlaced (At place reason) = place + 1 < 2 ^ 32
-IsPlaced NoMemory = Unit {0}
+-- the first consumer with a path
+abbrev pub consumer_at : List SeenConsumer → List ℕ → Option SeenConsumer
+consumer_at consumers path = option_and_then (slice_get consumers) (position (λ c. bytes_eq c.path path) consumers)
 
--- what a stop tells
-abbrev pub stop_told : Stop → BundleFault
-stop_told (At place reason) = faults.Refused (place + 1) reason
-stop_told NoMemory = faults.NoMemory
+-- the names that the path of a header gives a driver, if it has one; none where no consumer has the path
+unfoldable pub names_at : List SeenConsumer → Option (List ℕ) → Option (Option (List SeenName))
+names_at consumers None = Some None
+names_at consumers (Some path) = option_map (λ c. Some c.names) (consumer_at consumers path)
+
+-- the same, where the path is a consumer's
+abbrev pub names_of : Around → Option (List ℕ) → Option (List SeenName)
+names_of a path = option_flatten (names_at a.consumers path)
+
+-- what is wrong with a header: its path is no consumer's
+unfoldable pub header_fault : Around → Said → Option Reason
+header_fault a (driver name path) = unless (is_some (names_at a.consumers path)) UnknownName
+header_fault a device_tree = None
+header_fault a clocks = None
+header_fault a (bank words) = None
+header_fault a lock = Some NotYet
+header_fault a late = Some NotYet
+header_fault a order = Some NotYet
+
+-- what is wrong with a line behind the header of a section, so many commands standing before the section
+unfoldable pub inside_fault : Around → ℕ → ℕ → Said → ℕ → Option Reason
+inside_fault a before first (driver name path) k = command_fault a.defs (names_of a path) before a.lines first k
+inside_fault a before first device_tree k = None
+inside_fault a before first clocks k = None
+inside_fault a before first (bank words) k = None
+inside_fault a before first lock k = None
+inside_fault a before first late k = None
+inside_fault a before first order k = None
+
+-- what is wrong with a line of a section
+unfoldable pub section_fault : Around → ℕ → SaidSection → ℕ → Option Reason
+section_fault a before s k = if k == s.place then header_fault a s.says else inside_fault a before (s.place + 1) s.says k
+
+-- the driver of a section that says this, between these places
+unfoldable pub scripts_between : Around → Said → ℕ → ℕ → List Script
+scripts_between a (driver name path) first end = record { name = name; commands = commands_of a.defs (names_of a path) a.lines first (end - first) } ∷ []
+scripts_between a device_tree first end = []
+scripts_between a clocks first end = []
+scripts_between a (bank words) first end = []
+scripts_between a lock first end = []
+scripts_between a late first end = []
+scripts_between a order first end = []
+
+-- the driver of a section, if it is a driver's
+abbrev pub scripts_in : Around → SaidSection → List Script
+scripts_in a s = scripts_between a s.says (s.place + 1) s.end
+
+-- how many commands drivers have
+abbrev pub count_of : List Script → ℕ
+count_of scripts = sum_by (λ s. length s.commands) scripts
+
+-- what is wrong with a line of these sections, one behind another, so many commands standing before them
+unfoldable pub fault_among : Around → ℕ → List SaidSection → ℕ → Option Reason
+fault_among a before [] k = None
+fault_among a before (s ∷ more) k = if nat_lt k s.end then section_fault a before s k else fault_among a (before + count_of (scripts_in a s)) more k
+
+-- what is wrong with a line through the section of the bank
+abbrev pub bank_fault : List (List ℕ) → BankSection → ℕ → Option Reason
+bank_fault ls b k = if nat_lt b.place k then word_fault b.words ls k else None
+
+-- what is wrong with the line at a place; the lines of the clocks are judged apart
+unfoldable pub fault_at : Around → BankSection → List SaidSection → ℕ → Option Reason
+fault_at a b others k = if nat_lt k b.end then bank_fault a.lines b k else fault_among a 0 others k

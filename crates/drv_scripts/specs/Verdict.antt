@@ -1,5 +1,5 @@
 -- Which bytes spell which bundle, and why the others spell none.
-use Rattle.std.specs.Prelude.{◌≡◌, ℕ, ◌+◌, ◌<◌, ◌≤◌, ◌==◌, ◌⊎◌, List, length, slice_index, count_by}
+use Rattle.std.specs.Prelude.{◌≡◌, ℕ, ◌+◌, ◌<◌, ◌≤◌, ◌==◌, ◌⊎◌, List, length, slice_index, count_by, Option}
 use Rattle.std.specs.Str.Lines.{lines}
 use Rattle.bundle_text.specs.Firsts.{First, KeepsBelow}
 use Rattle.bundle_clocks.specs.Said.{SaidClocks}
@@ -12,8 +12,8 @@ use Rattle.clk_io.specs.declared.reading.TheConstants.{MOST_BYTES}
 use Rattle.drv_scripts.specs.declared.bundle.Bundle.{Bundle}
 use Rattle.bundle_text.specs.declared.reason.Reason.{Reason}
 use Rattle.bundle_text.specs.declared.reason.Reason.TheVariants.{TooLong}
-use Rattle.drv_scripts.specs.Form.{fault_at}
 use Rattle.drv_scripts.specs.Reasons.{rule_reason}
+use Rattle.drv_scripts.specs.Sections.{around, fault_at}
 use Rattle.drv_scripts.specs.Spelled.{bundle_of}
 
 -- the line behind the last line feed, counted from 1
@@ -24,13 +24,17 @@ last_line bytes = count_by (λ b. b == 10) bytes + 1
 abbrev pub KeepsRules : ℕ → Description → Type 0
 KeepsRules words defs = (rule : Rule) → EachClock defs (keeps rule words defs)
 
--- lines in these sections spell the bundle: this is what the section of the clocks says, its clocks keep every rule, and the other lines have the form that is read so far
+-- what is wrong with the line at a place of these sections, over what the section of the clocks says
+abbrev pub line_fault : List (List ℕ) → Parts → SaidClocks → ℕ → Option Reason
+line_fault ls parts said = fault_at (around ls said) parts.bank parts.others
+
+-- lines in these sections spell the bundle: this is what the section of the clocks says, its clocks keep every rule, and no other line has a fault
 pub record PartsSpell (ls : List (List ℕ)) (parts : Parts) (b : Bundle) : Type 0 where
   pub said : SaidClocks
   pub says : clock_verdict.Says ls parts.clocks said
   pub rules : KeepsRules parts.bank.words said.defs
-  pub kept : KeepsBelow (fault_at ls parts.bank.words) (length ls)
-  pub content : b ≡ bundle_of ls parts.bank.words said
+  pub kept : KeepsBelow (line_fault ls parts said) (length ls)
+  pub content : b ≡ bundle_of ls parts said
 
 -- this is the first rule that a clock breaks, and the line of the first clock that breaks it
 pub record Breaks (words : ℕ) (defs : Description) (numbers : List ℕ) (line : ℕ) (reason : Reason) : Type 0 where
@@ -46,18 +50,18 @@ pub record BreaksRule (ls : List (List ℕ)) (parts : Parts) (line : ℕ) (reaso
   pub says : clock_verdict.Says ls parts.clocks said
   pub breaks : Breaks parts.bank.words said.defs said.lines line reason
 
--- the section of the clocks says clocks that keep every rule, and this is the first line outside of it that lacks the form
-pub record LacksForm (ls : List (List ℕ)) (parts : Parts) (line : ℕ) (reason : Reason) : Type 0 where
+-- the section of the clocks says clocks that keep every rule, and this is the first line outside of it with a fault
+pub record HasFault (ls : List (List ℕ)) (parts : Parts) (line : ℕ) (reason : Reason) : Type 0 where
   pub said : SaidClocks
   pub says : clock_verdict.Says ls parts.clocks said
   pub rules : KeepsRules parts.bank.words said.defs
   pub place : ℕ
-  pub first : First (fault_at ls parts.bank.words) (length ls) place reason
+  pub first : First (line_fault ls parts said) (length ls) place reason
   pub line_is : line ≡ place + 1
 
--- lines in these sections are refused: for the section of the clocks, else for a rule, else for the form
+-- lines in these sections are refused: for the section of the clocks, else for a rule, else for another line
 abbrev pub PartsRefuse : List (List ℕ) → Parts → ℕ → Reason → Type 0
-PartsRefuse ls parts line reason = clock_verdict.Refuses ls parts.clocks line reason ⊎ (BreaksRule ls parts line reason ⊎ LacksForm ls parts line reason)
+PartsRefuse ls parts line reason = clock_verdict.Refuses ls parts.clocks line reason ⊎ (BreaksRule ls parts line reason ⊎ HasFault ls parts line reason)
 
 -- the bytes spell the bundle: they are few enough, and their lines stand in sections that spell it
 pub record Accepts (bytes : List ℕ) (b : Bundle) : Type 0 where

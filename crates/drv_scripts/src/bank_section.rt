@@ -1,69 +1,70 @@
 //! The section of the register bank.
 
-ghost use Rattle.std.specs.Prelude.{◌≡◌, ◌+◌, ◌<◌, ◌≤◌, length, IfOk};
-ghost use Rattle.bundle_text.specs.Firsts.{KeepsBelow};
-ghost use Rattle.drv_scripts.specs.Form.{fault_at, clocks_end, words_end, words_before, keeps_bank_header};
-ghost use Rattle.drv_scripts.specs.Sections.{AtWord, Section};
+ghost use Rattle.std.specs.Prelude.{◌≡◌, ◌+◌, ◌-◌, ◌<◌, ◌≤◌, ◌^◌, length, IfOk, IfSome};
+ghost use Rattle.bundle_text.specs.Words.{texts};
+ghost use Rattle.drv_scripts.specs.BankLines.{numbers_said, word_line, word_fault, word_at, with_words, words_of};
+ghost use Rattle.drv_scripts.specs.Judged.{Reads, ReadsLine};
 
-use crate::bank_lines::{bank_line, word_line};
-use crate::stop::{Stop, not_yet};
-use bundle_text::TextLines;
-use clk_io::NoMemory;
+use crate::judged::judged;
+use crate::stop::Stop;
+use bundle_text::{Reason, TextLines, small_number_within};
 use std::alloc::Global;
 
-// Checks the header behind the clocks' section.
-#[tactic(auto, unfolding(crate::specs::Form::keeps_bank_header))]
-fn keeps_bank_header(alloc: Global, lines: &TextLines, at: usize) -> Result<bool, NoMemory>
-    ensures { IfOk result (λ keeps. keeps ≡ keeps_bank_header lines.now at) }
+// A word of the bank and its value, where both are numbers.
+#[tactic(auto, unfolding(crate::specs::BankLines::numbers_said))]
+fn numbers_said(word: Option<u32>, value: Option<u32>) -> Result<(u32, u32), Reason>
+    ensures { result ≡ numbers_said word value }
 {
-    let words = lines.words(alloc, at)?;
-    Ok(bank_line(&words).is_some())
-}
-
-/// Checks the header behind the clocks' section, for a bank of so many words.
-pub(crate) fn check_bank_header(
-    alloc: Global,
-    lines: &TextLines,
-    end: usize,
-    size: u32,
-) -> Result<(), Stop>
-    requires end { end ≡ clocks_end lines.now }
-    requires low { 2 ≤ end }
-    requires within { end < length lines.now }
-    requires kept { KeepsBelow (fault_at lines.now size) end }
-    ensures { Section lines.now size (end + 1) (λ _. Unit {0}) result }
-{
-    if !keeps_bank_header(alloc, lines, end)? {
-        return Err(not_yet(end));
+    match (word, value) {
+        (Some(word), Some(value)) => Ok((word, value)),
+        _ => Err(Reason::BadNumber),
     }
-    Ok(())
 }
 
-// Gives a word the value that the line at a place states.
-fn set_word(
+// What the words of a line `W V` say, over a bank of so many words.
+#[tactic(auto, unfolding(crate::specs::BankLines::word_line))]
+fn word_line(size: u32, words: &[&str]) -> Result<(u32, u32), Reason>
+    requires { 0 < size }
+    ensures { result ≡ word_line size (texts words.now) }
+{
+    match words {
+        [word, value] => numbers_said(
+            small_number_within(0, size - 1, word),
+            small_number_within(0, u32::MAX, value),
+        ),
+        _ => Err(Reason::BadWords),
+    }
+}
+
+// The word and the value that the line at a place says.
+#[tactic(auto, unfolding(crate::specs::BankLines::word_fault, crate::specs::BankLines::word_at))]
+fn read_word(
     alloc: Global,
     lines: &TextLines,
-    bank: &mut Vec<u32>,
     at: usize,
     size: u32,
-) -> Result<(), Stop>
-    requires { AtWord lines.now size at bank.old.items }
-    ensures { Section lines.now size (at + 1)
-        (λ _. (bank.new.items ≡ words_before lines.now size (at + 1)) × (length bank.new.items ≡ size)) result }
+) -> Result<Option<(u32, u32)>, Stop>
+    requires { 0 < size }
+    ensures { ReadsLine (word_fault size lines.now at) at (λ found. found ≡ word_at size lines.now at) result }
 {
-    let words = lines.words(alloc, at)?;
-    let Some((word, value)) = word_line(&words) else {
-        return Err(not_yet(at));
-    };
-    let place = word as usize;
-    if word >= size {
-        return Err(not_yet(at));
-    }
-    bank[place] = value;
-    Ok(())
+    let words = lines.said_words(alloc, at)?;
+    let said = word_line(size, &words);
+    judged(&words, at, said)
 }
 
-/// Reads the lines of words from one place up to another, over a bank of so many words.
+// The words with a value given to one of them, where one is.
+fn set_word(bank: &mut Vec<u32>, set: Option<(u32, u32)>)
+    ensures { bank.new.items ≡ with_words bank.old.items set }
+{
+    if let Some((word, value)) = set {
+        let place = word as usize;
+        if place < bank.len() {
+            bank[place] = value;
+        }
+    }
+}
+
+/// The words of a bank of this size, as the lines from one place up to another state them.
 pub(crate) fn read_words(
     alloc: Global,
     lines: &TextLines,
@@ -71,17 +72,15 @@ pub(crate) fn read_words(
     to: usize,
     size: u32,
 ) -> Result<Vec<u32>, Stop>
-    requires from { from ≡ clocks_end lines.now + 1 }
-    requires to { to ≡ words_end lines.now }
-    requires low { 2 ≤ clocks_end lines.now }
+    requires some { 0 < size }
     requires order { from ≤ to }
-    requires within { to ≤ length lines.now }
-    requires kept { KeepsBelow (fault_at lines.now size) from }
-    ensures { Section lines.now size to (λ bank. (bank.items ≡ words_before lines.now size to) × (length bank.items ≡ size)) result }
+    ensures read { Reads (word_fault size lines.now) from to (λ bank. bank.items ≡ words_of size lines.now from (to - from)) result }
+    ensures size { IfOk result (λ bank. length bank.items ≡ size) }
 {
     let mut bank = vec![in alloc; 0u32; size as usize]?;
     for at in from..to {
-        set_word(alloc, lines, &mut bank, at, size)?;
+        let set = read_word(alloc, lines, at, size)?;
+        set_word(&mut bank, set);
     }
     Ok(bank)
 }

@@ -1,154 +1,78 @@
 //! The section of a driver.
 
-ghost use Rattle.std.specs.Prelude.{◌≡◌, ◌+◌, ◌<◌, ◌≤◌, ◌^◌, length, IfOk, MatchOption, true, false};
-ghost use Rattle.bundle_text.specs.Firsts.{KeepsBelow};
-ghost use Rattle.bundle_text.specs.Lines.{line_at};
-ghost use Rattle.bundle_text.specs.Words.{spaced_words};
-ghost use Rattle.drv_scripts.specs.CommandLines.{driver_line, has_variable, command_in, after_command};
-ghost use Rattle.drv_scripts.specs.Form.{fault_at, clocks_end, words_end, command_at, variables_before};
-ghost use Rattle.drv_scripts.specs.Said.{said_command};
-ghost use Rattle.drv_scripts.specs.Sections.{AtCommand, Section};
-ghost use Rattle.drv_scripts.specs.Spelled.{commands_from, script_at};
+ghost use Rattle.std.specs.Prelude.{◌≡◌, ◌+◌, ◌-◌, ◌∷◌, ◌<◌, ◌≤◌, ◌^◌, [], length, map, position, string_bytes, IfOk};
+ghost use Rattle.std.specs.Option.{option_map};
+ghost use Rattle.std.specs.Str.{bytes_eq};
+ghost use Rattle.bundle_sections.specs.Headers.{driver};
+ghost use Rattle.dts_clocks.specs.Consumers.{seen_name, seen_consumer};
+ghost use Rattle.drv_scripts.specs.Judged.{Reads};
+ghost use Rattle.drv_scripts.specs.Sections.{with_clocks, section_from, names_at, section_fault, scripts_between};
 
 use crate::bundle::{DriverName, Script};
-use crate::command_lines::{CommandLine, command_line, driver_line};
+use crate::command_section::read_commands;
 use crate::listed::Listed;
-use crate::stop::{Stop, not_yet};
-use crate::variables::Variables;
-use bundle_text::TextLines;
-use clk_base::{Act, Command, ValidDesc};
-use clk_io::NoMemory;
+use crate::stop::{Stop, stopped};
+use bundle_text::{Reason, TextLines};
+use clk_base::ValidDesc;
+use dts_clocks::{Consumer, ConsumerName};
 use std::alloc::Global;
 
-// The most commands of a driver.
-const MOST_COMMANDS: usize = 65_536;
-
-// The command that a line says, where its variable is known.
-#[tactic(auto, unfolding(crate::specs::CommandLines::command_in))]
-fn command_of<'a>(
-    desc: &ValidDesc,
-    variables: &mut Variables<'a>,
-    line: u32,
-    said: &CommandLine<'a>,
-) -> Result<Option<Command>, NoMemory>
-    requires { length variables.old < 65536 }
-    ensures { IfOk result (λ found. MatchOption found (has_variable variables.old (said_command said.now) ≡ false)
-        (λ command. (has_variable variables.old (said_command said.now) ≡ true)
-        × (command ≡ command_in desc.now.defs variables.old line (said_command said.now))
-        × (variables.new ≡ after_command variables.old (said_command said.now)))) }
+// Where the first consumer has this path.
+fn place_of_path(consumers: &[Consumer], path: &str) -> Option<usize>
+    ensures { result ≡ position (λ c. bytes_eq (string_bytes c.path) path.now) consumers.now }
 {
-    match *said {
-        CommandLine::Gets { var, name } => {
-            let var = variables.add(var)?;
-            Ok(Some(Command {
-                line,
-                var: Some(var),
-                act: Act::Get(desc.find(name)),
-            }))
-        }
-        CommandLine::Acts { act, var } => {
-            let Some(var) = variables.number(var) else {
-                return Ok(None);
-            };
-            Ok(Some(Command {
-                line,
-                var: Some(var),
-                act,
-            }))
-        }
+    consumers
+        .iter()
+        .position(|consumer| consumer.path.as_str() == path)
+}
+
+// The names that the path of a header gives a driver, if it has one, or nothing where no consumer
+// has the path.
+#[tactic(auto, unfolding(crate::specs::Sections::names_at))]
+fn names_at<'a>(consumers: &'a [Consumer], path: Option<&str>) -> Option<Option<&'a [ConsumerName]>>
+    ensures { option_map (option_map (λ own. map seen_name own.now)) result ≡ names_at (map seen_consumer consumers.now) (option_map (λ p. p.now) path.entry) }
+{
+    let Some(path) = path else {
+        return Some(None);
+    };
+    let place = place_of_path(consumers, path)?;
+    match consumers.get(place) {
+        Some(consumer) => Some(Some(consumer.names.as_slice())),
+        None => None,
     }
 }
 
-// The command of the line at a place, the commands beginning at another.
-fn read_command<'a>(
-    alloc: Global,
-    lines: &TextLines<'a>,
-    desc: &ValidDesc,
-    variables: &mut Variables<'a>,
-    first: usize,
-    at: usize,
-) -> Result<Command, Stop>
-    requires at { AtCommand lines.now desc.now.words at variables.old }
-    requires first { first ≡ words_end lines.now + 1 }
-    ensures { Section lines.now desc.now.words (at + 1)
-        (λ command. (command_at desc.now.defs lines.now at ≡ Some command) × (variables.new ≡ variables_before lines.now (at + 1))) result }
-{
-    if at - first >= MOST_COMMANDS {
-        return Err(not_yet(at));
-    }
-    let words = lines.words(alloc, at)?;
-    let Some(said) = command_line(&words) else {
-        return Err(not_yet(at));
-    };
-    let Some(command) = command_of(desc, variables, at as u32 + 1, &said)? else {
-        return Err(not_yet(at));
-    };
-    Ok(command)
-}
-
-// The commands of the lines from a place to the end.
-fn read_commands(
-    alloc: Global,
-    lines: &TextLines,
-    desc: &ValidDesc,
-    first: usize,
-) -> Result<Vec<Command>, Stop>
-    requires first { first ≡ words_end lines.now + 1 }
-    requires order { clocks_end lines.now < words_end lines.now }
-    requires low { 2 ≤ clocks_end lines.now }
-    requires within { first ≤ length lines.now }
-    requires few { length lines.now < 2 ^ 31 }
-    requires kept { KeepsBelow (fault_at lines.now desc.now.words) first }
-    ensures { Section lines.now desc.now.words (length lines.now) (λ commands. commands.items ≡ commands_from desc.now.defs lines.now first) result }
-{
-    let mut variables = Variables::new(alloc);
-    let mut commands = Vec::new(alloc);
-    for at in first..lines.len() {
-        let command = read_command(alloc, lines, desc, &mut variables, first, at)?;
-        commands.push(command)?;
-    }
-    Ok(commands)
-}
-
-// The name that the header at a place states.
-fn read_name(
-    alloc: Global,
-    lines: &TextLines,
-    desc: &ValidDesc,
-    at: usize,
-) -> Result<DriverName, Stop>
-    requires at { at ≡ words_end lines.now }
-    requires order { clocks_end lines.now < words_end lines.now }
-    requires low { 2 ≤ clocks_end lines.now }
-    requires within { at < length lines.now }
-    requires kept { KeepsBelow (fault_at lines.now desc.now.words) at }
-    ensures { Section lines.now desc.now.words (at + 1) (λ name. driver_line (spaced_words (line_at lines.now at)) ≡ Some name) result }
-{
-    let words = lines.words(alloc, at)?;
-    let Some(name) = driver_line(&words) else {
-        return Err(not_yet(at));
-    };
-    Ok(DriverName::new(String::from_str(alloc, name)?))
-}
-
-/// Reads the driver whose header stands at a place, over the clocks of the bundle.
+/// The driver whose header stands at a place, with the commands up to another, so many commands of
+/// other drivers standing before it.
 pub(crate) fn read_driver(
     alloc: Global,
     lines: &TextLines,
     desc: &ValidDesc,
-    at: usize,
-) -> Result<Vec<Script>, Stop>
-    requires at { at ≡ words_end lines.now }
-    requires order { clocks_end lines.now < words_end lines.now }
-    requires low { 2 ≤ clocks_end lines.now }
-    requires within { at < length lines.now }
+    consumers: &[Consumer],
+    name: &str,
+    path: Option<&str>,
+    place: usize,
+    end: usize,
+    before: usize,
+) -> Result<Script, Stop>
+    requires order { place < end }
+    requires within { end ≤ length lines.now }
     requires few { length lines.now < 2 ^ 31 }
-    requires kept { KeepsBelow (fault_at lines.now desc.now.words) at }
-    ensures { Section lines.now desc.now.words (length lines.now) (λ scripts. scripts.items ≡ script_at desc.now.defs lines.now at) result }
+    requires fewer { before ≤ 1048576 }
+    ensures read { let a = with_clocks lines.now desc.now.defs (map seen_consumer consumers.now) in
+        let says = driver name.now (option_map (λ p. p.now) path.entry) in
+        Reads (section_fault a before (section_from says place end)) place end
+        (λ script. script ∷ [] ≡ scripts_between a says (place + 1) end) result }
+    ensures few { IfOk result (λ script. length script.commands ≤ 65536) }
+    ensures fewer { IfOk result (λ script. before + length script.commands ≤ 1048576) }
 {
-    let name = read_name(alloc, lines, desc, at)?;
-    let commands = Listed::new(read_commands(alloc, lines, desc, at + 1)?);
-    let mut scripts = Vec::new(alloc);
-    scripts.push(Script { name, commands })?;
-    Ok(scripts)
+    let Some(names) = names_at(consumers, path) else {
+        return Err(stopped(place, Reason::UnknownName));
+    };
+    let commands = read_commands(alloc, lines, desc, names, place + 1, end, before)?;
+    let name = DriverName::new(String::from_str(alloc, name)?);
+    Ok(Script {
+        name,
+        commands: Listed::new(commands),
+    })
 }

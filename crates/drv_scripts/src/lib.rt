@@ -6,14 +6,19 @@
 //! their places in the whole text; `one_verdict` is the law that bytes have one verdict.
 #![tactic(auto)]
 
-mod bank_lines;
 mod bank_section;
 mod bundle;
-mod command_lines;
+mod command_line;
+mod command_section;
+mod contents;
 mod driver_section;
+mod judged;
 mod listed;
+mod named;
+mod policy_line;
 mod reading;
 mod rules;
+mod sections;
 mod stop;
 mod variables;
 mod verdict;

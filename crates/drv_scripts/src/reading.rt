@@ -1,6 +1,6 @@
 //! From bytes to a bundle.
 
-ghost use Rattle.std.specs.Prelude.{◌≡◌, ◌+◌, ◌-◌, ◌<◌, ◌≤◌, ◌^◌, [], true, length, IfOk, IfErr};
+ghost use Rattle.std.specs.Prelude.{◌≡◌, ◌+◌, ◌<◌, ◌≤◌, ◌^◌, [], length, map, IfOk, IfErr};
 ghost use Rattle.std.specs.List.{AllByRecursion};
 ghost use Rattle.std.specs.Str.Lines.{lines};
 ghost use Rattle.bundle_clocks.specs.Source.{text_of_lines};
@@ -8,45 +8,25 @@ ghost use Rattle.bundle_sections.specs.Said.{in_order};
 ghost use Rattle.bundle_sections.specs.Verdict.{IsSection, Tiles};
 ghost use Rattle.bundle_sections.specs.Verdict as section_verdict;
 ghost use Rattle.bundle_text.specs.Faults.{Tells};
-ghost use Rattle.bundle_text.specs.Firsts.{KeepsBelow};
-ghost use Rattle.bundle_text.specs.Lines.{line_at, header_from};
-ghost use Rattle.drv_scripts.specs.Form.{fault_at, clocks_end, words_end, begins_clocks};
+ghost use Rattle.bundle_text.specs.Lines.{header_from};
+ghost use Rattle.dts_clocks.specs.Assigned.{seen_assigned};
 ghost use Rattle.drv_scripts.specs.Placed.{IsSound};
-ghost use Rattle.drv_scripts.specs.Sections.{Section, IsPlaced, stop_told};
-ghost use Rattle.drv_scripts.specs.Spelled.{boot_of, scripts_of, bundle_of};
+ghost use Rattle.drv_scripts.specs.Spelled.{boot_of};
+ghost use Rattle.drv_scripts.specs.Steps.{IsPlaced, stop_told};
 ghost use Rattle.drv_scripts.specs.Verdict.{Accepts, PartsSpell, PartsRefuse, Refuses};
 
-use crate::bank_section::{check_bank_header, read_words};
 use crate::bundle::{Bundle, Script};
-use crate::driver_section::read_driver;
+use crate::contents::{Contents, read_contents};
 use crate::listed::Listed;
 use crate::rules::check_rules;
-use crate::stop::{Stop, not_yet};
+use crate::stop::Stop;
 use bundle_clocks::read_clocks_part;
 use bundle_sections::{Sections, read_sections};
 use bundle_text::{BundleFault, Reason, TextLines};
 use clk_base::{Act, ClockId, Command, ValidDesc};
-use clk_io::{MOST_BYTES, line_feeds};
+use clk_io::{MOST_BYTES, NoMemory, line_feeds};
+use dts_clocks::Assigned;
 use std::alloc::{AllocError, Global};
-
-// Whether a line is the header of the clocks and nothing else.
-#[tactic(auto, unfolding(crate::specs::Form::begins_clocks))]
-fn begins_clocks(line: &[u8]) -> bool
-    ensures { result ≡ begins_clocks line.now }
-{
-    line == b"%clocks".as_slice() || line == b"%dts".as_slice()
-}
-
-// Checks that the second line begins the clocks.
-fn check_clocks_header(lines: &TextLines, size: u32) -> Result<(), Stop>
-    requires { 1 < length lines.now }
-    ensures { Section lines.now size 2 (λ _. begins_clocks (line_at lines.now 1) ≡ true) result }
-{
-    if !begins_clocks(lines.line(1)) {
-        return Err(not_yet(1));
-    }
-    Ok(())
-}
 
 // Boot's commands: each clock is registered.
 fn boot_commands(alloc: Global, clocks: u32) -> Result<Vec<Command>, AllocError>
@@ -59,27 +39,6 @@ fn boot_commands(alloc: Global, clocks: u32) -> Result<Vec<Command>, AllocError>
             act: Act::Probe(ClockId(c)),
         })
         .collect(alloc)
-}
-
-// The driver, if a header stands at the place behind the words.
-fn read_scripts(
-    alloc: Global,
-    lines: &TextLines,
-    desc: &ValidDesc,
-    at: usize,
-) -> Result<Vec<Script>, Stop>
-    requires at { at ≡ words_end lines.now }
-    requires within { at ≤ length lines.now }
-    requires few { length lines.now < 2 ^ 31 }
-    requires low { 2 ≤ clocks_end lines.now }
-    requires kept { KeepsBelow (fault_at lines.now desc.now.words) at }
-    ensures { Section lines.now desc.now.words (length lines.now) (λ scripts. scripts.items ≡ scripts_of desc.now.defs lines.now) result }
-{
-    if at < lines.len() {
-        read_driver(alloc, lines, desc, at)
-    } else {
-        Ok(Vec::new(alloc))
-    }
 }
 
 // A bundle with these parts, and with nothing in the others.
@@ -117,34 +76,41 @@ fn plain_bundle(
     }
 }
 
-// The bundle of lines whose clocks are known, with their lines and those of nodes that assign clocks.
-fn read_form(
+// The lines of the nodes that assign clocks.
+fn assigned_lines(alloc: Global, assigned: &[Assigned]) -> Result<Vec<u32>, AllocError>
+    ensures { IfOk result (λ lines. lines.items ≡ map (λ a. a.line) assigned.now) }
+{
+    assigned.iter().map(|a| a.line).collect(alloc)
+}
+
+// The bundle of what the sections say.
+fn make_bundle(
     alloc: Global,
-    lines: &TextLines,
     desc: ValidDesc,
     clock_lines: Vec<u32>,
-    assigned: Vec<u32>,
-) -> Result<Bundle, Stop>
-    requires some { 1 < length lines.now }
-    requires bank { begins_clocks (line_at lines.now 1) ≡ true → clocks_end lines.now < length lines.now }
-    requires few { length lines.now < 2 ^ 31 }
-    ensures { Section lines.now desc.words (length lines.now)
-        (λ b. (b ≡ bundle_of lines.now desc.words (record { defs = desc.defs; lines = clock_lines.items; assigned = assigned.items }))
-        × (length b.words ≡ desc.words)) result }
+    assigned: &[Assigned],
+    contents: Contents,
+) -> Result<Bundle, NoMemory>
+    ensures { IfOk result (λ b. b ≡ record {
+      desc = desc;
+      clock_lines = clock_lines.items;
+      assigned_lines = map (λ a. a.line) (map seen_assigned assigned.now);
+      words = contents.words.items;
+      locks = [];
+      late = [];
+      boot = boot_of (length desc.defs);
+      drivers = contents.drivers.items;
+      order = [];
+    }) }
 {
-    let size = desc.words();
-    check_clocks_header(lines, size)?;
-    let end = lines.next_header(2);
-    check_bank_header(alloc, lines, end, size)?;
-    let words_end = lines.next_header(end + 1);
-    let words = read_words(alloc, lines, end + 1, words_end, size)?;
-    let drivers = read_scripts(alloc, lines, &desc, words_end)?;
     let boot = boot_commands(alloc, desc.len() as u32)?;
+    let assigned = assigned_lines(alloc, assigned)?;
+    let Contents { words, drivers } = contents;
     Ok(plain_bundle(alloc, desc, (clock_lines, assigned), words, boot, drivers))
 }
 
 // The fault of a line at its place.
-fn form_stop(stop: Stop) -> BundleFault
+fn line_stop(stop: Stop) -> BundleFault
     requires { IsPlaced stop }
     ensures { result ≡ stop_told stop }
 {
@@ -167,16 +133,18 @@ fn read_parts(alloc: Global, lines: &TextLines, sections: &Sections) -> Result<B
 {
     let clocks = read_clocks_part(alloc, lines, sections.clocks())?;
     let desc = check_rules(alloc, clocks.desc, &clocks.lines, sections.bank().words)?;
-    match read_form(alloc, lines, desc, clocks.lines, clocks.assigned) {
-        Ok(bundle) => Ok(bundle),
-        Err(stop) => Err(form_stop(stop)),
+    match read_contents(alloc, lines, &desc, &clocks.consumers, sections) {
+        Ok(contents) => {
+            let bundle = make_bundle(alloc, desc, clocks.lines, &clocks.assigned, contents)?;
+            Ok(bundle)
+        }
+        Err(stop) => Err(line_stop(stop)),
     }
 }
 
 /// Reads a bundle, phase by phase: too many bytes (line 0); the sections that its lines stand in; the
-/// clocks, from clock lines or a device tree source; the rules of a description. So far the other
-/// sections have one form, with single spaces and without comments, and the first line without it is
-/// refused with `NotYet`.
+/// clocks, from clock lines or a device tree source; the rules of a description; the other lines, one
+/// section behind another. So far `%lock`, `%late` and `%order` are refused with `NotYet`.
 pub fn read_bundle(alloc: Global, bytes: &[u8]) -> Result<Bundle, BundleFault>
     // What is read is the bundle that the bytes spell.
     ensures accepted { IfOk result (Accepts bytes.now) }

@@ -40,12 +40,9 @@ impl<T: Drop> From<AllocFailed<T>> for Stop {
     }
 }
 
-/// The line at this place breaks the form that is read so far.
-pub(crate) fn not_yet(place: usize) -> Stop
-    ensures { result ≡ Stop.At place Reason.NotYet }
+/// The line at this place has this fault.
+pub(crate) fn stopped(place: usize, reason: Reason) -> Stop
+    ensures { result ≡ Stop.At place reason }
 {
-    Stop::At {
-        place,
-        reason: Reason::NotYet,
-    }
+    Stop::At { place, reason }
 }

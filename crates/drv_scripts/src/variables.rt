@@ -1,8 +1,8 @@
 //! The variables of a driver.
 
-ghost use Rattle.std.specs.Prelude.{◌≡◌, ◌<◌, ◌≤◌, [], length, position, Some, IfOk, OnOk};
+ghost use Rattle.std.specs.Prelude.{◌≡◌, ◌<◌, ◌≤◌, [], length, position, Some, IfOk, OnOk, is_some};
 ghost use Rattle.std.specs.Str.{bytes_eq};
-ghost use Rattle.drv_scripts.specs.CommandLines.{with_variable};
+ghost use Rattle.drv_scripts.specs.Commands.{with_variable};
 
 use clk_io::NoMemory;
 use indexmap::IndexSet;
@@ -43,6 +43,14 @@ impl<'a> Variables<'a> {
             None => None,
             Some(place) => Some(place as u32),
         }
+    }
+
+    /// Whether a variable is one of them.
+    pub(crate) fn has(&self, var: &'a str) -> bool
+        requires { length self.now ≤ 65536 }
+        ensures { result ≡ is_some (position (bytes_eq var.now) self.now) }
+    {
+        self.number(var).is_some()
     }
 
     /// The number of a variable, which is added if it is new.

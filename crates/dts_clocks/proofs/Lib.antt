@@ -14,3 +14,4 @@ pub mod Uplines
 pub mod Verdicts
 pub mod Places
 pub mod Lasting
+pub mod Within

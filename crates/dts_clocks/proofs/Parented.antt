@@ -40,18 +40,18 @@ use Rattle.dts_clocks.proofs.Looks.{binding_at-passed, names_held}
 use Rattle.dts_clocks.proofs.Naming.{named_null, named_whole, named_begun, named_unfinished, named_lacking}
 
 -- two tests that pass
-both_pass : (a b : Bool) → a ≡ true → b ≡ true → (a && b) ≡ true
+pub both_pass : (a b : Bool) → a ≡ true → b ≡ true → (a && b) ≡ true
 both_pass a b e f = rw (e, f) refl
 
-passes_both : (a b : Bool) → (a && b) ≡ true → (a ≡ true) × (b ≡ true)
+pub passes_both : (a b : Bool) → (a && b) ≡ true → (a ≡ true) × (b ≡ true)
 passes_both true b e = (refl, e)
 passes_both false b e = absurd (cc)
 
 -- a list that passes, in parts
-all_append : {X : Type 0} (p : X → Bool) (xs ys : List X) → list_all p xs ≡ true → list_all p ys ≡ true → list_all p (xs ++ ys) ≡ true
+pub all_append : {X : Type 0} (p : X → Bool) (xs ys : List X) → list_all p xs ≡ true → list_all p ys ≡ true → list_all p (xs ++ ys) ≡ true
 all_append p xs ys a b = list_all-append p xs ys ∙ both_pass (list_all p xs) (list_all p ys) a b
 
-all_joined : {X : Type 0} (f : ℕ → List X) (p : X → Bool) (n : ℕ) → ((k : ℕ) → k < n → list_all p (f k) ≡ true) → list_all p (joined f n) ≡ true
+pub all_joined : {X : Type 0} (f : ℕ → List X) (p : X → Bool) (n : ℕ) → ((k : ℕ) → k < n → list_all p (f k) ≡ true) → list_all p (joined f n) ≡ true
 unfolding joined
 all_joined f p zero each = refl
 all_joined f p (suc n) each = all_append p (joined f n) (f n) (all_joined f p n (λ k low. each k (omega arith))) (each n (omega arith))
@@ -115,7 +115,7 @@ nothing_below : (nodes : List SeenNode) → Below (length (clocks_of nodes)) (cl
 unfolding clocks_named
 nothing_below nodes clocks e = subst (λ cs. list_all (is_below (length (clocks_of nodes))) cs ≡ true) (same_Some [] clocks e) refl
 
-named_below : (nodes : List SeenNode) (cells : List Cell) → Below (length (clocks_of nodes)) (clocks_named nodes cells)
+pub named_below : (nodes : List SeenNode) (cells : List Cell) → Below (length (clocks_of nodes)) (clocks_named nodes cells)
 named_below nodes [] = nothing_below nodes
 named_below nodes (cell ∷ []) = first_below nodes cell [] (reference nodes cell) refl (nothing_below nodes) (λ p e. none_below (length (clocks_of nodes)) (clocks_named nodes (cell ∷ [])) (named_unfinished nodes cell p e))
 named_below nodes (cell ∷ next ∷ rest) = first_below nodes cell (next ∷ rest) (reference nodes cell) refl (named_below nodes (next ∷ rest)) (λ p e. begun_below nodes cell next rest p e (named_below nodes rest))
@@ -268,7 +268,7 @@ pub names_defined : (nodes : List SeenNode) (n : ℕ) → KeepsBelow (second_fau
 unfolding names_before
 names_defined nodes n kept = map_joined (λ (d : ClockDef). d.name) (λ (c : Held). c.clock.name) (defs_at nodes) (clocks_at nodes) n (λ k low. (whole nodes k (kept k low)).0)
 
-count_defined : (nodes : List SeenNode) (n : ℕ) → KeepsBelow (second_fault nodes) n → length (joined (clocks_at nodes) n) ≡ length (joined (defs_at nodes) n)
+pub count_defined : (nodes : List SeenNode) (n : ℕ) → KeepsBelow (second_fault nodes) n → length (joined (clocks_at nodes) n) ≡ length (joined (defs_at nodes) n)
 unfolding names_before
 count_defined nodes n kept =
     sym (length-map (joined (clocks_at nodes) n) (λ (c : Held). c.clock.name)) ∙ (sym (ap length (names_defined nodes n kept)) ∙ length-map (joined (defs_at nodes) n) (λ (d : ClockDef). d.name))

@@ -1,7 +1,7 @@
 //! Bundles that are read whole, and those that no line of text can show.
 
 use bundle_text::{BundleFault, Reason};
-use clk_base::{Act, ClockId, Command};
+use clk_base::{Act, ClockId, Command, Policy};
 use drv_scripts::{Bundle, DriverName, Listed, one_verdict, read_bundle};
 use std::process::Abort;
 use std::test::Fail;
@@ -85,6 +85,71 @@ fn each_word_has_its_act(rt: HostRuntime) -> Result<(), Fail> {
             ("rate", Act::GetRate),
             ("parent", Act::GetParent),
             ("put", Act::Put),
+            ("lock", Act::ExclusiveGet),
+            ("unlock", Act::ExclusivePut),
+        ],
+    )
+}
+
+// Checks the command of each line behind a `get` of the only clock.
+fn check_lines<R: Abort + AllocGlobal>(
+    rt: &R,
+    rows: &[(&str, Option<u32>, Act)],
+) -> Result<(), Fail> {
+    for (line, var, act) in rows {
+        let text = format!(in rt.alloc();
+            "%bundle 1\n%clocks\nfixed f 5\n%regs 1\n%driver A\nget u f\n{line}\n"
+        )?;
+        let bundle = read_bundle(rt.alloc(), text.as_bytes())?;
+        let last = Command {
+            line: 7,
+            var: *var,
+            act: *act,
+        };
+        let get = command(6, 0, Act::Get(Some(ClockId(0))));
+        check_driver(rt, &bundle, "A", get, last);
+    }
+    Ok(())
+}
+
+#[test]
+fn each_command_has_its_numbers_and_names(rt: HostRuntime) -> Result<(), Fail> {
+    let all = Policy::VetoAll;
+    check_lines(
+        &rt,
+        &[
+            ("round u 0x1F", Some(0), Act::RoundRate(31)),
+            (
+                "set u 18446744073709551615",
+                Some(0),
+                Act::SetRate(u64::MAX),
+            ),
+            ("\tsetx  u\t007 ", Some(0), Act::SetRateExclusive(7)),
+            ("range u 1 0x2", Some(0), Act::SetRange(1, 2)),
+            ("reparent u f", Some(0), Act::SetParent(ClockId(0))),
+            (
+                "notify u 4294967295 -2147483648 accept",
+                Some(0),
+                Act::NotifierAdd(u32::MAX, i32::MIN, Policy::Accept),
+            ),
+            (
+                "notify u 0 2147483647 veto",
+                Some(0),
+                Act::NotifierAdd(0, i32::MAX, all),
+            ),
+            (
+                "notify u 1 -7 above 5",
+                Some(0),
+                Act::NotifierAdd(1, -7, Policy::VetoAbove(5)),
+            ),
+            (
+                "notify u 1 7 below 5",
+                Some(0),
+                Act::NotifierAdd(1, 7, Policy::VetoBelow(5)),
+            ),
+            ("unnotify u 0x1", Some(0), Act::NotifierRemove(1)),
+            ("probe f", None, Act::Probe(ClockId(0))),
+            ("sweep", None, Act::Sweep),
         ],
     )
 }

@@ -1,8 +1,22 @@
-use Rattle.std.proofs.Common.{◌∙◌, ap, subst, arith}
-use Rattle.bundle_clocks.proofs.Counts.{lines_count}
+use Rattle.std.proofs.Common.{◌≡◌, ◌∙◌, List, ap, sym, subst, map, length, arith}
+use Rattle.clk_base.specs.Checked.{Checked}
 use Rattle.clk_base.specs.Valid.{IsValid}
-use Rattle.drv_scripts.proofs.Bundles.{parts_sound}
-use Rattle.drv_scripts.proofs.Divided.{parts_lie, clocks_within}
+use Rattle.bundle_clocks.specs.Said.{said_clocks}
+use Rattle.bundle_clocks.specs.Verdict as clock_verdict
+use Rattle.bundle_clocks.proofs.Counts.{lines_count}
+use Rattle.bundle_clocks.proofs.Within.{consumers_named}
+use Rattle.bundle_sections.specs.declared.section.BankSection.{BankSection}
+use Rattle.bundle_sections.specs.declared.section.ClockSection.{ClockSection}
+use Rattle.dts_clocks.specs.declared.loaded.Assigned.{Assigned}
+use Rattle.dts_clocks.specs.declared.loaded.Consumer.{Consumer}
+use Rattle.dts_clocks.specs.Assigned.{SeenAssigned, seen_assigned}
+use Rattle.dts_clocks.specs.Consumers.{seen_consumer}
+use Rattle.drv_scripts.specs.Placed.{IsSound}
+use Rattle.drv_scripts.specs.Sections.{with_clocks}
+use Rattle.drv_scripts.specs.Spelled.{boot_of}
+use Rattle.drv_scripts.proofs.Bundles.{made, bundle_is}
+use Rattle.drv_scripts.proofs.Divided.{parts_lie}
+use Rattle.drv_scripts.proofs.Made.{made_sound, content_of}
 use Rattle.drv_scripts.proofs.reading.read_parts.Goals as goal
 
 pub read_clocks_part-requires-clause-within : goal.read_clocks_part-requires-clause-within
@@ -10,21 +24,43 @@ read_clocks_part-requires-clause-within c =
     let lie = parts_lie c.args.lines.now c.args.sections.now c.requires.tiled c.requires.each in
     omega (arith, lie.within, ap (λ s. s.end) c.clocks.ensures)
 
-pub read_form-requires-clause-some : goal.read_form-requires-clause-some
-read_form-requires-clause-some c =
-    let lie = parts_lie c.args.lines.now c.args.sections.now c.requires.tiled c.requires.each in
-    omega (arith, lie.first, lie.clocks, lie.within)
-
-pub read_form-requires-clause-bank : goal.read_form-requires-clause-bank
-read_form-requires-clause-bank c = clocks_within c.args.lines.now c.args.sections.now (parts_lie c.args.lines.now c.args.sections.now c.requires.tiled c.requires.each)
-
-pub returns-in-Ok-clause-sound : goal.returns-in-Ok-clause-sound
-returns-in-Ok-clause-sound c =
+pub returns-in_ok-bundle-in-Ok-clause-spelled : goal.returns-in_ok-bundle-in-Ok-clause-spelled
+returns-in_ok-bundle-in-Ok-clause-spelled c =
     let ls = c.args.lines.now in
-    let lie = parts_lie ls c.args.sections.now c.requires.tiled c.requires.each in
-    let count = lines_count _ ls _ _ c.in_ok-clocks.ensures.said in
-    let read = c.in-Ok.ensures in
-    let size = ap (λ s. s.words) c.bank.ensures in
-    let same = c.in_ok-desc.ensures.same ∙ ap (λ words. record { defs = c.in_ok-clocks.clocks.desc; words = words }) size in
-    let valid = subst (λ words. IsValid words c.in_ok-clocks.clocks.desc) size c.in_ok-desc.ensures.valid in
-    parts_sound ls c.args.sections.now c.in_ok-desc.desc _ _ _ c.in-Ok.bundle lie same valid count read.0 read.1.0 read.1.1
+    let parts = c.args.sections.now in
+    let clocks = c.in_ok-clocks.clocks in
+    let said = said_clocks clocks in
+    let desc = c.in_ok-desc.desc in
+    let contents = c.in-Ok.contents in
+    let same = ap (λ (d : Checked). with_clocks ls d.defs (map seen_consumer c.deref-2.result.now)) c.in_ok-desc.ensures.same ∙ ap (λ (xs : List Consumer). with_clocks ls clocks.desc (map seen_consumer xs)) c.deref-2.ensures.value in
+    let read = content_of ls parts said (with_clocks ls desc.defs (map seen_consumer c.deref-2.result.now)) contents.words.items contents.drivers.items same c.in-Ok.ensures.read c.in-Ok.ensures.size c.in-Ok.ensures.few c.in-Ok.ensures.fewer in
+    let checked = c.in_ok-desc.ensures.same ∙ ap (λ (b : BankSection). record { defs = clocks.desc; words = b.words }) c.bank.ensures in
+    let valid = subst (λ (b : BankSection). IsValid b.words clocks.desc) c.bank.ensures c.in_ok-desc.ensures.valid in
+    record {
+      said = said;
+      says = subst (λ (s : ClockSection). clock_verdict.Says ls s said) c.clocks.ensures c.in_ok-clocks.ensures.said;
+      rules = valid.rules;
+      kept = read.0;
+      content = c.in_ok-bundle-in-Ok.ensures
+          ∙ (ap (λ (xs : List Assigned). made desc clocks.lines.items (map (λ (a : SeenAssigned). a.line) (map seen_assigned xs)) contents.words.items (boot_of (length desc.defs)) contents.drivers.items) c.deref-in-Ok.ensures.value
+          ∙ bundle_is ls parts said desc contents.words.items contents.drivers.items checked read.1.words_are read.1.drivers_are);
+    }
+
+pub returns-in_ok-bundle-in-Ok-clause-sound : goal.returns-in_ok-bundle-in-Ok-clause-sound
+returns-in_ok-bundle-in-Ok-clause-sound c =
+    let ls = c.args.lines.now in
+    let parts = c.args.sections.now in
+    let clocks = c.in_ok-clocks.clocks in
+    let said = said_clocks clocks in
+    let desc = c.in_ok-desc.desc in
+    let contents = c.in-Ok.contents in
+    let same = ap (λ (d : Checked). with_clocks ls d.defs (map seen_consumer c.deref-2.result.now)) c.in_ok-desc.ensures.same ∙ ap (λ (xs : List Consumer). with_clocks ls clocks.desc (map seen_consumer xs)) c.deref-2.ensures.value in
+    let read = content_of ls parts said (with_clocks ls desc.defs (map seen_consumer c.deref-2.result.now)) contents.words.items contents.drivers.items same c.in-Ok.ensures.read c.in-Ok.ensures.size c.in-Ok.ensures.few c.in-Ok.ensures.fewer in
+    let checked = c.in_ok-desc.ensures.same ∙ ap (λ (b : BankSection). record { defs = clocks.desc; words = b.words }) c.bank.ensures in
+    let valid = subst (λ (b : BankSection). IsValid b.words clocks.desc) c.bank.ensures c.in_ok-desc.ensures.valid in
+    let content = c.in_ok-bundle-in-Ok.ensures
+    ∙ (ap (λ (xs : List Assigned). made desc clocks.lines.items (map (λ (a : SeenAssigned). a.line) (map seen_assigned xs)) contents.words.items (boot_of (length desc.defs)) contents.drivers.items) c.deref-in-Ok.ensures.value
+    ∙ bundle_is ls parts said desc contents.words.items contents.drivers.items checked read.1.words_are read.1.drivers_are) in
+    subst IsSound (sym content)
+    (made_sound ls parts said contents.words.items contents.drivers.items (parts_lie ls parts c.requires.tiled c.requires.each) c.requires.accepted valid (lines_count _ ls _ _ c.in_ok-clocks.ensures.said)
+    (consumers_named _ ls _ _ c.in_ok-clocks.ensures.said) read.1)

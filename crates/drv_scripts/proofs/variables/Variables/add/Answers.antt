@@ -2,7 +2,7 @@ use Rattle.std.proofs.Common.{◌∙◌, ap, sym, Some}
 use Rattle.std.specs.List.{position}
 use Rattle.std.specs.Str.{bytes_eq}
 use Rattle.bundle_text.specs.Words.{texts}
-use Rattle.drv_scripts.specs.CommandLines.{with_variable}
+use Rattle.drv_scripts.specs.Commands.{with_variable}
 use Rattle.bundle_text.proofs.Mapped.{position_or_len-texts}
 use Rattle.drv_scripts.proofs.Numbered.{position-with, texts-with}
 use Rattle.drv_scripts.proofs.variables.Variables.add.Goals as goal
