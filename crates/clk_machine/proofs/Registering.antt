@@ -312,7 +312,7 @@ becomes_registered old c tree' counts' whole quiet now plain = record {
   stands = λ s stands sound.
       let plain_s : is_critical s.defs c ≡ false = ap (λ (ds : Description). is_critical ds c) stands.defs ∙ plain in
       let after = plain_stands old c tree' counts' s (register s c) now plain_s (counts_stand old s whole stands) (state_attached old c tree' counts' s now stands)
-          (rows_stand old c tree' counts' s now stands) in
+      (rows_stand old c tree' counts' s now stands) in
       subst (λ (t : State). Stands (with_registered old old.window tree' counts') (record t { spent = s.spent + 1 }))
       (sym (settled-still s (register s c) (λ d. sym (active_linked old c tree' counts' s d whole now stands) ∙ (tells_holds counts' (register s c) now.keeps after d).active)))
       (registered_stands old c old.window tree' counts' counts' s s.regs now stands stands.regs);

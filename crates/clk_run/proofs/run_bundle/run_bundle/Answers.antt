@@ -21,6 +21,8 @@ use Rattle.clk_run.proofs.Fitness.{earlier_all}
 use Rattle.clk_run.proofs.Following.{turns_many}
 use Rattle.clk_run.proofs.Readiness.{few_credits, drivers_keep, drivers_few, commands_few}
 use Rattle.clk_run.proofs.Leaving.{text_of, bank_back, same_behind, left_by}
+use Rattle.std.proofs.lemmas.Result.{err_from_is_err_and}
+use Rattle.clk_io.specs.Counts.{RisesAtWrite}
 use Rattle.clk_run.proofs.run_bundle.run_bundle.Goals as goal
 use Rattle.clk_model.specs.Begin.{most_credits}
 
@@ -138,4 +140,6 @@ pub returns-in_err-registers-clause-counts : goal.returns-in_err-registers-claus
 returns-in_err-registers-clause-counts g c = search (rules, c.from_residual-in_err-registers.ensures)
 
 pub returns-in_err-print_run-clause-counts : goal.returns-in_err-print_run-clause-counts
-returns-in_err-print_run-clause-counts g c = search (rules, c.from_residual-in_err-print_run.ensures, c.in_err-print_run.ensures.counts)
+returns-in_err-print_run-clause-counts g c =
+    let p = err_from_is_err_and c.from_residual-in_err-print_run.result c.from_residual-in_err-print_run.ensures.1 in
+    rw p.1 (subst (RisesAtWrite (g.K.Sink.faults c.args.out.now) (g.K.Sink.faults c.print_run.new.out)) (sym p.2) c.in_err-print_run.ensures.counts)
