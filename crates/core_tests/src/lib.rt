@@ -15,11 +15,7 @@ mod cores;
 #[cfg(test)]
 mod descriptions;
 #[cfg(test)]
-mod entries;
-#[cfg(test)]
 mod kinds;
-#[cfg(test)]
-mod summaries;
 #[cfg(test)]
 mod texts;
 #[cfg(test)]
