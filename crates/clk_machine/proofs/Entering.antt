@@ -79,7 +79,7 @@ going_append going [] e = refl
 going_append going (f ∷ entries) e = going_append (if is_enable_tier f.event then going else is_going f.turn) entries e
 
 -- and it is the driver's of the last event that isn't of the enable tier
-driver_append : (d : ℕ) (entries : List Entry) (e : Entry) → driver_after d (entries ++ e ∷ []) ≡ (if is_enable_tier e.event then driver_after d entries else e.driver)
+pub driver_append : (d : ℕ) (entries : List Entry) (e : Entry) → driver_after d (entries ++ e ∷ []) ≡ (if is_enable_tier e.event then driver_after d entries else e.driver)
 driver_append d [] e = refl
 driver_append d (f ∷ entries) e = driver_append (if is_enable_tier f.event then d else f.driver) entries e
 

@@ -56,25 +56,25 @@ option_nothing : {X : Type 0} (o : Option X) (xs : List X) → cons_option o xs 
 option_nothing None xs e = (refl, e)
 option_nothing (Some x) xs e = absurd cc
 
-commands_built : (defs : Description) (commands : List Command) → filter_map (unbuilt_command defs) commands ≡ [] → are_built defs commands ≡ true
+commands_built : (commands : List Command) → filter_map unbuilt_command commands ≡ [] → are_built commands ≡ true
 unfolding unbuilt_command
-commands_built defs [] e = refl
-commands_built defs (c ∷ commands) e =
-    let none = option_nothing (unbuilt_command defs c) (filter_map (unbuilt_command defs) commands) e in
-    and_from (is_built_act defs c.act) _ (true_from_none (is_built_act defs c.act) c.line none.0) (commands_built defs commands none.1)
+commands_built [] e = refl
+commands_built (c ∷ commands) e =
+    let none = option_nothing (unbuilt_command c) (filter_map unbuilt_command commands) e in
+    and_from (is_built_act c.act) _ (true_from_none (is_built_act c.act) c.line none.0) (commands_built commands none.1)
 
-drivers_built : (defs : Description) (drivers : List Script) → unbuilt_commands defs drivers ≡ [] → AllByRecursion (λ (s : Script). are_built defs s.commands ≡ true) drivers
-drivers_built defs [] e = tt
-drivers_built defs (s ∷ drivers) e = (
-  commands_built defs s.commands (nothing (filter_map (unbuilt_command defs) s.commands) (unbuilt_commands defs drivers) e),
-  drivers_built defs drivers (nothing_behind (filter_map (unbuilt_command defs) s.commands) (unbuilt_commands defs drivers) e),
+drivers_built : (drivers : List Script) → unbuilt_commands drivers ≡ [] → AllByRecursion (λ (s : Script). are_built s.commands ≡ true) drivers
+drivers_built [] e = tt
+drivers_built (s ∷ drivers) e = (
+  commands_built s.commands (nothing (filter_map unbuilt_command s.commands) (unbuilt_commands drivers) e),
+  drivers_built drivers (nothing_behind (filter_map unbuilt_command s.commands) (unbuilt_commands drivers) e),
 )
 
 -- and each command
-pub built_all : (b : Bundle) → unbuilt_line b ≡ None → AllByRecursion (λ (s : Script). are_built b.desc.defs s.commands ≡ true) b.drivers
+pub built_all : (b : Bundle) → unbuilt_line b ≡ None → AllByRecursion (λ (s : Script). are_built s.commands ≡ true) b.drivers
 unfolding unbuilt_lines
 built_all b e =
-    drivers_built b.desc.defs b.drivers
+    drivers_built b.drivers
     (nothing_behind b.assigned_lines _ (nothing_behind (said_from (unfit_line b.desc.defs b.clock_lines) 0 (length b.desc.defs)) _ (least_none _ e)))
 
 -- the possible parents of clocks that can be run are earlier clocks

@@ -1,53 +1,49 @@
 -- Journals in which several drivers have their calls: one driver after the other.
-use Rattle.std.proofs.Common.{◌≡◌, ℕ, suc, ◌+◌, ◌<◌, ◌≤◌, true, false, not, List, [], ◌∷◌, ◌++◌, None, refl, sym, ap, subst, ◌∙◌, arith, length, nat_lt, nat_eq, append_assoc}
+use Rattle.std.proofs.Common.{◌≡◌, ℕ, suc, ◌+◌, ◌<◌, ◌≤◌, Bool, true, false, not, List, [], ◌∷◌, ◌++◌, None, refl, sym, ap, subst, ◌∙◌, arith, length, nat_lt, nat_eq, append_assoc}
 use Rattle.std.proofs.lemmas.Bool.Decides.{nat_tests}
 use Rattle.std.proofs.lemmas.List.{append-nil}
 use Rattle.std.specs.List.{list_all}
+use Rattle.std.specs.Prelude.{if◌then◌else◌}
 use Rattle.clk_base.specs.declared.command.Answer.{Answer}
 use Rattle.clk_base.specs.declared.command.Command.{Command}
 use Rattle.clk_base.specs.declared.event.Entry.{Entry}
-use Rattle.clk_base.specs.declared.event.Turn.{Turn}
 use Rattle.clk_model.specs.Tier.{is_step}
-use Rattle.clk_model.specs.Journal.{Answered, is_paid, own, calls_of, is_going, one_after_the_other}
+use Rattle.clk_model.specs.Journal.{Answered, own, calls_of, is_going, one_after_the_other}
 use Rattle.clk_model.specs.Follows.{Variables, no_handles, Follows, FollowsFrom}
 use Rattle.clk_model.proofs.CallLaws.{own-append}
 use Rattle.clk_machine.specs.Run.{Run}
-use Rattle.clk_run.specs.Scripts.{is_answer, is_answered, GoesThrough}
+use Rattle.clk_run.specs.Scripts.{are_calls, GoesThrough}
 use Rattle.clk_run.specs.Runs.{FollowAll, are_among, TakeTurns}
-use Rattle.clk_run.proofs.Going.{list_all-append, answered_paid, paid_no_step, reply_of}
+use Rattle.clk_run.proofs.WholeCalls.{next_of}
+use Rattle.clk_run.proofs.Going.{list_all-append}
 use Rattle.clk_model.proofs.Members.{both_left, both_right}
 use Rattle.std.proofs.lemmas.Bool.{and_from}
 
 -- ---- entries of one driver
 
-pub driver_of : (d : ℕ) (e : Entry) → is_answered d e ≡ true → e.driver ≡ d
-driver_of d e h =
-    let same = both_left (nat_eq e.driver d) (is_paid e.event) (both_left _ (is_answer e.turn) h) in
-    grind (arith, nat_tests)
-
 -- all are its own
-own_all : (d : ℕ) (es : List Entry) → list_all (is_answered d) es ≡ true → own es d ≡ es
-own_all d [] h = refl
-own_all d (e ∷ es) h =
-    let same = both_left (nat_eq e.driver d) (is_paid e.event) (both_left _ (is_answer e.turn) (both_left (is_answered d e) _ h)) in
-    rw same (ap (λ (xs : List Entry). e ∷ xs) (own_all d es (both_right _ _ h)))
+own_all : (d : ℕ) (going : Bool) (es : List Entry) → are_calls d going es ≡ true → own es d ≡ es
+own_all d going [] h = refl
+own_all d going (e ∷ es) h =
+    let is = next_of d going e es h in
+    let same = is.test in
+    rw same (ap (λ (xs : List Entry). e ∷ xs) (own_all d (is_going e.turn) es is.behind))
 
 -- and none is another's
-own_none : (d n : ℕ) (es : List Entry) → n < d → list_all (is_answered d) es ≡ true → own es n ≡ []
-own_none d n [] less h = refl
-own_none d n (e ∷ es) less h =
-    let is = driver_of d e (both_left (is_answered d e) _ h) in
+pub own_none : (d n : ℕ) (going : Bool) (es : List Entry) → n < d → are_calls d going es ≡ true → own es n ≡ []
+own_none d n going [] less h = refl
+own_none d n going (e ∷ es) less h =
+    let next = next_of d going e es h in
+    let is = next.driver in
     let other : nat_eq e.driver n ≡ false = grind (arith, nat_tests) in
-    rw other (own_none d n es less (both_right _ _ h))
+    rw other (own_none d n (is_going e.turn) es less next.behind)
 
--- entries that are answered at once are one call after the other
-answered_alone : (d : ℕ) (es : List Entry) → list_all (is_answered d) es ≡ true → one_after_the_other false es ≡ true
-answered_alone d [] h = refl
-answered_alone d (e ∷ es) h =
-    let mine = both_left (is_answered d e) (list_all (is_answered d) es) h in
-    let said = reply_of e.turn (both_right _ (is_answer e.turn) mine) in
-    and_from (not (is_step e.event)) (one_after_the_other (is_going e.turn) es) (ap not (sym (paid_no_step e.event (answered_paid d e mine))))
-    (ap (λ (t : Turn). one_after_the_other (is_going t) es) said.1 ∙ answered_alone d es (both_right (is_answered d e) _ h))
+-- whole calls are one after the other
+calls_alone : (d : ℕ) (going : Bool) (es : List Entry) → are_calls d going es ≡ true → one_after_the_other going es ≡ true
+calls_alone d going [] h = refl
+calls_alone d going (e ∷ es) h =
+    let is = next_of d going e es h in
+    and_from (if going then is_step e.event else not (is_step e.event)) (one_after_the_other (is_going e.turn) es) is.kind (calls_alone d (is_going e.turn) es is.behind)
 
 -- a driver that was not among those of a journal has no entry there
 own_before : (d : ℕ) (journal : List Entry) → are_among d journal ≡ true → own journal d ≡ []
@@ -63,11 +59,12 @@ among_more d d' (e ∷ es) least h =
     let less = both_left (nat_lt e.driver d) _ h in
     and_from (nat_lt e.driver d') _ (grind (arith, nat_tests)) (among_more d d' es least (both_right _ _ h))
 
-among_own : (d : ℕ) (es : List Entry) → list_all (is_answered d) es ≡ true → are_among (d + 1) es ≡ true
-among_own d [] h = refl
-among_own d (e ∷ es) h =
-    let is = driver_of d e (both_left (is_answered d e) _ h) in
-    and_from (nat_lt e.driver (d + 1)) _ (grind (arith, nat_tests)) (among_own d es (both_right _ _ h))
+among_own : (d : ℕ) (going : Bool) (es : List Entry) → are_calls d going es ≡ true → are_among (d + 1) es ≡ true
+among_own d going [] h = refl
+among_own d going (e ∷ es) h =
+    let next = next_of d going e es h in
+    let is = next.driver in
+    and_from (nat_lt e.driver (d + 1)) _ (grind (arith, nat_tests)) (among_own d (is_going e.turn) es next.behind)
 
 -- ---- one turn more
 
@@ -80,7 +77,7 @@ goes_follows old new d held' commands answers goes =
     (subst (λ (cs : List Command). FollowsFrom (no_handles commands) cs (calls_of goes.entries ++ []) (answers ++ [])) (append-nil commands) (goes.follows [] [] [] tt)))
 
 turn_more : (n : ℕ) (scripts : List (List Command)) (answers : List (List Answer)) (journal es : List Entry) (commands : List Command) (own' : List Answer)
-    → TakeTurns n scripts answers journal → list_all (is_answered (n + length scripts)) es ≡ true → Follows commands (calls_of es) own'
+    → TakeTurns n scripts answers journal → are_calls (n + length scripts) false es ≡ true → Follows commands (calls_of es) own'
     → TakeTurns n (scripts ++ commands ∷ []) (answers ++ own' ∷ []) (journal ++ es)
 turn_more n [] [] journal es commands own' none mine follow =
     let this : n + 0 ≡ n = omega arith in
@@ -88,7 +85,7 @@ turn_more n [] [] journal es commands own' none mine follow =
       entries = es;
       rest = [];
       split = ap (λ (j : List Entry). j ++ es) none ∙ sym (append-nil es);
-      own = subst (λ (d : ℕ). list_all (is_answered d) es ≡ true) this mine;
+      own = subst (λ (d : ℕ). are_calls d false es ≡ true) this mine;
       follow = follow;
       later = refl;
     }
@@ -102,7 +99,7 @@ turn_more n (c ∷ scripts) (a ∷ answers) journal es commands own' turns mine 
       split = ap (λ (j : List Entry). j ++ es) turns.split ∙ append_assoc turns.entries turns.rest es;
       own = turns.own;
       follow = turns.follow;
-      later = turn_more (n + 1) scripts answers turns.rest es commands own' turns.later (subst (λ (d : ℕ). list_all (is_answered d) es ≡ true) this mine) follow;
+      later = turn_more (n + 1) scripts answers turns.rest es commands own' turns.later (subst (λ (d : ℕ). are_calls d false es ≡ true) this mine) follow;
     }
 
 -- after a driver's commands it has had its turn behind those before it
@@ -112,7 +109,7 @@ pub turn_next : (old new : Run) (d : ℕ) (held' : Variables) (scripts : List (L
 turn_next old new d held' scripts answers commands own' is turns goes =
     let this : d ≡ 0 + length scripts = omega arith in
     subst (TakeTurns 0 (scripts ++ commands ∷ []) (answers ++ own' ∷ [])) (sym goes.journal)
-    (turn_more 0 scripts answers old.journal goes.entries commands own' turns (subst (λ (n : ℕ). list_all (is_answered n) goes.entries ≡ true) this goes.own)
+    (turn_more 0 scripts answers old.journal goes.entries commands own' turns (subst (λ (n : ℕ). are_calls n false goes.entries ≡ true) this goes.own)
     (goes_follows old new d held' commands own' goes))
 
 -- ---- what turns mean
@@ -123,7 +120,7 @@ none_earlier n d [] [] journal less none = ap (λ (j : List Entry). own j d) non
 none_earlier n d [] (a ∷ answers) journal less turns = absurd turns
 none_earlier n d (c ∷ scripts) [] journal less turns = absurd turns
 none_earlier n d (c ∷ scripts) (a ∷ answers) journal less turns =
-    ap (λ (j : List Entry). own j d) turns.split ∙ own-append turns.entries turns.rest d ∙ ap (λ (xs : List Entry). xs ++ own turns.rest d) (own_none n d turns.entries less turns.own)
+    ap (λ (j : List Entry). own j d) turns.split ∙ own-append turns.entries turns.rest d ∙ ap (λ (xs : List Entry). xs ++ own turns.rest d) (own_none n d false turns.entries less turns.own)
     ∙ none_earlier (n + 1) d scripts answers turns.rest (omega arith) turns.later
 
 -- the drivers and nobody else make entries
@@ -136,7 +133,7 @@ turns_among n (c ∷ scripts) (a ∷ answers) journal turns =
     let this : n + 1 + length scripts ≡ n + suc (length scripts) = omega arith in
     ap (are_among (n + suc (length scripts))) turns.split
     ∙ list_all-append (λ e. nat_lt e.driver (n + suc (length scripts))) turns.entries turns.rest
-    (among_more (n + 1) (n + suc (length scripts)) turns.entries (omega arith) (among_own n turns.entries turns.own))
+    (among_more (n + 1) (n + suc (length scripts)) turns.entries (omega arith) (among_own n false turns.entries turns.own))
     (subst (λ (d : ℕ). are_among d turns.rest ≡ true) this (turns_among (n + 1) scripts answers turns.rest turns.later))
 
 -- each has its calls once, in their order, also behind entries of drivers before them
@@ -150,13 +147,13 @@ turns_follow n (c ∷ scripts) (a ∷ answers) before journal earlier turns =
     own-append before journal n ∙ ap (λ (xs : List Entry). xs ++ own journal n) (own_before n before earlier)
     ∙ ap (λ (j : List Entry). own j n) turns.split ∙ own-append turns.entries turns.rest n
     ∙ ap (λ (xs : List Entry). own turns.entries n ++ xs) (none_earlier (n + 1) n scripts answers turns.rest (omega arith) turns.later)
-    ∙ append-nil (own turns.entries n) ∙ own_all n turns.entries turns.own in
+    ∙ append-nil (own turns.entries n) ∙ own_all n false turns.entries turns.own in
     let regroup : (before ++ turns.entries) ++ turns.rest ≡ before ++ journal =
     append_assoc before turns.entries turns.rest ∙ ap (λ (j : List Entry). before ++ j) (sym turns.split) in (
       subst (λ (xs : List Entry). Follows c (calls_of xs) a) (sym mine) turns.follow,
-      subst (λ (xs : List Entry). one_after_the_other false xs ≡ true) (sym mine) (answered_alone n turns.entries turns.own),
+      subst (λ (xs : List Entry). one_after_the_other false xs ≡ true) (sym mine) (calls_alone n false turns.entries turns.own),
       subst (FollowAll (n + 1) scripts answers) regroup (turns_follow (n + 1) scripts answers (before ++ turns.entries) turns.rest
-          (list_all-append (λ e. nat_lt e.driver (n + 1)) before turns.entries (among_more n (n + 1) before (omega arith) earlier) (among_own n turns.entries turns.own)) turns.later),
+          (list_all-append (λ e. nat_lt e.driver (n + 1)) before turns.entries (among_more n (n + 1) before (omega arith) earlier) (among_own n false turns.entries turns.own)) turns.later),
     )
 
 -- drivers that have turns have an answer list each

@@ -5,6 +5,7 @@ use Rattle.std.specs.List.{AllByRecursion, list_all, list_any}
 use Rattle.std.proofs.lemmas.List.{append-nil, length-append, take_more}
 use Rattle.std.proofs.lemmas.List.Folds.{list_any-append}
 use Rattle.std.proofs.lemmas.List.Sums.{sum_by-append}
+use Rattle.clk_base.specs.declared.call.Sleeping.TheVariants as call
 use Rattle.clk_base.specs.declared.command.Act.{Act}
 use Rattle.clk_base.specs.declared.command.Act.TheVariants as act
 use Rattle.clk_base.specs.declared.command.Answer.{Answer}
@@ -14,64 +15,22 @@ use Rattle.clk_base.specs.declared.event.Entry.{Entry}
 use Rattle.clk_base.specs.declared.event.Event.{Event}
 use Rattle.clk_base.specs.declared.event.Event.TheVariants as event
 use Rattle.clk_base.specs.declared.event.Reply.{Reply}
-use Rattle.clk_base.specs.declared.event.Turn.{Turn}
-use Rattle.clk_base.specs.declared.event.Turn.TheVariants as turn
-use Rattle.clk_model.specs.Tier.{is_step}
-use Rattle.clk_model.specs.Journal.{Answered, is_paid, end_reply, call_at, calls_of, cost, Legal}
+use Rattle.clk_base.specs.declared.handle.Handle.{Handle}
+use Rattle.clk_model.specs.Journal.{Answered, is_paid, calls_of, cost, Legal}
 use Rattle.std.specs.List.{range_with_len}
 use Rattle.std.specs.Option.{option_map_or}
 use Rattle.std.proofs.lemmas.List.FromFn.{length-map-range_with_len}
 use Rattle.drv_scripts.specs.Spelled.{boot_of, probe}
-use Rattle.clk_model.specs.Follows.{Variables, variable_count, handle_of, call_of, NextFollows, FollowsFrom}
+use Rattle.clk_model.specs.Follows.{Variables, variable_count, handle_of, call_of, held_after, NextFollows, FollowsFrom}
 use Rattle.clk_machine.specs.Stands.{registers}
-use Rattle.clk_machine.specs.Run.{Run, was_probed}
+use Rattle.clk_machine.specs.Run.{Run, was_probed, in_flight}
 use Rattle.clk_base.specs.Description.{Description, parents_of, EachClock}
 use Rattle.clk_machine.specs.Fit.{has_earlier_parents}
 use Rattle.drv_scripts.specs.Placed.{NamesPlace}
-use Rattle.clk_run.specs.Scripts.{is_built_act, is_answer, is_answered, AreProbes, CanCall, GoesThrough}
-use Rattle.clk_model.proofs.Members.{both_left, both_right}
+use Rattle.clk_run.specs.Scripts.{is_built_act, AreProbes, CanCall, Answers, GoesThrough}
+use Rattle.clk_run.proofs.WholeCalls.{calls_of-append, are_calls-append, stays_idle}
+use Rattle.clk_model.proofs.Members.{both_left, both_right, test_same}
 use Rattle.std.proofs.lemmas.Bool.{and_from}
-
--- ---- calls of entries
-
--- a paid event that is answered at once is a call with that reply
-pub call_at-answered : (e : Event) (r : Reply) (end : Option Reply) → is_paid e ≡ true → call_at e (turn.Done r) end ≡ (record { call = e; reply = r }) ∷ []
-call_at-answered (event.Enable n) r end h = refl
-call_at-answered (event.Disable n) r end h = refl
-call_at-answered (event.Running n) r end h = refl
-call_at-answered (event.Begin what) r end h = refl
-call_at-answered (event.Step m answer) r end h = absurd cc
-
-pub answered_paid : (d : ℕ) (e : Entry) → is_answered d e ≡ true → is_paid e.event ≡ true
-answered_paid d e h = both_right _ _ (both_left _ _ h)
-
--- a paid event is no step
-pub paid_no_step : (e : Event) → is_paid e ≡ true → false ≡ is_step e
-paid_no_step (event.Enable n) h = refl
-paid_no_step (event.Disable n) h = refl
-paid_no_step (event.Running n) h = refl
-paid_no_step (event.Begin what) h = refl
-paid_no_step (event.Step m answer) h = absurd cc
-
--- the reply of a turn that is an answer
-pub reply_of : (t : Turn) → is_answer t ≡ true → (r : Reply) × (t ≡ turn.Done r)
-reply_of turn.Going h = absurd cc
-reply_of (turn.Done r) h = (r, refl)
-
--- what ends behind it doesn't matter to an entry that is answered at once
-call_at-end : (d : ℕ) (e : Entry) (end end' : Option Reply) → is_answered d e ≡ true → call_at e.event e.turn end ≡ call_at e.event e.turn end'
-call_at-end d e end end' h =
-    let said = reply_of e.turn (both_right _ (is_answer e.turn) h) in
-    let paid = answered_paid d e h in
-    ap (λ (t : Turn). call_at e.event t end) said.1 ∙ call_at-answered e.event said.0 end paid
-    ∙ sym (ap (λ (t : Turn). call_at e.event t end') said.1 ∙ call_at-answered e.event said.0 end' paid)
-
-pub calls_of-append : (d : ℕ) (xs ys : List Entry) → list_all (is_answered d) xs ≡ true → calls_of (xs ++ ys) ≡ calls_of xs ++ calls_of ys
-calls_of-append d [] ys own = refl
-calls_of-append d (x ∷ xs) ys own =
-    ap (λ (ls : List Answered). call_at x.event x.turn (end_reply (xs ++ ys)) ++ ls) (calls_of-append d xs ys (both_right (is_answered d x) _ own))
-    ∙ ap (λ (ls : List Answered). ls ++ (calls_of xs ++ calls_of ys)) (call_at-end d x (end_reply (xs ++ ys)) (end_reply xs) (both_left (is_answered d x) _ own))
-    ∙ sym (append_assoc (call_at x.event x.turn (end_reply xs)) (calls_of xs) (calls_of ys))
 
 pub list_all-append : {X : Type 0} (p : X → Bool) (xs ys : List X) → list_all p xs ≡ true → list_all p ys ≡ true → list_all p (xs ++ ys) ≡ true
 list_all-append p [] ys h k = k
@@ -100,14 +59,14 @@ goes_trans first mid last d held held' held'' xs ys as_ bs one two = record {
   told = two.told ∙ one.told;
   behind = two.behind ∙ one.behind;
   journal = two.journal ∙ ap (λ (j : List Entry). j ++ two.entries) one.journal ∙ append_assoc first.journal one.entries two.entries;
-  own = list_all-append (is_answered d) one.entries two.entries one.own two.own;
-  few = let a = one.few in let b = two.few in omega (arith, length-append one.entries two.entries, length-append xs ys);
+  own = are_calls-append d false one.entries two.entries one.own two.own;
+  few = let a = one.few in let b = two.few in omega (arith, sum_by-append (λ (f : Entry). cond (is_paid f.event) 1 0) one.entries two.entries, length-append xs ys);
   legal = λ told was. two.legal (one.told ∙ told) (one.legal told was);
   follows = λ cs ls cs' f.
       let whole = one.follows (ys ++ cs) (calls_of two.entries ++ ls) (bs ++ cs') (two.follows cs ls cs' f) in
       subst (λ (commands : List Command). FollowsFrom held commands (calls_of (one.entries ++ two.entries) ++ ls) ((as_ ++ bs) ++ cs')) (sym (append_assoc xs ys cs))
       (subst (λ (calls : List Answered). FollowsFrom held (xs ++ (ys ++ cs)) calls ((as_ ++ bs) ++ cs'))
-      (sym (append_assoc (calls_of one.entries) (calls_of two.entries) ls) ∙ ap (λ (c : List Answered). c ++ ls) (sym (calls_of-append d one.entries two.entries one.own)))
+      (sym (append_assoc (calls_of one.entries) (calls_of two.entries) ls) ∙ ap (λ (c : List Answered). c ++ ls) (sym (calls_of-append d false one.entries two.entries one.own)))
       (subst (λ (answers : List Answer). FollowsFrom held (xs ++ (ys ++ cs)) (calls_of one.entries ++ (calls_of two.entries ++ ls)) answers) (sym (append_assoc as_ bs cs')) whole));
 }
 
@@ -127,23 +86,38 @@ goes_skipped old new d held c none is = record {
   follows = λ cs ls as_ f. subst (λ (o : Option Event). NextFollows (λ after ls2. FollowsFrom after cs ls2 as_) held c o ls answer.Skip) (sym none) (refl, f);
 }
 
+-- a command whose call was answered
+pub goes_called : (old new : Run) (d : ℕ) (held held' : Variables) (c : Command) (e : Event) (r : Reply) → call_of (handle_of held c) c.act ≡ Some e → Answers old d e r new
+    → held' ≡ held_after held c c.act r → GoesThrough old d held (c ∷ []) (answer.Reply r ∷ []) held' new
+goes_called old new d held held' c e r calls made left = record {
+  entries = made.entries;
+  start = made.start;
+  told = made.told;
+  behind = made.behind;
+  journal = made.journal;
+  own = made.own;
+  few = let one = made.paid in omega arith;
+  legal = made.legal;
+  follows = λ cs ls as_ f.
+      subst (λ (o : Option Event). NextFollows (λ after ls2. FollowsFrom after cs ls2 as_) held c o (calls_of made.entries ++ ls) (answer.Reply r)) (sym calls)
+      (subst (λ (calls : List Answered). NextFollows (λ after ls2. FollowsFrom after cs ls2 as_) held c (Some e) (calls ++ ls) (answer.Reply r)) (sym made.calls)
+      (refl, refl, subst (λ (held : Variables). FollowsFrom held cs ls as_) left f));
+}
+
 -- ---- credits and probes
 
--- entries that are answered at once cost a credit each
-cost-answered : (d : ℕ) (es : List Entry) → list_all (is_answered d) es ≡ true → cost es ≡ length es
-cost-answered d [] own = refl
-cost-answered d (e ∷ es) own =
-    sum_by-append (λ f. cond (is_paid f.event) 1 0) (e ∷ []) es
-    ∙ ap (λ (b : Bool). (0 + cond b 1 0) + cost es) (answered_paid d e (both_left _ _ own))
-    ∙ ap (λ (n : ℕ). 1 + n) (cost-answered d es (both_right (is_answered d e) _ own)) ∙ (omega arith)
-
--- so the credits that are spent are at most one a command
+-- the credits that are spent are at most one a command
 pub goes_cost : (old new : Run) (d : ℕ) (held held' : Variables) (commands : List Command) (answers : List Answer) → GoesThrough old d held commands answers held' new
     → cost new.journal ≤ cost old.journal + length commands
 goes_cost old new d held held' commands answers goes =
     let few = goes.few in
-    let all = ap cost goes.journal ∙ sum_by-append (λ f. cond (is_paid f.event) 1 0) old.journal goes.entries ∙ ap (λ (n : ℕ). cost old.journal + n) (cost-answered d goes.entries goes.own) in
+    let all = ap cost goes.journal ∙ sum_by-append (λ f. cond (is_paid f.event) 1 0) old.journal goes.entries in
     omega arith
+
+-- a core stays idle between commands
+pub goes_idle : (old new : Run) (d : ℕ) (held held' : Variables) (commands : List Command) (answers : List Answer) → GoesThrough old d held commands answers held' new
+    → in_flight old.journal ≡ false → in_flight new.journal ≡ false
+goes_idle old new d held held' commands answers goes idle = stays_idle old new d goes.entries goes.journal goes.own idle
 
 -- what was probed stays probed
 pub goes_probed : (old new : Run) (d : ℕ) (held held' : Variables) (commands : List Command) (answers : List Answer) (c : ℕ) → GoesThrough old d held commands answers held' new
@@ -164,8 +138,17 @@ goes_more first mid last d held held' held'' commands i x answers answers' a wit
     (subst (λ (as_ : List Answer). GoesThrough first d held (take i commands ++ get_or commands i x ∷ []) as_ held'' last) (sym more)
     (goes_trans first mid last d held held' held'' (take i commands) (get_or commands i x ∷ []) answers (a ∷ []) one two))
 
+-- the clock that a command registers was probed
+pub probes_now : (old new : Run) (d : ℕ) (held : Option Handle) (a : Act) (e : Event) (r : Reply) (c : ℕ) → call_of held a ≡ Some e → Answers old d e r new
+    → a ≡ act.Probe (record { 0 = c }) → was_probed new.journal c ≡ true
+probes_now old new d held a e r c calls made is =
+    let same : e ≡ event.Begin (call.Probe (record { 0 = c })) = inside (sym calls ∙ ap (call_of held) is) in
+    made.probes c (ap (λ (v : Event). registers v c) same ∙ test_same c) where
+      inside : {x y : Event} → Some x ≡ Some y → x ≡ y
+      inside e = cc
+
 -- a command that can be run so far can be run now
-pub can_built : (run : Run) (a : Act) → is_built_act run.start.defs a ≡ true → CanCall run a
+pub can_built : (run : Run) (a : Act) → is_built_act a ≡ true → CanCall run a
 can_built run (act.Get found) h = h
 can_built run act.Put h = h
 can_built run act.Prepare h = h

@@ -18,18 +18,18 @@ use Rattle.clk_run.specs.Scripts.{is_built_act}
 abbrev pub unfit_line : Description → List ℕ → ℕ → Option ℕ
 unfit_line defs lines c = if can_run defs c then None else Some (slice_index lines c)
 
--- the line of a command that can't be run yet over the clocks of a description
-unfoldable pub unbuilt_command : Description → Command → Option ℕ
-unbuilt_command defs command = if is_built_act defs command.act then None else Some command.line
+-- the line of a command that can't be run yet
+unfoldable pub unbuilt_command : Command → Option ℕ
+unbuilt_command command = if is_built_act command.act then None else Some command.line
 
 -- the lines of such commands of these drivers
-abbrev pub unbuilt_commands : Description → List Script → List ℕ
-unbuilt_commands defs drivers = flat_map (λ s. filter_map (unbuilt_command defs) s.commands) drivers
+abbrev pub unbuilt_commands : List Script → List ℕ
+unbuilt_commands drivers = flat_map (λ s. filter_map unbuilt_command s.commands) drivers
 
 -- the lines of these clocks, of the nodes with assigned clocks, and of these commands
 unfoldable pub unbuilt_lines : Bundle → List ℕ
 unbuilt_lines b =
-    said_from (unfit_line b.desc.defs b.clock_lines) 0 (length b.desc.defs) ++ (b.assigned_lines ++ unbuilt_commands b.desc.defs b.drivers)
+    said_from (unfit_line b.desc.defs b.clock_lines) 0 (length b.desc.defs) ++ (b.assigned_lines ++ unbuilt_commands b.drivers)
 
 -- the least of them, if there is one
 abbrev pub unbuilt_line : Bundle → Option ℕ

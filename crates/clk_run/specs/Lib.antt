@@ -1,5 +1,6 @@
 pub mod Called
 pub mod Scripts
+pub mod Steps
 pub mod Runs
 pub mod Refusals
 pub mod Outcomes

@@ -26,7 +26,7 @@ use Rattle.clk_cli.specs.declared.cli.Mode.{Mode}
 use Rattle.clk_cli.specs.declared.cli.Mode.TheVariants.{Check, Sim, Run, Bench}
 use Rattle.clk_machine.specs.Fit.{CanRun}
 use Rattle.clk_machine.specs.Run as cores
-use Rattle.clk_run.specs.Scripts.{is_built_act, is_answered}
+use Rattle.clk_run.specs.Scripts.{is_built_act, are_calls}
 
 -- ---- what a run begins from
 
@@ -115,19 +115,19 @@ is_built_mode (Bench n) = false
 abbrev pub runs : Cli → Bool
 runs cli = is_built_mode cli.mode && not cli.journal
 
--- whether each of these commands can be run so far over the clocks of a description
-abbrev pub are_built : Description → List Command → Bool
-are_built defs commands = list_all (λ c. is_built_act defs c.act) commands
+-- whether each of these commands can be run so far
+abbrev pub are_built : List Command → Bool
+are_built commands = list_all (λ c. is_built_act c.act) commands
 
 -- ---- cores
 
--- the first entries of a journal are one driver's turn: its calls, each answered at once, follow its commands with these answers; what is said of the others holds
+-- the first entries of a journal are one driver's turn: its whole calls follow its commands with these answers; what is said of the others holds
 -- of the entries behind them
 pub record TakesTurn (others : List Entry → Type 0) (d : ℕ) (commands : List Command) (answers : List Answer) (journal : List Entry) : Type 0 where
   pub entries : List Entry
   pub rest : List Entry
   pub split : journal ≡ entries ++ rest
-  pub own : list_all (is_answered d) entries ≡ true
+  pub own : are_calls d false entries ≡ true
   pub follow : Follows commands (calls_of entries) answers
   pub later : others rest
 
@@ -145,6 +145,7 @@ pub record HasRun (boot : List Command) (drivers : List Script) (answers : List 
   pub behind : new.behind ≡ old.behind
   pub legal : old.told ≡ true → Legal new.start new.journal
   pub turns : TakeTurns 0 (scripts_with boot drivers) answers new.journal
+  pub quiet : cores.in_flight new.journal ≡ false
 
 -- ---- bundles
 
@@ -156,7 +157,7 @@ pub record IsReady (b : Bundle) : Type 0 where
   pub boot : b.boot ≡ boot_of (length b.desc.defs)
   pub few : length b.drivers ≤ 64
   pub unordered : b.order ≡ []
-  pub built : AllByRecursion (λ s. are_built b.desc.defs s.commands ≡ true) b.drivers
+  pub built : AllByRecursion (λ s. are_built s.commands ≡ true) b.drivers
 
 -- ---- what is left behind
 

@@ -1,39 +1,19 @@
 //! The call of one command.
 
-ghost use Rattle.std.specs.Prelude.{◌≡◌, ℕ, ◌<◌, true, [], ◌∷◌, length, IfOk, OnErr};
+ghost use Rattle.std.specs.Prelude.{◌≡◌, ℕ, ◌<◌, true, false, [], ◌∷◌, length, IfOk, OnErr};
 ghost use Rattle.clk_model.specs.Journal.{cost};
-ghost use Rattle.clk_base.specs.declared.event.Event.TheVariants.{Begin};
-ghost use Rattle.clk_base.specs.declared.event.Turn.TheVariants.{Done};
 ghost use Rattle.clk_base.specs.declared.command.Act.TheVariants.{Probe};
 ghost use Rattle.clk_model.specs.Follows.{handle_of, with_variable, held_after};
-ghost use Rattle.clk_machine.specs.Sound.{IsPlaced};
-ghost use Rattle.clk_machine.specs.Run.{can_make, was_probed, Appends};
+ghost use Rattle.clk_machine.specs.Run.{in_flight, was_probed};
 ghost use Rattle.drv_scripts.specs.Placed.{NamesPlace};
 ghost use Rattle.clk_run.specs.Scripts.{CanCall, MakesCall, GoesThrough};
 
 use crate::called::{Called, call_of};
-use clk_base::{Act, Answer, Command, Handle, Reply, Sleeping, Turn};
+use crate::calling::make_sleeping;
+use clk_base::{Act, Answer, Command, Handle, Reply};
 use clk_io::NoMemory;
 use clk_machine::Core;
 use reg_bank::Bank;
-
-// Begins a call that is answered at once.
-fn begin_at_once<B: Bank>(
-    core: &mut Core<B>,
-    driver: u32,
-    what: &Sleeping,
-) -> Result<Reply, NoMemory>
-    requires credit { cost core.old.journal < core.old.start.credits }
-    requires place { IsPlaced core.old.start.defs what.now }
-    requires built { can_make core.old what.now ≡ true }
-    ensures ok { IfOk result (λ reply. Appends core.old driver (Begin what.now) (Done reply) core.new) }
-    ensures err { OnErr result (core.new ≡ core.old) }
-{
-    match core.begin(driver, what)? {
-        Turn::Done(reply) => Ok(reply),
-        Turn::Going => unreachable!(),
-    }
-}
 
 /// Makes the call of a driver's command, where its variable holds this handle or none. A command
 /// that lacks what it needs makes no call.
@@ -44,6 +24,7 @@ pub(crate) fn make_call<B: Bank>(
     act: Act,
 ) -> Result<Option<Reply>, NoMemory>
     requires credit { cost core.old.journal < core.old.start.credits }
+    requires quiet { in_flight core.old.journal ≡ false }
     requires place { NamesPlace (length core.old.start.defs) act }
     requires can { CanCall core.old act }
     ensures ok { IfOk result (λ reply. MakesCall core.old driver held act reply core.new) }
@@ -53,7 +34,7 @@ pub(crate) fn make_call<B: Bank>(
         return Ok(None);
     };
     let reply = match called {
-        Called::Sleeping(what) => begin_at_once(core, driver, &what)?,
+        Called::Sleeping(what) => make_sleeping(core, driver, &what)?,
         Called::Enable(handle) => core.enable(driver, handle),
         Called::Disable(handle) => core.disable(driver, handle),
         Called::Running(handle) => core.running(driver, handle),
@@ -104,6 +85,7 @@ pub(crate) fn run_command<B: Bank>(
     command: &Command,
 ) -> Result<Answer, NoMemory>
     requires credit { cost core.old.journal < core.old.start.credits }
+    requires quiet { in_flight core.old.journal ≡ false }
     requires place { NamesPlace (length core.old.start.defs) command.now.act }
     requires can { CanCall core.old command.now.act }
     ensures goes { IfOk result (λ answer. GoesThrough core.old driver held.old (command.now ∷ []) (answer ∷ []) held.new core.new) }

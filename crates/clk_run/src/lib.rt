@@ -5,6 +5,7 @@
 #![tactic(auto)]
 
 mod called;
+mod calling;
 mod command;
 mod printing;
 mod reading;

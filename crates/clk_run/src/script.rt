@@ -1,6 +1,6 @@
 //! Running the commands of a driver, one after the other.
 
-ghost use Rattle.std.specs.Prelude.{◌≡◌, ◌+◌, ◌≤◌, true, [], length, IfOk};
+ghost use Rattle.std.specs.Prelude.{◌≡◌, ◌+◌, ◌≤◌, true, false, [], length, IfOk};
 ghost use Rattle.clk_model.specs.Journal.{cost};
 ghost use Rattle.clk_model.specs.Follows.{Variables, variable_count, no_handles};
 ghost use Rattle.drv_scripts.specs.Placed.{NamePlaces};
@@ -8,6 +8,7 @@ ghost use Rattle.clk_run.specs.Scripts.{AreProbes, GoesThrough};
 ghost use Rattle.clk_run.specs.Runs.{are_built};
 ghost use Rattle.clk_base.specs.Description.{EachClock};
 ghost use Rattle.clk_machine.specs.Fit.{has_earlier_parents};
+ghost use Rattle.clk_machine.specs.Run.{in_flight};
 
 use crate::command::run_command;
 use clk_base::{Answer, Command, Handle};
@@ -37,8 +38,9 @@ pub(crate) fn run_script<B: Bank>(
     commands: &[Command],
 ) -> Result<Vec<Answer>, NoMemory>
     requires credits { cost core.old.journal + length commands.now ≤ core.old.start.credits }
+    requires quiet { in_flight core.old.journal ≡ false }
     requires places { NamePlaces (length core.old.start.defs) commands.now }
-    requires built { are_built core.old.start.defs commands.now ≡ true }
+    requires built { are_built commands.now ≡ true }
     ensures { IfOk result (λ answers. (held : Variables) × GoesThrough core.old driver (no_handles commands.now) commands.now answers.items held core.new) }
 {
     let mut variables = vec![in alloc; None; variable_count(commands)]?;
@@ -58,6 +60,7 @@ pub(crate) fn run_boot<B: Bank>(
     commands: &[Command],
 ) -> Result<Vec<Answer>, NoMemory>
     requires credits { cost core.old.journal + length commands.now ≤ core.old.start.credits }
+    requires quiet { in_flight core.old.journal ≡ false }
     requires earlier { EachClock core.old.start.defs (has_earlier_parents core.old.start.defs) }
     requires clocks { length commands.now ≤ length core.old.start.defs }
     requires probes { AreProbes 0 commands.now }

@@ -30,7 +30,7 @@ pub(crate) fn run_scripts<B: Bank>(
     requires boot { boot.now ≡ boot_of (length core.old.start.defs) }
     requires few { length drivers.now ≤ 65536 }
     requires placed { AllByRecursion (IsScript (length core.old.start.defs)) drivers.now }
-    requires built { AllByRecursion (λ s. are_built core.old.start.defs s.commands ≡ true) drivers.now }
+    requires built { AllByRecursion (λ s. are_built s.commands ≡ true) drivers.now }
     ensures { IfOk result (λ answers. HasRun boot.now drivers.now answers.items core.old core.new) }
 {
     let first = run_boot(alloc, core, boot)?;

@@ -4,14 +4,13 @@ ghost use Rattle.std.specs.Prelude.{◌≡◌, ◌<◌, ◌++◌, length, min, I
 ghost use Rattle.std.specs.List.{reduce, filter_map};
 ghost use Rattle.std.specs.Option.{option_to_list};
 ghost use Rattle.bundle_text.specs.Firsts.{said_from};
-ghost use Rattle.clk_machine.specs.Fit.{has_pll};
-ghost use Rattle.clk_run.specs.Scripts.{is_built_beside};
+ghost use Rattle.clk_run.specs.Scripts.{is_built_act};
 ghost use Rattle.clk_run.specs.Built.{unfit_line, unbuilt_command, unbuilt_commands, unbuilt_line};
 
 use crate::called::{Called, made_by};
 use clk_base::{Act, ClockId, Command, Handle, ValidDesc};
 use clk_io::NoMemory;
-use clk_machine::{has_pll, is_built, is_fit};
+use clk_machine::{is_built, is_fit};
 use drv_scripts::{Bundle, Script};
 use std::alloc::Global;
 
@@ -64,13 +63,12 @@ const ANY: Handle = Handle {
     driver: 0,
 };
 
-// Whether a command can be run so far, where the clocks have a PLL or have none. A driver registers
-// no clock.
-fn can_run(pll: bool, act: Act) -> bool
-    ensures { result ≡ is_built_beside pll act }
+// Whether a command can be run so far. A driver registers no clock.
+fn can_run(act: Act) -> bool
+    ensures { result ≡ is_built_act act }
 {
     match made_by(ANY, act) {
-        Some(Called::Sleeping(what)) => is_built(&what, pll, false),
+        Some(Called::Sleeping(what)) => is_built(&what, false),
         Some(_) => true,
         None => false,
     }
@@ -78,39 +76,31 @@ fn can_run(pll: bool, act: Act) -> bool
 
 // The line of a command that can't be run yet.
 #[tactic(auto, unfolding(crate::specs::Built::unbuilt_command))]
-fn unbuilt_command(desc: &ValidDesc, pll: bool, command: &Command) -> Option<u32>
-    requires { pll ≡ has_pll desc.now.defs }
-    ensures { result ≡ unbuilt_command desc.now.defs command.now }
+fn unbuilt_command(command: &Command) -> Option<u32>
+    ensures { result ≡ unbuilt_command command.now }
 {
-    if can_run(pll, command.act) {
+    if can_run(command.act) {
         return None;
     }
     Some(command.line)
 }
 
 // The lines of such commands of a driver more.
-fn push_commands(
-    lines: &mut Vec<u32>,
-    desc: &ValidDesc,
-    pll: bool,
-    commands: &[Command],
-) -> Result<(), NoMemory>
-    requires { pll ≡ has_pll desc.now.defs }
-    ensures { OnOk result (lines.new.items ≡ lines.old.items ++ filter_map (unbuilt_command desc.now.defs) commands.now) }
+fn push_commands(lines: &mut Vec<u32>, commands: &[Command]) -> Result<(), NoMemory>
+    ensures { OnOk result (lines.new.items ≡ lines.old.items ++ filter_map unbuilt_command commands.now) }
 {
     for command in commands {
-        push_line(lines, unbuilt_command(desc, pll, command))?;
+        push_line(lines, unbuilt_command(command))?;
     }
     Ok(())
 }
 
 // The lines of such commands of all drivers.
-fn push_drivers(lines: &mut Vec<u32>, desc: &ValidDesc, drivers: &[Script]) -> Result<(), NoMemory>
-    ensures { OnOk result (lines.new.items ≡ lines.old.items ++ unbuilt_commands desc.now.defs drivers.now) }
+fn push_drivers(lines: &mut Vec<u32>, drivers: &[Script]) -> Result<(), NoMemory>
+    ensures { OnOk result (lines.new.items ≡ lines.old.items ++ unbuilt_commands drivers.now) }
 {
-    let pll = has_pll(desc);
     for script in drivers {
-        push_commands(lines, desc, pll, script.commands.as_slice())?;
+        push_commands(lines, script.commands.as_slice())?;
     }
     Ok(())
 }
@@ -124,6 +114,6 @@ pub(crate) fn least_unbuilt(alloc: Global, bundle: &Bundle) -> Result<Option<u32
 {
     let mut lines = unfit_lines(alloc, &bundle.desc, bundle.clock_lines.as_slice())?;
     lines.extend_from_slice(bundle.assigned_lines.as_slice())?;
-    push_drivers(&mut lines, &bundle.desc, bundle.drivers.as_slice())?;
+    push_drivers(&mut lines, bundle.drivers.as_slice())?;
     Ok(least(&lines))
 }

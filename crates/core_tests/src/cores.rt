@@ -98,7 +98,7 @@ fn take(rt: &impl Abort, core: &mut Core<Noting>, step: &Step) -> Result<(), NoM
     assert!(rt; core.credits_left() > 0);
     match step {
         Step::Begin(what, reply) => {
-            assert!(rt; is_placed(core, what) && core.built(what));
+            assert!(rt; core.quiet() && is_placed(core, what) && core.built(what));
             let turn = core.begin(1, what)?;
             assert!(rt; turn == Turn::Done(*reply));
         }

@@ -1,5 +1,5 @@
 use Rattle.std.proofs.Common.{rules, ◌≡◌, ℕ, ◌≤◌, true, sum_by, ap, subst, sym, ◌∙◌, arith, length, List}
-use Rattle.std.specs.Prelude.{is_some, Bool, refl}
+use Rattle.std.specs.Prelude.{is_some, not, Bool, refl}
 use Rattle.std.proofs.lemmas.List.{length-map}
 use Rattle.clk_base.specs.declared.command.Answer.{Answer}
 use Rattle.drv_scripts.specs.declared.bundle.Script.{Script}
@@ -57,8 +57,7 @@ run_scripts-requires g c =
       few = omega arith;
       placed = subst (λ (ds : Description). AllByRecursion (IsScript (length ds)) run) defs
           (subst (λ (xs : List Script). AllByRecursion (IsScript (length b.desc.defs)) xs) drivers (drivers_keep (IsScript (length b.desc.defs)) mode b ready.sound.scripts));
-      built = subst (λ (ds : Description). AllByRecursion (λ s. are_built ds s.commands ≡ true) run) defs
-          (subst (λ (xs : List Script). AllByRecursion (λ s. are_built b.desc.defs s.commands ≡ true) xs) drivers (drivers_keep (λ s. are_built b.desc.defs s.commands ≡ true) mode b ready.built));
+      built = subst (λ (xs : List Script). AllByRecursion (λ s. are_built s.commands ≡ true) xs) drivers (drivers_keep (λ s. are_built s.commands ≡ true) mode b ready.built);
     }
 
 pub print_run-requires : goal.print_run-requires
@@ -97,7 +96,7 @@ returns-clause-done g c =
       words = printed;
       text = run_text b.desc.defs drivers c.in_ok-answers.answers.items printed;
       run = text_of b c.args.cli.now (is_some (g.B.Bank.contents c.args.bank)) _ core c.in_ok-answers.answers.items printed start begun.told c.requires.ready.unordered ran
-          c.journal.ensures.fed (λ tells. sym (c.quiet.ensures.tells tells) ∙ c.quiet.ensures.none) c.in_ok-registers.ensures;
+          c.journal.ensures.fed (λ tells. sym (c.quiet.ensures.tells tells) ∙ c.quiet.ensures.quiet ∙ ap not c.in_ok-answers.ensures.quiet) c.in_ok-registers.ensures;
       printed = subst (Appends (g.K.Sink.written c.args.out.now) (g.K.Sink.written c.print_run.new.out)) text c.in_ok-print_run.ensures.prints;
       registers = bank_back _ _ _ _ _ _ c.into_bank.ensures.told (ap (λ (s : State). length s.regs) (sym (c.in_ok-answers.ensures.start ∙ start))) c.into_bank.ensures.words
           (λ tells. c.in_ok-registers.ensures tells);
@@ -123,7 +122,7 @@ returns-in_err-print_run-clause-fault g c =
       words = printed;
       text = run_text b.desc.defs drivers answers printed;
       run = text_of b c.args.cli.now told _ c.run_scripts.new.core answers printed start begun.told c.requires.ready.unordered ran c.journal.ensures.fed
-          (λ tells. sym (c.quiet.ensures.tells tells) ∙ c.quiet.ensures.none) c.in_ok-registers.ensures;
+          (λ tells. sym (c.quiet.ensures.tells tells) ∙ c.quiet.ensures.quiet ∙ ap not c.in_ok-answers.ensures.quiet) c.in_ok-registers.ensures;
       printed = subst (AppendsFront (g.K.Sink.written c.args.out.now) (g.K.Sink.written c.print_run.new.out)) text c.in_err-print_run.ensures.prints;
     })
 

@@ -1,6 +1,6 @@
 use Rattle.std.proofs.Common.{◌<◌, [], length, sym, ap, subst, arith}
 use Rattle.clk_model.specs.State.{State}
-use Rattle.clk_run.proofs.Going.{goes_more, goes_probed, probe_first, probe_placed, probe_can, probed_more}
+use Rattle.clk_run.proofs.Going.{goes_more, goes_idle, goes_probed, probe_first, probe_placed, probe_can, probed_more}
 use Rattle.clk_run.proofs.script.run_boot.Goals as goal
 
 pub run_command-requires-clause-place : goal.run_command-requires-clause-place
@@ -19,6 +19,9 @@ run_command-requires-clause-can g c =
     let within = c.requires.clocks in
     let is = probe_first i c.args.commands.now _ c.requires.probes c.loop-command-test.true in
     probe_can c.loop-command.core c.args.core.now.start.defs i _ same c.requires.earlier (omega arith) c.loop-command.invariant.probed is
+
+pub run_command-requires-clause-quiet : goal.run_command-requires-clause-quiet
+run_command-requires-clause-quiet g c = goes_idle c.args.core.now c.loop-command.core 0 _ _ _ _ c.loop-command.invariant.goes c.requires.quiet
 
 pub loop-command-preserved : goal.loop-command-preserved
 loop-command-preserved g c =

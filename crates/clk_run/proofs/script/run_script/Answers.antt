@@ -5,7 +5,7 @@ use Rattle.clk_model.specs.State.{State}
 use Rattle.clk_model.specs.Follows.{Variables, variable_count, no_handles}
 use Rattle.drv_scripts.specs.Placed.{NamesPlace}
 use Rattle.clk_run.specs.Scripts.{is_built_act, GoesThrough}
-use Rattle.clk_run.proofs.Going.{goes_none, goes_more, can_built, element, element_true}
+use Rattle.clk_run.proofs.Going.{goes_none, goes_more, goes_idle, can_built, element, element_true}
 use Rattle.clk_run.proofs.script.run_script.Goals as goal
 
 pub run_command-requires-clause-place : goal.run_command-requires-clause-place
@@ -16,10 +16,10 @@ run_command-requires-clause-place g c =
 
 pub run_command-requires-clause-can : goal.run_command-requires-clause-can
 run_command-requires-clause-can g c =
-    let same = ap (λ (s : State). s.defs) c.loop-command.invariant.start in
-    can_built c.loop-command.core _
-    (rw same
-    (element_true (λ (command : Command). is_built_act c.args.core.now.start.defs command.act) c.args.commands.now c.loop-command.command-index _ c.requires.built c.loop-command-test.true))
+    can_built c.loop-command.core _ (element_true (λ (command : Command). is_built_act command.act) c.args.commands.now c.loop-command.command-index _ c.requires.built c.loop-command-test.true)
+
+pub run_command-requires-clause-quiet : goal.run_command-requires-clause-quiet
+run_command-requires-clause-quiet g c = goes_idle c.args.core.now c.loop-command.core c.args.driver _ _ _ _ c.loop-command.invariant c.requires.quiet
 
 pub loop-command-init : goal.loop-command-init
 loop-command-init g c =

@@ -8,8 +8,9 @@ use Rattle.clk_model.specs.State.{State}
 use Rattle.clk_model.specs.Follows.{Variables, no_handles}
 use Rattle.drv_scripts.specs.declared.bundle.Script.{Script}
 use Rattle.clk_run.specs.Scripts.{AreProbes, GoesThrough}
+use Rattle.clk_machine.specs.Run.{in_flight}
 use Rattle.clk_run.specs.Runs.{TakeTurns}
-use Rattle.clk_run.proofs.Going.{boot_probes, length-boot_of, no_variables, goes_cost}
+use Rattle.clk_run.proofs.Going.{boot_probes, length-boot_of, no_variables, goes_cost, goes_idle}
 use Rattle.clk_run.proofs.Following.{turn_next}
 use Rattle.clk_run.proofs.scripts.run_scripts.Goals as goal
 
@@ -26,6 +27,9 @@ run_boot-requires-clause-clocks g c =
 
 pub run_boot-requires-clause-probes : goal.run_boot-requires-clause-probes
 run_boot-requires-clause-probes g c = subst (AreProbes 0) (sym c.requires.boot) (boot_probes (length c.args.core.now.start.defs))
+
+pub run_boot-requires-clause-quiet : goal.run_boot-requires-clause-quiet
+run_boot-requires-clause-quiet g c = ap in_flight c.requires.begins
 
 pub loop-script-init : goal.loop-script-init
 loop-script-init g c =
@@ -49,6 +53,7 @@ loop-script-init g c =
       legal = λ told_. goes.legal told_ (subst (Legal first.start) (sym c.requires.begins) tt);
       number = refl;
       turns = subst (λ answers. TakeTurns 0 (boot ∷ []) answers mid.journal) (sym told) next;
+      idle = goes_idle first mid 0 [] held' boot c.in_ok-first.first.items goes (ap in_flight c.requires.begins);
       credits = omega arith;
     }
 
@@ -99,5 +104,6 @@ loop-script-preserved g c =
       number = ap (λ (n : ℕ). n + 1) number;
       turns = subst (λ scripts. TakeTurns 0 (c.args.boot.now ∷ scripts) c.push-in-loop-script.new.self.items last.journal) (sym mapped)
           (subst (λ answers. TakeTurns 0 ((c.args.boot.now ∷ done) ++ s.commands ∷ []) answers last.journal) (sym told) next);
+      idle = goes_idle mid last driver (no_handles s.commands) held' s.commands own' goes c.loop-script.invariant.idle;
       credits = omega arith;
     }

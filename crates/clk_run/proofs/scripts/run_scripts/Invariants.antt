@@ -1,5 +1,6 @@
-use Rattle.std.proofs.Common.{◌≡◌, ◌+◌, ◌≤◌, true, ◌∷◌, take, drop, length, map, sum_by}
+use Rattle.std.proofs.Common.{◌≡◌, ◌+◌, ◌≤◌, true, false, ◌∷◌, take, drop, length, map, sum_by}
 use Rattle.clk_model.specs.Journal.{cost, Legal}
+use Rattle.clk_machine.specs.Run.{in_flight}
 use Rattle.clk_run.specs.Runs.{TakeTurns}
 use Rattle.clk_run.proofs.scripts.run_scripts.Given as goal
 
@@ -12,5 +13,6 @@ invariant-loop-script g l = record {
   legal : l.fn.core.told ≡ true → Legal l.core.start l.core.journal;
   number : l.driver ≡ l.script-index + 1;
   turns : TakeTurns 0 (l.boot ∷ map (λ s. s.commands) (take l.script-index l.drivers)) l.answers.items l.core.journal;
+  idle : in_flight l.core.journal ≡ false;
   credits : cost l.core.journal + sum_by (λ s. length s.commands) (drop l.script-index l.drivers) ≤ l.fn.core.start.credits;
 }
