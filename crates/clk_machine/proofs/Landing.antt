@@ -78,6 +78,7 @@ enters_end old new r whole going is desc window credits unused spent tree leads 
       pays = let same : old.spent ≡ old.spent + 0 = omega arith in spent ∙ same;
       rows = λ c. ap (λ (t : TreeState). registered t.clocks c) tree ∙ sym (or-false (registered old.tree.clocks c));
       going = quiet;
+      driver_ = λ still. let no : true ≡ false = sym still ∙ quiet in absurd cc;
       fewer = λ free.
           let some = some_left old.flight (registered old.tree.clocks) going (whole.flown going).way in
           let none = none_left new.flight quiet in

@@ -27,6 +27,7 @@ pub mod Raising
 pub mod Landing
 pub mod Working
 pub mod Starting
+pub mod Lowering
 pub mod Entered
 pub mod Opened
 pub mod Registering

@@ -101,7 +101,8 @@ pub raise_enters : (old : Parts) (x pll : ClockId) (more : Bool) (window' : Show
     → Enters old old.flight.driver (event.Step (micro.Raise x) None) turn.Going (with_step old window' flight')
 raise_enters old x pll more window' flight' now =
     enters_step old window' flight' (micro.Raise x) None (told_put old.desc.defs pll.0 true old.window.words window'.words now.words) now.size now.behind
-    (ap (λ (f : FlightState). f.going) now.flight ∙ (same_raised old.flight x pll more).going ∙ now.going) (now.less []) (raise_leads old x pll more window' flight' now)
+    (ap (λ (f : FlightState). f.going) now.flight ∙ (same_raised old.flight x pll more).going ∙ now.going)
+    (ap (λ (f : FlightState). f.driver) now.flight ∙ (same_raised old.flight x pll more).driver) (now.less []) (raise_leads old x pll more window' flight' now)
 
 -- ---- nothing found
 
@@ -113,7 +114,7 @@ seeks_of what there _ e = absurd cc
 pub none_enters : (old : Parts) (step : Micro) (flight' : FlightState) → old.flight.going ≡ true → FindsNothing old step → flight' ≡ found_none old.flight → FindsNone old.flight flight'
     → LeavesLess old.flight flight' → Enters old old.flight.driver (event.Step step None) turn.Going (with_step old old.window flight')
 none_enters old step flight' going nothing is change less =
-    enters_step old old.window flight' step None refl refl refl (ap (λ (f : FlightState). f.going) is ∙ going) (less [])
+    enters_step old old.window flight' step None refl refl refl (ap (λ (f : FlightState). f.going) is ∙ going) (ap (λ (f : FlightState). f.driver) is) (less [])
     (λ s stands sound.
     let has = change_of old s stands going in
     let first = nothing.first s.notifiers has.k stands.notifiers has.is in
@@ -166,7 +167,7 @@ pub lower_enters : (old : Parts) (x pll : ClockId) (more : Bool) (window' : Show
     → Enters old old.flight.driver (event.Step (micro.Lower x) None) turn.Going (with_step old window' flight')
 lower_enters old x pll more window' flight' now =
     enters_step old window' flight' (micro.Lower x) None (told_put old.desc.defs pll.0 false old.window.words window'.words now.words) now.size now.behind
-    (ap (λ (f : FlightState). f.going) now.flight ∙ now.going) (now.less []) (lower_leads old x pll more window' flight' now)
+    (ap (λ (f : FlightState). f.going) now.flight ∙ now.going) (ap (λ (f : FlightState). f.driver) now.flight) (now.less []) (lower_leads old x pll more window' flight' now)
 
 -- ---- a poll
 
@@ -176,7 +177,7 @@ pub poll_enters : (old : Parts) (pll : ClockId) (answer : Bool) (window' : Shown
     → Enters old old.flight.driver (event.Step (micro.Poll pll) (Some answer)) turn.Going (with_step old window' flight')
 poll_enters old pll answer window' flight' going own comes size words behind is change less =
     enters_step old window' flight' (micro.Poll pll) (Some answer) (ap (λ (o : Option (List ℕ)). is_some o) words) size behind
-    (ap (λ (f : FlightState). f.going) is ∙ (same_polled old.flight answer).going ∙ going) (less [])
+    (ap (λ (f : FlightState). f.going) is ∙ (same_polled old.flight answer).going ∙ going) (ap (λ (f : FlightState). f.driver) is ∙ (same_polled old.flight answer).driver) (less [])
     (λ s stands sound.
     let has = change_of old s stands going in
     let k = has.k in
@@ -196,7 +197,7 @@ pub fall_enters : (old : Parts) (pll : ClockId) (window' : Shown) (flight' : Fli
     → Enters old old.flight.driver (event.Step (micro.Fall pll) None) turn.Going (with_step old window' flight')
 fall_enters old pll window' flight' going next comes size words behind is change less =
     enters_step old window' flight' (micro.Fall pll) None (told_put old.desc.defs pll.0 false old.window.words window'.words words) size behind
-    (ap (λ (f : FlightState). f.going) is ∙ going) (less [] (micro.Fall pll) next refl)
+    (ap (λ (f : FlightState). f.going) is ∙ going) (ap (λ (f : FlightState). f.driver) is) (less [] (micro.Fall pll) next refl)
     (λ s stands sound.
     let has = change_of old s stands going in
     let k = has.k in
