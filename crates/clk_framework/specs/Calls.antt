@@ -1,5 +1,5 @@
 -- What the calls of a driver make of what it knows.
-use Rattle.std.specs.Prelude.{◌≡◌, ℕ, ◌-◌, ◌≤◌, List, [], ◌∷◌, ◌++◌, Option, Some, Bool, true, false, filter, length}
+use Rattle.std.specs.Prelude.{◌≡◌, ℕ, ◌-◌, List, [], ◌∷◌, ◌++◌, Option, Some, Bool, true, false, filter}
 use Rattle.atomic_table.specs.Seated.{TableId}
 use Rattle.clk_base.specs.declared.call.Micro.{Micro}
 use Rattle.clk_base.specs.declared.call.Sleeping.{Sleeping}
@@ -40,18 +40,18 @@ pub record SeesRun (d : DriverView) : Type 0 where
   pub own_ : own d.seen d.number ≡ d.mine
 
 -- an event of a driver is answered: its entry stands at the end of what the driver has seen and of its own, and a credit is spent
-pub record Answers (old : DriverView) (event : Event) (turn : Turn) (new : DriverView) : Type 0 where
-  pub driver : new ≡ record old { seen = new.seen; mine = old.mine ++ entry_of old.number event turn ∷ []; room = old.room - 1 }
+pub record Answers (old : DriverView) (given : Event) (answer : Turn) (new : DriverView) : Type 0 where
+  pub driver : new ≡ record old { seen = new.seen; mine = old.mine ++ entry_of old.number given answer ∷ []; room = old.room - 1 }
   -- what stands in front of it continues what the driver had seen
   pub before : List Entry
   pub continues : IsPrefix old.seen before
-  pub seen : new.seen ≡ before ++ entry_of old.number event turn ∷ []
+  pub seen : new.seen ≡ before ++ entry_of old.number given answer ∷ []
   pub run : SeesRun new
 
 -- steps of a driver behind an entry with this turn: one is made as long as the call goes on, and the last turn is this
 abbrev pub AreSteps : ℕ → Turn → List Entry → Turn → Type 0
-AreSteps d turn [] last = turn ≡ last
-AreSteps d turn (e ∷ es) last = (turn ≡ turn.Going) × (e.driver ≡ d) × (is_step e.event ≡ true) × AreSteps d e.turn es last
+AreSteps d now [] last = now ≡ last
+AreSteps d now (e ∷ es) last = (now ≡ turn.Going) × (e.driver ≡ d) × (is_step e.event ≡ true) × AreSteps d e.turn es last
 
 -- the entries of a driver's call: its beginning and its steps, of which the last has this turn
 abbrev pub AreCall : ℕ → Sleeping → List Entry → Turn → Type 0
@@ -64,9 +64,9 @@ pub record EndsWith (entries : List Entry) (e : Entry) : Type 0 where
   pub whole : entries ≡ front ++ e ∷ []
 
 -- a call of a driver has come so far: its entries stand behind what the driver had seen, and no other of the prepare tier beside them
-pub record Makes (old : DriverView) (what : Sleeping) (turn : Turn) (new : DriverView) : Type 0 where
+pub record Makes (old : DriverView) (what : Sleeping) (so_far : Turn) (new : DriverView) : Type 0 where
   pub entries : List Entry
-  pub call_ : AreCall old.number what entries turn
+  pub call_ : AreCall old.number what entries so_far
   pub driver : new ≡ record old { seen = new.seen; mine = old.mine ++ entries; room = old.room - 1 }
   -- what stands in front of the call continues what the driver had seen
   pub before : List Entry
@@ -82,14 +82,14 @@ pub record Makes (old : DriverView) (what : Sleeping) (turn : Turn) (new : Drive
   pub run : SeesRun new
 
 -- a step of a driver's call is made: its entry stands at the end of what the driver has seen and of its own, and nothing is spent
-pub record Steps (old : DriverView) (turn : Turn) (new : DriverView) : Type 0 where
+pub record Steps (old : DriverView) (so_far : Turn) (new : DriverView) : Type 0 where
   pub made : Micro
   pub answer : Option Bool
-  pub driver : new ≡ record old { seen = new.seen; mine = old.mine ++ entry_of old.number (event.Step made answer) turn ∷ [] }
+  pub driver : new ≡ record old { seen = new.seen; mine = old.mine ++ entry_of old.number (event.Step made answer) so_far ∷ [] }
   -- between what the driver had seen and the entry stand entries of the enable tier alone
   pub before : List Entry
   pub beside : AddsEnablesOnly is_prepare_tier old.seen before
-  pub seen : new.seen ≡ before ++ entry_of old.number (event.Step made answer) turn ∷ []
+  pub seen : new.seen ≡ before ++ entry_of old.number (event.Step made answer) so_far ∷ []
   pub run : SeesRun new
 
 -- a whole call of a driver, answered so: no call is in flight behind it

@@ -8,6 +8,7 @@ ghost use Rattle.tier_lock.specs.Known.{AreAll};
 ghost use Rattle.clk_framework.specs.Opening.{opened_of};
 ghost use Rattle.clk_framework.specs.Calls.{IsReady};
 
+use crate::desk::Desk;
 use crate::framework::{Driver, Framework};
 use clk_machine::Core;
 use reg_bank::Bank;
@@ -40,9 +41,8 @@ impl<B: Bank, N: Named> Framework<B, N> {
         ensures credits { sum_by (λ d. d.room) drivers.items + cost result.core.journal ≤ result.core.start.credits }
     {
         let Framework { lock, desk } = self;
-        let Some(baton) = desk.into_inner().baton else {
-            unreachable!()
-        };
+        let Desk { baton, of: _ } = desk.into_inner();
+        let Some(baton) = baton else { unreachable!() };
         match lock.close(drivers, baton) {
             Ok(kernel) => Closed {
                 core: Box::into_inner(kernel).into_core(),

@@ -7,8 +7,8 @@ ghost use Rattle.clk_model.specs.Begin.{most_credits};
 ghost use Rattle.clk_model.specs.Journal.{cost};
 ghost use Rattle.clk_machine.specs.Fit.{CanRun};
 ghost use Rattle.clk_machine.specs.Sound.{IsPlaced};
-ghost use Rattle.clk_machine.specs.Run.{Appends, can_make};
-ghost use Rattle.clk_framework.specs.Opening.{opened_with, Begins};
+ghost use Rattle.clk_machine.specs.Run.{Appends, StepsOn, in_flight};
+ghost use Rattle.clk_framework.specs.Opening.{opened_with, opened_of, start_of, Begins};
 
 use crate::opened::Opened;
 use crate::uncalled::Uncalled;
@@ -66,7 +66,13 @@ impl<B: Bank> Kept for Kernel<B> {
 
     fn last_cost(&self) -> u32 {
         match self.core.journal().last() {
-            None | Some(Entry { event: Event::Step(_, _), .. }) => 0,
+            None
+            | Some(
+                Entry {
+                    event: Event::Step(_, _),
+                    ..
+                },
+            ) => 0,
             Some(_) => 1,
         }
     }
@@ -96,21 +102,24 @@ impl<B: Bank> Kernel<B> {
 
     pub(crate) fn enable(&mut self, driver: u32, handle: Handle) -> Reply
         requires { cost self.old.journal < self.old.start.credits }
-        ensures { Appends self.old driver (Enable handle.number) (Done result) self.new }
+        ensures entry { Appends self.old driver (Enable handle.number) (Done result) self.new }
+        ensures opened { self.old.start ≡ start_of (opened_of self.old) }
     {
         self.core.enable(driver, handle)
     }
 
     pub(crate) fn disable(&mut self, driver: u32, handle: Handle) -> Reply
         requires { cost self.old.journal < self.old.start.credits }
-        ensures { Appends self.old driver (Disable handle.number) (Done result) self.new }
+        ensures entry { Appends self.old driver (Disable handle.number) (Done result) self.new }
+        ensures opened { self.old.start ≡ start_of (opened_of self.old) }
     {
         self.core.disable(driver, handle)
     }
 
     pub(crate) fn running(&mut self, driver: u32, handle: Handle) -> Reply
         requires { cost self.old.journal < self.old.start.credits }
-        ensures { Appends self.old driver (Running handle.number) (Done result) self.new }
+        ensures entry { Appends self.old driver (Running handle.number) (Done result) self.new }
+        ensures opened { self.old.start ≡ start_of (opened_of self.old) }
     {
         self.core.running(driver, handle)
     }
@@ -118,15 +127,26 @@ impl<B: Bank> Kernel<B> {
     // A call begins, unless the core can't make it so far.
     pub(crate) fn begin(&mut self, driver: u32, what: &Sleeping) -> Result<Turn, Uncalled>
         requires credit { cost self.old.journal < self.old.start.credits }
+        requires quiet { in_flight self.old.journal ≡ false }
         requires place { IsPlaced self.old.start.defs what.now }
         ensures ok { IfOk result (λ turn. Appends self.old driver (Begin what.now) turn self.new) }
         ensures err { OnErr result (self.new ≡ self.old) }
+        ensures opened { self.old.start ≡ start_of (opened_of self.old) }
     {
         if !self.core.built(what) {
             return Err(Uncalled::NotBuilt);
         }
         let turn = self.core.begin(driver, what)?;
         Ok(turn)
+    }
+
+    // The next step of the call in flight.
+    pub(crate) fn step(&mut self) -> Turn
+        requires { in_flight self.old.journal ≡ true }
+        ensures made { StepsOn self.old result self.new }
+        ensures opened { self.old.start ≡ start_of (opened_of self.old) }
+    {
+        self.core.step()
     }
 
     // The core itself.

@@ -7,6 +7,7 @@
 //! gives the core.
 #![tactic(auto)]
 
+mod calling;
 mod closing;
 mod desk;
 mod enabling;
