@@ -4,7 +4,7 @@ ghost use Rattle.std.specs.Bool.{OnTrue, OnFalse};
 
 use crate::roll::{Line, Roll};
 use std::sync::Wait;
-use tier_lock::{Kept, Lock, Pass};
+use tier_lock::{Lock, Pass};
 
 /// Adds one line; false where there is no memory for it.
 pub fn append<R: Wait>(
@@ -22,7 +22,6 @@ pub fn append<R: Wait>(
     ensures missed { OnFalse result (pass.new ≡ record pass.old { seen = pass.new.seen }) }
 {
     let mut guard = lock.take(rt, pass);
-    let _total = guard.value.total();
     let line = Line {
         driver: pass.number(),
         number,

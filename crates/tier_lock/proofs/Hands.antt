@@ -1,5 +1,5 @@
 -- What the fields of a pass and of a baton say, at the steps that their calls make.
-use Rattle.std.proofs.Common.{◌≡◌, ℕ, ◌+◌, ◌-◌, ◌^◌, ◌%◌, ◌<◌, ◌≤◌, true, List, [], ◌∷◌, length, Option, Some, sym, ap, ◌∙◌, subst}
+use Rattle.std.proofs.Common.{◌≡◌, ℕ, ◌+◌, ◌-◌, ◌^◌, ◌%◌, ◌<◌, ◌≤◌, true, List, [], ◌∷◌, ◌++◌, length, Option, Some, sym, ap, ◌∙◌, subst, arith, length-append}
 use mathlib.Core.Option.{none}
 use Rattle.atomic_table.specs.Table.{Me, rest, Allows, step}
 use Rattle.atomic_table.specs.Seated.{TableId}
@@ -20,7 +20,7 @@ module _ {T E F : Type 0} (k : Reading T E F) where
   pub record Asked (value : T) (p : KnownPass E F) : Type 0 where
     pub turn : p.turn ≡ true
     pub fixed_is : p.fixed ≡ Some (k.fixed value)
-    pub few : length p.seen < 4294967295
+    pub few : length (k.entries value) < 2 ^ 63
     pub one_more : (e : E) × Adds p.seen (k.entries value) e
     pub driver : (e : E) → Adds p.seen (k.entries value) e → k.by e ≡ p.number
     pub cost : (e : E) → Adds p.seen (k.entries value) e → k.cost e ≤ p.room
@@ -40,6 +40,12 @@ module _ {T E F : Type 0} (k : Reading T E F) where
     pub hand : after.1 ≡ (0, Some value) ∷ []
     pub one : size ≡ 1
 
+  -- a log that memory has with an entry more has room for it in the word
+  one_fits : (seen entries : List E) (e : E) → entries ≡ seen ++ e ∷ [] → length entries < 2 ^ 63 → length seen + 1 < 2 ^ 63
+  one_fits seen entries e more few =
+      let longer = ap length more ∙ length-append seen (e ∷ []) in
+      omega arith
+
   pub may_give : (fixed : F) (size id number room made : ℕ) (table : TableId) (p : KnownPass E F) (before after : Me (Option T) (View E F)) (value : T)
       → Refilled table p before after value size number room made → Asked value p
       → Allows (Holds k fixed) size id after 0 (λ n. (n + 1) % 2 ^ 64) (Gives k (step size 0 1 0 none) after)
@@ -47,7 +53,7 @@ module _ {T E F : Type 0} (k : Reading T E F) where
       let a : Asked value (known_pass table before.0) = subst (λ q. Asked value q) (sym r.view_is) asked in
       let e = a.one_more in
       subst (λ (v : View E F). Allows (Holds k fixed) size id (v, after.1) 0 (λ n. (n + 1) % 2 ^ 64) (Gives k (step size 0 1 0 none) (v, after.1))) (sym r.view)
-      (gives_entry k fixed size id before.0 after.1 value e.0 r.one r.hand r.sits.live a.turn r.sits.alone a.few e.1 a.fixed_is record { by_pass = a.driver e.0 e.1; cost_fits = a.cost e.0 e.1; tier = a.tier e.0 e.1 })
+      (gives_entry k fixed size id before.0 after.1 value e.0 r.one r.hand r.sits.live a.turn r.sits.alone (one_fits (known_pass table before.0).seen (k.entries value) e.0 e.1 a.few) e.1 a.fixed_is record { by_pass = a.driver e.0 e.1; cost_fits = a.cost e.0 e.1; tier = a.tier e.0 e.1 })
 
   pub may_give_back : (fixed : F) (size id number room made : ℕ) (table : TableId) (p : KnownPass E F) (before after : Me (Option T) (View E F)) (value : T)
       → Refilled table p before after value size number room made → AskedBack value p

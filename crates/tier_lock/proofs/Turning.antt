@@ -216,7 +216,7 @@ module _ {T E F : Type 0} (k : Reading T E F) (fixed : F) where
   first_slot [] = None
   first_slot (x ∷ xs) = x.1
 
-  gives_value : (size id : ℕ) (v : View E F) (value : T) (e : E) → size ≡ 1 → v.live ≡ true → v.turn ≡ true → v.beside ≡ None → length v.seen < 4294967295
+  gives_value : (size id : ℕ) (v : View E F) (value : T) (e : E) → size ≡ 1 → v.live ≡ true → v.turn ≡ true → v.beside ≡ None → length v.seen + 1 < 2 ^ 63
       → k.entries value ≡ v.seen ++ e ∷ [] → v.fixed ≡ Some (k.fixed value) → Fitting v e
       → Allows (Holds k fixed) size id (v, (0, Some value) ∷ []) 0 (λ n. (n + 1) % 2 ^ 64) (Gives k (step size 0 1 0 none) (v, (0, Some value) ∷ []))
   gives_value size id v value e one live turn alone few adds same_fixed asked s h slots at range =
@@ -259,7 +259,7 @@ module _ {T E F : Type 0} (k : Reading T E F) (fixed : F) where
       )
 
   -- the turn ends with the entry that the value in hand has more
-  pub gives_entry : (size id : ℕ) (v : View E F) (c : List (ℕ × Option T)) (value : T) (e : E) → size ≡ 1 → c ≡ (0, Some value) ∷ [] → v.live ≡ true → v.turn ≡ true → v.beside ≡ None → length v.seen < 4294967295
+  pub gives_entry : (size id : ℕ) (v : View E F) (c : List (ℕ × Option T)) (value : T) (e : E) → size ≡ 1 → c ≡ (0, Some value) ∷ [] → v.live ≡ true → v.turn ≡ true → v.beside ≡ None → length v.seen + 1 < 2 ^ 63
       → k.entries value ≡ v.seen ++ e ∷ [] → v.fixed ≡ Some (k.fixed value) → Fitting v e
       → Allows (Holds k fixed) size id (v, c) 0 (λ n. (n + 1) % 2 ^ 64) (Gives k (step size 0 1 0 none) (v, c))
   gives_entry size id v c value e one is live turn alone few adds same_fixed asked =

@@ -33,8 +33,6 @@ impl<T: Kept> Lock<T> {
         requires turn { pass.old.turn ≡ true }
         // The fixed part of the value is as it was.
         requires fixed { pass.old.fixed ≡ Some (T.fixed guard.value) }
-        // The log is shorter than its numbers can count.
-        requires few { length pass.old.seen < 4294967295 }
         // The value has exactly one entry more than the pass has seen.
         requires one_more { (e : T.Entry) × Adds pass.old.seen (T.entries guard.value) e }
         // It is of this pass's number.

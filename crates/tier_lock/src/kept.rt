@@ -1,5 +1,5 @@
 //! What a lock can keep.
-ghost use Rattle.std.specs.Prelude.{◌≡◌, ℕ, ◌≤◌, Bool, List, [], ◌∷◌, ◌++◌};
+ghost use Rattle.std.specs.Prelude.{◌≡◌, ℕ, ◌<◌, ◌≤◌, ◌^◌, Bool, List, [], ◌∷◌, ◌++◌, length};
 
 /// A value that is a log of entries. Contracts see its entries and its fixed part, and nothing else.
 pub trait Kept: Drop {
@@ -26,7 +26,9 @@ pub trait Kept: Drop {
     /// What the last entry cost; 0 where there is none.
     fn last_cost(&self) -> u32
         ensures last { (before : List Self.Entry) (e : Self.Entry) → entries self.now ≡ before ++ e ∷ [] → result ≡ cost e }
-        ensures none { entries self.now ≡ [] → result ≡ 0 };
+        ensures none { entries self.now ≡ [] → result ≡ 0 }
+        // The entries are no more than memory can have.
+        ensures few { length (entries self.now) < 2 ^ 63 };
 
     ghost costs_little: { (e : Self.Entry) → cost e ≤ 1 };
 }

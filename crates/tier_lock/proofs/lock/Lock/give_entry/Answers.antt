@@ -17,7 +17,7 @@ fetch_add-requires g c =
       } record {
         turn = c.requires.turn;
         fixed_is = c.requires.fixed;
-        few = c.requires.few;
+        few = c.last_cost-cost.ensures.few;
         one_more = c.requires.one_more;
         driver = c.requires.driver;
         cost = c.requires.cost;

@@ -1,0 +1,159 @@
+//! What the lock keeps: the core, as a log of entries.
+
+ghost use Rattle.std.specs.Prelude.{◌≡◌, ◌<◌, ◌≤◌, true, false, length, IfOk, OnErr};
+ghost use Rattle.clk_base.specs.declared.event.Event.TheVariants.{Enable, Disable, Running, Begin};
+ghost use Rattle.clk_base.specs.declared.event.Turn.TheVariants.{Done};
+ghost use Rattle.clk_model.specs.Begin.{most_credits};
+ghost use Rattle.clk_model.specs.Journal.{cost};
+ghost use Rattle.clk_machine.specs.Fit.{CanRun};
+ghost use Rattle.clk_machine.specs.Sound.{IsPlaced};
+ghost use Rattle.clk_machine.specs.Run.{Appends, StepsOn, in_flight};
+ghost use Rattle.clk_framework.specs.Opening.{opened_with, opened_of, start_of, Begins};
+
+use crate::opened::Opened;
+use crate::uncalled::Uncalled;
+use clk_base::{Entry, Event, Handle, Reply, Sleeping, Turn, ValidDesc};
+use clk_io::NoMemory;
+use clk_machine::Core;
+use reg_bank::Bank;
+use std::alloc::Global;
+use std::marker::Model;
+use tier_lock::Kept;
+
+/// The core, as a value that drivers take in turns. Contracts see it as the core's `Run`.
+#[derive(Drop)]
+pub struct Kernel<B: Bank> {
+    core: Core<B>,
+    credits: u32,
+}
+
+impl<B: Bank> Model for Kernel<B> {
+    ghost use Rattle.clk_machine.specs.Run.{Run};
+    ghost use Rattle.clk_framework.specs.Opening.{IsOpened};
+
+    ghost Value = { Run };
+
+    ghost view = { λ k. k.core };
+
+    ghost invariant = { λ k. IsOpened k.core k.credits };
+}
+
+impl<B: Bank> Kept for Kernel<B> {
+    ghost use Rattle.std.proofs.Common.{arith, cond, Bool};
+    ghost use Rattle.clk_model.specs.Journal.{is_paid};
+    ghost use Rattle.clk_framework.specs.Opening.{opened_of};
+    ghost use Rattle.clk_framework.specs.Tiers.{is_prepare_tier, price};
+
+    type Entry = Entry;
+
+    type Fixed = Opened;
+
+    ghost entries = { λ run. run.journal };
+
+    ghost fixed = { opened_of };
+
+    ghost by = { λ e. e.driver };
+
+    ghost prep = { is_prepare_tier };
+
+    ghost cost = { price };
+
+    ghost most = { λ opened. opened.credits };
+
+    fn total(&self) -> u32 {
+        self.credits
+    }
+
+    fn last_cost(&self) -> u32 {
+        match self.core.journal().last() {
+            None
+            | Some(
+                Entry {
+                    event: Event::Step(_, _),
+                    ..
+                },
+            ) => 0,
+            Some(_) => 1,
+        }
+    }
+
+    ghost costs_little = { λ e. elim (is_paid e.event) as (λ (b : Bool). cond b 1 0 ≤ 1) [ true ↦ Prim.omega arith | false ↦ Prim.omega arith ] };
+}
+
+impl<B: Bank> Kernel<B> {
+    // A core at its opening.
+    pub(crate) fn create(
+        alloc: Global,
+        desc: ValidDesc,
+        bank: B,
+        words: &[u32],
+        ignore_unused: bool,
+        credits: u32,
+    ) -> Result<Kernel<B>, NoMemory>
+        requires runs { CanRun desc.defs }
+        requires words { length words.now ≡ desc.words }
+        requires bank { length words.now ≤ B.size bank }
+        requires credits { credits ≤ most_credits }
+        ensures opened { IfOk result (λ run. Begins (opened_with desc.defs words.now ignore_unused credits (B.contents bank)) run) }
+    {
+        let core = Core::create(alloc, desc, bank, words, ignore_unused, credits)?;
+        Ok(Kernel { core, credits })
+    }
+
+    pub(crate) fn enable(&mut self, driver: u32, handle: Handle) -> Reply
+        requires { cost self.old.journal < self.old.start.credits }
+        ensures entry { Appends self.old driver (Enable handle.number) (Done result) self.new }
+        ensures opened { self.old.start ≡ start_of (opened_of self.old) }
+    {
+        self.core.enable(driver, handle)
+    }
+
+    pub(crate) fn disable(&mut self, driver: u32, handle: Handle) -> Reply
+        requires { cost self.old.journal < self.old.start.credits }
+        ensures entry { Appends self.old driver (Disable handle.number) (Done result) self.new }
+        ensures opened { self.old.start ≡ start_of (opened_of self.old) }
+    {
+        self.core.disable(driver, handle)
+    }
+
+    pub(crate) fn running(&mut self, driver: u32, handle: Handle) -> Reply
+        requires { cost self.old.journal < self.old.start.credits }
+        ensures entry { Appends self.old driver (Running handle.number) (Done result) self.new }
+        ensures opened { self.old.start ≡ start_of (opened_of self.old) }
+    {
+        self.core.running(driver, handle)
+    }
+
+    // A call begins, unless the core can't make it so far.
+    pub(crate) fn begin(&mut self, driver: u32, what: &Sleeping) -> Result<Turn, Uncalled>
+        requires credit { cost self.old.journal < self.old.start.credits }
+        requires quiet { in_flight self.old.journal ≡ false }
+        requires place { IsPlaced self.old.start.defs what.now }
+        ensures ok { IfOk result (λ turn. Appends self.old driver (Begin what.now) turn self.new) }
+        ensures err { OnErr result (self.new ≡ self.old) }
+        ensures opened { self.old.start ≡ start_of (opened_of self.old) }
+    {
+        if !self.core.built(what) {
+            return Err(Uncalled::NotBuilt);
+        }
+        let turn = self.core.begin(driver, what)?;
+        Ok(turn)
+    }
+
+    // The next step of the call in flight.
+    pub(crate) fn step(&mut self) -> Turn
+        requires { in_flight self.old.journal ≡ true }
+        ensures made { StepsOn self.old result self.new }
+        ensures opened { self.old.start ≡ start_of (opened_of self.old) }
+    {
+        self.core.step()
+    }
+
+    // The core itself.
+    pub(crate) fn into_core(self) -> Core<B>
+        ensures { result ≡ self }
+    {
+        let Kernel { core, credits: _ } = self;
+        core
+    }
+}

@@ -1,0 +1,24 @@
+//! The framework that drivers share: the core behind the counted lock.
+//!
+//! An [`Unnamed`] framework and driver 0 come from one call. [`Framework::of`] gives it the name of
+//! its lock, driver 0 makes further drivers, and each driver makes its calls from a thread of its
+//! own: `enable`, `disable` and `running` take one turn of the lock; `call` has the baton from its
+//! beginning to its end, and takes a turn for each step. At the end `close` takes all drivers and
+//! gives the core.
+#![tactic(auto)]
+
+mod calling;
+mod closing;
+mod desk;
+mod enabling;
+mod framework;
+mod kernel;
+mod making;
+mod opened;
+mod uncalled;
+
+pub use closing::Closed;
+pub use framework::{Driver, Framework, Unnamed};
+pub use kernel::Kernel;
+pub use opened::Opened;
+pub use uncalled::Uncalled;
