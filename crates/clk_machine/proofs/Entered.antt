@@ -47,7 +47,7 @@ enters old new d event r does pays going left becomes comes = record {
   going = ap (λ (f : FlightState). f.going) becomes.flight ∙ going;
   fewer = λ free. let no : true ≡ false = sym pays ∙ free in absurd cc;
   begun = λ paid goes. absurd cc;
-  no_more = λ paid done. let same = ap (λ (f : FlightState). left_over [] f) becomes.flight in omega arith;
+  no_more = λ paid done. let same = becomes.left in omega arith;
   step = λ s stands sound.
       let spends : s.spent < s.credits = let one = stands.spent in let two = stands.credits in omega arith in
       record {

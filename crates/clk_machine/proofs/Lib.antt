@@ -1,6 +1,7 @@
 pub mod WindowLaws
 pub mod LockLaws
 pub mod Seeking
+pub mod Setting
 pub mod Stepping
 pub mod InFlight
 pub mod Opening
@@ -24,7 +25,10 @@ pub mod Following
 pub mod Powering
 pub mod Making
 pub mod Raising
-pub mod Landing
+pub mod Telling
+pub mod Visiting
+pub mod Ending
+pub mod Landings
 pub mod Working
 pub mod Starting
 pub mod Entered

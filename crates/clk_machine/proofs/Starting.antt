@@ -31,8 +31,8 @@ use Rattle.clk_flight.specs.Begun as flights
 use Rattle.clk_flight.specs.LeftOver.{step_weight, front_weight, left_over}
 use Rattle.clk_flight.specs.Fronts.{called_off}
 use Rattle.clk_flight.specs.declared.start.Start.{Start}
-use Rattle.clk_machine.specs.Parts.{Parts, bare, own_in, IsOwnCall, IsWhole}
-use Rattle.clk_machine.specs.InFlight.{may_go_on, is_script, is_front}
+use Rattle.clk_machine.specs.Parts.{Parts, bare, own_in, IsOwnCall, IsWhole, rows_from}
+use Rattle.clk_machine.specs.InFlight.{may_go_on, changes_rate, is_script, is_front}
 use Rattle.clk_machine.specs.Plls.{is_loose}
 use Rattle.clk_machine.specs.Stands.{Stands, Enters}
 use Rattle.clk_machine.specs.Starting.{StartsCall}
@@ -135,10 +135,10 @@ starts_prepare s ns d h c start driver what script range extra vetoed = record {
 }
 
 -- what is left to come of it
-pub raise_left : (plls_ : ℕ) (c : ClockId) → sum_by (step_weight [] plls_) (raise_script c) ≡ 34 * plls_ + 2
-raise_left p c =
-    let one = sum_by-cons (step_weight [] p) (micro.Raise c) (micro.End ∷ []) in
-    let two = sum_by-cons (step_weight [] p) micro.End [] in
+pub raise_left : (rows : List NotifierRow) (plls_ : ℕ) (c : ClockId) → sum_by (step_weight rows plls_) (raise_script c) ≡ 34 * plls_ + 2
+raise_left rows p c =
+    let one = sum_by-cons (step_weight rows p) (micro.Raise c) (micro.End ∷ []) in
+    let two = sum_by-cons (step_weight rows p) micro.End [] in
     omega arith
 
 -- a prepare that goes on takes the parts on
@@ -152,7 +152,7 @@ enters_prepare old new d h row whole quiet left own some room starts_ = record {
   rows = λ c. starts_.rows c ∙ sym (or-false (registered old.tree.clocks c));
   going = starts_.going;
   fewer = λ free. absurd cc;
-  begun = λ paid goes. let steps = starts_.left in let few = raise_left (plls old.desc.defs) row.clock in omega arith;
+  begun = λ paid goes. let steps = starts_.left in let few = raise_left (rows_from 0 old.chains) (plls old.desc.defs) row.clock in omega arith;
   no_more = λ paid done. absurd cc;
   step = λ s stands sound.
       let spends : s.spent < s.credits = let one = stands.spent in let two = stands.credits in omega arith in
@@ -184,21 +184,21 @@ abbrev pub with_flight : Parts → FlightState → Parts
 with_flight old flight' = record old { flight = flight'; spent = old.spent + 1 }
 
 started_left : (old : Parts) (d : ℕ) (h : Handle) (row : HandleRow) (flight' : FlightState) → Started old d h row flight'
-    → left_over [] flight' ≡ sum_by (step_weight [] (plls old.desc.defs)) (raise_script row.clock)
+    → left_over (rows_from 0 old.chains) flight' ≡ sum_by (step_weight (rows_from 0 old.chains) (plls old.desc.defs)) (raise_script row.clock)
 started_left old d h row flight' now = by flight'.going now.going where
-  parts : front_weight flight'.plls flight'.again flight'.front + sum_by (step_weight [] flight'.plls) flight'.left + flight'.extra + length flight'.raised
-      ≡ sum_by (step_weight [] (plls old.desc.defs)) (raise_script row.clock)
+  parts : front_weight flight'.plls flight'.again flight'.front + sum_by (step_weight (rows_from 0 old.chains) flight'.plls) flight'.left + flight'.extra + length flight'.raised
+      ≡ sum_by (step_weight (rows_from 0 old.chains) (plls old.desc.defs)) (raise_script row.clock)
   parts =
       let one = ap (λ (f : Front). front_weight flight'.plls flight'.again f) now.front in
-      let two : sum_by (step_weight [] flight'.plls) flight'.left ≡ sum_by (step_weight [] (plls old.desc.defs)) (raise_script row.clock) =
-      ap (λ (ms : List Micro). sum_by (step_weight [] flight'.plls) ms) now.left ∙ ap (λ (n : ℕ). sum_by (step_weight [] n) (raise_script row.clock)) now.plls_ in
+      let two : sum_by (step_weight (rows_from 0 old.chains) flight'.plls) flight'.left ≡ sum_by (step_weight (rows_from 0 old.chains) (plls old.desc.defs)) (raise_script row.clock) =
+      ap (λ (ms : List Micro). sum_by (step_weight (rows_from 0 old.chains) flight'.plls) ms) now.left ∙ ap (λ (n : ℕ). sum_by (step_weight (rows_from 0 old.chains) n) (raise_script row.clock)) now.plls_ in
       let three = now.extra in
       let four = ap (λ (ys : List ℕ). length ys) now.raised in
       omega arith
 
   by : (t : Bool) → t ≡ true
-      → (if t then front_weight flight'.plls flight'.again flight'.front + sum_by (step_weight [] flight'.plls) flight'.left + flight'.extra + length flight'.raised else 0)
-      ≡ sum_by (step_weight [] (plls old.desc.defs)) (raise_script row.clock)
+      → (if t then front_weight flight'.plls flight'.again flight'.front + sum_by (step_weight (rows_from 0 old.chains) flight'.plls) flight'.left + flight'.extra + length flight'.raised else 0)
+      ≡ sum_by (step_weight (rows_from 0 old.chains) (plls old.desc.defs)) (raise_script row.clock)
   by true e = parts
   by false e = absurd cc
 
@@ -215,6 +215,7 @@ whole_started old d h row flight' whole left room now =
       clocks = whole.clocks;
       handled = whole.handled;
       notified = whole.notified;
+      listed = whole.listed;
       flown = λ going. record {
         plls_ = now.plls_;
         way = record {
@@ -226,13 +227,14 @@ whole_started old d h row flight' whole left room now =
           front = ap (is_front flight'.call (registered old.tree.clocks)) now.front;
           raised = ap (λ (ys : List ℕ). list_all (registered old.tree.clocks) ys) now.raised;
           extra = now.extra;
-          vetoed = now.vetoed;
+          vetoed = λ is. let no : true ≡ false = sym is ∙ now.vetoed in absurd cc;
         };
+        tells = λ changes. let no : true ≡ false = sym changes ∙ ap changes_rate now.call_ in absurd cc;
         own = subst (λ (what : Sleeping). IsOwnCall old.table.handles flight'.driver what) (sym now.call_)
             (ap (λ (e : ℕ). is_some (own_in old.table.handles e h.number)) now.driver ∙ ap (λ (o : Option HandleRow). is_some o) now.own);
         paid = let few = whole.paid.few_holds in omega arith;
       };
-      room = let steps = started_left old d h row flight' now in let few = raise_left (plls old.desc.defs) row.clock in omega arith;
+      room = let steps = started_left old d h row flight' now in let few = raise_left (rows_from 0 old.chains) (plls old.desc.defs) row.clock in omega arith;
     }
 
 -- and the call goes on
@@ -254,6 +256,7 @@ starts_call old d h row flight' now change = record {
     prepare_holds = stands.prepare_holds;
     enable_holds = stands.enable_holds;
     change = change s;
+    along = λ changes. absurd cc;
     credits = stands.credits;
     spent = ap (λ (n : ℕ). n + 1) stands.spent;
     steps = stands.steps;

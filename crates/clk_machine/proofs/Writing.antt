@@ -89,8 +89,9 @@ whole_written old n row new window' table' counts' whole written left tied = rec
     | inr was ↦ whole.handled k h was
   ];
   notified = whole.notified;
+  listed = whole.listed;
   flown = λ going.
-      flown_written old.desc.defs old.tree.clocks old.table.handles table'.handles old.spent n row new old.flight (whole.flown going) written.live written.driver written.more written.handles;
+      flown_written old.desc.defs old.tree.clocks old.table.handles table'.handles old.chains old.course.notified old.spent n row new old.flight (whole.flown going) written.live written.driver written.more written.handles;
   room = whole.room;
 }
 
@@ -108,6 +109,7 @@ stands_written old n row new window' table' counts' s regs' written stands words
   prepare_holds = stands.prepare_holds;
   enable_holds = stands.enable_holds;
   change = stands.change;
+  along = stands.along;
   credits = stands.credits;
   spent = ap (λ (k : ℕ). k + 1) stands.spent;
   steps = stands.steps;
@@ -125,6 +127,7 @@ becomes_written old n row new table' counts' written same = record {
   remains = record { desc = refl; told = refl; size = refl; behind = refl; credits = refl; ignore_unused = refl };
   spent = refl;
   flight = refl;
+  left = refl;
   steps = refl;
   rows = λ c. sym (or-false (registered old.tree.clocks c));
   stands = λ s stands sound.
@@ -154,7 +157,8 @@ whole_spent old whole left = record {
   clocks = whole.clocks;
   handled = whole.handled;
   notified = whole.notified;
-  flown = λ going. flown_spent old.desc.defs old.tree.clocks old.table.handles old.spent old.flight (whole.flown going);
+  listed = whole.listed;
+  flown = λ going. flown_spent old.desc.defs old.tree.clocks old.table.handles old.chains old.course.notified old.spent old.flight (whole.flown going);
   room = whole.room;
 }
 
@@ -163,6 +167,7 @@ becomes_spent old = record {
   remains = record { desc = refl; told = refl; size = refl; behind = refl; credits = refl; ignore_unused = refl };
   spent = refl;
   flight = refl;
+  left = refl;
   steps = refl;
   rows = λ c. sym (or-false (registered old.tree.clocks c));
   stands = λ s stands sound.
@@ -176,6 +181,7 @@ becomes_spent old = record {
         prepare_holds = stands.prepare_holds;
         enable_holds = stands.enable_holds;
         change = stands.change;
+        along = stands.along;
         credits = stands.credits;
         spent = ap (λ (k : ℕ). k + 1) stands.spent;
         steps = stands.steps;
@@ -209,6 +215,7 @@ whole_listed old table' handles whole left clocks is few holds stands quiet hand
   clocks = clocks ∙ whole.clocks;
   handled = λ k h at. handled k h (sym (ap (λ (hs : List (Option HandleRow)). handle_at hs k) is) ∙ at);
   notified = whole.notified;
+  listed = whole.listed;
   flown = λ going. never_flown old.flight quiet going;
   room = whole.room;
 }
@@ -222,6 +229,7 @@ becomes_listed old table' does each beside = record {
   remains = record { desc = refl; told = refl; size = refl; behind = refl; credits = refl; ignore_unused = refl };
   spent = refl;
   flight = refl;
+  left = refl;
   steps = refl;
   rows = λ c. sym (or-false (registered old.tree.clocks c));
   stands = λ s stands sound.
@@ -236,6 +244,7 @@ becomes_listed old table' does each beside = record {
         prepare_holds = stands.prepare_holds;
         enable_holds = stands.enable_holds;
         change = stands.change;
+        along = stands.along;
         credits = stands.credits;
         spent = ap (λ (k : ℕ). k + 1) stands.spent;
         steps = stands.steps;

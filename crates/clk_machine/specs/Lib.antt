@@ -3,11 +3,13 @@ pub mod Shape
 pub mod Fit
 pub mod Plls
 pub mod InFlight
+pub mod Course
 pub mod Built
 pub mod Parts
 pub mod Stands
 pub mod Making
 pub mod Starting
+pub mod Landing
 pub mod Holding
 pub mod Sound
 pub mod Run

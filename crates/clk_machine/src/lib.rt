@@ -2,6 +2,7 @@
 #![tactic(auto)]
 
 mod built;
+mod course;
 mod fit;
 mod framework;
 mod gates;
@@ -14,6 +15,7 @@ mod power;
 mod register;
 mod row;
 mod seen;
+mod visits;
 mod window;
 mod work;
 

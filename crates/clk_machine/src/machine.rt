@@ -19,7 +19,9 @@ mod rows;
 mod starting;
 mod stepping;
 mod telling;
+mod visiting;
 
+use crate::course::Course;
 use crate::window::Window;
 use clk_base::{Handle, Reply, Sleeping, ValidDesc};
 use clk_flight::Flight;
@@ -47,6 +49,7 @@ pub(crate) struct Machine<B: Bank> {
     spent: u32,
     ignore_unused: bool,
     flight: Flight,
+    course: Course,
     alloc: Global,
     /// How many steps were made.
     steps: u32,
@@ -57,9 +60,9 @@ impl<B: Bank> Model for Machine<B> {
 
     ghost Value = { Parts };
 
-    ghost view = { λ m. parts_of m.desc m.window m.tree m.handles m.counts m.notifiers m.credits m.spent m.ignore_unused m.flight m.steps };
+    ghost view = { λ m. parts_of m.desc m.window m.tree m.handles m.counts m.notifiers m.credits m.spent m.ignore_unused m.flight m.course m.steps };
 
-    ghost invariant = { λ m. IsWhole (parts_of m.desc m.window m.tree m.handles m.counts m.notifiers m.credits m.spent m.ignore_unused m.flight m.steps) };
+    ghost invariant = { λ m. IsWhole (parts_of m.desc m.window m.tree m.handles m.counts m.notifiers m.credits m.spent m.ignore_unused m.flight m.course m.steps) };
 }
 
 impl<B: Bank> Machine<B> {
@@ -100,6 +103,7 @@ impl<B: Bank> Machine<B> {
         let notifiers = Notifiers::create(alloc, &desc)?;
         let window = Window::create(bank, words);
         let flight = Flight::create(alloc);
+        let course = Course::none(alloc);
         Ok(Machine {
             desc,
             window,
@@ -111,6 +115,7 @@ impl<B: Bank> Machine<B> {
             spent: 0,
             ignore_unused,
             flight,
+            course,
             alloc,
             steps: 0,
         })

@@ -83,6 +83,7 @@ impl<B: Bank> Machine<B> {
             spent: _,
             ignore_unused: _,
             flight: _,
+            course: _,
             alloc: _,
             steps: _,
         } = self;
