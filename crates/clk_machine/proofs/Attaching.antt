@@ -98,7 +98,6 @@ IsNarrow-register words s c sound within free parents = record {
   unlinked = λ d free'. by_row_unlinked d free' (same_or_not c d);
   parents = λ d there. by_row_parents d there (same_or_not c d);
   selects = λ d there. by_row_selects d there (same_or_not c d);
-  unpowered = sound.unpowered;
 } where
   inside : c < length s.clocks
   inside = let rows = sound.rows in omega arith

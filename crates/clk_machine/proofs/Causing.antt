@@ -3,6 +3,7 @@ use Rattle.std.proofs.Common.{◌≡◌, ℕ, true, refl}
 use Rattle.clk_base.specs.declared.event.Event.{Event}
 use Rattle.clk_base.specs.declared.event.Reply.{Reply}
 use Rattle.clk_base.specs.declared.event.Reply.TheVariants as reply
+use Rattle.clk_base.specs.declared.event.Turn.{Turn}
 use Rattle.clk_base.specs.declared.event.Turn.TheVariants as turn
 use Rattle.clk_model.specs.Journal.{slotless, is_paid}
 use Rattle.clk_model.specs.Laws.Causes.{is_refusal, LeavesRefused}
@@ -24,3 +25,8 @@ pub appends_refused : (old new : Run) (d : ℕ) (e : Event) (r : Reply) → Appe
     → LeavesRefused (turn.Done r) (now_of old) (now_of new)
 appends_refused old new d e r appends paid told refuses =
     refused_keeps (now_of old) (now_of new) d e (slotless (turn.Done r)) paid (appends.step told) (slotless_refusal r refuses)
+
+-- so does one that may go on
+pub turn_refused : (old new : Run) (d : ℕ) (e : Event) (t : Turn) → Appends old d e t new → is_paid e ≡ true → old.told ≡ true → LeavesRefused t (now_of old) (now_of new)
+turn_refused old new d e turn.Going appends paid told refuses = absurd cc
+turn_refused old new d e (turn.Done r) appends paid told refuses = appends_refused old new d e r appends paid told refuses

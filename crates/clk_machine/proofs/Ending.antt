@@ -193,6 +193,7 @@ end_enters old new does now = record {
   pays = let same : old.spent ≡ old.spent + 0 = omega arith in now.spent ∙ same;
   rows = λ c. now.rows c ∙ sym (or-false (registered old.tree.clocks c));
   going = quiet;
+  driver_ = λ still. let no : true ≡ false = sym still ∙ quiet in absurd cc;
   fewer = λ free.
       let some = some_left (rows_from 0 old.chains) old.flight (registered old.tree.clocks) now.going (now.whole.flown now.going).way in
       let none = none_left (rows_from 0 new.chains) new.flight quiet in

@@ -37,6 +37,11 @@ own_stands m s d n o stands own = ap (λ (hs : List (Option HandleRow)). own_in 
 abbrev pub Comes : Parts → ℕ → Event → Reply → (State → State) → Type 0
 Comes old d event r does = (s : State) → Stands old s → IsSound old.window.size s → next s d event ≡ paid s (does s, slotless (turn.Done r))
 
+-- the call in flight is whose it was, where an event leaves it
+same_driver : (f : FlightState) (d : ℕ) (t : Bool) → f.going ≡ (if t then f.going else false) → f.going ≡ true → f.driver ≡ (if t then f.driver else d)
+same_driver f d true leaves still = refl
+same_driver f d false leaves still = absurd cc
+
 -- an event that comes to what is done to the state takes the parts on
 pub enters : (old new : Parts) (d : ℕ) (event : Event) (r : Reply) (does : State → State) → is_paid event ≡ true → old.flight.going ≡ (if is_enable_tier event then old.flight.going else false) → old.spent < old.credits
     → Becomes old (registers event) does new → Comes old d event r does → Enters old d event (turn.Done r) new
@@ -45,6 +50,8 @@ enters old new d event r does pays going left becomes comes = record {
   pays = becomes.spent ∙ sym (ap (λ (b : Bool). old.spent + cond b 1 0) pays);
   rows = becomes.rows;
   going = ap (λ (f : FlightState). f.going) becomes.flight ∙ going;
+  driver_ = λ still.
+      ap (λ (f : FlightState). f.driver) becomes.flight ∙ same_driver old.flight d (is_enable_tier event) going (sym (ap (λ (f : FlightState). f.going) becomes.flight) ∙ still);
   fewer = λ free. let no : true ≡ false = sym pays ∙ free in absurd cc;
   begun = λ paid goes. absurd cc;
   no_more = λ paid done. let same = becomes.left in omega arith;

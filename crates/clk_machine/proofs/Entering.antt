@@ -1,37 +1,42 @@
 -- Entering an event that the machine has taken into the journal.
-use Rattle.std.proofs.Common.{◌≡◌, ℕ, ◌+◌, ◌<◌, ◌&&◌, ◌||◌, Bool, true, false, cond, List, [], ◌∷◌, ◌++◌, Some, refl, sym, ap, subst, ◌∙◌, arith, length, take, nat_le, ◌≤◌}
+use Rattle.std.proofs.Common.{◌≡◌, ℕ, ◌+◌, ◌<◌, ◌&&◌, ◌||◌, not, Bool, true, false, cond, List, [], ◌∷◌, ◌++◌, Option, Some, None, refl, sym, ap, subst, ◌∙◌, arith, length, take, nat_le, ◌≤◌}
 use Rattle.std.proofs.lemmas.Bool.Decides.{nat_tests}
 use Rattle.std.proofs.lemmas.List.{length-append, take-append-le, take_all}
 use Rattle.std.proofs.lemmas.List.Sums.{sum_by-append}
 use Rattle.std.specs.List.{list_all}
+use Rattle.clk_base.specs.declared.call.Micro.{Micro}
 use Rattle.clk_base.specs.declared.call.Sleeping.{Sleeping}
 use Rattle.clk_base.specs.declared.call.Sleeping.TheVariants as call
 use Rattle.std.proofs.lemmas.List.Folds.{list_any-append}
 use Rattle.clk_base.specs.declared.event.Entry.{Entry}
 use Rattle.clk_base.specs.declared.event.Event.{Event}
 use Rattle.clk_base.specs.declared.event.Event.TheVariants as event
+use Rattle.clk_base.specs.declared.event.Reply.TheVariants as reply
 use Rattle.clk_base.specs.declared.event.Turn.{Turn}
+use Rattle.clk_base.specs.declared.event.Turn.TheVariants as turn
 use Rattle.clk_base.specs.Checked.{Checked}
 use Rattle.clk_model.specs.declared.row.ClockRow.{ClockRow}
 use Rattle.clk_base.specs.Description.{Description, parents_of}
 use Rattle.clk_model.specs.State.{State, registered}
 use Rattle.clk_model.specs.Machine.{next}
 use Rattle.clk_model.specs.Journal.{slotless, replay, Legal, opening, is_paid, is_going, cost}
+use Rattle.clk_model.proofs.EndCauseLaws.{going_leaves_changes}
+use Rattle.clk_model.proofs.JournalCauseLaws.{journals_have_causes}
 use Rattle.clk_model.proofs.JournalLaws.{replay-append, Legal-append}
 use Rattle.clk_machine.specs.Fit.{CanRun}
-use Rattle.clk_machine.specs.Sound.{IsSound, IsPlaced, CanTake}
+use Rattle.clk_machine.specs.Sound.{IsSound, IsPlaced, leaves_links, CanTake}
 use Rattle.clk_machine.specs.Parts.{Parts, steps_left}
-use Rattle.clk_machine.proofs.Flying.{none_left}
+use Rattle.clk_machine.proofs.Flying.{never_flown, none_left}
 use Rattle.std.specs.Prelude.{if◌then◌else◌}
 use Rattle.clk_model.specs.Tier.{is_enable_tier}
-use Rattle.clk_machine.specs.Stands.{Stands, is_told, Remains, Leads, Enters, registers, price}
+use Rattle.clk_machine.specs.Stands.{Stands, is_told, Remains, Leads, Enters, registers, most_steps, price}
 use Rattle.clk_machine.specs.Built.{is_built_over}
 use Rattle.clk_base.specs.Valid.{IsValid}
 use Rattle.clk_model.specs.Fed.{Fed}
 use Rattle.clk_machine.proofs.Soundness.{fed_reached, sound_opening}
 use Rattle.clk_model.specs.Begin.{most_credits}
 use Rattle.clk_machine.proofs.Events.{sound_next}
-use Rattle.clk_machine.specs.Run.{was_probed, going_after, in_flight, Logged, start_of, state_of, run_of, IsRun, Appends, can_make}
+use Rattle.clk_machine.specs.Run.{Run, now_of, was_probed, going_after, in_flight, driver_after, driver_in_flight, Logged, start_of, state_of, run_of, IsRun, Appends, StepsOn, StepTurns, can_make}
 use Rattle.std.proofs.Math.Bool.{or-false}
 
 -- an entry more costs its price more
@@ -73,6 +78,11 @@ pub going_append : (going : Bool) (entries : List Entry) (e : Entry) → going_a
 going_append going [] e = refl
 going_append going (f ∷ entries) e = going_append (if is_enable_tier f.event then going else is_going f.turn) entries e
 
+-- and it is the driver's of the last event that isn't of the enable tier
+driver_append : (d : ℕ) (entries : List Entry) (e : Entry) → driver_after d (entries ++ e ∷ []) ≡ (if is_enable_tier e.event then driver_after d entries else e.driver)
+driver_append d [] e = refl
+driver_append d (f ∷ entries) e = driver_append (if is_enable_tier f.event then d else f.driver) entries e
+
 -- an event that is taken and entered
 pub record IsEntered (old new : Parts) (words : List ℕ) (log log' : Logged) (d : ℕ) (e : Event) (t : Turn) : Type 0 where
   pub run : IsRun old words log
@@ -80,7 +90,6 @@ pub record IsEntered (old new : Parts) (words : List ℕ) (log log' : Logged) (d
   pub can : is_told old ≡ true → CanTake (state_of old words log) e
   pub entries : log'.entries ≡ log.entries ++ entry_of d e t ∷ []
   pub room : new.credits + steps_left new ≤ new.spent + log'.room
-  pub done : is_going t ≡ false
 
 -- one that is paid and answered at once leaves room for the entries to come
 pub answered : (old new : Parts) (words : List ℕ) (log log' : Logged) (d : ℕ) (e : Event) (t : Turn) → IsRun old words log → Enters old d e t new
@@ -97,8 +106,73 @@ answered old new words log log' d e t run enters can paid done entries taken = r
       let credits = enters.remains.credits in
       let less = enters.no_more paid done in
       omega arith;
-  done = done;
 }
+
+-- so does a call that begins, where there was room for the steps that it may come to
+pub begun : (old new : Parts) (words : List ℕ) (log log' : Logged) (d : ℕ) (what : Sleeping) (t : Turn) → IsRun old words log → Enters old d (event.Begin what) t new
+    → (is_told old ≡ true → CanTake (state_of old words log) (event.Begin what)) → old.credits + most_steps old.desc.defs (event.Begin what) ≤ old.spent + log.room
+    → log'.entries ≡ log.entries ++ entry_of d (event.Begin what) t ∷ [] → log'.room + 1 ≡ log.room → IsEntered old new words log log' d (event.Begin what) t
+begun old new words log log' d what t run enters can most entries taken = record {
+  run = run;
+  enters = enters;
+  can = can;
+  entries = entries;
+  room = by (is_going t) refl;
+} where
+  by : (b : Bool) → is_going t ≡ b → new.credits + steps_left new ≤ new.spent + log'.room
+  by true goes =
+      let pays = enters.pays in
+      let credits = enters.remains.credits in
+      let few = enters.begun refl goes in
+      omega arith
+  by false done =
+      let before = run.room in
+      let pays = enters.pays in
+      let credits = enters.remains.credits in
+      let less = enters.no_more refl done in
+      omega arith
+
+-- and a step
+pub stepped : (old new : Parts) (words : List ℕ) (log log' : Logged) (d : ℕ) (m : Micro) (answer : Option Bool) (t : Turn) → IsRun old words log
+    → Enters old d (event.Step m answer) t new → leaves_links m ≡ true → log'.entries ≡ log.entries ++ entry_of d (event.Step m answer) t ∷ [] → log'.room + 1 ≡ log.room
+    → IsEntered old new words log log' d (event.Step m answer) t
+stepped old new words log log' d m answer t run enters leaves entries taken = record {
+  run = run;
+  enters = enters;
+  can = λ told. leaves;
+  entries = entries;
+  room =
+      let before = run.room in
+      let pays = enters.pays in
+      let credits = enters.remains.credits in
+      let less = enters.fewer refl in
+      omega arith;
+}
+
+-- a journal with room for more entries is as good
+pub roomier : (m : Parts) (words : List ℕ) (log log' : Logged) → IsRun m words log → log'.entries ≡ log.entries → log.room ≤ log'.room → IsRun m words log'
+roomier m words log log' run same more = record {
+  stands = λ told. subst (λ (j : List Entry). Stands m (replay (start_of m words) j)) (sym same) (run.stands told);
+  legal = λ told. subst (λ (j : List Entry). Legal (start_of m words) j) (sym same) (run.legal told);
+  sound = λ told. subst (λ (j : List Entry). IsSound (length words) (replay (start_of m words) j)) (sym same) (run.sound told);
+  fed = λ told. subst (λ (j : List Entry). (n : ℕ) → Fed (replay (start_of m words) (take n j))) (sym same) (run.fed told);
+  spent = ap cost same ∙ run.spent;
+  room = let before = run.room in omega arith;
+  going = run.going ∙ sym (ap in_flight same);
+  driver_ = λ goes. run.driver_ goes ∙ sym (ap driver_in_flight same);
+  size = run.size;
+  probed = λ c. run.probed c ∙ sym (ap (λ (j : List Entry). was_probed j c) same);
+}
+
+-- it is the same core
+pub same_run : (m : Parts) (words : List ℕ) (log log' : Logged) → log'.entries ≡ log.entries → run_of m words log' ≡ run_of m words log
+same_run m words log log' same =
+    ap (λ (j : List Entry). let r : Run = record { start = start_of m words; journal = j; told = is_told m; behind = m.window.behind; left = steps_left m } in r) same
+
+-- room that was made for the credits that are left and the steps of a call
+pub room_made : (m : Parts) (what : Sleeping) (log : Logged) (credits steps : ℕ) → credits + m.spent ≡ m.credits → steps ≡ most_steps m.desc.defs (event.Begin what) → credits + steps ≤ log.room
+    → m.credits + most_steps m.desc.defs (event.Begin what) ≤ m.spent + log.room
+room_made m what log credits steps left most room = omega arith
 
 module _ (old new : Parts) (words : List ℕ) (log log' : Logged) (d : ℕ) (e : Event) (t : Turn) (is : IsEntered old new words log log' d e t) where
   abbrev now : State
@@ -128,9 +202,10 @@ module _ (old new : Parts) (words : List ℕ) (log log' : Logged) (d : ℕ) (e :
       (subst (λ (j : List Entry). Legal (start_of old words) j) (sym is.entries)
       (Legal-append (start_of old words) (leads told).to log.entries (entry_of d e t) (is.run.legal told) (leads told).next_))
 
-  either : (b : Bool) → (if b then in_flight log.entries else is_going t) ≡ false
-  either true = is.run.idle
-  either false = is.done
+  whose : (b : Bool) → new.flight.going ≡ (if b then old.flight.going else is_going t) → new.flight.going ≡ true
+      → (if b then old.flight.driver else d) ≡ (if b then driver_in_flight log.entries else d)
+  whose true goes still = is.run.driver_ (sym goes ∙ still)
+  whose false goes still = refl
 
   -- a core keeps what it keeps
   pub entered : IsRun new words log'
@@ -144,8 +219,9 @@ module _ (old new : Parts) (words : List ℕ) (log log' : Logged) (d : ℕ) (e :
         (is.run.fed (was told)) (fed_reached (length words) (leads (was told)).to (sound_after (was told)).reached) n);
     spent = ap cost is.entries ∙ cost-append log.entries (entry_of d e t) ∙ ap (λ (n : ℕ). n + price e) is.run.spent ∙ sym is.enters.pays;
     room = is.room;
-    idle = ap in_flight is.entries ∙ going_append false log.entries (entry_of d e t) ∙ either (is_enable_tier e);
     going = is.enters.going ∙ ap (λ (b : Bool). if is_enable_tier e then b else is_going t) is.run.going ∙ sym (ap in_flight is.entries ∙ going_append false log.entries (entry_of d e t));
+    driver_ = λ still.
+        is.enters.driver_ still ∙ whose (is_enable_tier e) is.enters.going still ∙ sym (ap driver_in_flight is.entries ∙ driver_append 0 log.entries (entry_of d e t));
     size = is.enters.remains.size ∙ is.run.size;
     probed = λ c.
         is.enters.rows c ∙ ap (λ (b : Bool). b || registers e c) (is.run.probed c)
@@ -162,7 +238,58 @@ module _ (old new : Parts) (words : List ℕ) (log log' : Logged) (d : ℕ) (e :
     entry = is.entries;
     step = λ told. (leads told).next_ ∙ ap (λ (s : State). let x : State × Turn = (s, slotless t) in Some x) (sym (comes told));
     legal = legal_after;
+    no_more = λ paid done. is.enters.no_more paid done;
   }
+
+-- ---- steps
+
+-- nothing is left to come where no call is in flight
+pub idle_left : (m : Parts) → not m.flight.going ≡ true → steps_left m ≡ 0
+idle_left m quiet = none_left m.flight (by m.flight.going quiet) where
+  by : (b : Bool) → not b ≡ true → b ≡ false
+  by true e = absurd cc
+  by false e = refl
+
+-- the call in flight behind a journal is that of the entry's driver
+pub steps_on : (old new : Parts) (words : List ℕ) (log log' : Logged) (d : ℕ) (m : Micro) (answer : Option Bool) (t : Turn) → IsEntered old new words log log' d (event.Step m answer) t
+    → d ≡ driver_in_flight log.entries → StepsOn (run_of old words log) t (run_of new words log')
+steps_on old new words log log' d m answer t is same = record {
+  made = m;
+  answer = answer;
+  entry = subst (λ (n : ℕ). Appends (run_of old words log) n (event.Step m answer) t (run_of new words log')) same (appended old new words log log' d (event.Step m answer) t is);
+  fewer = is.enters.fewer refl;
+}
+
+-- two lists with one entry more each, of the same entries, have the same last one
+same_last : (xs : List Entry) (a b : Entry) → xs ++ a ∷ [] ≡ xs ++ b ∷ [] → a ≡ b
+same_last [] a b e = cc
+same_last (x ∷ xs) a b e = same_last xs a b (rest e) where
+  rest : {ys zs : List Entry} → x ∷ ys ≡ x ∷ zs → ys ≡ zs
+  rest h = cc
+
+going_slotless : (t : Turn) → slotless t ≡ turn.Going → t ≡ turn.Going
+going_slotless turn.Going e = refl
+going_slotless (turn.Done reply.Fine) e = absurd cc
+going_slotless (turn.Done reply.Warn) e = absurd cc
+going_slotless (turn.Done reply.Yes) e = absurd cc
+going_slotless (turn.Done reply.No) e = absurd cc
+going_slotless (turn.Done (reply.Handle h)) e = absurd cc
+going_slotless (turn.Done (reply.Rate x)) e = absurd cc
+going_slotless (turn.Done (reply.Clock x)) e = absurd cc
+going_slotless (turn.Done (reply.Refused x)) e = absurd cc
+
+-- each step is answered for its cause
+pub step_turns : (old new : Run) (t : Turn) → StepsOn old t new → old.start.change ≡ None → old.told ≡ true → StepTurns old new t
+step_turns old new t on opens told =
+    let leaves = going_leaves_changes (now_of old) (now_of new) (driver_in_flight old.journal) (event.Step on.made on.answer) (slotless t) (on.entry.step told) refl in
+    record {
+      going = (λ e. leaves.0 (ap slotless e), λ has. going_slotless t (leaves.1 has));
+      ended = λ last r grew is.
+          let same : entry_of (driver_in_flight old.journal) (event.Step on.made on.answer) t ≡ last = same_last old.journal _ last (sym on.entry.entry ∙ grew) in
+          let legal : Legal old.start (old.journal ++ last ∷ []) =
+          subst (λ (j : List Entry). Legal old.start j) grew (subst (λ (s : State). Legal s new.journal) on.entry.start (on.entry.legal told)) in
+          journals_have_causes old.start old.journal last on.made on.answer r opens legal (ap (λ (e : Entry). e.event) (sym same)) (ap (λ (e : Entry). e.turn) (sym same) ∙ is);
+    }
 
 -- ---- which calls can begin
 
@@ -212,7 +339,7 @@ begins m words given log desc ignore_unused credits same empty room stands at cr
       spent = ap cost empty ∙ sym spent;
       room = let nothing_left = none_left m.flight quiet in omega arith;
       going = quiet ∙ sym (ap in_flight empty);
-      idle = ap in_flight empty;
+      driver_ = λ goes. never_flown m.flight quiet goes;
       size = size ∙ sym (ap (λ (ws : List ℕ). length ws) same);
       probed = λ c. none c ∙ sym (ap (λ (j : List Entry). was_probed j c) empty);
     }

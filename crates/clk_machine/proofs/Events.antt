@@ -1,34 +1,42 @@
 -- Each event that can come leaves a sound state sound.
-use Rattle.std.proofs.Common.{◌≡◌, ℕ, zero, suc, ◌+◌, ◌-◌, ◌<◌, ◌&&◌, ◌||◌, Bool, true, false, cond, Option, Some, None, refl, sym, ap, subst, ◌∙◌, arith, length, nat_eq, nat_lt, nat_le}
+use Rattle.std.proofs.Common.{◌≡◌, ℕ, zero, suc, ◌+◌, ◌-◌, ◌<◌, ◌||◌, Bool, true, false, cond, [], ◌∷◌, Option, Some, None, refl, sym, ap, subst, ◌∙◌, arith, length, nat_lt, nat_le, filter, reverse}
+use Rattle.std.specs.Prelude.{is_none, slice_get, if◌then◌else◌}
+use Rattle.std.specs.Option.{option_map_or}
 use Rattle.std.proofs.lemmas.Bool.Decides.{nat_tests}
+use Rattle.clk_base.specs.declared.call.Micro.{Micro}
+use Rattle.clk_base.specs.declared.call.Micro.TheVariants as micro
 use Rattle.clk_base.specs.declared.call.Sleeping.{Sleeping}
 use Rattle.clk_base.specs.declared.call.Sleeping.TheVariants as call
 use Rattle.clk_base.specs.declared.event.Event.{Event}
 use Rattle.clk_base.specs.declared.event.Event.TheVariants as event
+use Rattle.clk_base.specs.declared.event.Errno.TheVariants as errno
 use Rattle.clk_base.specs.declared.event.Turn.{Turn}
+use Rattle.clk_base.specs.declared.event.Turn.TheVariants as turn
+use Rattle.clk_base.specs.declared.handle.Handle.{Handle}
 use Rattle.clk_model.specs.declared.row.HandleRow.{HandleRow}
-use Rattle.clk_model.specs.State.{State, registered, handle_at}
+use Rattle.clk_model.specs.State.{State, Change, registered, handle_at, requested}
 use Rattle.clk_model.specs.Tree.{rooted, path, path_to_be}
+use Rattle.clk_model.specs.Script.{unprepared_plls, runs}
+use Rattle.clk_model.specs.Step.{taken, on, powered, visit, set_in_chain, to_raise, raise_one, poll, fall, to_lower, lower_one, ended_well, unranged, is_yes, stepped}
 use Rattle.clk_model.specs.Holders.{active}
 use Rattle.clk_model.specs.Gates.{settled}
-use Rattle.clk_model.specs.Begin.{put_handle, own_handle, given, register, keeps_prepare, holds_something, has_notifier, most_notifiers}
+use Rattle.clk_model.specs.Begin.{refused, starts, change_of, weight_of, most_credits, put_handle, own_handle, given, register, keeps_prepare, prepare, unprepare, prepared_once_more, held_once_more, request_between, holds_something, has_notifier, most_notifiers, begun}
 use Rattle.clk_model.specs.Machine.{paid, next}
-use Rattle.clk_model.proofs.Members.{both_left, not_either}
 use Rattle.clk_model.proofs.StateLaws.{settled-still, active-append}
-use Rattle.clk_model.proofs.EventLaws.{own_is_live, prepared_once_less, enable-unknown, enable-unprepared, enable-fine, disable-unknown, disable-warned, disable-fine, running-unknown, running-told, get-not_found, get-deferred, get-given, put-unknown, put-busy, put-fine, prepare-unknown, prepare-fine, unprepare-unknown, unprepare-warned, unprepare-fine, rate-unknown, rate-told, parent-unknown, parent-told, probe-twice}
+use Rattle.clk_model.proofs.EventLaws.{enable-unknown, enable-unprepared, enable-fine, disable-unknown, disable-warned, disable-fine, running-unknown, running-told, get-not_found, get-deferred, get-given, put-unknown, put-busy, put-fine, rate-unknown, rate-told, parent-unknown, parent-told, probe-twice}
 use Rattle.clk_model.specs.Notices.{notifiers_of}
 use Rattle.clk_model.specs.Round.{wiring, round_rate}
 use Rattle.clk_model.specs.Views.{view, lift}
-use Rattle.clk_machine.specs.Fit.{has_pll}
 use Rattle.clk_machine.specs.Holding.{notified, unnotified}
 use Rattle.clk_machine.proofs.CallEvents.{exclusive_get-unknown, exclusive_get-fine, exclusive_put-unknown, exclusive_put-warned, exclusive_put-fine, notifier_add-unknown, notifier_add-known, notifier_add-full, notifier_add-fine, notifier_remove-unknown, notifier_remove-lacking, notifier_remove-fine, round-unknown, round-told, round-none, probe-alone}
-use Rattle.clk_machine.specs.Sound.{IsNarrow, IsSound, CanTake}
-use Rattle.clk_machine.proofs.Fitting.{no_plls, calm_path}
-use Rattle.clk_model.proofs.FlightLaws.{begin_is}
-use Rattle.clk_machine.proofs.Soundness.{frees-unpowered, reached_next}
+use Rattle.clk_machine.specs.Sound.{IsNarrow, IsSound, leaves_links, CanTake}
+use Rattle.clk_machine.proofs.Fitting.{calm_path}
+use Rattle.clk_model.proofs.FlightLaws.{begin_is, step_is}
+use Rattle.clk_model.proofs.TierLaws.{pick_either, with_handle_either}
+use Rattle.clk_machine.proofs.Soundness.{reached_next}
+use Rattle.clk_machine.proofs.Stepping.{polled_change}
 use Rattle.clk_machine.proofs.Attaching.{IsNarrow-register, adoptable-sound}
-use Rattle.clk_machine.proofs.Kept.{IsNarrow-spent, IsNarrow-notified, IsNarrow-settled, IsNarrow-put, IsNarrow-given}
-use Rattle.std.proofs.lemmas.Bool.{not-true}
+use Rattle.clk_machine.proofs.Kept.{IsNarrow-spent, IsNarrow-counted, IsNarrow-notified, IsNarrow-settled, IsNarrow-change, IsNarrow-powered, IsNarrow-set, IsNarrow-handles, IsNarrow-put, IsNarrow-given, IsNarrow-requested}
 
 -- ---- paid events
 
@@ -59,13 +67,9 @@ same_sound : (words : ℕ) (s t : State) (d : ℕ) (e : Event) (a b : Turn) → 
 same_sound words s t d e a b sound known comes = comes_to words s s t d e a b (stills words s s (λ c. refl) sound) known comes
 
 -- a handle in the place of another of the same clock
-put_sound : (words : ℕ) (s t : State) (n d : ℕ) (e : Event) (a b : Turn) (old new : HandleRow) → IsNarrow words s → handle_at s.handles n ≡ Some old → new.clock ≡ old.clock
-    → (0 < new.prepares → has_pll s.defs ≡ false)
-    → next s d e ≡ paid s (put_handle s n (Some new), a) → next s d e ≡ Some (t, b) → IsNarrow words t
-put_sound words s t n d e a b old new sound at clock unpowered known comes =
-    comes_to words s (put_handle s n (Some new)) t d e a b (IsNarrow-put words s n (Some new) sound (λ h is. subst (λ (r : HandleRow). 0 < r.prepares → has_pll s.defs ≡ false) (inside is) unpowered)) known comes where
-      inside : {x y : HandleRow} → Some x ≡ Some y → x ≡ y
-      inside e = cc
+put_sound : (words : ℕ) (s t : State) (n d : ℕ) (e : Event) (a b : Turn) (o : Option HandleRow) → IsNarrow words s → next s d e ≡ paid s (put_handle s n o, a)
+    → next s d e ≡ Some (t, b) → IsNarrow words t
+put_sound words s t n d e a b o sound known comes = comes_to words s (put_handle s n o) t d e a b (IsNarrow-put words s n o sound) known comes
 
 -- ---- the enable tier
 
@@ -74,10 +78,8 @@ enable_sound words s t d n x sound comes = by (own_handle s d n) refl where
   prepared : (h : HandleRow) (p : ℕ) → own_handle s d n ≡ Some h → h.prepares ≡ p → IsNarrow words t
   prepared h zero own none = same_sound words s t d (event.Enable n) _ x sound (enable-unprepared s d n h own none) comes
   prepared h (suc p) own some =
-      let at = own_is_live s d n h own in
       let positive : 0 < h.prepares = omega arith in
-      put_sound words s t n d (event.Enable n) _ x h (record h { enables = h.enables + 1 }) sound at refl
-      (sound.unpowered n h at) (enable-fine s d n h own positive) comes
+      put_sound words s t n d (event.Enable n) _ x (Some (record h { enables = h.enables + 1 })) sound (enable-fine s d n h own positive) comes
 
   by : (o : Option HandleRow) → own_handle s d n ≡ o → IsNarrow words t
   by None lacks = same_sound words s t d (event.Enable n) _ x sound (enable-unknown s d n lacks) comes
@@ -88,9 +90,7 @@ disable_sound words s t d n x sound comes = by (own_handle s d n) refl where
   enabled : (h : HandleRow) (k : ℕ) → own_handle s d n ≡ Some h → h.enables ≡ k → IsNarrow words t
   enabled h zero own none = same_sound words s t d (event.Disable n) _ x sound (disable-warned s d n h own none) comes
   enabled h (suc k) own some =
-      let at = own_is_live s d n h own in
-      put_sound words s t n d (event.Disable n) _ x h (record h { enables = h.enables - 1 }) sound at refl
-      (sound.unpowered n h at) (disable-fine s d n h own (omega arith)) comes
+      put_sound words s t n d (event.Disable n) _ x (Some (record h { enables = h.enables - 1 })) sound (disable-fine s d n h own (omega arith)) comes
 
   by : (o : Option HandleRow) → own_handle s d n ≡ o → IsNarrow words t
   by None lacks = same_sound words s t d (event.Disable n) _ x sound (disable-unknown s d n lacks) comes
@@ -101,6 +101,47 @@ running_sound words s t d n x sound comes = by (own_handle s d n) refl where
   by : (o : Option HandleRow) → own_handle s d n ≡ o → IsNarrow words t
   by None lacks = same_sound words s t d (event.Running n) _ x sound (running-unknown s d n lacks) comes
   by (Some h) own = same_sound words s t d (event.Running n) _ x sound (running-told s d n h own) comes
+
+-- ---- calls that may go on
+
+-- what an event leaves is sound with its gates settled
+abbrev Stays : ℕ → State → State × Turn → Type 0
+Stays words s x = IsNarrow words (settled s x.0)
+
+refused_stays : (words : ℕ) (s : State) → IsNarrow words s → IsNarrow words (settled s s)
+refused_stays words s sound = IsNarrow-settled words s s sound
+
+starts_stays : (words : ℕ) (s new : State) (k : Change) → IsNarrow words s → IsNarrow words new → Stays words s (starts s new k)
+starts_stays words s new k sound after =
+    pick_either (Stays words s) (nat_lt most_credits (new.credits + new.steps + weight_of new k)) (λ t. refused s errno.ENOSPC) (λ t. (record new { change = Some k }, turn.Going))
+    (λ full. refused_stays words s sound)
+    (λ room. IsNarrow-settled words s (record new { change = Some k }) (IsNarrow-change words new (Some k) after))
+
+prepare_stays : (words : ℕ) (s : State) (d : ℕ) (h : Handle) → IsNarrow words s → Stays words s (begun s d (call.Prepare h))
+unfolding begun
+prepare_stays words s d h sound =
+    with_handle_either (Stays words s) s d h.number (prepare s d (call.Prepare h) h.number) (refused_stays words s sound)
+    (λ row own. pick_either (Stays words s) (is_none (slice_get (unprepared_plls s (path s.clocks row.clock.0)) 0)) _ _
+    (λ none. IsNarrow-put words s h.number (Some (record row { prepares = row.prepares + 1 })) sound)
+    (λ some. starts_stays words s s (change_of s d (call.Prepare h) (micro.Raise row.clock ∷ micro.End ∷ [])) sound sound))
+
+unprepare_stays : (words : ℕ) (s : State) (d : ℕ) (h : Handle) → IsNarrow words s → Stays words s (begun s d (call.Unprepare h))
+unfolding begun
+unprepare_stays words s d h sound =
+    with_handle_either (Stays words s) s d h.number (unprepare s d (call.Unprepare h) h.number) (refused_stays words s sound)
+    (λ row own. pick_either (Stays words s) (keeps_prepare row) _ _
+    (λ keeps. refused_stays words s sound)
+    (λ frees.
+    let less : State = put_handle s h.number (Some (record row { prepares = row.prepares - 1 })) in
+    pick_either (Stays words s) (is_none (slice_get (filter (runs s.defs s.regs) (unprepared_plls less (path s.clocks row.clock.0))) 0)) _ _
+    (λ none. IsNarrow-put words s h.number (Some (record row { prepares = row.prepares - 1 })) sound)
+    (λ some. starts_stays words s less (change_of s d (call.Unprepare h) (micro.Lower row.clock ∷ micro.End ∷ [])) sound
+    (IsNarrow-handles words s less.handles sound))))
+
+-- so is what follows
+leaves_sound : (words : ℕ) (s t : State) (d : ℕ) (what : Sleeping) (x : Turn) → IsNarrow words s → Stays words s (begun s d what) → next s d (event.Begin what) ≡ Some (t, x) → IsNarrow words t
+leaves_sound words s t d what x sound stays comes =
+    subst (IsNarrow words) (begin_is s t d what x comes).1 (IsNarrow-spent words (settled s (begun s d what).0) (s.spent + 1) stays)
 
 -- ---- calls
 
@@ -118,31 +159,13 @@ begin_sound words s t d (call.Put h) x whole quiet sound can comes = by (own_han
   held : (row : HandleRow) (b : Bool) → own_handle s d h.number ≡ Some row → holds_something row ≡ b → IsNarrow words t
   held row true own holds = same_sound words s t d (event.Begin (call.Put h)) _ x sound (put-busy s d h row quiet own holds) comes
   held row false own free =
-      comes_to words s (put_handle s h.number None) t d (event.Begin (call.Put h)) _ x
-      (IsNarrow-put words s h.number None sound (λ g is. absurd cc)) (put-fine s d h row quiet own free) comes
+      put_sound words s t h.number d (event.Begin (call.Put h)) _ x None sound (put-fine s d h row quiet own free) comes
 
   by : (o : Option HandleRow) → own_handle s d h.number ≡ o → IsNarrow words t
   by None lacks = same_sound words s t d (event.Begin (call.Put h)) _ x sound (put-unknown s d h quiet lacks) comes
   by (Some row) own = held row (holds_something row) own refl
-begin_sound words s t d (call.Prepare h) x whole quiet sound can comes = by (own_handle s d h.number) refl where
-  by : (o : Option HandleRow) → own_handle s d h.number ≡ o → IsNarrow words t
-  by None lacks = same_sound words s t d (event.Begin (call.Prepare h)) _ x sound (prepare-unknown s d h quiet lacks) comes
-  by (Some row) own =
-      put_sound words s t h.number d (event.Begin (call.Prepare h)) _ x row (record row { prepares = row.prepares + 1 }) sound (own_is_live s d h.number row own) refl
-      (λ more. not-true (has_pll s.defs) can.1) (prepare-fine s d h row quiet own (no_plls s (path s.clocks row.clock.0) (not-true (has_pll s.defs) can.1))) comes
-begin_sound words s t d (call.Unprepare h) x whole quiet sound can comes = by (own_handle s d h.number) refl where
-  kept : (row : HandleRow) (b : Bool) → own_handle s d h.number ≡ Some row → keeps_prepare row ≡ b → IsNarrow words t
-  kept row true own keeps = same_sound words s t d (event.Begin (call.Unprepare h)) _ x sound (unprepare-warned s d h row quiet own keeps) comes
-  kept row false own free =
-      let at = own_is_live s d h.number row own in
-      let none : has_pll s.defs ≡ false = frees-unpowered words s sound h.number row at free in
-      put_sound words s t h.number d (event.Begin (call.Unprepare h)) _ x row (record row { prepares = row.prepares - 1 }) sound at refl
-      (λ more. none)
-      (unprepare-fine s d h row quiet own free (no_plls (prepared_once_less s h.number row) (path s.clocks row.clock.0) none)) comes
-
-  by : (o : Option HandleRow) → own_handle s d h.number ≡ o → IsNarrow words t
-  by None lacks = same_sound words s t d (event.Begin (call.Unprepare h)) _ x sound (unprepare-unknown s d h quiet lacks) comes
-  by (Some row) own = kept row (keeps_prepare row) own refl
+begin_sound words s t d (call.Prepare h) x whole quiet sound can comes = leaves_sound words s t d (call.Prepare h) x sound (prepare_stays words s d h sound) comes
+begin_sound words s t d (call.Unprepare h) x whole quiet sound can comes = leaves_sound words s t d (call.Unprepare h) x sound (unprepare_stays words s d h sound) comes
 begin_sound words s t d (call.GetRate h) x whole quiet sound can comes = by (own_handle s d h.number) refl where
   by : (o : Option HandleRow) → own_handle s d h.number ≡ o → IsNarrow words t
   by None lacks = same_sound words s t d (event.Begin (call.GetRate h)) _ x sound (rate-unknown s d h quiet lacks) comes
@@ -155,16 +178,12 @@ begin_sound words s t d (call.ExclusiveGet h) x whole quiet sound can comes = by
   by : (o : Option HandleRow) → own_handle s d h.number ≡ o → IsNarrow words t
   by None lacks = same_sound words s t d (event.Begin (call.ExclusiveGet h)) _ x sound (exclusive_get-unknown s d h quiet lacks) comes
   by (Some row) own =
-      let at = own_is_live s d h.number row own in
-      put_sound words s t h.number d (event.Begin (call.ExclusiveGet h)) _ x row (record row { exclusives = row.exclusives + 1 }) sound at refl
-      (sound.unpowered h.number row at) (exclusive_get-fine s d h row quiet own) comes
+      put_sound words s t h.number d (event.Begin (call.ExclusiveGet h)) _ x (Some (record row { exclusives = row.exclusives + 1 })) sound (exclusive_get-fine s d h row quiet own) comes
 begin_sound words s t d (call.ExclusivePut h) x whole quiet sound can comes = by (own_handle s d h.number) refl where
   held : (row : HandleRow) (k : ℕ) → own_handle s d h.number ≡ Some row → row.exclusives ≡ k → IsNarrow words t
   held row zero own none = same_sound words s t d (event.Begin (call.ExclusivePut h)) _ x sound (exclusive_put-warned s d h row quiet own none) comes
   held row (suc k) own some =
-      let at = own_is_live s d h.number row own in
-      put_sound words s t h.number d (event.Begin (call.ExclusivePut h)) _ x row (record row { exclusives = row.exclusives - 1 }) sound at refl
-      (sound.unpowered h.number row at) (exclusive_put-fine s d h row quiet own (omega arith)) comes
+      put_sound words s t h.number d (event.Begin (call.ExclusivePut h)) _ x (Some (record row { exclusives = row.exclusives - 1 })) sound (exclusive_put-fine s d h row quiet own (omega arith)) comes
 
   by : (o : Option HandleRow) → own_handle s d h.number ≡ o → IsNarrow words t
   by None lacks = same_sound words s t d (event.Begin (call.ExclusivePut h)) _ x sound (exclusive_put-unknown s d h quiet lacks) comes
@@ -220,6 +239,59 @@ begin_sound words s t d (call.SetRange h least most) x whole quiet sound can com
 begin_sound words s t d (call.SetParent h p) x whole quiet sound can comes = absurd cc
 begin_sound words s t d call.Sweep x whole quiet sound can comes = absurd cc
 
+-- ---- steps
+
+found_or : (words : ℕ) (o : Option ℕ) (f : ℕ → State) (y : State) → ((n : ℕ) → IsNarrow words (f n)) → IsNarrow words y → IsNarrow words (option_map_or f o y)
+found_or words None f y some none = none
+found_or words (Some n) f y some none = some n
+
+row_or : (words : ℕ) (o : Option HandleRow) (f : HandleRow → State) (y : State) → ((row : HandleRow) → IsNarrow words (f row)) → IsNarrow words y → IsNarrow words (option_map_or f o y)
+row_or words None f y some none = none
+row_or words (Some row) f y some none = some row
+
+well_sound : (words : ℕ) (s : State) (d : ℕ) (what : Sleeping) → IsNarrow words s → IsNarrow words (ended_well s d what)
+well_sound words s d (call.Prepare h) sound =
+    row_or words (handle_at s.handles h.number) (prepared_once_more s h.number) s (λ row. IsNarrow-handles words s (prepared_once_more s h.number row).handles sound) sound
+well_sound words s d (call.SetRate h x) sound =
+    row_or words (handle_at s.handles h.number) (λ row. record s { clocks = requested s.clocks row.clock.0 x }) s (λ row. IsNarrow-requested words s row.clock.0 x sound) sound
+well_sound words s d (call.SetRateExclusive h x) sound =
+    row_or words (handle_at s.handles h.number) (λ row. record (held_once_more s h.number row) { clocks = requested s.clocks row.clock.0 x }) s
+    (λ row. IsNarrow-requested words (held_once_more s h.number row) row.clock.0 x (IsNarrow-handles words s (held_once_more s h.number row).handles sound)) sound
+well_sound words s d (call.SetRange h least most) sound =
+    row_or words (handle_at s.handles h.number) (λ row. record s { clocks = requested s.clocks row.clock.0 (request_between s.clocks row.clock.0 least most) }) s
+    (λ row. IsNarrow-requested words s row.clock.0 (request_between s.clocks row.clock.0 least most) sound) sound
+well_sound words s d _ sound = sound
+
+ended_sound : (words : ℕ) (s : State) (k : Change) (b : Bool) → IsNarrow words s → IsNarrow words (if b then unranged s k else ended_well s k.driver k.call)
+ended_sound words s k true sound = IsNarrow-handles words s (unranged s k).handles sound
+ended_sound words s k false sound = well_sound words s k.driver k.call sound
+
+stepped_sound : (words : ℕ) (s : State) (k : Change) (answer : Option Bool) (m : Micro) → IsNarrow words s → leaves_links m ≡ true → IsNarrow words (stepped s k answer m).0
+unfolding stepped
+stepped_sound words s k answer (micro.Notify kind c id old new) sound leaves = IsNarrow-change words s (Some k) sound
+stepped_sound words s k answer (micro.Raise x) sound leaves =
+    found_or words (slice_get (reverse (to_raise s k x.0)) 0) (raise_one s k x.0) (on s (record k { again = 0 }))
+    (λ y. IsNarrow-change words (powered s y true) (raise_one s k x.0 y).change (IsNarrow-powered words s y true sound))
+    (IsNarrow-change words s (Some (record k { again = 0 })) sound)
+stepped_sound words s k answer (micro.Poll y) sound leaves =
+    subst (IsNarrow words) (sym (polled_change s k y.0 (is_yes answer))) (IsNarrow-change words s (poll s k y.0 (is_yes answer)).change sound)
+stepped_sound words s k answer (micro.Fall y) sound leaves = IsNarrow-change words (powered s y.0 false) (fall s k y.0).change (IsNarrow-powered words s y.0 false sound)
+stepped_sound words s k answer (micro.Lower x) sound leaves =
+    found_or words (slice_get (to_lower s x.0) 0) (lower_one s k x.0) (on s (record k { again = 0 }))
+    (λ y. IsNarrow-change words (powered s y false) (lower_one s k x.0 y).change (IsNarrow-powered words s y false sound))
+    (IsNarrow-change words s (Some (record k { again = 0 })) sound)
+stepped_sound words s k answer (micro.Visit c) sound leaves = IsNarrow-change words (record s { regs = set_in_chain s k c.0 }) (visit s k c.0).change (IsNarrow-set words s k c.0 sound)
+stepped_sound words s k answer micro.End sound leaves =
+    IsNarrow-change words (if k.vetoed || k.timed_out then unranged s k else ended_well s k.driver k.call) None (ended_sound words s k (k.vetoed || k.timed_out) sound)
+stepped_sound words s k answer _ sound leaves = absurd cc
+
+step_sound : (words : ℕ) (s t : State) (d : ℕ) (m : Micro) (answer : Option Bool) (x : Turn) → IsNarrow words s → leaves_links m ≡ true → next s d (event.Step m answer) ≡ Some (t, x) → IsNarrow words t
+step_sound words s t d m answer x sound leaves comes =
+    let is = step_is s t d m answer x comes in
+    let y : State = (stepped s (taken is.0) answer m).0 in
+    subst (IsNarrow words) is.1.state
+    (IsNarrow-counted words (settled s y) (s.steps + 1) (IsNarrow-settled words s y (stepped_sound words s (taken is.0) answer m sound leaves)))
+
 -- ---- each event
 
 narrow_next : (words : ℕ) (s t : State) (d : ℕ) (e : Event) (x : Turn) → IsSound words s → CanTake s e → next s d e ≡ Some (t, x) → IsNarrow words t
@@ -227,7 +299,7 @@ narrow_next words s t d (event.Enable n) x sound can comes = enable_sound words 
 narrow_next words s t d (event.Disable n) x sound can comes = disable_sound words s t d n x sound.narrow comes
 narrow_next words s t d (event.Running n) x sound can comes = running_sound words s t d n x sound.narrow comes
 narrow_next words s t d (event.Begin what) x sound can comes = begin_sound words s t d what x sound (begin_is s t d what x comes).0 sound.narrow can comes
-narrow_next words s t d (event.Step m answer) x sound can comes = absurd can
+narrow_next words s t d (event.Step m answer) x sound can comes = step_sound words s t d m answer x sound.narrow can comes
 
 pub sound_next : (words : ℕ) (s t : State) (d : ℕ) (e : Event) (x : Turn) → IsSound words s → CanTake s e → next s d e ≡ Some (t, x) → IsSound words t
 sound_next words s t d e x sound can comes = record { reached = reached_next words s t d e x sound.reached comes; narrow = narrow_next words s t d e x sound can comes }

@@ -1,24 +1,32 @@
--- What is kept so far stays so: with a credit spent, a handle that changes, is new or is put back.
-use Rattle.std.proofs.Common.{◌≡◌, ℕ, ◌<◌, false, true, List, Option, Some, refl, sym, ap, subst, ◌∙◌, inl, inr, arith, length, set}
-use Rattle.clk_base.specs.Description.{kind_of}
-use Rattle.clk_base.specs.Fields.{bit_field}
-use Rattle.clk_base.proofs.Valid.{gate-field}
+-- What is kept so far stays so: with a credit spent or a step counted, another change in flight, power bits, handles and last requests.
+use Rattle.std.proofs.Common.{◌≡◌, ℕ, Bool, true, false, List, Option, Some, None, refl, sym, ap, ◌∙◌, length, set, nat_eq}
+use Rattle.std.specs.Option.{option_map_or}
+use Rattle.std.specs.List.{list_all}
+use Rattle.std.proofs.Math.Path.{fun_ext}
+use Rattle.std.proofs.lemmas.List.{length-set}
+use Rattle.clk_base.specs.declared.clock.Kind.{Kind}
+use Rattle.clk_base.specs.declared.clock.Kind.TheVariants.{FixedRate, Factor, Gate, Mux, Divider, Pll}
+use Rattle.clk_base.specs.Description.{kind_of, parents_of}
+use Rattle.clk_base.specs.Fields.{Field}
+use Rattle.reg_bank.specs.Registers.{Registers, field}
 use Rattle.clk_model.specs.declared.row.HandleRow.{HandleRow}
 use Rattle.clk_model.specs.Lists.{count_from}
-use Rattle.clk_model.specs.State.{State, NotifierRow, registered, handle_at}
+use Rattle.clk_model.specs.State.{State, Change, NotifierRow, row_of, registered, link_in, requested}
 use Rattle.clk_model.specs.Holders.{active}
 use Rattle.clk_model.specs.Gates.{settled}
+use Rattle.clk_model.specs.Kinds.{mux_field}
+use Rattle.clk_model.specs.Round.{wiring, parent_rate_in}
+use Rattle.clk_model.specs.Chain.{setting}
+use Rattle.clk_model.specs.Step.{powered, planned_rate, set_in_chain}
+use Rattle.clk_model.proofs.Members.{same_from_test, test_other}
 use Rattle.clk_model.specs.Begin.{put_handle, given}
-use Rattle.clk_model.proofs.Members.{is_in-count_from}
-use Rattle.clk_model.proofs.GateLaws.{GatesLie, length-gates_moved}
-use Rattle.clk_model.proofs.ApartLaws.{fielded_lt}
-use Rattle.clk_model.proofs.FedLaws.{moved_open}
-use Rattle.clk_model.proofs.SupplyLaws.{gates_lie}
+use Rattle.clk_model.proofs.ApartLaws.{mux_is_field}
+use Rattle.clk_model.proofs.FieldLaws.{powered_stays, set_stays}
 use Rattle.clk_model.proofs.GateRateLaws.{selected-moved}
-use Rattle.clk_model.proofs.StateLaws.{active-append}
-use Rattle.clk_machine.specs.Fit.{has_pll}
+use Rattle.clk_model.proofs.HoldSteps.{link_set_same}
+use Rattle.clk_model.proofs.SceneStepLaws.{registered_set}
+use Rattle.clk_model.proofs.SupplyLaws.{selected_same}
 use Rattle.clk_machine.specs.Sound.{IsNarrow}
-use Rattle.clk_machine.proofs.Shapes.{handle_at-put, handle_at-append}
 
 -- ---- credits
 
@@ -31,7 +39,6 @@ IsNarrow-spent words s k sound = record {
   unlinked = sound.unlinked;
   parents = sound.parents;
   selects = sound.selects;
-  unpowered = sound.unpowered;
 }
 
 -- ---- notifiers
@@ -45,7 +52,6 @@ IsNarrow-notified words s notifiers sound = record {
   unlinked = sound.unlinked;
   parents = sound.parents;
   selects = sound.selects;
-  unpowered = sound.unpowered;
 }
 
 -- ---- gates
@@ -61,51 +67,112 @@ IsNarrow-settled words old new sound = record {
   unlinked = sound.unlinked;
   parents = sound.parents;
   selects = λ c there. sound.selects c there ∙ sym (selected-moved words new.defs (active old) (active new) (count_from 0 (length new.defs)) new.regs c sound.valid);
-  unpowered = sound.unpowered;
 }
 
--- ---- handles
+-- ---- a change in flight
 
--- what such a state asks of a handle
-abbrev pub MayHold : State → HandleRow → Type 0
-MayHold s h = 0 < h.prepares → has_pll s.defs ≡ false
+pub IsNarrow-change : (words : ℕ) (s : State) (k : Option Change) → IsNarrow words s → IsNarrow words (record s { change = k })
+IsNarrow-change words s k sound = record {
+  valid = sound.valid;
+  runs = sound.runs;
+  rows = sound.rows;
+  attached = sound.attached;
+  unlinked = sound.unlinked;
+  parents = sound.parents;
+  selects = sound.selects;
+}
+
+-- a step counted
+pub IsNarrow-counted : (words : ℕ) (s : State) (k : ℕ) → IsNarrow words s → IsNarrow words (record s { steps = k })
+IsNarrow-counted words s k sound = record {
+  valid = sound.valid;
+  runs = sound.runs;
+  rows = sound.rows;
+  attached = sound.attached;
+  unlinked = sound.unlinked;
+  parents = sound.parents;
+  selects = sound.selects;
+}
+
+-- power bits have no part in it
+pub IsNarrow-powered : (words : ℕ) (s : State) (y : ℕ) (up : Bool) → IsNarrow words s → IsNarrow words (powered s y up)
+IsNarrow-powered words s y up sound = record {
+  valid = sound.valid;
+  runs = sound.runs;
+  rows = sound.rows;
+  attached = sound.attached;
+  unlinked = sound.unlinked;
+  parents = sound.parents;
+  selects = λ c there.
+      sound.selects c there
+      ∙ sym (selected_same s.defs s.regs (powered s y up).regs c (λ f at. powered_stays s words y up c sound.valid f (mux_is_field (kind_of s.defs c) f at)));
+}
+
+-- the setting of a mux writes nothing
+mux_setting : (kind : Kind) (f : Field) (parent planned : ℕ) (regs : Registers) → mux_field kind ≡ Some f → setting kind parent planned regs ≡ regs
+mux_setting (Mux word shift width read_only) f parent planned regs at = refl
+mux_setting (FixedRate rate) f parent planned regs at = refl
+mux_setting (Factor mult div) f parent planned regs at = refl
+mux_setting (Gate word bit set_to_disable) f parent planned regs at = refl
+mux_setting (Divider word shift width one_based power_of_two) f parent planned regs at = absurd cc
+mux_setting (Pll word shift width power_word power_bit least most m) f parent planned regs at = absurd cc
+
+-- so a visit leaves what each clock selects
+pub IsNarrow-set : (words : ℕ) (s : State) (k : Change) (c : ℕ) → IsNarrow words s → IsNarrow words (record s { regs = set_in_chain s k c })
+IsNarrow-set words s k c sound = record {
+  valid = sound.valid;
+  runs = sound.runs;
+  rows = sound.rows;
+  attached = sound.attached;
+  unlinked = sound.unlinked;
+  parents = sound.parents;
+  selects = λ d there. sound.selects d there ∙ sym (selected_same s.defs s.regs (set_in_chain s k c) d (λ f at. reads d f at (nat_eq d c) refl));
+} where
+  own : (f : Field) → mux_field (kind_of s.defs c) ≡ Some f → (o : Option ℕ) → option_map_or (λ planned. setting (kind_of s.defs c) (parent_rate_in (wiring s) c) planned s.regs) o s.regs ≡ s.regs
+  own f at None = refl
+  own f at (Some planned) = mux_setting (kind_of s.defs c) f (parent_rate_in (wiring s) c) planned s.regs at
+
+  reads : (d : ℕ) (f : Field) → mux_field (kind_of s.defs d) ≡ Some f → (t : Bool) → nat_eq d c ≡ t → field (set_in_chain s k c) f.word f.shift f.width ≡ field s.regs f.word f.shift f.width
+  reads d f at true same =
+      let here : mux_field (kind_of s.defs c) ≡ Some f = ap (λ (x : ℕ). mux_field (kind_of s.defs x)) (sym (same_from_test d c same)) ∙ at in
+      ap (λ (regs : Registers). field regs f.word f.shift f.width) (own f here (planned_rate k c))
+  reads d f at false other = set_stays s k words c d sound.valid (test_other d c other) f (mux_is_field (kind_of s.defs d) f at)
+
+-- ---- rows and handles
+
+-- other handles
+pub IsNarrow-handles : (words : ℕ) (s : State) (handles : List (Option HandleRow)) → IsNarrow words s → IsNarrow words (record s { handles = handles })
+IsNarrow-handles words s handles sound = record {
+  valid = sound.valid;
+  runs = sound.runs;
+  rows = sound.rows;
+  attached = sound.attached;
+  unlinked = sound.unlinked;
+  parents = sound.parents;
+  selects = sound.selects;
+}
 
 -- a handle that changes or is put back, with the gates that follow
-pub IsNarrow-put : (words : ℕ) (s : State) (n : ℕ) (o : Option HandleRow) → IsNarrow words s → ((h : HandleRow) → o ≡ Some h → MayHold s h)
-    → IsNarrow words (settled s (put_handle s n o))
-IsNarrow-put words s n o sound may =
-    IsNarrow-settled words s (put_handle s n o) (record {
-      valid = sound.valid;
-      runs = sound.runs;
-      rows = sound.rows;
-      attached = sound.attached;
-      unlinked = sound.unlinked;
-      parents = sound.parents;
-      selects = sound.selects;
-      unpowered = λ k h at. may_hold k h at;
-    }) where
-      may_hold : (k : ℕ) (h : HandleRow) → handle_at (set s.handles n o) k ≡ Some h → MayHold s h
-      may_hold k h at = elim (handle_at-put s.handles n o k h at) [
-        | inl new ↦ may h new
-        | inr was ↦ sound.unpowered k h was
-      ]
+pub IsNarrow-put : (words : ℕ) (s : State) (n : ℕ) (o : Option HandleRow) → IsNarrow words s → IsNarrow words (settled s (put_handle s n o))
+IsNarrow-put words s n o sound = IsNarrow-settled words s (put_handle s n o) (IsNarrow-handles words s (set s.handles n o) sound)
 
 -- a new handle
 pub IsNarrow-given : (words : ℕ) (s : State) (d c : ℕ) → IsNarrow words s → IsNarrow words (given s d c).0
-IsNarrow-given words s d c sound =
-    let y : State = (given s d c).0 in
-    record {
-      valid = sound.valid;
-      runs = sound.runs;
-      rows = sound.rows;
-      attached = sound.attached;
-      unlinked = sound.unlinked;
-      parents = sound.parents;
-      selects = sound.selects;
-      unpowered = λ k h at. may_hold k h at;
-    } where
-      may_hold : (k : ℕ) (h : HandleRow) → handle_at (given s d c).0.handles k ≡ Some h → MayHold s h
-      may_hold k h at = elim (handle_at-append s.handles _ k h at) [
-        | inl new ↦ λ more. let none : h.prepares ≡ 0 = ap (λ (x : HandleRow). x.prepares) new in absurd (omega arith)
-        | inr was ↦ sound.unpowered k h was
-      ]
+IsNarrow-given words s d c sound = IsNarrow-handles words s (given s d c).0.handles sound
+
+-- another last request of a clock
+pub IsNarrow-requested : (words : ℕ) (s : State) (c x : ℕ) → IsNarrow words s → IsNarrow words (record s { clocks = requested s.clocks c x })
+IsNarrow-requested words s c x sound = record {
+  valid = sound.valid;
+  runs = sound.runs;
+  rows = length-set s.clocks c (record (row_of s.clocks c) { last_request = x }) ∙ sound.rows;
+  attached = λ d m. there d ∙ sound.attached d m;
+  unlinked = λ d free. link d ∙ sound.unlinked d (sym (there d) ∙ free);
+  parents = λ d is. ap (λ (test : ℕ → Bool). list_all test (parents_of s.defs d)) (fun_ext there) ∙ sound.parents d (sym (there d) ∙ is);
+  selects = λ d is. link d ∙ sound.selects d (sym (there d) ∙ is);
+} where
+  there : (d : ℕ) → registered (requested s.clocks c x) d ≡ registered s.clocks d
+  there d = registered_set s.clocks c (record (row_of s.clocks c) { last_request = x }) d refl
+
+  link : (d : ℕ) → link_in (requested s.clocks c x) d ≡ link_in s.clocks d
+  link d = link_set_same s.clocks c (record (row_of s.clocks c) { last_request = x }) d refl

@@ -99,14 +99,15 @@ stands_stepped old window' flight' s regs' change' stands words bare_ flies = re
 
 -- a step after which the call goes on takes the parts on
 pub enters_step : (old : Parts) (window' : Shown) (flight' : FlightState) (m : Micro) (answer : Option Bool) → is_some window'.words ≡ is_some old.window.words → window'.size ≡ old.window.size
-    → window'.behind ≡ old.window.behind → flight'.going ≡ true → left_over (rows_from 0 old.chains) flight' < left_over (rows_from 0 old.chains) old.flight
+    → window'.behind ≡ old.window.behind → flight'.going ≡ true → flight'.driver ≡ old.flight.driver → left_over (rows_from 0 old.chains) flight' < left_over (rows_from 0 old.chains) old.flight
     → ((s : State) → Stands old s → IsSound old.window.size s → Leads s old.flight.driver (event.Step m answer) turn.Going (with_step old window' flight'))
     → Enters old old.flight.driver (event.Step m answer) turn.Going (with_step old window' flight')
-enters_step old window' flight' m answer told size behind going less leads = record {
+enters_step old window' flight' m answer told size behind going same less leads = record {
   remains = record { desc = refl; told = told; size = size; behind = behind; credits = refl; ignore_unused = refl };
   pays = let same : old.spent ≡ old.spent + 0 = omega arith in same;
   rows = λ c. sym (or-false (registered old.tree.clocks c));
   going = going;
+  driver_ = λ still. same;
   fewer = λ free. less;
   begun = λ paid. absurd cc;
   no_more = λ paid. absurd cc;

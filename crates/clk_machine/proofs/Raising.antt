@@ -104,7 +104,8 @@ pub raise_enters : (old : Parts) (x pll : ClockId) (more : Bool) (window' : Show
     → Enters old old.flight.driver (event.Step (micro.Raise x) None) turn.Going (with_step old window' flight')
 raise_enters old x pll more window' flight' now =
     enters_step old window' flight' (micro.Raise x) None (told_put old.desc.defs pll.0 true old.window.words window'.words now.words) now.size now.behind
-    (ap (λ (f : FlightState). f.going) now.flight ∙ (same_raised old.flight x pll more).going ∙ now.going) (now.less (rows_from 0 old.chains)) (raise_leads old x pll more window' flight' now)
+    (ap (λ (f : FlightState). f.going) now.flight ∙ (same_raised old.flight x pll more).going ∙ now.going)
+    (ap (λ (f : FlightState). f.driver) now.flight ∙ (same_raised old.flight x pll more).driver) (now.less (rows_from 0 old.chains)) (raise_leads old x pll more window' flight' now)
 
 -- ---- nothing found
 
@@ -116,7 +117,7 @@ seeks_of what there _ e = absurd cc
 pub none_enters : (old : Parts) (step : Micro) (flight' : FlightState) → old.flight.going ≡ true → FindsNothing old step → flight' ≡ found_none old.flight → FindsNone old.flight flight'
     → LeavesLess old.flight flight' → Enters old old.flight.driver (event.Step step None) turn.Going (with_step old old.window flight')
 none_enters old step flight' going nothing is change less =
-    enters_step old old.window flight' step None refl refl refl (ap (λ (f : FlightState). f.going) is ∙ going) (less (rows_from 0 old.chains))
+    enters_step old old.window flight' step None refl refl refl (ap (λ (f : FlightState). f.going) is ∙ going) (ap (λ (f : FlightState). f.driver) is) (less (rows_from 0 old.chains))
     (λ s stands sound.
     let has = change_of old s stands going in
     let first = nothing.first s.notifiers has.k stands.notifiers has.is in
@@ -172,7 +173,7 @@ pub lower_enters : (old : Parts) (x pll : ClockId) (more : Bool) (window' : Show
     → Enters old old.flight.driver (event.Step (micro.Lower x) None) turn.Going (with_step old window' flight')
 lower_enters old x pll more window' flight' now =
     enters_step old window' flight' (micro.Lower x) None (told_put old.desc.defs pll.0 false old.window.words window'.words now.words) now.size now.behind
-    (ap (λ (f : FlightState). f.going) now.flight ∙ now.going) (now.less (rows_from 0 old.chains)) (lower_leads old x pll more window' flight' now)
+    (ap (λ (f : FlightState). f.going) now.flight ∙ now.going) (ap (λ (f : FlightState). f.driver) now.flight) (now.less (rows_from 0 old.chains)) (lower_leads old x pll more window' flight' now)
 
 -- ---- a poll
 
@@ -182,7 +183,7 @@ pub poll_enters : (old : Parts) (pll : ClockId) (answer : Bool) (window' : Shown
     → Enters old old.flight.driver (event.Step (micro.Poll pll) (Some answer)) turn.Going (with_step old window' flight')
 poll_enters old pll answer window' flight' going bare own comes size words behind is change less =
     enters_step old window' flight' (micro.Poll pll) (Some answer) (ap (λ (o : Option (List ℕ)). is_some o) words) size behind
-    (ap (λ (f : FlightState). f.going) is ∙ (same_polled old.flight answer).going ∙ going) (less (rows_from 0 old.chains))
+    (ap (λ (f : FlightState). f.going) is ∙ (same_polled old.flight answer).going ∙ going) (ap (λ (f : FlightState). f.driver) is ∙ (same_polled old.flight answer).driver) (less (rows_from 0 old.chains))
     (λ s stands sound.
     let has = change_of old s stands going in
     let k = has.k in
@@ -208,7 +209,7 @@ pub fall_enters : (old : Parts) (pll : ClockId) (window' : Shown) (flight' : Fli
     → Enters old old.flight.driver (event.Step (micro.Fall pll) None) turn.Going (with_step old window' flight')
 fall_enters old pll window' flight' going bare next comes size words behind is change less =
     enters_step old window' flight' (micro.Fall pll) None (told_put old.desc.defs pll.0 false old.window.words window'.words words) size behind
-    (ap (λ (f : FlightState). f.going) is ∙ going) (fall_less old pll flight' next less)
+    (ap (λ (f : FlightState). f.going) is ∙ going) (ap (λ (f : FlightState). f.driver) is) (fall_less old pll flight' next less)
     (λ s stands sound.
     let has = change_of old s stands going in
     let k = has.k in

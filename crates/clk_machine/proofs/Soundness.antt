@@ -1,16 +1,14 @@
 -- What holds of a state that a journal leads to, and what the rows of one say so far.
-use Rattle.std.proofs.Common.{◌≡◌, ℕ, ◌||◌, ◌&&◌, Bool, true, false, List, [], ◌∷◌, ◌++◌, Some, None, refl, sym, ap, subst, ◌∙◌, arith, nat_lt, nat_eq, ◌≤◌, length}
-use Rattle.std.proofs.lemmas.Bool.Decides.{nat_tests}
+use Rattle.std.proofs.Common.{◌≡◌, ℕ, Bool, true, false, List, [], ◌∷◌, ◌++◌, Some, None, refl, sym, ap, subst, ◌∙◌, ◌≤◌, length}
 use Rattle.std.proofs.lemmas.List.{length-replicate}
 use Rattle.clk_base.specs.declared.event.Entry.{Entry}
 use Rattle.clk_base.specs.declared.event.Event.{Event}
 use Rattle.clk_base.specs.declared.event.Turn.{Turn}
 use Rattle.clk_base.specs.Description.{Description, parents_of}
 use Rattle.clk_base.specs.Valid.{IsValid}
-use Rattle.clk_model.specs.declared.row.HandleRow.{HandleRow}
-use Rattle.clk_model.specs.State.{State, registered, link_in, handle_at}
+use Rattle.clk_model.specs.State.{State, registered, link_in}
 use Rattle.clk_model.specs.Fed.{Fed}
-use Rattle.clk_model.specs.Begin.{keeps_prepare, most_credits}
+use Rattle.clk_model.specs.Begin.{most_credits}
 use Rattle.clk_model.specs.Machine.{next}
 use Rattle.clk_model.specs.Journal.{opening, replay}
 use Rattle.clk_model.specs.Wired.{LinksArePossible}
@@ -23,7 +21,7 @@ use Rattle.clk_model.proofs.JournalLaws.{replay-append}
 use Rattle.clk_model.proofs.LinkLaws.{runs_keep_links, runs_are_wired}
 use Rattle.clk_model.proofs.RoomLaws.{runs_have_room}
 use Rattle.clk_model.proofs.RunsFedLaws.{runs_are_fed, quiet_runs_are_settled}
-use Rattle.clk_machine.specs.Fit.{CanRun, has_pll}
+use Rattle.clk_machine.specs.Fit.{CanRun}
 use Rattle.clk_machine.specs.Sound.{IsReached, IsNarrow, IsSound}
 use Rattle.clk_machine.proofs.Fitting.{all_in}
 
@@ -94,22 +92,6 @@ pub link_is_registered : (words : ℕ) (s : State) → IsNarrow words s → (c p
 link_is_registered words s sound c p at =
     all_in (registered s.clocks) (parents_of s.defs c) p (sound.parents c (linked_is_registered words s sound c p at)) (links_possible words s sound c p at)
 
--- ---- handles of a description with a PLL
-
--- where there is a PLL, no handle has a prepare to give up
-pub keeps-unpowered : (words : ℕ) (s : State) → IsNarrow words s → (n : ℕ) (h : HandleRow) → handle_at s.handles n ≡ Some h → has_pll s.defs ≡ true → keeps_prepare h ≡ true
-keeps-unpowered words s sound n h at some = by_test (nat_eq h.prepares 0) refl where
-  by_test : (t : Bool) → nat_eq h.prepares 0 ≡ t → (t || (nat_eq h.prepares 1 && nat_lt 0 h.enables)) ≡ true
-  by_test true none = refl
-  by_test false more = let no : has_pll s.defs ≡ false = sound.unpowered n h at (grind (arith, nat_tests)) in absurd cc
-
--- so one that can give up a prepare is a handle of a description without a PLL
-pub frees-unpowered : (words : ℕ) (s : State) → IsNarrow words s → (n : ℕ) (h : HandleRow) → handle_at s.handles n ≡ Some h → keeps_prepare h ≡ false → has_pll s.defs ≡ false
-frees-unpowered words s sound n h at free = by_pll (has_pll s.defs) refl where
-  by_pll : (t : Bool) → has_pll s.defs ≡ t → t ≡ false
-  by_pll false none = refl
-  by_pll true some = let no : true ≡ false = sym (keeps-unpowered words s sound n h at some) ∙ free in absurd cc
-
 -- ---- the opening
 
 pub sound_opening : (words : List ℕ) (defs : Description) (ignore_unused : Bool) (credits : ℕ) → IsValid (length words) defs → CanRun defs → credits ≤ most_credits
@@ -134,6 +116,5 @@ sound_opening words defs ignore_unused credits valid runs few = record {
     unlinked = λ c free. blank_link (length defs) c;
     parents = λ c there. let none = blank_registered (length defs) c in absurd cc;
     selects = λ c there. let none = blank_registered (length defs) c in absurd cc;
-    unpowered = λ n h at. absurd cc;
   };
 }

@@ -103,7 +103,7 @@ lowers_none s d k x is at =
 -- ---- polls and falls
 
 -- a poll changes nothing but the change
-polled_change : (s : State) (k : Change) (y : ℕ) (b : Bool) → poll s k y b ≡ record s { change = (poll s k y b).change }
+pub polled_change : (s : State) (k : Change) (y : ℕ) (b : Bool) → poll s k y b ≡ record s { change = (poll s k y b).change }
 polled_change s k y true = refl
 polled_change s k y false = by (nat_le k.polls 1) where
   by : (t : Bool) → (if t then timed_out s (record k { polls = 0 }) else on s (record k { polls = k.polls - 1; front = micro.Poll (clock_id y) ∷ k.front }))

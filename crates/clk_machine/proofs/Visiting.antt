@@ -309,6 +309,7 @@ visit_enters old c window' tree' posts' flight' course' now = record {
   pays = let same : old.spent ≡ old.spent + 0 = omega arith in same;
   rows = λ d. ap (λ (rs : List ClockRow). registered rs d) now.rows ∙ sym (or-false (registered old.tree.clocks d));
   going = ap (λ (f : FlightState). f.going) now.flight ∙ now.going;
+  driver_ = λ still. ap (λ (f : FlightState). f.driver) now.flight;
   fewer = λ free. now.less (few_told old c.0 posts'.count now.few);
   begun = λ paid. absurd cc;
   no_more = λ paid. absurd cc;

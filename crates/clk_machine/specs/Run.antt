@@ -1,16 +1,20 @@
 -- What contracts see of a core: where it began, and its journal.
-use Rattle.std.specs.Prelude.{◌≡◌, ℕ, ◌+◌, ◌≤◌, false, if◌then◌else◌, List, [], ◌∷◌, ◌++◌, Bool, true, Option, Some, length, take}
+use Rattle.std.specs.Prelude.{◌≡◌, ◌↔◌, ℕ, ◌+◌, ◌<◌, ◌≤◌, false, if◌then◌else◌, List, [], ◌∷◌, ◌++◌, Bool, true, Option, Some, length, take}
 use Rattle.std.specs.List.{list_any}
+use Rattle.clk_base.specs.declared.call.Micro.{Micro}
 use Rattle.clk_base.specs.declared.call.Sleeping.{Sleeping}
 use Rattle.clk_base.specs.declared.event.Entry.{Entry}
 use Rattle.clk_base.specs.declared.event.Event.{Event}
+use Rattle.clk_base.specs.declared.event.Event.TheVariants as event
+use Rattle.clk_base.specs.declared.event.Reply.{Reply}
 use Rattle.clk_base.specs.declared.event.Turn.{Turn}
 use Rattle.clk_base.specs.declared.event.Turn.TheVariants as turn
-use Rattle.clk_model.specs.State.{State, registered}
+use Rattle.clk_model.specs.State.{State, Change, registered}
 use Rattle.clk_model.specs.Machine.{next}
 use Rattle.clk_model.specs.Tier.{is_enable_tier}
-use Rattle.clk_model.specs.Journal.{is_going, slotless, replay, Legal, opening, cost}
+use Rattle.clk_model.specs.Journal.{is_paid, is_going, slotless, replay, Legal, opening, cost}
 use Rattle.clk_model.specs.Fed.{Fed}
+use Rattle.clk_model.specs.Laws.EndCauses.{EndsCall}
 use Rattle.clk_machine.specs.Parts.{Parts, steps_left}
 use Rattle.clk_machine.specs.Stands.{Stands, is_told, registers}
 use Rattle.clk_machine.specs.Sound.{IsSound}
@@ -24,6 +28,8 @@ pub record Run : Type 0 where
   pub told : Bool
   -- the words of the bank behind those of the state, where it tells them
   pub behind : Option (List ℕ)
+  -- how many steps the call in flight may still come to, whatever the bank answers; none where there is no such call
+  pub left : ℕ
 
 -- the state of a core: its opening with its journal replayed
 abbrev pub now_of : Run → State
@@ -42,14 +48,18 @@ going_after going (e ∷ es) = going_after (if is_enable_tier e.event then going
 abbrev pub in_flight : List Entry → Bool
 in_flight journal = going_after false journal
 
+-- the driver of the last of these entries that isn't of the enable tier, or else this one
+abbrev pub driver_after : ℕ → List Entry → ℕ
+driver_after d [] = d
+driver_after d (e ∷ es) = driver_after (if is_enable_tier e.event then d else e.driver) es
+
+-- the driver of the call in flight behind a journal
+abbrev pub driver_in_flight : List Entry → ℕ
+driver_in_flight journal = driver_after 0 journal
+
 -- whether a call can be made now, where the probed clocks are the registered ones
 abbrev pub can_make : Run → Sleeping → Bool
 can_make run what = is_built_over run.start.defs (was_probed run.journal) what
-
--- the event is answered, and no call goes on
-abbrev pub IsDone : Turn → Type 0
-IsDone turn.Going = ⊥
-IsDone (turn.Done r) = Unit {0}
 
 -- an event of a driver answers the machine's turn, and its entry is appended
 pub record Appends (old : Run) (driver : ℕ) (event : Event) (turn : Turn) (new : Run) : Type 0 where
@@ -59,6 +69,21 @@ pub record Appends (old : Run) (driver : ℕ) (event : Event) (turn : Turn) (new
   pub entry : new.journal ≡ old.journal ++ record { driver = driver; event = event; turn = turn } ∷ []
   pub step : old.told ≡ true → next (now_of old) driver event ≡ Some (now_of new, slotless turn)
   pub legal : old.told ≡ true → Legal new.start new.journal
+  -- no more steps are to come behind it, unless it begins a call that goes on
+  pub no_more : is_paid event ≡ true → is_going turn ≡ false → new.left ≤ old.left
+
+-- the next step of the call in flight was made: its entry is appended as its driver's, and fewer steps are to come
+pub record StepsOn (old : Run) (turn : Turn) (new : Run) : Type 0 where
+  pub made : Micro
+  pub answer : Option Bool
+  pub entry : Appends old (driver_in_flight old.journal) (event.Step made answer) turn new
+  pub fewer : new.left < old.left
+
+-- why a step is answered as it is: the call goes on exactly where a change is left in flight, and each end has its cause over the call's
+-- own entries
+pub record StepTurns (old new : Run) (given : Turn) : Type 0 where
+  pub going : (given ≡ turn.Going) ↔ ((k : Change) × ((now_of new).change ≡ Some k))
+  pub ended : (last : Entry) (r : Reply) → new.journal ≡ old.journal ++ last ∷ [] → given ≡ turn.Done r → EndsCall old.start old.journal last r
 
 -- a journal, and how many entries it has room for
 pub record Logged : Type 0 where
@@ -75,7 +100,7 @@ state_of m words log = replay (start_of m words) log.entries
 
 -- the core of a machine with this journal
 abbrev pub run_of : Parts → List ℕ → Logged → Run
-run_of m words log = record { start = start_of m words; journal = log.entries; told = is_told m; behind = m.window.behind }
+run_of m words log = record { start = start_of m words; journal = log.entries; told = is_told m; behind = m.window.behind; left = steps_left m }
 
 -- the journal is a legal run of the machine, and the parts stand for its replay
 pub record IsRun (m : Parts) (words : List ℕ) (log : Logged) : Type 0 where
@@ -86,8 +111,8 @@ pub record IsRun (m : Parts) (words : List ℕ) (log : Logged) : Type 0 where
   pub fed : is_told m ≡ true → (n : ℕ) → Fed (replay (start_of m words) (take n log.entries))
   pub spent : cost log.entries ≡ m.spent
   pub room : m.credits + steps_left m ≤ m.spent + log.room
-  -- a call is in flight where the journal says so; so far none goes on
+  -- a call is in flight where the journal says so, and it is the driver's whom the journal names
   pub going : m.flight.going ≡ in_flight log.entries
-  pub idle : in_flight log.entries ≡ false
+  pub driver_ : m.flight.going ≡ true → m.flight.driver ≡ driver_in_flight log.entries
   pub size : m.window.size ≡ length words
   pub probed : (c : ℕ) → registered m.tree.clocks c ≡ was_probed log.entries c

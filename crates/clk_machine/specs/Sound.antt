@@ -1,6 +1,8 @@
 -- What every state of a core keeps, where only calls are made that can be made so far.
 use Rattle.std.specs.Prelude.{◌≡◌, ℕ, ◌<◌, ◌≤◌, List, Bool, true, false, Some, None, length}
 use Rattle.std.specs.List.{list_all}
+use Rattle.clk_base.specs.declared.call.Micro.{Micro}
+use Rattle.clk_base.specs.declared.call.Micro.TheVariants as micro
 use Rattle.clk_base.specs.declared.call.Sleeping.{Sleeping}
 use Rattle.clk_base.specs.declared.call.Sleeping.TheVariants as call
 use Rattle.clk_base.specs.declared.event.Entry.{Entry}
@@ -9,13 +11,12 @@ use Rattle.clk_base.specs.declared.event.Event.TheVariants as event
 use Rattle.clk_base.specs.Description.{Description, parents_of}
 use Rattle.clk_base.specs.Valid.{IsValid}
 use Rattle.reg_bank.specs.Registers.{Registers}
-use Rattle.clk_model.specs.declared.row.HandleRow.{HandleRow}
 use Rattle.clk_model.specs.Lists.{is_in}
-use Rattle.clk_model.specs.State.{State, registered, link_in, handle_at}
+use Rattle.clk_model.specs.State.{State, registered, link_in}
 use Rattle.clk_model.specs.Tree.{selected}
 use Rattle.clk_model.specs.Begin.{most_credits}
 use Rattle.clk_model.specs.Journal.{opening, replay}
-use Rattle.clk_machine.specs.Fit.{CanRun, has_pll}
+use Rattle.clk_machine.specs.Fit.{CanRun}
 use Rattle.clk_machine.specs.Built.{is_built_over}
 
 -- a journal leads to the state, from the opening of a valid description with so many words and as many credits as there may be
@@ -43,8 +44,6 @@ pub record IsNarrow (words : ℕ) (s : State) : Type 0 where
   pub unlinked : (c : ℕ) → registered s.clocks c ≡ false → link_in s.clocks c ≡ None
   pub parents : (c : ℕ) → registered s.clocks c ≡ true → list_all (registered s.clocks) (parents_of s.defs c) ≡ true
   pub selects : (c : ℕ) → registered s.clocks c ≡ true → link_in s.clocks c ≡ selected s.defs s.regs c
-  -- a handle is prepared only where there is no PLL
-  pub unpowered : (n : ℕ) (h : HandleRow) → handle_at s.handles n ≡ Some h → 0 < h.prepares → has_pll s.defs ≡ false
 
 -- what every state of a core keeps: all that holds behind a journal, and what is kept so far
 pub record IsSound (words : ℕ) (s : State) : Type 0 where
@@ -62,14 +61,27 @@ IsPlaced defs _ = Unit {0}
 abbrev pub CanBegin : State → Sleeping → Type 0
 CanBegin s what = is_built_over s.defs (registered s.clocks) what ≡ true
 
--- a get takes memory, for its handle, and so does adding a notifier; no other call does
+-- a get takes memory, for its handle, and so do adding a notifier and the calls that may go on, for their steps; no other call does
 abbrev pub takes_memory : Sleeping → Bool
 takes_memory (call.Get found) = true
+takes_memory (call.Prepare h) = true
+takes_memory (call.Unprepare h) = true
 takes_memory (call.NotifierAdd h id priority policy) = true
 takes_memory _ = false
 
--- an event that can come in a state: one of the enable tier, or a call that can begin
+-- a step that links no clock, registers none, and writes no field by which a clock selects its parent
+abbrev pub leaves_links : Micro → Bool
+leaves_links (micro.Notify kind c id old new) = true
+leaves_links (micro.Raise x) = true
+leaves_links (micro.Poll y) = true
+leaves_links (micro.Fall y) = true
+leaves_links (micro.Lower x) = true
+leaves_links (micro.Visit c) = true
+leaves_links micro.End = true
+leaves_links _ = false
+
+-- an event that can come in a state: one of the enable tier, a call that can begin, or a step that leaves links
 abbrev pub CanTake : State → Event → Type 0
 CanTake s (event.Begin what) = IsPlaced s.defs what × CanBegin s what
-CanTake s (event.Step m answer) = ⊥
+CanTake s (event.Step m answer) = leaves_links m ≡ true
 CanTake s e = Unit {0}

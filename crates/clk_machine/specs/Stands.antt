@@ -94,6 +94,8 @@ pub record Enters (old : Parts) (driver : ℕ) (event : Event) (turn : Turn) (ne
   pub pays : new.spent ≡ old.spent + price event
   -- the enable tier leaves a change in flight, and else there is one where the turn says that the call goes on
   pub going : new.flight.going ≡ (if is_enable_tier event then old.flight.going else is_going turn)
+  -- and a call that goes on behind an event of the other tier is its driver's
+  pub driver_ : new.flight.going ≡ true → new.flight.driver ≡ (if is_enable_tier event then old.flight.driver else driver)
   -- a step leaves fewer steps to come, a call that begins and goes on as many as it may come to, and any other event no more
   pub fewer : is_paid event ≡ false → steps_left new < steps_left old
   pub begun : is_paid event ≡ true → is_going turn ≡ true → steps_left new ≤ most_steps old.desc.defs event

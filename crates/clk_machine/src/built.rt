@@ -5,14 +5,15 @@ ghost use Rattle.clk_machine.specs.Built.{is_built};
 
 use clk_base::Sleeping;
 
-/// Whether a call can be made so far, where the description has a PLL or none, and where the clock
-/// that it registers, if it does, can be registered now.
-pub fn is_built(what: &Sleeping, pll: bool, can_register: bool) -> bool
-    ensures { result ≡ is_built pll (λ _. can_register) what.now }
+/// Whether a call can be made so far, where the clock that it registers, if it does, can be
+/// registered now.
+pub fn is_built(what: &Sleeping, can_register: bool) -> bool
+    ensures { result ≡ is_built (λ _. can_register) what.now }
 {
     match what {
         Sleeping::Get(_)
         | Sleeping::Put(_)
+        | Sleeping::Prepare(_)
         | Sleeping::Unprepare(_)
         | Sleeping::GetRate(_)
         | Sleeping::RoundRate(_, _)
@@ -21,7 +22,6 @@ pub fn is_built(what: &Sleeping, pll: bool, can_register: bool) -> bool
         | Sleeping::ExclusivePut(_)
         | Sleeping::NotifierAdd(_, _, _, _)
         | Sleeping::NotifierRemove(_, _) => true,
-        Sleeping::Prepare(_) => !pll,
         Sleeping::Probe(_) => can_register,
         _ => false,
     }

@@ -62,7 +62,7 @@ pub(crate) fn is_pll(desc: &ValidDesc, clock: ClockId) -> bool
     matches!(desc.def(clock).kind, Kind::Pll { .. })
 }
 
-/// Whether a clock of the description is a PLL. A core prepares clocks only where none is.
+/// Whether a clock of the description is a PLL. A core runs critical clocks only where none is.
 pub fn has_pll(desc: &ValidDesc) -> bool
     ensures { result ≡ has_pll desc.now.defs }
 {

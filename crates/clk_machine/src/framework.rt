@@ -1,6 +1,6 @@
 //! The core: the machine with its journal.
 
-ghost use Rattle.std.specs.Prelude.{◌≡◌, ℕ, ◌+◌, ◌<◌, ◌≤◌, true, false, [], length, take, drop, is_some, slice_index, IfSome, IfOk, IsOk, OnErr};
+ghost use Rattle.std.specs.Prelude.{◌≡◌, ℕ, ◌+◌, ◌<◌, ◌≤◌, true, false, not, [], length, take, drop, is_some, slice_index, IfSome, IfOk, IsOk, OnErr};
 ghost use Rattle.std.specs.Option.{option_map};
 ghost use Rattle.clk_model.specs.State.{is_quiet};
 ghost use Rattle.clk_model.specs.Journal.{opening, replay, Legal, cost};
@@ -47,7 +47,7 @@ impl<B: Bank> Core<B> {
     ghost use Rattle.clk_model.specs.Journal.{slotless};
     ghost use Rattle.clk_model.specs.Laws.CallCauses.{CallTurns};
     ghost use Rattle.clk_model.specs.Laws.Causes.{EnableCauses, DisableCauses, RunningCauses, LeavesRefused};
-    ghost use Rattle.clk_machine.specs.Run.{Run, now_of, was_probed, can_make, IsDone, Appends};
+    ghost use Rattle.clk_machine.specs.Run.{Run, now_of, was_probed, in_flight, can_make, Appends, StepsOn, StepTurns};
     ghost use Rattle.clk_machine.specs.Row.{IsRowOf, IsTreeOf};
 
     /// A core at its opening: the words are written to the bank, nothing is registered, and the
@@ -155,26 +155,27 @@ impl<B: Bank> Core<B> {
         ensures { result ≡ can_make self.now what.now }
     {
         match what {
-            Sleeping::Probe(clock) => is_built(what, false, self.machine.has_parents(*clock)),
-            _ => is_built(what, self.machine.has_pll(), false),
+            Sleeping::Probe(clock) => is_built(what, self.machine.has_parents(*clock)),
+            _ => is_built(what, false),
         }
     }
 
-    /// Begins a call of a driver. The calls that are built answer at once.
+    /// Begins a call of a driver. It is answered at once, or goes on by steps.
     ///
-    /// After `NoMemory` the core is as it was, without an entry. It comes at a get and where a
-    /// notifier is added.
+    /// After `NoMemory` the core is as it was, without an entry. It comes at a get, where a notifier
+    /// is added, and at a prepare and an unprepare, which take the room for the entries of their steps
+    /// before they begin.
     pub fn begin(&mut self, driver: u32, what: &Sleeping) -> Result<Turn, NoMemory>
         // A credit is left.
         requires credit { cost self.old.journal < self.old.start.credits }
+        // No call is in flight.
+        requires quiet { in_flight self.old.journal ≡ false }
         // The clocks that the call names are clocks of the description.
         requires place { IsPlaced self.old.start.defs what.now }
         // The call is one of those that can be made so far.
         requires built { can_make self.old what.now ≡ true }
         // The machine takes the event, answers so, and its entry is appended.
         ensures ok { IfOk result (λ turn. Appends self.old driver (Begin what.now) turn self.new) }
-        // The call is answered at once.
-        ensures at_once { IfOk result IsDone }
         // Where the bank tells its words, the turn of each call comes exactly where its cause in the state before holds.
         ensures turns { self.old.told ≡ true → IfOk result (λ turn. CallTurns (now_of self.old) driver what.now (slotless turn)) }
         // Where the bank tells its words, a refusal spends a credit and changes nothing else.
@@ -184,13 +185,35 @@ impl<B: Bank> Core<B> {
         // That can be only where the call takes memory.
         ensures memory { takes_memory what.now ≡ false → IsOk result }
     {
-        let reply = self.machine.begin(driver, *what)?;
+        let credits = self.machine.credits_left();
+        let steps = self.machine.most_steps(*what);
+        self.log.make_room(credits, steps)?;
+        let turn = self.machine.begin(driver, *what)?;
         self.log.push(Entry {
             driver,
             event: Event::Begin(*what),
-            turn: Turn::Done(reply),
+            turn,
         });
-        Ok(Turn::Done(reply))
+        Ok(turn)
+    }
+
+    /// Makes the next step of the call in flight. Takes no memory.
+    pub fn step(&mut self) -> Turn
+        // A call is in flight.
+        requires { in_flight self.old.journal ≡ true }
+        // The machine takes the step that comes next, answers so, and its entry is appended; fewer steps are to come then.
+        ensures made { StepsOn self.old result self.new }
+        // Where the bank tells its words, the turn comes exactly where its cause holds.
+        ensures turns { self.old.told ≡ true → StepTurns self.old self.new result }
+    {
+        let driver = self.machine.driver();
+        let made = self.machine.step();
+        self.log.push(Entry {
+            driver,
+            event: Event::Step(made.step, made.answer),
+            turn: made.turn,
+        });
+        made.turn
     }
 
     /// The entries so far. After each prefix of them, the clocks that are active are fed.
@@ -223,12 +246,14 @@ impl<B: Bank> Core<B> {
         self.machine.tree()
     }
 
-    /// Whether no change is in flight. The calls that are built leave none.
+    /// Whether no change is in flight.
     pub fn quiet(&self) -> bool
+        // It tells whether a call is in flight behind the journal.
+        ensures quiet { result ≡ not (in_flight self.now.journal) }
         // Where the bank tells its words, it tells whether the state has no change.
         ensures tells { self.now.told ≡ true → result ≡ is_quiet (now_of self.now).change }
-        // So far there never is one.
-        ensures none { result ≡ true }
+        // Where none is, no step is to come.
+        ensures none { result ≡ true → self.now.left ≡ 0 }
     {
         self.machine.is_quiet()
     }

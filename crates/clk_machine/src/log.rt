@@ -1,6 +1,6 @@
 //! The journal of a core.
 
-ghost use Rattle.std.specs.Prelude.{◌≡◌, ◌+◌, ◌<◌, [], ◌∷◌, ◌++◌, IfOk};
+ghost use Rattle.std.specs.Prelude.{◌≡◌, ◌+◌, ◌^◌, ◌<◌, ◌≤◌, [], ◌∷◌, ◌++◌, IfOk, IsOk, OnOk};
 
 use clk_base::Entry;
 use clk_io::NoMemory;
@@ -31,6 +31,22 @@ impl Log {
         Ok(Log {
             entries: Vec::with_capacity(alloc, room as usize)?,
         })
+    }
+
+    /// Makes room for the entries of so many credits, for which there is room, and of so many steps.
+    /// For no step it takes no memory.
+    pub(crate) fn make_room(&mut self, credits: u32, steps: u64) -> Result<(), NoMemory>
+        requires paid { credits ≤ self.old.room }
+        requires small { steps < 2 ^ 63 }
+        ensures entries { self.new.entries ≡ self.old.entries }
+        ensures room { OnOk result (credits + steps ≤ self.new.room) }
+        ensures kept { self.old.room ≤ self.new.room }
+        ensures free { steps ≡ 0 → IsOk result }
+    {
+        if steps > 0 {
+            self.entries.reserve(credits as usize + steps as usize)?;
+        }
+        Ok(())
     }
 
     /// Appends an entry. Takes no memory.

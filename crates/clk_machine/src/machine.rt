@@ -12,6 +12,7 @@ mod enabling;
 mod exclusives;
 mod holding;
 mod landing;
+mod lowering;
 mod notifying;
 mod registering;
 mod rounding;
@@ -23,7 +24,7 @@ mod visiting;
 
 use crate::course::Course;
 use crate::window::Window;
-use clk_base::{Handle, Reply, Sleeping, ValidDesc};
+use clk_base::{Handle, Reply, Sleeping, Turn, ValidDesc};
 use clk_flight::Flight;
 use clk_io::NoMemory;
 use clk_model::HandleRow;
@@ -70,6 +71,7 @@ impl<B: Bank> Machine<B> {
     ghost use Rattle.clk_base.specs.declared.event.Turn.TheVariants.{Done};
     ghost use Rattle.clk_machine.specs.Built.{is_built_over};
     ghost use Rattle.clk_machine.specs.Fit.{CanRun};
+    ghost use Rattle.clk_machine.specs.InFlight.{may_go_on};
     ghost use Rattle.clk_machine.specs.Sound.{IsPlaced, takes_memory};
     ghost use Rattle.clk_machine.specs.Parts.{Parts, own_in, IsWhole};
     ghost use Rattle.clk_machine.specs.Holding.{stays};
@@ -142,12 +144,13 @@ impl<B: Bank> Machine<B> {
         }
     }
 
-    /// Begins one of the calls that are built.
-    pub(crate) fn begin(&mut self, driver: u32, what: Sleeping) -> Result<Reply, NoMemory>
+    // Answers one of the calls that are built and never go on.
+    fn answer(&mut self, driver: u32, what: Sleeping) -> Result<Reply, NoMemory>
         requires credit { self.old.spent < self.old.credits }
         requires quiet { self.old.flight.going ≡ false }
         requires place { IsPlaced self.old.desc.defs what }
         requires built { is_built_over self.old.desc.defs (registered self.old.tree.clocks) what ≡ true }
+        requires at_once { may_go_on what ≡ false }
         ensures ok { IfOk result (λ reply. Enters self.old driver (Begin what) (Done reply) self.new) }
         ensures err { OnErr result (self.new ≡ self.old) }
         ensures memory { takes_memory what ≡ false → IsOk result }
@@ -155,8 +158,6 @@ impl<B: Bank> Machine<B> {
         match what {
             Sleeping::Get(found) => self.get(driver, found),
             Sleeping::Put(handle) => Ok(self.put(driver, handle)),
-            Sleeping::Prepare(handle) => Ok(self.prepare(driver, handle)),
-            Sleeping::Unprepare(handle) => Ok(self.unprepare(driver, handle)),
             Sleeping::GetRate(handle) => Ok(self.rate(driver, handle)),
             Sleeping::RoundRate(handle, rate) => Ok(self.round(driver, handle, rate)),
             Sleeping::GetParent(handle) => Ok(self.parent(driver, handle)),
@@ -168,6 +169,23 @@ impl<B: Bank> Machine<B> {
             Sleeping::NotifierRemove(handle, id) => Ok(self.notifier_remove(driver, handle, id)),
             Sleeping::Probe(clock) => Ok(self.probe(driver, clock)),
             _ => unreachable!(),
+        }
+    }
+
+    /// Begins one of the calls that are built.
+    pub(crate) fn begin(&mut self, driver: u32, what: Sleeping) -> Result<Turn, NoMemory>
+        requires credit { self.old.spent < self.old.credits }
+        requires quiet { self.old.flight.going ≡ false }
+        requires place { IsPlaced self.old.desc.defs what }
+        requires built { is_built_over self.old.desc.defs (registered self.old.tree.clocks) what ≡ true }
+        ensures ok { IfOk result (λ turn. Enters self.old driver (Begin what) turn self.new) }
+        ensures err { OnErr result (self.new ≡ self.old) }
+        ensures memory { takes_memory what ≡ false → IsOk result }
+    {
+        match what {
+            Sleeping::Prepare(handle) => self.begin_prepare(driver, handle),
+            Sleeping::Unprepare(handle) => self.begin_unprepare(driver, handle),
+            _ => Ok(Turn::Done(self.answer(driver, what)?)),
         }
     }
 }

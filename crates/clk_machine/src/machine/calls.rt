@@ -1,21 +1,20 @@
-//! The calls that are answered at once: getting a handle and putting it back, preparing it and giving
-//! the prepare up, and what is told of its clock.
+//! The calls that are answered at once: getting a handle and putting it back, and what is told of its
+//! clock.
 
 ghost use Rattle.std.specs.Prelude.{◌≡◌, ◌<◌, true, false, length, IfOk, OnErr};
 ghost use Rattle.std.specs.Option.{ForSome, option_map};
 ghost use Rattle.clk_base.specs.declared.event.Event.TheVariants.{Begin};
 ghost use Rattle.clk_base.specs.declared.event.Turn.TheVariants.{Done};
-ghost use Rattle.clk_base.specs.declared.call.Sleeping.TheVariants.{Get, Put, Prepare, Unprepare, GetRate, GetParent};
+ghost use Rattle.clk_base.specs.declared.call.Sleeping.TheVariants.{Get, Put, GetRate, GetParent};
 ghost use Rattle.clk_model.specs.State.{State, registered, link_in};
 ghost use Rattle.clk_model.specs.Tree.{rooted};
 ghost use Rattle.clk_model.specs.Rate.{rate};
 ghost use Rattle.clk_model.specs.Chain.{clock_id};
-ghost use Rattle.clk_machine.specs.Fit.{has_pll};
 ghost use Rattle.clk_machine.specs.Parts.{IsWhole};
 ghost use Rattle.clk_machine.specs.Stands.{Stands, Enters};
 
 use super::Machine;
-use crate::handles::{holds_something, keeps_prepare};
+use crate::handles::holds_something;
 use clk_base::{ClockId, Errno, Handle, Reply};
 use clk_io::NoMemory;
 use reg_bank::Bank;
@@ -64,39 +63,6 @@ impl<B: Bank> Machine<B> {
             return Reply::Refused(Errno::EBUSY);
         }
         self.remove_handle(handle, row);
-        Reply::Fine
-    }
-
-    /// Prepares a handle. There is no PLL to be raised.
-    pub(crate) fn prepare(&mut self, driver: u32, handle: Handle) -> Reply
-        requires credit { self.old.spent < self.old.credits }
-        requires quiet { self.old.flight.going ≡ false }
-        requires plls { has_pll self.old.desc.defs ≡ false }
-        ensures { Enters self.old driver (Begin (Prepare handle)) (Done result) self.new }
-    {
-        let Some(row) = self.own(driver, handle) else {
-            self.spend();
-            return Reply::Refused(Errno::ENOENT);
-        };
-        self.add_prepare(handle, row);
-        Reply::Fine
-    }
-
-    /// Takes a prepare from a handle. Where there is a PLL, no handle has one.
-    pub(crate) fn unprepare(&mut self, driver: u32, handle: Handle) -> Reply
-        requires credit { self.old.spent < self.old.credits }
-        requires quiet { self.old.flight.going ≡ false }
-        ensures { Enters self.old driver (Begin (Unprepare handle)) (Done result) self.new }
-    {
-        let Some(row) = self.own(driver, handle) else {
-            self.spend();
-            return Reply::Refused(Errno::ENOENT);
-        };
-        if keeps_prepare(row) {
-            self.spend();
-            return Reply::Warn;
-        }
-        self.drop_prepare(handle, row);
         Reply::Fine
     }
 

@@ -9,6 +9,7 @@ ghost use Rattle.clk_model.specs.State.{registered, handle_at};
 ghost use Rattle.clk_model.specs.Tree.{path};
 ghost use Rattle.clk_model.specs.Begin.{most_credits};
 ghost use Rattle.clk_model.specs.Script.{plls};
+ghost use Rattle.clk_machine.specs.Holding.{stays};
 ghost use Rattle.clk_machine.specs.Parts.{own_in, IsWhole};
 ghost use Rattle.clk_machine.specs.Plls.{is_loose};
 ghost use Rattle.clk_machine.specs.Starting.{StartsCall};
@@ -23,8 +24,8 @@ use clk_model::HandleRow;
 use reg_bank::Bank;
 use std::alloc::Global;
 
-// A script of this step and the end.
-fn ending(alloc: Global, first: Micro) -> Result<Vec<Micro>, NoMemory>
+/// A script of this step and the end.
+pub(super) fn ending(alloc: Global, first: Micro) -> Result<Vec<Micro>, NoMemory>
     ensures { IfOk result (λ steps. steps.items ≡ first ∷ End ∷ []) }
 {
     let mut steps = Vec::with_capacity(alloc, 2)?;
@@ -33,16 +34,17 @@ fn ending(alloc: Global, first: Micro) -> Result<Vec<Micro>, NoMemory>
     Ok(steps)
 }
 
-// How many entries a raise of a path's PLLs and the end come to at most, where a line has so many PLLs.
-fn most_to_raise(plls: u32) -> u64
+/// How many entries a raise of a path's PLLs and the end come to at most, where a line has so many
+/// PLLs.
+pub(super) fn most_to_raise(plls: u32) -> u64
     ensures most { result ≡ 34 * plls + 2 }
     ensures small { result < 2 ^ 63 }
 {
     34 * u64::from(plls) + 2
 }
 
-// Whether there is room for so many entries of steps behind credits and steps that were made.
-fn has_room(credits: u32, steps: u32, most: u64) -> bool
+/// Whether there is room for so many entries of steps behind credits and steps that were made.
+pub(super) fn has_room(credits: u32, steps: u32, most: u64) -> bool
     requires { most < 2 ^ 63 }
     ensures { result ≡ nat_le (credits + steps + most) most_credits }
 {
@@ -74,7 +76,7 @@ impl<B: Bank> Machine<B> {
         requires own { own_in self.old.table.handles driver handle.number ≡ Some row }
         requires live { handle_at self.old.table.handles handle.number ≡ Some row }
         requires room { self.old.credits + self.old.steps + (34 * plls self.old.desc.defs + 2) ≤ most_credits }
-        ensures ok { OnOk result (StartsCall self.old driver (Prepare handle) (Raise row.clock ∷ End ∷ []) self.new) }
+        ensures ok { OnOk result (StartsCall self.old driver (Prepare handle) (Raise row.clock ∷ End ∷ []) stays self.new) }
         ensures err { OnErr result (self.new ≡ self.old) }
     {
         let script = ending(self.alloc, Micro::Raise(row.clock))?;

@@ -13,6 +13,7 @@ ghost use Rattle.clk_flight.specs.Flights.{own_step, comes_next};
 ghost use Rattle.clk_machine.specs.Making.{ComesFirst, ComesNext, FindsNothing};
 ghost use Rattle.clk_machine.specs.Parts.{IsWhole};
 ghost use Rattle.clk_machine.specs.Plls.{raisable, lowerable, Finds};
+ghost use Rattle.clk_machine.specs.Sound.{leaves_links};
 ghost use Rattle.clk_machine.specs.Stands.{Enters};
 
 use super::Machine;
@@ -150,7 +151,8 @@ impl<B: Bank> Machine<B> {
     /// Makes the next step of the change in flight.
     pub(crate) fn step(&mut self) -> Made
         requires { self.old.flight.going ≡ true }
-        ensures { Enters self.old self.old.flight.driver (Step result.step result.answer) result.turn self.new }
+        ensures enters { Enters self.old self.old.flight.driver (Step result.step result.answer) result.turn self.new }
+        ensures leaves { leaves_links result.step ≡ true }
     {
         match self.next_work() {
             Work::Raise(clock) => {

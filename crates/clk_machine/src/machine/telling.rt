@@ -1,15 +1,17 @@
 //! What the machine tells of itself.
 
-ghost use Rattle.std.specs.Prelude.{◌≡◌, ◌+◌, ◌<◌, not, length, is_some, take, drop, slice_index, IfSome};
+ghost use Rattle.std.specs.Prelude.{◌≡◌, ◌+◌, ◌^◌, ◌<◌, ◌≤◌, false, not, length, is_some, take, drop, slice_index, IfSome};
 ghost use Rattle.std.specs.Option.{option_map};
 ghost use Rattle.clk_model.specs.State.{State, is_quiet};
-ghost use Rattle.clk_machine.specs.Fit.{has_pll};
+ghost use Rattle.clk_base.specs.declared.event.Event.TheVariants.{Begin};
 ghost use Rattle.clk_machine.specs.Row.{IsTreeOf};
-ghost use Rattle.clk_machine.specs.Stands.{Stands, is_told};
+ghost use Rattle.clk_machine.specs.Sound.{takes_memory};
+ghost use Rattle.clk_machine.specs.Stands.{Stands, is_told, most_steps};
 
 use super::Machine;
-use crate::fit::has_pll;
-use clk_base::ValidDesc;
+use super::lowering::most_to_lower;
+use super::starting::most_to_raise;
+use clk_base::{Sleeping, ValidDesc};
 use clk_tree::Tree;
 use reg_bank::Bank;
 
@@ -19,13 +21,6 @@ impl<B: Bank> Machine<B> {
         ensures { result.now ≡ self.now.desc }
     {
         &self.desc
-    }
-
-    /// Whether a clock of the description is a PLL.
-    pub(crate) fn has_pll(&self) -> bool
-        ensures { result ≡ has_pll self.now.desc.defs }
-    {
-        has_pll(&self.desc)
     }
 
     /// The tree with its kept rates.
@@ -42,6 +37,27 @@ impl<B: Bank> Machine<B> {
         ensures going { result ≡ not self.now.flight.going }
     {
         !self.flight.going()
+    }
+
+    /// The driver whose call is in flight.
+    pub(crate) fn driver(&self) -> u32
+        ensures driver { result ≡ self.now.flight.driver }
+        ensures paid { self.now.spent ≤ self.now.credits }
+    {
+        self.flight.driver()
+    }
+
+    /// How many steps a call may come to at most, where it goes on.
+    pub(crate) fn most_steps(&self, what: Sleeping) -> u64
+        ensures most { result ≡ most_steps self.now.desc.defs (Begin what) }
+        ensures small { result < 2 ^ 63 }
+        ensures free { takes_memory what ≡ false → result ≡ 0 }
+    {
+        match what {
+            Sleeping::Prepare(_) => most_to_raise(self.tree.plls()),
+            Sleeping::Unprepare(_) => most_to_lower(self.tree.plls()),
+            _ => 0,
+        }
     }
 
     /// How many credits are left.

@@ -1,6 +1,10 @@
-use Rattle.std.proofs.Common.{◌∙◌, ap}
+use Rattle.std.proofs.Common.{◌∙◌, sym, ap}
 use Rattle.std.specs.Prelude.{not}
+use Rattle.clk_machine.proofs.Entering.{idle_left}
 use Rattle.clk_machine.proofs.framework.Core.quiet.Goals as goal
 
+pub returns-clause-quiet : goal.returns-clause-quiet
+returns-clause-quiet g c = rw (← c.self.view_is) (c.is_quiet.ensures.going ∙ ap not c.self.invariant.going)
+
 pub returns-clause-none : goal.returns-clause-none
-returns-clause-none g c = c.is_quiet.ensures.going ∙ ap not (c.self.invariant.going ∙ c.self.invariant.idle)
+returns-clause-none g c = rw (← c.self.view_is) (λ quiet. idle_left c.self.inside.machine (sym c.is_quiet.ensures.going ∙ quiet))
