@@ -31,6 +31,7 @@ pub mod Ending
 pub mod Landings
 pub mod Working
 pub mod Starting
+pub mod Changing
 pub mod Lowering
 pub mod Entered
 pub mod Opened

@@ -9,6 +9,7 @@ pub mod Parts
 pub mod Stands
 pub mod Making
 pub mod Starting
+pub mod Changing
 pub mod Landing
 pub mod Holding
 pub mod Sound

@@ -8,6 +8,7 @@ ghost use Rattle.clk_model.specs.Journal.{opening};
 ghost use Rattle.clk_model.specs.Begin.{most_credits};
 
 mod calls;
+mod changing;
 mod enabling;
 mod exclusives;
 mod holding;
