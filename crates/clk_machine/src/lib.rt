@@ -2,8 +2,10 @@
 #![tactic(auto)]
 
 mod built;
+mod decision;
 mod fit;
 mod framework;
+mod free;
 mod gates;
 mod handles;
 mod laws;

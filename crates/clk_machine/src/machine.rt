@@ -8,11 +8,14 @@ ghost use Rattle.clk_model.specs.Journal.{opening};
 ghost use Rattle.clk_model.specs.Begin.{most_credits};
 
 mod calls;
+mod deciding;
 mod enabling;
 mod exclusives;
 mod holding;
 mod landing;
+mod lifting;
 mod notifying;
+mod planning;
 mod registering;
 mod rounding;
 mod rows;
