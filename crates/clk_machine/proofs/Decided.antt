@@ -181,3 +181,37 @@ decides_rate m s d h x used row decision whole quiet is own live answers stands 
     (given_lifted m s s.handles h.number row used whole stands sound is (live_in m s h.number row stands live) (counts_stand m s whole stands)
     (place_among m row.clock.0 m.counts.exclusives whole (row_place m h.number row whole live) whole.counted.keeps.exclusives)
     (exclusive_held m h.number row whole live))))
+
+-- ---- a request with an exclusive hold
+
+pub exclusive_unknown : (s : State) (d : ℕ) (h : Handle) (x : ℕ) → s.change ≡ None → own_handle s d h.number ≡ None → Decides s d h.number (call.SetRateExclusive h x) (decided.Refused errno.ENOENT)
+unfolding begun
+exclusive_unknown s d h x quiet none =
+    decides_unknown s d h.number (call.SetRateExclusive h x) (λ row. request s s (held_once_more s h.number row) s d (call.SetRateExclusive h x) row.clock.0 x None) quiet none refl
+
+exclusive_comes : (s : State) (d : ℕ) (h : Handle) (x : ℕ) (row : HandleRow) (decision : Decision) → s.change ≡ None → own_handle s d h.number ≡ Some row
+    → IsAnswer s s row.clock.0 x decision → next s d (event.Begin (call.SetRateExclusive h x)) ≡ paid s (answered s s (held_once_more s h.number row) d (call.SetRateExclusive h x) None decision)
+unfolding begun
+exclusive_comes s d h x row decision quiet own answer =
+    begin_quiet s d (call.SetRateExclusive h x) quiet
+    ∙ ap (paid s) (with-some s d h.number (λ row. request s s (held_once_more s h.number row) s d (call.SetRateExclusive h x) row.clock.0 x None) row own
+    ∙ answer.begins s (held_once_more s h.number row) d (call.SetRateExclusive h x) None)
+
+pub exclusive_known : (s : State) (d : ℕ) (h : Handle) (x : ℕ) (row : HandleRow) (decision : Decision) → s.change ≡ None → own_handle s d h.number ≡ Some row
+    → IsAnswer s s row.clock.0 x decision → Decides s d h.number (call.SetRateExclusive h x) decision
+exclusive_known s d h x row (decided.Refused e) quiet own answer = exclusive_comes s d h x row (decided.Refused e) quiet own answer
+exclusive_known s d h x row decided.AtOnce quiet own answer = record { row = row; own = own; next_ = exclusive_comes s d h x row decided.AtOnce quiet own answer }
+exclusive_known s d h x row (decided.Change plan script) quiet own answer = record {
+  row = row;
+  own = own;
+  next_ = exclusive_comes s d h x row (decided.Change plan script) quiet own answer;
+  planned = (answer.planned d (call.SetRateExclusive h x) None).0;
+  set_parent = (answer.planned d (call.SetRateExclusive h x) None).1;
+}
+
+pub decides_exclusive : (m : Parts) (s : State) (d : ℕ) (h : Handle) (x used : ℕ) (row : HandleRow) (decision : Decision) → IsWhole m → m.flight.going ≡ false → used ≡ m.credits + m.steps
+    → own_in m.table.handles d h.number ≡ Some row
+    → ((new lifted : State) → IsGiven m.desc m.window m.tree m.table.handles m.counts m.chains used new lifted → IsAnswer new lifted row.clock.0 x decision)
+    → Stands m s → IsSound m.window.size s → Decides s d h.number (call.SetRateExclusive h x) decision
+decides_exclusive m s d h x used row decision whole quiet is own answers stands sound =
+    exclusive_known s d h x row decision (quiet_stands m s stands quiet) (own_stands m s d h.number (Some row) stands own) (answers s s (given_itself m s used whole stands sound is))

@@ -24,6 +24,7 @@ pub mod Taking
 pub mod FewNotifiers
 pub mod Deciding
 pub mod Decided
+pub mod DecidedRange
 pub mod Flying
 pub mod Writing
 pub mod Following
