@@ -19,6 +19,13 @@ pub mod Holdings
 pub mod Owning
 pub mod Room
 pub mod Rounding
+pub mod Freeing
+pub mod FreeView
+pub mod Taking
+pub mod FewNotifiers
+pub mod Deciding
+pub mod Decided
+pub mod DecidedRange
 pub mod Flying
 pub mod Writing
 pub mod Following

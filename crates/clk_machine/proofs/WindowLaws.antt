@@ -7,7 +7,7 @@ use Rattle.reg_bank.specs.Registers.{Registers, AreWords, bits_of, with_bits, fi
 use Rattle.clk_machine.specs.Window.{AreTold}
 use Rattle.std.proofs.lemmas.List.Elements.{All-take}
 
-take_set : (n : ℕ) (words : List ℕ) (i value : ℕ) → take n (set words i value) ≡ set (take n words) i value
+pub take_set : (n : ℕ) (words : List ℕ) (i value : ℕ) → take n (set words i value) ≡ set (take n words) i value
 take_set zero words i value = refl
 take_set (suc n) [] i value = refl
 take_set (suc n) (w ∷ words) zero value = refl

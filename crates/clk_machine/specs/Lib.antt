@@ -16,3 +16,5 @@ pub mod Sound
 pub mod Run
 pub mod Row
 pub mod Seen
+pub mod Free
+pub mod Deciding

@@ -3,8 +3,10 @@
 
 mod built;
 mod course;
+mod decision;
 mod fit;
 mod framework;
+mod free;
 mod gates;
 mod handles;
 mod laws;

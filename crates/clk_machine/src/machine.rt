@@ -9,12 +9,15 @@ ghost use Rattle.clk_model.specs.Begin.{most_credits};
 
 mod calls;
 mod changing;
+mod deciding;
 mod enabling;
 mod exclusives;
 mod holding;
 mod landing;
+mod lifting;
 mod lowering;
 mod notifying;
+mod planning;
 mod registering;
 mod rounding;
 mod rows;
