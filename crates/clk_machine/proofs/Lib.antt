@@ -39,6 +39,7 @@ pub mod Landings
 pub mod Working
 pub mod Starting
 pub mod Changing
+pub mod StillScripts
 pub mod Lowering
 pub mod Entered
 pub mod Opened

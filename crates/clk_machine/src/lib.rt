@@ -16,6 +16,7 @@ mod plls;
 mod power;
 mod register;
 mod row;
+mod scripted;
 mod seen;
 mod visits;
 mod window;
