@@ -113,8 +113,15 @@ drop_at [] k x e = absurd cc
 drop_at (y ∷ xs) zero x e = let same : y ≡ x = cc in ap (λ z. z ∷ xs) same
 drop_at (y ∷ xs) (suc k) x e = drop_at xs k x e
 
-drop_mapped : {A B : Type 0} (f : A → B) (xs : List A) (k : ℕ) (x : A) → slice_get xs k ≡ Some x → drop k (map f xs) ≡ f x ∷ drop (k + 1) (map f xs)
+pub drop_mapped : {A B : Type 0} (f : A → B) (xs : List A) (k : ℕ) (x : A) → slice_get xs k ≡ Some x → drop k (map f xs) ≡ f x ∷ drop (k + 1) (map f xs)
 drop_mapped f xs k x e = drop_at (map f xs) k (f x) (slice_get-map f xs k ∙ ap (option_map f) e) ∙ ap (λ (n : ℕ). f x ∷ drop n (map f xs)) (let e : suc k ≡ k + 1 = omega arith in e)
+
+-- nothing is behind the end
+pub drop_past : {A : Type 0} (xs : List A) (k : ℕ) → length xs ≤ k → drop k xs ≡ []
+drop_past [] zero past = refl
+drop_past [] (suc k) past = refl
+drop_past (x ∷ xs) zero past = absurd (omega arith)
+drop_past (x ∷ xs) (suc k) past = drop_past xs k (omega arith)
 
 -- a step as the definitions have it
 abbrev step_of : chain.ChainStep → ChainStep

@@ -44,6 +44,14 @@ fn step_at(steps: &[Micro], place: usize) -> Micro
     steps[place]
 }
 
+// The clock of a walk at a place.
+fn entry_at(rates: &[WalkRate], place: usize) -> WalkRate
+    requires { place < length rates.now }
+    ensures { slice_get rates.now place ≡ Some result }
+{
+    rates[place]
+}
+
 // The clock of a walk at a place, which is one of the tree.
 fn rate_at(tree: &Tree, rates: &[WalkRate], place: usize) -> WalkRate
     requires place { place < length rates.now }
@@ -75,7 +83,8 @@ fn push_visits(steps: &mut Vec<Micro>, rates: &[WalkRate]) -> Result<(), NoMemor
     ensures { IfOk result (λ done. steps.new.items ≡ steps.old.items ++ map (λ r. micro.Visit (clock_id r.clock)) (rates_of rates.now)) }
 {
     for place in 0..rates.len() {
-        steps.push(Micro::Visit(rates[place].clock))?;
+        let entry = entry_at(rates, place);
+        steps.push(Micro::Visit(entry.clock))?;
     }
     Ok(())
 }
