@@ -84,6 +84,7 @@ enters_known old new d c quiet left becomes there comes =
       remains = becomes.remains;
       spent = becomes.spent;
       flight = becomes.flight;
+      left = becomes.left;
       steps = becomes.steps;
       rows = λ k. becomes.rows k ∙ known k;
       stands = becomes.stands;

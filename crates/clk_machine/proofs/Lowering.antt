@@ -20,7 +20,7 @@ use Rattle.clk_base.specs.Description.{Description}
 use Rattle.clk_model.specs.declared.row.ClockRow.{ClockRow}
 use Rattle.clk_model.specs.declared.row.HandleRow.{HandleRow}
 use Rattle.clk_model.specs.Lists.{present}
-use Rattle.clk_model.specs.State.{State, Change, registered, handle_at}
+use Rattle.clk_model.specs.State.{State, Change, NotifierRow, registered, handle_at}
 use Rattle.clk_model.specs.Tree.{path}
 use Rattle.clk_model.specs.Script.{plls, runs, weight, unprepared_plls}
 use Rattle.clk_model.specs.Begin.{most_credits, weight_of, change_of, put_handle, own_handle, keeps_prepare, unprepare, refused, begun}

@@ -1,5 +1,5 @@
 -- The parts of a core where the notifiers of a clock change.
-use Rattle.std.proofs.Common.{◌≡◌, ℕ, ◌+◌, ◌<◌, ◌&&◌, Bool, false, cond, not, List, [], ◌∷◌, refl, sym, ap, subst, ◌∙◌, length, nat_eq}
+use Rattle.std.proofs.Common.{◌≡◌, ℕ, ◌+◌, ◌<◌, ◌&&◌, Bool, false, cond, not, List, [], ◌∷◌, refl, sym, ap, subst, ◌∙◌, arith, length, nat_eq}
 use Rattle.std.specs.List.{list_any}
 use Rattle.std.proofs.Math.Bool.{or-false}
 use Rattle.clk_model.specs.State.{State, NotifierRow}
@@ -14,7 +14,7 @@ use Rattle.notifiers.specs.Chains.{chain_of, Tells, has_id, without_notifier}
 use Rattle.clk_machine.specs.Holding.{unnotified}
 use Rattle.clk_machine.specs.Parts.{rows_from, AreListed, Parts, bare, IsWhole}
 use Rattle.clk_machine.specs.Stands.{Stands, Becomes, nothing}
-use Rattle.clk_machine.proofs.Flying.{never_flown, flies_quiet}
+use Rattle.clk_machine.proofs.Flying.{none_left, never_flown, flies_quiet}
 use Rattle.clk_machine.proofs.Holdings.{StandsFor-same}
 use Rattle.clk_machine.proofs.Registering.{paid_more}
 

@@ -66,6 +66,9 @@ abbrev pub takes_memory : Sleeping → Bool
 takes_memory (call.Get found) = true
 takes_memory (call.Prepare h) = true
 takes_memory (call.Unprepare h) = true
+takes_memory (call.SetRate h x) = true
+takes_memory (call.SetRateExclusive h x) = true
+takes_memory (call.SetRange h least most) = true
 takes_memory (call.NotifierAdd h id priority policy) = true
 takes_memory _ = false
 
