@@ -21,7 +21,8 @@ use Rattle.notifiers.specs.Chains.{Tells}
 use Rattle.rate_requests.specs.Handles.{HandleTable}
 use Rattle.clk_machine.specs.Window.{Shown, AreTold}
 use Rattle.clk_machine.specs.Fit.{CanRun}
-use Rattle.clk_machine.specs.Parts.{parts_of, bare, held_in_all, AreKept, IsWhole}
+use Rattle.clk_machine.specs.Course.{CourseState}
+use Rattle.clk_machine.specs.Parts.{parts_of, bare, held_in_all, AreKept, IsWhole, rows_from}
 use Rattle.clk_machine.specs.Stands.{Stands}
 use Rattle.clk_flight.specs.Flights.{FlightState}
 use Rattle.clk_machine.proofs.Flying.{never_flown, none_left}
