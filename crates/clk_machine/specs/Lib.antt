@@ -15,3 +15,4 @@ pub mod Row
 pub mod Seen
 pub mod Free
 pub mod Deciding
+pub mod Reparenting

@@ -17,6 +17,7 @@ mod lifting;
 mod notifying;
 mod planning;
 mod registering;
+mod reparenting;
 mod rounding;
 mod rows;
 mod starting;
