@@ -41,7 +41,7 @@ use Rattle.clk_machine.proofs.Writing.{counts_stand, live_in, row_place, place_a
 
 -- ---- counts with one exclusive hold less
 
-less_keeps : (row : HandleRow) (k : CountState) → AreCounts k → AreCounts (less_protected row k)
+pub less_keeps : (row : HandleRow) (k : CountState) → AreCounts k → AreCounts (less_protected row k)
 less_keeps row k keeps = record {
   links = keeps.links;
   enables = keeps.enables;
@@ -215,3 +215,14 @@ pub decides_exclusive : (m : Parts) (s : State) (d : ℕ) (h : Handle) (x used :
     → Stands m s → IsSound m.window.size s → Decides s d h.number (call.SetRateExclusive h x) decision
 decides_exclusive m s d h x used row decision whole quiet is own answers stands sound =
     exclusive_known s d h x row decision (quiet_stands m s stands quiet) (own_stands m s d h.number (Some row) stands own) (answers s s (given_itself m s used whole stands sound is))
+
+-- ---- with an exclusive hold less or without
+
+pub less_none : (row : HandleRow) (k : CountState) → row.exclusives ≡ 0 → less_protected row k ≡ k
+less_none row k none =
+    ap (λ (n : ℕ). let x : CountState = record k { exclusives = cond (nat_eq n 0) k.exclusives (set k.exclusives row.clock.0 (get_or k.exclusives row.clock.0 0 - 1)) } in x) none
+
+pub less_one : (row : HandleRow) (k less : CountState) → 0 < row.exclusives → less ≡ record k { exclusives = set k.exclusives row.clock.0 (get_or k.exclusives row.clock.0 0 - 1) } → less ≡ less_protected row k
+less_one row k less some is =
+    let not_none : nat_eq row.exclusives 0 ≡ false = grind (arith, nat_tests) in
+    is ∙ ap (λ (b : Bool). let x : CountState = record k { exclusives = cond b k.exclusives (set k.exclusives row.clock.0 (get_or k.exclusives row.clock.0 0 - 1)) } in x) (sym not_none)

@@ -55,7 +55,7 @@ not_less a b le = grind (arith, nat_tests)
 module _ {desc : Checked} {window : Shown} {tree : TreeState} {handles : List (Option HandleRow)} {counts : CountState} {chains : List (List Notifier)} {used : ℕ} {new lifted : State}
     (on : IsGiven desc window tree handles counts chains used new lifted) (tied : AreTied desc window tree) (keeps : AreCounts counts) where
   -- what is said of the told words is so of the state's registers
-  told_here : (P : Wiring → Type 0) → IfSome window.words (λ regs. P (wired desc.defs regs tree)) → P (wiring new)
+  pub told_here : (P : Wiring → Type 0) → IfSome window.words (λ regs. P (wired desc.defs regs tree)) → P (wiring new)
   told_here P says =
       subst (λ (ds : Description). P (record { defs = ds; regs = new.regs; clocks = new.clocks })) (sym on.defs)
       (subst (λ (rows : List ClockRow). P (record { defs = desc.defs; regs = new.regs; clocks = rows })) (sym on.clocks)
@@ -91,7 +91,7 @@ module _ {desc : Checked} {window : Shown} {tree : TreeState} {handles : List (O
   chain_told c x found says =
       told_here (λ w. found ≡ chain w (seen handles counts) c x) says ∙ ap (λ (v : View). chain (wiring new) v c x) on.sees
 
-  rates_told : (ks : List ChainStep) (rates : List ClockRate) → IfSome window.words (λ regs. rates ≡ walked_rates tree.order (wired desc.defs regs tree) ks) → rates ≡ walked_rates new.order (wiring new) ks
+  pub rates_told : (ks : List ChainStep) (rates : List ClockRate) → IfSome window.words (λ regs. rates ≡ walked_rates tree.order (wired desc.defs regs tree) ks) → rates ≡ walked_rates new.order (wiring new) ks
   rates_told ks rates says =
       told_here (λ w. rates ≡ walked_rates tree.order w ks) says ∙ ap (λ (xs : List ℕ). walked_rates xs (wiring new) ks) (sym on.order)
 

@@ -26,6 +26,7 @@ pub mod FewNotifiers
 pub mod Deciding
 pub mod Decided
 pub mod DecidedRange
+pub mod DecidedParent
 pub mod Flying
 pub mod Writing
 pub mod Following

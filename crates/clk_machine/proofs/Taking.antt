@@ -26,7 +26,7 @@ use Rattle.clk_model.proofs.PlanLaws.{step_of}
 use Rattle.clk_model.proofs.SameRateLaws.{tree_over, round_same}
 use Rattle.clk_tree.specs.TreeState.{TreeState}
 use Rattle.rate_planner.specs.Kept.{Told, wired}
-use Rattle.rate_planner.specs.Walks.{at_rate, walked_rates}
+use Rattle.rate_planner.specs.Walks.{at_rate, parent_chain, walked_rates}
 use Rattle.clk_machine.specs.Parts.{AreKept}
 use Rattle.clk_machine.proofs.Registering.{rate-take}
 use Rattle.clk_machine.proofs.WindowLaws.{take_set}
@@ -169,3 +169,9 @@ pub none_given : (told : Option Registers) (defs : Description) (t : TreeState) 
     → IfSome told (λ regs. false ≡ is_at (rate defs regs t.clocks c) (round_rate (wired defs regs t) v c x))
 none_given None defs t v c x says = tt
 none_given (Some regs) defs t v c x says = ap (λ (o : Option ℕ). is_at (rate defs regs t.clocks c) o) says
+
+-- the chain of a change of parent over the first words
+pub parent_chain-take : (n : ℕ) (w : Wiring) (c p : ℕ) → IsValid n w.defs → parent_chain (first_words n w) c p ≡ parent_chain w c p
+parent_chain-take n w c p valid =
+    let bare : List ChainStep = record { clock = c; rate = 0; parent = Some p } ∷ [] in
+    ap (λ (rates : ℕ → ℕ). let step : ChainStep = record { clock = c; rate = rates c; parent = Some p } in step ∷ []) (out-take n bare w valid)

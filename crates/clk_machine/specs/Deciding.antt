@@ -28,7 +28,10 @@ use Rattle.change_walk.specs.Given as given
 use Rattle.change_walk.specs.Given.{Script, HasFewNotifiers, changed_in, extra_of, planned_by}
 use Rattle.clk_machine.specs.declared.decision.Decision.{Decision}
 use Rattle.clk_machine.specs.declared.decision.Decision.TheVariants as decided
+use Rattle.clk_machine.specs.Parts.{Parts}
 use Rattle.clk_machine.specs.Seen.{seen}
+use Rattle.clk_machine.specs.Sound.{IsSound}
+use Rattle.clk_machine.specs.Stands.{Stands}
 use Rattle.clk_machine.specs.Window.{Shown}
 
 -- ---- what is planned
@@ -106,6 +109,14 @@ pub record IsGiven (desc : Checked) (window : Shown) (tree : TreeState) (handles
 
 -- ---- calls
 
+-- the number of the handle that a call is on which changes a rate or a parent
+abbrev pub handle_of : Sleeping → ℕ
+handle_of (call.SetRate h x) = h.number
+handle_of (call.SetRateExclusive h x) = h.number
+handle_of (call.SetRange h least most) = h.number
+handle_of (call.SetParent h p) = h.number
+handle_of _ = 0
+
 -- the state that an answer at once leaves: with an exclusive hold of the handle more, with its new range, or as it is
 abbrev pub left_at_once : State → Sleeping → HandleRow → State
 left_at_once s (call.SetRateExclusive h x) row = held_once_more s h.number row
@@ -143,3 +154,7 @@ abbrev pub Decides : State → ℕ → ℕ → Sleeping → Decision → Type 0
 Decides s d number what (decided.Refused e) = next s d (event.Begin what) ≡ paid s (refused s e)
 Decides s d number what decided.AtOnce = EndsAtOnce s d number what
 Decides s d number what (decided.Change plan script) = GoesOn s d number what plan script
+
+-- so it is in each sound state that parts stand for
+abbrev pub Decided : Parts → ℕ → Sleeping → Decision → Type 0
+Decided m d what decision = (s : State) → Stands m s → IsSound m.window.size s → Decides s d (handle_of what) what decision

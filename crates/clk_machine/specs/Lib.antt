@@ -18,3 +18,4 @@ pub mod Row
 pub mod Seen
 pub mod Free
 pub mod Deciding
+pub mod Reparenting

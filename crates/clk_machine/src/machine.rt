@@ -19,6 +19,7 @@ mod lowering;
 mod notifying;
 mod planning;
 mod registering;
+mod reparenting;
 mod rounding;
 mod rows;
 mod starting;

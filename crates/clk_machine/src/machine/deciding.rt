@@ -1,18 +1,16 @@
 //! How the calls that change a rate or a parent begin. Nothing is changed by the decision.
 
-ghost use Rattle.std.specs.Prelude.{◌≡◌, ◌+◌, ◌<◌, false, max, min, IfOk};
+ghost use Rattle.std.specs.Prelude.{◌≡◌, ◌+◌, ◌<◌, true, false, max, min, IfOk};
 ghost use Rattle.clk_base.specs.declared.call.Sleeping.TheVariants.{SetRate, SetRateExclusive, SetRange};
-ghost use Rattle.clk_model.specs.State.{State};
-ghost use Rattle.clk_machine.specs.Deciding.{ArePlanned, Decides};
-ghost use Rattle.clk_machine.specs.Sound.{IsSound};
-ghost use Rattle.clk_machine.specs.Stands.{Stands};
+ghost use Rattle.clk_model.specs.Laws.PlansRead.{plans};
+ghost use Rattle.clk_machine.specs.Deciding.{ArePlanned, Decided};
 
 use super::Machine;
 use super::lifting::decide_lifted;
 use super::planning::decide_request;
 use crate::decision::Decision;
 use crate::seen::Seen;
-use clk_base::{Errno, Handle};
+use clk_base::{Errno, Handle, Sleeping};
 use clk_io::NoMemory;
 use reg_bank::Bank;
 
@@ -24,8 +22,29 @@ fn within(rate: u64, least: u64, most: u64) -> u64
 }
 
 impl<B: Bank> Machine<B> {
+    /// Decides how a call begins that changes a rate or a parent: it is refused, answered by Ok at once,
+    /// or goes on with a plan and its script.
+    pub(crate) fn decide(&mut self, driver: u32, what: Sleeping) -> Result<Decision, NoMemory>
+        requires credit { self.old.spent < self.old.credits }
+        requires quiet { self.old.flight.going ≡ false }
+        requires plans { plans what ≡ true }
+        ensures decides { IfOk result (λ decision. Decided self.old driver what decision) }
+        ensures there { IfOk result (λ decision. ArePlanned self.old.tree decision) }
+        ensures same { self.new ≡ self.old }
+    {
+        match what {
+            Sleeping::SetRate(handle, rate) => self.decide_rate(driver, handle, rate),
+            Sleeping::SetRateExclusive(handle, rate) => self.decide_exclusive(driver, handle, rate),
+            Sleeping::SetRange(handle, least, most) => {
+                self.decide_range(driver, handle, least, most)
+            }
+            Sleeping::SetParent(handle, parent) => self.decide_parent(driver, handle, parent),
+            _ => unreachable!(),
+        }
+    }
+
     // The credits and the steps that were made.
-    fn used(&self) -> u64
+    pub(super) fn used(&self) -> u64
         ensures { result ≡ self.now.credits + self.now.steps }
     {
         u64::from(self.credits) + u64::from(self.steps)
@@ -40,7 +59,7 @@ impl<B: Bank> Machine<B> {
     ) -> Result<Decision, NoMemory>
         requires credit { self.old.spent < self.old.credits }
         requires quiet { self.old.flight.going ≡ false }
-        ensures decides { IfOk result (λ decision. (s : State) → Stands self.old s → IsSound self.old.window.size s → Decides s driver handle.number (SetRate handle rate) decision) }
+        ensures decides { IfOk result (λ decision. Decided self.old driver (SetRate handle rate) decision) }
         ensures there { IfOk result (λ decision. ArePlanned self.old.tree decision) }
         ensures same { self.new ≡ self.old }
     {
@@ -71,7 +90,7 @@ impl<B: Bank> Machine<B> {
     ) -> Result<Decision, NoMemory>
         requires credit { self.now.spent < self.now.credits }
         requires quiet { self.now.flight.going ≡ false }
-        ensures decides { IfOk result (λ decision. (s : State) → Stands self.now s → IsSound self.now.window.size s → Decides s driver handle.number (SetRateExclusive handle rate) decision) }
+        ensures decides { IfOk result (λ decision. Decided self.now driver (SetRateExclusive handle rate) decision) }
         ensures there { IfOk result (λ decision. ArePlanned self.now.tree decision) }
     {
         let Some(row) = self.own(driver, handle) else {
@@ -106,7 +125,7 @@ impl<B: Bank> Machine<B> {
     ) -> Result<Decision, NoMemory>
         requires credit { self.old.spent < self.old.credits }
         requires quiet { self.old.flight.going ≡ false }
-        ensures decides { IfOk result (λ decision. (s : State) → Stands self.old s → IsSound self.old.window.size s → Decides s driver handle.number (SetRange handle least most) decision) }
+        ensures decides { IfOk result (λ decision. Decided self.old driver (SetRange handle least most) decision) }
         ensures there { IfOk result (λ decision. ArePlanned self.old.tree decision) }
         ensures same { self.new ≡ self.old }
     {
