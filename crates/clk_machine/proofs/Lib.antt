@@ -41,7 +41,7 @@ pub mod Working
 pub mod Starting
 pub mod Changing
 pub mod StillScripts
-pub mod Scripted
+pub mod Added
 pub mod Lowering
 pub mod Entered
 pub mod Opened

@@ -90,11 +90,7 @@ fn push_visits(steps: &mut Vec<Micro>, rates: &[WalkRate]) -> Result<(), NoMemor
 }
 
 // The visits, where no notice was a veto.
-fn push_unless(
-    steps: &mut Vec<Micro>,
-    vetoed: bool,
-    rates: &[WalkRate],
-) -> Result<(), NoMemory>
+fn push_unless(steps: &mut Vec<Micro>, vetoed: bool, rates: &[WalkRate]) -> Result<(), NoMemory>
     ensures { IfOk result (λ done. steps.new.items ≡ steps.old.items ++ (if vetoed then [] else map (λ r. micro.Visit (clock_id r.clock)) (rates_of rates.now))) }
 {
     if vetoed {

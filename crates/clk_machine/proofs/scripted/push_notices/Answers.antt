@@ -1,6 +1,6 @@
 -- Step by step.
 use Rattle.std.proofs.Common.{◌∙◌, sym, arith}
-use Rattle.clk_machine.proofs.Scripted.{notice_stop, notice_on, notice_end}
+use Rattle.clk_machine.proofs.Added.{notice_stop, notice_on, notice_end}
 use Rattle.clk_machine.proofs.scripted.push_notices.Goals as goal
 
 pub returns-then-not-is_notice : goal.returns-then-not-is_notice
@@ -13,4 +13,4 @@ loop-place-preserved c =
     c.in_ok-push.ensures.items c.loop-place.invariant
 
 pub returns : goal.returns
-returns c = notice_end c.args.script.now.steps c.loop-place.place c.loop-place.steps.items _ (let past = c.loop-place-test.false in let many = c.len.ensures in omega arith) c.loop-place.invariant
+returns c = notice_end c.args.script.now.steps c.loop-place.place c.loop-place.steps.items _ (let past = c.loop-place-test.false in let many = c.len-place-end.ensures in omega arith) c.loop-place.invariant

@@ -1,6 +1,6 @@
 -- Clock by clock.
 use Rattle.std.proofs.Common.{arith}
-use Rattle.clk_machine.proofs.Scripted.{visit_on, visit_end}
+use Rattle.clk_machine.proofs.Added.{visit_on, visit_end}
 use Rattle.clk_machine.proofs.scripted.push_visits.Goals as goal
 
 pub loop-place-preserved : goal.loop-place-preserved

@@ -1,7 +1,7 @@
 -- Clock by clock.
 use Rattle.std.proofs.Common.{arith}
 use Rattle.clk_machine.specs.Course.{notifiers_at}
-use Rattle.clk_machine.proofs.Scripted.{told_on, told_end}
+use Rattle.clk_machine.proofs.Added.{told_on, told_end}
 use Rattle.clk_machine.proofs.scripted.told_clocks.Goals as goal
 
 pub loop-place-preserved : goal.loop-place-preserved
