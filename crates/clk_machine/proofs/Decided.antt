@@ -1,5 +1,5 @@
 -- A call that changes a rate begins as was decided, in each sound state that the parts of a core stand for.
-use Rattle.std.proofs.Common.{◌≡◌, ℕ, ◌+◌, ◌-◌, ◌<◌, Bool, true, false, cond, List, [], Option, Some, None, refl, sym, ap, subst, ◌∙◌, arith, length, set, get_or, nat_eq}
+use Rattle.std.proofs.Common.{◌≡◌, ℕ, ◌+◌, ◌-◌, ◌<◌, Bool, true, false, cond, List, Option, Some, None, refl, sym, ap, subst, ◌∙◌, arith, length, set, get_or, nat_eq}
 use Rattle.std.proofs.Math.Path.{fun_ext}
 use Rattle.std.specs.Option.{option_map}
 use Rattle.std.proofs.lemmas.Bool.Decides.{nat_tests}
@@ -11,21 +11,19 @@ use Rattle.clk_base.specs.declared.event.Event.TheVariants as event
 use Rattle.clk_base.specs.declared.event.Turn.{Turn}
 use Rattle.clk_base.specs.declared.handle.Handle.{Handle}
 use Rattle.clk_model.specs.declared.row.HandleRow.{HandleRow}
-use Rattle.clk_model.specs.Begin.{refused, put_handle, own_handle, with_handle, held_once_more, change_along, request, range_set, begun}
-use Rattle.clk_model.specs.Holders.{guarded, prepared}
+use Rattle.clk_model.specs.Begin.{put_handle, own_handle, with_handle, held_once_more, request, begun}
+use Rattle.clk_model.specs.Holders.{guarded}
 use Rattle.clk_model.specs.Machine.{paid, next}
 use Rattle.clk_model.specs.Round.{View}
-use Rattle.clk_model.specs.State.{State, Change, handle_at}
-use Rattle.clk_model.specs.Step.{sets_parent}
-use Rattle.clk_model.specs.Views.{view, lift, lifted_row}
-use Rattle.clk_tree.specs.declared.plan.Plan.{Plan}
-use Rattle.counts_core.specs.Counted.{CountState, AreCounts, is_guarded, is_prepared}
+use Rattle.clk_model.specs.State.{State, handle_at}
+use Rattle.clk_model.specs.Views.{lift, lifted_row}
+use Rattle.counts_core.specs.Counted.{CountState, AreCounts, is_prepared}
 use Rattle.counts_core.specs.Standing.{StandsFor}
 use Rattle.counts_core.proofs.Standing.{tells_holds}
 use Rattle.rate_requests.specs.Handles.{low_in, high_in}
 use Rattle.clk_machine.specs.declared.decision.Decision.{Decision}
 use Rattle.clk_machine.specs.declared.decision.Decision.TheVariants as decided
-use Rattle.clk_machine.specs.Deciding.{IsAnswer, IsGiven, Decides, PlansFor, answered, left_at_once, made_in, change_by, less_protected}
+use Rattle.clk_machine.specs.Deciding.{IsAnswer, IsGiven, Decides, answered, less_protected}
 use Rattle.clk_machine.specs.Parts.{Parts, own_in, IsWhole}
 use Rattle.clk_machine.specs.Seen.{seen}
 use Rattle.clk_machine.specs.Sound.{IsSound}

@@ -1,15 +1,13 @@
 -- A change of parent begins as was decided, in each sound state that the parts of a core stand for.
-use Rattle.std.proofs.Common.{◌≡◌, ℕ, ◌+◌, ◌<◌, ◌≤◌, ◌&&◌, ◌||◌, Bool, true, false, cond, List, [], ◌∷◌, Option, Some, None, refl, sym, ap, subst, ◌∙◌, arith, length, map, nat_lt, nat_le}
+use Rattle.std.proofs.Common.{◌≡◌, ℕ, ◌+◌, ◌&&◌, ◌||◌, Bool, true, false, cond, List, [], ◌∷◌, Some, None, refl, sym, ap, subst, ◌∙◌, arith, map}
 use Rattle.std.specs.Prelude.{IfSome, sum_by, is_some}
 use Rattle.std.specs.List.{list_any}
-use Rattle.std.proofs.lemmas.Bool.Decides.{nat_tests}
 use Rattle.clk_base.specs.declared.call.Micro.TheVariants as micro
 use Rattle.clk_base.specs.declared.call.Sleeping.TheVariants as call
 use Rattle.clk_base.specs.declared.clock.ClockId.{ClockId}
 use Rattle.clk_base.specs.declared.event.Errno.{Errno}
 use Rattle.clk_base.specs.declared.event.Errno.TheVariants as errno
 use Rattle.clk_base.specs.declared.event.Event.TheVariants as event
-use Rattle.clk_base.specs.declared.event.Turn.TheVariants as turn
 use Rattle.clk_base.specs.declared.handle.Handle.{Handle}
 use Rattle.clk_base.specs.Description.{Description, kind_of, parents_of}
 use Rattle.clk_base.specs.Flags.{sets_parent_gate}
@@ -45,7 +43,7 @@ use Rattle.clk_machine.specs.Sound.{IsSound}
 use Rattle.clk_machine.specs.Stands.{Stands}
 use Rattle.clk_machine.proofs.CallEvents.{begin_quiet, with-some}
 use Rattle.clk_machine.proofs.Decided.{less_keeps, decides_unknown, given_lifted, given_itself}
-use Rattle.clk_machine.proofs.Deciding.{told_here, rates_told, script_told}
+use Rattle.clk_machine.proofs.Deciding.{less_is, not_less, told_here, rates_told, script_told}
 use Rattle.clk_machine.proofs.Entered.{own_stands}
 use Rattle.clk_machine.proofs.FewNotifiers.{few_reached}
 use Rattle.clk_machine.proofs.Flying.{quiet_stands}
@@ -117,12 +115,6 @@ parent_starts s d h p row quiet own other cause =
     ∙ (starts_first s (reparenting s d (call.SetParent h p) row.clock.0 p.0) (is_bound s.defs row.clock.0) (is_busy s (lift s h.number) row.clock.0) (is_candidate s.defs s.clocks row.clock.0 p.0) cause).0)
 
 -- ---- its plan
-
-less_is : (a b : ℕ) → a < b → nat_lt a b ≡ true
-less_is a b lt = grind (arith, nat_tests)
-
-not_less : (a b : ℕ) → a ≤ b → nat_lt b a ≡ false
-not_less a b le = grind (arith, nat_tests)
 
 module _ (s : State) (d c p : ℕ) (h : Handle) (q : ClockId) (plan : Plan) (at : plan.chain ≡ parent_chain (wiring s) c p) (moves_ : plan.set_parent ≡ true) where
   abbrev made : Change

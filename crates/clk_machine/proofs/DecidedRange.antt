@@ -1,5 +1,5 @@
 -- A call that sets a range begins as was decided, in each sound state that the parts of a core stand for.
-use Rattle.std.proofs.Common.{◌≡◌, ℕ, ◌+◌, ◌<◌, ◌||◌, Bool, true, false, not, List, Option, Some, None, refl, sym, ap, subst, ◌∙◌, set, min, max}
+use Rattle.std.proofs.Common.{◌≡◌, ℕ, ◌+◌, true, false, List, Option, Some, None, refl, sym, ap, subst, ◌∙◌, set, min, max}
 use Rattle.std.specs.Prelude.{IsSome, slice_get, unwrap_or}
 use Rattle.std.specs.Option.{option_map, option_map_or}
 use Rattle.clk_base.specs.declared.call.Sleeping.TheVariants as call
@@ -8,7 +8,7 @@ use Rattle.clk_base.specs.declared.event.Event.TheVariants as event
 use Rattle.clk_base.specs.declared.handle.Handle.{Handle}
 use Rattle.clk_model.specs.declared.row.ClockRow.{ClockRow}
 use Rattle.clk_model.specs.declared.row.HandleRow.{HandleRow}
-use Rattle.clk_model.specs.Begin.{refused, own_handle, misses, request_between, range_set, begun}
+use Rattle.clk_model.specs.Begin.{own_handle, misses, request_between, range_set, begun}
 use Rattle.clk_model.specs.Laws.CallCauses.{with_limits}
 use Rattle.clk_model.specs.Machine.{paid, next}
 use Rattle.clk_model.specs.State.{State, handle_at, row_of, unregistered_row}

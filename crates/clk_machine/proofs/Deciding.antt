@@ -1,13 +1,11 @@
 -- What a request for a rate comes to is what was decided, in each state that planning was given.
-use Rattle.std.proofs.Common.{◌≡◌, ℕ, ◌+◌, ◌<◌, ◌≤◌, ◌&&◌, Bool, true, false, cond, List, [], ◌∷◌, Option, Some, None, refl, sym, ap, subst, ◌∙◌, arith, length, map, nat_lt, nat_le, nat_eq, take}
-use Rattle.std.specs.Prelude.{IfSome, IfOk, sum_by, slice_index}
-use Rattle.std.specs.Option.{option_map, option_map_or}
+use Rattle.std.proofs.Common.{◌≡◌, ℕ, ◌+◌, ◌<◌, ◌≤◌, ◌&&◌, Bool, true, false, cond, List, [], Option, Some, None, refl, sym, ap, subst, ◌∙◌, arith, map, nat_lt}
+use Rattle.std.specs.Prelude.{IfSome, sum_by}
+use Rattle.std.specs.Option.{option_map_or}
 use Rattle.std.specs.List.{list_any}
 use Rattle.std.proofs.lemmas.Bool.Decides.{nat_tests}
 use Rattle.clk_base.specs.Checked.{Checked}
 use Rattle.clk_base.specs.Description.{Description}
-use Rattle.clk_base.specs.Valid.{IsValid}
-use Rattle.clk_base.specs.declared.call.Micro.{Micro}
 use Rattle.clk_base.specs.declared.call.Sleeping.{Sleeping}
 use Rattle.clk_base.specs.declared.event.Errno.{Errno}
 use Rattle.clk_base.specs.declared.event.Errno.TheVariants as errno
@@ -20,7 +18,7 @@ use Rattle.clk_model.specs.Lists.{is_at}
 use Rattle.clk_model.specs.Rate.{rate}
 use Rattle.clk_model.specs.Round.{Wiring, View, wiring, round_rate}
 use Rattle.clk_model.specs.Script.{weight, planned, is_raise, notices_of}
-use Rattle.clk_model.specs.State.{State, Change, ChainStep, registered}
+use Rattle.clk_model.specs.State.{State, ChainStep}
 use Rattle.clk_model.specs.Views.{view, free_view}
 use Rattle.clk_model.specs.Wired.{IsOrder, LinesEnd, LinksArePossible}
 use Rattle.clk_model.proofs.EventLaws.{pick-true, pick-false}
@@ -37,7 +35,7 @@ use Rattle.change_walk.specs.Given.{Script, HasFewNotifiers, IsTold, OfPlan}
 use Rattle.change_walk.proofs.Leading.{request_fits}
 use Rattle.clk_machine.specs.declared.decision.Decision.{Decision}
 use Rattle.clk_machine.specs.declared.decision.Decision.TheVariants as decided
-use Rattle.clk_machine.specs.Deciding.{IsPlanOf, IsScriptOf, Fits, IsAnswer, IsGiven}
+use Rattle.clk_machine.specs.Deciding.{Fits, IsAnswer, IsGiven}
 use Rattle.clk_machine.specs.Free.{freed, free_seen}
 use Rattle.clk_machine.specs.Parts.{AreTied, AreKept}
 use Rattle.clk_machine.specs.Seen.{seen}
@@ -46,10 +44,10 @@ use Rattle.clk_machine.proofs.FreeView.{free_stands}
 
 -- ---- what is told of a state
 
-less_is : (a b : ℕ) → a < b → nat_lt a b ≡ true
+pub less_is : (a b : ℕ) → a < b → nat_lt a b ≡ true
 less_is a b lt = grind (arith, nat_tests)
 
-not_less : (a b : ℕ) → a ≤ b → nat_lt b a ≡ false
+pub not_less : (a b : ℕ) → a ≤ b → nat_lt b a ≡ false
 not_less a b le = grind (arith, nat_tests)
 
 module _ {desc : Checked} {window : Shown} {tree : TreeState} {handles : List (Option HandleRow)} {counts : CountState} {chains : List (List Notifier)} {used : ℕ} {new lifted : State}

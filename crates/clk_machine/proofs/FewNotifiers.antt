@@ -1,6 +1,6 @@
 -- No clock of a state that a journal leads to has more notifiers than it may have.
 use Rattle.std.proofs.Common.{◌≡◌, ℕ, suc, ◌-◌, ◌<◌, ◌≤◌, ◌||◌, Bool, true, false, cond, List, [], ◌∷◌, ◌++◌, Option, Some, None, refl, sym, ap, subst, ◌∙◌, arith, length, nat_eq, nat_le}
-use Rattle.std.specs.Prelude.{filter, reverse, slice_get, option_and_then}
+use Rattle.std.specs.Prelude.{filter, reverse, slice_get}
 use Rattle.std.specs.Option.{option_map_or}
 use Rattle.std.specs.Int.RustNames.{int_lt}
 use Rattle.std.proofs.lemmas.Bool.Decides.{nat_tests}
@@ -9,12 +9,11 @@ use Rattle.clk_base.specs.declared.call.Micro.TheVariants as micro
 use Rattle.clk_base.specs.declared.call.Sleeping.{Sleeping}
 use Rattle.clk_base.specs.declared.call.Sleeping.TheVariants as call
 use Rattle.clk_base.specs.declared.event.Entry.{Entry}
-use Rattle.clk_base.specs.declared.event.Errno.TheVariants as errno
 use Rattle.clk_base.specs.declared.event.Event.{Event}
 use Rattle.clk_base.specs.declared.event.Event.TheVariants as event
 use Rattle.clk_base.specs.declared.event.Turn.{Turn}
 use Rattle.clk_model.specs.declared.row.HandleRow.{HandleRow}
-use Rattle.clk_model.specs.Begin.{most_notifiers, refused, starts, change_of, change_along, with_handle, put_handle, held_once_more, request, request_between, reparenting, parent_set, register, begun}
+use Rattle.clk_model.specs.Begin.{most_notifiers, starts, change_of, change_along, with_handle, put_handle, held_once_more, request, request_between, reparenting, parent_set, register, begun}
 use Rattle.clk_model.specs.Chain.{chain, clock_id}
 use Rattle.clk_model.specs.Gates.{settled}
 use Rattle.clk_model.specs.Journal.{opening, replay}
@@ -23,7 +22,7 @@ use Rattle.clk_model.specs.Machine.{paid, next, enabled, disabled, running}
 use Rattle.clk_model.specs.Notices.{by_priority, notifiers_of}
 use Rattle.clk_model.specs.Round.{wiring}
 use Rattle.clk_model.specs.Script.{probe_script, sweep_script}
-use Rattle.clk_model.specs.State.{State, Change, ChainStep, NotifierRow, handle_at, is_quiet}
+use Rattle.clk_model.specs.State.{State, Change, NotifierRow, handle_at}
 use Rattle.clk_model.specs.Step.{on, raise_one, to_raise, lower_one, to_lower, timed_out, poll, is_yes, ended_well, unranged, stepped, taken}
 use Rattle.clk_model.specs.Views.{view, lift}
 use Rattle.clk_model.proofs.Cases.{by_option, by_handle, by_test, by_found, by_plan}

@@ -1,7 +1,7 @@
 -- What is seen of counts where a clock is free is what the definitions see of the state that the counts stand for.
-use Rattle.std.proofs.Common.{◌≡◌, ℕ, ◌+◌, ◌<◌, ◌≤◌, ◌&&◌, ◌||◌, Bool, true, false, not, cond, List, [], ◌∷◌, ◌++◌, Option, Some, None, refl, sym, ap, ◌∙◌, ⊎_elim, arith, length, map, get_or, nat_eq, nat_lt}
+use Rattle.std.proofs.Common.{◌≡◌, ℕ, ◌+◌, ◌<◌, ◌≤◌, ◌&&◌, ◌||◌, Bool, true, false, not, cond, List, [], ◌∷◌, Option, Some, refl, sym, ap, ◌∙◌, ⊎_elim, arith, length, map, nat_eq, nat_lt}
 use Rattle.std.proofs.Math.Path.{fun_ext}
-use Rattle.std.specs.Prelude.{count_by, sum_by, filter, slice_index}
+use Rattle.std.specs.Prelude.{sum_by, filter, slice_index}
 use Rattle.std.proofs.lemmas.Bool.{cases_lt, false≢true}
 use Rattle.std.proofs.lemmas.Bool.Decides.{nat_tests}
 use Rattle.std.proofs.lemmas.List.Sums.{sum_by-cons}
@@ -19,11 +19,11 @@ use Rattle.clk_model.specs.Tree.{children, path_within}
 use Rattle.clk_model.specs.Views.{view, free_view, guarded_but}
 use Rattle.clk_model.specs.Wired.{IsOrder}
 use Rattle.clk_model.proofs.Members.{both_left, is_in-count_from}
-use Rattle.clk_model.proofs.OnceLaws.{is_in-append, filter_passes, filter_keeps, is_in-filter, once_filter}
+use Rattle.clk_model.proofs.OnceLaws.{is_in-append, filter_passes, filter_keeps, once_filter}
 use Rattle.clk_model.proofs.WalkLaws.{either_way, is_at_same, at_same}
-use Rattle.counts_core.specs.Counted.{CountState, AreCounts, is_guarded, is_prepared, prepare_sum, protect_sum}
+use Rattle.counts_core.specs.Counted.{CountState, AreCounts, is_guarded, protect_sum}
 use Rattle.counts_core.specs.Standing.{StandsFor}
-use Rattle.counts_core.proofs.Definitions.{LinksEnd, own_within}
+use Rattle.counts_core.proofs.Definitions.{own_within}
 use Rattle.counts_core.proofs.Held.{past_flag}
 use Rattle.counts_core.proofs.Holding.{sum_held}
 use Rattle.counts_core.proofs.Standing.{tells_holds, tells_counts}

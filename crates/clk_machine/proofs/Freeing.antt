@@ -1,5 +1,5 @@
 -- Which clocks are guarded where one of them is free of what protects it.
-use Rattle.std.proofs.Common.{◌≡◌, ℕ, zero, suc, ◌+◌, ◌<◌, ◌≤◌, ◌&&◌, ◌⊎◌, inl, inr, Bool, true, false, not, cond, List, [], ◌∷◌, Option, Some, None, refl, sym, ap, subst, ◌∙◌, arith, nat_eq, nat_lt, take}
+use Rattle.std.proofs.Common.{◌≡◌, ℕ, zero, suc, ◌+◌, ◌<◌, ◌&&◌, ◌⊎◌, inl, inr, Bool, true, false, not, cond, List, [], ◌∷◌, Option, Some, None, refl, sym, ap, subst, ◌∙◌, arith, nat_eq, nat_lt, take}
 use Rattle.std.specs.Prelude.{count_by, option_and_then}
 use Rattle.std.specs.List.{list_any, prefix_len}
 use Rattle.std.specs.Option.{option_map_or}
@@ -8,8 +8,9 @@ use Rattle.clk_base.specs.Levels.{depth, ends_within}
 use Rattle.clk_model.specs.Lists.{is_in, none_twice}
 use Rattle.clk_model.specs.Tree.{path_within}
 use Rattle.clk_model.specs.Views.{cut_at}
+use Rattle.clk_model.proofs.AboveLaws.{differs}
 use Rattle.clk_model.proofs.BelowLaws.{Rises, IsUp, AreKids, rises_on, rises_far, rises_both, no_round, few_steps, path_rises, rises_path}
-use Rattle.clk_model.proofs.Members.{same_from_test, test_same, test_other, is_in_cases, is_in_head, is_in_tail, any_in, any_from_in}
+use Rattle.clk_model.proofs.Members.{same_from_test, test_other, is_in_cases, is_in_head, is_in_tail, any_in, any_from_in}
 use Rattle.clk_model.proofs.OnceLaws.{once_head}
 use Rattle.clk_model.proofs.WalkLaws.{either_way}
 use Rattle.clk_model.proofs.WholePathLaws.{same_or_not}
@@ -109,16 +110,10 @@ off_link up c d p e = by (up d) refl e where
   by None is at = absurd cc
   by (Some q) is at = let found = inside q (nat_eq q c) refl at in (is ∙ ap (λ (x : ℕ). Some x) found.0, λ same. test_other q c found.1 (found.0 ∙ same))
 
-differs_test : (p c : ℕ) → (p ≡ c → ⊥) → nat_eq p c ≡ false
-differs_test p c other = by (nat_eq p c) refl where
-  by : (t : Bool) → nat_eq p c ≡ t → t ≡ false
-  by true e = absurd (other (same_from_test p c e))
-  by false e = refl
-
 pub link_off : (up : ℕ → Option ℕ) (c d p : ℕ) → up d ≡ Some p → (p ≡ c → ⊥) → off up c d ≡ Some p
 link_off up c d p at other =
     ap (λ (o : Option ℕ). option_and_then (λ q. cond (nat_eq q c) None (Some q)) o) at
-    ∙ ap (λ (t : Bool). cond t None (Some p)) (differs_test p c other)
+    ∙ ap (λ (t : Bool). cond t None (Some p)) (differs p c other)
 
 -- the last link of a way
 last_link : (up : ℕ → Option ℕ) (n h a : ℕ) → Rises up (suc n) h a → (d : ℕ) × Rises up n h d × (up d ≡ Some a)
@@ -175,7 +170,7 @@ pub way_cut : (up : ℕ → Option ℕ) (c n m h a : ℕ) → (h ≡ c → ⊥) 
 way_cut up c zero m h a other way less = absurd (omega arith)
 way_cut up c (suc n) m h a other way less =
     ap (is_in a) (cut-cons c h (option_map_or (path_within up n) (up h) []))
-    ∙ ap (λ (t : Bool). is_in a (cond (not t) (h ∷ cut_at c (option_map_or (path_within up n) (up h) [])) [])) (differs_test h c other) ∙ by (λ j p. way_cut up c n j p a) m way less where
+    ∙ ap (λ (t : Bool). is_in a (cond (not t) (h ∷ cut_at c (option_map_or (path_within up n) (up h) [])) [])) (differs h c other) ∙ by (λ j p. way_cut up c n j p a) m way less where
       by : ((j p : ℕ) → (p ≡ c → ⊥) → Rises (off up c) j p a → j < n → is_in a (cut_at c (path_within up n p)) ≡ true) → (j : ℕ) → Rises (off up c) j h a → j < suc n → is_in a (h ∷ cut_at c (option_map_or (path_within up n) (up h) [])) ≡ true
       by rest zero w l = ap (λ (x : ℕ). is_in a (x ∷ cut_at c (option_map_or (path_within up n) (up h) []))) w ∙ is_in_head a (cut_at c (option_map_or (path_within up n) (up h) []))
       by rest (suc j) w l =

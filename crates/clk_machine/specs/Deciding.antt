@@ -19,7 +19,7 @@ use Rattle.clk_model.specs.Step.{sets_parent}
 use Rattle.clk_model.specs.Views.{view}
 use Rattle.clk_tree.specs.declared.plan.Plan.{Plan}
 use Rattle.clk_tree.specs.TreeState.{TreeState}
-use Rattle.counts_core.specs.Counted.{CountState, AreCounts}
+use Rattle.counts_core.specs.Counted.{CountState}
 use Rattle.counts_core.specs.Standing.{StandsFor}
 use Rattle.notifiers.specs.declared.notifier.Notifier.{Notifier}
 use Rattle.notifiers.specs.Chains.{Tells}

@@ -1,5 +1,5 @@
 -- What planning sees where one clock is free of what protects it.
-use Rattle.std.specs.Prelude.{ℕ, ◌==◌, ◌&&◌, List, [], Bool, not, Option, Some, None, if◌then◌else◌, option_and_then}
+use Rattle.std.specs.Prelude.{ℕ, ◌==◌, ◌&&◌, List, [], not, Option, Some, None, if◌then◌else◌, option_and_then}
 use Rattle.clk_base.specs.Levels.{depth}
 use Rattle.clk_model.specs.declared.row.ClockRow.{ClockRow}
 use Rattle.clk_model.specs.declared.row.HandleRow.{HandleRow}

@@ -1,4 +1,4 @@
-use Rattle.std.proofs.Common.{◌≡◌, ◌<◌, sym, arith}
+use Rattle.std.proofs.Common.{arith}
 use Rattle.std.proofs.lemmas.Bool.Decides.{nat_tests}
 use Rattle.clk_machine.proofs.Rounding.{counts_back}
 use Rattle.clk_machine.proofs.machine.lifting.decide_lifted.Goals as goal

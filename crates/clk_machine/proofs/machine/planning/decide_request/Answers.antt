@@ -1,9 +1,6 @@
-use Rattle.std.proofs.Common.{◌≡◌, ◌<◌, ◌≤◌, ◌∙◌, sym, ap, subst, arith, Bool, true, false, Option, Some, None, nat_lt}
+use Rattle.std.proofs.Common.{◌<◌, ◌≤◌, ◌∙◌, sym, arith}
 use Rattle.std.proofs.lemmas.Bool.Decides.{nat_tests}
 use Rattle.std.proofs.lemmas.Result.{IfOk-weaker}
-use Rattle.std.specs.Prelude.{IfSome}
-use Rattle.std.specs.Option.{option_map}
-use Rattle.clk_tree.specs.declared.plan.Plan.{Plan}
 use Rattle.clk_machine.proofs.Deciding.{answers_at_once, answers_busy, answers_no_plan, answers_planned}
 use Rattle.clk_machine.proofs.Shapes.{registered_lies}
 use Rattle.clk_machine.proofs.machine.planning.decide_request.Goals as goal
