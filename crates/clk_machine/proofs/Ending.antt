@@ -33,7 +33,7 @@ use Rattle.clk_machine.specs.Sound.{IsSound}
 use Rattle.clk_machine.specs.Stands.{Stands, Leads, Enters}
 use Rattle.clk_machine.proofs.Flying.{none_left}
 use Rattle.clk_machine.proofs.Holdings.{StandsFor-same, StandsFor-like}
-use Rattle.clk_machine.proofs.InFlight.{some_left}
+use Rattle.clk_machine.proofs.Coming.{some_left}
 use Rattle.clk_machine.proofs.Making.{with_step, change_of, next_of}
 use Rattle.clk_machine.proofs.Rows.{holds_stand}
 use Rattle.clk_machine.proofs.Shapes.{handle_at-put, sum_by-set}

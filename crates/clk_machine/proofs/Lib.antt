@@ -4,6 +4,7 @@ pub mod Seeking
 pub mod Setting
 pub mod Stepping
 pub mod InFlight
+pub mod Coming
 pub mod Opening
 pub mod Closing
 pub mod Fitting

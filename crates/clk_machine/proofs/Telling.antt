@@ -31,7 +31,8 @@ use Rattle.clk_machine.specs.Making.{ComesFirst, TellsNext}
 use Rattle.clk_machine.specs.Parts.{Parts, IsOwnCall, rows_from, IsFlown, IsWhole}
 use Rattle.clk_machine.specs.Sound.{IsSound}
 use Rattle.clk_machine.specs.Stands.{Stands, Leads, Enters}
-use Rattle.clk_machine.proofs.InFlight.{own_going, script_rest, some_at}
+use Rattle.clk_machine.proofs.Coming.{some_at}
+use Rattle.clk_machine.proofs.InFlight.{own_going, script_rest}
 use Rattle.clk_machine.proofs.Making.{SameCall, with_step, enters_step, change_of, next_of}
 use Rattle.clk_machine.proofs.Stepping.{tells_one}
 

@@ -11,8 +11,6 @@ use Rattle.clk_model.specs.State.{State, registered, handle_at}
 use Rattle.clk_model.specs.Holders.{is_enabled, active}
 use Rattle.clk_model.specs.Begin.{put_handle, holds_something}
 use Rattle.clk_model.proofs.StateLaws.{settled-still, active-put_same, active-put_none, active-append}
-use Rattle.clk_model.proofs.Members.{not_either}
-use Rattle.std.proofs.lemmas.Bool.Decides.{nat_tests}
 use Rattle.counts_core.specs.Counted.{CountState, AreCounts}
 use Rattle.counts_core.specs.Standing.{StandsFor}
 use Rattle.rate_requests.specs.Handles.{HandleTable, new_row, with_counts_at}
@@ -21,7 +19,7 @@ use Rattle.clk_machine.specs.Parts.{Parts, bare, held_in_all, AreTied, ArePaid, 
 use Rattle.clk_machine.specs.Stands.{Stands, Becomes, nothing}
 use Rattle.clk_machine.specs.Holding.{puts, gives, stays}
 use Rattle.clk_machine.proofs.Flying.{never_flown, flown_written, flown_spent}
-use Rattle.clk_machine.proofs.Shapes.{handle_at-put, handle_at-append, sum_by-set, sum_by-gone, sum_by-append}
+use Rattle.clk_machine.proofs.Shapes.{holds_nothing, handle_at-put, handle_at-append, sum_by-set, sum_by-gone, sum_by-append}
 use Rattle.clk_machine.proofs.Moving.{clock_within}
 use Rattle.clk_machine.proofs.Holdings.{Moves, moves_one, moves_none, StandsFor-same, StandsFor-put, StandsFor-gone, StandsFor-given}
 use Rattle.std.proofs.Math.Bool.{or-false}
@@ -251,20 +249,6 @@ becomes_listed old table' does each beside = record {
         ignore_unused = stands.ignore_unused;
       });
 }
-
--- a handle that holds nothing
-pub record HoldsNothing (row : HandleRow) : Type 0 where
-  pub prepares : row.prepares ≡ 0
-  pub enables : row.enables ≡ 0
-  pub exclusives : row.exclusives ≡ 0
-
-pub holds_nothing : (row : HandleRow) → holds_something row ≡ false → HoldsNothing row
-holds_nothing row free =
-    let one = not_either (nat_lt 0 row.prepares || nat_lt 0 row.enables) (nat_lt 0 row.exclusives) free in
-    let two = not_either (nat_lt 0 row.prepares) (nat_lt 0 row.enables) one.0 in
-    record { prepares = none row.prepares two.0; enables = none row.enables two.1; exclusives = none row.exclusives one.1 } where
-      none : (k : ℕ) → nat_lt 0 k ≡ false → k ≡ 0
-      none k e = grind (arith, nat_tests)
 
 -- a handle that holds nothing is taken away
 pub whole_removed : (old : Parts) (n : ℕ) (row : HandleRow) (table' : HandleTable) → IsWhole old → old.flight.going ≡ false → old.spent < old.credits → handle_at old.table.handles n ≡ Some row → holds_something row ≡ false
