@@ -31,7 +31,7 @@ pub begin_quiet : (s : State) (d : ℕ) (what : Sleeping) → s.change ≡ None 
 unfolding next
 begin_quiet s d what quiet = ap (λ (o : Option Change). cond (is_quiet o) (paid s (begun s d what)) None) quiet
 
-with-none : (s : State) (d n : ℕ) (f : HandleRow → State × Turn) → own_handle s d n ≡ None → with_handle s d n f ≡ refused s errno.ENOENT
+pub with-none : (s : State) (d n : ℕ) (f : HandleRow → State × Turn) → own_handle s d n ≡ None → with_handle s d n f ≡ refused s errno.ENOENT
 with-none s d n f none = ap (λ (o : Option HandleRow). option_map_or f o (refused s errno.ENOENT)) none
 
 pub with-some : (s : State) (d n : ℕ) (f : HandleRow → State × Turn) (h : HandleRow) → own_handle s d n ≡ Some h → with_handle s d n f ≡ f h

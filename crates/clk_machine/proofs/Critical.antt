@@ -136,6 +136,7 @@ module _ (old : Parts) (c : ℕ) (tree' : TreeState) (counts' held : CountState)
     remains = record { desc = refl; told = ap (λ (o : Option (List ℕ)). is_some o) words ∙ told_mapped _ old.window.words; size = size; behind = behind; credits = refl; ignore_unused = refl };
     spent = refl;
     flight = refl;
+    left = refl;
     steps = refl;
     rows = now.rows;
     stands = λ s stands sound.

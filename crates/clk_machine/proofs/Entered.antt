@@ -54,7 +54,7 @@ enters old new d event r does pays going left becomes comes = record {
       ap (λ (f : FlightState). f.driver) becomes.flight ∙ same_driver old.flight d (is_enable_tier event) going (sym (ap (λ (f : FlightState). f.going) becomes.flight) ∙ still);
   fewer = λ free. let no : true ≡ false = sym pays ∙ free in absurd cc;
   begun = λ paid goes. absurd cc;
-  no_more = λ paid done. let same = ap (λ (f : FlightState). left_over [] f) becomes.flight in omega arith;
+  no_more = λ paid done. let same = becomes.left in omega arith;
   step = λ s stands sound.
       let spends : s.spent < s.credits = let one = stands.spent in let two = stands.credits in omega arith in
       record {
@@ -84,6 +84,7 @@ enters_known old new d c quiet left becomes there comes =
       remains = becomes.remains;
       spent = becomes.spent;
       flight = becomes.flight;
+      left = becomes.left;
       steps = becomes.steps;
       rows = λ k. becomes.rows k ∙ known k;
       stands = becomes.stands;

@@ -25,7 +25,7 @@ use Rattle.clk_model.proofs.JournalCauseLaws.{journals_have_causes}
 use Rattle.clk_model.proofs.JournalLaws.{replay-append, Legal-append}
 use Rattle.clk_machine.specs.Fit.{CanRun}
 use Rattle.clk_machine.specs.Sound.{IsSound, IsPlaced, leaves_links, CanTake}
-use Rattle.clk_machine.specs.Parts.{Parts, steps_left}
+use Rattle.clk_machine.specs.Parts.{Parts, rows_from, steps_left}
 use Rattle.clk_machine.proofs.Flying.{never_flown, none_left}
 use Rattle.std.specs.Prelude.{if◌then◌else◌}
 use Rattle.clk_model.specs.Tier.{is_enable_tier}
@@ -245,7 +245,7 @@ module _ (old new : Parts) (words : List ℕ) (log log' : Logged) (d : ℕ) (e :
 
 -- nothing is left to come where no call is in flight
 pub idle_left : (m : Parts) → not m.flight.going ≡ true → steps_left m ≡ 0
-idle_left m quiet = none_left m.flight (by m.flight.going quiet) where
+idle_left m quiet = none_left (rows_from 0 m.chains) m.flight (by m.flight.going quiet) where
   by : (b : Bool) → not b ≡ true → b ≡ false
   by true e = absurd cc
   by false e = refl
@@ -337,7 +337,7 @@ begins m words given log desc ignore_unused credits same empty room stands at cr
           (subst (λ (j : List Entry). Fed (replay (start_of m words) j)) (sym (take_all n [] (omega arith)))
           (subst (λ (s : State). Fed s) (sym start) (fed_reached (length given) (opening desc.defs given ignore_unused credits) sound.reached)));
       spent = ap cost empty ∙ sym spent;
-      room = let nothing_left = none_left m.flight quiet in omega arith;
+      room = let nothing_left = none_left (rows_from 0 m.chains) m.flight quiet in omega arith;
       going = quiet ∙ sym (ap in_flight empty);
       driver_ = λ goes. never_flown m.flight quiet goes;
       size = size ∙ sym (ap (λ (ws : List ℕ). length ws) same);

@@ -17,7 +17,7 @@ use Rattle.clk_model.specs.declared.row.HandleRow.{HandleRow}
 use Rattle.clk_model.specs.State.{State, Change, registered, handle_at, requested}
 use Rattle.clk_model.specs.Tree.{rooted, path, path_to_be}
 use Rattle.clk_model.specs.Script.{unprepared_plls, runs}
-use Rattle.clk_model.specs.Step.{taken, on, powered, to_raise, raise_one, poll, fall, to_lower, lower_one, ended_well, unranged, is_yes, stepped}
+use Rattle.clk_model.specs.Step.{taken, on, powered, visit, set_in_chain, to_raise, raise_one, poll, fall, to_lower, lower_one, ended_well, unranged, is_yes, stepped}
 use Rattle.clk_model.specs.Holders.{active}
 use Rattle.clk_model.specs.Gates.{settled}
 use Rattle.clk_model.specs.Begin.{refused, starts, change_of, weight_of, most_credits, put_handle, own_handle, given, register, keeps_prepare, prepare, unprepare, prepared_once_more, held_once_more, request_between, holds_something, has_notifier, most_notifiers, begun}
@@ -36,7 +36,7 @@ use Rattle.clk_model.proofs.TierLaws.{pick_either, with_handle_either}
 use Rattle.clk_machine.proofs.Soundness.{reached_next}
 use Rattle.clk_machine.proofs.Stepping.{polled_change}
 use Rattle.clk_machine.proofs.Attaching.{IsNarrow-register, adoptable-sound}
-use Rattle.clk_machine.proofs.Kept.{IsNarrow-spent, IsNarrow-counted, IsNarrow-notified, IsNarrow-settled, IsNarrow-change, IsNarrow-powered, IsNarrow-handles, IsNarrow-put, IsNarrow-given, IsNarrow-requested}
+use Rattle.clk_machine.proofs.Kept.{IsNarrow-spent, IsNarrow-counted, IsNarrow-notified, IsNarrow-settled, IsNarrow-change, IsNarrow-powered, IsNarrow-set, IsNarrow-handles, IsNarrow-put, IsNarrow-given, IsNarrow-requested}
 
 -- ---- paid events
 
@@ -280,6 +280,7 @@ stepped_sound words s k answer (micro.Lower x) sound leaves =
     found_or words (slice_get (to_lower s x.0) 0) (lower_one s k x.0) (on s (record k { again = 0 }))
     (λ y. IsNarrow-change words (powered s y false) (lower_one s k x.0 y).change (IsNarrow-powered words s y false sound))
     (IsNarrow-change words s (Some (record k { again = 0 })) sound)
+stepped_sound words s k answer (micro.Visit c) sound leaves = IsNarrow-change words (record s { regs = set_in_chain s k c.0 }) (visit s k c.0).change (IsNarrow-set words s k c.0 sound)
 stepped_sound words s k answer micro.End sound leaves =
     IsNarrow-change words (if k.vetoed || k.timed_out then unranged s k else ended_well s k.driver k.call) None (ended_sound words s k (k.vetoed || k.timed_out) sound)
 stepped_sound words s k answer _ sound leaves = absurd cc

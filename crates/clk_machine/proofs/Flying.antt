@@ -1,9 +1,9 @@
 -- A change in flight beside what else a core keeps.
 use Rattle.std.proofs.Common.{◌≡◌, ℕ, ◌+◌, ◌≤◌, Bool, true, false, cond, List, [], Option, Some, None, refl, sym, ap, subst, ◌∙◌, arith, set, nat_eq}
-use Rattle.std.specs.Prelude.{is_some}
+use Rattle.std.specs.Prelude.{is_some, IfSome}
 use Rattle.std.specs.Option.{option_map_or}
 use Rattle.clk_base.specs.declared.call.Sleeping.{Sleeping}
-use Rattle.clk_base.specs.declared.call.Sleeping.TheVariants as call
+use Rattle.clk_base.specs.declared.handle.Handle.{Handle}
 use Rattle.clk_base.specs.Description.{Description}
 use Rattle.clk_model.specs.declared.row.ClockRow.{ClockRow}
 use Rattle.clk_model.specs.declared.row.HandleRow.{HandleRow}
@@ -13,6 +13,9 @@ use Rattle.clk_model.proofs.StateLaws.{handle_at-set_same}
 use Rattle.clk_model.proofs.OffPathLaws.{handle_at-set_other}
 use Rattle.clk_flight.specs.Flights.{FlightState, Flies}
 use Rattle.clk_flight.specs.LeftOver.{left_over}
+use Rattle.notifiers.specs.declared.notifier.Notifier.{Notifier}
+use Rattle.clk_machine.specs.declared.course.Notified.{Notified}
+use Rattle.clk_machine.specs.InFlight.{handle_to_end}
 use Rattle.clk_machine.specs.Parts.{Parts, held_in_all, own_in, IsOwnCall, IsFlown}
 use Rattle.clk_machine.specs.Stands.{Stands}
 use Rattle.clk_machine.proofs.Shapes.{sum_by-set}
@@ -33,8 +36,8 @@ flies_quiet ns ms f None flies quiet = flies
 flies_quiet ns ms f (Some k) flies quiet = let no : true ≡ false = sym flies.going ∙ quiet in absurd cc
 
 -- and nothing is left to come
-pub none_left : (f : FlightState) → f.going ≡ false → left_over [] f ≡ 0
-none_left f quiet = left_if f.going _ quiet where
+pub none_left : (rows : List NotifierRow) (f : FlightState) → f.going ≡ false → left_over rows f ≡ 0
+none_left rows f quiet = left_if f.going _ quiet where
   left_if : (t : Bool) (n : ℕ) → t ≡ false → cond t n 0 ≡ 0
   left_if true n e = absurd cc
   left_if false n e = refl
@@ -66,42 +69,31 @@ own_written handles n row new d k at same own = by (nat_eq n k) refl where
 
 own_call : (handles : List (Option HandleRow)) (n : ℕ) (row new : HandleRow) (d : ℕ) (what : Sleeping) → handle_at handles n ≡ Some row → new.driver ≡ row.driver
     → IsOwnCall handles d what → IsOwnCall (set handles n (Some new)) d what
-own_call handles n row new d (call.Prepare h) at same own = own_written handles n row new d h.number at same own
-own_call handles n row new d (call.Get x) at same own = own
-own_call handles n row new d (call.Put x) at same own = own
-own_call handles n row new d (call.Unprepare x) at same own = own
-own_call handles n row new d (call.GetRate x) at same own = own
-own_call handles n row new d (call.RoundRate x r) at same own = own
-own_call handles n row new d (call.SetRate x r) at same own = own
-own_call handles n row new d (call.SetRateExclusive x r) at same own = own
-own_call handles n row new d (call.SetRange x least most) at same own = own
-own_call handles n row new d (call.SetParent x p) at same own = own
-own_call handles n row new d (call.GetParent x) at same own = own
-own_call handles n row new d (call.ExclusiveGet x) at same own = own
-own_call handles n row new d (call.ExclusivePut x) at same own = own
-own_call handles n row new d (call.NotifierAdd x id priority policy) at same own = own
-own_call handles n row new d (call.NotifierRemove x id) at same own = own
-own_call handles n row new d (call.Probe x) at same own = own
-own_call handles n row new d call.Sweep at same own = own
+own_call handles n row new d what at same own = by (handle_to_end what) own where
+  by : (o : Option Handle) → IfSome o (λ h. is_some (own_in handles d h.number) ≡ true) → IfSome o (λ h. is_some (own_in (set handles n (Some new)) d h.number) ≡ true)
+  by None was = tt
+  by (Some h) was = own_written handles n row new d h.number at same was
 
 -- a change in flight is kept where a handle is written and a credit spent for it
-pub flown_written : (defs : Description) (clocks : List ClockRow) (handles handles' : List (Option HandleRow)) (spent n : ℕ) (row new : HandleRow) (f : FlightState)
-    → IsFlown defs clocks handles spent f → handle_at handles n ≡ Some row → new.driver ≡ row.driver → held_in_all new ≤ held_in_all row + 1
-    → handles' ≡ set handles n (Some new) → IsFlown defs clocks handles' (spent + 1) f
-flown_written defs clocks handles handles' spent n row new f flown at same more is =
-    subst (λ (hs : List (Option HandleRow)). IsFlown defs clocks hs (spent + 1) f) (sym is) (record {
+pub flown_written : (defs : Description) (clocks : List ClockRow) (handles handles' : List (Option HandleRow)) (chains : List (List Notifier)) (notified : List Notified) (spent n : ℕ) (row new : HandleRow) (f : FlightState)
+    → IsFlown defs clocks handles chains notified spent f → handle_at handles n ≡ Some row → new.driver ≡ row.driver → held_in_all new ≤ held_in_all row + 1
+    → handles' ≡ set handles n (Some new) → IsFlown defs clocks handles' chains notified (spent + 1) f
+flown_written defs clocks handles handles' chains notified spent n row new f flown at same more is =
+    subst (λ (hs : List (Option HandleRow)). IsFlown defs clocks hs chains notified (spent + 1) f) (sym is) (record {
       plls_ = flown.plls_;
       way = flown.way;
       own = own_call handles n row new f.driver f.call at same flown.own;
       paid = let few = flown.paid in let sums = sum_by-set held_in_all handles n row new at in omega arith;
+      tells = flown.tells;
     })
 
 -- and where a credit alone is spent
-pub flown_spent : (defs : Description) (clocks : List ClockRow) (handles : List (Option HandleRow)) (spent : ℕ) (f : FlightState)
-    → IsFlown defs clocks handles spent f → IsFlown defs clocks handles (spent + 1) f
-flown_spent defs clocks handles spent f flown = record {
+pub flown_spent : (defs : Description) (clocks : List ClockRow) (handles : List (Option HandleRow)) (chains : List (List Notifier)) (notified : List Notified) (spent : ℕ) (f : FlightState)
+    → IsFlown defs clocks handles chains notified spent f → IsFlown defs clocks handles chains notified (spent + 1) f
+flown_spent defs clocks handles chains notified spent f flown = record {
   plls_ = flown.plls_;
   way = flown.way;
   own = flown.own;
   paid = let few = flown.paid in omega arith;
+  tells = flown.tells;
 }

@@ -140,6 +140,7 @@ module _ (old : Parts) (n levels : ℕ) (row new : HandleRow) (window' : Shown) 
     remains = record { desc = refl; told = ap (λ (o : Option (List ℕ)). is_some o) words ∙ told_mapped _ old.window.words; size = size; behind = behind; credits = refl; ignore_unused = refl };
     spent = refl;
     flight = refl;
+    left = refl;
     steps = refl;
     rows = λ c. sym (or-false (registered old.tree.clocks c));
     stands = λ s stands sound.

@@ -9,7 +9,7 @@ use Rattle.clk_base.specs.Flags.{is_critical}
 use Rattle.clk_model.specs.declared.row.ClockRow.{ClockRow}
 use Rattle.clk_model.specs.declared.row.HandleRow.{HandleRow}
 use Rattle.clk_model.specs.Lists.{present}
-use Rattle.clk_model.specs.State.{State, registered, handle_at}
+use Rattle.clk_model.specs.State.{State, registered, link_in, handle_at}
 use Rattle.clk_model.specs.Begin.{put_handle, given}
 use Rattle.clk_model.proofs.Members.{same_from_test, test_other}
 use Rattle.clk_model.specs.Chain.{clock_id}
@@ -136,6 +136,24 @@ StandsFor-same k s t stands defs clocks handles prepare_holds enable_holds = rec
   own_same count holds holds' same c =
       ap (λ (ds : Description). own_all count ds t.clocks t.handles holds c) defs
       ∙ ap (λ (cs : List ClockRow). own_all count s.defs cs t.handles holds c) clocks
+      ∙ ap (λ (hs : List (Option HandleRow)). own_all count s.defs s.clocks hs holds c) handles
+      ∙ ap (λ (held : List ℕ). own_all count s.defs s.clocks s.handles held c) same
+
+-- so where the rows of clocks differ, but neither in links nor in who is registered
+pub StandsFor-like : (k : CountState) (s t : State) → StandsFor k s → t.defs ≡ s.defs → ((c : ℕ) → link_in t.clocks c ≡ link_in s.clocks c) → ((c : ℕ) → registered t.clocks c ≡ registered s.clocks c)
+    → t.handles ≡ s.handles → t.prepare_holds ≡ s.prepare_holds → t.enable_holds ≡ s.enable_holds → StandsFor k t
+StandsFor-like k s t stands defs links there handles prepare_holds enable_holds = record {
+  defs = stands.defs ∙ sym defs;
+  links = λ c. links c ∙ stands.links c;
+  enables = λ c. stands.enables c ∙ sym (own_like (λ h. h.enables) t.enable_holds s.enable_holds enable_holds c);
+  prepares = λ c. stands.prepares c ∙ sym (own_like (λ h. h.prepares) t.prepare_holds s.prepare_holds prepare_holds c);
+  exclusives = λ c. stands.exclusives c ∙ sym (ap (λ (hs : List (Option HandleRow)). sum_on (λ h. h.exclusives) hs c) handles);
+} where
+  own_like : (count : HandleRow → ℕ) (holds holds' : List ℕ) → holds ≡ holds' → (c : ℕ)
+      → own_all count t.defs t.clocks t.handles holds c ≡ own_all count s.defs s.clocks s.handles holds' c
+  own_like count holds holds' same c =
+      ap (λ (ds : Description). own_all count ds t.clocks t.handles holds c) defs
+      ∙ ap (λ (b : Bool). sum_on count t.handles c + cond (is_critical s.defs c && b) 1 0 + count_by (λ h. nat_eq h c) holds) (there c)
       ∙ ap (λ (hs : List (Option HandleRow)). own_all count s.defs s.clocks hs holds c) handles
       ∙ ap (λ (held : List ℕ). own_all count s.defs s.clocks s.handles held c) same
 

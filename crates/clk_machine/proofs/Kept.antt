@@ -1,18 +1,27 @@
 -- What is kept so far stays so: with a credit spent or a step counted, another change in flight, power bits, handles and last requests.
-use Rattle.std.proofs.Common.{◌≡◌, ℕ, Bool, List, Option, refl, sym, ap, ◌∙◌, length, set}
+use Rattle.std.proofs.Common.{◌≡◌, ℕ, Bool, true, false, List, Option, Some, None, refl, sym, ap, ◌∙◌, length, set, nat_eq}
+use Rattle.std.specs.Option.{option_map_or}
 use Rattle.std.specs.List.{list_all}
 use Rattle.std.proofs.Math.Path.{fun_ext}
 use Rattle.std.proofs.lemmas.List.{length-set}
+use Rattle.clk_base.specs.declared.clock.Kind.{Kind}
+use Rattle.clk_base.specs.declared.clock.Kind.TheVariants.{FixedRate, Factor, Gate, Mux, Divider, Pll}
 use Rattle.clk_base.specs.Description.{kind_of, parents_of}
+use Rattle.clk_base.specs.Fields.{Field}
+use Rattle.reg_bank.specs.Registers.{Registers, field}
 use Rattle.clk_model.specs.declared.row.HandleRow.{HandleRow}
 use Rattle.clk_model.specs.Lists.{count_from}
 use Rattle.clk_model.specs.State.{State, Change, NotifierRow, row_of, registered, link_in, requested}
 use Rattle.clk_model.specs.Holders.{active}
 use Rattle.clk_model.specs.Gates.{settled}
-use Rattle.clk_model.specs.Step.{powered}
+use Rattle.clk_model.specs.Kinds.{mux_field}
+use Rattle.clk_model.specs.Round.{wiring, parent_rate_in}
+use Rattle.clk_model.specs.Chain.{setting}
+use Rattle.clk_model.specs.Step.{powered, planned_rate, set_in_chain}
+use Rattle.clk_model.proofs.Members.{same_from_test, test_other}
 use Rattle.clk_model.specs.Begin.{put_handle, given}
 use Rattle.clk_model.proofs.ApartLaws.{mux_is_field}
-use Rattle.clk_model.proofs.FieldLaws.{powered_stays}
+use Rattle.clk_model.proofs.FieldLaws.{powered_stays, set_stays}
 use Rattle.clk_model.proofs.GateRateLaws.{selected-moved}
 use Rattle.clk_model.proofs.HoldSteps.{link_set_same}
 use Rattle.clk_model.proofs.SceneStepLaws.{registered_set}
@@ -98,6 +107,36 @@ IsNarrow-powered words s y up sound = record {
       sound.selects c there
       ∙ sym (selected_same s.defs s.regs (powered s y up).regs c (λ f at. powered_stays s words y up c sound.valid f (mux_is_field (kind_of s.defs c) f at)));
 }
+
+-- the setting of a mux writes nothing
+mux_setting : (kind : Kind) (f : Field) (parent planned : ℕ) (regs : Registers) → mux_field kind ≡ Some f → setting kind parent planned regs ≡ regs
+mux_setting (Mux word shift width read_only) f parent planned regs at = refl
+mux_setting (FixedRate rate) f parent planned regs at = refl
+mux_setting (Factor mult div) f parent planned regs at = refl
+mux_setting (Gate word bit set_to_disable) f parent planned regs at = refl
+mux_setting (Divider word shift width one_based power_of_two) f parent planned regs at = absurd cc
+mux_setting (Pll word shift width power_word power_bit least most m) f parent planned regs at = absurd cc
+
+-- so a visit leaves what each clock selects
+pub IsNarrow-set : (words : ℕ) (s : State) (k : Change) (c : ℕ) → IsNarrow words s → IsNarrow words (record s { regs = set_in_chain s k c })
+IsNarrow-set words s k c sound = record {
+  valid = sound.valid;
+  runs = sound.runs;
+  rows = sound.rows;
+  attached = sound.attached;
+  unlinked = sound.unlinked;
+  parents = sound.parents;
+  selects = λ d there. sound.selects d there ∙ sym (selected_same s.defs s.regs (set_in_chain s k c) d (λ f at. reads d f at (nat_eq d c) refl));
+} where
+  own : (f : Field) → mux_field (kind_of s.defs c) ≡ Some f → (o : Option ℕ) → option_map_or (λ planned. setting (kind_of s.defs c) (parent_rate_in (wiring s) c) planned s.regs) o s.regs ≡ s.regs
+  own f at None = refl
+  own f at (Some planned) = mux_setting (kind_of s.defs c) f (parent_rate_in (wiring s) c) planned s.regs at
+
+  reads : (d : ℕ) (f : Field) → mux_field (kind_of s.defs d) ≡ Some f → (t : Bool) → nat_eq d c ≡ t → field (set_in_chain s k c) f.word f.shift f.width ≡ field s.regs f.word f.shift f.width
+  reads d f at true same =
+      let here : mux_field (kind_of s.defs c) ≡ Some f = ap (λ (x : ℕ). mux_field (kind_of s.defs x)) (sym (same_from_test d c same)) ∙ at in
+      ap (λ (regs : Registers). field regs f.word f.shift f.width) (own f here (planned_rate k c))
+  reads d f at false other = set_stays s k words c d sound.valid (test_other d c other) f (mux_is_field (kind_of s.defs d) f at)
 
 -- ---- rows and handles
 

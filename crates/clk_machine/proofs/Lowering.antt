@@ -20,7 +20,7 @@ use Rattle.clk_base.specs.Description.{Description}
 use Rattle.clk_model.specs.declared.row.ClockRow.{ClockRow}
 use Rattle.clk_model.specs.declared.row.HandleRow.{HandleRow}
 use Rattle.clk_model.specs.Lists.{present}
-use Rattle.clk_model.specs.State.{State, Change, registered, handle_at}
+use Rattle.clk_model.specs.State.{State, Change, NotifierRow, registered, handle_at}
 use Rattle.clk_model.specs.Tree.{path}
 use Rattle.clk_model.specs.Script.{plls, runs, weight, unprepared_plls}
 use Rattle.clk_model.specs.Begin.{most_credits, weight_of, change_of, put_handle, own_handle, keeps_prepare, unprepare, refused, begun}
@@ -32,7 +32,8 @@ use Rattle.clk_flight.specs.LeftOver.{step_weight}
 use Rattle.counts_core.specs.Counted.{CountState, AreCounts}
 use Rattle.rate_requests.specs.Handles.{HandleTable}
 use Rattle.clk_machine.specs.Holding.{prepared_less, puts}
-use Rattle.clk_machine.specs.Parts.{Parts, held_in_all, IsOwnCall, IsWhole}
+use Rattle.clk_machine.specs.InFlight.{changes_rate}
+use Rattle.clk_machine.specs.Parts.{Parts, held_in_all, IsOwnCall, IsWhole, rows_from}
 use Rattle.clk_machine.specs.Plls.{lowerable, Finds}
 use Rattle.clk_machine.specs.declared.plls.Sought.{Sought}
 use Rattle.clk_machine.specs.Stands.{Stands, Enters}
@@ -159,10 +160,10 @@ freed_told old n row s r t same is stands found =
       none_not (Some y) = refl
 
 -- what is left to come of it
-pub lower_left : (plls_ : ℕ) (c : ClockId) → sum_by (step_weight [] plls_) (lower_script c) ≡ plls_ + 2
-lower_left p c =
-    let one = sum_by-cons (step_weight [] p) (micro.Lower c) (micro.End ∷ []) in
-    let two = sum_by-cons (step_weight [] p) micro.End [] in
+pub lower_left : (rows : List NotifierRow) (plls_ : ℕ) (c : ClockId) → sum_by (step_weight rows plls_) (lower_script c) ≡ plls_ + 2
+lower_left rows p c =
+    let one = sum_by-cons (step_weight rows p) (micro.Lower c) (micro.End ∷ []) in
+    let two = sum_by-cons (step_weight rows p) micro.End [] in
     omega arith
 
 -- less is held than was paid for
@@ -184,10 +185,11 @@ whole_lowering old d h row table' flight' is written room now =
     let whole : IsWhole p = whole_written old h.number row (prepared_less row) old.window table' (released old.counts row.clock.0) is.whole written is.left is.whole.tied in
     whole_flying p flight' whole (record {
       plls_ = now.plls_;
+      tells = λ changes. let no : true ≡ false = sym changes ∙ ap changes_rate now.call_ in absurd cc;
       way = started_way old d (call.Unprepare h) (lower_script row.clock) flight' (registered old.tree.clocks) now refl (ap (λ (b : Bool). b && true) (is.whole.handled h.number row is.live));
       own = subst (λ (what : Sleeping). IsOwnCall table'.handles flight'.driver what) (sym now.call_) tt;
       paid = less_held old h.number row table' is written;
-    }) (let steps = started_left old d (call.Unprepare h) (lower_script row.clock) flight' now in let few = lower_left (plls old.desc.defs) row.clock in omega arith)
+    }) (let steps = started_left old d (call.Unprepare h) (lower_script row.clock) flight' now in let few = lower_left (rows_from 0 old.chains) (plls old.desc.defs) row.clock in omega arith)
 
 -- and the call goes on
 pub starts_lowering : (old : Parts) (d : ℕ) (h : Handle) (row : HandleRow) (table' : HandleTable) (flight' : FlightState)
@@ -205,7 +207,7 @@ starts_lowering old d h row table' flight' written now change =
       left = started_left old d (call.Unprepare h) (lower_script row.clock) flight' now;
       stands = λ s stands.
           stands_flying p flight' (record (put_handle s h.number (Some (prepared_less row))) { regs = s.regs; spent = s.spent + 1 }) (change_of s d (call.Unprepare h) (lower_script row.clock))
-          (stands_written old h.number row (prepared_less row) old.window table' (released old.counts row.clock.0) s s.regs written stands stands.regs) (change s);
+          (stands_written old h.number row (prepared_less row) old.window table' (released old.counts row.clock.0) s s.regs written stands stands.regs) (change s) (λ changes. absurd cc);
     }
 
 -- an unprepare that goes on takes the parts on
@@ -220,7 +222,7 @@ enters_unprepare old new d h row quiet left own frees some room starts_ = record
   going = starts_.going;
   driver_ = λ still. starts_.driver_;
   fewer = λ free. absurd cc;
-  begun = λ paid goes. let steps = starts_.left in let few = lower_left (plls old.desc.defs) row.clock in omega arith;
+  begun = λ paid goes. let steps = starts_.left in let few = lower_left (rows_from 0 old.chains) (plls old.desc.defs) row.clock in omega arith;
   no_more = λ paid done. absurd cc;
   step = λ s stands sound.
       let spends : s.spent < s.credits = let one = stands.spent in let two = stands.credits in omega arith in

@@ -11,7 +11,7 @@ use Rattle.clk_base.specs.declared.event.Turn.TheVariants as turn
 use Rattle.clk_base.specs.Description.{Description, kind_of}
 use Rattle.clk_model.specs.declared.row.ClockRow.{ClockRow}
 use Rattle.clk_model.specs.Lists.{is_in}
-use Rattle.clk_model.specs.State.{State, Change, registered, link_in}
+use Rattle.clk_model.specs.State.{State, Change, NotifierRow, registered, link_in}
 use Rattle.clk_model.specs.Kinds.{is_pll}
 use Rattle.clk_model.specs.Tree.{path, link_given}
 use Rattle.clk_model.specs.Holders.{prepared}
@@ -27,8 +27,9 @@ use Rattle.clk_flight.specs.LeftOver.{left_over}
 use Rattle.clk_flight.specs.Moves.{raised_once, raised_in, found_none, polled_in, timed_out_in, is_last_no, front_polled}
 use Rattle.clk_flight.specs.Fronts.{script_behind}
 use Rattle.clk_machine.specs.Window.{Shown}
-use Rattle.clk_machine.specs.InFlight.{IsUnderWay}
-use Rattle.clk_machine.specs.Parts.{Parts, IsOwnCall, AreTied, IsWhole}
+use Rattle.clk_machine.specs.InFlight.{changes_rate, IsUnderWay}
+use Rattle.clk_machine.specs.Course.{CourseState, IsAlong}
+use Rattle.clk_machine.specs.Parts.{Parts, IsOwnCall, AreTied, IsWhole, rows_from}
 use Rattle.clk_machine.specs.Plls.{is_loose, raisable, lowerable}
 use Rattle.clk_machine.specs.Sound.{IsSound}
 use Rattle.clk_machine.specs.Stands.{Stands, Leads, Enters}
@@ -48,9 +49,9 @@ pub record SameCall (f g : FlightState) : Type 0 where
   pub going : g.going ≡ f.going
 
 -- the parts stay whole
-pub whole_stepped : (old : Parts) (window' : Shown) (flight' : FlightState) → IsWhole old → AreTied old.desc window' old.tree → old.flight.going ≡ true → SameCall old.flight flight'
-    → IsUnderWay (registered old.tree.clocks) flight' → left_over [] flight' < left_over [] old.flight → IsWhole (with_step old window' flight')
-whole_stepped old window' flight' whole tied going same way less =
+pub whole_stepped : (old : Parts) (window' : Shown) (flight' : FlightState) → IsWhole old → AreTied old.desc window' old.tree → old.flight.going ≡ true → changes_rate old.flight.call ≡ false → SameCall old.flight flight'
+    → IsUnderWay (registered old.tree.clocks) flight' → left_over (rows_from 0 old.chains) flight' < left_over (rows_from 0 old.chains) old.flight → IsWhole (with_step old window' flight')
+whole_stepped old window' flight' whole tied going bare_ same way less =
     let flown = whole.flown going in
     record {
       tied = tied;
@@ -59,20 +60,27 @@ whole_stepped old window' flight' whole tied going same way less =
       clocks = whole.clocks;
       handled = whole.handled;
       notified = whole.notified;
+      listed = whole.listed;
       flown = λ still. record {
         plls_ = same.plls ∙ flown.plls_;
         way = way;
         own = subst (λ (d : ℕ). IsOwnCall old.table.handles d flight'.call) (sym same.driver)
             (subst (λ (what : Sleeping). IsOwnCall old.table.handles old.flight.driver what) (sym same.call) flown.own);
         paid = flown.paid;
+        tells = λ changes. let no : true ≡ false = sym changes ∙ ap changes_rate same.call ∙ bare_ in absurd cc;
       };
       room = let room = whole.room in omega arith;
     }
 
+-- a call that changes no rate goes along no course
+pub never_along : (course : CourseState) (ns : List NotifierRow) (f : FlightState) (o : Option Change) → Flies ns f o → changes_rate f.call ≡ false → IsAlong course o
+never_along course ns f None flies none = tt
+never_along course ns f (Some k) flies none = λ changes. let no : true ≡ false = sym changes ∙ ap changes_rate flies.call ∙ none in absurd cc
+
 -- they stand for the state with these words and this change
 pub stands_stepped : (old : Parts) (window' : Shown) (flight' : FlightState) (s : State) (regs' : List ℕ) (change' : Option Change) → Stands old s → window'.words ≡ Some regs'
-    → Flies s.notifiers flight' change' → Stands (with_step old window' flight') (record s { regs = regs'; change = change'; steps = s.steps + 1 })
-stands_stepped old window' flight' s regs' change' stands words flies = record {
+    → changes_rate flight'.call ≡ false → Flies s.notifiers flight' change' → Stands (with_step old window' flight') (record s { regs = regs'; change = change'; steps = s.steps + 1 })
+stands_stepped old window' flight' s regs' change' stands words bare_ flies = record {
   defs = stands.defs;
   regs = words;
   clocks = stands.clocks;
@@ -82,6 +90,7 @@ stands_stepped old window' flight' s regs' change' stands words flies = record {
   prepare_holds = stands.prepare_holds;
   enable_holds = stands.enable_holds;
   change = flies;
+  along = never_along old.course s.notifiers flight' change' flies bare_;
   credits = stands.credits;
   spent = stands.spent;
   steps = ap (λ (n : ℕ). n + 1) stands.steps;
@@ -90,7 +99,7 @@ stands_stepped old window' flight' s regs' change' stands words flies = record {
 
 -- a step after which the call goes on takes the parts on
 pub enters_step : (old : Parts) (window' : Shown) (flight' : FlightState) (m : Micro) (answer : Option Bool) → is_some window'.words ≡ is_some old.window.words → window'.size ≡ old.window.size
-    → window'.behind ≡ old.window.behind → flight'.going ≡ true → flight'.driver ≡ old.flight.driver → left_over [] flight' < left_over [] old.flight
+    → window'.behind ≡ old.window.behind → flight'.going ≡ true → flight'.driver ≡ old.flight.driver → left_over (rows_from 0 old.chains) flight' < left_over (rows_from 0 old.chains) old.flight
     → ((s : State) → Stands old s → IsSound old.window.size s → Leads s old.flight.driver (event.Step m answer) turn.Going (with_step old window' flight'))
     → Enters old old.flight.driver (event.Step m answer) turn.Going (with_step old window' flight')
 enters_step old window' flight' m answer told size behind going same less leads = record {
@@ -112,12 +121,13 @@ pub record HasChange (m : Parts) (s : State) : Type 0 where
   pub k : Change
   pub change : s.change ≡ Some k
   pub is : IsChange s.notifiers m.flight k
+  pub along : IsAlong m.course (Some k)
 
 pub change_of : (m : Parts) (s : State) → Stands m s → m.flight.going ≡ true → HasChange m s
-change_of m s stands going = by s.change refl stands.change where
-  by : (o : Option Change) → s.change ≡ o → Flies s.notifiers m.flight o → HasChange m s
-  by None at flies = let no : true ≡ false = sym going ∙ flies in absurd cc
-  by (Some k) at flies = record { k = k; change = at; is = flies }
+change_of m s stands going = by s.change refl stands.change stands.along where
+  by : (o : Option Change) → s.change ≡ o → Flies s.notifiers m.flight o → IsAlong m.course o → HasChange m s
+  by None at flies along = let no : true ≡ false = sym going ∙ flies in absurd cc
+  by (Some k) at flies along = record { k = k; change = at; is = flies; along = along }
 
 -- the step that comes first is the next one of that change
 pub next_of : (m : Parts) (s : State) (step : Micro) (has : HasChange m s) → slice_get (todo has.k) 0 ≡ Some step → IsNext s m.flight.driver has.k step

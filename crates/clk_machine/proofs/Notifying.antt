@@ -1,5 +1,5 @@
 -- The parts of a core where the notifiers of a clock change.
-use Rattle.std.proofs.Common.{◌≡◌, ℕ, ◌+◌, ◌<◌, ◌&&◌, Bool, false, cond, not, List, [], ◌∷◌, refl, sym, ap, subst, ◌∙◌, length, nat_eq}
+use Rattle.std.proofs.Common.{◌≡◌, ℕ, ◌+◌, ◌<◌, ◌&&◌, Bool, false, cond, not, List, [], ◌∷◌, refl, sym, ap, subst, ◌∙◌, arith, length, nat_eq}
 use Rattle.std.specs.List.{list_any}
 use Rattle.std.proofs.Math.Bool.{or-false}
 use Rattle.clk_model.specs.State.{State, NotifierRow}
@@ -12,9 +12,9 @@ use Rattle.clk_model.proofs.StateLaws.{settled-still}
 use Rattle.notifiers.specs.declared.notifier.Notifier.{Notifier}
 use Rattle.notifiers.specs.Chains.{chain_of, Tells, has_id, without_notifier}
 use Rattle.clk_machine.specs.Holding.{unnotified}
-use Rattle.clk_machine.specs.Parts.{Parts, bare, IsWhole}
+use Rattle.clk_machine.specs.Parts.{rows_from, AreListed, Parts, bare, IsWhole}
 use Rattle.clk_machine.specs.Stands.{Stands, Becomes, nothing}
-use Rattle.clk_machine.proofs.Flying.{never_flown, flies_quiet}
+use Rattle.clk_machine.proofs.Flying.{none_left, never_flown, flies_quiet}
 use Rattle.clk_machine.proofs.Holdings.{StandsFor-same}
 use Rattle.clk_machine.proofs.Registering.{paid_more}
 
@@ -23,8 +23,8 @@ abbrev pub with_chains : Parts → List (List Notifier) → Parts
 with_chains old chains' = record old { chains = chains'; spent = old.spent + 1 }
 
 -- they stay whole
-pub whole_notified : (old : Parts) (chains' : List (List Notifier)) → IsWhole old → old.flight.going ≡ false → old.spent < old.credits → length chains' ≡ length old.chains → IsWhole (with_chains old chains')
-whole_notified old chains' whole quiet left same = record {
+pub whole_notified : (old : Parts) (chains' : List (List Notifier)) → IsWhole old → old.flight.going ≡ false → old.spent < old.credits → length chains' ≡ length old.chains → AreListed chains' → IsWhole (with_chains old chains')
+whole_notified old chains' whole quiet left same listed = record {
   tied = whole.tied;
   paid = paid_more old.table.handles old.credits old.spent whole.paid left;
   counted = record {
@@ -34,8 +34,13 @@ whole_notified old chains' whole quiet left same = record {
   clocks = whole.clocks;
   handled = whole.handled;
   notified = same ∙ whole.notified;
+  listed = listed;
   flown = λ going. never_flown old.flight quiet going;
-  room = whole.room;
+  room =
+      let room = whole.room in
+      let some = none_left (rows_from 0 old.chains) old.flight quiet in
+      let none = none_left (rows_from 0 chains') old.flight quiet in
+      omega arith;
 }
 
 -- that is what is done to the state
@@ -45,6 +50,7 @@ becomes_notified old chains' f quiet tells = record {
   remains = record { desc = refl; told = refl; size = refl; behind = refl; credits = refl; ignore_unused = refl };
   spent = refl;
   flight = refl;
+  left = none_left (rows_from 0 chains') old.flight quiet ∙ sym (none_left (rows_from 0 old.chains) old.flight quiet);
   steps = refl;
   rows = λ c. sym (or-false (registered old.tree.clocks c));
   stands = λ s stands sound.
@@ -59,6 +65,7 @@ becomes_notified old chains' f quiet tells = record {
         prepare_holds = stands.prepare_holds;
         enable_holds = stands.enable_holds;
         change = flies_quiet s.notifiers (f s.notifiers) old.flight s.change stands.change quiet;
+        along = stands.along;
         credits = stands.credits;
         spent = ap (λ (k : ℕ). k + 1) stands.spent;
         steps = stands.steps;

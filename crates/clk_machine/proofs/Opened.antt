@@ -21,7 +21,8 @@ use Rattle.notifiers.specs.Chains.{Tells}
 use Rattle.rate_requests.specs.Handles.{HandleTable}
 use Rattle.clk_machine.specs.Window.{Shown, AreTold}
 use Rattle.clk_machine.specs.Fit.{CanRun}
-use Rattle.clk_machine.specs.Parts.{parts_of, bare, held_in_all, AreKept, IsWhole}
+use Rattle.clk_machine.specs.Course.{CourseState}
+use Rattle.clk_machine.specs.Parts.{parts_of, bare, held_in_all, AreKept, IsWhole, rows_from}
 use Rattle.clk_machine.specs.Stands.{Stands}
 use Rattle.clk_flight.specs.Flights.{FlightState}
 use Rattle.clk_machine.proofs.Flying.{never_flown, none_left}
@@ -69,12 +70,12 @@ counts_at_first desc counts words defs links enables prepares exclusives = recor
       (and_none (is_critical desc.defs c) _ (blank_registered (replicate (length desc.defs) unregistered_row) (length desc.defs) c refl))
 
 -- a core without a registered clock, a handle and a notifier
-pub whole_opening : (desc : Checked) (window : Shown) (tree : TreeState) (table : HandleTable) (counts : CountState) (chains : List (List Notifier)) (credits : ℕ) (ignore_unused : Bool) (flight : FlightState)
+pub whole_opening : (desc : Checked) (window : Shown) (tree : TreeState) (table : HandleTable) (counts : CountState) (chains : List (List Notifier)) (credits : ℕ) (ignore_unused : Bool) (flight : FlightState) (course : CourseState)
     → flight.going ≡ false → IsValid desc.words desc.defs → CanRun desc.defs → window.size ≡ desc.words → AreTold window.size window.words
     → tree.defs ≡ desc.defs → tree.clocks ≡ replicate (length desc.defs) unregistered_row → IsTree tree.defs tree.clocks tree.order tree.rates → credits ≤ most_credits
-    → table.clocks ≡ length desc.defs → table.handles ≡ [] → AreCounts counts → StandsFor counts (opening desc.defs [] false 0) → length chains ≡ length desc.defs
-    → IsWhole (parts_of desc window tree table counts chains credits 0 ignore_unused flight 0)
-whole_opening desc window tree table counts chains credits ignore_unused flight quiet valid runs size told defs blank stands few clocks empty keeps counted notified = record {
+    → table.clocks ≡ length desc.defs → table.handles ≡ [] → AreCounts counts → StandsFor counts (opening desc.defs [] false 0) → length chains ≡ length desc.defs → Tells chains []
+    → IsWhole (parts_of desc window tree table counts chains credits 0 ignore_unused flight course 0)
+whole_opening desc window tree table counts chains credits ignore_unused flight course quiet valid runs size told defs blank stands few clocks empty keeps counted notified tells = record {
   tied = record { valid = valid; runs = runs; words = size; told = told; defs = defs; stands = stands; kept = none_kept window.words };
   paid = record {
     few_credits = few;
@@ -84,13 +85,14 @@ whole_opening desc window tree table counts chains credits ignore_unused flight 
   };
   counted = record {
     keeps = keeps;
-    stands = StandsFor-same counts (opening desc.defs [] false 0) (bare (parts_of desc window tree table counts chains credits 0 ignore_unused flight 0)) counted refl blank empty refl refl;
+    stands = StandsFor-same counts (opening desc.defs [] false 0) (bare (parts_of desc window tree table counts chains credits 0 ignore_unused flight course 0)) counted refl blank empty refl refl;
   };
   clocks = clocks;
   handled = λ n h e. let none = ap (λ (hs : List (Option HandleRow)). handle_at hs n) empty in absurd cc;
   notified = notified;
+  listed = record { rows = []; tells = tells };
   flown = λ going. never_flown flight quiet going;
-  room = let none = none_left flight quiet in omega arith;
+  room = let none = none_left (rows_from 0 chains) flight quiet in omega arith;
 } where
   sums : List (Option HandleRow) → ℕ
   sums hs = sum_by held_in_all (present hs)
@@ -106,12 +108,12 @@ pub counts_opening : (desc : Checked) (counts : CountState) → counts.defs ≡ 
 counts_opening desc counts defs links enables prepares exclusives = counts_at_first desc counts [] defs links enables prepares exclusives
 
 -- they stand for the opening, where the bank tells its words
-pub stands_opening : (desc : Checked) (window : Shown) (tree : TreeState) (table : HandleTable) (counts : CountState) (chains : List (List Notifier)) (credits : ℕ) (ignore_unused : Bool) (flight : FlightState)
+pub stands_opening : (desc : Checked) (window : Shown) (tree : TreeState) (table : HandleTable) (counts : CountState) (chains : List (List Notifier)) (credits : ℕ) (ignore_unused : Bool) (flight : FlightState) (course : CourseState)
     (words : List ℕ) (contents : Option (List ℕ))
     → flight.going ≡ false → window.words ≡ option_map (λ _. words) contents → tree.clocks ≡ replicate (length desc.defs) unregistered_row → tree.order ≡ [] → table.handles ≡ [] → Tells chains []
     → is_some window.words ≡ true
-    → Stands (parts_of desc window tree table counts chains credits 0 ignore_unused flight 0) (opening desc.defs words ignore_unused credits)
-stands_opening desc window tree table counts chains credits ignore_unused flight words contents quiet given blank order empty notifiers told = record {
+    → Stands (parts_of desc window tree table counts chains credits 0 ignore_unused flight course 0) (opening desc.defs words ignore_unused credits)
+stands_opening desc window tree table counts chains credits ignore_unused flight course words contents quiet given blank order empty notifiers told = record {
   defs = refl;
   regs = given ∙ all contents (sym (ap (λ (o : Option (List ℕ)). is_some o) given) ∙ told);
   clocks = sym blank;
@@ -121,6 +123,7 @@ stands_opening desc window tree table counts chains credits ignore_unused flight
   prepare_holds = refl;
   enable_holds = refl;
   change = quiet;
+  along = tt;
   credits = refl;
   spent = refl;
   steps = refl;

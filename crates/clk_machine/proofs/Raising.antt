@@ -28,13 +28,14 @@ use Rattle.clk_flight.specs.Moves.{raised_in, lowered_once, found_none, polled_i
 use Rattle.clk_flight.specs.Steps.{Raises, LowersOne, FindsNone, Polls, Drops, LeavesLess, LeavesLessAt, is_fall}
 use Rattle.clk_flight.proofs.SeekLaws.{paced_seek_few}
 use Rattle.clk_machine.specs.Window.{Shown}
-use Rattle.clk_machine.specs.InFlight.{may_seek}
+use Rattle.clk_flight.specs.LeftOver.{left_over}
+use Rattle.clk_machine.specs.InFlight.{changes_rate, may_seek}
 use Rattle.clk_machine.specs.Making.{ComesFirst, FindsNothing}
-use Rattle.clk_machine.specs.Parts.{Parts, IsWhole}
+use Rattle.clk_machine.specs.Parts.{Parts, IsWhole, rows_from}
 use Rattle.clk_machine.specs.Plls.{raisable, lowerable, Finds}
 use Rattle.clk_machine.specs.Sound.{IsSound}
 use Rattle.clk_machine.specs.Stands.{Stands, Leads, Enters}
-use Rattle.clk_machine.proofs.InFlight.{fall_in_front, raise_there, poll_there}
+use Rattle.clk_machine.proofs.InFlight.{fall_in_front, fall_told, raise_there, poll_there, seek_bare}
 use Rattle.clk_machine.proofs.Making.{with_step, stands_stepped, enters_step, change_of, next_of, to_raise_stands, to_lower_stands, raisable_there, same_raised, same_polled}
 use Rattle.clk_machine.proofs.Moving.{clock_within}
 use Rattle.clk_machine.proofs.Opening.{power_fits}
@@ -70,6 +71,7 @@ pub record Raised (old : Parts) (x pll : ClockId) (more : Bool) (window' : Shown
   pub size : window'.size ≡ old.window.size
   pub words : window'.words ≡ option_map (power_put old.desc.defs pll.0 true) old.window.words
   pub behind : window'.behind ≡ old.window.behind
+  pub bare : changes_rate old.flight.call ≡ false
   pub flight : flight' ≡ raised_in old.flight x pll more
   pub change : Raises x pll more old.flight flight'
   pub less : LeavesLess old.flight flight'
@@ -94,6 +96,7 @@ raise_leads old x pll more window' flight' now s stands sound =
       stands =
           stands_stepped old window' flight' s (powered s pll.0 true).regs (raise_one s (taken k) x.0 pll.0).change stands
           (powered_words old.desc.defs pll.0 true old.window.words window'.words s stands.defs stands.regs now.words)
+          (ap (λ (f : FlightState). changes_rate f.call) now.flight ∙ ap changes_rate (same_raised old.flight x pll more).call ∙ now.bare)
           (subst (λ (o : Option ℕ). Flies s.notifiers flight' (option_map_or (raise_one s (taken k) x.0) o (on s (record (taken k) { again = 0 }))).change) at flies);
     }
 
@@ -102,7 +105,7 @@ pub raise_enters : (old : Parts) (x pll : ClockId) (more : Bool) (window' : Show
 raise_enters old x pll more window' flight' now =
     enters_step old window' flight' (micro.Raise x) None (told_put old.desc.defs pll.0 true old.window.words window'.words now.words) now.size now.behind
     (ap (λ (f : FlightState). f.going) now.flight ∙ (same_raised old.flight x pll more).going ∙ now.going)
-    (ap (λ (f : FlightState). f.driver) now.flight ∙ (same_raised old.flight x pll more).driver) (now.less []) (raise_leads old x pll more window' flight' now)
+    (ap (λ (f : FlightState). f.driver) now.flight ∙ (same_raised old.flight x pll more).driver) (now.less (rows_from 0 old.chains)) (raise_leads old x pll more window' flight' now)
 
 -- ---- nothing found
 
@@ -114,7 +117,7 @@ seeks_of what there _ e = absurd cc
 pub none_enters : (old : Parts) (step : Micro) (flight' : FlightState) → old.flight.going ≡ true → FindsNothing old step → flight' ≡ found_none old.flight → FindsNone old.flight flight'
     → LeavesLess old.flight flight' → Enters old old.flight.driver (event.Step step None) turn.Going (with_step old old.window flight')
 none_enters old step flight' going nothing is change less =
-    enters_step old old.window flight' step None refl refl refl (ap (λ (f : FlightState). f.going) is ∙ going) (ap (λ (f : FlightState). f.driver) is) (less [])
+    enters_step old old.window flight' step None refl refl refl (ap (λ (f : FlightState). f.going) is ∙ going) (ap (λ (f : FlightState). f.driver) is) (less (rows_from 0 old.chains))
     (λ s stands sound.
     let has = change_of old s stands going in
     let first = nothing.first s.notifiers has.k stands.notifiers has.is in
@@ -122,6 +125,7 @@ none_enters old step flight' going nothing is change less =
       to = record s { change = Some (record (taken has.k) { again = 0 }); steps = s.steps + 1 };
       next_ = nothing.taken_ s has.k stands has.change has.is;
       stands = stands_stepped old old.window flight' s s.regs (Some (record (taken has.k) { again = 0 })) stands stands.regs
+          (ap (λ (f : FlightState). changes_rate f.call) is ∙ seek_bare old.flight.call (registered old.tree.clocks) step nothing.seeks)
           (change s.notifiers has.k step has.is first (seeks_of old.flight.call (registered old.tree.clocks) step nothing.seeks));
     })
 
@@ -135,6 +139,7 @@ pub record Lowered (old : Parts) (x pll : ClockId) (more : Bool) (window' : Show
   pub size : window'.size ≡ old.window.size
   pub words : window'.words ≡ option_map (power_put old.desc.defs pll.0 false) old.window.words
   pub behind : window'.behind ≡ old.window.behind
+  pub bare : changes_rate old.flight.call ≡ false
   pub flight : flight' ≡ lowered_once old.flight x more
   pub change : LowersOne x more old.flight flight'
   pub less : LeavesLess old.flight flight'
@@ -160,6 +165,7 @@ lower_leads old x pll more window' flight' now s stands sound =
       stands =
           stands_stepped old window' flight' s (powered s pll.0 false).regs (lower_one s (taken k) x.0 pll.0).change stands
           (powered_words old.desc.defs pll.0 false old.window.words window'.words s stands.defs stands.regs now.words)
+          (ap (λ (f : FlightState). changes_rate f.call) now.flight ∙ now.bare)
           (subst (λ (o : Option ℕ). Flies s.notifiers flight' (option_map_or (lower_one s (taken k) x.0) o (on s (record (taken k) { again = 0 }))).change) at flies);
     }
 
@@ -167,17 +173,17 @@ pub lower_enters : (old : Parts) (x pll : ClockId) (more : Bool) (window' : Show
     → Enters old old.flight.driver (event.Step (micro.Lower x) None) turn.Going (with_step old window' flight')
 lower_enters old x pll more window' flight' now =
     enters_step old window' flight' (micro.Lower x) None (told_put old.desc.defs pll.0 false old.window.words window'.words now.words) now.size now.behind
-    (ap (λ (f : FlightState). f.going) now.flight ∙ now.going) (ap (λ (f : FlightState). f.driver) now.flight) (now.less []) (lower_leads old x pll more window' flight' now)
+    (ap (λ (f : FlightState). f.going) now.flight ∙ now.going) (ap (λ (f : FlightState). f.driver) now.flight) (now.less (rows_from 0 old.chains)) (lower_leads old x pll more window' flight' now)
 
 -- ---- a poll
 
-pub poll_enters : (old : Parts) (pll : ClockId) (answer : Bool) (window' : Shown) (flight' : FlightState) → old.flight.going ≡ true → own_step old.flight ≡ Some (micro.Poll pll)
+pub poll_enters : (old : Parts) (pll : ClockId) (answer : Bool) (window' : Shown) (flight' : FlightState) → old.flight.going ≡ true → changes_rate old.flight.call ≡ false → own_step old.flight ≡ Some (micro.Poll pll)
     → ComesFirst old (micro.Poll pll) → window'.size ≡ old.window.size → window'.words ≡ old.window.words → window'.behind ≡ old.window.behind
     → flight' ≡ polled_in old.flight answer → Polls answer old.flight flight' → LeavesLess old.flight flight'
     → Enters old old.flight.driver (event.Step (micro.Poll pll) (Some answer)) turn.Going (with_step old window' flight')
-poll_enters old pll answer window' flight' going own comes size words behind is change less =
+poll_enters old pll answer window' flight' going bare own comes size words behind is change less =
     enters_step old window' flight' (micro.Poll pll) (Some answer) (ap (λ (o : Option (List ℕ)). is_some o) words) size behind
-    (ap (λ (f : FlightState). f.going) is ∙ (same_polled old.flight answer).going ∙ going) (ap (λ (f : FlightState). f.driver) is ∙ (same_polled old.flight answer).driver) (less [])
+    (ap (λ (f : FlightState). f.going) is ∙ (same_polled old.flight answer).going ∙ going) (ap (λ (f : FlightState). f.driver) is ∙ (same_polled old.flight answer).driver) (less (rows_from 0 old.chains))
     (λ s stands sound.
     let has = change_of old s stands going in
     let k = has.k in
@@ -186,18 +192,24 @@ poll_enters old pll answer window' flight' going own comes size words behind is 
     record {
       to = record s { change = (poll s (taken k) pll.0 answer).change; steps = s.steps + 1 };
       next_ = polls_one s old.flight.driver k pll answer (next_of old s (micro.Poll pll) has first);
-      stands = stands_stepped old window' flight' s s.regs (poll s (taken k) pll.0 answer).change stands (words ∙ stands.regs) (change s k pll has.is own first sure.paced);
+      stands = stands_stepped old window' flight' s s.regs (poll s (taken k) pll.0 answer).change stands (words ∙ stands.regs)
+          (ap (λ (f : FlightState). changes_rate f.call) is ∙ ap changes_rate (same_polled old.flight answer).call ∙ bare) (change s k pll has.is own first sure.paced);
     })
 
 -- ---- a fall
 
-pub fall_enters : (old : Parts) (pll : ClockId) (window' : Shown) (flight' : FlightState) → old.flight.going ≡ true → comes_next [] old.flight ≡ Some (micro.Fall pll)
+-- a fall leaves less over, whoever the notifiers are
+pub fall_less : (old : Parts) (pll : ClockId) (flight' : FlightState) → comes_next [] old.flight ≡ Some (micro.Fall pll) → LeavesLessAt is_fall old.flight flight'
+    → left_over (rows_from 0 old.chains) flight' < left_over (rows_from 0 old.chains) old.flight
+fall_less old pll flight' next less = less (rows_from 0 old.chains) (micro.Fall pll) (fall_told (rows_from 0 old.chains) old.flight pll next) refl
+
+pub fall_enters : (old : Parts) (pll : ClockId) (window' : Shown) (flight' : FlightState) → old.flight.going ≡ true → changes_rate old.flight.call ≡ false → comes_next [] old.flight ≡ Some (micro.Fall pll)
     → ComesFirst old (micro.Fall pll) → window'.size ≡ old.window.size → window'.words ≡ option_map (power_put old.desc.defs pll.0 false) old.window.words → window'.behind ≡ old.window.behind
     → flight' ≡ fallen old.flight → Drops old.flight flight' → LeavesLessAt is_fall old.flight flight'
     → Enters old old.flight.driver (event.Step (micro.Fall pll) None) turn.Going (with_step old window' flight')
-fall_enters old pll window' flight' going next comes size words behind is change less =
+fall_enters old pll window' flight' going bare next comes size words behind is change less =
     enters_step old window' flight' (micro.Fall pll) None (told_put old.desc.defs pll.0 false old.window.words window'.words words) size behind
-    (ap (λ (f : FlightState). f.going) is ∙ going) (ap (λ (f : FlightState). f.driver) is) (less [] (micro.Fall pll) next refl)
+    (ap (λ (f : FlightState). f.going) is ∙ going) (ap (λ (f : FlightState). f.driver) is) (fall_less old pll flight' next less)
     (λ s stands sound.
     let has = change_of old s stands going in
     let k = has.k in
@@ -208,7 +220,8 @@ fall_enters old pll window' flight' going next comes size words behind is change
       next_ = falls_one s old.flight.driver k pll (next_of old s (micro.Fall pll) has first);
       stands =
           stands_stepped old window' flight' s (powered s pll.0 false).regs (fall s (taken k) pll.0).change stands
-          (powered_words old.desc.defs pll.0 false old.window.words window'.words s stands.defs stands.regs words) (change s k pll has.is first sure.paced);
+          (powered_words old.desc.defs pll.0 false old.window.words window'.words s stands.defs stands.regs words)
+          (ap (λ (f : FlightState). changes_rate f.call) is ∙ bare) (change s k pll has.is first sure.paced);
     })
 
 -- ---- what the steps need

@@ -212,6 +212,7 @@ whole_attached old c window' tree' counts' held whole quiet now left tied keeps 
   clocks = whole.clocks;
   handled = λ n h at. now.rows h.clock.0 ∙ ap (λ (b : Bool). b || nat_eq c h.clock.0) (whole.handled n h at);
   notified = whole.notified;
+  listed = whole.listed;
   flown = λ going. never_flown old.flight quiet going;
   room = whole.room;
 }
@@ -286,6 +287,7 @@ registered_stands old c window' tree' counts' held s regs' now stands words = re
   prepare_holds = stands.prepare_holds;
   enable_holds = stands.enable_holds;
   change = stands.change;
+  along = stands.along;
   credits = stands.credits;
   spent = ap (λ (k : ℕ). k + 1) stands.spent;
   steps = stands.steps;
@@ -307,6 +309,7 @@ becomes_registered old c tree' counts' whole quiet now plain = record {
   remains = record { desc = refl; told = refl; size = refl; behind = refl; credits = refl; ignore_unused = refl };
   spent = refl;
   flight = refl;
+  left = refl;
   steps = refl;
   rows = now.rows;
   stands = λ s stands sound.

@@ -1,6 +1,7 @@
 -- What the parts of a core say of each clock and each handle.
-use Rattle.std.proofs.Common.{◌≡◌, ℕ, zero, suc, ◌+◌, ◌<◌, ◌≤◌, true, List, [], ◌∷◌, ◌++◌, Option, Some, None, ap, ◌⊎◌, inl, inr, arith, length, set}
+use Rattle.std.proofs.Common.{◌≡◌, ℕ, zero, suc, ◌+◌, ◌<◌, ◌≤◌, ◌||◌, true, false, List, [], ◌∷◌, ◌++◌, Option, Some, None, ap, ◌⊎◌, inl, inr, arith, length, set, nat_lt}
 use Rattle.std.proofs.lemmas.List.Sums.{sum_by-cons}
+use Rattle.std.proofs.lemmas.Bool.Decides.{nat_tests}
 use Rattle.std.specs.Prelude.{sum_by}
 use Rattle.clk_base.specs.Description.{Description}
 use Rattle.clk_base.specs.Valid.{IsValid}
@@ -9,7 +10,8 @@ use Rattle.clk_model.specs.declared.row.ClockRow.{ClockRow}
 use Rattle.clk_model.specs.declared.row.HandleRow.{HandleRow}
 use Rattle.clk_model.specs.Lists.{is_in, present, count_from}
 use Rattle.clk_model.specs.State.{registered, link_in, handle_at}
-use Rattle.clk_model.proofs.Members.{count_from-below}
+use Rattle.clk_model.specs.Begin.{holds_something}
+use Rattle.clk_model.proofs.Members.{count_from-below, not_either}
 use Rattle.clk_model.proofs.GateLaws.{GatesLie}
 use Rattle.clk_tree.specs.TreeState.{IsTree}
 use Rattle.clk_model.proofs.StateLaws.{registered_lt}
@@ -114,3 +116,17 @@ sum_by-append count (Some g ∷ handles) new =
     let one = sum_by-cons count g (present (handles ++ Some new ∷ [])) in
     let two = sum_by-cons count g (present handles) in
     omega arith
+
+-- a handle that holds nothing
+pub record HoldsNothing (row : HandleRow) : Type 0 where
+  pub prepares : row.prepares ≡ 0
+  pub enables : row.enables ≡ 0
+  pub exclusives : row.exclusives ≡ 0
+
+pub holds_nothing : (row : HandleRow) → holds_something row ≡ false → HoldsNothing row
+holds_nothing row free =
+    let one = not_either (nat_lt 0 row.prepares || nat_lt 0 row.enables) (nat_lt 0 row.exclusives) free in
+    let two = not_either (nat_lt 0 row.prepares) (nat_lt 0 row.enables) one.0 in
+    record { prepares = none row.prepares two.0; enables = none row.enables two.1; exclusives = none row.exclusives one.1 } where
+      none : (k : ℕ) → nat_lt 0 k ≡ false → k ≡ 0
+      none k e = grind (arith, nat_tests)

@@ -34,8 +34,9 @@ use Rattle.clk_flight.specs.LeftOver.{step_weight, front_weight, left_over}
 use Rattle.clk_flight.specs.Fronts.{called_off}
 use Rattle.clk_flight.specs.declared.start.Start.{Start}
 use Rattle.clk_machine.specs.Holding.{stays}
-use Rattle.clk_machine.specs.Parts.{Parts, bare, own_in, IsOwnCall, IsFlown, IsWhole}
-use Rattle.clk_machine.specs.InFlight.{may_go_on, is_script, is_front, IsUnderWay}
+use Rattle.clk_machine.specs.Course.{IsAlong}
+use Rattle.clk_machine.specs.Parts.{Parts, bare, own_in, IsOwnCall, IsFlown, IsWhole, rows_from}
+use Rattle.clk_machine.specs.InFlight.{may_go_on, changes_rate, is_script, is_front, IsUnderWay}
 use Rattle.clk_machine.specs.Plls.{is_loose}
 use Rattle.clk_machine.specs.Stands.{Stands, Enters}
 use Rattle.clk_machine.specs.Starting.{StartsCall}
@@ -142,10 +143,10 @@ starts_as s ns d what steps start stays_ driver is script range extra vetoed =
     }
 
 -- what is left to come of it
-pub raise_left : (plls_ : ℕ) (c : ClockId) → sum_by (step_weight [] plls_) (raise_script c) ≡ 34 * plls_ + 2
-raise_left p c =
-    let one = sum_by-cons (step_weight [] p) (micro.Raise c) (micro.End ∷ []) in
-    let two = sum_by-cons (step_weight [] p) micro.End [] in
+pub raise_left : (rows : List NotifierRow) (plls_ : ℕ) (c : ClockId) → sum_by (step_weight rows plls_) (raise_script c) ≡ 34 * plls_ + 2
+raise_left rows p c =
+    let one = sum_by-cons (step_weight rows p) (micro.Raise c) (micro.End ∷ []) in
+    let two = sum_by-cons (step_weight rows p) micro.End [] in
     omega arith
 
 -- a prepare that goes on takes the parts on
@@ -160,7 +161,7 @@ enters_prepare old new d h row whole quiet left own some room starts_ = record {
   going = starts_.going;
   driver_ = λ still. starts_.driver_;
   fewer = λ free. absurd cc;
-  begun = λ paid goes. let steps = starts_.left in let few = raise_left (plls old.desc.defs) row.clock in omega arith;
+  begun = λ paid goes. let steps = starts_.left in let few = raise_left (rows_from 0 old.chains) (plls old.desc.defs) row.clock in omega arith;
   no_more = λ paid done. absurd cc;
   step = λ s stands sound.
       let spends : s.spent < s.credits = let one = stands.spent in let two = stands.credits in omega arith in
@@ -202,21 +203,21 @@ begun_started old d what steps flight' start n is few driver same script extra v
 
 -- what is left to come of it
 pub started_left : (old : Parts) (d : ℕ) (what : Sleeping) (steps : List Micro) (flight' : FlightState) → Started old d what steps flight'
-    → left_over [] flight' ≡ sum_by (step_weight [] (plls old.desc.defs)) steps
+    → left_over (rows_from 0 old.chains) flight' ≡ sum_by (step_weight (rows_from 0 old.chains) (plls old.desc.defs)) steps
 started_left old d what steps flight' now = by flight'.going now.going where
-  parts : front_weight flight'.plls flight'.again flight'.front + sum_by (step_weight [] flight'.plls) flight'.left + flight'.extra + length flight'.raised
-      ≡ sum_by (step_weight [] (plls old.desc.defs)) steps
+  parts : front_weight flight'.plls flight'.again flight'.front + sum_by (step_weight (rows_from 0 old.chains) flight'.plls) flight'.left + flight'.extra + length flight'.raised
+      ≡ sum_by (step_weight (rows_from 0 old.chains) (plls old.desc.defs)) steps
   parts =
       let one = ap (λ (f : Front). front_weight flight'.plls flight'.again f) now.front in
-      let two : sum_by (step_weight [] flight'.plls) flight'.left ≡ sum_by (step_weight [] (plls old.desc.defs)) steps =
-      ap (λ (ms : List Micro). sum_by (step_weight [] flight'.plls) ms) now.left ∙ ap (λ (n : ℕ). sum_by (step_weight [] n) steps) now.plls_ in
+      let two : sum_by (step_weight (rows_from 0 old.chains) flight'.plls) flight'.left ≡ sum_by (step_weight (rows_from 0 old.chains) (plls old.desc.defs)) steps =
+      ap (λ (ms : List Micro). sum_by (step_weight (rows_from 0 old.chains) flight'.plls) ms) now.left ∙ ap (λ (n : ℕ). sum_by (step_weight (rows_from 0 old.chains) n) steps) now.plls_ in
       let three = now.extra in
       let four = ap (λ (ys : List ℕ). length ys) now.raised in
       omega arith
 
   by : (t : Bool) → t ≡ true
-      → (if t then front_weight flight'.plls flight'.again flight'.front + sum_by (step_weight [] flight'.plls) flight'.left + flight'.extra + length flight'.raised else 0)
-      ≡ sum_by (step_weight [] (plls old.desc.defs)) steps
+      → (if t then front_weight flight'.plls flight'.again flight'.front + sum_by (step_weight (rows_from 0 old.chains) flight'.plls) flight'.left + flight'.extra + length flight'.raised else 0)
+      ≡ sum_by (step_weight (rows_from 0 old.chains) (plls old.desc.defs)) steps
   by true e = parts
   by false e = absurd cc
 
@@ -229,7 +230,7 @@ started_way old d what steps flight' there now goes script = record {
   front = ap (is_front flight'.call there) now.front;
   raised = ap (λ (ys : List ℕ). list_all there ys) now.raised;
   extra = now.extra;
-  vetoed = now.vetoed;
+  vetoed = λ is. let no : true ≡ false = sym is ∙ now.vetoed in absurd cc;
 }
 
 -- parts with this flight
@@ -237,8 +238,8 @@ abbrev pub flying : Parts → FlightState → Parts
 flying p flight' = record p { flight = flight' }
 
 -- parts stay whole where the flight of a call begins, for whose steps there is room
-pub whole_flying : (p : Parts) (flight' : FlightState) → IsWhole p → IsFlown p.desc.defs p.tree.clocks p.table.handles p.spent flight'
-    → p.credits + p.steps + left_over [] flight' ≤ most_credits → IsWhole (flying p flight')
+pub whole_flying : (p : Parts) (flight' : FlightState) → IsWhole p → IsFlown p.desc.defs p.tree.clocks p.table.handles p.chains p.course.notified p.spent flight'
+    → p.credits + p.steps + left_over (rows_from 0 p.chains) flight' ≤ most_credits → IsWhole (flying p flight')
 whole_flying p flight' whole flown room = record {
   tied = whole.tied;
   paid = whole.paid;
@@ -246,13 +247,14 @@ whole_flying p flight' whole flown room = record {
   clocks = whole.clocks;
   handled = whole.handled;
   notified = whole.notified;
+  listed = whole.listed;
   flown = λ going. flown;
   room = room;
 }
 
 -- they stand for the state with this change
-pub stands_flying : (p : Parts) (flight' : FlightState) (s : State) (k : Change) → Stands p s → IsChange s.notifiers flight' k → Stands (flying p flight') (record s { change = Some k })
-stands_flying p flight' s k stands is = record {
+pub stands_flying : (p : Parts) (flight' : FlightState) (s : State) (k : Change) → Stands p s → IsChange s.notifiers flight' k → IsAlong p.course (Some k) → Stands (flying p flight') (record s { change = Some k })
+stands_flying p flight' s k stands is along = record {
   defs = stands.defs;
   regs = stands.regs;
   clocks = stands.clocks;
@@ -262,6 +264,7 @@ stands_flying p flight' s k stands is = record {
   prepare_holds = stands.prepare_holds;
   enable_holds = stands.enable_holds;
   change = is;
+  along = along;
   credits = stands.credits;
   spent = stands.spent;
   steps = stands.steps;
@@ -281,11 +284,12 @@ pub whole_started : (old : Parts) (d : ℕ) (h : Handle) (row : HandleRow) (flig
 whole_started old d h row flight' whole left live own room now =
     whole_flying (with_spent old) flight' (whole_spent old whole left) (record {
       plls_ = now.plls_;
+      tells = λ changes. let no : true ≡ false = sym changes ∙ ap changes_rate now.call_ in absurd cc;
       way = started_way old d (call.Prepare h) (raise_script row.clock) flight' (registered old.tree.clocks) now refl (ap (λ (b : Bool). b && true) (whole.handled h.number row live));
       own = subst (λ (what : Sleeping). IsOwnCall old.table.handles flight'.driver what) (sym now.call_)
           (ap (λ (e : ℕ). is_some (own_in old.table.handles e h.number)) now.driver ∙ ap (λ (o : Option HandleRow). is_some o) own);
       paid = let few = whole.paid.few_holds in omega arith;
-    }) (let steps = started_left old d (call.Prepare h) (raise_script row.clock) flight' now in let few = raise_left (plls old.desc.defs) row.clock in omega arith)
+    }) (let steps = started_left old d (call.Prepare h) (raise_script row.clock) flight' now in let few = raise_left (rows_from 0 old.chains) (plls old.desc.defs) row.clock in omega arith)
 
 -- the parts stand for the state with a credit spent
 pub stands_spent : (old : Parts) (s : State) → Stands old s → Stands (with_spent old) (record s { spent = s.spent + 1 })
@@ -299,6 +303,7 @@ stands_spent old s stands = record {
   prepare_holds = stands.prepare_holds;
   enable_holds = stands.enable_holds;
   change = stands.change;
+  along = stands.along;
   credits = stands.credits;
   spent = ap (λ (n : ℕ). n + 1) stands.spent;
   steps = stands.steps;
@@ -316,7 +321,7 @@ starts_call old d h row flight' now change = record {
   going = now.going;
   driver_ = now.driver;
   left = started_left old d (call.Prepare h) (raise_script row.clock) flight' now;
-  stands = λ s stands. stands_flying (with_spent old) flight' (record s { spent = s.spent + 1 }) (change_of s d (call.Prepare h) (raise_script row.clock)) (stands_spent old s stands) (change s);
+  stands = λ s stands. stands_flying (with_spent old) flight' (record s { spent = s.spent + 1 }) (change_of s d (call.Prepare h) (raise_script row.clock)) (stands_spent old s stands) (change s) (λ changes. absurd cc);
 }
 
 -- there is no room in the state where there is none in the parts

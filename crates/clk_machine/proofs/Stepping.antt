@@ -1,6 +1,6 @@
 -- What the steps of raises, polls, falls, lowers and the end come to.
 use Rattle.std.proofs.Common.{◌≡◌, ℕ, ◌+◌, ◌-◌, ◌&&◌, Bool, ◌||◌, not, true, false, List, [], ◌∷◌, Option, Some, None, refl, sym, ap, ◌∙◌, nat_eq, reverse}
-use Rattle.std.specs.Prelude.{slice_get, nat_le, option_and_then, if◌then◌else◌}
+use Rattle.std.specs.Prelude.{is_some, slice_get, nat_le, option_and_then, if◌then◌else◌}
 use Rattle.std.specs.Option.{option_map_or}
 use Rattle.clk_base.specs.declared.call.Micro.{Micro}
 use Rattle.clk_base.specs.declared.call.Micro.TheVariants as micro
@@ -11,16 +11,18 @@ use Rattle.clk_base.specs.declared.event.Turn.TheVariants as turn
 use Rattle.clk_base.specs.declared.call.Sleeping.{Sleeping}
 use Rattle.clk_base.specs.declared.call.Sleeping.TheVariants as call
 use Rattle.clk_base.specs.declared.event.Errno.TheVariants as errno
+use Rattle.clk_base.specs.declared.event.Reply.{Reply}
 use Rattle.clk_base.specs.declared.event.Reply.TheVariants as reply
 use Rattle.clk_base.specs.declared.handle.Handle.{Handle}
 use Rattle.clk_model.specs.declared.row.HandleRow.{HandleRow}
 use Rattle.clk_model.specs.State.{State, Change, handle_at}
 use Rattle.clk_model.specs.Holders.{active}
 use Rattle.clk_model.specs.Begin.{prepared_once_more}
-use Rattle.clk_machine.specs.InFlight.{may_raise, may_go_on}
+use Rattle.clk_machine.specs.InFlight.{may_lower, is_ranged, may_go_on}
 use Rattle.clk_model.specs.Chain.{clock_id}
 use Rattle.clk_model.specs.Gates.{settled}
-use Rattle.clk_model.specs.Step.{todo, taken, on, timed_out, to_raise, raise_one, poll, fall, to_lower, lower_one, unranged, range_back, ended_well, end_of, stepped}
+use Rattle.clk_model.specs.Laws.Paced.{is_notice}
+use Rattle.clk_model.specs.Step.{todo, taken, on, visit, timed_out, to_raise, raise_one, poll, fall, to_lower, lower_one, unranged, range_back, ended_well, end_of, stepped}
 use Rattle.clk_model.specs.Machine.{same_list, micro_code, comes_next, may_step, counted, next}
 use Rattle.clk_model.proofs.Members.{test_same}
 use Rattle.clk_model.proofs.StateLaws.{settled-still}
@@ -125,6 +127,24 @@ falls_one s d k y is =
     takes s k d (micro.Fall y) None is.change (three _ _ (mine s d k (micro.Fall y) is) (first_comes (micro.Fall y) (todo k) is.first))
     ∙ ap (λ (x : State × Turn). Some x) (counted_still s (fall s (taken k) y.0) turn.Going (settled-still s (fall s (taken k) y.0) (λ c. refl)))
 
+-- ---- notices and visits
+
+-- a notice changes nothing but the change
+pub tells_one : (s : State) (d : ℕ) (k : Change) (m : Micro) → is_notice m ≡ true → IsNext s d k m
+    → next s d (event.Step m None) ≡ Some (record s { change = Some (taken k); steps = s.steps + 1 }, turn.Going)
+unfolding stepped
+tells_one s d k (micro.Notify kind c id old new) notice is =
+    takes s k d (micro.Notify kind c id old new) None is.change (three _ _ (mine s d k (micro.Notify kind c id old new) is) (first_comes (micro.Notify kind c id old new) (todo k) is.first))
+    ∙ ap (λ (x : State × Turn). Some x) (counted_still s (on s (taken k)) turn.Going (settled-still s (on s (taken k)) (λ c. refl)))
+tells_one s d k _ notice is = absurd cc
+
+pub visits_one : (s : State) (d : ℕ) (k : Change) (c : ClockId) → IsNext s d k (micro.Visit c)
+    → next s d (event.Step (micro.Visit c) None) ≡ Some (record (visit s (taken k) c.0) { steps = s.steps + 1 }, turn.Going)
+unfolding stepped
+visits_one s d k c is =
+    takes s k d (micro.Visit c) None is.change (three _ _ (mine s d k (micro.Visit c) is) (first_comes (micro.Visit c) (todo k) is.first))
+    ∙ ap (λ (x : State × Turn). Some x) (counted_still s (visit s (taken k) c.0) turn.Going (settled-still s (visit s (taken k) c.0) (λ c. refl)))
+
 -- ---- the end
 
 pub ends : (s : State) (d : ℕ) (k : Change) → IsNext s d k micro.End
@@ -132,35 +152,42 @@ pub ends : (s : State) (d : ℕ) (k : Change) → IsNext s d k micro.End
 unfolding stepped
 ends s d k is = takes s k d micro.End None is.change (three _ _ (mine s d k micro.End is) (first_comes micro.End (todo k) is.first))
 
--- what the end leaves, by whether it was vetoed and has timed out, and what else a call leaves
-abbrev left_by : State → Change → Bool → Bool → State → State × Turn
-left_by s k vetoed late well = (
-  record (if vetoed || late then unranged s k else well) { change = None },
-  turn.Done (if vetoed then reply.Refused errno.EBUSY else if late then reply.Refused errno.ETIMEDOUT else reply.Fine),
-)
+-- the reply at the end
+abbrev pub reply_of : Bool → Bool → Reply
+reply_of vetoed late = if vetoed then reply.Refused errno.EBUSY else if late then reply.Refused errno.ETIMEDOUT else reply.Fine
 
--- a prepare that ends well adds a prepare
-pub end_prepared : (s : State) (k : Change) (h : Handle) (row : HandleRow) → k.vetoed ≡ false → k.timed_out ≡ false → k.call ≡ call.Prepare h → handle_at s.handles h.number ≡ Some row
-    → end_of s k ≡ (record (prepared_once_more s h.number row) { change = None }, turn.Done reply.Fine)
-end_prepared s k h row vetoed late at live =
-    ap (λ (v : Bool). left_by s k v k.timed_out (ended_well s k.driver k.call)) vetoed
-    ∙ ap (λ (t : Bool). left_by s k false t (ended_well s k.driver k.call)) late
-    ∙ ap (λ (what : Sleeping). left_by s k false false (ended_well s k.driver what)) at
-    ∙ ap (λ (o : Option HandleRow). left_by s k false false (option_map_or (prepared_once_more s h.number) o s)) live
+-- what the end leaves, by whether the call is called off
+abbrev left_by : State → Change → Bool → State × Turn
+left_by s k off = (record (if off then unranged s k else ended_well s k.driver k.call) { change = None }, turn.Done (reply_of k.vetoed k.timed_out))
 
--- another end leaves the state as it is
-pub end_bare : (s : State) (k : Change) → k.vetoed ≡ false → may_go_on k.call ≡ true → (k.timed_out || not (may_raise k.call)) ≡ true
-    → end_of s k ≡ (record s { change = None }, turn.Done (if k.timed_out then reply.Refused errno.ETIMEDOUT else reply.Fine))
-end_bare s k vetoed goes bare =
-    ap (λ (v : Bool). left_by s k v k.timed_out (ended_well s k.driver k.call)) vetoed
-    ∙ ap (λ (t : State). let x : State × Turn = (t, turn.Done (if k.timed_out then reply.Refused errno.ETIMEDOUT else reply.Fine)) in x) (same k.call k.timed_out goes bare) where
-      same : (what : Sleeping) (t : Bool) → may_go_on what ≡ true → (t || not (may_raise what)) ≡ true
-          → record (if t then record s { handles = range_back what k.range s.handles } else ended_well s k.driver what) { change = None } ≡ record s { change = None }
-      same (call.Prepare h) true e f = refl
-      same (call.Prepare h) false e f = absurd cc
-      same (call.Unprepare h) true e f = refl
-      same (call.Unprepare h) false e f = refl
-      same _ t e f = absurd cc
+-- a call that is called off, and one that isn't
+pub end_off : (s : State) (k : Change) → (k.vetoed || k.timed_out) ≡ true → end_of s k ≡ (record (unranged s k) { change = None }, turn.Done (reply_of k.vetoed k.timed_out))
+end_off s k off = ap (left_by s k) off
+
+pub end_well : (s : State) (k : Change) → (k.vetoed || k.timed_out) ≡ false → end_of s k ≡ (record (ended_well s k.driver k.call) { change = None }, turn.Done (reply_of k.vetoed k.timed_out))
+end_well s k off = ap (left_by s k) off
+
+-- the state with another one's effect
+abbrev pub left_as : State → Change → State → State × Turn
+left_as s k y = (record y { change = None }, turn.Done (reply_of k.vetoed k.timed_out))
+
+-- an end that leaves the state as it is
+pub end_bare : (s : State) (k : Change) → may_go_on k.call ≡ true
+    → (if k.vetoed || k.timed_out then not (is_ranged k.call && is_some k.range) else may_lower k.call) ≡ true → end_of s k ≡ (record s { change = None }, turn.Done (reply_of k.vetoed k.timed_out))
+end_bare s k goes bare = by (k.vetoed || k.timed_out) refl bare where
+  ranged : (what : Sleeping) (o : Option (ℕ × ℕ)) → not (is_ranged what && is_some o) ≡ true → record s { handles = range_back what o s.handles } ≡ s
+  ranged (call.SetRange h least most) None e = refl
+  ranged (call.SetRange h least most) (Some range) e = absurd cc
+  ranged _ o e = refl
+
+  lowered : (what : Sleeping) → may_lower what ≡ true → ended_well s k.driver what ≡ s
+  lowered (call.Unprepare h) e = refl
+  lowered _ e = absurd cc
+
+  by : (t : Bool) → (k.vetoed || k.timed_out) ≡ t → (if t then not (is_ranged k.call && is_some k.range) else may_lower k.call) ≡ true
+      → end_of s k ≡ (record s { change = None }, turn.Done (reply_of k.vetoed k.timed_out))
+  by true off e = end_off s k off ∙ ap (left_as s k) (ranged k.call k.range e)
+  by false off e = end_well s k off ∙ ap (left_as s k) (lowered k.call e)
 
 -- the end of a call, where no gate moves
 pub ends_still : (s : State) (d : ℕ) (k : Change) (y : State) (t : Turn) → IsNext s d k micro.End → end_of s (taken k) ≡ (y, t) → ((c : ℕ) → active s c ≡ active y c)

@@ -7,7 +7,7 @@ use Rattle.reg_bank.specs.Registers.{Registers, AreWords, bits_of, with_bits, fi
 use Rattle.clk_machine.specs.Window.{AreTold}
 use Rattle.std.proofs.lemmas.List.Elements.{All-take}
 
-take_set : (n : ℕ) (words : List ℕ) (i value : ℕ) → take n (set words i value) ≡ set (take n words) i value
+pub take_set : (n : ℕ) (words : List ℕ) (i value : ℕ) → take n (set words i value) ≡ set (take n words) i value
 take_set zero words i value = refl
 take_set (suc n) [] i value = refl
 take_set (suc n) (w ∷ words) zero value = refl
@@ -60,3 +60,20 @@ pub told_field : (n : ℕ) (told : Option (List ℕ)) (word shift width answer :
     → IfSome (option_map (take n) told) (λ words. answer ≡ field words word shift width)
 told_field n None word shift width answer within h = tt
 told_field n (Some words) word shift width answer within h = h ∙ sym (field-take n words word shift width within)
+
+-- so with a field
+pub field_told_put : (n : ℕ) (told new : Option (List ℕ)) (word shift width value : ℕ) → word < n → new ≡ option_map (λ words. put words word shift width value) told
+    → option_map (take n) new ≡ option_map (λ words. put words word shift width value) (option_map (take n) told)
+unfolding put
+field_told_put n None new word shift width value within h = ap (option_map (take n)) h
+field_told_put n (Some words) new word shift width value within h =
+    ap (option_map (take n)) h
+    ∙ ap (λ (ws : List ℕ). Some ws)
+    (sym (ap (λ (old : ℕ). set (take n words) word (with_bits old shift width value)) (get_or-take n words word 0 within) ∙ sym (take_set n words word _)))
+
+pub field_behind_put : (n : ℕ) (told new : Option (List ℕ)) (word shift width value : ℕ) → word < n → new ≡ option_map (λ words. put words word shift width value) told
+    → option_map (drop n) new ≡ option_map (drop n) told
+unfolding put
+field_behind_put n None new word shift width value within h = ap (option_map (drop n)) h
+field_behind_put n (Some words) new word shift width value within h =
+    ap (option_map (drop n)) h ∙ ap (λ (ws : List ℕ). Some ws) (drop-set-lt n words word _ within)

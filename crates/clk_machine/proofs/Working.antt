@@ -1,5 +1,5 @@
 -- What comes next of the change in flight, and what a search for PLLs comes to.
-use Rattle.std.proofs.Common.{◌≡◌, ℕ, true, false, List, [], Option, Some, None, refl, sym, ap, subst, ◌∙◌, reverse}
+use Rattle.std.proofs.Common.{◌≡◌, ℕ, ◌+◌, ◌≤◌, true, false, length, arith, List, [], Option, Some, None, refl, sym, ap, subst, ◌∙◌, reverse}
 use Rattle.std.specs.Prelude.{slice_get, IfSome}
 use Rattle.std.specs.Option.{option_map}
 use Rattle.clk_base.specs.declared.call.Micro.{Micro}
@@ -9,7 +9,11 @@ use Rattle.clk_model.specs.State.{Change, NotifierRow, registered}
 use Rattle.clk_model.specs.Tree.{path}
 use Rattle.clk_model.specs.Step.{todo}
 use Rattle.clk_model.specs.Laws.Paced.{is_notice}
-use Rattle.clk_flight.specs.Fronts.{is_posts}
+use Rattle.clk_model.specs.Notices.{notifiers_of}
+use Rattle.clk_flight.specs.declared.front.Front.{Front}
+use Rattle.clk_flight.specs.declared.front.Front.TheVariants.{Empty, Poll, Raise, Lower, Falls, Posts}
+use Rattle.clk_machine.specs.InFlight.{changes_rate, is_front}
+use Rattle.clk_machine.specs.Course.{notifiers_at, PostsFit}
 use Rattle.clk_flight.specs.Flights.{IsChange, own_step, comes_next}
 use Rattle.clk_flight.specs.Steps.{is_fall}
 use Rattle.notifiers.specs.Chains.{Tells}
@@ -19,33 +23,57 @@ use Rattle.clk_machine.specs.declared.work.Work.TheVariants as work
 use Rattle.clk_machine.specs.Making.{ComesFirst, ComesNext, FindsNothing, work_of}
 use Rattle.clk_machine.specs.Parts.{Parts, IsWhole}
 use Rattle.clk_machine.specs.Plls.{raisable, lowerable, Finds}
-use Rattle.clk_machine.proofs.InFlight.{raise_there, lower_there, no_posts, end_comes, work_raises, work_polls, work_falls, work_lowers}
+use Rattle.clk_machine.proofs.Coming.{end_comes, work_raises, work_polls, work_falls, work_lowers, work_tells, work_visits}
+use Rattle.clk_machine.proofs.InFlight.{raise_there, lower_there, fall_untold}
+use Rattle.clk_machine.proofs.Telling.{count_told, tells_next}
 use Rattle.clk_machine.proofs.Making.{to_raise_stands, to_lower_stands}
 use Rattle.clk_machine.proofs.Stepping.{raises_none, lowers_none}
 
 -- ---- what comes next
 
+-- what stands in front of a change of rate fits the notifiers
+posts_fit : (p : Parts) (rows : List NotifierRow) → IsWhole p → p.flight.going ≡ true → Tells p.chains rows → PostsFit (λ c. length (notifiers_of rows c)) p.flight.front
+posts_fit p rows whole going tells = by p.flight.front refl where
+  by : (front : Front) → p.flight.front ≡ front → PostsFit (λ c. length (notifiers_of rows c)) front
+  by (Posts c told left old new) at =
+      let way = (whole.flown going).way in
+      let changes : changes_rate p.flight.call ≡ true = sym (ap (is_front p.flight.call (registered p.tree.clocks)) at) ∙ way.front in
+      let fits : told + left ≤ notifiers_at p.chains c.0 = subst (λ (front : Front). PostsFit (notifiers_at p.chains) front) at ((whole.flown going).tells changes).front in
+      let same : length (notifiers_of rows c.0) ≡ notifiers_at p.chains c.0 = count_told p.chains rows c.0 tells in
+      omega arith
+  by Empty at = tt
+  by (Poll y polls again) at = tt
+  by (Raise x) at = tt
+  by (Lower x) at = tt
+  by (Falls told left) at = tt
+
 pub works : (p : Parts) (r : Option Micro) (w : Work) → IsWhole p → p.flight.going ≡ true → w ≡ work_of r
-    → (is_posts p.flight.front ≡ false → (rows : List NotifierRow) → r ≡ comes_next rows p.flight)
+    → ((rows : List NotifierRow) → Tells p.chains rows → r ≡ comes_next rows p.flight)
     → ((m : Micro) → r ≡ Some m → is_notice m ≡ false → is_fall m ≡ false → own_step p.flight ≡ Some m)
     → ((rows : List NotifierRow) (k : Change) → Tells p.chains rows → IsChange rows p.flight k → r ≡ slice_get (todo k) 0)
     → ComesNext p w
-works p r (work.Raise x) whole going is untold own first =
+works p r (work.Raise x) whole going is step own first =
     let at = work_raises r x (sym is) in
     (own (micro.Raise x) at refl refl, λ rows k tells change. sym (first rows k tells change) ∙ at)
-works p r (work.Poll y) whole going is untold own first =
+works p r (work.Poll y) whole going is step own first =
     let at = work_polls r y (sym is) in
     (own (micro.Poll y) at refl refl, λ rows k tells change. sym (first rows k tells change) ∙ at)
-works p r (work.Fall y) whole going is untold own first =
+works p r (work.Fall y) whole going is step own first =
     let at = work_falls r y (sym is) in
-    (sym (untold (no_posts p.flight (registered p.tree.clocks) (whole.flown going).way) []) ∙ at, λ rows k tells change. sym (first rows k tells change) ∙ at)
-works p r (work.Lower x) whole going is untold own first =
+    (fall_untold whole.listed.rows p.flight y (sym (step whole.listed.rows whole.listed.tells) ∙ at), λ rows k tells change. sym (first rows k tells change) ∙ at)
+works p r (work.Lower x) whole going is step own first =
     let at = work_lowers r x (sym is) in
     (own (micro.Lower x) at refl refl, λ rows k tells change. sym (first rows k tells change) ∙ at)
-works p r work.End whole going is untold own first = λ rows k tells change.
+works p r (work.Tell m) whole going is step own first =
+    let at = work_tells r m (sym is) in
+    (at.1, tells_next p m whole going (sym (step whole.listed.rows whole.listed.tells) ∙ at.0) at.1, λ rows k tells change. sym (first rows k tells change) ∙ at.0)
+works p r (work.Visit c) whole going is step own first =
+    let at = work_visits r c (sym is) in
+    (own (micro.Visit c) at refl refl, λ rows k tells change. sym (first rows k tells change) ∙ at)
+works p r work.End whole going is step own first = λ rows k tells change.
     let way = (whole.flown going).way in
-    let same = untold (no_posts p.flight (registered p.tree.clocks) way) rows in
-    sym (first rows k tells change) ∙ same ∙ end_comes rows p.flight (registered p.tree.clocks) going change.steps way (ap work_of (sym same) ∙ sym is)
+    let same = step rows tells in
+    sym (first rows k tells change) ∙ same ∙ end_comes rows p.flight (registered p.tree.clocks) going change.steps (posts_fit p rows whole going tells) way (ap work_of (sym same) ∙ sym is)
 
 -- ---- a search
 

@@ -11,8 +11,6 @@ use Rattle.clk_model.specs.State.{State, registered, handle_at}
 use Rattle.clk_model.specs.Holders.{is_enabled, active}
 use Rattle.clk_model.specs.Begin.{put_handle, holds_something}
 use Rattle.clk_model.proofs.StateLaws.{settled-still, active-put_same, active-put_none, active-append}
-use Rattle.clk_model.proofs.Members.{not_either}
-use Rattle.std.proofs.lemmas.Bool.Decides.{nat_tests}
 use Rattle.counts_core.specs.Counted.{CountState, AreCounts}
 use Rattle.counts_core.specs.Standing.{StandsFor}
 use Rattle.rate_requests.specs.Handles.{HandleTable, new_row, with_counts_at}
@@ -21,7 +19,7 @@ use Rattle.clk_machine.specs.Parts.{Parts, bare, held_in_all, AreTied, ArePaid, 
 use Rattle.clk_machine.specs.Stands.{Stands, Becomes, nothing}
 use Rattle.clk_machine.specs.Holding.{puts, gives, stays}
 use Rattle.clk_machine.proofs.Flying.{never_flown, flown_written, flown_spent}
-use Rattle.clk_machine.proofs.Shapes.{handle_at-put, handle_at-append, sum_by-set, sum_by-gone, sum_by-append}
+use Rattle.clk_machine.proofs.Shapes.{holds_nothing, handle_at-put, handle_at-append, sum_by-set, sum_by-gone, sum_by-append}
 use Rattle.clk_machine.proofs.Moving.{clock_within}
 use Rattle.clk_machine.proofs.Holdings.{Moves, moves_one, moves_none, StandsFor-same, StandsFor-put, StandsFor-gone, StandsFor-given}
 use Rattle.std.proofs.Math.Bool.{or-false}
@@ -89,8 +87,9 @@ whole_written old n row new window' table' counts' whole written left tied = rec
     | inr was ↦ whole.handled k h was
   ];
   notified = whole.notified;
+  listed = whole.listed;
   flown = λ going.
-      flown_written old.desc.defs old.tree.clocks old.table.handles table'.handles old.spent n row new old.flight (whole.flown going) written.live written.driver written.more written.handles;
+      flown_written old.desc.defs old.tree.clocks old.table.handles table'.handles old.chains old.course.notified old.spent n row new old.flight (whole.flown going) written.live written.driver written.more written.handles;
   room = whole.room;
 }
 
@@ -108,6 +107,7 @@ stands_written old n row new window' table' counts' s regs' written stands words
   prepare_holds = stands.prepare_holds;
   enable_holds = stands.enable_holds;
   change = stands.change;
+  along = stands.along;
   credits = stands.credits;
   spent = ap (λ (k : ℕ). k + 1) stands.spent;
   steps = stands.steps;
@@ -125,6 +125,7 @@ becomes_written old n row new table' counts' written same = record {
   remains = record { desc = refl; told = refl; size = refl; behind = refl; credits = refl; ignore_unused = refl };
   spent = refl;
   flight = refl;
+  left = refl;
   steps = refl;
   rows = λ c. sym (or-false (registered old.tree.clocks c));
   stands = λ s stands sound.
@@ -154,7 +155,8 @@ whole_spent old whole left = record {
   clocks = whole.clocks;
   handled = whole.handled;
   notified = whole.notified;
-  flown = λ going. flown_spent old.desc.defs old.tree.clocks old.table.handles old.spent old.flight (whole.flown going);
+  listed = whole.listed;
+  flown = λ going. flown_spent old.desc.defs old.tree.clocks old.table.handles old.chains old.course.notified old.spent old.flight (whole.flown going);
   room = whole.room;
 }
 
@@ -163,6 +165,7 @@ becomes_spent old = record {
   remains = record { desc = refl; told = refl; size = refl; behind = refl; credits = refl; ignore_unused = refl };
   spent = refl;
   flight = refl;
+  left = refl;
   steps = refl;
   rows = λ c. sym (or-false (registered old.tree.clocks c));
   stands = λ s stands sound.
@@ -176,6 +179,7 @@ becomes_spent old = record {
         prepare_holds = stands.prepare_holds;
         enable_holds = stands.enable_holds;
         change = stands.change;
+        along = stands.along;
         credits = stands.credits;
         spent = ap (λ (k : ℕ). k + 1) stands.spent;
         steps = stands.steps;
@@ -209,6 +213,7 @@ whole_listed old table' handles whole left clocks is few holds stands quiet hand
   clocks = clocks ∙ whole.clocks;
   handled = λ k h at. handled k h (sym (ap (λ (hs : List (Option HandleRow)). handle_at hs k) is) ∙ at);
   notified = whole.notified;
+  listed = whole.listed;
   flown = λ going. never_flown old.flight quiet going;
   room = whole.room;
 }
@@ -222,6 +227,7 @@ becomes_listed old table' does each beside = record {
   remains = record { desc = refl; told = refl; size = refl; behind = refl; credits = refl; ignore_unused = refl };
   spent = refl;
   flight = refl;
+  left = refl;
   steps = refl;
   rows = λ c. sym (or-false (registered old.tree.clocks c));
   stands = λ s stands sound.
@@ -236,26 +242,13 @@ becomes_listed old table' does each beside = record {
         prepare_holds = stands.prepare_holds;
         enable_holds = stands.enable_holds;
         change = stands.change;
+        along = stands.along;
         credits = stands.credits;
         spent = ap (λ (k : ℕ). k + 1) stands.spent;
         steps = stands.steps;
         ignore_unused = stands.ignore_unused;
       });
 }
-
--- a handle that holds nothing
-pub record HoldsNothing (row : HandleRow) : Type 0 where
-  pub prepares : row.prepares ≡ 0
-  pub enables : row.enables ≡ 0
-  pub exclusives : row.exclusives ≡ 0
-
-pub holds_nothing : (row : HandleRow) → holds_something row ≡ false → HoldsNothing row
-holds_nothing row free =
-    let one = not_either (nat_lt 0 row.prepares || nat_lt 0 row.enables) (nat_lt 0 row.exclusives) free in
-    let two = not_either (nat_lt 0 row.prepares) (nat_lt 0 row.enables) one.0 in
-    record { prepares = none row.prepares two.0; enables = none row.enables two.1; exclusives = none row.exclusives one.1 } where
-      none : (k : ℕ) → nat_lt 0 k ≡ false → k ≡ 0
-      none k e = grind (arith, nat_tests)
 
 -- a handle that holds nothing is taken away
 pub whole_removed : (old : Parts) (n : ℕ) (row : HandleRow) (table' : HandleTable) → IsWhole old → old.flight.going ≡ false → old.spent < old.credits → handle_at old.table.handles n ≡ Some row → holds_something row ≡ false

@@ -1,11 +1,12 @@
 -- What a core keeps of the change in flight.
-use Rattle.std.specs.Prelude.{◌≡◌, ℕ, ◌&&◌, ◌||◌, ◌==◌, List, [], ◌∷◌, Bool, true, false, not, is_none, slice_get}
+use Rattle.std.specs.Prelude.{◌≡◌, ℕ, ◌&&◌, ◌||◌, ◌==◌, List, [], ◌∷◌, Bool, true, false, not, Option, Some, None, is_some, is_none, slice_get, if◌then◌else◌}
 use Rattle.std.specs.List.{list_all}
 use Rattle.std.specs.Option.{option_map_or}
 use Rattle.clk_base.specs.declared.call.Micro.{Micro}
 use Rattle.clk_base.specs.declared.call.Micro.TheVariants as micro
 use Rattle.clk_base.specs.declared.call.Sleeping.{Sleeping}
 use Rattle.clk_base.specs.declared.call.Sleeping.TheVariants as call
+use Rattle.clk_base.specs.declared.handle.Handle.{Handle}
 use Rattle.clk_model.specs.Step.{is_end}
 use Rattle.clk_flight.specs.declared.front.Front.{Front}
 use Rattle.clk_flight.specs.declared.front.Front.TheVariants.{Empty, Poll, Raise, Lower, Falls, Posts}
@@ -16,41 +17,75 @@ abbrev pub may_raise : Sleeping → Bool
 may_raise (call.Prepare h) = true
 may_raise _ = false
 
--- whether a call may go on: a prepare or an unprepare so far
+-- whether a call may lower PLLs: an unprepare alone so far
+abbrev pub may_lower : Sleeping → Bool
+may_lower (call.Unprepare h) = true
+may_lower _ = false
+
+-- whether a call sets a range
+abbrev pub is_ranged : Sleeping → Bool
+is_ranged (call.SetRange h least most) = true
+is_ranged _ = false
+
+-- whether a call changes a rate
+abbrev pub changes_rate : Sleeping → Bool
+changes_rate (call.SetRate h x) = true
+changes_rate (call.SetRateExclusive h x) = true
+changes_rate (call.SetRange h least most) = true
+changes_rate _ = false
+
+-- whether a call may go on: a prepare, an unprepare or a change of rate so far
 abbrev pub may_go_on : Sleeping → Bool
-may_go_on (call.Prepare h) = true
-may_go_on (call.Unprepare h) = true
-may_go_on _ = false
+may_go_on what = may_raise what || may_lower what || changes_rate what
 
 -- whether a step raises or lowers the PLLs of a clock that passes a test, as its call may
 abbrev pub may_seek : Sleeping → (ℕ → Bool) → Micro → Bool
 may_seek what there (micro.Raise x) = may_raise what && there x.0
-may_seek what there (micro.Lower x) = there x.0
+may_seek what there (micro.Lower x) = may_lower what && there x.0
 may_seek what there _ = false
+
+-- whether a step is one of those, or tells a notifier or visits a clock that passes the test, as its call may
+abbrev pub may_make : Sleeping → (ℕ → Bool) → Micro → Bool
+may_make what there (micro.Notify kind c id old new) = changes_rate what
+may_make what there (micro.Visit c) = changes_rate what && there c.0
+may_make what there m = may_seek what there m
 
 -- whether these are such steps, and then the end
 abbrev pub is_script : Sleeping → (ℕ → Bool) → List Micro → Bool
 is_script what there [] = false
-is_script what there (m ∷ ms) = (is_end m && is_none (slice_get ms 0)) || (may_seek what there m && is_script what there ms)
+is_script what there (m ∷ ms) = (is_end m && is_none (slice_get ms 0)) || (may_make what there m && is_script what there ms)
 
--- whether such steps, polls and falls alone stand in front
+-- whether such steps, polls, falls and notices that a rate has changed alone stand in front
 abbrev pub is_front : Sleeping → (ℕ → Bool) → Front → Bool
 is_front what there Empty = true
 is_front what there (Poll y polls again) = may_raise what && there y.0 && option_map_or (λ x. there x.0) again true
 is_front what there (Raise x) = may_raise what && there x.0
-is_front what there (Lower x) = there x.0
-is_front what there (Falls told left) = left == 0
-is_front what there (Posts c told left old new) = false
+is_front what there (Lower x) = may_lower what && there x.0
+is_front what there (Falls told left) = may_raise what && (left == 0)
+is_front what there (Posts c told left old new) = changes_rate what
 
--- what is left to do of a call over clocks that pass a test: raises, lowers, polls and falls of such clocks, and the end
+-- what is left to do of a call over clocks that pass a test: raises, lowers, polls, falls and visits of such clocks, notices, and the end
 pub record IsUnderWay (there : ℕ → Bool) (f : FlightState) : Type 0 where
   pub call_ : may_go_on f.call ≡ true
   pub script : is_script f.call there f.left ≡ true
   pub front : is_front f.call there f.front ≡ true
   pub raised : list_all there f.raised ≡ true
   pub extra : f.extra ≡ 0
-  pub vetoed : f.vetoed ≡ false
+  -- only a change of rate can be vetoed
+  pub vetoed : f.vetoed ≡ true → changes_rate f.call ≡ true
 
--- whether the end of the call changes nothing but that none is in flight: a prepare that ends well adds a prepare
+-- whether a call that ends is called off: it was vetoed or has timed out
+abbrev pub is_called_off : FlightState → Bool
+is_called_off f = f.vetoed || f.timed_out
+
+-- whether the end of the call changes nothing but that none is in flight: it is called off, and has no range to put back, or is an unprepare
 abbrev pub ends_bare : FlightState → Bool
-ends_bare f = f.timed_out || not (may_raise f.call)
+ends_bare f = if is_called_off f then not (is_ranged f.call && is_some f.range) else may_lower f.call
+
+-- the handle that the end of a call may write
+abbrev pub handle_to_end : Sleeping → Option Handle
+handle_to_end (call.Prepare h) = Some h
+handle_to_end (call.SetRate h x) = Some h
+handle_to_end (call.SetRateExclusive h x) = Some h
+handle_to_end (call.SetRange h least most) = Some h
+handle_to_end _ = None

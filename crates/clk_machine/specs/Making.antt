@@ -7,12 +7,13 @@ use Rattle.clk_base.specs.declared.event.Turn.TheVariants as turn
 use Rattle.clk_model.specs.State.{State, Change, NotifierRow, registered}
 use Rattle.clk_model.specs.Step.{todo, taken}
 use Rattle.clk_model.specs.Machine.{next}
+use Rattle.clk_model.specs.Laws.Paced.{is_notice}
 use Rattle.clk_flight.specs.Flights.{IsChange, own_step, comes_next}
 use Rattle.notifiers.specs.Chains.{Tells}
 use Rattle.clk_machine.specs.declared.work.Work.{Work}
 use Rattle.clk_machine.specs.declared.work.Work.TheVariants as work
 use Rattle.clk_machine.specs.InFlight.{may_seek}
-use Rattle.clk_machine.specs.Parts.{Parts}
+use Rattle.clk_machine.specs.Parts.{Parts, rows_from}
 use Rattle.clk_machine.specs.Stands.{Stands}
 
 -- the step is the first that the change has left to do
@@ -26,12 +27,20 @@ pub record FindsNothing (m : Parts) (step : Micro) : Type 0 where
   pub taken_ : (s : State) (k : Change) → Stands m s → s.change ≡ Some k → IsChange s.notifiers m.flight k
       → next s m.flight.driver (event.Step step None) ≡ Some (record s { change = Some (record (taken k) { again = 0 }); steps = s.steps + 1 }, turn.Going)
 
--- the work that a step is: one of these four, or the end
+-- a notice comes next, whoever its notifier is
+pub record TellsNext (m : Parts) : Type 0 where
+  pub notice : Micro
+  pub next_ : comes_next (rows_from 0 m.chains) m.flight ≡ Some notice
+  pub is : is_notice notice ≡ true
+
+-- the work that a step is: one of these six, or the end
 abbrev pub work_of : Option Micro → Work
 work_of (Some (micro.Raise x)) = work.Raise x
 work_of (Some (micro.Poll y)) = work.Poll y
 work_of (Some (micro.Fall y)) = work.Fall y
 work_of (Some (micro.Lower x)) = work.Lower x
+work_of (Some (micro.Notify kind c id old new)) = work.Tell (micro.Notify kind c id old new)
+work_of (Some (micro.Visit c)) = work.Visit c
 work_of _ = work.End
 
 -- the work comes next
@@ -40,4 +49,6 @@ ComesNext m (work.Raise x) = (own_step m.flight ≡ Some (micro.Raise x)) × Com
 ComesNext m (work.Poll y) = (own_step m.flight ≡ Some (micro.Poll y)) × ComesFirst m (micro.Poll y)
 ComesNext m (work.Fall y) = (comes_next [] m.flight ≡ Some (micro.Fall y)) × ComesFirst m (micro.Fall y)
 ComesNext m (work.Lower x) = (own_step m.flight ≡ Some (micro.Lower x)) × ComesFirst m (micro.Lower x)
+ComesNext m (work.Tell step) = (is_notice step ≡ true) × TellsNext m × ComesFirst m step
+ComesNext m (work.Visit c) = (own_step m.flight ≡ Some (micro.Visit c)) × ComesFirst m (micro.Visit c)
 ComesNext m work.End = ComesFirst m micro.End

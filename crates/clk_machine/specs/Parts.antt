@@ -1,28 +1,30 @@
 -- The parts of a core, and what they keep.
-use Rattle.std.specs.Prelude.{◌≡◌, ℕ, ◌+◌, ◌<◌, ◌≤◌, ◌==◌, List, [], is_some, Bool, true, Option, Some, None, IfSome, if◌then◌else◌, length, sum_by, slice_index}
+use Rattle.std.specs.Prelude.{◌≡◌, ℕ, suc, ◌+◌, ◌<◌, ◌≤◌, ◌==◌, ◌++◌, List, [], ◌∷◌, is_some, Bool, true, Option, Some, None, IfSome, if◌then◌else◌, length, map, sum_by, slice_index}
 use Rattle.std.specs.Option.{option_map_or}
 use Rattle.clk_base.specs.Checked.{Checked}
 use Rattle.clk_base.specs.Description.{Description}
 use Rattle.clk_base.specs.Valid.{IsValid}
 use Rattle.clk_base.specs.declared.call.Sleeping.{Sleeping}
-use Rattle.clk_base.specs.declared.call.Sleeping.TheVariants as call
 use Rattle.clk_flight.specs.Flights.{FlightState}
 use Rattle.clk_flight.specs.LeftOver.{left_over}
 use Rattle.clk_model.specs.Script.{plls}
 use Rattle.clk_model.specs.declared.row.ClockRow.{ClockRow}
 use Rattle.clk_model.specs.declared.row.HandleRow.{HandleRow}
 use Rattle.clk_model.specs.Lists.{present}
-use Rattle.clk_model.specs.State.{State, registered, handle_at}
+use Rattle.clk_model.specs.State.{State, NotifierRow, registered, handle_at}
 use Rattle.clk_model.specs.Rate.{rate}
 use Rattle.clk_model.specs.Begin.{most_credits}
 use Rattle.clk_tree.specs.TreeState.{TreeState, IsTree}
 use Rattle.counts_core.specs.Counted.{CountState, AreCounts}
 use Rattle.counts_core.specs.Standing.{StandsFor}
 use Rattle.notifiers.specs.declared.notifier.Notifier.{Notifier}
+use Rattle.notifiers.specs.Chains.{Tells, row_on}
 use Rattle.rate_requests.specs.Handles.{HandleTable}
 use Rattle.clk_machine.specs.Window.{Shown, AreTold}
 use Rattle.clk_machine.specs.Fit.{CanRun}
-use Rattle.clk_machine.specs.InFlight.{IsUnderWay}
+use Rattle.clk_machine.specs.declared.course.Notified.{Notified}
+use Rattle.clk_machine.specs.InFlight.{changes_rate, handle_to_end, IsUnderWay}
+use Rattle.clk_machine.specs.Course.{CourseState, notifiers_at, TellsAlong}
 
 -- a core without its journal, as what contracts see of each part
 pub record Parts : Type 0 where
@@ -36,11 +38,12 @@ pub record Parts : Type 0 where
   pub spent : ℕ
   pub ignore_unused : Bool
   pub flight : FlightState
+  pub course : CourseState
   pub steps : ℕ
 
 -- these parts
-abbrev pub parts_of : Checked → Shown → TreeState → HandleTable → CountState → List (List Notifier) → ℕ → ℕ → Bool → FlightState → ℕ → Parts
-parts_of desc window tree table counts chains credits spent ignore_unused flight steps = record {
+abbrev pub parts_of : Checked → Shown → TreeState → HandleTable → CountState → List (List Notifier) → ℕ → ℕ → Bool → FlightState → CourseState → ℕ → Parts
+parts_of desc window tree table counts chains credits spent ignore_unused flight course steps = record {
   desc = desc;
   window = window;
   tree = tree;
@@ -51,6 +54,7 @@ parts_of desc window tree table counts chains credits spent ignore_unused flight
   spent = spent;
   ignore_unused = ignore_unused;
   flight = flight;
+  course = course;
   steps = steps;
 }
 
@@ -106,21 +110,32 @@ pub record AreCounted (m : Parts) : Type 0 where
   pub keeps : AreCounts m.counts
   pub stands : StandsFor m.counts (bare m)
 
--- the handle of the call in flight is one of its driver
+-- the handle that the end of the call in flight may write is one of its driver
 abbrev pub IsOwnCall : List (Option HandleRow) → ℕ → Sleeping → Type 0
-IsOwnCall handles driver (call.Prepare h) = is_some (own_in handles driver h.number) ≡ true
-IsOwnCall handles driver _ = Unit {0}
+IsOwnCall handles driver what = IfSome (handle_to_end what) (λ h. is_some (own_in handles driver h.number) ≡ true)
 
--- what is kept of a change in flight: what is left of it to do, its call's own handle, and that the prepare which it may come to was paid for
-pub record IsFlown (defs : Description) (clocks : List ClockRow) (handles : List (Option HandleRow)) (spent : ℕ) (f : FlightState) : Type 0 where
+-- what is kept of a change in flight: what is left of it to do, its call's own handle, that what it may come to hold was paid for, and of a change of rate
+-- the clocks that are still to be told
+pub record IsFlown (defs : Description) (clocks : List ClockRow) (handles : List (Option HandleRow)) (chains : List (List Notifier)) (notified : List Notified) (spent : ℕ) (f : FlightState) : Type 0 where
   pub plls_ : f.plls ≡ plls defs
   pub way : IsUnderWay (registered clocks) f
   pub own : IsOwnCall handles f.driver f.call
   pub paid : sum_by held_in_all (present handles) < spent
+  pub tells : changes_rate f.call ≡ true → TellsAlong (notifiers_at chains) notified f
 
--- how many steps the change in flight may still come to; so far none of its script visits a clock or tells a notifier
+-- the notifiers of these chains, clock by clock, of a clock and those behind it
+abbrev pub rows_from : ℕ → List (List Notifier) → List NotifierRow
+rows_from c [] = []
+rows_from c (chain ∷ chains) = map (row_on c) chain ++ rows_from (suc c) chains
+
+-- how many steps the change in flight may still come to
 abbrev pub steps_left : Parts → ℕ
-steps_left m = left_over [] m.flight
+steps_left m = left_over (rows_from 0 m.chains) m.flight
+
+-- the chains are those of some notifiers
+pub record AreListed (chains : List (List Notifier)) : Type 0 where
+  pub rows : List NotifierRow
+  pub tells : Tells chains rows
 
 -- what the parts of a core keep
 pub record IsWhole (m : Parts) : Type 0 where
@@ -131,6 +146,7 @@ pub record IsWhole (m : Parts) : Type 0 where
   pub clocks : m.table.clocks ≡ length m.desc.defs
   pub handled : (n : ℕ) (h : HandleRow) → handle_at m.table.handles n ≡ Some h → registered m.tree.clocks h.clock.0 ≡ true
   pub notified : length m.chains ≡ length m.desc.defs
+  pub listed : AreListed m.chains
   -- a change in flight is kept as it has to be, and there is room for the entries of its steps
-  pub flown : m.flight.going ≡ true → IsFlown m.desc.defs m.tree.clocks m.table.handles m.spent m.flight
+  pub flown : m.flight.going ≡ true → IsFlown m.desc.defs m.tree.clocks m.table.handles m.chains m.course.notified m.spent m.flight
   pub room : m.credits + m.steps + steps_left m ≤ most_credits

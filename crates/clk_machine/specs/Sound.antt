@@ -66,16 +66,20 @@ abbrev pub takes_memory : Sleeping → Bool
 takes_memory (call.Get found) = true
 takes_memory (call.Prepare h) = true
 takes_memory (call.Unprepare h) = true
+takes_memory (call.SetRate h x) = true
+takes_memory (call.SetRateExclusive h x) = true
+takes_memory (call.SetRange h least most) = true
 takes_memory (call.NotifierAdd h id priority policy) = true
 takes_memory _ = false
 
--- a step that links no clock, registers none, and writes no field but power bits
+-- a step that links no clock, registers none, and writes no field by which a clock selects its parent
 abbrev pub leaves_links : Micro → Bool
 leaves_links (micro.Notify kind c id old new) = true
 leaves_links (micro.Raise x) = true
 leaves_links (micro.Poll y) = true
 leaves_links (micro.Fall y) = true
 leaves_links (micro.Lower x) = true
+leaves_links (micro.Visit c) = true
 leaves_links micro.End = true
 leaves_links _ = false
 

@@ -13,6 +13,8 @@ use Rattle.clk_model.specs.Script.{plls}
 use Rattle.clk_base.specs.Description.{Description}
 use Rattle.clk_flight.specs.Flights.{Flies}
 use Rattle.notifiers.specs.Chains.{Tells}
+use Rattle.clk_model.specs.Begin.{most_credits}
+use Rattle.clk_machine.specs.Course.{IsAlong}
 use Rattle.clk_machine.specs.Parts.{Parts, steps_left}
 use Rattle.clk_machine.specs.Sound.{IsSound}
 
@@ -28,6 +30,7 @@ pub record Stands (m : Parts) (s : State) : Type 0 where
   pub prepare_holds : s.prepare_holds ≡ []
   pub enable_holds : s.enable_holds ≡ []
   pub change : Flies s.notifiers m.flight s.change
+  pub along : IsAlong m.course s.change
   pub credits : s.credits ≡ m.credits
   pub spent : s.spent ≡ m.spent
   pub steps : s.steps ≡ m.steps
@@ -51,6 +54,7 @@ pub record Becomes (old : Parts) (adds : ℕ → Bool) (does : State → State) 
   pub remains : Remains old new
   pub spent : new.spent ≡ old.spent + 1
   pub flight : new.flight ≡ old.flight
+  pub left : steps_left new ≡ steps_left old
   pub steps : new.steps ≡ old.steps
   pub rows : (c : ℕ) → registered new.tree.clocks c ≡ (registered old.tree.clocks c || adds c)
   pub stands : (s : State) → Stands old s → IsSound old.window.size s → Stands new (record (settled s (does s)) { spent = s.spent + 1 })
@@ -70,10 +74,14 @@ abbrev pub registers : Event → ℕ → Bool
 registers (event.Begin (call.Probe k)) c = k.0 == c
 registers _ c = false
 
--- how many steps a call may come to where it goes on: the raise of the PLLs of a path or the lower of them, and the end
+-- how many steps a call may come to where it goes on: the raise of the PLLs of a path or the lower of them, and the end; of a change of rate as
+-- many as its script weighs, for which there is room
 abbrev pub most_steps : Description → Event → ℕ
 most_steps defs (event.Begin (call.Prepare h)) = 34 * plls defs + 2
 most_steps defs (event.Begin (call.Unprepare h)) = plls defs + 2
+most_steps defs (event.Begin (call.SetRate h x)) = most_credits
+most_steps defs (event.Begin (call.SetRateExclusive h x)) = most_credits
+most_steps defs (event.Begin (call.SetRange h least most)) = most_credits
 most_steps defs e = 0
 
 -- the credits that an event spends

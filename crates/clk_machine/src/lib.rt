@@ -2,8 +2,11 @@
 #![tactic(auto)]
 
 mod built;
+mod course;
+mod decision;
 mod fit;
 mod framework;
+mod free;
 mod gates;
 mod handles;
 mod laws;
@@ -13,7 +16,9 @@ mod plls;
 mod power;
 mod register;
 mod row;
+mod scripted;
 mod seen;
+mod visits;
 mod window;
 mod work;
 

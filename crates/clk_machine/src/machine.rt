@@ -8,19 +8,26 @@ ghost use Rattle.clk_model.specs.Journal.{opening};
 ghost use Rattle.clk_model.specs.Begin.{most_credits};
 
 mod calls;
+mod changing;
+mod deciding;
 mod enabling;
 mod exclusives;
 mod holding;
 mod landing;
+mod lifting;
 mod lowering;
 mod notifying;
+mod planning;
 mod registering;
+mod reparenting;
 mod rounding;
 mod rows;
 mod starting;
 mod stepping;
 mod telling;
+mod visiting;
 
+use crate::course::Course;
 use crate::window::Window;
 use clk_base::{Handle, Reply, Sleeping, Turn, ValidDesc};
 use clk_flight::Flight;
@@ -48,6 +55,7 @@ pub(crate) struct Machine<B: Bank> {
     spent: u32,
     ignore_unused: bool,
     flight: Flight,
+    course: Course,
     alloc: Global,
     /// How many steps were made.
     steps: u32,
@@ -58,9 +66,9 @@ impl<B: Bank> Model for Machine<B> {
 
     ghost Value = { Parts };
 
-    ghost view = { λ m. parts_of m.desc m.window m.tree m.handles m.counts m.notifiers m.credits m.spent m.ignore_unused m.flight m.steps };
+    ghost view = { λ m. parts_of m.desc m.window m.tree m.handles m.counts m.notifiers m.credits m.spent m.ignore_unused m.flight m.course m.steps };
 
-    ghost invariant = { λ m. IsWhole (parts_of m.desc m.window m.tree m.handles m.counts m.notifiers m.credits m.spent m.ignore_unused m.flight m.steps) };
+    ghost invariant = { λ m. IsWhole (parts_of m.desc m.window m.tree m.handles m.counts m.notifiers m.credits m.spent m.ignore_unused m.flight m.course m.steps) };
 }
 
 impl<B: Bank> Machine<B> {
@@ -102,6 +110,7 @@ impl<B: Bank> Machine<B> {
         let notifiers = Notifiers::create(alloc, &desc)?;
         let window = Window::create(bank, words);
         let flight = Flight::create(alloc);
+        let course = Course::none(alloc);
         Ok(Machine {
             desc,
             window,
@@ -113,6 +122,7 @@ impl<B: Bank> Machine<B> {
             spent: 0,
             ignore_unused,
             flight,
+            course,
             alloc,
             steps: 0,
         })

@@ -1,13 +1,13 @@
 //! The words of a bank that a description uses.
 
-ghost use Rattle.std.specs.Prelude.{◌≡◌, ◌≢◌, ℕ, ◌+◌, ◌<◌, ◌≤◌, IfSome, length, take, drop, slice_index};
+ghost use Rattle.std.specs.Prelude.{◌≡◌, ◌≢◌, ℕ, ◌+◌, ◌<◌, ◌≤◌, ◌^◌, IfSome, length, take, drop, slice_index};
 ghost use Rattle.std.specs.Option.{option_map};
 ghost use Rattle.reg_bank.specs.Locks.{most_plls, started, polled, is_locked};
-ghost use Rattle.reg_bank.specs.Registers.{is_set, put_bit, field};
+ghost use Rattle.reg_bank.specs.Registers.{is_set, put_bit, field, put};
 ghost use Rattle.clk_machine.specs.Window.{AreTold, locks_of, lock_in};
 
 use clk_base::ClockId;
-use reg_bank::{Bank, read_bit, read_field, write_bit};
+use reg_bank::{Bank, read_bit, read_field, write_bit, write_field};
 use std::marker::Model;
 
 /// The first words of a bank, as many as a description was checked for. The words behind them are
@@ -101,6 +101,19 @@ impl<B: Bank> Window<B> {
         ensures locks { self.new.locks ≡ self.old.locks }
     {
         write_bit(&mut self.bank, word as usize, bit, value);
+    }
+
+    /// Puts a number into a field.
+    pub fn put_field(&mut self, word: u32, shift: u32, width: u32, value: u32)
+        requires word { word < self.old.size }
+        requires bits { shift + width ≤ 32 }
+        requires fits { value < 2 ^ width }
+        ensures size { self.new.size ≡ self.old.size }
+        ensures words { self.new.words ≡ option_map (λ words. put words word shift width value) self.old.words }
+        ensures behind { self.new.behind ≡ self.old.behind }
+        ensures locks { self.new.locks ≡ self.old.locks }
+    {
+        write_field(&mut self.bank, word as usize, shift, width, value);
     }
 
     /// Starts the lock of a PLL.

@@ -13,6 +13,8 @@ pub(crate) enum Work {
     Poll(ClockId),
     Fall(ClockId),
     Lower(ClockId),
+    Tell(Micro),
+    Visit(ClockId),
     End,
 }
 
@@ -26,7 +28,7 @@ pub(crate) struct Made {
     pub turn: Turn,
 }
 
-/// The work that a step is: any but a raise, a poll, a fall and a lower is the end.
+/// The work that a step is: any but a raise, a poll, a fall, a lower, a notice and a visit is the end.
 pub(crate) fn work_of(step: Option<Micro>) -> Work
     ensures { result ≡ work_of step }
 {
@@ -35,6 +37,22 @@ pub(crate) fn work_of(step: Option<Micro>) -> Work
         Some(Micro::Poll(pll)) => Work::Poll(pll),
         Some(Micro::Fall(pll)) => Work::Fall(pll),
         Some(Micro::Lower(clock)) => Work::Lower(clock),
+        Some(
+            Micro::Notify {
+                kind,
+                clock,
+                id,
+                old,
+                new,
+            },
+        ) => Work::Tell(Micro::Notify {
+            kind,
+            clock,
+            id,
+            old,
+            new,
+        }),
+        Some(Micro::Visit(clock)) => Work::Visit(clock),
         _ => Work::End,
     }
 }

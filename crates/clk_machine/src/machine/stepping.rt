@@ -171,6 +171,14 @@ impl<B: Bank> Machine<B> {
                 self.lower(clock);
                 going_on(Micro::Lower(clock), None)
             }
+            Work::Tell(step) => {
+                self.tell(step);
+                going_on(step, None)
+            }
+            Work::Visit(clock) => {
+                self.visit(clock);
+                going_on(Micro::Visit(clock), None)
+            }
             Work::End => {
                 let reply = self.end();
                 Made {

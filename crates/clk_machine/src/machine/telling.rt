@@ -11,7 +11,7 @@ ghost use Rattle.clk_machine.specs.Stands.{Stands, is_told, most_steps};
 use super::Machine;
 use super::lowering::most_to_lower;
 use super::starting::most_to_raise;
-use clk_base::{Sleeping, ValidDesc};
+use clk_base::{MOST_CREDITS, Sleeping, ValidDesc};
 use clk_tree::Tree;
 use reg_bank::Bank;
 
@@ -56,6 +56,9 @@ impl<B: Bank> Machine<B> {
         match what {
             Sleeping::Prepare(_) => most_to_raise(self.tree.plls()),
             Sleeping::Unprepare(_) => most_to_lower(self.tree.plls()),
+            Sleeping::SetRate(_, _)
+            | Sleeping::SetRateExclusive(_, _)
+            | Sleeping::SetRange(_, _, _) => u64::from(MOST_CREDITS),
             _ => 0,
         }
     }
@@ -99,6 +102,7 @@ impl<B: Bank> Machine<B> {
             spent: _,
             ignore_unused: _,
             flight: _,
+            course: _,
             alloc: _,
             steps: _,
         } = self;

@@ -10,16 +10,16 @@ pub invariant_of-result : goal.invariant_of-result
 invariant_of-result g c =
     let tree = c.in_ok-tree.tree in
     let made = c.in_ok-counts.ensures in
-    whole_opening c.args.desc c.create-window.result tree c.in_ok-handles.handles c.in_ok-counts.counts c.in_ok-notifiers.notifiers c.args.credits c.args.ignore_unused c.create-flight.result c.create-flight.ensures.quiet
+    whole_opening c.args.desc c.create-window.result tree c.in_ok-handles.handles c.in_ok-counts.counts c.in_ok-notifiers.notifiers c.args.credits c.args.ignore_unused c.create-flight.result c.none-course.result c.create-flight.ensures.quiet
     (subst (λ (d : Checked). IsValid d.words d.defs) c.desc.view_is c.desc.invariant) c.requires.runs (c.create-window.ensures.size ∙ c.requires.words) c.create-window.ensures.told
     c.in_ok-tree.ensures.defs c.in_ok-tree.ensures.rows c.in_ok-tree.ensures.stands c.requires.credits
     c.in_ok-handles.ensures.clocks c.in_ok-handles.ensures.handles made.stands
     (counts_opening c.args.desc c.in_ok-counts.counts made.defs made.links made.enables made.prepares made.exclusives)
-    (ap (λ (chains : List (List Notifier)). length chains) c.in_ok-notifiers.ensures.chains ∙ length-replicate (length c.args.desc.defs) _)
+    (ap (λ (chains : List (List Notifier)). length chains) c.in_ok-notifiers.ensures.chains ∙ length-replicate (length c.args.desc.defs) _) c.in_ok-notifiers.ensures.told
 
 pub returns-clause-stands : goal.returns-clause-stands
 returns-clause-stands g c = λ told.
-    stands_opening c.args.desc c.create-window.result c.in_ok-tree.tree c.in_ok-handles.handles c.in_ok-counts.counts c.in_ok-notifiers.notifiers c.args.credits c.args.ignore_unused c.create-flight.result
+    stands_opening c.args.desc c.create-window.result c.in_ok-tree.tree c.in_ok-handles.handles c.in_ok-counts.counts c.in_ok-notifiers.notifiers c.args.credits c.args.ignore_unused c.create-flight.result c.none-course.result
     c.args.words.now (g.B.Bank.contents c.args.bank) c.create-flight.ensures.quiet c.create-window.ensures.words c.in_ok-tree.ensures.rows c.in_ok-tree.ensures.order c.in_ok-handles.ensures.handles
     c.in_ok-notifiers.ensures.told told
 

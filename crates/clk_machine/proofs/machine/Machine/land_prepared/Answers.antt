@@ -1,11 +1,14 @@
-use Rattle.std.proofs.Common.{◌≡◌, ◌+◌, ◌∙◌, true, false, refl, sym, subst, arith, Some, get_or}
+use Rattle.std.proofs.Common.{◌≡◌, ◌+◌, ◌∙◌, true, false, refl, sym, ap, subst, arith, Some, get_or}
 use Rattle.clk_model.specs.State.{handle_at}
 use Rattle.clk_machine.specs.Parts.{Parts, parts_of}
 use Rattle.clk_machine.specs.Holding.{prepared_more}
 use Rattle.clk_base.specs.declared.call.Micro.TheVariants as micro
 use Rattle.clk_base.specs.declared.call.Sleeping.TheVariants as call
 use Rattle.clk_machine.specs.Making.{ComesFirst}
-use Rattle.clk_machine.proofs.Landing.{whole_prepared, prepared_enters}
+use Rattle.counts_core.specs.Counted.{CountState, is_active}
+use Rattle.clk_machine.specs.InFlight.{is_called_off}
+use Rattle.clk_machine.proofs.Ending.{whole_ended, end_enters}
+use Rattle.clk_machine.proofs.Landings.{prepared_ends}
 use Rattle.clk_machine.proofs.Room.{row_few, prepare_room}
 use Rattle.clk_machine.proofs.Rows.{counted_place}
 use Rattle.clk_machine.proofs.Writing.{Written, written_prepares, row_place, counts_given}
@@ -14,7 +17,7 @@ use Rattle.clk_machine.proofs.machine.Machine.land_prepared.Goals as goal
 pub hold-requires-clause-place : goal.hold-requires-clause-place
 hold-requires-clause-place g c =
     let m = c.self.inside in
-    let p : Parts = parts_of m.desc m.window m.tree m.handles m.counts m.notifiers m.credits m.spent m.ignore_unused m.flight m.steps in
+    let p : Parts = parts_of m.desc m.window m.tree m.handles m.counts m.notifiers m.credits m.spent m.ignore_unused m.flight m.course m.steps in
     let row = c.args.row in
     let n = c.args.handle.number in
     let live : handle_at m.handles.handles n ≡ Some row = rw (← c.self.view_is) at c.requires.live in
@@ -23,7 +26,7 @@ hold-requires-clause-place g c =
 pub hold-requires-clause-links : goal.hold-requires-clause-links
 hold-requires-clause-links g c =
     let m = c.self.inside in
-    let p : Parts = parts_of m.desc m.window m.tree m.handles m.counts m.notifiers m.credits m.spent m.ignore_unused m.flight m.steps in
+    let p : Parts = parts_of m.desc m.window m.tree m.handles m.counts m.notifiers m.credits m.spent m.ignore_unused m.flight m.course m.steps in
     let row = c.args.row in
     let n = c.args.handle.number in
     let live : handle_at m.handles.handles n ≡ Some row = rw (← c.self.view_is) at c.requires.live in
@@ -32,7 +35,7 @@ hold-requires-clause-links g c =
 pub hold-requires-clause-room : goal.hold-requires-clause-room
 hold-requires-clause-room g c =
     let m = c.self.inside in
-    let p : Parts = parts_of m.desc m.window m.tree m.handles m.counts m.notifiers m.credits m.spent m.ignore_unused m.flight m.steps in
+    let p : Parts = parts_of m.desc m.window m.tree m.handles m.counts m.notifiers m.credits m.spent m.ignore_unused m.flight m.course m.steps in
     let row = c.args.row in
     let n = c.args.handle.number in
     let live : handle_at m.handles.handles n ≡ Some row = rw (← c.self.view_is) at c.requires.live in
@@ -41,7 +44,7 @@ hold-requires-clause-room g c =
 pub overflow_add-row : goal.overflow_add-row
 overflow_add-row g c =
     let m = c.self.inside in
-    let p : Parts = parts_of m.desc m.window m.tree m.handles m.counts m.notifiers m.credits m.spent m.ignore_unused m.flight m.steps in
+    let p : Parts = parts_of m.desc m.window m.tree m.handles m.counts m.notifiers m.credits m.spent m.ignore_unused m.flight m.course m.steps in
     let row = c.args.row in
     let n = c.args.handle.number in
     let live : handle_at m.handles.handles n ≡ Some row = rw (← c.self.view_is) at c.requires.live in
@@ -51,7 +54,7 @@ overflow_add-row g c =
 pub invariant_of-self : goal.invariant_of-self
 invariant_of-self g c =
     let m = c.self.inside in
-    let p : Parts = parts_of m.desc m.window m.tree m.handles m.counts m.notifiers m.credits m.spent m.ignore_unused m.flight m.steps in
+    let p : Parts = parts_of m.desc m.window m.tree m.handles m.counts m.notifiers m.credits m.spent m.ignore_unused m.flight m.course m.steps in
     let row = c.args.row in
     let n = c.args.handle.number in
     let live : handle_at m.handles.handles n ≡ Some row = rw (← c.self.view_is) at c.requires.live in
@@ -65,12 +68,12 @@ invariant_of-self g c =
       more = omega arith;
     }) c.hold.ensures.stands c.hold.ensures.holders (omega arith) refl refl in
     let going : p.flight.going ≡ true = subst (λ (q : Parts). q.flight.going ≡ true) (sym c.self.view_is) c.requires.going in
-    whole_prepared p n row c.set_counts.new.self c.hold.new.self c.end.new.self c.self.invariant going c.end.ensures.flight written
+    whole_ended p n row (prepared_more row) c.set_counts.new.self c.hold.new.self c.end.new.self c.self.invariant going c.end.ensures.flight written
 
 pub returns : goal.returns
 returns g c =
     let m = c.self.inside in
-    let p : Parts = parts_of m.desc m.window m.tree m.handles m.counts m.notifiers m.credits m.spent m.ignore_unused m.flight m.steps in
+    let p : Parts = parts_of m.desc m.window m.tree m.handles m.counts m.notifiers m.credits m.spent m.ignore_unused m.flight m.course m.steps in
     let row = c.args.row in
     let n = c.args.handle.number in
     let live : handle_at m.handles.handles n ≡ Some row = rw (← c.self.view_is) at c.requires.live in
@@ -86,5 +89,6 @@ returns g c =
     let going : p.flight.going ≡ true = subst (λ (q : Parts). q.flight.going ≡ true) (sym c.self.view_is) c.requires.going in
     let first : ComesFirst p micro.End = subst (λ (q : Parts). ComesFirst q micro.End) (sym c.self.view_is) c.requires.first in
     let prepares : p.flight.call ≡ call.Prepare c.args.handle = subst (λ (q : Parts). q.flight.call ≡ call.Prepare c.args.handle) (sym c.self.view_is) c.requires.call in
-    let timely : p.flight.timed_out ≡ false = subst (λ (q : Parts). q.flight.timed_out ≡ false) (sym c.self.view_is) c.requires.timely in
-    rw (← c.self.view_is) (prepared_enters p c.args.handle row c.set_counts.new.self c.hold.new.self c.end.new.self c.self.invariant going c.end.ensures.flight written first prepares timely)
+    let timely : is_called_off p.flight ≡ false = subst (λ (q : Parts). is_called_off q.flight ≡ false) (sym c.self.view_is) c.requires.timely in
+    rw (← c.self.view_is) (end_enters p _ _ (prepared_ends p c.args.handle row c.set_counts.new.self c.hold.new.self c.end.new.self c.self.invariant going c.end.ensures.flight written first prepares timely
+    (λ d. ap (λ (k : CountState). is_active k d) c.hold.ensures.holders)))

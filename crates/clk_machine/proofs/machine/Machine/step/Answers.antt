@@ -11,4 +11,4 @@ raise-requires-clause-there g c =
 pub lower-requires-clause-there : goal.lower-requires-clause-there
 lower-requires-clause-there g c =
     let m = c.args.self.now in
-    lower_there m.flight (registered m.tree.clocks) c.in-Lower.clock c.in-Lower.ensures.next.0 (c.in-Lower.ensures.whole.flown c.requires).way
+    both_right _ _ (lower_there m.flight (registered m.tree.clocks) c.in-Lower.clock c.in-Lower.ensures.next.0 (c.in-Lower.ensures.whole.flown c.requires).way)

@@ -1,0 +1,59 @@
+-- A change of rate that goes on.
+use Rattle.std.specs.Prelude.{◌≡◌, ℕ, ◌+◌, ◌==◌, ◌++◌, List, [], ◌∷◌, Bool, true, false, not, Option, Some, if◌then◌else◌, map, filter, sum_by, slice_index}
+use Rattle.std.specs.List.{AllByRecursion}
+use Rattle.clk_base.specs.declared.call.Micro.{Micro}
+use Rattle.clk_base.specs.declared.call.Micro.TheVariants as micro
+use Rattle.clk_base.specs.declared.call.Sleeping.{Sleeping}
+use Rattle.clk_model.specs.Chain.{clock_id}
+use Rattle.clk_model.specs.Laws.Paced.{is_notice}
+use Rattle.clk_model.specs.Script.{plls}
+use Rattle.clk_model.specs.State.{State, Change, registered}
+use Rattle.clk_flight.specs.LeftOver.{step_weight}
+use Rattle.clk_tree.specs.Plans.{ClockRate}
+use Rattle.clk_machine.specs.declared.course.Notified.{Notified}
+use Rattle.clk_machine.specs.Course.{CourseState}
+use Rattle.clk_machine.specs.Parts.{Parts, rows_from, steps_left}
+use Rattle.clk_machine.specs.Stands.{Stands, Remains}
+
+-- a change begins with this driver, call and script, along this course; the handle had this range where the call sets one, and a notice
+-- of the script is a veto or none is
+pub record BeginsAlong (driver : ℕ) (what : Sleeping) (steps : List Micro) (course : CourseState) (range : Option (ℕ × ℕ)) (vetoed : Bool) (k : Change) : Type 0 where
+  pub driver_ : k.driver ≡ driver
+  pub call : k.call ≡ what
+  pub front : k.front ≡ []
+  pub left : k.left ≡ steps
+  pub polls : k.polls ≡ 0
+  pub again : k.again ≡ 0
+  pub raised : k.raised ≡ []
+  pub range_ : k.range ≡ range
+  pub extra : k.extra ≡ 0
+  pub vetoed_ : k.vetoed ≡ vetoed
+  pub timed_out : k.timed_out ≡ false
+  pub chain : k.chain ≡ course.chain
+  pub rates : AllByRecursion (λ n. (n.before ≡ slice_index k.before n.clock.0) × (n.after ≡ slice_index k.outcome n.clock.0)) course.notified
+
+-- a change of rate of a driver goes on so, by parts that stood for a state, and a credit is spent
+pub record StartsChange (old : Parts) (driver : ℕ) (what : Sleeping) (steps : List Micro) (course : CourseState) (range : Option (ℕ × ℕ)) (vetoed : Bool) (new : Parts) : Type 0 where
+  pub remains : Remains old new
+  pub spent : new.spent ≡ old.spent + 1
+  pub rows : (c : ℕ) → registered new.tree.clocks c ≡ registered old.tree.clocks c
+  pub going : new.flight.going ≡ true
+  pub driver_ : new.flight.driver ≡ driver
+  pub left : steps_left new ≡ sum_by (step_weight (rows_from 0 old.chains) (plls old.desc.defs)) steps
+  pub stands : (s : State) (k : Change) → Stands old s → BeginsAlong driver what steps course range vetoed k → Stands new (record s { change = Some k; spent = s.spent + 1 })
+
+-- ---- a script that moves no clock
+
+-- the notices at the head of steps
+abbrev pub notices_first : List Micro → List Micro
+notices_first [] = []
+notices_first (m ∷ ms) = if is_notice m then m ∷ notices_first ms else []
+
+-- the notices at its head, and where none of them is a veto the visits of these clocks, and the end
+abbrev pub still_steps : List Micro → Bool → List ClockRate → List Micro
+still_steps steps vetoed rates = notices_first steps ++ ((if vetoed then [] else map (λ r. micro.Visit (clock_id r.clock)) rates) ++ micro.End ∷ [])
+
+-- the clocks among these that have notifiers, each with its rate before the change and its planned rate
+abbrev pub told_clocks : (ℕ → ℕ) → List ℕ → List ClockRate → List Notified
+told_clocks count before rates =
+    map (λ r. record { clock = clock_id r.clock; before = slice_index before r.clock; after = r.rate }) (filter (λ r. not (count r.clock == 0)) rates)

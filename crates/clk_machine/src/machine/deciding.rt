@@ -1,0 +1,156 @@
+//! How the calls that change a rate or a parent begin. Nothing is changed by the decision.
+
+ghost use Rattle.std.specs.Prelude.{◌≡◌, ◌+◌, ◌<◌, true, false, max, min, IfOk};
+ghost use Rattle.clk_base.specs.declared.call.Sleeping.TheVariants.{SetRate, SetRateExclusive, SetRange};
+ghost use Rattle.clk_model.specs.Laws.PlansRead.{plans};
+ghost use Rattle.clk_machine.specs.Deciding.{ArePlanned, Decided};
+
+use super::Machine;
+use super::lifting::decide_lifted;
+use super::planning::decide_request;
+use crate::decision::Decision;
+use crate::seen::Seen;
+use clk_base::{Errno, Handle, Sleeping};
+use clk_io::NoMemory;
+use reg_bank::Bank;
+
+// A rate between two others.
+fn within(rate: u64, least: u64, most: u64) -> u64
+    ensures { result ≡ min most (max least rate) }
+{
+    rate.max(least).min(most)
+}
+
+impl<B: Bank> Machine<B> {
+    /// Decides how a call begins that changes a rate or a parent: it is refused, answered by Ok at once,
+    /// or goes on with a plan and its script.
+    pub(crate) fn decide(&mut self, driver: u32, what: Sleeping) -> Result<Decision, NoMemory>
+        requires credit { self.old.spent < self.old.credits }
+        requires quiet { self.old.flight.going ≡ false }
+        requires plans { plans what ≡ true }
+        ensures decides { IfOk result (λ decision. Decided self.old driver what decision) }
+        ensures there { IfOk result (λ decision. ArePlanned self.old.tree decision) }
+        ensures same { self.new ≡ self.old }
+    {
+        match what {
+            Sleeping::SetRate(handle, rate) => self.decide_rate(driver, handle, rate),
+            Sleeping::SetRateExclusive(handle, rate) => self.decide_exclusive(driver, handle, rate),
+            Sleeping::SetRange(handle, least, most) => {
+                self.decide_range(driver, handle, least, most)
+            }
+            Sleeping::SetParent(handle, parent) => self.decide_parent(driver, handle, parent),
+            _ => unreachable!(),
+        }
+    }
+
+    // The credits and the steps that were made.
+    pub(super) fn used(&self) -> u64
+        ensures { result ≡ self.now.credits + self.now.steps }
+    {
+        u64::from(self.credits) + u64::from(self.steps)
+    }
+
+    /// Decides how a request for a rate begins. One exclusive hold of the handle itself doesn't count.
+    pub(crate) fn decide_rate(
+        &mut self,
+        driver: u32,
+        handle: Handle,
+        rate: u64,
+    ) -> Result<Decision, NoMemory>
+        requires credit { self.old.spent < self.old.credits }
+        requires quiet { self.old.flight.going ≡ false }
+        ensures decides { IfOk result (λ decision. Decided self.old driver (SetRate handle rate) decision) }
+        ensures there { IfOk result (λ decision. ArePlanned self.old.tree decision) }
+        ensures same { self.new ≡ self.old }
+    {
+        let Some(row) = self.own(driver, handle) else {
+            return Ok(Decision::Refused(Errno::ENOENT));
+        };
+        let used = self.used();
+        decide_lifted(
+            self.alloc,
+            &self.desc,
+            &self.window,
+            &self.tree,
+            &self.handles,
+            &mut self.counts,
+            &self.notifiers,
+            used,
+            row,
+            rate,
+        )
+    }
+
+    /// Decides how a request for a rate begins that takes an exclusive hold of the handle.
+    pub(crate) fn decide_exclusive(
+        &self,
+        driver: u32,
+        handle: Handle,
+        rate: u64,
+    ) -> Result<Decision, NoMemory>
+        requires credit { self.now.spent < self.now.credits }
+        requires quiet { self.now.flight.going ≡ false }
+        ensures decides { IfOk result (λ decision. Decided self.now driver (SetRateExclusive handle rate) decision) }
+        ensures there { IfOk result (λ decision. ArePlanned self.now.tree decision) }
+    {
+        let Some(row) = self.own(driver, handle) else {
+            return Ok(Decision::Refused(Errno::ENOENT));
+        };
+        let used = self.used();
+        let view = Seen {
+            handles: &self.handles,
+            counts: &self.counts,
+        };
+        decide_request(
+            self.alloc,
+            &self.desc,
+            &self.window,
+            &self.tree,
+            &view,
+            &self.notifiers,
+            used,
+            row.clock,
+            rate,
+        )
+    }
+
+    /// Decides how a request for a range begins: the last request is made anew within it. One exclusive
+    /// hold of the handle itself doesn't count.
+    pub(crate) fn decide_range(
+        &mut self,
+        driver: u32,
+        handle: Handle,
+        least: u64,
+        most: u64,
+    ) -> Result<Decision, NoMemory>
+        requires credit { self.old.spent < self.old.credits }
+        requires quiet { self.old.flight.going ≡ false }
+        ensures decides { IfOk result (λ decision. Decided self.old driver (SetRange handle least most) decision) }
+        ensures there { IfOk result (λ decision. ArePlanned self.old.tree decision) }
+        ensures same { self.new ≡ self.old }
+    {
+        let Some(row) = self.own(driver, handle) else {
+            return Ok(Decision::Refused(Errno::ENOENT));
+        };
+        if !self.handles.fits(handle, least, most) {
+            return Ok(Decision::Refused(Errno::EINVAL));
+        }
+        let used = self.used();
+        let wanted = within(self.tree.last_request(row.clock), least, most);
+        self.handles.set_range(handle, least, most);
+        let decided = decide_lifted(
+            self.alloc,
+            &self.desc,
+            &self.window,
+            &self.tree,
+            &self.handles,
+            &mut self.counts,
+            &self.notifiers,
+            used,
+            row,
+            wanted,
+        );
+        self.handles.set_range(handle, row.min, row.max);
+        decided
+    }
+}

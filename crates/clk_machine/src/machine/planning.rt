@@ -1,0 +1,142 @@
+//! What a request for a rate comes to, as its beginning finds it.
+
+ghost use Rattle.std.specs.Prelude.{◌≡◌, ◌+◌, true, false, length, nat_le, IfOk, IfSome};
+ghost use Rattle.std.specs.Option.{option_map};
+ghost use Rattle.change_walk.specs.Given.{OfPlan, HasFewNotifiers};
+ghost use Rattle.clk_model.specs.Begin.{most_credits};
+ghost use Rattle.clk_model.specs.Chain as chain;
+ghost use Rattle.clk_model.specs.Lists.{is_at};
+ghost use Rattle.clk_model.specs.Rate.{rate};
+ghost use Rattle.clk_model.specs.Round.{round_rate};
+ghost use Rattle.clk_model.specs.State.{State, registered};
+ghost use Rattle.counts_core.specs.Counted.{AreCounts};
+ghost use Rattle.rate_planner.specs.Kept.{wired};
+ghost use Rattle.rate_planner.specs.Walks.{AreThere, walked_rates};
+ghost use Rattle.clk_machine.specs.Deciding.{ArePlanned, Fits, IsAnswer, IsGiven};
+ghost use Rattle.clk_machine.specs.Free.{free_seen, freed};
+ghost use Rattle.clk_machine.specs.Parts.{AreTied};
+ghost use Rattle.clk_machine.specs.Seen.{seen};
+
+use crate::decision::Decision;
+use crate::free::{FreeSeen, freed_above};
+use crate::seen::Seen;
+use crate::window::Window;
+use change_walk::script;
+use clk_base::{ClockId, Errno, MOST_CREDITS, ValidDesc};
+use clk_io::NoMemory;
+use clk_tree::{Plan, Tree};
+use notifiers::Notifiers;
+use rate_planner::{plan_now, round_now};
+use reg_bank::Bank;
+use std::alloc::Global;
+
+// Whether there is room for so many entries behind so many.
+fn fits(used: u64, weight: u64) -> bool
+    ensures { result ≡ nat_le (used + weight) most_credits }
+{
+    used.saturating_add(weight) <= u64::from(MOST_CREDITS)
+}
+
+// Whether a clock would get the rate for a request that it has, if it were free.
+fn keeps_rate<B: Bank>(
+    desc: &ValidDesc,
+    window: &Window<B>,
+    tree: &Tree,
+    view: &Seen,
+    clock: ClockId,
+    wanted: u64,
+) -> bool
+    requires tied { AreTied desc.now window.now tree.now }
+    requires seen { length view.now.counts.now.links ≡ length tree.now.defs }
+    requires there { registered tree.now.clocks clock.0 ≡ true }
+    ensures stands { AreCounts view.now.counts.now }
+    ensures keeps { IfSome window.now.words (λ regs. result ≡ is_at (rate desc.now.defs regs tree.now.clocks clock.0)
+        (round_rate (wired desc.now.defs regs tree.now) (free_seen view.now.handles.now.handles view.now.counts.now (freed tree.now.clocks view.now.counts.now clock.0)) clock.0 wanted)) }
+{
+    let free = FreeSeen {
+        handles: view.handles,
+        counts: view.counts,
+        tree,
+        clock,
+        many: freed_above(tree, view.counts, clock),
+    };
+    match round_now(desc, tree, window.bank(), &free, clock, wanted) {
+        Some(rounded) => rounded == tree.rate(clock),
+        None => false,
+    }
+}
+
+// The plan of a request for a rate, if there is one.
+fn plan_seen<B: Bank>(
+    alloc: Global,
+    desc: &ValidDesc,
+    window: &Window<B>,
+    tree: &Tree,
+    view: &Seen,
+    clock: ClockId,
+    wanted: u64,
+) -> Result<Option<Plan>, NoMemory>
+    requires tied { AreTied desc.now window.now tree.now }
+    requires seen { length view.now.counts.now.links ≡ length tree.now.defs }
+    requires there { registered tree.now.clocks clock.0 ≡ true }
+    ensures chain { IfOk result (λ found. IfSome window.now.words (λ regs. option_map (λ plan. plan.chain) found ≡ chain.chain (wired desc.now.defs regs tree.now) (seen view.now.handles.now.handles view.now.counts.now) clock.0 wanted)) }
+    ensures rates { IfOk result (λ found. IfSome found (λ plan. IfSome window.now.words (λ regs. plan.rates ≡ walked_rates tree.now.order (wired desc.now.defs regs tree.now) plan.chain))) }
+    ensures set_parent { IfOk result (λ found. IfSome found (λ plan. plan.set_parent ≡ false)) }
+    ensures there { IfOk result (λ found. IfSome found (λ plan. AreThere tree.now.clocks plan.rates)) }
+{
+    plan_now(alloc, desc, tree, window.bank(), view, clock, wanted)
+}
+
+// A plan goes on with its script, where there is room for the entries of its steps behind so many.
+pub(super) fn go_on(
+    alloc: Global,
+    desc: &ValidDesc,
+    tree: &Tree,
+    view: &Seen,
+    notifiers: &Notifiers,
+    used: u64,
+    plan: Plan,
+) -> Result<Decision, NoMemory>
+    requires made { desc.now.defs ≡ tree.now.defs }
+    requires seen { length view.now.counts.now.links ≡ length tree.now.defs }
+    requires there { AreThere tree.now.clocks plan.rates }
+    ensures decides { IfOk result (λ decision. OfPlan tree.now (seen view.now.handles.now.handles view.now.counts.now).prepared notifiers.now plan (λ s. HasFewNotifiers s → Fits s used plan decision)) }
+    ensures there { IfOk result (λ decision. ArePlanned tree.now decision) }
+{
+    let script = script(alloc, desc, tree, view, notifiers, &plan)?;
+    if fits(used, script.weight()) {
+        Ok(Decision::Change { plan, script })
+    } else {
+        Ok(Decision::Refused(Errno::ENOSPC))
+    }
+}
+
+// What a request for a rate comes to, which is planned over these handles and counts.
+pub(super) fn decide_request<B: Bank>(
+    alloc: Global,
+    desc: &ValidDesc,
+    window: &Window<B>,
+    tree: &Tree,
+    view: &Seen,
+    notifiers: &Notifiers,
+    used: u64,
+    clock: ClockId,
+    wanted: u64,
+) -> Result<Decision, NoMemory>
+    requires tied { AreTied desc.now window.now tree.now }
+    requires seen { length view.now.counts.now.links ≡ length tree.now.defs }
+    requires there { registered tree.now.clocks clock.0 ≡ true }
+    ensures decides { IfOk result (λ decision. (new lifted : State) → IsGiven desc.now window.now tree.now view.now.handles.now.handles view.now.counts.now notifiers.now used new lifted → IsAnswer new lifted clock.0 wanted decision) }
+    ensures there { IfOk result (λ decision. ArePlanned tree.now decision) }
+{
+    if keeps_rate(desc, window, tree, view, clock, wanted) {
+        return Ok(Decision::AtOnce);
+    }
+    if view.counts.protected(clock) > 0 {
+        return Ok(Decision::Refused(Errno::EBUSY));
+    }
+    match plan_seen(alloc, desc, window, tree, view, clock, wanted)? {
+        Some(plan) => go_on(alloc, desc, tree, view, notifiers, used, plan),
+        None => Ok(Decision::Refused(Errno::EINVAL)),
+    }
+}
