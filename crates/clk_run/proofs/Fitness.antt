@@ -1,15 +1,16 @@
 -- A bundle without a line of what can't be run has clocks that a core can run, and commands that can be run over them.
-use Rattle.std.proofs.Common.{◌≡◌, ◌∙◌, ap, refl, ℕ, zero, suc, ◌+◌, ◌<◌, ◌++◌, Bool, true, false, List, [], ◌∷◌, length, Option, Some, None, min, ◌&&◌, not, slice_index, if◌then◌else◌, arith}
+use Rattle.std.proofs.Common.{◌≡◌, ◌∙◌, ap, refl, ℕ, zero, suc, ◌+◌, ◌<◌, ◌++◌, Bool, true, false, List, [], ◌∷◌, length, Option, Some, None, min, map, ◌&&◌, not, slice_index, if◌then◌else◌, arith}
 use Rattle.std.specs.List.{reduce, filter_map, cons_option, AllByRecursion}
 use Rattle.bundle_text.specs.Firsts.{onto, said_from}
 use Rattle.clk_base.specs.Description.{Description, EachClock}
 use Rattle.clk_base.specs.declared.command.Command.{Command}
 use Rattle.clk_machine.specs.Fit.{has_earlier_parents, can_run, CanRun}
 use Rattle.drv_scripts.specs.declared.bundle.Bundle.{Bundle}
+use Rattle.drv_scripts.specs.declared.bundle.LateLine.{LateLine}
 use Rattle.drv_scripts.specs.declared.bundle.Script.{Script}
 use Rattle.clk_run.specs.Scripts.{is_built_act}
 use Rattle.clk_run.specs.Runs.{are_built}
-use Rattle.clk_run.specs.Built.{unfit_line, unbuilt_command, unbuilt_commands, unbuilt_lines, unbuilt_line}
+use Rattle.clk_run.specs.Built.{unfit_line, unbuilt_command, unbuilt_commands, unbuilt_sections, unbuilt_lines, unbuilt_line}
 use Rattle.clk_model.proofs.Members.{both_left}
 use Rattle.std.proofs.lemmas.Bool.{and_from}
 
@@ -75,7 +76,29 @@ pub built_all : (b : Bundle) → unbuilt_line b ≡ None → AllByRecursion (λ 
 unfolding unbuilt_lines
 built_all b e =
     drivers_built b.drivers
-    (nothing_behind b.assigned_lines _ (nothing_behind (said_from (unfit_line b.desc.defs b.clock_lines) 0 (length b.desc.defs)) _ (least_none _ e)))
+    (nothing_behind (unbuilt_sections b) _ (nothing_behind (said_from (unfit_line b.desc.defs b.clock_lines) 0 (length b.desc.defs)) _ (least_none _ e)))
+
+-- and there is no node with assigned clocks, no late clock and no order of drivers
+pub record IsPlain (b : Bundle) : Type 0 where
+  pub unassigned : b.assigned_lines ≡ []
+  pub prompt : b.late ≡ []
+  pub unordered : b.order_lines ≡ []
+
+no_late : (late : List LateLine) → map (λ l. l.line) late ≡ [] → late ≡ []
+no_late [] e = refl
+no_late (l ∷ late) e = absurd cc
+
+pub plain_all : (b : Bundle) → unbuilt_line b ≡ None → IsPlain b
+unfolding unbuilt_lines
+plain_all b e =
+    let lines = map (λ (l : LateLine). l.line) b.late in
+    let none = nothing (unbuilt_sections b) _ (nothing_behind (said_from (unfit_line b.desc.defs b.clock_lines) 0 (length b.desc.defs)) _ (least_none _ e)) in
+    let behind = nothing_behind b.assigned_lines (lines ++ b.order_lines) none in
+    record {
+      unassigned = nothing b.assigned_lines (lines ++ b.order_lines) none;
+      prompt = no_late b.late (nothing lines b.order_lines behind);
+      unordered = nothing_behind lines b.order_lines behind;
+    }
 
 -- the possible parents of clocks that can be run are earlier clocks
 pub earlier_all : (defs : Description) → CanRun defs → EachClock defs (has_earlier_parents defs)

@@ -8,25 +8,27 @@ use Rattle.drv_scripts.specs.declared.bundle.Bundle.{Bundle}
 use Rattle.drv_scripts.specs.declared.bundle.Script.{Script}
 use Rattle.drv_scripts.specs.Placed.{IsSound}
 use Rattle.clk_run.specs.Built.{SpellsRun}
-use Rattle.clk_run.proofs.Fitness.{fit_all, built_all}
+use Rattle.clk_run.proofs.Fitness.{fit_all, built_all, plain_all}
 use Rattle.clk_cli.specs.declared.cli.Mode.{Mode}
 use Rattle.clk_cli.specs.declared.cli.Mode.TheVariants.{Check, Sim, Run, Bench}
 use Rattle.clk_run.specs.Runs.{credits_of, drivers_in, IsReady}
-use Rattle.drv_scripts.proofs.Verdicts.{boot_is, order_is}
+use Rattle.drv_scripts.proofs.Verdicts.{boot_is}
 use Rattle.clk_run.proofs.Going.{length-boot_of}
 use Rattle.clk_model.specs.Begin.{most_credits}
 
 -- ---- ready
 
 pub ready : (bytes : List ℕ) (b : Bundle) → SpellsRun bytes b → IsSound b → IsReady b
-ready bytes b runs sound = record {
-  sound = sound;
-  fit = fit_all b runs.built;
-  boot = boot_is bytes b runs.spelled;
-  few = sound.drivers;
-  unordered = order_is bytes b runs.spelled;
-  built = built_all b runs.built;
-}
+ready bytes b runs sound =
+    let plain = plain_all b runs.built in
+    record {
+      sound = sound;
+      fit = fit_all b runs.built;
+      boot = boot_is bytes b runs.spelled plain.prompt plain.unassigned;
+      few = sound.drivers;
+      unordered = sound.lined plain.unordered;
+      built = built_all b runs.built;
+    }
 
 -- its commands are few enough for the credits
 pub few_credits : (b : Bundle) → IsReady b → credits_of b ≤ most_credits

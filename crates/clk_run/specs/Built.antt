@@ -1,5 +1,5 @@
 -- What can be run so far: the lines for which a bundle that was read is refused, and the verdict on bytes.
-use Rattle.std.specs.Prelude.{◌≡◌, ◌⊎◌, ℕ, ◌++◌, List, length, Option, Some, None, slice_index, min, if◌then◌else◌}
+use Rattle.std.specs.Prelude.{◌≡◌, ◌⊎◌, ℕ, ◌++◌, List, length, Option, Some, None, slice_index, min, map, if◌then◌else◌}
 use Rattle.std.specs.List.{reduce, filter_map, flat_map}
 use Rattle.bundle_text.specs.Firsts.{said_from}
 use Rattle.clk_base.specs.Description.{Description}
@@ -26,10 +26,14 @@ unbuilt_command command = if is_built_act command.act then None else Some comman
 abbrev pub unbuilt_commands : List Script → List ℕ
 unbuilt_commands drivers = flat_map (λ s. filter_map unbuilt_command s.commands) drivers
 
--- the lines of these clocks, of the nodes with assigned clocks, and of these commands
+-- the lines of what can't be run yet besides clocks and commands: of the nodes with assigned clocks, of late clocks, and of a stated order of drivers
+abbrev pub unbuilt_sections : Bundle → List ℕ
+unbuilt_sections b = b.assigned_lines ++ (map (λ l. l.line) b.late ++ b.order_lines)
+
+-- the lines of these clocks, of these sections, and of these commands
 unfoldable pub unbuilt_lines : Bundle → List ℕ
 unbuilt_lines b =
-    said_from (unfit_line b.desc.defs b.clock_lines) 0 (length b.desc.defs) ++ (b.assigned_lines ++ unbuilt_commands b.drivers)
+    said_from (unfit_line b.desc.defs b.clock_lines) 0 (length b.desc.defs) ++ (unbuilt_sections b ++ unbuilt_commands b.drivers)
 
 -- the least of them, if there is one
 abbrev pub unbuilt_line : Bundle → Option ℕ

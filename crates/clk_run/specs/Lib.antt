@@ -1,3 +1,4 @@
+pub mod Arming
 pub mod Called
 pub mod Scripts
 pub mod Steps

@@ -4,6 +4,7 @@
 //! drivers over a bank of registers, and prints their answers and the registers to a sink.
 #![tactic(auto)]
 
+mod arming;
 mod called;
 mod calling;
 mod command;

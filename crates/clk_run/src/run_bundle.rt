@@ -5,6 +5,7 @@ ghost use Rattle.clk_io.specs.Counts.{CountsPrintFault};
 ghost use Rattle.clk_model.specs.Begin.{most_credits};
 ghost use Rattle.clk_run.specs.Runs.{credits_of, drivers_in, IsReady, Printed, LeftByFault};
 
+use crate::arming::arm_locks;
 use crate::printing::print_run;
 use crate::scripts::run_scripts;
 use crate::words::registers_of;
@@ -37,8 +38,8 @@ fn drivers_in(mode: Mode, bundle: &Bundle) -> &[Script]
     }
 }
 
-/// Runs a bundle over a bank and prints its answers and registers. The bank comes back.
-pub(crate) fn run_bundle<K: Sink, B: Bank>(
+// Runs a bundle over a bank and prints its answers and registers. The bank comes back.
+fn run_armed<K: Sink, B: Bank>(
     alloc: Global,
     bundle: &Bundle,
     cli: &Cli,
@@ -74,4 +75,27 @@ pub(crate) fn run_bundle<K: Sink, B: Bank>(
         out,
     )?;
     Ok(core.into_bank())
+}
+
+/// Arms the locks of a bank, runs a bundle over it and prints its answers and registers. The bank
+/// comes back.
+pub(crate) fn run_bundle<K: Sink, B: Bank>(
+    alloc: Global,
+    bundle: &Bundle,
+    cli: &Cli,
+    out: &mut K,
+    bank: B,
+) -> Result<B, PrintFault>
+    requires ready { IsReady bundle.now }
+    requires room { 65536 ≤ B.size bank }
+    ensures done { IfOk result (λ left. Printed bundle.now cli.now (B.contents bank) (K.written out.old) (K.written out.new) (B.contents left)) }
+    ensures told { IfOk result (λ left. is_some (B.contents left) ≡ is_some (B.contents bank)) }
+    ensures fault { IfErr result (LeftByFault bundle.now cli.now (is_some (B.contents bank)) (K.written out.old) (K.written out.new)) }
+    ensures tells { is_some (K.written out.new) ≡ is_some (K.written out.old) }
+    ensures later { K.faults out.old ≤ K.faults out.new }
+    ensures counts { CountsPrintFault (K.faults out.old) (K.faults out.new) result }
+{
+    let mut bank = bank;
+    arm_locks(&mut bank, bundle.locks.as_slice());
+    run_armed(alloc, bundle, cli, out, bank)
 }

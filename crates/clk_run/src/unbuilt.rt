@@ -1,18 +1,18 @@
 //! What can't be run yet.
 
-ghost use Rattle.std.specs.Prelude.{◌≡◌, ◌<◌, ◌++◌, length, min, IfOk, OnOk};
+ghost use Rattle.std.specs.Prelude.{◌≡◌, ◌<◌, ◌++◌, length, map, min, IfOk, OnOk};
 ghost use Rattle.std.specs.List.{reduce, filter_map};
 ghost use Rattle.std.specs.Option.{option_to_list};
 ghost use Rattle.bundle_text.specs.Firsts.{said_from};
 ghost use Rattle.clk_run.specs.Scripts.{is_built_act};
-ghost use Rattle.clk_run.specs.Built.{unfit_line, unbuilt_command, unbuilt_commands, unbuilt_line};
+ghost use Rattle.clk_run.specs.Built.{unfit_line, unbuilt_command, unbuilt_commands, unbuilt_sections, unbuilt_line};
 
 use crate::called::{Called, made_by};
 use clk_base::{Act, ClockId, Command, Handle, ValidDesc};
 use clk_io::NoMemory;
 use clk_machine::{is_built, is_fit};
-use drv_scripts::{Bundle, Script};
-use std::alloc::Global;
+use drv_scripts::{Bundle, LateLine, Script};
+use std::alloc::{AllocError, Global};
 
 // The line of a clock that no core can run yet.
 fn unfit_line(desc: &ValidDesc, clock_lines: &[u32], clock: ClockId) -> Option<u32>
@@ -105,15 +105,33 @@ fn push_drivers(lines: &mut Vec<u32>, drivers: &[Script]) -> Result<(), NoMemory
     Ok(())
 }
 
+// The lines of late clocks.
+fn late_lines(alloc: Global, late: &[LateLine]) -> Result<Vec<u32>, AllocError>
+    ensures { IfOk result (λ lines. lines.items ≡ map (λ l. l.line) late.now) }
+{
+    late.iter().map(|late| late.line).collect(alloc)
+}
+
+// The lines of what can't be run yet besides clocks and commands, behind other lines.
+fn push_sections(alloc: Global, lines: &mut Vec<u32>, bundle: &Bundle) -> Result<(), NoMemory>
+    ensures { OnOk result (lines.new.items ≡ lines.old.items ++ unbuilt_sections bundle.now) }
+{
+    let late = late_lines(alloc, bundle.late.as_slice())?;
+    lines.extend_from_slice(bundle.assigned_lines.as_slice())?;
+    lines.extend_from_slice(&late)?;
+    lines.extend_from_slice(bundle.order_lines.as_slice())?;
+    Ok(())
+}
+
 /// The least line of what can't be run yet: a clock that no core can run, a node with assigned
-/// clocks, or a command.
+/// clocks, a late clock, a stated order of drivers, or a command.
 #[tactic(auto, unfolding(crate::specs::Built::unbuilt_lines))]
 pub(crate) fn least_unbuilt(alloc: Global, bundle: &Bundle) -> Result<Option<u32>, NoMemory>
     requires { length bundle.now.clock_lines ≡ length bundle.now.desc.defs }
     ensures { IfOk result (λ least. least ≡ unbuilt_line bundle.now) }
 {
     let mut lines = unfit_lines(alloc, &bundle.desc, bundle.clock_lines.as_slice())?;
-    lines.extend_from_slice(bundle.assigned_lines.as_slice())?;
+    push_sections(alloc, &mut lines, bundle)?;
     push_drivers(&mut lines, bundle.drivers.as_slice())?;
     Ok(least(&lines))
 }

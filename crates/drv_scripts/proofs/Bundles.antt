@@ -1,10 +1,12 @@
 -- The bundle that lines spell, and what holds of it.
 use Rattle.std.proofs.Common.{◌≡◌, ℕ, zero, suc, ◌+◌, ◌-◌, ◌<◌, ◌≤◌, ◌++◌, true, List, [], ◌∷◌, map, length, Option, Some, None, IfSome, refl, ap, sym, ◌∙◌, subst, arith}
-use Rattle.std.specs.Prelude.{slice_get}
+use Rattle.std.specs.Prelude.{slice_get, Bool, false, cond, nat_lt}
 use Rattle.std.specs.List.{range_with_len, AllByRecursion, flat_map, list_all, position}
 use Rattle.std.specs.Option.{option_map, option_and_then, option_flatten}
 use Rattle.std.specs.Str.{bytes_eq}
 use Rattle.std.proofs.lemmas.Option.{none-some, same_Some}
+use Rattle.std.proofs.lemmas.Bool.{ltb-true}
+use Rattle.bundle_text.specs.Firsts.{onto, said_from}
 use Rattle.clk_base.specs.Checked.{Checked}
 use Rattle.clk_base.specs.declared.command.Command.{Command}
 use Rattle.clk_base.specs.Description.{Description}
@@ -15,23 +17,70 @@ use Rattle.bundle_sections.specs.Said.{Parts}
 use Rattle.bundle_sections.specs.Sections.{SaidSection}
 use Rattle.dts_clocks.specs.Consumers.{SeenName, SeenConsumer}
 use Rattle.dts_clocks.proofs.Parented.{passes_both}
-use Rattle.dts_clocks.proofs.Within.{are_below, consumer_below}
+use Rattle.dts_clocks.specs.Assigned.{SeenAssigned}
+use Rattle.dts_clocks.specs.declared.loaded.AssignedStep.{AssignedStep}
+use Rattle.dts_clocks.specs.declared.loaded.AssignedStep.TheVariants.{Parent, Rate}
+use Rattle.dts_clocks.proofs.Within.{are_below, consumer_below, step_below, assigned_below}
 use Rattle.drv_scripts.specs.declared.bundle.Bundle.{Bundle}
+use Rattle.drv_scripts.specs.declared.bundle.LateLine.{LateLine}
+use Rattle.drv_scripts.specs.declared.bundle.LockLine.{LockLine}
 use Rattle.drv_scripts.specs.declared.bundle.Script.{Script}
+use Rattle.drv_scripts.specs.declared.part.Others.{Others}
 use Rattle.drv_scripts.specs.Placed.{NamePlaces, IsScript, IsSound}
-use Rattle.drv_scripts.specs.Sections.{Around, around, names_at, names_of, scripts_between, scripts_in, count_of}
-use Rattle.drv_scripts.specs.Spelled.{probe, boot_of, bank_words, bundle_of}
+use Rattle.drv_scripts.specs.Parts.{AreOthers, made}
+use Rattle.drv_scripts.specs.Sections.{Around, around, names_at, names_of, scripts_between, scripts_in, locks_in, late_in, turns_in, line_of, order_lines_in, count_of}
+use Rattle.drv_scripts.specs.Spelled.{probe, boot_of, is_late, probe_unless, probes_without, step_commands, assigned_commands, bank_words, bundle_of}
+use Rattle.drv_scripts.proofs.ListPlaced.{all_append, locks_placed, late_placed}
 use Rattle.drv_scripts.proofs.SaidPlaced.{MayBeNamed, commands_placed}
 
 -- ## Boot
 
-probes_placed : (from count n : ℕ) → from + count ≤ n → NamePlaces n (map probe (range_with_len from count))
-probes_placed from zero n le = tt
-probes_placed from (suc count) n le = (omega arith, probes_placed (from + 1) count n (omega arith))
+-- a list of commands behind another
+both_placed : (n : ℕ) (xs ys : List Command) → NamePlaces n xs → NamePlaces n ys → NamePlaces n (xs ++ ys)
+both_placed n [] ys p q = q
+both_placed n (x ∷ xs) ys p q = (p.0, both_placed n xs ys p.1 q)
 
-boot_placed : (n : ℕ) → NamePlaces n (boot_of n)
-unfolding boot_of
-boot_placed n = probes_placed 0 n n (omega arith)
+unless_placed : (absent : List LateLine) (n from : ℕ) (rest : List Command) → from < n → NamePlaces n rest → NamePlaces n (onto (probe_unless absent from) rest)
+unless_placed absent n from rest lt placed = pick (is_late absent from) where
+  pick : (b : Bool) → NamePlaces n (onto (cond b None (Some (probe from))) rest)
+  pick true = placed
+  pick false = (lt, placed)
+
+probes_placed : (absent : List LateLine) (from count n : ℕ) → from + count ≤ n → NamePlaces n (said_from (probe_unless absent) from count)
+probes_placed absent from zero n le = tt
+probes_placed absent from (suc count) n le = unless_placed absent n from (said_from (probe_unless absent) (from + 1) count) (omega arith) (probes_placed absent (from + 1) count n (omega arith))
+
+-- without a late clock each is registered
+probe_each : (from count : ℕ) → said_from (probe_unless []) from count ≡ map probe (range_with_len from count)
+probe_each from zero = refl
+probe_each from (suc count) = ap (λ (cs : List Command). probe from ∷ cs) (probe_each (from + 1) count)
+
+pub all_probes : (count : ℕ) → probes_without [] count ≡ boot_of count
+unfolding probes_without boot_of
+all_probes count = probe_each 0 count
+
+step_placed : (n : ℕ) (step : AssignedStep) → step_below n step ≡ true → NamePlaces n (step_commands step)
+step_placed n (Parent clock parent) below =
+    let both = passes_both (nat_lt clock.0 n) (nat_lt parent.0 n) below in
+    (ltb-true clock.0 n both.0, (ltb-true parent.0 n both.1, (tt, tt)))
+step_placed n (Rate clock rate) below = (ltb-true clock.0 n below, (tt, (tt, tt)))
+
+steps_placed : (n : ℕ) (steps : List AssignedStep) → list_all (step_below n) steps ≡ true → NamePlaces n (flat_map step_commands steps)
+steps_placed n [] all = tt
+steps_placed n (step ∷ steps) all =
+    let both = passes_both (step_below n step) (list_all (step_below n) steps) all in
+    both_placed n (step_commands step) (flat_map step_commands steps) (step_placed n step both.0) (steps_placed n steps both.1)
+
+assigned_placed : (n : ℕ) (assigned : List SeenAssigned) → list_all (assigned_below n) assigned ≡ true → NamePlaces n (assigned_commands assigned)
+unfolding assigned_commands
+assigned_placed n [] all = tt
+assigned_placed n (a ∷ assigned) all =
+    let both = passes_both (assigned_below n a) (list_all (assigned_below n) assigned) all in
+    both_placed n (flat_map step_commands a.steps) (assigned_commands assigned) (steps_placed n a.steps both.0) (assigned_placed n assigned both.1)
+
+boot_placed : (absent : List LateLine) (n : ℕ) (assigned : List SeenAssigned) → list_all (assigned_below n) assigned ≡ true → NamePlaces n (probes_without absent n ++ assigned_commands assigned)
+unfolding probes_without
+boot_placed absent n assigned all = both_placed n (said_from (probe_unless absent) 0 n) (assigned_commands assigned) (probes_placed absent 0 n n (omega arith)) (assigned_placed n assigned all)
 
 -- ## Drivers
 
@@ -66,10 +115,6 @@ between_placed a lock first end all = tt
 between_placed a late first end all = tt
 between_placed a order first end all = tt
 
-pub all_append : {X : Type 0} (P : X → Type 0) (xs ys : List X) → AllByRecursion P xs → AllByRecursion P ys → AllByRecursion P (xs ++ ys)
-all_append P [] ys p q = q
-all_append P (x ∷ xs) ys p q = (p.0, all_append P xs ys p.1 q)
-
 sections_placed : (a : Around) (sections : List SaidSection) → list_all (consumer_below (length a.defs)) a.consumers ≡ true → ScriptsPlaced (length a.defs) (flat_map (scripts_in a) sections)
 sections_placed a [] all = tt
 sections_placed a (s ∷ more) all =
@@ -79,41 +124,40 @@ both : (n : ℕ) (scripts : List Script) → ScriptsPlaced n scripts → AllByRe
 both n [] placed few = tt
 both n (s ∷ more) placed few = (record { placed = placed.0; few = few.0 }, both n more placed.1 few.1)
 
+-- ## Turns
+
+-- two lists that are nothing together are nothing
+nothing_both : {X : Type 0} (xs ys : List X) → xs ++ ys ≡ [] → (xs ≡ []) × (ys ≡ [])
+nothing_both [] ys e = (refl, e)
+nothing_both (x ∷ xs) ys e = absurd cc
+
+-- no turn without a line
+no_turns : (turns : List ℕ) (place : ℕ) → line_of turns place ≡ [] → turns ≡ []
+no_turns [] place none = refl
+no_turns (turn ∷ turns) place none = absurd cc
+
+order_lined : (a : Around) (sections : List SaidSection) → flat_map (order_lines_in a) sections ≡ [] → flat_map (turns_in a) sections ≡ []
+order_lined a [] none = refl
+order_lined a (s ∷ more) none =
+    let both = nothing_both (order_lines_in a s) (flat_map (order_lines_in a) more) none in
+    ap (λ (xs : List ℕ). xs ++ flat_map (turns_in a) more) (no_turns (turns_in a s) s.place both.0) ∙ order_lined a more both.1
+
 -- ## The bundle
 
--- a bundle of these parts, which states neither locks nor late clocks nor an order
-abbrev pub made : Checked → List ℕ → List ℕ → List ℕ → List Command → List Script → Bundle
-made desc lines assigned words boot drivers =
-    record { desc = desc; clock_lines = lines; assigned_lines = assigned; words = words; locks = []; late = []; boot = boot; drivers = drivers; order = [] }
-
-pub made_same : (desc : Checked) (lines assigned other words : List ℕ) (boot commands : List Command) (drivers : List Script) → assigned ≡ other → boot ≡ commands
-    → made desc lines assigned words boot drivers ≡ made desc lines other words commands drivers
-made_same desc lines assigned other words boot commands drivers e f = rw (e, f) refl
-
--- the parts of a bundle
-pub bundle_is : (ls : List (List ℕ)) (parts : Parts) (said : SaidClocks) (desc : Checked) (words : List ℕ) (drivers : List Script) → desc ≡ record { defs = said.defs; words = parts.bank.words }
-    → words ≡ bank_words ls parts.bank → drivers ≡ flat_map (scripts_in (around ls said)) parts.others
-    → record {
-      desc = desc;
-      clock_lines = said.lines;
-      assigned_lines = map (λ a. a.line) said.assigned;
-      words = words;
-      locks = [];
-      late = [];
-      boot = boot_of (length desc.defs);
-      drivers = drivers;
-      order = [];
-    } ≡ bundle_of ls parts said
+-- the bundle of what was read is the one that the lines spell
+pub bundle_is : (ls : List (List ℕ)) (parts : Parts) (said : SaidClocks) (desc : Checked) (words : List ℕ) (others : Others) → desc ≡ record { defs = said.defs; words = parts.bank.words }
+    → words ≡ bank_words ls parts.bank → AreOthers (around ls parts said) parts.others others → made desc said.lines said.assigned words others ≡ bundle_of ls parts said
 unfolding bundle_of
-bundle_is ls parts said desc words drivers e f g = rw (e, f, g) refl
+bundle_is ls parts said desc words others e f read = rw (e, f, read.locks, read.late, read.drivers, read.order, read.lines) refl
 
-pub boot_commands_of : (ls : List (List ℕ)) (parts : Parts) (said : SaidClocks) → (bundle_of ls parts said).boot ≡ boot_of (length said.defs)
+pub boot_commands_of : (ls : List (List ℕ)) (parts : Parts) (said : SaidClocks)
+    → (bundle_of ls parts said).boot ≡ probes_without (bundle_of ls parts said).late (length said.defs) ++ assigned_commands said.assigned
 unfolding bundle_of
 boot_commands_of ls parts said = refl
 
-pub order_of : (ls : List (List ℕ)) (parts : Parts) (said : SaidClocks) → (bundle_of ls parts said).order ≡ []
+pub assigned_lines_of : (ls : List (List ℕ)) (parts : Parts) (said : SaidClocks) → (bundle_of ls parts said).assigned_lines ≡ map (λ a. a.line) said.assigned
 unfolding bundle_of
-order_of ls parts said = refl
+assigned_lines_of ls parts said = refl
 
 pub desc_of : (ls : List (List ℕ)) (parts : Parts) (said : SaidClocks) → (bundle_of ls parts said).desc ≡ record { defs = said.defs; words = parts.bank.words }
 unfolding bundle_of
@@ -124,12 +168,13 @@ pub record AreFit (ls : List (List ℕ)) (parts : Parts) (said : SaidClocks) : T
   pub valid : IsValid parts.bank.words said.defs
   pub count : length said.lines ≡ length said.defs
   pub named : list_all (consumer_below (length said.defs)) said.consumers ≡ true
+  pub assigned : list_all (assigned_below (length said.defs)) said.assigned ≡ true
   pub some : 0 < parts.bank.words
   pub few : parts.bank.words ≤ 65536
   pub words : length (bank_words ls parts.bank) ≡ parts.bank.words
-  pub scripts : AllByRecursion (λ s. length s.commands ≤ 65536) (flat_map (scripts_in (around ls said)) parts.others)
-  pub drivers : length (flat_map (scripts_in (around ls said)) parts.others) ≤ 64
-  pub commands : count_of (flat_map (scripts_in (around ls said)) parts.others) ≤ 1048576
+  pub scripts : AllByRecursion (λ s. length s.commands ≤ 65536) (flat_map (scripts_in (around ls parts said)) parts.others)
+  pub drivers : length (flat_map (scripts_in (around ls parts said)) parts.others) ≤ 64
+  pub commands : count_of (flat_map (scripts_in (around ls parts said)) parts.others) ≤ 1048576
 
 -- a bundle that was read fits together
 pub bundle_sound : (ls : List (List ℕ)) (parts : Parts) (said : SaidClocks) → AreFit ls parts said → IsSound (bundle_of ls parts said)
@@ -140,8 +185,11 @@ bundle_sound ls parts said fit = record {
   some = fit.some;
   few = fit.few;
   words = fit.words;
-  boot = boot_placed (length said.defs);
-  scripts = both (length said.defs) (flat_map (scripts_in (around ls said)) parts.others) (sections_placed (around ls said) parts.others fit.named) fit.scripts;
+  locks = locks_placed (around ls parts said) parts.others;
+  late = late_placed (around ls parts said) parts.others;
+  boot = boot_placed (flat_map (late_in (around ls parts said)) parts.others) (length said.defs) said.assigned fit.assigned;
+  scripts = both (length said.defs) (flat_map (scripts_in (around ls parts said)) parts.others) (sections_placed (around ls parts said) parts.others fit.named) fit.scripts;
   drivers = fit.drivers;
   commands = fit.commands;
+  lined = order_lined (around ls parts said) parts.others;
 }

@@ -1,15 +1,12 @@
--- The header and the lines of a driver's section, and of sections that say nothing.
-use Rattle.std.proofs.Common.{◌≡◌, ◌⊎◌, ℕ, ◌+◌, ◌-◌, ◌<◌, ◌≤◌, ◌==◌, ◌∷◌, [], true, false, List, Option, Some, None, refl, ap, sym, ◌∙◌, subst, inl, inr, arith}
+-- The header and the lines of a driver's section.
+use Rattle.std.proofs.Common.{◌≡◌, ℕ, ◌+◌, ◌-◌, ◌<◌, ◌≤◌, ◌==◌, ◌∷◌, [], true, false, List, Option, Some, None, refl, ap, sym, ◌∙◌, subst, inl, inr, arith}
 use Rattle.std.specs.Option.{option_flatten, is_some}
 use Rattle.std.proofs.lemmas.Bool.{cases_lt, cond-true, cond-false}
 use Rattle.std.proofs.lemmas.Bool.Decides.{nat_tests}
-use Rattle.bundle_sections.specs.declared.header.Header.{Header}
-use Rattle.bundle_sections.specs.declared.header.Header.TheVariants as headers
-use Rattle.bundle_sections.specs.Headers.{Said, device_tree, clocks, bank, driver}
-use Rattle.bundle_sections.specs.Said.{said_header}
+use Rattle.bundle_sections.specs.Headers.{Said, driver}
 use Rattle.bundle_text.specs.Faults.{unless}
 use Rattle.bundle_text.specs.declared.reason.Reason.{Reason}
-use Rattle.bundle_text.specs.declared.reason.Reason.TheVariants.{UnknownName, NotYet}
+use Rattle.bundle_text.specs.declared.reason.Reason.TheVariants.{UnknownName}
 use Rattle.dts_clocks.specs.Consumers.{SeenName}
 use Rattle.drv_scripts.specs.declared.bundle.Script.{Script}
 use Rattle.drv_scripts.specs.declared.stop.Stop.{Stop}
@@ -24,11 +21,11 @@ is_place k = grind (arith, nat_tests)
 no_place : (k place : ℕ) → place < k → (k == place) ≡ false
 no_place k place lt = grind (arith, nat_tests)
 
-fault-header : (a : Around) (before : ℕ) (says : Said) (place end : ℕ) → section_fault a before (section_from says place end) place ≡ header_fault a says
+pub fault-header : (a : Around) (before : ℕ) (says : Said) (place end : ℕ) → section_fault a before (section_from says place end) place ≡ header_fault a says
 unfolding section_fault
 fault-header a before says place end = cond-true _ _ _ (is_place place)
 
-fault-inside : (a : Around) (before : ℕ) (says : Said) (place end k : ℕ) → place < k → section_fault a before (section_from says place end) k ≡ inside_fault a before (place + 1) says k
+pub fault-inside : (a : Around) (before : ℕ) (says : Said) (place end k : ℕ) → place < k → section_fault a before (section_from says place end) k ≡ inside_fault a before (place + 1) says k
 unfolding section_fault
 fault-inside a before says place end k lt = cond-false _ _ _ (no_place k place lt)
 
@@ -81,37 +78,3 @@ unfolding scripts_between
 driver_said a name path first end names found =
     let made : Option (List SeenName) → List Script = λ own. record { name = name; commands = commands_of a.defs own a.lines first (end - first) } ∷ [] in
     ap (λ o. made (option_flatten o)) found
-
--- ## Other sections
-
--- sections that can't be read yet
-pub not_yet : (a : Around) (before : ℕ) (header : Header) (place end : ℕ) → (header ≡ headers.Lock) ⊎ ((header ≡ headers.Late) ⊎ (header ≡ headers.Order))
-    → section_fault a before (section_from (said_header header) place end) place ≡ Some NotYet
-unfolding header_fault
-not_yet a before header place end (inl e) = fault-header a before (said_header header) place end ∙ ap (λ h. header_fault a (said_header h)) e
-not_yet a before header place end (inr (inl e)) = fault-header a before (said_header header) place end ∙ ap (λ h. header_fault a (said_header h)) e
-not_yet a before header place end (inr (inr e)) = fault-header a before (said_header header) place end ∙ ap (λ h. header_fault a (said_header h)) e
-
--- the lines have no fault, and there is no driver
-abbrev pub IsQuiet : Around → ℕ → Said → ℕ → ℕ → Type 0
-IsQuiet a before says place end = KeepsBetween (section_fault a before (section_from says place end)) place end × ([] ≡ scripts_between a says (place + 1) end)
-
-kept_quiet : (a : Around) (before : ℕ) (says : Said) (place end : ℕ) → header_fault a says ≡ None → ((k : ℕ) → inside_fault a before (place + 1) says k ≡ None)
-    → KeepsBetween (section_fault a before (section_from says place end)) place end
-kept_quiet a before says place end head inside k low high =
-    elim (cases_lt place k) [
-      | inl behind ↦ fault-inside a before says place end k behind ∙ inside k
-      | inr here ↦ (let same : k ≡ place = omega (arith, here) in ap (section_fault a before (section_from says place end)) same ∙ (fault-header a before says place end ∙ head))
-    ]
-
-pub tree_quiet : (a : Around) (before place end : ℕ) → IsQuiet a before device_tree place end
-unfolding header_fault inside_fault scripts_between
-tree_quiet a before place end = (kept_quiet a before device_tree place end refl (λ k. refl), refl)
-
-pub clocks_quiet : (a : Around) (before place end : ℕ) → IsQuiet a before clocks place end
-unfolding header_fault inside_fault scripts_between
-clocks_quiet a before place end = (kept_quiet a before clocks place end refl (λ k. refl), refl)
-
-pub bank_quiet : (a : Around) (before words place end : ℕ) → IsQuiet a before (bank words) place end
-unfolding header_fault inside_fault scripts_between
-bank_quiet a before words place end = (kept_quiet a before (bank words) place end refl (λ k. refl), refl)

@@ -17,7 +17,7 @@ use Rattle.bundle_text.specs.Firsts.{KeepsBelow}
 use Rattle.bundle_text.specs.Lines.{line_at, is_header}
 use Rattle.bundle_text.specs.Words.{blank_words}
 use Rattle.bundle_text.specs.declared.reason.Reason.{Reason}
-use Rattle.drv_scripts.specs.Sections.{Around, scripts_between, scripts_in}
+use Rattle.drv_scripts.specs.Sections.{Around, name_in, driver_names, scripts_between, scripts_in}
 
 -- how many of the sections are drivers'
 abbrev drivers_among : List SaidSection → ℕ
@@ -115,3 +115,32 @@ drivers_few a ls parts some accepts =
     let few = few_at ls (length ls) some (λ k lt. accepts.placed k (omega arith)) in
     let all : drivers_among (in_order parts) ≤ 64 = subst (λ xs. drivers_among xs ≤ 64) accepts.sections few in
     omega (arith, length-scripts a parts.others, among_others parts)
+
+-- ## Names
+
+length-name : (says : Said) → length (name_in says) ≡ cond (is_driver says) 1 0
+length-name (driver name path) = refl
+length-name device_tree = refl
+length-name clocks = refl
+length-name (bank words) = refl
+length-name lock = refl
+length-name late = refl
+length-name order = refl
+
+-- there are as many names as drivers
+length-names : (sections : List SaidSection) → length (driver_names sections) ≡ drivers_among sections
+length-names [] = refl
+length-names (s ∷ more) =
+    length-append (name_in s.says) (driver_names more) ∙ (ap (λ n. n + length (driver_names more)) (length-name s.says)
+    ∙ (ap (λ n. cond (is_driver s.says) 1 0 + n) (length-names more) ∙ sym (counted_first s.says (map (λ (t : SaidSection). t.says) more))))
+
+-- at most 64
+pub names_few : (ls : List (List ℕ)) (parts : Parts) → 0 < length ls → Accepts ls parts → length (driver_names parts.others) ≤ 64
+names_few ls parts some accepts =
+    let few = few_at ls (length ls) some (λ k lt. accepts.placed k (omega arith)) in
+    let all : drivers_among (in_order parts) ≤ 64 = subst (λ xs. drivers_among xs ≤ 64) accepts.sections few in
+    omega (arith, length-names parts.others, among_others parts)
+
+-- and each driver has one
+pub names_drivers : (a : Around) (sections : List SaidSection) → length (driver_names sections) ≡ length (flat_map (scripts_in a) sections)
+names_drivers a sections = length-names sections ∙ sym (length-scripts a sections)

@@ -6,9 +6,13 @@ pub mod BankWords
 pub mod Negatives
 pub mod Looked
 pub mod DriverLines
+pub mod PartLines
+pub mod PartLaws
+pub mod ListLaws
 pub mod Among
 pub mod Whole
 pub mod SaidPlaced
+pub mod ListPlaced
 pub mod Divided
 pub mod Verdicts
 pub mod Bundles

@@ -232,7 +232,8 @@ clock_there n names (Some i) all =
 abbrev pub MayBeNamed : ℕ → Option (List SeenName) → Type 0
 MayBeNamed n names = IfSome names (λ own. are_below n own ≡ true)
 
-found_named : (defs : Description) (name : List ℕ) → IfSome (clock_named defs name) (λ c. c.0 < length defs)
+-- the clock that a name means is one of the description
+pub found_named : (defs : Description) (name : List ℕ) → IfSome (clock_named defs name) (λ c. c.0 < length defs)
 found_named defs name =
     elim (clock_named defs name) as (λ o. clock_named defs name ≡ o → IfSome o (λ c. c.0 < length defs))
     [ None ↦ λ e. tt | Some c ↦ λ e. (clock_named-Some defs name c e).0 ] refl

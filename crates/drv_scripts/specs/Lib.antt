@@ -2,10 +2,12 @@ pub mod Judged
 pub mod BankLines
 pub mod CommandLines
 pub mod Commands
+pub mod ListLines
 pub mod Said
 pub mod Sections
 pub mod Steps
 pub mod Reasons
 pub mod Spelled
+pub mod Parts
 pub mod Placed
 pub mod Verdict

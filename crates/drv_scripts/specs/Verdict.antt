@@ -26,7 +26,7 @@ KeepsRules words defs = (rule : Rule) → EachClock defs (keeps rule words defs)
 
 -- what is wrong with the line at a place of these sections, over what the section of the clocks says
 abbrev pub line_fault : List (List ℕ) → Parts → SaidClocks → ℕ → Option Reason
-line_fault ls parts said = fault_at (around ls said) parts.bank parts.others
+line_fault ls parts said = fault_at (around ls parts said) parts.bank parts.others
 
 -- lines in these sections spell the bundle: this is what the section of the clocks says, its clocks keep every rule, and no other line has a fault
 pub record PartsSpell (ls : List (List ℕ)) (parts : Parts) (b : Bundle) : Type 0 where

@@ -73,11 +73,15 @@ pub struct Bundle {
     pub assigned_lines: Listed<u32>,
     /// The words of the register bank.
     pub words: Listed<u32>,
+    /// The delays of locks; a later one of a PLL wins.
     pub locks: Listed<LockLine>,
+    /// The clocks that boot doesn't register.
     pub late: Listed<LateLine>,
     /// The commands of boot. Their line is 0.
     pub boot: Listed<Command>,
     pub drivers: Listed<Script>,
     /// The numbers of drivers, in the order in which they take turns.
     pub order: Listed<u32>,
+    /// The line of the header behind which these turns stand, if there are some.
+    pub order_lines: Listed<u32>,
 }

@@ -1,6 +1,6 @@
 //! The section of a driver.
 
-ghost use Rattle.std.specs.Prelude.{◌≡◌, ◌+◌, ◌-◌, ◌∷◌, ◌<◌, ◌≤◌, ◌^◌, [], length, map, position, string_bytes, IfOk};
+ghost use Rattle.std.specs.Prelude.{◌≡◌, List, ℕ, ◌+◌, ◌-◌, ◌∷◌, ◌<◌, ◌≤◌, ◌^◌, [], length, map, position, string_bytes, IfOk};
 ghost use Rattle.std.specs.Option.{option_map};
 ghost use Rattle.std.specs.Str.{bytes_eq};
 ghost use Rattle.bundle_sections.specs.Headers.{driver};
@@ -59,7 +59,7 @@ pub(crate) fn read_driver(
     requires within { end ≤ length lines.now }
     requires few { length lines.now < 2 ^ 31 }
     requires fewer { before ≤ 1048576 }
-    ensures read { let a = with_clocks lines.now desc.now.defs (map seen_consumer consumers.now) in
+    ensures read { (drivers : List (List ℕ)) → let a = with_clocks lines.now desc.now.defs (map seen_consumer consumers.now) drivers in
         let says = driver name.now (option_map (λ p. p.now) path.entry) in
         Reads (section_fault a before (section_from says place end)) place end
         (λ script. script ∷ [] ≡ scripts_between a says (place + 1) end) result }

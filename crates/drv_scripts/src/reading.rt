@@ -1,6 +1,6 @@
 //! From bytes to a bundle.
 
-ghost use Rattle.std.specs.Prelude.{◌≡◌, ◌+◌, ◌<◌, ◌≤◌, ◌^◌, [], length, map, IfOk, IfErr};
+ghost use Rattle.std.specs.Prelude.{◌≡◌, ◌+◌, ◌<◌, ◌≤◌, ◌^◌, length, map, IfOk, IfErr};
 ghost use Rattle.std.specs.List.{AllByRecursion};
 ghost use Rattle.std.specs.Str.Lines.{lines};
 ghost use Rattle.bundle_clocks.specs.Source.{text_of_lines};
@@ -11,76 +11,73 @@ ghost use Rattle.bundle_text.specs.Faults.{Tells};
 ghost use Rattle.bundle_text.specs.Lines.{header_from};
 ghost use Rattle.dts_clocks.specs.Assigned.{seen_assigned};
 ghost use Rattle.drv_scripts.specs.Placed.{IsSound};
-ghost use Rattle.drv_scripts.specs.Spelled.{boot_of};
+ghost use Rattle.drv_scripts.specs.Parts.{made};
 ghost use Rattle.drv_scripts.specs.Steps.{IsPlaced, stop_told};
 ghost use Rattle.drv_scripts.specs.Verdict.{Accepts, PartsSpell, PartsRefuse, Refuses};
 
-use crate::bundle::{Bundle, Script};
+use crate::boot::boot_commands;
+use crate::bundle::Bundle;
 use crate::contents::{Contents, read_contents};
 use crate::listed::Listed;
+use crate::part::Others;
 use crate::rules::check_rules;
 use crate::stop::Stop;
 use bundle_clocks::read_clocks_part;
 use bundle_sections::{Sections, read_sections};
 use bundle_text::{BundleFault, Reason, TextLines};
-use clk_base::{Act, ClockId, Command, ValidDesc};
+use clk_base::{Command, ValidDesc};
 use clk_io::{MOST_BYTES, NoMemory, line_feeds};
 use dts_clocks::Assigned;
 use std::alloc::{AllocError, Global};
-
-// Boot's commands: each clock is registered.
-fn boot_commands(alloc: Global, clocks: u32) -> Result<Vec<Command>, AllocError>
-    ensures { IfOk result (λ commands. commands.items ≡ boot_of clocks) }
-{
-    (0..clocks)
-        .map(|c| Command {
-            line: 0,
-            var: None,
-            act: Act::Probe(ClockId(c)),
-        })
-        .collect(alloc)
-}
-
-// A bundle with these parts, and with nothing in the others.
-fn plain_bundle(
-    alloc: Global,
-    desc: ValidDesc,
-    lines: (Vec<u32>, Vec<u32>),
-    words: Vec<u32>,
-    boot: Vec<Command>,
-    drivers: Vec<Script>,
-) -> Bundle
-    ensures { result ≡ record {
-      desc = desc;
-      clock_lines = lines.0.items;
-      assigned_lines = lines.1.items;
-      words = words.items;
-      locks = [];
-      late = [];
-      boot = boot.items;
-      drivers = drivers.items;
-      order = [];
-    } }
-{
-    let (clock_lines, assigned_lines) = lines;
-    Bundle {
-        desc,
-        clock_lines: Listed::new(clock_lines),
-        assigned_lines: Listed::new(assigned_lines),
-        words: Listed::new(words),
-        locks: Listed::new(Vec::new(alloc)),
-        late: Listed::new(Vec::new(alloc)),
-        boot: Listed::new(boot),
-        drivers: Listed::new(drivers),
-        order: Listed::new(Vec::new(alloc)),
-    }
-}
 
 // The lines of the nodes that assign clocks.
 fn assigned_lines(alloc: Global, assigned: &[Assigned]) -> Result<Vec<u32>, AllocError>
     ensures { IfOk result (λ lines. lines.items ≡ map (λ a. a.line) assigned.now) }
 {
     assigned.iter().map(|a| a.line).collect(alloc)
+}
+
+// A bundle with these parts.
+fn bundle_with(
+    desc: ValidDesc,
+    lines: (Vec<u32>, Vec<u32>),
+    boot: Vec<Command>,
+    contents: Contents,
+) -> Bundle
+    ensures { result ≡ record {
+      desc = desc;
+      clock_lines = lines.0.items;
+      assigned_lines = lines.1.items;
+      words = contents.words.items;
+      locks = contents.others.locks.items;
+      late = contents.others.late.items;
+      boot = boot.items;
+      drivers = contents.others.drivers.items;
+      order = contents.others.order.items;
+      order_lines = contents.others.order_lines.items;
+    } }
+{
+    let (clock_lines, assigned_lines) = lines;
+    let Contents { words, others } = contents;
+    let Others {
+        locks,
+        late,
+        drivers,
+        order,
+        order_lines,
+    } = others;
+    Bundle {
+        desc,
+        clock_lines: Listed::new(clock_lines),
+        assigned_lines: Listed::new(assigned_lines),
+        words: Listed::new(words),
+        locks: Listed::new(locks),
+        late: Listed::new(late),
+        boot: Listed::new(boot),
+        drivers: Listed::new(drivers),
+        order: Listed::new(order),
+        order_lines: Listed::new(order_lines),
+    }
 }
 
 // The bundle of what the sections say.
@@ -91,22 +88,11 @@ fn make_bundle(
     assigned: &[Assigned],
     contents: Contents,
 ) -> Result<Bundle, NoMemory>
-    ensures { IfOk result (λ b. b ≡ record {
-      desc = desc;
-      clock_lines = clock_lines.items;
-      assigned_lines = map (λ a. a.line) (map seen_assigned assigned.now);
-      words = contents.words.items;
-      locks = [];
-      late = [];
-      boot = boot_of (length desc.defs);
-      drivers = contents.drivers.items;
-      order = [];
-    }) }
+    ensures { IfOk result (λ b. b ≡ made desc clock_lines.items (map seen_assigned assigned.now) contents.words.items contents.others) }
 {
-    let boot = boot_commands(alloc, desc.len() as u32)?;
+    let boot = boot_commands(alloc, desc.len() as u32, &contents.others.late, assigned)?;
     let assigned = assigned_lines(alloc, assigned)?;
-    let Contents { words, drivers } = contents;
-    Ok(plain_bundle(alloc, desc, (clock_lines, assigned), words, boot, drivers))
+    Ok(bundle_with(desc, (clock_lines, assigned), boot, contents))
 }
 
 // The fault of a line at its place.
@@ -144,7 +130,7 @@ fn read_parts(alloc: Global, lines: &TextLines, sections: &Sections) -> Result<B
 
 /// Reads a bundle, phase by phase: too many bytes (line 0); the sections that its lines stand in; the
 /// clocks, from clock lines or a device tree source; the rules of a description; the other lines, one
-/// section behind another. So far `%lock`, `%late` and `%order` are refused with `NotYet`.
+/// section behind another.
 pub fn read_bundle(alloc: Global, bytes: &[u8]) -> Result<Bundle, BundleFault>
     // What is read is the bundle that the bytes spell.
     ensures accepted { IfOk result (Accepts bytes.now) }

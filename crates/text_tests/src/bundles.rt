@@ -2,7 +2,7 @@
 
 use bundle_text::{BundleFault, Reason};
 use clk_base::{Act, ClockId, Command, Policy};
-use drv_scripts::{Bundle, DriverName, Listed, one_verdict, read_bundle};
+use drv_scripts::{Bundle, DriverName, LateLine, Listed, LockLine, one_verdict, read_bundle};
 use std::process::Abort;
 use std::test::Fail;
 
@@ -154,6 +154,59 @@ fn each_command_has_its_numbers_and_names(rt: HostRuntime) -> Result<(), Fail> {
     )
 }
 
+const LISTS: &str =
+    "%bundle 1\n%clocks\nfixed osc 24\npll p osc 0 0 9 0 31 1 9 3\ngate g p 1 0\n%regs 2\n\
+%lock\np 32\np 0x21\n%late\ng\n%driver A\n%driver B\n%order\nA B\n\nB\n";
+
+// A lock of the second clock.
+fn lock(polls: u32) -> LockLine {
+    LockLine {
+        clock: ClockId(1),
+        polls,
+    }
+}
+
+#[test]
+fn reads_locks_late_clocks_and_turns(rt: HostRuntime) -> Result<(), Fail> {
+    let bundle = read_bundle(rt.alloc(), LISTS.as_bytes())?;
+    assert!(rt; bundle.locks.as_slice() == [lock(32), lock(33)].as_slice());
+    let late = LateLine {
+        clock: ClockId(2),
+        line: 11,
+    };
+    assert!(rt; bundle.late.as_slice() == [late].as_slice());
+    assert!(rt; bundle.order.as_slice() == [1, 2, 2].as_slice());
+    assert!(rt; bundle.order_lines.as_slice() == [14].as_slice());
+    assert!(rt; bundle.boot.as_slice().len() == 2);
+    Ok(())
+}
+
+// A bundle of one driver and so many turns of it.
+fn turns<R: AllocGlobal>(rt: &R, count: u32) -> Result<String, Fail> {
+    let mut text = String::from_str(
+        rt.alloc(),
+        "%bundle 1\n%clocks\n%regs 1\n%driver A\n%order\n",
+    )?;
+    for _turn in 0..count {
+        text.push_str("A ")?;
+    }
+    text.push_str("\nA")?;
+    Ok(text)
+}
+
+#[test]
+fn there_are_so_many_turns_at_most(rt: HostRuntime) -> Result<(), Fail> {
+    let bundle = read_bundle(rt.alloc(), turns(&rt, 1_048_575)?.as_bytes())?;
+    assert!(rt; bundle.order.as_slice().len() == 1_048_576);
+    check_refusal(
+        &rt,
+        turns(&rt, 1_048_576)?.as_bytes(),
+        7,
+        Reason::TooManyTurns,
+    );
+    Ok(())
+}
+
 const BOARD: &str =
     "%bundle 1\n%dts\n/dts-v1/;\n\n/ {\n\t#address-cells = <0x01>;\n\tmodel = \"board\";\n\n\
 \tosc24M {\n\t\tcompatible = \"fixed-clock\";\n\t\t#clock-cells = <0x00>;\n\t\tclock-frequency = <0x16e3600>;\n\
@@ -161,6 +214,37 @@ const BOARD: &str =
 \t\tclocks = <0x01>;\n\t\tbank,reg = <0x00>;\n\t\tclock-indices = <0x00 0x05>;\n\
 \t\tclock-output-names = \"ahb_dma\", \"ahb_uart\";\n\t\tphandle = <0x02>;\n\t};\n};\n%regs 1\n\
 %driver A\nget u ahb_uart\n";
+
+const ASSIGNED: &str =
+    "%bundle 1\n%dts\n/dts-v1/; / {\na: a { compatible = \"fixed-clock\"; #clock-cells = <0>; clock-frequency = <5>; };\n\
+b: b { compatible = \"fixed-clock\"; #clock-cells = <0>; clock-frequency = <6>; };\n\
+use { assigned-clocks = <&a>, <0>, <&b>; assigned-clock-rates = <7 8 9>; assigned-clock-parents = <&b>, <&b>; };\n};\n\
+%regs 1\n%late\nb\n";
+
+#[test]
+fn boot_does_what_nodes_assign(rt: HostRuntime) -> Result<(), Fail> {
+    let bundle = read_bundle(rt.alloc(), ASSIGNED.as_bytes())?;
+    let probe = Command {
+        line: 0,
+        var: None,
+        act: Act::Probe(ClockId(0)),
+    };
+    let wanted = [
+        probe,
+        command(0, 0, Act::Get(Some(ClockId(0)))),
+        command(0, 0, Act::SetParent(ClockId(1))),
+        command(0, 0, Act::Put),
+        command(0, 0, Act::Get(Some(ClockId(0)))),
+        command(0, 0, Act::SetRate(7)),
+        command(0, 0, Act::Put),
+        command(0, 0, Act::Get(Some(ClockId(1)))),
+        command(0, 0, Act::SetRate(9)),
+        command(0, 0, Act::Put),
+    ];
+    assert!(rt; bundle.boot.as_slice() == wanted.as_slice());
+    assert!(rt; bundle.assigned_lines.as_slice() == [6].as_slice());
+    Ok(())
+}
 
 #[test]
 fn reads_a_device_tree_source(rt: HostRuntime) -> Result<(), Fail> {

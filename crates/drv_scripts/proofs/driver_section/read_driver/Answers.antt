@@ -12,8 +12,8 @@ use Rattle.drv_scripts.proofs.Turns.{kept_none}
 use Rattle.drv_scripts.proofs.driver_section.read_driver.Goals as goal
 
 pub returns-in_default-clause-read : goal.returns-in_default-clause-read
-returns-in_default-clause-read c =
-    let a = with_clocks c.args.lines.now c.args.desc.now.defs (map seen_consumer c.args.consumers.now) in
+returns-in_default-clause-read c = λ drivers.
+    let a = with_clocks c.args.lines.now c.args.desc.now.defs (map seen_consumer c.args.consumers.now) drivers in
     let path = option_map (λ p. p.now) c.args.path in
     rw c.stopped.ensures (record {
       low = omega arith;
@@ -23,8 +23,8 @@ returns-in_default-clause-read c =
     })
 
 pub returns-in_err-commands-clause-read : goal.returns-in_err-commands-clause-read
-returns-in_err-commands-clause-read c =
-    let a = with_clocks c.args.lines.now c.args.desc.now.defs (map seen_consumer c.args.consumers.now) in
+returns-in_err-commands-clause-read c = λ drivers.
+    let a = with_clocks c.args.lines.now c.args.desc.now.defs (map seen_consumer c.args.consumers.now) drivers in
     let path = option_map (λ p. p.now) c.args.path in
     let names = option_map (λ own. map seen_name own.now) c.in-Some.names in
     let p = err_from_is_err_and c.from_residual.result c.from_residual.ensures.1 in
@@ -32,8 +32,8 @@ returns-in_err-commands-clause-read c =
     (driver_stop a c.args.before c.args.name.now path c.args.place c.args.end names c.in_err-commands.field-0.0 (sym c.in-Some.ensures) c.in_err-commands.ensures.read))
 
 pub returns-clause-read : goal.returns-clause-read
-returns-clause-read c =
-    let a = with_clocks c.args.lines.now c.args.desc.now.defs (map seen_consumer c.args.consumers.now) in
+returns-clause-read c = λ drivers.
+    let a = with_clocks c.args.lines.now c.args.desc.now.defs (map seen_consumer c.args.consumers.now) drivers in
     let path = option_map (λ p. p.now) c.args.path in
     let names = option_map (λ own. map seen_name own.now) c.in-Some.names in
     let read = c.in_ok-commands.ensures.read in
