@@ -1,7 +1,8 @@
 -- What a run leaves: its text, and the registers in the bank.
-use Rattle.std.proofs.Common.{◌≡◌, ℕ, ◌+◌, length, Bool, true, List, [], Option, Some, None, Result, Ok, Err, refl, sym, ap, subst, ◌∙◌, inr, arith}
+use Rattle.std.proofs.Common.{◌≡◌, ℕ, ◌+◌, length, Bool, true, List, [], Option, Some, None, Result, Ok, Err, refl, sym, ap, subst, ◌∙◌, inl, inr, arith}
 use Rattle.std.specs.Prelude.{is_some, take, drop, IfSome, IfErr}
 use Rattle.std.specs.Option.{option_map}
+use Rattle.clk_io.specs.Counts.{CountsPrintFault, RisesAtWrite}
 use Rattle.clk_io.specs.declared.faults.PrintFault.{PrintFault}
 use Rattle.clk_io.specs.declared.faults.PrintFault.TheVariants as print_fault
 use Rattle.clk_base.specs.declared.command.Answer.{Answer}
@@ -60,6 +61,15 @@ pub left_by : {T : Type 0} (b : Bundle) (cli : Cli) (told : Bool) (old new : Opt
 left_by b cli told old new (Ok x) front = tt
 left_by b cli told old new (Err print_fault.Write) front = front
 left_by b cli told old new (Err print_fault.NoMemory) front = inr front
+
+-- where memory ran out before anything was printed, nothing was left, and no fault was counted
+pub none_left : {T : Type 0} (b : Bundle) (cli : Cli) (told : Bool) (old : Option (List ℕ)) (r : Result T PrintFault) (e : PrintFault) → r ≡ Err e → e ≡ print_fault.NoMemory
+    → IfErr r (LeftByFault b cli told old old)
+none_left b cli told old r e is why =
+    subst (λ (q : Result _ PrintFault). IfErr q (LeftByFault b cli told old old)) (sym is) (subst (LeftByFault b cli told old old) (sym why) (inl refl))
+
+pub none_risen : {T : Type 0} (n : ℕ) (r : Result T PrintFault) (e : PrintFault) → r ≡ Err e → e ≡ print_fault.NoMemory → CountsPrintFault n n r
+none_risen n r e is why = subst (λ (q : Result _ PrintFault). CountsPrintFault n n q) (sym is) (subst (RisesAtWrite n n) (sym why) refl)
 
 -- a fault with status 5 left a front of the text
 pub front_by : (b : Bundle) (cli : Cli) (told : Bool) (old new : Option (List ℕ)) (fault : PrintFault) (status : ℕ) → LeftByFault b cli told old new fault → status ≡ status_of fault → status ≡ 5

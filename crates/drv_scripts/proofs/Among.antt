@@ -4,10 +4,9 @@ use Rattle.std.proofs.lemmas.Bool.{cases_lt, lt-ltb, le-ltb, cond-true, cond-fal
 use Rattle.bundle_sections.specs.Sections.{SaidSection}
 use Rattle.bundle_sections.specs.Verdict.{Tiles}
 use Rattle.bundle_sections.proofs.Places.{tiles-le}
-use Rattle.bundle_text.specs.declared.reason.Reason.{Reason}
 use Rattle.drv_scripts.specs.declared.stop.Stop.{Stop}
 use Rattle.drv_scripts.specs.declared.stop.Stop.TheVariants.{At, NoMemory}
-use Rattle.drv_scripts.specs.Judged.{KeepsBetween, FirstBetween, Stops}
+use Rattle.drv_scripts.specs.Judged.{KeepsBetween, Stops}
 use Rattle.drv_scripts.specs.Sections.{Around, section_fault, scripts_in, count_of, fault_among}
 use Rattle.drv_scripts.specs.Steps.{begins, IsLeft}
 use Rattle.drv_scripts.proofs.Turns.{kept_none}

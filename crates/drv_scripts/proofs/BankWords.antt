@@ -1,6 +1,6 @@
 -- The words of a bank after one line more.
-use Rattle.std.proofs.Common.{◌≡◌, ℕ, ◌+◌, ◌-◌, ◌≤◌, ◌++◌, ◌∷◌, [], List, length, fold, replicate, Option, Some, None, refl, ap, ◌∙◌}
-use Rattle.std.specs.Option.{option_map_or, option_to_list}
+use Rattle.std.proofs.Common.{◌≡◌, ℕ, ◌+◌, ◌-◌, ◌≤◌, ◌++◌, List, length, fold, replicate, Option, Some, None, refl, ap, ◌∙◌}
+use Rattle.std.specs.Option.{option_to_list}
 use Rattle.std.proofs.lemmas.List.{append-nil, length-set}
 use Rattle.std.proofs.lemmas.List.Sums.{fold_push}
 use Rattle.bundle_text.specs.Firsts.{said_from}

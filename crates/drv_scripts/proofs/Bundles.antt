@@ -1,5 +1,5 @@
 -- The bundle that lines spell, and what holds of it.
-use Rattle.std.proofs.Common.{◌≡◌, ℕ, zero, suc, ◌+◌, ◌-◌, ◌<◌, ◌≤◌, ◌++◌, true, List, [], ◌∷◌, map, length, Option, Some, None, IfSome, refl, ap, sym, ◌∙◌, subst, arith}
+use Rattle.std.proofs.Common.{◌≡◌, ℕ, zero, suc, ◌+◌, ◌-◌, ◌<◌, ◌≤◌, ◌++◌, true, List, [], ◌∷◌, map, length, Option, Some, None, refl, ap, ◌∙◌, subst, arith}
 use Rattle.std.specs.Prelude.{slice_get, Bool, false, cond, nat_lt}
 use Rattle.std.specs.List.{range_with_len, AllByRecursion, flat_map, list_all, position}
 use Rattle.std.specs.Option.{option_map, option_and_then, option_flatten}
@@ -9,26 +9,23 @@ use Rattle.std.proofs.lemmas.Bool.{ltb-true}
 use Rattle.bundle_text.specs.Firsts.{onto, said_from}
 use Rattle.clk_base.specs.Checked.{Checked}
 use Rattle.clk_base.specs.declared.command.Command.{Command}
-use Rattle.clk_base.specs.Description.{Description}
 use Rattle.clk_base.specs.Valid.{IsValid}
 use Rattle.bundle_clocks.specs.Said.{SaidClocks}
 use Rattle.bundle_sections.specs.Headers.{Said, device_tree, clocks, bank, lock, late, driver, order}
 use Rattle.bundle_sections.specs.Said.{Parts}
 use Rattle.bundle_sections.specs.Sections.{SaidSection}
-use Rattle.dts_clocks.specs.Consumers.{SeenName, SeenConsumer}
+use Rattle.dts_clocks.specs.Consumers.{SeenConsumer}
 use Rattle.dts_clocks.proofs.Parented.{passes_both}
 use Rattle.dts_clocks.specs.Assigned.{SeenAssigned}
 use Rattle.dts_clocks.specs.declared.loaded.AssignedStep.{AssignedStep}
 use Rattle.dts_clocks.specs.declared.loaded.AssignedStep.TheVariants.{Parent, Rate}
 use Rattle.dts_clocks.proofs.Within.{are_below, consumer_below, step_below, assigned_below}
-use Rattle.drv_scripts.specs.declared.bundle.Bundle.{Bundle}
 use Rattle.drv_scripts.specs.declared.bundle.LateLine.{LateLine}
-use Rattle.drv_scripts.specs.declared.bundle.LockLine.{LockLine}
 use Rattle.drv_scripts.specs.declared.bundle.Script.{Script}
 use Rattle.drv_scripts.specs.declared.part.Others.{Others}
 use Rattle.drv_scripts.specs.Placed.{NamePlaces, IsScript, IsSound}
 use Rattle.drv_scripts.specs.Parts.{AreOthers, made}
-use Rattle.drv_scripts.specs.Sections.{Around, around, names_at, names_of, scripts_between, scripts_in, locks_in, late_in, turns_in, line_of, order_lines_in, count_of}
+use Rattle.drv_scripts.specs.Sections.{Around, around, names_at, names_of, scripts_between, scripts_in, late_in, turns_in, line_of, order_lines_in, count_of}
 use Rattle.drv_scripts.specs.Spelled.{probe, boot_of, is_late, probe_unless, probes_without, step_commands, assigned_commands, bank_words, bundle_of}
 use Rattle.drv_scripts.proofs.ListPlaced.{all_append, locks_placed, late_placed}
 use Rattle.drv_scripts.proofs.SaidPlaced.{MayBeNamed, commands_placed}

@@ -1,11 +1,10 @@
 -- The header and the lines of a driver's section.
-use Rattle.std.proofs.Common.{◌≡◌, ℕ, ◌+◌, ◌-◌, ◌<◌, ◌≤◌, ◌==◌, ◌∷◌, [], true, false, List, Option, Some, None, refl, ap, sym, ◌∙◌, subst, inl, inr, arith}
+use Rattle.std.proofs.Common.{◌≡◌, ℕ, ◌+◌, ◌-◌, ◌<◌, ◌==◌, ◌∷◌, [], true, false, List, Option, Some, None, ap, ◌∙◌, inl, inr, arith}
 use Rattle.std.specs.Option.{option_flatten, is_some}
 use Rattle.std.proofs.lemmas.Bool.{cases_lt, cond-true, cond-false}
 use Rattle.std.proofs.lemmas.Bool.Decides.{nat_tests}
 use Rattle.bundle_sections.specs.Headers.{Said, driver}
 use Rattle.bundle_text.specs.Faults.{unless}
-use Rattle.bundle_text.specs.declared.reason.Reason.{Reason}
 use Rattle.bundle_text.specs.declared.reason.Reason.TheVariants.{UnknownName}
 use Rattle.dts_clocks.specs.Consumers.{SeenName}
 use Rattle.drv_scripts.specs.declared.bundle.Script.{Script}

@@ -10,7 +10,7 @@ use Rattle.bundle_sections.specs.Headers.{Said, device_tree, clocks, bank, lock,
 use Rattle.bundle_sections.specs.declared.section.ClockText.{ClockText}
 use Rattle.bundle_sections.specs.declared.section.ClockText.TheVariants.{Lines, DeviceTree}
 use Rattle.bundle_sections.specs.Said.{Parts, clocks_said, in_order}
-use Rattle.bundle_sections.specs.Sections.{SaidSection, section_of, section_at, sections_before, sections_of, header_fault, fault_at}
+use Rattle.bundle_sections.specs.Sections.{SaidSection, section_of, section_at, sections_before, header_fault, fault_at}
 use Rattle.bundle_sections.specs.Verdict.{Accepts}
 use Rattle.bundle_sections.proofs.Places.{fault_header, section_none, section_header, sections-none, sections-more, sections_first}
 use Rattle.bundle_text.specs.Firsts.{KeepsBelow}

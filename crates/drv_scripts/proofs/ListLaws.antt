@@ -1,5 +1,5 @@
 -- The lines of locks, of late clocks and of turns, one more.
-use Rattle.std.proofs.Common.{◌≡◌, ℕ, zero, suc, ◌+◌, ◌-◌, ◌≤◌, ◌++◌, ◌∷◌, [], List, refl, ap, sym, ◌∙◌, arith, append_assoc, append-nil}
+use Rattle.std.proofs.Common.{◌≡◌, ℕ, zero, suc, ◌+◌, ◌-◌, ◌≤◌, ◌++◌, [], List, ap, sym, ◌∙◌, arith, append_assoc, append-nil}
 use Rattle.std.specs.Option.{option_to_list}
 use Rattle.clk_base.specs.Description.{Description}
 use Rattle.drv_scripts.specs.ListLines.{lock_at, locks_of, late_at, late_of, turns_at, turns_of}

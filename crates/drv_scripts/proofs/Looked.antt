@@ -1,11 +1,10 @@
 -- Consumers and their names, found by place.
-use Rattle.std.proofs.Common.{◌≡◌, ℕ, zero, suc, ◌<◌, List, [], ◌∷◌, map, length, Option, Some, None, refl, ap, sym, ◌∙◌, arith}
+use Rattle.std.proofs.Common.{◌≡◌, ℕ, zero, suc, ◌<◌, List, [], ◌∷◌, map, length, Some, None, ap, sym, ◌∙◌, arith}
 use Rattle.std.specs.Prelude.{slice_get, slice_index_or, string_bytes}
 use Rattle.std.specs.List.{position}
 use Rattle.std.specs.Option.{option_and_then}
 use Rattle.std.specs.Str.{bytes_eq}
 use Rattle.std.proofs.lemmas.Option.{none-some, same_Some}
-use Rattle.clk_base.specs.declared.clock.ClockId.{ClockId}
 use Rattle.bundle_text.proofs.Mapped.{position-map}
 use Rattle.dts_clocks.specs.declared.loaded.Consumer.{Consumer}
 use Rattle.dts_clocks.specs.declared.loaded.ConsumerName.{ConsumerName}

@@ -1,5 +1,5 @@
 -- A bundle that was read fits together.
-use Rattle.std.proofs.Common.{◌≡◌, ℕ, ◌<◌, ◌≤◌, true, List, length, sym, ap, subst, ◌∙◌, arith}
+use Rattle.std.proofs.Common.{◌≡◌, ℕ, ◌≤◌, true, List, length, sym, ap, subst, ◌∙◌, arith}
 use Rattle.std.specs.List.{AllByRecursion, list_all}
 use Rattle.bundle_text.specs.Firsts.{KeepsBelow}
 use Rattle.clk_base.specs.Valid.{IsValid}

@@ -1,9 +1,9 @@
 -- Bytes that aren't UTF-8 write no number.
-use Rattle.std.proofs.Common.{◌≡◌, ℕ, true, false, List, [], ◌∷◌, Option, None, refl, ap, rules, arith, tests, inl, inr}
+use Rattle.std.proofs.Common.{◌≡◌, ℕ, true, List, [], ◌∷◌, None, refl, ap, rules, arith, tests, inl, inr}
 use Rattle.std.specs.Char.{is_ascii_digit, is_ascii_hexdigit}
 use Rattle.std.specs.List.{list_all}
 use Rattle.std.specs.Option.{option_map}
-use Rattle.std.specs.Prelude.{ℤ, pos, neg_ℤ, ◌&&◌}
+use Rattle.std.specs.Prelude.{pos, neg_ℤ}
 use Rattle.std.specs.Str.{IsUtf8}
 use Rattle.std.proofs.lemmas.Bool.{cases_Bool, and_from}
 use Rattle.std.proofs.lemmas.Bool.Decides.{nat_tests}

@@ -1,5 +1,5 @@
 -- What is read of sections, one more.
-use Rattle.std.proofs.Common.{◌≡◌, ℕ, List, [], ◌∷◌, ◌++◌, refl, ap, sym, ◌∙◌, append_assoc, append-nil}
+use Rattle.std.proofs.Common.{◌≡◌, List, [], ◌∷◌, ◌++◌, ap, sym, ◌∙◌, append_assoc, append-nil}
 use Rattle.std.specs.List.{flat_map}
 use Rattle.bundle_sections.specs.Sections.{SaidSection}
 use Rattle.drv_scripts.specs.declared.part.Others.{Others}

@@ -1,7 +1,7 @@
 -- What a command line says by itself names no clock, and what it means names clocks of the description.
-use Rattle.std.proofs.Common.{◌≡◌, ℕ, zero, suc, ◌+◌, ◌<◌, Bool, true, false, cond, List, [], ◌∷◌, length, Option, Some, None, IfSome, IfOk, Result, Ok, Err, refl, ap, sym, ◌∙◌, subst}
-use Rattle.std.specs.Prelude.{codes, ℤ, slice_get, string_bytes}
-use Rattle.std.specs.List.{AllByRecursion, position}
+use Rattle.std.proofs.Common.{◌≡◌, ℕ, zero, suc, ◌+◌, ◌<◌, Bool, true, false, cond, List, [], ◌∷◌, length, Option, Some, None, IfSome, IfOk, Result, Ok, Err, refl, subst}
+use Rattle.std.specs.Prelude.{codes, ℤ, slice_get}
+use Rattle.std.specs.List.{position}
 use Rattle.std.specs.Option.{option_map, option_and_then}
 use Rattle.std.specs.Result.{result_ok}
 use Rattle.std.specs.Str.{bytes_eq}
@@ -9,7 +9,7 @@ use Rattle.std.proofs.lemmas.Bool.{ltb-true}
 use Rattle.std.proofs.lemmas.Option.{none-some, same_Some}
 use Rattle.clk_base.specs.declared.clock.ClockId.{ClockId}
 use Rattle.clk_base.specs.declared.command.Act.{Act}
-use Rattle.clk_base.specs.declared.command.Act.TheVariants.{Get, SetParent, Probe, Sweep}
+use Rattle.clk_base.specs.declared.command.Act.TheVariants.{Get, SetParent, Probe}
 use Rattle.clk_base.specs.declared.command.Command.{Command}
 use Rattle.clk_base.specs.declared.handle.Policy.{Policy}
 use Rattle.clk_base.specs.Description.{Description, clock_named}
@@ -50,7 +50,7 @@ use Rattle.drv_scripts.specs.CommandLines.{
   verb_line,
   command_line,
 }
-use Rattle.drv_scripts.specs.Commands.{clock_of_name, clock_for, act_in, has_variable, variable_of, known_command, said_at, variables_before, command_at, commands_of}
+use Rattle.drv_scripts.specs.Commands.{clock_for, act_in, has_variable, variable_of, known_command, said_at, variables_before, command_at, commands_of}
 use Rattle.drv_scripts.specs.Placed.{NamesPlace, NamePlaces}
 use Rattle.dts_clocks.proofs.Parented.{is_below, passes_both}
 use Rattle.dts_clocks.proofs.Within.{are_below}

@@ -1,4 +1,4 @@
-use Rattle.std.proofs.Common.{rules, ◌≡◌, ℕ, ◌≤◌, true, sum_by, ap, subst, sym, ◌∙◌, arith, length, List}
+use Rattle.std.proofs.Common.{◌≡◌, ℕ, ◌≤◌, true, sum_by, ap, subst, sym, ◌∙◌, arith, length, List}
 use Rattle.std.specs.Prelude.{is_some, not, Bool, refl}
 use Rattle.std.proofs.lemmas.List.{length-map}
 use Rattle.clk_base.specs.declared.command.Answer.{Answer}
@@ -20,7 +20,7 @@ use Rattle.clk_run.specs.Runs.{scripts_with, drivers_in, are_built, opening_of, 
 use Rattle.clk_run.proofs.Fitness.{earlier_all}
 use Rattle.clk_run.proofs.Following.{turns_many}
 use Rattle.clk_run.proofs.Readiness.{few_credits, drivers_keep, drivers_few, commands_few}
-use Rattle.clk_run.proofs.Leaving.{text_of, bank_back, same_behind, left_by}
+use Rattle.clk_run.proofs.Leaving.{text_of, bank_back, same_behind, left_by, none_left, none_risen}
 use Rattle.std.proofs.lemmas.Result.{err_from_is_err_and}
 use Rattle.clk_io.specs.Counts.{RisesAtWrite}
 use Rattle.clk_run.proofs.run_bundle.run_armed.Goals as goal
@@ -127,16 +127,24 @@ returns-in_err-print_run-clause-fault g c =
     })
 
 pub returns-in_err-answers-clause-fault : goal.returns-in_err-answers-clause-fault
-returns-in_err-answers-clause-fault g c = search (rules, c.from_residual-in_err-answers.ensures)
+returns-in_err-answers-clause-fault g c =
+    let p = err_from_is_err_and c.from_residual-in_err-answers.result c.from_residual-in_err-answers.ensures.1 in
+    none_left c.args.bundle.now c.args.cli.now (is_some (g.B.Bank.contents c.args.bank)) (g.K.Sink.written c.args.out.now) c.from_residual-in_err-answers.result p.0 p.1 p.2
 
 pub returns-in_err-answers-clause-counts : goal.returns-in_err-answers-clause-counts
-returns-in_err-answers-clause-counts g c = search (rules, c.from_residual-in_err-answers.ensures)
+returns-in_err-answers-clause-counts g c =
+    let p = err_from_is_err_and c.from_residual-in_err-answers.result c.from_residual-in_err-answers.ensures.1 in
+    none_risen (g.K.Sink.faults c.args.out.now) c.from_residual-in_err-answers.result p.0 p.1 p.2
 
 pub returns-in_err-registers-clause-fault : goal.returns-in_err-registers-clause-fault
-returns-in_err-registers-clause-fault g c = search (rules, c.from_residual-in_err-registers.ensures)
+returns-in_err-registers-clause-fault g c =
+    let p = err_from_is_err_and c.from_residual-in_err-registers.result c.from_residual-in_err-registers.ensures.1 in
+    none_left c.args.bundle.now c.args.cli.now (is_some (g.B.Bank.contents c.args.bank)) (g.K.Sink.written c.args.out.now) c.from_residual-in_err-registers.result p.0 p.1 p.2
 
 pub returns-in_err-registers-clause-counts : goal.returns-in_err-registers-clause-counts
-returns-in_err-registers-clause-counts g c = search (rules, c.from_residual-in_err-registers.ensures)
+returns-in_err-registers-clause-counts g c =
+    let p = err_from_is_err_and c.from_residual-in_err-registers.result c.from_residual-in_err-registers.ensures.1 in
+    none_risen (g.K.Sink.faults c.args.out.now) c.from_residual-in_err-registers.result p.0 p.1 p.2
 
 pub returns-in_err-print_run-clause-counts : goal.returns-in_err-print_run-clause-counts
 returns-in_err-print_run-clause-counts g c =

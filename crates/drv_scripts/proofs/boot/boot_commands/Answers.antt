@@ -1,11 +1,11 @@
-use Rattle.std.proofs.Common.{◌≡◌, ◌∙◌, ◌++◌, ◌+◌, ◌∷◌, [], ℕ, List, ap, sym, refl, map, drop, append_assoc, append-nil}
+use Rattle.std.proofs.Common.{◌≡◌, ◌∙◌, ◌++◌, ◌+◌, ◌∷◌, [], List, ap, sym, refl, map, drop, append_assoc, append-nil}
 use Rattle.std.specs.List.{flat_map}
 use Rattle.std.proofs.lemmas.List.{drop_more, drop_all}
 use Rattle.clk_base.specs.declared.command.Command.{Command}
 use Rattle.dts_clocks.specs.declared.loaded.Assigned.{Assigned}
 use Rattle.dts_clocks.specs.declared.loaded.AssignedStep.{AssignedStep}
 use Rattle.dts_clocks.specs.Assigned.{SeenAssigned, seen_assigned}
-use Rattle.drv_scripts.specs.Spelled.{probes_without, step_commands, assigned_commands}
+use Rattle.drv_scripts.specs.Spelled.{step_commands, assigned_commands}
 use Rattle.drv_scripts.proofs.boot.boot_commands.Goals as goal
 
 -- the commands for a node more

@@ -1,10 +1,9 @@
-use Rattle.std.proofs.Common.{◌≡◌, ◌∙◌, ◌++◌, ◌+◌, ℕ, Bool, false, Option, Some, None, ap, sym, cond, arith, refl}
+use Rattle.std.proofs.Common.{◌≡◌, ◌∙◌, ◌++◌, ◌+◌, Bool, false, Some, None, ap, sym, cond, arith}
 use Rattle.std.specs.Option.{option_to_list}
 use Rattle.std.proofs.lemmas.List.{get_or_default}
 use Rattle.bundle_text.specs.Firsts.{said_from}
 use Rattle.bundle_text.proofs.Rows.{said_from-next}
-use Rattle.clk_base.specs.declared.command.Command.{Command}
-use Rattle.drv_scripts.specs.Spelled.{is_late, probe, probe_unless, probes_without}
+use Rattle.drv_scripts.specs.Spelled.{probe, probe_unless, probes_without}
 use Rattle.drv_scripts.proofs.boot.probes.Goals as goal
 
 pub loop-clock-preserved : goal.loop-clock-preserved

@@ -1,4 +1,4 @@
-use Rattle.std.proofs.Common.{◌∙◌, ◌+◌, refl, sym, ap, map}
+use Rattle.std.proofs.Common.{◌∙◌, ◌+◌, refl, sym, map}
 use Rattle.std.specs.Option.{option_map}
 use Rattle.dts_clocks.specs.Consumers.{seen_name}
 use Rattle.drv_scripts.specs.Commands.{variable_of}

@@ -1,10 +1,9 @@
-use Rattle.std.proofs.Common.{◌≡◌, ◌∙◌, ◌+◌, ◌≤◌, ℕ, List, [], Option, Some, None, ap, sym, length, arith, vec_len, refl}
+use Rattle.std.proofs.Common.{◌≡◌, ◌∙◌, ◌+◌, ◌≤◌, ℕ, List, [], Option, Some, None, ap, sym, length, arith}
 use Rattle.std.specs.Prelude.{unwrap_or}
 use Rattle.std.specs.Option.{option_map}
 use Rattle.std.proofs.lemmas.Bool.{le-ltb, cond-false}
 use Rattle.bundle_text.specs.Lines.{line_at}
 use Rattle.bundle_text.specs.Words.{texts, said_words}
-use Rattle.bundle_text.specs.declared.reason.Reason.{Reason}
 use Rattle.drv_scripts.specs.ListLines.{turns_named, turns_at, turns_fault}
 use Rattle.drv_scripts.proofs.order_section.read_turns.Goals as goal
 

@@ -3,7 +3,6 @@ use Rattle.std.proofs.lemmas.Simd.{map-map}
 use Rattle.clk_base.specs.Checked.{Checked}
 use Rattle.clk_base.specs.declared.command.Command.{Command}
 use Rattle.dts_clocks.specs.Assigned.{SeenAssigned, seen_assigned}
-use Rattle.drv_scripts.specs.declared.bundle.Bundle.{Bundle}
 use Rattle.drv_scripts.specs.declared.bundle.LateLine.{LateLine}
 use Rattle.drv_scripts.specs.declared.part.Others.{Others}
 use Rattle.drv_scripts.specs.Parts.{made}

@@ -1,4 +1,4 @@
-use Rattle.std.proofs.Common.{◌≡◌, ◌∙◌, List, ap, sym, subst, map, length, arith}
+use Rattle.std.proofs.Common.{◌∙◌, List, ap, sym, subst, map, arith}
 use Rattle.clk_base.specs.Checked.{Checked}
 use Rattle.clk_base.specs.Valid.{IsValid}
 use Rattle.bundle_clocks.specs.Said.{said_clocks}

@@ -1,12 +1,11 @@
-use Rattle.std.proofs.Common.{◌≡◌, ◌∙◌, ◌++◌, ◌+◌, ◌∷◌, [], ℕ, List, Option, Some, None, ap, sym, refl, map, drop, append_assoc, append-nil}
+use Rattle.std.proofs.Common.{◌≡◌, ◌∙◌, ◌++◌, ◌+◌, ℕ, List, Option, Some, None, ap, sym, refl, map, drop, append_assoc}
 use Rattle.std.specs.Borrow.{Bor}
 use Rattle.std.specs.Option.{option_map, option_to_list}
 use Rattle.std.proofs.lemmas.List.{drop_more, map-append}
-use Rattle.bundle_sections.specs.declared.section.Section.{Section}
 use Rattle.bundle_sections.specs.Said.{said_section}
 use Rattle.bundle_sections.specs.Sections.{SaidSection}
 use Rattle.bundle_text.specs.Words.{texts}
-use Rattle.drv_scripts.specs.Sections.{name_in, driver_names}
+use Rattle.drv_scripts.specs.Sections.{driver_names}
 use Rattle.drv_scripts.proofs.sections.driver_names.Goals as goal
 
 texts_one : (o : Option (Bor (List ℕ))) → texts (option_to_list o) ≡ option_to_list (option_map (λ n. n.now) o)

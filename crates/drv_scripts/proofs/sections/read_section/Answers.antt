@@ -1,4 +1,4 @@
-use Rattle.std.proofs.Common.{◌≡◌, sym, subst, map}
+use Rattle.std.proofs.Common.{sym, subst, map}
 use Rattle.std.proofs.lemmas.Result.{err_from_is_err_and}
 use Rattle.bundle_sections.specs.declared.header.Header.{Header}
 use Rattle.bundle_sections.specs.Said.{said_header, said_section}
