@@ -1,3 +1,4 @@
 pub mod Places
 pub mod Printing
 pub mod Trees
+pub mod Lined

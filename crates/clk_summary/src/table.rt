@@ -1,6 +1,6 @@
 //! Prints the table.
 
-ghost use Rattle.std.specs.Prelude.{◌≡◌, ℕ, ◌+◌, ◌-◌, ◌<◌, ◌≤◌, ◌++◌, true, Some, length, slice_get, flat_map, is_some, IfSome};
+ghost use Rattle.std.specs.Prelude.{◌≡◌, ℕ, List, ◌+◌, ◌-◌, ◌<◌, ◌≤◌, ◌++◌, true, Some, length, slice_get, flat_map, is_some, IfSome};
 ghost use Rattle.std.specs.Option.{option_map};
 ghost use Rattle.clk_base.specs.Levels.{depth};
 ghost use Rattle.clk_io.specs.Counts.{CountsPrintFault};
@@ -10,6 +10,7 @@ ghost use Rattle.clk_model.specs.State.{registered};
 ghost use Rattle.clk_model.specs.Summary.{lines_within, summary, summary_line};
 ghost use Rattle.clk_model.specs.Tree.{roots, orphans};
 ghost use Rattle.clk_summary.specs.Rows.{tops};
+ghost use Rattle.clk_summary.specs.Tables.{GathersLines, IsSummary};
 
 use crate::row::RowText;
 use clk_base::{ClockId, depth};
@@ -27,15 +28,17 @@ const HEADER: &str =
 /// from the roots and then from the orphans, the newest attached first. A clock that isn't
 /// registered has no line. No memory is taken but for the line at hand.
 ///
-/// Of a core whose bank doesn't tell its words no clause says what is printed.
+/// Of a core whose bank doesn't tell its words the clause says that the lines behind the header are
+/// those of clocks that were probed, and not what their rows tell.
 pub fn print_summary<B: Bank, K: Sink>(
     alloc: Global,
     core: &Core<B>,
     gathered: &mut Gathered,
     out: &mut K,
 ) -> Result<(), PrintFault>
-    ensures gathers { core.now.told ≡ true
-        → Gathers (K.written out.old) (K.written out.new) gathered.old gathered.new (summary (now_of core.now)) result }
+    // Where the bank tells its words the summary of the core's state was gathered or written, else a
+    // table of clocks that were probed; after a fault a front of it was written.
+    ensures gathers { (text : List ℕ) × IsSummary core.now text × Gathers (K.written out.old) (K.written out.new) gathered.old gathered.new text result }
     ensures tells { is_some (K.written out.new) ≡ is_some (K.written out.old) }
     ensures later { K.faults out.old ≤ K.faults out.new }
     ensures counts { CountsPrintFault (K.faults out.old) (K.faults out.new) result }
@@ -54,6 +57,7 @@ fn print_tops<B: Bank, K: Sink>(
     ensures gathers { core.now.told ≡ true
         → Gathers (K.written out.old) (K.written out.new) gathered.old gathered.new
         (flat_map (lines_within depth (now_of core.now) 0) (tops (now_of core.now))) result }
+    ensures lines { GathersLines core.now (K.written out.old) (K.written out.new) gathered.old gathered.new result }
     ensures tells { is_some (K.written out.new) ≡ is_some (K.written out.old) }
     ensures later { K.faults out.old ≤ K.faults out.new }
     ensures counts { CountsPrintFault (K.faults out.old) (K.faults out.new) result }
@@ -95,6 +99,7 @@ fn print_tree<B: Bank, K: Sink>(
     ensures gathers { core.now.told ≡ true → registered (now_of core.now).clocks clock.0 ≡ true
         → Gathers (K.written out.old) (K.written out.new) gathered.old gathered.new
         (lines_within (depth - level) (now_of core.now) level clock.0) result }
+    ensures lines { GathersLines core.now (K.written out.old) (K.written out.new) gathered.old gathered.new result }
     ensures tells { is_some (K.written out.new) ≡ is_some (K.written out.old) }
     ensures later { K.faults out.old ≤ K.faults out.new }
     ensures counts { CountsPrintFault (K.faults out.old) (K.faults out.new) result }
@@ -126,6 +131,7 @@ fn print_line<B: Bank, K: Sink>(
     requires { clock.0 < length core.now.start.defs }
     ensures gathers { core.now.told ≡ true → (now_of core.now).defs ≡ core.now.start.defs → registered (now_of core.now).clocks clock.0 ≡ true
         → Gathers (K.written out.old) (K.written out.new) gathered.old gathered.new (summary_line (now_of core.now) level clock.0) result }
+    ensures lines { GathersLines core.now (K.written out.old) (K.written out.new) gathered.old gathered.new result }
     ensures tells { is_some (K.written out.new) ≡ is_some (K.written out.old) }
     ensures later { K.faults out.old ≤ K.faults out.new }
     ensures counts { CountsPrintFault (K.faults out.old) (K.faults out.new) result }

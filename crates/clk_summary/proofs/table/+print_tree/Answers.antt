@@ -9,6 +9,7 @@ use Rattle.clk_machine.specs.Run.{now_of}
 use Rattle.clk_model.specs.Summary.{lines_within, summary_line}
 use Rattle.clk_model.specs.Tree.{children}
 use Rattle.clk_tree.proofs.Along.{drop_zero}
+use Rattle.clk_summary.proofs.Lined.{no_lines, lines_fault, lined_more}
 use Rattle.clk_summary.proofs.Printing.{fault_leaves, one_done, all_done}
 use Rattle.clk_summary.proofs.Trees.{texts_at, none_at, none_behind, same_children, child_registered, children_few, lines_at}
 use Rattle.clk_summary.proofs.table.+print_tree.Goals as goal
@@ -39,6 +40,7 @@ loop-place-init g t c =
             lines_at s c.args.level clock (omega (arith, c.if-level-depth.false, c.depth.ensures))
                 ∙ ap (λ xs. summary_line s c.args.level clock ++ flat_map (lines_within (depth - (c.args.level + 1)) s (c.args.level + 1)) xs) (sym (drop_zero kids)),
           );
+      lines = record { text = c.in_ok-print_line.ensures.lines.text; lines = c.in_ok-print_line.ensures.lines.lines; passed = c.in_ok-print_line.ensures.lines.gathers };
       tells = cc;
       stands = c.in_ok-print_line.ensures.counts;
     }
@@ -88,6 +90,7 @@ loop-place-preserved g t c =
             PassesOn-after _ _ _ _ _ _ _ _ was.1 (c.in_ok-print_tree.ensures.gathers told known),
             one_done _ _ _ _ _ was.2 (texts_at below kids place child at),
           );
+      lines = lined_more _ _ _ _ _ _ _ _ c.loop-place.invariant.lines c.in_ok-print_tree.ensures.lines.lines c.in_ok-print_tree.ensures.lines.gathers;
       tells = cc;
       stands = c.in_ok-print_tree.ensures.counts ∙ c.loop-place.invariant.stands;
     }
@@ -103,3 +106,25 @@ returns-clause-gathers g t c = λ told there.
     let kept = ap (λ defs. length defs) c.desc.ensures in
     all_done _ _ _ _ _ was.0 _ was.1 was.2
     (none_behind (lines_within (depth - (c.args.level + 1)) s (c.args.level + 1)) kids c.loop-place._place (omega (arith, few, made, kept, c.len-place-end.ensures.len, c.loop-place-test.false)))
+
+pub returns-then-level-depth-clause-lines : goal.returns-then-level-depth-clause-lines
+returns-then-level-depth-clause-lines g t c = record { text = []; lines = no_lines _ _; gathers = PassesOn-none _ _ }
+
+pub returns-in_err-print_line-clause-lines : goal.returns-in_err-print_line-clause-lines
+returns-in_err-print_line-clause-lines g t c =
+    lines_fault _ _ _ _ _ _ _ [] _ _ c.from_residual.ensures.0 (no_lines _ _) (PassesOn-none _ _) c.in_err-print_line.ensures.lines.lines c.in_err-print_line.ensures.lines.gathers
+
+pub returns-in_default-clause-lines : goal.returns-in_default-clause-lines
+returns-in_default-clause-lines g t c =
+    let was = c.loop-place.invariant.lines in
+    record { text = was.text; lines = was.lines; gathers = was.passed }
+
+pub returns-in_err-print_tree-clause-lines : goal.returns-in_err-print_tree-clause-lines
+returns-in_err-print_tree-clause-lines g t c =
+    let was = c.loop-place.invariant.lines in
+    lines_fault _ _ _ _ _ _ _ _ _ _ c.from_residual-in_err-print_tree.ensures.0 was.lines was.passed c.in_err-print_tree.ensures.lines.lines c.in_err-print_tree.ensures.lines.gathers
+
+pub returns-clause-lines : goal.returns-clause-lines
+returns-clause-lines g t c =
+    let was = c.loop-place.invariant.lines in
+    record { text = was.text; lines = was.lines; gathers = was.passed }

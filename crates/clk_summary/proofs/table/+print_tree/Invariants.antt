@@ -8,6 +8,7 @@ use Rattle.clk_machine.specs.Run.{now_of}
 use Rattle.clk_model.specs.State.{registered}
 use Rattle.clk_model.specs.Summary.{lines_within}
 use Rattle.clk_model.specs.Tree.{children}
+use Rattle.clk_summary.proofs.Lined.{Lined}
 use Rattle.clk_summary.proofs.table.+print_tree.Given as goal
 
 abbrev pub decreases-print_tree : goal.decreases-print_tree
@@ -23,6 +24,7 @@ invariant-loop-place g l =
       along : l.core.told ≡ true → option_map (λ c. c.0) l.at ≡ slice_get kids l._place;
       printed : l.core.told ≡ true → registered s.clocks l.fn.clock.0 ≡ true → (done : List ℕ) × PassesOn (written l.fn.out) (written l.out) l.fn.gathered l.gathered done
           × (lines_within (depth - l.level) s l.level l.fn.clock.0 ≡ done ++ flat_map (lines_within (depth - (l.level + 1)) s (l.level + 1)) (drop l._place kids));
+      lines : Lined l.core (written l.fn.out) (written l.out) l.fn.gathered l.gathered;
       tells : is_some (written l.out) ≡ is_some (written l.fn.out);
       stands : g.K.Sink.faults l.out ≡ g.K.Sink.faults l.fn.out;
     }

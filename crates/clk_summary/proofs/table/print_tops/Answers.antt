@@ -12,6 +12,7 @@ use Rattle.clk_model.specs.State.{registered}
 use Rattle.clk_model.specs.Summary.{lines_within}
 use Rattle.clk_tree.proofs.Along.{drop_zero}
 use Rattle.clk_summary.specs.Rows.{tops}
+use Rattle.clk_summary.proofs.Lined.{no_lines, lines_fault, lined_more}
 use Rattle.clk_summary.proofs.Printing.{fault_leaves, one_done, all_done}
 use Rattle.clk_summary.proofs.Trees.{texts_at, none_at, none_behind, same_tops, top_registered, top_within, tops_few, all_levels}
 use Rattle.clk_summary.proofs.table.print_tops.Goals as goal
@@ -24,6 +25,7 @@ loop-place-init g c =
       inside = subst (λ defs. IfSome c.top-at.result (λ d. d.0 < length defs)) c.tree.ensures.made (top_within t 0 c.top-at.result c.top-at.ensures.stands c.top-at.ensures.top);
       along = λ told. c.top-at.ensures.top ∙ ap (λ xs. slice_get xs 0) (same_tops s t (c.tree.ensures.tree told));
       printed = λ told. ([], PassesOn-none _ _, ap (flat_map (lines_within depth s 0)) (sym (drop_zero (tops s))));
+      lines = record { text = []; lines = no_lines _ _; passed = PassesOn-none _ _ };
       tells = refl;
       stands = refl;
     }
@@ -74,6 +76,7 @@ loop-place-preserved g c =
             PassesOn-after _ _ _ _ _ _ _ _ was.1 (subst (λ n. PassesOn (g.K.Sink.written c.loop-place.out) (g.K.Sink.written c.print_tree.new.out) c.loop-place.gathered c.print_tree.new.gathered (lines_within n s 0 clock)) all_levels (c.in_ok-print_tree.ensures.gathers told there)),
             one_done _ _ _ _ _ was.2 (texts_at (lines_within depth s 0) (tops s) place clock at),
           );
+      lines = lined_more _ _ _ _ _ _ _ _ c.loop-place.invariant.lines c.in_ok-print_tree.ensures.lines.lines c.in_ok-print_tree.ensures.lines.gathers;
       tells = cc;
       stands = c.in_ok-print_tree.ensures.counts ∙ c.loop-place.invariant.stands;
     }
@@ -87,3 +90,18 @@ returns-clause-gathers g c = λ told.
     let made = ap (λ defs. length defs) c.tree.ensures.made in
     let kept = ap (λ defs. length defs) c.desc.ensures in
     all_done _ _ _ _ _ was.0 _ was.1 was.2 (none_behind (lines_within depth s 0) (tops s) c.loop-place.place (omega (arith, few, made, kept, c.len-place-end.ensures.len, c.loop-place-test.false)))
+
+pub returns-in_default-clause-lines : goal.returns-in_default-clause-lines
+returns-in_default-clause-lines g c =
+    let was = c.loop-place.invariant.lines in
+    record { text = was.text; lines = was.lines; gathers = was.passed }
+
+pub returns-in_err-print_tree-clause-lines : goal.returns-in_err-print_tree-clause-lines
+returns-in_err-print_tree-clause-lines g c =
+    let was = c.loop-place.invariant.lines in
+    lines_fault _ _ _ _ _ _ _ _ _ _ c.from_residual.ensures.0 was.lines was.passed c.in_err-print_tree.ensures.lines.lines c.in_err-print_tree.ensures.lines.gathers
+
+pub returns-clause-lines : goal.returns-clause-lines
+returns-clause-lines g c =
+    let was = c.loop-place.invariant.lines in
+    record { text = was.text; lines = was.lines; gathers = was.passed }
