@@ -163,3 +163,10 @@ turns_many d [] [] journal turns = refl
 turns_many d [] (a ∷ answers) journal turns = absurd turns
 turns_many d (c ∷ scripts) [] journal turns = absurd turns
 turns_many d (c ∷ scripts) (a ∷ answers) journal turns = ap suc (turns_many (d + 1) scripts answers turns.rest turns.later)
+
+-- and so have drivers that have their calls in a journal
+pub follow_many : (d : ℕ) (scripts : List (List Command)) (answers : List (List Answer)) (journal : List Entry) → FollowAll d scripts answers journal → length answers ≡ length scripts
+follow_many d [] [] journal follow = refl
+follow_many d [] (a ∷ answers) journal follow = absurd follow
+follow_many d (c ∷ scripts) [] journal follow = absurd follow
+follow_many d (c ∷ scripts) (a ∷ answers) journal follow = ap suc (follow_many (d + 1) scripts answers journal follow.2)
