@@ -16,18 +16,8 @@ pub(crate) const UART: &str =
     "%bundle 1\n%clocks\nfixed osc 24000000\ngate uart_gate osc 0 3\n%regs 1\n%driver A\nget a uart_gate\nprepare a\nenable a\nrate a\n";
 
 /// What the run of `UART` prints.
-pub(crate) const UART_PRINTED: &str = concat!(
-    "boot.1 ok\n",
-    "boot.2 ok\n",
-    "A.1 handle 0\n",
-    "A.2 ok\n",
-    "A.3 ok\n",
-    "A.4 rate 24000000\n",
-    "clock                             enable prepare protect                 rate   hw\n",
-    "osc                                    1       1       0             24000000    -\n",
-    "  uart_gate                            1       1       0             24000000   on\n",
-    "reg 0 0x00000008\n",
-);
+pub(crate) const UART_PRINTED: &str =
+    "boot.1 ok\nboot.2 ok\nA.1 handle 0\nA.2 ok\nA.3 ok\nA.4 rate 24000000\nclock                             enable prepare protect                 rate   hw\nosc                                    1       1       0             24000000    -\n  uart_gate                            1       1       0             24000000   on\nreg 0 0x00000008\n";
 
 /// The status for a word and bytes, and the sink. These calls of the source and the sink fail; the
 /// sink takes so many bytes a call.
