@@ -15,7 +15,7 @@ returns-in_err-words-clause-gathers g c =
       words = (now_of c.args.core.now).regs;
       summary = some.1;
       registers = λ tells. refl;
-      gathers = Gathers-fault _ _ _ _ _ _ c.from_residual-in_err-words.ensures.0 (AppendsFront-none _ _);
+      gathers = Gathers-fault _ _ _ _ _ _ c.from_residual.ensures.0 (AppendsFront-none _ _);
     }
 
 pub returns-in_err-print_summary-clause-gathers : goal.returns-in_err-print_summary-clause-gathers
