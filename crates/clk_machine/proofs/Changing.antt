@@ -27,7 +27,7 @@ use Rattle.clk_machine.proofs.Holdings.{StandsFor-same}
 use Rattle.clk_machine.proofs.Writing.{whole_spent}
 
 -- a change of rate changes no parent, and may go on
-keeps_parent : (what : Sleeping) → changes_rate what ≡ true → sets_parent what ≡ false
+pub keeps_parent : (what : Sleeping) → changes_rate what ≡ true → sets_parent what ≡ false
 keeps_parent (call.SetRate h x) e = refl
 keeps_parent (call.SetRateExclusive h x) e = refl
 keeps_parent (call.SetRange h least most) e = refl
@@ -153,6 +153,7 @@ starts_change old d what steps course' range vetoed flight' now change = record 
   remains = record { desc = refl; told = refl; size = refl; behind = refl; credits = refl; ignore_unused = refl };
   spent = refl;
   rows = λ c. refl;
+  table = refl;
   going = now.going;
   driver_ = now.driver;
   left = changing_left old (rows_from 0 old.chains) d what steps flight' now;
