@@ -1,12 +1,10 @@
 -- Another range of a handle, in the parts of a core.
-use Rattle.std.proofs.Common.{◌≡◌, ℕ, ◌+◌, ◌<◌, ◌≤◌, List, Option, Some, refl, sym, ap, subst, ◌∙◌, inl, inr, arith, length, set}
-use Rattle.std.specs.Option.{option_map}
+use Rattle.std.proofs.Common.{◌≡◌, ℕ, List, Option, Some, refl, sym, ap, subst, ◌∙◌, inl, inr, arith, set}
 use Rattle.std.proofs.lemmas.List.{length-set}
 use Rattle.clk_base.specs.Description.{Description}
 use Rattle.clk_model.specs.declared.row.ClockRow.{ClockRow}
 use Rattle.clk_model.specs.declared.row.HandleRow.{HandleRow}
 use Rattle.clk_model.specs.Begin.{put_handle}
-use Rattle.clk_model.specs.Lists.{present}
 use Rattle.clk_model.specs.State.{State, registered, handle_at}
 use Rattle.clk_flight.specs.Flights.{FlightState}
 use Rattle.notifiers.specs.declared.notifier.Notifier.{Notifier}

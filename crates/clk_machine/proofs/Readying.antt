@@ -1,7 +1,7 @@
 -- A call that changes a rate begins as it was made ready, in each sound state that the parts of a core stand for.
-use Rattle.std.proofs.Common.{◌≡◌, ℕ, ◌+◌, ◌<◌, ◌≤◌, ◌||◌, Bool, true, false, List, [], ◌∷◌, Option, Some, None, refl, sym, ap, subst, ◌∙◌, arith, length, map, set}
+use Rattle.std.proofs.Common.{◌≡◌, ℕ, ◌+◌, ◌<◌, ◌≤◌, ◌||◌, Bool, true, false, List, [], ◌∷◌, Option, Some, None, refl, sym, ap, subst, ◌∙◌, arith, length, map}
 use Rattle.std.proofs.Math.Bool.{or-false}
-use Rattle.std.specs.Prelude.{sum_by, slice_index, is_some}
+use Rattle.std.specs.Prelude.{sum_by, slice_index}
 use Rattle.std.specs.List.{list_any, AllByRecursion}
 use Rattle.clk_base.specs.Description.{Description}
 use Rattle.clk_base.specs.declared.call.Micro.{Micro}
@@ -9,21 +9,20 @@ use Rattle.clk_base.specs.declared.call.Sleeping.{Sleeping}
 use Rattle.clk_base.specs.declared.call.Sleeping.TheVariants as call
 use Rattle.clk_base.specs.declared.event.Event.TheVariants as event
 use Rattle.clk_base.specs.declared.event.Reply.TheVariants as reply
-use Rattle.clk_base.specs.declared.event.Turn.{Turn}
 use Rattle.clk_base.specs.declared.event.Turn.TheVariants as turn
 use Rattle.clk_base.specs.declared.handle.Handle.{Handle}
 use Rattle.clk_model.specs.declared.row.ClockRow.{ClockRow}
 use Rattle.clk_model.specs.declared.row.HandleRow.{HandleRow}
-use Rattle.clk_model.specs.Begin.{most_credits, own_handle, done, change_along, held_once_more, weight_of}
+use Rattle.clk_model.specs.Begin.{most_credits, own_handle, done, change_along}
 use Rattle.clk_model.specs.Chain.{moves, outcome}
 use Rattle.clk_model.specs.Gates.{settled}
 use Rattle.clk_model.specs.Laws.CallCauses.{with_limits}
 use Rattle.clk_model.specs.Machine.{paid, next}
 use Rattle.clk_model.specs.Rate.{rate}
-use Rattle.clk_model.specs.Round.{Wiring, wiring, rate_in}
+use Rattle.clk_model.specs.Round.{wiring, rate_in}
 use Rattle.clk_model.specs.Script.{plls, planned}
-use Rattle.clk_model.specs.State.{State, Change, ChainStep, registered, handle_at}
-use Rattle.clk_model.specs.Walk.{rates_in, walk}
+use Rattle.clk_model.specs.State.{State, Change, registered, handle_at}
+use Rattle.clk_model.specs.Walk.{walk}
 use Rattle.clk_model.proofs.StateLaws.{paid-still, paid-left, active-put_same}
 use Rattle.clk_flight.specs.LeftOver as flights
 use Rattle.clk_tree.specs.declared.plan.Plan.{Plan}
@@ -40,7 +39,7 @@ use Rattle.clk_machine.specs.declared.decision.Decision.TheVariants as decided
 use Rattle.clk_machine.specs.declared.readied.Readied.{Readied}
 use Rattle.clk_machine.specs.declared.readied.Readied.TheVariants as readied
 use Rattle.clk_machine.specs.declared.readied.Scripted.{Scripted}
-use Rattle.clk_machine.specs.Changing.{BeginsAlong, StartsChange, still_steps, told_clocks}
+use Rattle.clk_machine.specs.Changing.{BeginsAlong, StartsChange, still_steps}
 use Rattle.clk_machine.specs.Course.{notifiers_at, tells_all}
 use Rattle.clk_machine.specs.Deciding.{Decided, GoesOn, IsPlanOf, change_by, handle_of, left_at_once, made_in}
 use Rattle.clk_machine.specs.Fit.{keeps_parents}
@@ -48,7 +47,6 @@ use Rattle.clk_machine.specs.Holding.{exclusive_more, puts, ranged, stays}
 use Rattle.clk_machine.specs.InFlight.{changes_rate, is_ranged, is_script}
 use Rattle.clk_machine.specs.Parts.{Parts, AreKept, IsOwnCall, IsWhole, own_in, rows_from, steps_left, with_range}
 use Rattle.clk_machine.specs.Readying.{CanBeginSo, CanGoAlong, GoesOnAlong, IsReady, IsScripted, Scripts, range_before, weight_along}
-use Rattle.clk_machine.specs.Sound.{IsSound}
 use Rattle.clk_machine.specs.Stands.{Stands, Becomes, Enters, most_steps, nothing, registers}
 use Rattle.clk_machine.proofs.Entered.{own_stands, enters}
 use Rattle.clk_machine.proofs.Moving.{clock_within}

@@ -1,5 +1,5 @@
 -- What a script of notices and visits says of a change that goes on with it.
-use Rattle.std.proofs.Common.{◌≡◌, ℕ, ◌+◌, ◌*◌, ◌&&◌, ◌||◌, ◌++◌, not, Bool, true, false, cond, List, [], ◌∷◌, refl, sym, ap, ◌∙◌, arith, length, map, filter, nat_eq}
+use Rattle.std.proofs.Common.{◌≡◌, ℕ, ◌+◌, ◌*◌, ◌&&◌, ◌||◌, ◌++◌, not, Bool, true, false, cond, List, [], ◌∷◌, refl, ap, ◌∙◌, map, filter, nat_eq}
 use Rattle.std.proofs.Math.Path.{fun_ext}
 use Rattle.std.specs.Prelude.{sum_by, slice_index, if◌then◌else◌}
 use Rattle.std.specs.List.{AllByRecursion}
@@ -9,7 +9,7 @@ use Rattle.clk_base.specs.declared.call.Sleeping.{Sleeping}
 use Rattle.clk_model.specs.Chain.{clock_id}
 use Rattle.clk_model.specs.Laws.Paced.{is_notice}
 use Rattle.clk_model.specs.Script.{plls, weight}
-use Rattle.clk_model.specs.State.{State, NotifierRow}
+use Rattle.clk_model.specs.State.{State}
 use Rattle.clk_model.proofs.Members.{test_same}
 use Rattle.clk_flight.specs.LeftOver as flights
 use Rattle.clk_tree.specs.Plans.{ClockRate}

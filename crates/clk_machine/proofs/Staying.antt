@@ -1,12 +1,10 @@
 -- A request for a rate moves no clock in a description where each clock keeps its parent then.
-use Rattle.std.proofs.Common.{◌≡◌, ℕ, zero, suc, ◌&&◌, ◌||◌, not, Bool, true, false, List, [], ◌∷◌, Option, Some, None, refl, sym, ap, subst, ◌∙◌, ◌+◌, arith, length, filter, nat_eq, nat_le, max}
+use Rattle.std.proofs.Common.{◌≡◌, ℕ, zero, suc, ◌&&◌, ◌||◌, not, Bool, true, false, List, [], ◌∷◌, Option, Some, None, refl, sym, ap, ◌∙◌, ◌+◌, arith, filter, nat_eq, nat_le, max}
 use Rattle.std.specs.Prelude.{◌*◌, ◌/◌, IfSome, is_some, find, option_map, option_and_then}
 use Rattle.std.specs.Int.{div_ceil}
 use Rattle.std.specs.List.{list_any, filter_map, AllByRecursion}
 use Rattle.std.proofs.lemmas.List.{get_or_past}
 use Rattle.clk_base.specs.declared.call.Sleeping.{Sleeping}
-use Rattle.clk_base.specs.declared.call.Sleeping.TheVariants as call
-use Rattle.clk_base.specs.declared.clock.ClockDef.{ClockDef}
 use Rattle.clk_base.specs.declared.clock.Kind.{Kind}
 use Rattle.clk_base.specs.declared.clock.Kind.TheVariants.{FixedRate, Factor, Gate, Mux, Divider, Pll}
 use Rattle.clk_base.specs.declared.event.Event.TheVariants as event
@@ -28,11 +26,10 @@ use Rattle.clk_model.specs.Machine.{next}
 use Rattle.clk_model.specs.Rate.{style_of}
 use Rattle.clk_model.specs.Round.{Wiring, View, Rounded, wiring, most_rate, rate_in, parent_rate_in, over_parent, passes_on, through, over_link, best_of, by_divisor, by_candidate, by_kind, clamped, rate_for, round_by, round}
 use Rattle.clk_model.specs.State.{State, Change, ChainStep, link_in}
-use Rattle.clk_model.specs.Step.{sets_parent}
 use Rattle.clk_model.proofs.BeginsLaws.{IsPlannedOver, over_itself, over_range, Starts, raising_handle, lowering_handle, planning, reparents, probing, sweeping, Begins, answers, gives, takes, adjusts, prepares, unprepares, notes, registers, goes_on, begins_so}
 use Rattle.clk_model.proofs.FlightLaws.{begin_is}
 use Rattle.clk_model.proofs.Members.{not_either, test_same}
-use Rattle.clk_model.proofs.PlanRootLaws.{KeepsChain, chain_all}
+use Rattle.clk_model.proofs.PlanRootLaws.{chain_all}
 use Rattle.clk_model.proofs.RoundLaws.{round_fold, round_tries, round_or}
 use Rattle.clk_machine.specs.Fit.{may_move, keeps_parents}
 use Rattle.clk_machine.specs.InFlight.{changes_rate}

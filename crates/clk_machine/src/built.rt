@@ -22,9 +22,8 @@ pub fn is_built(what: &Sleeping, can_register: bool, keeps_parents: bool) -> boo
         | Sleeping::ExclusivePut(_)
         | Sleeping::NotifierAdd(_, _, _, _)
         | Sleeping::NotifierRemove(_, _) => true,
-        Sleeping::SetRate(_, _)
-        | Sleeping::SetRateExclusive(_, _)
-        | Sleeping::SetRange(_, _, _) => keeps_parents,
+        Sleeping::SetRate(_, _) | Sleeping::SetRateExclusive(_, _) | Sleeping::SetRange(_, _, _) =>
+            keeps_parents,
         Sleeping::Probe(_) => can_register,
         _ => false,
     }

@@ -8,8 +8,10 @@ mod moves;
 mod trees;
 
 use clk_base::{Errno, Micro, Notice, Policy, Reply, Sleeping, Turn};
-use moves::{Move, at_once, begins, core_over, ends, get, handle, notice, probe, rate_is, refused};
-use moves::{round_is, step, take_all};
+use moves::{
+    Move, at_once, begins, core_over, ends, get, handle, notice, probe, rate_is, refused, round_is,
+    step, take_all,
+};
 use std::test::Fail;
 use trees::{DIV, OSC, REF, divider, multiplied, vetoed};
 
@@ -86,7 +88,7 @@ fn an_exclusive_holder_keeps_its_rate(rt: HostRuntime) -> Result<(), Fail> {
         at_once(1, Sleeping::ExclusivePut(d)),
         at_once(1, Sleeping::ExclusivePut(d)),
         Move::Begin(1, Sleeping::ExclusivePut(d), Turn::Done(Reply::Warn)),
-        refused(1, Sleeping::SetRate(handle(2, 0), 50), Errno::ENOENT),
+        refused(2, Sleeping::SetRate(d, 50), Errno::ENOENT),
     ];
     take_all(&rt, &mut core, &taken)
 }

@@ -194,12 +194,7 @@ impl<B: Bank> Machine<B> {
     }
 
     // Begins a call that changes a rate as it was made ready.
-    fn begin_so(
-        &mut self,
-        driver: u32,
-        what: Sleeping,
-        readied: Readied,
-    ) -> Result<Turn, NoMemory>
+    fn begin_so(&mut self, driver: u32, what: Sleeping, readied: Readied) -> Result<Turn, NoMemory>
         requires credit { self.old.spent < self.old.credits }
         requires quiet { self.old.flight.going ≡ false }
         requires changes { changes_rate what ≡ true }

@@ -98,9 +98,27 @@ pub(super) fn multiplied(rt: &impl Abort, alloc: Global) -> Result<ValidDesc, Fa
     let rate = 24_000_000;
     add(alloc, &mut desc, Kind::FixedRate { rate }, None, none)?;
     add(alloc, &mut desc, pll, Some(OSC), none)?;
-    add(alloc, &mut desc, dividing(1, 2), Some(vco), ClkFlags::SET_RATE_PARENT)?;
-    add(alloc, &mut desc, Kind::Factor { mult: 1, div: 4 }, Some(vco), none)?;
-    add(alloc, &mut desc, Kind::Factor { mult: 1, div: 5 }, Some(vco), none)?;
+    add(
+        alloc,
+        &mut desc,
+        dividing(1, 2),
+        Some(vco),
+        ClkFlags::SET_RATE_PARENT,
+    )?;
+    add(
+        alloc,
+        &mut desc,
+        Kind::Factor { mult: 1, div: 4 },
+        Some(vco),
+        none,
+    )?;
+    add(
+        alloc,
+        &mut desc,
+        Kind::Factor { mult: 1, div: 5 },
+        Some(vco),
+        none,
+    )?;
     checked(rt, alloc, desc)
 }
 
@@ -118,8 +136,20 @@ pub(super) fn vetoed(rt: &impl Abort, alloc: Global) -> Result<ValidDesc, Fail>
     };
     add(alloc, &mut desc, Kind::FixedRate { rate: 100 }, None, none)?;
     add(alloc, &mut desc, dividing(0, 3), Some(REF), none)?;
-    add(alloc, &mut desc, Kind::Factor { mult: 1, div: 2 }, Some(DIV), none)?;
-    add(alloc, &mut desc, Kind::Factor { mult: 1, div: 4 }, Some(DIV), none)?;
+    add(
+        alloc,
+        &mut desc,
+        Kind::Factor { mult: 1, div: 2 },
+        Some(DIV),
+        none,
+    )?;
+    add(
+        alloc,
+        &mut desc,
+        Kind::Factor { mult: 1, div: 4 },
+        Some(DIV),
+        none,
+    )?;
     add(alloc, &mut desc, gate, Some(DIV), none)?;
     checked(rt, alloc, desc)
 }

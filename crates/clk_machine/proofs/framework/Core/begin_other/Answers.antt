@@ -1,4 +1,4 @@
-use Rattle.std.proofs.Common.{◌≡◌, ◌+◌, ◌≤◌, ◌∙◌, true, false, refl, subst, arith}
+use Rattle.std.proofs.Common.{◌≡◌, ◌+◌, ◌≤◌, ◌∙◌, true, false, subst, arith}
 use Rattle.clk_base.specs.declared.event.Event.TheVariants.{Begin}
 use Rattle.clk_model.specs.State.{registered}
 use Rattle.clk_machine.specs.Built.{is_built_over}
