@@ -1,7 +1,7 @@
 -- What a change of rate that goes on makes of the parts of a core.
-use Rattle.std.proofs.Common.{◌≡◌, ℕ, ◌+◌, ◌<◌, ◌≤◌, ◌||◌, Bool, true, false, List, [], ◌∷◌, Option, Some, None, refl, sym, ap, subst, ◌∙◌, arith, length, map, take}
-use Rattle.std.specs.Prelude.{sum_by, IfSome, if◌then◌else◌}
-use Rattle.std.specs.List.{list_all, list_any}
+use Rattle.std.proofs.Common.{◌≡◌, ℕ, ◌+◌, ◌<◌, ◌≤◌, Bool, true, false, List, [], Option, refl, sym, ap, subst, ◌∙◌, arith, length, map, take}
+use Rattle.std.specs.Prelude.{sum_by, if◌then◌else◌}
+use Rattle.std.specs.List.{list_all}
 use Rattle.clk_base.specs.declared.call.Micro.{Micro}
 use Rattle.clk_base.specs.declared.call.Sleeping.{Sleeping}
 use Rattle.clk_base.specs.declared.call.Sleeping.TheVariants as call
@@ -20,14 +20,13 @@ use Rattle.clk_flight.specs.Fronts.{called_off}
 use Rattle.clk_flight.specs.LeftOver.{step_weight, front_weight, left_over}
 use Rattle.clk_machine.specs.Changing.{BeginsAlong, StartsChange}
 use Rattle.clk_machine.specs.Course.{CourseState, notifiers_at, tells_all, PostsFit}
-use Rattle.clk_machine.specs.InFlight.{may_raise, may_lower, changes_rate, may_go_on, is_script, is_front}
-use Rattle.clk_machine.specs.Parts.{Parts, bare, IsOwnCall, rows_from, IsFlown, IsWhole}
-use Rattle.clk_machine.specs.Stands.{Stands}
+use Rattle.clk_machine.specs.InFlight.{changes_rate, may_go_on, is_script, is_front}
+use Rattle.clk_machine.specs.Parts.{Parts, bare, IsOwnCall, rows_from, IsWhole}
 use Rattle.clk_machine.proofs.Holdings.{StandsFor-same}
 use Rattle.clk_machine.proofs.Writing.{whole_spent}
 
 -- a change of rate changes no parent, and may go on
-keeps_parent : (what : Sleeping) → changes_rate what ≡ true → sets_parent what ≡ false
+pub keeps_parent : (what : Sleeping) → changes_rate what ≡ true → sets_parent what ≡ false
 keeps_parent (call.SetRate h x) e = refl
 keeps_parent (call.SetRateExclusive h x) e = refl
 keeps_parent (call.SetRange h least most) e = refl
@@ -153,6 +152,7 @@ starts_change old d what steps course' range vetoed flight' now change = record 
   remains = record { desc = refl; told = refl; size = refl; behind = refl; credits = refl; ignore_unused = refl };
   spent = refl;
   rows = λ c. refl;
+  table = refl;
   going = now.going;
   driver_ = now.driver;
   left = changing_left old (rows_from 0 old.chains) d what steps flight' now;

@@ -23,12 +23,12 @@ use Rattle.clk_model.specs.Machine.{paid, next}
 use Rattle.clk_model.proofs.Members.{test_same}
 use Rattle.clk_tree.specs.TreeState.{TreeState}
 use Rattle.counts_core.specs.Sums.{up_in}
-use Rattle.counts_core.specs.Counted.{CountState, AreCounts, HasLinks, is_held, is_active}
+use Rattle.counts_core.specs.Counted.{CountState, AreCounts, HasLinks, is_active}
 use Rattle.counts_core.specs.Standing.{StandsFor}
 use Rattle.counts_core.proofs.Standing.{tells_holds}
 use Rattle.counts_core.proofs.Walking.{count-more}
 use Rattle.clk_machine.specs.Window.{Shown}
-use Rattle.clk_machine.specs.Parts.{Parts, bare, AreTied, IsWhole}
+use Rattle.clk_machine.specs.Parts.{Parts, bare, IsWhole}
 use Rattle.clk_machine.specs.Sound.{IsSound}
 use Rattle.clk_machine.specs.Stands.{Stands, Becomes}
 use Rattle.clk_machine.proofs.Attaching.{IsNarrow-register, adoptable-sound}

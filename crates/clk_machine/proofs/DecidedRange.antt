@@ -20,6 +20,7 @@ use Rattle.rate_requests.specs.Handles.{HandleTable, misses_in, with_range_at}
 use Rattle.clk_machine.specs.declared.decision.Decision.{Decision}
 use Rattle.clk_machine.specs.declared.decision.Decision.TheVariants as decided
 use Rattle.clk_machine.specs.Deciding.{IsAnswer, IsGiven, Decides, answered, less_protected}
+use Rattle.clk_machine.specs.Holding.{ranged}
 use Rattle.clk_machine.specs.Parts.{Parts, own_in, IsWhole}
 use Rattle.clk_machine.specs.Sound.{IsSound}
 use Rattle.clk_machine.specs.Stands.{Stands}
@@ -78,10 +79,6 @@ range_known s d h least most row (decided.Change plan script) quiet own fits ans
 }
 
 -- ---- in the parts
-
--- a row with another range
-abbrev pub ranged : HandleRow → ℕ → ℕ → HandleRow
-ranged row least most = record row { min = least; max = most }
 
 -- a table with another range of a live handle
 pub range_written : (handles : List (Option HandleRow)) (n least most : ℕ) (row : HandleRow) → handle_at handles n ≡ Some row → with_range_at handles n least most ≡ set handles n (Some (ranged row least most))

@@ -1,9 +1,8 @@
 -- What the end of a call that went on writes: a handle, and the last request of a clock.
-use Rattle.std.proofs.Common.{◌≡◌, ℕ, ◌+◌, ◌<◌, ◌||◌, Bool, true, false, List, Option, Some, None, refl, sym, ap, subst, ◌∙◌, inl, inr, arith, length, set}
-use Rattle.std.specs.Prelude.{if◌then◌else◌, is_some, IfSome, slice_index}
+use Rattle.std.proofs.Common.{◌≡◌, ℕ, ◌+◌, ◌<◌, Bool, true, false, List, Option, Some, None, refl, sym, ap, subst, ◌∙◌, inl, inr, arith, length}
+use Rattle.std.specs.Prelude.{is_some, slice_index}
 use Rattle.std.proofs.Math.Bool.{or-false}
 use Rattle.std.proofs.lemmas.List.{length-set}
-use Rattle.clk_base.specs.Description.{Description}
 use Rattle.clk_base.specs.declared.call.Micro.TheVariants as micro
 use Rattle.clk_base.specs.declared.clock.ClockId.{ClockId}
 use Rattle.clk_base.specs.declared.event.Event.TheVariants as event
@@ -12,10 +11,8 @@ use Rattle.clk_base.specs.declared.event.Turn.TheVariants as turn
 use Rattle.clk_model.specs.declared.row.ClockRow.{ClockRow}
 use Rattle.clk_model.specs.declared.row.HandleRow.{HandleRow}
 use Rattle.clk_model.specs.State.{State, Change, registered, link_in, handle_at, requested}
-use Rattle.clk_model.specs.Rate.{rate}
 use Rattle.clk_model.specs.Begin.{put_handle}
 use Rattle.clk_model.specs.Step.{taken, end_of}
-use Rattle.clk_model.specs.Machine.{next}
 use Rattle.clk_model.specs.Journal.{slotless}
 use Rattle.clk_model.specs.Holders.{active}
 use Rattle.clk_model.proofs.RateLaws.{rate-links}
@@ -23,14 +20,12 @@ use Rattle.clk_tree.specs.TreeState.{TreeState, IsTree}
 use Rattle.clk_tree.proofs.Rows.{registered-requested, link-requested}
 use Rattle.clk_flight.specs.Flights.{FlightState, IsChange}
 use Rattle.clk_flight.specs.Moves.{landed}
-use Rattle.counts_core.specs.Counted.{CountState, HasLinks, is_active}
-use Rattle.counts_core.specs.Standing.{StandsFor}
+use Rattle.counts_core.specs.Counted.{CountState, is_active}
 use Rattle.rate_requests.specs.Handles.{HandleTable}
 use Rattle.clk_machine.specs.Window.{Shown}
 use Rattle.clk_machine.specs.Making.{ComesFirst}
 use Rattle.clk_machine.specs.Parts.{Parts, bare, held_in_all, ArePaid, AreKept, IsWhole, rows_from}
-use Rattle.clk_machine.specs.Sound.{IsSound}
-use Rattle.clk_machine.specs.Stands.{Stands, Leads, Enters}
+use Rattle.clk_machine.specs.Stands.{Stands, Enters}
 use Rattle.clk_machine.proofs.Flying.{none_left}
 use Rattle.clk_machine.proofs.Holdings.{StandsFor-same, StandsFor-like}
 use Rattle.clk_machine.proofs.Coming.{some_left}
@@ -38,7 +33,7 @@ use Rattle.clk_machine.proofs.Making.{with_step, change_of, next_of}
 use Rattle.clk_machine.proofs.Rows.{holds_stand}
 use Rattle.clk_machine.proofs.Shapes.{handle_at-put, sum_by-set}
 use Rattle.clk_machine.proofs.Stepping.{reply_of, ends_still}
-use Rattle.clk_machine.proofs.Writing.{Written, written_stands, live_in}
+use Rattle.clk_machine.proofs.Writing.{Written, written_stands}
 
 -- ---- the parts stay whole
 

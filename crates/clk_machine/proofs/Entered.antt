@@ -1,5 +1,5 @@
 -- From what is done to a state to the event that does it.
-use Rattle.std.proofs.Common.{◌≡◌, ℕ, ◌+◌, ◌<◌, ◌&&◌, ◌||◌, Bool, true, false, List, [], Option, refl, sym, ap, ◌∙◌, arith, nat_lt, nat_eq, cond}
+use Rattle.std.proofs.Common.{◌≡◌, ℕ, ◌+◌, ◌<◌, ◌&&◌, ◌||◌, Bool, true, false, List, Option, refl, sym, ap, ◌∙◌, arith, nat_lt, nat_eq, cond}
 use Rattle.std.proofs.lemmas.Bool.Decides.{nat_tests}
 use Rattle.clk_base.specs.Description.{Description}
 use Rattle.clk_base.specs.declared.call.Sleeping.TheVariants as call
@@ -23,7 +23,6 @@ use Rattle.clk_model.proofs.Members.{same_from_test, not_either}
 use Rattle.std.specs.Prelude.{if◌then◌else◌}
 use Rattle.clk_model.specs.Tier.{is_enable_tier}
 use Rattle.clk_flight.specs.Flights.{FlightState}
-use Rattle.clk_flight.specs.LeftOver.{left_over}
 use Rattle.clk_machine.specs.Holding.{stays}
 use Rattle.clk_machine.specs.Parts.{Parts, own_in}
 use Rattle.clk_machine.specs.Sound.{IsSound}

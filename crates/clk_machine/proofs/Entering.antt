@@ -23,8 +23,9 @@ use Rattle.clk_model.specs.Journal.{slotless, replay, Legal, opening, is_paid, i
 use Rattle.clk_model.proofs.EndCauseLaws.{going_leaves_changes}
 use Rattle.clk_model.proofs.JournalCauseLaws.{journals_have_causes}
 use Rattle.clk_model.proofs.JournalLaws.{replay-append, Legal-append}
-use Rattle.clk_machine.specs.Fit.{CanRun}
-use Rattle.clk_machine.specs.Sound.{IsSound, IsPlaced, leaves_links, CanTake}
+use Rattle.clk_machine.specs.Fit.{CanRun, keeps_parents}
+use Rattle.clk_machine.specs.InFlight.{changes_rate}
+use Rattle.clk_machine.specs.Sound.{IsSound, IsPlaced, takes_memory, leaves_links, CanTake}
 use Rattle.clk_machine.specs.Parts.{Parts, rows_from, steps_left}
 use Rattle.clk_machine.proofs.Flying.{never_flown, none_left}
 use Rattle.std.specs.Prelude.{if◌then◌else◌}
@@ -124,6 +125,30 @@ begun old new words log log' d what t run enters can most entries taken = record
       let pays = enters.pays in
       let credits = enters.remains.credits in
       let few = enters.begun refl goes in
+      omega arith
+  by false done =
+      let before = run.room in
+      let pays = enters.pays in
+      let credits = enters.remains.credits in
+      let less = enters.no_more refl done in
+      omega arith
+
+-- and one that changes a rate, where room was made for the steps of its script
+pub begun_along : (old new : Parts) (words : List ℕ) (log log' : Logged) (d : ℕ) (what : Sleeping) (t : Turn) → IsRun old words log → Enters old d (event.Begin what) t new
+    → (is_told old ≡ true → CanTake (state_of old words log) (event.Begin what)) → (is_going t ≡ true → old.credits + steps_left new ≤ old.spent + log.room)
+    → log'.entries ≡ log.entries ++ entry_of d (event.Begin what) t ∷ [] → log'.room + 1 ≡ log.room → IsEntered old new words log log' d (event.Begin what) t
+begun_along old new words log log' d what t run enters can most entries taken = record {
+  run = run;
+  enters = enters;
+  can = can;
+  entries = entries;
+  room = by (is_going t) refl;
+} where
+  by : (b : Bool) → is_going t ≡ b → new.credits + steps_left new ≤ new.spent + log'.room
+  by true goes =
+      let pays = enters.pays in
+      let credits = enters.remains.credits in
+      let few = most goes in
       omega arith
   by false done =
       let before = run.room in
@@ -296,6 +321,19 @@ step_turns old new t on opens told =
 list_all-agree : (p q : ℕ → Bool) (xs : List ℕ) → ((x : ℕ) → p x ≡ q x) → list_all p xs ≡ list_all q xs
 list_all-agree p q [] same = refl
 list_all-agree p q (x ∷ xs) same = ap (λ (b : Bool). b && list_all p xs) (same x) ∙ ap (λ (b : Bool). q x && b) (list_all-agree p q xs same)
+
+-- a change of rate takes memory, and can be made where each clock keeps its parent
+pub takes_room : (what : Sleeping) → changes_rate what ≡ true → takes_memory what ≡ true
+takes_room (call.SetRate h x) e = refl
+takes_room (call.SetRateExclusive h x) e = refl
+takes_room (call.SetRange h least most) e = refl
+takes_room _ e = absurd cc
+
+pub keeps_built : (m : Parts) (words : List ℕ) (log : Logged) (what : Sleeping) → changes_rate what ≡ true → can_make (run_of m words log) what ≡ true → keeps_parents m.desc.defs ≡ true
+keeps_built m words log (call.SetRate h x) e built = built
+keeps_built m words log (call.SetRateExclusive h x) e built = built
+keeps_built m words log (call.SetRange h least most) e built = built
+keeps_built m words log _ e built = absurd cc
 
 -- a clock is registered where it was probed, so a call that can be made is built
 pub can_begin : (m : Parts) (words : List ℕ) (log : Logged) (what : Sleeping) → IsRun m words log

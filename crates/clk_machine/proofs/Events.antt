@@ -1,5 +1,5 @@
 -- Each event that can come leaves a sound state sound.
-use Rattle.std.proofs.Common.{◌≡◌, ℕ, zero, suc, ◌+◌, ◌-◌, ◌<◌, ◌||◌, Bool, true, false, cond, [], ◌∷◌, Option, Some, None, refl, sym, ap, subst, ◌∙◌, arith, length, nat_lt, nat_le, filter, reverse}
+use Rattle.std.proofs.Common.{◌≡◌, ℕ, zero, suc, ◌+◌, ◌-◌, ◌<◌, ◌||◌, Bool, true, false, cond, List, [], ◌∷◌, Option, Some, None, refl, sym, ap, subst, ◌∙◌, arith, length, nat_lt, nat_le, filter, reverse}
 use Rattle.std.specs.Prelude.{is_none, slice_get, if◌then◌else◌}
 use Rattle.std.specs.Option.{option_map_or}
 use Rattle.std.proofs.lemmas.Bool.Decides.{nat_tests}
@@ -14,13 +14,15 @@ use Rattle.clk_base.specs.declared.event.Turn.{Turn}
 use Rattle.clk_base.specs.declared.event.Turn.TheVariants as turn
 use Rattle.clk_base.specs.declared.handle.Handle.{Handle}
 use Rattle.clk_model.specs.declared.row.HandleRow.{HandleRow}
-use Rattle.clk_model.specs.State.{State, Change, registered, handle_at, requested}
+use Rattle.clk_model.specs.Chain.{chain}
+use Rattle.clk_model.specs.Laws.CallCauses.{with_limits}
+use Rattle.clk_model.specs.State.{State, Change, ChainStep, registered, handle_at, requested}
 use Rattle.clk_model.specs.Tree.{rooted, path, path_to_be}
 use Rattle.clk_model.specs.Script.{unprepared_plls, runs}
 use Rattle.clk_model.specs.Step.{taken, on, powered, visit, set_in_chain, to_raise, raise_one, poll, fall, to_lower, lower_one, ended_well, unranged, is_yes, stepped}
 use Rattle.clk_model.specs.Holders.{active}
 use Rattle.clk_model.specs.Gates.{settled}
-use Rattle.clk_model.specs.Begin.{refused, starts, change_of, weight_of, most_credits, put_handle, own_handle, given, register, keeps_prepare, prepare, unprepare, prepared_once_more, held_once_more, request_between, holds_something, has_notifier, most_notifiers, begun}
+use Rattle.clk_model.specs.Begin.{refused, starts, change_of, weight_of, most_credits, put_handle, own_handle, given, register, keeps_prepare, prepare, unprepare, prepared_once_more, held_once_more, request_between, change_along, request, misses, range_set, holds_something, has_notifier, most_notifiers, begun}
 use Rattle.clk_model.specs.Machine.{paid, next}
 use Rattle.clk_model.proofs.StateLaws.{settled-still, active-append}
 use Rattle.clk_model.proofs.EventLaws.{enable-unknown, enable-unprepared, enable-fine, disable-unknown, disable-warned, disable-fine, running-unknown, running-told, get-not_found, get-deferred, get-given, put-unknown, put-busy, put-fine, rate-unknown, rate-told, parent-unknown, parent-told, probe-twice}
@@ -138,6 +140,40 @@ unprepare_stays words s d h sound =
     (λ some. starts_stays words s less (change_of s d (call.Unprepare h) (micro.Lower row.clock ∷ micro.End ∷ [])) sound
     (IsNarrow-handles words s less.handles sound))))
 
+chosen_stays : (words : ℕ) (s new : State) (d : ℕ) (what : Sleeping) (range : Option (ℕ × ℕ)) (o : Option (List ChainStep)) → IsNarrow words s → IsNarrow words new
+    → Stays words s (option_map_or (λ ks. starts s new (change_along new d what ks [] range)) o (refused s errno.EINVAL))
+chosen_stays words s new d what range None sound after = refused_stays words s sound
+chosen_stays words s new d what range (Some ks) sound after = starts_stays words s new (change_along new d what ks [] range) sound after
+
+request_leaves : (words : ℕ) (s new fine lifted : State) (d : ℕ) (what : Sleeping) (c x : ℕ) (range : Option (ℕ × ℕ)) → IsNarrow words s → IsNarrow words new → IsNarrow words fine
+    → Stays words s (request s new fine lifted d what c x range)
+request_leaves words s new fine lifted d what c x range sound after answered =
+    pick_either (Stays words s) _ _ _ (λ same. IsNarrow-settled words s fine answered)
+    (λ other. pick_either (Stays words s) _ _ _ (λ guarded_. refused_stays words s sound)
+    (λ free. chosen_stays words s new d what range (chain (wiring new) (view lifted) c x) sound after))
+
+rate_stays : (words : ℕ) (s : State) (d : ℕ) (h : Handle) (x : ℕ) → IsNarrow words s → Stays words s (begun s d (call.SetRate h x))
+unfolding begun
+rate_stays words s d h x sound =
+    with_handle_either (Stays words s) s d h.number (λ row. request s s s (lift s h.number) d (call.SetRate h x) row.clock.0 x None) (refused_stays words s sound)
+    (λ row own. request_leaves words s s s (lift s h.number) d (call.SetRate h x) row.clock.0 x None sound sound sound)
+
+exclusive_stays : (words : ℕ) (s : State) (d : ℕ) (h : Handle) (x : ℕ) → IsNarrow words s → Stays words s (begun s d (call.SetRateExclusive h x))
+unfolding begun
+exclusive_stays words s d h x sound =
+    with_handle_either (Stays words s) s d h.number (λ row. request s s (held_once_more s h.number row) s d (call.SetRateExclusive h x) row.clock.0 x None) (refused_stays words s sound)
+    (λ row own. request_leaves words s s (held_once_more s h.number row) s d (call.SetRateExclusive h x) row.clock.0 x None sound sound
+    (IsNarrow-handles words s (held_once_more s h.number row).handles sound))
+
+range_stays : (words : ℕ) (s : State) (d : ℕ) (h : Handle) (least most : ℕ) → IsNarrow words s → Stays words s (begun s d (call.SetRange h least most))
+unfolding begun
+range_stays words s d h least most sound =
+    with_handle_either (Stays words s) s d h.number (λ row. range_set s d (call.SetRange h least most) h.number row least most) (refused_stays words s sound)
+    (λ row own. let new : State = with_limits s h.number row least most in
+    let after : IsNarrow words new = IsNarrow-handles words s new.handles sound in
+    pick_either (Stays words s) (misses s h.number row least most) _ _ (λ missed. refused_stays words s sound)
+    (λ fits. request_leaves words s new new (lift new h.number) d (call.SetRange h least most) row.clock.0 (request_between s.clocks row.clock.0 least most) (Some (row.min, row.max)) sound after after))
+
 -- so is what follows
 leaves_sound : (words : ℕ) (s t : State) (d : ℕ) (what : Sleeping) (x : Turn) → IsNarrow words s → Stays words s (begun s d what) → next s d (event.Begin what) ≡ Some (t, x) → IsNarrow words t
 leaves_sound words s t d what x sound stays comes =
@@ -233,9 +269,9 @@ begin_sound words s t d (call.RoundRate h r) x whole quiet sound can comes = by 
   by : (o : Option HandleRow) → own_handle s d h.number ≡ o → IsNarrow words t
   by None lacks = same_sound words s t d (event.Begin (call.RoundRate h r)) _ x sound (round-unknown s d h r quiet lacks) comes
   by (Some row) own = given_rate row (round_rate (wiring s) (view (lift s h.number)) row.clock.0 r) own refl
-begin_sound words s t d (call.SetRate h r) x whole quiet sound can comes = absurd cc
-begin_sound words s t d (call.SetRateExclusive h r) x whole quiet sound can comes = absurd cc
-begin_sound words s t d (call.SetRange h least most) x whole quiet sound can comes = absurd cc
+begin_sound words s t d (call.SetRate h r) x whole quiet sound can comes = leaves_sound words s t d (call.SetRate h r) x sound (rate_stays words s d h r sound) comes
+begin_sound words s t d (call.SetRateExclusive h r) x whole quiet sound can comes = leaves_sound words s t d (call.SetRateExclusive h r) x sound (exclusive_stays words s d h r sound) comes
+begin_sound words s t d (call.SetRange h least most) x whole quiet sound can comes = leaves_sound words s t d (call.SetRange h least most) x sound (range_stays words s d h least most sound) comes
 begin_sound words s t d (call.SetParent h p) x whole quiet sound can comes = absurd cc
 begin_sound words s t d call.Sweep x whole quiet sound can comes = absurd cc
 

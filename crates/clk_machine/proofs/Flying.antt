@@ -1,5 +1,5 @@
 -- A change in flight beside what else a core keeps.
-use Rattle.std.proofs.Common.{◌≡◌, ℕ, ◌+◌, ◌≤◌, Bool, true, false, cond, List, [], Option, Some, None, refl, sym, ap, subst, ◌∙◌, arith, set, nat_eq}
+use Rattle.std.proofs.Common.{◌≡◌, ℕ, ◌+◌, ◌≤◌, Bool, true, false, cond, List, Option, Some, None, refl, sym, ap, subst, ◌∙◌, arith, set, nat_eq}
 use Rattle.std.specs.Prelude.{is_some, IfSome}
 use Rattle.std.specs.Option.{option_map_or}
 use Rattle.clk_base.specs.declared.call.Sleeping.{Sleeping}
@@ -67,7 +67,7 @@ own_written handles n row new d k at same own = by (nat_eq n k) refl where
   by false e =
       ap (λ (o : Option HandleRow). is_some (option_map_or (λ h. cond (nat_eq h.driver d) (Some h) None) o None)) (handle_at-set_other handles n k (Some new) (test_other n k e)) ∙ own
 
-own_call : (handles : List (Option HandleRow)) (n : ℕ) (row new : HandleRow) (d : ℕ) (what : Sleeping) → handle_at handles n ≡ Some row → new.driver ≡ row.driver
+pub own_call : (handles : List (Option HandleRow)) (n : ℕ) (row new : HandleRow) (d : ℕ) (what : Sleeping) → handle_at handles n ≡ Some row → new.driver ≡ row.driver
     → IsOwnCall handles d what → IsOwnCall (set handles n (Some new)) d what
 own_call handles n row new d what at same own = by (handle_to_end what) own where
   by : (o : Option Handle) → IfSome o (λ h. is_some (own_in handles d h.number) ≡ true) → IfSome o (λ h. is_some (own_in (set handles n (Some new)) d h.number) ≡ true)

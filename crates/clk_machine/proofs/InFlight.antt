@@ -1,6 +1,6 @@
 -- What stays of a change in flight while its steps are made.
-use Rattle.std.proofs.Common.{◌≡◌, ℕ, zero, suc, ◌+◌, ◌<◌, ◌≤◌, ◌&&◌, ◌||◌, nat_eq, inl, inr, arith, length, Bool, true, false, List, [], ◌∷◌, Option, Some, None, refl, sym, ap, subst, ◌∙◌}
-use Rattle.std.specs.Prelude.{sum_by, is_none, slice_get, if◌then◌else◌, option_and_then, nat_lt}
+use Rattle.std.proofs.Common.{◌≡◌, ℕ, ◌&&◌, ◌||◌, nat_eq, Bool, true, false, List, [], ◌∷◌, Option, Some, None, refl, sym, ap, ◌∙◌}
+use Rattle.std.specs.Prelude.{is_none, slice_get, if◌then◌else◌, option_and_then, nat_lt}
 use Rattle.std.specs.List.{list_all}
 use Rattle.std.specs.Option.{option_map, option_map_or}
 use Rattle.clk_base.specs.declared.call.Micro.{Micro}
@@ -10,20 +10,14 @@ use Rattle.clk_base.specs.declared.call.Sleeping.TheVariants as call
 use Rattle.clk_base.specs.declared.clock.ClockId.{ClockId}
 use Rattle.clk_model.specs.State.{NotifierRow}
 use Rattle.clk_model.specs.Notices.{notifiers_of}
-use Rattle.clk_model.specs.Laws.Paced.{is_notice}
 use Rattle.clk_model.specs.Step.{is_end, from_first, cut_short, rest_of}
-use Rattle.clk_model.proofs.Members.{or_cases, both_left, both_right, same_from_test}
+use Rattle.clk_model.proofs.Members.{both_left, both_right, same_from_test}
 use Rattle.clk_flight.specs.declared.front.Front.{Front}
 use Rattle.clk_flight.specs.declared.front.Front.TheVariants.{Empty, Poll, Raise, Lower, Falls, Posts}
-use Rattle.clk_flight.specs.Fronts.{HasSteps, abort_of, post_to, falls, front_behind, script_behind}
+use Rattle.clk_flight.specs.Fronts.{abort_of, post_to, falls, front_behind, script_behind}
 use Rattle.clk_flight.specs.Flights.{FlightState, own_first, own_step, first_step, comes_next, fall_or_abort}
 use Rattle.clk_flight.specs.Moves.{others, found_none, comes_again, raised_once, raised_in, lowered_once, is_last_no, timed_out_in, polled_in, front_polled, fallen, front_fallen}
-use Rattle.std.proofs.lemmas.List.Sums.{sum_by-cons}
-use Rattle.clk_flight.specs.LeftOver.{step_weight, front_weight, left_over}
-use Rattle.clk_machine.specs.declared.work.Work.{Work}
-use Rattle.clk_machine.specs.Making.{work_of}
 use Rattle.clk_machine.specs.InFlight.{may_raise, may_lower, changes_rate, may_seek, may_make, is_script, is_front, IsUnderWay}
-use Rattle.clk_machine.specs.Course.{PostsFit}
 
 -- the script behind a step of it
 behind_seek : (what : Sleeping) (there : ℕ → Bool) (m : Micro) (ms : List Micro) → is_end m ≡ false → is_script what there (m ∷ ms) ≡ true

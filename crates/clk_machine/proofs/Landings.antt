@@ -1,5 +1,5 @@
 -- What each end of a call that went on does to a state and to the parts of a core.
-use Rattle.std.proofs.Common.{◌≡◌, ℕ, ◌+◌, ◌<◌, ◌≤◌, ◌||◌, ◌&&◌, not, Bool, true, false, List, Option, Some, None, refl, sym, ap, subst, ◌∙◌, arith, length, set}
+use Rattle.std.proofs.Common.{◌≡◌, ℕ, ◌+◌, ◌<◌, ◌||◌, ◌&&◌, not, Bool, true, false, List, Option, Some, None, refl, sym, ap, subst, ◌∙◌, arith, length, set}
 use Rattle.std.specs.Prelude.{if◌then◌else◌, is_some, IsSome, IfSome}
 use Rattle.std.specs.Option.{option_map, option_map_or}
 use Rattle.clk_base.specs.Description.{Description}
@@ -30,7 +30,7 @@ use Rattle.clk_machine.proofs.Holdings.{moves_none}
 use Rattle.clk_machine.proofs.Making.{with_step}
 use Rattle.clk_machine.proofs.Moving.{clock_within}
 use Rattle.clk_machine.proofs.Stepping.{left_as, end_off, end_well, end_bare}
-use Rattle.clk_machine.proofs.Writing.{Written, live_in, row_place}
+use Rattle.clk_machine.proofs.Writing.{Written, live_in}
 
 -- ---- what the parts say
 

@@ -26,6 +26,7 @@ pub mod Taking
 pub mod FewNotifiers
 pub mod Deciding
 pub mod Decided
+pub mod Owned
 pub mod DecidedRange
 pub mod DecidedParent
 pub mod Flying
@@ -42,6 +43,10 @@ pub mod Working
 pub mod Starting
 pub mod Changing
 pub mod StillScripts
+pub mod Staying
+pub mod Scripting
+pub mod Readying
+pub mod Ranging
 pub mod Added
 pub mod Lowering
 pub mod Entered

@@ -9,7 +9,7 @@ use Rattle.clk_base.specs.Valid.{IsValid}
 use Rattle.reg_bank.specs.Registers.{Registers}
 use Rattle.clk_model.specs.declared.row.HandleRow.{HandleRow}
 use Rattle.clk_model.specs.State.{State, handle_at}
-use Rattle.clk_model.specs.Holders.{guarded, prepared}
+use Rattle.clk_model.specs.Holders.{guarded}
 use Rattle.clk_model.specs.declared.row.ClockRow.{ClockRow}
 use Rattle.clk_model.specs.Round.{View, wiring, most_rate, round_rate}
 use Rattle.clk_model.specs.Views.{view, lift, lifted_row}

@@ -13,11 +13,8 @@ use Rattle.clk_base.specs.declared.call.Sleeping.TheVariants as call
 use Rattle.clk_base.specs.declared.event.Errno.TheVariants as errno
 use Rattle.clk_base.specs.declared.event.Reply.{Reply}
 use Rattle.clk_base.specs.declared.event.Reply.TheVariants as reply
-use Rattle.clk_base.specs.declared.handle.Handle.{Handle}
-use Rattle.clk_model.specs.declared.row.HandleRow.{HandleRow}
-use Rattle.clk_model.specs.State.{State, Change, handle_at}
+use Rattle.clk_model.specs.State.{State, Change}
 use Rattle.clk_model.specs.Holders.{active}
-use Rattle.clk_model.specs.Begin.{prepared_once_more}
 use Rattle.clk_machine.specs.InFlight.{may_lower, is_ranged, may_go_on}
 use Rattle.clk_model.specs.Chain.{clock_id}
 use Rattle.clk_model.specs.Gates.{settled}

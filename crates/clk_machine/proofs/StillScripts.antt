@@ -1,5 +1,5 @@
 -- A planned script that moves no clock: its notices, and unless one is a veto the visits of its walk.
-use Rattle.std.proofs.Common.{◌≡◌, ℕ, ◌&&◌, ◌||◌, ◌++◌, not, Bool, true, false, cond, List, [], ◌∷◌, refl, sym, ap, subst, ◌∙◌, map, filter, append_assoc, append-nil, nat_eq}
+use Rattle.std.proofs.Common.{◌≡◌, ℕ, ◌&&◌, ◌++◌, not, Bool, true, false, cond, List, [], ◌∷◌, refl, sym, ap, ◌∙◌, map, filter, append_assoc, append-nil, nat_eq}
 use Rattle.std.specs.Prelude.{flat_map, if◌then◌else◌}
 use Rattle.std.specs.List.{list_any}
 use Rattle.std.specs.Option.{option_map_or}
@@ -11,12 +11,12 @@ use Rattle.clk_model.specs.Laws.Flight.{plan_rates, pre_notices, abort_notices}
 use Rattle.clk_model.specs.Laws.Paced.{is_notice}
 use Rattle.clk_model.specs.Notices.{is_veto}
 use Rattle.clk_model.specs.Round.{wiring}
-use Rattle.clk_model.specs.Script.{planned, move, move_of}
+use Rattle.clk_model.specs.Script.{planned, move}
 use Rattle.clk_model.specs.State.{State, ChainStep}
 use Rattle.clk_model.specs.Walk.{walk, changing}
 use Rattle.clk_model.proofs.BeginLaws.{walked_at, walked}
 use Rattle.clk_model.proofs.Members.{not_either}
-use Rattle.clk_model.proofs.ScriptLaws.{planned_front, planned_is, none_pre, none_aborts}
+use Rattle.clk_model.proofs.ScriptLaws.{none_pre, none_aborts}
 use Rattle.clk_model.proofs.NoneLaws.{none_append}
 use Rattle.clk_tree.specs.Plans.{ClockRate}
 use Rattle.change_walk.specs.Given as given

@@ -82,7 +82,7 @@ set_one-take n w k valid = ap (λ (regs : Registers). let v : Wiring = record w 
       ap (λ (rates : ℕ → ℕ). setting (kind_of w.defs k.clock) (option_map_or rates (link_in w.clocks k.clock) 0) k.rate (take n w.regs)) (rates-take n w valid)
       ∙ setting-take n (kind_of w.defs k.clock) (parent_rate_in w k.clock) k.rate w.regs
 
-outcome_defs : (ks : List ChainStep) (w : Wiring) → (outcome ks w).defs ≡ w.defs
+pub outcome_defs : (ks : List ChainStep) (w : Wiring) → (outcome ks w).defs ≡ w.defs
 unfolding outcome
 outcome_defs [] w = refl
 outcome_defs (k ∷ ks) w = outcome_defs ks w

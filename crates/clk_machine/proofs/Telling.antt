@@ -3,14 +3,12 @@ use Rattle.std.proofs.Common.{◌≡◌, ℕ, zero, suc, ◌+◌, ◌-◌, ◌<�
 use Rattle.std.specs.Prelude.{slice_get, slice_index_or, if◌then◌else◌}
 use Rattle.std.specs.Int.RustNames.{int_lt}
 use Rattle.std.specs.Option.{option_map, option_map_or}
-use Rattle.std.proofs.Math.Bool.{or-false}
 use Rattle.clk_base.specs.declared.call.Micro.{Micro}
 use Rattle.clk_base.specs.declared.call.Micro.TheVariants as micro
-use Rattle.clk_base.specs.declared.call.Sleeping.{Sleeping}
 use Rattle.clk_base.specs.declared.clock.ClockId.{ClockId}
 use Rattle.clk_base.specs.declared.event.Event.TheVariants as event
 use Rattle.clk_base.specs.declared.event.Turn.TheVariants as turn
-use Rattle.clk_model.specs.State.{State, Change, NotifierRow, registered}
+use Rattle.clk_model.specs.State.{NotifierRow, registered}
 use Rattle.clk_model.specs.Notices.{notifiers_of, by_priority, sorted}
 use Rattle.clk_model.specs.Step.{taken, is_end, rest_of}
 use Rattle.clk_model.specs.Laws.Paced.{is_notice}
@@ -18,22 +16,20 @@ use Rattle.clk_model.proofs.Members.{both_right, same_from_test, test_same}
 use Rattle.clk_flight.specs.declared.front.Front.{Front}
 use Rattle.clk_flight.specs.declared.front.Front.TheVariants.{Empty, Poll, Raise, Lower, Falls, Posts}
 use Rattle.clk_flight.specs.Flights.{FlightState, first_step, comes_next}
-use Rattle.clk_flight.specs.Fronts.{post_to, posts, falls, aborts_behind, front_behind, script_behind}
-use Rattle.clk_flight.specs.LeftOver.{left_over}
+use Rattle.clk_flight.specs.Fronts.{post_to, falls, aborts_behind, front_behind, script_behind}
 use Rattle.clk_flight.specs.Moves.{gone_on}
 use Rattle.clk_flight.specs.Steps.{GoesOn, LeavesLessAt, is_taken}
 use Rattle.notifiers.specs.declared.notifier.Notifier.{Notifier}
 use Rattle.notifiers.specs.Chains.{Tells, row_on}
 use Rattle.clk_machine.specs.declared.course.Notified.{Notified}
 use Rattle.clk_machine.specs.InFlight.{may_raise, changes_rate, is_script, is_front, IsUnderWay}
-use Rattle.clk_machine.specs.Course.{CourseState, IsAlong, notifiers_at, visited_by, behind_visit, begins_with, tells_all, PostsFit, TellsAlong}
+use Rattle.clk_machine.specs.Course.{notifiers_at, visited_by, behind_visit, begins_with, tells_all, PostsFit, TellsAlong}
 use Rattle.clk_machine.specs.Making.{ComesFirst, TellsNext}
-use Rattle.clk_machine.specs.Parts.{Parts, IsOwnCall, rows_from, IsFlown, IsWhole}
-use Rattle.clk_machine.specs.Sound.{IsSound}
-use Rattle.clk_machine.specs.Stands.{Stands, Leads, Enters}
+use Rattle.clk_machine.specs.Parts.{Parts, rows_from, IsFlown, IsWhole}
+use Rattle.clk_machine.specs.Stands.{Enters}
 use Rattle.clk_machine.proofs.Coming.{some_at}
 use Rattle.clk_machine.proofs.InFlight.{own_going, script_rest}
-use Rattle.clk_machine.proofs.Making.{SameCall, with_step, enters_step, change_of, next_of}
+use Rattle.clk_machine.proofs.Making.{with_step, enters_step, change_of, next_of}
 use Rattle.clk_machine.proofs.Stepping.{tells_one}
 
 -- ---- how many notifiers a clock has

@@ -1,8 +1,7 @@
 -- What a visit makes of the parts of a core.
-use Rattle.std.proofs.Common.{◌≡◌, ℕ, zero, suc, ◌+◌, ◌<◌, ◌≤◌, ◌&&◌, ◌||◌, not, Bool, true, false, List, [], ◌∷◌, Option, Some, None, refl, sym, ap, subst, ◌∙◌, arith, length, nat_eq, nat_lt}
+use Rattle.std.proofs.Common.{◌≡◌, ℕ, ◌+◌, ◌<◌, ◌≤◌, ◌&&◌, ◌||◌, not, Bool, true, false, List, [], ◌∷◌, Option, Some, None, refl, sym, ap, subst, ◌∙◌, arith, length, nat_eq, nat_lt}
 use Rattle.std.specs.Prelude.{is_some, IfSome, slice_get, slice_index, if◌then◌else◌}
 use Rattle.std.specs.List.{AllByRecursion}
-use Rattle.std.specs.Option.{option_map_or}
 use Rattle.std.proofs.Math.Bool.{or-false}
 use Rattle.std.proofs.lemmas.Bool.Decides.{nat_tests}
 use Rattle.clk_base.specs.Description.{Description}
@@ -15,14 +14,13 @@ use Rattle.reg_bank.specs.Registers.{Registers}
 use Rattle.clk_model.specs.declared.row.ClockRow.{ClockRow}
 use Rattle.clk_model.specs.State.{State, Change, ChainStep, registered}
 use Rattle.clk_model.specs.Rate.{rate}
-use Rattle.clk_model.specs.Round.{wiring}
 use Rattle.clk_model.specs.Notices.{notifiers_of}
 use Rattle.clk_model.specs.Step.{taken, visit, set_in_chain, rest_of}
 use Rattle.clk_model.proofs.Members.{both_left, both_right, same_from_test}
 use Rattle.clk_flight.specs.declared.front.Front.{Front}
 use Rattle.clk_flight.specs.declared.front.Front.TheVariants.{Empty, Poll, Raise, Lower, Falls, Posts}
 use Rattle.clk_flight.specs.Flights.{FlightState, Flies, own_first, own_step}
-use Rattle.clk_flight.specs.Fronts.{posts, script_behind}
+use Rattle.clk_flight.specs.Fronts.{script_behind}
 use Rattle.clk_flight.specs.LeftOver.{left_over}
 use Rattle.clk_flight.specs.Moves.{visited}
 use Rattle.clk_flight.specs.Steps.{told_by_visit}
@@ -32,10 +30,10 @@ use Rattle.rate_planner.specs.Kept.{wired}
 use Rattle.clk_machine.specs.Window.{Shown, AreTold}
 use Rattle.clk_machine.specs.declared.course.Notified.{Notified}
 use Rattle.clk_machine.specs.declared.machine.visiting.Posting.{Posting}
-use Rattle.clk_machine.specs.InFlight.{changes_rate, is_script, is_front, may_make, IsUnderWay}
+use Rattle.clk_machine.specs.InFlight.{changes_rate, is_front, IsUnderWay}
 use Rattle.clk_machine.specs.Course.{CourseState, set_along, notifiers_at, begins_with, behind_first, behind_visit, tells_all, PostsFit, TellsAlong, GoesAlong}
 use Rattle.clk_machine.specs.Making.{ComesFirst}
-use Rattle.clk_machine.specs.Parts.{Parts, AreKept, AreTied, bare, rows_from, IsFlown, IsWhole}
+use Rattle.clk_machine.specs.Parts.{Parts, AreKept, bare, rows_from, IsFlown, IsWhole}
 use Rattle.clk_machine.specs.Sound.{IsSound}
 use Rattle.clk_machine.specs.Stands.{Stands, Leads, Enters}
 use Rattle.clk_machine.proofs.Holdings.{StandsFor-same}

@@ -1,5 +1,5 @@
 -- What comes next of the change in flight, and what a search for PLLs comes to.
-use Rattle.std.proofs.Common.{◌≡◌, ℕ, ◌+◌, ◌≤◌, true, false, length, arith, List, [], Option, Some, None, refl, sym, ap, subst, ◌∙◌, reverse}
+use Rattle.std.proofs.Common.{◌≡◌, ℕ, ◌+◌, ◌≤◌, true, false, length, arith, List, Option, Some, None, refl, sym, ap, subst, ◌∙◌, reverse}
 use Rattle.std.specs.Prelude.{slice_get, IfSome}
 use Rattle.std.specs.Option.{option_map}
 use Rattle.clk_base.specs.declared.call.Micro.{Micro}

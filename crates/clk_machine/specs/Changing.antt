@@ -37,6 +37,7 @@ pub record StartsChange (old : Parts) (driver : ℕ) (what : Sleeping) (steps : 
   pub remains : Remains old new
   pub spent : new.spent ≡ old.spent + 1
   pub rows : (c : ℕ) → registered new.tree.clocks c ≡ registered old.tree.clocks c
+  pub table : new.table ≡ old.table
   pub going : new.flight.going ≡ true
   pub driver_ : new.flight.driver ≡ driver
   pub left : steps_left new ≡ sum_by (step_weight (rows_from 0 old.chains) (plls old.desc.defs)) steps

@@ -28,7 +28,7 @@ use Rattle.change_walk.specs.Given as given
 use Rattle.change_walk.specs.Given.{Script, HasFewNotifiers, changed_in, extra_of, planned_by}
 use Rattle.clk_machine.specs.declared.decision.Decision.{Decision}
 use Rattle.clk_machine.specs.declared.decision.Decision.TheVariants as decided
-use Rattle.clk_machine.specs.Parts.{Parts}
+use Rattle.clk_machine.specs.Parts.{Parts, IsOwnCall}
 use Rattle.clk_machine.specs.Seen.{seen}
 use Rattle.clk_machine.specs.Sound.{IsSound}
 use Rattle.clk_machine.specs.Stands.{Stands}
@@ -65,6 +65,11 @@ Fits s used plan (decided.Change same script) = (same ≡ plan) × IsScriptOf s 
 abbrev pub ArePlanned : TreeState → Decision → Type 0
 ArePlanned tree (decided.Change plan script) = AreThere tree.clocks plan.rates
 ArePlanned tree _ = Unit {0}
+
+-- a call that isn't refused is on a handle of its driver, whatever the bank tells
+abbrev pub IsOwned : List (Option HandleRow) → ℕ → Sleeping → Decision → Type 0
+IsOwned handles d what (decided.Refused e) = Unit {0}
+IsOwned handles d what _ = IsOwnCall handles d what
 
 -- ---- requests for a rate
 

@@ -1,9 +1,10 @@
 -- The clocks that a core can run so far.
-use Rattle.std.specs.Prelude.{ℕ, Bool, not, ◌&&◌, ◌||◌, nat_lt}
+use Rattle.std.specs.Prelude.{ℕ, Bool, not, ◌&&◌, ◌||◌, nat_lt, is_some}
 use Rattle.std.specs.List.{list_all, list_any}
+use Rattle.clk_base.specs.declared.clock.ClockDef.{ClockDef}
 use Rattle.clk_base.specs.Description.{Description, parents_of, EachClock}
-use Rattle.clk_base.specs.Flags.{is_critical}
-use Rattle.clk_model.specs.Kinds.{is_pll}
+use Rattle.clk_base.specs.Flags.{has_flag, is_critical}
+use Rattle.clk_model.specs.Kinds.{is_pll, mux_field, can_round}
 
 -- each possible parent of the clock is an earlier clock
 abbrev pub has_earlier_parents : Description → ℕ → Bool
@@ -20,3 +21,11 @@ can_run defs c = has_earlier_parents defs c && (not (is_critical defs c) || not 
 
 abbrev pub CanRun : Description → Type 0
 CanRun defs = EachClock defs (can_run defs)
+
+-- whether a request for a rate may move a clock to another parent: it is a mux that isn't only read, and hasn't the flag that its parent stays
+abbrev pub may_move : ClockDef → Bool
+may_move d = is_some (mux_field d.kind) && can_round d.kind && not (has_flag d.flags 16)
+
+-- whether a request for a rate leaves each clock of the description its parent
+abbrev pub keeps_parents : Description → Bool
+keeps_parents defs = not (list_any may_move defs)

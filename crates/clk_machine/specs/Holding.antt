@@ -25,6 +25,10 @@ exclusive_more h = record h { exclusives = h.exclusives + 1 }
 abbrev pub exclusive_less : HandleRow → HandleRow
 exclusive_less h = record h { exclusives = h.exclusives - 1 }
 
+-- another range
+abbrev pub ranged : HandleRow → ℕ → ℕ → HandleRow
+ranged h least most = record h { min = least; max = most }
+
 -- the state with a handle, or none, in the place of this number
 abbrev pub puts : ℕ → Option HandleRow → State → State
 puts number o s = put_handle s number o

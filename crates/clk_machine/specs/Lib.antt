@@ -18,4 +18,5 @@ pub mod Row
 pub mod Seen
 pub mod Free
 pub mod Deciding
+pub mod Readying
 pub mod Reparenting

@@ -19,7 +19,7 @@ use Rattle.counts_core.specs.Counted.{CountState, AreCounts}
 use Rattle.counts_core.specs.Standing.{StandsFor}
 use Rattle.notifiers.specs.declared.notifier.Notifier.{Notifier}
 use Rattle.notifiers.specs.Chains.{Tells, row_on}
-use Rattle.rate_requests.specs.Handles.{HandleTable}
+use Rattle.rate_requests.specs.Handles.{HandleTable, with_range_at}
 use Rattle.clk_machine.specs.Window.{Shown, AreTold}
 use Rattle.clk_machine.specs.Fit.{CanRun}
 use Rattle.clk_machine.specs.declared.course.Notified.{Notified}
@@ -131,6 +131,10 @@ rows_from c (chain ∷ chains) = map (row_on c) chain ++ rows_from (suc c) chain
 -- how many steps the change in flight may still come to
 abbrev pub steps_left : Parts → ℕ
 steps_left m = left_over (rows_from 0 m.chains) m.flight
+
+-- the parts with another range of a handle
+abbrev pub with_range : Parts → ℕ → ℕ → ℕ → Parts
+with_range m number least most = record m { table = record { clocks = m.table.clocks; handles = with_range_at m.table.handles number least most } }
 
 -- the chains are those of some notifiers
 pub record AreListed (chains : List (List Notifier)) : Type 0 where

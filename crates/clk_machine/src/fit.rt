@@ -2,11 +2,11 @@
 
 ghost use Rattle.std.specs.Prelude.{◌≡◌, ◌<◌, length, nat_lt};
 ghost use Rattle.std.specs.List.{list_all};
-ghost use Rattle.clk_base.specs.Description.{FindsFirst, kind_of};
+ghost use Rattle.clk_base.specs.Description.{FindsFirst, def_of, kind_of};
 ghost use Rattle.clk_base.specs.Places.{places};
 ghost use Rattle.clk_base.specs.Flags.{is_critical};
 ghost use Rattle.clk_model.specs.Kinds.{is_pll};
-ghost use Rattle.clk_machine.specs.Fit.{can_run, has_pll};
+ghost use Rattle.clk_machine.specs.Fit.{can_run, has_pll, may_move, keeps_parents};
 
 use bitflags::Flags;
 use clk_base::{ClkFlags, ClockId, Kind, ValidDesc};
@@ -72,4 +72,31 @@ pub fn has_pll(desc: &ValidDesc) -> bool
         }
     }
     false
+}
+
+// Whether a request for a rate may move a clock to another parent.
+fn may_move(desc: &ValidDesc, clock: ClockId) -> bool
+    requires { clock.0 < length desc.now.defs }
+    ensures { result ≡ may_move (def_of desc.now.defs clock.0) }
+{
+    let def = desc.def(clock);
+    match def.kind {
+        Kind::Mux { read_only, .. } => {
+            !read_only && !Flags::contains(&def.flags, ClkFlags::NO_REPARENT)
+        }
+        _ => false,
+    }
+}
+
+/// Whether a request for a rate leaves each clock of the description its parent. A core takes such
+/// requests only where it does.
+pub fn keeps_parents(desc: &ValidDesc) -> bool
+    ensures { result ≡ keeps_parents desc.now.defs }
+{
+    for place in 0..desc.len() {
+        if may_move(desc, ClockId(place as u32)) {
+            return false;
+        }
+    }
+    true
 }

@@ -6,8 +6,10 @@ ghost use Rattle.clk_model.specs.State.{is_quiet};
 ghost use Rattle.clk_model.specs.Journal.{opening, replay, Legal, cost};
 ghost use Rattle.clk_model.specs.Fed.{Fed};
 ghost use Rattle.clk_model.specs.Begin.{most_credits};
+ghost use Rattle.clk_machine.specs.InFlight.{changes_rate};
 
 use crate::built::is_built;
+use crate::fit::keeps_parents;
 use crate::log::Log;
 use crate::machine::Machine;
 use crate::row::Row;
@@ -27,6 +29,16 @@ pub struct Core<B: Bank> {
     machine: Machine<B>,
     words: Vec<u32>,
     log: Log,
+}
+
+// Whether a call changes a rate.
+fn changes_rate(what: &Sleeping) -> bool
+    ensures { result ≡ changes_rate what.now }
+{
+    matches!(
+        what,
+        Sleeping::SetRate(_, _) | Sleeping::SetRateExclusive(_, _) | Sleeping::SetRange(_, _, _)
+    )
 }
 
 impl<B: Bank> Model for Core<B> {
@@ -155,16 +167,21 @@ impl<B: Bank> Core<B> {
         ensures { result ≡ can_make self.now what.now }
     {
         match what {
-            Sleeping::Probe(clock) => is_built(what, self.machine.has_parents(*clock)),
-            _ => is_built(what, false),
+            Sleeping::Probe(clock) => is_built(what, self.machine.has_parents(*clock), false),
+            Sleeping::SetRate(_, _)
+            | Sleeping::SetRateExclusive(_, _)
+            | Sleeping::SetRange(_, _, _) => {
+                is_built(what, false, keeps_parents(self.machine.desc()))
+            }
+            _ => is_built(what, false, false),
         }
     }
 
     /// Begins a call of a driver. It is answered at once, or goes on by steps.
     ///
     /// After `NoMemory` the core is as it was, without an entry. It comes at a get, where a notifier
-    /// is added, and at a prepare and an unprepare, which take the room for the entries of their steps
-    /// before they begin.
+    /// is added, and at a prepare, an unprepare and a change of rate, which take the room for the
+    /// entries of their steps before they begin.
     pub fn begin(&mut self, driver: u32, what: &Sleeping) -> Result<Turn, NoMemory>
         // A credit is left.
         requires credit { cost self.old.journal < self.old.start.credits }
@@ -185,13 +202,49 @@ impl<B: Bank> Core<B> {
         // That can be only where the call takes memory.
         ensures memory { takes_memory what.now ≡ false → IsOk result }
     {
-        let credits = self.machine.credits_left();
-        let steps = self.machine.most_steps(*what);
-        self.log.make_room(credits, steps)?;
-        let turn = self.machine.begin(driver, *what)?;
+        if changes_rate(what) {
+            return self.begin_change(driver, *what);
+        }
+        self.begin_other(driver, *what)
+    }
+
+    // Begins a call that changes a rate, with room for the entries of the steps of its script.
+    fn begin_change(&mut self, driver: u32, what: Sleeping) -> Result<Turn, NoMemory>
+        requires credit { cost self.old.journal < self.old.start.credits }
+        requires quiet { in_flight self.old.journal ≡ false }
+        requires place { IsPlaced self.old.start.defs what }
+        requires built { can_make self.old what ≡ true }
+        requires changes { changes_rate what ≡ true }
+        ensures ok { IfOk result (λ turn. Appends self.old driver (Begin what) turn self.new) }
+        ensures err { OnErr result (self.new ≡ self.old) }
+    {
+        let turn = self.machine.begin_change(&mut self.log, driver, what)?;
         self.log.push(Entry {
             driver,
-            event: Event::Begin(*what),
+            event: Event::Begin(what),
+            turn,
+        });
+        Ok(turn)
+    }
+
+    // Begins a call that changes no rate, with room for the entries of the steps that it may come to.
+    fn begin_other(&mut self, driver: u32, what: Sleeping) -> Result<Turn, NoMemory>
+        requires credit { cost self.old.journal < self.old.start.credits }
+        requires quiet { in_flight self.old.journal ≡ false }
+        requires place { IsPlaced self.old.start.defs what }
+        requires built { can_make self.old what ≡ true }
+        requires stays { changes_rate what ≡ false }
+        ensures ok { IfOk result (λ turn. Appends self.old driver (Begin what) turn self.new) }
+        ensures err { OnErr result (self.new ≡ self.old) }
+        ensures memory { takes_memory what ≡ false → IsOk result }
+    {
+        let credits = self.machine.credits_left();
+        let steps = self.machine.most_steps(what);
+        self.log.make_room(credits, steps)?;
+        let turn = self.machine.begin(driver, what)?;
+        self.log.push(Entry {
+            driver,
+            event: Event::Begin(what),
             turn,
         });
         Ok(turn)

@@ -14,6 +14,7 @@ mod log;
 mod machine;
 mod plls;
 mod power;
+mod readied;
 mod register;
 mod row;
 mod scripted;
@@ -23,7 +24,7 @@ mod window;
 mod work;
 
 pub use built::is_built;
-pub use fit::{first_unfit, has_pll, is_fit};
+pub use fit::{first_unfit, has_pll, is_fit, keeps_parents};
 pub use framework::Core;
 pub use laws::always_fed;
 pub use row::Row;

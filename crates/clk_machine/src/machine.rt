@@ -18,6 +18,8 @@ mod lifting;
 mod lowering;
 mod notifying;
 mod planning;
+mod ranging;
+mod readying;
 mod registering;
 mod reparenting;
 mod rounding;
@@ -76,7 +78,7 @@ impl<B: Bank> Machine<B> {
     ghost use Rattle.clk_base.specs.declared.event.Turn.TheVariants.{Done};
     ghost use Rattle.clk_machine.specs.Built.{is_built_over};
     ghost use Rattle.clk_machine.specs.Fit.{CanRun};
-    ghost use Rattle.clk_machine.specs.InFlight.{may_go_on};
+    ghost use Rattle.clk_machine.specs.InFlight.{changes_rate, may_go_on};
     ghost use Rattle.clk_machine.specs.Sound.{IsPlaced, takes_memory};
     ghost use Rattle.clk_machine.specs.Parts.{Parts, own_in, IsWhole};
     ghost use Rattle.clk_machine.specs.Holding.{stays};
@@ -177,12 +179,13 @@ impl<B: Bank> Machine<B> {
         }
     }
 
-    /// Begins one of the calls that are built.
+    /// Begins one of the calls that are built and change no rate.
     pub(crate) fn begin(&mut self, driver: u32, what: Sleeping) -> Result<Turn, NoMemory>
         requires credit { self.old.spent < self.old.credits }
         requires quiet { self.old.flight.going ≡ false }
         requires place { IsPlaced self.old.desc.defs what }
         requires built { is_built_over self.old.desc.defs (registered self.old.tree.clocks) what ≡ true }
+        requires stays { changes_rate what ≡ false }
         ensures ok { IfOk result (λ turn. Enters self.old driver (Begin what) turn self.new) }
         ensures err { OnErr result (self.new ≡ self.old) }
         ensures memory { takes_memory what ≡ false → IsOk result }

@@ -23,7 +23,7 @@ use Rattle.drv_scripts.specs.Spelled.{boot_of}
 use Rattle.clk_cli.specs.declared.cli.Cli.{Cli}
 use Rattle.clk_cli.specs.declared.cli.Mode.{Mode}
 use Rattle.clk_cli.specs.declared.cli.Mode.TheVariants.{Check, Sim, Run, Bench}
-use Rattle.clk_machine.specs.Fit.{CanRun}
+use Rattle.clk_machine.specs.Fit.{CanRun, keeps_parents}
 use Rattle.driver_runs.specs.Drivers.{FollowAll, are_among}
 use Rattle.driver_runs.specs.Scripts.{are_built}
 use Rattle.driver_runs.specs.Turns.{scripts_with}
@@ -100,7 +100,7 @@ pub record IsReady (b : Bundle) : Type 0 where
   pub boot : b.boot ≡ boot_of (length b.desc.defs)
   pub few : length b.drivers ≤ 64
   pub unordered : b.order ≡ []
-  pub built : AllByRecursion (λ s. are_built s.commands ≡ true) b.drivers
+  pub built : AllByRecursion (λ s. are_built (keeps_parents b.desc.defs) s.commands ≡ true) b.drivers
 
 -- ---- what is left behind
 

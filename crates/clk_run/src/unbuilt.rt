@@ -9,7 +9,7 @@ ghost use Rattle.clk_run.specs.Built.{unfit_line, unbuilt_command, unbuilt_comma
 
 use clk_base::{Act, ClockId, Command, Handle, ValidDesc};
 use clk_io::NoMemory;
-use clk_machine::{is_built, is_fit};
+use clk_machine::{is_built, is_fit, keeps_parents};
 use driver_runs::{Called, made_by};
 use drv_scripts::{Bundle, LateLine, Script};
 use std::alloc::{AllocError, Global};
@@ -63,12 +63,13 @@ const ANY: Handle = Handle {
     driver: 0,
 };
 
-// Whether a command can be run so far. A driver registers no clock.
-fn can_run(act: Act) -> bool
-    ensures { result ≡ is_built_act act }
+// Whether a command can be run so far, where a request for a rate leaves each clock its parent or
+// doesn't. A driver registers no clock.
+fn can_run(still: bool, act: Act) -> bool
+    ensures { result ≡ is_built_act still act }
 {
     match made_by(ANY, act) {
-        Some(Called::Sleeping(what)) => is_built(&what, false),
+        Some(Called::Sleeping(what)) => is_built(&what, false, still),
         Some(_) => true,
         None => false,
     }
@@ -76,31 +77,35 @@ fn can_run(act: Act) -> bool
 
 // The line of a command that can't be run yet.
 #[tactic(auto, unfolding(crate::specs::Built::unbuilt_command))]
-fn unbuilt_command(command: &Command) -> Option<u32>
-    ensures { result ≡ unbuilt_command command.now }
+fn unbuilt_command(still: bool, command: &Command) -> Option<u32>
+    ensures { result ≡ unbuilt_command still command.now }
 {
-    if can_run(command.act) {
+    if can_run(still, command.act) {
         return None;
     }
     Some(command.line)
 }
 
 // The lines of such commands of a driver more.
-fn push_commands(lines: &mut Vec<u32>, commands: &[Command]) -> Result<(), NoMemory>
-    ensures { OnOk result (lines.new.items ≡ lines.old.items ++ filter_map unbuilt_command commands.now) }
+fn push_commands(
+    lines: &mut Vec<u32>,
+    still: bool,
+    commands: &[Command],
+) -> Result<(), NoMemory>
+    ensures { OnOk result (lines.new.items ≡ lines.old.items ++ filter_map (unbuilt_command still) commands.now) }
 {
     for command in commands {
-        push_line(lines, unbuilt_command(command))?;
+        push_line(lines, unbuilt_command(still, command))?;
     }
     Ok(())
 }
 
 // The lines of such commands of all drivers.
-fn push_drivers(lines: &mut Vec<u32>, drivers: &[Script]) -> Result<(), NoMemory>
-    ensures { OnOk result (lines.new.items ≡ lines.old.items ++ unbuilt_commands drivers.now) }
+fn push_drivers(lines: &mut Vec<u32>, still: bool, drivers: &[Script]) -> Result<(), NoMemory>
+    ensures { OnOk result (lines.new.items ≡ lines.old.items ++ unbuilt_commands still drivers.now) }
 {
     for script in drivers {
-        push_commands(lines, script.commands.as_slice())?;
+        push_commands(lines, still, script.commands.as_slice())?;
     }
     Ok(())
 }
@@ -132,6 +137,7 @@ pub(crate) fn least_unbuilt(alloc: Global, bundle: &Bundle) -> Result<Option<u32
 {
     let mut lines = unfit_lines(alloc, &bundle.desc, bundle.clock_lines.as_slice())?;
     push_sections(alloc, &mut lines, bundle)?;
-    push_drivers(&mut lines, bundle.drivers.as_slice())?;
+    let still = keeps_parents(&bundle.desc);
+    push_drivers(&mut lines, still, bundle.drivers.as_slice())?;
     Ok(least(&lines))
 }

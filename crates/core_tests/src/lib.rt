@@ -17,6 +17,8 @@ mod descriptions;
 #[cfg(test)]
 mod kinds;
 #[cfg(test)]
+mod rates;
+#[cfg(test)]
 mod texts;
 #[cfg(test)]
 mod trees;

@@ -1,5 +1,5 @@
 -- Whole calls of a driver: their entries, and how they come about by steps.
-use Rattle.std.proofs.Common.{◌≡◌, ℕ, ◌+◌, ◌<◌, ◌&&◌, ◌||◌, not, Bool, true, false, cond, List, [], ◌∷◌, ◌++◌, Option, Some, None, refl, sym, ap, subst, ◌∙◌, arith, length, nat_eq, append_assoc}
+use Rattle.std.proofs.Common.{◌≡◌, ℕ, ◌+◌, ◌&&◌, ◌||◌, not, Bool, true, false, cond, List, [], ◌∷◌, ◌++◌, Option, Some, None, refl, sym, ap, subst, ◌∙◌, arith, nat_eq, append_assoc}
 use Rattle.std.specs.Prelude.{if◌then◌else◌}
 use Rattle.std.proofs.lemmas.Bool.Decides.{nat_tests}
 use Rattle.std.specs.List.{list_all, list_any}
@@ -15,7 +15,7 @@ use Rattle.clk_base.specs.declared.event.Reply.{Reply}
 use Rattle.clk_base.specs.declared.event.Turn.{Turn}
 use Rattle.clk_base.specs.declared.event.Turn.TheVariants as turn
 use Rattle.clk_model.specs.Tier.{is_step, is_enable_tier}
-use Rattle.clk_model.specs.Journal.{Answered, is_paid, is_going, reply_at, end_reply, call_at, calls_of, cost, Legal}
+use Rattle.clk_model.specs.Journal.{Answered, is_paid, is_going, reply_at, end_reply, call_at, calls_of, cost}
 use Rattle.clk_model.proofs.Members.{both_left, both_right, test_same}
 use Rattle.clk_machine.specs.Run.{Run, was_probed, going_after, in_flight, driver_in_flight, Appends, StepsOn}
 use Rattle.clk_machine.specs.Stands.{registers}

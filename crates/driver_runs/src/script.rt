@@ -6,7 +6,7 @@ ghost use Rattle.clk_model.specs.Follows.{Variables, no_handles};
 ghost use Rattle.drv_scripts.specs.Placed.{NamePlaces};
 ghost use Rattle.driver_runs.specs.Scripts.{are_built, AreProbes, GoesThrough};
 ghost use Rattle.clk_base.specs.Description.{EachClock};
-ghost use Rattle.clk_machine.specs.Fit.{has_earlier_parents};
+ghost use Rattle.clk_machine.specs.Fit.{has_earlier_parents, keeps_parents};
 ghost use Rattle.clk_machine.specs.Run.{in_flight};
 
 use crate::command::run_command;
@@ -27,7 +27,7 @@ pub(crate) fn run_script<B: Bank>(
     requires credits { cost core.old.journal + length commands.now ≤ core.old.start.credits }
     requires quiet { in_flight core.old.journal ≡ false }
     requires places { NamePlaces (length core.old.start.defs) commands.now }
-    requires built { are_built commands.now ≡ true }
+    requires built { are_built (keeps_parents core.old.start.defs) commands.now ≡ true }
     ensures { IfOk result (λ answers. (held : Variables) × GoesThrough core.old driver (no_handles commands.now) commands.now answers.items held core.new) }
 {
     let mut variables = vec![in alloc; None; variable_count(commands)]?;

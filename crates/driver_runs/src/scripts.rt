@@ -3,7 +3,7 @@
 ghost use Rattle.std.specs.Prelude.{◌≡◌, ◌≤◌, ◌+◌, [], true, length, sum_by, IfOk};
 ghost use Rattle.std.specs.List.{AllByRecursion};
 ghost use Rattle.clk_base.specs.Description.{EachClock};
-ghost use Rattle.clk_machine.specs.Fit.{has_earlier_parents};
+ghost use Rattle.clk_machine.specs.Fit.{has_earlier_parents, keeps_parents};
 ghost use Rattle.drv_scripts.specs.Placed.{IsScript};
 ghost use Rattle.drv_scripts.specs.Spelled.{boot_of};
 ghost use Rattle.driver_runs.specs.Scripts.{are_built};
@@ -38,7 +38,7 @@ pub fn run_scripts<B: Bank>(
     // The commands of each driver name clocks of the description.
     requires placed { AllByRecursion (IsScript (length core.old.start.defs)) drivers.now }
     // Each of them can be run so far.
-    requires built { AllByRecursion (λ s. are_built s.commands ≡ true) drivers.now }
+    requires built { AllByRecursion (λ s. are_built (keeps_parents core.old.start.defs) s.commands ≡ true) drivers.now }
     // Boot and then each driver has had one turn, one after another: the journal has whole calls that
     // follow its commands with these answers. It is legal where the bank tells its words, and none is
     // in flight behind it.

@@ -3,7 +3,7 @@
 ghost use Rattle.std.specs.Prelude.{◌≡◌, ◌+◌, ◌<◌, true, false, max, min, IfOk};
 ghost use Rattle.clk_base.specs.declared.call.Sleeping.TheVariants.{SetRate, SetRateExclusive, SetRange};
 ghost use Rattle.clk_model.specs.Laws.PlansRead.{plans};
-ghost use Rattle.clk_machine.specs.Deciding.{ArePlanned, Decided};
+ghost use Rattle.clk_machine.specs.Deciding.{ArePlanned, Decided, IsOwned};
 
 use super::Machine;
 use super::lifting::decide_lifted;
@@ -30,6 +30,7 @@ impl<B: Bank> Machine<B> {
         requires plans { plans what ≡ true }
         ensures decides { IfOk result (λ decision. Decided self.old driver what decision) }
         ensures there { IfOk result (λ decision. ArePlanned self.old.tree decision) }
+        ensures own { IfOk result (λ decision. IsOwned self.old.table.handles driver what decision) }
         ensures same { self.new ≡ self.old }
     {
         match what {
@@ -61,6 +62,7 @@ impl<B: Bank> Machine<B> {
         requires quiet { self.old.flight.going ≡ false }
         ensures decides { IfOk result (λ decision. Decided self.old driver (SetRate handle rate) decision) }
         ensures there { IfOk result (λ decision. ArePlanned self.old.tree decision) }
+        ensures own { IfOk result (λ decision. IsOwned self.old.table.handles driver (SetRate handle rate) decision) }
         ensures same { self.new ≡ self.old }
     {
         let Some(row) = self.own(driver, handle) else {
@@ -92,6 +94,7 @@ impl<B: Bank> Machine<B> {
         requires quiet { self.now.flight.going ≡ false }
         ensures decides { IfOk result (λ decision. Decided self.now driver (SetRateExclusive handle rate) decision) }
         ensures there { IfOk result (λ decision. ArePlanned self.now.tree decision) }
+        ensures own { IfOk result (λ decision. IsOwned self.now.table.handles driver (SetRateExclusive handle rate) decision) }
     {
         let Some(row) = self.own(driver, handle) else {
             return Ok(Decision::Refused(Errno::ENOENT));
@@ -127,6 +130,7 @@ impl<B: Bank> Machine<B> {
         requires quiet { self.old.flight.going ≡ false }
         ensures decides { IfOk result (λ decision. Decided self.old driver (SetRange handle least most) decision) }
         ensures there { IfOk result (λ decision. ArePlanned self.old.tree decision) }
+        ensures own { IfOk result (λ decision. IsOwned self.old.table.handles driver (SetRange handle least most) decision) }
         ensures same { self.new ≡ self.old }
     {
         let Some(row) = self.own(driver, handle) else {

@@ -4,6 +4,7 @@ ghost use Rattle.std.specs.Prelude.{◌≡◌, ◌+◌, ◌^◌, ◌<◌, ◌≤
 ghost use Rattle.std.specs.Option.{option_map};
 ghost use Rattle.clk_model.specs.State.{State, is_quiet};
 ghost use Rattle.clk_base.specs.declared.event.Event.TheVariants.{Begin};
+ghost use Rattle.clk_machine.specs.InFlight.{changes_rate};
 ghost use Rattle.clk_machine.specs.Row.{IsTreeOf};
 ghost use Rattle.clk_machine.specs.Sound.{takes_memory};
 ghost use Rattle.clk_machine.specs.Stands.{Stands, is_told, most_steps};
@@ -11,7 +12,7 @@ ghost use Rattle.clk_machine.specs.Stands.{Stands, is_told, most_steps};
 use super::Machine;
 use super::lowering::most_to_lower;
 use super::starting::most_to_raise;
-use clk_base::{MOST_CREDITS, Sleeping, ValidDesc};
+use clk_base::{Sleeping, ValidDesc};
 use clk_tree::Tree;
 use reg_bank::Bank;
 
@@ -47,8 +48,9 @@ impl<B: Bank> Machine<B> {
         self.flight.driver()
     }
 
-    /// How many steps a call may come to at most, where it goes on.
+    /// How many steps a call that changes no rate may come to at most, where it goes on.
     pub(crate) fn most_steps(&self, what: Sleeping) -> u64
+        requires { changes_rate what ≡ false }
         ensures most { result ≡ most_steps self.now.desc.defs (Begin what) }
         ensures small { result < 2 ^ 63 }
         ensures free { takes_memory what ≡ false → result ≡ 0 }
@@ -56,9 +58,6 @@ impl<B: Bank> Machine<B> {
         match what {
             Sleeping::Prepare(_) => most_to_raise(self.tree.plls()),
             Sleeping::Unprepare(_) => most_to_lower(self.tree.plls()),
-            Sleeping::SetRate(_, _)
-            | Sleeping::SetRateExclusive(_, _)
-            | Sleeping::SetRange(_, _, _) => u64::from(MOST_CREDITS),
             _ => 0,
         }
     }

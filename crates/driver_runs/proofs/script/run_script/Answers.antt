@@ -4,8 +4,9 @@ use Rattle.clk_base.specs.declared.command.Command.{Command}
 use Rattle.clk_model.specs.State.{State}
 use Rattle.clk_model.specs.Follows.{Variables, variable_count, no_handles}
 use Rattle.drv_scripts.specs.Placed.{NamesPlace}
+use Rattle.clk_machine.specs.Fit.{keeps_parents}
 use Rattle.driver_runs.specs.Scripts.{is_built_act, GoesThrough}
-use Rattle.driver_runs.proofs.Going.{goes_none, goes_more, goes_idle, can_built, element, element_true}
+use Rattle.driver_runs.proofs.Going.{goes_none, goes_more, goes_idle, can_built_still, element, element_true}
 use Rattle.driver_runs.proofs.script.run_script.Goals as goal
 
 pub run_command-requires-clause-place : goal.run_command-requires-clause-place
@@ -16,7 +17,9 @@ run_command-requires-clause-place g c =
 
 pub run_command-requires-clause-can : goal.run_command-requires-clause-can
 run_command-requires-clause-can g c =
-    can_built c.loop-command.core _ (element_true (λ (command : Command). is_built_act command.act) c.args.commands.now c.loop-command.command-index _ c.requires.built c.loop-command-test.true)
+    let still = keeps_parents c.args.core.now.start.defs in
+    can_built_still c.loop-command.core c.args.core.now _ c.loop-command.invariant.start
+    (element_true (λ (command : Command). is_built_act still command.act) c.args.commands.now c.loop-command.command-index _ c.requires.built c.loop-command-test.true)
 
 pub run_command-requires-clause-quiet : goal.run_command-requires-clause-quiet
 run_command-requires-clause-quiet g c = goes_idle c.args.core.now c.loop-command.core c.args.driver _ _ _ _ c.loop-command.invariant c.requires.quiet

@@ -1,65 +1,29 @@
-use Rattle.std.proofs.Common.{◌≡◌, ◌+◌, ◌≤◌, ◌∙◌, true, false, refl, subst, arith}
+use Rattle.std.proofs.Common.{◌≡◌, ◌∙◌, true, false, refl, sym}
+use Rattle.std.proofs.lemmas.Result.{IfOk-weaker}
 use Rattle.clk_base.specs.declared.event.Event.TheVariants.{Begin}
-use Rattle.clk_model.specs.State.{registered}
 use Rattle.clk_model.specs.Journal.{slotless}
 use Rattle.clk_model.proofs.CallCauseLaws.{calls_have_causes}
-use Rattle.clk_machine.specs.Built.{is_built_over}
-use Rattle.clk_machine.specs.Run.{IsRun, Run, Appends, can_make, in_flight, run_of, state_of}
-use Rattle.clk_machine.specs.Sound.{IsPlaced}
-use Rattle.clk_machine.specs.Stands.{most_steps}
-use Rattle.clk_machine.proofs.Entering.{IsEntered, begun, roomier, room_made, same_run, entered, appended, can_begin, can_take}
 use Rattle.clk_machine.proofs.Causing.{turn_refused}
+use Rattle.clk_machine.proofs.Entering.{takes_room}
 use Rattle.clk_machine.proofs.framework.Core.begin.Goals as goal
 
-pub make_room-requires-clause-paid : goal.make_room-requires-clause-paid
-make_room-requires-clause-paid g c =
-    let left = c.credits_left-credits.ensures in
-    let room = c.self.invariant.room in
-    omega arith
+pub returns-then-changes_rate-clause-turns : goal.returns-then-changes_rate-clause-turns
+returns-then-changes_rate-clause-turns g c = λ told.
+    IfOk-weaker c.begin_change.result _ _ (λ turn on. (calls_have_causes _ _ c.args.driver c.args.what.now (slotless turn) (on.step told)).1) c.begin_change.ensures.ok
 
-pub begin-requires-clause-quiet : goal.begin-requires-clause-quiet
-begin-requires-clause-quiet g c =
-    let m = c.self.inside in
-    let quiet : in_flight m.log.entries ≡ false = rw (← c.self.view_is) at c.requires.quiet in
-    c.self.invariant.going ∙ quiet
+pub returns-then-changes_rate-clause-refused : goal.returns-then-changes_rate-clause-refused
+returns-then-changes_rate-clause-refused g c = λ told.
+    IfOk-weaker c.begin_change.result _ _ (λ turn on. turn_refused _ _ c.args.driver (Begin c.args.what.now) turn on refl told) c.begin_change.ensures.ok
 
-pub begin-requires-clause-built : goal.begin-requires-clause-built
-begin-requires-clause-built g c =
-    let m = c.self.inside in
-    let built : can_make (run_of m.machine m.words.items m.log) c.args.what.now ≡ true = rw (← c.self.view_is) at c.requires.built in
-    can_begin m.machine m.words.items m.log c.args.what.now c.self.invariant built
-
-pub invariant_of-self-2 : goal.invariant_of-self-2
-invariant_of-self-2 g c =
-    let m = c.self.inside in
-    let built : can_make (run_of m.machine m.words.items m.log) c.args.what.now ≡ true = rw (← c.self.view_is) at c.requires.built in
-    let placed : IsPlaced m.machine.desc.defs c.args.what.now = rw (← c.self.view_is) at c.requires.place in
-    let begins : is_built_over m.machine.desc.defs (registered m.machine.tree.clocks) c.args.what.now ≡ true = can_begin m.machine m.words.items m.log c.args.what.now c.self.invariant built in
-    let room : m.machine.credits + most_steps m.machine.desc.defs (Begin c.args.what.now) ≤ m.machine.spent + c.make_room.new.self.room =
-    room_made m.machine c.args.what.now c.make_room.new.self c.credits_left-credits.result c.most_steps-steps.result c.credits_left-credits.ensures c.most_steps-steps.ensures.most c.in_ok-make_room.ensures.room in
-    let run : IsRun m.machine m.words.items c.make_room.new.self = roomier m.machine m.words.items m.log c.make_room.new.self c.self.invariant c.make_room.ensures.entries c.make_room.ensures.kept in
-    let is : IsEntered m.machine c.begin.new.self m.words.items c.make_room.new.self c.push.new.self c.args.driver (Begin c.args.what.now) c.in_ok-turn.turn =
-    begun m.machine c.begin.new.self m.words.items c.make_room.new.self c.push.new.self c.args.driver c.args.what.now c.in_ok-turn.turn run c.in_ok-turn.ensures.ok
-    (λ told. can_take m.machine (state_of m.machine m.words.items c.make_room.new.self) c.args.what.now (run.stands told) placed begins) room c.push.ensures.entries c.push.ensures.room in
-    entered m.machine c.begin.new.self m.words.items c.make_room.new.self c.push.new.self c.args.driver (Begin c.args.what.now) c.in_ok-turn.turn is
-
-pub returns-clause-ok : goal.returns-clause-ok
-returns-clause-ok g c =
-    let m = c.self.inside in
-    let built : can_make (run_of m.machine m.words.items m.log) c.args.what.now ≡ true = rw (← c.self.view_is) at c.requires.built in
-    let placed : IsPlaced m.machine.desc.defs c.args.what.now = rw (← c.self.view_is) at c.requires.place in
-    let begins : is_built_over m.machine.desc.defs (registered m.machine.tree.clocks) c.args.what.now ≡ true = can_begin m.machine m.words.items m.log c.args.what.now c.self.invariant built in
-    let room : m.machine.credits + most_steps m.machine.desc.defs (Begin c.args.what.now) ≤ m.machine.spent + c.make_room.new.self.room =
-    room_made m.machine c.args.what.now c.make_room.new.self c.credits_left-credits.result c.most_steps-steps.result c.credits_left-credits.ensures c.most_steps-steps.ensures.most c.in_ok-make_room.ensures.room in
-    let run : IsRun m.machine m.words.items c.make_room.new.self = roomier m.machine m.words.items m.log c.make_room.new.self c.self.invariant c.make_room.ensures.entries c.make_room.ensures.kept in
-    let is : IsEntered m.machine c.begin.new.self m.words.items c.make_room.new.self c.push.new.self c.args.driver (Begin c.args.what.now) c.in_ok-turn.turn =
-    begun m.machine c.begin.new.self m.words.items c.make_room.new.self c.push.new.self c.args.driver c.args.what.now c.in_ok-turn.turn run c.in_ok-turn.ensures.ok
-    (λ told. can_take m.machine (state_of m.machine m.words.items c.make_room.new.self) c.args.what.now (run.stands told) placed begins) room c.push.ensures.entries c.push.ensures.room in
-    rw (← c.self.view_is) (subst (λ (r : Run). Appends r c.args.driver (Begin c.args.what.now) c.in_ok-turn.turn (run_of c.begin.new.self m.words.items c.push.new.self)) (same_run m.machine m.words.items m.log c.make_room.new.self c.make_room.ensures.entries)
-    (appended m.machine c.begin.new.self m.words.items c.make_room.new.self c.push.new.self c.args.driver (Begin c.args.what.now) c.in_ok-turn.turn is))
+pub returns-then-changes_rate-clause-memory : goal.returns-then-changes_rate-clause-memory
+returns-then-changes_rate-clause-memory g c = λ none.
+    let no : true ≡ false = sym (takes_room c.args.what.now (sym c.changes_rate.ensures ∙ c.if-changes_rate.true)) ∙ none in
+    absurd cc
 
 pub returns-clause-turns : goal.returns-clause-turns
-returns-clause-turns g c = λ told. (calls_have_causes _ _ c.args.driver c.args.what.now (slotless c.in_ok-turn.turn) ((returns-clause-ok g c).step told)).1
+returns-clause-turns g c = λ told.
+    IfOk-weaker c.begin_other.result _ _ (λ turn on. (calls_have_causes _ _ c.args.driver c.args.what.now (slotless turn) (on.step told)).1) c.begin_other.ensures.ok
 
 pub returns-clause-refused : goal.returns-clause-refused
-returns-clause-refused g c = λ told. turn_refused _ _ c.args.driver (Begin c.args.what.now) c.in_ok-turn.turn (returns-clause-ok g c) refl told
+returns-clause-refused g c = λ told.
+    IfOk-weaker c.begin_other.result _ _ (λ turn on. turn_refused _ _ c.args.driver (Begin c.args.what.now) turn on refl told) c.begin_other.ensures.ok

@@ -1,9 +1,13 @@
-use Rattle.std.proofs.Common.{◌≡◌, ◌+◌, ◌∙◌, sym, ap, subst, false, Some, None}
+use Rattle.std.proofs.Common.{◌≡◌, ◌+◌, ◌∙◌, sym, ap, subst, false, Option, Some, None}
 use Rattle.std.proofs.lemmas.Result.{IfOk-weaker}
+use Rattle.std.specs.Prelude.{is_some}
+use Rattle.clk_base.specs.declared.call.Sleeping.TheVariants.{SetRateExclusive}
+use Rattle.clk_model.specs.declared.row.HandleRow.{HandleRow}
 use Rattle.clk_machine.specs.Parts.{Parts, parts_of, own_in}
 use Rattle.clk_machine.proofs.Decided.{exclusive_unknown, decides_exclusive}
 use Rattle.clk_machine.proofs.Entered.{own_stands}
 use Rattle.clk_machine.proofs.Flying.{quiet_stands}
+use Rattle.clk_machine.proofs.Owned.{owned_call}
 use Rattle.clk_machine.proofs.machine.Machine.decide_exclusive.Goals as goal
 
 pub returns-in_default-clause-decides : goal.returns-in_default-clause-decides
@@ -22,3 +26,8 @@ returns-clause-decides g c =
     (IfOk-weaker c.decide_request.result _ _
     (λ decision answers s stands sound. decides_exclusive p s c.args.driver c.args.handle c.args.rate c.used-used.result row decision c.self.invariant quiet
     (c.used-used.ensures ∙ ap (λ (q : Parts). q.credits + q.steps) (sym c.self.view_is)) own answers stands sound) c.decide_request.ensures.decides)
+
+pub returns-clause-own : goal.returns-clause-own
+returns-clause-own g c =
+    IfOk-weaker c.decide_request.result _ _
+    (λ decision there. owned_call c.args.self.now.table.handles c.args.driver (SetRateExclusive c.args.handle c.args.rate) decision (ap (λ (o : Option HandleRow). is_some o) (c.own.ensures.row ∙ c.in-Some.is))) c.decide_request.ensures.there

@@ -1,5 +1,7 @@
 use Rattle.std.proofs.Common.{◌≡◌, ◌+◌, ◌∙◌, sym, ap, subst, true, false, List, Option, Some, None}
 use Rattle.std.proofs.lemmas.Result.{IfOk-weaker}
+use Rattle.std.specs.Prelude.{is_some}
+use Rattle.clk_base.specs.declared.call.Sleeping.TheVariants.{SetRange}
 use Rattle.std.proofs.lemmas.Bool.{not-true, not-false}
 use Rattle.clk_model.specs.declared.row.HandleRow.{HandleRow}
 use Rattle.clk_model.specs.State.{handle_at}
@@ -11,6 +13,7 @@ use Rattle.clk_machine.proofs.Entered.{own_stands}
 use Rattle.clk_machine.proofs.Flying.{quiet_stands}
 use Rattle.clk_machine.proofs.Room.{exclusive_held, exclusive_room}
 use Rattle.clk_machine.proofs.Writing.{row_place, place_among}
+use Rattle.clk_machine.proofs.Owned.{owned_call}
 use Rattle.clk_machine.proofs.machine.Machine.decide_range.Goals as goal
 
 pub returns-in_default-clause-decides : goal.returns-in_default-clause-decides
@@ -99,3 +102,8 @@ returns-clause-decides g c =
     (c.used-used.ensures ∙ ap (λ (q : Parts). q.credits + q.steps) (sym c.self.view_is)) own live c.set_range.ensures.range free
     (wanted_between p s row.clock.0 c.args.least c.args.most c.within-wanted.result c.last_request.result stands c.last_request.ensures.request c.within-wanted.ensures) answers stands sound)
     c.decide_lifted-decided.ensures.decides)
+
+pub returns-clause-own : goal.returns-clause-own
+returns-clause-own g c =
+    IfOk-weaker c.decide_lifted-decided.result _ _
+    (λ decision there. owned_call c.args.self.now.table.handles c.args.driver (SetRange c.args.handle c.args.least c.args.most) decision (ap (λ (o : Option HandleRow). is_some o) (c.own.ensures.row ∙ c.in-Some.is))) c.decide_lifted-decided.ensures.there

@@ -1,4 +1,4 @@
-use Rattle.std.proofs.Common.{◌≡◌, ◌∙◌, true, [], Some, refl, sym, ap, subst}
+use Rattle.std.proofs.Common.{◌≡◌, ◌∙◌, true, Some, refl, sym, ap, subst}
 use Rattle.clk_model.specs.State.{registered}
 use Rattle.clk_flight.specs.Flights.{FlightState, seeks_plls, own_step}
 use Rattle.clk_machine.specs.InFlight.{IsUnderWay}

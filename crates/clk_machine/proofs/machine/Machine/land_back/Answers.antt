@@ -1,9 +1,6 @@
-use Rattle.std.proofs.Common.{◌≡◌, ◌∙◌, true, refl, sym, subst, Some}
-use Rattle.std.specs.Prelude.{IsSome}
+use Rattle.std.proofs.Common.{◌≡◌, true, sym, subst}
 use Rattle.clk_base.specs.declared.call.Micro.TheVariants as micro
-use Rattle.clk_model.specs.State.{handle_at}
 use Rattle.clk_model.specs.Step.{with_range}
-use Rattle.clk_model.specs.declared.row.HandleRow.{HandleRow}
 use Rattle.clk_machine.specs.Landing.{PutsBack}
 use Rattle.clk_machine.specs.Making.{ComesFirst}
 use Rattle.clk_machine.specs.Parts.{Parts, parts_of}

@@ -1,4 +1,4 @@
-use Rattle.std.proofs.Common.{◌≡◌, true, [], Some, sym, subst}
+use Rattle.std.proofs.Common.{◌≡◌, true, Some, sym, subst}
 use Rattle.clk_base.specs.declared.call.Micro.TheVariants as micro
 use Rattle.clk_model.specs.State.{registered}
 use Rattle.clk_flight.specs.Flights.{FlightState, own_step}

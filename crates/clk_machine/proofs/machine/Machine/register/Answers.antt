@@ -1,4 +1,4 @@
-use Rattle.std.proofs.Common.{◌≡◌, ◌<◌, ◌∙◌, ap, sym, true, false, length}
+use Rattle.std.proofs.Common.{◌≡◌, ◌<◌, ◌∙◌, sym, true, false, length}
 use Rattle.std.specs.List.{list_all}
 use Rattle.clk_base.specs.Description.{parents_of}
 use Rattle.clk_base.specs.Flags.{is_critical}

@@ -1,10 +1,10 @@
-use Rattle.std.proofs.Common.{◌≡◌, ◌<◌, ◌-◌, ◌∙◌, sym, ap, subst, arith, Some, length, List, Option, ℕ, get_or}
+use Rattle.std.proofs.Common.{◌≡◌, ◌<◌, sym, ap, subst, arith, Some, length, List, Option}
 use Rattle.std.proofs.lemmas.Bool.Decides.{nat_tests}
 use Rattle.clk_base.specs.declared.clock.ClockId.{ClockId}
 use Rattle.clk_model.specs.State.{handle_at}
 use Rattle.counts_core.specs.Counted.{CountState}
 use Rattle.clk_machine.specs.Parts.{Parts, parts_of, IsWhole}
-use Rattle.clk_machine.proofs.Room.{exclusive_held, exclusive_room}
+use Rattle.clk_machine.proofs.Room.{exclusive_held}
 use Rattle.clk_machine.proofs.Rounding.{lifted_none, lifted_one, counts_back, exclusive_less, round_stands}
 use Rattle.clk_machine.proofs.Rows.{counted_place}
 use Rattle.clk_machine.proofs.Writing.{row_place, place_among}

@@ -1,4 +1,4 @@
-use Rattle.std.proofs.Common.{◌≡◌, ◌+◌, ◌<◌, ◌≤◌, ◌∙◌, true, false, refl, sym, ap, subst}
+use Rattle.std.proofs.Common.{◌≡◌, ◌+◌, ◌<◌, ◌≤◌, ◌∙◌, true, refl, sym, ap, subst}
 use Rattle.std.specs.Prelude.{sum_by}
 use Rattle.clk_flight.specs.declared.start.Start.{Start}
 use Rattle.clk_flight.specs.LeftOver.{step_weight}

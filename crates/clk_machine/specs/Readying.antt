@@ -1,0 +1,92 @@
+-- A call that changes a rate, ready to begin: what it goes on with, and that it begins so.
+use Rattle.std.specs.Prelude.{◌≡◌, ℕ, ◌+◌, ◌<◌, ◌≤◌, List, true, Option, Some, None, sum_by}
+use Rattle.clk_base.specs.declared.call.Micro.{Micro}
+use Rattle.clk_base.specs.declared.call.Sleeping.{Sleeping}
+use Rattle.clk_base.specs.declared.call.Sleeping.TheVariants as call
+use Rattle.clk_base.specs.declared.event.Errno.TheVariants as errno
+use Rattle.clk_base.specs.declared.event.Event.TheVariants as event
+use Rattle.clk_base.specs.declared.event.Turn.TheVariants as turn
+use Rattle.clk_model.specs.declared.row.HandleRow.{HandleRow}
+use Rattle.clk_model.specs.Begin.{most_credits, own_handle, refused}
+use Rattle.clk_model.specs.Machine.{paid, next}
+use Rattle.clk_model.specs.Script.{plls}
+use Rattle.clk_model.specs.State.{State, Change, registered}
+use Rattle.clk_tree.specs.declared.plan.Plan.{Plan}
+use Rattle.change_walk.specs.Given.{Script}
+use Rattle.change_walk.specs.Weights.{step_weight}
+use Rattle.clk_machine.specs.declared.readied.Readied.{Readied}
+use Rattle.clk_machine.specs.declared.readied.Readied.TheVariants as readied
+use Rattle.clk_machine.specs.declared.readied.Scripted.{Scripted}
+use Rattle.clk_machine.specs.Changing.{BeginsAlong, still_steps, told_clocks}
+use Rattle.clk_machine.specs.Course.{notifiers_at, tells_all}
+use Rattle.clk_machine.specs.Deciding.{EndsAtOnce, handle_of, made_in}
+use Rattle.clk_machine.specs.InFlight.{is_script}
+use Rattle.clk_machine.specs.Parts.{Parts, IsOwnCall}
+use Rattle.clk_machine.specs.Sound.{IsSound}
+use Rattle.clk_machine.specs.Stands.{Stands}
+
+-- what steps weigh over the notifiers and PLLs of these parts
+abbrev pub weight_along : Parts → List Micro → ℕ
+weight_along m steps = sum_by (step_weight (plls m.desc.defs) m.chains) steps
+
+-- ---- what a change goes on with
+
+-- it is that of a plan and its script: the notices and visits, the chain, and the clocks that are told
+pub record IsScripted (m : Parts) (plan : Plan) (script : Script) (scripted : Scripted) : Type 0 where
+  pub steps : scripted.steps.items ≡ still_steps script.steps script.vetoed plan.rates
+  pub chain : scripted.course.chain ≡ plan.chain
+  pub notified : scripted.course.notified ≡ told_clocks (notifiers_at m.chains) m.tree.rates plan.rates
+  pub vetoed : scripted.vetoed ≡ script.vetoed
+  pub weight : scripted.weight ≡ weight_along m scripted.steps.items
+  pub room : m.credits + m.steps + scripted.weight ≤ most_credits
+
+-- a plan with its script is made ready where there is room for the entries of its steps, and else refused
+abbrev pub Scripts : Parts → Plan → Script → Readied → Type 0
+Scripts m plan script (readied.Refused e) = (e ≡ errno.ENOSPC) × (most_credits < m.credits + m.steps + weight_along m (still_steps script.steps script.vetoed plan.rates))
+Scripts m plan script readied.AtOnce = ⊥
+Scripts m plan script (readied.Change scripted) = IsScripted m plan script scripted
+
+-- a change of rate can go on so, whatever the bank tells: its steps are notices and visits of registered clocks and the end, the clocks with
+-- notifiers that it visits are told, and there is room
+pub record CanGoAlong (m : Parts) (d : ℕ) (what : Sleeping) (scripted : Scripted) : Type 0 where
+  pub own : IsOwnCall m.table.handles d what
+  pub script : is_script what (registered m.tree.clocks) scripted.steps.items ≡ true
+  pub tells : tells_all (notifiers_at m.chains) scripted.steps.items scripted.course.notified ≡ true
+  pub weight : scripted.weight ≡ weight_along m scripted.steps.items
+  pub room : m.credits + m.steps + scripted.weight ≤ most_credits
+
+-- what holds of a call that was made ready, whatever the bank tells
+abbrev pub CanBeginSo : Parts → ℕ → Sleeping → Readied → Type 0
+CanBeginSo m d what (readied.Refused e) = Unit {0}
+CanBeginSo m d what readied.AtOnce = IsOwnCall m.table.handles d what
+CanBeginSo m d what (readied.Change scripted) = CanGoAlong m d what scripted
+
+-- how many entries its steps may come to
+abbrev pub weight_of : Readied → ℕ
+weight_of (readied.Change scripted) = scripted.weight
+weight_of _ = 0
+
+-- ---- that a call begins so
+
+-- the range that a handle has before a call that sets one
+abbrev pub range_before : Sleeping → HandleRow → Option (ℕ × ℕ)
+range_before (call.SetRange h least most) row = Some (row.min, row.max)
+range_before _ row = None
+
+-- a call on a driver's own handle goes on with these steps, along this course
+pub record GoesOnAlong (s : State) (d number : ℕ) (what : Sleeping) (scripted : Scripted) : Type 0 where
+  pub row : HandleRow
+  pub own : own_handle s d number ≡ Some row
+  pub change : Change
+  pub next_ : next s d (event.Begin what) ≡ paid s (record (made_in s what row) { change = Some change }, turn.Going)
+  pub begins : BeginsAlong d what scripted.steps.items scripted.course (range_before what row) scripted.vetoed change
+
+-- a call on the handle of this number begins in a state as it was made ready
+abbrev pub BeginsSo : State → ℕ → ℕ → Sleeping → Readied → Type 0
+BeginsSo s d number what (readied.Refused e) = next s d (event.Begin what) ≡ paid s (refused s e)
+BeginsSo s d number what readied.AtOnce = EndsAtOnce s d number what
+BeginsSo s d number what (readied.Change scripted) = GoesOnAlong s d number what scripted
+
+-- so it does in each sound state that parts stand for
+abbrev pub IsReady : Parts → ℕ → Sleeping → Readied → Type 0
+IsReady m d what made = (s : State) → Stands m s → IsSound m.window.size s → BeginsSo s d (handle_of what) what made
