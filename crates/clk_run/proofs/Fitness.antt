@@ -8,8 +8,7 @@ use Rattle.clk_machine.specs.Fit.{has_earlier_parents, can_run, CanRun}
 use Rattle.drv_scripts.specs.declared.bundle.Bundle.{Bundle}
 use Rattle.drv_scripts.specs.declared.bundle.LateLine.{LateLine}
 use Rattle.drv_scripts.specs.declared.bundle.Script.{Script}
-use Rattle.clk_run.specs.Scripts.{is_built_act}
-use Rattle.clk_run.specs.Runs.{are_built}
+use Rattle.driver_runs.specs.Scripts.{is_built_act, are_built}
 use Rattle.clk_run.specs.Built.{unfit_line, unbuilt_command, unbuilt_commands, unbuilt_sections, unbuilt_lines, unbuilt_line}
 use Rattle.clk_model.proofs.Members.{both_left}
 use Rattle.std.proofs.lemmas.Bool.{and_from}

@@ -14,9 +14,11 @@ use Rattle.drv_scripts.specs.declared.bundle.Bundle.{Bundle}
 use Rattle.clk_cli.specs.declared.cli.Cli.{Cli}
 use Rattle.clk_machine.specs.Run.{Run}
 use Rattle.clk_run.specs.Outcomes.{status_of}
-use Rattle.clk_run.specs.Runs.{drivers_in, scripts_of, are_among, opening_of, run_text, IsTextOf, HasRun, PrintedFront, LeftByFault}
-use Rattle.clk_run.proofs.Following.{turns_follow, turns_among}
-use Rattle.clk_run.proofs.Ordering.{turns_are_ordered}
+use Rattle.clk_run.specs.Runs.{drivers_in, scripts_of, opening_of, run_text, IsTextOf, PrintedFront, LeftByFault}
+use Rattle.driver_runs.specs.Drivers.{are_among}
+use Rattle.driver_runs.specs.Turns.{HasRun}
+use Rattle.driver_runs.proofs.Following.{turns_follow, turns_among}
+use Rattle.driver_runs.proofs.Ordering.{turns_are_ordered}
 
 -- a core that has run a bundle from its opening gives the text of a run of it
 pub text_of : (b : Bundle) (cli : Cli) (told : Bool) (begun core : Run) (answers : List (List Answer)) (words : List ℕ)

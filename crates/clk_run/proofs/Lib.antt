@@ -1,7 +1,3 @@
-pub mod WholeCalls
-pub mod Going
-pub mod Following
-pub mod Ordering
 pub mod RunTexts
 pub mod Readiness
 pub mod Deciding

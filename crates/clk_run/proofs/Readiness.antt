@@ -13,7 +13,7 @@ use Rattle.clk_cli.specs.declared.cli.Mode.{Mode}
 use Rattle.clk_cli.specs.declared.cli.Mode.TheVariants.{Check, Sim, Run, Bench}
 use Rattle.clk_run.specs.Runs.{credits_of, drivers_in, IsReady}
 use Rattle.drv_scripts.proofs.Verdicts.{boot_is}
-use Rattle.clk_run.proofs.Going.{length-boot_of}
+use Rattle.driver_runs.proofs.Going.{length-boot_of}
 use Rattle.clk_model.specs.Begin.{most_credits}
 
 -- ---- ready

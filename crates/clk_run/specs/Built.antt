@@ -12,7 +12,7 @@ use Rattle.bundle_text.specs.declared.fault.BundleFault.TheVariants.{Refused, No
 use Rattle.bundle_text.specs.declared.reason.Reason.{Reason}
 use Rattle.bundle_text.specs.declared.reason.Reason.TheVariants.{NotYet}
 use Rattle.drv_scripts.specs.Verdict.{Accepts, Refuses}
-use Rattle.clk_run.specs.Scripts.{is_built_act}
+use Rattle.driver_runs.specs.Scripts.{is_built_act}
 
 -- the line of a clock that no core can run yet
 abbrev pub unfit_line : Description → List ℕ → ℕ → Option ℕ

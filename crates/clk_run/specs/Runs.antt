@@ -1,6 +1,6 @@
 -- Runs of a bundle: which journals they have, and what they print.
-use Rattle.std.specs.Prelude.{◌≡◌, ◌≤◌, ◌⊎◌, IfSome, is_some, take, drop, ℕ, ◌+◌, List, [], ◌∷◌, ◌++◌, Bool, true, false, not, ◌&&◌, Option, None, nat_lt, length, map, codes, sum_by}
-use Rattle.std.specs.List.{list_all, AllByRecursion}
+use Rattle.std.specs.Prelude.{◌≡◌, ◌≤◌, ◌⊎◌, IfSome, is_some, take, drop, ℕ, ◌+◌, List, [], ◌∷◌, ◌++◌, Bool, true, false, not, ◌&&◌, Option, length, map, codes, sum_by}
+use Rattle.std.specs.List.{AllByRecursion}
 use Rattle.std.specs.Option.{option_map}
 use Rattle.clk_base.specs.Description.{Description}
 use Rattle.clk_base.specs.declared.command.Answer.{Answer}
@@ -8,9 +8,8 @@ use Rattle.clk_base.specs.declared.command.Command.{Command}
 use Rattle.clk_base.specs.declared.event.Entry.{Entry}
 use Rattle.reg_bank.specs.Registers.{Registers}
 use Rattle.clk_model.specs.State.{State, is_quiet}
-use Rattle.clk_model.specs.Journal.{opening, replay, Legal, calls, calls_of, MakesOneCallAtATime}
+use Rattle.clk_model.specs.Journal.{opening, replay, Legal}
 use Rattle.clk_model.specs.Fed.{Fed}
-use Rattle.clk_model.specs.Follows.{Follows}
 use Rattle.clk_model.specs.Ordered.{Ordered}
 use Rattle.clk_model.specs.Text.{answers_text, registers_text}
 use Rattle.drv_scripts.specs.declared.bundle.Bundle.{Bundle}
@@ -25,8 +24,9 @@ use Rattle.clk_cli.specs.declared.cli.Cli.{Cli}
 use Rattle.clk_cli.specs.declared.cli.Mode.{Mode}
 use Rattle.clk_cli.specs.declared.cli.Mode.TheVariants.{Check, Sim, Run, Bench}
 use Rattle.clk_machine.specs.Fit.{CanRun}
-use Rattle.clk_machine.specs.Run as cores
-use Rattle.clk_run.specs.Scripts.{is_built_act, are_calls}
+use Rattle.driver_runs.specs.Drivers.{FollowAll, are_among}
+use Rattle.driver_runs.specs.Scripts.{are_built}
+use Rattle.driver_runs.specs.Turns.{scripts_with}
 
 -- ---- what a run begins from
 
@@ -36,10 +36,6 @@ drivers_in Check b = []
 drivers_in Sim b = b.drivers
 drivers_in Run b = b.drivers
 drivers_in (Bench n) b = b.drivers
-
--- the commands of boot, and then those of each of these drivers
-abbrev pub scripts_with : List Command → List Script → List (List Command)
-scripts_with boot drivers = boot ∷ map (λ s. s.commands) drivers
 
 -- the commands of boot, and then those of each driver that runs
 abbrev pub scripts_of : Mode → Bundle → List (List Command)
@@ -54,18 +50,6 @@ abbrev pub opening_of : Bundle → Bool → State
 opening_of b ignore_unused = opening b.desc.defs b.words ignore_unused (credits_of b)
 
 -- ---- runs
-
--- drivers, numbered from this one on, have their calls once, in their order, one after the other, and these answers
-abbrev pub FollowAll : ℕ → List (List Command) → List (List Answer) → List Entry → Type 0
-FollowAll d [] [] journal = Unit {0}
-FollowAll d [] (own ∷ answers) journal = ⊥
-FollowAll d (commands ∷ scripts) [] journal = ⊥
-FollowAll d (commands ∷ scripts) (own ∷ answers) journal =
-    Follows commands (calls journal d) own × MakesOneCallAtATime journal d × FollowAll (d + 1) scripts answers journal
-
--- each entry is of one of so many drivers
-abbrev pub are_among : ℕ → List Entry → Bool
-are_among drivers journal = list_all (λ e. nat_lt e.driver drivers) journal
 
 -- a run of a bundle, as the words ask for it: its journal, where the bank tells its words, is a legal run of the machine, after each of its entries the active
 -- clocks are fed, and at its end no change is in flight; boot and each driver, and nobody else, have their calls once, in their order, one after the other, answered so; behind boot's
@@ -114,38 +98,6 @@ is_built_mode (Bench n) = false
 -- whether what the words ask can be run so far: a command that can, and no journal
 abbrev pub runs : Cli → Bool
 runs cli = is_built_mode cli.mode && not cli.journal
-
--- whether each of these commands can be run so far
-abbrev pub are_built : List Command → Bool
-are_built commands = list_all (λ c. is_built_act c.act) commands
-
--- ---- cores
-
--- the first entries of a journal are one driver's turn: its whole calls follow its commands with these answers; what is said of the others holds
--- of the entries behind them
-pub record TakesTurn (others : List Entry → Type 0) (d : ℕ) (commands : List Command) (answers : List Answer) (journal : List Entry) : Type 0 where
-  pub entries : List Entry
-  pub rest : List Entry
-  pub split : journal ≡ entries ++ rest
-  pub own : are_calls d false entries ≡ true
-  pub follow : Follows commands (calls_of entries) answers
-  pub later : others rest
-
--- drivers, numbered from this one on, have one turn each, one after another, and these answers
-abbrev pub TakeTurns : ℕ → List (List Command) → List (List Answer) → List Entry → Type 0
-TakeTurns d [] [] journal = journal ≡ []
-TakeTurns d [] (own ∷ answers) journal = ⊥
-TakeTurns d (commands ∷ scripts) [] journal = ⊥
-TakeTurns d (commands ∷ scripts) (own ∷ answers) journal = TakesTurn (TakeTurns (d + 1) scripts answers) d commands own journal
-
--- a core that had an empty journal has run the commands of boot and of these drivers
-pub record HasRun (boot : List Command) (drivers : List Script) (answers : List (List Answer)) (old new : cores.Run) : Type 0 where
-  pub start : new.start ≡ old.start
-  pub told : new.told ≡ old.told
-  pub behind : new.behind ≡ old.behind
-  pub legal : old.told ≡ true → Legal new.start new.journal
-  pub turns : TakeTurns 0 (scripts_with boot drivers) answers new.journal
-  pub quiet : cores.in_flight new.journal ≡ false
 
 -- ---- bundles
 

@@ -5,15 +5,10 @@
 #![tactic(auto)]
 
 mod arming;
-mod called;
-mod calling;
-mod command;
 mod printing;
 mod reading;
 mod refusal;
 mod run_bundle;
-mod script;
-mod scripts;
 mod sim;
 mod top;
 mod unbuilt;

@@ -7,11 +7,11 @@ ghost use Rattle.clk_run.specs.Runs.{credits_of, drivers_in, IsReady, Printed, L
 
 use crate::arming::arm_locks;
 use crate::printing::print_run;
-use crate::scripts::run_scripts;
 use crate::words::registers_of;
 use clk_cli::{Cli, Mode};
 use clk_io::{PrintFault, Sink};
 use clk_machine::Core;
+use driver_runs::run_scripts;
 use drv_scripts::{Bundle, Script};
 use reg_bank::Bank;
 use std::alloc::Global;

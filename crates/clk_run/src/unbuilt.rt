@@ -4,13 +4,13 @@ ghost use Rattle.std.specs.Prelude.{◌≡◌, ◌<◌, ◌++◌, length, map, m
 ghost use Rattle.std.specs.List.{reduce, filter_map};
 ghost use Rattle.std.specs.Option.{option_to_list};
 ghost use Rattle.bundle_text.specs.Firsts.{said_from};
-ghost use Rattle.clk_run.specs.Scripts.{is_built_act};
+ghost use Rattle.driver_runs.specs.Scripts.{is_built_act};
 ghost use Rattle.clk_run.specs.Built.{unfit_line, unbuilt_command, unbuilt_commands, unbuilt_sections, unbuilt_line};
 
-use crate::called::{Called, made_by};
 use clk_base::{Act, ClockId, Command, Handle, ValidDesc};
 use clk_io::NoMemory;
 use clk_machine::{is_built, is_fit};
+use driver_runs::{Called, made_by};
 use drv_scripts::{Bundle, LateLine, Script};
 use std::alloc::{AllocError, Global};
 

@@ -7,7 +7,7 @@ use Rattle.drv_scripts.specs.declared.bundle.LockLine.{LockLine}
 use Rattle.reg_bank.specs.Locks.{most_plls, armed}
 use Rattle.reg_bank.specs.declared.pll_lock.PllLock.{PllLock}
 use Rattle.clk_run.specs.Arming.{armed_by}
-use Rattle.clk_run.proofs.Going.{element}
+use Rattle.driver_runs.proofs.Going.{element}
 use Rattle.clk_run.proofs.arming.arm_locks.Goals as goal
 
 -- a lock after one line

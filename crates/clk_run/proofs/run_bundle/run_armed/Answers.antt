@@ -16,9 +16,11 @@ use Rattle.drv_scripts.specs.Spelled.{boot_of}
 use Rattle.std.specs.List.{AllByRecursion}
 use Rattle.clk_model.specs.Journal.{opening}
 use Rattle.clk_model.specs.State.{State}
-use Rattle.clk_run.specs.Runs.{scripts_with, drivers_in, are_built, opening_of, credits_of, run_text, HasRun}
+use Rattle.clk_run.specs.Runs.{drivers_in, opening_of, credits_of, run_text}
+use Rattle.driver_runs.specs.Scripts.{are_built}
+use Rattle.driver_runs.specs.Turns.{scripts_with, HasRun}
 use Rattle.clk_run.proofs.Fitness.{earlier_all}
-use Rattle.clk_run.proofs.Following.{turns_many}
+use Rattle.driver_runs.proofs.Following.{turns_many}
 use Rattle.clk_run.proofs.Readiness.{few_credits, drivers_keep, drivers_few, commands_few}
 use Rattle.clk_run.proofs.Leaving.{text_of, bank_back, same_behind, left_by, none_left, none_risen}
 use Rattle.std.proofs.lemmas.Result.{err_from_is_err_and}

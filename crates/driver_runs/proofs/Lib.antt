@@ -1,0 +1,4 @@
+pub mod WholeCalls
+pub mod Going
+pub mod Following
+pub mod Ordering

@@ -1,0 +1,5 @@
+pub mod Called
+pub mod Scripts
+pub mod Steps
+pub mod Drivers
+pub mod Turns
