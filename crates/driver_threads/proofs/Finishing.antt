@@ -95,17 +95,19 @@ numbered first n [] (d ∷ news) (a ∷ answers) worked k low high = absurd work
 numbered first n (c ∷ scripts) [] [] worked k low high = absurd worked
 numbered first n (c ∷ scripts) [] (a ∷ answers) worked k low high = absurd worked
 numbered first n (c ∷ scripts) (d ∷ news) [] worked k low high = absurd worked
-numbered first n (c ∷ scripts) (d ∷ news) (a ∷ answers) worked k low high = by (nat_eq n k) refl where
-  later : DriverView → Type 0
-  later v = Contains news v × (v.number ≡ k)
+numbered first n (c ∷ scripts) (d ∷ news) (a ∷ answers) worked k low high =
+    by (nat_eq n k) refl (λ other. numbered first (n + 1) scripts news answers worked.1 k (above (nat_eq n k) refl other) (omega (arith, high))) where
+      above : (b : Bool) → nat_eq n k ≡ b → b ≡ false → n + 1 ≤ k
+      above true same no = absurd cc
+      above false other no = grind (arith, nat_tests)
 
-  by : (b : Bool) → nat_eq n k ≡ b → (v : DriverView) × Contains (d ∷ news) v × (v.number ≡ k)
-  by true same =
-      let is : n ≡ k = grind (arith, nat_tests) in
-      (d, (0, omega arith, refl), ap (λ (v : DriverView). v.number) worked.0.same ∙ is)
-  by false other =
-      let more = numbered first (n + 1) scripts news answers worked.1 k (grind (arith, nat_tests)) (omega (arith, high)) in
-      (more.0, (suc more.1.0, (let less = more.1.1 in omega (arith, less)), more.1.2), more.2)
+      by : (b : Bool) → nat_eq n k ≡ b → (nat_eq n k ≡ false → (v : DriverView) × Contains news v × (v.number ≡ k)) → (v : DriverView) × Contains (d ∷ news) v × (v.number ≡ k)
+      by true same rest =
+          let is : n ≡ k = grind (arith, nat_tests) in
+          (d, (0, omega arith, refl), ap (λ (v : DriverView). v.number) worked.0.same ∙ is)
+      by false other rest =
+          let more = rest other in
+          (more.0, (suc more.1.0, (let less = more.1.1 in omega (arith, less)), more.1.2), more.2)
 
 -- ---- who makes entries
 

@@ -10,7 +10,7 @@ use Rattle.clk_base.specs.declared.event.Event.{Event}
 use Rattle.clk_base.specs.declared.event.Reply.{Reply}
 use Rattle.clk_model.specs.Journal.{Answered, calls_of}
 use Rattle.clk_model.specs.Follows.{Variables, handle_of, call_of, held_after, NextFollows, FollowsFrom}
-use Rattle.clk_framework.specs.Calls.{DriverView, IsReady}
+use Rattle.clk_framework.specs.Calls.{DriverView, IsReady, MakesNone}
 use Rattle.clk_framework.proofs.Growing.{front_of_front}
 use Rattle.driver_runs.specs.Scripts.{are_calls}
 use Rattle.driver_runs.proofs.WholeCalls.{calls_of-append, are_calls-append}
@@ -38,6 +38,12 @@ answers_same old new e r made =
     made.driver
     ∙ ap (λ (es : List Entry). let d : DriverView = record old { seen = new.seen; mine = es; room = old.room - 1 } in d) (sym (ap (λ (d : DriverView). d.mine) made.driver))
     ∙ ap (λ (n : ℕ). let d : DriverView = record old { seen = new.seen; mine = new.mine; room = n } in d) (sym (ap (λ (d : DriverView). d.room) made.driver))
+
+pub none_same : (old new : DriverView) → MakesNone old new → IsSame old new
+none_same old new none =
+    none.driver
+    ∙ ap (λ (es : List Entry). let d : DriverView = record old { seen = new.seen; mine = es } in d) (sym (ap (λ (d : DriverView). d.mine) none.driver))
+    ∙ ap (λ (n : ℕ). let d : DriverView = record old { seen = new.seen; mine = new.mine; room = n } in d) (sym (ap (λ (d : DriverView). d.room) none.driver))
 
 -- ---- going
 

@@ -2,5 +2,6 @@ pub mod Whole
 pub mod Choosing
 pub mod Going
 pub mod Allowing
-pub mod Making
+pub mod Newcomers
 pub mod Finishing
+pub mod Closing

@@ -1,6 +1,7 @@
 //! Driver 0 makes a driver for each script.
 
-ghost use Rattle.std.specs.Prelude.{◌≡◌, length, map, IfOk, OnOk};
+ghost use Rattle.std.specs.Prelude.{◌≡◌, All, length, map, IfOk, OnOk};
+ghost use Rattle.driver_threads.specs.Going.{MayRun};
 ghost use Rattle.driver_threads.specs.Workers.{MayMake, HasMade, newcomers};
 
 use crate::worker::Worker;
@@ -17,9 +18,10 @@ pub(crate) fn make_workers<'s, B: Bank, N: Named>(
     framework: &Framework<B, N>,
     first: &mut Driver<B>,
     scripts: &'s [Script],
-) -> Result<Vec<Worker<'s, B, N>>, NoMemory>
+) -> Result<Vec<Worker<'s, B>>, NoMemory>
     requires { MayMake N.table first.old scripts.now }
     ensures made { OnOk result (HasMade first.old (length scripts.now) first.new) }
+    ensures may { IfOk result (λ workers. All (λ w. MayRun N.table w.driver w.commands.now) workers.items) }
     ensures scripts { IfOk result (λ workers. map (λ w. w.commands.now) workers.items ≡ map (λ s. s.commands) scripts.now) }
     ensures drivers { IfOk result (λ workers. map (λ w. w.driver) workers.items ≡ newcomers first.old first.old.made (map (λ s. s.commands) scripts.now)) }
 {

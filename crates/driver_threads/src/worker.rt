@@ -11,19 +11,15 @@ use clk_io::NoMemory;
 use drv_scripts::Listed;
 use reg_bank::Bank;
 use std::alloc::Global;
-use std::marker::PhantomData;
 use std::sync::Wait;
 use tier_lock::Named;
 
-/// A driver of the framework that N names, with the commands that it is still to run, and the answers to
-/// those that it has run. It has none where memory ran out.
+/// A driver with its commands, and its answers once it has run them. It has none where memory ran out.
 #[derive(Drop)]
-pub(crate) struct Worker<'s, B: Bank, N: Named> {
-    driver: Driver<B>,
-    commands: &'s [Command],
-    answers: Option<Listed<Answer>>,
-    of: PhantomData<N>,
-    ghost may_run: { MayRun N.table driver commands.now },
+pub(crate) struct Worker<'s, B: Bank> {
+    pub(crate) driver: Driver<B>,
+    pub(crate) commands: &'s [Command],
+    pub(crate) answers: Option<Listed<Answer>>,
 }
 
 // The answers, if all were made.
@@ -36,9 +32,9 @@ fn all_made(ran: Result<Vec<Answer>, NoMemory>) -> Option<Listed<Answer>>
     }
 }
 
-impl<'s, B: Bank, N: Named> Worker<'s, B, N> {
-    pub(crate) fn new(driver: Driver<B>, commands: &'s [Command]) -> Worker<'s, B, N>
-        requires { MayRun N.table driver commands.now }
+impl<'s, B: Bank> Worker<'s, B> {
+    // A driver that has run none of its commands.
+    pub(crate) fn new(driver: Driver<B>, commands: &'s [Command]) -> Worker<'s, B>
         ensures driver { result.driver ≡ driver }
         ensures commands { result.commands.now ≡ commands.now }
     {
@@ -46,7 +42,6 @@ impl<'s, B: Bank, N: Named> Worker<'s, B, N> {
             driver,
             commands,
             answers: None,
-            of: PhantomData,
         }
     }
 
@@ -58,23 +53,22 @@ impl<'s, B: Bank, N: Named> Worker<'s, B, N> {
             driver,
             commands: _,
             answers,
-            of: _,
         } = self;
         (driver, answers)
     }
 
-    // Runs the commands that are left, of which none is left then.
-    pub(crate) fn work<R: Wait + Sync, Q: Pause>(
+    // Runs the commands.
+    pub(crate) fn work<N: Named, R: Wait + Sync, Q: Pause>(
         &mut self,
         rt: &R,
         alloc: Global,
         framework: &Framework<B, N>,
         pause: &Q,
     )
+        requires { MayRun N.table self.old.driver self.old.commands.now }
         ensures { Worked self.old.driver self.old.commands.now self.new.driver self.new.answers }
     {
         let ran = run_script(rt, alloc, framework, &mut self.driver, self.commands, pause);
-        self.commands = &[];
         self.answers = all_made(ran);
     }
 }

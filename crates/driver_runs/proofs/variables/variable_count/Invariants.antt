@@ -1,6 +1,6 @@
 use Rattle.std.proofs.Common.{◌≡◌, max, drop}
 use Rattle.clk_model.specs.Follows.{variable_count}
-use Rattle.driver_runs.proofs.script.variable_count.Given as goal
+use Rattle.driver_runs.proofs.variables.variable_count.Given as goal
 
 -- the count so far, and that of the commands that are left
 abbrev pub invariant-loop-command : goal.invariant-loop-command
