@@ -11,7 +11,9 @@ use Rattle.tier_lock.specs.Entries.{IsPrefix}
 use Rattle.tier_lock.specs.Known.{KnownBaton}
 use Rattle.clk_framework.specs.declared.opened.Opened.{Opened}
 use Rattle.clk_framework.specs.Opening.{start_of}
+use Rattle.clk_framework.specs.declared.uncalled.Uncalled.{Uncalled}
 use Rattle.clk_framework.specs.Calls.{DriverView, SeesRun, AreCall, Makes, MakesNone, Calls}
+use Rattle.clk_framework.specs.Causes.{run_from, IsCause, IsWhy}
 use Rattle.clk_framework.proofs.Growing.{front_of_front}
 
 -- no call is in flight behind what the baton of the prepare lock has seen
@@ -37,6 +39,9 @@ module _ (old lent made given : DriverView) (is : IsLent old lent made given) wh
     knows = ap (λ (d : DriverView). d.fixed) is.given_is ∙ run.knows;
     legal = λ told. subst (λ (es : List Entry). Legal (start_of run.opened) es) (sym seen) (run.legal told);
     own_ = ap (λ (d : DriverView). own d.seen d.number) is.given_is ∙ run.own_ ∙ sym (ap (λ (d : DriverView). d.mine) is.given_is);
+    alone = λ zero one.
+        seen ∙ run.alone (sym (ap (λ (d : DriverView). d.number) is.given_is) ∙ zero) (sym (ap (λ (d : DriverView). d.made) is.given_is) ∙ one)
+        ∙ sym (ap (λ (d : DriverView). d.mine) is.given_is);
   }
 
   -- the call is the driver's
@@ -74,4 +79,12 @@ module _ (old lent made given : DriverView) (is : IsLent old lent made given) wh
         ∙ ap (λ (b : Bool). let e : DriverView = record old { baton = b; seen = made.seen } in e) (sym is.empty_handed)
         ∙ ap (λ (es : List Entry). let e : DriverView = record old { seen = es } in e) (sym seen);
     continues = subst (λ (es : List Entry). IsPrefix old.seen es) (sym seen) (front_of_front old.seen lent.seen made.seen is.continues none.continues);
+  }
+
+  -- for the same cause
+  pub why_given : (what : Sleeping) (cause : Uncalled) → IsWhy made what cause → IsWhy given what cause
+  why_given what cause why = record {
+    opened = why.opened;
+    knows = ap (λ (d : DriverView). d.fixed) is.given_is ∙ why.knows;
+    cause_is = subst (λ (es : List Entry). IsCause (run_from why.opened es) what cause) (sym seen) why.cause_is;
   }

@@ -1,11 +1,12 @@
 //! Sleeping calls: under the prepare lock, one turn of the lock for the beginning and for each step.
 
-ghost use Rattle.std.specs.Prelude.{◌≡◌, ◌<◌, true, false, IfOk, OnErr, IfSome};
+ghost use Rattle.std.specs.Prelude.{◌≡◌, ◌<◌, true, false, IfOk, IfErr, OnErr, IfSome};
 ghost use Rattle.clk_base.specs.declared.event.Turn.TheVariants.{Done};
 ghost use Rattle.clk_machine.specs.Run.{in_flight, driver_in_flight};
 ghost use Rattle.clk_machine.specs.Sound.{IsPlaced};
 ghost use Rattle.clk_model.specs.Journal.{is_going};
 ghost use Rattle.clk_framework.specs.Calls.{IsReady, Makes, Steps, MakesNone, Calls};
+ghost use Rattle.clk_framework.specs.Causes.{IsWhy};
 
 use crate::desk::Desk;
 use crate::framework::{Driver, Framework, LockOf};
@@ -32,6 +33,7 @@ fn begin<B: Bank, R: Wait>(
     ensures going { IfOk result (λ turn. in_flight driver.new.seen ≡ is_going turn) }
     ensures caller { IfOk result (λ turn. driver_in_flight driver.new.seen ≡ driver.new.number) }
     ensures err { OnErr result (MakesNone driver.old driver.new) }
+    ensures why { IfErr result (IsWhy driver.new what.now) }
     ensures quiet { OnErr result (in_flight driver.new.seen ≡ false) }
 {
     let number = driver.number();
@@ -79,6 +81,7 @@ fn make<B: Bank, R: Wait + Sync, Q: Pause>(
     requires place { IfSome driver.old.fixed (λ opened. IsPlaced opened.defs what.now) }
     ensures ok { IfOk result (λ reply. Makes driver.old what.now (Done reply) driver.new) }
     ensures err { OnErr result (MakesNone driver.old driver.new) }
+    ensures why { IfErr result (IsWhy driver.new what.now) }
     ensures quiet { in_flight driver.new.seen ≡ false }
 {
     let mut turn = begin(rt, lock, driver, what)?;
@@ -110,6 +113,7 @@ impl<B: Bank, N: Named> Desk<B, N> {
         requires place { IfSome driver.old.fixed (λ opened. IsPlaced opened.defs what.now) }
         ensures ok { IfOk result (λ reply. Calls driver.old what.now reply driver.new) }
         ensures err { OnErr result (MakesNone driver.old driver.new) }
+        ensures why { IfErr result (IsWhy driver.new what.now) }
     {
         let Some(baton) = self.baton.take() else {
             unreachable!()
@@ -143,6 +147,8 @@ impl<B: Bank, N: Named> Framework<B, N> {
         ensures ok { IfOk result (λ reply. Calls driver.old what.now reply driver.new) }
         // Or the driver has made no entry, and has only seen what others did.
         ensures err { OnErr result (MakesNone driver.old driver.new) }
+        // That is so only where the core can't make the call so far, over what the driver has then seen, or where memory ran out at a call that takes memory.
+        ensures why { IfErr result (IsWhy driver.new what.now) }
     {
         let mut desk = self.desk.lock(rt);
         desk.call(rt, &self.lock, driver, what, pause)

@@ -5,7 +5,7 @@ ghost use Rattle.clk_model.specs.Journal.{Legal, own, cost};
 ghost use Rattle.clk_machine.specs.Run.{in_flight};
 ghost use Rattle.tier_lock.specs.Entries.{IsPrefix, AreBelow};
 ghost use Rattle.tier_lock.specs.Known.{AreAll};
-ghost use Rattle.clk_framework.specs.Opening.{opened_of};
+ghost use Rattle.clk_framework.specs.Opening.{opened_of, start_of};
 ghost use Rattle.clk_framework.specs.Calls.{IsReady};
 
 use crate::desk::Desk;
@@ -29,6 +29,8 @@ impl<B: Bank, N: Named> Framework<B, N> {
         requires all { AreAll drivers.items }
         // The core began at the opening that the drivers know.
         ensures opened { All (λ d. d.fixed ≡ Some (opened_of result.core)) drivers.items }
+        // Its state there is that of this opening.
+        ensures start { result.core.start ≡ start_of (opened_of result.core) }
         // Its journal continues what each driver had seen.
         ensures seen { All (λ d. IsPrefix d.seen result.core.journal) drivers.items }
         // The entries of each driver's number in it are the driver's own.

@@ -1,6 +1,6 @@
 //! What the lock keeps: the core, as a log of entries.
 
-ghost use Rattle.std.specs.Prelude.{◌≡◌, ◌<◌, ◌≤◌, true, false, length, IfOk, OnErr};
+ghost use Rattle.std.specs.Prelude.{◌≡◌, ◌<◌, ◌≤◌, true, false, length, IfOk, IfErr, OnErr};
 ghost use Rattle.clk_base.specs.declared.event.Event.TheVariants.{Enable, Disable, Running, Begin};
 ghost use Rattle.clk_base.specs.declared.event.Turn.TheVariants.{Done};
 ghost use Rattle.clk_model.specs.Begin.{most_credits};
@@ -9,6 +9,7 @@ ghost use Rattle.clk_machine.specs.Fit.{CanRun};
 ghost use Rattle.clk_machine.specs.Sound.{IsPlaced};
 ghost use Rattle.clk_machine.specs.Run.{Appends, StepsOn, in_flight};
 ghost use Rattle.clk_framework.specs.Opening.{opened_with, opened_of, start_of, Begins};
+ghost use Rattle.clk_framework.specs.Causes.{IsCause};
 
 use crate::opened::Opened;
 use crate::uncalled::Uncalled;
@@ -131,6 +132,7 @@ impl<B: Bank> Kernel<B> {
         requires place { IsPlaced self.old.start.defs what.now }
         ensures ok { IfOk result (λ turn. Appends self.old driver (Begin what.now) turn self.new) }
         ensures err { OnErr result (self.new ≡ self.old) }
+        ensures cause { IfErr result (IsCause self.old what.now) }
         ensures opened { self.old.start ≡ start_of (opened_of self.old) }
     {
         if !self.core.built(what) {
@@ -151,7 +153,8 @@ impl<B: Bank> Kernel<B> {
 
     // The core itself.
     pub(crate) fn into_core(self) -> Core<B>
-        ensures { result ≡ self }
+        ensures same { result ≡ self }
+        ensures opened { self.start ≡ start_of (opened_of self) }
     {
         let Kernel { core, credits: _ } = self;
         core

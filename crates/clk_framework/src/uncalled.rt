@@ -1,5 +1,8 @@
 //! Why a call wasn't made.
 
+ghost use Rattle.std.specs.Prelude.{◌≡◌};
+ghost use Rattle.clk_framework.specs.declared.uncalled.Uncalled.TheVariants as uncalled;
+
 use clk_io::NoMemory;
 
 /// Why a call wasn't made.
@@ -12,6 +15,8 @@ pub enum Uncalled {
 }
 
 impl From<NoMemory> for Uncalled {
+    ghost from_gives = { λ _ e. e ≡ uncalled.NoMemory };
+
     fn from(_fault: NoMemory) -> Uncalled {
         Uncalled::NoMemory
     }

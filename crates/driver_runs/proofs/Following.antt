@@ -39,7 +39,7 @@ own_none d n going (e ∷ es) less h =
     rw other (own_none d n (is_going e.turn) es less next.behind)
 
 -- whole calls are one after the other
-calls_alone : (d : ℕ) (going : Bool) (es : List Entry) → are_calls d going es ≡ true → one_after_the_other going es ≡ true
+pub calls_alone : (d : ℕ) (going : Bool) (es : List Entry) → are_calls d going es ≡ true → one_after_the_other going es ≡ true
 calls_alone d going [] h = refl
 calls_alone d going (e ∷ es) h =
     let is = next_of d going e es h in

@@ -4,6 +4,8 @@ use Rattle.clk_machine.specs.Run.{in_flight}
 use Rattle.clk_framework.specs.Calls.{DriverView, entry_of}
 use Rattle.clk_framework.proofs.Flights.{still}
 use Rattle.clk_framework.proofs.Turning.{still_flies, adds_one, turned_flies, turned_calls}
+use Rattle.clk_framework.specs.Opening.{opened_of}
+use Rattle.clk_framework.proofs.Causing.{cause_known}
 use Rattle.clk_framework.proofs.Growing.{begins_making}
 use Rattle.clk_framework.proofs.calling.begin.Goals as goal
 
@@ -33,6 +35,7 @@ returns-in-Ok-clause-ok g c =
       lent_appends = c.in-Ok.ensures.ok;
       gave = c.give_entry.ensures.added;
       own_ = c.give_entry.ensures.mine;
+      numbers = c.take-guard.ensures.numbers;
     }
 
 pub returns-in-Ok-clause-going : goal.returns-in-Ok-clause-going
@@ -50,6 +53,7 @@ returns-in-Ok-clause-going g c =
       lent_appends = c.in-Ok.ensures.ok;
       gave = c.give_entry.ensures.added;
       own_ = c.give_entry.ensures.mine;
+      numbers = c.take-guard.ensures.numbers;
     } refl
 
 pub returns-in-Ok-clause-caller : goal.returns-in-Ok-clause-caller
@@ -67,9 +71,20 @@ returns-in-Ok-clause-caller g c =
       lent_appends = c.in-Ok.ensures.ok;
       gave = c.give_entry.ensures.added;
       own_ = c.give_entry.ensures.mine;
+      numbers = c.take-guard.ensures.numbers;
     } refl
 
 pub returns-in-Err-clause-quiet : goal.returns-in-Err-clause-quiet
 returns-in-Err-clause-quiet g c =
     ap (λ (d : DriverView). in_flight d.seen) c.give_back.ensures ∙ ap (λ (d : DriverView). in_flight d.seen) c.take-guard.ensures.turn
     ∙ still c.args.driver.now.seen c.take-guard.result.value.value.journal (c.take-guard.ensures.baton c.requires.baton) ∙ c.requires.quiet
+
+pub returns-in-Err-clause-why : goal.returns-in-Err-clause-why
+returns-in-Err-clause-why g c =
+    let taken = c.take-guard.result.value.value in
+    record {
+      opened = opened_of taken;
+      knows = ap (λ (d : DriverView). d.fixed) c.give_back.ensures ∙ ap (λ (d : DriverView). d.fixed) c.take-guard.ensures.turn ∙ c.take-guard.ensures.fixed;
+      cause_is = cause_known taken c.deref_mut.result.now c.give_back.new.pass.seen c.args.what.now c.in-Err.uncalled c.deref_mut.ensures.value
+          (ap (λ (d : DriverView). d.seen) c.give_back.ensures ∙ ap (λ (d : DriverView). d.seen) c.take-guard.ensures.turn) c.in-Err.ensures.cause;
+    }

@@ -19,4 +19,5 @@ returns g c =
       lent_appends = c.enable-reply.ensures.entry;
       gave = c.give_entry.ensures.added;
       own_ = c.give_entry.ensures.mine;
+      numbers = c.take-guard.ensures.numbers;
     } refl

@@ -1,0 +1,72 @@
+-- A driver that may run commands may make the call of each in its turn.
+use Rattle.std.proofs.Common.{◌≡◌, ℕ, ◌+◌, ◌<◌, ◌≤◌, true, List, [], ◌∷◌, Option, Some, refl, sym, ap, subst, ◌∙◌, arith, length, take, get_or, IfSome}
+use Rattle.std.proofs.lemmas.List.{length-take}
+use Rattle.atomic_table.specs.Seated.{TableId}
+use Rattle.clk_base.specs.declared.command.Act.{Act}
+use Rattle.clk_base.specs.declared.command.Act.TheVariants as act
+use Rattle.clk_base.specs.declared.command.Answer.{Answer}
+use Rattle.clk_base.specs.declared.command.Command.{Command}
+use Rattle.clk_model.specs.Follows.{Variables}
+use Rattle.clk_machine.specs.Run.{was_probed}
+use Rattle.clk_framework.specs.declared.opened.Opened.{Opened}
+use Rattle.clk_framework.specs.Calls.{DriverView, IsReady}
+use Rattle.clk_framework.specs.Causes.{run_from}
+use Rattle.clk_machine.specs.Sound.{IsPlaced}
+use Rattle.clk_base.specs.declared.call.Sleeping.{Sleeping}
+use Rattle.drv_scripts.specs.Placed.{NamesPlace}
+use Rattle.driver_runs.specs.Scripts.{is_built_act}
+use Rattle.driver_runs.proofs.Going.{element, element_true, can_built, probe_first, probe_placed, probe_can}
+use Rattle.driver_threads.specs.Going.{MayBegin, MayCall, MayRun, MayBoot, IsSame, GoesThrough}
+use Rattle.driver_threads.proofs.Going.{same_ready, goes_same}
+
+-- what the framework asks of a call, in its own words
+pub placed_known : (table : TableId) (d : DriverView) (what : Sleeping) → MayBegin table d what → IfSome d.fixed (λ opened. IsPlaced opened.defs what)
+placed_known table d what may = subst (λ (o : Option Opened). IfSome o (λ opened. IsPlaced opened.defs what)) (sym may.knows) may.place
+
+-- a credit is left for the next command
+credit_left : (all now so_far i : ℕ) → all ≤ now + so_far → so_far ≤ i → (commands : ℕ) → commands ≤ all → i < commands → 0 < now
+credit_left all now so_far i paid few commands credits within = omega (arith, paid, few, credits, within)
+
+taken : {X : Type 0} (xs : List X) (i : ℕ) → length (take i xs) ≤ i
+taken xs i = let is = length-take i xs in omega (arith, is)
+
+module _ (table : TableId) (old now : DriverView) (held held' : Variables) (commands : List Command) (i : ℕ) (x : Command) (answers : List Answer)
+    (goes : GoesThrough old held (take i commands) answers held' now) (within : i < length commands) where
+  fixed : now.fixed ≡ old.fixed
+  fixed = ap (λ (d : DriverView). d.fixed) goes.driver
+
+  pub may_next : MayRun table old commands → MayCall table now (get_or commands i x).act
+  may_next may = record {
+    ready = same_ready table old now (goes_same old now held held' (take i commands) answers goes) may.ready;
+    credit = credit_left old.room now.room (length (take i commands)) i goes.few (taken commands i) (length commands) may.credits within;
+    opened = may.opened;
+    knows = fixed ∙ may.knows;
+    place = element (λ (command : Command). NamesPlace (length may.opened.defs) command.act) commands i x may.places within;
+    can = can_built (run_from may.opened now.seen) (get_or commands i x).act (element_true (λ (command : Command). is_built_act command.act) commands i x may.built within);
+  }
+
+  -- boot's next command registers a clock whose possible parents were probed
+  pub may_register : MayBoot table old commands → ((k : ℕ) → k < i → was_probed now.seen k ≡ true) → MayCall table now (get_or commands i x).act
+  may_register may earlier =
+      let is = probe_first i commands x may.probes within in
+      let clocks = may.clocks in
+      let low : i < length may.opened.defs = omega (arith, clocks, within) in
+      record {
+        ready = same_ready table old now (goes_same old now held held' (take i commands) answers goes) may.ready;
+        credit = credit_left old.room now.room (length (take i commands)) i goes.few (taken commands i) (length commands) may.credits within;
+        opened = may.opened;
+        knows = fixed ∙ may.knows;
+        place = probe_placed (length may.opened.defs) i (get_or commands i x).act low is;
+        can = probe_can (run_from may.opened now.seen) may.opened.defs i (get_or commands i x).act refl may.earlier low earlier is;
+      }
+
+-- a driver whose commands are run may run what is left: none
+pub may_rest : (table : TableId) (old new : DriverView) (commands : List Command) → IsSame old new → MayRun table old commands → MayRun table new []
+may_rest table old new commands same may = record {
+  ready = same_ready table old new same may.ready;
+  credits = omega arith;
+  opened = may.opened;
+  knows = ap (λ (d : DriverView). d.fixed) same ∙ may.knows;
+  places = tt;
+  built = refl;
+}

@@ -1,0 +1,7 @@
+pub mod Whole
+pub mod Choosing
+pub mod Going
+pub mod Allowing
+pub mod Newcomers
+pub mod Finishing
+pub mod Closing

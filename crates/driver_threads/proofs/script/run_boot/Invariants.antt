@@ -1,0 +1,11 @@
+use Rattle.std.proofs.Common.{◌≡◌, ℕ, ◌<◌, true, [], take}
+use Rattle.clk_machine.specs.Run.{was_probed}
+use Rattle.driver_threads.specs.Going.{GoesThrough}
+use Rattle.driver_threads.proofs.script.run_boot.Given as goal
+
+-- the driver has gone through the commands so far, and the clocks so far were probed
+abbrev pub invariant-loop-command : goal.invariant-loop-command
+invariant-loop-command g l = record {
+  goes : GoesThrough l.fn.driver [] (take l.command-index l.commands) l.answers.items l.held l.driver;
+  probed : (k : ℕ) → k < l.command-index → was_probed l.driver.seen k ≡ true;
+}
