@@ -18,5 +18,3 @@ mod descriptions;
 mod kinds;
 #[cfg(test)]
 mod texts;
-#[cfg(test)]
-mod trees;
