@@ -20,5 +20,3 @@ mod kinds;
 mod rates;
 #[cfg(test)]
 mod texts;
-#[cfg(test)]
-mod trees;

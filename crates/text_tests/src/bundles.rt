@@ -272,25 +272,6 @@ fn bytes_that_are_no_utf_8_are_told_first(rt: HostRuntime) {
     check_refusal(&rt, b"%bundle 2\n%clocks\nget u \xc3\n", 3, Reason::NotUtf8);
 }
 
-// A bundle of a fixed clock and so many gates, each over the one before it.
-fn chain<R: AllocGlobal>(rt: &R, gates: u32) -> Result<String, Fail> {
-    let mut text = String::from_str(rt.alloc(), "%bundle 1\n%clocks\nfixed c0 5\n")?;
-    for gate in 1..=gates.min(1000) {
-        let parent = gate - 1;
-        let line = format!(in rt.alloc(); "gate c{gate} c{parent} {gate} 0\n")?;
-        text.push_str(line.as_str())?;
-    }
-    text.push_str("%regs 1001\n")?;
-    Ok(text)
-}
-
-#[test]
-fn sixty_four_levels_are_the_most(rt: HostRuntime) -> Result<(), Fail> {
-    assert!(rt; read_bundle(rt.alloc(), chain(&rt, 63)?.as_bytes()).is_ok());
-    check_refusal(&rt, chain(&rt, 64)?.as_bytes(), 67, Reason::TooMany);
-    Ok(())
-}
-
 #[test]
 fn lists_and_names_give_back_what_they_hold(rt: HostRuntime) -> Result<(), Fail> {
     let listed = Listed::new([1u8, 2].to_vec(rt.alloc())?);

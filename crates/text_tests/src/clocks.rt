@@ -25,20 +25,6 @@ pub(crate) fn check_refusal<R: Abort + AllocGlobal>(rt: &R, text: &str, line: u3
     );
 }
 
-/// Checks each text against its line and its reason.
-pub(crate) fn check_refusals<R: Abort + AllocGlobal>(rt: &R, rows: &[(&str, u32, Reason)]) {
-    for (text, line, reason) in rows {
-        check_refusal(rt, text, *line, *reason);
-    }
-}
-
-/// Checks that each text is refused at its first line for this reason.
-pub(crate) fn check_first_lines<R: Abort + AllocGlobal>(rt: &R, reason: Reason, texts: &[&str]) {
-    for text in texts {
-        check_refusal(rt, text, 1, reason);
-    }
-}
-
 /// Reads a clock line behind two others, and checks its kind, its flags and its parents.
 pub(crate) fn check_clock<R: Abort + AllocGlobal>(
     rt: &R,

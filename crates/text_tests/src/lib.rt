@@ -10,8 +10,6 @@ mod bundles;
 #[cfg(test)]
 mod clock_lines_read;
 #[cfg(test)]
-mod clock_lines_refused;
-#[cfg(test)]
 mod clocks;
 #[cfg(test)]
 mod sections;

@@ -21,18 +21,6 @@ fn check_refusal<R: Abort + AllocGlobal>(
     Ok(())
 }
 
-// Checks each text against its line and reason.
-fn check_refusals<R: Abort + AllocGlobal>(
-    rt: &R,
-    reason: Reason,
-    texts: &[(&str, u32)],
-) -> Result<(), Fail> {
-    for (text, line) in texts {
-        check_refusal(rt, text.as_bytes(), *line, reason)?;
-    }
-    Ok(())
-}
-
 // A bundle of each section.
 const WHOLE: &[u8] =
     b"%bundle 1\r\n# a board\n\n%clocks\nfixed osc 5\n%regs\t0x10 \n0 1\n%lock\n%late\nosc\n\
@@ -124,157 +112,23 @@ fn lines_must_be_utf_8_before_all_else(rt: HostRuntime) -> Result<(), Fail> {
     Ok(())
 }
 
-#[test]
-fn the_first_line_is_the_version(rt: HostRuntime) -> Result<(), Fail> {
-    check_refusals(
-        &rt,
-        Reason::BadVersion,
-        &[
-            ("", 1),
-            ("\n", 1),
-            ("%bundle  1\n%clocks\n%regs 1\n", 1),
-            ("%bundle 0x1\n", 1),
-            (" %bundle 1\n", 1),
-            ("%bundle 1 \n", 1),
-            ("%bundle 2\nx\n", 1),
-            ("# a board\n%bundle 1\n", 1),
-        ],
-    )
-}
-
-#[test]
-fn words_before_the_first_header_are_stray(rt: HostRuntime) -> Result<(), Fail> {
-    check_refusals(
-        &rt,
-        Reason::StrayLine,
-        &[
-            ("%bundle 1\nx\n%clocks\n%regs 1\n", 2),
-            ("%bundle 1\n\n # note\n \t x\n%nothing\n", 4),
-            ("%bundle 1\n %clocks\n%regs 1\n", 2),
-            ("%bundle 1\nlast", 2),
-        ],
-    )
-}
-
-#[test]
-fn unknown_headers_are_told(rt: HostRuntime) -> Result<(), Fail> {
-    check_refusals(
-        &rt,
-        Reason::UnknownSection,
-        &[
-            ("%bundle 1\n%bundle 1\n", 2),
-            ("%bundle 1\n%\n", 2),
-            ("%bundle 1\n%clock\n", 2),
-            ("%bundle 1\n%CLOCKS\n", 2),
-            ("%bundle 1\n%dts\n%regs 1\n%journal\n%driver boot\n", 4),
-            ("%bundle 1\n%clocks\n%regs 1\n%resets 1\n", 4),
-        ],
-    )
-}
-
-#[test]
-fn headers_have_their_words(rt: HostRuntime) -> Result<(), Fail> {
-    check_refusals(
-        &rt,
-        Reason::BadHeader,
-        &[
-            ("%bundle 1\n%clocks 1\n", 2),
-            ("%bundle 1\n%dts # note\n", 2),
-            ("%bundle 1\n%regs\n", 2),
-            ("%bundle 1\n%clocks\n%regs 0\n", 3),
-            ("%bundle 1\n%clocks\n%regs 65537\n", 3),
-            ("%bundle 1\n%clocks\n%regs 0x10001\n", 3),
-            ("%bundle 1\n%clocks\n%regs 0X1\n", 3),
-            ("%bundle 1\n%clocks\n%regs 1 2\n", 3),
-            ("%bundle 1\n%clocks\n%regs 65536\n%lock a\n", 4),
-            ("%bundle 1\n%clocks\n%regs 1\n%late a\n", 4),
-            ("%bundle 1\n%clocks\n%regs 1\n%order a\n", 4),
-            ("%bundle 1\n%clocks\n%regs 1\n%driver\n", 4),
-            ("%bundle 1\n%clocks\n%regs 1\n%driver boot\n", 4),
-            ("%bundle 1\n%clocks\n%regs 1\n%driver a.b\n", 4),
-            ("%bundle 1\n%clocks\n%regs 1\n%driver a /b c\n", 4),
-            (
-                "%bundle 1\n%clocks\n%regs 1\n%driver a23456789012345678901234567890123\n",
-                4,
-            ),
-        ],
-    )
-}
-
-#[test]
-fn sections_stand_in_their_order(rt: HostRuntime) -> Result<(), Fail> {
-    check_refusals(
-        &rt,
-        Reason::SectionOrder,
-        &[
-            ("%bundle 1\n%clocks\n%dts\n", 3),
-            ("%bundle 1\n%clocks\n%clocks\n", 3),
-            ("%bundle 1\n%regs 1\n%clocks\n", 3),
-            ("%bundle 1\n%clocks\n%regs 1\n%regs 1\n", 4),
-            ("%bundle 1\n%clocks\n%lock\n%regs 1\n", 4),
-            ("%bundle 1\n%clocks\n%regs 1\n%late\n%lock\n", 5),
-            ("%bundle 1\n%clocks\n%regs 1\n%driver a\n%late\n", 5),
-            ("%bundle 1\n%clocks\n%regs 1\n%order\n%driver a\n", 5),
-            (
-                "%bundle 1\n%clocks\n%regs 1\n%driver a\n%order\n%driver a\n",
-                6,
-            ),
-            ("%bundle 1\n%clocks\n%regs 1\n%order\n%order\n", 5),
-        ],
-    )
-}
-
-#[test]
-fn a_driver_stands_once(rt: HostRuntime) -> Result<(), Fail> {
-    check_refusals(
-        &rt,
-        Reason::TwiceDefined,
-        &[
-            ("%bundle 1\n%clocks\n%regs 1\n%driver a\n%driver a\n", 5),
-            (
-                "%bundle 1\n%clocks\n%regs 1\n%driver a\nx\n%driver b\n%driver a /n\n%wrong\n",
-                7,
-            ),
-        ],
-    )
-}
-
-#[test]
-fn needed_sections_are_told_of_the_end(rt: HostRuntime) -> Result<(), Fail> {
-    check_refusals(
-        &rt,
-        Reason::MissingSection,
-        &[
-            ("%bundle 1", 1),
-            ("%bundle 1\n", 2),
-            ("%bundle 1\n\n# note", 3),
-            ("%bundle 1\n%clocks\nfixed f 5\n", 4),
-            ("%bundle 1\n%dts\n%driver a\nput x", 4),
-            ("%bundle 1\n%regs 1\n0 1\n%driver a\n", 5),
-        ],
-    )
-}
-
-// A bundle of so many drivers and a line behind them.
-fn drivers<R: AllocGlobal>(rt: &R, count: u32, last: &str) -> Result<String, Fail> {
+// A bundle of so many drivers that states no order.
+fn drivers<R: AllocGlobal>(rt: &R, count: u32) -> Result<String, Fail> {
     let mut text = String::from_str(rt.alloc(), "%bundle 1\n%clocks\n%regs 1\n")?;
     for driver in 1..=count.min(100) {
         let line = format!(in rt.alloc(); "%driver d{driver}\n")?;
         text.push_str(line.as_str())?;
     }
-    text.push_str(last)?;
+    text.push_str("%order\n")?;
     Ok(text)
 }
 
 #[test]
 fn sixty_four_drivers_are_the_most(rt: HostRuntime) -> Result<(), Fail> {
-    let text = drivers(&rt, 64, "%order\n")?;
+    let text = drivers(&rt, 64)?;
     let lines = TextLines::new(rt.alloc(), text.as_bytes())?;
     assert!(rt; lines.len() < 1000);
     let sections = read_sections(rt.alloc(), &lines, 69)?;
     assert!(rt; sections.others().len() == 65);
-    let many = drivers(&rt, 65, "")?;
-    check_refusal(&rt, many.as_bytes(), 68, Reason::TooManyDrivers)?;
-    let again = drivers(&rt, 64, "%driver d1\n")?;
-    check_refusal(&rt, again.as_bytes(), 68, Reason::TwiceDefined)
+    Ok(())
 }
