@@ -3,7 +3,7 @@
 ghost use Rattle.std.specs.Prelude.{◌≡◌, true};
 ghost use Rattle.clk_machine.specs.Sound.{IsPlaced};
 
-use clk_base::{ClockId, Errno, Event, Handle, Micro, Notice, Reply, Sleeping, Turn, ValidDesc};
+use clk_base::{ClockId, Event, Handle, Micro, Notice, Reply, Sleeping, Turn, ValidDesc};
 use clk_io::NoMemory;
 use clk_machine::{Core, first_unfit};
 use reg_bank::{Bank, MemBank};
@@ -38,11 +38,6 @@ pub(super) fn at_once(driver: u32, what: Sleeping) -> Move {
     Move::Begin(driver, what, Turn::Done(Reply::Fine))
 }
 
-/// A call that is refused at once.
-pub(super) fn refused(driver: u32, what: Sleeping, errno: Errno) -> Move {
-    Move::Begin(driver, what, Turn::Done(Reply::Refused(errno)))
-}
-
 /// A call that goes on.
 pub(super) fn begins(driver: u32, what: Sleeping) -> Move {
     Move::Begin(driver, what, Turn::Going)
@@ -63,12 +58,6 @@ pub(super) fn get(driver: u32, number: u32, clock: ClockId) -> Move {
 pub(super) fn rate_is(driver: u32, handle: Handle, rate: u64) -> Move {
     let told = Turn::Done(Reply::Rate(rate));
     Move::Begin(driver, Sleeping::GetRate(handle), told)
-}
-
-/// What a request for a rate in Hz would give.
-pub(super) fn round_is(driver: u32, handle: Handle, wanted: u64, rate: u64) -> Move {
-    let told = Turn::Done(Reply::Rate(rate));
-    Move::Begin(driver, Sleeping::RoundRate(handle, wanted), told)
 }
 
 /// A step behind which the call goes on.

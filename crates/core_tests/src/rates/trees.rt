@@ -11,9 +11,6 @@ use std::test::Fail;
 /// The one fixed clock.
 pub(super) const REF: ClockId = ClockId(0);
 
-/// The same, where it is an oscillator.
-pub(super) const OSC: ClockId = REF;
-
 /// The divider over it.
 pub(super) const DIV: ClockId = ClockId(1);
 
@@ -55,16 +52,14 @@ fn checked(rt: &impl Abort, alloc: Global, desc: Desc) -> Result<ValidDesc, Fail
     Ok(desc.check(alloc, 2)?)
 }
 
-// A divider by 1 to 8, or to 4, at the first bits of a word.
-fn dividing(word: u32, width: u32) -> Kind {
-    Kind::Divider {
-        word,
-        shift: 0,
-        width,
-        one_based: false,
-        power_of_two: false,
-    }
-}
+// A divider by 1 to 8 at the first bits of word 0.
+const DIVIDER: Kind = Kind::Divider {
+    word: 0,
+    shift: 0,
+    width: 3,
+    one_based: false,
+    power_of_two: false,
+};
 
 /// A divider by 1 to 8 at word 0, over a fixed clock of this rate in Hz.
 pub(super) fn divider(rt: &impl Abort, alloc: Global, rate: u64) -> Result<ValidDesc, Fail>
@@ -73,52 +68,7 @@ pub(super) fn divider(rt: &impl Abort, alloc: Global, rate: u64) -> Result<Valid
     let mut desc = Desc::new(alloc);
     let none = ClkFlags::empty();
     add(alloc, &mut desc, Kind::FixedRate { rate }, None, none)?;
-    add(alloc, &mut desc, dividing(0, 3), Some(REF), none)?;
-    checked(rt, alloc, desc)
-}
-
-/// A PLL at word 0 over an oscillator, and below it a divider by 1 to 4 at word 1, which passes
-/// requests on, and two factors, of a quarter and of a fifth.
-pub(super) fn multiplied(rt: &impl Abort, alloc: Global) -> Result<ValidDesc, Fail>
-    ensures { IfOk result (λ desc. desc.words ≡ 2) }
-{
-    let mut desc = Desc::new(alloc);
-    let none = ClkFlags::empty();
-    let [vco, _, _, _] = BELOW;
-    let pll = Kind::Pll {
-        word: 0,
-        shift: 0,
-        width: 9,
-        power_word: 0,
-        power_bit: 31,
-        least: 100,
-        most: 400,
-        m: 24,
-    };
-    let rate = 24_000_000;
-    add(alloc, &mut desc, Kind::FixedRate { rate }, None, none)?;
-    add(alloc, &mut desc, pll, Some(OSC), none)?;
-    add(
-        alloc,
-        &mut desc,
-        dividing(1, 2),
-        Some(vco),
-        ClkFlags::SET_RATE_PARENT,
-    )?;
-    add(
-        alloc,
-        &mut desc,
-        Kind::Factor { mult: 1, div: 4 },
-        Some(vco),
-        none,
-    )?;
-    add(
-        alloc,
-        &mut desc,
-        Kind::Factor { mult: 1, div: 5 },
-        Some(vco),
-        none,
-    )?;
+    add(alloc, &mut desc, DIVIDER, Some(REF), none)?;
     checked(rt, alloc, desc)
 }
 
@@ -135,7 +85,7 @@ pub(super) fn vetoed(rt: &impl Abort, alloc: Global) -> Result<ValidDesc, Fail>
         set_to_disable: false,
     };
     add(alloc, &mut desc, Kind::FixedRate { rate: 100 }, None, none)?;
-    add(alloc, &mut desc, dividing(0, 3), Some(REF), none)?;
+    add(alloc, &mut desc, DIVIDER, Some(REF), none)?;
     add(
         alloc,
         &mut desc,
