@@ -87,11 +87,7 @@ fn unbuilt_command(still: bool, command: &Command) -> Option<u32>
 }
 
 // The lines of such commands of a driver more.
-fn push_commands(
-    lines: &mut Vec<u32>,
-    still: bool,
-    commands: &[Command],
-) -> Result<(), NoMemory>
+fn push_commands(lines: &mut Vec<u32>, still: bool, commands: &[Command]) -> Result<(), NoMemory>
     ensures { OnOk result (lines.new.items ≡ lines.old.items ++ filter_map (unbuilt_command still) commands.now) }
 {
     for command in commands {
