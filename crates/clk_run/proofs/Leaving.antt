@@ -1,5 +1,5 @@
 -- What a run leaves: its text, and the registers in the bank.
-use Rattle.std.proofs.Common.{◌≡◌, ℕ, ◌+◌, length, Bool, true, false, List, [], Option, Some, None, Result, Ok, Err, refl, sym, ap, subst, ◌∙◌, inl, inr, arith}
+use Rattle.std.proofs.Common.{◌≡◌, ℕ, ◌+◌, length, Bool, true, List, [], Option, Some, None, Result, Ok, Err, refl, sym, ap, subst, ◌∙◌, inl, inr, arith}
 use Rattle.std.specs.Prelude.{is_some, take, drop, IfSome, IfOk, IfErr}
 use Rattle.std.specs.Option.{option_map}
 use Rattle.clk_io.specs.Counts.{CountsPrintFault, RisesAtWrite}
@@ -90,7 +90,7 @@ pub printed_front : {T : Type 0} (b : Bundle) (cli : Cli) (told : Bool) (core : 
     → core.told ≡ told → PrintsRun b cli core old new r → IfErr r (LeftByFault b cli told old new)
 printed_front b cli told core old new (Ok x) same prints = tt
 printed_front b cli told core old new (Err e) same prints =
-    left_by b cli told old new (Err e) (record {
+    left_by {T = ℕ} b cli told old new (Err e) (record {
       words = prints.words;
       text = prints.text;
       run = subst (λ (t : Bool). IsTextOf b cli t prints.words prints.text) same prints.run;

@@ -1,5 +1,5 @@
 -- A core over which a bundle runs: what it has gone through, and what is printed of it.
-use Rattle.std.specs.Prelude.{◌≡◌, ℕ, List, ◌++◌, true, Option, Result, length}
+use Rattle.std.specs.Prelude.{◌≡◌, ℕ, List, ◌++◌, true, false, Option, Result, length}
 use Rattle.std.specs.Io.KnownBytes.{Appends}
 use Rattle.clk_base.specs.declared.command.Answer.{Answer}
 use Rattle.clk_cli.specs.declared.cli.Cli.{Cli}

@@ -11,7 +11,7 @@ loop-script-preserved c =
     let s = c.script-item.result in
     let name = c.in_ok-name.name in
     let rest = map (λ (x : Script). x.name) (drop (i + 1) drivers) in
-    let named : string_bytes name ≡ s.name = c.in_ok-name.ensures ∙ c.as_str.ensures in
+    let named : string_bytes name ≡ s.name = c.in_ok-name.ensures.ok ∙ c.as_str.ensures in
     ap (λ (names : List _). map string_bytes names ++ rest) c.in_ok-push-2.ensures.items
     ∙ ap (λ (words : List (List ℕ)). words ++ rest) (map-append string_bytes done (name ∷ []))
     ∙ append_assoc (map string_bytes done) (string_bytes name ∷ []) rest

@@ -1,8 +1,5 @@
-use Rattle.std.proofs.Common.{ℕ, List, ◌∙◌, ap, subst, map, string_bytes}
 use Rattle.clk_io.proofs.Chains.{AppendsFront-none}
-use Rattle.clk_io.specs.Gathers.{Gathers}
 use Rattle.clk_journal.proofs.Lines.{Gathers-fault}
-use Rattle.clk_model.specs.Text.{journal_text}
 use Rattle.clk_run.proofs.printing.print_journal.Goals as goal
 
 pub returns-in_err-names-clause-gathers : goal.returns-in_err-names-clause-gathers

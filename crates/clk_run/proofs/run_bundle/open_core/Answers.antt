@@ -1,4 +1,4 @@
-use Rattle.std.proofs.Common.{◌≡◌, ℕ, ◌≤◌, ap, refl, subst, sym, length, List, Option}
+use Rattle.std.proofs.Common.{◌≡◌, ℕ, ◌≤◌, refl, subst, sym, length, List}
 use Rattle.std.specs.Prelude.{Bool, IfOk, drop}
 use Rattle.std.specs.Option.{option_map}
 use Rattle.clk_base.specs.Checked.{Checked}

@@ -1,7 +1,10 @@
-use Rattle.std.proofs.Common.{◌≡◌, ℕ, ap, subst, sym, ◌∙◌, length, List, refl}
+use Rattle.std.proofs.Common.{◌≡◌, ℕ, ap, subst, sym, ◌∙◌, length, List, Option, refl}
 use Rattle.std.specs.Prelude.{is_some, Bool}
 use Rattle.std.proofs.lemmas.Result.{err_from_is_err_and}
+use Rattle.clk_cli.specs.declared.cli.Cli.{Cli}
 use Rattle.clk_io.specs.Counts.{RisesAtWrite}
+use Rattle.clk_io.specs.declared.faults.PrintFault.{PrintFault}
+use Rattle.drv_scripts.specs.declared.bundle.Bundle.{Bundle}
 use Rattle.clk_model.specs.State.{State}
 use Rattle.clk_run.specs.Runs.{IsTextOf, LeftByFault}
 use Rattle.clk_run.proofs.Leaving.{bank_back, same_behind}
@@ -23,12 +26,16 @@ returns-clause-done g c =
           (printed.behind ∙ opened.behind) size refl;
     }
 
+-- what a fault leaves is known of a core as of its bank
+same_told : (b : Bundle) (cli : Cli) (told tells : Bool) (old new : Option (List ℕ)) (fault : PrintFault) → told ≡ tells → LeftByFault b cli told old new fault → LeftByFault b cli tells old new fault
+same_told b cli told tells old new fault same left = subst (λ (t : Bool). LeftByFault b cli t old new fault) same left
+
 pub returns-in_err-run_core-clause-fault : goal.returns-in_err-run_core-clause-fault
 returns-in_err-run_core-clause-fault g c =
     let p = err_from_is_err_and c.from_residual-in_err-run_core.result c.from_residual-in_err-run_core.ensures.1 in
     let left = LeftByFault c.args.bundle.now c.args.cli.now (is_some (g.B.Bank.contents c.args.bank)) (g.K.Sink.written c.args.out.now) (g.K.Sink.written c.run_core.new.out) in
     rw p.1 (subst left (sym p.2)
-    (subst (λ (t : Bool). LeftByFault c.args.bundle.now c.args.cli.now t (g.K.Sink.written c.args.out.now) (g.K.Sink.written c.run_core.new.out) c.in_err-run_core.error) c.in_ok-core.ensures.told c.in_err-run_core.ensures.fault))
+    (same_told _ _ _ _ _ _ _ c.in_ok-core.ensures.told c.in_err-run_core.ensures.fault))
 
 pub returns-in_err-run_core-clause-counts : goal.returns-in_err-run_core-clause-counts
 returns-in_err-run_core-clause-counts g c =

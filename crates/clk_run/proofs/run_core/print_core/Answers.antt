@@ -1,4 +1,4 @@
-use Rattle.std.proofs.Common.{◌≡◌, ◌∙◌, ℕ, ◌++◌, List, [], Ok, Err, refl, sym, ap, not, arith, length, append-nil}
+use Rattle.std.proofs.Common.{◌≡◌, ◌∙◌, ℕ, ◌++◌, List, [], Ok, Err, true, refl, sym, ap, not, arith, length, append-nil}
 use Rattle.std.proofs.lemmas.List.{length-map}
 use Rattle.clk_io.proofs.Gathering.{PassesOn-after, front_after}
 use Rattle.clk_machine.specs.Run.{now_of}
@@ -29,7 +29,7 @@ returns-in_err-print_calls-clause-prints g c =
     let answers = c.args.answers.now in
     let has = c.requires.calls in
     let told = c.journal-journal.ensures in
-    let quiet = λ tells. sym (c.quiet.ensures.tells tells) ∙ c.quiet.ensures.quiet ∙ ap not has.quiet in
+    let quiet = λ (tells : core.told ≡ true). sym (c.quiet.ensures.tells tells) ∙ c.quiet.ensures.quiet ∙ ap not has.quiet in
     let words = (now_of core).regs in
     let some = some_summary core in
     let calls = calls_text b.desc.defs cli c.drivers_in-drivers.result.now c.journal-journal.result.now answers in
@@ -51,7 +51,7 @@ returns-in_err-print_state-clause-prints g c =
     let answers = c.args.answers.now in
     let has = c.requires.calls in
     let told = c.journal-journal.ensures in
-    let quiet = λ tells. sym (c.quiet.ensures.tells tells) ∙ c.quiet.ensures.quiet ∙ ap not has.quiet in
+    let quiet = λ (tells : core.told ≡ true). sym (c.quiet.ensures.tells tells) ∙ c.quiet.ensures.quiet ∙ ap not has.quiet in
     let state = c.in_err-print_state.ensures.gathers in
     let behind = state.table ++ registers_text state.words in
     let calls = calls_text b.desc.defs cli c.drivers_in-drivers.result.now c.journal-journal.result.now answers in
@@ -74,7 +74,7 @@ returns-in_err-finish-clause-prints g c =
     let answers = c.args.answers.now in
     let has = c.requires.calls in
     let told = c.journal-journal.ensures in
-    let quiet = λ tells. sym (c.quiet.ensures.tells tells) ∙ c.quiet.ensures.quiet ∙ ap not has.quiet in
+    let quiet = λ (tells : core.told ≡ true). sym (c.quiet.ensures.tells tells) ∙ c.quiet.ensures.quiet ∙ ap not has.quiet in
     let state = c.in_ok-print_state.ensures.gathers in
     let whole = run_in_parts b.desc.defs cli (drivers_in cli.mode b) _ core.journal _ answers state.table state.words c.drivers_in-drivers.ensures told.entries in
     let done = PassesOn-after _ _ _ _ _ _ _ _ c.in_ok-print_calls.ensures.gathers state.gathers in
@@ -95,7 +95,7 @@ returns-clause-prints g c =
     let answers = c.args.answers.now in
     let has = c.requires.calls in
     let told = c.journal-journal.ensures in
-    let quiet = λ tells. sym (c.quiet.ensures.tells tells) ∙ c.quiet.ensures.quiet ∙ ap not has.quiet in
+    let quiet = λ (tells : core.told ≡ true). sym (c.quiet.ensures.tells tells) ∙ c.quiet.ensures.quiet ∙ ap not has.quiet in
     let state = c.in_ok-print_state.ensures.gathers in
     let whole = run_in_parts b.desc.defs cli (drivers_in cli.mode b) _ core.journal _ answers state.table state.words c.drivers_in-drivers.ensures told.entries in
     let done = PassesOn-after _ _ _ _ _ _ _ _ c.in_ok-print_calls.ensures.gathers state.gathers in

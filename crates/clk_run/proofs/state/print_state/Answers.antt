@@ -1,4 +1,4 @@
-use Rattle.std.proofs.Common.{◌∙◌, refl, ap, List, ℕ, []}
+use Rattle.std.proofs.Common.{◌∙◌, refl, []}
 use Rattle.clk_io.proofs.Chains.{AppendsFront-none}
 use Rattle.clk_io.proofs.Gathering.{PassesOn-none, Gathers-after, front_of_whole}
 use Rattle.clk_journal.proofs.Lines.{Gathers-fault}
