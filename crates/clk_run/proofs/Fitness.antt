@@ -1,5 +1,5 @@
 -- A bundle without a line of what can't be run has clocks that a core can run, and commands that can be run over them.
-use Rattle.std.proofs.Common.{◌≡◌, ◌∙◌, ap, refl, ℕ, zero, suc, ◌+◌, ◌<◌, ◌++◌, Bool, true, false, List, [], ◌∷◌, length, Option, Some, None, min, map, ◌&&◌, not, slice_index, if◌then◌else◌, arith}
+use Rattle.std.proofs.Common.{◌≡◌, ◌∙◌, ap, refl, ℕ, zero, suc, ◌+◌, ◌<◌, ◌++◌, Bool, true, false, List, [], ◌∷◌, length, Option, Some, None, min, map, slice_index, if◌then◌else◌, arith}
 use Rattle.std.specs.List.{reduce, filter_map, cons_option, AllByRecursion}
 use Rattle.bundle_text.specs.Firsts.{onto, said_from}
 use Rattle.clk_base.specs.Description.{Description, EachClock}

@@ -1,6 +1,6 @@
 -- What a run leaves: its text, and the registers in the bank.
 use Rattle.std.proofs.Common.{◌≡◌, ℕ, ◌+◌, length, Bool, true, List, [], Option, Some, None, Result, Ok, Err, refl, sym, ap, subst, ◌∙◌, inl, inr, arith}
-use Rattle.std.specs.Prelude.{is_some, take, drop, IfSome, IfErr}
+use Rattle.std.specs.Prelude.{is_some, take, drop, IfSome, IfOk, IfErr}
 use Rattle.std.specs.Option.{option_map}
 use Rattle.clk_io.specs.Counts.{CountsPrintFault, RisesAtWrite}
 use Rattle.clk_io.specs.declared.faults.PrintFault.{PrintFault}
@@ -10,40 +10,92 @@ use Rattle.clk_model.specs.State.{State, is_quiet}
 use Rattle.clk_model.specs.Fed.{Fed}
 use Rattle.clk_model.specs.Journal.{replay, Legal}
 use Rattle.clk_model.specs.Ordered.{Ordered}
+use Rattle.clk_model.specs.Summary.{summary}
+use Rattle.clk_summary.specs.Tables.{IsTable, IsSummary}
 use Rattle.drv_scripts.specs.declared.bundle.Bundle.{Bundle}
 use Rattle.clk_cli.specs.declared.cli.Cli.{Cli}
 use Rattle.clk_machine.specs.Run.{Run}
 use Rattle.clk_run.specs.Outcomes.{status_of}
-use Rattle.clk_run.specs.Runs.{drivers_in, scripts_of, opening_of, run_text, IsTextOf, PrintedFront, LeftByFault}
+use Rattle.clk_run.specs.Cores.{HasCalls, PrintsRun, HasPrinted}
+use Rattle.clk_run.specs.Runs.{drivers_in, scripts_of, opening_of, IsTextOf, PrintedFront, LeftByFault}
+use Rattle.clk_run.specs.Texts.{run_text}
 use Rattle.driver_runs.specs.Drivers.{are_among}
 use Rattle.driver_runs.specs.Turns.{HasRun}
 use Rattle.driver_runs.proofs.Following.{turns_follow, turns_among}
 use Rattle.driver_runs.proofs.Ordering.{turns_are_ordered}
 
--- a core that has run a bundle from its opening gives the text of a run of it
-pub text_of : (b : Bundle) (cli : Cli) (told : Bool) (begun core : Run) (answers : List (List Answer)) (words : List ℕ)
-    → begun.start ≡ opening_of b cli.ignore_unused → begun.told ≡ told → b.order ≡ [] → HasRun b.boot (drivers_in cli.mode b) answers begun core
-    → (core.told ≡ true → (n : ℕ) → Fed (replay core.start (take n core.journal))) → (core.told ≡ true → is_quiet (replay core.start core.journal).change ≡ true)
-    → (core.told ≡ true → words ≡ (replay core.start core.journal).regs)
-    → IsTextOf b cli told words (run_text b.desc.defs (drivers_in cli.mode b) answers words)
-text_of b cli told begun core answers words opens same unordered ran fed quiet means =
+-- a core that had an empty journal at a bundle's opening, and has run the scripts, has run the bundle
+pub calls_of_run : (b : Bundle) (cli : Cli) (old core : Run) (answers : List (List Answer)) → old.start ≡ opening_of b cli.ignore_unused → b.order ≡ []
+    → HasRun b.boot (drivers_in cli.mode b) answers old core → HasCalls b cli answers core
+calls_of_run b cli old core answers opens unordered ran =
     let scripts = scripts_of cli.mode b in
     let many : 0 + length scripts ≡ length scripts = omega arith in
-    let start : core.start ≡ opening_of b cli.ignore_unused = ran.start ∙ opens in
     record {
-      journal = core.journal;
-      answers = answers;
-      run = record {
-        legal = λ tells. subst (λ (s : State). Legal s core.journal) start (ran.legal (same ∙ tells));
-        fed = λ tells n. subst (λ (s : State). Fed (replay s (take n core.journal))) start (fed (ran.told ∙ same ∙ tells) n);
-        quiet = λ tells. ap (λ (s : State). is_quiet (replay s core.journal).change) (sym start) ∙ quiet (ran.told ∙ same ∙ tells);
-        follow = turns_follow 0 scripts answers [] core.journal refl ran.turns;
-        among = subst (λ (n : ℕ). are_among n core.journal ≡ true) many (turns_among 0 scripts answers core.journal ran.turns);
-        ordered = subst (λ (order : List ℕ). Ordered scripts order core.journal) (sym unordered) (turns_are_ordered b.boot _ answers core.journal ran.turns);
-      };
-      registers = λ tells. means (ran.told ∙ same ∙ tells) ∙ ap (λ (s : State). (replay s core.journal).regs) start;
-      text_is = refl;
+      start = ran.start ∙ opens;
+      follow = turns_follow 0 scripts answers [] core.journal refl ran.turns;
+      among = subst (λ (n : ℕ). are_among n core.journal ≡ true) many (turns_among 0 scripts answers core.journal ran.turns);
+      ordered = subst (λ (order : List ℕ). Ordered scripts order core.journal) (sym unordered) (turns_are_ordered b.boot _ answers core.journal ran.turns);
+      quiet = ran.quiet;
     }
+
+-- a core that has run a bundle gives the text of a run of it
+pub text_of : (b : Bundle) (cli : Cli) (core : Run) (answers : List (List Answer)) (table words : List ℕ) → HasCalls b cli answers core
+    → (core.told ≡ true → Legal core.start core.journal) → (core.told ≡ true → (n : ℕ) → Fed (replay core.start (take n core.journal)))
+    → (core.told ≡ true → is_quiet (replay core.start core.journal).change ≡ true)
+    → IsSummary core table → (core.told ≡ true → words ≡ (replay core.start core.journal).regs)
+    → IsTextOf b cli core.told words (run_text b.desc.defs cli (drivers_in cli.mode b) core.journal answers table words)
+text_of b cli core answers table words has legal fed quiet sums means = record {
+  journal = core.journal;
+  answers = answers;
+  table = table;
+  run = record {
+    legal = λ tells. subst (λ (s : State). Legal s core.journal) has.start (legal tells);
+    fed = λ tells n. subst (λ (s : State). Fed (replay s (take n core.journal))) has.start (fed tells n);
+    quiet = λ tells. ap (λ (s : State). is_quiet (replay s core.journal).change) (sym has.start) ∙ quiet tells;
+    follow = has.follow;
+    among = has.among;
+    ordered = has.ordered;
+  };
+  summed = λ tells. sums.told tells ∙ ap (λ (s : State). summary (replay s core.journal)) has.start;
+  listed = λ tells. subst (λ (s : State). IsTable s.defs core.journal table) has.start (sums.untold tells);
+  registers = λ tells. means tells ∙ ap (λ (s : State). (replay s core.journal).regs) has.start;
+  text_is = refl;
+}
+
+-- a front of the text is what each fault of printing may leave
+pub left_by : {T : Type 0} (b : Bundle) (cli : Cli) (told : Bool) (old new : Option (List ℕ)) (r : Result T PrintFault) → PrintedFront b cli told old new
+    → IfErr r (LeftByFault b cli told old new)
+left_by b cli told old new (Ok x) front = tt
+left_by b cli told old new (Err print_fault.Write) front = front
+left_by b cli told old new (Err print_fault.NoMemory) front = inr front
+
+-- the text that was printed of a core is printed, where it was all of it
+pub printed_whole : {T E : Type 0} (b : Bundle) (cli : Cli) (before after : Run) (old new : Option (List ℕ)) (r : Result T E)
+    → after.start ≡ before.start → after.told ≡ before.told → after.behind ≡ before.behind → PrintsRun b cli after old new r
+    → IfOk r (λ _. HasPrinted b cli before after old new)
+printed_whole b cli before after old new (Ok x) start told behind prints = record {
+  start = start;
+  told = told;
+  behind = behind;
+  words = prints.words;
+  text = prints.text;
+  run = subst (λ (t : Bool). IsTextOf b cli t prints.words prints.text) told prints.run;
+  registers = λ tells. prints.registers (told ∙ tells);
+  printed = prints.prints;
+}
+printed_whole b cli before after old new (Err e) start told behind prints = tt
+
+-- and after a fault a front of it was
+pub printed_front : {T : Type 0} (b : Bundle) (cli : Cli) (told : Bool) (core : Run) (old new : Option (List ℕ)) (r : Result T PrintFault)
+    → core.told ≡ told → PrintsRun b cli core old new r → IfErr r (LeftByFault b cli told old new)
+printed_front b cli told core old new (Ok x) same prints = tt
+printed_front b cli told core old new (Err e) same prints =
+    left_by {T = ℕ} b cli told old new (Err e) (record {
+      words = prints.words;
+      text = prints.text;
+      run = subst (λ (t : Bool). IsTextOf b cli t prints.words prints.text) same prints.run;
+      printed = prints.prints;
+    })
 
 -- a bank that tells its words has the printed registers in front, where those are the words that it was left with
 pub bank_back : (contents : Option (List ℕ)) (size words : ℕ) (told : Bool) (regs printed : List ℕ) → is_some contents ≡ told → words ≡ size
@@ -56,13 +108,6 @@ pub same_behind : (contents before behind : Option (List ℕ)) (size words bundl
     → size ≡ bundle → words ≡ bundle → option_map (drop bundle) contents ≡ option_map (drop bundle) before
 same_behind contents before behind size words bundle has kept same all =
     ap (λ (n : ℕ). option_map (drop n) contents) (sym same) ∙ has ∙ kept ∙ ap (λ (n : ℕ). option_map (drop n) before) all
-
--- a front of the text is what each fault of printing may leave
-pub left_by : {T : Type 0} (b : Bundle) (cli : Cli) (told : Bool) (old new : Option (List ℕ)) (r : Result T PrintFault) → PrintedFront b cli told old new
-    → IfErr r (LeftByFault b cli told old new)
-left_by b cli told old new (Ok x) front = tt
-left_by b cli told old new (Err print_fault.Write) front = front
-left_by b cli told old new (Err print_fault.NoMemory) front = inr front
 
 -- where memory ran out before anything was printed, nothing was left, and no fault was counted
 pub none_left : {T : Type 0} (b : Bundle) (cli : Cli) (told : Bool) (old : Option (List ℕ)) (r : Result T PrintFault) (e : PrintFault) → r ≡ Err e → e ≡ print_fault.NoMemory

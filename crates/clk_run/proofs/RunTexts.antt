@@ -5,7 +5,7 @@ use Rattle.clk_base.specs.Description.{Description}
 use Rattle.clk_base.specs.declared.command.Answer.{Answer}
 use Rattle.clk_model.specs.Text.{answers_text}
 use Rattle.drv_scripts.specs.declared.bundle.Script.{Script}
-use Rattle.clk_run.specs.Runs.{scripts_text}
+use Rattle.clk_run.specs.Texts.{scripts_text}
 
 -- the answers of the drivers from a place on are those of the driver there, and the rest
 pub texts_at : (defs : Description) (drivers : List Script) (answers : List (List Answer)) (i : ℕ) (s : Script) (own : List Answer) → i < length drivers → i < length answers

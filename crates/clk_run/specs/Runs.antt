@@ -1,8 +1,7 @@
 -- Runs of a bundle: which journals they have, and what they print.
-use Rattle.std.specs.Prelude.{◌≡◌, ◌≤◌, ◌⊎◌, IfSome, is_some, take, drop, ℕ, ◌+◌, List, [], ◌∷◌, ◌++◌, Bool, true, false, not, ◌&&◌, Option, length, map, codes, sum_by}
+use Rattle.std.specs.Prelude.{◌≡◌, ◌≤◌, ◌⊎◌, IfSome, is_some, take, drop, ℕ, ◌+◌, List, [], Bool, true, false, Option, length, sum_by}
 use Rattle.std.specs.List.{AllByRecursion}
 use Rattle.std.specs.Option.{option_map}
-use Rattle.clk_base.specs.Description.{Description}
 use Rattle.clk_base.specs.declared.command.Answer.{Answer}
 use Rattle.clk_base.specs.declared.command.Command.{Command}
 use Rattle.clk_base.specs.declared.event.Entry.{Entry}
@@ -11,7 +10,8 @@ use Rattle.clk_model.specs.State.{State, is_quiet}
 use Rattle.clk_model.specs.Journal.{opening, replay, Legal}
 use Rattle.clk_model.specs.Fed.{Fed}
 use Rattle.clk_model.specs.Ordered.{Ordered}
-use Rattle.clk_model.specs.Text.{answers_text, registers_text}
+use Rattle.clk_model.specs.Summary.{summary}
+use Rattle.clk_summary.specs.Tables.{IsTable}
 use Rattle.drv_scripts.specs.declared.bundle.Bundle.{Bundle}
 use Rattle.drv_scripts.specs.declared.bundle.Script.{Script}
 use Rattle.std.specs.Io.KnownBytes.{Appends}
@@ -27,6 +27,7 @@ use Rattle.clk_machine.specs.Fit.{CanRun}
 use Rattle.driver_runs.specs.Drivers.{FollowAll, are_among}
 use Rattle.driver_runs.specs.Scripts.{are_built}
 use Rattle.driver_runs.specs.Turns.{scripts_with}
+use Rattle.clk_run.specs.Texts.{run_text}
 
 -- ---- what a run begins from
 
@@ -64,27 +65,17 @@ pub record IsRunOf (b : Bundle) (cli : Cli) (told : Bool) (journal : List Entry)
 
 -- ---- what a run prints
 
--- the answers of boot, and then those of each driver
-abbrev pub scripts_text : Description → List (List ℕ) → List (List Answer) → List ℕ
-scripts_text defs [] answers = []
-scripts_text defs (name ∷ names) [] = []
-scripts_text defs (name ∷ names) (own ∷ answers) = answers_text defs name own ++ scripts_text defs names answers
-
--- the names of boot and of the drivers
-abbrev pub names_of : List Script → List (List ℕ)
-names_of drivers = codes "boot" ∷ map (λ s. s.name) drivers
-
--- the answers, and then the registers
-abbrev pub run_text : Description → List Script → List (List Answer) → Registers → List ℕ
-run_text defs drivers answers words = scripts_text defs (names_of drivers) answers ++ registers_text words
-
--- a text that a run of a bundle prints: its registers are those that its journal leaves, where the bank tells its words
+-- a text that a run of a bundle prints: the journal where the words ask for it, the answers, a summary and registers. Where the bank tells its words, the summary
+-- is that of the state behind the journal, and the registers are those that it leaves; else the summary is a table of clocks that were probed
 pub record IsTextOf (b : Bundle) (cli : Cli) (told : Bool) (words : Registers) (text : List ℕ) : Type 0 where
   pub journal : List Entry
   pub answers : List (List Answer)
+  pub table : List ℕ
   pub run : IsRunOf b cli told journal answers
+  pub summed : told ≡ true → table ≡ summary (replay (opening_of b cli.ignore_unused) journal)
+  pub listed : told ≡ false → IsTable b.desc.defs journal table
   pub registers : told ≡ true → words ≡ (replay (opening_of b cli.ignore_unused) journal).regs
-  pub text_is : text ≡ run_text b.desc.defs (drivers_in cli.mode b) answers words
+  pub text_is : text ≡ run_text b.desc.defs cli (drivers_in cli.mode b) journal answers table words
 
 -- ---- what can be run so far
 
@@ -95,9 +86,9 @@ is_built_mode Sim = true
 is_built_mode Run = false
 is_built_mode (Bench n) = false
 
--- whether what the words ask can be run so far: a command that can, and no journal
+-- whether what the words ask can be run so far
 abbrev pub runs : Cli → Bool
-runs cli = is_built_mode cli.mode && not cli.journal
+runs cli = is_built_mode cli.mode
 
 -- ---- bundles
 

@@ -1,7 +1,8 @@
-//! From the bytes of a bundle to the printed answers.
+//! From the bytes of a bundle to the printed run.
 //!
 //! `clkbench` is the program as a call: it reads the words, takes the bundle from a source, runs its
-//! drivers over a bank of registers, and prints their answers and the registers to a sink.
+//! drivers over a bank of registers, and prints to a sink: the journal where it is asked for, the
+//! answers, the summary and the registers.
 #![tactic(auto)]
 
 mod arming;
@@ -9,11 +10,12 @@ mod printing;
 mod reading;
 mod refusal;
 mod run_bundle;
+mod run_core;
 mod sim;
+mod state;
 mod top;
 mod unbuilt;
 mod verdict;
-mod words;
 
 pub use reading::check_bundle;
 pub use sim::simulate;

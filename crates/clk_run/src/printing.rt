@@ -1,16 +1,64 @@
-//! Printing what a run of a bundle answered, and its registers.
+//! Printing the calls of a run: its journal, where it is asked for, and the answers.
 
-ghost use Rattle.std.specs.Prelude.{◌≡◌, ◌+◌, ◌≤◌, length, map, is_some};
+ghost use Rattle.std.specs.Prelude.{◌≡◌, ◌+◌, ◌≤◌, [], length, map, is_some, string_bytes, if◌then◌else◌, IfOk};
 ghost use Rattle.clk_io.specs.Counts.{CountsPrintFault};
 ghost use Rattle.clk_io.specs.Gathers.{Gathers};
-ghost use Rattle.clk_io.specs.Prints.{Prints};
-ghost use Rattle.clk_run.specs.Runs.{scripts_text, run_text};
+ghost use Rattle.clk_model.specs.Text.{journal_text};
+ghost use Rattle.clk_run.specs.Texts.{shows_journal, names_of, scripts_text, calls_text};
 
-use clk_base::{Answer, ValidDesc};
-use clk_io::{Gathered, PrintFault, Sink};
-use clk_journal::{print_answers, print_registers};
+use clk_base::{Answer, Entry, ValidDesc};
+use clk_cli::{Cli, Mode};
+use clk_io::{Gathered, NoMemory, PrintFault, Sink};
+use clk_journal::{print_answers, print_entries};
 use drv_scripts::{Listed, Script};
 use std::alloc::Global;
+
+// Whether the journal is printed.
+fn shows_journal(cli: &Cli) -> bool
+    ensures { result ≡ shows_journal cli.now }
+{
+    match cli.mode {
+        Mode::Check => false,
+        Mode::Sim | Mode::Bench(_) => cli.journal,
+        Mode::Run => true,
+    }
+}
+
+// The names of boot and of the drivers.
+fn names_of(alloc: Global, drivers: &[Script]) -> Result<Vec<String>, NoMemory>
+    ensures { IfOk result (λ names. map string_bytes names.items ≡ names_of drivers.now) }
+{
+    let mut names = Vec::new(alloc);
+    names.push(String::from_str(alloc, "boot")?)?;
+    for script in drivers {
+        let name = String::from_str(alloc, script.name.as_str())?;
+        names.push(name)?;
+    }
+    Ok(names)
+}
+
+// Prints the journal, where it is shown.
+fn print_journal<K: Sink>(
+    alloc: Global,
+    desc: &ValidDesc,
+    shown: bool,
+    drivers: &[Script],
+    journal: &[Entry],
+    gathered: &mut Gathered,
+    out: &mut K,
+) -> Result<(), PrintFault>
+    ensures gathers { Gathers (K.written out.old) (K.written out.new) gathered.old gathered.new
+        (if shown then journal_text desc.now.defs (names_of drivers.now) journal.now else []) result }
+    ensures tells { is_some (K.written out.new) ≡ is_some (K.written out.old) }
+    ensures later { K.faults out.old ≤ K.faults out.new }
+    ensures counts { CountsPrintFault (K.faults out.old) (K.faults out.new) result }
+{
+    if !shown {
+        return Ok(());
+    }
+    let names = names_of(alloc, drivers)?;
+    print_entries(alloc, desc, names.as_slice(), journal, gathered, out)
+}
 
 // Prints the answers of drivers, each with its name.
 fn print_drivers<K: Sink>(
@@ -40,32 +88,43 @@ fn print_drivers<K: Sink>(
     Ok(())
 }
 
-/// Prints the answers of boot and of each driver, and then the registers.
-pub(crate) fn print_run<K: Sink>(
+// Prints the answers of boot and of each driver.
+fn print_scripts<K: Sink>(
     alloc: Global,
     desc: &ValidDesc,
     drivers: &[Script],
     answers: &[Listed<Answer>],
-    words: &[u32],
+    gathered: &mut Gathered,
     out: &mut K,
 ) -> Result<(), PrintFault>
     requires many { length answers.now ≡ length drivers.now + 1 }
-    ensures prints { Prints (K.written out.old) (K.written out.new) (run_text desc.now.defs drivers.now answers.now words.now) result }
+    ensures gathers { Gathers (K.written out.old) (K.written out.new) gathered.old gathered.new (scripts_text desc.now.defs (names_of drivers.now) answers.now) result }
     ensures tells { is_some (K.written out.new) ≡ is_some (K.written out.old) }
     ensures later { K.faults out.old ≤ K.faults out.new }
     ensures counts { CountsPrintFault (K.faults out.old) (K.faults out.new) result }
 {
-    let mut gathered = Gathered::new(alloc);
-    print_answers(
-        alloc,
-        desc,
-        "boot",
-        answers[0].as_slice(),
-        &mut gathered,
-        out,
-    )?;
-    print_drivers(alloc, desc, drivers, &answers[1..], &mut gathered, out)?;
-    print_registers(alloc, words, &mut gathered, out)?;
-    gathered.finish(out)?;
-    Ok(())
+    print_answers(alloc, desc, "boot", answers[0].as_slice(), gathered, out)?;
+    print_drivers(alloc, desc, drivers, &answers[1..], gathered, out)
+}
+
+/// Prints the journal where the words ask for it, and then the answers of boot and of each driver.
+pub(crate) fn print_calls<K: Sink>(
+    alloc: Global,
+    desc: &ValidDesc,
+    cli: &Cli,
+    drivers: &[Script],
+    journal: &[Entry],
+    answers: &[Listed<Answer>],
+    gathered: &mut Gathered,
+    out: &mut K,
+) -> Result<(), PrintFault>
+    requires many { length answers.now ≡ length drivers.now + 1 }
+    ensures gathers { Gathers (K.written out.old) (K.written out.new) gathered.old gathered.new (calls_text desc.now.defs cli.now drivers.now journal.now answers.now) result }
+    ensures tells { is_some (K.written out.new) ≡ is_some (K.written out.old) }
+    ensures later { K.faults out.old ≤ K.faults out.new }
+    ensures counts { CountsPrintFault (K.faults out.old) (K.faults out.new) result }
+{
+    let shown = shows_journal(cli);
+    print_journal(alloc, desc, shown, drivers, journal, gathered, out)?;
+    print_scripts(alloc, desc, drivers, answers, gathered, out)
 }

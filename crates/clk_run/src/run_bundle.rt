@@ -1,18 +1,17 @@
 //! Running a bundle over a bank, and printing what it answered.
 
-ghost use Rattle.std.specs.Prelude.{◌≡◌, ◌≤◌, is_some, IfOk, IfErr};
+ghost use Rattle.std.specs.Prelude.{◌≡◌, ◌≤◌, [], length, drop, is_some, IfOk, IfErr};
+ghost use Rattle.std.specs.Option.{option_map};
 ghost use Rattle.clk_io.specs.Counts.{CountsPrintFault};
 ghost use Rattle.clk_model.specs.Begin.{most_credits};
-ghost use Rattle.clk_run.specs.Runs.{credits_of, drivers_in, IsReady, Printed, LeftByFault};
+ghost use Rattle.clk_run.specs.Runs.{credits_of, opening_of, IsReady, Printed, LeftByFault};
 
 use crate::arming::arm_locks;
-use crate::printing::print_run;
-use crate::words::registers_of;
-use clk_cli::{Cli, Mode};
-use clk_io::{PrintFault, Sink};
+use crate::run_core::run_core;
+use clk_cli::Cli;
+use clk_io::{NoMemory, PrintFault, Sink};
 use clk_machine::Core;
-use driver_runs::run_scripts;
-use drv_scripts::{Bundle, Script};
+use drv_scripts::Bundle;
 use reg_bank::Bank;
 use std::alloc::Global;
 
@@ -28,17 +27,27 @@ fn credits_of(bundle: &Bundle) -> u32
     credits as u32
 }
 
-// The drivers that run: under `check` none does.
-fn drivers_in(mode: Mode, bundle: &Bundle) -> &[Script]
-    ensures { result.now ≡ drivers_in mode bundle.now }
+// A core over a bank, in which the clocks of a bundle wait to be registered.
+fn open_core<B: Bank>(
+    alloc: Global,
+    bundle: &Bundle,
+    ignore_unused: bool,
+    bank: B,
+) -> Result<Core<B>, NoMemory>
+    requires ready { IsReady bundle.now }
+    requires room { 65536 ≤ B.size bank }
+    ensures start { IfOk result (λ core. core.start ≡ opening_of bundle.now ignore_unused) }
+    ensures journal { IfOk result (λ core. core.journal ≡ []) }
+    ensures told { IfOk result (λ core. core.told ≡ is_some (B.contents bank)) }
+    ensures behind { IfOk result (λ core. core.behind ≡ option_map (drop (length bundle.now.words)) (B.contents bank)) }
 {
-    match mode {
-        Mode::Check => &[],
-        Mode::Sim | Mode::Run | Mode::Bench(_) => bundle.drivers.as_slice(),
-    }
+    let desc = bundle.desc.copy(alloc)?;
+    let words = bundle.words.as_slice();
+    let credits = credits_of(bundle);
+    Core::create(alloc, desc, bank, words, ignore_unused, credits)
 }
 
-// Runs a bundle over a bank and prints its answers and registers. The bank comes back.
+// Runs a bundle over a bank and prints the run. The bank comes back.
 fn run_armed<K: Sink, B: Bank>(
     alloc: Global,
     bundle: &Bundle,
@@ -55,30 +64,12 @@ fn run_armed<K: Sink, B: Bank>(
     ensures later { K.faults out.old ≤ K.faults out.new }
     ensures counts { CountsPrintFault (K.faults out.old) (K.faults out.new) result }
 {
-    let desc = bundle.desc.copy(alloc)?;
-    let words = bundle.words.as_slice();
-    let credits = credits_of(bundle);
-    let mut core = Core::create(alloc, desc, bank, words, cli.ignore_unused, credits)?;
-    let drivers = drivers_in(cli.mode, bundle);
-    let answers = run_scripts(alloc, &mut core, bundle.boot.as_slice(), drivers)?;
-    // What the core tells of the run: after each entry of its journal the active clocks are fed,
-    // and at its end no change is in flight.
-    let _ = core.journal();
-    let _ = core.quiet();
-    let registers = registers_of(alloc, &core)?;
-    print_run(
-        alloc,
-        &bundle.desc,
-        drivers,
-        answers.as_slice(),
-        registers.as_slice(),
-        out,
-    )?;
+    let mut core = open_core(alloc, bundle, cli.ignore_unused, bank)?;
+    run_core(alloc, bundle, cli, &mut core, out)?;
     Ok(core.into_bank())
 }
 
-/// Arms the locks of a bank, runs a bundle over it and prints its answers and registers. The bank
-/// comes back.
+/// Arms the locks of a bank, runs a bundle over it and prints the run. The bank comes back.
 pub(crate) fn run_bundle<K: Sink, B: Bank>(
     alloc: Global,
     bundle: &Bundle,

@@ -59,8 +59,9 @@ pub(crate) fn status_of(fault: PrintFault) -> u8
     }
 }
 
-/// Reads a bundle, runs it on one thread and prints its answers and registers; under `check` boot
-/// alone runs. Answers the status, and with 0 the bank:
+/// Reads a bundle, runs it on one thread and prints the run: the journal where the words ask for it,
+/// the answers, the summary and the registers. Under `check` boot alone runs, and no journal is
+/// printed. Answers the status, and with 0 the bank:
 ///
 /// - 0: the bundle ran and its text was printed;
 /// - 2: the bundle is refused, and the line that says why was printed;

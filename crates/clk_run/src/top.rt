@@ -19,7 +19,7 @@ fn runs(cli: &Cli) -> bool
     ensures { result ≡ runs cli.now }
 {
     match cli.mode {
-        Mode::Check | Mode::Sim => !cli.journal,
+        Mode::Check | Mode::Sim => true,
         Mode::Run | Mode::Bench(_) => false,
     }
 }
@@ -34,8 +34,7 @@ fn runs(cli: &Cli) -> bool
 /// - 4: a read failed, and nothing was printed;
 /// - 5: a write failed, and a front of the text was printed.
 ///
-/// So far `check` and `sim` can be run, without the journal: boot alone, or the run on one thread,
-/// which pauses nowhere.
+/// So far `check` and `sim` can be run: boot alone, or the run on one thread, which pauses nowhere.
 pub fn clkbench<'w, R: AllocGlobal, S: Source, K: Sink, B: Bank, Q: Pause>(
     rt: &R,
     words: &'w [&'w str],

@@ -157,9 +157,9 @@ turns_follow n (c ∷ scripts) (a ∷ answers) before journal earlier turns =
           (list_all-append (λ e. nat_lt e.driver (n + 1)) before turns.entries (among_more n (n + 1) before (omega arith) earlier) (among_own n false turns.entries turns.own)) turns.later),
     )
 
--- drivers that have turns have an answer list each
-pub turns_many : (d : ℕ) (scripts : List (List Command)) (answers : List (List Answer)) (journal : List Entry) → TakeTurns d scripts answers journal → length answers ≡ length scripts
-turns_many d [] [] journal turns = refl
-turns_many d [] (a ∷ answers) journal turns = absurd turns
-turns_many d (c ∷ scripts) [] journal turns = absurd turns
-turns_many d (c ∷ scripts) (a ∷ answers) journal turns = ap suc (turns_many (d + 1) scripts answers turns.rest turns.later)
+-- drivers that have their calls in a journal have an answer list each
+pub follow_many : (d : ℕ) (scripts : List (List Command)) (answers : List (List Answer)) (journal : List Entry) → FollowAll d scripts answers journal → length answers ≡ length scripts
+follow_many d [] [] journal follow = refl
+follow_many d [] (a ∷ answers) journal follow = absurd follow
+follow_many d (c ∷ scripts) [] journal follow = absurd follow
+follow_many d (c ∷ scripts) (a ∷ answers) journal follow = ap suc (follow_many (d + 1) scripts answers journal follow.2)

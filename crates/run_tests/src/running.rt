@@ -17,7 +17,7 @@ pub(crate) const UART: &str =
 
 /// What the run of `UART` prints.
 pub(crate) const UART_PRINTED: &str =
-    "boot.1 ok\nboot.2 ok\nA.1 handle 0\nA.2 ok\nA.3 ok\nA.4 rate 24000000\nreg 0 0x00000008\n";
+    "boot.1 ok\nboot.2 ok\nA.1 handle 0\nA.2 ok\nA.3 ok\nA.4 rate 24000000\nclock                             enable prepare protect                 rate   hw\nosc                                    1       1       0             24000000    -\n  uart_gate                            1       1       0             24000000   on\nreg 0 0x00000008\n";
 
 /// The status for a word and bytes, and the sink. These calls of the source and the sink fail; the
 /// sink takes so many bytes a call.

@@ -3,7 +3,7 @@ use Rattle.clk_base.specs.declared.command.Answer.{Answer}
 use Rattle.clk_model.specs.Text.{answers_text}
 use Rattle.clk_io.proofs.Gathering.{PassesOn-none, PassesOn-after, front_of_whole}
 use Rattle.clk_journal.proofs.Lines.{Gathers-fault, one_more}
-use Rattle.clk_run.specs.Runs.{scripts_text}
+use Rattle.clk_run.specs.Texts.{scripts_text}
 use Rattle.clk_run.proofs.RunTexts.{texts_at}
 use Rattle.clk_run.proofs.printing.print_drivers.Goals as goal
 

@@ -1,6 +1,6 @@
 use Rattle.std.proofs.Common.{◌≡◌, ◌++◌, ℕ, List, drop, map, is_some}
 use Rattle.clk_io.specs.Gathers.{PassesOn}
-use Rattle.clk_run.specs.Runs.{scripts_text}
+use Rattle.clk_run.specs.Texts.{scripts_text}
 use Rattle.clk_run.proofs.printing.print_drivers.Given as goal
 
 -- the answers of the drivers so far were gathered
