@@ -1,15 +1,13 @@
 -- A driver that may run commands may make the call of each in its turn.
-use Rattle.std.proofs.Common.{◌≡◌, ℕ, ◌+◌, ◌<◌, ◌≤◌, true, List, [], ◌∷◌, Option, Some, refl, sym, ap, subst, ◌∙◌, arith, length, take, get_or, IfSome}
+use Rattle.std.proofs.Common.{◌≡◌, ℕ, ◌+◌, ◌<◌, ◌≤◌, true, List, [], Option, refl, sym, ap, subst, ◌∙◌, arith, length, take, get_or, IfSome}
 use Rattle.std.proofs.lemmas.List.{length-take}
 use Rattle.atomic_table.specs.Seated.{TableId}
-use Rattle.clk_base.specs.declared.command.Act.{Act}
-use Rattle.clk_base.specs.declared.command.Act.TheVariants as act
 use Rattle.clk_base.specs.declared.command.Answer.{Answer}
 use Rattle.clk_base.specs.declared.command.Command.{Command}
 use Rattle.clk_model.specs.Follows.{Variables}
 use Rattle.clk_machine.specs.Run.{was_probed}
 use Rattle.clk_framework.specs.declared.opened.Opened.{Opened}
-use Rattle.clk_framework.specs.Calls.{DriverView, IsReady}
+use Rattle.clk_framework.specs.Calls.{DriverView}
 use Rattle.clk_framework.specs.Causes.{run_from}
 use Rattle.clk_machine.specs.Sound.{IsPlaced}
 use Rattle.clk_base.specs.declared.call.Sleeping.{Sleeping}

@@ -1,5 +1,5 @@
 -- The framework is closed with all its drivers, and its core has run their scripts.
-use Rattle.std.proofs.Common.{◌≡◌, ℕ, suc, ◌+◌, ◌<◌, ◌≤◌, Bool, true, false, List, [], ◌∷◌, Option, Some, None, All, refl, sym, ap, subst, ◌∙◌, arith, length, map, replicate, nat_eq}
+use Rattle.std.proofs.Common.{◌≡◌, ℕ, suc, ◌+◌, ◌<◌, ◌≤◌, Bool, true, false, List, [], ◌∷◌, Some, None, All, refl, sym, ap, subst, ◌∙◌, arith, length, map, replicate, nat_eq}
 use Rattle.std.specs.Prelude.{Contains}
 use Rattle.std.proofs.lemmas.Bool.Decides.{nat_tests}
 use Rattle.std.proofs.lemmas.List.Elements.{All-cons, All-head, All-tail}
@@ -109,7 +109,7 @@ module _ (table : TableId) (first : DriverView) (boot : List Command) (scripts :
           its.alone,
           subst (λ (n : ℕ). FollowAll n (map commands_of scripts) done.others core.journal) booted_made
               (all_follow done.booted done.booted.made (map commands_of scripts) done.news done.others core.journal done.worked
-                  (of_others (λ d. own core.journal d.number ≡ d.mine) closes.mine)),
+              (of_others (λ d. own core.journal d.number ≡ d.mine) closes.mine)),
         )
 
     -- driver 0 has seen its own entries alone when it had run boot

@@ -1,10 +1,10 @@
 -- From drivers that have worked side by side to the journal that they leave.
-use Rattle.std.proofs.Common.{◌≡◌, ℕ, suc, ◌+◌, ◌<◌, ◌≤◌, ◌&&◌, not, Bool, true, false, cond, List, [], ◌∷◌, ◌++◌, Option, Some, None, All, refl, sym, ap, subst, ◌∙◌, arith, length, map, filter, get_or, nat_eq, nat_lt, append_assoc, IfSome}
+use Rattle.std.proofs.Common.{◌≡◌, ℕ, suc, ◌+◌, ◌<◌, ◌≤◌, ◌&&◌, not, Bool, true, false, cond, List, [], ◌∷◌, ◌++◌, Option, Some, All, refl, sym, ap, subst, ◌∙◌, arith, length, map, nat_eq, nat_lt}
 use Rattle.std.specs.Prelude.{Contains}
 use Rattle.std.specs.List.{list_all}
 use Rattle.std.proofs.lemmas.Bool.{and_from}
 use Rattle.std.proofs.lemmas.Bool.Decides.{nat_tests}
-use Rattle.std.proofs.lemmas.List.{append-nil, length-append, length-map}
+use Rattle.std.proofs.lemmas.List.{append-nil, length-append}
 use Rattle.std.proofs.lemmas.List.Elements.{All-nil, All-cons, All-head, All-tail}
 use Rattle.atomic_table.specs.Seated.{TableId}
 use Rattle.clk_base.specs.declared.command.Answer.{Answer}
@@ -16,15 +16,13 @@ use Rattle.clk_model.specs.Ordered.{after_boot}
 use Rattle.clk_model.proofs.CallLaws.{own-append}
 use Rattle.clk_model.proofs.Members.{both_left, both_right}
 use Rattle.tier_lock.specs.Entries.{IsPrefix, AreBelow}
-use Rattle.tier_lock.specs.Known.{AreAll}
 use Rattle.clk_framework.specs.Calls.{DriverView, IsReady}
 use Rattle.driver_runs.specs.Drivers.{FollowAll, are_among}
-use Rattle.driver_runs.specs.Scripts.{are_calls}
 use Rattle.driver_runs.proofs.Following.{calls_alone}
-use Rattle.driver_threads.specs.Going.{IsSame, GoesThrough}
-use Rattle.driver_threads.specs.Workers.{Worked, HaveWorked, newcomer, newcomers, HasMade, AllDone}
+use Rattle.driver_threads.specs.Going.{GoesThrough}
+use Rattle.driver_threads.specs.Workers.{HaveWorked, newcomer, newcomers}
 use Rattle.driver_threads.specs.Runs.{boot_first}
-use Rattle.driver_threads.proofs.Going.{goes_same, same_ready}
+use Rattle.driver_threads.proofs.Going.{same_ready}
 
 -- ---- what one driver has gone through
 
@@ -98,8 +96,8 @@ numbered first n (c ∷ scripts) (d ∷ news) [] worked k low high = absurd work
 numbered first n (c ∷ scripts) (d ∷ news) (a ∷ answers) worked k low high =
     by (nat_eq n k) refl (λ other. numbered first (n + 1) scripts news answers worked.1 k (above (nat_eq n k) refl other) (omega (arith, high))) where
       above : (b : Bool) → nat_eq n k ≡ b → b ≡ false → n + 1 ≤ k
-      above true same no = absurd cc
-      above false other no = grind (arith, nat_tests)
+      above true same differs = absurd cc
+      above false other differs = grind (arith, nat_tests)
 
       by : (b : Bool) → nat_eq n k ≡ b → (nat_eq n k ≡ false → (v : DriverView) × Contains news v × (v.number ≡ k)) → (v : DriverView) × Contains (d ∷ news) v × (v.number ≡ k)
       by true same rest =

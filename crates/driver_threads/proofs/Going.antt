@@ -1,5 +1,5 @@
 -- Going through commands: one after the other.
-use Rattle.std.proofs.Common.{◌≡◌, ℕ, ◌+◌, ◌-◌, ◌<◌, ◌≤◌, true, false, List, [], ◌∷◌, ◌++◌, Option, Some, None, refl, sym, ap, subst, ◌∙◌, arith, length, take, get_or, append_assoc}
+use Rattle.std.proofs.Common.{◌≡◌, ℕ, ◌+◌, ◌-◌, ◌<◌, true, false, List, [], ◌∷◌, ◌++◌, Option, Some, None, refl, sym, ap, subst, ◌∙◌, arith, length, take, get_or, append_assoc}
 use Rattle.std.proofs.lemmas.List.{append-nil, length-append, take_more}
 use Rattle.atomic_table.specs.Seated.{TableId}
 use Rattle.clk_base.specs.declared.command.Answer.{Answer}
@@ -78,7 +78,7 @@ goes_trans first mid last held held' held'' xs ys as_ bs one two =
           subst (λ (commands : List Command). FollowsFrom held commands (calls_of (one.entries ++ two.entries) ++ ls) ((as_ ++ bs) ++ cs')) (sym (append_assoc xs ys cs))
           (subst (λ (calls : List Answered). FollowsFrom held (xs ++ (ys ++ cs)) calls ((as_ ++ bs) ++ cs'))
           (sym (append_assoc (calls_of one.entries) (calls_of two.entries) ls)
-              ∙ ap (λ (c : List Answered). c ++ ls) (sym (calls_of-append first.number false one.entries two.entries one.own)))
+          ∙ ap (λ (c : List Answered). c ++ ls) (sym (calls_of-append first.number false one.entries two.entries one.own)))
           (subst (λ (answers : List Answer). FollowsFrom held (xs ++ (ys ++ cs)) (calls_of one.entries ++ (calls_of two.entries ++ ls)) answers) (sym (append_assoc as_ bs cs')) whole));
     }
 

@@ -5,3 +5,4 @@ pub mod Allowing
 pub mod Newcomers
 pub mod Finishing
 pub mod Closing
+pub mod Starting

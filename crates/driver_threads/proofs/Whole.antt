@@ -1,5 +1,5 @@
 -- The calls that a framework makes, as whole calls of their driver.
-use Rattle.std.proofs.Common.{◌≡◌, ℕ, ◌&&◌, ◌||◌, not, Bool, true, false, cond, List, [], ◌∷◌, ◌++◌, Option, Some, None, filter, nat_eq, refl, sym, ap, subst, ◌∙◌}
+use Rattle.std.proofs.Common.{◌≡◌, ℕ, ◌&&◌, ◌||◌, not, Bool, true, false, cond, List, [], ◌∷◌, ◌++◌, Option, Some, None, filter, nat_eq, refl, sym, ap, ◌∙◌}
 use Rattle.std.specs.List.{list_any}
 use Rattle.std.proofs.lemmas.Bool.{and_from}
 use Rattle.std.proofs.lemmas.List.Folds.{list_any-append}
@@ -113,7 +113,7 @@ answers_sleeping old new what r calls =
           ap (λ (j : List Entry). was_probed j c) makes.seen ∙ list_any-append (λ f. registers f.event c) makes.before makes.section
           ∙ ap (λ (b : Bool). was_probed makes.before c || b)
           (any_passed (λ f. registers f.event c) is_prepare_tier makes.section
-              (ap (λ (es : List Entry). list_any (λ f. registers f.event c) es) makes.alone ∙ call_probes old.number what makes.entries (turn.Done r) c makes.call_ is))
+          (ap (λ (es : List Entry). list_any (λ f. registers f.event c) es) makes.alone ∙ call_probes old.number what makes.entries (turn.Done r) c makes.call_ is))
           ∙ either_true (was_probed makes.before c);
       alone = λ zero one.
           makes.run.alone (ap (λ (d : DriverView). d.number) makes.driver ∙ zero) (ap (λ (d : DriverView). d.made) makes.driver ∙ one);

@@ -1,5 +1,5 @@
 -- Running a bundle with each driver on a thread of its own: what may be run, and what a core has gone through then.
-use Rattle.std.specs.Prelude.{◌≡◌, ℕ, ◌+◌, ◌≤◌, ◌==◌, List, Bool, true, false, not, Option, Some, length, sum_by}
+use Rattle.std.specs.Prelude.{◌≡◌, ◌+◌, ◌≤◌, ◌==◌, List, Bool, true, false, not, Option, Some, length, sum_by}
 use Rattle.std.specs.List.{list_all, AllByRecursion}
 use Rattle.atomic_table.specs.Seated.{TableId}
 use Rattle.clk_base.specs.Description.{Description, EachClock}

@@ -47,7 +47,7 @@ impl<'s, B: Bank> Worker<'s, B> {
 
     // The driver, and its answers.
     pub(crate) fn into_parts(self) -> (Driver<B>, Option<Listed<Answer>>)
-        ensures { result ≡ (self.driver, self.answers) }
+        ensures { result ≡ (self.entry.driver, self.entry.answers) }
     {
         let Worker {
             driver,

@@ -2,7 +2,7 @@
 
 ghost use Rattle.std.specs.Prelude.{◌≡◌, ◌∷◌, Some, All, map, IfOk};
 ghost use Rattle.driver_threads.specs.Going.{MayRun};
-ghost use Rattle.driver_threads.specs.Workers.{HaveWorked};
+ghost use Rattle.driver_threads.specs.Workers.{Worked, HaveWorked};
 
 use crate::worker::Worker;
 use clk_base::{Answer, Pause};
@@ -22,13 +22,7 @@ pub(crate) fn work_all<
     N: Named + Send + Sync,
     R: Threads + Wait + Sync,
     Q: Pause + Sync,
->(
-    rt: &R,
-    alloc: Global,
-    framework: &Framework<B, N>,
-    workers: &mut [Worker<'_, B>],
-    pause: &Q,
-)
+>(rt: &R, alloc: Global, framework: &Framework<B, N>, workers: &mut [Worker<'_, B>], pause: &Q)
     requires { All (λ w. MayRun N.table w.driver w.commands.now) workers.old }
     ensures { HaveWorked (map (λ w. w.driver) workers.old) (map (λ w. w.commands.now) workers.old) (map (λ w. w.driver) workers.new) (map (λ w. w.answers) workers.new) }
 {
@@ -36,9 +30,11 @@ pub(crate) fn work_all<
         return;
     }
     let pieces = workers.len();
-    thread::for_each_mut(rt, workers, pieces, &|_, worker: &mut Worker<'_, B>| {
-        worker.work(rt, alloc, framework, pause)
-    });
+    let run = |_: usize, worker: &mut Worker<'_, B>|
+        requires { MayRun N.table worker.old.driver worker.old.commands.now }
+        ensures { Worked worker.old.driver worker.old.commands.now worker.new.driver worker.new.answers }
+    { worker.work(rt, alloc, framework, pause) };
+    thread::for_each_mut(rt, workers, pieces, &run);
 }
 
 /// All drivers, and their answers, where each has run its script: driver 0 and its answers come first.
@@ -48,8 +44,8 @@ pub(crate) fn gather<B: Bank>(
     own: Vec<Answer>,
     workers: Vec<Worker<'_, B>>,
 ) -> Result<(Vec<Driver<B>>, Vec<Listed<Answer>>), NoMemory>
-    ensures drivers { IfOk result (λ all. all.0.items ≡ first ∷ map (λ w. w.driver) workers.items) }
-    ensures answers { IfOk result (λ all. map Some all.1.items ≡ Some own.items ∷ map (λ w. w.answers) workers.items) }
+    ensures drivers { IfOk result (λ all. all.0.items ≡ first ∷ map (λ w. w.driver) workers.entry.items) }
+    ensures answers { IfOk result (λ all. map Some all.1.items ≡ Some own.items ∷ map (λ w. w.answers) workers.entry.items) }
 {
     let mut drivers = Vec::new(alloc);
     drivers.push(first)?;

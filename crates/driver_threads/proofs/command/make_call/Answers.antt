@@ -1,7 +1,7 @@
-use Rattle.std.proofs.Common.{Option, Some, refl, sym, ap, ◌∙◌}
+use Rattle.std.proofs.Common.{◌≡◌, Option, Some, refl, sym, ap, ◌∙◌}
 use Rattle.std.specs.Option.{option_map}
 use Rattle.clk_base.specs.declared.event.Event.{Event}
-use Rattle.clk_base.specs.declared.event.Event.TheVariants.{Begin, Enable, Disable, Running}
+use Rattle.clk_base.specs.declared.event.Event.TheVariants.{Enable, Disable, Running}
 use Rattle.driver_runs.specs.Called.{event_of}
 use Rattle.driver_runs.specs.declared.called.Called.{Called}
 use Rattle.driver_threads.proofs.Whole.{answers_at_once}

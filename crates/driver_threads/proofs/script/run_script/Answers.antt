@@ -1,8 +1,8 @@
-use Rattle.std.proofs.Common.{rules, ◌≡◌, None, replicate, List, [], take, sym, subst}
+use Rattle.std.proofs.Common.{rules, ◌≡◌, None, replicate, List, [], sym, subst}
 use Rattle.clk_base.specs.declared.command.Answer.{Answer}
 use Rattle.clk_model.specs.Follows.{Variables, variable_count, no_handles}
 use Rattle.driver_threads.specs.Going.{GoesThrough}
-use Rattle.driver_threads.proofs.Going.{same_trans, goes_same, goes_none, goes_more}
+use Rattle.driver_threads.proofs.Going.{goes_none, goes_more}
 use Rattle.driver_threads.proofs.Allowing.{may_next}
 use Rattle.driver_threads.proofs.script.run_script.Goals as goal
 
