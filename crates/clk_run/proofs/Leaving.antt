@@ -23,6 +23,7 @@ use Rattle.driver_runs.specs.Drivers.{are_among}
 use Rattle.driver_runs.specs.Turns.{HasRun}
 use Rattle.driver_runs.proofs.Following.{turns_follow, turns_among}
 use Rattle.driver_runs.proofs.Ordering.{turns_are_ordered}
+use Rattle.clk_run.proofs.Threaded.{turns_first, in_order}
 
 -- a core that had an empty journal at a bundle's opening, and has run the scripts, has run the bundle
 pub calls_of_run : (b : Bundle) (cli : Cli) (old core : Run) (answers : List (List Answer)) → old.start ≡ opening_of b cli.ignore_unused → b.order ≡ []
@@ -34,7 +35,9 @@ calls_of_run b cli old core answers opens unordered ran =
       start = ran.start ∙ opens;
       follow = turns_follow 0 scripts answers [] core.journal refl ran.turns;
       among = subst (λ (n : ℕ). are_among n core.journal ≡ true) many (turns_among 0 scripts answers core.journal ran.turns);
-      ordered = subst (λ (order : List ℕ). Ordered scripts order core.journal) (sym unordered) (turns_are_ordered b.boot _ answers core.journal ran.turns);
+      ordered = in_order cli.mode scripts b.order core.journal
+          (subst (λ (order : List ℕ). Ordered scripts order core.journal) (sym unordered) (turns_are_ordered b.boot _ answers core.journal ran.turns))
+          (turns_first b.boot _ answers core.journal ran.turns);
       quiet = ran.quiet;
     }
 

@@ -6,3 +6,4 @@ pub mod Saying
 pub mod RunVerdicts
 pub mod Fitness
 pub mod PrintedParts
+pub mod Threaded

@@ -27,6 +27,7 @@ use Rattle.clk_machine.specs.Fit.{CanRun, keeps_parents}
 use Rattle.driver_runs.specs.Drivers.{FollowAll, are_among}
 use Rattle.driver_runs.specs.Scripts.{are_built}
 use Rattle.driver_runs.specs.Turns.{scripts_with}
+use Rattle.driver_threads.specs.Runs.{boot_first}
 use Rattle.clk_run.specs.Texts.{run_text}
 
 -- ---- what a run begins from
@@ -52,16 +53,24 @@ opening_of b ignore_unused = opening b.desc.defs b.words ignore_unused (credits_
 
 -- ---- runs
 
+-- in which order the entries stand: under `run` each driver has a thread of its own, and it is any in which boot's stand before all others; else there is one thread,
+-- and behind boot's entries it is the one that the drivers' commands and the stated order give
+abbrev pub InOrder : Mode → List (List Command) → List ℕ → List Entry → Type 0
+InOrder Check scripts order journal = Ordered scripts order journal
+InOrder Sim scripts order journal = Ordered scripts order journal
+InOrder Run scripts order journal = boot_first journal ≡ true
+InOrder (Bench n) scripts order journal = Ordered scripts order journal
+
 -- a run of a bundle, as the words ask for it: its journal, where the bank tells its words, is a legal run of the machine, after each of its entries the active
--- clocks are fed, and at its end no change is in flight; boot and each driver, and nobody else, have their calls once, in their order, one after the other, answered so; behind boot's
--- entries the drivers make theirs in the order of one thread
+-- clocks are fed, and at its end no change is in flight; boot and each driver, and nobody else, have their calls once, in their order, one after the other, answered so; and the
+-- entries stand in the order of the command
 pub record IsRunOf (b : Bundle) (cli : Cli) (told : Bool) (journal : List Entry) (answers : List (List Answer)) : Type 0 where
   pub legal : told ≡ true → Legal (opening_of b cli.ignore_unused) journal
   pub fed : told ≡ true → (n : ℕ) → Fed (replay (opening_of b cli.ignore_unused) (take n journal))
   pub quiet : told ≡ true → is_quiet (replay (opening_of b cli.ignore_unused) journal).change ≡ true
   pub follow : FollowAll 0 (scripts_of cli.mode b) answers journal
   pub among : are_among (length (scripts_of cli.mode b)) journal ≡ true
-  pub ordered : Ordered (scripts_of cli.mode b) b.order journal
+  pub ordered : InOrder cli.mode (scripts_of cli.mode b) b.order journal
 
 -- ---- what a run prints
 
@@ -83,7 +92,7 @@ pub record IsTextOf (b : Bundle) (cli : Cli) (told : Bool) (words : Registers) (
 abbrev pub is_built_mode : Mode → Bool
 is_built_mode Check = true
 is_built_mode Sim = true
-is_built_mode Run = false
+is_built_mode Run = true
 is_built_mode (Bench n) = false
 
 -- whether what the words ask can be run so far

@@ -11,6 +11,7 @@ mod reading;
 mod refusal;
 mod run_bundle;
 mod run_core;
+mod side_by_side;
 mod sim;
 mod state;
 mod top;

@@ -15,8 +15,8 @@ use drv_scripts::Bundle;
 use reg_bank::Bank;
 use std::alloc::Global;
 
-// One credit for each command.
-fn credits_of(bundle: &Bundle) -> u32
+/// One credit for each command.
+pub(crate) fn credits_of(bundle: &Bundle) -> u32
     requires { credits_of bundle.now ≤ most_credits }
     ensures { result ≡ credits_of bundle.now }
 {

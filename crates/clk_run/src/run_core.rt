@@ -26,9 +26,9 @@ fn drivers_in(mode: Mode, bundle: &Bundle) -> &[Script]
     }
 }
 
-// Prints the run that a core has gone through: the journal where it is asked for, the answers, the
-// summary and the registers.
-fn print_core<K: Sink, B: Bank>(
+/// Prints the run that a core has gone through: the journal where it is asked for, the answers, the
+/// summary and the registers.
+pub(crate) fn print_core<K: Sink, B: Bank>(
     alloc: Global,
     bundle: &Bundle,
     cli: &Cli,

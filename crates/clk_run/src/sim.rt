@@ -22,8 +22,8 @@ pub(crate) enum Stop {
     NoMemory,
 }
 
-// The bundle that a source's bytes spell.
-fn take_bundle<S: Source>(alloc: Global, input: &mut S) -> Result<Bundle, Stop>
+/// The bundle that a source's bytes spell.
+pub(crate) fn take_bundle<S: Source>(alloc: Global, input: &mut S) -> Result<Bundle, Stop>
     ensures gives { IfOk result (GivesBundle (S.left input.old) (S.left input.new)) }
     ensures ready { IfOk result IsReady }
     ensures stops { IfErr result (StopsReading (S.left input.old) (S.left input.new)) }

@@ -7,20 +7,23 @@ ghost use Rattle.clk_run.specs.Outcomes.{IsStatus, MeansNothing, MeansDone, Mean
 ghost use Rattle.clk_run.specs.Runs.{runs};
 
 use crate::refusal::print_refusal;
+use crate::side_by_side::run_side_by_side;
 use crate::sim::{simulate, status_of};
 use clk_base::Pause;
 use clk_cli::{Cli, CliFault, Mode, USAGE_LINE};
 use clk_io::{Sink, Source, write_all};
 use drv_scripts::Reason;
 use reg_bank::Bank;
+use std::sync::Wait;
+use std::thread::Threads;
 
 // Whether what the words ask can be run so far.
 fn runs(cli: &Cli) -> bool
     ensures { result ≡ runs cli.now }
 {
     match cli.mode {
-        Mode::Check | Mode::Sim => true,
-        Mode::Run | Mode::Bench(_) => false,
+        Mode::Check | Mode::Sim | Mode::Run => true,
+        Mode::Bench(_) => false,
     }
 }
 
@@ -34,14 +37,22 @@ fn runs(cli: &Cli) -> bool
 /// - 4: a read failed, and nothing was printed;
 /// - 5: a write failed, and a front of the text was printed.
 ///
-/// So far `check` and `sim` can be run: boot alone, or the run on one thread, which pauses nowhere.
-pub fn clkbench<'w, R: AllocGlobal, S: Source, K: Sink, B: Bank, Q: Pause>(
+/// So far `check`, `sim` and `run` can be run: boot alone, the run on one thread, which pauses nowhere,
+/// and the run with each driver on a thread of its own, which pauses where `pause` is called.
+pub fn clkbench<
+    'w,
+    R: AllocGlobal + Threads + Wait + Sync,
+    S: Source,
+    K: Sink,
+    B: Bank + Send + Sync,
+    Q: Pause + Sync,
+>(
     rt: &R,
     words: &'w [&'w str],
     input: &mut S,
     out: &mut K,
     bank: B,
-    _pause: &Q,
+    pause: &Q,
 ) -> (u8, Option<B>)
     // The bank has all words that a bundle may name.
     requires room { 65536 ≤ B.size bank }
@@ -72,7 +83,10 @@ pub fn clkbench<'w, R: AllocGlobal, S: Source, K: Sink, B: Bank, Q: Pause>(
 {
     let alloc = rt.alloc();
     match clk_cli::words(alloc, words) {
-        Ok(cli) if runs(&cli) => simulate(alloc, &cli, input, out, bank),
+        Ok(cli) if runs(&cli) => match cli.mode {
+            Mode::Run => run_side_by_side(rt, alloc, &cli, input, out, bank, pause),
+            Mode::Check | Mode::Sim | Mode::Bench(_) => simulate(alloc, &cli, input, out, bank),
+        },
         Ok(_) => match print_refusal(alloc, 0, Reason::NotYet, out) {
             Ok(()) => (2, None),
             Err(fault) => (status_of(fault), None),

@@ -22,7 +22,7 @@ use Rattle.std.proofs.lemmas.Bool.{and_from}
 -- ---- entries of one driver
 
 -- all are its own
-own_all : (d : ℕ) (going : Bool) (es : List Entry) → are_calls d going es ≡ true → own es d ≡ es
+pub own_all : (d : ℕ) (going : Bool) (es : List Entry) → are_calls d going es ≡ true → own es d ≡ es
 own_all d going [] h = refl
 own_all d going (e ∷ es) h =
     let is = next_of d going e es h in

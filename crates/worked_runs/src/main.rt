@@ -15,6 +15,8 @@ use clk_io::{MemSink, MemSource, NoMemory};
 use clk_run::clkbench;
 use reg_bank::MemBank;
 use std::io::Print;
+use std::sync::Wait;
+use std::thread::Threads;
 use std::{env, fs};
 
 /// How many bytes a run may write.
@@ -32,7 +34,7 @@ fn main(rt: HostRuntime) -> anyhow::Result<()> {
 }
 
 // Prints what each run of a file comes to.
-fn print_runs<R: AllocGlobal + Print>(rt: &R, runs: &str) -> anyhow::Result<()> {
+fn print_runs<R: AllocGlobal + Print + Threads + Wait + Sync>(rt: &R, runs: &str) -> anyhow::Result<()> {
     let first = runs.strip_prefix(MARK).context("no run begins the file")?;
     for run in first.split("\n=== ") {
         print_run(rt, run)?;
@@ -41,7 +43,7 @@ fn print_runs<R: AllocGlobal + Print>(rt: &R, runs: &str) -> anyhow::Result<()> 
 }
 
 // Prints what a run comes to, from its name on.
-fn print_run<R: AllocGlobal + Print>(rt: &R, run: &str) -> anyhow::Result<()> {
+fn print_run<R: AllocGlobal + Print + Threads + Wait + Sync>(rt: &R, run: &str) -> anyhow::Result<()> {
     let (head, bundle) = run.split_once('\n').context("a run has no bundle")?;
     let (_name, given) = head.split_once(": ").context("a run has no words")?;
     let mut words = Vec::new(rt.alloc());
@@ -55,7 +57,7 @@ fn print_run<R: AllocGlobal + Print>(rt: &R, run: &str) -> anyhow::Result<()> {
 }
 
 // The status of the top call for these words and this bundle, and the sink that it wrote to.
-fn outcome<R: AllocGlobal>(
+fn outcome<R: AllocGlobal + Threads + Wait + Sync>(
     rt: &R,
     words: &[&str],
     bundle: &str,

@@ -1,0 +1,33 @@
+use Rattle.std.proofs.Common.{◌≡◌, ◌<◌, ◌≤◌, ℕ, List, [], ◌∷◌, Option, sym, subst, length, arith}
+use Rattle.std.specs.Prelude.{is_some, IfOk, IfErr}
+use Rattle.std.specs.List.{AllByRecursion}
+use Rattle.clk_base.proofs.Valid.{length-valid}
+use Rattle.drv_scripts.specs.declared.bundle.LockLine.{LockLine}
+use Rattle.reg_bank.specs.Locks.{most_plls}
+use Rattle.clk_run.specs.Runs.{Printed, LeftByFault}
+use Rattle.clk_run.proofs.side_by_side.run_bundle.Goals as goal
+
+-- the PLLs of a description are among those that a bank has
+locks_few : (n : ℕ) (locks : List LockLine) → n ≤ most_plls → AllByRecursion (λ l. l.clock.0 < n) locks → AllByRecursion (λ l. l.clock.0 < most_plls) locks
+locks_few n [] few all = tt
+locks_few n (l ∷ locks) few all = (let low = all.0 in omega (arith, low, few), locks_few n locks few all.1)
+
+pub arm_locks-requires : goal.arm_locks-requires
+arm_locks-requires g c =
+    let b = c.args.bundle.now in
+    subst (λ (locks : List LockLine). AllByRecursion (λ l. l.clock.0 < most_plls) locks) (sym c.as_slice.ensures)
+    (locks_few (length b.desc.defs) b.locks (length-valid b.desc.words b.desc.defs c.requires.ready.sound.valid) c.requires.ready.sound.locks)
+
+pub returns-clause-done : goal.returns-clause-done
+returns-clause-done g c =
+    subst (λ (contents : Option (List ℕ)). IfOk c.run_armed.result (λ left. Printed c.args.bundle.now c.args.cli.now contents (g.K.Sink.written c.args.out.now) (g.K.Sink.written c.run_armed.new.out) (g.B.Bank.contents left)))
+    c.arm_locks.ensures.words c.run_armed.ensures.done
+
+pub returns-clause-told : goal.returns-clause-told
+returns-clause-told g c =
+    subst (λ (contents : Option (List ℕ)). IfOk c.run_armed.result (λ left. is_some (g.B.Bank.contents left) ≡ is_some contents)) c.arm_locks.ensures.words c.run_armed.ensures.told
+
+pub returns-clause-fault : goal.returns-clause-fault
+returns-clause-fault g c =
+    subst (λ (contents : Option (List ℕ)). IfErr c.run_armed.result (LeftByFault c.args.bundle.now c.args.cli.now (is_some contents) (g.K.Sink.written c.args.out.now) (g.K.Sink.written c.run_armed.new.out)))
+    c.arm_locks.ensures.words c.run_armed.ensures.fault
