@@ -8,7 +8,7 @@ use Rattle.clk_base.specs.declared.command.Command.{Command}
 use Rattle.clk_base.specs.declared.event.Entry.{Entry}
 use Rattle.clk_model.specs.Journal.{Legal}
 use Rattle.clk_model.specs.Ordered.{after_boot}
-use Rattle.clk_machine.specs.Fit.{has_earlier_parents}
+use Rattle.clk_machine.specs.Fit.{has_earlier_parents, keeps_parents}
 use Rattle.clk_machine.specs.Run.{Run, in_flight}
 use Rattle.tier_lock.specs.Known.{first_known}
 use Rattle.clk_framework.specs.declared.opened.Opened.{Opened}
@@ -27,7 +27,7 @@ pub record AreRunnable (defs : Description) (boot : List Command) (drivers : Lis
   pub earlier : EachClock defs (has_earlier_parents defs)
   pub boot_is : boot ≡ boot_of (length defs)
   pub placed : AllByRecursion (IsScript (length defs)) drivers
-  pub built : AllByRecursion (λ s. are_built s.commands ≡ true) drivers
+  pub built : AllByRecursion (λ s. are_built (keeps_parents defs) s.commands ≡ true) drivers
 
 -- driver 0 of a framework with this lock, which has made no call and no driver, and has a credit for each command of scripts that can be run
 pub record CanStart (table : TableId) (first : DriverView) (boot : List Command) (drivers : List Script) : Type 0 where
