@@ -39,9 +39,9 @@ turns_first boot scripts [] journal turns = absurd turns
 turns_first boot scripts (a ∷ answers) journal turns =
     boot_before turns.entries journal record { rest = turns.rest; whole = turns.split }
     (ap (λ (j : List Entry). own j 0) turns.split ∙ own-append turns.entries turns.rest 0
-        ∙ ap (λ (xs : List Entry). xs ++ own turns.rest 0) (own_all 0 false turns.entries turns.own)
-        ∙ ap (λ (xs : List Entry). turns.entries ++ xs) (none_earlier 1 0 scripts answers turns.rest (omega arith) turns.later)
-        ∙ append-nil turns.entries)
+    ∙ ap (λ (xs : List Entry). xs ++ own turns.rest 0) (own_all 0 false turns.entries turns.own)
+    ∙ ap (λ (xs : List Entry). turns.entries ++ xs) (none_earlier 1 0 scripts answers turns.rest (omega arith) turns.later)
+    ∙ append-nil turns.entries)
 
 pub in_order : (mode : Mode) (scripts : List (List Command)) (order : List ℕ) (journal : List Entry) → Ordered scripts order journal → boot_first journal ≡ true
     → InOrder mode scripts order journal

@@ -64,12 +64,7 @@ fn run_framework<B: Bank + Send + Sync, R: Threads + Wait + Sync, Q: Pause + Syn
 }
 
 // Runs a bundle over a bank and prints the run. The bank comes back.
-fn run_armed<
-    K: Sink,
-    B: Bank + Send + Sync,
-    R: Threads + Wait + Sync,
-    Q: Pause + Sync,
->(
+fn run_armed<K: Sink, B: Bank + Send + Sync, R: Threads + Wait + Sync, Q: Pause + Sync>(
     rt: &R,
     alloc: Global,
     bundle: &Bundle,
@@ -95,12 +90,7 @@ fn run_armed<
 }
 
 // Arms the locks of a bank, runs a bundle over it and prints the run. The bank comes back.
-fn run_bundle<
-    K: Sink,
-    B: Bank + Send + Sync,
-    R: Threads + Wait + Sync,
-    Q: Pause + Sync,
->(
+fn run_bundle<K: Sink, B: Bank + Send + Sync, R: Threads + Wait + Sync, Q: Pause + Sync>(
     rt: &R,
     alloc: Global,
     bundle: &Bundle,

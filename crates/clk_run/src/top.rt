@@ -46,14 +46,7 @@ pub fn clkbench<
     K: Sink,
     B: Bank + Send + Sync,
     Q: Pause + Sync,
->(
-    rt: &R,
-    words: &'w [&'w str],
-    input: &mut S,
-    out: &mut K,
-    bank: B,
-    pause: &Q,
-) -> (u8, Option<B>)
+>(rt: &R, words: &'w [&'w str], input: &mut S, out: &mut K, bank: B, pause: &Q) -> (u8, Option<B>)
     // The bank has all words that a bundle may name.
     requires room { 65536 ≤ B.size bank }
     // The status is 0, 1, 2, 3, 4 or 5.

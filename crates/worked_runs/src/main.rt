@@ -34,7 +34,10 @@ fn main(rt: HostRuntime) -> anyhow::Result<()> {
 }
 
 // Prints what each run of a file comes to.
-fn print_runs<R: AllocGlobal + Print + Threads + Wait + Sync>(rt: &R, runs: &str) -> anyhow::Result<()> {
+fn print_runs<R: AllocGlobal + Print + Threads + Wait + Sync>(
+    rt: &R,
+    runs: &str,
+) -> anyhow::Result<()> {
     let first = runs.strip_prefix(MARK).context("no run begins the file")?;
     for run in first.split("\n=== ") {
         print_run(rt, run)?;
@@ -43,7 +46,10 @@ fn print_runs<R: AllocGlobal + Print + Threads + Wait + Sync>(rt: &R, runs: &str
 }
 
 // Prints what a run comes to, from its name on.
-fn print_run<R: AllocGlobal + Print + Threads + Wait + Sync>(rt: &R, run: &str) -> anyhow::Result<()> {
+fn print_run<R: AllocGlobal + Print + Threads + Wait + Sync>(
+    rt: &R,
+    run: &str,
+) -> anyhow::Result<()> {
     let (head, bundle) = run.split_once('\n').context("a run has no bundle")?;
     let (_name, given) = head.split_once(": ").context("a run has no words")?;
     let mut words = Vec::new(rt.alloc());

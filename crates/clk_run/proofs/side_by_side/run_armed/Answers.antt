@@ -46,7 +46,7 @@ returns-in_err-print_core-clause-fault g c =
     let left = LeftByFault b cli (is_some contents) (g.K.Sink.written c.args.out.now) (g.K.Sink.written c.print_core.new.out) in
     rw p.1 (subst left (sym p.2)
     (printed_front b cli (is_some contents) c.in_ok-core.core _ _ _ (threads_told b cli.ignore_unused contents c.in_ok-core.answers.items c.in_ok-core.core c.in_ok-core.ensures)
-        c.in_err-print_core.ensures.prints))
+    c.in_err-print_core.ensures.prints))
 
 pub returns-in_err-print_core-clause-counts : goal.returns-in_err-print_core-clause-counts
 returns-in_err-print_core-clause-counts g c =
