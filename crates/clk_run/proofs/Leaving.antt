@@ -15,7 +15,7 @@ use Rattle.clk_summary.specs.Tables.{IsTable, IsSummary}
 use Rattle.drv_scripts.specs.declared.bundle.Bundle.{Bundle}
 use Rattle.clk_cli.specs.declared.cli.Cli.{Cli}
 use Rattle.clk_machine.specs.Run.{Run}
-use Rattle.clk_run.specs.Outcomes.{status_of}
+use Rattle.clk_run.specs.Outcomes.{status_of, GivesBundle, Short}
 use Rattle.clk_run.specs.Cores.{HasCalls, PrintsRun, HasPrinted}
 use Rattle.clk_run.specs.Runs.{drivers_in, scripts_of, opening_of, IsTextOf, PrintedFront, LeftByFault}
 use Rattle.clk_run.specs.Texts.{run_text}
@@ -126,3 +126,10 @@ pub front_by : (b : Bundle) (cli : Cli) (told : Bool) (old new : Option (List �
     → PrintedFront b cli told old new
 front_by b cli told old new print_fault.Write status left is five = left
 front_by b cli told old new print_fault.NoMemory status left is five = absurd (omega (arith, is, five))
+
+-- and with status 3 nothing was printed, or such a front
+pub short_by : (b : Bundle) (cli : Cli) (told : Bool) (left left' old new : Option (List ℕ)) (fault : PrintFault) (status : ℕ) → GivesBundle left left' b
+    → LeftByFault b cli told old new fault → status ≡ status_of fault → status ≡ 3 → Short cli told left left' old new
+short_by b cli told left left' old new print_fault.Write status gives by is three = absurd (omega (arith, is, three))
+short_by b cli told left left' old new print_fault.NoMemory status gives (inl same) is three = inl same
+short_by b cli told left left' old new print_fault.NoMemory status gives (inr front) is three = inr (inl (b, gives, front))

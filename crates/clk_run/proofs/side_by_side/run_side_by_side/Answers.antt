@@ -2,7 +2,7 @@ use Rattle.std.proofs.Common.{inl, subst}
 use Rattle.clk_run.specs.Outcomes.{StopsReading}
 use Rattle.std.specs.Prelude.{is_some}
 use Rattle.clk_run.proofs.Deciding.{gives_decides, refuses_decides}
-use Rattle.clk_run.proofs.Leaving.{front_by}
+use Rattle.clk_run.proofs.Leaving.{front_by, short_by}
 use Rattle.clk_run.proofs.side_by_side.run_side_by_side.Goals as goal
 
 pub returns-in-Ok-run_bundle-clause-decided : goal.returns-in-Ok-run_bundle-clause-decided
@@ -16,6 +16,12 @@ returns-in-Ok-clause-unwritten g c = λ five.
       front_by c.in-Ok.bundle c.args.cli.now (is_some (g.B.Bank.contents c.args.bank)) (g.K.Sink.written c.args.out.now) (g.K.Sink.written c.run_bundle.new.out)
           c.in-Err.fault c.status_of.result c.in-Err.ensures.fault c.status_of.ensures five,
     )
+
+pub returns-in-Ok-clause-short : goal.returns-in-Ok-clause-short
+returns-in-Ok-clause-short g c = λ three.
+    short_by c.in-Ok.bundle c.args.cli.now (is_some (g.B.Bank.contents c.args.bank)) (g.S.Source.left c.args.input.now) (g.S.Source.left c.take_bundle.new.input)
+    (g.K.Sink.written c.args.out.now) (g.K.Sink.written c.run_bundle.new.out) c.in-Err.fault c.status_of.result c.in-Ok.ensures.gives c.in-Err.ensures.fault
+    c.status_of.ensures three
 
 pub returns-in-Ok-print_refusal-clause-decided : goal.returns-in-Ok-print_refusal-clause-decided
 returns-in-Ok-print_refusal-clause-decided g c =
