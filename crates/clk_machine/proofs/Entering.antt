@@ -25,7 +25,7 @@ use Rattle.clk_model.proofs.JournalCauseLaws.{journals_have_causes}
 use Rattle.clk_model.proofs.JournalLaws.{replay-append, Legal-append}
 use Rattle.clk_machine.specs.Fit.{CanRun, keeps_parents}
 use Rattle.clk_machine.specs.InFlight.{changes_rate}
-use Rattle.clk_machine.specs.Sound.{IsSound, IsPlaced, takes_memory, leaves_links, CanTake}
+use Rattle.clk_machine.specs.Sound.{IsSound, IsPlaced, takes_memory, links_well, CanTake}
 use Rattle.clk_machine.specs.Parts.{Parts, rows_from, steps_left}
 use Rattle.clk_machine.proofs.Flying.{never_flown, none_left}
 use Rattle.std.specs.Prelude.{if◌then◌else◌}
@@ -159,12 +159,15 @@ begun_along old new words log log' d what t run enters can most entries taken = 
 
 -- and a step
 pub stepped : (old new : Parts) (words : List ℕ) (log log' : Logged) (d : ℕ) (m : Micro) (answer : Option Bool) (t : Turn) → IsRun old words log
-    → Enters old d (event.Step m answer) t new → leaves_links m ≡ true → log'.entries ≡ log.entries ++ entry_of d (event.Step m answer) t ∷ [] → log'.room + 1 ≡ log.room
+    → Enters old d (event.Step m answer) t new → links_well old.desc.defs old.tree.clocks m ≡ true → log'.entries ≡ log.entries ++ entry_of d (event.Step m answer) t ∷ [] → log'.room + 1 ≡ log.room
     → IsEntered old new words log log' d (event.Step m answer) t
 stepped old new words log log' d m answer t run enters leaves entries taken = record {
   run = run;
   enters = enters;
-  can = λ told. leaves;
+  can = λ told.
+      let s : State = state_of old words log in
+      let stands = run.stands told in
+      ap (λ (ds : Description). links_well ds s.clocks m) stands.defs ∙ ap (λ (rs : List ClockRow). links_well old.desc.defs rs m) stands.clocks ∙ leaves;
   entries = entries;
   room =
       let before = run.room in

@@ -11,6 +11,8 @@ pub mod Fitting
 pub mod Shapes
 pub mod Soundness
 pub mod Kept
+pub mod Relinked
+pub mod Settling
 pub mod Attaching
 pub mod Attached
 pub mod CallEvents
