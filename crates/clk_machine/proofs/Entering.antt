@@ -24,7 +24,7 @@ use Rattle.clk_model.proofs.EndCauseLaws.{going_leaves_changes}
 use Rattle.clk_model.proofs.JournalCauseLaws.{journals_have_causes}
 use Rattle.clk_model.proofs.JournalLaws.{replay-append, Legal-append}
 use Rattle.clk_machine.specs.Fit.{CanRun, keeps_parents}
-use Rattle.clk_machine.specs.InFlight.{changes_rate}
+use Rattle.clk_machine.specs.InFlight.{asks_rate, changes_rate}
 use Rattle.clk_machine.specs.Sound.{IsSound, IsPlaced, takes_memory, links_well, CanTake}
 use Rattle.clk_machine.specs.Parts.{Parts, rows_from, steps_left}
 use Rattle.clk_machine.proofs.Flying.{never_flown, none_left}
@@ -326,17 +326,25 @@ list_all-agree p q [] same = refl
 list_all-agree p q (x ∷ xs) same = ap (λ (b : Bool). b && list_all p xs) (same x) ∙ ap (λ (b : Bool). q x && b) (list_all-agree p q xs same)
 
 -- a change of rate takes memory, and can be made where each clock keeps its parent
-pub takes_room : (what : Sleeping) → changes_rate what ≡ true → takes_memory what ≡ true
+pub takes_room : (what : Sleeping) → asks_rate what ≡ true → takes_memory what ≡ true
 takes_room (call.SetRate h x) e = refl
 takes_room (call.SetRateExclusive h x) e = refl
 takes_room (call.SetRange h least most) e = refl
 takes_room _ e = absurd cc
 
-pub keeps_built : (m : Parts) (words : List ℕ) (log : Logged) (what : Sleeping) → changes_rate what ≡ true → can_make (run_of m words log) what ≡ true → keeps_parents m.desc.defs ≡ true
+pub keeps_built : (m : Parts) (words : List ℕ) (log : Logged) (what : Sleeping) → asks_rate what ≡ true → can_make (run_of m words log) what ≡ true → keeps_parents m.desc.defs ≡ true
 keeps_built m words log (call.SetRate h x) e built = built
 keeps_built m words log (call.SetRateExclusive h x) e built = built
 keeps_built m words log (call.SetRange h least most) e built = built
 keeps_built m words log _ e built = absurd cc
+
+-- a call that can be made and asks for no rate changes none
+pub other_stays : (run : Run) (what : Sleeping) → asks_rate what ≡ false → can_make run what ≡ true → changes_rate what ≡ false
+other_stays run (call.SetRate h x) e built = absurd cc
+other_stays run (call.SetRateExclusive h x) e built = absurd cc
+other_stays run (call.SetRange h least most) e built = absurd cc
+other_stays run (call.SetParent h p) e built = absurd cc
+other_stays run _ e built = refl
 
 -- a clock is registered where it was probed, so a call that can be made is built
 pub can_begin : (m : Parts) (words : List ℕ) (log : Logged) (what : Sleeping) → IsRun m words log

@@ -175,6 +175,18 @@ impl<B: Bank> Machine<B> {
                 self.tell(step);
                 going_on(step, None)
             }
+            Work::Relink(clock, parent) => {
+                self.relink(clock, parent);
+                going_on(Micro::Relink(clock, parent), None)
+            }
+            Work::Select(clock, place) => {
+                self.select(clock, place);
+                going_on(Micro::WriteMux(clock, place), None)
+            }
+            Work::Settle(clock) => {
+                self.settle(clock);
+                going_on(Micro::Settle(clock), None)
+            }
             Work::Visit(clock) => {
                 self.visit(clock);
                 going_on(Micro::Visit(clock), None)
