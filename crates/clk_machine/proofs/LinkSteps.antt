@@ -1,5 +1,5 @@
 -- A new link, a mux that selects, and last requests that settle: each takes the parts of a core on.
-use Rattle.std.proofs.Common.{◌≡◌, ℕ, ◌<◌, ◌-◌, ◌^◌, ◌&&◌, ◌⊎◌, inl, inr, Bool, true, false, List, [], ◌∷◌, Option, Some, None, refl, sym, ap, subst, ◌∙◌, length, set, nat_lt, arith}
+use Rattle.std.proofs.Common.{◌≡◌, ℕ, ◌<◌, ◌-◌, ◌^◌, ◌⊎◌, inl, inr, true, false, List, [], ◌∷◌, Option, Some, None, refl, sym, ap, subst, ◌∙◌, length, set, nat_lt, arith}
 use Rattle.std.specs.Prelude.{is_some, slice_index, IfSome}
 use Rattle.std.specs.Option.{option_map, option_map_or}
 use Rattle.std.proofs.lemmas.Bool.Decides.{nat_tests}
@@ -17,8 +17,8 @@ use Rattle.clk_model.specs.Chain.{linked}
 use Rattle.clk_model.specs.Kinds.{mux_field}
 use Rattle.clk_model.specs.Lists.{is_in, to_front}
 use Rattle.clk_model.specs.Rate.{rate}
-use Rattle.clk_model.specs.State.{State, Change, registered, link_in, requested}
-use Rattle.clk_model.specs.Step.{settle_all, passed_over}
+use Rattle.clk_model.specs.State.{State, registered, link_in, requested}
+use Rattle.clk_model.specs.Step.{settle_all}
 use Rattle.clk_model.specs.Tree.{children, path}
 use Rattle.clk_model.specs.Walk.{below_within}
 use Rattle.clk_model.proofs.ApartLaws.{mux_is_field}
@@ -34,19 +34,17 @@ use Rattle.clk_tree.specs.TreeState.{TreeState, IsTree}
 use Rattle.clk_tree.proofs.Freshness.{below_by_path}
 use Rattle.counts_core.specs.Counted.{CountState, AreCounts, HasLinks}
 use Rattle.rate_planner.specs.Settings.{put_field}
-use Rattle.clk_machine.specs.InFlight.{can_link}
 use Rattle.clk_machine.specs.Making.{ComesFirst}
-use Rattle.clk_machine.specs.Parts.{Parts, bare, IsWhole, AreTied, AreKept}
+use Rattle.clk_machine.specs.Parts.{Parts, bare, IsWhole, AreKept}
 use Rattle.clk_machine.specs.Settling.{settled_rows}
-use Rattle.clk_machine.specs.Sound.{IsSound}
-use Rattle.clk_machine.specs.Stands.{Stands, Enters}
+use Rattle.clk_machine.specs.Stands.{Enters}
 use Rattle.clk_machine.specs.Window.{Shown, AreTold}
 use Rattle.clk_machine.proofs.Holdings.{StandsFor-like, StandsFor-same, StandsFor-linked}
 use Rattle.clk_machine.proofs.Moving.{clock_within}
 use Rattle.clk_machine.proofs.Relinked.{linked_there, place_fits}
-use Rattle.clk_machine.proofs.Relinking.{relinks, Relinked, DoesTo, with_relinked, own_step_of, can_now, relinked_enters}
+use Rattle.clk_machine.proofs.Relinking.{relinks, Relinked, with_relinked, own_step_of, can_now, relinked_enters}
 use Rattle.clk_machine.proofs.SettledRows.{links_settled, there_settled}
-use Rattle.clk_machine.proofs.Stepping.{IsNext, relinks_one, writes_one, settles_one}
+use Rattle.clk_machine.proofs.Stepping.{relinks_one, writes_one, settles_one}
 use Rattle.clk_machine.proofs.Unmoved.{passed_none, relink_still, settled_still}
 
 -- what is known of the flight where a step comes next and was made

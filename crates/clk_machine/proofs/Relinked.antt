@@ -1,6 +1,6 @@
 -- What is kept so far stays so where a registered clock gets a link to a possible parent, a linked mux selects another one, and last requests
 -- are settled.
-use Rattle.std.proofs.Common.{◌≡◌, ℕ, ◌<◌, ◌≤◌, ◌^◌, ◌&&◌, ◌⊎◌, inl, inr, Bool, true, false, not, List, [], ◌∷◌, Option, Some, None, refl, sym, ap, subst, ◌∙◌, length, nat_le, nat_lt, arith}
+use Rattle.std.proofs.Common.{◌≡◌, ℕ, ◌<◌, ◌≤◌, ◌^◌, ◌⊎◌, inl, inr, Bool, true, false, not, List, [], ◌∷◌, Option, Some, None, refl, sym, ap, subst, ◌∙◌, length, nat_le, arith}
 use Rattle.std.specs.Prelude.{is_some}
 use Rattle.std.specs.List.{list_all}
 use Rattle.std.proofs.Math.Path.{fun_ext}
@@ -15,7 +15,7 @@ use Rattle.clk_model.specs.declared.row.ClockRow.{ClockRow}
 use Rattle.clk_model.specs.Chain.{clock_id, linked}
 use Rattle.clk_model.specs.Kinds.{mux_field}
 use Rattle.clk_model.specs.Lists.{is_in, to_front, without}
-use Rattle.clk_model.specs.State.{State, Change, row_of, registered, link_in}
+use Rattle.clk_model.specs.State.{State, row_of, registered, link_in}
 use Rattle.clk_model.specs.Step.{settle_all}
 use Rattle.clk_model.specs.Tree.{selected}
 use Rattle.clk_model.proofs.ApartLaws.{mux_is_field, ranges_hold}

@@ -1,6 +1,6 @@
 -- What the steps that give a clock another parent make of the parts of a core.
-use Rattle.std.proofs.Common.{◌≡◌, ℕ, ◌+◌, ◌<◌, ◌≤◌, ◌&&◌, Bool, cond, ◌||◌, true, false, nat_eq, nat_lt, List, [], ◌∷◌, Option, Some, None, refl, sym, ap, subst, ◌∙◌, length, set, arith}
-use Rattle.std.specs.Prelude.{is_some, slice_get, IfSome, if◌then◌else◌}
+use Rattle.std.proofs.Common.{◌≡◌, ℕ, ◌+◌, ◌<◌, ◌&&◌, Bool, ◌||◌, true, false, nat_eq, nat_lt, List, [], ◌∷◌, Option, Some, None, refl, sym, ap, subst, ◌∙◌, length, arith}
+use Rattle.std.specs.Prelude.{is_some, slice_get, if◌then◌else◌}
 use Rattle.std.specs.List.{list_all}
 use Rattle.std.specs.Option.{option_map_or}
 use Rattle.std.proofs.Math.Path.{fun_ext}
@@ -14,12 +14,11 @@ use Rattle.clk_base.specs.declared.event.Turn.TheVariants as turn
 use Rattle.clk_base.specs.Description.{Description, kind_of, parents_of}
 use Rattle.reg_bank.specs.Registers.{Registers}
 use Rattle.clk_model.specs.declared.row.ClockRow.{ClockRow}
-use Rattle.clk_model.specs.declared.row.HandleRow.{HandleRow}
-use Rattle.clk_model.specs.State.{State, Change, NotifierRow, registered, link_in}
+use Rattle.clk_model.specs.State.{State, Change, registered, link_in}
 use Rattle.clk_model.specs.Kinds.{mux_field}
 use Rattle.clk_model.specs.Lists.{is_in}
 use Rattle.clk_model.specs.Machine.{next}
-use Rattle.clk_model.specs.Step.{todo, taken, rest_of, is_end}
+use Rattle.clk_model.specs.Step.{taken, rest_of, is_end}
 use Rattle.clk_model.proofs.Members.{both_left, both_right}
 use Rattle.clk_flight.specs.declared.front.Front.{Front}
 use Rattle.clk_flight.specs.declared.front.Front.TheVariants.{Empty, Poll, Raise, Lower, Falls, Posts}
@@ -28,16 +27,16 @@ use Rattle.clk_flight.specs.Fronts.{front_behind, script_behind}
 use Rattle.clk_flight.specs.LeftOver.{left_over}
 use Rattle.clk_flight.specs.Moves.{gone_on}
 use Rattle.clk_flight.specs.Steps.{GoesOn, LeavesLessAt, is_taken}
-use Rattle.clk_tree.specs.TreeState.{TreeState, IsTree}
+use Rattle.clk_tree.specs.TreeState.{TreeState}
 use Rattle.counts_core.specs.Counted.{CountState, AreCounts}
 use Rattle.counts_core.specs.Standing.{StandsFor}
 use Rattle.clk_machine.specs.declared.course.Notified.{Notified}
 use Rattle.clk_machine.specs.Course.{TellsAlong, tells_all, begins_with, behind_visit, visited_by, notifiers_at}
-use Rattle.clk_machine.specs.InFlight.{IsUnderWay, changes_rate, can_link, may_make, is_script, is_front}
+use Rattle.clk_machine.specs.InFlight.{IsUnderWay, changes_rate, can_link, may_make, is_front}
 use Rattle.clk_machine.specs.Making.{ComesFirst}
 use Rattle.clk_machine.specs.Parts.{Parts, bare, IsWhole, IsFlown, AreTied, rows_from}
 use Rattle.clk_machine.specs.Sound.{IsSound}
-use Rattle.clk_machine.specs.Stands.{Stands, Leads, Enters}
+use Rattle.clk_machine.specs.Stands.{Stands, Enters}
 use Rattle.clk_machine.specs.Window.{Shown}
 use Rattle.clk_machine.proofs.Holdings.{StandsFor-same}
 use Rattle.clk_machine.proofs.InFlight.{own_going, script_rest, first_seeks}

@@ -1,5 +1,5 @@
 -- Settling clock by clock, in whichever order.
-use Rattle.std.proofs.Common.{◌≡◌, ℕ, zero, suc, ◌+◌, ◌<◌, ◌≤◌, ◌⊎◌, inl, inr, Bool, true, false, List, [], ◌∷◌, ◌++◌, Option, Some, None, refl, sym, ap, subst, ◌∙◌, length, set, append-nil, arith}
+use Rattle.std.proofs.Common.{◌≡◌, ℕ, zero, suc, ◌+◌, ◌<◌, ◌≤◌, ◌⊎◌, inl, inr, true, List, [], ◌∷◌, ◌++◌, Option, Some, None, refl, sym, ap, subst, ◌∙◌, length, set, append-nil, arith}
 use Rattle.std.specs.Prelude.{slice_get, slice_index, take}
 use Rattle.std.specs.List.{flat_map}
 use Rattle.std.specs.Option.{option_map}
@@ -9,7 +9,6 @@ use Rattle.clk_model.specs.Lists.{is_at, is_in}
 use Rattle.clk_model.proofs.StateLaws.{row_of-set_other}
 use Rattle.std.proofs.lemmas.Grind.{flat_map-append}
 use Rattle.clk_base.specs.declared.clock.ClockId.{ClockId}
-use Rattle.clk_base.specs.Description.{Description}
 use Rattle.clk_model.specs.declared.row.ClockRow.{ClockRow}
 use Rattle.clk_model.specs.State.{row_of, registered, link_in, requested}
 use Rattle.clk_model.specs.Tree.{children}

@@ -15,7 +15,6 @@ use Rattle.clk_model.specs.Wired.{LinksArePossible}
 use Rattle.clk_model.specs.Laws.LinksKept.{KeepsLinks, IsWiredOver}
 use Rattle.clk_model.specs.Laws.RunsFed.{IsSettled}
 use Rattle.clk_model.specs.Laws.RunsEnd.{HasRoom}
-use Rattle.clk_model.proofs.PllLaws.{selected_possible}
 use Rattle.clk_model.proofs.GatesFollowLaws.{blank_registered, blank_link}
 use Rattle.clk_model.proofs.JournalLaws.{replay-append}
 use Rattle.clk_model.proofs.LinkLaws.{runs_keep_links, runs_are_wired}

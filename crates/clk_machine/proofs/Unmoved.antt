@@ -1,5 +1,5 @@
 -- A new link moves no gate where nothing is held for the change in flight: its clock isn't prepared.
-use Rattle.std.proofs.Common.{◌≡◌, ℕ, ◌+◌, ◌<◌, ◌&&◌, ◌||◌, ◌⊎◌, inl, inr, Bool, cond, true, false, not, List, [], ◌∷◌, ◌++◌, Option, Some, None, refl, sym, ap, subst, ◌∙◌, length, map, arith}
+use Rattle.std.proofs.Common.{◌≡◌, ℕ, ◌<◌, ◌&&◌, ◌||◌, ◌⊎◌, inl, inr, Bool, cond, true, false, List, [], ◌∷◌, ◌++◌, Option, Some, None, refl, sym, ap, subst, ◌∙◌, length}
 use Rattle.std.specs.Prelude.{is_some, filter}
 use Rattle.std.proofs.Math.Path.{fun_ext}
 use Rattle.clk_base.specs.Flags.{is_critical}
@@ -8,15 +8,14 @@ use Rattle.std.specs.Option.{option_map_or}
 use Rattle.clk_base.specs.declared.call.Micro.{Micro}
 use Rattle.clk_base.specs.declared.call.Micro.TheVariants as micro
 use Rattle.clk_base.specs.declared.clock.ClockId.{ClockId}
-use Rattle.clk_base.specs.Description.{Description, kind_of, parents_of}
+use Rattle.clk_base.specs.Description.{kind_of, parents_of}
 use Rattle.clk_base.specs.Fields.{Field}
 use Rattle.clk_base.specs.Levels.{depth}
-use Rattle.clk_model.specs.Chain.{clock_id, linked}
+use Rattle.clk_model.specs.Chain.{linked}
 use Rattle.clk_model.specs.Holders.{active, prepared, clocks_of, critical_clocks, enable_holders, is_enabled}
-use Rattle.clk_model.specs.Journal.{opening, replay}
 use Rattle.clk_model.specs.Kinds.{mux_field}
 use Rattle.clk_model.specs.Lists.{is_in, to_front, count_from, same_place}
-use Rattle.clk_model.specs.State.{State, Change, registered, link_in}
+use Rattle.clk_model.specs.State.{State, Change, link_in}
 use Rattle.clk_model.specs.Step.{passed_over, settle, settle_all}
 use Rattle.clk_model.specs.Tree.{children, path}
 use Rattle.clk_model.specs.Walk.{below_within}
@@ -32,7 +31,6 @@ use Rattle.clk_model.proofs.RunsFedLaws as fed
 use Rattle.clk_model.proofs.SafeRunLaws as runs
 use Rattle.clk_model.proofs.Scenes.{Scene, scene, fed_by, prepared_in, after, GoesWell, InCall, calm, raising}
 use Rattle.clk_model.proofs.Scenes as scenes
-use Rattle.clk_model.proofs.StandLaws as stand
 use Rattle.clk_model.proofs.WholePathLaws.{same_or_not, linked_same, linked_other}
 use Rattle.clk_machine.specs.Sound.{IsReached}
 use Rattle.clk_machine.proofs.Relinked.{linked_there, settled_there}

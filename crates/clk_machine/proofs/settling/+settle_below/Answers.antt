@@ -1,10 +1,9 @@
 -- The clock, then child by child all that is below it.
-use Rattle.std.proofs.Common.{◌≡◌, ℕ, suc, ◌-◌, ◌+◌, ◌≤◌, ◌<◌, length, sym, ap, subst, ◌∙◌, arith, Some, None, Option}
+use Rattle.std.proofs.Common.{◌≡◌, ℕ, suc, ◌-◌, ◌+◌, ◌≤◌, ◌<◌, length, sym, ap, subst, ◌∙◌, arith, Some, Option}
 use Rattle.clk_base.specs.declared.clock.ClockId.{ClockId}
 use Rattle.clk_base.specs.Description.{Description}
 use Rattle.clk_model.specs.State.{requested}
 use Rattle.clk_model.specs.Tree.{children}
-use Rattle.clk_tree.specs.TreeState.{TreeState}
 use Rattle.clk_machine.proofs.SettledRows.{Settling, settling_begins, settling_goes, settling_done, settling_inside, none_next, few_children}
 use Rattle.clk_machine.proofs.settling.+settle_below.Goals as goal
 

@@ -1,11 +1,10 @@
-use Rattle.std.proofs.Common.{◌≡◌, ◌<◌, true, Option, Some, refl, sym, ap, subst, ◌∙◌, length, List, ℕ}
+use Rattle.std.proofs.Common.{◌≡◌, true, Some, refl, sym, ap, subst, ◌∙◌, List}
 use Rattle.clk_base.specs.declared.call.Micro.TheVariants as micro
-use Rattle.clk_base.specs.Description.{Description}
-use Rattle.clk_model.specs.State.{registered, row_of}
+use Rattle.clk_model.specs.State.{row_of}
 use Rattle.clk_model.specs.declared.row.ClockRow.{ClockRow}
 use Rattle.clk_flight.specs.Flights.{own_step}
 use Rattle.clk_machine.specs.Making.{ComesFirst}
-use Rattle.clk_machine.specs.Parts.{Parts, parts_of, IsWhole}
+use Rattle.clk_machine.specs.Parts.{Parts, parts_of}
 use Rattle.clk_machine.proofs.Moving.{clock_within}
 use Rattle.clk_model.proofs.WholePathLaws.{linked_other}
 use Rattle.clk_machine.proofs.Registering.{other_links}

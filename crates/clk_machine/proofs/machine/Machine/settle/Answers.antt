@@ -1,10 +1,9 @@
-use Rattle.std.proofs.Common.{◌≡◌, ◌<◌, true, Option, Some, refl, sym, ap, subst, ◌∙◌, length, List, ℕ}
+use Rattle.std.proofs.Common.{◌≡◌, ◌<◌, true, Some, refl, sym, ap, subst, ◌∙◌, length, ℕ}
 use Rattle.clk_base.specs.declared.call.Micro.TheVariants as micro
 use Rattle.clk_base.specs.Description.{Description}
-use Rattle.clk_model.specs.State.{registered, row_of}
 use Rattle.clk_flight.specs.Flights.{own_step}
 use Rattle.clk_machine.specs.Making.{ComesFirst}
-use Rattle.clk_machine.specs.Parts.{Parts, parts_of, IsWhole}
+use Rattle.clk_machine.specs.Parts.{Parts, parts_of}
 use Rattle.clk_machine.proofs.Moving.{clock_within}
 use Rattle.std.specs.Prelude.{slice_index}
 use Rattle.clk_model.specs.Tree.{children}
