@@ -80,7 +80,7 @@ adoptable-sound words s sound =
     (λ a m.
     let there : registered s.clocks a ≡ true = sound.attached a (is_in-filter (is_orphan s.defs s.clocks) a s.order m) in
     let loose : link_in s.clocks a ≡ None = nothing (link_in s.clocks a) (both_right (not (is_fixed (kind_of s.defs a))) _ (filter_passes (is_orphan s.defs s.clocks) a s.order m)) in
-    ap (λ (o : Option ℕ). option_map_or (λ p. true) (option_and_then (if_registered s.clocks) o) false) (sym (sound.selects a there) ∙ loose)) where
+    ap (λ (o : Option ℕ). option_map_or (λ p. true) (option_and_then (if_registered s.clocks) o) false) (sound.unselected a there loose)) where
       nothing : (o : Option ℕ) → is_none o ≡ true → o ≡ None
       nothing None e = refl
       nothing (Some p) e = absurd cc
@@ -97,7 +97,8 @@ IsNarrow-register words s c sound within free parents = record {
   attached = λ d m. by_place d (is_in_cases d c (without (c ∷ []) s.order) m);
   unlinked = λ d free'. by_row_unlinked d free' (same_or_not c d);
   parents = λ d there. by_row_parents d there (same_or_not c d);
-  selects = λ d there. by_row_selects d there (same_or_not c d);
+  possible = λ d p at. by_row_possible d p at (same_or_not c d);
+  unselected = λ d there loose. by_row_unselected d there loose (same_or_not c d);
 } where
   inside : c < length s.clocks
   inside = let rows = sound.rows in omega arith
@@ -126,6 +127,13 @@ IsNarrow-register words s c sound within free parents = record {
   by_row_parents d there (inl same) = subst (λ (k : ℕ). list_all (registered (register s c).clocks) (parents_of s.defs k) ≡ true) same (more_all (parents_of s.defs c) parents)
   by_row_parents d there (inr other) = more_all (parents_of s.defs d) (sound.parents d (was_there d other there))
 
-  by_row_selects : (d : ℕ) → registered (register s c).clocks d ≡ true → (c ≡ d) ⊎ (c ≡ d → ⊥) → link_in (register s c).clocks d ≡ selected s.defs s.regs d
-  by_row_selects d there (inl same) = subst (λ (k : ℕ). link_in (register s c).clocks k ≡ selected s.defs s.regs k) same (link_in-register_same s c inside parents)
-  by_row_selects d there (inr other) = link_in-register_other s c d other ∙ sound.selects d (was_there d other there)
+  by_row_possible : (d p : ℕ) → link_in (register s c).clocks d ≡ Some p → (c ≡ d) ⊎ (c ≡ d → ⊥) → is_in p (parents_of s.defs d) ≡ true
+  by_row_possible d p at (inl same) =
+      subst (λ (k : ℕ). is_in p (parents_of s.defs k) ≡ true) same
+      (selected_possible s.defs s.regs c p (sym (link_in-register_same s c inside parents) ∙ ap (link_in (register s c).clocks) same ∙ at))
+  by_row_possible d p at (inr other) = sound.possible d p (sym (link_in-register_other s c d other) ∙ at)
+
+  by_row_unselected : (d : ℕ) → registered (register s c).clocks d ≡ true → link_in (register s c).clocks d ≡ None → (c ≡ d) ⊎ (c ≡ d → ⊥) → selected s.defs s.regs d ≡ None
+  by_row_unselected d there loose (inl same) =
+      ap (selected s.defs s.regs) (sym same) ∙ sym (link_in-register_same s c inside parents) ∙ ap (link_in (register s c).clocks) same ∙ loose
+  by_row_unselected d there loose (inr other) = sound.unselected d (was_there d other there) (sym (link_in-register_other s c d other) ∙ loose)

@@ -1,16 +1,18 @@
 -- What a change of rate that goes on makes of the parts of a core.
-use Rattle.std.proofs.Common.{◌≡◌, ℕ, ◌+◌, ◌<◌, ◌≤◌, Bool, true, false, List, [], Option, refl, sym, ap, subst, ◌∙◌, arith, length, map, take}
-use Rattle.std.specs.Prelude.{sum_by, if◌then◌else◌}
-use Rattle.std.specs.List.{list_all}
+use Rattle.clk_machine.proofs.InFlight.{raising_bare}
+use Rattle.clk_model.proofs.Members.{or_cases, both_left, both_right}
+use Rattle.std.proofs.Common.{◌≡◌, ℕ, ◌+◌, ◌<◌, ◌≤◌, ◌&&◌, ◌||◌, inl, inr, Bool, true, false, List, [], ◌∷◌, Option, refl, sym, ap, subst, ◌∙◌, arith, length, map, take}
+use Rattle.std.specs.Prelude.{is_none, slice_get, sum_by, if◌then◌else◌}
+use Rattle.std.specs.List.{list_all, list_any}
 use Rattle.clk_base.specs.declared.call.Micro.{Micro}
+use Rattle.clk_base.specs.declared.call.Micro.TheVariants as micro
 use Rattle.clk_base.specs.declared.call.Sleeping.{Sleeping}
 use Rattle.clk_base.specs.declared.call.Sleeping.TheVariants as call
 use Rattle.clk_model.specs.State.{State, Change, NotifierRow, registered}
-use Rattle.clk_model.specs.Notices.{abort_list}
 use Rattle.clk_model.specs.Script.{plls}
-use Rattle.clk_model.specs.Step.{sets_parent}
+use Rattle.clk_model.specs.Step.{is_end}
 use Rattle.clk_model.specs.Begin.{most_credits}
-use Rattle.clk_model.specs.Laws.Paced.{is_notice}
+use Rattle.clk_model.specs.Laws.Paced.{is_notice, may_time_out}
 use Rattle.clk_flight.specs.declared.front.Front.{Front}
 use Rattle.clk_flight.specs.declared.front.Front.TheVariants.{Empty}
 use Rattle.clk_flight.specs.declared.start.Start.{Start}
@@ -20,29 +22,47 @@ use Rattle.clk_flight.specs.Fronts.{called_off}
 use Rattle.clk_flight.specs.LeftOver.{step_weight, front_weight, left_over}
 use Rattle.clk_machine.specs.Changing.{BeginsAlong, StartsChange}
 use Rattle.clk_machine.specs.Course.{CourseState, notifiers_at, tells_all, PostsFit}
-use Rattle.clk_machine.specs.InFlight.{changes_rate, may_go_on, is_script, is_front}
+use Rattle.clk_machine.specs.InFlight.{changes_rate, may_go_on, is_script, is_front, may_make, may_raise, can_link}
 use Rattle.clk_machine.specs.Parts.{Parts, bare, IsOwnCall, rows_from, IsWhole}
 use Rattle.clk_machine.proofs.Holdings.{StandsFor-same}
 use Rattle.clk_machine.proofs.Writing.{whole_spent}
 
--- a change of rate changes no parent, and may go on
-pub keeps_parent : (what : Sleeping) → changes_rate what ≡ true → sets_parent what ≡ false
-keeps_parent (call.SetRate h x) e = refl
-keeps_parent (call.SetRateExclusive h x) e = refl
-keeps_parent (call.SetRange h least most) e = refl
-keeps_parent _ e = absurd cc
+-- no step of a change of a rate or a parent may time out
+calm_step : (what : Sleeping) (there : ℕ → Bool) (m : Micro) → changes_rate what ≡ true → may_make what there m ≡ true → may_time_out m ≡ false
+calm_step what there (micro.Raise x) changes e = let no : true ≡ false = sym changes ∙ raising_bare what (both_left (may_raise what) (there x.0) e) in absurd cc
+calm_step what there (micro.Poll y) changes e = absurd cc
+calm_step what there _ changes e = refl
 
+calm_end : (m : Micro) → is_end m ≡ true → may_time_out m ≡ false
+calm_end micro.End e = refl
+calm_end _ e = absurd cc
+
+pub script_calm : (what : Sleeping) (there : ℕ → Bool) (ms : List Micro) → changes_rate what ≡ true → is_script what there ms ≡ true → list_any may_time_out ms ≡ false
+script_calm what there [] changes e = refl
+script_calm what there (m ∷ ms) changes e = elim (or_cases (is_end m && is_none (slice_get ms 0)) (may_make what there m && is_script what there ms) e) [
+  | inl last ↦
+      ap (λ (t : Bool). t || list_any may_time_out ms) (calm_end m (both_left _ _ last))
+      ∙ ap (λ (ns : List Micro). list_any may_time_out ns) (none_left_of ms (both_right _ _ last))
+  | inr more ↦
+      ap (λ (t : Bool). t || list_any may_time_out ms) (calm_step what there m changes (both_left _ _ more)) ∙ script_calm what there ms changes (both_right _ _ more)
+] where
+  none_left_of : (ns : List Micro) → is_none (slice_get ns 0) ≡ true → ns ≡ []
+  none_left_of [] is = refl
+  none_left_of (n ∷ ns) is = absurd cc
+
+-- a change of a rate or a parent may go on
 goes_on : (what : Sleeping) → changes_rate what ≡ true → may_go_on what ≡ true
 goes_on (call.SetRate h x) e = refl
 goes_on (call.SetRateExclusive h x) e = refl
 goes_on (call.SetRange h least most) e = refl
+goes_on (call.SetParent h p) e = refl
 goes_on _ e = absurd cc
 
 -- the change begins as the flight does
 pub begins_as : (ns : List NotifierRow) (d : ℕ) (what : Sleeping) (steps : List Micro) (course : CourseState) (range : Option (ℕ × ℕ)) (vetoed : Bool) (start : Start) (k : Change)
-    → changes_rate what ≡ true → start.driver ≡ d → start.call ≡ what → start.script.items ≡ steps → start.range ≡ range → start.extra ≡ 0 → start.vetoed ≡ vetoed
+    → list_any may_time_out steps ≡ false → start.driver ≡ d → start.call ≡ what → start.script.items ≡ steps → start.range ≡ range → start.extra ≡ 0 → start.vetoed ≡ vetoed
     → BeginsAlong d what steps course range vetoed k → flights.StartsAs ns start k
-begins_as ns d what steps course range vetoed start k changes driver is script range_ extra vetoed_ begins = record {
+begins_as ns d what steps course range vetoed start k calm driver is script range_ extra vetoed_ begins = record {
   driver = begins.driver_ ∙ sym driver;
   call = begins.call ∙ sym is;
   front = begins.front;
@@ -56,9 +76,7 @@ begins_as ns d what steps course range vetoed start k changes driver is script r
   calls_off = ap (λ (n : ℕ). list_all is_notice (map called_off (take n start.script.items))) extra;
   vetoed = begins.vetoed_ ∙ sym vetoed_;
   timed_out = begins.timed_out;
-  aborts = λ may.
-      ap (λ (t : Bool). if t then abort_list (record { before = k.before; outcome = k.outcome }) ns k.changing else []) (ap sets_parent begins.call ∙ keeps_parent what changes)
-      ∙ sym (ap (λ (n : ℕ). map called_off (take n start.script.items)) extra);
+  aborts = λ may. let no : true ≡ false = sym may ∙ ap (λ (ms : List Micro). list_any may_time_out ms) begins.left ∙ calm in absurd cc;
 }
 
 -- what is known of a flight that has begun so
@@ -112,8 +130,8 @@ with_change old flight' course' = record old { flight = flight'; course = course
 -- they stay whole
 pub whole_changing : (old : Parts) (d : ℕ) (what : Sleeping) (steps : List Micro) (flight' : FlightState) (course' : CourseState) → IsWhole old → old.spent < old.credits → Changing old d what steps flight'
     → changes_rate what ≡ true → IsOwnCall old.table.handles d what → is_script what (registered old.tree.clocks) steps ≡ true → tells_all (notifiers_at old.chains) steps course'.notified ≡ true
-    → old.credits + old.steps + sum_by (step_weight (rows_from 0 old.chains) (plls old.desc.defs)) steps ≤ most_credits → IsWhole (with_change old flight' course')
-whole_changing old d what steps flight' course' whole left now changes own script tells room =
+    → list_all (can_link old.desc.defs old.tree.clocks) steps ≡ true → old.credits + old.steps + sum_by (step_weight (rows_from 0 old.chains) (plls old.desc.defs)) steps ≤ most_credits → IsWhole (with_change old flight' course')
+whole_changing old d what steps flight' course' whole left now changes own script tells links room =
     let spent = whole_spent old whole left in
     let few = whole.paid.few_holds in
     let over = changing_left old (rows_from 0 old.chains) d what steps flight' now in
@@ -141,6 +159,7 @@ whole_changing old d what steps flight' course' whole left now changes own scrip
           front = subst (λ (front : Front). PostsFit (notifiers_at old.chains) front) (sym now.front) tt;
           visits = ap (λ (ms : List Micro). tells_all (notifiers_at old.chains) ms course'.notified) now.left ∙ tells;
         };
+        links = λ is. ap (λ (ms : List Micro). list_all (can_link old.desc.defs old.tree.clocks) ms) now.left ∙ links;
       };
       room = omega arith;
     }

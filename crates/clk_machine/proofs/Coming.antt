@@ -80,6 +80,9 @@ no_work what there (micro.Raise x) e h = absurd cc
 no_work what there (micro.Lower x) e h = absurd cc
 no_work what there (micro.Notify kind c id old new) e h = absurd cc
 no_work what there (micro.Visit c) e h = absurd cc
+no_work what there (micro.Relink c p) e h = absurd cc
+no_work what there (micro.WriteMux c place) e h = absurd cc
+no_work what there (micro.Settle c) e h = absurd cc
 no_work what there _ e h = absurd cc
 
 -- what stands within a list is found
@@ -154,3 +157,24 @@ pub work_visits : (o : Option Micro) (x : ClockId) → work_of o ≡ Work.Visit 
 work_visits None x e = absurd cc
 work_visits (Some (micro.Visit y)) x e = let same : y ≡ x = cc in ap (λ (z : ClockId). Some (micro.Visit z)) same
 work_visits (Some _) x e = absurd cc
+
+pub work_relinks : (o : Option Micro) (x p : ClockId) → work_of o ≡ Work.Relink x p → o ≡ Some (micro.Relink x p)
+work_relinks None x p e = absurd cc
+work_relinks (Some (micro.Relink y q)) x p e =
+    let same : y ≡ x = cc in
+    let parent : q ≡ p = cc in
+    ap (λ (z : ClockId). Some (micro.Relink z q)) same ∙ ap (λ (z : ClockId). Some (micro.Relink x z)) parent
+work_relinks (Some _) x p e = absurd cc
+
+pub work_selects : (o : Option Micro) (x : ClockId) (n : ℕ) → work_of o ≡ Work.Select x n → o ≡ Some (micro.WriteMux x n)
+work_selects None x n e = absurd cc
+work_selects (Some (micro.WriteMux y k)) x n e =
+    let same : y ≡ x = cc in
+    let place : k ≡ n = cc in
+    ap (λ (z : ClockId). Some (micro.WriteMux z k)) same ∙ ap (λ (z : ℕ). Some (micro.WriteMux x z)) place
+work_selects (Some _) x n e = absurd cc
+
+pub work_settles : (o : Option Micro) (x : ClockId) → work_of o ≡ Work.Settle x → o ≡ Some (micro.Settle x)
+work_settles None x e = absurd cc
+work_settles (Some (micro.Settle y)) x e = let same : y ≡ x = cc in ap (λ (z : ClockId). Some (micro.Settle z)) same
+work_settles (Some _) x e = absurd cc

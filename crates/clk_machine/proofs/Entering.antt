@@ -24,8 +24,8 @@ use Rattle.clk_model.proofs.EndCauseLaws.{going_leaves_changes}
 use Rattle.clk_model.proofs.JournalCauseLaws.{journals_have_causes}
 use Rattle.clk_model.proofs.JournalLaws.{replay-append, Legal-append}
 use Rattle.clk_machine.specs.Fit.{CanRun, keeps_parents}
-use Rattle.clk_machine.specs.InFlight.{changes_rate}
-use Rattle.clk_machine.specs.Sound.{IsSound, IsPlaced, takes_memory, leaves_links, CanTake}
+use Rattle.clk_machine.specs.InFlight.{asks_rate, changes_rate}
+use Rattle.clk_machine.specs.Sound.{IsSound, IsPlaced, takes_memory, links_well, CanTake}
 use Rattle.clk_machine.specs.Parts.{Parts, rows_from, steps_left}
 use Rattle.clk_machine.proofs.Flying.{never_flown, none_left}
 use Rattle.std.specs.Prelude.{if◌then◌else◌}
@@ -159,12 +159,15 @@ begun_along old new words log log' d what t run enters can most entries taken = 
 
 -- and a step
 pub stepped : (old new : Parts) (words : List ℕ) (log log' : Logged) (d : ℕ) (m : Micro) (answer : Option Bool) (t : Turn) → IsRun old words log
-    → Enters old d (event.Step m answer) t new → leaves_links m ≡ true → log'.entries ≡ log.entries ++ entry_of d (event.Step m answer) t ∷ [] → log'.room + 1 ≡ log.room
+    → Enters old d (event.Step m answer) t new → links_well old.desc.defs old.tree.clocks m ≡ true → log'.entries ≡ log.entries ++ entry_of d (event.Step m answer) t ∷ [] → log'.room + 1 ≡ log.room
     → IsEntered old new words log log' d (event.Step m answer) t
 stepped old new words log log' d m answer t run enters leaves entries taken = record {
   run = run;
   enters = enters;
-  can = λ told. leaves;
+  can = λ told.
+      let s : State = state_of old words log in
+      let stands = run.stands told in
+      ap (λ (ds : Description). links_well ds s.clocks m) stands.defs ∙ ap (λ (rs : List ClockRow). links_well old.desc.defs rs m) stands.clocks ∙ leaves;
   entries = entries;
   room =
       let before = run.room in
@@ -323,17 +326,25 @@ list_all-agree p q [] same = refl
 list_all-agree p q (x ∷ xs) same = ap (λ (b : Bool). b && list_all p xs) (same x) ∙ ap (λ (b : Bool). q x && b) (list_all-agree p q xs same)
 
 -- a change of rate takes memory, and can be made where each clock keeps its parent
-pub takes_room : (what : Sleeping) → changes_rate what ≡ true → takes_memory what ≡ true
+pub takes_room : (what : Sleeping) → asks_rate what ≡ true → takes_memory what ≡ true
 takes_room (call.SetRate h x) e = refl
 takes_room (call.SetRateExclusive h x) e = refl
 takes_room (call.SetRange h least most) e = refl
 takes_room _ e = absurd cc
 
-pub keeps_built : (m : Parts) (words : List ℕ) (log : Logged) (what : Sleeping) → changes_rate what ≡ true → can_make (run_of m words log) what ≡ true → keeps_parents m.desc.defs ≡ true
+pub keeps_built : (m : Parts) (words : List ℕ) (log : Logged) (what : Sleeping) → asks_rate what ≡ true → can_make (run_of m words log) what ≡ true → keeps_parents m.desc.defs ≡ true
 keeps_built m words log (call.SetRate h x) e built = built
 keeps_built m words log (call.SetRateExclusive h x) e built = built
 keeps_built m words log (call.SetRange h least most) e built = built
 keeps_built m words log _ e built = absurd cc
+
+-- a call that can be made and asks for no rate changes none
+pub other_stays : (run : Run) (what : Sleeping) → asks_rate what ≡ false → can_make run what ≡ true → changes_rate what ≡ false
+other_stays run (call.SetRate h x) e built = absurd cc
+other_stays run (call.SetRateExclusive h x) e built = absurd cc
+other_stays run (call.SetRange h least most) e built = absurd cc
+other_stays run (call.SetParent h p) e built = absurd cc
+other_stays run _ e built = refl
 
 -- a clock is registered where it was probed, so a call that can be made is built
 pub can_begin : (m : Parts) (words : List ℕ) (log : Logged) (what : Sleeping) → IsRun m words log

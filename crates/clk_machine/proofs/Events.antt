@@ -14,12 +14,13 @@ use Rattle.clk_base.specs.declared.event.Turn.{Turn}
 use Rattle.clk_base.specs.declared.event.Turn.TheVariants as turn
 use Rattle.clk_base.specs.declared.handle.Handle.{Handle}
 use Rattle.clk_model.specs.declared.row.HandleRow.{HandleRow}
-use Rattle.clk_model.specs.Chain.{chain}
+use Rattle.clk_model.specs.Chain.{chain, linked}
+use Rattle.clk_model.specs.Lists.{to_front}
 use Rattle.clk_model.specs.Laws.CallCauses.{with_limits}
-use Rattle.clk_model.specs.State.{State, Change, ChainStep, registered, handle_at, requested}
-use Rattle.clk_model.specs.Tree.{rooted, path, path_to_be}
+use Rattle.clk_model.specs.State.{State, Change, ChainStep, registered, link_in, handle_at, requested}
+use Rattle.clk_model.specs.Tree.{rooted, path, path_to_be, children}
 use Rattle.clk_model.specs.Script.{unprepared_plls, runs}
-use Rattle.clk_model.specs.Step.{taken, on, powered, visit, set_in_chain, to_raise, raise_one, poll, fall, to_lower, lower_one, ended_well, unranged, is_yes, stepped}
+use Rattle.clk_model.specs.Step.{taken, on, powered, visit, set_in_chain, to_raise, raise_one, poll, fall, to_lower, lower_one, passed_over, settle_all, ended_well, unranged, is_yes, stepped}
 use Rattle.clk_model.specs.Holders.{active}
 use Rattle.clk_model.specs.Gates.{settled}
 use Rattle.clk_model.specs.Begin.{refused, starts, change_of, weight_of, most_credits, put_handle, own_handle, given, register, keeps_prepare, prepare, unprepare, prepared_once_more, held_once_more, request_between, change_along, request, misses, range_set, holds_something, has_notifier, most_notifiers, begun}
@@ -31,12 +32,18 @@ use Rattle.clk_model.specs.Round.{wiring, round_rate}
 use Rattle.clk_model.specs.Views.{view, lift}
 use Rattle.clk_machine.specs.Holding.{notified, unnotified}
 use Rattle.clk_machine.proofs.CallEvents.{exclusive_get-unknown, exclusive_get-fine, exclusive_put-unknown, exclusive_put-warned, exclusive_put-fine, notifier_add-unknown, notifier_add-known, notifier_add-full, notifier_add-fine, notifier_remove-unknown, notifier_remove-lacking, notifier_remove-fine, round-unknown, round-told, round-none, probe-alone}
-use Rattle.clk_machine.specs.Sound.{IsNarrow, IsSound, leaves_links, CanTake}
+use Rattle.clk_machine.specs.Sound.{IsNarrow, IsSound, links_well, CanTake}
 use Rattle.clk_machine.proofs.Fitting.{calm_path}
 use Rattle.clk_model.proofs.FlightLaws.{begin_is, step_is}
 use Rattle.clk_model.proofs.TierLaws.{pick_either, with_handle_either}
 use Rattle.clk_machine.proofs.Soundness.{reached_next}
 use Rattle.clk_machine.proofs.Stepping.{polled_change}
+use Rattle.clk_machine.proofs.Relinked.{IsNarrow-linked, IsNarrow-written, IsNarrow-settle}
+use Rattle.clk_model.proofs.KeepLaws.{mux_written}
+use Rattle.clk_model.proofs.Members.{both_left, both_right}
+use Rattle.clk_model.specs.Walk.{below_within}
+use Rattle.clk_base.specs.Levels.{depth}
+use Rattle.clk_base.specs.Description.{parents_of}
 use Rattle.clk_machine.proofs.Attaching.{IsNarrow-register, adoptable-sound}
 use Rattle.clk_machine.proofs.Kept.{IsNarrow-spent, IsNarrow-counted, IsNarrow-notified, IsNarrow-settled, IsNarrow-change, IsNarrow-powered, IsNarrow-set, IsNarrow-handles, IsNarrow-put, IsNarrow-given, IsNarrow-requested}
 
@@ -302,7 +309,7 @@ ended_sound : (words : ℕ) (s : State) (k : Change) (b : Bool) → IsNarrow wor
 ended_sound words s k true sound = IsNarrow-handles words s (unranged s k).handles sound
 ended_sound words s k false sound = well_sound words s k.driver k.call sound
 
-stepped_sound : (words : ℕ) (s : State) (k : Change) (answer : Option Bool) (m : Micro) → IsNarrow words s → leaves_links m ≡ true → IsNarrow words (stepped s k answer m).0
+stepped_sound : (words : ℕ) (s : State) (k : Change) (answer : Option Bool) (m : Micro) → IsNarrow words s → links_well s.defs s.clocks m ≡ true → IsNarrow words (stepped s k answer m).0
 unfolding stepped
 stepped_sound words s k answer (micro.Notify kind c id old new) sound leaves = IsNarrow-change words s (Some k) sound
 stepped_sound words s k answer (micro.Raise x) sound leaves =
@@ -317,11 +324,20 @@ stepped_sound words s k answer (micro.Lower x) sound leaves =
     (λ y. IsNarrow-change words (powered s y false) (lower_one s k x.0 y).change (IsNarrow-powered words s y false sound))
     (IsNarrow-change words s (Some (record k { again = 0 })) sound)
 stepped_sound words s k answer (micro.Visit c) sound leaves = IsNarrow-change words (record s { regs = set_in_chain s k c.0 }) (visit s k c.0).change (IsNarrow-set words s k c.0 sound)
+stepped_sound words s k answer (micro.Relink c p) sound leaves =
+    IsNarrow-change words (record s { clocks = linked s.clocks c.0 p.0; order = to_front c.0 s.order; prepare_holds = passed_over p.0 (link_in s.clocks c.0) s.prepare_holds; enable_holds = passed_over p.0 (link_in s.clocks c.0) s.enable_holds }) (Some k)
+    (IsNarrow-linked words s c.0 p.0 (passed_over p.0 (link_in s.clocks c.0) s.prepare_holds) (passed_over p.0 (link_in s.clocks c.0) s.enable_holds) sound (both_left _ _ leaves) (both_right _ _ leaves))
+stepped_sound words s k answer (micro.WriteMux c place) sound leaves =
+    let few : nat_lt place (length (parents_of s.defs c.0)) ≡ true = both_right _ _ leaves in
+    IsNarrow-change words (record s { regs = mux_written s c.0 place }) (Some k) (IsNarrow-written words s c.0 place sound (both_left _ _ leaves) (grind (arith, nat_tests)))
+stepped_sound words s k answer (micro.Settle c) sound leaves =
+    IsNarrow-change words (record s { clocks = settle_all s (below_within (children s.order s.clocks) depth c.0) }) (Some k)
+    (IsNarrow-settle words s (below_within (children s.order s.clocks) depth c.0) sound)
 stepped_sound words s k answer micro.End sound leaves =
     IsNarrow-change words (if k.vetoed || k.timed_out then unranged s k else ended_well s k.driver k.call) None (ended_sound words s k (k.vetoed || k.timed_out) sound)
 stepped_sound words s k answer _ sound leaves = absurd cc
 
-step_sound : (words : ℕ) (s t : State) (d : ℕ) (m : Micro) (answer : Option Bool) (x : Turn) → IsNarrow words s → leaves_links m ≡ true → next s d (event.Step m answer) ≡ Some (t, x) → IsNarrow words t
+step_sound : (words : ℕ) (s t : State) (d : ℕ) (m : Micro) (answer : Option Bool) (x : Turn) → IsNarrow words s → links_well s.defs s.clocks m ≡ true → next s d (event.Step m answer) ≡ Some (t, x) → IsNarrow words t
 step_sound words s t d m answer x sound leaves comes =
     let is = step_is s t d m answer x comes in
     let y : State = (stepped s (taken is.0) answer m).0 in

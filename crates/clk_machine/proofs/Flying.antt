@@ -85,6 +85,7 @@ flown_written defs clocks handles handles' chains notified spent n row new f flo
       own = own_call handles n row new f.driver f.call at same flown.own;
       paid = let few = flown.paid in let sums = sum_by-set held_in_all handles n row new at in omega arith;
       tells = flown.tells;
+      links = flown.links;
     })
 
 -- and where a credit alone is spent
@@ -96,4 +97,5 @@ flown_spent defs clocks handles chains notified spent f flown = record {
   own = flown.own;
   paid = let few = flown.paid in omega arith;
   tells = flown.tells;
+  links = flown.links;
 }

@@ -139,15 +139,15 @@ StandsFor-same k s t stands defs clocks handles prepare_holds enable_holds = rec
       ∙ ap (λ (hs : List (Option HandleRow)). own_all count s.defs s.clocks hs holds c) handles
       ∙ ap (λ (held : List ℕ). own_all count s.defs s.clocks s.handles held c) same
 
--- so where the rows of clocks differ, but neither in links nor in who is registered
-pub StandsFor-like : (k : CountState) (s t : State) → StandsFor k s → t.defs ≡ s.defs → ((c : ℕ) → link_in t.clocks c ≡ link_in s.clocks c) → ((c : ℕ) → registered t.clocks c ≡ registered s.clocks c)
-    → t.handles ≡ s.handles → t.prepare_holds ≡ s.prepare_holds → t.enable_holds ≡ s.enable_holds → StandsFor k t
-StandsFor-like k s t stands defs links there handles prepare_holds enable_holds = record {
-  defs = stands.defs ∙ sym defs;
-  links = λ c. links c ∙ stands.links c;
-  enables = λ c. stands.enables c ∙ sym (own_like (λ h. h.enables) t.enable_holds s.enable_holds enable_holds c);
-  prepares = λ c. stands.prepares c ∙ sym (own_like (λ h. h.prepares) t.prepare_holds s.prepare_holds prepare_holds c);
-  exclusives = λ c. stands.exclusives c ∙ sym (ap (λ (hs : List (Option HandleRow)). sum_on (λ h. h.exclusives) hs c) handles);
+-- so do counts with other links for a state that has these, where the same clocks are registered
+pub StandsFor-linked : (k k' : CountState) (s t : State) → StandsFor k s → k'.defs ≡ k.defs → k'.enables ≡ k.enables → k'.prepares ≡ k.prepares → k'.exclusives ≡ k.exclusives → HasLinks t.clocks k'.links
+    → t.defs ≡ s.defs → ((c : ℕ) → registered t.clocks c ≡ registered s.clocks c) → t.handles ≡ s.handles → t.prepare_holds ≡ s.prepare_holds → t.enable_holds ≡ s.enable_holds → StandsFor k' t
+StandsFor-linked k k' s t stands made enables prepares exclusives links defs there handles prepare_holds enable_holds = record {
+  defs = made ∙ stands.defs ∙ sym defs;
+  links = links;
+  enables = λ c. ap (λ (xs : List ℕ). slice_index xs c) enables ∙ stands.enables c ∙ sym (own_like (λ h. h.enables) t.enable_holds s.enable_holds enable_holds c);
+  prepares = λ c. ap (λ (xs : List ℕ). slice_index xs c) prepares ∙ stands.prepares c ∙ sym (own_like (λ h. h.prepares) t.prepare_holds s.prepare_holds prepare_holds c);
+  exclusives = λ c. ap (λ (xs : List ℕ). slice_index xs c) exclusives ∙ stands.exclusives c ∙ sym (ap (λ (hs : List (Option HandleRow)). sum_on (λ h. h.exclusives) hs c) handles);
 } where
   own_like : (count : HandleRow → ℕ) (holds holds' : List ℕ) → holds ≡ holds' → (c : ℕ)
       → own_all count t.defs t.clocks t.handles holds c ≡ own_all count s.defs s.clocks s.handles holds' c
@@ -156,6 +156,12 @@ StandsFor-like k s t stands defs links there handles prepare_holds enable_holds 
       ∙ ap (λ (b : Bool). sum_on count t.handles c + cond (is_critical s.defs c && b) 1 0 + count_by (λ h. nat_eq h c) holds) (there c)
       ∙ ap (λ (hs : List (Option HandleRow)). own_all count s.defs s.clocks hs holds c) handles
       ∙ ap (λ (held : List ℕ). own_all count s.defs s.clocks s.handles held c) same
+
+-- and the same counts where the rows of clocks differ, but neither in links nor in who is registered
+pub StandsFor-like : (k : CountState) (s t : State) → StandsFor k s → t.defs ≡ s.defs → ((c : ℕ) → link_in t.clocks c ≡ link_in s.clocks c) → ((c : ℕ) → registered t.clocks c ≡ registered s.clocks c)
+    → t.handles ≡ s.handles → t.prepare_holds ≡ s.prepare_holds → t.enable_holds ≡ s.enable_holds → StandsFor k t
+StandsFor-like k s t stands defs links there handles prepare_holds enable_holds =
+    StandsFor-linked k k s t stands refl refl refl refl (λ c. links c ∙ stands.links c) defs there handles prepare_holds enable_holds
 
 -- and for a state with another handle in the place of one, where the holders change with it
 pub StandsFor-put : (k k' : CountState) (s : State) (n : ℕ) (old new : HandleRow) → StandsFor k s → handle_at s.handles n ≡ Some old

@@ -9,6 +9,7 @@ use Rattle.clk_base.specs.declared.clock.Kind.TheVariants.{FixedRate, Factor, Ga
 use Rattle.clk_base.specs.Description.{kind_of, parents_of}
 use Rattle.clk_base.specs.Fields.{Field}
 use Rattle.reg_bank.specs.Registers.{Registers, field}
+use Rattle.clk_model.specs.declared.row.ClockRow.{ClockRow}
 use Rattle.clk_model.specs.declared.row.HandleRow.{HandleRow}
 use Rattle.clk_model.specs.Lists.{count_from}
 use Rattle.clk_model.specs.State.{State, Change, NotifierRow, row_of, registered, link_in, requested}
@@ -38,7 +39,8 @@ IsNarrow-spent words s k sound = record {
   attached = sound.attached;
   unlinked = sound.unlinked;
   parents = sound.parents;
-  selects = sound.selects;
+  possible = sound.possible;
+  unselected = sound.unselected;
 }
 
 -- ---- notifiers
@@ -51,7 +53,8 @@ IsNarrow-notified words s notifiers sound = record {
   attached = sound.attached;
   unlinked = sound.unlinked;
   parents = sound.parents;
-  selects = sound.selects;
+  possible = sound.possible;
+  unselected = sound.unselected;
 }
 
 -- ---- gates
@@ -66,7 +69,8 @@ IsNarrow-settled words old new sound = record {
   attached = sound.attached;
   unlinked = sound.unlinked;
   parents = sound.parents;
-  selects = λ c there. sound.selects c there ∙ sym (selected-moved words new.defs (active old) (active new) (count_from 0 (length new.defs)) new.regs c sound.valid);
+  possible = sound.possible;
+  unselected = λ c there loose. selected-moved words new.defs (active old) (active new) (count_from 0 (length new.defs)) new.regs c sound.valid ∙ sound.unselected c there loose;
 }
 
 -- ---- a change in flight
@@ -79,7 +83,8 @@ IsNarrow-change words s k sound = record {
   attached = sound.attached;
   unlinked = sound.unlinked;
   parents = sound.parents;
-  selects = sound.selects;
+  possible = sound.possible;
+  unselected = sound.unselected;
 }
 
 -- a step counted
@@ -91,7 +96,8 @@ IsNarrow-counted words s k sound = record {
   attached = sound.attached;
   unlinked = sound.unlinked;
   parents = sound.parents;
-  selects = sound.selects;
+  possible = sound.possible;
+  unselected = sound.unselected;
 }
 
 -- power bits have no part in it
@@ -103,9 +109,9 @@ IsNarrow-powered words s y up sound = record {
   attached = sound.attached;
   unlinked = sound.unlinked;
   parents = sound.parents;
-  selects = λ c there.
-      sound.selects c there
-      ∙ sym (selected_same s.defs s.regs (powered s y up).regs c (λ f at. powered_stays s words y up c sound.valid f (mux_is_field (kind_of s.defs c) f at)));
+  possible = sound.possible;
+  unselected = λ c there loose.
+      selected_same s.defs s.regs (powered s y up).regs c (λ f at. powered_stays s words y up c sound.valid f (mux_is_field (kind_of s.defs c) f at)) ∙ sound.unselected c there loose;
 }
 
 -- the setting of a mux writes nothing
@@ -126,7 +132,8 @@ IsNarrow-set words s k c sound = record {
   attached = sound.attached;
   unlinked = sound.unlinked;
   parents = sound.parents;
-  selects = λ d there. sound.selects d there ∙ sym (selected_same s.defs s.regs (set_in_chain s k c) d (λ f at. reads d f at (nat_eq d c) refl));
+  possible = sound.possible;
+  unselected = λ d there loose. selected_same s.defs s.regs (set_in_chain s k c) d (λ f at. reads d f at (nat_eq d c) refl) ∙ sound.unselected d there loose;
 } where
   own : (f : Field) → mux_field (kind_of s.defs c) ≡ Some f → (o : Option ℕ) → option_map_or (λ planned. setting (kind_of s.defs c) (parent_rate_in (wiring s) c) planned s.regs) o s.regs ≡ s.regs
   own f at None = refl
@@ -149,7 +156,8 @@ IsNarrow-handles words s handles sound = record {
   attached = sound.attached;
   unlinked = sound.unlinked;
   parents = sound.parents;
-  selects = sound.selects;
+  possible = sound.possible;
+  unselected = sound.unselected;
 }
 
 -- a handle that changes or is put back, with the gates that follow
@@ -160,19 +168,23 @@ IsNarrow-put words s n o sound = IsNarrow-settled words s (put_handle s n o) (Is
 pub IsNarrow-given : (words : ℕ) (s : State) (d c : ℕ) → IsNarrow words s → IsNarrow words (given s d c).0
 IsNarrow-given words s d c sound = IsNarrow-handles words s (given s d c).0.handles sound
 
--- another last request of a clock
-pub IsNarrow-requested : (words : ℕ) (s : State) (c x : ℕ) → IsNarrow words s → IsNarrow words (record s { clocks = requested s.clocks c x })
-IsNarrow-requested words s c x sound = record {
+-- rows with the same links, of which the same are registered
+pub IsNarrow-rows : (words : ℕ) (s : State) (clocks : List ClockRow) → length clocks ≡ length s.clocks → ((d : ℕ) → registered clocks d ≡ registered s.clocks d) → ((d : ℕ) → link_in clocks d ≡ link_in s.clocks d)
+    → IsNarrow words s → IsNarrow words (record s { clocks = clocks })
+IsNarrow-rows words s clocks many there link sound = record {
   valid = sound.valid;
   runs = sound.runs;
-  rows = length-set s.clocks c (record (row_of s.clocks c) { last_request = x }) ∙ sound.rows;
+  rows = many ∙ sound.rows;
   attached = λ d m. there d ∙ sound.attached d m;
   unlinked = λ d free. link d ∙ sound.unlinked d (sym (there d) ∙ free);
   parents = λ d is. ap (λ (test : ℕ → Bool). list_all test (parents_of s.defs d)) (fun_ext there) ∙ sound.parents d (sym (there d) ∙ is);
-  selects = λ d is. link d ∙ sound.selects d (sym (there d) ∙ is);
-} where
-  there : (d : ℕ) → registered (requested s.clocks c x) d ≡ registered s.clocks d
-  there d = registered_set s.clocks c (record (row_of s.clocks c) { last_request = x }) d refl
+  possible = λ d p at. sound.possible d p (sym (link d) ∙ at);
+  unselected = λ d is loose. sound.unselected d (sym (there d) ∙ is) (sym (link d) ∙ loose);
+}
 
-  link : (d : ℕ) → link_in (requested s.clocks c x) d ≡ link_in s.clocks d
-  link d = link_set_same s.clocks c (record (row_of s.clocks c) { last_request = x }) d refl
+-- another last request of a clock
+pub IsNarrow-requested : (words : ℕ) (s : State) (c x : ℕ) → IsNarrow words s → IsNarrow words (record s { clocks = requested s.clocks c x })
+IsNarrow-requested words s c x sound =
+    IsNarrow-rows words s (requested s.clocks c x) (length-set s.clocks c (record (row_of s.clocks c) { last_request = x }))
+    (λ d. registered_set s.clocks c (record (row_of s.clocks c) { last_request = x }) d refl)
+    (λ d. link_set_same s.clocks c (record (row_of s.clocks c) { last_request = x }) d refl) sound

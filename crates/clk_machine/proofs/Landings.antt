@@ -12,7 +12,7 @@ use Rattle.clk_model.specs.declared.row.ClockRow.{ClockRow}
 use Rattle.clk_model.specs.declared.row.HandleRow.{HandleRow}
 use Rattle.clk_model.specs.State.{State, Change, registered, handle_at, requested}
 use Rattle.clk_model.specs.Begin.{put_handle, prepared_once_more, held_once_more}
-use Rattle.clk_model.specs.Step.{taken, ended_well, with_range, range_back}
+use Rattle.clk_model.specs.Step.{taken, ended_well, with_range, range_back, sets_parent}
 use Rattle.clk_tree.specs.TreeState.{TreeState}
 use Rattle.clk_tree.proofs.Rows.{registered-requested}
 use Rattle.clk_flight.specs.Flights.{FlightState, IsChange}
@@ -95,9 +95,9 @@ bare_ends old flight' whole going first nothing is = record {
   active_ = λ c. refl;
   ends = λ s k stands same.
       end_bare s (taken k) (ap may_go_on same.call ∙ (whole.flown going).way.call_)
-      (ap (λ (t : Bool). if t then not (is_ranged k.call && is_some k.range) else may_lower k.call) (off_of old s k same)
-      ∙ ap (λ (what : Sleeping). if is_called_off old.flight then not (is_ranged what && is_some k.range) else may_lower what) same.call
-      ∙ ap (λ (r : Option (ℕ × ℕ)). if is_called_off old.flight then not (is_ranged old.flight.call && is_some r) else may_lower old.flight.call) same.range ∙ nothing);
+      (ap (λ (t : Bool). if t then not (is_ranged k.call && is_some k.range) else (may_lower k.call || sets_parent k.call)) (off_of old s k same)
+      ∙ ap (λ (what : Sleeping). if is_called_off old.flight then not (is_ranged what && is_some k.range) else (may_lower what || sets_parent what)) same.call
+      ∙ ap (λ (r : Option (ℕ × ℕ)). if is_called_off old.flight then not (is_ranged old.flight.call && is_some r) else (may_lower old.flight.call || sets_parent old.flight.call)) same.range ∙ nothing);
   stands = λ s stands. stands_ended old old.tree old.table old.counts flight' s s.clocks s.handles stands (ap (λ (f : FlightState). f.going) is) stands.clocks refl stands.handles;
 }
 

@@ -11,6 +11,9 @@ pub mod Fitting
 pub mod Shapes
 pub mod Soundness
 pub mod Kept
+pub mod Relinked
+pub mod Unmoved
+pub mod SettledRows
 pub mod Attaching
 pub mod Attached
 pub mod CallEvents
@@ -37,6 +40,8 @@ pub mod Making
 pub mod Raising
 pub mod Telling
 pub mod Visiting
+pub mod Relinking
+pub mod LinkSteps
 pub mod Ending
 pub mod Landings
 pub mod Working

@@ -186,6 +186,7 @@ whole_lowering old d h row table' flight' is written room now =
     whole_flying p flight' whole (record {
       plls_ = now.plls_;
       tells = λ changes. let no : true ≡ false = sym changes ∙ ap changes_rate now.call_ in absurd cc;
+      links = λ changes. let no : true ≡ false = sym changes ∙ ap changes_rate now.call_ in absurd cc;
       way = started_way old d (call.Unprepare h) (lower_script row.clock) flight' (registered old.tree.clocks) now refl (ap (λ (b : Bool). b && true) (is.whole.handled h.number row is.live));
       own = subst (λ (what : Sleeping). IsOwnCall table'.handles flight'.driver what) (sym now.call_) tt;
       paid = less_held old h.number row table' is written;

@@ -68,6 +68,7 @@ whole_stepped old window' flight' whole tied going bare_ same way less =
             (subst (λ (what : Sleeping). IsOwnCall old.table.handles old.flight.driver what) (sym same.call) flown.own);
         paid = flown.paid;
         tells = λ changes. let no : true ≡ false = sym changes ∙ ap changes_rate same.call ∙ bare_ in absurd cc;
+        links = λ changes. let no : true ≡ false = sym changes ∙ ap changes_rate same.call ∙ bare_ in absurd cc;
       };
       room = let room = whole.room in omega arith;
     }

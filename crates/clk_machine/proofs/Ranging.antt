@@ -52,6 +52,7 @@ flown_ranged defs clocks handles chains notified spent n least most row f flown 
   own = own_call handles n row (ranged row least most) f.driver f.call at refl flown.own;
   paid = let few = flown.paid in let sums = sum_by-set held_in_all handles n row (ranged row least most) at in omega arith;
   tells = flown.tells;
+  links = flown.links;
 }
 
 -- the parts stay whole

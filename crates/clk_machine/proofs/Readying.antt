@@ -2,7 +2,7 @@
 use Rattle.std.proofs.Common.{◌≡◌, ℕ, ◌+◌, ◌<◌, ◌≤◌, ◌||◌, Bool, true, false, List, [], ◌∷◌, Option, Some, None, refl, sym, ap, subst, ◌∙◌, arith, length, map}
 use Rattle.std.proofs.Math.Bool.{or-false}
 use Rattle.std.specs.Prelude.{sum_by, slice_index}
-use Rattle.std.specs.List.{list_any, AllByRecursion}
+use Rattle.std.specs.List.{list_any, AllByRecursion, list_all}
 use Rattle.clk_base.specs.Description.{Description}
 use Rattle.clk_base.specs.declared.call.Micro.{Micro}
 use Rattle.clk_base.specs.declared.call.Sleeping.{Sleeping}
@@ -44,22 +44,29 @@ use Rattle.clk_machine.specs.Course.{notifiers_at, tells_all}
 use Rattle.clk_machine.specs.Deciding.{Decided, GoesOn, IsPlanOf, change_by, handle_of, left_at_once, made_in}
 use Rattle.clk_machine.specs.Fit.{keeps_parents}
 use Rattle.clk_machine.specs.Holding.{exclusive_more, puts, ranged, stays}
-use Rattle.clk_machine.specs.InFlight.{changes_rate, is_ranged, is_script}
+use Rattle.clk_machine.specs.InFlight.{asks_rate, can_link, changes_rate, is_ranged, is_script}
 use Rattle.clk_machine.specs.Parts.{Parts, AreKept, IsOwnCall, IsWhole, own_in, rows_from, steps_left, with_range}
 use Rattle.clk_machine.specs.Readying.{CanBeginSo, CanGoAlong, GoesOnAlong, IsReady, IsScripted, Scripts, range_before, weight_along}
 use Rattle.clk_machine.specs.Stands.{Stands, Becomes, Enters, most_steps, nothing, registers}
 use Rattle.clk_machine.proofs.Entered.{own_stands, enters}
 use Rattle.clk_machine.proofs.Moving.{clock_within}
 use Rattle.clk_machine.proofs.Ranging.{stands_ranged}
-use Rattle.clk_machine.proofs.Scripting.{script_still, tells_still, told_all, weighs_rows, weighs_state}
+use Rattle.clk_machine.proofs.Scripting.{script_still, tells_still, told_all, weighs_rows, weighs_state, links_still}
 use Rattle.clk_machine.proofs.Staying.{request_stays}
 use Rattle.clk_machine.proofs.StillScripts.{planned_still}
 use Rattle.clk_machine.proofs.Taking.{outcome_defs}
 use Rattle.clk_machine.proofs.Writing.{live_in}
 
+-- a request for a rate or a range changes a rate
+pub asks_changes : (what : Sleeping) → asks_rate what ≡ true → changes_rate what ≡ true
+asks_changes (call.SetRate h x) e = refl
+asks_changes (call.SetRateExclusive h x) e = refl
+asks_changes (call.SetRange h least most) e = refl
+asks_changes _ e = absurd cc
+
 -- ---- the change of a call
 
-change_is : (s : State) (d : ℕ) (what : Sleeping) (row : HandleRow) (plan : Plan) → changes_rate what ≡ true
+change_is : (s : State) (d : ℕ) (what : Sleeping) (row : HandleRow) (plan : Plan) → asks_rate what ≡ true
     → change_by s d what row plan ≡ change_along (made_in s what row) d what plan.chain [] (range_before what row)
 change_is s d (call.SetRate h x) row plan e = refl
 change_is s d (call.SetRateExclusive h x) row plan e = refl
@@ -81,7 +88,7 @@ rated_all : (rates before will : List ℕ) (clocks : List ClockRow) (f : ℕ →
 rated_all rates before will clocks f [] each there = tt
 rated_all rates before will clocks f (c ∷ cs) each there = (each c there.0, rated_all rates before will clocks f cs each there.1)
 
-module _ (m : Parts) (s : State) (d number : ℕ) (what : Sleeping) (plan : Plan) (script : Script) (whole : IsWhole m) (stands : Stands m s) (changes : changes_rate what ≡ true)
+module _ (m : Parts) (s : State) (d number : ℕ) (what : Sleeping) (plan : Plan) (script : Script) (whole : IsWhole m) (stands : Stands m s) (changes : asks_rate what ≡ true)
     (keeps : keeps_parents m.desc.defs ≡ true) (left : m.spent < m.credits) (there : AreThere m.tree.clocks plan.rates) (goes : GoesOn s d number what plan script) where
   abbrev n : State
   n = made_in s what goes.row
@@ -174,7 +181,7 @@ module _ (m : Parts) (s : State) (d number : ℕ) (what : Sleeping) (plan : Plan
 -- ---- made ready
 
 -- a plan and its script make the call ready for which they were decided
-pub ready_scripted : (m : Parts) (d : ℕ) (what : Sleeping) (plan : Plan) (script : Script) (made : Readied) → IsWhole m → changes_rate what ≡ true → keeps_parents m.desc.defs ≡ true → m.spent < m.credits
+pub ready_scripted : (m : Parts) (d : ℕ) (what : Sleeping) (plan : Plan) (script : Script) (made : Readied) → IsWhole m → asks_rate what ≡ true → keeps_parents m.desc.defs ≡ true → m.spent < m.credits
     → AreThere m.tree.clocks plan.rates → Decided m d what (decided.Change plan script) → Scripts m plan script made → IsReady m d what made
 ready_scripted m d what plan script (readied.Refused e) whole changes keeps left there goes (is, over) = λ s stands sound.
     absurd (let room = room_along m s d (handle_of what) what plan script whole stands changes keeps left there (goes s stands sound) in omega arith)
@@ -182,17 +189,18 @@ ready_scripted m d what plan script readied.AtOnce whole changes keeps left ther
 ready_scripted m d what plan script (readied.Change scripted) whole changes keeps left there goes made = λ s stands sound.
     goes_along m s d (handle_of what) what plan script whole stands changes keeps left there (goes s stands sound) scripted made
 
-pub can_scripted : (m : Parts) (d : ℕ) (what : Sleeping) (plan : Plan) (script : Script) (made : Readied) → changes_rate what ≡ true → AreThere m.tree.clocks plan.rates → IsOwnCall m.table.handles d what
+pub can_scripted : (m : Parts) (d : ℕ) (what : Sleeping) (plan : Plan) (script : Script) (made : Readied) → asks_rate what ≡ true → AreThere m.tree.clocks plan.rates → IsOwnCall m.table.handles d what
     → Scripts m plan script made → CanBeginSo m d what made
 can_scripted m d what plan script (readied.Refused e) changes there own scripts = tt
 can_scripted m d what plan script readied.AtOnce changes there own never = absurd never
 can_scripted m d what plan script (readied.Change scripted) changes there own made = record {
   own = own;
-  script = ap (λ (ms : List Micro). is_script what (registered m.tree.clocks) ms) made.steps ∙ script_still what (registered m.tree.clocks) changes script.steps script.vetoed plan.rates there;
+  script = ap (λ (ms : List Micro). is_script what (registered m.tree.clocks) ms) made.steps ∙ script_still what (registered m.tree.clocks) (asks_changes what changes) script.steps script.vetoed plan.rates there;
   tells =
       ap (λ (ms : List Micro). tells_all (notifiers_at m.chains) ms scripted.course.notified) made.steps
       ∙ ap (λ (ns : List Notified). tells_all (notifiers_at m.chains) (still_steps script.steps script.vetoed plan.rates) ns) made.notified
       ∙ tells_still (notifiers_at m.chains) m.tree.rates script.steps script.vetoed plan.rates;
+  links = ap (λ (ms : List Micro). list_all (can_link m.desc.defs m.tree.clocks) ms) made.steps ∙ links_still m.desc.defs m.tree.clocks script.steps script.vetoed plan.rates;
   weight = made.weight;
   room = made.room;
 }
@@ -225,11 +233,11 @@ at_once_range old new d h least most row quiet left own ready becomes =
 -- ---- going on
 
 -- a change of rate registers no clock, and may come to as many steps as there is room for
-no_more_rows : (what : Sleeping) (c : ℕ) → changes_rate what ≡ true → registers (event.Begin what) c ≡ false
+no_more_rows : (what : Sleeping) (c : ℕ) → asks_rate what ≡ true → registers (event.Begin what) c ≡ false
 no_more_rows (call.Probe k) c e = absurd cc
 no_more_rows _ c e = refl
 
-most_room : (defs : Description) (what : Sleeping) → changes_rate what ≡ true → most_steps defs (event.Begin what) ≡ most_credits
+most_room : (defs : Description) (what : Sleeping) → asks_rate what ≡ true → most_steps defs (event.Begin what) ≡ most_credits
 most_room defs (call.SetRate h x) e = refl
 most_room defs (call.SetRateExclusive h x) e = refl
 most_room defs (call.SetRange h least most) e = refl
@@ -257,7 +265,7 @@ room_to_start old d what scripted can =
     omega arith
 
 -- one that sets no range takes the parts on
-pub enters_along : (old new : Parts) (d : ℕ) (what : Sleeping) (scripted : Scripted) → old.spent < old.credits → changes_rate what ≡ true → is_ranged what ≡ false → CanGoAlong old d what scripted
+pub enters_along : (old new : Parts) (d : ℕ) (what : Sleeping) (scripted : Scripted) → old.spent < old.credits → asks_rate what ≡ true → is_ranged what ≡ false → CanGoAlong old d what scripted
     → IsReady old d what (readied.Change scripted) → StartsChange old d what scripted.steps.items scripted.course None scripted.vetoed new → Enters old d (event.Begin what) turn.Going new
 enters_along old new d what scripted left changes unranged can ready starts_ = record {
   remains = starts_.remains;

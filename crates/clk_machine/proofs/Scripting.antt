@@ -1,8 +1,10 @@
 -- What a script of notices and visits says of a change that goes on with it.
+use Rattle.clk_model.specs.declared.row.ClockRow.{ClockRow}
+use Rattle.clk_base.specs.Description.{Description}
 use Rattle.std.proofs.Common.{◌≡◌, ℕ, ◌+◌, ◌*◌, ◌&&◌, ◌||◌, ◌++◌, not, Bool, true, false, cond, List, [], ◌∷◌, refl, ap, ◌∙◌, map, filter, nat_eq}
 use Rattle.std.proofs.Math.Path.{fun_ext}
 use Rattle.std.specs.Prelude.{sum_by, slice_index, if◌then◌else◌}
-use Rattle.std.specs.List.{AllByRecursion}
+use Rattle.std.specs.List.{AllByRecursion, list_all}
 use Rattle.clk_base.specs.declared.call.Micro.{Micro}
 use Rattle.clk_base.specs.declared.call.Micro.TheVariants as micro
 use Rattle.clk_base.specs.declared.call.Sleeping.{Sleeping}
@@ -19,7 +21,7 @@ use Rattle.change_walk.specs.Weights.{step_weight}
 use Rattle.clk_machine.specs.declared.course.Notified.{Notified}
 use Rattle.clk_machine.specs.Changing.{notices_first, still_steps, told_clocks}
 use Rattle.clk_machine.specs.Course.{behind_first, begins_with, tells_all}
-use Rattle.clk_machine.specs.InFlight.{changes_rate, is_script}
+use Rattle.clk_machine.specs.InFlight.{changes_rate, is_script, can_link}
 use Rattle.clk_machine.specs.Parts.{rows_from}
 use Rattle.clk_machine.proofs.Telling.{count_told, rows_count}
 
@@ -49,6 +51,26 @@ module _ (what : Sleeping) (there : ℕ → Bool) (changes : changes_rate what �
     by : (t : Bool) → is_script what there ((if t then [] else visits_of rates) ++ micro.End ∷ []) ≡ true
     by true = refl
     by false = script_visits rates all
+
+-- ---- it links no clock
+
+module _ (defs : Description) (clocks : List ClockRow) where
+  links_notices : (steps tail : List Micro) → list_all (can_link defs clocks) tail ≡ true → list_all (can_link defs clocks) (notices_first steps ++ tail) ≡ true
+  links_notices [] tail last = last
+  links_notices (m ∷ ms) tail last = by m (links_notices ms tail last) where
+    by : (n : Micro) → list_all (can_link defs clocks) (notices_first ms ++ tail) ≡ true → list_all (can_link defs clocks) ((if is_notice n then n ∷ notices_first ms else []) ++ tail) ≡ true
+    by (micro.Notify kind c id old new) rest = rest
+    by _ rest = last
+
+  links_visits : (rates : List ClockRate) → list_all (can_link defs clocks) (visits_of rates ++ micro.End ∷ []) ≡ true
+  links_visits [] = refl
+  links_visits (r ∷ rates) = links_visits rates
+
+  pub links_still : (steps : List Micro) (vetoed : Bool) (rates : List ClockRate) → list_all (can_link defs clocks) (still_steps steps vetoed rates) ≡ true
+  links_still steps vetoed rates = links_notices steps ((if vetoed then [] else visits_of rates) ++ micro.End ∷ []) (by vetoed) where
+    by : (t : Bool) → list_all (can_link defs clocks) ((if t then [] else visits_of rates) ++ micro.End ∷ []) ≡ true
+    by true = refl
+    by false = links_visits rates
 
 -- ---- the clocks that it visits are told
 

@@ -15,7 +15,6 @@ use Rattle.clk_model.specs.Wired.{LinksArePossible}
 use Rattle.clk_model.specs.Laws.LinksKept.{KeepsLinks, IsWiredOver}
 use Rattle.clk_model.specs.Laws.RunsFed.{IsSettled}
 use Rattle.clk_model.specs.Laws.RunsEnd.{HasRoom}
-use Rattle.clk_model.proofs.PllLaws.{selected_possible}
 use Rattle.clk_model.proofs.GatesFollowLaws.{blank_registered, blank_link}
 use Rattle.clk_model.proofs.JournalLaws.{replay-append}
 use Rattle.clk_model.proofs.LinkLaws.{runs_keep_links, runs_are_wired}
@@ -82,10 +81,9 @@ linked_is_registered words s sound c p at = by_row (registered s.clocks c) refl 
   by_row true there = refl
   by_row false free = let none = sound.unlinked c free in absurd cc
 
--- its link is what the registers select, which is a possible parent
+-- its link is a possible parent
 pub links_possible : (words : ℕ) (s : State) → IsNarrow words s → LinksArePossible s.defs s.clocks
-links_possible words s sound c p at =
-    selected_possible s.defs s.regs c p (sym (sound.selects c (linked_is_registered words s sound c p at)) ∙ at)
+links_possible words s sound c p at = sound.possible c p at
 
 -- and registered
 pub link_is_registered : (words : ℕ) (s : State) → IsNarrow words s → (c p : ℕ) → link_in s.clocks c ≡ Some p → registered s.clocks p ≡ true
@@ -115,6 +113,7 @@ sound_opening words defs ignore_unused credits valid runs few = record {
     attached = λ c m. absurd cc;
     unlinked = λ c free. blank_link (length defs) c;
     parents = λ c there. let none = blank_registered (length defs) c in absurd cc;
-    selects = λ c there. let none = blank_registered (length defs) c in absurd cc;
+    possible = λ c p at. let none = blank_link (length defs) c in absurd cc;
+    unselected = λ c there loose. let none = blank_registered (length defs) c in absurd cc;
   };
 }

@@ -285,6 +285,7 @@ whole_started old d h row flight' whole left live own room now =
     whole_flying (with_spent old) flight' (whole_spent old whole left) (record {
       plls_ = now.plls_;
       tells = λ changes. let no : true ≡ false = sym changes ∙ ap changes_rate now.call_ in absurd cc;
+      links = λ changes. let no : true ≡ false = sym changes ∙ ap changes_rate now.call_ in absurd cc;
       way = started_way old d (call.Prepare h) (raise_script row.clock) flight' (registered old.tree.clocks) now refl (ap (λ (b : Bool). b && true) (whole.handled h.number row live));
       own = subst (λ (what : Sleeping). IsOwnCall old.table.handles flight'.driver what) (sym now.call_)
           (ap (λ (e : ℕ). is_some (own_in old.table.handles e h.number)) now.driver ∙ ap (λ (o : Option HandleRow). is_some o) own);

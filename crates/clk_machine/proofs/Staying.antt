@@ -1,10 +1,12 @@
 -- A request for a rate moves no clock in a description where each clock keeps its parent then.
+use Rattle.clk_model.specs.Step.{sets_parent}
 use Rattle.std.proofs.Common.{◌≡◌, ℕ, zero, suc, ◌&&◌, ◌||◌, not, Bool, true, false, List, [], ◌∷◌, Option, Some, None, refl, sym, ap, ◌∙◌, ◌+◌, arith, filter, nat_eq, nat_le, max}
 use Rattle.std.specs.Prelude.{◌*◌, ◌/◌, IfSome, is_some, find, option_map, option_and_then}
 use Rattle.std.specs.Int.{div_ceil}
 use Rattle.std.specs.List.{list_any, filter_map, AllByRecursion}
 use Rattle.std.proofs.lemmas.List.{get_or_past}
 use Rattle.clk_base.specs.declared.call.Sleeping.{Sleeping}
+use Rattle.clk_base.specs.declared.call.Sleeping.TheVariants as call
 use Rattle.clk_base.specs.declared.clock.Kind.{Kind}
 use Rattle.clk_base.specs.declared.clock.Kind.TheVariants.{FixedRate, Factor, Gate, Mux, Divider, Pll}
 use Rattle.clk_base.specs.declared.event.Event.TheVariants as event
@@ -32,8 +34,14 @@ use Rattle.clk_model.proofs.Members.{not_either, test_same}
 use Rattle.clk_model.proofs.PlanRootLaws.{chain_all}
 use Rattle.clk_model.proofs.RoundLaws.{round_fold, round_tries, round_or}
 use Rattle.clk_machine.specs.Fit.{may_move, keeps_parents}
-use Rattle.clk_machine.specs.InFlight.{changes_rate}
-use Rattle.clk_machine.proofs.Changing.{keeps_parent as changes_no_parent}
+use Rattle.clk_machine.specs.InFlight.{asks_rate}
+
+-- a request for a rate changes no parent
+changes_no_parent : (what : Sleeping) → asks_rate what ≡ true → sets_parent what ≡ false
+changes_no_parent (call.SetRate h x) e = refl
+changes_no_parent (call.SetRateExclusive h x) e = refl
+changes_no_parent (call.SetRange h least most) e = refl
+changes_no_parent _ e = absurd cc
 
 -- ---- the description
 
@@ -154,7 +162,7 @@ over_same s n over_itself = (refl, refl)
 over_same s n (over_range number old new adjusts_) = (refl, refl)
 
 -- a call that goes on with a change of rate moves no clock
-pub request_stays : (s t : State) (d : ℕ) (what : Sleeping) (k : Change) → keeps_parents s.defs ≡ true → changes_rate what ≡ true
+pub request_stays : (s t : State) (d : ℕ) (what : Sleeping) (k : Change) → keeps_parents s.defs ≡ true → asks_rate what ≡ true
     → next s d (event.Begin what) ≡ Some (t, turn.Going) → t.change ≡ Some k → list_any (moves s.clocks) k.chain ≡ false
 unfolding settled
 request_stays s t d what k keeps changes comes at = by (begun s d what) (begins_so s d what) start.2 (ap (λ (u : State). u.change) start.1 ∙ at) where
@@ -167,11 +175,11 @@ request_stays s t d what k keeps changes comes at = by (begun s d what) (begins_
       ap (λ (l : Change). list_any (moves s.clocks) l.chain) (sym same)
       ∙ ap (λ (rows : List ClockRow). list_any (moves rows) ks) (sym on.0)
       ∙ chain_stays (wiring m) view row.clock.0 x ks (ap keeps_parents on.1 ∙ keeps) found
-  started n j (raising_handle h row is live) same = let no : true ≡ false = sym changes ∙ ap changes_rate is in absurd cc
-  started n j (lowering_handle h row is live gives_up) same = let no : true ≡ false = sym changes ∙ ap changes_rate is in absurd cc
+  started n j (raising_handle h row is live) same = let no : true ≡ false = sym changes ∙ ap asks_rate is in absurd cc
+  started n j (lowering_handle h row is live gives_up) same = let no : true ≡ false = sym changes ∙ ap asks_rate is in absurd cc
   started n j (reparents number row p sets live other mux possible root) same = let no : true ≡ false = sym sets ∙ changes_no_parent what changes in absurd cc
-  started n j (probing c is free) same = let no : true ≡ false = sym changes ∙ ap changes_rate is in absurd cc
-  started n j (sweeping is) same = let no : true ≡ false = sym changes ∙ ap changes_rate is in absurd cc
+  started n j (probing c is free) same = let no : true ≡ false = sym changes ∙ ap asks_rate is in absurd cc
+  started n j (sweeping is) same = let no : true ≡ false = sym changes ∙ ap asks_rate is in absurd cc
 
   by : (y : State × Turn) → Begins s d what y → y.1 ≡ turn.Going → y.0.change ≡ Some k → list_any (moves s.clocks) k.chain ≡ false
   by y (goes_on n j starts_) going has = started n j starts_ cc

@@ -13,13 +13,18 @@ use Rattle.clk_base.specs.declared.call.Sleeping.TheVariants as call
 use Rattle.clk_base.specs.declared.event.Errno.TheVariants as errno
 use Rattle.clk_base.specs.declared.event.Reply.{Reply}
 use Rattle.clk_base.specs.declared.event.Reply.TheVariants as reply
-use Rattle.clk_model.specs.State.{State, Change}
+use Rattle.clk_model.specs.State.{State, Change, link_in}
 use Rattle.clk_model.specs.Holders.{active}
 use Rattle.clk_machine.specs.InFlight.{may_lower, is_ranged, may_go_on}
-use Rattle.clk_model.specs.Chain.{clock_id}
+use Rattle.clk_model.specs.Chain.{clock_id, linked}
+use Rattle.clk_model.specs.Lists.{to_front}
+use Rattle.clk_model.specs.Tree.{children}
+use Rattle.clk_model.specs.Walk.{below_within}
+use Rattle.clk_base.specs.Levels.{depth}
+use Rattle.clk_model.proofs.KeepLaws.{mux_written}
 use Rattle.clk_model.specs.Gates.{settled}
 use Rattle.clk_model.specs.Laws.Paced.{is_notice}
-use Rattle.clk_model.specs.Step.{todo, taken, on, visit, timed_out, to_raise, raise_one, poll, fall, to_lower, lower_one, unranged, range_back, ended_well, end_of, stepped}
+use Rattle.clk_model.specs.Step.{todo, taken, on, visit, timed_out, to_raise, raise_one, poll, fall, to_lower, lower_one, unranged, range_back, relink, passed_over, write_mux, settle, settle_all, ended_well, end_of, sets_parent, stepped}
 use Rattle.clk_model.specs.Machine.{same_list, micro_code, comes_next, may_step, counted, next}
 use Rattle.clk_model.proofs.Members.{test_same}
 use Rattle.clk_model.proofs.StateLaws.{settled-still}
@@ -142,6 +147,37 @@ visits_one s d k c is =
     takes s k d (micro.Visit c) None is.change (three _ _ (mine s d k (micro.Visit c) is) (first_comes (micro.Visit c) (todo k) is.first))
     ∙ ap (λ (x : State × Turn). Some x) (counted_still s (visit s (taken k) c.0) turn.Going (settled-still s (visit s (taken k) c.0) (λ c. refl)))
 
+-- ---- new links
+
+-- a new link, where nothing is held and no gate moves
+pub relinks_one : (s : State) (d : ℕ) (k : Change) (c p : ClockId) → IsNext s d k (micro.Relink c p) → ((x : ℕ) → active s x ≡ active (relink s k c.0 p.0) x)
+    → passed_over p.0 (link_in s.clocks c.0) s.prepare_holds ≡ s.prepare_holds → passed_over p.0 (link_in s.clocks c.0) s.enable_holds ≡ s.enable_holds
+    → next s d (event.Step (micro.Relink c p) None)
+    ≡ Some (record s { clocks = linked s.clocks c.0 p.0; order = to_front c.0 s.order; change = Some (taken k); steps = s.steps + 1 }, turn.Going)
+unfolding stepped
+relinks_one s d k c p is still prepares enables =
+    takes s k d (micro.Relink c p) None is.change (three _ _ (mine s d k (micro.Relink c p) is) (first_comes (micro.Relink c p) (todo k) is.first))
+    ∙ ap (λ (x : State × Turn). Some x) (counted_still s (relink s (taken k) c.0 p.0) turn.Going (settled-still s (relink s (taken k) c.0 p.0) still))
+    ∙ ap (λ (ps : List ℕ). left ps (passed_over p.0 (link_in s.clocks c.0) s.enable_holds)) prepares ∙ ap (λ (es : List ℕ). left s.prepare_holds es) enables where
+      left : List ℕ → List ℕ → Option (State × Turn)
+      left ps es = Some (record s { clocks = linked s.clocks c.0 p.0; order = to_front c.0 s.order; prepare_holds = ps; enable_holds = es; change = Some (taken k); steps = s.steps + 1 }, turn.Going)
+
+pub writes_one : (s : State) (d : ℕ) (k : Change) (c : ClockId) (place : ℕ) → IsNext s d k (micro.WriteMux c place)
+    → next s d (event.Step (micro.WriteMux c place) None) ≡ Some (record s { regs = mux_written s c.0 place; change = Some (taken k); steps = s.steps + 1 }, turn.Going)
+unfolding stepped
+writes_one s d k c place is =
+    takes s k d (micro.WriteMux c place) None is.change (three _ _ (mine s d k (micro.WriteMux c place) is) (first_comes (micro.WriteMux c place) (todo k) is.first))
+    ∙ ap (λ (x : State × Turn). Some x) (counted_still s (write_mux s (taken k) c.0 place) turn.Going (settled-still s (write_mux s (taken k) c.0 place) (λ c. refl)))
+
+-- last requests that are settled
+pub settles_one : (s : State) (d : ℕ) (k : Change) (c : ClockId) → IsNext s d k (micro.Settle c) → ((x : ℕ) → active s x ≡ active (settle s k c.0) x)
+    → next s d (event.Step (micro.Settle c) None)
+    ≡ Some (record s { clocks = settle_all s (below_within (children s.order s.clocks) depth c.0); change = Some (taken k); steps = s.steps + 1 }, turn.Going)
+unfolding stepped
+settles_one s d k c is still =
+    takes s k d (micro.Settle c) None is.change (three _ _ (mine s d k (micro.Settle c) is) (first_comes (micro.Settle c) (todo k) is.first))
+    ∙ ap (λ (x : State × Turn). Some x) (counted_still s (settle s (taken k) c.0) turn.Going (settled-still s (settle s (taken k) c.0) still))
+
 -- ---- the end
 
 pub ends : (s : State) (d : ℕ) (k : Change) → IsNext s d k micro.End
@@ -170,18 +206,19 @@ left_as s k y = (record y { change = None }, turn.Done (reply_of k.vetoed k.time
 
 -- an end that leaves the state as it is
 pub end_bare : (s : State) (k : Change) → may_go_on k.call ≡ true
-    → (if k.vetoed || k.timed_out then not (is_ranged k.call && is_some k.range) else may_lower k.call) ≡ true → end_of s k ≡ (record s { change = None }, turn.Done (reply_of k.vetoed k.timed_out))
+    → (if k.vetoed || k.timed_out then not (is_ranged k.call && is_some k.range) else (may_lower k.call || sets_parent k.call)) ≡ true → end_of s k ≡ (record s { change = None }, turn.Done (reply_of k.vetoed k.timed_out))
 end_bare s k goes bare = by (k.vetoed || k.timed_out) refl bare where
   ranged : (what : Sleeping) (o : Option (ℕ × ℕ)) → not (is_ranged what && is_some o) ≡ true → record s { handles = range_back what o s.handles } ≡ s
   ranged (call.SetRange h least most) None e = refl
   ranged (call.SetRange h least most) (Some range) e = absurd cc
   ranged _ o e = refl
 
-  lowered : (what : Sleeping) → may_lower what ≡ true → ended_well s k.driver what ≡ s
+  lowered : (what : Sleeping) → (may_lower what || sets_parent what) ≡ true → ended_well s k.driver what ≡ s
   lowered (call.Unprepare h) e = refl
+  lowered (call.SetParent h p) e = refl
   lowered _ e = absurd cc
 
-  by : (t : Bool) → (k.vetoed || k.timed_out) ≡ t → (if t then not (is_ranged k.call && is_some k.range) else may_lower k.call) ≡ true
+  by : (t : Bool) → (k.vetoed || k.timed_out) ≡ t → (if t then not (is_ranged k.call && is_some k.range) else (may_lower k.call || sets_parent k.call)) ≡ true
       → end_of s k ≡ (record s { change = None }, turn.Done (reply_of k.vetoed k.timed_out))
   by true off e = end_off s k off ∙ ap (left_as s k) (ranged k.call k.range e)
   by false off e = end_well s k off ∙ ap (left_as s k) (lowered k.call e)

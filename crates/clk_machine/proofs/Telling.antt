@@ -1,4 +1,5 @@
 -- What a notice of a change of rate makes of the parts of a core.
+use Rattle.std.specs.List.{list_all}
 use Rattle.std.proofs.Common.{◌≡◌, ℕ, zero, suc, ◌+◌, ◌-◌, ◌<◌, ◌≤◌, ◌&&◌, ◌||◌, Bool, true, false, cond, List, [], ◌∷◌, ◌++◌, Option, Some, None, refl, sym, ap, subst, ◌∙◌, arith, length, map, filter, nat_eq}
 use Rattle.std.specs.Prelude.{slice_get, slice_index_or, if◌then◌else◌}
 use Rattle.std.specs.Int.RustNames.{int_lt}
@@ -22,7 +23,7 @@ use Rattle.clk_flight.specs.Steps.{GoesOn, LeavesLessAt, is_taken}
 use Rattle.notifiers.specs.declared.notifier.Notifier.{Notifier}
 use Rattle.notifiers.specs.Chains.{Tells, row_on}
 use Rattle.clk_machine.specs.declared.course.Notified.{Notified}
-use Rattle.clk_machine.specs.InFlight.{may_raise, changes_rate, is_script, is_front, IsUnderWay}
+use Rattle.clk_machine.specs.InFlight.{may_raise, changes_rate, is_script, is_front, IsUnderWay, can_link}
 use Rattle.clk_machine.specs.Course.{notifiers_at, visited_by, behind_visit, begins_with, tells_all, PostsFit, TellsAlong}
 use Rattle.clk_machine.specs.Making.{ComesFirst, TellsNext}
 use Rattle.clk_machine.specs.Parts.{Parts, rows_from, IsFlown, IsWhole}
@@ -251,6 +252,18 @@ tells-told f count ns rows m comes notice is = record {
   visits = behind_visits f count ns rows f.front m (own_going f.going (first_step rows f f.front) m comes) notice is.visits;
 }
 
+-- what is left can be linked as before
+links-told : (f : FlightState) (can : Micro → Bool) (rows : List NotifierRow) (front : Front) (m : Micro) → first_step rows f front ≡ Some m → list_all can f.left ≡ true → list_all can (script_behind front f.left) ≡ true
+links-told f can rows Empty m first all = from f.left all where
+  from : (left : List Micro) → list_all can left ≡ true → list_all can (rest_of left) ≡ true
+  from [] e = refl
+  from (n ∷ ns) e = both_right (can n) (list_all can ns) e
+links-told f can rows (Poll y polls again) m first all = all
+links-told f can rows (Raise x) m first all = all
+links-told f can rows (Lower x) m first all = all
+links-told f can rows (Falls told left) m first all = all
+links-told f can rows (Posts c told left old new) m first all = all
+
 -- ---- the parts
 
 -- the parts stay whole
@@ -273,6 +286,7 @@ whole_told old flight' whole going next is less =
         own = flown.own;
         paid = flown.paid;
         tells = λ changes. tells-told old.flight (notifiers_at old.chains) old.course.notified (rows_from 0 old.chains) next.notice next.next_ next.is (flown.tells changes);
+        links = λ changes. links-told old.flight (can_link old.desc.defs old.tree.clocks) (rows_from 0 old.chains) old.flight.front next.notice (own_going old.flight.going (first_step (rows_from 0 old.chains) old.flight old.flight.front) next.notice next.next_) (flown.links changes);
       });
       room = let room = whole.room in omega arith;
     }

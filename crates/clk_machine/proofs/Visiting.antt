@@ -1,7 +1,7 @@
 -- What a visit makes of the parts of a core.
 use Rattle.std.proofs.Common.{◌≡◌, ℕ, ◌+◌, ◌<◌, ◌≤◌, ◌&&◌, ◌||◌, not, Bool, true, false, List, [], ◌∷◌, Option, Some, None, refl, sym, ap, subst, ◌∙◌, arith, length, nat_eq, nat_lt}
 use Rattle.std.specs.Prelude.{is_some, IfSome, slice_get, slice_index, if◌then◌else◌}
-use Rattle.std.specs.List.{AllByRecursion}
+use Rattle.std.specs.List.{AllByRecursion, list_all}
 use Rattle.std.proofs.Math.Bool.{or-false}
 use Rattle.std.proofs.lemmas.Bool.Decides.{nat_tests}
 use Rattle.clk_base.specs.Description.{Description}
@@ -30,7 +30,7 @@ use Rattle.rate_planner.specs.Kept.{wired}
 use Rattle.clk_machine.specs.Window.{Shown, AreTold}
 use Rattle.clk_machine.specs.declared.course.Notified.{Notified}
 use Rattle.clk_machine.specs.declared.machine.visiting.Posting.{Posting}
-use Rattle.clk_machine.specs.InFlight.{changes_rate, is_front, IsUnderWay}
+use Rattle.clk_machine.specs.InFlight.{changes_rate, is_front, IsUnderWay, can_link}
 use Rattle.clk_machine.specs.Course.{CourseState, set_along, notifiers_at, begins_with, behind_first, behind_visit, tells_all, PostsFit, TellsAlong, GoesAlong}
 use Rattle.clk_machine.specs.Making.{ComesFirst}
 use Rattle.clk_machine.specs.Parts.{Parts, AreKept, bare, rows_from, IsFlown, IsWhole}
@@ -168,6 +168,7 @@ pub whole_visited : (old : Parts) (c : ClockId) (window' : Shown) (tree' : TreeS
 whole_visited old c window' tree' posts' flight' course' now =
     let whole = now.whole in
     let flown = whole.flown now.going in
+    let own = own_visit old.flight (registered old.tree.clocks) c now.own flown.way in
     let falls = now.less (few_told old c.0 posts'.count now.few) in
     record {
       tied = record {
@@ -192,6 +193,11 @@ whole_visited old c window' tree' posts' flight' course' now =
             way = under_way-visited old.flight (registered old.tree.clocks) c posts'.count posts'.before posts'.after now.own flown.way;
             own = flown.own;
             paid = flown.paid;
+            links = λ changes.
+                ap (λ (ms : List Micro). list_all (can_link old.desc.defs old.tree.clocks) ms)
+                (ap (λ (front : Front). script_behind front old.flight.left) own.front ∙ ap (λ (ms : List Micro). rest_of ms) own.left)
+                ∙ both_right (can_link old.desc.defs old.tree.clocks (micro.Visit c)) (list_all (can_link old.desc.defs old.tree.clocks) own.rest)
+                (sym (ap (λ (ms : List Micro). list_all (can_link old.desc.defs old.tree.clocks) ms) own.left) ∙ flown.links changes);
             tells = λ changes. tells-visited old.flight (registered old.tree.clocks) (notifiers_at old.chains) old.course.notified c posts'.count posts'.before posts'.after now.own flown.way now.few (flown.tells changes);
           })));
       room = let room = whole.room in omega arith;

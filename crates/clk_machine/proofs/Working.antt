@@ -23,7 +23,7 @@ use Rattle.clk_machine.specs.declared.work.Work.TheVariants as work
 use Rattle.clk_machine.specs.Making.{ComesFirst, ComesNext, FindsNothing, work_of}
 use Rattle.clk_machine.specs.Parts.{Parts, IsWhole}
 use Rattle.clk_machine.specs.Plls.{raisable, lowerable, Finds}
-use Rattle.clk_machine.proofs.Coming.{end_comes, work_raises, work_polls, work_falls, work_lowers, work_tells, work_visits}
+use Rattle.clk_machine.proofs.Coming.{end_comes, work_raises, work_polls, work_falls, work_lowers, work_tells, work_visits, work_relinks, work_selects, work_settles}
 use Rattle.clk_machine.proofs.InFlight.{raise_there, lower_there, fall_untold}
 use Rattle.clk_machine.proofs.Telling.{count_told, tells_next}
 use Rattle.clk_machine.proofs.Making.{to_raise_stands, to_lower_stands}
@@ -70,6 +70,15 @@ works p r (work.Tell m) whole going is step own first =
 works p r (work.Visit c) whole going is step own first =
     let at = work_visits r c (sym is) in
     (own (micro.Visit c) at refl refl, λ rows k tells change. sym (first rows k tells change) ∙ at)
+works p r (work.Relink c q) whole going is step own first =
+    let at = work_relinks r c q (sym is) in
+    (own (micro.Relink c q) at refl refl, λ rows k tells change. sym (first rows k tells change) ∙ at)
+works p r (work.Select c n) whole going is step own first =
+    let at = work_selects r c n (sym is) in
+    (own (micro.WriteMux c n) at refl refl, λ rows k tells change. sym (first rows k tells change) ∙ at)
+works p r (work.Settle c) whole going is step own first =
+    let at = work_settles r c (sym is) in
+    (own (micro.Settle c) at refl refl, λ rows k tells change. sym (first rows k tells change) ∙ at)
 works p r work.End whole going is step own first = λ rows k tells change.
     let way = (whole.flown going).way in
     let same = step rows tells in

@@ -1,5 +1,5 @@
 -- What a core keeps of the change in flight.
-use Rattle.std.specs.Prelude.{◌≡◌, ℕ, ◌&&◌, ◌||◌, ◌==◌, List, [], ◌∷◌, Bool, true, false, not, Option, Some, None, is_some, is_none, slice_get, if◌then◌else◌}
+use Rattle.std.specs.Prelude.{◌≡◌, ℕ, ◌&&◌, ◌||◌, ◌==◌, List, [], ◌∷◌, Bool, true, false, not, Option, Some, None, is_some, is_none, slice_get, length, nat_lt, if◌then◌else◌}
 use Rattle.std.specs.List.{list_all}
 use Rattle.std.specs.Option.{option_map_or}
 use Rattle.clk_base.specs.declared.call.Micro.{Micro}
@@ -7,7 +7,12 @@ use Rattle.clk_base.specs.declared.call.Micro.TheVariants as micro
 use Rattle.clk_base.specs.declared.call.Sleeping.{Sleeping}
 use Rattle.clk_base.specs.declared.call.Sleeping.TheVariants as call
 use Rattle.clk_base.specs.declared.handle.Handle.{Handle}
-use Rattle.clk_model.specs.Step.{is_end}
+use Rattle.clk_base.specs.Description.{Description, kind_of, parents_of}
+use Rattle.clk_model.specs.declared.row.ClockRow.{ClockRow}
+use Rattle.clk_model.specs.Kinds.{mux_field}
+use Rattle.clk_model.specs.Lists.{is_in}
+use Rattle.clk_model.specs.State.{registered, link_in}
+use Rattle.clk_model.specs.Step.{is_end, sets_parent}
 use Rattle.clk_flight.specs.declared.front.Front.{Front}
 use Rattle.clk_flight.specs.declared.front.Front.TheVariants.{Empty, Poll, Raise, Lower, Falls, Posts}
 use Rattle.clk_flight.specs.Flights.{FlightState}
@@ -27,14 +32,22 @@ abbrev pub is_ranged : Sleeping → Bool
 is_ranged (call.SetRange h least most) = true
 is_ranged _ = false
 
--- whether a call changes a rate
+-- whether a call changes a rate or a parent
 abbrev pub changes_rate : Sleeping → Bool
 changes_rate (call.SetRate h x) = true
 changes_rate (call.SetRateExclusive h x) = true
 changes_rate (call.SetRange h least most) = true
+changes_rate (call.SetParent h p) = true
 changes_rate _ = false
 
--- whether a call may go on: a prepare, an unprepare or a change of rate so far
+-- whether a call asks for a rate or a range
+abbrev pub asks_rate : Sleeping → Bool
+asks_rate (call.SetRate h x) = true
+asks_rate (call.SetRateExclusive h x) = true
+asks_rate (call.SetRange h least most) = true
+asks_rate _ = false
+
+-- whether a call may go on: a prepare, an unprepare or a change of a rate or a parent so far
 abbrev pub may_go_on : Sleeping → Bool
 may_go_on what = may_raise what || may_lower what || changes_rate what
 
@@ -44,11 +57,23 @@ may_seek what there (micro.Raise x) = may_raise what && there x.0
 may_seek what there (micro.Lower x) = may_lower what && there x.0
 may_seek what there _ = false
 
--- whether a step is one of those, or tells a notifier or visits a clock that passes the test, as its call may
+-- whether a step is one of those, or tells a notifier, links a clock, selects a parent, settles a last request, or visits a clock that
+-- passes the test, as its call may
 abbrev pub may_make : Sleeping → (ℕ → Bool) → Micro → Bool
 may_make what there (micro.Notify kind c id old new) = changes_rate what
+may_make what there (micro.Relink c p) = changes_rate what
+may_make what there (micro.WriteMux c place) = changes_rate what
 may_make what there (micro.Visit c) = changes_rate what && there c.0
+may_make what there (micro.Settle c) = changes_rate what
 may_make what there m = may_seek what there m
+
+-- whether a step can be made over a tree: a mux that has a link gets one to a registered possible parent, or selects the one at a place,
+-- and a registered clock settles
+abbrev pub can_link : Description → List ClockRow → Micro → Bool
+can_link defs clocks (micro.Relink c p) = is_some (mux_field (kind_of defs c.0)) && is_some (link_in clocks c.0) && registered clocks p.0 && is_in p.0 (parents_of defs c.0)
+can_link defs clocks (micro.WriteMux c place) = is_some (mux_field (kind_of defs c.0)) && is_some (link_in clocks c.0) && nat_lt place (length (parents_of defs c.0))
+can_link defs clocks (micro.Settle c) = registered clocks c.0
+can_link defs clocks _ = true
 
 -- whether these are such steps, and then the end
 abbrev pub is_script : Sleeping → (ℕ → Bool) → List Micro → Bool
@@ -78,9 +103,9 @@ pub record IsUnderWay (there : ℕ → Bool) (f : FlightState) : Type 0 where
 abbrev pub is_called_off : FlightState → Bool
 is_called_off f = f.vetoed || f.timed_out
 
--- whether the end of the call changes nothing but that none is in flight: it is called off, and has no range to put back, or is an unprepare
+-- whether the end of the call changes nothing but that none is in flight: it is called off, and has no range to put back, or is an unprepare or a change of a parent
 abbrev pub ends_bare : FlightState → Bool
-ends_bare f = if is_called_off f then not (is_ranged f.call && is_some f.range) else may_lower f.call
+ends_bare f = if is_called_off f then not (is_ranged f.call && is_some f.range) else (may_lower f.call || sets_parent f.call)
 
 -- the handle that the end of a call may write
 abbrev pub handle_to_end : Sleeping → Option Handle

@@ -13,6 +13,7 @@ pub mod Changing
 pub mod Landing
 pub mod Holding
 pub mod Sound
+pub mod Settling
 pub mod Run
 pub mod Row
 pub mod Seen

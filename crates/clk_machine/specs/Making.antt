@@ -33,14 +33,17 @@ pub record TellsNext (m : Parts) : Type 0 where
   pub next_ : comes_next (rows_from 0 m.chains) m.flight ≡ Some notice
   pub is : is_notice notice ≡ true
 
--- the work that a step is: one of these six, or the end
+-- the work that a step is: one of these, or the end
 abbrev pub work_of : Option Micro → Work
 work_of (Some (micro.Raise x)) = work.Raise x
 work_of (Some (micro.Poll y)) = work.Poll y
 work_of (Some (micro.Fall y)) = work.Fall y
 work_of (Some (micro.Lower x)) = work.Lower x
 work_of (Some (micro.Notify kind c id old new)) = work.Tell (micro.Notify kind c id old new)
+work_of (Some (micro.Relink c p)) = work.Relink c p
+work_of (Some (micro.WriteMux c place)) = work.Select c place
 work_of (Some (micro.Visit c)) = work.Visit c
+work_of (Some (micro.Settle c)) = work.Settle c
 work_of _ = work.End
 
 -- the work comes next
@@ -50,5 +53,8 @@ ComesNext m (work.Poll y) = (own_step m.flight ≡ Some (micro.Poll y)) × Comes
 ComesNext m (work.Fall y) = (comes_next [] m.flight ≡ Some (micro.Fall y)) × ComesFirst m (micro.Fall y)
 ComesNext m (work.Lower x) = (own_step m.flight ≡ Some (micro.Lower x)) × ComesFirst m (micro.Lower x)
 ComesNext m (work.Tell step) = (is_notice step ≡ true) × TellsNext m × ComesFirst m step
+ComesNext m (work.Relink c p) = (own_step m.flight ≡ Some (micro.Relink c p)) × ComesFirst m (micro.Relink c p)
+ComesNext m (work.Select c place) = (own_step m.flight ≡ Some (micro.WriteMux c place)) × ComesFirst m (micro.WriteMux c place)
+ComesNext m (work.Settle c) = (own_step m.flight ≡ Some (micro.Settle c)) × ComesFirst m (micro.Settle c)
 ComesNext m (work.Visit c) = (own_step m.flight ≡ Some (micro.Visit c)) × ComesFirst m (micro.Visit c)
 ComesNext m work.End = ComesFirst m micro.End

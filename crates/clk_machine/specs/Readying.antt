@@ -1,4 +1,5 @@
 -- A call that changes a rate, ready to begin: what it goes on with, and that it begins so.
+use Rattle.std.specs.List.{list_all}
 use Rattle.std.specs.Prelude.{◌≡◌, ℕ, ◌+◌, ◌<◌, ◌≤◌, List, true, Option, Some, None, sum_by}
 use Rattle.clk_base.specs.declared.call.Micro.{Micro}
 use Rattle.clk_base.specs.declared.call.Sleeping.{Sleeping}
@@ -20,7 +21,7 @@ use Rattle.clk_machine.specs.declared.readied.Scripted.{Scripted}
 use Rattle.clk_machine.specs.Changing.{BeginsAlong, still_steps, told_clocks}
 use Rattle.clk_machine.specs.Course.{notifiers_at, tells_all}
 use Rattle.clk_machine.specs.Deciding.{EndsAtOnce, handle_of, made_in}
-use Rattle.clk_machine.specs.InFlight.{is_script}
+use Rattle.clk_machine.specs.InFlight.{is_script, can_link}
 use Rattle.clk_machine.specs.Parts.{Parts, IsOwnCall}
 use Rattle.clk_machine.specs.Sound.{IsSound}
 use Rattle.clk_machine.specs.Stands.{Stands}
@@ -52,6 +53,7 @@ pub record CanGoAlong (m : Parts) (d : ℕ) (what : Sleeping) (scripted : Script
   pub own : IsOwnCall m.table.handles d what
   pub script : is_script what (registered m.tree.clocks) scripted.steps.items ≡ true
   pub tells : tells_all (notifiers_at m.chains) scripted.steps.items scripted.course.notified ≡ true
+  pub links : list_all (can_link m.desc.defs m.tree.clocks) scripted.steps.items ≡ true
   pub weight : scripted.weight ≡ weight_along m scripted.steps.items
   pub room : m.credits + m.steps + scripted.weight ≤ most_credits
 

@@ -1,5 +1,5 @@
 -- What every state of a core keeps, where only calls are made that can be made so far.
-use Rattle.std.specs.Prelude.{◌≡◌, ℕ, ◌<◌, ◌≤◌, List, Bool, true, false, Some, None, length}
+use Rattle.std.specs.Prelude.{◌≡◌, ℕ, ◌<◌, ◌≤◌, ◌&&◌, List, Bool, true, false, Some, None, is_some, length, nat_lt}
 use Rattle.std.specs.List.{list_all}
 use Rattle.clk_base.specs.declared.call.Micro.{Micro}
 use Rattle.clk_base.specs.declared.call.Micro.TheVariants as micro
@@ -12,6 +12,7 @@ use Rattle.clk_base.specs.Description.{Description, parents_of}
 use Rattle.clk_base.specs.Valid.{IsValid}
 use Rattle.reg_bank.specs.Registers.{Registers}
 use Rattle.clk_model.specs.Lists.{is_in}
+use Rattle.clk_model.specs.declared.row.ClockRow.{ClockRow}
 use Rattle.clk_model.specs.State.{State, registered, link_in}
 use Rattle.clk_model.specs.Tree.{selected}
 use Rattle.clk_model.specs.Begin.{most_credits}
@@ -39,11 +40,12 @@ pub record IsNarrow (words : ℕ) (s : State) : Type 0 where
   -- each clock has a row, and those in the order are registered
   pub rows : length s.clocks ≡ length s.defs
   pub attached : (c : ℕ) → is_in c s.order ≡ true → registered s.clocks c ≡ true
-  -- a clock that isn't registered has no link; the possible parents of a registered one are registered, and it is linked to the
-  -- one that the registers select
+  -- a clock that isn't registered has no link; the possible parents of a registered one are registered, and it is linked to one of
+  -- them, or to none where the registers select none
   pub unlinked : (c : ℕ) → registered s.clocks c ≡ false → link_in s.clocks c ≡ None
   pub parents : (c : ℕ) → registered s.clocks c ≡ true → list_all (registered s.clocks) (parents_of s.defs c) ≡ true
-  pub selects : (c : ℕ) → registered s.clocks c ≡ true → link_in s.clocks c ≡ selected s.defs s.regs c
+  pub possible : (c p : ℕ) → link_in s.clocks c ≡ Some p → is_in p (parents_of s.defs c) ≡ true
+  pub unselected : (c : ℕ) → registered s.clocks c ≡ true → link_in s.clocks c ≡ None → selected s.defs s.regs c ≡ None
 
 -- what every state of a core keeps: all that holds behind a journal, and what is kept so far
 pub record IsSound (words : ℕ) (s : State) : Type 0 where
@@ -72,19 +74,23 @@ takes_memory (call.SetRange h least most) = true
 takes_memory (call.NotifierAdd h id priority policy) = true
 takes_memory _ = false
 
--- a step that links no clock, registers none, and writes no field by which a clock selects its parent
-abbrev pub leaves_links : Micro → Bool
-leaves_links (micro.Notify kind c id old new) = true
-leaves_links (micro.Raise x) = true
-leaves_links (micro.Poll y) = true
-leaves_links (micro.Fall y) = true
-leaves_links (micro.Lower x) = true
-leaves_links (micro.Visit c) = true
-leaves_links micro.End = true
-leaves_links _ = false
+-- whether a step links clocks and selects parents as it may: a registered clock gets a link to a possible parent, a parent is selected for a
+-- clock that has a link, and none is registered, held or let go
+abbrev pub links_well : Description → List ClockRow → Micro → Bool
+links_well defs clocks (micro.Notify kind c id old new) = true
+links_well defs clocks (micro.Raise x) = true
+links_well defs clocks (micro.Poll y) = true
+links_well defs clocks (micro.Fall y) = true
+links_well defs clocks (micro.Lower x) = true
+links_well defs clocks (micro.Relink c p) = registered clocks c.0 && is_in p.0 (parents_of defs c.0)
+links_well defs clocks (micro.WriteMux c place) = is_some (link_in clocks c.0) && nat_lt place (length (parents_of defs c.0))
+links_well defs clocks (micro.Visit c) = true
+links_well defs clocks (micro.Settle c) = true
+links_well defs clocks micro.End = true
+links_well defs clocks _ = false
 
--- an event that can come in a state: one of the enable tier, a call that can begin, or a step that leaves links
+-- an event that can come in a state: one of the enable tier, a call that can begin, or a step that links as it may
 abbrev pub CanTake : State → Event → Type 0
 CanTake s (event.Begin what) = IsPlaced s.defs what × CanBegin s what
-CanTake s (event.Step m answer) = leaves_links m ≡ true
+CanTake s (event.Step m answer) = links_well s.defs s.clocks m ≡ true
 CanTake s e = Unit {0}

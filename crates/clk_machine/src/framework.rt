@@ -6,7 +6,7 @@ ghost use Rattle.clk_model.specs.State.{is_quiet};
 ghost use Rattle.clk_model.specs.Journal.{opening, replay, Legal, cost};
 ghost use Rattle.clk_model.specs.Fed.{Fed};
 ghost use Rattle.clk_model.specs.Begin.{most_credits};
-ghost use Rattle.clk_machine.specs.InFlight.{changes_rate};
+ghost use Rattle.clk_machine.specs.InFlight.{asks_rate, changes_rate};
 
 use crate::built::is_built;
 use crate::fit::keeps_parents;
@@ -31,9 +31,9 @@ pub struct Core<B: Bank> {
     log: Log,
 }
 
-// Whether a call changes a rate.
-fn changes_rate(what: &Sleeping) -> bool
-    ensures { result ≡ changes_rate what.now }
+// Whether a call asks for a rate or a range.
+fn asks_rate(what: &Sleeping) -> bool
+    ensures { result ≡ asks_rate what.now }
 {
     matches!(
         what,
@@ -202,7 +202,7 @@ impl<B: Bank> Core<B> {
         // That can be only where the call takes memory.
         ensures memory { takes_memory what.now ≡ false → IsOk result }
     {
-        if changes_rate(what) {
+        if asks_rate(what) {
             return self.begin_change(driver, *what);
         }
         self.begin_other(driver, *what)
@@ -214,7 +214,7 @@ impl<B: Bank> Core<B> {
         requires quiet { in_flight self.old.journal ≡ false }
         requires place { IsPlaced self.old.start.defs what }
         requires built { can_make self.old what ≡ true }
-        requires changes { changes_rate what ≡ true }
+        requires changes { asks_rate what ≡ true }
         ensures ok { IfOk result (λ turn. Appends self.old driver (Begin what) turn self.new) }
         ensures err { OnErr result (self.new ≡ self.old) }
     {

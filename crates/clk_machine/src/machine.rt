@@ -16,6 +16,7 @@ mod holding;
 mod landing;
 mod lifting;
 mod lowering;
+mod moving;
 mod notifying;
 mod planning;
 mod ranging;

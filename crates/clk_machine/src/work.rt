@@ -14,7 +14,12 @@ pub(crate) enum Work {
     Fall(ClockId),
     Lower(ClockId),
     Tell(Micro),
+    /// A clock gets another parent.
+    Relink(ClockId, ClockId),
+    /// A mux selects the parent at a place.
+    Select(ClockId, u32),
     Visit(ClockId),
+    Settle(ClockId),
     End,
 }
 
@@ -28,7 +33,8 @@ pub(crate) struct Made {
     pub turn: Turn,
 }
 
-/// The work that a step is: any but a raise, a poll, a fall, a lower, a notice and a visit is the end.
+/// The work that a step is: any but a raise, a poll, a fall, a lower, a notice, a new link, a
+/// selection, a visit and a settling is the end.
 pub(crate) fn work_of(step: Option<Micro>) -> Work
     ensures { result ≡ work_of step }
 {
@@ -52,7 +58,10 @@ pub(crate) fn work_of(step: Option<Micro>) -> Work
             old,
             new,
         }),
+        Some(Micro::Relink(clock, parent)) => Work::Relink(clock, parent),
+        Some(Micro::WriteMux(clock, place)) => Work::Select(clock, place),
         Some(Micro::Visit(clock)) => Work::Visit(clock),
+        Some(Micro::Settle(clock)) => Work::Settle(clock),
         _ => Work::End,
     }
 }

@@ -1,13 +1,14 @@
-//! The beginning of a change of rate that goes on.
+//! The beginning of a change of a rate or a parent that goes on.
 
 ghost use Rattle.std.specs.Prelude.{◌≡◌, ◌+◌, ◌<◌, ◌≤◌, true, false, sum_by, OnOk, OnErr};
+ghost use Rattle.std.specs.List.{list_all};
 ghost use Rattle.clk_model.specs.Begin.{most_credits};
 ghost use Rattle.clk_model.specs.Script.{plls};
 ghost use Rattle.clk_model.specs.State.{registered};
 ghost use Rattle.clk_flight.specs.LeftOver.{step_weight};
 ghost use Rattle.clk_machine.specs.Changing.{StartsChange};
 ghost use Rattle.clk_machine.specs.Course.{notifiers_at, tells_all};
-ghost use Rattle.clk_machine.specs.InFlight.{changes_rate, is_script};
+ghost use Rattle.clk_machine.specs.InFlight.{can_link, changes_rate, is_script};
 ghost use Rattle.clk_machine.specs.Parts.{IsOwnCall, rows_from};
 
 use super::Machine;
@@ -18,7 +19,7 @@ use clk_io::NoMemory;
 use reg_bank::Bank;
 
 impl<B: Bank> Machine<B> {
-    /// A change of rate goes on with a script of notices and visits, along a course. All memory that it
+    /// A change of a rate or a parent goes on with a script, along a course. All memory that it
     /// needs is taken.
     pub(super) fn start_change(
         &mut self,
@@ -35,6 +36,7 @@ impl<B: Bank> Machine<B> {
         requires own { IsOwnCall self.old.table.handles driver what }
         requires script { is_script what (registered self.old.tree.clocks) steps.items ≡ true }
         requires tells { tells_all (notifiers_at self.old.chains) steps.items course.notified ≡ true }
+        requires links { list_all (can_link self.old.desc.defs self.old.tree.clocks) steps.items ≡ true }
         requires room { self.old.credits + self.old.steps + sum_by (step_weight (rows_from 0 self.old.chains) (plls self.old.desc.defs)) steps.items ≤ most_credits }
         ensures ok { OnOk result (StartsChange self.old driver what steps.items course range vetoed self.new) }
         ensures err { OnErr result (self.new ≡ self.old) }

@@ -11,7 +11,7 @@ ghost use Rattle.clk_model.specs.State.{handle_at};
 ghost use Rattle.change_walk.specs.Changes.{AreThere};
 ghost use Rattle.clk_machine.specs.declared.readied.Readied.TheVariants.{AtOnce, Change};
 ghost use Rattle.clk_machine.specs.Fit.{keeps_parents};
-ghost use Rattle.clk_machine.specs.InFlight.{changes_rate, is_ranged};
+ghost use Rattle.clk_machine.specs.InFlight.{asks_rate, is_ranged};
 ghost use Rattle.clk_machine.specs.Parts.{own_in, IsOwnCall, IsWhole, steps_left};
 ghost use Rattle.clk_machine.specs.Readying.{CanBeginSo, CanGoAlong, IsReady, Scripts, weight_of};
 ghost use Rattle.clk_machine.specs.Stands.{Enters};
@@ -70,7 +70,7 @@ impl<B: Bank> Machine<B> {
     fn ready(&mut self, driver: u32, what: Sleeping) -> Result<Readied, NoMemory>
         requires credit { self.old.spent < self.old.credits }
         requires quiet { self.old.flight.going ≡ false }
-        requires changes { changes_rate what ≡ true }
+        requires changes { asks_rate what ≡ true }
         requires still { keeps_parents self.old.desc.defs ≡ true }
         ensures ready { IfOk result (λ readied. IsReady self.old driver what readied) }
         ensures can { IfOk result (λ readied. CanBeginSo self.old driver what readied) }
@@ -99,7 +99,7 @@ impl<B: Bank> Machine<B> {
     fn answer_at_once(&mut self, driver: u32, what: Sleeping)
         requires credit { self.old.spent < self.old.credits }
         requires quiet { self.old.flight.going ≡ false }
-        requires changes { changes_rate what ≡ true }
+        requires changes { asks_rate what ≡ true }
         requires own { IsOwnCall self.old.table.handles driver what }
         requires ready { IsReady self.old driver what AtOnce }
         ensures { Enters self.old driver (Begin what) (Done Fine) self.new }
@@ -122,7 +122,7 @@ impl<B: Bank> Machine<B> {
     fn go_along(&mut self, driver: u32, what: Sleeping, scripted: Scripted) -> Result<(), NoMemory>
         requires credit { self.old.spent < self.old.credits }
         requires quiet { self.old.flight.going ≡ false }
-        requires changes { changes_rate what ≡ true }
+        requires changes { asks_rate what ≡ true }
         requires unranged { is_ranged what ≡ false }
         requires can { CanGoAlong self.old driver what scripted }
         requires ready { IsReady self.old driver what (Change scripted) }
@@ -175,7 +175,7 @@ impl<B: Bank> Machine<B> {
     fn go_on(&mut self, driver: u32, what: Sleeping, scripted: Scripted) -> Result<(), NoMemory>
         requires credit { self.old.spent < self.old.credits }
         requires quiet { self.old.flight.going ≡ false }
-        requires changes { changes_rate what ≡ true }
+        requires changes { asks_rate what ≡ true }
         requires can { CanGoAlong self.old driver what scripted }
         requires ready { IsReady self.old driver what (Change scripted) }
         ensures ok { OnOk result (Enters self.old driver (Begin what) Going self.new) }
@@ -197,7 +197,7 @@ impl<B: Bank> Machine<B> {
     fn begin_so(&mut self, driver: u32, what: Sleeping, readied: Readied) -> Result<Turn, NoMemory>
         requires credit { self.old.spent < self.old.credits }
         requires quiet { self.old.flight.going ≡ false }
-        requires changes { changes_rate what ≡ true }
+        requires changes { asks_rate what ≡ true }
         requires can { CanBeginSo self.old driver what readied }
         requires ready { IsReady self.old driver what readied }
         ensures ok { IfOk result (λ turn. Enters self.old driver (Begin what) turn self.new) }
@@ -229,7 +229,7 @@ impl<B: Bank> Machine<B> {
     ) -> Result<Turn, NoMemory>
         requires credit { self.old.spent < self.old.credits }
         requires quiet { self.old.flight.going ≡ false }
-        requires changes { changes_rate what ≡ true }
+        requires changes { asks_rate what ≡ true }
         requires still { keeps_parents self.old.desc.defs ≡ true }
         requires paid { self.old.credits ≤ self.old.spent + log.old.room }
         ensures ok { IfOk result (λ turn. Enters self.old driver (Begin what) turn self.new) }

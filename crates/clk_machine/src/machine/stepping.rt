@@ -13,7 +13,7 @@ ghost use Rattle.clk_flight.specs.Flights.{own_step, comes_next};
 ghost use Rattle.clk_machine.specs.Making.{ComesFirst, ComesNext, FindsNothing};
 ghost use Rattle.clk_machine.specs.Parts.{IsWhole};
 ghost use Rattle.clk_machine.specs.Plls.{raisable, lowerable, Finds};
-ghost use Rattle.clk_machine.specs.Sound.{leaves_links};
+ghost use Rattle.clk_machine.specs.Sound.{links_well};
 ghost use Rattle.clk_machine.specs.Stands.{Enters};
 
 use super::Machine;
@@ -152,7 +152,7 @@ impl<B: Bank> Machine<B> {
     pub(crate) fn step(&mut self) -> Made
         requires { self.old.flight.going ≡ true }
         ensures enters { Enters self.old self.old.flight.driver (Step result.step result.answer) result.turn self.new }
-        ensures leaves { leaves_links result.step ≡ true }
+        ensures links { links_well self.old.desc.defs self.old.tree.clocks result.step ≡ true }
     {
         match self.next_work() {
             Work::Raise(clock) => {
@@ -174,6 +174,18 @@ impl<B: Bank> Machine<B> {
             Work::Tell(step) => {
                 self.tell(step);
                 going_on(step, None)
+            }
+            Work::Relink(clock, parent) => {
+                self.relink(clock, parent);
+                going_on(Micro::Relink(clock, parent), None)
+            }
+            Work::Select(clock, place) => {
+                self.select(clock, place);
+                going_on(Micro::WriteMux(clock, place), None)
+            }
+            Work::Settle(clock) => {
+                self.settle(clock);
+                going_on(Micro::Settle(clock), None)
             }
             Work::Visit(clock) => {
                 self.visit(clock);
