@@ -8,16 +8,23 @@ use reg_bank::MemBank;
 use std::env;
 use std::io::ErrorKind;
 use std::process::ExitCode;
+use std::sync::Wait;
+use std::thread::Threads;
 
 /// The status where there is no memory for the words or the bank.
 const NO_MEMORY: u8 = 3;
 
 fn main(rt: HostRuntime) -> ExitCode {
-    let status = match status(&rt) {
-        Ok(status) => status,
-        Err(_) => NO_MEMORY,
+    let mut input = StdIn::new(rt.stdin());
+    let mut out = StdOut::new(rt.stdout());
+    let status = match given_words(&rt) {
+        Ok(given) => status(&rt, given.as_slice(), &mut input, &mut out),
+        Err(fault) => Err(fault),
     };
-    ExitCode::from(status)
+    match status {
+        Ok(status) => ExitCode::from(status),
+        Err(_) => ExitCode::from(NO_MEMORY),
+    }
 }
 
 // The words behind the program's name. Where one of them isn't UTF-8 there are none, which mean
@@ -37,16 +44,18 @@ fn given_words(rt: &HostRuntime) -> Result<Vec<String>, NoMemory> {
 }
 
 // The status of the run that the program's words mean.
-fn status(rt: &HostRuntime) -> Result<u8, NoMemory> {
+fn status<R: AllocGlobal + Threads + Wait + Sync>(
+    rt: &R,
+    given: &[String],
+    input: &mut StdIn,
+    out: &mut StdOut,
+) -> Result<u8, NoMemory> {
     let alloc = rt.alloc();
-    let given = given_words(rt)?;
     let mut words = Vec::new(alloc);
-    for word in given.iter() {
+    for word in given {
         words.push(word.as_str())?;
     }
     let bank = MemBank::new(alloc)?;
-    let mut input = StdIn::new(rt.stdin());
-    let mut out = StdOut::new(rt.stdout());
-    let (status, _) = clkbench(rt, words.as_slice(), &mut input, &mut out, bank, &NoPause);
+    let (status, _) = clkbench(rt, words.as_slice(), input, out, bank, &NoPause);
     Ok(status)
 }

@@ -6,6 +6,8 @@ use clk_base::NoPause;
 use clk_io::{MemSink, MemSource, NoMemory};
 use clk_run::clkbench;
 use reg_bank::MemBank;
+use std::sync::Wait;
+use std::thread::Threads;
 
 /// Two clocks, a fixed rate and a gate over it, and one word.
 pub(crate) const CLOCKS: &str =
@@ -21,8 +23,8 @@ pub(crate) const UART_PRINTED: &str =
 
 /// The status for a word and bytes, and the sink. These calls of the source and the sink fail; the
 /// sink takes so many bytes a call.
-pub(crate) fn run_over(
-    rt: &HostRuntime,
+pub(crate) fn run_over<R: AllocGlobal + Threads + Wait + Sync>(
+    rt: &R,
     word: &str,
     text: &[u8],
     bad_reads: &[u32],
@@ -41,8 +43,8 @@ pub(crate) fn run_over(
 }
 
 /// The same with a sink that takes 8 bytes a call.
-pub(crate) fn run(
-    rt: &HostRuntime,
+pub(crate) fn run<R: AllocGlobal + Threads + Wait + Sync>(
+    rt: &R,
     word: &str,
     text: &[u8],
     bad_reads: &[u32],
