@@ -2,10 +2,16 @@
 
 use crate::running::{UART, run};
 use clk_cli::USAGE_LINE;
+use std::sync::Wait;
 use std::test::Fail;
+use std::thread::Threads;
 
 // Whether the bytes are refused with this line.
-fn is_refused(rt: &HostRuntime, bytes: &[u8], wanted: &str) -> Result<bool, Fail> {
+fn is_refused<R: AllocGlobal + Threads + Wait + Sync>(
+    rt: &R,
+    bytes: &[u8],
+    wanted: &str,
+) -> Result<bool, Fail> {
     let (status, out) = run(rt, "sim", bytes, &[], &[])?;
     Ok(status == 2 && out.written() == wanted.as_bytes())
 }
