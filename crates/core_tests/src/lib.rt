@@ -17,6 +17,4 @@ mod descriptions;
 #[cfg(test)]
 mod kinds;
 #[cfg(test)]
-mod rates;
-#[cfg(test)]
 mod texts;
