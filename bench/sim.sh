@@ -3,11 +3,11 @@
 #
 # A bundle has one fixed clock and gates in a binary tree below it, each gate with a bit of its own.
 # One driver gets and prepares some of the deepest gates, and then repeats enable, rate and prepare
-# on them. Each line is the best of five runs, from the start of the process to its end. It needs a
-# `date` that knows %N.
+# on them. Each line is the best of five runs.
 
 root=$(dirname -- "$(dirname -- "$(readlink -f -- "$0")")") || exit 1
 program=$root/crates/clkbench/out/clkbench
+. "$root/bench/best_of_five.sh"
 bundle=$(mktemp) || exit 1
 trap 'rm -f "$bundle"' EXIT
 
@@ -37,25 +37,10 @@ make_bundle() {
     }'
 }
 
-# The nanoseconds of the fastest of five runs on the bundle.
-best_of_five() {
-    best=
-    for run in 1 2 3 4 5; do
-        before=$(date +%s%N)
-        "$program" sim <"$bundle" >/dev/null || return 1
-        after=$(date +%s%N)
-        taken=$((after - before))
-        if [ -z "$best" ] || [ "$taken" -lt "$best" ]; then
-            best=$taken
-        fi
-    done
-    echo "$best"
-}
-
 # Times one bundle, and prints its line.
 measure() {
     make_bundle "$1" "$2" >"$bundle"
-    if ! taken=$(best_of_five); then
+    if ! taken=$(best_of_five sim); then
         echo "sim.sh: the program failed on $1 clocks and $2 commands" >&2
         exit 1
     fi

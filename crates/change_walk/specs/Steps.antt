@@ -1,5 +1,5 @@
 -- The steps of a walk in code.
-use Rattle.std.specs.Prelude.{ℕ, ◌++◌, List, [], ◌∷◌, Bool, if◌then◌else◌, flat_map, option_map}
+use Rattle.std.specs.Prelude.{◌≡◌, ℕ, ◌+◌, ◌-◌, ◌^◌, ◌++◌, ◌&&◌, List, [], ◌∷◌, Bool, if◌then◌else◌, flat_map, length, min, option_map, sum_by}
 use Rattle.std.specs.List.{list_any}
 use Rattle.std.specs.Option.{option_map_or}
 use Rattle.clk_base.specs.declared.call.Micro.{Micro}
@@ -8,7 +8,7 @@ use Rattle.clk_base.specs.Description.{Description}
 use Rattle.clk_model.specs.declared.row.ClockRow.{ClockRow}
 use Rattle.clk_model.specs.Chain.{clock_id}
 use Rattle.clk_model.specs.Notices.{is_veto}
-use Rattle.clk_model.specs.Script.{move_of}
+use Rattle.clk_model.specs.Script.{is_raise, move_of, plls}
 use Rattle.clk_model.specs.State as state
 use Rattle.clk_model.specs.State.{link_in}
 use Rattle.clk_tree.specs.declared.chain.ChainStep.{ChainStep}
@@ -17,8 +17,9 @@ use Rattle.clk_tree.specs.Plans.{ClockRate}
 use Rattle.clk_tree.specs.TreeState.{TreeState}
 use Rattle.notifiers.specs.declared.notifier.Notifier.{Notifier}
 use Rattle.change_walk.specs.declared.changes.Changed.{Changed}
-use Rattle.change_walk.specs.Given.{settles}
+use Rattle.change_walk.specs.Given.{Script, settles}
 use Rattle.change_walk.specs.Tellings.{notifiers_at, tell_before, tell_off}
+use Rattle.change_walk.specs.Weights.{step_weight}
 
 -- a step of a chain as the definitions have it
 abbrev pub step_of : ChainStep → state.ChainStep
@@ -41,3 +42,14 @@ steps_for t prepared notifiers plan changed =
     ++ (if list_any is_veto told then flat_map (λ x. tell_off x (notifiers_at notifiers x)) changed
     else visits t.defs t.clocks prepared plan.chain plan.rates ++ settles plan.set_parent plan.chain)
     ++ micro.End ∷ []
+
+-- how many notifiers these changed clocks have
+abbrev pub told_by : List (List Notifier) → List Changed → ℕ
+told_by notifiers changed = sum_by (λ x. length (notifiers_at notifiers x)) changed
+
+-- a script is made of a plan, of which clocks are prepared, and of the notifiers; numbers are cut at the greatest of 64 bits
+pub record IsMadeOf (t : TreeState) (prepared : ℕ → Bool) (notifiers : List (List Notifier)) (plan : Plan) (script : Script) : Type 0 where
+  pub steps : script.steps ≡ steps_for t prepared notifiers plan script.changed
+  pub vetoed : script.vetoed ≡ list_any is_veto (flat_map (λ x. tell_before x (notifiers_at notifiers x)) script.changed)
+  pub extra : script.extra ≡ (if plan.set_parent && list_any is_raise script.steps then min (told_by notifiers script.changed) (2 ^ 64 - 1) else 0)
+  pub weight : script.weight ≡ min (sum_by (step_weight (plls t.defs) notifiers) script.steps + script.extra) (2 ^ 64 - 1)

@@ -8,7 +8,7 @@ ghost use Rattle.clk_model.specs.Notices.{is_veto};
 ghost use Rattle.clk_tree.specs.Plans.{chain_of, rates_of};
 ghost use Rattle.change_walk.specs.Changes.{AreThere, changed_along, parent_after};
 ghost use Rattle.change_walk.specs.Given.{HasFewNotifiers, OfPlan, changed_in, extra_of, planned_by, settles, weight_of};
-ghost use Rattle.change_walk.specs.Steps.{steps_for};
+ghost use Rattle.change_walk.specs.Steps.{IsMadeOf, steps_for};
 ghost use Rattle.change_walk.specs.Tellings.{notifiers_at, tell_before, tell_off};
 ghost use Rattle.change_walk.specs.Weights.{step_weight};
 
@@ -86,9 +86,10 @@ fn extra_of(notifiers: &Notifiers, set_parent: bool, steps: &[Micro], changed: &
 /// The script of a plan: the notices before the change; where one vetoes those that it is called off,
 /// else each clock of the walk with its move and its visit; and the end.
 ///
-/// It costs what the walk and the notices cost; the list is made once. The plan is one of a change from
-/// this tree, as planning gives it. What is said of `extra` and `weight` is about clocks that have at
-/// most as many notifiers as `Notifiers` lets them have.
+/// It costs what the walk and the notices cost; the list is made once. What it is made of is said of
+/// each plan; that it is the script of the definitions, of a plan from this tree, as planning gives it.
+/// What is said so of `extra` and `weight` is about clocks that have at most as many notifiers as
+/// `Notifiers` lets them have.
 pub fn script<V: View>(
     alloc: Global,
     desc: &ValidDesc,
@@ -106,6 +107,7 @@ pub fn script<V: View>(
     ensures extra { IfOk result (λ list. OfPlan tree.now (V.means view.now).prepared notifiers.now plan.now (λ s. HasFewNotifiers s → list.extra ≡ extra_of s plan.now)) }
     ensures weight { IfOk result (λ list. OfPlan tree.now (V.means view.now).prepared notifiers.now plan.now (λ s. HasFewNotifiers s → list.weight ≡ weight_of s plan.now)) }
     ensures inside { IfOk result (λ list. All (λ x. x.clock.0 < length tree.now.defs) list.changed) }
+    ensures made { IfOk result (λ list. IsMadeOf tree.now (V.means view.now).prepared notifiers.now plan.now list) }
 {
     let _size = desc.len();
     let chain = plan.chain.as_slice();

@@ -68,6 +68,20 @@ impl StepList {
         }
     }
 
+    /// The steps by themselves. Takes no memory.
+    pub fn into_steps(self) -> Vec<Micro>
+        ensures { result.items ≡ self.steps }
+    {
+        let StepList {
+            steps,
+            vetoed: _,
+            changed: _,
+            extra: _,
+            weight: _,
+        } = self;
+        steps
+    }
+
     /// How many entries the steps may come to, each with what it may put in front of it, and with the
     /// notices that a timeout may bring.
     pub fn weight(&self) -> u64

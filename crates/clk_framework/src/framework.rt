@@ -56,7 +56,7 @@ impl<B: Bank> Unnamed<B> {
         // There are at most as many credits as a run may be given.
         requires credits { credits ≤ most_credits }
         // The driver is number 0 of this opening, has all credits, and has seen no entry.
-        ensures { IfOk result (λ r. r.1 ≡ first_known r.0.lock.table (opened_with desc.defs words.now ignore_unused credits (B.contents bank)) credits) }
+        ensures { IfOk result (λ r. r.1 ≡ first_known r.0.lock.table (opened_with desc.defs words.now ignore_unused credits (B.contents bank) (B.lock bank)) credits) }
     {
         let kernel = Kernel::create(alloc, desc, bank, words, ignore_unused, credits)?;
         let (lock, driver, baton) = Lock::create(alloc, Box::new(alloc, kernel)?)?;

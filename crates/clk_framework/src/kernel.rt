@@ -8,7 +8,7 @@ ghost use Rattle.clk_model.specs.Journal.{cost};
 ghost use Rattle.clk_machine.specs.Fit.{CanRun};
 ghost use Rattle.clk_machine.specs.Sound.{IsPlaced};
 ghost use Rattle.clk_machine.specs.Run.{Appends, StepsOn, in_flight};
-ghost use Rattle.clk_framework.specs.Opening.{opened_with, opened_of, start_of, Begins};
+ghost use Rattle.clk_framework.specs.Opening.{opened_with, opened_of, start_of, AnswersPolls, Begins};
 ghost use Rattle.clk_framework.specs.Causes.{IsCause};
 
 use crate::opened::Opened;
@@ -95,7 +95,7 @@ impl<B: Bank> Kernel<B> {
         requires words { length words.now ≡ desc.words }
         requires bank { length words.now ≤ B.size bank }
         requires credits { credits ≤ most_credits }
-        ensures opened { IfOk result (λ run. Begins (opened_with desc.defs words.now ignore_unused credits (B.contents bank)) run) }
+        ensures opened { IfOk result (λ run. Begins (opened_with desc.defs words.now ignore_unused credits (B.contents bank) (B.lock bank)) run) }
     {
         let core = Core::create(alloc, desc, bank, words, ignore_unused, credits)?;
         Ok(Kernel { core, credits })
@@ -155,8 +155,11 @@ impl<B: Bank> Kernel<B> {
     pub(crate) fn into_core(self) -> Core<B>
         ensures same { result ≡ self }
         ensures opened { self.start ≡ start_of (opened_of self) }
+        ensures polled { AnswersPolls result }
     {
         let Kernel { core, credits: _ } = self;
+        // What the journal tells of its polls.
+        let _ = core.journal();
         core
     }
 }

@@ -1,6 +1,7 @@
 //! What a framework began with. No value of this type is made: it exists for contracts alone.
 
 use clk_base::ClockDef;
+use clk_machine::Behind;
 use std::alloc::Global;
 use std::collections::LinkedList;
 
@@ -15,6 +16,6 @@ pub struct Opened {
     pub credits: u32,
     /// Whether the bank tells its words.
     pub told: bool,
-    /// The words of the bank behind those, where it tells them.
-    pub behind: Option<LinkedList<u32, Global>>,
+    /// What lies in the bank behind those, and no call changes.
+    pub behind: Behind,
 }

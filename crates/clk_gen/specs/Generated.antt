@@ -59,7 +59,7 @@ abbrev pub words_line : ℕ → List ℕ
 words_line drivers = codes "%regs " ++ (decimal (2 * drivers) ++ codes "\n")
 
 -- the whole bundle of so many drivers
-abbrev pub generated : ℕ → List ℕ
+unfoldable pub generated : ℕ → List ℕ
 generated drivers =
     codes "%bundle 1\n%clocks\nfixed osc 24000000\n" ++ texts_up_to clock_lines drivers
     ++ words_line drivers ++ texts_up_to register_line drivers ++ texts_up_to driver_lines drivers

@@ -51,6 +51,7 @@ fn words_line(alloc: Global, drivers: u32) -> Result<String, NoMemory>
 }
 
 /// The bundle of so many drivers, with 404 commands each.
+#[tactic(auto, unfolding(crate::specs::Generated::generated))]
 pub fn generated(alloc: Global, drivers: u32) -> Result<String, NoMemory>
     // There are at most 64.
     requires few { drivers ≤ 64 }

@@ -1,64 +1,20 @@
--- What is added to the steps of a change of rate, and to the clocks that it tells, one by one.
+-- What is added to the clocks that a change tells, one by one.
 use Rattle.std.proofs.Common.{◌≡◌, ℕ, ◌+◌, ◌≤◌, ◌++◌, not, Bool, true, false, cond, List, [], ◌∷◌, Some, refl, sym, ap, ◌∙◌, arith, length, map, filter, drop, append_assoc, append-nil, nat_eq}
 use Rattle.std.specs.Prelude.{slice_get, slice_index}
-use Rattle.clk_base.specs.declared.call.Micro.{Micro}
-use Rattle.clk_base.specs.declared.call.Micro.TheVariants as micro
 use Rattle.clk_model.specs.Chain.{clock_id}
-use Rattle.clk_model.specs.Laws.Paced.{is_notice}
 use Rattle.clk_tree.specs.declared.walk_rates.WalkRate.{WalkRate}
 use Rattle.clk_tree.specs.Plans.{ClockRate, rates_of}
 use Rattle.clk_machine.specs.declared.course.Notified.{Notified}
-use Rattle.clk_machine.specs.Changing.{notices_first, told_clocks}
+use Rattle.clk_machine.specs.Changing.{told_clocks}
 use Rattle.clk_machine.proofs.Setting.{drop_mapped, drop_past}
-
--- ---- notices
-
-notices_from : (m : Micro) (ms : List Micro) (t : Bool) → is_notice m ≡ t → notices_first (m ∷ ms) ≡ cond t (m ∷ notices_first ms) []
-notices_from m ms t e = ap (λ (b : Bool). cond b (m ∷ notices_first ms) []) e
-
--- the same for a list that isn't mapped
-drop_here : (xs : List Micro) (k : ℕ) (x : Micro) → slice_get xs k ≡ Some x → drop k xs ≡ x ∷ drop (k + 1) xs
-drop_here xs k x at = ap (drop k) (sym (same xs)) ∙ drop_mapped (λ (m : Micro). m) xs k x at ∙ ap (λ (ms : List Micro). x ∷ drop (k + 1) ms) (same xs) where
-  same : (xs : List Micro) → map (λ (m : Micro). m) xs ≡ xs
-  same [] = refl
-  same (x ∷ xs) = ap (λ (ms : List Micro). x ∷ ms) (same xs)
-
-pub notice_stop : (script : List Micro) (k : ℕ) (m : Micro) (items whole : List Micro) → slice_get script k ≡ Some m → is_notice m ≡ false → items ++ notices_first (drop k script) ≡ whole → items ≡ whole
-notice_stop script k m items whole at none all =
-    sym (append-nil items) ∙ ap (λ (ms : List Micro). items ++ ms) (sym (ap notices_first (drop_here script k m at) ∙ notices_from m (drop (k + 1) script) false none)) ∙ all
-
-pub notice_on : (script : List Micro) (k : ℕ) (m : Micro) (items new whole : List Micro) → slice_get script k ≡ Some m → is_notice m ≡ true → new ≡ items ++ m ∷ []
-    → items ++ notices_first (drop k script) ≡ whole → new ++ notices_first (drop (k + 1) script) ≡ whole
-notice_on script k m items new whole at is added all =
-    ap (λ (ms : List Micro). ms ++ notices_first (drop (k + 1) script)) added ∙ append_assoc items (m ∷ []) (notices_first (drop (k + 1) script))
-    ∙ ap (λ (ms : List Micro). items ++ ms) (sym (ap notices_first (drop_here script k m at) ∙ notices_from m (drop (k + 1) script) true is)) ∙ all
-
-pub notice_end : (script : List Micro) (k : ℕ) (items whole : List Micro) → length script ≤ k → items ++ notices_first (drop k script) ≡ whole → items ≡ whole
-notice_end script k items whole past all = sym (append-nil items) ∙ ap (λ (ms : List Micro). items ++ notices_first ms) (sym (drop_past script k past)) ∙ all
-
--- ---- visits
 
 -- a clock of a walk with its rate
 abbrev rate_of : WalkRate → ClockRate
 rate_of w = record { clock = w.clock.0; rate = w.rate }
 
-abbrev visit_of : ClockRate → Micro
-visit_of r = micro.Visit (clock_id r.clock)
-
-pub visit_on : (rates : List WalkRate) (k : ℕ) (w : WalkRate) (items new whole : List Micro) → slice_get rates k ≡ Some w → new ≡ items ++ micro.Visit w.clock ∷ []
-    → items ++ map (λ r. micro.Visit (clock_id r.clock)) (drop k (rates_of rates)) ≡ whole → new ++ map (λ r. micro.Visit (clock_id r.clock)) (drop (k + 1) (rates_of rates)) ≡ whole
-visit_on rates k w items new whole at added all =
-    ap (λ (ms : List Micro). ms ++ map visit_of (drop (k + 1) (rates_of rates))) added ∙ append_assoc items (micro.Visit w.clock ∷ []) (map visit_of (drop (k + 1) (rates_of rates)))
-    ∙ ap (λ (rs : List ClockRate). items ++ map visit_of rs) (sym (drop_mapped rate_of rates k w at)) ∙ all
-
 length-rates : (rates : List WalkRate) → length (rates_of rates) ≡ length rates
 length-rates [] = refl
 length-rates (w ∷ rates) = let more = length-rates rates in omega arith
-
-pub visit_end : (rates : List WalkRate) (k : ℕ) (items whole : List Micro) → length rates ≤ k → items ++ map (λ r. micro.Visit (clock_id r.clock)) (drop k (rates_of rates)) ≡ whole → items ≡ whole
-visit_end rates k items whole past all =
-    sym (append-nil items)
-    ∙ ap (λ (rs : List ClockRate). items ++ map visit_of rs) (sym (drop_past (rates_of rates) k (let same = length-rates rates in omega arith))) ∙ all
 
 -- ---- clocks that are told
 

@@ -22,6 +22,7 @@ use Rattle.counts_core.specs.Sums.{up_in}
 use Rattle.counts_core.specs.Counted.{CountState, HasLinks, is_held, is_active}
 use Rattle.counts_core.specs.Standing.{StandsFor, own_enables}
 use Rattle.clk_machine.specs.Parts.{Parts, bare, IsWhole}
+use Rattle.clk_machine.proofs.HeldCounts.{listed_tells}
 use Rattle.clk_machine.proofs.Following.{links_are}
 use Rattle.clk_machine.proofs.Holdings.{sum_on}
 
@@ -61,6 +62,8 @@ holder_registered m h whole held = by (registered m.tree.clocks h) refl where
       let own : slice_index m.counts.enables h ≡ own_enables (bare m) h = whole.counted.stands.enables h in
       let none = none_on (λ r. r.enables) m.table.handles h (off free) in
       let plain = no_part (is_critical m.desc.defs h) (registered m.tree.clocks h) free in
+      let told = (listed_tells m.enable_holds).each h in
+      let held_ = whole.enables_held.inside h free in
       absurd (omega arith)
 
 -- ---- a link more

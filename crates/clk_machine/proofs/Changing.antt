@@ -1,5 +1,4 @@
 -- What a change of rate that goes on makes of the parts of a core.
-use Rattle.clk_machine.proofs.InFlight.{raising_bare}
 use Rattle.clk_model.proofs.Members.{or_cases, both_left, both_right}
 use Rattle.std.proofs.Common.{◌≡◌, ℕ, ◌+◌, ◌<◌, ◌≤◌, ◌&&◌, ◌||◌, inl, inr, Bool, true, false, List, [], ◌∷◌, Option, refl, sym, ap, subst, ◌∙◌, arith, length, map, take}
 use Rattle.std.specs.Prelude.{is_none, slice_get, sum_by, if◌then◌else◌}
@@ -10,7 +9,8 @@ use Rattle.clk_base.specs.declared.call.Sleeping.{Sleeping}
 use Rattle.clk_base.specs.declared.call.Sleeping.TheVariants as call
 use Rattle.clk_model.specs.State.{State, Change, NotifierRow, registered}
 use Rattle.clk_model.specs.Script.{plls}
-use Rattle.clk_model.specs.Step.{is_end}
+use Rattle.clk_model.specs.Notices.{abort_list}
+use Rattle.clk_model.specs.Step.{is_end, sets_parent}
 use Rattle.clk_model.specs.Begin.{most_credits}
 use Rattle.clk_model.specs.Laws.Paced.{is_notice, may_time_out}
 use Rattle.clk_flight.specs.declared.front.Front.{Front}
@@ -22,29 +22,35 @@ use Rattle.clk_flight.specs.Fronts.{called_off}
 use Rattle.clk_flight.specs.LeftOver.{step_weight, front_weight, left_over}
 use Rattle.clk_machine.specs.Changing.{BeginsAlong, StartsChange}
 use Rattle.clk_machine.specs.Course.{CourseState, notifiers_at, tells_all, PostsFit}
-use Rattle.clk_machine.specs.InFlight.{changes_rate, may_go_on, is_script, is_front, may_make, may_raise, can_link}
+use Rattle.clk_machine.specs.InFlight.{changes_rate, may_go_on, cuts_behind, cuts_front, is_script, is_front, may_make, may_raise, can_link}
 use Rattle.clk_machine.specs.Parts.{Parts, bare, IsOwnCall, rows_from, IsWhole}
 use Rattle.clk_machine.proofs.Holdings.{StandsFor-same}
 use Rattle.clk_machine.proofs.Writing.{whole_spent}
 
--- no step of a change of a rate or a parent may time out
-calm_step : (what : Sleeping) (there : ℕ → Bool) (m : Micro) → changes_rate what ≡ true → may_make what there m ≡ true → may_time_out m ≡ false
-calm_step what there (micro.Raise x) changes e = let no : true ≡ false = sym changes ∙ raising_bare what (both_left (may_raise what) (there x.0) e) in absurd cc
-calm_step what there (micro.Poll y) changes e = absurd cc
-calm_step what there _ changes e = refl
+-- a change of a parent raises no PLL so far
+parent_calm : (what : Sleeping) → sets_parent what ≡ true → may_raise what ≡ true → ⊥
+parent_calm (call.SetParent h p) sets e = absurd cc
+parent_calm _ sets e = absurd cc
+
+-- so no step of it may time out
+calm_step : (what : Sleeping) (there : ℕ → Bool) (m : Micro) → sets_parent what ≡ true → may_make what there m ≡ true → may_time_out m ≡ false
+calm_step what there (micro.Raise x) sets e = absurd (parent_calm what sets (both_left (may_raise what) (there x.0) e))
+calm_step what there (micro.Poll y) sets e = absurd cc
+calm_step what there _ sets e = refl
 
 calm_end : (m : Micro) → is_end m ≡ true → may_time_out m ≡ false
 calm_end micro.End e = refl
 calm_end _ e = absurd cc
 
-pub script_calm : (what : Sleeping) (there : ℕ → Bool) (ms : List Micro) → changes_rate what ≡ true → is_script what there ms ≡ true → list_any may_time_out ms ≡ false
-script_calm what there [] changes e = refl
-script_calm what there (m ∷ ms) changes e = elim (or_cases (is_end m && is_none (slice_get ms 0)) (may_make what there m && is_script what there ms) e) [
+pub script_calm : (what : Sleeping) (there : ℕ → Bool) (ms : List Micro) → sets_parent what ≡ true → is_script what there ms ≡ true → list_any may_time_out ms ≡ false
+script_calm what there [] sets e = refl
+script_calm what there (m ∷ ms) sets e = elim (or_cases (is_end m && is_none (slice_get ms 0)) (cuts_behind what m ms && (may_make what there m && is_script what there ms)) e) [
   | inl last ↦
       ap (λ (t : Bool). t || list_any may_time_out ms) (calm_end m (both_left _ _ last))
       ∙ ap (λ (ns : List Micro). list_any may_time_out ns) (none_left_of ms (both_right _ _ last))
   | inr more ↦
-      ap (λ (t : Bool). t || list_any may_time_out ms) (calm_step what there m changes (both_left _ _ more)) ∙ script_calm what there ms changes (both_right _ _ more)
+      let made = both_right _ _ more in
+      ap (λ (t : Bool). t || list_any may_time_out ms) (calm_step what there m sets (both_left _ _ made)) ∙ script_calm what there ms sets (both_right _ _ made)
 ] where
   none_left_of : (ns : List Micro) → is_none (slice_get ns 0) ≡ true → ns ≡ []
   none_left_of [] is = refl
@@ -60,7 +66,7 @@ goes_on _ e = absurd cc
 
 -- the change begins as the flight does
 pub begins_as : (ns : List NotifierRow) (d : ℕ) (what : Sleeping) (steps : List Micro) (course : CourseState) (range : Option (ℕ × ℕ)) (vetoed : Bool) (start : Start) (k : Change)
-    → list_any may_time_out steps ≡ false → start.driver ≡ d → start.call ≡ what → start.script.items ≡ steps → start.range ≡ range → start.extra ≡ 0 → start.vetoed ≡ vetoed
+    → (sets_parent what ≡ true → list_any may_time_out steps ≡ false) → start.driver ≡ d → start.call ≡ what → start.script.items ≡ steps → start.range ≡ range → start.extra ≡ 0 → start.vetoed ≡ vetoed
     → BeginsAlong d what steps course range vetoed k → flights.StartsAs ns start k
 begins_as ns d what steps course range vetoed start k calm driver is script range_ extra vetoed_ begins = record {
   driver = begins.driver_ ∙ sym driver;
@@ -76,8 +82,13 @@ begins_as ns d what steps course range vetoed start k calm driver is script rang
   calls_off = ap (λ (n : ℕ). list_all is_notice (map called_off (take n start.script.items))) extra;
   vetoed = begins.vetoed_ ∙ sym vetoed_;
   timed_out = begins.timed_out;
-  aborts = λ may. let no : true ≡ false = sym may ∙ ap (λ (ms : List Micro). list_any may_time_out ms) begins.left ∙ calm in absurd cc;
-}
+  aborts = λ may.
+      ap (λ (w : Sleeping). if sets_parent w then abort_list (record { before = k.before; outcome = k.outcome }) ns k.changing else []) begins.call ∙ by may (sets_parent what) refl
+      ∙ sym (ap (λ (n : ℕ). map called_off (take n start.script.items)) extra);
+} where
+  by : list_any may_time_out k.left ≡ true → (t : Bool) → sets_parent what ≡ t → (if t then abort_list (record { before = k.before; outcome = k.outcome }) ns k.changing else []) ≡ []
+  by may true sets = let no : true ≡ false = sym may ∙ ap (λ (ms : List Micro). list_any may_time_out ms) begins.left ∙ calm sets in absurd cc
+  by may false sets = refl
 
 -- what is known of a flight that has begun so
 pub record Changing (old : Parts) (d : ℕ) (what : Sleeping) (steps : List Micro) (flight' : FlightState) : Type 0 where
@@ -149,6 +160,7 @@ whole_changing old d what steps flight' course' whole left now changes own scrip
           call_ = ap may_go_on now.call_ ∙ goes_on what changes;
           script = ap (λ (c : Sleeping). is_script c (registered old.tree.clocks) flight'.left) now.call_ ∙ ap (λ (ms : List Micro). is_script what (registered old.tree.clocks) ms) now.left ∙ script;
           front = ap (is_front flight'.call (registered old.tree.clocks)) now.front;
+          cut = ap (cuts_front flight'.call flight'.left) now.front;
           raised = ap (λ (ys : List ℕ). list_all (registered old.tree.clocks) ys) now.raised;
           extra = now.extra;
           vetoed = λ is. ap changes_rate now.call_ ∙ changes;
@@ -162,6 +174,8 @@ whole_changing old d what steps flight' course' whole left now changes own scrip
         links = λ is. ap (λ (ms : List Micro). list_all (can_link old.desc.defs old.tree.clocks) ms) now.left ∙ links;
       };
       room = omega arith;
+      prepares_held = whole.prepares_held;
+      enables_held = whole.enables_held;
     }
 
 -- and the change goes on

@@ -1,14 +1,17 @@
 -- Closing the gates of a path, a clock before its parents.
-use Rattle.std.proofs.Common.{◌≡◌, ℕ, ◌-◌, ◌<◌, Bool, true, false, List, [], ◌∷◌, ◌++◌, Option, Some, None, refl, sym, ap, ◌∙◌}
+use Rattle.std.proofs.Common.{◌≡◌, ℕ, ◌-◌, ◌<◌, Bool, true, false, cond, List, [], ◌∷◌, ◌++◌, Option, Some, None, refl, sym, ap, ◌∙◌}
 use Rattle.std.specs.Prelude.{reverse}
 use Rattle.std.specs.Option.{option_map, option_map_or}
 use mathlib.Core.List.{reverse-cons}
 use Rattle.clk_base.specs.declared.clock.ClockId.{ClockId}
 use Rattle.clk_base.specs.declared.clock.Kind.{Kind}
 use Rattle.clk_base.specs.Description.{Description, kind_of}
-use Rattle.clk_base.specs.Fields.{gate_of}
+use Rattle.clk_base.specs.Fields.{GateBit, gate_of}
 use Rattle.clk_model.specs.Tree.{path_within}
 use Rattle.clk_model.specs.Gates.{follow, gates_moved}
+use Rattle.clk_model.specs.Holders.{active}
+use Rattle.clk_model.specs.Kinds.{with_gate}
+use Rattle.clk_model.specs.State.{State}
 use Rattle.clk_model.proofs.PathLaws.{above, path_cons}
 use Rattle.clk_model.proofs.GateLaws.{gates_moved-append}
 
@@ -61,3 +64,14 @@ closed_root defs after up levels c link old mid some is at first =
       same : (old : Option (List ℕ)) → old ≡ closed defs after [] old
       same None = refl
       same (Some regs) = refl
+
+-- ---- one gate
+
+-- what it leaves of a state's registers
+pub closed_regs : (s : State) (c : ℕ) (t : Bool) → t ≡ active s c → option_map_or (follow s.regs true t) (gate_of (kind_of s.defs c)) s.regs
+    ≡ cond (active s c) s.regs (option_map_or (λ gate. with_gate s.regs gate false) (gate_of (kind_of s.defs c)) s.regs)
+closed_regs s c true is = stay (gate_of (kind_of s.defs c)) ∙ ap (λ (b : Bool). cond b s.regs (option_map_or (λ gate. with_gate s.regs gate false) (gate_of (kind_of s.defs c)) s.regs)) is where
+  stay : (o : Option GateBit) → option_map_or (follow s.regs true true) o s.regs ≡ s.regs
+  stay None = refl
+  stay (Some gate) = refl
+closed_regs s c false is = ap (λ (b : Bool). cond b s.regs (option_map_or (λ gate. with_gate s.regs gate false) (gate_of (kind_of s.defs c)) s.regs)) is

@@ -19,7 +19,7 @@ use Rattle.clk_flight.specs.Flights.{FlightState, first_step, comes_next, fall_o
 use Rattle.clk_flight.specs.LeftOver.{step_weight, front_weight, left_over}
 use Rattle.clk_machine.specs.declared.work.Work.{Work}
 use Rattle.clk_machine.specs.Course.{PostsFit}
-use Rattle.clk_machine.specs.InFlight.{may_raise, may_make, is_script, is_front, IsUnderWay}
+use Rattle.clk_machine.specs.InFlight.{may_raise, may_make, cuts_behind, is_script, is_front, IsUnderWay}
 use Rattle.clk_machine.specs.Making.{work_of}
 
 -- ---- what is left to come
@@ -80,9 +80,15 @@ no_work what there (micro.Raise x) e h = absurd cc
 no_work what there (micro.Lower x) e h = absurd cc
 no_work what there (micro.Notify kind c id old new) e h = absurd cc
 no_work what there (micro.Visit c) e h = absurd cc
+no_work what there (micro.HoldPrepare x) e h = absurd cc
+no_work what there (micro.HoldEnable x) e h = absurd cc
+no_work what there (micro.DropEnable x) e h = absurd cc
+no_work what there (micro.DropPrepare x) e h = absurd cc
 no_work what there (micro.Relink c p) e h = absurd cc
 no_work what there (micro.WriteMux c place) e h = absurd cc
 no_work what there (micro.Settle c) e h = absurd cc
+no_work what there (micro.Close c) e h = absurd cc
+no_work what there (micro.Unpower c) e h = absurd cc
 no_work what there _ e h = absurd cc
 
 -- what stands within a list is found
@@ -103,9 +109,9 @@ end_comes rows f there going steps posts is none =
     ∙ by f.front refl steps is.front (sym (ap (λ (t : Bool). work_of (if t then first_step rows f f.front else None)) going) ∙ none) where
       script : (ms : List Micro) → is_script f.call there ms ≡ true → work_of (slice_get ms 0) ≡ Work.End → slice_get ms 0 ≡ Some micro.End
       script [] e h = absurd cc
-      script (m ∷ ms) e h = elim (or_cases (is_end m && is_none (slice_get ms 0)) (may_make f.call there m && is_script f.call there ms) e) [
+      script (m ∷ ms) e h = elim (or_cases (is_end m && is_none (slice_get ms 0)) (cuts_behind f.call m ms && (may_make f.call there m && is_script f.call there ms)) e) [
         | inl last ↦ ap (λ (n : Micro). Some n) (is_end_end m (both_left (is_end m) _ last))
-        | inr seeks ↦ absurd (no_work f.call there m (both_left (may_make f.call there m) _ seeks) h)
+        | inr seeks ↦ absurd (no_work f.call there m (both_left (may_make f.call there m) _ (both_right (cuts_behind f.call m ms) _ seeks)) h)
       ]
 
       fallen_first : (told left : ℕ) (raised : List ℕ) → 0 < left + length raised → left ≡ 0 → work_of (fall_or_abort f.script told raised) ≡ Work.End → fall_or_abort f.script told raised ≡ Some micro.End
@@ -158,6 +164,26 @@ work_visits None x e = absurd cc
 work_visits (Some (micro.Visit y)) x e = let same : y ≡ x = cc in ap (λ (z : ClockId). Some (micro.Visit z)) same
 work_visits (Some _) x e = absurd cc
 
+pub work_holds_prepare : (o : Option Micro) (x : ClockId) → work_of o ≡ Work.HoldPrepare x → o ≡ Some (micro.HoldPrepare x)
+work_holds_prepare None x e = absurd cc
+work_holds_prepare (Some (micro.HoldPrepare y)) x e = let same : y ≡ x = cc in ap (λ (z : ClockId). Some (micro.HoldPrepare z)) same
+work_holds_prepare (Some _) x e = absurd cc
+
+pub work_holds_enable : (o : Option Micro) (x : ClockId) → work_of o ≡ Work.HoldEnable x → o ≡ Some (micro.HoldEnable x)
+work_holds_enable None x e = absurd cc
+work_holds_enable (Some (micro.HoldEnable y)) x e = let same : y ≡ x = cc in ap (λ (z : ClockId). Some (micro.HoldEnable z)) same
+work_holds_enable (Some _) x e = absurd cc
+
+pub work_drops_enable : (o : Option Micro) (x : ClockId) → work_of o ≡ Work.DropEnable x → o ≡ Some (micro.DropEnable x)
+work_drops_enable None x e = absurd cc
+work_drops_enable (Some (micro.DropEnable y)) x e = let same : y ≡ x = cc in ap (λ (z : ClockId). Some (micro.DropEnable z)) same
+work_drops_enable (Some _) x e = absurd cc
+
+pub work_drops_prepare : (o : Option Micro) (x : ClockId) → work_of o ≡ Work.DropPrepare x → o ≡ Some (micro.DropPrepare x)
+work_drops_prepare None x e = absurd cc
+work_drops_prepare (Some (micro.DropPrepare y)) x e = let same : y ≡ x = cc in ap (λ (z : ClockId). Some (micro.DropPrepare z)) same
+work_drops_prepare (Some _) x e = absurd cc
+
 pub work_relinks : (o : Option Micro) (x p : ClockId) → work_of o ≡ Work.Relink x p → o ≡ Some (micro.Relink x p)
 work_relinks None x p e = absurd cc
 work_relinks (Some (micro.Relink y q)) x p e =
@@ -178,3 +204,13 @@ pub work_settles : (o : Option Micro) (x : ClockId) → work_of o ≡ Work.Settl
 work_settles None x e = absurd cc
 work_settles (Some (micro.Settle y)) x e = let same : y ≡ x = cc in ap (λ (z : ClockId). Some (micro.Settle z)) same
 work_settles (Some _) x e = absurd cc
+
+pub work_closes : (o : Option Micro) (x : ClockId) → work_of o ≡ Work.Close x → o ≡ Some (micro.Close x)
+work_closes None x e = absurd cc
+work_closes (Some (micro.Close y)) x e = let same : y ≡ x = cc in ap (λ (z : ClockId). Some (micro.Close z)) same
+work_closes (Some _) x e = absurd cc
+
+pub work_unpowers : (o : Option Micro) (x : ClockId) → work_of o ≡ Work.Unpower x → o ≡ Some (micro.Unpower x)
+work_unpowers None x e = absurd cc
+work_unpowers (Some (micro.Unpower y)) x e = let same : y ≡ x = cc in ap (λ (z : ClockId). Some (micro.Unpower z)) same
+work_unpowers (Some _) x e = absurd cc

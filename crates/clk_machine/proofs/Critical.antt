@@ -127,15 +127,16 @@ module _ (old : Parts) (c : ℕ) (tree' : TreeState) (counts' held : CountState)
         more h some = let raised = count-more counts'.enables c h (place counts'.enables now.keeps.enables) in grind (arith, nat_tests)
 
   -- that is what is done to the state
-  pub becomes_critical : window'.size ≡ old.window.size → window'.behind ≡ old.window.behind
+  pub becomes_critical : window'.size ≡ old.window.size → window'.behind ≡ old.window.behind → window'.locks ≡ old.window.locks
       → ((d : ℕ) → is_in d (path_within (up_in counts'.links) levels c) ≡ (is_active held d && not (is_active counts' d)))
       → window'.words ≡ option_map (gates_moved old.desc.defs (λ _. false) (λ _. true) cs) old.window.words
       → Becomes old (λ k. nat_eq c k) (λ s. register s c) (with_registered old window' tree' held)
   unfolding settled
-  becomes_critical size behind began words = record {
+  becomes_critical size behind locks began words = record {
     remains = record { desc = refl; told = ap (λ (o : Option (List ℕ)). is_some o) words ∙ told_mapped _ old.window.words; size = size; behind = behind; credits = refl; ignore_unused = refl };
     spent = refl;
     flight = refl;
+    locks = locks;
     left = refl;
     steps = refl;
     rows = now.rows;

@@ -26,6 +26,7 @@ use Rattle.clk_machine.specs.Window.{Shown}
 use Rattle.clk_machine.specs.Making.{ComesFirst}
 use Rattle.clk_machine.specs.Parts.{Parts, bare, held_in_all, ArePaid, AreKept, IsWhole, rows_from}
 use Rattle.clk_machine.specs.Stands.{Stands, Enters}
+use Rattle.clk_machine.proofs.HeldCounts.{held_on, held_still}
 use Rattle.clk_machine.proofs.Flying.{none_left}
 use Rattle.clk_machine.proofs.Holdings.{StandsFor-same, StandsFor-like}
 use Rattle.clk_machine.proofs.Coming.{some_left}
@@ -55,6 +56,8 @@ whole_landed old flight' whole going is =
           let some = some_left (rows_from 0 old.chains) old.flight (registered old.tree.clocks) going (whole.flown going).way in
           let none = none_left (rows_from 0 old.chains) flight' quiet in
           omega arith;
+      prepares_held = held_on _ _ _ _ whole.prepares_held;
+      enables_held = held_on _ _ _ _ whole.enables_held;
     }
 
 -- a handle is written as well, for which the call had paid
@@ -98,6 +101,8 @@ whole_ended old n row new table' counts' flight' whole going is written =
           let some = some_left (rows_from 0 old.chains) old.flight (registered old.tree.clocks) going (whole.flown going).way in
           let none = none_left (rows_from 0 old.chains) flight' quiet in
           omega arith;
+      prepares_held = held_on _ _ _ _ whole.prepares_held;
+      enables_held = held_on _ _ _ _ whole.enables_held;
     }
 
 -- another rate is the last request of a clock
@@ -138,6 +143,8 @@ whole_requested m tree' c x whole quiet now = record {
   listed = whole.listed;
   flown = λ still. let no : true ≡ false = sym still ∙ quiet in absurd cc;
   room = whole.room;
+  prepares_held = held_still (registered m.tree.clocks) (registered tree'.clocks) (length m.desc.defs) m.steps m.prepare_holds (λ k there. there_requested m.tree tree' c x now k ∙ there) whole.prepares_held;
+  enables_held = held_still (registered m.tree.clocks) (registered tree'.clocks) (length m.desc.defs) m.steps m.enable_holds (λ k there. there_requested m.tree tree' c x now k ∙ there) whole.enables_held;
 } where
   kept : (words : Option (List ℕ)) → AreKept m.desc.defs words m.tree.clocks m.tree.rates → AreKept m.desc.defs words tree'.clocks tree'.rates
   kept None was = tt
@@ -195,6 +202,7 @@ end_enters old new does now = record {
       omega arith;
   begun = λ paid. absurd cc;
   no_more = λ paid. absurd cc;
+  beside = λ tier. absurd cc;
   step = λ s stands sound.
       let has = change_of old s stands now.going in
       let k = has.k in

@@ -54,6 +54,7 @@ enters old new d event r does pays going left becomes comes = record {
   fewer = λ free. let no : true ≡ false = sym pays ∙ free in absurd cc;
   begun = λ paid goes. absurd cc;
   no_more = λ paid done. let same = becomes.left in omega arith;
+  beside = λ tier. (becomes.locks, becomes.flight);
   step = λ s stands sound.
       let spends : s.spent < s.credits = let one = stands.spent in let two = stands.credits in omega arith in
       record {
@@ -83,6 +84,7 @@ enters_known old new d c quiet left becomes there comes =
       remains = becomes.remains;
       spent = becomes.spent;
       flight = becomes.flight;
+      locks = becomes.locks;
       left = becomes.left;
       steps = becomes.steps;
       rows = λ k. becomes.rows k ∙ known k;

@@ -19,12 +19,12 @@ use Rattle.clk_model.specs.declared.row.ClockRow.{ClockRow}
 use Rattle.clk_base.specs.Description.{Description, parents_of}
 use Rattle.clk_model.specs.State.{State, registered}
 use Rattle.clk_model.specs.Machine.{next}
-use Rattle.clk_model.specs.Journal.{slotless, replay, Legal, opening, is_paid, is_going, cost}
+use Rattle.clk_model.specs.Journal.{slotless, replay, Legal, opening, is_paid, is_going, cost, Polled}
 use Rattle.clk_model.proofs.EndCauseLaws.{going_leaves_changes}
 use Rattle.clk_model.proofs.JournalCauseLaws.{journals_have_causes}
 use Rattle.clk_model.proofs.JournalLaws.{replay-append, Legal-append}
-use Rattle.clk_machine.specs.Fit.{CanRun, keeps_parents}
-use Rattle.clk_machine.specs.InFlight.{asks_rate, changes_rate}
+use Rattle.clk_machine.specs.Fit.{CanRun}
+use Rattle.clk_machine.specs.InFlight.{is_worked_out}
 use Rattle.clk_machine.specs.Sound.{IsSound, IsPlaced, takes_memory, links_well, CanTake}
 use Rattle.clk_machine.specs.Parts.{Parts, rows_from, steps_left}
 use Rattle.clk_machine.proofs.Flying.{never_flown, none_left}
@@ -32,6 +32,10 @@ use Rattle.std.specs.Prelude.{if◌then◌else◌}
 use Rattle.clk_model.specs.Tier.{is_enable_tier}
 use Rattle.clk_machine.specs.Stands.{Stands, is_told, Remains, Leads, Enters, registers, most_steps, price}
 use Rattle.clk_machine.specs.Built.{is_built_over}
+use Rattle.clk_machine.specs.declared.behind.Behind.{Behind}
+use Rattle.clk_machine.specs.Polls.{FollowsLocks, IfPoll, IsAsked, asked_by}
+use Rattle.clk_machine.specs.Window.{HasDelays}
+use Rattle.clk_machine.proofs.Polling.{Takes, answers_on, asked_append, front_behind_journal, polled_append, polling_on}
 use Rattle.clk_base.specs.Valid.{IsValid}
 use Rattle.clk_model.specs.Fed.{Fed}
 use Rattle.clk_machine.proofs.Soundness.{fed_reached, sound_opening}
@@ -91,6 +95,7 @@ pub record IsEntered (old new : Parts) (words : List ℕ) (log log' : Logged) (d
   pub can : is_told old ≡ true → CanTake (state_of old words log) e
   pub entries : log'.entries ≡ log.entries ++ entry_of d e t ∷ []
   pub room : new.credits + steps_left new ≤ new.spent + log'.room
+  pub locks : FollowsLocks old e new
 
 -- one that is paid and answered at once leaves room for the entries to come
 pub answered : (old new : Parts) (words : List ℕ) (log log' : Logged) (d : ℕ) (e : Event) (t : Turn) → IsRun old words log → Enters old d e t new
@@ -107,7 +112,11 @@ answered old new words log log' d e t run enters can paid done entries taken = r
       let credits = enters.remains.credits in
       let less = enters.no_more paid done in
       omega arith;
-}
+  locks = paid_follows e paid;
+} where
+  paid_follows : (f : Event) → is_paid f ≡ true → FollowsLocks old f new
+  paid_follows (event.Step m answer) e = absurd cc
+  paid_follows _ e = tt
 
 -- so does a call that begins, where there was room for the steps that it may come to
 pub begun : (old new : Parts) (words : List ℕ) (log log' : Logged) (d : ℕ) (what : Sleeping) (t : Turn) → IsRun old words log → Enters old d (event.Begin what) t new
@@ -119,6 +128,7 @@ begun old new words log log' d what t run enters can most entries taken = record
   can = can;
   entries = entries;
   room = by (is_going t) refl;
+  locks = tt;
 } where
   by : (b : Bool) → is_going t ≡ b → new.credits + steps_left new ≤ new.spent + log'.room
   by true goes =
@@ -143,6 +153,7 @@ begun_along old new words log log' d what t run enters can most entries taken = 
   can = can;
   entries = entries;
   room = by (is_going t) refl;
+  locks = tt;
 } where
   by : (b : Bool) → is_going t ≡ b → new.credits + steps_left new ≤ new.spent + log'.room
   by true goes =
@@ -159,9 +170,9 @@ begun_along old new words log log' d what t run enters can most entries taken = 
 
 -- and a step
 pub stepped : (old new : Parts) (words : List ℕ) (log log' : Logged) (d : ℕ) (m : Micro) (answer : Option Bool) (t : Turn) → IsRun old words log
-    → Enters old d (event.Step m answer) t new → links_well old.desc.defs old.tree.clocks m ≡ true → log'.entries ≡ log.entries ++ entry_of d (event.Step m answer) t ∷ [] → log'.room + 1 ≡ log.room
+    → Enters old d (event.Step m answer) t new → links_well old.desc.defs old.tree.clocks m ≡ true → FollowsLocks old (event.Step m answer) new → log'.entries ≡ log.entries ++ entry_of d (event.Step m answer) t ∷ [] → log'.room + 1 ≡ log.room
     → IsEntered old new words log log' d (event.Step m answer) t
-stepped old new words log log' d m answer t run enters leaves entries taken = record {
+stepped old new words log log' d m answer t run enters leaves locks entries taken = record {
   run = run;
   enters = enters;
   can = λ told.
@@ -175,6 +186,7 @@ stepped old new words log log' d m answer t run enters leaves entries taken = re
       let credits = enters.remains.credits in
       let less = enters.fewer refl in
       omega arith;
+  locks = locks;
 }
 
 -- a journal with room for more entries is as good
@@ -189,6 +201,8 @@ roomier m words log log' run same more = record {
   going = run.going ∙ sym (ap in_flight same);
   driver_ = λ goes. run.driver_ goes ∙ sym (ap driver_in_flight same);
   size = run.size;
+  polling = λ told goes. subst (λ (j : List Entry). IfPoll m.flight.front (IsAsked m.window.locks (asked_by [] j))) (sym same) (run.polling told goes);
+  polled = λ told delay delays. subst (λ (j : List Entry). Polled delay j) (sym same) (run.polled told delay delays);
   probed = λ c. run.probed c ∙ sym (ap (λ (j : List Entry). was_probed j c) same);
 }
 
@@ -235,6 +249,18 @@ module _ (old new : Parts) (words : List ℕ) (log log' : Logged) (d : ℕ) (e :
   whose true goes still = is.run.driver_ (sym goes ∙ still)
   whose false goes still = refl
 
+  -- the event is taken from the state before to the one after it
+  takes : (told : is_told old ≡ true) → Takes old new now (leads told).to d e t
+  takes told = record {
+    step = (leads told).next_;
+    before = (is.run.stands told).change;
+    after = (leads told).stands.change;
+    front = front_behind_journal (start_of old words) log.entries refl (is.run.legal told);
+    going = is.enters.going;
+    beside = is.enters.beside;
+    locks = is.locks;
+  }
+
   -- a core keeps what it keeps
   pub entered : IsRun new words log'
   entered = record {
@@ -250,6 +276,14 @@ module _ (old new : Parts) (words : List ℕ) (log log' : Logged) (d : ℕ) (e :
     going = is.enters.going ∙ ap (λ (b : Bool). if is_enable_tier e then b else is_going t) is.run.going ∙ sym (ap in_flight is.entries ∙ going_append false log.entries (entry_of d e t));
     driver_ = λ still.
         is.enters.driver_ still ∙ whose (is_enable_tier e) is.enters.going still ∙ sym (ap driver_in_flight is.entries ∙ driver_append 0 log.entries (entry_of d e t));
+    polling = λ told goes.
+        subst (λ (asked : List ℕ). IfPoll new.flight.front (IsAsked new.window.locks asked)) (sym (ap (asked_by []) is.entries ∙ asked_append [] log.entries (entry_of d e t)))
+        (polling_on old new now (leads (was told)).to d e t (asked_by [] log.entries) (takes (was told)) (is.run.polling (was told)) goes);
+    polled = λ told delay delays.
+        let kept : HasDelays old.window.behind.delays delay = subst (λ (b : Behind). HasDelays b.delays delay) is.enters.remains.behind delays in
+        subst (λ (j : List Entry). Polled delay j) (sym is.entries)
+        (polled_append delay [] log.entries (entry_of d e t) (is.run.polled (was told) delay kept)
+        (answers_on old new now (leads (was told)).to d e t (asked_by [] log.entries) delay (takes (was told)) (is.run.polling (was told)) delays));
     size = is.enters.remains.size ∙ is.run.size;
     probed = λ c.
         is.enters.rows c ∙ ap (λ (b : Bool). b || registers e c) (is.run.probed c)
@@ -325,26 +359,14 @@ list_all-agree : (p q : ℕ → Bool) (xs : List ℕ) → ((x : ℕ) → p x ≡
 list_all-agree p q [] same = refl
 list_all-agree p q (x ∷ xs) same = ap (λ (b : Bool). b && list_all p xs) (same x) ∙ ap (λ (b : Bool). q x && b) (list_all-agree p q xs same)
 
--- a change of rate takes memory, and can be made where each clock keeps its parent
-pub takes_room : (what : Sleeping) → asks_rate what ≡ true → takes_memory what ≡ true
+-- a call whose steps are worked out before takes memory
+pub takes_room : (what : Sleeping) → is_worked_out what ≡ true → takes_memory what ≡ true
 takes_room (call.SetRate h x) e = refl
 takes_room (call.SetRateExclusive h x) e = refl
 takes_room (call.SetRange h least most) e = refl
+takes_room (call.SetParent h p) e = refl
+takes_room call.Sweep e = refl
 takes_room _ e = absurd cc
-
-pub keeps_built : (m : Parts) (words : List ℕ) (log : Logged) (what : Sleeping) → asks_rate what ≡ true → can_make (run_of m words log) what ≡ true → keeps_parents m.desc.defs ≡ true
-keeps_built m words log (call.SetRate h x) e built = built
-keeps_built m words log (call.SetRateExclusive h x) e built = built
-keeps_built m words log (call.SetRange h least most) e built = built
-keeps_built m words log _ e built = absurd cc
-
--- a call that can be made and asks for no rate changes none
-pub other_stays : (run : Run) (what : Sleeping) → asks_rate what ≡ false → can_make run what ≡ true → changes_rate what ≡ false
-other_stays run (call.SetRate h x) e built = absurd cc
-other_stays run (call.SetRateExclusive h x) e built = absurd cc
-other_stays run (call.SetRange h least most) e built = absurd cc
-other_stays run (call.SetParent h p) e built = absurd cc
-other_stays run _ e built = refl
 
 -- a clock is registered where it was probed, so a call that can be made is built
 pub can_begin : (m : Parts) (words : List ℕ) (log : Logged) (what : Sleeping) → IsRun m words log
@@ -390,5 +412,7 @@ begins m words given log desc ignore_unused credits same empty room stands at cr
       going = quiet ∙ sym (ap in_flight empty);
       driver_ = λ goes. never_flown m.flight quiet goes;
       size = size ∙ sym (ap (λ (ws : List ℕ). length ws) same);
+      polling = λ told goes. let no : true ≡ false = sym goes ∙ quiet in absurd cc;
+      polled = λ told delay delays. subst (λ (j : List Entry). Polled delay j) (sym empty) tt;
       probed = λ c. none c ∙ sym (ap (λ (j : List Entry). was_probed j c) empty);
     }

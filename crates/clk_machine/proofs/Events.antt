@@ -7,6 +7,7 @@ use Rattle.clk_base.specs.declared.call.Micro.{Micro}
 use Rattle.clk_base.specs.declared.call.Micro.TheVariants as micro
 use Rattle.clk_base.specs.declared.call.Sleeping.{Sleeping}
 use Rattle.clk_base.specs.declared.call.Sleeping.TheVariants as call
+use Rattle.clk_base.specs.declared.clock.ClockId.{ClockId}
 use Rattle.clk_base.specs.declared.event.Event.{Event}
 use Rattle.clk_base.specs.declared.event.Event.TheVariants as event
 use Rattle.clk_base.specs.declared.event.Errno.TheVariants as errno
@@ -19,11 +20,12 @@ use Rattle.clk_model.specs.Lists.{to_front}
 use Rattle.clk_model.specs.Laws.CallCauses.{with_limits}
 use Rattle.clk_model.specs.State.{State, Change, ChainStep, registered, link_in, handle_at, requested}
 use Rattle.clk_model.specs.Tree.{rooted, path, path_to_be, children}
-use Rattle.clk_model.specs.Script.{unprepared_plls, runs}
-use Rattle.clk_model.specs.Step.{taken, on, powered, visit, set_in_chain, to_raise, raise_one, poll, fall, to_lower, lower_one, passed_over, settle_all, ended_well, unranged, is_yes, stepped}
+use Rattle.clk_model.specs.Script.{unprepared_plls, runs, sweep_script}
+use Rattle.reg_bank.specs.Registers.{Registers}
+use Rattle.clk_model.specs.Step.{taken, on, powered, visit, set_in_chain, to_raise, raise_one, poll, fall, to_lower, lower_one, passed_over, settle_all, ended_well, unranged, is_yes, stepped, hold_prepare, hold_enable, drop_prepare, drop_enable}
 use Rattle.clk_model.specs.Holders.{active}
-use Rattle.clk_model.specs.Gates.{settled}
-use Rattle.clk_model.specs.Begin.{refused, starts, change_of, weight_of, most_credits, put_handle, own_handle, given, register, keeps_prepare, prepare, unprepare, prepared_once_more, held_once_more, request_between, change_along, request, misses, range_set, holds_something, has_notifier, most_notifiers, begun}
+use Rattle.clk_model.specs.Gates.{settled, gates_moved}
+use Rattle.clk_model.specs.Begin.{refused, starts, change_of, weight_of, most_credits, put_handle, own_handle, given, register, keeps_prepare, prepare, unprepare, prepared_once_more, held_once_more, request_between, change_along, request, misses, range_set, reparenting, parent_set, holds_something, has_notifier, most_notifiers, begun}
 use Rattle.clk_model.specs.Machine.{paid, next}
 use Rattle.clk_model.proofs.StateLaws.{settled-still, active-append}
 use Rattle.clk_model.proofs.EventLaws.{enable-unknown, enable-unprepared, enable-fine, disable-unknown, disable-warned, disable-fine, running-unknown, running-told, get-not_found, get-deferred, get-given, put-unknown, put-busy, put-fine, rate-unknown, rate-told, parent-unknown, parent-told, probe-twice}
@@ -45,7 +47,8 @@ use Rattle.clk_model.specs.Walk.{below_within}
 use Rattle.clk_base.specs.Levels.{depth}
 use Rattle.clk_base.specs.Description.{parents_of}
 use Rattle.clk_machine.proofs.Attaching.{IsNarrow-register, adoptable-sound}
-use Rattle.clk_machine.proofs.Kept.{IsNarrow-spent, IsNarrow-counted, IsNarrow-notified, IsNarrow-settled, IsNarrow-change, IsNarrow-powered, IsNarrow-set, IsNarrow-handles, IsNarrow-put, IsNarrow-given, IsNarrow-requested}
+use Rattle.clk_machine.proofs.Closing.{closed_regs}
+use Rattle.clk_machine.proofs.Kept.{IsNarrow-spent, IsNarrow-counted, IsNarrow-notified, IsNarrow-settled, IsNarrow-gated, IsNarrow-change, IsNarrow-powered, IsNarrow-set, IsNarrow-handles, IsNarrow-put, IsNarrow-given, IsNarrow-requested, IsNarrow-held}
 
 -- ---- paid events
 
@@ -182,6 +185,20 @@ range_stays words s d h least most sound =
     (λ fits. request_leaves words s new new (lift new h.number) d (call.SetRange h least most) row.clock.0 (request_between s.clocks row.clock.0 least most) (Some (row.min, row.max)) sound after after))
 
 -- so is what follows
+parent_stays : (words : ℕ) (s : State) (d : ℕ) (h : Handle) (p : ClockId) → IsNarrow words s → Stays words s (begun s d (call.SetParent h p))
+unfolding begun
+parent_stays words s d h p sound =
+    with_handle_either (Stays words s) s d h.number (λ row. parent_set s (lift s h.number) d (call.SetParent h p) row.clock.0 p.0) (refused_stays words s sound)
+    (λ row own. pick_either (Stays words s) _ _ _ (λ linked. refused_stays words s sound)
+    (λ other. pick_either (Stays words s) _ _ _ (λ bound. refused_stays words s sound)
+    (λ free. pick_either (Stays words s) _ _ _ (λ busy. refused_stays words s sound)
+    (λ calm. pick_either (Stays words s) _ _ _ (λ candidate. starts_stays words s s (reparenting s d (call.SetParent h p) row.clock.0 p.0) sound sound) (λ none. refused_stays words s sound)))))
+
+sweep_stays : (words : ℕ) (s : State) (d : ℕ) → IsNarrow words s → Stays words s (begun s d call.Sweep)
+unfolding begun
+sweep_stays words s d sound =
+    pick_either (Stays words s) s.ignore_unused _ _ (λ off. refused_stays words s sound) (λ goes. starts_stays words s s (change_of s d call.Sweep (sweep_script s)) sound sound)
+
 leaves_sound : (words : ℕ) (s t : State) (d : ℕ) (what : Sleeping) (x : Turn) → IsNarrow words s → Stays words s (begun s d what) → next s d (event.Begin what) ≡ Some (t, x) → IsNarrow words t
 leaves_sound words s t d what x sound stays comes =
     subst (IsNarrow words) (begin_is s t d what x comes).1 (IsNarrow-spent words (settled s (begun s d what).0) (s.spent + 1) stays)
@@ -279,8 +296,8 @@ begin_sound words s t d (call.RoundRate h r) x whole quiet sound can comes = by 
 begin_sound words s t d (call.SetRate h r) x whole quiet sound can comes = leaves_sound words s t d (call.SetRate h r) x sound (rate_stays words s d h r sound) comes
 begin_sound words s t d (call.SetRateExclusive h r) x whole quiet sound can comes = leaves_sound words s t d (call.SetRateExclusive h r) x sound (exclusive_stays words s d h r sound) comes
 begin_sound words s t d (call.SetRange h least most) x whole quiet sound can comes = leaves_sound words s t d (call.SetRange h least most) x sound (range_stays words s d h least most sound) comes
-begin_sound words s t d (call.SetParent h p) x whole quiet sound can comes = absurd cc
-begin_sound words s t d call.Sweep x whole quiet sound can comes = absurd cc
+begin_sound words s t d (call.SetParent h p) x whole quiet sound can comes = leaves_sound words s t d (call.SetParent h p) x sound (parent_stays words s d h p sound) comes
+begin_sound words s t d call.Sweep x whole quiet sound can comes = leaves_sound words s t d call.Sweep x sound (sweep_stays words s d sound) comes
 
 -- ---- steps
 
@@ -327,12 +344,20 @@ stepped_sound words s k answer (micro.Visit c) sound leaves = IsNarrow-change wo
 stepped_sound words s k answer (micro.Relink c p) sound leaves =
     IsNarrow-change words (record s { clocks = linked s.clocks c.0 p.0; order = to_front c.0 s.order; prepare_holds = passed_over p.0 (link_in s.clocks c.0) s.prepare_holds; enable_holds = passed_over p.0 (link_in s.clocks c.0) s.enable_holds }) (Some k)
     (IsNarrow-linked words s c.0 p.0 (passed_over p.0 (link_in s.clocks c.0) s.prepare_holds) (passed_over p.0 (link_in s.clocks c.0) s.enable_holds) sound (both_left _ _ leaves) (both_right _ _ leaves))
+stepped_sound words s k answer (micro.HoldPrepare x) sound leaves = IsNarrow-held words s (hold_prepare s k x.0).prepare_holds s.enable_holds (hold_prepare s k x.0).change sound
+stepped_sound words s k answer (micro.HoldEnable x) sound leaves = IsNarrow-held words s s.prepare_holds (hold_enable s k x.0).enable_holds (Some k) sound
+stepped_sound words s k answer (micro.DropEnable x) sound leaves = IsNarrow-held words s s.prepare_holds (drop_enable s k x.0).enable_holds (Some k) sound
+stepped_sound words s k answer (micro.DropPrepare x) sound leaves = IsNarrow-held words s (drop_prepare s k x.0).prepare_holds s.enable_holds (Some k) sound
 stepped_sound words s k answer (micro.WriteMux c place) sound leaves =
     let few : nat_lt place (length (parents_of s.defs c.0)) ≡ true = both_right _ _ leaves in
     IsNarrow-change words (record s { regs = mux_written s c.0 place }) (Some k) (IsNarrow-written words s c.0 place sound (both_left _ _ leaves) (grind (arith, nat_tests)))
 stepped_sound words s k answer (micro.Settle c) sound leaves =
     IsNarrow-change words (record s { clocks = settle_all s (below_within (children s.order s.clocks) depth c.0) }) (Some k)
     (IsNarrow-settle words s (below_within (children s.order s.clocks) depth c.0) sound)
+stepped_sound words s k answer (micro.Close c) sound leaves =
+    subst (λ (regs : Registers). IsNarrow words (record s { regs = regs; change = Some k })) (closed_regs s c.0 (active s c.0) refl)
+    (IsNarrow-change words (record s { regs = gates_moved s.defs (λ _. true) (λ _. active s c.0) (c.0 ∷ []) s.regs }) (Some k) (IsNarrow-gated words s (λ _. true) (λ _. active s c.0) (c.0 ∷ []) sound))
+stepped_sound words s k answer (micro.Unpower c) sound leaves = IsNarrow-change words (powered s c.0 false) (Some k) (IsNarrow-powered words s c.0 false sound)
 stepped_sound words s k answer micro.End sound leaves =
     IsNarrow-change words (if k.vetoed || k.timed_out then unranged s k else ended_well s k.driver k.call) None (ended_sound words s k (k.vetoed || k.timed_out) sound)
 stepped_sound words s k answer _ sound leaves = absurd cc

@@ -53,7 +53,7 @@ opens_all defs before after cs regs words lie within began grows =
       off false b e = refl
 
 -- where they are those that are no longer active, and none became so, their gates close
-closes_all : (defs : Description) (before after : ℕ → Bool) (cs : List ℕ) (regs : Registers) → AreWords regs → GatesLie defs (count_from 0 (length defs)) (length regs)
+pub closes_all : (defs : Description) (before after : ℕ → Bool) (cs : List ℕ) (regs : Registers) → AreWords regs → GatesLie defs (count_from 0 (length defs)) (length regs)
     → ((c : ℕ) → is_in c cs ≡ true → c < length defs) → ((c : ℕ) → is_in c cs ≡ (before c && not (after c))) → ((c : ℕ) → after c ≡ true → before c ≡ true)
     → gates_moved defs before after (count_from 0 (length defs)) regs ≡ gates_moved defs (λ _. true) (λ _. false) (reverse cs) regs
 closes_all defs before after cs regs words lie within stopped shrinks =
@@ -116,7 +116,7 @@ pub lists_alike : (a b a' b' : Bool) → a ≡ a' → b ≡ b' → (a && not b) 
 lists_alike a b a' b' e f = ap (λ (t : Bool). t && not b) e ∙ ap (λ (t : Bool). a' && not t) f
 
 module _ (old : Parts) (n levels : ℕ) (row new : HandleRow) (window' : Shown) (table' : HandleTable) (counts' : CountState)
-    (whole : IsWhole old) (written : Written old n row new table' counts') (size : window'.size ≡ old.window.size) (behind : window'.behind ≡ old.window.behind) where
+    (whole : IsWhole old) (written : Written old n row new table' counts') (size : window'.size ≡ old.window.size) (behind : window'.behind ≡ old.window.behind) (locks : window'.locks ≡ old.window.locks) where
   abbrev pub cs : List ℕ
   cs = path_within (link_in old.tree.clocks) levels row.clock.0
 
@@ -140,6 +140,7 @@ module _ (old : Parts) (n levels : ℕ) (row new : HandleRow) (window' : Shown) 
     remains = record { desc = refl; told = ap (λ (o : Option (List ℕ)). is_some o) words ∙ told_mapped _ old.window.words; size = size; behind = behind; credits = refl; ignore_unused = refl };
     spent = refl;
     flight = refl;
+    locks = locks;
     left = refl;
     steps = refl;
     rows = λ c. sym (or-false (registered old.tree.clocks c));

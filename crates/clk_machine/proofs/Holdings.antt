@@ -139,6 +139,37 @@ StandsFor-same k s t stands defs clocks handles prepare_holds enable_holds = rec
       ∙ ap (λ (hs : List (Option HandleRow)). own_all count s.defs s.clocks hs holds c) handles
       ∙ ap (λ (held : List ℕ). own_all count s.defs s.clocks s.handles held c) same
 
+-- and for one with the same links and handles, where each clock is held as often
+pub StandsFor-held : (k : CountState) (s t : State) → StandsFor k s → t.defs ≡ s.defs → t.clocks ≡ s.clocks → t.handles ≡ s.handles
+    → ((c : ℕ) → count_by (λ h. nat_eq h c) t.prepare_holds ≡ count_by (λ h. nat_eq h c) s.prepare_holds) → ((c : ℕ) → count_by (λ h. nat_eq h c) t.enable_holds ≡ count_by (λ h. nat_eq h c) s.enable_holds)
+    → StandsFor k t
+StandsFor-held k s t stands defs clocks handles prepare_holds enable_holds =
+    let same : StandsFor k (record t { prepare_holds = s.prepare_holds; enable_holds = s.enable_holds }) =
+    StandsFor-same k s (record t { prepare_holds = s.prepare_holds; enable_holds = s.enable_holds }) stands defs clocks handles refl refl in
+    record {
+      defs = same.defs;
+      links = same.links;
+      enables = λ c. let was = same.enables c in let held = enable_holds c in omega arith;
+      prepares = λ c. let was = same.prepares c in let held = prepare_holds c in omega arith;
+      exclusives = same.exclusives;
+    }
+
+-- so do counts with other holders, where the holds differ by as much
+pub StandsFor-moved : (k k' : CountState) (s t : State) → StandsFor k s → k'.defs ≡ k.defs → k'.links ≡ k.links → k'.exclusives ≡ k.exclusives → t.defs ≡ s.defs → t.clocks ≡ s.clocks → t.handles ≡ s.handles
+    → ((c : ℕ) → slice_index k'.enables c + count_by (λ h. nat_eq h c) s.enable_holds ≡ slice_index k.enables c + count_by (λ h. nat_eq h c) t.enable_holds)
+    → ((c : ℕ) → slice_index k'.prepares c + count_by (λ h. nat_eq h c) s.prepare_holds ≡ slice_index k.prepares c + count_by (λ h. nat_eq h c) t.prepare_holds)
+    → StandsFor k' t
+StandsFor-moved k k' s t stands made linked exclusives defs clocks handles enables prepares =
+    let same : StandsFor k (record t { prepare_holds = s.prepare_holds; enable_holds = s.enable_holds }) =
+    StandsFor-same k s (record t { prepare_holds = s.prepare_holds; enable_holds = s.enable_holds }) stands defs clocks handles refl refl in
+    record {
+      defs = made ∙ same.defs;
+      links = subst (λ (ls : List (Option ClockId)). HasLinks t.clocks ls) (sym linked) same.links;
+      enables = λ c. let was = same.enables c in let held = enables c in omega arith;
+      prepares = λ c. let was = same.prepares c in let held = prepares c in omega arith;
+      exclusives = λ c. ap (λ (xs : List ℕ). slice_index xs c) exclusives ∙ same.exclusives c;
+    }
+
 -- so do counts with other links for a state that has these, where the same clocks are registered
 pub StandsFor-linked : (k k' : CountState) (s t : State) → StandsFor k s → k'.defs ≡ k.defs → k'.enables ≡ k.enables → k'.prepares ≡ k.prepares → k'.exclusives ≡ k.exclusives → HasLinks t.clocks k'.links
     → t.defs ≡ s.defs → ((c : ℕ) → registered t.clocks c ≡ registered s.clocks c) → t.handles ≡ s.handles → t.prepare_holds ≡ s.prepare_holds → t.enable_holds ≡ s.enable_holds → StandsFor k' t

@@ -1,7 +1,7 @@
 -- What stays of a change in flight while its steps are made.
-use Rattle.std.proofs.Common.{◌≡◌, ℕ, ◌&&◌, ◌||◌, nat_eq, Bool, true, false, List, [], ◌∷◌, Option, Some, None, refl, sym, ap, ◌∙◌}
+use Rattle.std.proofs.Common.{◌≡◌, ℕ, ◌+◌, ◌-◌, inl, inr, ◌&&◌, ◌||◌, nat_eq, Bool, true, false, List, [], ◌∷◌, Option, Some, None, refl, sym, ap, ◌∙◌}
 use Rattle.std.specs.Prelude.{is_none, slice_get, if◌then◌else◌, option_and_then, nat_lt}
-use Rattle.std.specs.List.{list_all}
+use Rattle.std.specs.List.{list_any, list_all}
 use Rattle.std.specs.Option.{option_map, option_map_or}
 use Rattle.clk_base.specs.declared.call.Micro.{Micro}
 use Rattle.clk_base.specs.declared.call.Micro.TheVariants as micro
@@ -10,22 +10,23 @@ use Rattle.clk_base.specs.declared.call.Sleeping.TheVariants as call
 use Rattle.clk_base.specs.declared.clock.ClockId.{ClockId}
 use Rattle.clk_model.specs.State.{NotifierRow}
 use Rattle.clk_model.specs.Notices.{notifiers_of}
-use Rattle.clk_model.specs.Step.{is_end, from_first, cut_short, rest_of}
-use Rattle.clk_model.proofs.Members.{both_left, both_right, same_from_test}
+use Rattle.clk_model.specs.Step.{is_end, is_visit, from_first, cut_short, rest_of}
+use Rattle.clk_model.proofs.Members.{or_cases, both_left, both_right, same_from_test}
 use Rattle.clk_flight.specs.declared.front.Front.{Front}
 use Rattle.clk_flight.specs.declared.front.Front.TheVariants.{Empty, Poll, Raise, Lower, Falls, Posts}
 use Rattle.clk_flight.specs.Fronts.{abort_of, post_to, falls, front_behind, script_behind}
 use Rattle.clk_flight.specs.Flights.{FlightState, own_first, own_step, first_step, comes_next, fall_or_abort}
 use Rattle.clk_flight.specs.Moves.{others, found_none, comes_again, raised_once, raised_in, lowered_once, is_last_no, timed_out_in, polled_in, front_polled, fallen, front_fallen}
-use Rattle.clk_machine.specs.InFlight.{may_raise, may_lower, changes_rate, may_seek, may_make, is_script, is_front, IsUnderWay}
+use Rattle.clk_machine.specs.InFlight.{may_raise, may_lower, may_seek, may_make, can_cut, cuts_behind, cuts_front, is_script, is_front, IsUnderWay}
 
 -- the script behind a step of it
 behind_seek : (what : Sleeping) (there : ℕ → Bool) (m : Micro) (ms : List Micro) → is_end m ≡ false → is_script what there (m ∷ ms) ≡ true
-    → (may_make what there m ≡ true) × (is_script what there ms ≡ true)
+    → (may_make what there m ≡ true) × (is_script what there ms ≡ true) × (cuts_behind what m ms ≡ true)
 behind_seek what there m ms no_end is =
-    let rest : (may_make what there m && is_script what there ms) ≡ true =
-    sym (ap (λ (b : Bool). (b && is_none (slice_get ms 0)) || (may_make what there m && is_script what there ms)) no_end) ∙ is in
-    (both_left _ _ rest, both_right _ _ rest)
+    let rest : (cuts_behind what m ms && (may_make what there m && is_script what there ms)) ≡ true =
+    sym (ap (λ (b : Bool). (b && is_none (slice_get ms 0)) || (cuts_behind what m ms && (may_make what there m && is_script what there ms))) no_end) ∙ is in
+    let two = both_right _ _ rest in
+    (both_left _ _ two, both_right _ _ two, both_left _ _ rest)
 
 pub script_rest : (f : FlightState) (there : ℕ → Bool) (front : Front) (m : Micro) → own_first f front ≡ Some m → is_end m ≡ false → is_script f.call there f.left ≡ true
     → is_script f.call there (script_behind front f.left) ≡ true
@@ -48,6 +49,15 @@ first_seeks f there m own no_end is = from f.left own is where
   from (n ∷ ns) e h =
       let same : n ≡ m = cc in
       ap (may_make f.call there) (sym same) ∙ (behind_seek f.call there n ns (ap is_end same ∙ no_end) h).0
+
+-- a timeout behind the first step leaves steps
+first_cuts : (f : FlightState) (there : ℕ → Bool) (m : Micro) → slice_get f.left 0 ≡ Some m → is_end m ≡ false → is_script f.call there f.left ≡ true → cuts_behind f.call m (rest_of f.left) ≡ true
+first_cuts f there m own no_end is = from f.left own is where
+  from : (left : List Micro) → slice_get left 0 ≡ Some m → is_script f.call there left ≡ true → cuts_behind f.call m (rest_of left) ≡ true
+  from [] e h = absurd cc
+  from (n ∷ ns) e h =
+      let same : n ≡ m = cc in
+      ap (λ (x : Micro). cuts_behind f.call x ns) (sym same) ∙ (behind_seek f.call there n ns (ap is_end same ∙ no_end) h).2
 
 -- ---- the clock of the step that comes next
 
@@ -97,6 +107,42 @@ poll_in_front f there y own is = from f.front refl where
     by (Falls told left) at e = absurd cc
     by (Posts c told left old new) at e = absurd cc
 
+-- ---- where a timeout leaves steps
+
+-- a poll or a raise in front goes on before the same script
+pub cut_behind : (what : Sleeping) (raised : List ℕ) (left : List Micro) (front : Front) → cuts_front what left front ≡ true → cuts_front what (script_behind front left) (front_behind raised front) ≡ true
+cut_behind what raised left Empty is = refl
+cut_behind what raised left (Poll y polls None) is = refl
+cut_behind what raised left (Poll y polls (Some x)) is = is
+cut_behind what raised left (Raise x) is = refl
+cut_behind what raised left (Lower x) is = refl
+cut_behind what (y ∷ ys) left (Falls told many) is = refl
+cut_behind what [] left (Falls told many) is = by (nat_eq (many - 1) 0) where
+  by : (t : Bool) → cuts_front what left (if t then Empty else Falls (told + 1) (many - 1)) ≡ true
+  by true = refl
+  by false = refl
+cut_behind what raised left (Posts c told many old new) is = by (nat_eq (many - 1) 0) where
+  by : (t : Bool) → cuts_front what left (if t then Empty else Posts c (told + 1) (many - 1) old new) ≡ true
+  by true = refl
+  by false = refl
+
+cut_falls : (what : Sleeping) (left : List Micro) (raised : List ℕ) (told many : ℕ) → cuts_front what left (falls raised told many) ≡ true
+cut_falls what left (y ∷ ys) told many = refl
+cut_falls what left [] told many = by (nat_eq many 0) where
+  by : (t : Bool) → cuts_front what left (if t then Empty else Falls told many) ≡ true
+  by true = refl
+  by false = refl
+
+-- behind a raise that comes next
+raise_cuts : (f : FlightState) (there : ℕ → Bool) (front : Front) (x : ClockId) → own_first f front ≡ Some (micro.Raise x) → is_script f.call there f.left ≡ true → cuts_front f.call f.left front ≡ true
+    → can_cut f.call (script_behind front f.left) ≡ true
+raise_cuts f there Empty x own is cut = first_cuts f there (micro.Raise x) own refl is
+raise_cuts f there (Poll y polls again) x own is cut = absurd cc
+raise_cuts f there (Raise z) x own is cut = cut
+raise_cuts f there (Lower z) x own is cut = absurd cc
+raise_cuts f there (Falls told left) x own is cut = absurd cc
+raise_cuts f there (Posts c told left old new) x own is cut = absurd cc
+
 -- ---- each step leaves it so
 
 seek_front : (f : FlightState) (there : ℕ → Bool) (front : Front) (m : Micro) → own_first f front ≡ Some m → may_seek f.call there m ≡ true → is_front f.call there (front_behind f.raised front) ≡ true
@@ -133,6 +179,7 @@ under_way-none f there m own seeks is =
       call_ = is.call_;
       script = script_rest f there f.front m first (no_end f.call there m seeks) is.script;
       front = seek_front f there f.front m first seeks;
+      cut = cut_behind f.call f.raised f.left f.front is.cut;
       raised = is.raised;
       extra = is.extra;
       vetoed = is.vetoed;
@@ -157,6 +204,7 @@ under_way-raised f there x y more own at is = by (nat_lt f.again f.plls) where
     call_ = is.call_;
     script = script_rest f there f.front (micro.Raise x) first refl is.script;
     front = again_there (may_raise f.call) (comes_again f more) (there y.0) true x there (both_left _ _ may) at (both_right _ _ may);
+    cut = raise_cuts f there f.front x first is.script is.cut;
     raised = ap (λ (b : Bool). b && list_all there f.raised) at ∙ is.raised;
     extra = is.extra;
     vetoed = is.vetoed;
@@ -168,6 +216,7 @@ under_way-lowered f there x more own is = record {
   call_ = is.call_;
   script = script_rest f there f.front (micro.Lower x) first refl is.script;
   front = either (comes_again f more);
+  cut = still (comes_again f more);
   raised = is.raised;
   extra = is.extra;
   vetoed = is.vetoed;
@@ -182,6 +231,10 @@ under_way-lowered f there x more own is = record {
   either true = at
   either false = seek_front f there f.front (micro.Lower x) first at
 
+  still : (t : Bool) → cuts_front f.call (script_behind f.front f.left) (if t then Lower x else front_behind f.raised f.front) ≡ true
+  still true = refl
+  still false = cut_behind f.call f.raised f.left f.front is.cut
+
 -- what a timeout leaves of the script of a call that may raise
 cut_one : (what : Sleeping) (there : ℕ → Bool) (m : Micro) (ms : List Micro) (t : Bool) → is_end m ≡ t → is_script what there (m ∷ ms) ≡ true
     → (is_script what there ms ≡ true → is_script what there (from_first is_end ms) ≡ true) → is_script what there (if t then m ∷ ms else from_first is_end ms) ≡ true
@@ -192,9 +245,37 @@ cut_end : (what : Sleeping) (there : ℕ → Bool) (ms : List Micro) → is_scri
 cut_end what there [] e = absurd cc
 cut_end what there (m ∷ ms) e = cut_one what there m ms (is_end m) refl e (λ h. cut_end what there ms h)
 
-cut_script : (what : Sleeping) (there : ℕ → Bool) (ms : List Micro) → may_raise what ≡ true → is_script what there ms ≡ true → is_script what there (cut_short what ms) ≡ true
-cut_script (call.Prepare h) there ms may e = cut_end (call.Prepare h) there ms e
-cut_script _ there ms may e = absurd cc
+visit_one : (what : Sleeping) (there : ℕ → Bool) (m : Micro) (ms : List Micro) (t : Bool) → is_visit m ≡ t → list_any is_visit (m ∷ ms) ≡ true → is_script what there (m ∷ ms) ≡ true
+    → (is_script what there ms ≡ true → list_any is_visit ms ≡ true → is_script what there (from_first is_visit ms) ≡ true) → is_script what there (if t then m ∷ ms else from_first is_visit ms) ≡ true
+visit_one what there m ms true at some e more = e
+visit_one what there m ms false at some e more = elim (or_cases (is_end m && is_none (slice_get ms 0)) (cuts_behind what m ms && (may_make what there m && is_script what there ms)) e) [
+  | inl last ↦ absurd (none ms (both_right _ _ last) behind)
+  | inr rest ↦ more (both_right _ _ (both_right _ _ rest)) behind
+] where
+  behind : list_any is_visit ms ≡ true
+  behind = sym (ap (λ (t : Bool). t || list_any is_visit ms) at) ∙ some
+
+  none : (ns : List Micro) → is_none (slice_get ns 0) ≡ true → list_any is_visit ns ≡ true → ⊥
+  none [] is e = absurd cc
+  none (n ∷ ns) is e = absurd cc
+
+cut_visit : (what : Sleeping) (there : ℕ → Bool) (ms : List Micro) → list_any is_visit ms ≡ true → is_script what there ms ≡ true → is_script what there (from_first is_visit ms) ≡ true
+cut_visit what there [] some e = absurd cc
+cut_visit what there (m ∷ ms) some e = visit_one what there m ms (is_visit m) refl some e (λ h more. cut_visit what there ms more h)
+
+-- a visit is left of a request for a rate
+asks_visit : (ms : List Micro) → (list_any is_visit ms || false) ≡ true → list_any is_visit ms ≡ true
+asks_visit ms e = elim (or_cases (list_any is_visit ms) false e) [
+  | inl some ↦ some
+  | inr never ↦ absurd cc
+]
+
+cut_script : (what : Sleeping) (there : ℕ → Bool) (ms : List Micro) → may_raise what ≡ true → can_cut what ms ≡ true → is_script what there ms ≡ true → is_script what there (cut_short what ms) ≡ true
+cut_script (call.Prepare h) there ms may cut e = cut_end (call.Prepare h) there ms e
+cut_script (call.SetRate h x) there ms may cut e = cut_visit (call.SetRate h x) there ms (asks_visit ms cut) e
+cut_script (call.SetRateExclusive h x) there ms may cut e = cut_visit (call.SetRateExclusive h x) there ms (asks_visit ms cut) e
+cut_script (call.SetRange h least most) there ms may cut e = cut_visit (call.SetRange h least most) there ms (asks_visit ms cut) e
+cut_script _ there ms may cut e = absurd cc
 
 falls_front : (what : Sleeping) (there : ℕ → Bool) (raised : List ℕ) (left : ℕ) → may_raise what ≡ true → left ≡ 0 → is_front what there (falls raised 0 left) ≡ true
 falls_front what there [] left may none = ap (λ (n : ℕ). is_front what there (falls [] 0 n)) none
@@ -221,11 +302,22 @@ under_way-polled f there y answer own is = by (is_last_no f.front answer) where
     again_in (Some x) e = ap (λ (b : Bool). b && there x.0) parts.0 ∙ e
   behind false = sym (ap (is_front f.call there) in_front.front) ∙ is.front
 
+  cuts : can_cut f.call f.left ≡ true
+  cuts = sym (ap (cuts_front f.call f.left) in_front.front) ∙ is.cut
+
+  still : (b : Bool) → cuts_front f.call f.left (front_polled (Poll y in_front.polls in_front.again) b) ≡ true
+  still true = again_cut in_front.again where
+    again_cut : (o : Option ClockId) → cuts_front f.call f.left (option_map_or Raise o Empty) ≡ true
+    again_cut None = refl
+    again_cut (Some x) = cuts
+  still false = cuts
+
   by : (t : Bool) → IsUnderWay there (if t then timed_out_in f else record f { front = front_polled f.front answer; left = script_behind f.front f.left })
   by true = record {
     call_ = is.call_;
-    script = cut_script f.call there f.left parts.0 is.script;
+    script = cut_script f.call there f.left parts.0 cuts is.script;
     front = falls_front f.call there f.raised f.extra parts.0 is.extra;
+    cut = cut_falls f.call (cut_short f.call f.left) f.raised 0 f.extra;
     raised = is.raised;
     extra = refl;
     vetoed = is.vetoed;
@@ -234,6 +326,7 @@ under_way-polled f there y answer own is = by (is_last_no f.front answer) where
     call_ = is.call_;
     script = script_rest f there f.front (micro.Poll y) (own_going f.going (own_first f f.front) (micro.Poll y) own) refl is.script;
     front = ap (λ (front : Front). is_front f.call there (front_polled front answer)) in_front.front ∙ behind answer;
+    cut = ap (λ (front : Front). cuts_front f.call (script_behind front f.left) (front_polled front answer)) in_front.front ∙ still answer;
     raised = is.raised;
     extra = is.extra;
     vetoed = is.vetoed;
@@ -258,6 +351,7 @@ under_way-fallen f there in_front is = record {
   call_ = is.call_;
   script = ap (λ (front : Front). is_script f.call there (script_behind front f.left)) in_front.front ∙ is.script;
   front = ap (λ (front : Front). is_front f.call there (front_fallen (others f.raised) front)) in_front.front ∙ both_empty (others f.raised);
+  cut = ap (λ (front : Front). cuts_front f.call (script_behind front f.left) (front_fallen (others f.raised) front)) in_front.front ∙ cut_falls f.call f.left (others f.raised) in_front.told 0;
   raised = others_all there f.raised is.raised;
   extra = is.extra;
   vetoed = is.vetoed;
@@ -326,34 +420,3 @@ fall_in_front f there y comes is = by f.front refl (own_going f.going (first_ste
       let none : left ≡ 0 = same_from_test left 0 (both_right (may_raise f.call) (nat_eq left 0) (sym (ap (is_front f.call there) at) ∙ h)) in
       drop told left none f.raised is.raised at (sym (ap (first_step [] f) at) ∙ e)
   by (Posts c told left old new) at e h = absurd (post_no_fall c old new (slice_get (notifiers_of [] c.0) told) y (sym (ap (first_step [] f) at) ∙ e))
-
--- ---- calls that change no rate
-
-pub raising_bare : (what : Sleeping) → may_raise what ≡ true → changes_rate what ≡ false
-raising_bare (call.Prepare h) e = refl
-raising_bare _ e = absurd cc
-
-pub lowering_bare : (what : Sleeping) → may_lower what ≡ true → changes_rate what ≡ false
-lowering_bare (call.Unprepare h) e = refl
-lowering_bare _ e = absurd cc
-
-pub seek_bare : (what : Sleeping) (there : ℕ → Bool) (m : Micro) → may_seek what there m ≡ true → changes_rate what ≡ false
-seek_bare what there (micro.Raise x) e = raising_bare what (both_left (may_raise what) (there x.0) e)
-seek_bare what there (micro.Lower x) e = lowering_bare what (both_left (may_lower what) (there x.0) e)
-seek_bare what there _ e = absurd cc
-
-pub raise_bare : (f : FlightState) (there : ℕ → Bool) (x : ClockId) → own_step f ≡ Some (micro.Raise x) → IsUnderWay there f → changes_rate f.call ≡ false
-raise_bare f there x own is = raising_bare f.call (both_left (may_raise f.call) (there x.0) (raise_there f there x own is))
-
-pub lower_bare : (f : FlightState) (there : ℕ → Bool) (x : ClockId) → own_step f ≡ Some (micro.Lower x) → IsUnderWay there f → changes_rate f.call ≡ false
-lower_bare f there x own is = lowering_bare f.call (both_left (may_lower f.call) (there x.0) (lower_there f there x own is))
-
-pub poll_bare : (f : FlightState) (there : ℕ → Bool) (y : ClockId) → own_step f ≡ Some (micro.Poll y) → IsUnderWay there f → changes_rate f.call ≡ false
-poll_bare f there y own is =
-    let in_front = poll_in_front f there y own is in
-    raising_bare f.call (split_three _ _ _ (ap (is_front f.call there) (sym in_front.front) ∙ is.front)).0
-
-pub fall_bare : (f : FlightState) (there : ℕ → Bool) (y : ClockId) → comes_next [] f ≡ Some (micro.Fall y) → IsUnderWay there f → changes_rate f.call ≡ false
-fall_bare f there y comes is =
-    let in_front = (fall_in_front f there y comes is).0 in
-    raising_bare f.call (both_left (may_raise f.call) true (sym (ap (is_front f.call there) in_front.front) ∙ is.front))

@@ -14,7 +14,7 @@ use Rattle.clk_model.specs.declared.row.HandleRow.{HandleRow}
 use Rattle.clk_model.specs.Lists.{count_from}
 use Rattle.clk_model.specs.State.{State, Change, NotifierRow, row_of, registered, link_in, requested}
 use Rattle.clk_model.specs.Holders.{active}
-use Rattle.clk_model.specs.Gates.{settled}
+use Rattle.clk_model.specs.Gates.{settled, gates_moved}
 use Rattle.clk_model.specs.Kinds.{mux_field}
 use Rattle.clk_model.specs.Round.{wiring, parent_rate_in}
 use Rattle.clk_model.specs.Chain.{setting}
@@ -73,10 +73,36 @@ IsNarrow-settled words old new sound = record {
   unselected = λ c there loose. selected-moved words new.defs (active old) (active new) (count_from 0 (length new.defs)) new.regs c sound.valid ∙ sound.unselected c there loose;
 }
 
+-- nor have the gates of these clocks
+pub IsNarrow-gated : (words : ℕ) (s : State) (before after : ℕ → Bool) (cs : List ℕ) → IsNarrow words s → IsNarrow words (record s { regs = gates_moved s.defs before after cs s.regs })
+IsNarrow-gated words s before after cs sound = record {
+  valid = sound.valid;
+  runs = sound.runs;
+  rows = sound.rows;
+  attached = sound.attached;
+  unlinked = sound.unlinked;
+  parents = sound.parents;
+  possible = sound.possible;
+  unselected = λ c there loose. selected-moved words s.defs before after cs s.regs c sound.valid ∙ sound.unselected c there loose;
+}
+
 -- ---- a change in flight
 
 pub IsNarrow-change : (words : ℕ) (s : State) (k : Option Change) → IsNarrow words s → IsNarrow words (record s { change = k })
 IsNarrow-change words s k sound = record {
+  valid = sound.valid;
+  runs = sound.runs;
+  rows = sound.rows;
+  attached = sound.attached;
+  unlinked = sound.unlinked;
+  parents = sound.parents;
+  possible = sound.possible;
+  unselected = sound.unselected;
+}
+
+-- with other holds
+pub IsNarrow-held : (words : ℕ) (s : State) (ps es : List ℕ) (k : Option Change) → IsNarrow words s → IsNarrow words (record s { prepare_holds = ps; enable_holds = es; change = k })
+IsNarrow-held words s ps es k sound = record {
   valid = sound.valid;
   runs = sound.runs;
   rows = sound.rows;

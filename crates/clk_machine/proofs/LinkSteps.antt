@@ -17,8 +17,8 @@ use Rattle.clk_model.specs.Chain.{linked}
 use Rattle.clk_model.specs.Kinds.{mux_field}
 use Rattle.clk_model.specs.Lists.{is_in, to_front}
 use Rattle.clk_model.specs.Rate.{rate}
-use Rattle.clk_model.specs.State.{State, registered, link_in, requested}
-use Rattle.clk_model.specs.Step.{settle_all}
+use Rattle.clk_model.specs.State.{State, Change, registered, link_in, requested}
+use Rattle.clk_model.specs.Step.{taken, passed_over, settle_all}
 use Rattle.clk_model.specs.Tree.{children, path}
 use Rattle.clk_model.specs.Walk.{below_within}
 use Rattle.clk_model.proofs.ApartLaws.{mux_is_field}
@@ -33,19 +33,23 @@ use Rattle.clk_flight.specs.Steps.{GoesOn, LeavesLessAt, is_taken}
 use Rattle.clk_tree.specs.TreeState.{TreeState, IsTree}
 use Rattle.clk_tree.proofs.Freshness.{below_by_path}
 use Rattle.counts_core.specs.Counted.{CountState, AreCounts, HasLinks}
+use Rattle.counts_core.specs.Standing.{StandsFor}
 use Rattle.rate_planner.specs.Settings.{put_field}
+use Rattle.clk_machine.specs.Course.{CourseState, IsAlong}
+use Rattle.clk_machine.specs.Holds.{TellsHolds, Passes, passed_times}
 use Rattle.clk_machine.specs.Making.{ComesFirst}
 use Rattle.clk_machine.specs.Parts.{Parts, bare, IsWhole, AreKept}
 use Rattle.clk_machine.specs.Settling.{settled_rows}
 use Rattle.clk_machine.specs.Stands.{Enters}
 use Rattle.clk_machine.specs.Window.{Shown, AreTold}
-use Rattle.clk_machine.proofs.Holdings.{StandsFor-like, StandsFor-same, StandsFor-linked}
+use Rattle.clk_machine.proofs.HeldCounts.{held_on, held_passed, listed_tells, tells_passed}
+use Rattle.clk_machine.proofs.Holdings.{StandsFor-like, StandsFor-same, StandsFor-linked, StandsFor-moved}
 use Rattle.clk_machine.proofs.Moving.{clock_within}
 use Rattle.clk_machine.proofs.Relinked.{linked_there, place_fits}
-use Rattle.clk_machine.proofs.Relinking.{relinks, Relinked, with_relinked, own_step_of, can_now, relinked_enters}
+use Rattle.clk_machine.proofs.Relinking.{relinks, Relinked, with_relinked, own_step_of, can_now, falls_of, relinked_enters}
 use Rattle.clk_machine.proofs.SettledRows.{links_settled, there_settled}
 use Rattle.clk_machine.proofs.Stepping.{relinks_one, writes_one, settles_one}
-use Rattle.clk_machine.proofs.Unmoved.{passed_none, relink_still, settled_still}
+use Rattle.clk_machine.proofs.Unmoved.{relink_still, settled_still}
 
 -- what is known of the flight where a step comes next and was made
 pub record Stepped (old : Parts) (m : Micro) (flight' : FlightState) : Type 0 where
@@ -99,6 +103,17 @@ pub record LinksTo (old : Parts) (c p : ClockId) (tree' : TreeState) (counts' : 
   pub links : HasLinks tree'.clocks counts'.links
   pub keeps : AreCounts counts'
 
+-- what becomes of holds on the new parent, where the clock had this link: they are holds on it
+pub record HoldsPass (old : Parts) (c p : ClockId) (moved mid counts' : CountState) (o : ℕ) (prepares' enables' : List ℕ) : Type 0 where
+  pub link : link_in old.tree.clocks c.0 ≡ Some o
+  pub mid_ : mid ≡ record moved { prepares = mid.prepares }
+  pub counts : counts' ≡ record mid { enables = counts'.enables }
+  pub keeps : AreCounts counts'
+  pub prepares : Passes p.0 o moved.prepares mid.prepares old.prepare_holds prepares'
+  pub prepares_are : (d : ℕ) → slice_index prepares' d ≡ passed_times p.0 (Some o) (slice_index old.prepare_holds) d
+  pub enables : Passes p.0 o mid.enables counts'.enables old.enable_holds enables'
+  pub enables_are : (d : ℕ) → slice_index enables' d ≡ passed_times p.0 (Some o) (slice_index old.enable_holds) d
+
 row_inside : (old : Parts) (c : ℕ) → IsWhole old → registered old.tree.clocks c ≡ true → c < length old.tree.clocks
 row_inside old c whole there =
     let within = clock_within old.desc old.window old.tree c whole.tied there in
@@ -106,9 +121,15 @@ row_inside old c whole there =
     let same : length old.tree.defs ≡ length old.desc.defs = ap (λ (ds : Description). length ds) whole.tied.defs in
     omega arith
 
-pub relinked_of : (old : Parts) (c p : ClockId) (tree' : TreeState) (counts' : CountState) (flight' : FlightState) → Stepped old (micro.Relink c p) flight' → LinksTo old c p tree' counts'
-    → Relinked old (micro.Relink c p) old.window tree' counts' flight'
-relinked_of old c p tree' counts' flight' now to = record {
+-- the counts with the link stand for the tree with it
+pub stands_linked : (old : Parts) (c p : ClockId) (tree' : TreeState) (moved : CountState) → IsWhole old → LinksTo old c p tree' moved → StandsFor moved (bare (record old { tree = tree' }))
+stands_linked old c p tree' moved whole to =
+    StandsFor-linked old.counts moved (bare old) (bare (record old { tree = tree' })) whole.counted.stands (ap (λ (k : CountState). k.defs) to.counts) (ap (λ (k : CountState). k.enables) to.counts)
+    (ap (λ (k : CountState). k.prepares) to.counts) (ap (λ (k : CountState). k.exclusives) to.counts) to.links refl (λ d. ap (λ (rs : List ClockRow). registered rs d) to.clocks ∙ linked_there old.tree.clocks c.0 p.0 d) refl refl refl
+
+pub relinked_of : (old : Parts) (c p : ClockId) (tree' : TreeState) (moved mid counts' : CountState) (o : ℕ) (prepares' enables' : List ℕ) (flight' : FlightState) → Stepped old (micro.Relink c p) flight' → LinksTo old c p tree' moved
+    → HoldsPass old c p moved mid counts' o prepares' enables' → Relinked old (micro.Relink c p) old.window tree' counts' prepares' enables' flight'
+relinked_of old c p tree' moved mid counts' o prepares' enables' flight' now to pass = record {
   whole = whole;
   going = now.going;
   is = refl;
@@ -128,18 +149,37 @@ relinked_of old c p tree' counts' flight' now to = record {
   };
   there = there;
   linked = λ d. ap (λ (rs : List ClockRow). is_some (link_in rs d)) to.clocks ∙ by d (same_or_not c.0 d);
-  keeps = to.keeps;
-  stands = StandsFor-linked old.counts counts' (bare old) (bare (record old { tree = tree' })) whole.counted.stands (ap (λ (k : CountState). k.defs) to.counts) (ap (λ (k : CountState). k.enables) to.counts)
-      (ap (λ (k : CountState). k.prepares) to.counts) (ap (λ (k : CountState). k.exclusives) to.counts) to.links refl there refl refl refl;
+  keeps = pass.keeps;
+  prepares = held_passed (registered old.tree.clocks) (length old.desc.defs) old.steps p.0 o moved.prepares mid.prepares old.prepare_holds prepares' old_there whole.prepares_held pass.prepares pass.prepares_are;
+  enables = held_passed (registered old.tree.clocks) (length old.desc.defs) old.steps p.0 o mid.enables counts'.enables old.enable_holds enables' old_there whole.enables_held pass.enables pass.enables_are;
+  stands = StandsFor-moved moved counts' (bare (record old { tree = tree' })) (bare (record old { tree = tree'; prepare_holds = prepares'; enable_holds = enables' })) (stands_linked old c p tree' moved whole to)
+      (ap (λ (k : CountState). k.defs) pass.counts ∙ ap (λ (k : CountState). k.defs) pass.mid_) (ap (λ (k : CountState). k.links) pass.counts ∙ ap (λ (k : CountState). k.links) pass.mid_)
+      (ap (λ (k : CountState). k.exclusives) pass.counts ∙ ap (λ (k : CountState). k.exclusives) pass.mid_) refl refl refl
+      (λ d.
+      let coupled = pass.enables.coupled d in
+      let was = (listed_tells old.enable_holds).each d in
+      let is = (listed_tells enables').each d in
+      let same = ap (λ (k : CountState). slice_index k.enables d) pass.mid_ in
+      omega arith)
+      (λ d.
+      let coupled = pass.prepares.coupled d in
+      let was = (listed_tells old.prepare_holds).each d in
+      let is = (listed_tells prepares').each d in
+      let same = ap (λ (k : CountState). slice_index k.prepares d) pass.counts in
+      omega arith);
+  raised = old.flight.raised;
+  raised_there = (whole.flown now.going).way.raised;
   flight = now.flight;
-  change = now.change;
-  less = now.less;
+  less = falls_of old (micro.Relink c p) flight' whole now.going refl now.own now.less;
 } where
   whole : IsWhole old
   whole = now.whole
 
   may : MayLink old c p
   may = may_link old c p whole now.going now.own
+
+  old_there : registered old.tree.clocks o ≡ true
+  old_there = whole.tied.stands.links c.0 o pass.link
 
   there : (d : ℕ) → registered tree'.clocks d ≡ registered old.tree.clocks d
   there d = ap (λ (rs : List ClockRow). registered rs d) to.clocks ∙ linked_there old.tree.clocks c.0 p.0 d
@@ -151,26 +191,33 @@ relinked_of old c p tree' counts' flight' now to = record {
       ∙ sym may.linked_ ∙ ap (λ (x : ℕ). is_some (link_in old.tree.clocks x)) same
   by d (inr other) = ap (λ (o : Option ℕ). is_some o) (linked_other old.tree.clocks c.0 p.0 d other)
 
-pub relink_enters : (old : Parts) (c p : ClockId) (tree' : TreeState) (counts' : CountState) (flight' : FlightState) → Stepped old (micro.Relink c p) flight' → LinksTo old c p tree' counts'
-    → Enters old old.flight.driver (event.Step (micro.Relink c p) None) turn.Going (with_relinked old old.window tree' counts' flight')
-relink_enters old c p tree' counts' flight' now to =
-    relinked_enters old (micro.Relink c p) old.window tree' counts' flight' (relinked_of old c p tree' counts' flight' now to) (λ s k stands sound next left.
+-- a change that a step leaves as it is goes along its course
+pub goes_taken : (course : CourseState) (k : Change) → IsAlong course (Some k) → IsAlong course (Some (taken k))
+goes_taken course k along = λ changes. let goes = along changes in record { chain = goes.chain; rates = goes.rates }
+
+pub relink_enters : (old : Parts) (c p : ClockId) (tree' : TreeState) (moved mid counts' : CountState) (o : ℕ) (prepares' enables' : List ℕ) (flight' : FlightState) → Stepped old (micro.Relink c p) flight' → LinksTo old c p tree' moved
+    → HoldsPass old c p moved mid counts' o prepares' enables' → Enters old old.flight.driver (event.Step (micro.Relink c p) None) turn.Going (with_relinked old old.window tree' counts' prepares' enables' flight')
+relink_enters old c p tree' moved mid counts' o prepares' enables' flight' now to pass =
+    relinked_enters old (micro.Relink c p) old.window tree' counts' prepares' enables' flight' (relinked_of old c p tree' moved mid counts' o prepares' enables' flight' now to pass) (λ s k stands sound next is.
     let may = may_link old c p now.whole now.going now.own in
     let own = own_step_of old (micro.Relink c p) now.whole now.going refl now.own in
-    let some : is_some (link_in s.clocks c.0) ≡ true = ap (λ (rs : List ClockRow). is_some (link_in rs c.0)) stands.clocks ∙ may.linked_ in
-    let link = some_of (link_in s.clocks c.0) some in
-    let mux : is_some (mux_field (kind_of s.defs c.0)) ≡ true = ap (λ (ds : Description). is_some (mux_field (kind_of ds c.0))) stands.defs ∙ may.mux in
     let within : c.0 < length s.clocks = subst (λ (rs : List ClockRow). c.0 < length rs) (sym stands.clocks) (row_inside old c.0 now.whole may.there) in
+    let link : link_in s.clocks c.0 ≡ Some o = ap (λ (rs : List ClockRow). link_in rs c.0) stands.clocks ∙ pass.link in
     record {
       regs = s.regs;
       clocks = linked s.clocks c.0 p.0;
       order = to_front c.0 s.order;
-      next_ = relinks_one s old.flight.driver k c p next (relink_still old.window.size s k c p link.0 own.rest sound.reached next.change (left ∙ own.left) stands.enable_holds mux link.1 within)
-          (passed_none p.0 (link_in s.clocks c.0) s.prepare_holds stands.prepare_holds ∙ sym stands.prepare_holds)
-          (passed_none p.0 (link_in s.clocks c.0) s.enable_holds stands.enable_holds ∙ sym stands.enable_holds);
+      prepare_holds = passed_over p.0 (link_in s.clocks c.0) s.prepare_holds;
+      enable_holds = passed_over p.0 (link_in s.clocks c.0) s.enable_holds;
+      change = taken k;
+      next_ = relinks_one s old.flight.driver k c p next (relink_still old.window.size s k c p own.rest sound.reached next.change (is.left ∙ own.left) within);
       words = stands.regs;
       rows = ap (λ (rs : List ClockRow). linked rs c.0 p.0) stands.clocks ∙ sym to.clocks;
       order_ = ap (to_front c.0) stands.order ∙ sym to.order;
+      prepares = subst (λ (u : Option ℕ). TellsHolds prepares' (passed_over p.0 u s.prepare_holds)) (sym link) (tells_passed p.0 o old.prepare_holds prepares' s.prepare_holds stands.prepare_holds pass.prepares_are);
+      enables = subst (λ (u : Option ℕ). TellsHolds enables' (passed_over p.0 u s.enable_holds)) (sym link) (tells_passed p.0 o old.enable_holds enables' s.enable_holds stands.enable_holds pass.enables_are);
+      flies = now.change s.notifiers k (micro.Relink c p) is next.first refl;
+      along = goes_taken old.course k;
     })
 
 -- ---- a mux that selects
@@ -224,7 +271,7 @@ put_mux defs c place regs mux = by (mux_field (kind_of defs c)) refl where
       ap (λ (o : Option Field). option_map_or (λ f. put regs f.word f.shift f.width place) o regs) (mux_is_field (kind_of defs c) f is ∙ sym is)
 
 pub selected_of : (old : Parts) (c : ClockId) (place : ℕ) (window' : Shown) (tree' : TreeState) (flight' : FlightState) → Stepped old (micro.WriteMux c place) flight' → Selects old c place window' tree'
-    → Relinked old (micro.WriteMux c place) window' tree' old.counts flight'
+    → Relinked old (micro.WriteMux c place) window' tree' old.counts old.prepare_holds old.enable_holds flight'
 selected_of old c place window' tree' flight' now to = record {
   whole = now.whole;
   going = now.going;
@@ -246,16 +293,19 @@ selected_of old c place window' tree' flight' now to = record {
   there = λ d. ap (λ (rs : List ClockRow). registered rs d) to.rows;
   linked = λ d. ap (λ (rs : List ClockRow). is_some (link_in rs d)) to.rows;
   keeps = now.whole.counted.keeps;
+  prepares = held_on (registered old.tree.clocks) (length old.desc.defs) old.steps old.prepare_holds now.whole.prepares_held;
+  enables = held_on (registered old.tree.clocks) (length old.desc.defs) old.steps old.enable_holds now.whole.enables_held;
   stands = StandsFor-same old.counts (bare old) (bare (record old { tree = tree' })) now.whole.counted.stands refl to.rows refl refl refl;
+  raised = old.flight.raised;
+  raised_there = (now.whole.flown now.going).way.raised;
   flight = now.flight;
-  change = now.change;
-  less = now.less;
+  less = falls_of old (micro.WriteMux c place) flight' now.whole now.going refl now.own now.less;
 }
 
 pub select_enters : (old : Parts) (c : ClockId) (place : ℕ) (window' : Shown) (tree' : TreeState) (flight' : FlightState) → Stepped old (micro.WriteMux c place) flight' → Selects old c place window' tree'
-    → Enters old old.flight.driver (event.Step (micro.WriteMux c place) None) turn.Going (with_relinked old window' tree' old.counts flight')
+    → Enters old old.flight.driver (event.Step (micro.WriteMux c place) None) turn.Going (with_relinked old window' tree' old.counts old.prepare_holds old.enable_holds flight')
 select_enters old c place window' tree' flight' now to =
-    relinked_enters old (micro.WriteMux c place) window' tree' old.counts flight' (selected_of old c place window' tree' flight' now to) (λ s k stands sound next left.
+    relinked_enters old (micro.WriteMux c place) window' tree' old.counts old.prepare_holds old.enable_holds flight' (selected_of old c place window' tree' flight' now to) (λ s k stands sound next is.
     let may = may_select old c place now.whole now.going now.own in
     let same : put_field (kind_of old.desc.defs c.0) (Some place) s.regs ≡ mux_written s c.0 place =
     put_mux old.desc.defs c.0 place s.regs may.mux ∙ ap (λ (ds : Description). option_map_or (λ f. put s.regs f.word f.shift f.width place) (mux_field (kind_of ds c.0)) s.regs) (sym stands.defs) in
@@ -263,10 +313,17 @@ select_enters old c place window' tree' flight' now to =
       regs = mux_written s c.0 place;
       clocks = s.clocks;
       order = s.order;
+      prepare_holds = s.prepare_holds;
+      enable_holds = s.enable_holds;
+      change = taken k;
       next_ = writes_one s old.flight.driver k c place next;
       words = to.words ∙ ap (option_map (put_field (kind_of old.desc.defs c.0) (Some place))) stands.regs ∙ ap (λ (ws : Registers). Some ws) same;
       rows = stands.clocks ∙ sym to.rows;
       order_ = stands.order ∙ sym to.order;
+      prepares = stands.prepare_holds;
+      enables = stands.enable_holds;
+      flies = now.change s.notifiers k (micro.WriteMux c place) is next.first refl;
+      along = goes_taken old.course k;
     })
 
 -- ---- last requests
@@ -309,7 +366,8 @@ below_there old c d whole there m = by (link_in old.tree.clocks d) refl where
         alone (inl same) = ap (registered old.tree.clocks) same ∙ there
         alone (inr off) = absurd (never_true off)
 
-pub settled_of : (old : Parts) (c : ClockId) (tree' : TreeState) (flight' : FlightState) → Stepped old (micro.Settle c) flight' → Settles old c tree' → Relinked old (micro.Settle c) old.window tree' old.counts flight'
+pub settled_of : (old : Parts) (c : ClockId) (tree' : TreeState) (flight' : FlightState) → Stepped old (micro.Settle c) flight' → Settles old c tree'
+    → Relinked old (micro.Settle c) old.window tree' old.counts old.prepare_holds old.enable_holds flight'
 settled_of old c tree' flight' now to = record {
   whole = whole;
   going = now.going;
@@ -331,10 +389,13 @@ settled_of old c tree' flight' now to = record {
   there = there;
   linked = λ d. ap (λ (o : Option ℕ). is_some o) (links d);
   keeps = whole.counted.keeps;
+  prepares = held_on (registered old.tree.clocks) (length old.desc.defs) old.steps old.prepare_holds whole.prepares_held;
+  enables = held_on (registered old.tree.clocks) (length old.desc.defs) old.steps old.enable_holds whole.enables_held;
   stands = StandsFor-like old.counts (bare old) (bare (record old { tree = tree' })) whole.counted.stands refl links there refl refl refl;
+  raised = old.flight.raised;
+  raised_there = (whole.flown now.going).way.raised;
   flight = now.flight;
-  change = now.change;
-  less = now.less;
+  less = falls_of old (micro.Settle c) flight' whole now.going refl now.own now.less;
 } where
   whole : IsWhole old
   whole = now.whole
@@ -355,9 +416,9 @@ settled_of old c tree' flight' now to = record {
       ∙ sym (rate-links old.desc.defs regs old.tree.clocks tree'.clocks k links)
 
 pub settle_enters : (old : Parts) (c : ClockId) (tree' : TreeState) (flight' : FlightState) → Stepped old (micro.Settle c) flight' → Settles old c tree'
-    → Enters old old.flight.driver (event.Step (micro.Settle c) None) turn.Going (with_relinked old old.window tree' old.counts flight')
+    → Enters old old.flight.driver (event.Step (micro.Settle c) None) turn.Going (with_relinked old old.window tree' old.counts old.prepare_holds old.enable_holds flight')
 settle_enters old c tree' flight' now to =
-    relinked_enters old (micro.Settle c) old.window tree' old.counts flight' (settled_of old c tree' flight' now to) (λ s k stands sound next left.
+    relinked_enters old (micro.Settle c) old.window tree' old.counts old.prepare_holds old.enable_holds flight' (settled_of old c tree' flight' now to) (λ s k stands sound next is.
     let there = may_settle old c now.whole now.going now.own in
     let kept : AreKept old.desc.defs (Some s.regs) old.tree.clocks old.tree.rates = subst (λ (o : Option (List ℕ)). AreKept old.desc.defs o old.tree.clocks old.tree.rates) stands.regs now.whole.tied.kept in
     let xs : List ℕ = below_within (children s.order s.clocks) depth c.0 in
@@ -375,8 +436,15 @@ settle_enters old c tree' flight' now to =
       regs = s.regs;
       clocks = settle_all s xs;
       order = s.order;
+      prepare_holds = s.prepare_holds;
+      enable_holds = s.enable_holds;
+      change = taken k;
       next_ = settles_one s old.flight.driver k c next (λ x. settled_still s k c.0 x);
       words = stands.regs;
       rows = sym rows;
       order_ = stands.order ∙ sym to.order;
+      prepares = stands.prepare_holds;
+      enables = stands.enable_holds;
+      flies = now.change s.notifiers k (micro.Settle c) is next.first refl;
+      along = goes_taken old.course k;
     })

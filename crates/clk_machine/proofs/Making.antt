@@ -1,6 +1,7 @@
 -- The parts of a core where a step of the change in flight is made.
 use Rattle.std.proofs.Common.{◌≡◌, ℕ, ◌+◌, ◌<◌, ◌&&◌, not, Bool, true, false, cond, List, [], ◌∷◌, Option, Some, None, refl, sym, ap, subst, ◌∙◌, arith, length, filter, reverse, nat_lt}
 use Rattle.std.specs.Prelude.{is_some, slice_get, if◌then◌else◌}
+use Rattle.std.specs.List.{list_all}
 use Rattle.std.specs.Option.{option_map_or}
 use Rattle.std.proofs.Math.Bool.{or-false}
 use Rattle.clk_base.specs.declared.call.Micro.{Micro}
@@ -11,7 +12,7 @@ use Rattle.clk_base.specs.declared.event.Turn.TheVariants as turn
 use Rattle.clk_base.specs.Description.{Description, kind_of}
 use Rattle.clk_model.specs.declared.row.ClockRow.{ClockRow}
 use Rattle.clk_model.specs.Lists.{is_in}
-use Rattle.clk_model.specs.State.{State, Change, NotifierRow, registered, link_in}
+use Rattle.clk_model.specs.State.{State, Change, registered, link_in}
 use Rattle.clk_model.specs.Kinds.{is_pll}
 use Rattle.clk_model.specs.Tree.{path, link_given}
 use Rattle.clk_model.specs.Holders.{prepared}
@@ -27,12 +28,14 @@ use Rattle.clk_flight.specs.LeftOver.{left_over}
 use Rattle.clk_flight.specs.Moves.{raised_once, raised_in, found_none, polled_in, timed_out_in, is_last_no, front_polled}
 use Rattle.clk_flight.specs.Fronts.{script_behind}
 use Rattle.clk_machine.specs.Window.{Shown}
-use Rattle.clk_machine.specs.InFlight.{changes_rate, IsUnderWay}
-use Rattle.clk_machine.specs.Course.{CourseState, IsAlong}
+use Rattle.clk_machine.specs.InFlight.{can_link, changes_rate, IsUnderWay}
+use Rattle.clk_machine.specs.declared.course.Notified.{Notified}
+use Rattle.clk_machine.specs.Course.{IsAlong, TellsAlong, notifiers_at}
 use Rattle.clk_machine.specs.Parts.{Parts, IsOwnCall, AreTied, IsWhole, rows_from}
 use Rattle.clk_machine.specs.Plls.{is_loose, raisable, lowerable}
 use Rattle.clk_machine.specs.Sound.{IsSound}
 use Rattle.clk_machine.specs.Stands.{Stands, Leads, Enters}
+use Rattle.clk_machine.proofs.HeldCounts.{held_on}
 use Rattle.clk_machine.proofs.Moving.{path_within_desc}
 use Rattle.clk_machine.proofs.Rows.{holds_stand}
 use Rattle.clk_machine.proofs.Stepping.{IsNext}
@@ -48,10 +51,16 @@ pub record SameCall (f g : FlightState) : Type 0 where
   pub call : g.call ≡ f.call
   pub going : g.going ≡ f.going
 
+-- and of a change of a rate or a parent what is told and what is linked fits as before
+pub record KeepsAlong (f g : FlightState) : Type 0 where
+  pub call : g.call ≡ f.call
+  pub tells : (count : ℕ → ℕ) (ns : List Notified) → TellsAlong count ns f → TellsAlong count ns g
+  pub links : (can : Micro → Bool) → list_all can f.left ≡ true → list_all can g.left ≡ true
+
 -- the parts stay whole
-pub whole_stepped : (old : Parts) (window' : Shown) (flight' : FlightState) → IsWhole old → AreTied old.desc window' old.tree → old.flight.going ≡ true → changes_rate old.flight.call ≡ false → SameCall old.flight flight'
+pub whole_stepped : (old : Parts) (window' : Shown) (flight' : FlightState) → IsWhole old → AreTied old.desc window' old.tree → old.flight.going ≡ true → KeepsAlong old.flight flight' → SameCall old.flight flight'
     → IsUnderWay (registered old.tree.clocks) flight' → left_over (rows_from 0 old.chains) flight' < left_over (rows_from 0 old.chains) old.flight → IsWhole (with_step old window' flight')
-whole_stepped old window' flight' whole tied going bare_ same way less =
+whole_stepped old window' flight' whole tied going along same way less =
     let flown = whole.flown going in
     record {
       tied = tied;
@@ -67,21 +76,18 @@ whole_stepped old window' flight' whole tied going bare_ same way less =
         own = subst (λ (d : ℕ). IsOwnCall old.table.handles d flight'.call) (sym same.driver)
             (subst (λ (what : Sleeping). IsOwnCall old.table.handles old.flight.driver what) (sym same.call) flown.own);
         paid = flown.paid;
-        tells = λ changes. let no : true ≡ false = sym changes ∙ ap changes_rate same.call ∙ bare_ in absurd cc;
-        links = λ changes. let no : true ≡ false = sym changes ∙ ap changes_rate same.call ∙ bare_ in absurd cc;
+        tells = λ changes. along.tells (notifiers_at old.chains) old.course.notified (flown.tells (sym (ap changes_rate along.call) ∙ changes));
+        links = λ changes. along.links (can_link old.desc.defs old.tree.clocks) (flown.links (sym (ap changes_rate along.call) ∙ changes));
       };
       room = let room = whole.room in omega arith;
+      prepares_held = held_on _ _ _ _ whole.prepares_held;
+      enables_held = held_on _ _ _ _ whole.enables_held;
     }
-
--- a call that changes no rate goes along no course
-pub never_along : (course : CourseState) (ns : List NotifierRow) (f : FlightState) (o : Option Change) → Flies ns f o → changes_rate f.call ≡ false → IsAlong course o
-never_along course ns f None flies none = tt
-never_along course ns f (Some k) flies none = λ changes. let no : true ≡ false = sym changes ∙ ap changes_rate flies.call ∙ none in absurd cc
 
 -- they stand for the state with these words and this change
 pub stands_stepped : (old : Parts) (window' : Shown) (flight' : FlightState) (s : State) (regs' : List ℕ) (change' : Option Change) → Stands old s → window'.words ≡ Some regs'
-    → changes_rate flight'.call ≡ false → Flies s.notifiers flight' change' → Stands (with_step old window' flight') (record s { regs = regs'; change = change'; steps = s.steps + 1 })
-stands_stepped old window' flight' s regs' change' stands words bare_ flies = record {
+    → IsAlong old.course change' → Flies s.notifiers flight' change' → Stands (with_step old window' flight') (record s { regs = regs'; change = change'; steps = s.steps + 1 })
+stands_stepped old window' flight' s regs' change' stands words along flies = record {
   defs = stands.defs;
   regs = words;
   clocks = stands.clocks;
@@ -91,7 +97,7 @@ stands_stepped old window' flight' s regs' change' stands words bare_ flies = re
   prepare_holds = stands.prepare_holds;
   enable_holds = stands.enable_holds;
   change = flies;
-  along = never_along old.course s.notifiers flight' change' flies bare_;
+  along = along;
   credits = stands.credits;
   spent = stands.spent;
   steps = ap (λ (n : ℕ). n + 1) stands.steps;
@@ -112,6 +118,7 @@ enters_step old window' flight' m answer told size behind going same less leads 
   fewer = λ free. less;
   begun = λ paid. absurd cc;
   no_more = λ paid. absurd cc;
+  beside = λ tier. absurd cc;
   step = leads;
 }
 

@@ -41,6 +41,8 @@ whole_notified old chains' whole quiet left same listed = record {
       let some = none_left (rows_from 0 old.chains) old.flight quiet in
       let none = none_left (rows_from 0 chains') old.flight quiet in
       omega arith;
+  prepares_held = whole.prepares_held;
+  enables_held = whole.enables_held;
 }
 
 -- that is what is done to the state
@@ -50,6 +52,7 @@ becomes_notified old chains' f quiet tells = record {
   remains = record { desc = refl; told = refl; size = refl; behind = refl; credits = refl; ignore_unused = refl };
   spent = refl;
   flight = refl;
+  locks = refl;
   left = none_left (rows_from 0 chains') old.flight quiet ∙ sym (none_left (rows_from 0 old.chains) old.flight quiet);
   steps = refl;
   rows = λ c. sym (or-false (registered old.tree.clocks c));

@@ -26,7 +26,8 @@ use Rattle.clk_machine.specs.Parts.{parts_of, bare, held_in_all, AreKept, IsWhol
 use Rattle.clk_machine.specs.Stands.{Stands}
 use Rattle.clk_flight.specs.Flights.{FlightState}
 use Rattle.clk_machine.proofs.Flying.{never_flown, none_left}
-use Rattle.clk_machine.proofs.Holdings.{StandsFor-same}
+use Rattle.clk_machine.proofs.HeldCounts.{listed_tells, tells_none, held_none}
+use Rattle.clk_machine.proofs.Holdings.{StandsFor-held}
 
 -- no clock is registered at first
 blank_row : (n c : ℕ) → row_of (replicate n unregistered_row) c ≡ unregistered_row
@@ -70,12 +71,12 @@ counts_at_first desc counts words defs links enables prepares exclusives = recor
       (and_none (is_critical desc.defs c) _ (blank_registered (replicate (length desc.defs) unregistered_row) (length desc.defs) c refl))
 
 -- a core without a registered clock, a handle and a notifier
-pub whole_opening : (desc : Checked) (window : Shown) (tree : TreeState) (table : HandleTable) (counts : CountState) (chains : List (List Notifier)) (credits : ℕ) (ignore_unused : Bool) (flight : FlightState) (course : CourseState)
-    → flight.going ≡ false → IsValid desc.words desc.defs → CanRun desc.defs → window.size ≡ desc.words → AreTold window.size window.words
+pub whole_opening : (desc : Checked) (window : Shown) (tree : TreeState) (table : HandleTable) (counts : CountState) (chains : List (List Notifier)) (credits : ℕ) (ignore_unused : Bool) (flight : FlightState) (course : CourseState) (prepare_holds enable_holds : List ℕ)
+    → prepare_holds ≡ replicate (length desc.defs) 0 → enable_holds ≡ replicate (length desc.defs) 0 → flight.going ≡ false → IsValid desc.words desc.defs → CanRun desc.defs → window.size ≡ desc.words → AreTold window.size window.words
     → tree.defs ≡ desc.defs → tree.clocks ≡ replicate (length desc.defs) unregistered_row → IsTree tree.defs tree.clocks tree.order tree.rates → credits ≤ most_credits
     → table.clocks ≡ length desc.defs → table.handles ≡ [] → AreCounts counts → StandsFor counts (opening desc.defs [] false 0) → length chains ≡ length desc.defs → Tells chains []
-    → IsWhole (parts_of desc window tree table counts chains credits 0 ignore_unused flight course 0)
-whole_opening desc window tree table counts chains credits ignore_unused flight course quiet valid runs size told defs blank stands few clocks empty keeps counted notified tells = record {
+    → IsWhole (parts_of desc window tree table counts chains credits 0 ignore_unused flight course prepare_holds enable_holds 0)
+whole_opening desc window tree table counts chains credits ignore_unused flight course prepare_holds enable_holds prepares enables quiet valid runs size told defs blank stands few clocks empty keeps counted notified tells = record {
   tied = record { valid = valid; runs = runs; words = size; told = told; defs = defs; stands = stands; kept = none_kept window.words };
   paid = record {
     few_credits = few;
@@ -85,7 +86,8 @@ whole_opening desc window tree table counts chains credits ignore_unused flight 
   };
   counted = record {
     keeps = keeps;
-    stands = StandsFor-same counts (opening desc.defs [] false 0) (bare (parts_of desc window tree table counts chains credits 0 ignore_unused flight course 0)) counted refl blank empty refl refl;
+    stands = StandsFor-held counts (opening desc.defs [] false 0) (bare (parts_of desc window tree table counts chains credits 0 ignore_unused flight course prepare_holds enable_holds 0)) counted refl blank empty
+        (λ c. (listed_tells prepare_holds).each c ∙ sym ((tells_none prepare_holds (length desc.defs) prepares).each c)) (λ c. (listed_tells enable_holds).each c ∙ sym ((tells_none enable_holds (length desc.defs) enables).each c));
   };
   clocks = clocks;
   handled = λ n h e. let none = ap (λ (hs : List (Option HandleRow)). handle_at hs n) empty in absurd cc;
@@ -93,6 +95,8 @@ whole_opening desc window tree table counts chains credits ignore_unused flight 
   listed = record { rows = []; tells = tells };
   flown = λ going. never_flown flight quiet going;
   room = let none = none_left (rows_from 0 chains) flight quiet in omega arith;
+  prepares_held = held_none (registered tree.clocks) prepare_holds (length desc.defs) prepares;
+  enables_held = held_none (registered tree.clocks) enable_holds (length desc.defs) enables;
 } where
   sums : List (Option HandleRow) → ℕ
   sums hs = sum_by held_in_all (present hs)
@@ -109,19 +113,19 @@ counts_opening desc counts defs links enables prepares exclusives = counts_at_fi
 
 -- they stand for the opening, where the bank tells its words
 pub stands_opening : (desc : Checked) (window : Shown) (tree : TreeState) (table : HandleTable) (counts : CountState) (chains : List (List Notifier)) (credits : ℕ) (ignore_unused : Bool) (flight : FlightState) (course : CourseState)
-    (words : List ℕ) (contents : Option (List ℕ))
-    → flight.going ≡ false → window.words ≡ option_map (λ _. words) contents → tree.clocks ≡ replicate (length desc.defs) unregistered_row → tree.order ≡ [] → table.handles ≡ [] → Tells chains []
+    (prepare_holds enable_holds words : List ℕ) (contents : Option (List ℕ))
+    → prepare_holds ≡ replicate (length desc.defs) 0 → enable_holds ≡ replicate (length desc.defs) 0 → flight.going ≡ false → window.words ≡ option_map (λ _. words) contents → tree.clocks ≡ replicate (length desc.defs) unregistered_row → tree.order ≡ [] → table.handles ≡ [] → Tells chains []
     → is_some window.words ≡ true
-    → Stands (parts_of desc window tree table counts chains credits 0 ignore_unused flight course 0) (opening desc.defs words ignore_unused credits)
-stands_opening desc window tree table counts chains credits ignore_unused flight course words contents quiet given blank order empty notifiers told = record {
+    → Stands (parts_of desc window tree table counts chains credits 0 ignore_unused flight course prepare_holds enable_holds 0) (opening desc.defs words ignore_unused credits)
+stands_opening desc window tree table counts chains credits ignore_unused flight course prepare_holds enable_holds words contents prepares enables quiet given blank order empty notifiers told = record {
   defs = refl;
   regs = given ∙ all contents (sym (ap (λ (o : Option (List ℕ)). is_some o) given) ∙ told);
   clocks = sym blank;
   order = sym order;
   handles = sym empty;
   notifiers = notifiers;
-  prepare_holds = refl;
-  enable_holds = refl;
+  prepare_holds = tells_none prepare_holds (length desc.defs) prepares;
+  enable_holds = tells_none enable_holds (length desc.defs) enables;
   change = quiet;
   along = tt;
   credits = refl;

@@ -1,6 +1,6 @@
 -- What the steps of raises, lowers, polls and falls make of the parts of a core.
-use Rattle.std.proofs.Common.{arith, ◌≡◌, ℕ, ◌+◌, ◌<◌, Bool, true, false, List, [], Option, Some, None, refl, sym, ap, subst, ◌∙◌, length, reverse, nat_le}
-use Rattle.std.specs.Prelude.{slice_get, is_some, IfSome}
+use Rattle.std.proofs.Common.{arith, ◌≡◌, ℕ, ◌+◌, ◌-◌, ◌<◌, Bool, true, false, List, [], ◌∷◌, Option, Some, None, refl, sym, ap, subst, ◌∙◌, length, reverse, nat_le}
+use Rattle.std.specs.Prelude.{slice_get, is_some, IfSome, if◌then◌else◌}
 use Rattle.std.specs.Option.{option_map, option_map_or}
 use Rattle.std.proofs.lemmas.List.{length-reverse}
 use Rattle.clk_base.specs.declared.call.Micro.{Micro}
@@ -17,11 +17,12 @@ use Rattle.reg_bank.specs.Locks.{most_plls}
 use Rattle.clk_model.specs.Kinds.{with_power}
 use Rattle.clk_model.proofs.Members.{both_right}
 use Rattle.clk_base.specs.Valid.{IsValid}
+use Rattle.clk_model.specs.Chain.{clock_id}
 use Rattle.clk_model.specs.State.{State, Change, registered}
 use Rattle.clk_model.specs.Tree.{path}
 use Rattle.clk_model.specs.Wired.{LinksArePossible}
 use Rattle.clk_model.specs.Script.{plls}
-use Rattle.clk_model.specs.Step.{taken, on, powered, to_raise, raise_one, raise, to_lower, lower_one, lower, poll, fall}
+use Rattle.clk_model.specs.Step.{taken, on, timed_out, powered, to_raise, raise_one, raise, to_lower, lower_one, lower, poll, fall}
 use Rattle.clk_model.specs.Laws.Paced.{IsPaced}
 use Rattle.clk_flight.specs.Flights.{FlightState, Flies, own_step, seeks_plls, comes_next}
 use Rattle.clk_flight.specs.Moves.{raised_in, lowered_once, found_none, polled_in, fallen}
@@ -29,13 +30,14 @@ use Rattle.clk_flight.specs.Steps.{Raises, LowersOne, FindsNone, Polls, Drops, L
 use Rattle.clk_flight.proofs.SeekLaws.{paced_seek_few}
 use Rattle.clk_machine.specs.Window.{Shown}
 use Rattle.clk_flight.specs.LeftOver.{left_over}
-use Rattle.clk_machine.specs.InFlight.{changes_rate, may_seek}
+use Rattle.clk_machine.specs.Course.{CourseState, IsAlong}
+use Rattle.clk_machine.specs.InFlight.{may_seek}
 use Rattle.clk_machine.specs.Making.{ComesFirst, FindsNothing}
 use Rattle.clk_machine.specs.Parts.{Parts, IsWhole, rows_from}
 use Rattle.clk_machine.specs.Plls.{raisable, lowerable, Finds}
 use Rattle.clk_machine.specs.Sound.{IsSound}
 use Rattle.clk_machine.specs.Stands.{Stands, Leads, Enters}
-use Rattle.clk_machine.proofs.InFlight.{fall_in_front, fall_told, raise_there, poll_there, seek_bare}
+use Rattle.clk_machine.proofs.InFlight.{fall_in_front, fall_told, raise_there, poll_there}
 use Rattle.clk_machine.proofs.Making.{with_step, stands_stepped, enters_step, change_of, next_of, to_raise_stands, to_lower_stands, raisable_there, same_raised, same_polled}
 use Rattle.clk_machine.proofs.Moving.{clock_within}
 use Rattle.clk_machine.proofs.Opening.{power_fits}
@@ -71,7 +73,6 @@ pub record Raised (old : Parts) (x pll : ClockId) (more : Bool) (window' : Shown
   pub size : window'.size ≡ old.window.size
   pub words : window'.words ≡ option_map (power_put old.desc.defs pll.0 true) old.window.words
   pub behind : window'.behind ≡ old.window.behind
-  pub bare : changes_rate old.flight.call ≡ false
   pub flight : flight' ≡ raised_in old.flight x pll more
   pub change : Raises x pll more old.flight flight'
   pub less : LeavesLess old.flight flight'
@@ -96,7 +97,7 @@ raise_leads old x pll more window' flight' now s stands sound =
       stands =
           stands_stepped old window' flight' s (powered s pll.0 true).regs (raise_one s (taken k) x.0 pll.0).change stands
           (powered_words old.desc.defs pll.0 true old.window.words window'.words s stands.defs stands.regs now.words)
-          (ap (λ (f : FlightState). changes_rate f.call) now.flight ∙ ap changes_rate (same_raised old.flight x pll more).call ∙ now.bare)
+          (λ changes. let goes = has.along changes in record { chain = goes.chain; rates = goes.rates })
           (subst (λ (o : Option ℕ). Flies s.notifiers flight' (option_map_or (raise_one s (taken k) x.0) o (on s (record (taken k) { again = 0 }))).change) at flies);
     }
 
@@ -125,7 +126,7 @@ none_enters old step flight' going nothing is change less =
       to = record s { change = Some (record (taken has.k) { again = 0 }); steps = s.steps + 1 };
       next_ = nothing.taken_ s has.k stands has.change has.is;
       stands = stands_stepped old old.window flight' s s.regs (Some (record (taken has.k) { again = 0 })) stands stands.regs
-          (ap (λ (f : FlightState). changes_rate f.call) is ∙ seek_bare old.flight.call (registered old.tree.clocks) step nothing.seeks)
+          (λ changes. let goes = has.along changes in record { chain = goes.chain; rates = goes.rates })
           (change s.notifiers has.k step has.is first (seeks_of old.flight.call (registered old.tree.clocks) step nothing.seeks));
     })
 
@@ -139,7 +140,6 @@ pub record Lowered (old : Parts) (x pll : ClockId) (more : Bool) (window' : Show
   pub size : window'.size ≡ old.window.size
   pub words : window'.words ≡ option_map (power_put old.desc.defs pll.0 false) old.window.words
   pub behind : window'.behind ≡ old.window.behind
-  pub bare : changes_rate old.flight.call ≡ false
   pub flight : flight' ≡ lowered_once old.flight x more
   pub change : LowersOne x more old.flight flight'
   pub less : LeavesLess old.flight flight'
@@ -165,7 +165,7 @@ lower_leads old x pll more window' flight' now s stands sound =
       stands =
           stands_stepped old window' flight' s (powered s pll.0 false).regs (lower_one s (taken k) x.0 pll.0).change stands
           (powered_words old.desc.defs pll.0 false old.window.words window'.words s stands.defs stands.regs now.words)
-          (ap (λ (f : FlightState). changes_rate f.call) now.flight ∙ now.bare)
+          (λ changes. let goes = has.along changes in record { chain = goes.chain; rates = goes.rates })
           (subst (λ (o : Option ℕ). Flies s.notifiers flight' (option_map_or (lower_one s (taken k) x.0) o (on s (record (taken k) { again = 0 }))).change) at flies);
     }
 
@@ -177,11 +177,19 @@ lower_enters old x pll more window' flight' now =
 
 -- ---- a poll
 
-pub poll_enters : (old : Parts) (pll : ClockId) (answer : Bool) (window' : Shown) (flight' : FlightState) → old.flight.going ≡ true → changes_rate old.flight.call ≡ false → own_step old.flight ≡ Some (micro.Poll pll)
+-- a poll leaves a change along its course
+polled_along : (course : CourseState) (s : State) (k : Change) (y : ℕ) (answer : Bool) → IsAlong course (Some k) → IsAlong course (poll s (taken k) y answer).change
+polled_along course s k y true along = λ changes. let goes = along changes in record { chain = goes.chain; rates = goes.rates }
+polled_along course s k y false along = by (nat_le k.polls 1) where
+  by : (t : Bool) → IsAlong course (if t then timed_out s (record (taken k) { polls = 0 }) else on s (record (taken k) { polls = k.polls - 1; front = micro.Poll (clock_id y) ∷ (taken k).front })).change
+  by true = λ changes. let goes = along changes in record { chain = goes.chain; rates = goes.rates }
+  by false = λ changes. let goes = along changes in record { chain = goes.chain; rates = goes.rates }
+
+pub poll_enters : (old : Parts) (pll : ClockId) (answer : Bool) (window' : Shown) (flight' : FlightState) → old.flight.going ≡ true → own_step old.flight ≡ Some (micro.Poll pll)
     → ComesFirst old (micro.Poll pll) → window'.size ≡ old.window.size → window'.words ≡ old.window.words → window'.behind ≡ old.window.behind
     → flight' ≡ polled_in old.flight answer → Polls answer old.flight flight' → LeavesLess old.flight flight'
     → Enters old old.flight.driver (event.Step (micro.Poll pll) (Some answer)) turn.Going (with_step old window' flight')
-poll_enters old pll answer window' flight' going bare own comes size words behind is change less =
+poll_enters old pll answer window' flight' going own comes size words behind is change less =
     enters_step old window' flight' (micro.Poll pll) (Some answer) (ap (λ (o : Option (List ℕ)). is_some o) words) size behind
     (ap (λ (f : FlightState). f.going) is ∙ (same_polled old.flight answer).going ∙ going) (ap (λ (f : FlightState). f.driver) is ∙ (same_polled old.flight answer).driver) (less (rows_from 0 old.chains))
     (λ s stands sound.
@@ -193,7 +201,7 @@ poll_enters old pll answer window' flight' going bare own comes size words behin
       to = record s { change = (poll s (taken k) pll.0 answer).change; steps = s.steps + 1 };
       next_ = polls_one s old.flight.driver k pll answer (next_of old s (micro.Poll pll) has first);
       stands = stands_stepped old window' flight' s s.regs (poll s (taken k) pll.0 answer).change stands (words ∙ stands.regs)
-          (ap (λ (f : FlightState). changes_rate f.call) is ∙ ap changes_rate (same_polled old.flight answer).call ∙ bare) (change s k pll has.is own first sure.paced);
+          (polled_along old.course s k pll.0 answer has.along) (change s k pll has.is own first sure.paced);
     })
 
 -- ---- a fall
@@ -203,11 +211,11 @@ pub fall_less : (old : Parts) (pll : ClockId) (flight' : FlightState) → comes_
     → left_over (rows_from 0 old.chains) flight' < left_over (rows_from 0 old.chains) old.flight
 fall_less old pll flight' next less = less (rows_from 0 old.chains) (micro.Fall pll) (fall_told (rows_from 0 old.chains) old.flight pll next) refl
 
-pub fall_enters : (old : Parts) (pll : ClockId) (window' : Shown) (flight' : FlightState) → old.flight.going ≡ true → changes_rate old.flight.call ≡ false → comes_next [] old.flight ≡ Some (micro.Fall pll)
+pub fall_enters : (old : Parts) (pll : ClockId) (window' : Shown) (flight' : FlightState) → old.flight.going ≡ true → comes_next [] old.flight ≡ Some (micro.Fall pll)
     → ComesFirst old (micro.Fall pll) → window'.size ≡ old.window.size → window'.words ≡ option_map (power_put old.desc.defs pll.0 false) old.window.words → window'.behind ≡ old.window.behind
     → flight' ≡ fallen old.flight → Drops old.flight flight' → LeavesLessAt is_fall old.flight flight'
     → Enters old old.flight.driver (event.Step (micro.Fall pll) None) turn.Going (with_step old window' flight')
-fall_enters old pll window' flight' going bare next comes size words behind is change less =
+fall_enters old pll window' flight' going next comes size words behind is change less =
     enters_step old window' flight' (micro.Fall pll) None (told_put old.desc.defs pll.0 false old.window.words window'.words words) size behind
     (ap (λ (f : FlightState). f.going) is ∙ going) (ap (λ (f : FlightState). f.driver) is) (fall_less old pll flight' next less)
     (λ s stands sound.
@@ -221,7 +229,7 @@ fall_enters old pll window' flight' going bare next comes size words behind is c
       stands =
           stands_stepped old window' flight' s (powered s pll.0 false).regs (fall s (taken k) pll.0).change stands
           (powered_words old.desc.defs pll.0 false old.window.words window'.words s stands.defs stands.regs words)
-          (ap (λ (f : FlightState). changes_rate f.call) is ∙ bare) (change s k pll has.is first sure.paced);
+          (λ changes. let goes = has.along changes in record { chain = goes.chain; rates = goes.rates }) (change s k pll has.is first sure.paced);
     })
 
 -- ---- what the steps need
@@ -260,5 +268,5 @@ power_lies m kind y whole within is =
 -- and what is made of it is the clock's power
 pub power_made : (defs : Description) (kind : Kind) (y : ℕ) (up : Bool) (told new : Option (List ℕ)) → kind ≡ kind_of defs y
     → new ≡ option_map (λ regs. option_map_or (λ power. with_power regs power up) (power_of kind) regs) told → new ≡ option_map (power_put defs y up) told
-power_made defs kind y up told new is then =
-    then ∙ ap (λ (k : Kind). option_map (λ regs. option_map_or (λ power. with_power regs power up) (power_of k) regs) told) is
+power_made defs kind y up told new is puts =
+    puts ∙ ap (λ (k : Kind). option_map (λ regs. option_map_or (λ power. with_power regs power up) (power_of k) regs) told) is

@@ -86,6 +86,8 @@ whole_ranged old n least most row whole live = record {
   flown = λ going. subst (λ (hs : List (Option HandleRow)). IsFlown old.desc.defs old.tree.clocks hs old.chains old.course.notified old.spent old.flight) (sym is)
       (flown_ranged old.desc.defs old.tree.clocks old.table.handles old.chains old.course.notified old.spent n least most row old.flight (whole.flown going) live);
   room = whole.room;
+  prepares_held = whole.prepares_held;
+  enables_held = whole.enables_held;
 } where
   new : HandleRow
   new = ranged row least most

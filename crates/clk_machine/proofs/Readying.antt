@@ -1,82 +1,110 @@
--- A call that changes a rate begins as it was made ready, in each sound state that the parts of a core stand for.
-use Rattle.std.proofs.Common.{◌≡◌, ℕ, ◌+◌, ◌<◌, ◌≤◌, ◌||◌, Bool, true, false, List, [], ◌∷◌, Option, Some, None, refl, sym, ap, subst, ◌∙◌, arith, length, map}
+-- A call that changes a rate or a parent begins as it was made ready, in each sound state that the parts of a core stand for.
+use Rattle.std.proofs.Common.{◌≡◌, ℕ, ◌+◌, ◌-◌, ◌^◌, ◌<◌, ◌≤◌, ◌&&◌, ◌||◌, Bool, true, false, List, [], ◌∷◌, Option, Some, None, refl, sym, ap, subst, ◌∙◌, arith, length, map, min}
 use Rattle.std.proofs.Math.Bool.{or-false}
-use Rattle.std.specs.Prelude.{sum_by, slice_index}
+use Rattle.std.proofs.Math.Path.{fun_ext}
+use Rattle.std.specs.Prelude.{sum_by, slice_index, if◌then◌else◌}
 use Rattle.std.specs.List.{list_any, AllByRecursion, list_all}
 use Rattle.clk_base.specs.Description.{Description}
 use Rattle.clk_base.specs.declared.call.Micro.{Micro}
 use Rattle.clk_base.specs.declared.call.Sleeping.{Sleeping}
 use Rattle.clk_base.specs.declared.call.Sleeping.TheVariants as call
 use Rattle.clk_base.specs.declared.event.Event.TheVariants as event
-use Rattle.clk_base.specs.declared.event.Reply.TheVariants as reply
 use Rattle.clk_base.specs.declared.event.Turn.TheVariants as turn
+use Rattle.clk_base.specs.declared.clock.ClockId.{ClockId}
 use Rattle.clk_base.specs.declared.handle.Handle.{Handle}
 use Rattle.clk_model.specs.declared.row.ClockRow.{ClockRow}
 use Rattle.clk_model.specs.declared.row.HandleRow.{HandleRow}
-use Rattle.clk_model.specs.Begin.{most_credits, own_handle, done, change_along}
-use Rattle.clk_model.specs.Chain.{moves, outcome}
+use Rattle.clk_model.specs.Begin.{most_credits, own_handle}
+use Rattle.clk_model.specs.Chain.{outcome}
 use Rattle.clk_model.specs.Gates.{settled}
+use Rattle.clk_model.specs.Holders.{prepared}
 use Rattle.clk_model.specs.Laws.CallCauses.{with_limits}
 use Rattle.clk_model.specs.Machine.{paid, next}
 use Rattle.clk_model.specs.Rate.{rate}
 use Rattle.clk_model.specs.Round.{wiring, rate_in}
-use Rattle.clk_model.specs.Script.{plls, planned}
-use Rattle.clk_model.specs.State.{State, Change, registered, handle_at}
-use Rattle.clk_model.specs.Walk.{walk}
+use Rattle.clk_model.specs.Script.{is_raise, plls, planned}
+use Rattle.clk_model.specs.State.{State, Change, ChainStep, registered, handle_at, link_in}
+use Rattle.clk_model.specs.Step.{sets_parent}
+use Rattle.clk_model.specs.Walk.{rates_in, walk}
 use Rattle.clk_model.proofs.StateLaws.{paid-still, paid-left, active-put_same}
 use Rattle.clk_flight.specs.LeftOver as flights
 use Rattle.clk_tree.specs.declared.plan.Plan.{Plan}
 use Rattle.clk_tree.specs.Plans.{ClockRate}
-use Rattle.notifiers.specs.Chains.{Tells}
+use Rattle.counts_core.specs.Counted.{is_prepared}
+use Rattle.counts_core.proofs.Standing.{tells_holds}
 use Rattle.rate_planner.specs.Walks.{at_rate}
 use Rattle.rate_requests.specs.Handles.{HandleTable}
 use Rattle.change_walk.specs.Changes.{AreThere}
-use Rattle.change_walk.specs.Given as given
 use Rattle.change_walk.specs.Given.{Script}
+use Rattle.change_walk.specs.Steps.{steps_for}
+use Rattle.change_walk.specs.Weights.{step_weight}
 use Rattle.change_walk.proofs.Whole.{rate_at}
 use Rattle.clk_machine.specs.declared.course.Notified.{Notified}
 use Rattle.clk_machine.specs.declared.decision.Decision.TheVariants as decided
 use Rattle.clk_machine.specs.declared.readied.Readied.{Readied}
 use Rattle.clk_machine.specs.declared.readied.Readied.TheVariants as readied
 use Rattle.clk_machine.specs.declared.readied.Scripted.{Scripted}
-use Rattle.clk_machine.specs.Changing.{BeginsAlong, StartsChange, still_steps}
+use Rattle.clk_machine.specs.Built.{is_built_over}
+use Rattle.clk_machine.specs.Changing.{BeginsAlong, StartsChange}
 use Rattle.clk_machine.specs.Course.{notifiers_at, tells_all}
-use Rattle.clk_machine.specs.Deciding.{Decided, GoesOn, IsPlanOf, change_by, handle_of, left_at_once, made_in}
-use Rattle.clk_machine.specs.Fit.{keeps_parents}
-use Rattle.clk_machine.specs.Holding.{exclusive_more, puts, ranged, stays}
+use Rattle.clk_machine.specs.Deciding.{ArePlannedOver, Decided, GoesOn, IsPlanned, IsPlanOf, change_by, handle_of, made_in}
+use Rattle.clk_machine.specs.Fit.{gates_parents}
+use Rattle.clk_machine.specs.Holding.{ranged}
 use Rattle.clk_machine.specs.InFlight.{asks_rate, can_link, changes_rate, is_ranged, is_script}
+use Rattle.clk_machine.specs.Movable.{can_go_along}
 use Rattle.clk_machine.specs.Parts.{Parts, AreKept, IsOwnCall, IsWhole, own_in, rows_from, steps_left, with_range}
-use Rattle.clk_machine.specs.Readying.{CanBeginSo, CanGoAlong, GoesOnAlong, IsReady, IsScripted, Scripts, range_before, weight_along}
-use Rattle.clk_machine.specs.Stands.{Stands, Becomes, Enters, most_steps, nothing, registers}
-use Rattle.clk_machine.proofs.Entered.{own_stands, enters}
+use Rattle.clk_machine.specs.Readying.{CanBeginSo, CanGoAlong, GoesOnAlong, IsReady, IsScripted, Scripts, moves_well, range_before, weight_along}
+use Rattle.clk_machine.specs.Sound.{IsSound}
+use Rattle.clk_machine.specs.Stands.{Stands, Enters, most_steps, registers}
+use Rattle.clk_machine.proofs.Entered.{own_stands}
 use Rattle.clk_machine.proofs.Moving.{clock_within}
 use Rattle.clk_machine.proofs.Ranging.{stands_ranged}
-use Rattle.clk_machine.proofs.Scripting.{script_still, tells_still, told_all, weighs_rows, weighs_state, links_still}
-use Rattle.clk_machine.proofs.Staying.{request_stays}
-use Rattle.clk_machine.proofs.StillScripts.{planned_still}
+use Rattle.clk_machine.proofs.Movable.{parent_can}
+use Rattle.clk_machine.proofs.Requesting.{request_can}
+use Rattle.clk_machine.proofs.Scripting.{links_made, raises_none, script_made, tells_made, told_all, weighs_rows}
 use Rattle.clk_machine.proofs.Taking.{outcome_defs}
-use Rattle.clk_machine.proofs.Writing.{live_in}
-
--- a request for a rate or a range changes a rate
-pub asks_changes : (what : Sleeping) → asks_rate what ≡ true → changes_rate what ≡ true
-asks_changes (call.SetRate h x) e = refl
-asks_changes (call.SetRateExclusive h x) e = refl
-asks_changes (call.SetRange h least most) e = refl
-asks_changes _ e = absurd cc
+use Rattle.clk_machine.proofs.Writing.{counts_stand, live_in}
 
 -- ---- the change of a call
-
-change_is : (s : State) (d : ℕ) (what : Sleeping) (row : HandleRow) (plan : Plan) → asks_rate what ≡ true
-    → change_by s d what row plan ≡ change_along (made_in s what row) d what plan.chain [] (range_before what row)
-change_is s d (call.SetRate h x) row plan e = refl
-change_is s d (call.SetRateExclusive h x) row plan e = refl
-change_is s d (call.SetRange h least most) row plan e = refl
-change_is s d _ row plan e = absurd cc
 
 -- the state that it is made in has other handles alone
 made_is : (s : State) (what : Sleeping) (row : HandleRow) → made_in s what row ≡ record s { handles = (made_in s what row).handles }
 made_is s (call.SetRange h least most) row = refl
 made_is s _ row = refl
+
+-- how a change begins of which is known what is planned for it, but for its script and the notices that a timeout may bring
+record BeginsPlain (n : State) (d : ℕ) (what : Sleeping) (range : Option (ℕ × ℕ)) (plan : Plan) (k : Change) : Type 0 where
+  driver_ : k.driver ≡ d
+  call_ : k.call ≡ what
+  front : k.front ≡ []
+  polls : k.polls ≡ 0
+  again : k.again ≡ 0
+  raised : k.raised ≡ []
+  range_ : k.range ≡ range
+  timed_out : k.timed_out ≡ false
+  before : k.before ≡ rates_in (wiring n)
+  outcome_ : k.outcome ≡ rates_in (outcome plan.chain (wiring n))
+
+-- so the change of a call does
+begins_plain : (s : State) (d : ℕ) (what : Sleeping) (row : HandleRow) (plan : Plan) → changes_rate what ≡ true → (change_by s d what row plan).chain ≡ plan.chain
+    → BeginsPlain (made_in s what row) d what (range_before what row) plan (change_by s d what row plan)
+unfolding planned
+begins_plain s d (call.SetRate h x) row plan e at = record { driver_ = refl; call_ = refl; front = refl; polls = refl; again = refl; raised = refl; range_ = refl; timed_out = refl; before = refl; outcome_ = refl }
+begins_plain s d (call.SetRateExclusive h x) row plan e at = record { driver_ = refl; call_ = refl; front = refl; polls = refl; again = refl; raised = refl; range_ = refl; timed_out = refl; before = refl; outcome_ = refl }
+begins_plain s d (call.SetRange h least most) row plan e at = record { driver_ = refl; call_ = refl; front = refl; polls = refl; again = refl; raised = refl; range_ = refl; timed_out = refl; before = refl; outcome_ = refl }
+begins_plain s d (call.SetParent h p) row plan e at = record {
+  driver_ = refl;
+  call_ = refl;
+  front = refl;
+  polls = refl;
+  again = refl;
+  raised = refl;
+  range_ = refl;
+  timed_out = refl;
+  before = refl;
+  outcome_ = ap (λ (ks : List ChainStep). rates_in (outcome ks (wiring s))) at;
+}
+begins_plain s d _ row plan e at = absurd cc
 
 settled_change : (s y : State) → (settled s y).change ≡ y.change
 unfolding settled
@@ -88,49 +116,100 @@ rated_all : (rates before will : List ℕ) (clocks : List ClockRow) (f : ℕ →
 rated_all rates before will clocks f [] each there = tt
 rated_all rates before will clocks f (c ∷ cs) each there = (each c there.0, rated_all rates before will clocks f cs each there.1)
 
-module _ (m : Parts) (s : State) (d number : ℕ) (what : Sleeping) (plan : Plan) (script : Script) (whole : IsWhole m) (stands : Stands m s) (changes : asks_rate what ≡ true)
-    (keeps : keeps_parents m.desc.defs ≡ true) (left : m.spent < m.credits) (there : AreThere m.tree.clocks plan.rates) (goes : GoesOn s d number what plan script) where
+-- the rows of a tree with a link are registered
+linked_rows : (m : Parts) → IsWhole m → (c p : ℕ) → link_in m.tree.clocks c ≡ Some p → registered m.tree.clocks c ≡ true
+linked_rows m whole c p at = whole.tied.stands.linked c p at
+
+-- ---- what its script comes to
+
+-- a timeout brings no notice, since no step raises
+none_extra : (m : Parts) (sets : Bool) (plan : Plan) (script : Script) → IsPlanned m.tree (is_prepared m.counts) m.chains (m.credits + m.steps) sets plan script
+    → can_go_along plan.set_parent m.tree.defs m.tree.clocks (is_prepared m.counts) plan.chain ≡ true → script.extra ≡ 0
+none_extra m sets plan script planned_ can =
+    planned_.made.extra
+    ∙ none plan.set_parent (list_any is_raise script.steps) _
+    (λ sets. ap (λ (ms : List Micro). list_any is_raise ms) planned_.made.steps ∙ raises_none m.tree (is_prepared m.counts) m.chains plan script.changed can planned_.there sets) where
+      none : (a b : Bool) (x : ℕ) → (a ≡ true → b ≡ false) → (if a && b then x else 0) ≡ 0
+      none true true x e = let no : true ≡ false = e refl in absurd cc
+      none true false x e = refl
+      none false b x e = refl
+
+-- it weighs what its steps do
+plain_weight : (m : Parts) (sets : Bool) (plan : Plan) (script : Script) → IsPlanned m.tree (is_prepared m.counts) m.chains (m.credits + m.steps) sets plan script
+    → can_go_along plan.set_parent m.tree.defs m.tree.clocks (is_prepared m.counts) plan.chain ≡ true → m.tree.defs ≡ m.desc.defs → script.weight ≡ weight_along m script.steps
+plain_weight m sets plan script planned_ can same =
+    uncut script.weight (sum_by (step_weight (plls m.tree.defs) m.chains) script.steps) script.extra (m.credits + m.steps) planned_.made.weight (none_extra m sets plan script planned_ can) planned_.room
+    ∙ ap (λ (ds : Description). sum_by (step_weight (plls ds) m.chains) script.steps) same where
+      uncut : (w a b used : ℕ) → w ≡ min (a + b) (2 ^ 64 - 1) → b ≡ 0 → used + w ≤ most_credits → w ≡ a
+      uncut w a b used cut none room = omega arith
+
+-- ---- whether its moves can be made
+
+-- what the parts say of it is so in a state that they stand for
+moves_stand : (m : Parts) (s : State) (sets : Bool) (plan : Plan) → IsWhole m → Stands m s → plan.set_parent ≡ sets → can_go_along sets s.defs s.clocks (prepared s) plan.chain ≡ true → moves_well m plan ≡ true
+moves_stand m s sets plan whole stands is can =
+    ap (λ (b : Bool). can_go_along b m.desc.defs m.tree.clocks (is_prepared m.counts) plan.chain) is
+    ∙ ap (λ (ds : Description). can_go_along sets ds m.tree.clocks (is_prepared m.counts) plan.chain) (sym stands.defs)
+    ∙ ap (λ (rows : List ClockRow). can_go_along sets s.defs rows (is_prepared m.counts) plan.chain) (sym stands.clocks)
+    ∙ ap (λ (f : ℕ → Bool). can_go_along sets s.defs s.clocks f plan.chain) (fun_ext (λ c. (tells_holds m.counts s whole.counted.keeps (counts_stand m s whole stands) c).prepared))
+    ∙ can
+
+-- the chain of a change of parent
+parent_steps : (s : State) (d : ℕ) (h : Handle) (p : ClockId) (row : HandleRow) (plan : Plan) → (change_by s d (call.SetParent h p) row plan).chain ≡ plan.chain
+    → (rate_ : ℕ) × (plan.chain ≡ record { clock = row.clock.0; rate = rate_; parent = Some p.0 } ∷ [])
+parent_steps s d h p row plan at = (_, sym at)
+
+-- where the description allows the call, they can
+moves_can : (m : Parts) (s t : State) (d number : ℕ) (what : Sleeping) (plan : Plan) (script : Script) (k : Change) → IsWhole m → Stands m s → IsSound m.window.size s → changes_rate what ≡ true
+    → is_built_over m.desc.defs (registered m.tree.clocks) what ≡ true → number ≡ handle_of what → (goes : GoesOn s d number what plan script) → next s d (event.Begin what) ≡ Some (t, turn.Going) → t.change ≡ Some k
+    → k.chain ≡ plan.chain → can_go_along (sets_parent what) s.defs s.clocks (prepared s) plan.chain ≡ true
+moves_can m s t d number what plan script k whole stands sound changes built is goes comes at chain_ = by what changes built is goes comes where
+  there : (c p : ℕ) → link_in s.clocks c ≡ Some p → registered s.clocks p ≡ true
+  there c p at' =
+      ap (λ (rows : List ClockRow). registered rows p) stands.clocks ∙ whole.tied.stands.links c p (ap (λ (rows : List ClockRow). link_in rows c) (sym stands.clocks) ∙ at')
+
+  asked : (w : Sleeping) → asks_rate w ≡ true → next s d (event.Begin w) ≡ Some (t, turn.Going) → can_go_along false s.defs s.clocks (prepared s) plan.chain ≡ true
+  asked w asks comes' =
+      ap (λ (ks : List ChainStep). can_go_along false s.defs s.clocks (prepared s) ks) (sym chain_)
+      ∙ request_can m.window.size s t d w k sound there asks comes' at
+
+  by : (w : Sleeping) → changes_rate w ≡ true → is_built_over m.desc.defs (registered m.tree.clocks) w ≡ true → number ≡ handle_of w → GoesOn s d number w plan script → next s d (event.Begin w) ≡ Some (t, turn.Going)
+      → can_go_along (sets_parent w) s.defs s.clocks (prepared s) plan.chain ≡ true
+  by (call.SetRate h x) e keeps is' goes' comes' = asked (call.SetRate h x) refl comes'
+  by (call.SetRateExclusive h x) e keeps is' goes' comes' = asked (call.SetRateExclusive h x) refl comes'
+  by (call.SetRange h least most) e keeps is' goes' comes' = asked (call.SetRange h least most) refl comes'
+  by (call.SetParent h p) e gates is' goes' comes' =
+      let steps = parent_steps s d h p goes'.row plan goes'.planned.chain in
+      ap (λ (ks : List ChainStep). can_go_along true s.defs s.clocks (prepared s) ks) steps.1
+      ∙ ap (λ (b : Bool). b && true)
+      (parent_can m.window.size s t d h p goes'.row (record { clock = goes'.row.clock.0; rate = steps.0; parent = Some p.0 }) sound (ap gates_parents stands.defs ∙ gates)
+      (ap (λ (n : ℕ). own_handle s d n) (sym is') ∙ goes'.own) comes' refl refl)
+  by _ e built' is' goes' comes' = absurd cc
+
+module _ (m : Parts) (s : State) (d : ℕ) (what : Sleeping) (plan : Plan) (script : Script) (whole : IsWhole m) (stands : Stands m s) (sound : IsSound m.window.size s) (changes : changes_rate what ≡ true)
+    (built : is_built_over m.desc.defs (registered m.tree.clocks) what ≡ true) (left : m.spent < m.credits) (made_ : IsPlanned m.tree (is_prepared m.counts) m.chains (m.credits + m.steps) (sets_parent what) plan script)
+    (goes : GoesOn s d (handle_of what) what plan script) where
   abbrev n : State
   n = made_in s what goes.row
 
   abbrev k : Change
-  k = change_along n d what plan.chain [] (range_before what goes.row)
+  k = change_by s d what goes.row plan
 
-  is : change_by s d what goes.row plan ≡ k
-  is = change_is s d what goes.row plan changes
+  of_plan : IsPlanOf n k plan script
+  of_plan = goes.planned
+
+  plain : BeginsPlain n d what (range_before what goes.row) plan k
+  plain = begins_plain s d what goes.row plan changes of_plan.chain
 
   beside : n ≡ record s { handles = n.handles }
   beside = made_is s what goes.row
 
-  begins_ : next s d (event.Begin what) ≡ paid s (record n { change = Some k }, turn.Going)
-  begins_ = goes.next_ ∙ ap (λ (c : Change). paid s (record n { change = Some c }, turn.Going)) is
-
-  of_plan : IsPlanOf n k plan script
-  of_plan = subst (λ (c : Change). IsPlanOf n c plan script) is goes.planned
-
-  still : list_any (moves n.clocks) plan.chain ≡ false
-  still =
+  pub can_move : moves_well m plan ≡ true
+  can_move =
       let spends : s.spent < s.credits = let one = stands.spent in let two = stands.credits in omega arith in
-      ap (λ (u : State). list_any (moves u.clocks) plan.chain) beside
-      ∙ request_stays s (record (settled s (record n { change = Some k })) { spent = s.spent + 1 }) d what k (ap keeps_parents stands.defs ∙ keeps) changes
-      (begins_ ∙ paid-left s (record n { change = Some k }) turn.Going spends) (settled_change s (record n { change = Some k }))
-
-  steps_are : k.left ≡ still_steps script.steps script.vetoed plan.rates
-  steps_are =
-      planned_still n plan.chain still
-      ∙ ap (λ (ms : List Micro). still_steps ms k.vetoed (given.walked n.order (wiring n) plan.chain)) of_plan.steps
-      ∙ ap (λ (v : Bool). still_steps script.steps v (given.walked n.order (wiring n) plan.chain)) of_plan.vetoed
-      ∙ ap (λ (rs : List ClockRate). still_steps script.steps script.vetoed rs) (sym of_plan.rates)
-
-  pub room_along : m.credits + m.steps + weight_along m (still_steps script.steps script.vetoed plan.rates) ≤ most_credits
-  room_along =
-      let weighs = weighs_state n m.chains (plls m.desc.defs) k.left (subst (λ (u : State). Tells m.chains u.notifiers) (sym beside) stands.notifiers) (ap (λ (u : State). plls u.defs) beside ∙ ap plls stands.defs) in
-      let same : weight_along m k.left ≡ weight_along m (still_steps script.steps script.vetoed plan.rates) = ap (weight_along m) steps_are in
-      let fits = of_plan.room in
-      let weight_ = of_plan.weight in
-      let credits : n.credits ≡ m.credits = ap (λ (u : State). u.credits) beside ∙ stands.credits in
-      let steps : n.steps ≡ m.steps = ap (λ (u : State). u.steps) beside ∙ stands.steps in
-      omega arith
+      moves_stand m s (sets_parent what) plan whole stands goes.set_parent
+      (moves_can m s (record (settled s (record n { change = Some k })) { spent = s.spent + 1 }) d (handle_of what) what plan script k whole stands sound changes built refl goes
+      (goes.next_ ∙ paid-left s (record n { change = Some k }) turn.Going spends) (settled_change s (record n { change = Some k })) of_plan.chain)
 
   within : (c : ℕ) → registered m.tree.clocks c ≡ true → c < length n.defs
   within c here = subst (λ (ds : Description). c < length ds) (sym (ap (λ (u : State). u.defs) beside ∙ stands.defs)) (clock_within m.desc m.window m.tree c whole.tied here)
@@ -142,37 +221,38 @@ module _ (m : Parts) (s : State) (d number : ℕ) (what : Sleeping) (plan : Plan
       ∙ ap (λ (rows : List ClockRow). rate s.defs s.regs rows c) (sym stands.clocks)
       ∙ ap (λ (u : State). rate_in (wiring u) c) (sym beside)
       ∙ sym (rate_at (wiring n) c (within c here))
+      ∙ ap (λ (rs : List ℕ). slice_index rs c) (sym plain.before)
 
   after_ : (c : ℕ) → registered m.tree.clocks c ≡ true → rate_in (outcome plan.chain (wiring n)) c ≡ slice_index k.outcome c
-  unfolding planned
   after_ c here =
       sym (rate_at (outcome plan.chain (wiring n)) c (subst (λ (ds : Description). c < length ds) (sym (outcome_defs plan.chain (wiring n))) (within c here)))
+      ∙ ap (λ (rs : List ℕ). slice_index rs c) (sym plain.outcome_)
 
   rates_all : AllByRecursion (λ r. (slice_index m.tree.rates r.clock ≡ slice_index k.before r.clock) × (r.rate ≡ slice_index k.outcome r.clock)) plan.rates
   rates_all =
       subst (λ (rs : List ClockRate). AllByRecursion (λ r. (slice_index m.tree.rates r.clock ≡ slice_index k.before r.clock) × (r.rate ≡ slice_index k.outcome r.clock)) rs) (sym of_plan.rates)
       (rated_all m.tree.rates k.before k.outcome m.tree.clocks (rate_in (outcome plan.chain (wiring n))) (walk n.order (wiring n) plan.chain) (λ c here. (before_ c here, after_ c here))
-      (subst (λ (rs : List ClockRate). AreThere m.tree.clocks rs) of_plan.rates there))
+      (subst (λ (rs : List ClockRate). AreThere m.tree.clocks rs) of_plan.rates made_.there))
 
-  pub goes_along : (scripted : Scripted) → IsScripted m plan script scripted → GoesOnAlong s d number what scripted
+  pub goes_along : (scripted : Scripted) → IsScripted m plan script scripted → GoesOnAlong s d (handle_of what) what scripted
   goes_along scripted made = record {
     row = goes.row;
     own = goes.own;
     change = k;
-    next_ = begins_;
+    next_ = goes.next_;
     begins = record {
-      driver_ = refl;
-      call = refl;
-      front = refl;
-      left = steps_are ∙ sym made.steps;
-      polls = refl;
-      again = refl;
-      raised = refl;
-      range_ = refl;
-      extra = refl;
+      driver_ = plain.driver_;
+      call = plain.call_;
+      front = plain.front;
+      left = of_plan.steps ∙ sym made.steps;
+      polls = plain.polls;
+      again = plain.again;
+      raised = plain.raised;
+      range_ = plain.range_;
+      extra = of_plan.extra ∙ none_extra m (sets_parent what) plan script made_ (ap (λ (ds : Description). can_go_along plan.set_parent ds m.tree.clocks (is_prepared m.counts) plan.chain) whole.tied.defs ∙ made.moves);
       vetoed_ = of_plan.vetoed ∙ sym made.vetoed;
-      timed_out = refl;
-      chain = sym made.chain;
+      timed_out = plain.timed_out;
+      chain = of_plan.chain ∙ sym made.chain;
       rates = subst (λ (ns : List Notified). AllByRecursion (λ x. (x.before ≡ slice_index k.before x.clock.0) × (x.after ≡ slice_index k.outcome x.clock.0)) ns) (sym made.notified)
           (told_all (notifiers_at m.chains) m.tree.rates k.before k.outcome plan.rates rates_all);
     };
@@ -181,66 +261,63 @@ module _ (m : Parts) (s : State) (d number : ℕ) (what : Sleeping) (plan : Plan
 -- ---- made ready
 
 -- a plan and its script make the call ready for which they were decided
-pub ready_scripted : (m : Parts) (d : ℕ) (what : Sleeping) (plan : Plan) (script : Script) (made : Readied) → IsWhole m → asks_rate what ≡ true → keeps_parents m.desc.defs ≡ true → m.spent < m.credits
-    → AreThere m.tree.clocks plan.rates → Decided m d what (decided.Change plan script) → Scripts m plan script made → IsReady m d what made
-ready_scripted m d what plan script (readied.Refused e) whole changes keeps left there goes (is, over) = λ s stands sound.
-    absurd (let room = room_along m s d (handle_of what) what plan script whole stands changes keeps left there (goes s stands sound) in omega arith)
-ready_scripted m d what plan script readied.AtOnce whole changes keeps left there goes never = absurd never
-ready_scripted m d what plan script (readied.Change scripted) whole changes keeps left there goes made = λ s stands sound.
-    goes_along m s d (handle_of what) what plan script whole stands changes keeps left there (goes s stands sound) scripted made
+pub ready_scripted : (m : Parts) (d : ℕ) (what : Sleeping) (plan : Plan) (script : Script) (made : Readied) → IsWhole m → changes_rate what ≡ true → is_built_over m.desc.defs (registered m.tree.clocks) what ≡ true
+    → m.spent < m.credits → ArePlannedOver m what (decided.Change plan script) → Decided m d what (decided.Change plan script) → Scripts m plan script made → IsReady m d what made
+ready_scripted m d what plan script (readied.Refused e) whole changes built left planned_ goes stuck = λ s stands sound.
+    let no : true ≡ false = sym (can_move m s d what plan script whole stands sound changes built left planned_ (goes s stands sound)) ∙ stuck in absurd cc
+ready_scripted m d what plan script readied.AtOnce whole changes built left planned_ goes never = absurd never
+ready_scripted m d what plan script (readied.Change scripted) whole changes built left planned_ goes made = λ s stands sound.
+    goes_along m s d what plan script whole stands sound changes built left planned_ (goes s stands sound) scripted made
 
-pub can_scripted : (m : Parts) (d : ℕ) (what : Sleeping) (plan : Plan) (script : Script) (made : Readied) → asks_rate what ≡ true → AreThere m.tree.clocks plan.rates → IsOwnCall m.table.handles d what
-    → Scripts m plan script made → CanBeginSo m d what made
-can_scripted m d what plan script (readied.Refused e) changes there own scripts = tt
-can_scripted m d what plan script readied.AtOnce changes there own never = absurd never
-can_scripted m d what plan script (readied.Change scripted) changes there own made = record {
+-- a change that sets no parent asks for a rate
+asks_unless : (what : Sleeping) → changes_rate what ≡ true → sets_parent what ≡ false → asks_rate what ≡ true
+asks_unless (call.SetRate h x) e f = refl
+asks_unless (call.SetRateExclusive h x) e f = refl
+asks_unless (call.SetRange h least most) e f = refl
+asks_unless (call.SetParent h p) e f = absurd cc
+asks_unless _ e f = absurd cc
+
+pub can_scripted : (m : Parts) (d : ℕ) (what : Sleeping) (plan : Plan) (script : Script) (made : Readied) → IsWhole m → changes_rate what ≡ true → ArePlannedOver m what (decided.Change plan script)
+    → IsOwnCall m.table.handles d what → Scripts m plan script made → CanBeginSo m d what made
+can_scripted m d what plan script (readied.Refused e) whole changes planned_ own scripts = tt
+can_scripted m d what plan script readied.AtOnce whole changes planned_ own never = absurd never
+can_scripted m d what plan script (readied.Change scripted) whole changes planned_ own made = record {
   own = own;
-  script = ap (λ (ms : List Micro). is_script what (registered m.tree.clocks) ms) made.steps ∙ script_still what (registered m.tree.clocks) (asks_changes what changes) script.steps script.vetoed plan.rates there;
+  script = ap (λ (ms : List Micro). is_script what (registered m.tree.clocks) ms) steps ∙ script_made m.tree (is_prepared m.counts) m.chains plan script.changed can planned_.there what changes (λ unset. asks_unless what changes (sym planned_.set_parent ∙ unset)) (λ c p at. (whole.tied.stands.linked c p at, whole.tied.stands.links c p at));
   tells =
-      ap (λ (ms : List Micro). tells_all (notifiers_at m.chains) ms scripted.course.notified) made.steps
-      ∙ ap (λ (ns : List Notified). tells_all (notifiers_at m.chains) (still_steps script.steps script.vetoed plan.rates) ns) made.notified
-      ∙ tells_still (notifiers_at m.chains) m.tree.rates script.steps script.vetoed plan.rates;
-  links = ap (λ (ms : List Micro). list_all (can_link m.desc.defs m.tree.clocks) ms) made.steps ∙ links_still m.desc.defs m.tree.clocks script.steps script.vetoed plan.rates;
-  weight = made.weight;
-  room = made.room;
-}
+      ap (λ (ms : List Micro). tells_all (notifiers_at m.chains) ms scripted.course.notified) steps
+      ∙ ap (λ (ns : List Notified). tells_all (notifiers_at m.chains) (steps_for m.tree (is_prepared m.counts) m.chains plan script.changed) ns) made.notified
+      ∙ tells_made m.tree (is_prepared m.counts) m.chains plan script.changed can planned_.there (notifiers_at m.chains) m.tree.rates;
+  links =
+      ap (λ (ds : Description). list_all (can_link ds m.tree.clocks) scripted.steps.items) (sym whole.tied.defs) ∙ ap (λ (ms : List Micro). list_all (can_link m.tree.defs m.tree.clocks) ms) steps
+      ∙ links_made m.tree (is_prepared m.counts) m.chains plan script.changed can planned_.there (linked_rows m whole);
+  weight = made.weight ∙ plain_weight m (sets_parent what) plan script planned_ can whole.tied.defs ∙ ap (weight_along m) (sym made.steps);
+  room = let same = made.weight in let room = planned_.room in omega arith;
+} where
+  can : can_go_along plan.set_parent m.tree.defs m.tree.clocks (is_prepared m.counts) plan.chain ≡ true
+  can = ap (λ (ds : Description). can_go_along plan.set_parent ds m.tree.clocks (is_prepared m.counts) plan.chain) whole.tied.defs ∙ made.moves
 
--- ---- answered at once
+  steps : scripted.steps.items ≡ steps_for m.tree (is_prepared m.counts) m.chains plan script.changed
+  steps = made.steps ∙ planned_.made.steps
 
+-- ---- going on
+
+-- a handle of a driver has one row
 same_row : (s : State) (d n : ℕ) (a b : HandleRow) → own_handle s d n ≡ Some a → own_handle s d n ≡ Some b → a ≡ b
 same_row s d n a b one two = inside (sym one ∙ two) where
   inside : {x y : HandleRow} → Some x ≡ Some y → x ≡ y
   inside e = cc
 
-pub at_once_rate : (old new : Parts) (d : ℕ) (h : Handle) (x : ℕ) → old.flight.going ≡ false → old.spent < old.credits → IsReady old d (call.SetRate h x) readied.AtOnce → Becomes old nothing stays new
-    → Enters old d (event.Begin (call.SetRate h x)) (turn.Done reply.Fine) new
-at_once_rate old new d h x quiet left ready becomes = enters old new d (event.Begin (call.SetRate h x)) reply.Fine stays refl quiet left becomes (λ s stands sound. (ready s stands sound).next_)
-
-pub at_once_exclusive : (old new : Parts) (d : ℕ) (h : Handle) (x : ℕ) (row : HandleRow) → old.flight.going ≡ false → old.spent < old.credits → own_in old.table.handles d h.number ≡ Some row
-    → IsReady old d (call.SetRateExclusive h x) readied.AtOnce → Becomes old nothing (puts h.number (Some (exclusive_more row))) new → Enters old d (event.Begin (call.SetRateExclusive h x)) (turn.Done reply.Fine) new
-at_once_exclusive old new d h x row quiet left own ready becomes =
-    enters old new d (event.Begin (call.SetRateExclusive h x)) reply.Fine (puts h.number (Some (exclusive_more row))) refl quiet left becomes
-    (λ s stands sound. let ends = ready s stands sound in
-    ends.next_ ∙ ap (λ (r : HandleRow). paid s (done (left_at_once s (call.SetRateExclusive h x) r) reply.Fine)) (same_row s d h.number ends.row row ends.own (own_stands old s d h.number (Some row) stands own)))
-
-pub at_once_range : (old new : Parts) (d : ℕ) (h : Handle) (least most : ℕ) (row : HandleRow) → old.flight.going ≡ false → old.spent < old.credits → own_in old.table.handles d h.number ≡ Some row
-    → IsReady old d (call.SetRange h least most) readied.AtOnce → Becomes old nothing (puts h.number (Some (ranged row least most))) new → Enters old d (event.Begin (call.SetRange h least most)) (turn.Done reply.Fine) new
-at_once_range old new d h least most row quiet left own ready becomes =
-    enters old new d (event.Begin (call.SetRange h least most)) reply.Fine (puts h.number (Some (ranged row least most))) refl quiet left becomes
-    (λ s stands sound. let ends = ready s stands sound in
-    ends.next_ ∙ ap (λ (r : HandleRow). paid s (done (left_at_once s (call.SetRange h least most) r) reply.Fine)) (same_row s d h.number ends.row row ends.own (own_stands old s d h.number (Some row) stands own)))
-
--- ---- going on
-
--- a change of rate registers no clock, and may come to as many steps as there is room for
-no_more_rows : (what : Sleeping) (c : ℕ) → asks_rate what ≡ true → registers (event.Begin what) c ≡ false
+-- a change of rate or parent registers no clock, and may come to as many steps as there is room for
+no_more_rows : (what : Sleeping) (c : ℕ) → changes_rate what ≡ true → registers (event.Begin what) c ≡ false
 no_more_rows (call.Probe k) c e = absurd cc
 no_more_rows _ c e = refl
 
-most_room : (defs : Description) (what : Sleeping) → asks_rate what ≡ true → most_steps defs (event.Begin what) ≡ most_credits
+most_room : (defs : Description) (what : Sleeping) → changes_rate what ≡ true → most_steps defs (event.Begin what) ≡ most_credits
 most_room defs (call.SetRate h x) e = refl
 most_room defs (call.SetRateExclusive h x) e = refl
 most_room defs (call.SetRange h least most) e = refl
+most_room defs (call.SetParent h p) e = refl
 most_room defs _ e = absurd cc
 
 unranged_range : (what : Sleeping) (row : HandleRow) → is_ranged what ≡ false → range_before what row ≡ None
@@ -265,7 +342,7 @@ room_to_start old d what scripted can =
     omega arith
 
 -- one that sets no range takes the parts on
-pub enters_along : (old new : Parts) (d : ℕ) (what : Sleeping) (scripted : Scripted) → old.spent < old.credits → asks_rate what ≡ true → is_ranged what ≡ false → CanGoAlong old d what scripted
+pub enters_along : (old new : Parts) (d : ℕ) (what : Sleeping) (scripted : Scripted) → old.spent < old.credits → changes_rate what ≡ true → is_ranged what ≡ false → CanGoAlong old d what scripted
     → IsReady old d what (readied.Change scripted) → StartsChange old d what scripted.steps.items scripted.course None scripted.vetoed new → Enters old d (event.Begin what) turn.Going new
 enters_along old new d what scripted left changes unranged can ready starts_ = record {
   remains = starts_.remains;
@@ -276,6 +353,7 @@ enters_along old new d what scripted left changes unranged can ready starts_ = r
   fewer = λ free. absurd cc;
   begun = λ paid goes. let left_ = along_left old new d what scripted None can starts_ in let most = most_room old.desc.defs what changes in let room = can.room in omega arith;
   no_more = λ paid done. absurd cc;
+  beside = λ tier. absurd cc;
   step = λ s stands sound.
       let spends : s.spent < s.credits = let one = stands.spent in let two = stands.credits in omega arith in
       let goes = ready s stands sound in
@@ -310,6 +388,7 @@ enters_within old between new d h least most row scripted left own live can read
   fewer = λ free. absurd cc;
   begun = λ paid goes. let left_ = along_left old between d what scripted (Some (row.min, row.max)) can starts_ in let room = can.room in omega arith;
   no_more = λ paid done. absurd cc;
+  beside = λ tier. absurd cc;
   step = λ s stands sound.
       let spends : s.spent < s.credits = let one = stands.spent in let two = stands.credits in omega arith in
       let goes = ready s stands sound in

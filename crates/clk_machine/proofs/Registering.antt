@@ -37,6 +37,7 @@ use Rattle.clk_tree.proofs.Rows.{registered-set, registered-requested, link-requ
 use Rattle.clk_machine.specs.Parts.{Parts, bare, AreKept, AreTied, ArePaid, IsWhole}
 use Rattle.clk_machine.specs.Window.{Shown}
 use Rattle.clk_machine.specs.Stands.{Stands, Becomes}
+use Rattle.clk_machine.proofs.HeldCounts.{held_still}
 use Rattle.clk_machine.proofs.Fitting.{all_in}
 use Rattle.clk_machine.proofs.Attaching.{link_given-selected}
 use Rattle.clk_machine.proofs.Attached.{critical_more, active_beside, IsAttached, stands_attached}
@@ -215,6 +216,8 @@ whole_attached old c window' tree' counts' held whole quiet now left tied keeps 
   listed = whole.listed;
   flown = λ going. never_flown old.flight quiet going;
   room = whole.room;
+  prepares_held = held_still (registered old.tree.clocks) (registered tree'.clocks) (length old.desc.defs) old.steps old.prepare_holds (λ k there. now.rows k ∙ ap (λ (b : Bool). b || nat_eq c k) there) whole.prepares_held;
+  enables_held = held_still (registered old.tree.clocks) (registered tree'.clocks) (length old.desc.defs) old.steps old.enable_holds (λ k there. now.rows k ∙ ap (λ (b : Bool). b || nat_eq c k) there) whole.enables_held;
 }
 
 -- ---- a clock that isn't critical
@@ -309,6 +312,7 @@ becomes_registered old c tree' counts' whole quiet now plain = record {
   remains = record { desc = refl; told = refl; size = refl; behind = refl; credits = refl; ignore_unused = refl };
   spent = refl;
   flight = refl;
+  locks = refl;
   left = refl;
   steps = refl;
   rows = now.rows;

@@ -18,33 +18,39 @@ use Rattle.clk_model.specs.State.{State, Change, registered, link_in}
 use Rattle.clk_model.specs.Kinds.{mux_field}
 use Rattle.clk_model.specs.Lists.{is_in}
 use Rattle.clk_model.specs.Machine.{next}
-use Rattle.clk_model.specs.Step.{taken, rest_of, is_end}
+use Rattle.clk_model.specs.Step.{rest_of, is_end}
 use Rattle.clk_model.proofs.Members.{both_left, both_right}
 use Rattle.clk_flight.specs.declared.front.Front.{Front}
 use Rattle.clk_flight.specs.declared.front.Front.TheVariants.{Empty, Poll, Raise, Lower, Falls, Posts}
-use Rattle.clk_flight.specs.Flights.{FlightState, own_step, own_first, first_step}
+use Rattle.clk_flight.specs.Flights.{FlightState, IsChange, own_step, own_first, first_step}
 use Rattle.clk_flight.specs.Fronts.{front_behind, script_behind}
 use Rattle.clk_flight.specs.LeftOver.{left_over}
 use Rattle.clk_flight.specs.Moves.{gone_on}
-use Rattle.clk_flight.specs.Steps.{GoesOn, LeavesLessAt, is_taken}
+use Rattle.clk_flight.specs.Steps.{LeavesLessAt, is_taken}
 use Rattle.clk_tree.specs.TreeState.{TreeState}
 use Rattle.counts_core.specs.Counted.{CountState, AreCounts}
 use Rattle.counts_core.specs.Standing.{StandsFor}
 use Rattle.clk_machine.specs.declared.course.Notified.{Notified}
-use Rattle.clk_machine.specs.Course.{TellsAlong, tells_all, begins_with, behind_visit, visited_by, notifiers_at}
+use Rattle.clk_machine.specs.Holds.{TellsHolds, AreHeld}
+use Rattle.clk_machine.specs.Course.{IsAlong, TellsAlong, tells_all, begins_with, behind_visit, visited_by, notifiers_at}
 use Rattle.clk_machine.specs.InFlight.{IsUnderWay, changes_rate, can_link, may_make, is_front}
 use Rattle.clk_machine.specs.Making.{ComesFirst}
 use Rattle.clk_machine.specs.Parts.{Parts, bare, IsWhole, IsFlown, AreTied, rows_from}
 use Rattle.clk_machine.specs.Sound.{IsSound}
 use Rattle.clk_machine.specs.Stands.{Stands, Enters}
 use Rattle.clk_machine.specs.Window.{Shown}
+use Rattle.clk_machine.proofs.HeldCounts.{held_still}
 use Rattle.clk_machine.proofs.Holdings.{StandsFor-same}
-use Rattle.clk_machine.proofs.InFlight.{own_going, script_rest, first_seeks}
+use Rattle.clk_machine.proofs.InFlight.{own_going, script_rest, first_seeks, cut_behind}
 use Rattle.clk_machine.proofs.Making.{change_of, next_of}
 use Rattle.clk_machine.proofs.Stepping.{IsNext}
 
--- whether a step gives a clock another parent, or comes behind such a step
+-- whether a step gives a clock another parent, comes behind such a step, or holds clocks for it
 abbrev pub relinks : Micro → Bool
+relinks (micro.HoldPrepare x) = true
+relinks (micro.HoldEnable x) = true
+relinks (micro.DropEnable x) = true
+relinks (micro.DropPrepare x) = true
 relinks (micro.Relink c p) = true
 relinks (micro.WriteMux c place) = true
 relinks (micro.Settle c) = true
@@ -62,12 +68,16 @@ pub record IsKind (m : Micro) : Type 0 where
   pub no_end : is_end m ≡ false
   pub taken_ : is_taken m ≡ true
   pub unseen : visited_by m ≡ None
-  pub may : (what : Sleeping) (there : ℕ → Bool) → may_make what there m ≡ changes_rate what
+  pub may : (what : Sleeping) (there : ℕ → Bool) → may_make what there m ≡ true → changes_rate what ≡ true
 
 pub kind_is : (m : Micro) → relinks m ≡ true → IsKind m
-kind_is (micro.Relink c p) e = record { no_end = refl; taken_ = refl; unseen = refl; may = λ what there. refl }
-kind_is (micro.WriteMux c place) e = record { no_end = refl; taken_ = refl; unseen = refl; may = λ what there. refl }
-kind_is (micro.Settle c) e = record { no_end = refl; taken_ = refl; unseen = refl; may = λ what there. refl }
+kind_is (micro.HoldPrepare x) e = record { no_end = refl; taken_ = refl; unseen = refl; may = λ what there made. both_left (changes_rate what) (there x.0) made }
+kind_is (micro.HoldEnable x) e = record { no_end = refl; taken_ = refl; unseen = refl; may = λ what there made. both_left (changes_rate what) (there x.0) made }
+kind_is (micro.DropEnable x) e = record { no_end = refl; taken_ = refl; unseen = refl; may = λ what there made. both_left (changes_rate what) (there x.0) made }
+kind_is (micro.DropPrepare x) e = record { no_end = refl; taken_ = refl; unseen = refl; may = λ what there made. both_left (changes_rate what) (there x.0) made }
+kind_is (micro.Relink c p) e = record { no_end = refl; taken_ = refl; unseen = refl; may = λ what there made. made }
+kind_is (micro.WriteMux c place) e = record { no_end = refl; taken_ = refl; unseen = refl; may = λ what there made. made }
+kind_is (micro.Settle c) e = record { no_end = refl; taken_ = refl; unseen = refl; may = λ what there made. made }
 kind_is _ e = absurd cc
 
 pub own_of : (f : FlightState) (there : ℕ → Bool) (m : Micro) → relinks m ≡ true → own_step f ≡ Some m → IsUnderWay there f → OwnStep f m
@@ -96,7 +106,7 @@ own_of f there m is own way = by f.front refl where
       let here : slice_get f.left 0 ≡ Some m = sym (ap (own_first f) at) ∙ first in
       let kind = kind_is m is in
       let left = from f.left refl here in
-      record { front = at; rest = left.0; left = left.1; changes = sym (kind.may f.call there) ∙ first_seeks f there m here kind.no_end way.script }
+      record { front = at; rest = left.0; left = left.1; changes = kind.may f.call there (first_seeks f there m here kind.no_end way.script) }
   by (Poll y polls again) at = absurd (no_poll y (inside (sym (ap (own_first f) at) ∙ first)))
   by (Raise x) at = absurd (no_raise x (inside (sym (ap (own_first f) at) ∙ first)))
   by (Lower x) at = absurd (no_lower x (inside (sym (ap (own_first f) at) ∙ first)))
@@ -111,12 +121,22 @@ own_behind f m own =
     ap (λ (front : Front). let g : FlightState = record f { front = front_behind f.raised front; left = script_behind front f.left } in g) own.front
     ∙ ap (λ (ms : List Micro). let g : FlightState = record f { front = Empty; left = rest_of ms } in g) own.left
 
-under_way-own : (f : FlightState) (there : ℕ → Bool) (m : Micro) → relinks m ≡ true → own_step f ≡ Some m → IsUnderWay there f → IsUnderWay there (gone_on f)
-under_way-own f there m is own way = record {
+-- and with other PLLs that count as raised
+abbrev pub raised_then : FlightState → List ℕ → FlightState
+raised_then f ys = record (gone_on f) { raised = ys }
+
+-- nothing stands in front behind it
+pub front_gone : (old : Parts) (m : Micro) (flight' : FlightState) → IsWhole old → old.flight.going ≡ true → relinks m ≡ true → own_step old.flight ≡ Some m → flight' ≡ gone_on old.flight → flight'.front ≡ Empty
+front_gone old m flight' whole going is own gone =
+    ap (λ (f : FlightState). f.front) (gone ∙ own_behind old.flight m (own_of old.flight (registered old.tree.clocks) m is own (whole.flown going).way))
+
+under_way-own : (f : FlightState) (there : ℕ → Bool) (m : Micro) (ys : List ℕ) → relinks m ≡ true → own_step f ≡ Some m → list_all there ys ≡ true → IsUnderWay there f → IsUnderWay there (raised_then f ys)
+under_way-own f there m ys is own all way = record {
   call_ = way.call_;
   script = script_rest f there f.front m (own_going f.going (own_first f f.front) m own) (kind_is m is).no_end way.script;
   front = ap (λ (front : Front). is_front f.call there (front_behind f.raised front)) (own_of f there m is own way).front;
-  raised = way.raised;
+  cut = cut_behind f.call f.raised f.left f.front way.cut;
+  raised = all;
   extra = way.extra;
   vetoed = way.vetoed;
 }
@@ -138,8 +158,8 @@ links-own f defs clocks m own all =
 
 -- ---- the parts
 
--- such a step was made: the words, the tree and the counts go on together, and nobody has lost a link
-pub record Relinked (old : Parts) (m : Micro) (window' : Shown) (tree' : TreeState) (counts' : CountState) (flight' : FlightState) : Type 0 where
+-- such a step was made: the words, the tree, the counts and what is held go on together, and nobody has lost a link
+pub record Relinked (old : Parts) (m : Micro) (window' : Shown) (tree' : TreeState) (counts' : CountState) (prepares' enables' : List ℕ) (flight' : FlightState) : Type 0 where
   pub whole : IsWhole old
   pub going : old.flight.going ≡ true
   pub is : relinks m ≡ true
@@ -152,14 +172,19 @@ pub record Relinked (old : Parts) (m : Micro) (window' : Shown) (tree' : TreeSta
   pub there : (c : ℕ) → registered tree'.clocks c ≡ registered old.tree.clocks c
   pub linked : (c : ℕ) → is_some (link_in tree'.clocks c) ≡ is_some (link_in old.tree.clocks c)
   pub keeps : AreCounts counts'
-  pub stands : StandsFor counts' (bare (record old { tree = tree' }))
-  pub flight : flight' ≡ gone_on old.flight
-  pub change : GoesOn old.flight flight'
-  pub less : LeavesLessAt is_taken old.flight flight'
+  pub prepares : AreHeld (registered old.tree.clocks) (length old.desc.defs) (old.steps + 1) prepares'
+  pub enables : AreHeld (registered old.tree.clocks) (length old.desc.defs) (old.steps + 1) enables'
+  pub stands : StandsFor counts' (bare (record old { tree = tree'; prepare_holds = prepares'; enable_holds = enables' }))
+  -- these PLLs count as raised then
+  pub raised : List ℕ
+  pub raised_there : list_all (registered old.tree.clocks) raised ≡ true
+  pub flight : flight' ≡ raised_then old.flight raised
+  pub less : left_over (rows_from 0 old.chains) flight' < left_over (rows_from 0 old.chains) old.flight
 
 -- the parts behind it
-abbrev pub with_relinked : Parts → Shown → TreeState → CountState → FlightState → Parts
-with_relinked old window' tree' counts' flight' = record old { window = window'; tree = tree'; counts = counts'; flight = flight'; steps = old.steps + 1 }
+abbrev pub with_relinked : Parts → Shown → TreeState → CountState → List ℕ → List ℕ → FlightState → Parts
+with_relinked old window' tree' counts' prepares' enables' flight' =
+    record old { window = window'; tree = tree'; counts = counts'; prepare_holds = prepares'; enable_holds = enables'; flight = flight'; steps = old.steps + 1 }
 
 -- what can be made over the tree stays so
 can_same : (defs : Description) (old new : List ClockRow) → ((c : ℕ) → registered new c ≡ registered old c) → ((c : ℕ) → is_some (link_in new c) ≡ is_some (link_in old c)) → (m : Micro) → can_link defs new m ≡ can_link defs old m
@@ -181,7 +206,7 @@ can_now old m whole going is own =
     (links-own old.flight old.desc.defs old.tree.clocks m at ((whole.flown going).links at.changes)).0
 
 -- fewer steps are to come
-falls_of : (old : Parts) (m : Micro) (flight' : FlightState) → IsWhole old → old.flight.going ≡ true → relinks m ≡ true → own_step old.flight ≡ Some m → LeavesLessAt is_taken old.flight flight'
+pub falls_of : (old : Parts) (m : Micro) (flight' : FlightState) → IsWhole old → old.flight.going ≡ true → relinks m ≡ true → own_step old.flight ≡ Some m → LeavesLessAt is_taken old.flight flight'
     → left_over (rows_from 0 old.chains) flight' < left_over (rows_from 0 old.chains) old.flight
 falls_of old m flight' whole going is own less =
     let at = own_step_of old m whole going is own in
@@ -191,62 +216,87 @@ falls_of old m flight' whole going is own less =
     (kind_is m is).taken_
 
 -- they stay whole
-pub whole_relinked : (old : Parts) (m : Micro) (window' : Shown) (tree' : TreeState) (counts' : CountState) (flight' : FlightState) → Relinked old m window' tree' counts' flight' → IsWhole (with_relinked old window' tree' counts' flight')
-whole_relinked old m window' tree' counts' flight' now =
+pub whole_relinked : (old : Parts) (m : Micro) (window' : Shown) (tree' : TreeState) (counts' : CountState) (prepares' enables' : List ℕ) (flight' : FlightState) → Relinked old m window' tree' counts' prepares' enables' flight'
+    → IsWhole (with_relinked old window' tree' counts' prepares' enables' flight')
+whole_relinked old m window' tree' counts' prepares' enables' flight' now =
     let whole = now.whole in
     let flown = whole.flown now.going in
     let at = own_step_of old m whole now.going now.is now.own in
-    let falls = falls_of old m flight' whole now.going now.is now.own now.less in
+    let falls = now.less in
     record {
       tied = now.tied;
       paid = whole.paid;
-      counted = record { keeps = now.keeps; stands = StandsFor-same counts' (bare (record old { tree = tree' })) (bare (with_relinked old window' tree' counts' flight')) now.stands refl refl refl refl refl };
+      counted = record {
+        keeps = now.keeps;
+        stands =
+            StandsFor-same counts' (bare (record old { tree = tree'; prepare_holds = prepares'; enable_holds = enables' })) (bare (with_relinked old window' tree' counts' prepares' enables' flight')) now.stands refl refl refl refl refl;
+      };
       clocks = whole.clocks;
       handled = λ n h e. now.there h.clock.0 ∙ whole.handled n h e;
       notified = whole.notified;
       listed = whole.listed;
       flown = λ still. subst (λ (f : FlightState). IsFlown old.desc.defs tree'.clocks old.table.handles old.chains old.course.notified old.spent f) (sym now.flight) (record {
         plls_ = flown.plls_;
-        way = subst (λ (there : ℕ → Bool). IsUnderWay there (gone_on old.flight)) (sym (fun_ext now.there)) (under_way-own old.flight (registered old.tree.clocks) m now.is now.own flown.way);
+        way = subst (λ (there : ℕ → Bool). IsUnderWay there (raised_then old.flight now.raised)) (sym (fun_ext now.there))
+            (under_way-own old.flight (registered old.tree.clocks) m now.raised now.is now.own now.raised_there flown.way);
         own = flown.own;
         paid = flown.paid;
-        tells = λ changes. tells-own old.flight (notifiers_at old.chains) old.course.notified m now.is at (flown.tells changes);
+        tells = λ changes. let tells = tells-own old.flight (notifiers_at old.chains) old.course.notified m now.is at (flown.tells changes) in record { front = tells.front; visits = tells.visits };
         links = λ changes.
             ap (λ (can : Micro → Bool). list_all can (gone_on old.flight).left) (fun_ext (can_same old.desc.defs old.tree.clocks tree'.clocks now.there now.linked))
             ∙ (links-own old.flight old.desc.defs old.tree.clocks m at (flown.links changes)).1;
       });
       room = let room = whole.room in omega arith;
+      prepares_held = held_still (registered old.tree.clocks) (registered tree'.clocks) (length old.desc.defs) (old.steps + 1) prepares' (λ k there. now.there k ∙ there) now.prepares;
+      enables_held = held_still (registered old.tree.clocks) (registered tree'.clocks) (length old.desc.defs) (old.steps + 1) enables' (λ k there. now.there k ∙ there) now.enables;
     }
 
 -- what the step does to a state
-pub record DoesTo (old : Parts) (m : Micro) (window' : Shown) (tree' : TreeState) (s : State) (k : Change) : Type 0 where
+pub record DoesTo (old : Parts) (m : Micro) (window' : Shown) (tree' : TreeState) (prepares' enables' : List ℕ) (flight' : FlightState) (s : State) (k : Change) : Type 0 where
   pub regs : Registers
   pub clocks : List ClockRow
   pub order : List ℕ
-  pub next_ : next s old.flight.driver (event.Step m None) ≡ Some (record s { regs = regs; clocks = clocks; order = order; change = Some (taken k); steps = s.steps + 1 }, turn.Going)
+  pub prepare_holds : List ℕ
+  pub enable_holds : List ℕ
+  pub change : Change
+  pub next_ : next s old.flight.driver (event.Step m None)
+      ≡ Some (record s { regs = regs; clocks = clocks; order = order; prepare_holds = prepare_holds; enable_holds = enable_holds; change = Some change; steps = s.steps + 1 }, turn.Going)
   pub words : window'.words ≡ Some regs
   pub rows : clocks ≡ tree'.clocks
   pub order_ : order ≡ tree'.order
+  pub prepares : TellsHolds prepares' prepare_holds
+  pub enables : TellsHolds enables' enable_holds
+  pub flies : IsChange s.notifiers flight' change
+  pub along : IsAlong old.course (Some k) → IsAlong old.course (Some change)
 
 -- and it takes the parts on
-pub relinked_enters : (old : Parts) (m : Micro) (window' : Shown) (tree' : TreeState) (counts' : CountState) (flight' : FlightState) → Relinked old m window' tree' counts' flight'
-    → ((s : State) (k : Change) → Stands old s → IsSound old.window.size s → IsNext s old.flight.driver k m → k.left ≡ old.flight.left → DoesTo old m window' tree' s k)
-    → Enters old old.flight.driver (event.Step m None) turn.Going (with_relinked old window' tree' counts' flight')
-relinked_enters old m window' tree' counts' flight' now does = record {
+pub relinked_enters : (old : Parts) (m : Micro) (window' : Shown) (tree' : TreeState) (counts' : CountState) (prepares' enables' : List ℕ) (flight' : FlightState) → Relinked old m window' tree' counts' prepares' enables' flight'
+    → ((s : State) (k : Change) → Stands old s → IsSound old.window.size s → IsNext s old.flight.driver k m → IsChange s.notifiers old.flight k → DoesTo old m window' tree' prepares' enables' flight' s k)
+    → Enters old old.flight.driver (event.Step m None) turn.Going (with_relinked old window' tree' counts' prepares' enables' flight')
+relinked_enters old m window' tree' counts' prepares' enables' flight' now does = record {
   remains = record { desc = refl; told = now.told; size = now.size; behind = now.behind; credits = refl; ignore_unused = refl };
   pays = let same : old.spent ≡ old.spent + 0 = omega arith in same;
   rows = λ d. now.there d ∙ sym (or-false (registered old.tree.clocks d));
   going = ap (λ (f : FlightState). f.going) now.flight ∙ now.going;
   driver_ = λ still. ap (λ (f : FlightState). f.driver) now.flight;
-  fewer = λ free. falls_of old m flight' now.whole now.going now.is now.own now.less;
+  fewer = λ free. now.less;
   begun = λ paid. absurd cc;
   no_more = λ paid. absurd cc;
+  beside = λ tier. absurd cc;
   step = λ s stands sound.
       let has = change_of old s stands now.going in
       let first = now.first s.notifiers has.k stands.notifiers has.is in
-      let done = does s has.k stands sound (next_of old s m has first) has.is.left in
+      let done = does s has.k stands sound (next_of old s m has first) has.is in
       record {
-        to = record s { regs = done.regs; clocks = done.clocks; order = done.order; change = Some (taken has.k); steps = s.steps + 1 };
+        to = record s {
+          regs = done.regs;
+          clocks = done.clocks;
+          order = done.order;
+          prepare_holds = done.prepare_holds;
+          enable_holds = done.enable_holds;
+          change = Some done.change;
+          steps = s.steps + 1;
+        };
         next_ = done.next_;
         stands = record {
           defs = stands.defs;
@@ -255,10 +305,10 @@ relinked_enters old m window' tree' counts' flight' now does = record {
           order = done.order_;
           handles = stands.handles;
           notifiers = stands.notifiers;
-          prepare_holds = stands.prepare_holds;
-          enable_holds = stands.enable_holds;
-          change = now.change s.notifiers has.k m has.is first (kind_is m now.is).taken_;
-          along = λ changes. let goes = has.along changes in record { chain = goes.chain; rates = goes.rates };
+          prepare_holds = done.prepares;
+          enable_holds = done.enables;
+          change = done.flies;
+          along = done.along has.along;
           credits = stands.credits;
           spent = stands.spent;
           steps = ap (λ (n : ℕ). n + 1) stands.steps;

@@ -1,96 +1,305 @@
--- What a script of notices and visits says of a change that goes on with it.
-use Rattle.clk_model.specs.declared.row.ClockRow.{ClockRow}
-use Rattle.clk_base.specs.Description.{Description}
-use Rattle.std.proofs.Common.{◌≡◌, ℕ, ◌+◌, ◌*◌, ◌&&◌, ◌||◌, ◌++◌, not, Bool, true, false, cond, List, [], ◌∷◌, refl, ap, ◌∙◌, map, filter, nat_eq}
+-- What the script of a plan whose moves can be made says of a change that goes on with it.
+use Rattle.std.proofs.Common.{◌≡◌, ℕ, ◌+◌, ◌<◌, ◌&&◌, ◌||◌, ◌++◌, not, Bool, true, false, cond, List, [], ◌∷◌, Option, Some, None, refl, sym, ap, ◌∙◌, inl, inr, map, filter, nat_eq, append_assoc, arith}
 use Rattle.std.proofs.Math.Path.{fun_ext}
-use Rattle.std.specs.Prelude.{sum_by, slice_index, if◌then◌else◌}
-use Rattle.std.specs.List.{AllByRecursion, list_all}
+use Rattle.std.specs.Prelude.{sum_by, slice_index, slice_get, is_none, is_some, flat_map, length, nat_lt, if◌then◌else◌}
+use Rattle.std.specs.List.{AllByRecursion, list_all, list_any, position_or_len}
+use Rattle.std.specs.Option.{option_map_or}
+use Rattle.std.proofs.lemmas.Bool.{and_from, not-true}
+use Rattle.std.proofs.lemmas.Bool.Decides.{nat_tests}
+use Rattle.std.proofs.lemmas.List.Folds.{list_all-append, list_any-append}
 use Rattle.clk_base.specs.declared.call.Micro.{Micro}
 use Rattle.clk_base.specs.declared.call.Micro.TheVariants as micro
+use Rattle.clk_base.specs.declared.call.Notice.{Notice}
+use Rattle.clk_base.specs.declared.call.Notice.TheVariants as notice
 use Rattle.clk_base.specs.declared.call.Sleeping.{Sleeping}
-use Rattle.clk_model.specs.Chain.{clock_id}
-use Rattle.clk_model.specs.Laws.Paced.{is_notice}
-use Rattle.clk_model.specs.Script.{plls, weight}
-use Rattle.clk_model.specs.State.{State}
-use Rattle.clk_model.proofs.Members.{test_same}
+use Rattle.clk_base.specs.declared.clock.ClockId.{ClockId}
+use Rattle.clk_base.specs.Description.{Description, kind_of, parents_of}
+use Rattle.clk_model.specs.declared.row.ClockRow.{ClockRow}
+use Rattle.clk_model.specs.Chain.{clock_id, moves, place_of}
+use Rattle.clk_model.specs.Kinds.{mux_field}
+use Rattle.clk_model.specs.Lists.{is_in, same_place}
+use Rattle.clk_model.specs.Notices.{is_veto, vetoes}
+use Rattle.clk_model.specs.Script.{is_raise, move, move_of}
+use Rattle.clk_model.specs.State.{ChainStep, registered, link_in}
+use Rattle.clk_model.specs.Step.{is_end, is_visit}
+use Rattle.clk_model.specs.Tree.{rooted}
+use Rattle.clk_model.proofs.Members.{both_left, both_right, or_cases, or_right, same_from_test, test_same}
 use Rattle.clk_flight.specs.LeftOver as flights
+use Rattle.clk_tree.specs.declared.plan.Plan.{Plan}
 use Rattle.clk_tree.specs.Plans.{ClockRate}
+use Rattle.clk_tree.specs.TreeState.{TreeState}
 use Rattle.notifiers.specs.declared.notifier.Notifier.{Notifier}
-use Rattle.notifiers.specs.Chains.{Tells}
+use Rattle.change_walk.specs.declared.changes.Changed.{Changed}
+use Rattle.change_walk.specs.Given.{settles}
+use Rattle.change_walk.specs.Steps.{steps_for, visits}
+use Rattle.change_walk.specs.Tellings as tellings
 use Rattle.change_walk.specs.Weights.{step_weight}
 use Rattle.clk_machine.specs.declared.course.Notified.{Notified}
-use Rattle.clk_machine.specs.Changing.{notices_first, still_steps, told_clocks}
-use Rattle.clk_machine.specs.Course.{behind_first, begins_with, tells_all}
-use Rattle.clk_machine.specs.InFlight.{changes_rate, is_script, can_link}
+use Rattle.clk_machine.specs.Changing.{told_clocks}
+use Rattle.clk_machine.specs.Course.{behind_first, behind_visit, begins_with, tells_all, visited_by}
+use Rattle.clk_machine.specs.InFlight.{asks_rate, can_link, changes_rate, cuts_behind, is_prepare, is_unprepare, may_make, is_script}
+use Rattle.clk_machine.specs.Movable.{can_get, can_go, can_go_along}
 use Rattle.clk_machine.specs.Parts.{rows_from}
-use Rattle.clk_machine.proofs.Telling.{count_told, rows_count}
+use Rattle.clk_machine.specs.Reparenting.{is_candidate}
+use Rattle.clk_machine.proofs.Telling.{rows_count}
 
--- the visits of the clocks of a walk
-abbrev visits_of : List ClockRate → List Micro
-visits_of rates = map (λ r. micro.Visit (clock_id r.clock)) rates
+-- ---- lists of steps that pass
 
--- ---- it is a script of the call
+pub all_both : (P : Micro → Bool) (xs ys : List Micro) → list_all P xs ≡ true → list_all P ys ≡ true → list_all P (xs ++ ys) ≡ true
+all_both P xs ys one two = list_all-append P xs ys ∙ ap (λ (t : Bool). t && list_all P ys) one ∙ two
 
-module _ (what : Sleeping) (there : ℕ → Bool) (changes : changes_rate what ≡ true) where
-  script_notices : (steps tail : List Micro) → is_script what there tail ≡ true → is_script what there (notices_first steps ++ tail) ≡ true
-  script_notices [] tail last = last
-  script_notices (m ∷ ms) tail last = by m (script_notices ms tail last) where
-    by : (n : Micro) → is_script what there (notices_first ms ++ tail) ≡ true → is_script what there ((if is_notice n then n ∷ notices_first ms else []) ++ tail) ≡ true
-    by (micro.Notify kind c id old new) rest = ap (λ (t : Bool). t && is_script what there (notices_first ms ++ tail)) changes ∙ rest
-    by _ rest = last
+all_mapped : {X : Type 0} (P : Micro → Bool) (f : X → List Micro) (xs : List X) → ((x : X) → list_all P (f x) ≡ true) → list_all P (flat_map f xs) ≡ true
+all_mapped P f [] each = refl
+all_mapped P f (x ∷ xs) each = all_both P (f x) (flat_map f xs) (each x) (all_mapped P f xs each)
 
-  script_visits : (rates : List ClockRate) → AllByRecursion (λ r. there r.clock ≡ true) rates → is_script what there (visits_of rates ++ micro.End ∷ []) ≡ true
-  script_visits [] all = refl
-  script_visits (r ∷ rates) all =
-      ap (λ (t : Bool). (t && there r.clock) && is_script what there (visits_of rates ++ micro.End ∷ [])) changes
-      ∙ ap (λ (t : Bool). t && is_script what there (visits_of rates ++ micro.End ∷ [])) all.0
-      ∙ script_visits rates all.1
+-- ---- the moves of a chain
 
-  pub script_still : (steps : List Micro) (vetoed : Bool) (rates : List ClockRate) → AllByRecursion (λ r. there r.clock ≡ true) rates → is_script what there (still_steps steps vetoed rates) ≡ true
-  script_still steps vetoed rates all = script_notices steps ((if vetoed then [] else visits_of rates) ++ micro.End ∷ []) (by vetoed) where
-    by : (t : Bool) → is_script what there ((if t then [] else visits_of rates) ++ micro.End ∷ []) ≡ true
-    by true = refl
-    by false = script_visits rates all
+-- a clock that moves has a link, and its new parent is a candidate; by a change of parent it isn't prepared
+record IsMoved (sets : Bool) (defs : Description) (clocks : List ClockRow) (prepared : ℕ → Bool) (c p : ℕ) : Type 0 where
+  from : ℕ
+  link : link_in clocks c ≡ Some from
+  candidate : is_candidate defs clocks c p ≡ true
+  unheld : (sets && prepared c) ≡ false
 
--- ---- it links no clock
+-- a step that can be made and moves its clock moves it so
+moved_so : (sets : Bool) (defs : Description) (clocks : List ClockRow) (prepared : ℕ → Bool) (c p : ℕ) → can_get sets defs clocks prepared c p ≡ true → not (same_place (Some p) (link_in clocks c)) ≡ true
+    → IsMoved sets defs clocks prepared c p
+moved_so sets defs clocks prepared c p can moving = by (link_in clocks c) refl where
+  other : (x : ℕ) → link_in clocks c ≡ Some x → x ≡ p → ⊥
+  other x at same =
+      let no : false ≡ true =
+      sym (ap (λ (u : Option ℕ). not (same_place (Some p) u)) at ∙ ap (λ (y : ℕ). not (nat_eq p y)) same ∙ ap not (test_same p)) ∙ moving in
+      cc
 
-module _ (defs : Description) (clocks : List ClockRow) where
-  links_notices : (steps tail : List Micro) → list_all (can_link defs clocks) tail ≡ true → list_all (can_link defs clocks) (notices_first steps ++ tail) ≡ true
-  links_notices [] tail last = last
-  links_notices (m ∷ ms) tail last = by m (links_notices ms tail last) where
-    by : (n : Micro) → list_all (can_link defs clocks) (notices_first ms ++ tail) ≡ true → list_all (can_link defs clocks) ((if is_notice n then n ∷ notices_first ms else []) ++ tail) ≡ true
-    by (micro.Notify kind c id old new) rest = rest
-    by _ rest = last
+  by : (o : Option ℕ) → link_in clocks c ≡ o → IsMoved sets defs clocks prepared c p
+  by None at =
+      let no : false ≡ true = sym (ap (λ (u : Option ℕ). option_map_or (λ x. nat_eq x p || (is_candidate defs clocks c p && not (sets && prepared c))) u false) at) ∙ can in absurd cc
+  by (Some x) at =
+      let here : (nat_eq x p || (is_candidate defs clocks c p && not (sets && prepared c))) ≡ true =
+      sym (ap (λ (u : Option ℕ). option_map_or (λ x. nat_eq x p || (is_candidate defs clocks c p && not (sets && prepared c))) u false) at) ∙ can in
+      elim (or_cases (nat_eq x p) (is_candidate defs clocks c p && not (sets && prepared c)) here) [
+        | inl same ↦ absurd (other x at (same_from_test x p same))
+        | inr both ↦ record {
+          from = x;
+          link = at;
+          candidate = both_left (is_candidate defs clocks c p) (not (sets && prepared c)) both;
+          unheld = not-true (sets && prepared c) (both_right (is_candidate defs clocks c p) (not (sets && prepared c)) both);
+        }
+      ]
 
-  links_visits : (rates : List ClockRate) → list_all (can_link defs clocks) (visits_of rates ++ micro.End ∷ []) ≡ true
-  links_visits [] = refl
-  links_visits (r ∷ rates) = links_visits rates
+module _ (P : Micro → Bool) (sets : Bool) (defs : Description) (clocks : List ClockRow) (prepared : ℕ → Bool)
+    (each : (c p : ℕ) → IsMoved sets defs clocks prepared c p → list_all P (move defs clocks prepared c p) ≡ true) where
+  -- the move of a clock by one step
+  abbrev by_step : ℕ → ChainStep → List Micro
+  by_step c k = option_map_or (move defs clocks prepared c) k.parent []
 
-  pub links_still : (steps : List Micro) (vetoed : Bool) (rates : List ClockRate) → list_all (can_link defs clocks) (still_steps steps vetoed rates) ≡ true
-  links_still steps vetoed rates = links_notices steps ((if vetoed then [] else visits_of rates) ++ micro.End ∷ []) (by vetoed) where
-    by : (t : Bool) → list_all (can_link defs clocks) ((if t then [] else visits_of rates) ++ micro.End ∷ []) ≡ true
-    by true = refl
-    by false = links_visits rates
+  step_all : (c : ℕ) (k : ChainStep) → (nat_eq k.clock c && moves clocks k) ≡ true → can_go sets defs clocks prepared k ≡ true → list_all P (by_step c k) ≡ true
+  step_all c k here can = by k.parent refl where
+    same : k.clock ≡ c
+    same = same_from_test k.clock c (both_left (nat_eq k.clock c) (moves clocks k) here)
 
--- ---- the clocks that it visits are told
+    by : (o : Option ℕ) → k.parent ≡ o → list_all P (option_map_or (move defs clocks prepared c) o []) ≡ true
+    by None at = refl
+    by (Some p) at =
+        each c p (moved_so sets defs clocks prepared c p
+        (ap (λ (x : ℕ). can_get sets defs clocks prepared x p) (sym same) ∙ sym (ap (λ (o : Option ℕ). option_map_or (can_get sets defs clocks prepared k.clock) o (not sets)) at) ∙ can)
+        (ap (λ (x : ℕ). not (same_place (Some p) (link_in clocks x))) (sym same) ∙ ap (λ (o : Option ℕ). not (same_place o (link_in clocks k.clock))) (sym at) ∙ both_right (nat_eq k.clock c) (moves clocks k) here))
 
-tells_notices : (count : ℕ → ℕ) (ns : List Notified) (steps tail : List Micro) → tells_all count tail ns ≡ true → tells_all count (notices_first steps ++ tail) ns ≡ true
-tells_notices count ns [] tail last = last
-tells_notices count ns (m ∷ ms) tail last = by m (tells_notices count ns ms tail last) where
-  by : (n : Micro) → tells_all count (notices_first ms ++ tail) ns ≡ true → tells_all count ((if is_notice n then n ∷ notices_first ms else []) ++ tail) ns ≡ true
-  by (micro.Notify kind c id old new) rest = rest
-  by _ rest = last
+  moves_all : (c : ℕ) (ks : List ChainStep) → can_go_along sets defs clocks prepared ks ≡ true → list_all P (move_of defs clocks prepared ks c) ≡ true
+  moves_all c [] all = refl
+  moves_all c (k ∷ ks) all =
+      by (nat_eq k.clock c && moves clocks k) refl (moves_all c ks (both_right (can_go sets defs clocks prepared k) (can_go_along sets defs clocks prepared ks) all)) where
+        rest : List ChainStep
+        rest = filter (λ k. nat_eq k.clock c && moves clocks k) ks
+
+        by : (t : Bool) → (nat_eq k.clock c && moves clocks k) ≡ t → list_all P (flat_map (by_step c) rest) ≡ true → list_all P (flat_map (by_step c) (cond t (k ∷ rest) rest)) ≡ true
+        by true here more = all_both P (by_step c k) (flat_map (by_step c) rest) (step_all c k here (both_left (can_go sets defs clocks prepared k) (can_go_along sets defs clocks prepared ks) all)) more
+        by false here more = more
+
+  visits_all : (ks : List ChainStep) (rates : List ClockRate) → can_go_along sets defs clocks prepared ks ≡ true → AllByRecursion (λ r. P (micro.Visit (clock_id r.clock)) ≡ true) rates
+      → list_all P (visits defs clocks prepared ks rates) ≡ true
+  visits_all ks [] all seen = refl
+  visits_all ks (r ∷ rates) all seen =
+      all_both P (move_of defs clocks prepared ks r.clock ++ micro.Visit (clock_id r.clock) ∷ []) (visits defs clocks prepared ks rates)
+      (all_both P (move_of defs clocks prepared ks r.clock) (micro.Visit (clock_id r.clock) ∷ []) (moves_all r.clock ks all) (ap (λ (t : Bool). t && true) seen.0))
+      (visits_all ks rates all seen.1)
+
+-- ---- notices
+
+module _ (P : Micro → Bool) (tells : (kind : Notice) (c : ClockId) (id old new : ℕ) → P (micro.Notify kind c id old new) ≡ true) where
+  before_all : (x : Changed) (ns : List Notifier) → list_all P (tellings.tell_before x ns) ≡ true
+  before_all x [] = refl
+  before_all x (n ∷ ns) = by (vetoes n.policy x.after) (before_all x ns) where
+    by : (t : Bool) → list_all P (tellings.tell_before x ns) ≡ true → list_all P (tellings.notify (notice.Pre t) x n.id ∷ (if t then [] else tellings.tell_before x ns)) ≡ true
+    by true rest = ap (λ (t : Bool). t && true) (tells (notice.Pre true) x.clock n.id x.before x.after)
+    by false rest = ap (λ (t : Bool). t && list_all P (tellings.tell_before x ns)) (tells (notice.Pre false) x.clock n.id x.before x.after) ∙ rest
+
+  off_all : (x : Changed) (ns : List Notifier) → list_all P (tellings.tell_off x ns) ≡ true
+  off_all x [] = refl
+  off_all x (n ∷ ns) = ap (λ (t : Bool). t && list_all P (tellings.tell_off x ns)) (tells notice.Abort x.clock n.id x.before x.after) ∙ off_all x ns
+
+-- ---- the whole script
+
+-- the notices before a change, and those that it is called off
+abbrev notices_before : List (List Notifier) → List Changed → List Micro
+notices_before lists changed = flat_map (λ x. tellings.tell_before x (tellings.notifiers_at lists x)) changed
+
+abbrev notices_off : List (List Notifier) → List Changed → List Micro
+notices_off lists changed = flat_map (λ x. tellings.tell_off x (tellings.notifiers_at lists x)) changed
+
+-- what comes behind the notices, where one is a veto or none is
+abbrev behind_notices : TreeState → (ℕ → Bool) → List (List Notifier) → Plan → List Changed → Bool → List Micro
+behind_notices t prepared lists plan changed vetoed = if vetoed then notices_off lists changed else visits t.defs t.clocks prepared plan.chain plan.rates ++ settles plan.set_parent plan.chain
+
+-- a script without its end
+abbrev body_of : TreeState → (ℕ → Bool) → List (List Notifier) → Plan → List Changed → List Micro
+body_of t prepared lists plan changed = notices_before lists changed ++ behind_notices t prepared lists plan changed (list_any is_veto (notices_before lists changed))
+
+-- what each kind of its steps passes
+record Passes (P : Micro → Bool) (t : TreeState) (prepared : ℕ → Bool) (plan : Plan) : Type 0 where
+  tells : (kind : Notice) (c : ClockId) (id old new : ℕ) → P (micro.Notify kind c id old new) ≡ true
+  moved : (c p : ℕ) → IsMoved plan.set_parent t.defs t.clocks prepared c p → list_all P (move t.defs t.clocks prepared c p) ≡ true
+  seen : AllByRecursion (λ r. P (micro.Visit (clock_id r.clock)) ≡ true) plan.rates
+  settled : list_all P (settles plan.set_parent plan.chain) ≡ true
+
+-- all of them pass
+body_all : (P : Micro → Bool) (t : TreeState) (prepared : ℕ → Bool) (lists : List (List Notifier)) (plan : Plan) (changed : List Changed)
+    → can_go_along plan.set_parent t.defs t.clocks prepared plan.chain ≡ true → Passes P t prepared plan → list_all P (body_of t prepared lists plan changed) ≡ true
+body_all P t prepared lists plan changed all passes =
+    all_both P (notices_before lists changed) (behind_notices t prepared lists plan changed (list_any is_veto (notices_before lists changed)))
+    (all_mapped P (λ x. tellings.tell_before x (tellings.notifiers_at lists x)) changed (λ x. before_all P passes.tells x (tellings.notifiers_at lists x)))
+    (by (list_any is_veto (notices_before lists changed))) where
+      by : (v : Bool) → list_all P (behind_notices t prepared lists plan changed v) ≡ true
+      by true = all_mapped P (λ x. tellings.tell_off x (tellings.notifiers_at lists x)) changed (λ x. off_all P passes.tells x (tellings.notifiers_at lists x))
+      by false =
+          all_both P (visits t.defs t.clocks prepared plan.chain plan.rates) (settles plan.set_parent plan.chain)
+          (visits_all P plan.set_parent t.defs t.clocks prepared passes.moved plan.chain plan.rates all passes.seen) passes.settled
+
+-- ---- what its steps are
+
+-- steps that a call may make, none of which raises, in front of a script
+script_calm : (what : Sleeping) (there : ℕ → Bool) (xs tail : List Micro) → list_all (λ m. may_make what there m && not (is_raise m)) xs ≡ true → is_script what there tail ≡ true → is_script what there (xs ++ tail) ≡ true
+script_calm what there [] tail may more = more
+script_calm what there (m ∷ xs) tail may more =
+    or_right (is_end m && is_none (slice_get (xs ++ tail) 0)) (cuts_behind what m (xs ++ tail) && (may_make what there m && is_script what there (xs ++ tail)))
+    (and_from (cuts_behind what m (xs ++ tail)) (may_make what there m && is_script what there (xs ++ tail)) (cuts m (both_right (may_make what there m) (not (is_raise m)) first))
+    (and_from (may_make what there m) (is_script what there (xs ++ tail)) (both_left (may_make what there m) (not (is_raise m)) first)
+    (script_calm what there xs tail (both_right (may_make what there m && not (is_raise m)) (list_all (λ m. may_make what there m && not (is_raise m)) xs) may) more))) where
+      first : (may_make what there m && not (is_raise m)) ≡ true
+      first = both_left (may_make what there m && not (is_raise m)) (list_all (λ m. may_make what there m && not (is_raise m)) xs) may
+
+      cuts : (n : Micro) → not (is_raise n) ≡ true → cuts_behind what n (xs ++ tail) ≡ true
+      cuts (micro.Raise x) e = absurd cc
+      cuts _ e = refl
+
+-- and steps that it may make in front of one that has a visit, which a timeout leaves
+script_before : (what : Sleeping) (there : ℕ → Bool) (xs tail : List Micro) → list_all (may_make what there) xs ≡ true → list_any is_visit tail ≡ true → is_script what there tail ≡ true → is_script what there (xs ++ tail) ≡ true
+script_before what there [] tail may seen more = more
+script_before what there (m ∷ xs) tail may seen more =
+    or_right (is_end m && is_none (slice_get (xs ++ tail) 0)) (cuts_behind what m (xs ++ tail) && (may_make what there m && is_script what there (xs ++ tail)))
+    (and_from (cuts_behind what m (xs ++ tail)) (may_make what there m && is_script what there (xs ++ tail))
+    (cuts m (list_any-append is_visit xs tail ∙ or_right (list_any is_visit xs) (list_any is_visit tail) seen))
+    (and_from (may_make what there m) (is_script what there (xs ++ tail)) (both_left (may_make what there m) (list_all (may_make what there) xs) may)
+    (script_before what there xs tail (both_right (may_make what there m) (list_all (may_make what there) xs) may) seen more))) where
+      cuts : (n : Micro) → list_any is_visit (xs ++ tail) ≡ true → cuts_behind what n (xs ++ tail) ≡ true
+      cuts (micro.Raise x) e = ap (λ (t : Bool). t || not (asks_rate what)) e
+      cuts _ e = refl
+
+-- what the steps that let the old parent go pass
+abbrev drops_of : ℕ → List Micro
+drops_of o = micro.DropEnable (clock_id o) ∷ micro.DropPrepare (clock_id o) ∷ micro.Lower (clock_id o) ∷ []
+
+-- what the steps pass that hold a prepared clock and its new parent, and let the old one go
+record HeldPass (P : Micro → Bool) (clocks : List ClockRow) (c p : ℕ) : Type 0 where
+  raises : P (micro.Raise (clock_id p)) ≡ true
+  prepares : P (micro.HoldPrepare (clock_id p)) ≡ true
+  enables : P (micro.HoldEnable (clock_id p)) ≡ true
+  own : P (micro.HoldEnable (clock_id c)) ≡ true
+  drops : P (micro.DropEnable (clock_id c)) ≡ true
+  old : (o : ℕ) → link_in clocks c ≡ Some o → list_all P (drops_of o) ≡ true
+
+all_eight : (a b c d e f g h : Bool) → a ≡ true → b ≡ true → c ≡ true → d ≡ true → e ≡ true → f ≡ true → g ≡ true → h ≡ true → (a && (b && (c && (d && (e && (f && (g && h))))))) ≡ true
+all_eight a b c d e f g h one two three four five six seven eight =
+    and_from a _ one (and_from b _ two (and_from c _ three (and_from d _ four (and_from e _ five (and_from f _ six (and_from g h seven eight))))))
+
+-- a move links a clock and selects its parent, and holds them meanwhile where the clock is prepared
+move_all : (P : Micro → Bool) (defs : Description) (clocks : List ClockRow) (prepared : ℕ → Bool) (c p : ℕ) → P (micro.Relink (clock_id c) (clock_id p)) ≡ true → P (micro.WriteMux (clock_id c) (place_of defs c p)) ≡ true
+    → (prepared c ≡ true → HeldPass P clocks c p) → list_all P (move defs clocks prepared c p) ≡ true
+move_all P defs clocks prepared c p links selects held = by (prepared c) refl where
+  let_go : (l : Option ℕ) → ((o : ℕ) → l ≡ Some o → list_all P (drops_of o) ≡ true) → list_all P (option_map_or drops_of l []) ≡ true
+  let_go None each = refl
+  let_go (Some o) each = each o refl
+
+  whole : HeldPass P clocks c p → list_all P (micro.Raise (clock_id p) ∷ micro.HoldPrepare (clock_id p) ∷ micro.HoldEnable (clock_id p) ∷ micro.HoldEnable (clock_id c)
+      ∷ micro.Relink (clock_id c) (clock_id p) ∷ micro.WriteMux (clock_id c) (place_of defs c p) ∷ micro.DropEnable (clock_id c) ∷ option_map_or drops_of (link_in clocks c) []) ≡ true
+  whole pass = all_eight _ _ _ _ _ _ _ _ pass.raises pass.prepares pass.enables pass.own links selects pass.drops (let_go (link_in clocks c) pass.old)
+
+  by : (t : Bool) → prepared c ≡ t
+      → list_all P (if t
+      then micro.Raise (clock_id p) ∷ micro.HoldPrepare (clock_id p) ∷ micro.HoldEnable (clock_id p) ∷ micro.HoldEnable (clock_id c)
+      ∷ micro.Relink (clock_id c) (clock_id p) ∷ micro.WriteMux (clock_id c) (place_of defs c p) ∷ micro.DropEnable (clock_id c) ∷ option_map_or drops_of (link_in clocks c) []
+      else micro.Relink (clock_id c) (clock_id p) ∷ micro.WriteMux (clock_id c) (place_of defs c p) ∷ []) ≡ true
+  by true is = whole (held is)
+  by false is = and_from (P (micro.Relink (clock_id c) (clock_id p))) (P (micro.WriteMux (clock_id c) (place_of defs c p)) && true) links (ap (λ (b : Bool). b && true) selects)
+
+-- what a change of parent settles passes where its clock does
+settles_all : (P : Micro → Bool) (sets : Bool) (ks : List ChainStep) → ((k : ChainStep) (ls : List ChainStep) → sets ≡ true → ks ≡ k ∷ ls → P (micro.Settle (clock_id k.clock)) ≡ true) → list_all P (settles sets ks) ≡ true
+settles_all P true [] each = refl
+settles_all P true (k ∷ ks) each = ap (λ (t : Bool). t && true) (each k ks refl refl)
+settles_all P false [] each = refl
+settles_all P false (k ∷ ks) each = refl
+
+-- what holds of each registered clock holds of those of a walk
+each_there : (Q : ℕ → Bool) (there : ℕ → Bool) (rates : List ClockRate) → ((c : ℕ) → there c ≡ true → Q c ≡ true) → AllByRecursion (λ r. there r.clock ≡ true) rates → AllByRecursion (λ r. Q r.clock ≡ true) rates
+each_there Q there [] each all = tt
+each_there Q there (r ∷ rates) each all = (each r.clock all.0, each_there Q there rates each all.1)
+
+all_three : (a b c : Bool) → a ≡ true → b ≡ true → c ≡ true → (a && b && c) ≡ true
+all_three a b c one two three = ap (λ (t : Bool). t && b && c) one ∙ ap (λ (t : Bool). t && c) two ∙ three
+
+all_four : (a b c d : Bool) → a ≡ true → b ≡ true → c ≡ true → d ≡ true → (a && b && c && d) ≡ true
+all_four a b c d one two three four =
+    ap (λ (t : Bool). t && b && c && d) one ∙ ap (λ (t : Bool). t && c && d) two ∙ ap (λ (t : Bool). t && d) three ∙ four
+
+-- the place of a possible parent is one of the list
+place_first : (p q : ℕ) (ps : List ℕ) (t : Bool) → nat_eq q p ≡ t → (t || is_in p ps) ≡ true → (is_in p ps ≡ true → position_or_len (λ r. nat_eq r p) ps < length ps)
+    → position_or_len (λ r. nat_eq r p) (q ∷ ps) < length (q ∷ ps)
+place_first p q ps true e m more =
+    let here : position_or_len (λ r. nat_eq r p) (q ∷ ps) ≡ 0 = ap (λ (t : Bool). cond (not t) (1 + position_or_len (λ r. nat_eq r p) ps) 0) e in omega arith
+place_first p q ps false e m more =
+    let later : position_or_len (λ r. nat_eq r p) (q ∷ ps) ≡ 1 + position_or_len (λ r. nat_eq r p) ps = ap (λ (t : Bool). cond (not t) (1 + position_or_len (λ r. nat_eq r p) ps) 0) e in
+    let rest = more m in omega arith
+
+place_within : (p : ℕ) (ps : List ℕ) → is_in p ps ≡ true → position_or_len (λ r. nat_eq r p) ps < length ps
+place_within p [] m = absurd cc
+place_within p (q ∷ ps) m = place_first p q ps (nat_eq q p) refl m (place_within p ps)
+
+place_below : (p : ℕ) (ps : List ℕ) → is_in p ps ≡ true → nat_lt (position_or_len (λ r. nat_eq r p) ps) (length ps) ≡ true
+place_below p ps m = less (position_or_len (λ r. nat_eq r p) ps) (length ps) (place_within p ps m) where
+  less : (a b : ℕ) → a < b → nat_lt a b ≡ true
+  less a b lt = grind (arith, nat_tests)
+
+-- ---- steps that visit no clock
+
+abbrev unseen : Micro → Bool
+unseen m = is_none (visited_by m)
+
+unseen_first : (count : ℕ → ℕ) (ms tail : List Micro) (ns : List Notified) → list_all unseen ms ≡ true → tells_all count (ms ++ tail) ns ≡ tells_all count tail ns
+unseen_first count [] tail ns all = refl
+unseen_first count (m ∷ ms) tail ns all = by (visited_by m) (both_left (unseen m) (list_all unseen ms) all) (unseen_first count ms tail ns (both_right (unseen m) (list_all unseen ms) all)) where
+  by : (o : Option ℕ) → is_none o ≡ true → tells_all count (ms ++ tail) ns ≡ tells_all count tail ns
+      → option_map_or (λ c. (nat_eq (count c) 0 || begins_with c ns) && tells_all count (ms ++ tail) (behind_visit (count c) ns)) o (tells_all count (ms ++ tail) ns) ≡ tells_all count tail ns
+  by None e rest = rest
+  by (Some c) e rest = absurd cc
 
 -- a clock that is told
 abbrev told_of : List ℕ → ClockRate → Notified
 told_of before r = record { clock = clock_id r.clock; before = slice_index before r.clock; after = r.rate }
 
-tells_visits : (count : ℕ → ℕ) (before : List ℕ) (rates : List ClockRate) → tells_all count (visits_of rates ++ micro.End ∷ []) (told_clocks count before rates) ≡ true
-tells_visits count before [] = refl
-tells_visits count before (r ∷ rates) = by (nat_eq (count r.clock) 0) (tells_visits count before rates) where
-  rest : List Micro
-  rest = visits_of rates ++ micro.End ∷ []
-
+-- a visited clock with notifiers is the first of those that are told
+visit_told : (count : ℕ → ℕ) (before : List ℕ) (r : ClockRate) (rates : List ClockRate) (rest : List Micro) → tells_all count rest (told_clocks count before rates) ≡ true
+    → tells_all count (micro.Visit (clock_id r.clock) ∷ rest) (told_clocks count before (r ∷ rates)) ≡ true
+visit_told count before r rates rest more = by (nat_eq (count r.clock) 0) more where
   left : List ClockRate
   left = filter (λ q. not (nat_eq (count q.clock) 0)) rates
 
@@ -100,11 +309,179 @@ tells_visits count before (r ∷ rates) = by (nat_eq (count r.clock) 0) (tells_v
   by true all = all
   by false all = ap (λ (t : Bool). t && tells_all count rest (map (told_of before) left)) (test_same r.clock) ∙ all
 
-pub tells_still : (count : ℕ → ℕ) (before : List ℕ) (steps : List Micro) (vetoed : Bool) (rates : List ClockRate) → tells_all count (still_steps steps vetoed rates) (told_clocks count before rates) ≡ true
-tells_still count before steps vetoed rates = tells_notices count (told_clocks count before rates) steps ((if vetoed then [] else visits_of rates) ++ micro.End ∷ []) (by vetoed) where
-  by : (t : Bool) → tells_all count ((if t then [] else visits_of rates) ++ micro.End ∷ []) (told_clocks count before rates) ≡ true
-  by true = refl
-  by false = tells_visits count before rates
+-- ---- the script of a plan whose moves can be made
+
+module _ (t : TreeState) (prepared : ℕ → Bool) (lists : List (List Notifier)) (plan : Plan) (changed : List Changed) (can : can_go_along plan.set_parent t.defs t.clocks prepared plan.chain ≡ true)
+    (there : AllByRecursion (λ r. registered t.clocks r.clock ≡ true) plan.rates) where
+  -- what a call may make of a move
+  moved_may : (what : Sleeping) → changes_rate what ≡ true → (plan.set_parent ≡ false → asks_rate what ≡ true) → ((c p : ℕ) → link_in t.clocks c ≡ Some p → (registered t.clocks c ≡ true) × (registered t.clocks p ≡ true))
+      → (c p : ℕ) → IsMoved plan.set_parent t.defs t.clocks prepared c p → prepared c ≡ true → HeldPass (may_make what (registered t.clocks)) t.clocks c p
+  moved_may what changes asks linked c p is held = record {
+    raises = and_from (is_prepare what || asks_rate what) (registered t.clocks p) (or_right (is_prepare what) (asks_rate what) (asks (unset plan.set_parent (prepared c) held is.unheld))) new;
+    prepares = and_from (changes_rate what) (registered t.clocks p) changes new;
+    enables = and_from (changes_rate what) (registered t.clocks p) changes new;
+    own = and_from (changes_rate what) (registered t.clocks c) changes own_;
+    drops = and_from (changes_rate what) (registered t.clocks c) changes own_;
+    old = λ o at.
+        let there_ = (linked c o at).1 in
+        let may = and_from (changes_rate what) (registered t.clocks o) changes there_ in
+        let lowers = and_from (is_unprepare what || changes_rate what) (registered t.clocks o) (or_right (is_unprepare what) (changes_rate what) changes) there_ in
+        and_from (changes_rate what && registered t.clocks o) _ may (and_from (changes_rate what && registered t.clocks o) _ may (ap (λ (b : Bool). b && true) lowers));
+  } where
+    own_ : registered t.clocks c ≡ true
+    own_ = (linked c is.from is.link).0
+
+    new : registered t.clocks p ≡ true
+    new = both_left (registered t.clocks p) _ (both_right (is_some (mux_field (kind_of t.defs c)) && is_in p (parents_of t.defs c)) (rooted t.defs t.clocks p) is.candidate)
+
+    unset : (a b : Bool) → b ≡ true → (a && b) ≡ false → a ≡ false
+    unset true true e f = absurd cc
+    unset true false e f = absurd cc
+    unset false b e f = refl
+
+  -- it is a script of the call
+  visits_script : (what : Sleeping) → changes_rate what ≡ true → (plan.set_parent ≡ false → asks_rate what ≡ true) → ((c p : ℕ) → link_in t.clocks c ≡ Some p → (registered t.clocks c ≡ true) × (registered t.clocks p ≡ true)) → (rates : List ClockRate) → AllByRecursion (λ r. registered t.clocks r.clock ≡ true) rates
+      → is_script what (registered t.clocks) (visits t.defs t.clocks prepared plan.chain rates ++ (settles plan.set_parent plan.chain ++ micro.End ∷ [])) ≡ true
+  visits_script what changes asks linked [] all =
+      script_calm what (registered t.clocks) (settles plan.set_parent plan.chain) (micro.End ∷ [])
+      (settles_all (λ m. may_make what (registered t.clocks) m && not (is_raise m)) plan.set_parent plan.chain (λ k ls sets at. ap (λ (b : Bool). b && true) changes)) refl
+  visits_script what changes asks linked (r ∷ rates) all =
+      ap (is_script what (registered t.clocks))
+      (append_assoc (moved ++ micro.Visit (clock_id r.clock) ∷ []) (visits t.defs t.clocks prepared plan.chain rates) rest_ ∙ append_assoc moved (micro.Visit (clock_id r.clock) ∷ []) (visits t.defs t.clocks prepared plan.chain rates ++ rest_))
+      ∙ script_before what (registered t.clocks) moved (micro.Visit (clock_id r.clock) ∷ (visits t.defs t.clocks prepared plan.chain rates ++ rest_))
+      (moves_all (may_make what (registered t.clocks)) plan.set_parent t.defs t.clocks prepared (λ c p is. move_all (may_make what (registered t.clocks)) t.defs t.clocks prepared c p changes changes (moved_may what changes asks linked c p is)) r.clock plan.chain can)
+      refl
+      (and_from (changes_rate what && registered t.clocks r.clock) (is_script what (registered t.clocks) (visits t.defs t.clocks prepared plan.chain rates ++ rest_))
+      (and_from (changes_rate what) (registered t.clocks r.clock) changes all.0) (visits_script what changes asks linked rates all.1)) where
+        moved : List Micro
+        moved = move_of t.defs t.clocks prepared plan.chain r.clock
+
+        rest_ : List Micro
+        rest_ = settles plan.set_parent plan.chain ++ micro.End ∷ []
+
+  pub script_made : (what : Sleeping) → changes_rate what ≡ true → (plan.set_parent ≡ false → asks_rate what ≡ true) → ((c p : ℕ) → link_in t.clocks c ≡ Some p → (registered t.clocks c ≡ true) × (registered t.clocks p ≡ true)) → is_script what (registered t.clocks) (steps_for t prepared lists plan changed) ≡ true
+  script_made what changes asks linked =
+      ap (is_script what (registered t.clocks)) (append_assoc (notices_before lists changed) (behind_notices t prepared lists plan changed vetoed) (micro.End ∷ []))
+      ∙ script_calm what (registered t.clocks) (notices_before lists changed) (behind_notices t prepared lists plan changed vetoed ++ micro.End ∷ [])
+      (all_mapped calm (λ x. tellings.tell_before x (tellings.notifiers_at lists x)) changed (λ x. before_all calm (λ kind c id old new. ap (λ (b : Bool). b && true) changes) x (tellings.notifiers_at lists x)))
+      (by vetoed) where
+        vetoed : Bool
+        vetoed = list_any is_veto (notices_before lists changed)
+
+        calm : Micro → Bool
+        calm m = may_make what (registered t.clocks) m && not (is_raise m)
+
+        off : list_all calm (notices_off lists changed) ≡ true
+        off = all_mapped calm (λ x. tellings.tell_off x (tellings.notifiers_at lists x)) changed (λ x. off_all calm (λ kind c id old new. ap (λ (b : Bool). b && true) changes) x (tellings.notifiers_at lists x))
+
+        by : (v : Bool) → is_script what (registered t.clocks) (behind_notices t prepared lists plan changed v ++ micro.End ∷ []) ≡ true
+        by true = script_calm what (registered t.clocks) (notices_off lists changed) (micro.End ∷ []) off refl
+        by false =
+            ap (is_script what (registered t.clocks)) (append_assoc (visits t.defs t.clocks prepared plan.chain plan.rates) (settles plan.set_parent plan.chain) (micro.End ∷ []))
+            ∙ visits_script what changes asks linked plan.rates there
+
+  -- the clock that settles is registered
+  settled_there : (k : ChainStep) (ls : List ChainStep) → plan.set_parent ≡ true → plan.chain ≡ k ∷ ls → ((c p : ℕ) → link_in t.clocks c ≡ Some p → registered t.clocks c ≡ true) → registered t.clocks k.clock ≡ true
+  settled_there k ls sets at linked = by k.parent refl where
+    first : can_go true t.defs t.clocks prepared k ≡ true
+    first =
+        both_left (can_go true t.defs t.clocks prepared k) (can_go_along true t.defs t.clocks prepared ls)
+        (sym (ap (λ (b : Bool). can_go_along b t.defs t.clocks prepared plan.chain) sets ∙ ap (λ (ks : List ChainStep). can_go_along true t.defs t.clocks prepared ks) at) ∙ can)
+
+    from : (p : ℕ) (o : Option ℕ) → link_in t.clocks k.clock ≡ o → option_map_or (λ x. nat_eq x p || (is_candidate t.defs t.clocks k.clock p && not (true && prepared k.clock))) o false ≡ true → registered t.clocks k.clock ≡ true
+    from p None at' e = absurd cc
+    from p (Some x) at' e = linked k.clock x at'
+
+    by : (o : Option ℕ) → k.parent ≡ o → registered t.clocks k.clock ≡ true
+    by None at' = let no : false ≡ true = sym (ap (λ (o : Option ℕ). option_map_or (can_get true t.defs t.clocks prepared k.clock) o false) at') ∙ first in absurd cc
+    by (Some p) at' = from p (link_in t.clocks k.clock) refl (sym (ap (λ (o : Option ℕ). option_map_or (can_get true t.defs t.clocks prepared k.clock) o false) at') ∙ first)
+
+  -- its links can be made
+  pub links_made : ((c p : ℕ) → link_in t.clocks c ≡ Some p → registered t.clocks c ≡ true) → list_all (can_link t.defs t.clocks) (steps_for t prepared lists plan changed) ≡ true
+  links_made linked = all_both (can_link t.defs t.clocks) (body_of t prepared lists plan changed) (micro.End ∷ []) (body_all (can_link t.defs t.clocks) t prepared lists plan changed can (record {
+    tells = λ kind c id old new. refl;
+    moved = λ c p is. move_all (can_link t.defs t.clocks) t.defs t.clocks prepared c p (relinks c p is) (selects c p is) (λ held. record { raises = refl; prepares = refl; enables = refl; own = refl; drops = refl; old = λ o at. refl });
+    seen = each_there (λ c. true) (registered t.clocks) plan.rates (λ c here. refl) there;
+    settled = settles_all (can_link t.defs t.clocks) plan.set_parent plan.chain (λ k ls sets at. settled_there k ls sets at linked);
+  })) refl where
+    is_mux : (c p : ℕ) → IsMoved plan.set_parent t.defs t.clocks prepared c p → is_some (mux_field (kind_of t.defs c)) ≡ true
+    is_mux c p is = both_left (is_some (mux_field (kind_of t.defs c))) (is_in p (parents_of t.defs c)) (both_left (is_some (mux_field (kind_of t.defs c)) && is_in p (parents_of t.defs c)) (rooted t.defs t.clocks p) is.candidate)
+
+    is_possible : (c p : ℕ) → IsMoved plan.set_parent t.defs t.clocks prepared c p → is_in p (parents_of t.defs c) ≡ true
+    is_possible c p is = both_right (is_some (mux_field (kind_of t.defs c))) (is_in p (parents_of t.defs c)) (both_left (is_some (mux_field (kind_of t.defs c)) && is_in p (parents_of t.defs c)) (rooted t.defs t.clocks p) is.candidate)
+
+    is_there : (c p : ℕ) → IsMoved plan.set_parent t.defs t.clocks prepared c p → registered t.clocks p ≡ true
+    is_there c p is = both_left (registered t.clocks p) _ (both_right (is_some (mux_field (kind_of t.defs c)) && is_in p (parents_of t.defs c)) (rooted t.defs t.clocks p) is.candidate)
+
+    has_link : (c p : ℕ) → IsMoved plan.set_parent t.defs t.clocks prepared c p → is_some (link_in t.clocks c) ≡ true
+    has_link c p is = ap (λ (o : Option ℕ). is_some o) is.link
+
+    relinks : (c p : ℕ) → IsMoved plan.set_parent t.defs t.clocks prepared c p → can_link t.defs t.clocks (micro.Relink (clock_id c) (clock_id p)) ≡ true
+    relinks c p is = all_four (is_some (mux_field (kind_of t.defs c))) (is_some (link_in t.clocks c)) (registered t.clocks p) (is_in p (parents_of t.defs c)) (is_mux c p is) (has_link c p is) (is_there c p is) (is_possible c p is)
+
+    selects : (c p : ℕ) → IsMoved plan.set_parent t.defs t.clocks prepared c p → can_link t.defs t.clocks (micro.WriteMux (clock_id c) (place_of t.defs c p)) ≡ true
+    selects c p is =
+        all_three (is_some (mux_field (kind_of t.defs c))) (is_some (link_in t.clocks c)) (nat_lt (place_of t.defs c p) (length (parents_of t.defs c))) (is_mux c p is) (has_link c p is)
+        (place_below p (parents_of t.defs c) (is_possible c p is))
+
+  -- no step of a change of parent raises
+  pub raises_none : plan.set_parent ≡ true → list_any is_raise (steps_for t prepared lists plan changed) ≡ false
+  raises_none sets = none_raised (steps_for t prepared lists plan changed) (all_both still_ (body_of t prepared lists plan changed) (micro.End ∷ []) (body_all still_ t prepared lists plan changed can (record {
+    tells = λ kind c id old new. refl;
+    moved = λ c p is. move_all still_ t.defs t.clocks prepared c p refl refl (λ held. absurd (never plan.set_parent (prepared c) sets held is.unheld));
+    seen = each_there (λ c. true) (registered t.clocks) plan.rates (λ c here. refl) there;
+    settled = settles_all still_ plan.set_parent plan.chain (λ k ls sets at. refl);
+  })) refl) where
+    never : (a b : Bool) → a ≡ true → b ≡ true → (a && b) ≡ false → ⊥
+    never true true e f g = cc
+    never true false e f g = cc
+    never false b e f g = cc
+
+    still_ : Micro → Bool
+    still_ m = not (is_raise m)
+
+    none_raised : (ms : List Micro) → list_all (λ m. not (is_raise m)) ms ≡ true → list_any is_raise ms ≡ false
+    none_raised [] all = refl
+    none_raised (m ∷ ms) all =
+        ap (λ (b : Bool). b || list_any is_raise ms) (not-true (is_raise m) (both_left (not (is_raise m)) (list_all (λ m. not (is_raise m)) ms) all))
+        ∙ none_raised ms (both_right (not (is_raise m)) (list_all (λ m. not (is_raise m)) ms) all)
+
+  -- the clocks that it visits are told
+  visits_told : (count : ℕ → ℕ) (before : List ℕ) (rates : List ClockRate)
+      → tells_all count (visits t.defs t.clocks prepared plan.chain rates ++ (settles plan.set_parent plan.chain ++ micro.End ∷ [])) (told_clocks count before rates) ≡ true
+  visits_told count before [] =
+      unseen_first count (settles plan.set_parent plan.chain) (micro.End ∷ []) [] (settles_all unseen plan.set_parent plan.chain (λ k ls sets at. refl))
+  visits_told count before (r ∷ rates) =
+      ap (λ (ms : List Micro). tells_all count ms (told_clocks count before (r ∷ rates)))
+      (append_assoc (moved ++ micro.Visit (clock_id r.clock) ∷ []) (visits t.defs t.clocks prepared plan.chain rates) rest_ ∙ append_assoc moved (micro.Visit (clock_id r.clock) ∷ []) (visits t.defs t.clocks prepared plan.chain rates ++ rest_))
+      ∙ unseen_first count moved (micro.Visit (clock_id r.clock) ∷ (visits t.defs t.clocks prepared plan.chain rates ++ rest_)) (told_clocks count before (r ∷ rates))
+      (moves_all unseen plan.set_parent t.defs t.clocks prepared (λ c p is. move_all unseen t.defs t.clocks prepared c p refl refl (λ held. record { raises = refl; prepares = refl; enables = refl; own = refl; drops = refl; old = λ o at. refl })) r.clock plan.chain can)
+      ∙ visit_told count before r rates (visits t.defs t.clocks prepared plan.chain rates ++ rest_) (visits_told count before rates) where
+        moved : List Micro
+        moved = move_of t.defs t.clocks prepared plan.chain r.clock
+
+        rest_ : List Micro
+        rest_ = settles plan.set_parent plan.chain ++ micro.End ∷ []
+
+  pub tells_made : (count : ℕ → ℕ) (before : List ℕ) → tells_all count (steps_for t prepared lists plan changed) (told_clocks count before plan.rates) ≡ true
+  tells_made count before =
+      ap (λ (ms : List Micro). tells_all count ms (told_clocks count before plan.rates)) (append_assoc (notices_before lists changed) (behind_notices t prepared lists plan changed vetoed) (micro.End ∷ []))
+      ∙ unseen_first count (notices_before lists changed) (behind_notices t prepared lists plan changed vetoed ++ micro.End ∷ []) (told_clocks count before plan.rates)
+      (all_mapped unseen (λ x. tellings.tell_before x (tellings.notifiers_at lists x)) changed (λ x. before_all unseen (λ kind c id old new. refl) x (tellings.notifiers_at lists x)))
+      ∙ by vetoed where
+        vetoed : Bool
+        vetoed = list_any is_veto (notices_before lists changed)
+
+        off : list_all unseen (notices_off lists changed) ≡ true
+        off = all_mapped unseen (λ x. tellings.tell_off x (tellings.notifiers_at lists x)) changed (λ x. off_all unseen (λ kind c id old new. refl) x (tellings.notifiers_at lists x))
+
+        by : (v : Bool) → tells_all count (behind_notices t prepared lists plan changed v ++ micro.End ∷ []) (told_clocks count before plan.rates) ≡ true
+        by true = unseen_first count (notices_off lists changed) (micro.End ∷ []) (told_clocks count before plan.rates) off
+        by false =
+            ap (λ (ms : List Micro). tells_all count ms (told_clocks count before plan.rates)) (append_assoc (visits t.defs t.clocks prepared plan.chain plan.rates) (settles plan.set_parent plan.chain) (micro.End ∷ []))
+            ∙ visits_told count before plan.rates
+
+-- ---- its rates and weights
 
 -- what holds of the rates of a walk holds of the clocks that are told
 pub told_all : (count : ℕ → ℕ) (before was will : List ℕ) (rates : List ClockRate) → AllByRecursion (λ r. (slice_index before r.clock ≡ slice_index was r.clock) × (r.rate ≡ slice_index will r.clock)) rates
@@ -119,8 +496,6 @@ told_all count before was will (r ∷ rates) all = by (nat_eq (count r.clock) 0)
   by true rest = rest
   by false rest = (all.0, rest)
 
--- ---- what it weighs
-
 sum_same : (f g : Micro → ℕ) (ms : List Micro) → ((m : Micro) → f m ≡ g m) → sum_by f ms ≡ sum_by g ms
 sum_same f g ms same = ap (λ (h : Micro → ℕ). sum_by h ms) (fun_ext same)
 
@@ -129,13 +504,4 @@ pub weighs_rows : (chains : List (List Notifier)) (plls_ : ℕ) (ms : List Micro
 weighs_rows chains plls_ ms = sum_same (flights.step_weight (rows_from 0 chains) plls_) (step_weight plls_ chains) ms same where
   same : (m : Micro) → flights.step_weight (rows_from 0 chains) plls_ m ≡ step_weight plls_ chains m
   same (micro.Visit c) = ap (λ (n : ℕ). 1 + n) (rows_count chains c.0)
-  same _ = refl
-
--- and over those of a state
-pub weighs_state : (s : State) (chains : List (List Notifier)) (plls_ : ℕ) (ms : List Micro) → Tells chains s.notifiers → plls s.defs ≡ plls_ → sum_by (weight s) ms ≡ sum_by (step_weight plls_ chains) ms
-weighs_state s chains plls_ ms tells most = sum_same (weight s) (step_weight plls_ chains) ms same where
-  same : (m : Micro) → weight s m ≡ step_weight plls_ chains m
-  same (micro.Raise x) = ap (λ (n : ℕ). 34 * n + 1) most
-  same (micro.Lower x) = ap (λ (n : ℕ). n + 1) most
-  same (micro.Visit c) = ap (λ (n : ℕ). 1 + n) (count_told chains s.notifiers c.0 tells)
   same _ = refl

@@ -36,7 +36,7 @@ use Rattle.clk_flight.specs.declared.start.Start.{Start}
 use Rattle.clk_machine.specs.Holding.{stays}
 use Rattle.clk_machine.specs.Course.{IsAlong}
 use Rattle.clk_machine.specs.Parts.{Parts, bare, own_in, IsOwnCall, IsFlown, IsWhole, rows_from}
-use Rattle.clk_machine.specs.InFlight.{may_go_on, changes_rate, is_script, is_front, IsUnderWay}
+use Rattle.clk_machine.specs.InFlight.{may_go_on, changes_rate, cuts_front, is_script, is_front, IsUnderWay}
 use Rattle.clk_machine.specs.Plls.{is_loose}
 use Rattle.clk_machine.specs.Stands.{Stands, Enters}
 use Rattle.clk_machine.specs.Starting.{StartsCall}
@@ -163,6 +163,7 @@ enters_prepare old new d h row whole quiet left own some room starts_ = record {
   fewer = λ free. absurd cc;
   begun = λ paid goes. let steps = starts_.left in let few = raise_left (rows_from 0 old.chains) (plls old.desc.defs) row.clock in omega arith;
   no_more = λ paid done. absurd cc;
+  beside = λ tier. absurd cc;
   step = λ s stands sound.
       let spends : s.spent < s.credits = let one = stands.spent in let two = stands.credits in omega arith in
       let most : plls s.defs ≡ plls old.desc.defs = ap plls stands.defs in
@@ -228,6 +229,7 @@ started_way old d what steps flight' there now goes script = record {
   call_ = ap may_go_on now.call_ ∙ goes;
   script = ap (λ (c : Sleeping). is_script c there flight'.left) now.call_ ∙ ap (λ (ms : List Micro). is_script what there ms) now.left ∙ script;
   front = ap (is_front flight'.call there) now.front;
+  cut = ap (cuts_front flight'.call flight'.left) now.front;
   raised = ap (λ (ys : List ℕ). list_all there ys) now.raised;
   extra = now.extra;
   vetoed = λ is. let no : true ≡ false = sym is ∙ now.vetoed in absurd cc;
@@ -250,6 +252,8 @@ whole_flying p flight' whole flown room = record {
   listed = whole.listed;
   flown = λ going. flown;
   room = room;
+  prepares_held = whole.prepares_held;
+  enables_held = whole.enables_held;
 }
 
 -- they stand for the state with this change

@@ -15,7 +15,7 @@ use Rattle.clk_base.specs.declared.event.Reply.{Reply}
 use Rattle.clk_base.specs.declared.event.Reply.TheVariants as reply
 use Rattle.clk_model.specs.State.{State, Change, link_in}
 use Rattle.clk_model.specs.Holders.{active}
-use Rattle.clk_machine.specs.InFlight.{may_lower, is_ranged, may_go_on}
+use Rattle.clk_machine.specs.InFlight.{is_unprepare, is_ranged, may_go_on}
 use Rattle.clk_model.specs.Chain.{clock_id, linked}
 use Rattle.clk_model.specs.Lists.{to_front}
 use Rattle.clk_model.specs.Tree.{children}
@@ -24,7 +24,8 @@ use Rattle.clk_base.specs.Levels.{depth}
 use Rattle.clk_model.proofs.KeepLaws.{mux_written}
 use Rattle.clk_model.specs.Gates.{settled}
 use Rattle.clk_model.specs.Laws.Paced.{is_notice}
-use Rattle.clk_model.specs.Step.{todo, taken, on, visit, timed_out, to_raise, raise_one, poll, fall, to_lower, lower_one, unranged, range_back, relink, passed_over, write_mux, settle, settle_all, ended_well, end_of, sets_parent, stepped}
+use Rattle.clk_model.specs.Prep.{is_sweep}
+use Rattle.clk_model.specs.Step.{todo, taken, on, visit, timed_out, to_raise, raise_one, poll, fall, to_lower, lower_one, unranged, range_back, relink, passed_over, write_mux, settle, settle_all, close, powered, ended_well, end_of, sets_parent, stepped, hold_prepare, hold_enable, drop_prepare, drop_enable}
 use Rattle.clk_model.specs.Machine.{same_list, micro_code, comes_next, may_step, counted, next}
 use Rattle.clk_model.proofs.Members.{test_same}
 use Rattle.clk_model.proofs.StateLaws.{settled-still}
@@ -149,18 +150,24 @@ visits_one s d k c is =
 
 -- ---- new links
 
--- a new link, where nothing is held and no gate moves
+-- a new link, where no gate moves
 pub relinks_one : (s : State) (d : ℕ) (k : Change) (c p : ClockId) → IsNext s d k (micro.Relink c p) → ((x : ℕ) → active s x ≡ active (relink s k c.0 p.0) x)
-    → passed_over p.0 (link_in s.clocks c.0) s.prepare_holds ≡ s.prepare_holds → passed_over p.0 (link_in s.clocks c.0) s.enable_holds ≡ s.enable_holds
     → next s d (event.Step (micro.Relink c p) None)
-    ≡ Some (record s { clocks = linked s.clocks c.0 p.0; order = to_front c.0 s.order; change = Some (taken k); steps = s.steps + 1 }, turn.Going)
+    ≡ Some (
+      record s {
+        clocks = linked s.clocks c.0 p.0;
+        order = to_front c.0 s.order;
+        prepare_holds = passed_over p.0 (link_in s.clocks c.0) s.prepare_holds;
+        enable_holds = passed_over p.0 (link_in s.clocks c.0) s.enable_holds;
+        change = Some (taken k);
+        steps = s.steps + 1;
+      },
+      turn.Going,
+    )
 unfolding stepped
-relinks_one s d k c p is still prepares enables =
+relinks_one s d k c p is still =
     takes s k d (micro.Relink c p) None is.change (three _ _ (mine s d k (micro.Relink c p) is) (first_comes (micro.Relink c p) (todo k) is.first))
     ∙ ap (λ (x : State × Turn). Some x) (counted_still s (relink s (taken k) c.0 p.0) turn.Going (settled-still s (relink s (taken k) c.0 p.0) still))
-    ∙ ap (λ (ps : List ℕ). left ps (passed_over p.0 (link_in s.clocks c.0) s.enable_holds)) prepares ∙ ap (λ (es : List ℕ). left s.prepare_holds es) enables where
-      left : List ℕ → List ℕ → Option (State × Turn)
-      left ps es = Some (record s { clocks = linked s.clocks c.0 p.0; order = to_front c.0 s.order; prepare_holds = ps; enable_holds = es; change = Some (taken k); steps = s.steps + 1 }, turn.Going)
 
 pub writes_one : (s : State) (d : ℕ) (k : Change) (c : ClockId) (place : ℕ) → IsNext s d k (micro.WriteMux c place)
     → next s d (event.Step (micro.WriteMux c place) None) ≡ Some (record s { regs = mux_written s c.0 place; change = Some (taken k); steps = s.steps + 1 }, turn.Going)
@@ -177,6 +184,51 @@ unfolding stepped
 settles_one s d k c is still =
     takes s k d (micro.Settle c) None is.change (three _ _ (mine s d k (micro.Settle c) is) (first_comes (micro.Settle c) (todo k) is.first))
     ∙ ap (λ (x : State × Turn). Some x) (counted_still s (settle s (taken k) c.0) turn.Going (settled-still s (settle s (taken k) c.0) still))
+
+-- ---- what a sweep switches off
+
+-- a gate that nothing keeps open closes
+pub closes_one : (s : State) (d : ℕ) (k : Change) (c : ClockId) → IsNext s d k (micro.Close c)
+    → next s d (event.Step (micro.Close c) None) ≡ Some (record s { regs = (close s k c.0).regs; change = Some (taken k); steps = s.steps + 1 }, turn.Going)
+unfolding stepped
+closes_one s d k c is =
+    takes s k d (micro.Close c) None is.change (three _ _ (mine s d k (micro.Close c) is) (first_comes (micro.Close c) (todo k) is.first))
+    ∙ ap (λ (x : State × Turn). Some x) (counted_still s (close s (taken k) c.0) turn.Going (settled-still s (close s (taken k) c.0) (λ x. refl)))
+
+-- a PLL is switched off
+pub unpowers_one : (s : State) (d : ℕ) (k : Change) (c : ClockId) → IsNext s d k (micro.Unpower c)
+    → next s d (event.Step (micro.Unpower c) None) ≡ Some (record s { regs = (powered s c.0 false).regs; change = Some (taken k); steps = s.steps + 1 }, turn.Going)
+unfolding stepped
+unpowers_one s d k c is =
+    takes s k d (micro.Unpower c) None is.change (three _ _ (mine s d k (micro.Unpower c) is) (first_comes (micro.Unpower c) (todo k) is.first))
+    ∙ ap (λ (x : State × Turn). Some x) (counted_still s (on (powered s c.0 false) (taken k)) turn.Going (settled-still s (on (powered s c.0 false) (taken k)) (λ x. refl)))
+
+-- ---- holds
+
+pub prepares_one : (s : State) (d : ℕ) (k : Change) (x : ClockId) → IsNext s d k (micro.HoldPrepare x)
+    → next s d (event.Step (micro.HoldPrepare x) None) ≡ Some (record (hold_prepare s (taken k) x.0) { steps = s.steps + 1 }, turn.Going)
+unfolding stepped
+prepares_one s d k x is =
+    takes s k d (micro.HoldPrepare x) None is.change (three _ _ (mine s d k (micro.HoldPrepare x) is) (first_comes (micro.HoldPrepare x) (todo k) is.first))
+    ∙ ap (λ (x : State × Turn). Some x) (counted_still s (hold_prepare s (taken k) x.0) turn.Going (settled-still s (hold_prepare s (taken k) x.0) (λ c. refl)))
+
+pub unprepares_one : (s : State) (d : ℕ) (k : Change) (x : ClockId) → IsNext s d k (micro.DropPrepare x)
+    → next s d (event.Step (micro.DropPrepare x) None) ≡ Some (record (drop_prepare s (taken k) x.0) { steps = s.steps + 1 }, turn.Going)
+unfolding stepped
+unprepares_one s d k x is =
+    takes s k d (micro.DropPrepare x) None is.change (three _ _ (mine s d k (micro.DropPrepare x) is) (first_comes (micro.DropPrepare x) (todo k) is.first))
+    ∙ ap (λ (x : State × Turn). Some x) (counted_still s (drop_prepare s (taken k) x.0) turn.Going (settled-still s (drop_prepare s (taken k) x.0) (λ c. refl)))
+
+-- the gates follow what is held enabled
+pub enables_one : (s : State) (d : ℕ) (k : Change) (x : ClockId) → IsNext s d k (micro.HoldEnable x)
+    → next s d (event.Step (micro.HoldEnable x) None) ≡ Some (record (settled s (hold_enable s (taken k) x.0)) { steps = s.steps + 1 }, turn.Going)
+unfolding stepped
+enables_one s d k x is = takes s k d (micro.HoldEnable x) None is.change (three _ _ (mine s d k (micro.HoldEnable x) is) (first_comes (micro.HoldEnable x) (todo k) is.first))
+
+pub disables_one : (s : State) (d : ℕ) (k : Change) (x : ClockId) → IsNext s d k (micro.DropEnable x)
+    → next s d (event.Step (micro.DropEnable x) None) ≡ Some (record (settled s (drop_enable s (taken k) x.0)) { steps = s.steps + 1 }, turn.Going)
+unfolding stepped
+disables_one s d k x is = takes s k d (micro.DropEnable x) None is.change (three _ _ (mine s d k (micro.DropEnable x) is) (first_comes (micro.DropEnable x) (todo k) is.first))
 
 -- ---- the end
 
@@ -206,19 +258,20 @@ left_as s k y = (record y { change = None }, turn.Done (reply_of k.vetoed k.time
 
 -- an end that leaves the state as it is
 pub end_bare : (s : State) (k : Change) → may_go_on k.call ≡ true
-    → (if k.vetoed || k.timed_out then not (is_ranged k.call && is_some k.range) else (may_lower k.call || sets_parent k.call)) ≡ true → end_of s k ≡ (record s { change = None }, turn.Done (reply_of k.vetoed k.timed_out))
+    → (if k.vetoed || k.timed_out then not (is_ranged k.call && is_some k.range) else (is_unprepare k.call || sets_parent k.call || is_sweep k.call)) ≡ true → end_of s k ≡ (record s { change = None }, turn.Done (reply_of k.vetoed k.timed_out))
 end_bare s k goes bare = by (k.vetoed || k.timed_out) refl bare where
   ranged : (what : Sleeping) (o : Option (ℕ × ℕ)) → not (is_ranged what && is_some o) ≡ true → record s { handles = range_back what o s.handles } ≡ s
   ranged (call.SetRange h least most) None e = refl
   ranged (call.SetRange h least most) (Some range) e = absurd cc
   ranged _ o e = refl
 
-  lowered : (what : Sleeping) → (may_lower what || sets_parent what) ≡ true → ended_well s k.driver what ≡ s
+  lowered : (what : Sleeping) → (is_unprepare what || sets_parent what || is_sweep what) ≡ true → ended_well s k.driver what ≡ s
   lowered (call.Unprepare h) e = refl
   lowered (call.SetParent h p) e = refl
+  lowered call.Sweep e = refl
   lowered _ e = absurd cc
 
-  by : (t : Bool) → (k.vetoed || k.timed_out) ≡ t → (if t then not (is_ranged k.call && is_some k.range) else (may_lower k.call || sets_parent k.call)) ≡ true
+  by : (t : Bool) → (k.vetoed || k.timed_out) ≡ t → (if t then not (is_ranged k.call && is_some k.range) else (is_unprepare k.call || sets_parent k.call || is_sweep k.call)) ≡ true
       → end_of s k ≡ (record s { change = None }, turn.Done (reply_of k.vetoed k.timed_out))
   by true off e = end_off s k off ∙ ap (left_as s k) (ranged k.call k.range e)
   by false off e = end_well s k off ∙ ap (left_as s k) (lowered k.call e)

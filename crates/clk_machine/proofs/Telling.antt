@@ -28,8 +28,9 @@ use Rattle.clk_machine.specs.Course.{notifiers_at, visited_by, behind_visit, beg
 use Rattle.clk_machine.specs.Making.{ComesFirst, TellsNext}
 use Rattle.clk_machine.specs.Parts.{Parts, rows_from, IsFlown, IsWhole}
 use Rattle.clk_machine.specs.Stands.{Enters}
+use Rattle.clk_machine.proofs.HeldCounts.{held_on}
 use Rattle.clk_machine.proofs.Coming.{some_at}
-use Rattle.clk_machine.proofs.InFlight.{own_going, script_rest}
+use Rattle.clk_machine.proofs.InFlight.{own_going, script_rest, cut_behind}
 use Rattle.clk_machine.proofs.Making.{with_step, enters_step, change_of, next_of}
 use Rattle.clk_machine.proofs.Stepping.{tells_one}
 
@@ -209,12 +210,13 @@ under_way-told f there rows m comes notice is = record {
   call_ = is.call_;
   script = behind_script f there rows f.front m (own_going f.going (first_step rows f f.front) m comes) notice is.script;
   front = behind_front f there f.front is.front;
+  cut = cut_behind f.call f.raised f.left f.front is.cut;
   raised = is.raised;
   extra = is.extra;
   vetoed = is.vetoed;
 }
 
-behind_fits : (count : ℕ → ℕ) (raised : List ℕ) (front : Front) → PostsFit count front → PostsFit count (front_behind raised front)
+pub behind_fits : (count : ℕ → ℕ) (raised : List ℕ) (front : Front) → PostsFit count front → PostsFit count (front_behind raised front)
 behind_fits count raised Empty fits = tt
 behind_fits count raised (Raise x) fits = tt
 behind_fits count raised (Lower x) fits = tt
@@ -289,6 +291,8 @@ whole_told old flight' whole going next is less =
         links = λ changes. links-told old.flight (can_link old.desc.defs old.tree.clocks) (rows_from 0 old.chains) old.flight.front next.notice (own_going old.flight.going (first_step (rows_from 0 old.chains) old.flight old.flight.front) next.notice next.next_) (flown.links changes);
       });
       room = let room = whole.room in omega arith;
+      prepares_held = held_on _ _ _ _ whole.prepares_held;
+      enables_held = held_on _ _ _ _ whole.enables_held;
     }
 
 -- and stand for the machine's next state

@@ -30,12 +30,13 @@ use Rattle.rate_planner.specs.Kept.{wired}
 use Rattle.clk_machine.specs.Window.{Shown, AreTold}
 use Rattle.clk_machine.specs.declared.course.Notified.{Notified}
 use Rattle.clk_machine.specs.declared.machine.visiting.Posting.{Posting}
-use Rattle.clk_machine.specs.InFlight.{changes_rate, is_front, IsUnderWay, can_link}
+use Rattle.clk_machine.specs.InFlight.{changes_rate, is_front, IsUnderWay, can_link, cuts_front}
 use Rattle.clk_machine.specs.Course.{CourseState, set_along, notifiers_at, begins_with, behind_first, behind_visit, tells_all, PostsFit, TellsAlong, GoesAlong}
 use Rattle.clk_machine.specs.Making.{ComesFirst}
 use Rattle.clk_machine.specs.Parts.{Parts, AreKept, bare, rows_from, IsFlown, IsWhole}
 use Rattle.clk_machine.specs.Sound.{IsSound}
 use Rattle.clk_machine.specs.Stands.{Stands, Leads, Enters}
+use Rattle.clk_machine.proofs.HeldCounts.{held_on, held_still}
 use Rattle.clk_machine.proofs.Holdings.{StandsFor-same}
 use Rattle.clk_machine.proofs.InFlight.{own_going, first_seeks, script_rest}
 use Rattle.clk_machine.proofs.Making.{change_of, next_of}
@@ -111,6 +112,7 @@ under_way-visited f there c count before after own is = record {
   call_ = is.call_;
   script = script_rest f there f.front (micro.Visit c) (own_going f.going (own_first f f.front) (micro.Visit c) own) refl is.script;
   front = by (nat_eq count 0);
+  cut = still (nat_eq count 0);
   raised = is.raised;
   extra = is.extra;
   vetoed = is.vetoed;
@@ -118,6 +120,10 @@ under_way-visited f there c count before after own is = record {
   by : (t : Bool) → is_front f.call there (if t then Empty else Posts c 0 count before after) ≡ true
   by true = refl
   by false = (own_visit f there c own is).changes
+
+  still : (t : Bool) → cuts_front f.call (script_behind f.front f.left) (if t then Empty else Posts c 0 count before after) ≡ true
+  still true = refl
+  still false = refl
 
 tells-visited : (f : FlightState) (there : ℕ → Bool) (counts : ℕ → ℕ) (ns : List Notified) (c : ClockId) (count before after : ℕ) → own_step f ≡ Some (micro.Visit c) → IsUnderWay there f → count ≤ counts c.0
     → TellsAlong counts ns f → TellsAlong counts (behind_visit (counts c.0) ns) (visited f c count before after)
@@ -201,6 +207,10 @@ whole_visited old c window' tree' posts' flight' course' now =
             tells = λ changes. tells-visited old.flight (registered old.tree.clocks) (notifiers_at old.chains) old.course.notified c posts'.count posts'.before posts'.after now.own flown.way now.few (flown.tells changes);
           })));
       room = let room = whole.room in omega arith;
+      prepares_held = held_still (registered old.tree.clocks) (registered tree'.clocks) (length old.desc.defs) (old.steps + 1) old.prepare_holds (λ k there. ap (λ (rs : List ClockRow). registered rs k) now.rows ∙ there)
+          (held_on (registered old.tree.clocks) (length old.desc.defs) old.steps old.prepare_holds whole.prepares_held);
+      enables_held = held_still (registered old.tree.clocks) (registered tree'.clocks) (length old.desc.defs) (old.steps + 1) old.enable_holds (λ k there. ap (λ (rs : List ClockRow). registered rs k) now.rows ∙ there)
+          (held_on (registered old.tree.clocks) (length old.desc.defs) old.steps old.enable_holds whole.enables_held);
     }
 
 -- what a visit tells in a state
@@ -317,6 +327,7 @@ visit_enters old c window' tree' posts' flight' course' now = record {
   fewer = λ free. now.less (few_told old c.0 posts'.count now.few);
   begun = λ paid. absurd cc;
   no_more = λ paid. absurd cc;
+  beside = λ tier. absurd cc;
   step = visit_leads old c window' tree' posts' flight' course' now;
 }
 

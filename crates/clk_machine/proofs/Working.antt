@@ -23,7 +23,7 @@ use Rattle.clk_machine.specs.declared.work.Work.TheVariants as work
 use Rattle.clk_machine.specs.Making.{ComesFirst, ComesNext, FindsNothing, work_of}
 use Rattle.clk_machine.specs.Parts.{Parts, IsWhole}
 use Rattle.clk_machine.specs.Plls.{raisable, lowerable, Finds}
-use Rattle.clk_machine.proofs.Coming.{end_comes, work_raises, work_polls, work_falls, work_lowers, work_tells, work_visits, work_relinks, work_selects, work_settles}
+use Rattle.clk_machine.proofs.Coming.{end_comes, work_raises, work_polls, work_falls, work_lowers, work_tells, work_visits, work_relinks, work_selects, work_settles, work_closes, work_unpowers, work_holds_prepare, work_holds_enable, work_drops_enable, work_drops_prepare}
 use Rattle.clk_machine.proofs.InFlight.{raise_there, lower_there, fall_untold}
 use Rattle.clk_machine.proofs.Telling.{count_told, tells_next}
 use Rattle.clk_machine.proofs.Making.{to_raise_stands, to_lower_stands}
@@ -70,12 +70,30 @@ works p r (work.Tell m) whole going is step own first =
 works p r (work.Visit c) whole going is step own first =
     let at = work_visits r c (sym is) in
     (own (micro.Visit c) at refl refl, λ rows k tells change. sym (first rows k tells change) ∙ at)
+works p r (work.HoldPrepare x) whole going is step own first =
+    let at = work_holds_prepare r x (sym is) in
+    (own (micro.HoldPrepare x) at refl refl, λ rows k tells change. sym (first rows k tells change) ∙ at)
+works p r (work.HoldEnable x) whole going is step own first =
+    let at = work_holds_enable r x (sym is) in
+    (own (micro.HoldEnable x) at refl refl, λ rows k tells change. sym (first rows k tells change) ∙ at)
+works p r (work.DropEnable x) whole going is step own first =
+    let at = work_drops_enable r x (sym is) in
+    (own (micro.DropEnable x) at refl refl, λ rows k tells change. sym (first rows k tells change) ∙ at)
+works p r (work.DropPrepare x) whole going is step own first =
+    let at = work_drops_prepare r x (sym is) in
+    (own (micro.DropPrepare x) at refl refl, λ rows k tells change. sym (first rows k tells change) ∙ at)
 works p r (work.Relink c q) whole going is step own first =
     let at = work_relinks r c q (sym is) in
     (own (micro.Relink c q) at refl refl, λ rows k tells change. sym (first rows k tells change) ∙ at)
 works p r (work.Select c n) whole going is step own first =
     let at = work_selects r c n (sym is) in
     (own (micro.WriteMux c n) at refl refl, λ rows k tells change. sym (first rows k tells change) ∙ at)
+works p r (work.Close c) whole going is step own first =
+    let at = work_closes r c (sym is) in
+    (own (micro.Close c) at refl refl, λ rows k tells change. sym (first rows k tells change) ∙ at)
+works p r (work.Unpower c) whole going is step own first =
+    let at = work_unpowers r c (sym is) in
+    (own (micro.Unpower c) at refl refl, λ rows k tells change. sym (first rows k tells change) ∙ at)
 works p r (work.Settle c) whole going is step own first =
     let at = work_settles r c (sym is) in
     (own (micro.Settle c) at refl refl, λ rows k tells change. sym (first rows k tells change) ∙ at)

@@ -18,10 +18,11 @@ use Rattle.clk_machine.specs.Window.{Shown}
 use Rattle.clk_machine.specs.Parts.{Parts, bare, held_in_all, AreTied, ArePaid, IsWhole}
 use Rattle.clk_machine.specs.Stands.{Stands, Becomes, nothing}
 use Rattle.clk_machine.specs.Holding.{puts, gives, stays}
+use Rattle.clk_machine.proofs.HeldCounts.{listed_tells}
 use Rattle.clk_machine.proofs.Flying.{never_flown, flown_written, flown_spent}
 use Rattle.clk_machine.proofs.Shapes.{holds_nothing, handle_at-put, handle_at-append, sum_by-set, sum_by-gone, sum_by-append}
 use Rattle.clk_machine.proofs.Moving.{clock_within}
-use Rattle.clk_machine.proofs.Holdings.{Moves, moves_one, moves_none, StandsFor-same, StandsFor-put, StandsFor-gone, StandsFor-given}
+use Rattle.clk_machine.proofs.Holdings.{Moves, moves_one, moves_none, StandsFor-same, StandsFor-held, StandsFor-put, StandsFor-gone, StandsFor-given}
 use Rattle.std.proofs.Math.Bool.{or-false}
 
 -- ---- counts and the state
@@ -29,7 +30,8 @@ use Rattle.std.proofs.Math.Bool.{or-false}
 -- the counts of whole parts stand for each state that the parts stand for
 pub counts_stand : (m : Parts) (s : State) → IsWhole m → Stands m s → StandsFor m.counts s
 counts_stand m s whole stands =
-    StandsFor-same m.counts (bare m) s whole.counted.stands stands.defs stands.clocks stands.handles stands.prepare_holds stands.enable_holds
+    StandsFor-held m.counts (bare m) s whole.counted.stands stands.defs stands.clocks stands.handles (λ c. stands.prepare_holds.each c ∙ sym ((listed_tells m.prepare_holds).each c))
+    (λ c. stands.enable_holds.each c ∙ sym ((listed_tells m.enable_holds).each c))
 
 -- ---- a handle written
 
@@ -91,6 +93,8 @@ whole_written old n row new window' table' counts' whole written left tied = rec
   flown = λ going.
       flown_written old.desc.defs old.tree.clocks old.table.handles table'.handles old.chains old.course.notified old.spent n row new old.flight (whole.flown going) written.live written.driver written.more written.handles;
   room = whole.room;
+  prepares_held = whole.prepares_held;
+  enables_held = whole.enables_held;
 }
 
 -- they stand for the state with the handle written, a credit spent, and these words
@@ -125,6 +129,7 @@ becomes_written old n row new table' counts' written same = record {
   remains = record { desc = refl; told = refl; size = refl; behind = refl; credits = refl; ignore_unused = refl };
   spent = refl;
   flight = refl;
+  locks = refl;
   left = refl;
   steps = refl;
   rows = λ c. sym (or-false (registered old.tree.clocks c));
@@ -158,6 +163,8 @@ whole_spent old whole left = record {
   listed = whole.listed;
   flown = λ going. flown_spent old.desc.defs old.tree.clocks old.table.handles old.chains old.course.notified old.spent old.flight (whole.flown going);
   room = whole.room;
+  prepares_held = whole.prepares_held;
+  enables_held = whole.enables_held;
 }
 
 pub becomes_spent : (old : Parts) → Becomes old nothing stays (record old { spent = old.spent + 1 })
@@ -165,6 +172,7 @@ becomes_spent old = record {
   remains = record { desc = refl; told = refl; size = refl; behind = refl; credits = refl; ignore_unused = refl };
   spent = refl;
   flight = refl;
+  locks = refl;
   left = refl;
   steps = refl;
   rows = λ c. sym (or-false (registered old.tree.clocks c));
@@ -216,6 +224,8 @@ whole_listed old table' handles whole left clocks is few holds stands quiet hand
   listed = whole.listed;
   flown = λ going. never_flown old.flight quiet going;
   room = whole.room;
+  prepares_held = whole.prepares_held;
+  enables_held = whole.enables_held;
 }
 
 -- where no gate moves and only the handles of a state change, that is what is done to it
@@ -227,6 +237,7 @@ becomes_listed old table' does each beside = record {
   remains = record { desc = refl; told = refl; size = refl; behind = refl; credits = refl; ignore_unused = refl };
   spent = refl;
   flight = refl;
+  locks = refl;
   left = refl;
   steps = refl;
   rows = λ c. sym (or-false (registered old.tree.clocks c));

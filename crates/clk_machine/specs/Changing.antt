@@ -1,11 +1,9 @@
 -- A change of rate that goes on.
-use Rattle.std.specs.Prelude.{◌≡◌, ℕ, ◌+◌, ◌==◌, ◌++◌, List, [], ◌∷◌, Bool, true, false, not, Option, Some, if◌then◌else◌, map, filter, sum_by, slice_index}
+use Rattle.std.specs.Prelude.{◌≡◌, ℕ, ◌+◌, ◌==◌, List, [], Bool, true, false, not, Option, Some, map, filter, sum_by, slice_index}
 use Rattle.std.specs.List.{AllByRecursion}
 use Rattle.clk_base.specs.declared.call.Micro.{Micro}
-use Rattle.clk_base.specs.declared.call.Micro.TheVariants as micro
 use Rattle.clk_base.specs.declared.call.Sleeping.{Sleeping}
 use Rattle.clk_model.specs.Chain.{clock_id}
-use Rattle.clk_model.specs.Laws.Paced.{is_notice}
 use Rattle.clk_model.specs.Script.{plls}
 use Rattle.clk_model.specs.State.{State, Change, registered}
 use Rattle.clk_flight.specs.LeftOver.{step_weight}
@@ -42,17 +40,6 @@ pub record StartsChange (old : Parts) (driver : ℕ) (what : Sleeping) (steps : 
   pub driver_ : new.flight.driver ≡ driver
   pub left : steps_left new ≡ sum_by (step_weight (rows_from 0 old.chains) (plls old.desc.defs)) steps
   pub stands : (s : State) (k : Change) → Stands old s → BeginsAlong driver what steps course range vetoed k → Stands new (record s { change = Some k; spent = s.spent + 1 })
-
--- ---- a script that moves no clock
-
--- the notices at the head of steps
-abbrev pub notices_first : List Micro → List Micro
-notices_first [] = []
-notices_first (m ∷ ms) = if is_notice m then m ∷ notices_first ms else []
-
--- the notices at its head, and where none of them is a veto the visits of these clocks, and the end
-abbrev pub still_steps : List Micro → Bool → List ClockRate → List Micro
-still_steps steps vetoed rates = notices_first steps ++ ((if vetoed then [] else map (λ r. micro.Visit (clock_id r.clock)) rates) ++ micro.End ∷ [])
 
 -- the clocks among these that have notifiers, each with its rate before the change and its planned rate
 abbrev pub told_clocks : (ℕ → ℕ) → List ℕ → List ClockRate → List Notified

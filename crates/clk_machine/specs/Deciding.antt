@@ -1,5 +1,5 @@
 -- What a decision about a call that changes a rate or a parent says: how the call begins.
-use Rattle.std.specs.Prelude.{◌≡◌, ℕ, ◌+◌, ◌<◌, ◌≤◌, ◌-◌, ◌==◌, List, [], false, Option, Some, None, map, if◌then◌else◌, slice_index, slice_set}
+use Rattle.std.specs.Prelude.{◌≡◌, ℕ, ◌+◌, ◌<◌, ◌≤◌, ◌-◌, ◌==◌, List, [], Bool, false, Option, Some, None, map, if◌then◌else◌, slice_index, slice_set}
 use Rattle.clk_base.specs.Checked.{Checked}
 use Rattle.clk_base.specs.declared.call.Sleeping.{Sleeping}
 use Rattle.clk_base.specs.declared.call.Sleeping.TheVariants as call
@@ -19,13 +19,14 @@ use Rattle.clk_model.specs.Step.{sets_parent}
 use Rattle.clk_model.specs.Views.{view}
 use Rattle.clk_tree.specs.declared.plan.Plan.{Plan}
 use Rattle.clk_tree.specs.TreeState.{TreeState}
-use Rattle.counts_core.specs.Counted.{CountState}
+use Rattle.counts_core.specs.Counted.{CountState, is_prepared}
 use Rattle.counts_core.specs.Standing.{StandsFor}
 use Rattle.notifiers.specs.declared.notifier.Notifier.{Notifier}
 use Rattle.notifiers.specs.Chains.{Tells}
 use Rattle.rate_planner.specs.Walks.{AreThere, walked_rates}
 use Rattle.change_walk.specs.Given as given
 use Rattle.change_walk.specs.Given.{Script, HasFewNotifiers, changed_in, extra_of, planned_by}
+use Rattle.change_walk.specs.Steps.{IsMadeOf}
 use Rattle.clk_machine.specs.declared.decision.Decision.{Decision}
 use Rattle.clk_machine.specs.declared.decision.Decision.TheVariants as decided
 use Rattle.clk_machine.specs.Parts.{Parts, IsOwnCall}
@@ -61,10 +62,21 @@ Fits s used plan (decided.Refused e) = (e ≡ errno.ENOSPC) × (most_credits < u
 Fits s used plan decided.AtOnce = ⊥
 Fits s used plan (decided.Change same script) = (same ≡ plan) × IsScriptOf s plan script × (used + script.weight ≤ most_credits)
 
--- the clocks whose rates a plan tells are registered, whatever the bank tells
-abbrev pub ArePlanned : TreeState → Decision → Type 0
-ArePlanned tree (decided.Change plan script) = AreThere tree.clocks plan.rates
-ArePlanned tree _ = Unit {0}
+-- the plan sets a parent or doesn't, the clocks whose rates it tells are registered, its script is made of it, and there is room for the entries of its steps behind so many
+pub record IsPlanned (tree : TreeState) (prepared : ℕ → Bool) (chains : List (List Notifier)) (used : ℕ) (sets : Bool) (plan : Plan) (script : Script) : Type 0 where
+  pub set_parent : plan.set_parent ≡ sets
+  pub there : AreThere tree.clocks plan.rates
+  pub made : IsMadeOf tree prepared chains plan script
+  pub room : used + script.weight ≤ most_credits
+
+-- so it is of a change that was decided, whatever the bank tells
+abbrev pub ArePlanned : TreeState → (ℕ → Bool) → List (List Notifier) → ℕ → Bool → Decision → Type 0
+ArePlanned tree prepared chains used sets (decided.Change plan script) = IsPlanned tree prepared chains used sets plan script
+ArePlanned tree prepared chains used sets _ = Unit {0}
+
+-- and over the parts of a core
+abbrev pub ArePlannedOver : Parts → Sleeping → Decision → Type 0
+ArePlannedOver m what decision = ArePlanned m.tree (is_prepared m.counts) m.chains (m.credits + m.steps) (sets_parent what) decision
 
 -- a call that isn't refused is on a handle of its driver, whatever the bank tells
 abbrev pub IsOwned : List (Option HandleRow) → ℕ → Sleeping → Decision → Type 0

@@ -1,6 +1,6 @@
 -- What a core keeps of the change in flight.
 use Rattle.std.specs.Prelude.{◌≡◌, ℕ, ◌&&◌, ◌||◌, ◌==◌, List, [], ◌∷◌, Bool, true, false, not, Option, Some, None, is_some, is_none, slice_get, length, nat_lt, if◌then◌else◌}
-use Rattle.std.specs.List.{list_all}
+use Rattle.std.specs.List.{list_any, list_all}
 use Rattle.std.specs.Option.{option_map_or}
 use Rattle.clk_base.specs.declared.call.Micro.{Micro}
 use Rattle.clk_base.specs.declared.call.Micro.TheVariants as micro
@@ -12,20 +12,20 @@ use Rattle.clk_model.specs.declared.row.ClockRow.{ClockRow}
 use Rattle.clk_model.specs.Kinds.{mux_field}
 use Rattle.clk_model.specs.Lists.{is_in}
 use Rattle.clk_model.specs.State.{registered, link_in}
-use Rattle.clk_model.specs.Step.{is_end, sets_parent}
+use Rattle.clk_model.specs.Prep.{is_sweep}
+use Rattle.clk_model.specs.Step.{is_end, is_visit, sets_parent}
 use Rattle.clk_flight.specs.declared.front.Front.{Front}
 use Rattle.clk_flight.specs.declared.front.Front.TheVariants.{Empty, Poll, Raise, Lower, Falls, Posts}
 use Rattle.clk_flight.specs.Flights.{FlightState}
 
--- whether a call may raise PLLs: a prepare alone so far
-abbrev pub may_raise : Sleeping → Bool
-may_raise (call.Prepare h) = true
-may_raise _ = false
+-- whether a call prepares, and whether it gives up a prepare
+abbrev pub is_prepare : Sleeping → Bool
+is_prepare (call.Prepare h) = true
+is_prepare _ = false
 
--- whether a call may lower PLLs: an unprepare alone so far
-abbrev pub may_lower : Sleeping → Bool
-may_lower (call.Unprepare h) = true
-may_lower _ = false
+abbrev pub is_unprepare : Sleeping → Bool
+is_unprepare (call.Unprepare h) = true
+is_unprepare _ = false
 
 -- whether a call sets a range
 abbrev pub is_ranged : Sleeping → Bool
@@ -47,9 +47,21 @@ asks_rate (call.SetRateExclusive h x) = true
 asks_rate (call.SetRange h least most) = true
 asks_rate _ = false
 
--- whether a call may go on: a prepare, an unprepare or a change of a rate or a parent so far
+-- whether the steps of a call are worked out before it begins: those of a change of a rate or a parent, and of the sweep
+abbrev pub is_worked_out : Sleeping → Bool
+is_worked_out what = changes_rate what || is_sweep what
+
+-- whether a call may raise PLLs: a prepare, or a request for a rate or a range so far
+abbrev pub may_raise : Sleeping → Bool
+may_raise what = is_prepare what || asks_rate what
+
+-- whether a call may lower PLLs: an unprepare, or a change of a rate or a parent
+abbrev pub may_lower : Sleeping → Bool
+may_lower what = is_unprepare what || changes_rate what
+
+-- whether a call may go on: a prepare, an unprepare, a change of a rate or a parent, or the sweep so far
 abbrev pub may_go_on : Sleeping → Bool
-may_go_on what = may_raise what || may_lower what || changes_rate what
+may_go_on what = is_prepare what || is_unprepare what || changes_rate what || is_sweep what
 
 -- whether a step raises or lowers the PLLs of a clock that passes a test, as its call may
 abbrev pub may_seek : Sleeping → (ℕ → Bool) → Micro → Bool
@@ -58,13 +70,19 @@ may_seek what there (micro.Lower x) = may_lower what && there x.0
 may_seek what there _ = false
 
 -- whether a step is one of those, or tells a notifier, links a clock, selects a parent, settles a last request, or visits a clock that
--- passes the test, as its call may
+-- passes the test, holds it or lets it go, as its call may
 abbrev pub may_make : Sleeping → (ℕ → Bool) → Micro → Bool
 may_make what there (micro.Notify kind c id old new) = changes_rate what
+may_make what there (micro.HoldPrepare x) = changes_rate what && there x.0
+may_make what there (micro.HoldEnable x) = changes_rate what && there x.0
+may_make what there (micro.DropEnable x) = changes_rate what && there x.0
+may_make what there (micro.DropPrepare x) = changes_rate what && there x.0
 may_make what there (micro.Relink c p) = changes_rate what
 may_make what there (micro.WriteMux c place) = changes_rate what
 may_make what there (micro.Visit c) = changes_rate what && there c.0
 may_make what there (micro.Settle c) = changes_rate what
+may_make what there (micro.Close c) = is_sweep what && there c.0
+may_make what there (micro.Unpower c) = is_sweep what && there c.0
 may_make what there m = may_seek what there m
 
 -- whether a step can be made over a tree: a mux that has a link gets one to a registered possible parent, or selects the one at a place,
@@ -75,10 +93,25 @@ can_link defs clocks (micro.WriteMux c place) = is_some (mux_field (kind_of defs
 can_link defs clocks (micro.Settle c) = registered clocks c.0
 can_link defs clocks _ = true
 
--- whether these are such steps, and then the end
+-- whether a timeout leaves steps of this rest of a script: it has a visit, where the call asks for a rate
+abbrev pub can_cut : Sleeping → List Micro → Bool
+can_cut what ms = list_any is_visit ms || not (asks_rate what)
+
+-- whether a timeout behind a step, if it raises, leaves steps of the rest
+abbrev pub cuts_behind : Sleeping → Micro → List Micro → Bool
+cuts_behind what (micro.Raise x) ms = can_cut what ms
+cuts_behind what _ ms = true
+
+-- whether these are such steps, with a rest that a timeout leaves behind each raise, and then the end
 abbrev pub is_script : Sleeping → (ℕ → Bool) → List Micro → Bool
 is_script what there [] = false
-is_script what there (m ∷ ms) = (is_end m && is_none (slice_get ms 0)) || (may_make what there m && is_script what there ms)
+is_script what there (m ∷ ms) = (is_end m && is_none (slice_get ms 0)) || (cuts_behind what m ms && (may_make what there m && is_script what there ms))
+
+-- whether a timeout of the poll in front, or behind the raise in front, leaves steps of the script
+abbrev pub cuts_front : Sleeping → List Micro → Front → Bool
+cuts_front what ms (Poll y polls again) = can_cut what ms
+cuts_front what ms (Raise x) = can_cut what ms
+cuts_front what ms _ = true
 
 -- whether such steps, polls, falls and notices that a rate has changed alone stand in front
 abbrev pub is_front : Sleeping → (ℕ → Bool) → Front → Bool
@@ -95,6 +128,7 @@ pub record IsUnderWay (there : ℕ → Bool) (f : FlightState) : Type 0 where
   pub script : is_script f.call there f.left ≡ true
   pub front : is_front f.call there f.front ≡ true
   pub raised : list_all there f.raised ≡ true
+  pub cut : cuts_front f.call f.left f.front ≡ true
   pub extra : f.extra ≡ 0
   -- only a change of rate can be vetoed
   pub vetoed : f.vetoed ≡ true → changes_rate f.call ≡ true
@@ -103,9 +137,9 @@ pub record IsUnderWay (there : ℕ → Bool) (f : FlightState) : Type 0 where
 abbrev pub is_called_off : FlightState → Bool
 is_called_off f = f.vetoed || f.timed_out
 
--- whether the end of the call changes nothing but that none is in flight: it is called off, and has no range to put back, or is an unprepare or a change of a parent
+-- whether the end of the call changes nothing but that none is in flight: it is called off, and has no range to put back, or is an unprepare, a change of a parent or the sweep
 abbrev pub ends_bare : FlightState → Bool
-ends_bare f = if is_called_off f then not (is_ranged f.call && is_some f.range) else (may_lower f.call || sets_parent f.call)
+ends_bare f = if is_called_off f then not (is_ranged f.call && is_some f.range) else (is_unprepare f.call || sets_parent f.call || is_sweep f.call)
 
 -- the handle that the end of a call may write
 abbrev pub handle_to_end : Sleeping → Option Handle

@@ -4,15 +4,19 @@ pub mod Fit
 pub mod Plls
 pub mod InFlight
 pub mod Course
+pub mod Holds
 pub mod Built
 pub mod Parts
 pub mod Stands
 pub mod Making
 pub mod Starting
+pub mod Sweeping
 pub mod Changing
 pub mod Landing
+pub mod Letting
 pub mod Holding
 pub mod Sound
+pub mod Polls
 pub mod Settling
 pub mod Run
 pub mod Row
@@ -21,3 +25,4 @@ pub mod Free
 pub mod Deciding
 pub mod Readying
 pub mod Reparenting
+pub mod Movable

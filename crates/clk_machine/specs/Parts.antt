@@ -24,6 +24,7 @@ use Rattle.clk_machine.specs.Window.{Shown, AreTold}
 use Rattle.clk_machine.specs.Fit.{CanRun}
 use Rattle.clk_machine.specs.declared.course.Notified.{Notified}
 use Rattle.std.specs.List.{list_all}
+use Rattle.clk_machine.specs.Holds.{listed, AreHeld}
 use Rattle.clk_machine.specs.InFlight.{can_link, changes_rate, handle_to_end, IsUnderWay}
 use Rattle.clk_machine.specs.Course.{CourseState, notifiers_at, TellsAlong}
 
@@ -40,11 +41,14 @@ pub record Parts : Type 0 where
   pub ignore_unused : Bool
   pub flight : FlightState
   pub course : CourseState
+  -- how often each clock is held for the change in flight by a prepare, and by an enable
+  pub prepare_holds : List ℕ
+  pub enable_holds : List ℕ
   pub steps : ℕ
 
 -- these parts
-abbrev pub parts_of : Checked → Shown → TreeState → HandleTable → CountState → List (List Notifier) → ℕ → ℕ → Bool → FlightState → CourseState → ℕ → Parts
-parts_of desc window tree table counts chains credits spent ignore_unused flight course steps = record {
+abbrev pub parts_of : Checked → Shown → TreeState → HandleTable → CountState → List (List Notifier) → ℕ → ℕ → Bool → FlightState → CourseState → List ℕ → List ℕ → ℕ → Parts
+parts_of desc window tree table counts chains credits spent ignore_unused flight course prepare_holds enable_holds steps = record {
   desc = desc;
   window = window;
   tree = tree;
@@ -56,6 +60,8 @@ parts_of desc window tree table counts chains credits spent ignore_unused flight
   ignore_unused = ignore_unused;
   flight = flight;
   course = course;
+  prepare_holds = prepare_holds;
+  enable_holds = enable_holds;
   steps = steps;
 }
 
@@ -68,8 +74,8 @@ bare m = record {
   order = m.tree.order;
   handles = m.table.handles;
   notifiers = [];
-  prepare_holds = [];
-  enable_holds = [];
+  prepare_holds = listed m.prepare_holds;
+  enable_holds = listed m.enable_holds;
   change = None;
   credits = m.credits;
   spent = m.spent;
@@ -156,3 +162,6 @@ pub record IsWhole (m : Parts) : Type 0 where
   -- a change in flight is kept as it has to be, and there is room for the entries of its steps
   pub flown : m.flight.going ≡ true → IsFlown m.desc.defs m.tree.clocks m.table.handles m.chains m.course.notified m.spent m.flight
   pub room : m.credits + m.steps + steps_left m ≤ most_credits
+  -- what is held for it was held by steps
+  pub prepares_held : AreHeld (registered m.tree.clocks) (length m.desc.defs) m.steps m.prepare_holds
+  pub enables_held : AreHeld (registered m.tree.clocks) (length m.desc.defs) m.steps m.enable_holds

@@ -1,10 +1,9 @@
 -- A call that changes a rate, ready to begin: what it goes on with, and that it begins so.
 use Rattle.std.specs.List.{list_all}
-use Rattle.std.specs.Prelude.{◌≡◌, ℕ, ◌+◌, ◌<◌, ◌≤◌, List, true, Option, Some, None, sum_by}
+use Rattle.std.specs.Prelude.{◌≡◌, ℕ, ◌+◌, ◌≤◌, List, Bool, true, false, Option, Some, None, sum_by}
 use Rattle.clk_base.specs.declared.call.Micro.{Micro}
 use Rattle.clk_base.specs.declared.call.Sleeping.{Sleeping}
 use Rattle.clk_base.specs.declared.call.Sleeping.TheVariants as call
-use Rattle.clk_base.specs.declared.event.Errno.TheVariants as errno
 use Rattle.clk_base.specs.declared.event.Event.TheVariants as event
 use Rattle.clk_base.specs.declared.event.Turn.TheVariants as turn
 use Rattle.clk_model.specs.declared.row.HandleRow.{HandleRow}
@@ -14,14 +13,16 @@ use Rattle.clk_model.specs.Script.{plls}
 use Rattle.clk_model.specs.State.{State, Change, registered}
 use Rattle.clk_tree.specs.declared.plan.Plan.{Plan}
 use Rattle.change_walk.specs.Given.{Script}
+use Rattle.counts_core.specs.Counted.{is_prepared}
 use Rattle.change_walk.specs.Weights.{step_weight}
 use Rattle.clk_machine.specs.declared.readied.Readied.{Readied}
 use Rattle.clk_machine.specs.declared.readied.Readied.TheVariants as readied
 use Rattle.clk_machine.specs.declared.readied.Scripted.{Scripted}
-use Rattle.clk_machine.specs.Changing.{BeginsAlong, still_steps, told_clocks}
+use Rattle.clk_machine.specs.Changing.{BeginsAlong, told_clocks}
 use Rattle.clk_machine.specs.Course.{notifiers_at, tells_all}
 use Rattle.clk_machine.specs.Deciding.{EndsAtOnce, handle_of, made_in}
 use Rattle.clk_machine.specs.InFlight.{is_script, can_link}
+use Rattle.clk_machine.specs.Movable.{can_go_along}
 use Rattle.clk_machine.specs.Parts.{Parts, IsOwnCall}
 use Rattle.clk_machine.specs.Sound.{IsSound}
 use Rattle.clk_machine.specs.Stands.{Stands}
@@ -32,23 +33,27 @@ weight_along m steps = sum_by (step_weight (plls m.desc.defs) m.chains) steps
 
 -- ---- what a change goes on with
 
--- it is that of a plan and its script: the notices and visits, the chain, and the clocks that are told
+-- whether the moves of a plan can be made
+abbrev pub moves_well : Parts → Plan → Bool
+moves_well m plan = can_go_along plan.set_parent m.desc.defs m.tree.clocks (is_prepared m.counts) plan.chain
+
+-- it is that of a plan whose moves can be made, and of its script: its steps, the chain, and the clocks that are told
 pub record IsScripted (m : Parts) (plan : Plan) (script : Script) (scripted : Scripted) : Type 0 where
-  pub steps : scripted.steps.items ≡ still_steps script.steps script.vetoed plan.rates
+  pub moves : moves_well m plan ≡ true
+  pub steps : scripted.steps.items ≡ script.steps
   pub chain : scripted.course.chain ≡ plan.chain
   pub notified : scripted.course.notified ≡ told_clocks (notifiers_at m.chains) m.tree.rates plan.rates
   pub vetoed : scripted.vetoed ≡ script.vetoed
-  pub weight : scripted.weight ≡ weight_along m scripted.steps.items
-  pub room : m.credits + m.steps + scripted.weight ≤ most_credits
+  pub weight : scripted.weight ≡ script.weight
 
--- a plan with its script is made ready where there is room for the entries of its steps, and else refused
+-- a plan with its script is made ready where its moves can be made, and else refused
 abbrev pub Scripts : Parts → Plan → Script → Readied → Type 0
-Scripts m plan script (readied.Refused e) = (e ≡ errno.ENOSPC) × (most_credits < m.credits + m.steps + weight_along m (still_steps script.steps script.vetoed plan.rates))
+Scripts m plan script (readied.Refused e) = moves_well m plan ≡ false
 Scripts m plan script readied.AtOnce = ⊥
 Scripts m plan script (readied.Change scripted) = IsScripted m plan script scripted
 
--- a change of rate can go on so, whatever the bank tells: its steps are notices and visits of registered clocks and the end, the clocks with
--- notifiers that it visits are told, and there is room
+-- a change of rate or parent can go on so, whatever the bank tells: its steps are those that such a call may make, and the end; the clocks with
+-- notifiers that it visits are told, its links can be made, and there is room
 pub record CanGoAlong (m : Parts) (d : ℕ) (what : Sleeping) (scripted : Scripted) : Type 0 where
   pub own : IsOwnCall m.table.handles d what
   pub script : is_script what (registered m.tree.clocks) scripted.steps.items ≡ true

@@ -12,13 +12,16 @@ use Rattle.clk_base.specs.declared.event.Turn.TheVariants as turn
 use Rattle.clk_model.specs.State.{State, Change, registered}
 use Rattle.clk_model.specs.Machine.{next}
 use Rattle.clk_model.specs.Tier.{is_enable_tier}
-use Rattle.clk_model.specs.Journal.{is_paid, is_going, slotless, replay, Legal, opening, cost}
+use Rattle.clk_model.specs.Journal.{is_paid, is_going, slotless, replay, Legal, opening, cost, Polled}
 use Rattle.clk_model.specs.Fed.{Fed}
 use Rattle.clk_model.specs.Laws.EndCauses.{EndsCall}
+use Rattle.clk_machine.specs.declared.behind.Behind.{Behind}
 use Rattle.clk_machine.specs.Parts.{Parts, steps_left}
+use Rattle.clk_machine.specs.Polls.{IfPoll, IsAsked, asked_by}
 use Rattle.clk_machine.specs.Stands.{Stands, is_told, registers}
 use Rattle.clk_machine.specs.Sound.{IsSound}
 use Rattle.clk_machine.specs.Built.{is_built_over}
+use Rattle.clk_machine.specs.Window.{HasDelays}
 
 -- a core as its opening and its journal, and what it knows of its bank
 pub record Run : Type 0 where
@@ -26,8 +29,8 @@ pub record Run : Type 0 where
   pub journal : List Entry
   -- whether the bank tells its words
   pub told : Bool
-  -- the words of the bank behind those of the state, where it tells them
-  pub behind : Option (List ℕ)
+  -- what lies in the bank behind the words of the state, and no call changes: further words, and the delays of the locks of PLLs
+  pub behind : Behind
   -- how many steps the call in flight may still come to, whatever the bank answers; none where there is no such call
   pub left : ℕ
 
@@ -114,5 +117,8 @@ pub record IsRun (m : Parts) (words : List ℕ) (log : Logged) : Type 0 where
   -- a call is in flight where the journal says so, and it is the driver's whom the journal names
   pub going : m.flight.going ≡ in_flight log.entries
   pub driver_ : m.flight.going ≡ true → m.flight.driver ≡ driver_in_flight log.entries
+  -- the PLL that is polled next was polled as often as the journal says, and the polls so far were answered by the delays of the locks
+  pub polling : is_told m ≡ true → m.flight.going ≡ true → IfPoll m.flight.front (IsAsked m.window.locks (asked_by [] log.entries))
+  pub polled : is_told m ≡ true → (delay : ℕ → ℕ) → HasDelays m.window.behind.delays delay → Polled delay log.entries
   pub size : m.window.size ≡ length words
   pub probed : (c : ℕ) → registered m.tree.clocks c ≡ was_probed log.entries c

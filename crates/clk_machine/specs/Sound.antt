@@ -71,21 +71,29 @@ takes_memory (call.Unprepare h) = true
 takes_memory (call.SetRate h x) = true
 takes_memory (call.SetRateExclusive h x) = true
 takes_memory (call.SetRange h least most) = true
+takes_memory (call.SetParent h p) = true
 takes_memory (call.NotifierAdd h id priority policy) = true
+takes_memory call.Sweep = true
 takes_memory _ = false
 
 -- whether a step links clocks and selects parents as it may: a registered clock gets a link to a possible parent, a parent is selected for a
--- clock that has a link, and none is registered, held or let go
+-- clock that has a link, and none is registered
 abbrev pub links_well : Description → List ClockRow → Micro → Bool
 links_well defs clocks (micro.Notify kind c id old new) = true
 links_well defs clocks (micro.Raise x) = true
 links_well defs clocks (micro.Poll y) = true
 links_well defs clocks (micro.Fall y) = true
 links_well defs clocks (micro.Lower x) = true
+links_well defs clocks (micro.HoldPrepare x) = true
+links_well defs clocks (micro.HoldEnable x) = true
+links_well defs clocks (micro.DropEnable x) = true
+links_well defs clocks (micro.DropPrepare x) = true
 links_well defs clocks (micro.Relink c p) = registered clocks c.0 && is_in p.0 (parents_of defs c.0)
 links_well defs clocks (micro.WriteMux c place) = is_some (link_in clocks c.0) && nat_lt place (length (parents_of defs c.0))
 links_well defs clocks (micro.Visit c) = true
 links_well defs clocks (micro.Settle c) = true
+links_well defs clocks (micro.Close c) = true
+links_well defs clocks (micro.Unpower c) = true
 links_well defs clocks micro.End = true
 links_well defs clocks _ = false
 

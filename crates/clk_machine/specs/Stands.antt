@@ -1,5 +1,5 @@
 -- When the parts of a core stand for a state of the machine, and what an event does to both.
-use Rattle.std.specs.Prelude.{◌≡◌, ℕ, ◌+◌, ◌*◌, ◌<◌, ◌≤◌, ◌||◌, true, ◌==◌, [], Bool, false, Some, is_some, if◌then◌else◌}
+use Rattle.std.specs.Prelude.{◌≡◌, ℕ, ◌+◌, ◌*◌, ◌<◌, ◌≤◌, ◌||◌, true, ◌==◌, Bool, false, Some, is_some, if◌then◌else◌}
 use Rattle.clk_base.specs.declared.call.Sleeping.TheVariants as call
 use Rattle.clk_base.specs.declared.event.Event.{Event}
 use Rattle.clk_base.specs.declared.event.Event.TheVariants as event
@@ -15,6 +15,7 @@ use Rattle.clk_flight.specs.Flights.{Flies}
 use Rattle.notifiers.specs.Chains.{Tells}
 use Rattle.clk_model.specs.Begin.{most_credits}
 use Rattle.clk_machine.specs.Course.{IsAlong}
+use Rattle.clk_machine.specs.Holds.{TellsHolds}
 use Rattle.clk_machine.specs.Parts.{Parts, steps_left}
 use Rattle.clk_machine.specs.Sound.{IsSound}
 
@@ -26,9 +27,9 @@ pub record Stands (m : Parts) (s : State) : Type 0 where
   pub order : s.order ≡ m.tree.order
   pub handles : s.handles ≡ m.table.handles
   pub notifiers : Tells m.chains s.notifiers
-  -- nothing is held for the change in flight
-  pub prepare_holds : s.prepare_holds ≡ []
-  pub enable_holds : s.enable_holds ≡ []
+  -- what is held for the change in flight
+  pub prepare_holds : TellsHolds m.prepare_holds s.prepare_holds
+  pub enable_holds : TellsHolds m.enable_holds s.enable_holds
   pub change : Flies s.notifiers m.flight s.change
   pub along : IsAlong m.course s.change
   pub credits : s.credits ≡ m.credits
@@ -54,6 +55,7 @@ pub record Becomes (old : Parts) (adds : ℕ → Bool) (does : State → State) 
   pub remains : Remains old new
   pub spent : new.spent ≡ old.spent + 1
   pub flight : new.flight ≡ old.flight
+  pub locks : new.window.locks ≡ old.window.locks
   pub left : steps_left new ≡ steps_left old
   pub steps : new.steps ≡ old.steps
   pub rows : (c : ℕ) → registered new.tree.clocks c ≡ (registered old.tree.clocks c || adds c)
@@ -74,14 +76,16 @@ abbrev pub registers : Event → ℕ → Bool
 registers (event.Begin (call.Probe k)) c = k.0 == c
 registers _ c = false
 
--- how many steps a call may come to where it goes on: the raise of the PLLs of a path or the lower of them, and the end; of a change of rate as
--- many as its script weighs, for which there is room
+-- how many steps a call may come to where it goes on: the raise of the PLLs of a path or the lower of them, and the end; of a change of rate or
+-- parent as many as its script weighs, for which there is room
 abbrev pub most_steps : Description → Event → ℕ
 most_steps defs (event.Begin (call.Prepare h)) = 34 * plls defs + 2
 most_steps defs (event.Begin (call.Unprepare h)) = plls defs + 2
 most_steps defs (event.Begin (call.SetRate h x)) = most_credits
 most_steps defs (event.Begin (call.SetRateExclusive h x)) = most_credits
 most_steps defs (event.Begin (call.SetRange h least most)) = most_credits
+most_steps defs (event.Begin (call.SetParent h p)) = most_credits
+most_steps defs (event.Begin call.Sweep) = most_credits
 most_steps defs e = 0
 
 -- the credits that an event spends
@@ -100,5 +104,7 @@ pub record Enters (old : Parts) (driver : ℕ) (event : Event) (turn : Turn) (ne
   pub fewer : is_paid event ≡ false → steps_left new < steps_left old
   pub begun : is_paid event ≡ true → is_going turn ≡ true → steps_left new ≤ most_steps old.desc.defs event
   pub no_more : is_paid event ≡ true → is_going turn ≡ false → steps_left new ≤ steps_left old
+  -- the enable tier leaves the locks of PLLs and what comes next of a change in flight
+  pub beside : is_enable_tier event ≡ true → (new.window.locks ≡ old.window.locks) × (new.flight ≡ old.flight)
   pub rows : (c : ℕ) → registered new.tree.clocks c ≡ (registered old.tree.clocks c || registers event c)
   pub step : (s : State) → Stands old s → IsSound old.window.size s → Leads s driver event turn new

@@ -1,14 +1,31 @@
 //! Which calls can be made so far.
 
 ghost use Rattle.std.specs.Prelude.{◌≡◌};
-ghost use Rattle.clk_machine.specs.Built.{is_built};
+ghost use Rattle.clk_machine.specs.Built.{allowed_over, is_built};
 
-use clk_base::Sleeping;
+use crate::fit::gates_parents;
+use clk_base::{Sleeping, ValidDesc};
+
+/// What a core begins over a description.
+#[derive(Clone, Copy, Debug, PartialEq, Eq)]
+pub struct Allowed {
+    /// Changes of parent.
+    pub parents: bool,
+}
+
+/// What a core begins over this description.
+pub fn allowed_over(desc: &ValidDesc) -> Allowed
+    ensures { result ≡ allowed_over desc.now.defs }
+{
+    Allowed {
+        parents: gates_parents(desc),
+    }
+}
 
 /// Whether a call can be made so far, where the clock that it registers, if it does, can be
-/// registered now, and where a request for a rate leaves each clock its parent or doesn't.
-pub fn is_built(what: &Sleeping, can_register: bool, keeps_parents: bool) -> bool
-    ensures { result ≡ is_built (λ _. can_register) keeps_parents what.now }
+/// registered now, and where this is allowed.
+pub fn is_built(what: &Sleeping, can_register: bool, allowed: Allowed) -> bool
+    ensures { result ≡ is_built (λ _. can_register) allowed what.now }
 {
     match what {
         Sleeping::Get(_)
@@ -17,14 +34,16 @@ pub fn is_built(what: &Sleeping, can_register: bool, keeps_parents: bool) -> boo
         | Sleeping::Unprepare(_)
         | Sleeping::GetRate(_)
         | Sleeping::RoundRate(_, _)
+        | Sleeping::SetRate(_, _)
+        | Sleeping::SetRateExclusive(_, _)
+        | Sleeping::SetRange(_, _, _)
         | Sleeping::GetParent(_)
         | Sleeping::ExclusiveGet(_)
         | Sleeping::ExclusivePut(_)
         | Sleeping::NotifierAdd(_, _, _, _)
-        | Sleeping::NotifierRemove(_, _) => true,
-        Sleeping::SetRate(_, _) | Sleeping::SetRateExclusive(_, _) | Sleeping::SetRange(_, _, _) =>
-            keeps_parents,
+        | Sleeping::NotifierRemove(_, _)
+        | Sleeping::Sweep => true,
+        Sleeping::SetParent(_, _) => allowed.parents,
         Sleeping::Probe(_) => can_register,
-        _ => false,
     }
 }

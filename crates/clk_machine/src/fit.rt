@@ -6,7 +6,7 @@ ghost use Rattle.clk_base.specs.Description.{FindsFirst, def_of, kind_of};
 ghost use Rattle.clk_base.specs.Places.{places};
 ghost use Rattle.clk_base.specs.Flags.{is_critical};
 ghost use Rattle.clk_model.specs.Kinds.{is_pll};
-ghost use Rattle.clk_machine.specs.Fit.{can_run, has_pll, may_move, keeps_parents};
+ghost use Rattle.clk_machine.specs.Fit.{can_run, has_pll, moves_prepared, gates_parents};
 
 use bitflags::Flags;
 use clk_base::{ClkFlags, ClockId, Kind, ValidDesc};
@@ -74,27 +74,22 @@ pub fn has_pll(desc: &ValidDesc) -> bool
     false
 }
 
-// Whether a request for a rate may move a clock to another parent.
-fn may_move(desc: &ValidDesc, clock: ClockId) -> bool
+// Whether a change of parent may move a clock while it is prepared.
+fn moves_prepared(desc: &ValidDesc, clock: ClockId) -> bool
     requires { clock.0 < length desc.now.defs }
-    ensures { result ≡ may_move (def_of desc.now.defs clock.0) }
+    ensures { result ≡ moves_prepared (def_of desc.now.defs clock.0) }
 {
     let def = desc.def(clock);
-    match def.kind {
-        Kind::Mux { read_only, .. } => {
-            !read_only && !Flags::contains(&def.flags, ClkFlags::NO_REPARENT)
-        }
-        _ => false,
-    }
+    matches!(def.kind, Kind::Mux { .. }) && !Flags::contains(&def.flags, ClkFlags::SET_PARENT_GATE)
 }
 
-/// Whether a request for a rate leaves each clock of the description its parent. A core takes such
-/// requests only where it does.
-pub fn keeps_parents(desc: &ValidDesc) -> bool
-    ensures { result ≡ keeps_parents desc.now.defs }
+/// Whether each clock of the description keeps its parent while it is prepared. A core takes changes
+/// of parent only where it does.
+pub fn gates_parents(desc: &ValidDesc) -> bool
+    ensures { result ≡ gates_parents desc.now.defs }
 {
     for place in 0..desc.len() {
-        if may_move(desc, ClockId(place as u32)) {
+        if moves_prepared(desc, ClockId(place as u32)) {
             return false;
         }
     }

@@ -3,13 +3,12 @@
 ghost use Rattle.std.specs.Prelude.{◌≡◌, ℕ, ◌+◌, ◌<◌, ◌≤◌, true, false, not, [], length, take, drop, is_some, slice_index, IfSome, IfOk, IsOk, OnErr};
 ghost use Rattle.std.specs.Option.{option_map};
 ghost use Rattle.clk_model.specs.State.{is_quiet};
-ghost use Rattle.clk_model.specs.Journal.{opening, replay, Legal, cost};
+ghost use Rattle.clk_model.specs.Journal.{opening, replay, Legal, Polled, cost};
 ghost use Rattle.clk_model.specs.Fed.{Fed};
 ghost use Rattle.clk_model.specs.Begin.{most_credits};
-ghost use Rattle.clk_machine.specs.InFlight.{asks_rate, changes_rate};
+ghost use Rattle.clk_machine.specs.InFlight.{is_worked_out};
 
-use crate::built::is_built;
-use crate::fit::keeps_parents;
+use crate::built::{Allowed, allowed_over, is_built};
 use crate::log::Log;
 use crate::machine::Machine;
 use crate::row::Row;
@@ -31,13 +30,20 @@ pub struct Core<B: Bank> {
     log: Log,
 }
 
-// Whether a call asks for a rate or a range.
-fn asks_rate(what: &Sleeping) -> bool
-    ensures { result ≡ asks_rate what.now }
+// Where no call asks for what a description allows.
+const NOTHING: Allowed = Allowed { parents: false };
+
+// Whether the steps of a call are worked out before it begins.
+fn is_worked_out(what: &Sleeping) -> bool
+    ensures { result ≡ is_worked_out what.now }
 {
     matches!(
         what,
-        Sleeping::SetRate(_, _) | Sleeping::SetRateExclusive(_, _) | Sleeping::SetRange(_, _, _)
+        Sleeping::SetRate(_, _)
+            | Sleeping::SetRateExclusive(_, _)
+            | Sleeping::SetRange(_, _, _)
+            | Sleeping::SetParent(_, _)
+            | Sleeping::Sweep
     )
 }
 
@@ -61,6 +67,7 @@ impl<B: Bank> Core<B> {
     ghost use Rattle.clk_model.specs.Laws.Causes.{EnableCauses, DisableCauses, RunningCauses, LeavesRefused};
     ghost use Rattle.clk_machine.specs.Run.{Run, now_of, was_probed, in_flight, can_make, Appends, StepsOn, StepTurns};
     ghost use Rattle.clk_machine.specs.Row.{IsRowOf, IsTreeOf};
+    ghost use Rattle.clk_machine.specs.Window.{behind_of, HasDelays};
 
     /// A core at its opening: the words are written to the bank, nothing is registered, and the
     /// journal is empty with room for all credits.
@@ -86,8 +93,8 @@ impl<B: Bank> Core<B> {
         ensures journal { IfOk result (λ core. core.journal ≡ []) }
         // The core knows its state exactly where the bank tells its words.
         ensures told { IfOk result (λ core. core.told ≡ is_some (B.contents bank)) }
-        // The words of the bank behind the given ones are as they were.
-        ensures behind { IfOk result (λ core. core.behind ≡ option_map (drop (length words.now)) (B.contents bank)) }
+        // What lies behind the given words are the further words of the bank, and the delays of its locks.
+        ensures behind { IfOk result (λ core. core.behind ≡ behind_of (length words.now) (B.contents bank) (B.lock bank)) }
     {
         let log = Log::create(alloc, credits)?;
         let kept = Vec::from_slice(alloc, words)?;
@@ -167,21 +174,19 @@ impl<B: Bank> Core<B> {
         ensures { result ≡ can_make self.now what.now }
     {
         match what {
-            Sleeping::Probe(clock) => is_built(what, self.machine.has_parents(*clock), false),
-            Sleeping::SetRate(_, _)
-            | Sleeping::SetRateExclusive(_, _)
-            | Sleeping::SetRange(_, _, _) => {
-                is_built(what, false, keeps_parents(self.machine.desc()))
+            Sleeping::Probe(clock) => is_built(what, self.machine.has_parents(*clock), NOTHING),
+            Sleeping::SetParent(_, _) => {
+                is_built(what, false, allowed_over(self.machine.desc()))
             }
-            _ => is_built(what, false, false),
+            _ => is_built(what, false, NOTHING),
         }
     }
 
     /// Begins a call of a driver. It is answered at once, or goes on by steps.
     ///
     /// After `NoMemory` the core is as it was, without an entry. It comes at a get, where a notifier
-    /// is added, and at a prepare, an unprepare and a change of rate, which take the room for the
-    /// entries of their steps before they begin.
+    /// is added, and at a prepare, an unprepare, a change of rate or parent and the sweep, which take the
+    /// room for the entries of their steps before they begin.
     pub fn begin(&mut self, driver: u32, what: &Sleeping) -> Result<Turn, NoMemory>
         // A credit is left.
         requires credit { cost self.old.journal < self.old.start.credits }
@@ -202,23 +207,23 @@ impl<B: Bank> Core<B> {
         // That can be only where the call takes memory.
         ensures memory { takes_memory what.now ≡ false → IsOk result }
     {
-        if asks_rate(what) {
-            return self.begin_change(driver, *what);
+        if is_worked_out(what) {
+            return self.begin_worked_out(driver, *what);
         }
         self.begin_other(driver, *what)
     }
 
-    // Begins a call that changes a rate, with room for the entries of the steps of its script.
-    fn begin_change(&mut self, driver: u32, what: Sleeping) -> Result<Turn, NoMemory>
+    // Begins a call whose steps are worked out before, with room for their entries.
+    fn begin_worked_out(&mut self, driver: u32, what: Sleeping) -> Result<Turn, NoMemory>
         requires credit { cost self.old.journal < self.old.start.credits }
         requires quiet { in_flight self.old.journal ≡ false }
         requires place { IsPlaced self.old.start.defs what }
         requires built { can_make self.old what ≡ true }
-        requires changes { asks_rate what ≡ true }
+        requires worked_out { is_worked_out what ≡ true }
         ensures ok { IfOk result (λ turn. Appends self.old driver (Begin what) turn self.new) }
         ensures err { OnErr result (self.new ≡ self.old) }
     {
-        let turn = self.machine.begin_change(&mut self.log, driver, what)?;
+        let turn = self.machine.begin_worked_out(&mut self.log, driver, what)?;
         self.log.push(Entry {
             driver,
             event: Event::Begin(what),
@@ -227,13 +232,13 @@ impl<B: Bank> Core<B> {
         Ok(turn)
     }
 
-    // Begins a call that changes no rate, with room for the entries of the steps that it may come to.
+    // Begins another call, with room for the entries of the steps that it may come to.
     fn begin_other(&mut self, driver: u32, what: Sleeping) -> Result<Turn, NoMemory>
         requires credit { cost self.old.journal < self.old.start.credits }
         requires quiet { in_flight self.old.journal ≡ false }
         requires place { IsPlaced self.old.start.defs what }
         requires built { can_make self.old what ≡ true }
-        requires stays { changes_rate what ≡ false }
+        requires other { is_worked_out what ≡ false }
         ensures ok { IfOk result (λ turn. Appends self.old driver (Begin what) turn self.new) }
         ensures err { OnErr result (self.new ≡ self.old) }
         ensures memory { takes_memory what ≡ false → IsOk result }
@@ -275,6 +280,8 @@ impl<B: Bank> Core<B> {
         ensures entries { result.now ≡ self.now.journal }
         // Where the bank tells its words, they are a legal run from the opening.
         ensures legal { self.now.told ≡ true → Legal self.now.start self.now.journal }
+        // Where the bank tells its words and its locks, each poll among them is answered by the delay of its PLL, counted from the last raise on.
+        ensures polled { self.now.told ≡ true → (delay : ℕ → ℕ) → HasDelays self.now.behind.delays delay → Polled delay self.now.journal }
         // Where the bank tells its words, after each prefix of them each active clock is fed.
         ensures fed { self.now.told ≡ true → (n : ℕ) → Fed (replay self.now.start (take n self.now.journal)) }
     {
@@ -359,7 +366,7 @@ impl<B: Bank> Core<B> {
         // Where it does, the first ones are the registers of the state.
         ensures words { IfSome (B.contents result) (λ words. take (length self.start.regs) words ≡ (now_of self).regs) }
         // Those behind them are as they were.
-        ensures behind { option_map (drop (length self.start.regs)) (B.contents result) ≡ self.behind }
+        ensures behind { option_map (drop (length self.start.regs)) (B.contents result) ≡ self.behind.words }
     {
         let Core {
             machine,

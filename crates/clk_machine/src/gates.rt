@@ -3,6 +3,7 @@
 ghost use Rattle.std.specs.Prelude.{◌≡◌, ◌<◌, true, false, length, reverse, IfSome};
 ghost use Rattle.std.specs.Option.{option_map, option_map_or};
 ghost use Rattle.clk_base.specs.Fields.{gate_of, power_of};
+ghost use Rattle.clk_model.specs.Kinds.{is_open};
 ghost use Rattle.clk_model.specs.Summary.{is_on};
 ghost use Rattle.clk_model.specs.State.{link_in};
 ghost use Rattle.clk_model.specs.Tree.{path_within};
@@ -35,12 +36,28 @@ pub(crate) fn switch_state<B: Bank>(kind: Kind, window: &Window<B>) -> Option<bo
     }
 }
 
+/// Whether a gate is open. A clock of another kind has none.
+pub(crate) fn is_open<B: Bank>(kind: Kind, window: &Window<B>) -> bool
+    requires { IfSome (gate_of kind) (λ gate. (gate.word < window.now.size) × (gate.bit < 32)) }
+    ensures { IfSome window.now.words (λ regs. result ≡ option_map_or (is_open regs) (gate_of kind) false) }
+{
+    match kind {
+        Kind::Gate {
+            word,
+            bit,
+            set_to_disable,
+        } => window.is_set(word, bit) != set_to_disable,
+        _ => false,
+    }
+}
+
 // Opens a gate. A clock of another kind has none.
 fn open_gate<B: Bank>(kind: Kind, window: &mut Window<B>)
     requires { IfSome (gate_of kind) (λ gate. (gate.word < window.old.size) × (gate.bit < 32)) }
     ensures size { window.new.size ≡ window.old.size }
     ensures words { window.new.words ≡ option_map (λ regs. option_map_or (follow regs false true) (gate_of kind) regs) window.old.words }
     ensures behind { window.new.behind ≡ window.old.behind }
+    ensures locks { window.new.locks ≡ window.old.locks }
 {
     if let Kind::Gate {
         word,
@@ -52,12 +69,13 @@ fn open_gate<B: Bank>(kind: Kind, window: &mut Window<B>)
     }
 }
 
-// Closes a gate. A clock of another kind has none.
-fn close_gate<B: Bank>(kind: Kind, window: &mut Window<B>)
+/// Closes a gate. A clock of another kind has none.
+pub(crate) fn close_gate<B: Bank>(kind: Kind, window: &mut Window<B>)
     requires { IfSome (gate_of kind) (λ gate. (gate.word < window.old.size) × (gate.bit < 32)) }
     ensures size { window.new.size ≡ window.old.size }
     ensures words { window.new.words ≡ option_map (λ regs. option_map_or (follow regs true false) (gate_of kind) regs) window.old.words }
     ensures behind { window.new.behind ≡ window.old.behind }
+    ensures locks { window.new.locks ≡ window.old.locks }
 {
     if let Kind::Gate {
         word,
@@ -83,6 +101,7 @@ pub(crate) fn open_path<B: Bank>(
     ensures size { window.new.size ≡ window.old.size }
     ensures words { window.new.words ≡ option_map (gates_moved desc.now.defs (λ _. false) (λ _. true) (path_within (link_in tree.now.clocks) levels clock.0)) window.old.words }
     ensures behind { window.new.behind ≡ window.old.behind }
+    ensures locks { window.new.locks ≡ window.old.locks }
 {
     if levels == 0 {
         return;
@@ -107,6 +126,7 @@ pub(crate) fn close_path<B: Bank>(
     ensures size { window.new.size ≡ window.old.size }
     ensures words { window.new.words ≡ option_map (gates_moved desc.now.defs (λ _. true) (λ _. false) (reverse (path_within (link_in tree.now.clocks) levels clock.0))) window.old.words }
     ensures behind { window.new.behind ≡ window.old.behind }
+    ensures locks { window.new.locks ≡ window.old.locks }
 {
     if levels == 0 {
         return;

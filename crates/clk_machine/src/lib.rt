@@ -1,6 +1,7 @@
 //! The core of the clock framework: the state of the machine with its journal.
 #![tactic(auto)]
 
+mod behind;
 mod built;
 mod course;
 mod decision;
@@ -9,10 +10,13 @@ mod framework;
 mod free;
 mod gates;
 mod handles;
+mod held;
 mod laws;
+mod letting;
 mod linking;
 mod log;
 mod machine;
+mod passing;
 mod plls;
 mod power;
 mod readied;
@@ -25,8 +29,9 @@ mod visits;
 mod window;
 mod work;
 
-pub use built::is_built;
-pub use fit::{first_unfit, has_pll, is_fit, keeps_parents};
+pub use behind::Behind;
+pub use built::{Allowed, allowed_over, is_built};
+pub use fit::{first_unfit, gates_parents, has_pll, is_fit};
 pub use framework::Core;
 pub use laws::always_fed;
 pub use row::Row;

@@ -1,10 +1,10 @@
 //! The state of the machine, kept in parts.
 
-ghost use Rattle.std.specs.Prelude.{◌≡◌, ℕ, ◌<◌, ◌≤◌, true, false, length, drop, is_some, IfSome, IfOk, IsOk, OnErr, Some};
+ghost use Rattle.std.specs.Prelude.{◌≡◌, ℕ, ◌+◌, ◌<◌, ◌≤◌, true, false, length, drop, is_some, IfSome, IfOk, IsOk, OnErr, Some};
 ghost use Rattle.std.specs.Option.{option_map};
 ghost use Rattle.clk_base.specs.Valid.{IsValid};
 ghost use Rattle.clk_model.specs.State.{registered, handle_at};
-ghost use Rattle.clk_model.specs.Journal.{opening};
+ghost use Rattle.clk_model.specs.Journal.{is_going, opening};
 ghost use Rattle.clk_model.specs.Begin.{most_credits};
 
 mod calls;
@@ -13,9 +13,11 @@ mod deciding;
 mod enabling;
 mod exclusives;
 mod holding;
+mod holds;
 mod landing;
 mod lifting;
 mod lowering;
+mod movable;
 mod moving;
 mod notifying;
 mod planning;
@@ -27,10 +29,13 @@ mod rounding;
 mod rows;
 mod starting;
 mod stepping;
+mod sweeping;
 mod telling;
 mod visiting;
 
 use crate::course::Course;
+use crate::held::Held;
+use crate::log::Log;
 use crate::window::Window;
 use clk_base::{Handle, Reply, Sleeping, Turn, ValidDesc};
 use clk_flight::Flight;
@@ -59,6 +64,8 @@ pub(crate) struct Machine<B: Bank> {
     ignore_unused: bool,
     flight: Flight,
     course: Course,
+    prepare_holds: Held,
+    enable_holds: Held,
     alloc: Global,
     /// How many steps were made.
     steps: u32,
@@ -69,9 +76,9 @@ impl<B: Bank> Model for Machine<B> {
 
     ghost Value = { Parts };
 
-    ghost view = { λ m. parts_of m.desc m.window m.tree m.handles m.counts m.notifiers m.credits m.spent m.ignore_unused m.flight m.course m.steps };
+    ghost view = { λ m. parts_of m.desc m.window m.tree m.handles m.counts m.notifiers m.credits m.spent m.ignore_unused m.flight m.course m.prepare_holds m.enable_holds m.steps };
 
-    ghost invariant = { λ m. IsWhole (parts_of m.desc m.window m.tree m.handles m.counts m.notifiers m.credits m.spent m.ignore_unused m.flight m.course m.steps) };
+    ghost invariant = { λ m. IsWhole (parts_of m.desc m.window m.tree m.handles m.counts m.notifiers m.credits m.spent m.ignore_unused m.flight m.course m.prepare_holds m.enable_holds m.steps) };
 }
 
 impl<B: Bank> Machine<B> {
@@ -79,11 +86,12 @@ impl<B: Bank> Machine<B> {
     ghost use Rattle.clk_base.specs.declared.event.Turn.TheVariants.{Done};
     ghost use Rattle.clk_machine.specs.Built.{is_built_over};
     ghost use Rattle.clk_machine.specs.Fit.{CanRun};
-    ghost use Rattle.clk_machine.specs.InFlight.{changes_rate, may_go_on};
+    ghost use Rattle.clk_machine.specs.InFlight.{is_worked_out, may_go_on};
     ghost use Rattle.clk_machine.specs.Sound.{IsPlaced, takes_memory};
-    ghost use Rattle.clk_machine.specs.Parts.{Parts, own_in, IsWhole};
+    ghost use Rattle.clk_machine.specs.Parts.{Parts, own_in, steps_left, IsWhole};
     ghost use Rattle.clk_machine.specs.Holding.{stays};
     ghost use Rattle.clk_machine.specs.Stands.{Stands, is_told, nothing, Becomes, Enters};
+    ghost use Rattle.clk_machine.specs.Window.{behind_of};
 
     /// The machine at its opening. The words are written to the bank.
     pub(crate) fn create(
@@ -104,7 +112,7 @@ impl<B: Bank> Machine<B> {
         ensures quiet { IfOk result (λ m. m.flight.going ≡ false) }
         ensures none { IfOk result (λ m. (c : ℕ) → registered m.tree.clocks c ≡ false) }
         ensures size { IfOk result (λ m. m.window.size ≡ length words.now) }
-        ensures behind { IfOk result (λ m. m.window.behind ≡ option_map (drop (length words.now)) (B.contents bank)) }
+        ensures behind { IfOk result (λ m. m.window.behind ≡ behind_of (length words.now) (B.contents bank) (B.lock bank)) }
         ensures valid { IsValid (length words.now) desc.defs }
     {
         let tree = Tree::create(alloc, &desc)?;
@@ -114,6 +122,8 @@ impl<B: Bank> Machine<B> {
         let window = Window::create(bank, words);
         let flight = Flight::create(alloc);
         let course = Course::none(alloc);
+        let prepare_holds = Held::create(alloc, desc.len())?;
+        let enable_holds = Held::create(alloc, desc.len())?;
         Ok(Machine {
             desc,
             window,
@@ -126,6 +136,8 @@ impl<B: Bank> Machine<B> {
             ignore_unused,
             flight,
             course,
+            prepare_holds,
+            enable_holds,
             alloc,
             steps: 0,
         })
@@ -180,13 +192,38 @@ impl<B: Bank> Machine<B> {
         }
     }
 
-    /// Begins one of the calls that are built and change no rate.
+    /// Begins a call that is built and whose steps are worked out before, with room in the log for their
+    /// entries.
+    pub(crate) fn begin_worked_out(
+        &mut self,
+        log: &mut Log,
+        driver: u32,
+        what: Sleeping,
+    ) -> Result<Turn, NoMemory>
+        requires credit { self.old.spent < self.old.credits }
+        requires quiet { self.old.flight.going ≡ false }
+        requires worked_out { is_worked_out what ≡ true }
+        requires built { is_built_over self.old.desc.defs (registered self.old.tree.clocks) what ≡ true }
+        requires paid { self.old.credits ≤ self.old.spent + log.old.room }
+        ensures ok { IfOk result (λ turn. Enters self.old driver (Begin what) turn self.new) }
+        ensures room { IfOk result (λ turn. is_going turn ≡ true → self.old.credits + steps_left self.new ≤ self.old.spent + log.new.room) }
+        ensures entries { log.new.entries ≡ log.old.entries }
+        ensures kept { log.old.room ≤ log.new.room }
+        ensures err { OnErr result (self.new ≡ self.old) }
+    {
+        match what {
+            Sleeping::Sweep => self.begin_sweep(log, driver),
+            _ => self.begin_change(log, driver, what),
+        }
+    }
+
+    /// Begins another of the calls that are built.
     pub(crate) fn begin(&mut self, driver: u32, what: Sleeping) -> Result<Turn, NoMemory>
         requires credit { self.old.spent < self.old.credits }
         requires quiet { self.old.flight.going ≡ false }
         requires place { IsPlaced self.old.desc.defs what }
         requires built { is_built_over self.old.desc.defs (registered self.old.tree.clocks) what ≡ true }
-        requires stays { changes_rate what ≡ false }
+        requires other { is_worked_out what ≡ false }
         ensures ok { IfOk result (λ turn. Enters self.old driver (Begin what) turn self.new) }
         ensures err { OnErr result (self.new ≡ self.old) }
         ensures memory { takes_memory what ≡ false → IsOk result }

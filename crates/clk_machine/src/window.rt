@@ -4,7 +4,7 @@ ghost use Rattle.std.specs.Prelude.{◌≡◌, ◌≢◌, ℕ, ◌+◌, ◌<◌,
 ghost use Rattle.std.specs.Option.{option_map};
 ghost use Rattle.reg_bank.specs.Locks.{most_plls, started, polled, is_locked};
 ghost use Rattle.reg_bank.specs.Registers.{is_set, put_bit, field, put};
-ghost use Rattle.clk_machine.specs.Window.{AreTold, locks_of, lock_in};
+ghost use Rattle.clk_machine.specs.Window.{AreTold, behind_of, delays_in, locks_of, lock_in};
 
 use clk_base::ClockId;
 use reg_bank::{Bank, read_bit, read_field, write_bit, write_field};
@@ -19,13 +19,13 @@ pub struct Window<B: Bank> {
 }
 
 impl<B: Bank> Model for Window<B> {
-    ghost use Rattle.std.specs.Prelude.{◌≤◌, take, drop};
+    ghost use Rattle.std.specs.Prelude.{◌≤◌, take};
     ghost use Rattle.std.specs.Option.{option_map};
-    ghost use Rattle.clk_machine.specs.Window.{Shown, locks_of};
+    ghost use Rattle.clk_machine.specs.Window.{Shown, behind_of, locks_of};
 
     ghost Value = { Shown };
 
-    ghost view = { λ w. record { size = w.size; words = option_map (take w.size) (B.contents w.bank); behind = option_map (drop w.size) (B.contents w.bank); locks = locks_of (B.lock w.bank) } };
+    ghost view = { λ w. record { size = w.size; words = option_map (take w.size) (B.contents w.bank); behind = behind_of w.size (B.contents w.bank) (B.lock w.bank); locks = locks_of (B.lock w.bank) } };
 
     ghost invariant = { λ w. w.size ≤ B.size w.bank };
 }
@@ -36,7 +36,7 @@ impl<B: Bank> Window<B> {
         requires { length words.now ≤ B.size bank }
         ensures size { result.size ≡ length words.now }
         ensures words { result.words ≡ option_map (λ _. words.now) (B.contents bank) }
-        ensures behind { result.behind ≡ option_map (drop (length words.now)) (B.contents bank) }
+        ensures behind { result.behind ≡ behind_of (length words.now) (B.contents bank) (B.lock bank) }
         ensures told { AreTold result.size result.words }
         ensures locks { result.locks ≡ locks_of (B.lock bank) }
     {
@@ -116,7 +116,7 @@ impl<B: Bank> Window<B> {
         write_field(&mut self.bank, word as usize, shift, width, value);
     }
 
-    /// Starts the lock of a PLL.
+    /// Starts the lock of a PLL. Its delay stays.
     pub fn start(&mut self, pll: ClockId)
         requires { pll.0 < most_plls }
         ensures size { self.new.size ≡ self.old.size }
@@ -128,7 +128,7 @@ impl<B: Bank> Window<B> {
         self.bank.start(pll.0);
     }
 
-    /// Polls the lock of a PLL.
+    /// Polls the lock of a PLL. Its delay stays.
     pub fn locked(&mut self, pll: ClockId) -> bool
         requires { pll.0 < most_plls }
         ensures size { self.new.size ≡ self.old.size }
@@ -137,6 +137,7 @@ impl<B: Bank> Window<B> {
         ensures lock { lock_in self.new.locks pll.0 ≡ option_map polled (lock_in self.old.locks pll.0) }
         ensures others { (p : ℕ) → p ≢ pll.0 → lock_in self.new.locks p ≡ lock_in self.old.locks p }
         ensures answer { IfSome (lock_in self.new.locks pll.0) (λ now. result ≡ is_locked now) }
+        ensures delays { self.new.behind.delays ≡ delays_in self.new.locks }
     {
         self.bank.locked(pll.0)
     }
@@ -144,7 +145,7 @@ impl<B: Bank> Window<B> {
     /// The whole bank.
     pub fn into_bank(self) -> B
         ensures words { option_map (take self.size) (B.contents result) ≡ self.words }
-        ensures behind { option_map (drop self.size) (B.contents result) ≡ self.behind }
+        ensures behind { option_map (drop self.size) (B.contents result) ≡ self.behind.words }
     {
         let Window { bank, size: _ } = self;
         bank

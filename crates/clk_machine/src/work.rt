@@ -14,12 +14,20 @@ pub(crate) enum Work {
     Fall(ClockId),
     Lower(ClockId),
     Tell(Micro),
+    /// A clock is held prepared, or enabled.
+    HoldPrepare(ClockId),
+    HoldEnable(ClockId),
     /// A clock gets another parent.
     Relink(ClockId, ClockId),
     /// A mux selects the parent at a place.
     Select(ClockId, u32),
+    /// A clock is held enabled, or prepared, no more.
+    DropEnable(ClockId),
+    DropPrepare(ClockId),
     Visit(ClockId),
     Settle(ClockId),
+    Close(ClockId),
+    Unpower(ClockId),
     End,
 }
 
@@ -33,8 +41,8 @@ pub(crate) struct Made {
     pub turn: Turn,
 }
 
-/// The work that a step is: any but a raise, a poll, a fall, a lower, a notice, a new link, a
-/// selection, a visit and a settling is the end.
+/// The work that a step is: any but a raise, a poll, a fall, a lower, a notice, a hold, a new link, a
+/// selection, the end of a hold, a visit, a settling and what a sweep switches off is the end.
 pub(crate) fn work_of(step: Option<Micro>) -> Work
     ensures { result ≡ work_of step }
 {
@@ -58,10 +66,16 @@ pub(crate) fn work_of(step: Option<Micro>) -> Work
             old,
             new,
         }),
+        Some(Micro::HoldPrepare(clock)) => Work::HoldPrepare(clock),
+        Some(Micro::HoldEnable(clock)) => Work::HoldEnable(clock),
+        Some(Micro::DropEnable(clock)) => Work::DropEnable(clock),
+        Some(Micro::DropPrepare(clock)) => Work::DropPrepare(clock),
         Some(Micro::Relink(clock, parent)) => Work::Relink(clock, parent),
         Some(Micro::WriteMux(clock, place)) => Work::Select(clock, place),
         Some(Micro::Visit(clock)) => Work::Visit(clock),
         Some(Micro::Settle(clock)) => Work::Settle(clock),
+        Some(Micro::Close(clock)) => Work::Close(clock),
+        Some(Micro::Unpower(clock)) => Work::Unpower(clock),
         _ => Work::End,
     }
 }

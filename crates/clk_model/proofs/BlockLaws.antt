@@ -169,7 +169,7 @@ pub bare_move : (defs : Description) (what : Sleeping) (timed : Bool) (a : Scene
 bare_move defs what timed a c p ms can unprepared rest =
     let left : List ℕ = passed_over p (a.up c) [] in
     let none : left ≡ [] = no_holds_pass p (a.up c) in
-    makes (micro.Relink (clock_id c) (clock_id p)) refl can.sound can.will.possible
+    makes (micro.Relink (clock_id c) (clock_id p)) refl can.sound (can.will.possible, inr (unprepared, refl))
     (λ d prep. inl (link_prepares defs a c p [] [] [] left (late_behind defs a c p) can (λ own. let no : false ≡ true = sym unprepared ∙ own in absurd cc) (λ h m. absurd cc) d
     (prepared_with defs (linked_in a c p) left [] left (late_behind defs a c p) d none prep)))
     (λ d was. inl (link_keeps_bare defs a c p d left left (late_behind defs a c p) can unprepared (only_prepared was)))
@@ -185,7 +185,7 @@ pub bare_adoption : (defs : Description) (what : Sleeping) (timed : Bool) (a : S
 bare_adoption defs what timed a c p ms can sel unprepared rest =
     let left : List ℕ = passed_over p (a.up c) [] in
     let none : left ≡ [] = no_holds_pass p (a.up c) in
-    makes (micro.Relink (clock_id c) (clock_id p)) refl can.sound can.will.possible
+    makes (micro.Relink (clock_id c) (clock_id p)) refl can.sound (can.will.possible, inr (unprepared, refl))
     (λ d prep. inl (link_prepares defs a c p [] [] [] left (late_behind defs a c p) can (λ own. let no : false ≡ true = sym unprepared ∙ own in absurd cc) (λ h m. absurd cc) d
     (prepared_with defs (linked_in a c p) left [] left (late_behind defs a c p) d none prep)))
     (λ d was. inl (link_keeps_bare defs a c p d left left (late_behind defs a c p) can unprepared (only_prepared was)))
@@ -245,7 +245,7 @@ held_first defs what timed a c p ps es late ms can kept prepares enables lates e
     (makes (micro.HoldPrepare (clock_id p)) refl can.sound (refl, can.will.parent_there) h.grows (λ d was. inl (h.covers d was))
     (makes (micro.HoldEnable (clock_id p)) refl h.first tt (λ d prep. inl prep) (λ d was. uncovered was)
     (makes (micro.HoldEnable (clock_id c)) refl h.parent tt (λ d prep. inl prep) (λ d was. uncovered was)
-    (makes (micro.Relink (clock_id c) (clock_id p)) refl h.both can.will.possible
+    (makes (micro.Relink (clock_id c) (clock_id p)) refl h.both (can.will.possible, inl (is_in_head c (p ∷ []), is_in_tail p c (p ∷ []) (is_in_head p [])))
     (λ d prep. inl (link_prepares defs a c p (p ∷ []) (c ∷ p ∷ []) ps (passed_over p (a.up c) (c ∷ p ∷ [])) (late_behind defs a c p) can (λ own. h.own (c ∷ p ∷ [])) each d
     (prepared_with defs (linked_in a c p) (passed_over p (a.up c) (p ∷ [])) ps (passed_over p (a.up c) (c ∷ p ∷ [])) (late_behind defs a c p) d prepares prep)))
     (λ d was. inl (link_keeps_held defs a c p d (passed_over p (a.up c) (p ∷ [])) (c ∷ p ∷ []) (passed_over p (a.up c) (c ∷ p ∷ [])) (late_behind defs a c p) can kept (λ o at. ap (is_in o) prepares ∙ olds o at) (only_prepared was)))

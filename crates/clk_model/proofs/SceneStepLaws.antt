@@ -185,7 +185,7 @@ lands_lowered s late k x valid = one (slice_get (to_lower s x) 0) refl where
 -- ---- each step
 
 possible_of : (defs : Description) (cover : Option ℕ) (a : Scene) (c p : ClockId) → Serves defs cover a (micro.Relink c p) → is_in p.0 (parents_of defs c.0) ≡ true
-possible_of defs None a c p serves = serves
+possible_of defs None a c p serves = serves.0
 possible_of defs (Some x) a c p serves = absurd serves
 
 pub fits_of : (defs : Description) (cover : Option ℕ) (a : Scene) (c : ClockId) (place : ℕ) → Serves defs cover a (micro.WriteMux c place) → (f : Field) → mux_field (kind_of defs c.0) ≡ Some f → place < 2 ^ f.width

@@ -145,11 +145,15 @@ is_plain (micro.Fall y) = false
 is_plain micro.End = false
 is_plain _ = true
 
--- what a step needs: behind a raise stands what it was for, a new link leads to a possible parent, a place fits the field, and what
--- loses its power isn't prepared
+-- a clock that gets a new link is held enabled, and its new parent is, or nobody prepares it and nothing is held enabled
+abbrev pub IsHeldToMove : Description → Scene → ℕ → ℕ → Type 0
+IsHeldToMove defs a c p = ((is_in c a.enable_holds ≡ true) × (is_in p a.enable_holds ≡ true)) ⊎ ((prepared_in defs a c ≡ false) × (a.enable_holds ≡ []))
+
+-- what a step needs: behind a raise stands what it was for, a new link leads to a possible parent and is held for, a place fits the
+-- field, and what loses its power isn't prepared
 abbrev pub Serves : Description → Option ℕ → Scene → Micro → Type 0
 Serves defs None a (micro.Unpower c) = prepared_in defs a c.0 ≡ false
-Serves defs None a (micro.Relink c p) = is_in p.0 (parents_of defs c.0) ≡ true
+Serves defs None a (micro.Relink c p) = (is_in p.0 (parents_of defs c.0) ≡ true) × IsHeldToMove defs a c.0 p.0
 Serves defs None a (micro.WriteMux c place) = (f : Field) → mux_field (kind_of defs c.0) ≡ Some f → place < 2 ^ f.width
 Serves defs None a _ = Unit {0}
 Serves defs (Some x) a (micro.HoldPrepare y) = (y.0 ≡ x) × (a.there x ≡ true)

@@ -1,5 +1,5 @@
 -- What a run leaves: its text, and the registers in the bank.
-use Rattle.std.proofs.Common.{◌≡◌, ℕ, ◌+◌, length, Bool, true, List, [], Option, Some, None, Result, Ok, Err, refl, sym, ap, subst, ◌∙◌, inl, inr, arith}
+use Rattle.std.proofs.Common.{◌≡◌, ℕ, Bool, true, List, Option, Some, None, Result, Ok, Err, refl, sym, ap, subst, ◌∙◌, inl, inr, arith}
 use Rattle.std.specs.Prelude.{is_some, take, drop, IfSome, IfOk, IfErr}
 use Rattle.std.specs.Option.{option_map}
 use Rattle.clk_io.specs.Counts.{CountsPrintFault, RisesAtWrite}
@@ -8,51 +8,47 @@ use Rattle.clk_io.specs.declared.faults.PrintFault.TheVariants as print_fault
 use Rattle.clk_base.specs.declared.command.Answer.{Answer}
 use Rattle.clk_model.specs.State.{State, is_quiet}
 use Rattle.clk_model.specs.Fed.{Fed}
-use Rattle.clk_model.specs.Journal.{replay, Legal}
-use Rattle.clk_model.specs.Ordered.{Ordered}
+use Rattle.clk_model.specs.Journal.{replay, Legal, Polled}
 use Rattle.clk_model.specs.Summary.{summary}
 use Rattle.clk_summary.specs.Tables.{IsTable, IsSummary}
 use Rattle.drv_scripts.specs.declared.bundle.Bundle.{Bundle}
 use Rattle.clk_cli.specs.declared.cli.Cli.{Cli}
 use Rattle.clk_machine.specs.Run.{Run}
-use Rattle.clk_run.specs.Outcomes.{status_of, GivesBundle, Short}
+use Rattle.clk_run.specs.Outcomes.{status_of, generates, GivesBundle, Short}
 use Rattle.clk_run.specs.Cores.{HasCalls, PrintsRun, HasPrinted}
-use Rattle.clk_run.specs.Runs.{drivers_in, scripts_of, opening_of, IsTextOf, PrintedFront, LeftByFault}
+use Rattle.clk_machine.specs.declared.behind.Behind.{Behind}
+use Rattle.clk_machine.specs.Window.{HasDelays, behind_of}
+use Rattle.reg_bank.specs.declared.pll_lock.PllLock.{PllLock}
+use Rattle.clk_run.specs.Runs.{Telling, drivers_in, scripts_of, opening_of, telling, armed_telling, told_by, IsTextOf, PrintedFront, LeftByFault}
 use Rattle.clk_run.specs.Texts.{run_text}
-use Rattle.driver_runs.specs.Drivers.{are_among}
 use Rattle.driver_runs.specs.Turns.{HasRun}
-use Rattle.driver_runs.proofs.Following.{turns_follow, turns_among}
-use Rattle.driver_runs.proofs.Ordering.{turns_are_ordered}
-use Rattle.clk_run.proofs.Threaded.{turns_first, in_order}
+use Rattle.clk_run.proofs.Telling.{same_telling}
+use Rattle.clk_run.proofs.Threaded.{in_order}
 
 -- a core that had an empty journal at a bundle's opening, and has run the scripts, has run the bundle
-pub calls_of_run : (b : Bundle) (cli : Cli) (old core : Run) (answers : List (List Answer)) → old.start ≡ opening_of b cli.ignore_unused → b.order ≡ []
-    → HasRun b.boot (drivers_in cli.mode b) answers old core → HasCalls b cli answers core
-calls_of_run b cli old core answers opens unordered ran =
-    let scripts = scripts_of cli.mode b in
-    let many : 0 + length scripts ≡ length scripts = omega arith in
-    record {
-      start = ran.start ∙ opens;
-      follow = turns_follow 0 scripts answers [] core.journal refl ran.turns;
-      among = subst (λ (n : ℕ). are_among n core.journal ≡ true) many (turns_among 0 scripts answers core.journal ran.turns);
-      ordered = in_order cli.mode scripts b.order core.journal
-          (subst (λ (order : List ℕ). Ordered scripts order core.journal) (sym unordered) (turns_are_ordered b.boot _ answers core.journal ran.turns))
-          (turns_first b.boot _ answers core.journal ran.turns);
-      quiet = ran.quiet;
-    }
+pub calls_of_run : (b : Bundle) (cli : Cli) (old core : Run) (answers : List (List Answer)) → old.start ≡ opening_of b cli.ignore_unused
+    → HasRun b.boot (drivers_in cli.mode b) b.order answers old core → HasCalls b cli answers core
+calls_of_run b cli old core answers opens ran = record {
+  start = ran.start ∙ opens;
+  follow = ran.follow;
+  among = ran.among;
+  ordered = in_order cli.mode (scripts_of cli.mode b) b.order core.journal ran.ordered ran.first;
+  quiet = ran.quiet;
+}
 
 -- a core that has run a bundle gives the text of a run of it
 pub text_of : (b : Bundle) (cli : Cli) (core : Run) (answers : List (List Answer)) (table words : List ℕ) → HasCalls b cli answers core
-    → (core.told ≡ true → Legal core.start core.journal) → (core.told ≡ true → (n : ℕ) → Fed (replay core.start (take n core.journal)))
+    → (core.told ≡ true → Legal core.start core.journal) → (core.told ≡ true → (delay : ℕ → ℕ) → HasDelays core.behind.delays delay → Polled delay core.journal) → (core.told ≡ true → (n : ℕ) → Fed (replay core.start (take n core.journal)))
     → (core.told ≡ true → is_quiet (replay core.start core.journal).change ≡ true)
     → IsSummary core table → (core.told ≡ true → words ≡ (replay core.start core.journal).regs)
-    → IsTextOf b cli core.told words (run_text b.desc.defs cli (drivers_in cli.mode b) core.journal answers table words)
-text_of b cli core answers table words has legal fed quiet sums means = record {
+    → IsTextOf b cli (told_by core) words (run_text b.desc.defs cli (drivers_in cli.mode b) core.journal answers table words)
+text_of b cli core answers table words has legal polled fed quiet sums means = record {
   journal = core.journal;
   answers = answers;
   table = table;
   run = record {
     legal = λ tells. subst (λ (s : State). Legal s core.journal) has.start (legal tells);
+    polled = polled;
     fed = λ tells n. subst (λ (s : State). Fed (replay s (take n core.journal))) has.start (fed tells n);
     quiet = λ tells. ap (λ (s : State). is_quiet (replay s core.journal).change) (sym has.start) ∙ quiet tells;
     follow = has.follow;
@@ -66,7 +62,7 @@ text_of b cli core answers table words has legal fed quiet sums means = record {
 }
 
 -- a front of the text is what each fault of printing may leave
-pub left_by : {T : Type 0} (b : Bundle) (cli : Cli) (told : Bool) (old new : Option (List ℕ)) (r : Result T PrintFault) → PrintedFront b cli told old new
+pub left_by : {T : Type 0} (b : Bundle) (cli : Cli) (told : Telling) (old new : Option (List ℕ)) (r : Result T PrintFault) → PrintedFront b cli told old new
     → IfErr r (LeftByFault b cli told old new)
 left_by b cli told old new (Ok x) front = tt
 left_by b cli told old new (Err print_fault.Write) front = front
@@ -82,21 +78,21 @@ printed_whole b cli before after old new (Ok x) start told behind prints = recor
   behind = behind;
   words = prints.words;
   text = prints.text;
-  run = subst (λ (t : Bool). IsTextOf b cli t prints.words prints.text) told prints.run;
+  run = subst (λ (t : Telling). IsTextOf b cli t prints.words prints.text) (same_telling after before told behind) prints.run;
   registers = λ tells. prints.registers (told ∙ tells);
   printed = prints.prints;
 }
 printed_whole b cli before after old new (Err e) start told behind prints = tt
 
 -- and after a fault a front of it was
-pub printed_front : {T : Type 0} (b : Bundle) (cli : Cli) (told : Bool) (core : Run) (old new : Option (List ℕ)) (r : Result T PrintFault)
-    → core.told ≡ told → PrintsRun b cli core old new r → IfErr r (LeftByFault b cli told old new)
+pub printed_front : {T : Type 0} (b : Bundle) (cli : Cli) (told : Telling) (core : Run) (old new : Option (List ℕ)) (r : Result T PrintFault)
+    → told_by core ≡ told → PrintsRun b cli core old new r → IfErr r (LeftByFault b cli told old new)
 printed_front b cli told core old new (Ok x) same prints = tt
 printed_front b cli told core old new (Err e) same prints =
     left_by {T = ℕ} b cli told old new (Err e) (record {
       words = prints.words;
       text = prints.text;
-      run = subst (λ (t : Bool). IsTextOf b cli t prints.words prints.text) same prints.run;
+      run = subst (λ (t : Telling). IsTextOf b cli t prints.words prints.text) same prints.run;
       printed = prints.prints;
     })
 
@@ -113,7 +109,7 @@ same_behind contents before behind size words bundle has kept same all =
     ap (λ (n : ℕ). option_map (drop n) contents) (sym same) ∙ has ∙ kept ∙ ap (λ (n : ℕ). option_map (drop n) before) all
 
 -- where memory ran out before anything was printed, nothing was left, and no fault was counted
-pub none_left : {T : Type 0} (b : Bundle) (cli : Cli) (told : Bool) (old : Option (List ℕ)) (r : Result T PrintFault) (e : PrintFault) → r ≡ Err e → e ≡ print_fault.NoMemory
+pub none_left : {T : Type 0} (b : Bundle) (cli : Cli) (told : Telling) (old : Option (List ℕ)) (r : Result T PrintFault) (e : PrintFault) → r ≡ Err e → e ≡ print_fault.NoMemory
     → IfErr r (LeftByFault b cli told old old)
 none_left b cli told old r e is why =
     subst (λ (q : Result _ PrintFault). IfErr q (LeftByFault b cli told old old)) (sym is) (subst (LeftByFault b cli told old old) (sym why) (inl refl))
@@ -122,14 +118,14 @@ pub none_risen : {T : Type 0} (n : ℕ) (r : Result T PrintFault) (e : PrintFaul
 none_risen n r e is why = subst (λ (q : Result _ PrintFault). CountsPrintFault n n q) (sym is) (subst (RisesAtWrite n n) (sym why) refl)
 
 -- a fault with status 5 left a front of the text
-pub front_by : (b : Bundle) (cli : Cli) (told : Bool) (old new : Option (List ℕ)) (fault : PrintFault) (status : ℕ) → LeftByFault b cli told old new fault → status ≡ status_of fault → status ≡ 5
+pub front_by : (b : Bundle) (cli : Cli) (told : Telling) (old new : Option (List ℕ)) (fault : PrintFault) (status : ℕ) → LeftByFault b cli told old new fault → status ≡ status_of fault → status ≡ 5
     → PrintedFront b cli told old new
 front_by b cli told old new print_fault.Write status left is five = left
 front_by b cli told old new print_fault.NoMemory status left is five = absurd (omega (arith, is, five))
 
 -- and with status 3 nothing was printed, or such a front
-pub short_by : (b : Bundle) (cli : Cli) (told : Bool) (left left' old new : Option (List ℕ)) (fault : PrintFault) (status : ℕ) → GivesBundle left left' b
-    → LeftByFault b cli told old new fault → status ≡ status_of fault → status ≡ 3 → Short cli told left left' old new
-short_by b cli told left left' old new print_fault.Write status gives by is three = absurd (omega (arith, is, three))
-short_by b cli told left left' old new print_fault.NoMemory status gives (inl same) is three = inl same
-short_by b cli told left left' old new print_fault.NoMemory status gives (inr front) is three = inr (inl (b, gives, front))
+pub short_by : (b : Bundle) (cli : Cli) (before : Option (List ℕ)) (lock : ℕ → Option PllLock) (left left' old new : Option (List ℕ)) (fault : PrintFault) (status : ℕ) → GivesBundle (generates cli.mode) left left' b
+    → LeftByFault b cli (armed_telling b before lock) old new fault → status ≡ status_of fault → status ≡ 3 → Short cli before lock left left' old new
+short_by b cli before lock left left' old new print_fault.Write status gives by is three = absurd (omega (arith, is, three))
+short_by b cli before lock left left' old new print_fault.NoMemory status gives (inl same) is three = inl same
+short_by b cli before lock left left' old new print_fault.NoMemory status gives (inr front) is three = inr (inl (b, gives, front))

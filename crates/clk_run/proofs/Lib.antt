@@ -6,4 +6,7 @@ pub mod Saying
 pub mod RunVerdicts
 pub mod Fitness
 pub mod PrintedParts
+pub mod Telling
 pub mod Threaded
+pub mod SpelledBytes
+pub mod OkAnswers

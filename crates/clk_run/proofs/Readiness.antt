@@ -26,7 +26,6 @@ ready bytes b runs sound =
       fit = fit_all b runs.built;
       boot = boot_is bytes b runs.spelled plain.prompt plain.unassigned;
       few = sound.drivers;
-      unordered = sound.lined plain.unordered;
       built = built_all b runs.built;
     }
 

@@ -11,9 +11,10 @@ use Rattle.clk_summary.specs.Tables.{IsSummary}
 use Rattle.driver_runs.specs.Drivers.{FollowAll, are_among}
 use Rattle.drv_scripts.specs.declared.bundle.Bundle.{Bundle}
 use Rattle.reg_bank.specs.Registers.{Registers}
+use Rattle.reg_bank.specs.declared.pll_lock.PllLock.{PllLock}
 use Rattle.clk_framework.specs.declared.opened.Opened.{Opened}
 use Rattle.clk_framework.specs.Opening.{opened_with}
-use Rattle.clk_run.specs.Runs.{scripts_of, opening_of, credits_of, InOrder, IsTextOf}
+use Rattle.clk_run.specs.Runs.{scripts_of, opening_of, credits_of, told_by, InOrder, IsTextOf}
 
 -- a core has run a bundle as the words ask, from the bundle's opening on: boot and each driver, and nobody else, have their calls once, in their
 -- order, one after the other, answered so; the entries stand in the order of the command; and no call is in flight
@@ -36,7 +37,7 @@ pub record GathersState {T E : Type 0} (core : Run) (old new : Option (List ℕ)
 pub record PrintsRun {T E : Type 0} (b : Bundle) (cli : Cli) (core : Run) (old new : Option (List ℕ)) (r : Result T E) : Type 0 where
   pub words : Registers
   pub text : List ℕ
-  pub run : IsTextOf b cli core.told words text
+  pub run : IsTextOf b cli (told_by core) words text
   pub registers : core.told ≡ true → words ≡ (now_of core).regs
   pub prints : Prints old new text r
 
@@ -47,10 +48,10 @@ pub record HasPrinted (b : Bundle) (cli : Cli) (before after : Run) (old new : O
   pub behind : after.behind ≡ before.behind
   pub words : Registers
   pub text : List ℕ
-  pub run : IsTextOf b cli before.told words text
+  pub run : IsTextOf b cli (told_by before) words text
   pub registers : before.told ≡ true → words ≡ (now_of after).regs
   pub printed : Appends old new text
 
--- what a framework begins with in which a bundle runs, over a bank that had these words
-abbrev pub opened_for : Bundle → Bool → Option (List ℕ) → Opened
-opened_for b ignore_unused contents = opened_with b.desc.defs b.words ignore_unused (credits_of b) contents
+-- what a framework begins with in which a bundle runs, over a bank that had these words and these locks
+abbrev pub opened_for : Bundle → Bool → Option (List ℕ) → (ℕ → Option PllLock) → Opened
+opened_for b ignore_unused contents lock = opened_with b.desc.defs b.words ignore_unused (credits_of b) contents lock

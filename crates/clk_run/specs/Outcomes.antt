@@ -1,38 +1,70 @@
 -- What a program that ran a bundle did, and why.
-use Rattle.std.specs.Prelude.{◌≡◌, ◌⊎◌, ◌==◌, if◌then◌else◌, ℕ, List, Bool, true, false, Option, Some, None, Result, MatchResult}
+use Rattle.std.specs.Prelude.{◌≡◌, ◌⊎◌, ◌==◌, if◌then◌else◌, ℕ, List, Option, Some, None, Result, MatchResult, min}
 use Rattle.std.specs.Io.KnownBytes.{Appends}
 use Rattle.clk_cli.specs.declared.cli.Cli.{Cli}
+use Rattle.clk_cli.specs.declared.cli.Mode.{Mode}
+use Rattle.clk_cli.specs.declared.cli.Mode.TheVariants.{Check, Sim, Run, Bench}
 use Rattle.clk_cli.specs.Usage.{usage_line}
+use Rattle.clk_gen.specs.Generated.{generated}
 use Rattle.clk_io.specs.Counts.{Rose, counted}
 use Rattle.clk_io.specs.Streams.{TakesAll, TakesMore, AppendsFront}
 use Rattle.clk_io.specs.declared.faults.PrintFault.{PrintFault}
 use Rattle.clk_io.specs.declared.faults.PrintFault.TheVariants as print_fault
+use Rattle.reg_bank.specs.declared.pll_lock.PllLock.{PllLock}
 use Rattle.drv_scripts.specs.declared.bundle.Bundle.{Bundle}
 use Rattle.bundle_text.specs.declared.reason.Reason.{Reason}
-use Rattle.bundle_text.specs.declared.reason.Reason.TheVariants.{TooLong, NotYet}
+use Rattle.bundle_text.specs.declared.reason.Reason.TheVariants.{TooLong}
 use Rattle.clk_io.specs.declared.reading.TheConstants.{MOST_BYTES}
 use Rattle.clk_run.specs.Built.{SpellsRun, RefusesRun}
-use Rattle.clk_run.specs.declared.sim.Stop.{Stop}
-use Rattle.clk_run.specs.declared.sim.Stop.TheVariants as stop
+use Rattle.clk_run.specs.declared.taking.Stop.{Stop}
+use Rattle.clk_run.specs.declared.taking.Stop.TheVariants as stop
 use Rattle.clk_run.specs.Refusals.{refusal_text}
-use Rattle.clk_run.specs.Runs.{Printed, PrintedFront, runs}
+use Rattle.clk_run.specs.Runs.{Printed, PrintedFront, armed_telling}
 
--- ---- reading
+-- ---- where a bundle comes from
 
--- all that was left of the source spells this bundle, and all of it can be run
-abbrev pub GivesBundle : Option (List ℕ) → Option (List ℕ) → Bundle → Type 0
-GivesBundle old new b = (bytes : List ℕ) × TakesAll MOST_BYTES old new bytes × SpellsRun bytes b
+-- how many drivers the bundle has that a command generates, where it generates one
+abbrev pub generates : Mode → Option ℕ
+generates Check = None
+generates Sim = None
+generates Run = None
+generates (Bench n) = Some (min n 64)
 
--- what was left of the source is refused at this line for this reason: it is too much, or it spells no bundle that can be run
-abbrev pub RefusesInput : Option (List ℕ) → Option (List ℕ) → ℕ → Reason → Type 0
-RefusesInput old new line reason =
-    (TakesMore MOST_BYTES old new × (line ≡ 0) × (reason ≡ TooLong)) ⊎ ((bytes : List ℕ) × TakesAll MOST_BYTES old new bytes × RefusesRun bytes line reason)
+-- the bytes of a command's bundle: those of a generated one, for which nothing is read, or all that was left of the source
+abbrev pub TakesBytes : Option ℕ → Option (List ℕ) → Option (List ℕ) → List ℕ → Type 0
+TakesBytes None old new bytes = TakesAll MOST_BYTES old new bytes
+TakesBytes (Some drivers) old new bytes = (new ≡ old) × (bytes ≡ generated drivers)
 
--- why no bundle came from a source: its bytes are refused, or a read failed, or memory ran out
-abbrev pub StopsReading : Option (List ℕ) → Option (List ℕ) → Stop → Type 0
-StopsReading old new (stop.Refused line reason) = RefusesInput old new line reason
-StopsReading old new stop.Read = Unit {0}
-StopsReading old new stop.NoMemory = Unit {0}
+-- the source has more bytes than a bundle may have
+abbrev pub TakesTooMany : Option ℕ → Option (List ℕ) → Option (List ℕ) → Type 0
+TakesTooMany None old new = TakesMore MOST_BYTES old new
+TakesTooMany (Some drivers) old new = ⊥
+
+-- the bytes of a command's bundle, where they are known before it reads
+abbrev pub bytes_of : Option ℕ → Option (List ℕ) → Option (List ℕ)
+bytes_of None left = left
+bytes_of (Some drivers) left = Some (generated drivers)
+
+-- the bytes of a command's bundle spell this one, and all of it can be run
+abbrev pub GivesBundle : Option ℕ → Option (List ℕ) → Option (List ℕ) → Bundle → Type 0
+GivesBundle made old new b = (bytes : List ℕ) × TakesBytes made old new bytes × SpellsRun bytes b
+
+-- they are refused at this line for this reason: they are too many, or they spell no bundle that can be run
+abbrev pub RefusesInput : Option ℕ → Option (List ℕ) → Option (List ℕ) → ℕ → Reason → Type 0
+RefusesInput made old new line reason =
+    (TakesTooMany made old new × (line ≡ 0) × (reason ≡ TooLong)) ⊎ ((bytes : List ℕ) × TakesBytes made old new bytes × RefusesRun bytes line reason)
+
+-- why bytes give no bundle: they are refused, or memory ran out
+abbrev pub StopsSpelling : List ℕ → Stop → Type 0
+StopsSpelling bytes (stop.Refused line reason) = RefusesRun bytes line reason
+StopsSpelling bytes stop.Read = ⊥
+StopsSpelling bytes stop.NoMemory = Unit {0}
+
+-- why a command has no bundle: its bytes are refused, or a read failed where it reads any, or memory ran out
+abbrev pub StopsReading : Option ℕ → Option (List ℕ) → Option (List ℕ) → Stop → Type 0
+StopsReading made old new (stop.Refused line reason) = RefusesInput made old new line reason
+StopsReading made old new stop.Read = made ≡ None
+StopsReading made old new stop.NoMemory = Unit {0}
 
 -- a source's count of faults rises where a read failed, and stands where its bytes are refused or memory ran out
 abbrev pub RisesAtStop : ℕ → ℕ → Stop → Type 0
@@ -59,26 +91,30 @@ IsRunStatus status = (status ≡ 0) ⊎ ((status ≡ 2) ⊎ ((status ≡ 3) ⊎ 
 abbrev pub count_behind : ℕ → ℕ → ℕ → ℕ
 count_behind fault status before = if status == fault then counted before else before
 
--- status 0: all that was left of the source spells a bundle, the text of a run of it was printed, and the bank came back with the registers
+-- status 0: the command's bytes spell a bundle, the text of a run of it was printed, and the bank came back with the registers
 -- that the run leaves, and no other word of it changed, where it tells its words
-abbrev pub Done : Cli → Option (List ℕ) → Option (List ℕ) → Option (List ℕ) → Option (List ℕ) → Option (List ℕ) → Option (Option (List ℕ)) → Type 0
-Done cli before left left' written written' back =
-    (b : Bundle) × GivesBundle left left' b × (contents : Option (List ℕ)) × (back ≡ Some contents) × Printed b cli before written written' contents
+abbrev pub Done : Cli → Option (List ℕ) → (ℕ → Option PllLock) → Option (List ℕ) → Option (List ℕ) → Option (List ℕ) → Option (List ℕ) → Option (Option (List ℕ)) → Type 0
+Done cli before lock left left' written written' back =
+    (b : Bundle) × GivesBundle (generates cli.mode) left left' b × (contents : Option (List ℕ)) × (back ≡ Some contents) × Printed b cli (armed_telling b before lock) before written written' contents
 
--- status 2: what was left of the source is refused, and the line was printed that says where and why
-abbrev pub Refused : Option (List ℕ) → Option (List ℕ) → Option (List ℕ) → Option (List ℕ) → Type 0
-Refused left left' written written' =
-    (line : ℕ) × (reason : Reason) × RefusesInput left left' line reason × Appends written written' (refusal_text line reason)
+-- status 2: the command's bytes are refused, and the line was printed that says where and why
+abbrev pub Refused : Cli → Option (List ℕ) → Option (List ℕ) → Option (List ℕ) → Option (List ℕ) → Type 0
+Refused cli left left' written written' =
+    (line : ℕ) × (reason : Reason) × RefusesInput (generates cli.mode) left left' line reason × Appends written written' (refusal_text line reason)
 
 -- status 5: a front of the text of a run was printed, or of the line of a refusal
-abbrev pub Unwritten : Cli → Bool → Option (List ℕ) → Option (List ℕ) → Option (List ℕ) → Option (List ℕ) → Type 0
-Unwritten cli told left left' written written' =
-    ((b : Bundle) × GivesBundle left left' b × PrintedFront b cli told written written')
-    ⊎ ((line : ℕ) × (reason : Reason) × RefusesInput left left' line reason × AppendsFront written written' (refusal_text line reason))
+abbrev pub Unwritten : Cli → Option (List ℕ) → (ℕ → Option PllLock) → Option (List ℕ) → Option (List ℕ) → Option (List ℕ) → Option (List ℕ) → Type 0
+Unwritten cli before lock left left' written written' =
+    ((b : Bundle) × GivesBundle (generates cli.mode) left left' b × PrintedFront b cli (armed_telling b before lock) written written')
+    ⊎ ((line : ℕ) × (reason : Reason) × RefusesInput (generates cli.mode) left left' line reason × AppendsFront written written' (refusal_text line reason))
+
+-- status 4: the command reads a source, and nothing was printed
+abbrev pub Unread : Cli → Option (List ℕ) → Option (List ℕ) → Type 0
+Unread cli written written' = (generates cli.mode ≡ None) × (written' ≡ written)
 
 -- status 3: nothing was printed, or a front of what would have been
-abbrev pub Short : Cli → Bool → Option (List ℕ) → Option (List ℕ) → Option (List ℕ) → Option (List ℕ) → Type 0
-Short cli told left left' written written' = (written' ≡ written) ⊎ Unwritten cli told left left' written written'
+abbrev pub Short : Cli → Option (List ℕ) → (ℕ → Option PllLock) → Option (List ℕ) → Option (List ℕ) → Option (List ℕ) → Option (List ℕ) → Type 0
+Short cli before lock left left' written written' = (written' ≡ written) ⊎ Unwritten cli before lock left left' written written'
 
 -- ---- completeness
 
@@ -86,10 +122,10 @@ Short cli told left left' written written' = (written' ≡ written) ⊎ Unwritte
 abbrev pub EndsWith : ℕ → ℕ → Type 0
 EndsWith wanted status = (status ≡ wanted) ⊎ ((status ≡ 3) ⊎ ((status ≡ 4) ⊎ (status ≡ 5)))
 
--- bytes that were left of the source and spell a bundle that can be run end in status 0, and those that are refused in status 2
-pub record Decides (left : Option (List ℕ)) (status : ℕ) : Type 0 where
-  pub accepts : (bytes : List ℕ) (b : Bundle) → left ≡ Some bytes → SpellsRun bytes b → EndsWith 0 status
-  pub refuses : (bytes : List ℕ) (line : ℕ) (reason : Reason) → left ≡ Some bytes → RefusesRun bytes line reason → EndsWith 2 status
+-- where a command's bytes are known, those that spell a bundle that can be run end in status 0, and those that are refused in status 2
+pub record Decides (made : Option ℕ) (left : Option (List ℕ)) (status : ℕ) : Type 0 where
+  pub accepts : (bytes : List ℕ) (b : Bundle) → bytes_of made left ≡ Some bytes → SpellsRun bytes b → EndsWith 0 status
+  pub refuses : (bytes : List ℕ) (line : ℕ) (reason : Reason) → bytes_of made left ≡ Some bytes → RefusesRun bytes line reason → EndsWith 2 status
 
 -- ---- the program, by what its words mean
 
@@ -101,48 +137,29 @@ IsStatus status = (status ≡ 1) ⊎ IsRunStatus status
 abbrev pub MeansNothing : Option Cli → Option (List ℕ) → Option (List ℕ) → Option (List ℕ) → Option (List ℕ) → Type 0
 MeansNothing meant left left' written written' = (meant ≡ None) × (left' ≡ left) × Appends written written' usage_line
 
--- the words mean this, and it can be run so far
-abbrev pub AskFor : Option Cli → Cli → Type 0
-AskFor meant cli = (meant ≡ Some cli) × (runs cli ≡ true)
-
--- the words mean what can't be run yet
-abbrev pub AskTooEarly : Option Cli → Type 0
-AskTooEarly meant = (cli : Cli) × (meant ≡ Some cli) × (runs cli ≡ false)
-
--- the line that says so
-abbrev pub not_yet_line : List ℕ
-not_yet_line = refusal_text 0 NotYet
-
 -- status 0: the words ask for a run, and it was done
-abbrev pub MeansDone : Option Cli → Option (List ℕ) → Option (List ℕ) → Option (List ℕ) → Option (List ℕ) → Option (List ℕ) → Option (Option (List ℕ)) → Type 0
-MeansDone meant before left left' written written' back = (cli : Cli) × AskFor meant cli × Done cli before left left' written written' back
+abbrev pub MeansDone : Option Cli → Option (List ℕ) → (ℕ → Option PllLock) → Option (List ℕ) → Option (List ℕ) → Option (List ℕ) → Option (List ℕ) → Option (Option (List ℕ)) → Type 0
+MeansDone meant before lock left left' written written' back = (cli : Cli) × (meant ≡ Some cli) × Done cli before lock left left' written written' back
 
--- status 2: the words ask for a run, and the bundle is refused; or they ask for what can't be run yet, nothing was read, and the line was printed that says so
+-- status 2: the words ask for a run, and its bundle is refused
 abbrev pub MeansRefused : Option Cli → Option (List ℕ) → Option (List ℕ) → Option (List ℕ) → Option (List ℕ) → Type 0
-MeansRefused meant left left' written written' =
-    ((cli : Cli) × AskFor meant cli × Refused left left' written written')
-    ⊎ (AskTooEarly meant × (left' ≡ left) × Appends written written' not_yet_line)
+MeansRefused meant left left' written written' = (cli : Cli) × (meant ≡ Some cli) × Refused cli left left' written written'
 
--- status 4: the words ask for a run, and nothing was printed
+-- status 4: the words ask for a run that reads a source, and nothing was printed
 abbrev pub MeansUnread : Option Cli → Option (List ℕ) → Option (List ℕ) → Type 0
-MeansUnread meant written written' = (cli : Cli) × AskFor meant cli × (written' ≡ written)
+MeansUnread meant written written' = (cli : Cli) × (meant ≡ Some cli) × Unread cli written written'
 
--- status 5: a front was printed of the line that says how the program is called, of what a run prints, or of the line that says that the words can't be run yet
-abbrev pub MeansUnwritten : Option Cli → Bool → Option (List ℕ) → Option (List ℕ) → Option (List ℕ) → Option (List ℕ) → Type 0
-MeansUnwritten meant told left left' written written' =
+-- status 5: a front was printed of the line that says how the program is called, or of what a run prints
+abbrev pub MeansUnwritten : Option Cli → Option (List ℕ) → (ℕ → Option PllLock) → Option (List ℕ) → Option (List ℕ) → Option (List ℕ) → Option (List ℕ) → Type 0
+MeansUnwritten meant before lock left left' written written' =
     ((meant ≡ None) × AppendsFront written written' usage_line)
-    ⊎ (((cli : Cli) × AskFor meant cli × Unwritten cli told left left' written written')
-    ⊎ (AskTooEarly meant × AppendsFront written written' not_yet_line))
+    ⊎ ((cli : Cli) × (meant ≡ Some cli) × Unwritten cli before lock left left' written written')
 
 -- status 3: nothing was printed, or a front of what would have been
-abbrev pub MeansShort : Option Cli → Bool → Option (List ℕ) → Option (List ℕ) → Option (List ℕ) → Option (List ℕ) → Type 0
-MeansShort meant told left left' written written' = (written' ≡ written) ⊎ MeansUnwritten meant told left left' written written'
+abbrev pub MeansShort : Option Cli → Option (List ℕ) → (ℕ → Option PllLock) → Option (List ℕ) → Option (List ℕ) → Option (List ℕ) → Option (List ℕ) → Type 0
+MeansShort meant before lock left left' written written' = (written' ≡ written) ⊎ MeansUnwritten meant before lock left left' written written'
 
--- what can't be run yet ends in status 2, and what can be run as the bytes decide
-abbrev pub AskDecided : Cli → Option (List ℕ) → ℕ → Type 0
-AskDecided cli left status = (runs cli ≡ false → EndsWith 2 status) × (runs cli ≡ true → Decides left status)
-
--- words that mean nothing end in status 1, those that can't be run yet in status 2, and for the others the bytes decide
+-- words that mean nothing end in status 1, and for the others the bytes decide
 abbrev pub MeansDecided : Option Cli → Option (List ℕ) → ℕ → Type 0
 MeansDecided None left status = EndsWith 1 status
-MeansDecided (Some cli) left status = AskDecided cli left status
+MeansDecided (Some cli) left status = Decides (generates cli.mode) left status

@@ -6,6 +6,7 @@
 #![tactic(auto)]
 
 mod arming;
+mod counting;
 mod printing;
 mod reading;
 mod refusal;
@@ -14,6 +15,7 @@ mod run_core;
 mod side_by_side;
 mod sim;
 mod state;
+mod taking;
 mod top;
 mod unbuilt;
 mod verdict;

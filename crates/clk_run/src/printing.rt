@@ -1,11 +1,13 @@
 //! Printing the calls of a run: its journal, where it is asked for, and the answers.
 
-ghost use Rattle.std.specs.Prelude.{◌≡◌, ◌+◌, ◌≤◌, [], length, map, is_some, string_bytes, if◌then◌else◌, IfOk};
+ghost use Rattle.std.specs.Prelude.{◌≡◌, ◌+◌, ◌≤◌, [], length, map, drop, is_some, string_bytes, if◌then◌else◌, IfOk};
 ghost use Rattle.clk_io.specs.Counts.{CountsPrintFault};
 ghost use Rattle.clk_io.specs.Gathers.{Gathers};
-ghost use Rattle.clk_model.specs.Text.{journal_text};
-ghost use Rattle.clk_run.specs.Texts.{shows_journal, names_of, scripts_text, calls_text};
+ghost use Rattle.clk_model.specs.Begin.{most_credits};
+ghost use Rattle.clk_model.specs.Text.{journal_text, all_answers_text};
+ghost use Rattle.clk_run.specs.Texts.{shows_journal, counts_answers, names_of, command_count, ok_count, told_text, calls_text};
 
+use crate::counting::print_counts;
 use clk_base::{Answer, Entry, ValidDesc};
 use clk_cli::{Cli, Mode};
 use clk_io::{Gathered, NoMemory, PrintFault, Sink};
@@ -70,7 +72,7 @@ fn print_drivers<K: Sink>(
     out: &mut K,
 ) -> Result<(), PrintFault>
     requires many { length answers.now ≡ length drivers.now }
-    ensures gathers { Gathers (K.written out.old) (K.written out.new) gathered.old gathered.new (scripts_text desc.now.defs (map (λ s. s.name) drivers.now) answers.now) result }
+    ensures gathers { Gathers (K.written out.old) (K.written out.new) gathered.old gathered.new (all_answers_text desc.now.defs (map (λ s. s.name) drivers.now) answers.now) result }
     ensures tells { is_some (K.written out.new) ≡ is_some (K.written out.old) }
     ensures later { K.faults out.old ≤ K.faults out.new }
     ensures counts { CountsPrintFault (K.faults out.old) (K.faults out.new) result }
@@ -98,7 +100,7 @@ fn print_scripts<K: Sink>(
     out: &mut K,
 ) -> Result<(), PrintFault>
     requires many { length answers.now ≡ length drivers.now + 1 }
-    ensures gathers { Gathers (K.written out.old) (K.written out.new) gathered.old gathered.new (scripts_text desc.now.defs (names_of drivers.now) answers.now) result }
+    ensures gathers { Gathers (K.written out.old) (K.written out.new) gathered.old gathered.new (all_answers_text desc.now.defs (names_of drivers.now) answers.now) result }
     ensures tells { is_some (K.written out.new) ≡ is_some (K.written out.old) }
     ensures later { K.faults out.old ≤ K.faults out.new }
     ensures counts { CountsPrintFault (K.faults out.old) (K.faults out.new) result }
@@ -107,7 +109,42 @@ fn print_scripts<K: Sink>(
     print_drivers(alloc, desc, drivers, &answers[1..], gathered, out)
 }
 
-/// Prints the journal where the words ask for it, and then the answers of boot and of each driver.
+// Whether a command counts the answers in place of printing each.
+fn counts_answers(mode: Mode) -> bool
+    ensures { result ≡ counts_answers mode }
+{
+    match mode {
+        Mode::Check | Mode::Sim | Mode::Run => false,
+        Mode::Bench(_) => true,
+    }
+}
+
+// Prints the answers of boot and of each driver, or how many those of the drivers are.
+fn print_told<K: Sink>(
+    alloc: Global,
+    desc: &ValidDesc,
+    counted: bool,
+    drivers: &[Script],
+    answers: &[Listed<Answer>],
+    gathered: &mut Gathered,
+    out: &mut K,
+) -> Result<(), PrintFault>
+    requires many { length answers.now ≡ length drivers.now + 1 }
+    requires commands { command_count drivers.now ≤ most_credits }
+    requires good { ok_count (drop 1 answers.now) ≤ most_credits }
+    ensures gathers { Gathers (K.written out.old) (K.written out.new) gathered.old gathered.new (told_text counted desc.now.defs drivers.now answers.now) result }
+    ensures tells { is_some (K.written out.new) ≡ is_some (K.written out.old) }
+    ensures later { K.faults out.old ≤ K.faults out.new }
+    ensures counts { CountsPrintFault (K.faults out.old) (K.faults out.new) result }
+{
+    if counted {
+        return print_counts(alloc, drivers, &answers[1..], gathered, out);
+    }
+    print_scripts(alloc, desc, drivers, answers, gathered, out)
+}
+
+/// Prints the journal where the words ask for it, and then the answers of boot and of each driver, or
+/// under `bench` how many those of the drivers are.
 pub(crate) fn print_calls<K: Sink>(
     alloc: Global,
     desc: &ValidDesc,
@@ -119,6 +156,8 @@ pub(crate) fn print_calls<K: Sink>(
     out: &mut K,
 ) -> Result<(), PrintFault>
     requires many { length answers.now ≡ length drivers.now + 1 }
+    requires commands { command_count drivers.now ≤ most_credits }
+    requires good { ok_count (drop 1 answers.now) ≤ most_credits }
     ensures gathers { Gathers (K.written out.old) (K.written out.new) gathered.old gathered.new (calls_text desc.now.defs cli.now drivers.now journal.now answers.now) result }
     ensures tells { is_some (K.written out.new) ≡ is_some (K.written out.old) }
     ensures later { K.faults out.old ≤ K.faults out.new }
@@ -126,5 +165,6 @@ pub(crate) fn print_calls<K: Sink>(
 {
     let shown = shows_journal(cli);
     print_journal(alloc, desc, shown, drivers, journal, gathered, out)?;
-    print_scripts(alloc, desc, drivers, answers, gathered, out)
+    let counted = counts_answers(cli.mode);
+    print_told(alloc, desc, counted, drivers, answers, gathered, out)
 }

@@ -9,8 +9,7 @@ use drv_scripts::{Bundle, BundleFault, Reason, read_bundle};
 use std::alloc::Global;
 
 /// The bundle that bytes spell, where all of it can be run so far. Clocks that no core can run,
-/// nodes with assigned clocks, late clocks, an order of drivers, and commands that can't be run, as a
-/// `set`, are refused with `NotYet`, at the least of their lines.
+/// nodes with assigned clocks, late clocks, and commands that can't be run, as a `set`, are refused with `NotYet`, at the least of their lines.
 pub fn check_bundle(alloc: Global, bytes: &[u8]) -> Result<Bundle, BundleFault>
     ensures accepted { IfOk result (SpellsRun bytes.now) }
     ensures sound { IfOk result IsSound }

@@ -4,9 +4,11 @@ ghost use Rattle.std.specs.Prelude.{◌≡◌, ◌≤◌, [], length, drop, is_s
 ghost use Rattle.std.specs.Option.{option_map};
 ghost use Rattle.clk_io.specs.Counts.{CountsPrintFault};
 ghost use Rattle.clk_model.specs.Begin.{most_credits};
-ghost use Rattle.clk_run.specs.Runs.{credits_of, opening_of, IsReady, Printed, LeftByFault};
+ghost use Rattle.clk_machine.specs.Window.{behind_of};
+ghost use Rattle.clk_run.specs.Runs.{armed_telling, credits_of, opening_of, telling, IsReady, Printed, LeftByFault};
 
 use crate::arming::arm_locks;
+use crate::counting::command_count;
 use crate::run_core::run_core;
 use clk_cli::Cli;
 use clk_io::{NoMemory, PrintFault, Sink};
@@ -20,10 +22,7 @@ pub(crate) fn credits_of(bundle: &Bundle) -> u32
     requires { credits_of bundle.now ≤ most_credits }
     ensures { result ≡ credits_of bundle.now }
 {
-    let mut credits = bundle.boot.as_slice().len();
-    for script in bundle.drivers.as_slice() {
-        credits += script.commands.as_slice().len();
-    }
+    let credits = bundle.boot.as_slice().len() + command_count(bundle.drivers.as_slice());
     credits as u32
 }
 
@@ -39,7 +38,7 @@ fn open_core<B: Bank>(
     ensures start { IfOk result (λ core. core.start ≡ opening_of bundle.now ignore_unused) }
     ensures journal { IfOk result (λ core. core.journal ≡ []) }
     ensures told { IfOk result (λ core. core.told ≡ is_some (B.contents bank)) }
-    ensures behind { IfOk result (λ core. core.behind ≡ option_map (drop (length bundle.now.words)) (B.contents bank)) }
+    ensures behind { IfOk result (λ core. core.behind ≡ behind_of (length bundle.now.words) (B.contents bank) (B.lock bank)) }
 {
     let desc = bundle.desc.copy(alloc)?;
     let words = bundle.words.as_slice();
@@ -57,9 +56,9 @@ fn run_armed<K: Sink, B: Bank>(
 ) -> Result<B, PrintFault>
     requires ready { IsReady bundle.now }
     requires room { 65536 ≤ B.size bank }
-    ensures done { IfOk result (λ left. Printed bundle.now cli.now (B.contents bank) (K.written out.old) (K.written out.new) (B.contents left)) }
+    ensures done { IfOk result (λ left. Printed bundle.now cli.now (telling (B.contents bank) (B.lock bank)) (B.contents bank) (K.written out.old) (K.written out.new) (B.contents left)) }
     ensures told { IfOk result (λ left. is_some (B.contents left) ≡ is_some (B.contents bank)) }
-    ensures fault { IfErr result (LeftByFault bundle.now cli.now (is_some (B.contents bank)) (K.written out.old) (K.written out.new)) }
+    ensures fault { IfErr result (LeftByFault bundle.now cli.now (telling (B.contents bank) (B.lock bank)) (K.written out.old) (K.written out.new)) }
     ensures tells { is_some (K.written out.new) ≡ is_some (K.written out.old) }
     ensures later { K.faults out.old ≤ K.faults out.new }
     ensures counts { CountsPrintFault (K.faults out.old) (K.faults out.new) result }
@@ -79,9 +78,9 @@ pub(crate) fn run_bundle<K: Sink, B: Bank>(
 ) -> Result<B, PrintFault>
     requires ready { IsReady bundle.now }
     requires room { 65536 ≤ B.size bank }
-    ensures done { IfOk result (λ left. Printed bundle.now cli.now (B.contents bank) (K.written out.old) (K.written out.new) (B.contents left)) }
+    ensures done { IfOk result (λ left. Printed bundle.now cli.now (armed_telling bundle.now (B.contents bank) (B.lock bank)) (B.contents bank) (K.written out.old) (K.written out.new) (B.contents left)) }
     ensures told { IfOk result (λ left. is_some (B.contents left) ≡ is_some (B.contents bank)) }
-    ensures fault { IfErr result (LeftByFault bundle.now cli.now (is_some (B.contents bank)) (K.written out.old) (K.written out.new)) }
+    ensures fault { IfErr result (LeftByFault bundle.now cli.now (armed_telling bundle.now (B.contents bank) (B.lock bank)) (K.written out.old) (K.written out.new)) }
     ensures tells { is_some (K.written out.new) ≡ is_some (K.written out.old) }
     ensures later { K.faults out.old ≤ K.faults out.new }
     ensures counts { CountsPrintFault (K.faults out.old) (K.faults out.new) result }

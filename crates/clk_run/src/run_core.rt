@@ -2,8 +2,9 @@
 
 ghost use Rattle.std.specs.Prelude.{◌≡◌, ◌≤◌, [], is_some, IfOk, IfErr};
 ghost use Rattle.clk_io.specs.Counts.{CountsPrintFault};
+ghost use Rattle.clk_model.specs.Begin.{most_credits};
 ghost use Rattle.clk_run.specs.Cores.{HasCalls, PrintsRun, HasPrinted};
-ghost use Rattle.clk_run.specs.Runs.{drivers_in, opening_of, IsReady, LeftByFault};
+ghost use Rattle.clk_run.specs.Runs.{drivers_in, credits_of, opening_of, told_by, IsReady, LeftByFault};
 
 use crate::printing::print_calls;
 use crate::state::print_state;
@@ -26,8 +27,8 @@ fn drivers_in(mode: Mode, bundle: &Bundle) -> &[Script]
     }
 }
 
-/// Prints the run that a core has gone through: the journal where it is asked for, the answers, the
-/// summary and the registers.
+/// Prints the run that a core has gone through: the journal where it is asked for, the answers or how
+/// many they are, the summary and the registers.
 pub(crate) fn print_core<K: Sink, B: Bank>(
     alloc: Global,
     bundle: &Bundle,
@@ -37,6 +38,7 @@ pub(crate) fn print_core<K: Sink, B: Bank>(
     out: &mut K,
 ) -> Result<(), PrintFault>
     requires calls { HasCalls bundle.now cli.now answers.now core.now }
+    requires few { credits_of bundle.now ≤ most_credits }
     ensures prints { PrintsRun bundle.now cli.now core.now (K.written out.old) (K.written out.new) result }
     ensures tells { is_some (K.written out.new) ≡ is_some (K.written out.old) }
     ensures later { K.faults out.old ≤ K.faults out.new }
@@ -74,12 +76,14 @@ pub(crate) fn run_core<K: Sink, B: Bank>(
     requires start { core.old.start ≡ opening_of bundle.now cli.now.ignore_unused }
     requires begins { core.old.journal ≡ [] }
     ensures done { IfOk result (λ _. HasPrinted bundle.now cli.now core.old core.new (K.written out.old) (K.written out.new)) }
-    ensures fault { IfErr result (LeftByFault bundle.now cli.now core.old.told (K.written out.old) (K.written out.new)) }
+    ensures fault { IfErr result (LeftByFault bundle.now cli.now (told_by core.old) (K.written out.old) (K.written out.new)) }
     ensures tells { is_some (K.written out.new) ≡ is_some (K.written out.old) }
     ensures later { K.faults out.old ≤ K.faults out.new }
     ensures counts { CountsPrintFault (K.faults out.old) (K.faults out.new) result }
 {
     let drivers = drivers_in(cli.mode, bundle);
-    let answers = run_scripts(alloc, core, bundle.boot.as_slice(), drivers)?;
+    let boot = bundle.boot.as_slice();
+    let order = bundle.order.as_slice();
+    let answers = run_scripts(alloc, core, boot, drivers, order)?;
     print_core(alloc, bundle, cli, core, answers.as_slice(), out)
 }

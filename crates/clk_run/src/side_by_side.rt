@@ -1,20 +1,20 @@
 //! From a source's bytes to what is printed of their run, with each driver on a thread of its own.
 
-ghost use Rattle.std.specs.Prelude.{◌≡◌, ◌≤◌, ◌==◌, Some, is_some, IfOk, IfErr};
+ghost use Rattle.std.specs.Prelude.{◌≡◌, ◌≤◌, ◌==◌, ℕ, true, Some, is_some, IfOk, IfErr};
 ghost use Rattle.std.specs.Option.{option_map};
-ghost use Rattle.clk_cli.specs.declared.cli.Mode.TheVariants.{Run};
 ghost use Rattle.clk_io.specs.Counts.{CountsPrintFault};
 ghost use Rattle.tier_lock.specs.Known.{first_known};
 ghost use Rattle.driver_threads.specs.Runs.{HasRunOnThreads};
 ghost use Rattle.clk_run.specs.Cores.{opened_for};
-ghost use Rattle.clk_run.specs.Outcomes.{IsRunStatus, Done, Refused, Unwritten, Short, Decides, count_behind};
-ghost use Rattle.clk_run.specs.Runs.{credits_of, IsReady, Printed, LeftByFault};
+ghost use Rattle.clk_run.specs.Outcomes.{generates, IsRunStatus, Done, Refused, Unread, Unwritten, Short, Decides, count_behind};
+ghost use Rattle.clk_run.specs.Runs.{armed_telling, credits_of, has_threads, telling, IsReady, Printed, LeftByFault};
 
 use crate::arming::arm_locks;
 use crate::refusal::print_refusal;
 use crate::run_bundle::credits_of;
 use crate::run_core::print_core;
-use crate::sim::{Stop, status_of, take_bundle};
+use crate::sim::status_of;
+use crate::taking::{Stop, take_bundle};
 use clk_base::{Answer, Pause};
 use clk_cli::Cli;
 use clk_framework::{Driver, Unnamed};
@@ -36,7 +36,7 @@ fn open_framework<B: Bank>(
 ) -> Result<(Unnamed<B>, Driver<B>), NoMemory>
     requires ready { IsReady bundle.now }
     requires room { 65536 ≤ B.size bank }
-    ensures { IfOk result (λ made. made.1 ≡ first_known made.0.lock.table (opened_for bundle.now ignore_unused (B.contents bank)) (credits_of bundle.now)) }
+    ensures { IfOk result (λ made. made.1 ≡ first_known made.0.lock.table (opened_for bundle.now ignore_unused (B.contents bank) (B.lock bank)) (credits_of bundle.now)) }
 {
     let desc = bundle.desc.copy(alloc)?;
     let words = bundle.words.as_slice();
@@ -55,7 +55,7 @@ fn run_framework<B: Bank + Send + Sync, R: Threads + Wait + Sync, Q: Pause + Syn
 ) -> Result<(Core<B>, Vec<Listed<Answer>>), NoMemory>
     requires ready { IsReady bundle.now }
     requires room { 65536 ≤ B.size bank }
-    ensures { IfOk result (λ ran. HasRunOnThreads (Some (opened_for bundle.now ignore_unused (B.contents bank))) bundle.now.boot bundle.now.drivers ran.1.items ran.0) }
+    ensures { IfOk result (λ ran. HasRunOnThreads (Some (opened_for bundle.now ignore_unused (B.contents bank) (B.lock bank))) bundle.now.boot bundle.now.drivers ran.1.items ran.0) }
 {
     let (unnamed, first) = open_framework(alloc, bundle, ignore_unused, bank)?;
     let boot = bundle.boot.as_slice();
@@ -73,12 +73,12 @@ fn run_armed<K: Sink, B: Bank + Send + Sync, R: Threads + Wait + Sync, Q: Pause 
     bank: B,
     pause: &Q,
 ) -> Result<B, PrintFault>
-    requires mode { cli.now.mode ≡ Run }
+    requires mode { has_threads cli.now.mode ≡ true }
     requires ready { IsReady bundle.now }
     requires room { 65536 ≤ B.size bank }
-    ensures done { IfOk result (λ left. Printed bundle.now cli.now (B.contents bank) (K.written out.old) (K.written out.new) (B.contents left)) }
+    ensures done { IfOk result (λ left. Printed bundle.now cli.now (telling (B.contents bank) (B.lock bank)) (B.contents bank) (K.written out.old) (K.written out.new) (B.contents left)) }
     ensures told { IfOk result (λ left. is_some (B.contents left) ≡ is_some (B.contents bank)) }
-    ensures fault { IfErr result (LeftByFault bundle.now cli.now (is_some (B.contents bank)) (K.written out.old) (K.written out.new)) }
+    ensures fault { IfErr result (LeftByFault bundle.now cli.now (telling (B.contents bank) (B.lock bank)) (K.written out.old) (K.written out.new)) }
     ensures tells { is_some (K.written out.new) ≡ is_some (K.written out.old) }
     ensures later { K.faults out.old ≤ K.faults out.new }
     ensures counts { CountsPrintFault (K.faults out.old) (K.faults out.new) result }
@@ -99,12 +99,12 @@ fn run_bundle<K: Sink, B: Bank + Send + Sync, R: Threads + Wait + Sync, Q: Pause
     bank: B,
     pause: &Q,
 ) -> Result<B, PrintFault>
-    requires mode { cli.now.mode ≡ Run }
+    requires mode { has_threads cli.now.mode ≡ true }
     requires ready { IsReady bundle.now }
     requires room { 65536 ≤ B.size bank }
-    ensures done { IfOk result (λ left. Printed bundle.now cli.now (B.contents bank) (K.written out.old) (K.written out.new) (B.contents left)) }
+    ensures done { IfOk result (λ left. Printed bundle.now cli.now (armed_telling bundle.now (B.contents bank) (B.lock bank)) (B.contents bank) (K.written out.old) (K.written out.new) (B.contents left)) }
     ensures told { IfOk result (λ left. is_some (B.contents left) ≡ is_some (B.contents bank)) }
-    ensures fault { IfErr result (LeftByFault bundle.now cli.now (is_some (B.contents bank)) (K.written out.old) (K.written out.new)) }
+    ensures fault { IfErr result (LeftByFault bundle.now cli.now (armed_telling bundle.now (B.contents bank) (B.lock bank)) (K.written out.old) (K.written out.new)) }
     ensures tells { is_some (K.written out.new) ≡ is_some (K.written out.old) }
     ensures later { K.faults out.old ≤ K.faults out.new }
     ensures counts { CountsPrintFault (K.faults out.old) (K.faults out.new) result }
@@ -114,8 +114,9 @@ fn run_bundle<K: Sink, B: Bank + Send + Sync, R: Threads + Wait + Sync, Q: Pause
     run_armed(rt, alloc, bundle, cli, out, bank, pause)
 }
 
-/// Reads a bundle, runs it with each driver on a thread of its own and prints the run: the journal,
-/// the answers, the summary and the registers. The statuses are those of `simulate`.
+/// Takes a bundle, runs it with each driver on a thread of its own and prints the run: the journal
+/// where the words ask for it, the answers or how many they are, the summary and the registers. The
+/// statuses are those of `simulate`.
 pub(crate) fn run_side_by_side<
     S: Source,
     K: Sink,
@@ -132,35 +133,37 @@ pub(crate) fn run_side_by_side<
     pause: &Q,
 ) -> (u8, Option<B>)
     // The words ask for it.
-    requires mode { cli.now.mode ≡ Run }
+    requires mode { has_threads cli.now.mode ≡ true }
     // The bank has all words that a bundle may name.
     requires room { 65536 ≤ B.size bank }
     // The status is 0, 2, 3, 4 or 5.
     ensures known { IsRunStatus result.0 }
-    // 0: all that was left of the source spells a bundle; the text of one of its runs was written; the bank has the registers that this run leaves, and every other word as it was.
-    ensures done { result.0 ≡ 0 → Done cli.now (B.contents bank) (S.left input.old) (S.left input.new) (K.written out.old) (K.written out.new) (option_map B.contents result.1) }
+    // 0: all that was left of the source, or the generated text, spells a bundle; the text of one of its runs was written; the bank has the registers that this run leaves, and every other word as it was.
+    ensures done { result.0 ≡ 0 → Done cli.now (B.contents bank) (B.lock bank) (S.left input.old) (S.left input.new) (K.written out.old) (K.written out.new) (option_map B.contents result.1) }
     // The bank comes back exactly with 0.
     ensures back { is_some result.1 ≡ (result.0 == 0) }
-    // 2: what was left of the source is refused, and the line that says where and why was written.
-    ensures refused { result.0 ≡ 2 → Refused (S.left input.old) (S.left input.new) (K.written out.old) (K.written out.new) }
+    // 2: what was left of the source, or the generated text, is refused, and the line that says where and why was written.
+    ensures refused { result.0 ≡ 2 → Refused cli.now (S.left input.old) (S.left input.new) (K.written out.old) (K.written out.new) }
     // The source's count of faults rises by one at 4, and stands at every other status.
     ensures reads { S.faults input.new ≡ count_behind 4 result.0 (S.faults input.old) }
-    // 4: nothing was written.
-    ensures unread { result.0 ≡ 4 → K.written out.new ≡ K.written out.old }
+    // 4: the bundle isn't a generated one, and nothing was written.
+    ensures unread { result.0 ≡ 4 → Unread cli.now (K.written out.old) (K.written out.new) }
+    // For a generated bundle nothing is read.
+    ensures unasked { (drivers : ℕ) → generates cli.now.mode ≡ Some drivers → input.new ≡ input.old }
     // The sink's count of faults rises by one at 5, and stands at every other status.
     ensures writes { K.faults out.new ≡ count_behind 5 result.0 (K.faults out.old) }
     // 5: a front of the text of a run was written, or of a refusal's line.
-    ensures unwritten { result.0 ≡ 5 → Unwritten cli.now (is_some (B.contents bank)) (S.left input.old) (S.left input.new) (K.written out.old) (K.written out.new) }
+    ensures unwritten { result.0 ≡ 5 → Unwritten cli.now (B.contents bank) (B.lock bank) (S.left input.old) (S.left input.new) (K.written out.old) (K.written out.new) }
     // 3: nothing was written, or such a front.
-    ensures short { result.0 ≡ 3 → Short cli.now (is_some (B.contents bank)) (S.left input.old) (S.left input.new) (K.written out.old) (K.written out.new) }
-    // What the source has left decides between 0 and 2, unless the status is 3, 4 or 5.
-    ensures decided { Decides (S.left input.old) result.0 }
+    ensures short { result.0 ≡ 3 → Short cli.now (B.contents bank) (B.lock bank) (S.left input.old) (S.left input.new) (K.written out.old) (K.written out.new) }
+    // What the source has left, or the generated text, decides between 0 and 2, unless the status is 3, 4 or 5.
+    ensures decided { Decides (generates cli.now.mode) (S.left input.old) result.0 }
     // Source and sink tell their bytes as before.
     ensures tells { (is_some (S.left input.new) ≡ is_some (S.left input.old)) × (is_some (K.written out.new) ≡ is_some (K.written out.old)) }
     // No count of faults falls.
     ensures later { (S.faults input.old ≤ S.faults input.new) × (K.faults out.old ≤ K.faults out.new) }
 {
-    match take_bundle(alloc, input) {
+    match take_bundle(alloc, cli.mode, input) {
         Ok(bundle) => match run_bundle(rt, alloc, &bundle, cli, out, bank, pause) {
             Ok(bank) => (0, Some(bank)),
             Err(fault) => (status_of(fault), None),

@@ -1,53 +1,16 @@
 //! From a source's bytes to what is printed of their run.
 
-ghost use Rattle.std.specs.Prelude.{◌≡◌, ◌≤◌, ◌==◌, is_some, IfOk, IfErr};
+ghost use Rattle.std.specs.Prelude.{◌≡◌, ◌≤◌, ◌==◌, ℕ, Some, is_some};
 ghost use Rattle.std.specs.Option.{option_map};
-ghost use Rattle.clk_run.specs.Runs.{IsReady};
-ghost use Rattle.clk_run.specs.Outcomes.{GivesBundle, StopsReading, CountsStop, IsRunStatus, Done, Refused, Unwritten, Short, Decides, count_behind, status_of};
+ghost use Rattle.clk_run.specs.Outcomes.{generates, IsRunStatus, Done, Refused, Unread, Unwritten, Short, Decides, count_behind, status_of};
 
-use crate::reading::check_bundle;
 use crate::refusal::print_refusal;
 use crate::run_bundle::run_bundle;
+use crate::taking::{Stop, take_bundle};
 use clk_cli::Cli;
-use clk_io::{PrintFault, ReadFault, Sink, Source, read_all};
-use drv_scripts::{Bundle, BundleFault, Reason};
+use clk_io::{PrintFault, Sink, Source};
 use reg_bank::Bank;
 use std::alloc::Global;
-
-/// Why no bundle came from a source.
-#[derive(Clone, Copy, Debug, PartialEq, Eq)]
-pub(crate) enum Stop {
-    Refused { line: u32, reason: Reason },
-    Read,
-    NoMemory,
-}
-
-/// The bundle that a source's bytes spell.
-pub(crate) fn take_bundle<S: Source>(alloc: Global, input: &mut S) -> Result<Bundle, Stop>
-    ensures gives { IfOk result (GivesBundle (S.left input.old) (S.left input.new)) }
-    ensures ready { IfOk result IsReady }
-    ensures stops { IfErr result (StopsReading (S.left input.old) (S.left input.new)) }
-    ensures tells { is_some (S.left input.new) ≡ is_some (S.left input.old) }
-    ensures later { S.faults input.old ≤ S.faults input.new }
-    ensures counts { CountsStop (S.faults input.old) (S.faults input.new) result }
-{
-    let bytes = match read_all(alloc, input) {
-        Ok(bytes) => bytes,
-        Err(ReadFault::Read) => return Err(Stop::Read),
-        Err(ReadFault::NoMemory) => return Err(Stop::NoMemory),
-        Err(ReadFault::TooLong) => {
-            return Err(Stop::Refused {
-                line: 0,
-                reason: Reason::TooLong,
-            });
-        }
-    };
-    match check_bundle(alloc, bytes.as_slice()) {
-        Ok(bundle) => Ok(bundle),
-        Err(BundleFault::Refused { line, reason }) => Err(Stop::Refused { line, reason }),
-        Err(BundleFault::NoMemory) => Err(Stop::NoMemory),
-    }
-}
 
 /// The status after a fault of printing.
 pub(crate) fn status_of(fault: PrintFault) -> u8
@@ -59,9 +22,10 @@ pub(crate) fn status_of(fault: PrintFault) -> u8
     }
 }
 
-/// Reads a bundle, runs it on one thread and prints the run: the journal where the words ask for it,
+/// Takes a bundle, runs it on one thread and prints the run: the journal where the words ask for it,
 /// the answers, the summary and the registers. Under `check` boot alone runs, and no journal is
-/// printed. Answers the status, and with 0 the bank:
+/// printed. Under `bench` the bundle is the generated one, of 64 drivers at most, nothing is read, and
+/// the answers are counted. Answers the status, and with 0 the bank:
 ///
 /// - 0: the bundle ran and its text was printed;
 /// - 2: the bundle is refused, and the line that says why was printed;
@@ -79,30 +43,32 @@ pub fn simulate<S: Source, K: Sink, B: Bank>(
     requires room { 65536 ≤ B.size bank }
     // The status is 0, 2, 3, 4 or 5.
     ensures known { IsRunStatus result.0 }
-    // 0: all that was left of the source spells a bundle; the text of one of its runs was written; the bank has the registers that this run leaves, and every other word as it was.
-    ensures done { result.0 ≡ 0 → Done cli.now (B.contents bank) (S.left input.old) (S.left input.new) (K.written out.old) (K.written out.new) (option_map B.contents result.1) }
+    // 0: all that was left of the source, or the generated text, spells a bundle; the text of one of its runs was written; the bank has the registers that this run leaves, and every other word as it was.
+    ensures done { result.0 ≡ 0 → Done cli.now (B.contents bank) (B.lock bank) (S.left input.old) (S.left input.new) (K.written out.old) (K.written out.new) (option_map B.contents result.1) }
     // The bank comes back exactly with 0.
     ensures back { is_some result.1 ≡ (result.0 == 0) }
-    // 2: what was left of the source is refused, and the line that says where and why was written.
-    ensures refused { result.0 ≡ 2 → Refused (S.left input.old) (S.left input.new) (K.written out.old) (K.written out.new) }
+    // 2: what was left of the source, or the generated text, is refused, and the line that says where and why was written.
+    ensures refused { result.0 ≡ 2 → Refused cli.now (S.left input.old) (S.left input.new) (K.written out.old) (K.written out.new) }
     // The source's count of faults rises by one at 4, and stands at every other status.
     ensures reads { S.faults input.new ≡ count_behind 4 result.0 (S.faults input.old) }
-    // 4: nothing was written.
-    ensures unread { result.0 ≡ 4 → K.written out.new ≡ K.written out.old }
+    // 4: the bundle isn't a generated one, and nothing was written.
+    ensures unread { result.0 ≡ 4 → Unread cli.now (K.written out.old) (K.written out.new) }
+    // For a generated bundle nothing is read.
+    ensures unasked { (drivers : ℕ) → generates cli.now.mode ≡ Some drivers → input.new ≡ input.old }
     // The sink's count of faults rises by one at 5, and stands at every other status.
     ensures writes { K.faults out.new ≡ count_behind 5 result.0 (K.faults out.old) }
     // 5: a front of the text of a run was written, or of a refusal's line.
-    ensures unwritten { result.0 ≡ 5 → Unwritten cli.now (is_some (B.contents bank)) (S.left input.old) (S.left input.new) (K.written out.old) (K.written out.new) }
+    ensures unwritten { result.0 ≡ 5 → Unwritten cli.now (B.contents bank) (B.lock bank) (S.left input.old) (S.left input.new) (K.written out.old) (K.written out.new) }
     // 3: nothing was written, or such a front.
-    ensures short { result.0 ≡ 3 → Short cli.now (is_some (B.contents bank)) (S.left input.old) (S.left input.new) (K.written out.old) (K.written out.new) }
-    // What the source has left decides between 0 and 2, unless the status is 3, 4 or 5.
-    ensures decided { Decides (S.left input.old) result.0 }
+    ensures short { result.0 ≡ 3 → Short cli.now (B.contents bank) (B.lock bank) (S.left input.old) (S.left input.new) (K.written out.old) (K.written out.new) }
+    // What the source has left, or the generated text, decides between 0 and 2, unless the status is 3, 4 or 5.
+    ensures decided { Decides (generates cli.now.mode) (S.left input.old) result.0 }
     // Source and sink tell their bytes as before.
     ensures tells { (is_some (S.left input.new) ≡ is_some (S.left input.old)) × (is_some (K.written out.new) ≡ is_some (K.written out.old)) }
     // No count of faults falls.
     ensures later { (S.faults input.old ≤ S.faults input.new) × (K.faults out.old ≤ K.faults out.new) }
 {
-    match take_bundle(alloc, input) {
+    match take_bundle(alloc, cli.mode, input) {
         Ok(bundle) => match run_bundle(alloc, &bundle, cli, out, bank) {
             Ok(bank) => (0, Some(bank)),
             Err(fault) => (status_of(fault), None),

@@ -1,29 +1,28 @@
 //! The program, as a call.
 
-ghost use Rattle.std.specs.Prelude.{◌≡◌, ◌≤◌, ◌==◌, is_some};
+ghost use Rattle.std.specs.Prelude.{◌≡◌, ◌≤◌, ◌==◌, ℕ, Some, is_some};
 ghost use Rattle.std.specs.Option.{option_map};
 ghost use Rattle.clk_cli.specs.Meaning.{texts, meaning};
-ghost use Rattle.clk_run.specs.Outcomes.{IsStatus, MeansNothing, MeansDone, MeansRefused, MeansUnread, MeansUnwritten, MeansShort, MeansDecided, count_behind};
-ghost use Rattle.clk_run.specs.Runs.{runs};
+ghost use Rattle.clk_cli.specs.declared.cli.Cli.{Cli};
+ghost use Rattle.clk_run.specs.Outcomes.{generates, IsStatus, MeansNothing, MeansDone, MeansRefused, MeansUnread, MeansUnwritten, MeansShort, MeansDecided, count_behind};
+ghost use Rattle.clk_run.specs.Runs.{has_threads};
 
-use crate::refusal::print_refusal;
 use crate::side_by_side::run_side_by_side;
-use crate::sim::{simulate, status_of};
+use crate::sim::simulate;
 use clk_base::Pause;
-use clk_cli::{Cli, CliFault, Mode, USAGE_LINE};
+use clk_cli::{CliFault, Mode, USAGE_LINE};
 use clk_io::{Sink, Source, write_all};
-use drv_scripts::Reason;
 use reg_bank::Bank;
 use std::sync::Wait;
 use std::thread::Threads;
 
-// Whether what the words ask can be run so far.
-fn runs(cli: &Cli) -> bool
-    ensures { result ≡ runs cli.now }
+// Whether each driver has a thread of its own.
+fn has_threads(mode: Mode) -> bool
+    ensures { result ≡ has_threads mode }
 {
-    match cli.mode {
-        Mode::Check | Mode::Sim | Mode::Run => true,
-        Mode::Bench(_) => false,
+    match mode {
+        Mode::Check | Mode::Sim => false,
+        Mode::Run | Mode::Bench(_) => true,
     }
 }
 
@@ -31,14 +30,14 @@ fn runs(cli: &Cli) -> bool
 ///
 /// - 0: the bundle ran and its text was printed;
 /// - 1: the words mean nothing, and the line was printed that says how the program is called;
-/// - 2: the bundle is refused, and the line was printed that says where and why, or the words ask for
-///   what can't be run yet, and the line `error: line 0: NotYet` was printed;
+/// - 2: the bundle is refused, and the line was printed that says where and why;
 /// - 3: memory ran out;
 /// - 4: a read failed, and nothing was printed;
 /// - 5: a write failed, and a front of the text was printed.
 ///
-/// So far `check`, `sim` and `run` can be run: boot alone, the run on one thread, which pauses nowhere,
-/// and the run with each driver on a thread of its own, which pauses where `pause` is called.
+/// Under `check` boot alone runs, and under `sim` the drivers run on this thread, which pauses nowhere.
+/// Under `run` and `bench` each driver has a thread of its own, and pauses where `pause` is called;
+/// `bench` reads nothing and generates its bundle.
 pub fn clkbench<
     'w,
     R: AllocGlobal + Threads + Wait + Sync,
@@ -53,37 +52,35 @@ pub fn clkbench<
     ensures known { IsStatus result.0 }
     // 1: the words mean nothing, nothing was read, and the line was written that says how the program is called.
     ensures usage { result.0 ≡ 1 → MeansNothing (meaning (texts words.now)) (S.left input.old) (S.left input.new) (K.written out.old) (K.written out.new) }
-    // 0: the words ask for what can be run so far; all that was left of the source spells a bundle; the text of one of its runs was written; the bank has the registers that this run leaves, and every other word as it was.
-    ensures done { result.0 ≡ 0 → MeansDone (meaning (texts words.now)) (B.contents bank) (S.left input.old) (S.left input.new) (K.written out.old) (K.written out.new) (option_map B.contents result.1) }
+    // 0: the words ask for a run; all that was left of the source, or under `bench` the generated text, spells a bundle; the text of one of its runs was written; the bank has the registers that this run leaves, and every other word as it was.
+    ensures done { result.0 ≡ 0 → MeansDone (meaning (texts words.now)) (B.contents bank) (B.lock bank) (S.left input.old) (S.left input.new) (K.written out.old) (K.written out.new) (option_map B.contents result.1) }
     // The bank comes back exactly with 0.
     ensures back { is_some result.1 ≡ (result.0 == 0) }
-    // 2: the words ask for what can be run so far, and what was left of the source is refused, and the line that says where and why was written; or they ask for what can't be run yet, nothing was read, and the line that says so was written.
+    // 2: the words ask for a run, its bytes are refused, and the line that says where and why was written.
     ensures refused { result.0 ≡ 2 → MeansRefused (meaning (texts words.now)) (S.left input.old) (S.left input.new) (K.written out.old) (K.written out.new) }
     // The source's count of faults rises by one at 4, and stands at every other status.
     ensures reads { S.faults input.new ≡ count_behind 4 result.0 (S.faults input.old) }
-    // 4: the words ask for what can be run so far, and nothing was written.
+    // 4: the words ask for a run that reads a source, and nothing was written.
     ensures unread { result.0 ≡ 4 → MeansUnread (meaning (texts words.now)) (K.written out.old) (K.written out.new) }
+    // Under `bench` nothing is read.
+    ensures unasked { (cli : Cli) → (drivers : ℕ) → meaning (texts words.now) ≡ Some cli → generates cli.mode ≡ Some drivers → input.new ≡ input.old }
     // The sink's count of faults rises by one at 5, and stands at every other status.
     ensures writes { K.faults out.new ≡ count_behind 5 result.0 (K.faults out.old) }
-    // 5: a front of the text of a run was written, of a refusal's line, of the line of words that can't be run yet or of the usage line.
-    ensures unwritten { result.0 ≡ 5 → MeansUnwritten (meaning (texts words.now)) (is_some (B.contents bank)) (S.left input.old) (S.left input.new) (K.written out.old) (K.written out.new) }
+    // 5: a front of the text of a run was written, of a refusal's line or of the usage line.
+    ensures unwritten { result.0 ≡ 5 → MeansUnwritten (meaning (texts words.now)) (B.contents bank) (B.lock bank) (S.left input.old) (S.left input.new) (K.written out.old) (K.written out.new) }
     // 3: nothing was written, or such a front.
-    ensures short { result.0 ≡ 3 → MeansShort (meaning (texts words.now)) (is_some (B.contents bank)) (S.left input.old) (S.left input.new) (K.written out.old) (K.written out.new) }
-    // Words that mean nothing end in 1, those that can't be run yet in 2, and for the others what the source has left decides between 0 and 2, unless the status is 3, 4 or 5.
+    ensures short { result.0 ≡ 3 → MeansShort (meaning (texts words.now)) (B.contents bank) (B.lock bank) (S.left input.old) (S.left input.new) (K.written out.old) (K.written out.new) }
+    // Words that mean nothing end in 1, and for the others what the source has left, or the generated text, decides between 0 and 2, unless the status is 3, 4 or 5.
     ensures decided { MeansDecided (meaning (texts words.now)) (S.left input.old) result.0 }
     // Source and sink tell their bytes as before.
     ensures tells { (is_some (S.left input.new) ≡ is_some (S.left input.old)) × (is_some (K.written out.new) ≡ is_some (K.written out.old)) }
 {
     let alloc = rt.alloc();
     match clk_cli::words(alloc, words) {
-        Ok(cli) if runs(&cli) => match cli.mode {
-            Mode::Run => run_side_by_side(rt, alloc, &cli, input, out, bank, pause),
-            Mode::Check | Mode::Sim | Mode::Bench(_) => simulate(alloc, &cli, input, out, bank),
-        },
-        Ok(_) => match print_refusal(alloc, 0, Reason::NotYet, out) {
-            Ok(()) => (2, None),
-            Err(fault) => (status_of(fault), None),
-        },
+        Ok(cli) if has_threads(cli.mode) => {
+            run_side_by_side(rt, alloc, &cli, input, out, bank, pause)
+        }
+        Ok(cli) => simulate(alloc, &cli, input, out, bank),
         Err(CliFault::NoMemory) => (3, None),
         Err(CliFault::Usage) => match write_all(out, USAGE_LINE.as_bytes()) {
             Ok(()) => (1, None),

@@ -9,7 +9,7 @@ ghost use Rattle.clk_run.specs.Built.{unfit_line, unbuilt_command, unbuilt_comma
 
 use clk_base::{Act, ClockId, Command, Handle, ValidDesc};
 use clk_io::NoMemory;
-use clk_machine::{is_built, is_fit, keeps_parents};
+use clk_machine::{Allowed, allowed_over, is_built, is_fit};
 use driver_runs::{Called, made_by};
 use drv_scripts::{Bundle, LateLine, Script};
 use std::alloc::{AllocError, Global};
@@ -63,13 +63,12 @@ const ANY: Handle = Handle {
     driver: 0,
 };
 
-// Whether a command can be run so far, where a request for a rate leaves each clock its parent or
-// doesn't. A driver registers no clock.
-fn can_run(still: bool, act: Act) -> bool
-    ensures { result ≡ is_built_act still act }
+// Whether a command can be run so far, where this is allowed. A driver registers no clock.
+fn can_run(allowed: Allowed, act: Act) -> bool
+    ensures { result ≡ is_built_act allowed act }
 {
     match made_by(ANY, act) {
-        Some(Called::Sleeping(what)) => is_built(&what, false, still),
+        Some(Called::Sleeping(what)) => is_built(&what, false, allowed),
         Some(_) => true,
         None => false,
     }
@@ -77,31 +76,35 @@ fn can_run(still: bool, act: Act) -> bool
 
 // The line of a command that can't be run yet.
 #[tactic(auto, unfolding(crate::specs::Built::unbuilt_command))]
-fn unbuilt_command(still: bool, command: &Command) -> Option<u32>
-    ensures { result ≡ unbuilt_command still command.now }
+fn unbuilt_command(allowed: Allowed, command: &Command) -> Option<u32>
+    ensures { result ≡ unbuilt_command allowed command.now }
 {
-    if can_run(still, command.act) {
+    if can_run(allowed, command.act) {
         return None;
     }
     Some(command.line)
 }
 
 // The lines of such commands of a driver more.
-fn push_commands(lines: &mut Vec<u32>, still: bool, commands: &[Command]) -> Result<(), NoMemory>
-    ensures { OnOk result (lines.new.items ≡ lines.old.items ++ filter_map (unbuilt_command still) commands.now) }
+fn push_commands(
+    lines: &mut Vec<u32>,
+    allowed: Allowed,
+    commands: &[Command],
+) -> Result<(), NoMemory>
+    ensures { OnOk result (lines.new.items ≡ lines.old.items ++ filter_map (unbuilt_command allowed) commands.now) }
 {
     for command in commands {
-        push_line(lines, unbuilt_command(still, command))?;
+        push_line(lines, unbuilt_command(allowed, command))?;
     }
     Ok(())
 }
 
 // The lines of such commands of all drivers.
-fn push_drivers(lines: &mut Vec<u32>, still: bool, drivers: &[Script]) -> Result<(), NoMemory>
-    ensures { OnOk result (lines.new.items ≡ lines.old.items ++ unbuilt_commands still drivers.now) }
+fn push_drivers(lines: &mut Vec<u32>, allowed: Allowed, drivers: &[Script]) -> Result<(), NoMemory>
+    ensures { OnOk result (lines.new.items ≡ lines.old.items ++ unbuilt_commands allowed drivers.now) }
 {
     for script in drivers {
-        push_commands(lines, still, script.commands.as_slice())?;
+        push_commands(lines, allowed, script.commands.as_slice())?;
     }
     Ok(())
 }
@@ -120,12 +123,11 @@ fn push_sections(alloc: Global, lines: &mut Vec<u32>, bundle: &Bundle) -> Result
     let late = late_lines(alloc, bundle.late.as_slice())?;
     lines.extend_from_slice(bundle.assigned_lines.as_slice())?;
     lines.extend_from_slice(&late)?;
-    lines.extend_from_slice(bundle.order_lines.as_slice())?;
     Ok(())
 }
 
 /// The least line of what can't be run yet: a clock that no core can run, a node with assigned
-/// clocks, a late clock, a stated order of drivers, or a command.
+/// clocks, a late clock, or a command.
 #[tactic(auto, unfolding(crate::specs::Built::unbuilt_lines))]
 pub(crate) fn least_unbuilt(alloc: Global, bundle: &Bundle) -> Result<Option<u32>, NoMemory>
     requires { length bundle.now.clock_lines ≡ length bundle.now.desc.defs }
@@ -133,7 +135,7 @@ pub(crate) fn least_unbuilt(alloc: Global, bundle: &Bundle) -> Result<Option<u32
 {
     let mut lines = unfit_lines(alloc, &bundle.desc, bundle.clock_lines.as_slice())?;
     push_sections(alloc, &mut lines, bundle)?;
-    let still = keeps_parents(&bundle.desc);
-    push_drivers(&mut lines, still, bundle.drivers.as_slice())?;
+    let allowed = allowed_over(&bundle.desc);
+    push_drivers(&mut lines, allowed, bundle.drivers.as_slice())?;
     Ok(least(&lines))
 }

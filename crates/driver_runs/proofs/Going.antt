@@ -27,8 +27,7 @@ use Rattle.clk_machine.specs.Run.{Run, was_probed, in_flight}
 use Rattle.clk_base.specs.Description.{Description, parents_of, EachClock}
 use Rattle.clk_machine.specs.Fit.{has_earlier_parents}
 use Rattle.drv_scripts.specs.Placed.{NamesPlace}
-use Rattle.clk_model.specs.State.{State}
-use Rattle.clk_machine.specs.Fit.{keeps_parents}
+use Rattle.clk_machine.specs.Built.{allowed_over}
 use Rattle.driver_runs.specs.Scripts.{is_built_act, AreProbes, CanCall, Answers, GoesThrough}
 use Rattle.driver_runs.proofs.WholeCalls.{calls_of-append, are_calls-append, stays_idle}
 use Rattle.clk_model.proofs.Members.{both_left, both_right, test_same}
@@ -150,7 +149,7 @@ probes_now old new d held a e r c calls made is =
       inside e = cc
 
 -- a command that can be run so far can be run now
-pub can_built : (run : Run) (a : Act) → is_built_act (keeps_parents run.start.defs) a ≡ true → CanCall run a
+pub can_built : (run : Run) (a : Act) → is_built_act (allowed_over run.start.defs) a ≡ true → CanCall run a
 can_built run (act.Get found) h = h
 can_built run act.Put h = h
 can_built run act.Prepare h = h
@@ -171,10 +170,6 @@ can_built run (act.NotifierAdd id priority policy) h = h
 can_built run (act.NotifierRemove id) h = h
 can_built run (act.Probe c) h = absurd cc
 can_built run act.Sweep h = h
-
--- and so where another core that began so could run it
-pub can_built_still : (run first : Run) (a : Act) → run.start ≡ first.start → is_built_act (keeps_parents first.start.defs) a ≡ true → CanCall run a
-can_built_still run first a same h = can_built run a (ap (λ (s : State). is_built_act (keeps_parents s.defs) a) same ∙ h)
 
 -- what holds of each element holds of the one at a place
 pub element : {X : Type 0} (P : X → Type 0) (xs : List X) (i : ℕ) (d : X) → AllByRecursion P xs → i < length xs → P (get_or xs i d)

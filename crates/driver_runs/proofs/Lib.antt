@@ -1,4 +1,9 @@
 pub mod WholeCalls
 pub mod Going
 pub mod Following
-pub mod Ordering
+mod Passing
+mod Entered
+mod Making
+mod Sides
+mod Coursing
+mod Ended

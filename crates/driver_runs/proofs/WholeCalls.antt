@@ -208,7 +208,7 @@ answers_at_once old new d e r appends paid =
 -- ---- steps
 
 -- steps behind which a call goes on, and then its end
-steps_end : (d : ℕ) (xs : List Entry) (e : Entry) (r : Reply) → list_all (goes_on d) xs ≡ true → e.driver ≡ d → is_step e.event ≡ true → e.turn ≡ turn.Done r
+pub steps_end : (d : ℕ) (xs : List Entry) (e : Entry) (r : Reply) → list_all (goes_on d) xs ≡ true → e.driver ≡ d → is_step e.event ≡ true → e.turn ≡ turn.Done r
     → (are_calls d true (xs ++ e ∷ []) ≡ true) × (end_reply (xs ++ e ∷ []) ≡ Some r) × (calls_of (xs ++ e ∷ []) ≡ []) × (cost (xs ++ e ∷ []) ≡ 0)
 steps_end d [] e r all own step done = (
   and_from (nat_eq e.driver d && is_step e.event) (are_calls d (is_going e.turn) []) (and_from (nat_eq e.driver d) (is_step e.event) (ap (λ (n : ℕ). nat_eq n d) own ∙ test_same d) step)

@@ -1,5 +1,9 @@
 pub mod Called
 pub mod Scripts
 pub mod Steps
+pub mod Standing
+pub mod Events
+pub mod Moves
+pub mod Courses
 pub mod Drivers
 pub mod Turns

@@ -1,15 +1,19 @@
-//! Running boot, and then each driver.
+//! Running boot, and then the drivers.
 
-ghost use Rattle.std.specs.Prelude.{◌≡◌, ◌≤◌, ◌+◌, [], true, length, sum_by, IfOk};
+ghost use Rattle.std.specs.Prelude.{◌≡◌, ◌≤◌, ◌<◌, ◌+◌, ◌∷◌, [], true, length, map, sum_by, IfOk};
 ghost use Rattle.std.specs.List.{AllByRecursion};
 ghost use Rattle.clk_base.specs.Description.{EachClock};
-ghost use Rattle.clk_machine.specs.Fit.{has_earlier_parents, keeps_parents};
+ghost use Rattle.clk_machine.specs.Built.{allowed_over};
+ghost use Rattle.clk_machine.specs.Fit.{has_earlier_parents};
 ghost use Rattle.drv_scripts.specs.Placed.{IsScript};
 ghost use Rattle.drv_scripts.specs.Spelled.{boot_of};
 ghost use Rattle.driver_runs.specs.Scripts.{are_built};
+ghost use Rattle.driver_runs.specs.Moves.{AreNew};
 ghost use Rattle.driver_runs.specs.Turns.{HasRun};
 
-use crate::script::{run_boot, run_script};
+use crate::boot::run_boot;
+use crate::standing::Standing;
+use crate::turns::{follow_order, run_rest};
 use clk_base::{Answer, Command};
 use clk_io::NoMemory;
 use clk_machine::Core;
@@ -17,13 +21,43 @@ use drv_scripts::{Listed, Script};
 use reg_bank::Bank;
 use std::alloc::Global;
 
-/// Runs the commands of boot, and then those of each driver in its turn. The answers are those of
-/// boot and then those of each driver.
+// The drivers, which have answered no command but those that are skipped at once.
+fn begin_all(alloc: Global, drivers: &[Script]) -> Result<Vec<Standing>, NoMemory>
+    ensures { IfOk result (λ standings. AreNew drivers.now standings.items) }
+{
+    let mut standings = Vec::new(alloc);
+    for script in drivers {
+        standings.push(Standing::new(alloc, script.commands.as_slice())?)?;
+    }
+    Ok(standings)
+}
+
+// The answers of boot and then of each driver.
+fn gather(
+    alloc: Global,
+    first: Vec<Answer>,
+    standings: Vec<Standing>,
+) -> Result<Vec<Listed<Answer>>, NoMemory>
+    ensures { IfOk result (λ answers. answers.items ≡ first.items ∷ map (λ x. x.answers.items) standings.items) }
+{
+    let mut answers = Vec::new(alloc);
+    answers.push(Listed::new(first))?;
+    for standing in standings {
+        answers.push(Listed::new(standing.into_answers()))?;
+    }
+    Ok(answers)
+}
+
+/// Runs the commands of boot, and then makes the events of the drivers, one after another: each number
+/// of the order gives its driver an event, if it can make one; behind the order the lowest numbered
+/// driver that can make one does, until all have answered all their commands. The answers are those
+/// of boot and then those of each driver.
 pub fn run_scripts<B: Bank>(
     alloc: Global,
     core: &mut Core<B>,
     boot: &[Command],
     drivers: &[Script],
+    order: &[u32],
 ) -> Result<Vec<Listed<Answer>>, NoMemory>
     // Nothing has happened in the core.
     requires begins { core.old.journal ≡ [] }
@@ -38,20 +72,16 @@ pub fn run_scripts<B: Bank>(
     // The commands of each driver name clocks of the description.
     requires placed { AllByRecursion (IsScript (length core.old.start.defs)) drivers.now }
     // Each of them can be run so far.
-    requires built { AllByRecursion (λ s. are_built (keeps_parents core.old.start.defs) s.commands ≡ true) drivers.now }
-    // Boot and then each driver has had one turn, one after another: the journal has whole calls that
-    // follow its commands with these answers. It is legal where the bank tells its words, and none is
-    // in flight behind it.
-    ensures { IfOk result (λ answers. HasRun boot.now drivers.now answers.items core.old core.new) }
+    requires built { AllByRecursion (λ s. are_built (allowed_over core.old.start.defs) s.commands ≡ true) drivers.now }
+    // Drivers are numbered from 1.
+    requires turns { AllByRecursion (λ d. 0 < d) order.now }
+    // Boot and each driver, and nobody else, have their calls once, in their order, one after the other, answered so; boot's entries come first, and behind them
+    // each is of the driver that the commands and the order name. The journal is legal where the bank tells its words, and no call is in flight behind it.
+    ensures { IfOk result (λ answers. HasRun boot.now drivers.now order.now answers.items core.old core.new) }
 {
     let first = run_boot(alloc, core, boot)?;
-    let mut answers = Vec::new(alloc);
-    answers.push(Listed::new(first))?;
-    let mut driver = 1u32;
-    for script in drivers {
-        let own = run_script(alloc, core, driver, script.commands.as_slice())?;
-        answers.push(Listed::new(own))?;
-        driver += 1;
-    }
-    Ok(answers)
+    let mut standings = begin_all(alloc, drivers)?;
+    let going = follow_order(core, drivers, standings.as_mut_slice(), order)?;
+    run_rest(core, drivers, standings.as_mut_slice(), going)?;
+    gather(alloc, first, standings)
 }

@@ -17,11 +17,10 @@ use Rattle.clk_model.proofs.CallLaws.{own-append}
 use Rattle.clk_model.proofs.Members.{both_left, both_right}
 use Rattle.tier_lock.specs.Entries.{IsPrefix, AreBelow}
 use Rattle.clk_framework.specs.Calls.{DriverView, IsReady}
-use Rattle.driver_runs.specs.Drivers.{FollowAll, are_among}
+use Rattle.driver_runs.specs.Drivers.{FollowAll, are_among, boot_first}
 use Rattle.driver_runs.proofs.Following.{calls_alone}
 use Rattle.driver_threads.specs.Going.{GoesThrough}
 use Rattle.driver_threads.specs.Workers.{HaveWorked, newcomer, newcomers}
-use Rattle.driver_threads.specs.Runs.{boot_first}
 use Rattle.driver_threads.proofs.Going.{same_ready}
 
 -- ---- what one driver has gone through

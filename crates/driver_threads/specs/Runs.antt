@@ -1,14 +1,13 @@
 -- Running a bundle with each driver on a thread of its own: what may be run, and what a core has gone through then.
-use Rattle.std.specs.Prelude.{◌≡◌, ◌+◌, ◌≤◌, ◌==◌, List, Bool, true, false, not, Option, Some, length, sum_by}
-use Rattle.std.specs.List.{list_all, AllByRecursion}
+use Rattle.std.specs.Prelude.{◌≡◌, ◌+◌, ◌≤◌, List, true, false, Option, Some, length, sum_by}
+use Rattle.std.specs.List.{AllByRecursion}
 use Rattle.atomic_table.specs.Seated.{TableId}
 use Rattle.clk_base.specs.Description.{Description, EachClock}
 use Rattle.clk_base.specs.declared.command.Answer.{Answer}
 use Rattle.clk_base.specs.declared.command.Command.{Command}
-use Rattle.clk_base.specs.declared.event.Entry.{Entry}
 use Rattle.clk_model.specs.Journal.{Legal}
-use Rattle.clk_model.specs.Ordered.{after_boot}
-use Rattle.clk_machine.specs.Fit.{has_earlier_parents, keeps_parents}
+use Rattle.clk_machine.specs.Built.{allowed_over}
+use Rattle.clk_machine.specs.Fit.{has_earlier_parents}
 use Rattle.clk_machine.specs.Run.{Run, in_flight}
 use Rattle.tier_lock.specs.Known.{first_known}
 use Rattle.clk_framework.specs.declared.opened.Opened.{Opened}
@@ -17,7 +16,7 @@ use Rattle.clk_framework.specs.Calls.{DriverView}
 use Rattle.drv_scripts.specs.Placed.{IsScript}
 use Rattle.drv_scripts.specs.Spelled.{boot_of}
 use Rattle.drv_scripts.specs.declared.bundle.Script.{Script}
-use Rattle.driver_runs.specs.Drivers.{FollowAll, are_among}
+use Rattle.driver_runs.specs.Drivers.{FollowAll, are_among, boot_first}
 use Rattle.driver_runs.specs.Scripts.{are_built}
 use Rattle.driver_runs.specs.Turns.{scripts_with}
 
@@ -27,7 +26,7 @@ pub record AreRunnable (defs : Description) (boot : List Command) (drivers : Lis
   pub earlier : EachClock defs (has_earlier_parents defs)
   pub boot_is : boot ≡ boot_of (length defs)
   pub placed : AllByRecursion (IsScript (length defs)) drivers
-  pub built : AllByRecursion (λ s. are_built (keeps_parents defs) s.commands ≡ true) drivers
+  pub built : AllByRecursion (λ s. are_built (allowed_over defs) s.commands ≡ true) drivers
 
 -- driver 0 of a framework with this lock, which has made no call and no driver, and has a credit for each command of scripts that can be run
 pub record CanStart (table : TableId) (first : DriverView) (boot : List Command) (drivers : List Script) : Type 0 where
@@ -36,10 +35,6 @@ pub record CanStart (table : TableId) (first : DriverView) (boot : List Command)
   pub credits : length boot + sum_by (λ s. length s.commands) drivers ≤ first.room
   pub few : length drivers ≤ 65536
   pub runnable : AreRunnable opened.defs boot drivers
-
--- boot's entries stand before all others
-abbrev pub boot_first : List Entry → Bool
-boot_first journal = list_all (λ e. not (e.driver == 0)) (after_boot journal)
 
 -- a core has run the commands of boot, and then those of each of these drivers, whichever of them came first at each turn: it began at the opening that driver 0
 -- knew; its journal is legal from there where the bank tells its words; boot and each driver, and nobody else, have their calls once, in their order, one after the

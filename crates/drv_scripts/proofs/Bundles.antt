@@ -1,5 +1,5 @@
 -- The bundle that lines spell, and what holds of it.
-use Rattle.std.proofs.Common.{◌≡◌, ℕ, zero, suc, ◌+◌, ◌-◌, ◌<◌, ◌≤◌, ◌++◌, true, List, [], ◌∷◌, map, length, Option, Some, None, refl, ap, ◌∙◌, subst, arith}
+use Rattle.std.proofs.Common.{◌≡◌, ℕ, zero, suc, ◌+◌, ◌-◌, ◌<◌, ◌≤◌, ◌++◌, true, List, [], ◌∷◌, map, length, Option, Some, None, refl, ap, subst, arith}
 use Rattle.std.specs.Prelude.{slice_get, Bool, false, cond, nat_lt}
 use Rattle.std.specs.List.{range_with_len, AllByRecursion, flat_map, list_all, position}
 use Rattle.std.specs.Option.{option_map, option_and_then, option_flatten}
@@ -25,9 +25,9 @@ use Rattle.drv_scripts.specs.declared.bundle.Script.{Script}
 use Rattle.drv_scripts.specs.declared.part.Others.{Others}
 use Rattle.drv_scripts.specs.Placed.{NamePlaces, IsScript, IsSound}
 use Rattle.drv_scripts.specs.Parts.{AreOthers, made}
-use Rattle.drv_scripts.specs.Sections.{Around, around, names_at, names_of, scripts_between, scripts_in, late_in, turns_in, line_of, order_lines_in, count_of}
+use Rattle.drv_scripts.specs.Sections.{Around, around, names_at, names_of, scripts_between, scripts_in, late_in, count_of}
 use Rattle.drv_scripts.specs.Spelled.{probe, boot_of, is_late, probe_unless, probes_without, step_commands, assigned_commands, bank_words, bundle_of}
-use Rattle.drv_scripts.proofs.ListPlaced.{all_append, locks_placed, late_placed}
+use Rattle.drv_scripts.proofs.ListPlaced.{all_append, locks_placed, late_placed, order_numbered}
 use Rattle.drv_scripts.proofs.SaidPlaced.{MayBeNamed, commands_placed}
 
 -- ## Boot
@@ -121,24 +121,6 @@ both : (n : ℕ) (scripts : List Script) → ScriptsPlaced n scripts → AllByRe
 both n [] placed few = tt
 both n (s ∷ more) placed few = (record { placed = placed.0; few = few.0 }, both n more placed.1 few.1)
 
--- ## Turns
-
--- two lists that are nothing together are nothing
-nothing_both : {X : Type 0} (xs ys : List X) → xs ++ ys ≡ [] → (xs ≡ []) × (ys ≡ [])
-nothing_both [] ys e = (refl, e)
-nothing_both (x ∷ xs) ys e = absurd cc
-
--- no turn without a line
-no_turns : (turns : List ℕ) (place : ℕ) → line_of turns place ≡ [] → turns ≡ []
-no_turns [] place none = refl
-no_turns (turn ∷ turns) place none = absurd cc
-
-order_lined : (a : Around) (sections : List SaidSection) → flat_map (order_lines_in a) sections ≡ [] → flat_map (turns_in a) sections ≡ []
-order_lined a [] none = refl
-order_lined a (s ∷ more) none =
-    let both = nothing_both (order_lines_in a s) (flat_map (order_lines_in a) more) none in
-    ap (λ (xs : List ℕ). xs ++ flat_map (turns_in a) more) (no_turns (turns_in a s) s.place both.0) ∙ order_lined a more both.1
-
 -- ## The bundle
 
 -- the bundle of what was read is the one that the lines spell
@@ -188,5 +170,5 @@ bundle_sound ls parts said fit = record {
   scripts = both (length said.defs) (flat_map (scripts_in (around ls parts said)) parts.others) (sections_placed (around ls parts said) parts.others fit.named) fit.scripts;
   drivers = fit.drivers;
   commands = fit.commands;
-  lined = order_lined (around ls parts said) parts.others;
+  turns = order_numbered (around ls parts said) parts.others;
 }

@@ -1,7 +1,8 @@
--- The clocks that locks and late lines name are clocks of the description.
-use Rattle.std.proofs.Common.{ℕ, zero, suc, ◌+◌, ◌-◌, ◌<◌, ◌++◌, Bool, true, false, cond, List, [], ◌∷◌, length, Option, Some, None, Result, Ok, Err, IfSome, IfOk}
-use Rattle.std.specs.List.{AllByRecursion, flat_map}
-use Rattle.std.specs.Option.{option_and_then, is_some}
+-- The clocks that locks and late lines name are clocks of the description, and turns are of drivers.
+use Rattle.std.proofs.Common.{ℕ, zero, suc, ◌+◌, ◌-◌, ◌<◌, ◌++◌, Bool, true, false, cond, List, [], ◌∷◌, length, Option, Some, None, Result, Ok, Err, IfSome, IfOk, arith}
+use Rattle.std.specs.List.{AllByRecursion, flat_map, position}
+use Rattle.std.specs.Option.{option_map, option_and_then, unwrap_or, is_some}
+use Rattle.std.specs.Str.{bytes_eq}
 use Rattle.std.specs.Result.{result_ok}
 use Rattle.bundle_sections.specs.Headers.{Said, device_tree, clocks, bank, lock, late, driver, order}
 use Rattle.bundle_sections.specs.Sections.{SaidSection}
@@ -15,8 +16,8 @@ use Rattle.clk_base.specs.Description.{Description, clock_named, kind_of}
 use Rattle.clk_base.specs.Fields.{power_of}
 use Rattle.drv_scripts.specs.declared.bundle.LateLine.{LateLine}
 use Rattle.drv_scripts.specs.declared.bundle.LockLine.{LockLine}
-use Rattle.drv_scripts.specs.ListLines.{as_pll, pll_named, lock_said, lock_line, lock_at, locks_of, late_said, late_line, late_at, late_of}
-use Rattle.drv_scripts.specs.Sections.{Around, locks_between, locks_in, late_between, late_in}
+use Rattle.drv_scripts.specs.ListLines.{as_pll, pll_named, lock_said, lock_line, lock_at, locks_of, late_said, late_line, late_at, late_of, turns_named, turns_at, turns_of}
+use Rattle.drv_scripts.specs.Sections.{Around, locks_between, locks_in, late_between, late_in, turns_between, turns_in}
 use Rattle.drv_scripts.proofs.SaidPlaced.{found_named}
 
 pub all_append : {X : Type 0} (P : X → Type 0) (xs ys : List X) → AllByRecursion P xs → AllByRecursion P ys → AllByRecursion P (xs ++ ys)
@@ -129,3 +130,40 @@ late_between_within a order first end = tt
 
 pub late_placed : (a : Around) (sections : List SaidSection) → AllByRecursion (λ l. l.clock.0 < length a.defs) (flat_map (late_in a) sections)
 late_placed a sections = all_flat (LateWithin (length a.defs)) (late_in a) (λ s. late_between_within a s.says (s.place + 1) s.end) sections
+
+-- ## Turns
+
+-- the number of a driver that can have a turn
+abbrev IsNumber : ℕ → Type 0
+IsNumber d = 0 < d
+
+turn_joined : (place : Option ℕ) (turns : Option (List ℕ)) → AllByRecursion IsNumber (unwrap_or turns [])
+    → AllByRecursion IsNumber (unwrap_or (option_and_then (λ d. option_map (λ more. d ∷ more) turns) (option_map (λ i. i + 1) place)) [])
+turn_joined None turns all = tt
+turn_joined (Some i) None all = tt
+turn_joined (Some i) (Some turns) all = (omega arith, all)
+
+turns_numbered : (names words : List (List ℕ)) → AllByRecursion IsNumber (unwrap_or (turns_named names words) [])
+unfolding turns_named
+turns_numbered names [] = tt
+turns_numbered names (word ∷ words) = turn_joined (position (λ own. bytes_eq own word) names) (turns_named names words) (turns_numbered names words)
+
+turns_of_numbered : (names ls : List (List ℕ)) (from count : ℕ) → AllByRecursion IsNumber (turns_of names ls from count)
+unfolding turns_of turns_at
+turns_of_numbered names ls from zero = tt
+turns_of_numbered names ls from (suc count) =
+    all_append IsNumber (turns_at names ls from) (turns_of names ls (from + 1) count) (turns_numbered names (said_words (line_at ls from))) (turns_of_numbered names ls (from + 1) count)
+
+turns_between_numbered : (a : Around) (says : Said) (first end : ℕ) → AllByRecursion IsNumber (turns_between a says first end)
+unfolding turns_between
+turns_between_numbered a device_tree first end = tt
+turns_between_numbered a clocks first end = tt
+turns_between_numbered a (bank n) first end = tt
+turns_between_numbered a lock first end = tt
+turns_between_numbered a late first end = tt
+turns_between_numbered a (driver name path) first end = tt
+turns_between_numbered a order first end = turns_of_numbered a.drivers a.lines first (end - first)
+
+-- each turn is of a driver, which are numbered from 1
+pub order_numbered : (a : Around) (sections : List SaidSection) → AllByRecursion (λ d. 0 < d) (flat_map (turns_in a) sections)
+order_numbered a sections = all_flat IsNumber (turns_in a) (λ s. turns_between_numbered a s.says (s.place + 1) s.end) sections

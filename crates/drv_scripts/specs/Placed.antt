@@ -1,5 +1,5 @@
 -- What holds of every bundle that is read, for those who run it.
-use Rattle.std.specs.Prelude.{◌≡◌, ℕ, ◌<◌, ◌≤◌, List, [], length, Some, None}
+use Rattle.std.specs.Prelude.{◌≡◌, ℕ, ◌<◌, ◌≤◌, List, length, Some, None}
 use Rattle.std.specs.List.{AllByRecursion}
 use Rattle.clk_base.specs.declared.command.Act.{Act}
 use Rattle.clk_base.specs.declared.command.Act.TheVariants.{Get, SetParent, Probe}
@@ -39,4 +39,4 @@ pub record IsSound (b : Bundle) : Type 0 where
   pub scripts : AllByRecursion (IsScript (length b.desc.defs)) b.drivers
   pub drivers : length b.drivers ≤ 64
   pub commands : count_of b.drivers ≤ 1048576
-  pub lined : b.order_lines ≡ [] → b.order ≡ []
+  pub turns : AllByRecursion (λ d. 0 < d) b.order

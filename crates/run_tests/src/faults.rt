@@ -1,6 +1,6 @@
 //! Sources and sinks that fail.
 
-use crate::running::{CLOCKS, UART, UART_PRINTED, run};
+use crate::running::{CLOCKS, UART, UART_PRINTED, run, run_over};
 use clk_cli::USAGE_LINE;
 use std::test::Fail;
 
@@ -58,5 +58,21 @@ fn a_refusal_or_the_usage_line_may_be_cut(rt: HostRuntime) -> Result<(), Fail> {
     assert_eq!(rt; status, 5);
     assert!(rt; USAGE_LINE.as_bytes().starts_with(out.written()));
     assert_eq!(rt; out.written().len(), 8);
+    Ok(())
+}
+
+#[test]
+fn a_generated_bundle_is_not_read(rt: HostRuntime) -> Result<(), Fail> {
+    let words = ["bench", "1"];
+    let (status, whole) = run_over(&rt, &words, b"", &[1], &[], 65_536)?;
+    assert_eq!(rt; status, 0);
+    assert!(rt;
+        whole
+            .written()
+            .starts_with(b"drivers 1\ncommands 404\nok 404\nclock ")
+    );
+    let (status, out) = run_over(&rt, &words, b"", &[1], &[2], 8)?;
+    assert_eq!(rt; status, 5);
+    assert_eq!(rt; out.written(), b"drivers ".as_slice());
     Ok(())
 }

@@ -1,10 +1,13 @@
 //! Tests of the program's top call that no text can say: sources and sinks that fail, the pieces in
-//! which a text is written, bytes that are no text, and words that are no word.
+//! which a text is written, bytes that are no text, words that are no word, drivers on threads of
+//! their own, and that the turns of their calls come between each other.
 //!
 //! Runs that a text can say stand in the crate `worked_runs`. These stand in a crate of their own
 //! because a crate with tests is proved twice.
 #![tactic(auto)]
 
+#[cfg(test)]
+mod between;
 #[cfg(test)]
 mod bytes;
 #[cfg(test)]
@@ -13,3 +16,7 @@ mod faults;
 mod pieces;
 #[cfg(test)]
 mod running;
+#[cfg(test)]
+mod side_by_side;
+#[cfg(test)]
+mod untold;

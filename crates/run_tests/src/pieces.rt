@@ -20,11 +20,11 @@ fn a_sink_is_called_once_a_piece(rt: HostRuntime) -> Result<(), Fail> {
     // 100 answers are 1,092 bytes, and the summary's 101 lines have 83 each: two pieces, which a line
     // fills up, and the rest.
     let text = bundle_of(&rt, 100)?;
-    let (status, whole) = run_over(&rt, "check", text.as_bytes(), &[], &[4], 65_536)?;
+    let (status, whole) = run_over(&rt, &["check"], text.as_bytes(), &[], &[4], 65_536)?;
     assert!(rt; status == 0 && whole.written().len() == 9_475);
     for call in 1..=3usize {
         let fails = [call as u32];
-        let (status, out) = run_over(&rt, "check", text.as_bytes(), &[], &fails, 65_536)?;
+        let (status, out) = run_over(&rt, &["check"], text.as_bytes(), &[], &fails, 65_536)?;
         let written = out.written();
         assert!(rt; status == 5 && whole.written().starts_with(written));
         assert!(rt; written.len() >= (call - 1) * PIECE_BYTES);

@@ -21,11 +21,11 @@ pub(crate) const UART: &str =
 pub(crate) const UART_PRINTED: &str =
     "boot.1 ok\nboot.2 ok\nA.1 handle 0\nA.2 ok\nA.3 ok\nA.4 rate 24000000\nclock                             enable prepare protect                 rate   hw\nosc                                    1       1       0             24000000    -\n  uart_gate                            1       1       0             24000000   on\nreg 0 0x00000008\n";
 
-/// The status for a word and bytes, and the sink. These calls of the source and the sink fail; the
+/// The status for words and bytes, and the sink. These calls of the source and the sink fail; the
 /// sink takes so many bytes a call.
 pub(crate) fn run_over<R: AllocGlobal + Threads + Wait + Sync>(
     rt: &R,
-    word: &str,
+    words: &[&str],
     text: &[u8],
     bad_reads: &[u32],
     bad_writes: &[u32],
@@ -38,11 +38,11 @@ pub(crate) fn run_over<R: AllocGlobal + Threads + Wait + Sync>(
     let mut input = MemSource::new(bytes, Vec::from_slice(alloc, bad_reads)?);
     let mut out = MemSink::new(alloc, most, 65_536, Vec::from_slice(alloc, bad_writes)?)?;
     let bank = MemBank::new(alloc)?;
-    let (status, _) = clkbench(rt, &[word], &mut input, &mut out, bank, &NoPause);
+    let (status, _) = clkbench(rt, words, &mut input, &mut out, bank, &NoPause);
     Ok((status, out))
 }
 
-/// The same with a sink that takes 8 bytes a call.
+/// The same for one word, with a sink that takes 8 bytes a call.
 pub(crate) fn run<R: AllocGlobal + Threads + Wait + Sync>(
     rt: &R,
     word: &str,
@@ -50,5 +50,5 @@ pub(crate) fn run<R: AllocGlobal + Threads + Wait + Sync>(
     bad_reads: &[u32],
     bad_writes: &[u32],
 ) -> Result<(u8, MemSink), NoMemory> {
-    run_over(rt, word, text, bad_reads, bad_writes, 8)
+    run_over(rt, &[word], text, bad_reads, bad_writes, 8)
 }

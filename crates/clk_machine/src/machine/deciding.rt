@@ -3,7 +3,7 @@
 ghost use Rattle.std.specs.Prelude.{◌≡◌, ◌+◌, ◌<◌, true, false, max, min, IfOk};
 ghost use Rattle.clk_base.specs.declared.call.Sleeping.TheVariants.{SetRate, SetRateExclusive, SetRange};
 ghost use Rattle.clk_model.specs.Laws.PlansRead.{plans};
-ghost use Rattle.clk_machine.specs.Deciding.{ArePlanned, Decided, IsOwned};
+ghost use Rattle.clk_machine.specs.Deciding.{ArePlannedOver, Decided, IsOwned};
 
 use super::Machine;
 use super::lifting::decide_lifted;
@@ -29,7 +29,7 @@ impl<B: Bank> Machine<B> {
         requires quiet { self.old.flight.going ≡ false }
         requires plans { plans what ≡ true }
         ensures decides { IfOk result (λ decision. Decided self.old driver what decision) }
-        ensures there { IfOk result (λ decision. ArePlanned self.old.tree decision) }
+        ensures there { IfOk result (λ decision. ArePlannedOver self.old what decision) }
         ensures own { IfOk result (λ decision. IsOwned self.old.table.handles driver what decision) }
         ensures same { self.new ≡ self.old }
     {
@@ -61,7 +61,7 @@ impl<B: Bank> Machine<B> {
         requires credit { self.old.spent < self.old.credits }
         requires quiet { self.old.flight.going ≡ false }
         ensures decides { IfOk result (λ decision. Decided self.old driver (SetRate handle rate) decision) }
-        ensures there { IfOk result (λ decision. ArePlanned self.old.tree decision) }
+        ensures there { IfOk result (λ decision. ArePlannedOver self.old (SetRate handle rate) decision) }
         ensures own { IfOk result (λ decision. IsOwned self.old.table.handles driver (SetRate handle rate) decision) }
         ensures same { self.new ≡ self.old }
     {
@@ -93,7 +93,7 @@ impl<B: Bank> Machine<B> {
         requires credit { self.now.spent < self.now.credits }
         requires quiet { self.now.flight.going ≡ false }
         ensures decides { IfOk result (λ decision. Decided self.now driver (SetRateExclusive handle rate) decision) }
-        ensures there { IfOk result (λ decision. ArePlanned self.now.tree decision) }
+        ensures there { IfOk result (λ decision. ArePlannedOver self.now (SetRateExclusive handle rate) decision) }
         ensures own { IfOk result (λ decision. IsOwned self.now.table.handles driver (SetRateExclusive handle rate) decision) }
     {
         let Some(row) = self.own(driver, handle) else {
@@ -129,7 +129,7 @@ impl<B: Bank> Machine<B> {
         requires credit { self.old.spent < self.old.credits }
         requires quiet { self.old.flight.going ≡ false }
         ensures decides { IfOk result (λ decision. Decided self.old driver (SetRange handle least most) decision) }
-        ensures there { IfOk result (λ decision. ArePlanned self.old.tree decision) }
+        ensures there { IfOk result (λ decision. ArePlannedOver self.old (SetRange handle least most) decision) }
         ensures own { IfOk result (λ decision. IsOwned self.old.table.handles driver (SetRange handle least most) decision) }
         ensures same { self.new ≡ self.old }
     {

@@ -47,8 +47,8 @@ impl<B: Bank> Machine<B> {
         Reply::Fine
     }
 
-    // Whether a clock is active.
-    fn is_active(&self, clock: ClockId) -> bool
+    /// Whether a clock is active.
+    pub(super) fn is_active(&self, clock: ClockId) -> bool
         requires { clock.0 < length self.now.desc.defs }
         ensures { (s : State) → Stands self.now s → result ≡ active s clock.0 }
     {

@@ -1,8 +1,8 @@
 //! A request for a rate where one exclusive hold of its own handle doesn't count.
 
-ghost use Rattle.std.specs.Prelude.{◌≡◌, ◌<◌, true, length, slice_index, IfOk};
+ghost use Rattle.std.specs.Prelude.{◌≡◌, ◌<◌, true, false, length, slice_index, IfOk};
 ghost use Rattle.clk_model.specs.State.{State, registered};
-ghost use Rattle.counts_core.specs.Counted.{HasLinks};
+ghost use Rattle.counts_core.specs.Counted.{HasLinks, is_prepared};
 ghost use Rattle.clk_machine.specs.Deciding.{ArePlanned, IsAnswer, IsGiven, less_protected};
 ghost use Rattle.clk_machine.specs.Parts.{AreTied};
 
@@ -42,7 +42,7 @@ pub(super) fn decide_lifted<B: Bank>(
     requires held { 0 < row.exclusives → 0 < slice_index counts.old.exclusives row.clock.0 }
     requires few { slice_index counts.old.exclusives row.clock.0 < 8388608 }
     ensures decides { IfOk result (λ decision. (new lifted : State) → IsGiven desc.now window.now tree.now handles.now.handles (less_protected row counts.old) notifiers.now used new lifted → IsAnswer new lifted row.clock.0 wanted decision) }
-    ensures there { IfOk result (λ decision. ArePlanned tree.now decision) }
+    ensures there { IfOk result (λ decision. ArePlanned tree.now (is_prepared counts.old) notifiers.now used false decision) }
     ensures same { counts.new ≡ counts.old }
 {
     let clock = row.clock;

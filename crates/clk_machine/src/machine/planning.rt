@@ -9,7 +9,7 @@ ghost use Rattle.clk_model.specs.Lists.{is_at};
 ghost use Rattle.clk_model.specs.Rate.{rate};
 ghost use Rattle.clk_model.specs.Round.{round_rate};
 ghost use Rattle.clk_model.specs.State.{State, registered};
-ghost use Rattle.counts_core.specs.Counted.{AreCounts};
+ghost use Rattle.counts_core.specs.Counted.{AreCounts, is_prepared};
 ghost use Rattle.rate_planner.specs.Kept.{wired};
 ghost use Rattle.rate_planner.specs.Walks.{AreThere, walked_rates};
 ghost use Rattle.clk_machine.specs.Deciding.{ArePlanned, Fits, IsAnswer, IsGiven};
@@ -30,8 +30,8 @@ use rate_planner::{plan_now, round_now};
 use reg_bank::Bank;
 use std::alloc::Global;
 
-// Whether there is room for so many entries behind so many.
-fn fits(used: u64, weight: u64) -> bool
+/// Whether there is room for so many entries behind so many.
+pub(super) fn fits(used: u64, weight: u64) -> bool
     ensures { result ≡ nat_le (used + weight) most_credits }
 {
     used.saturating_add(weight) <= u64::from(MOST_CREDITS)
@@ -101,7 +101,7 @@ pub(super) fn go_on(
     requires seen { length view.now.counts.now.links ≡ length tree.now.defs }
     requires there { AreThere tree.now.clocks plan.rates }
     ensures decides { IfOk result (λ decision. OfPlan tree.now (seen view.now.handles.now.handles view.now.counts.now).prepared notifiers.now plan (λ s. HasFewNotifiers s → Fits s used plan decision)) }
-    ensures there { IfOk result (λ decision. ArePlanned tree.now decision) }
+    ensures there { IfOk result (λ decision. ArePlanned tree.now (is_prepared view.now.counts.now) notifiers.now used plan.set_parent decision) }
 {
     let script = script(alloc, desc, tree, view, notifiers, &plan)?;
     if fits(used, script.weight()) {
@@ -127,7 +127,7 @@ pub(super) fn decide_request<B: Bank>(
     requires seen { length view.now.counts.now.links ≡ length tree.now.defs }
     requires there { registered tree.now.clocks clock.0 ≡ true }
     ensures decides { IfOk result (λ decision. (new lifted : State) → IsGiven desc.now window.now tree.now view.now.handles.now.handles view.now.counts.now notifiers.now used new lifted → IsAnswer new lifted clock.0 wanted decision) }
-    ensures there { IfOk result (λ decision. ArePlanned tree.now decision) }
+    ensures there { IfOk result (λ decision. ArePlanned tree.now (is_prepared view.now.counts.now) notifiers.now used false decision) }
 {
     if keeps_rate(desc, window, tree, view, clock, wanted) {
         return Ok(Decision::AtOnce);

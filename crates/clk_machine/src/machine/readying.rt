@@ -1,4 +1,4 @@
-//! The beginning of a call that changes a rate: it is made ready before anything changes.
+//! The beginning of a call that changes a rate or a parent: it is made ready before anything changes.
 
 ghost use Rattle.std.specs.Prelude.{◌≡◌, ◌+◌, ◌<◌, ◌≤◌, true, false, Some, is_some, IfOk, OnOk, OnErr};
 ghost use Rattle.clk_base.specs.declared.call.Sleeping.TheVariants.{SetRange};
@@ -7,23 +7,24 @@ ghost use Rattle.clk_base.specs.declared.event.Reply.TheVariants.{Fine};
 ghost use Rattle.clk_base.specs.declared.event.Turn.TheVariants.{Done, Going};
 ghost use Rattle.clk_model.specs.Begin.{most_credits};
 ghost use Rattle.clk_model.specs.Journal.{is_going};
-ghost use Rattle.clk_model.specs.State.{handle_at};
+ghost use Rattle.clk_model.specs.State.{handle_at, registered};
 ghost use Rattle.change_walk.specs.Changes.{AreThere};
 ghost use Rattle.clk_machine.specs.declared.readied.Readied.TheVariants.{AtOnce, Change};
-ghost use Rattle.clk_machine.specs.Fit.{keeps_parents};
-ghost use Rattle.clk_machine.specs.InFlight.{asks_rate, is_ranged};
+ghost use Rattle.clk_machine.specs.Built.{is_built_over};
+ghost use Rattle.clk_machine.specs.InFlight.{changes_rate, is_ranged};
 ghost use Rattle.clk_machine.specs.Parts.{own_in, IsOwnCall, IsWhole, steps_left};
-ghost use Rattle.clk_machine.specs.Readying.{CanBeginSo, CanGoAlong, IsReady, Scripts, weight_of};
+ghost use Rattle.clk_machine.specs.Readying.{CanBeginSo, CanGoAlong, IsReady, Scripts, moves_well, weight_of};
 ghost use Rattle.clk_machine.specs.Stands.{Enters};
 
 use super::Machine;
+use super::movable::can_go_along;
 use crate::course::Course;
 use crate::decision::Decision;
 use crate::log::Log;
 use crate::readied::{Readied, Scripted};
-use crate::scripted::{still_steps, told_clocks, weigh};
+use crate::scripted::told_clocks;
 use change_walk::StepList;
-use clk_base::{Errno, Handle, MOST_CREDITS, Reply, Sleeping, Turn};
+use clk_base::{Errno, Handle, Reply, Sleeping, Turn};
 use clk_io::NoMemory;
 use clk_model::HandleRow;
 use clk_tree::Plan;
@@ -40,38 +41,47 @@ fn weight_of(readied: &Readied) -> u64
 }
 
 impl<B: Bank> Machine<B> {
-    // A plan with its script is made ready to go on, where there is room for the entries of its steps.
+    // Whether the moves of a plan can be made.
+    fn can_move(&self, plan: &Plan) -> bool
+        ensures moves { result ≡ moves_well self.now plan.now }
+        ensures whole { IsWhole self.now }
+    {
+        let chain = plan.chain.as_slice();
+        can_go_along(&self.desc, &self.tree, &self.counts, plan.set_parent, chain)
+    }
+
+    // A plan with its script is made ready to go on, where its moves can be made.
     fn scripted(&self, plan: Plan, script: StepList) -> Result<Readied, NoMemory>
         requires there { AreThere self.now.tree.clocks plan.rates }
         ensures scripts { IfOk result (λ readied. Scripts self.now plan script readied) }
         ensures whole { IsWhole self.now }
     {
-        let rates = plan.rates.as_slice();
-        let steps = still_steps(self.alloc, &script, rates)?;
-        let told = told_clocks(self.alloc, &self.tree, &self.notifiers, rates)?;
-        let weight = weigh(&self.notifiers, self.tree.plls(), steps.as_slice());
-        if self.used().saturating_add(weight) > u64::from(MOST_CREDITS) {
-            return Ok(Readied::Refused(Errno::ENOSPC));
+        if !self.can_move(&plan) {
+            return Ok(Readied::Refused(Errno::EINVAL));
         }
+        let rates = plan.rates.as_slice();
+        let told = told_clocks(self.alloc, &self.tree, &self.notifiers, rates)?;
+        let vetoed = script.vetoed();
+        let weight = script.weight();
         let Plan {
             chain,
             rates: _,
             set_parent: _,
         } = plan;
         Ok(Readied::Change(Scripted {
-            steps,
+            steps: script.into_steps(),
             course: Course::of(chain, told),
-            vetoed: script.vetoed(),
+            vetoed,
             weight,
         }))
     }
 
-    // Makes a call ready that changes a rate. Nothing is changed.
+    // Makes a call ready that changes a rate or a parent. Nothing is changed.
     fn ready(&mut self, driver: u32, what: Sleeping) -> Result<Readied, NoMemory>
         requires credit { self.old.spent < self.old.credits }
         requires quiet { self.old.flight.going ≡ false }
-        requires changes { asks_rate what ≡ true }
-        requires still { keeps_parents self.old.desc.defs ≡ true }
+        requires changes { changes_rate what ≡ true }
+        requires built { is_built_over self.old.desc.defs (registered self.old.tree.clocks) what ≡ true }
         ensures ready { IfOk result (λ readied. IsReady self.old driver what readied) }
         ensures can { IfOk result (λ readied. CanBeginSo self.old driver what readied) }
         ensures same { self.new ≡ self.old }
@@ -95,17 +105,17 @@ impl<B: Bank> Machine<B> {
         }
     }
 
-    // Answers a call by Ok that changes a rate and has nothing to do.
+    // Answers a call by Ok that changes a rate or a parent and has nothing to do.
     fn answer_at_once(&mut self, driver: u32, what: Sleeping)
         requires credit { self.old.spent < self.old.credits }
         requires quiet { self.old.flight.going ≡ false }
-        requires changes { asks_rate what ≡ true }
+        requires changes { changes_rate what ≡ true }
         requires own { IsOwnCall self.old.table.handles driver what }
         requires ready { IsReady self.old driver what AtOnce }
         ensures { Enters self.old driver (Begin what) (Done Fine) self.new }
     {
         match what {
-            Sleeping::SetRate(_, _) => self.spend(),
+            Sleeping::SetRate(_, _) | Sleeping::SetParent(_, _) => self.spend(),
             Sleeping::SetRateExclusive(handle, _) => {
                 let row = self.known(driver, handle);
                 self.add_exclusive(handle, row);
@@ -118,11 +128,11 @@ impl<B: Bank> Machine<B> {
         }
     }
 
-    // A change of rate goes on that sets no range. All memory that it needs is taken.
+    // A change of rate or parent goes on that sets no range. All memory that it needs is taken.
     fn go_along(&mut self, driver: u32, what: Sleeping, scripted: Scripted) -> Result<(), NoMemory>
         requires credit { self.old.spent < self.old.credits }
         requires quiet { self.old.flight.going ≡ false }
-        requires changes { asks_rate what ≡ true }
+        requires changes { changes_rate what ≡ true }
         requires unranged { is_ranged what ≡ false }
         requires can { CanGoAlong self.old driver what scripted }
         requires ready { IsReady self.old driver what (Change scripted) }
@@ -171,11 +181,11 @@ impl<B: Bank> Machine<B> {
         Ok(())
     }
 
-    // A change of rate goes on.
+    // A change of rate or parent goes on.
     fn go_on(&mut self, driver: u32, what: Sleeping, scripted: Scripted) -> Result<(), NoMemory>
         requires credit { self.old.spent < self.old.credits }
         requires quiet { self.old.flight.going ≡ false }
-        requires changes { asks_rate what ≡ true }
+        requires changes { changes_rate what ≡ true }
         requires can { CanGoAlong self.old driver what scripted }
         requires ready { IsReady self.old driver what (Change scripted) }
         ensures ok { OnOk result (Enters self.old driver (Begin what) Going self.new) }
@@ -186,18 +196,18 @@ impl<B: Bank> Machine<B> {
             Sleeping::SetRange(handle, least, most) => {
                 self.go_along_within(driver, handle, least, most, scripted)
             }
-            Sleeping::SetRate(_, _) | Sleeping::SetRateExclusive(_, _) => {
-                self.go_along(driver, what, scripted)
-            }
+            Sleeping::SetRate(_, _)
+            | Sleeping::SetRateExclusive(_, _)
+            | Sleeping::SetParent(_, _) => self.go_along(driver, what, scripted),
             _ => unreachable!(),
         }
     }
 
-    // Begins a call that changes a rate as it was made ready.
+    // Begins a call that changes a rate or a parent as it was made ready.
     fn begin_so(&mut self, driver: u32, what: Sleeping, readied: Readied) -> Result<Turn, NoMemory>
         requires credit { self.old.spent < self.old.credits }
         requires quiet { self.old.flight.going ≡ false }
-        requires changes { asks_rate what ≡ true }
+        requires changes { changes_rate what ≡ true }
         requires can { CanBeginSo self.old driver what readied }
         requires ready { IsReady self.old driver what readied }
         ensures ok { IfOk result (λ turn. Enters self.old driver (Begin what) turn self.new) }
@@ -220,7 +230,7 @@ impl<B: Bank> Machine<B> {
         }
     }
 
-    /// Begins a call that changes a rate, with room in the log for the entries of its steps.
+    /// Begins a call that changes a rate or a parent, with room in the log for the entries of its steps.
     pub(crate) fn begin_change(
         &mut self,
         log: &mut Log,
@@ -229,8 +239,8 @@ impl<B: Bank> Machine<B> {
     ) -> Result<Turn, NoMemory>
         requires credit { self.old.spent < self.old.credits }
         requires quiet { self.old.flight.going ≡ false }
-        requires changes { asks_rate what ≡ true }
-        requires still { keeps_parents self.old.desc.defs ≡ true }
+        requires changes { changes_rate what ≡ true }
+        requires built { is_built_over self.old.desc.defs (registered self.old.tree.clocks) what ≡ true }
         requires paid { self.old.credits ≤ self.old.spent + log.old.room }
         ensures ok { IfOk result (λ turn. Enters self.old driver (Begin what) turn self.new) }
         ensures room { IfOk result (λ turn. is_going turn ≡ true → self.old.credits + steps_left self.new ≤ self.old.spent + log.new.room) }

@@ -10,7 +10,7 @@ ghost use Rattle.clk_model.specs.State.{registered, link_in};
 ghost use Rattle.counts_core.specs.Counted.{HasLinks, is_guarded, is_prepared};
 ghost use Rattle.rate_planner.specs.Kept.{wired};
 ghost use Rattle.rate_planner.specs.Walks.{AreThere, parent_chain, walked_rates};
-ghost use Rattle.clk_machine.specs.Deciding.{ArePlanned, Decided, less_protected};
+ghost use Rattle.clk_machine.specs.Deciding.{ArePlannedOver, Decided, IsOwned, less_protected};
 ghost use Rattle.clk_machine.specs.Parts.{AreTied};
 ghost use Rattle.clk_machine.specs.Reparenting.{is_bound, is_candidate, parent_refusal};
 
@@ -61,8 +61,8 @@ fn is_among(wanted: ClockId, clocks: &[ClockId]) -> bool
     false
 }
 
-// Whether a clock is a mux with this possible parent, which is rooted.
-fn is_candidate(desc: &ValidDesc, tree: &Tree, clock: ClockId, parent: ClockId) -> bool
+/// Whether a clock is a mux with this possible parent, which is rooted.
+pub(super) fn is_candidate(desc: &ValidDesc, tree: &Tree, clock: ClockId, parent: ClockId) -> bool
     requires place { clock.0 < length desc.now.defs }
     requires made { desc.now.defs ≡ tree.now.defs }
     ensures { result ≡ is_candidate desc.now.defs tree.now.clocks clock.0 parent.0 }
@@ -171,7 +171,8 @@ impl<B: Bank> Machine<B> {
         requires credit { self.old.spent < self.old.credits }
         requires quiet { self.old.flight.going ≡ false }
         ensures decides { IfOk result (λ decision. Decided self.old driver (SetParent handle parent) decision) }
-        ensures there { IfOk result (λ decision. ArePlanned self.old.tree decision) }
+        ensures there { IfOk result (λ decision. ArePlannedOver self.old (SetParent handle parent) decision) }
+        ensures own { IfOk result (λ decision. IsOwned self.old.table.handles driver (SetParent handle parent) decision) }
         ensures same { self.new ≡ self.old }
     {
         let Some(row) = self.own(driver, handle) else {

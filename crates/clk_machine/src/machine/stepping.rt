@@ -1,9 +1,6 @@
 //! The steps of the change in flight.
 
 ghost use Rattle.std.specs.Prelude.{◌≡◌, ◌<◌, true, [], Some, None, length, reverse, IfSome};
-ghost use Rattle.std.specs.Option.{option_map};
-ghost use Rattle.reg_bank.specs.Locks.{polled, is_locked};
-ghost use Rattle.clk_machine.specs.Window.{lock_in};
 ghost use Rattle.clk_base.specs.declared.call.Micro.TheVariants as micro;
 ghost use Rattle.clk_base.specs.declared.event.Event.TheVariants.{Step};
 ghost use Rattle.clk_base.specs.declared.event.Turn.TheVariants.{Going};
@@ -12,6 +9,7 @@ ghost use Rattle.clk_model.specs.Tree.{path};
 ghost use Rattle.clk_flight.specs.Flights.{own_step, comes_next};
 ghost use Rattle.clk_machine.specs.Making.{ComesFirst, ComesNext, FindsNothing};
 ghost use Rattle.clk_machine.specs.Parts.{IsWhole};
+ghost use Rattle.clk_machine.specs.Polls.{FollowsLocks, PollsLock, StartsLock};
 ghost use Rattle.clk_machine.specs.Plls.{raisable, lowerable, Finds};
 ghost use Rattle.clk_machine.specs.Sound.{links_well};
 ghost use Rattle.clk_machine.specs.Stands.{Enters};
@@ -48,7 +46,8 @@ impl<B: Bank> Machine<B> {
         requires going { self.old.flight.going ≡ true }
         requires next { own_step self.old.flight ≡ Some step }
         requires seeks { FindsNothing self.old step }
-        ensures { Enters self.old self.old.flight.driver (Step step None) Going self.new }
+        ensures enters { Enters self.old self.old.flight.driver (Step step None) Going self.new }
+        ensures starts { StartsLock self.old self.new }
     {
         self.flight.find_none();
         self.steps += 1;
@@ -60,7 +59,8 @@ impl<B: Bank> Machine<B> {
         requires next { own_step self.old.flight ≡ Some (micro.Raise clock) }
         requires first { ComesFirst self.old (micro.Raise clock) }
         requires found { Finds (record { pll = Some pll; more = more }) (reverse (raisable self.old.desc.defs self.old.counts self.old.flight.raised (path self.old.tree.clocks clock.0))) }
-        ensures { Enters self.old self.old.flight.driver (Step (micro.Raise clock) None) Going self.new }
+        ensures enters { Enters self.old self.old.flight.driver (Step (micro.Raise clock) None) Going self.new }
+        ensures starts { StartsLock self.old self.new }
     {
         set_power(self.desc.def(pll).kind, &mut self.window, true);
         self.window.start(pll);
@@ -88,7 +88,8 @@ impl<B: Bank> Machine<B> {
         requires next { own_step self.old.flight ≡ Some (micro.Raise clock) }
         requires first { ComesFirst self.old (micro.Raise clock) }
         requires there { registered self.old.tree.clocks clock.0 ≡ true }
-        ensures { Enters self.old self.old.flight.driver (Step (micro.Raise clock) None) Going self.new }
+        ensures enters { Enters self.old self.old.flight.driver (Step (micro.Raise clock) None) Going self.new }
+        ensures starts { StartsLock self.old self.new }
     {
         let found = self.to_raise(clock);
         match found.pll {
@@ -118,8 +119,7 @@ impl<B: Bank> Machine<B> {
         requires next { own_step self.old.flight ≡ Some (micro.Poll pll) }
         requires first { ComesFirst self.old (micro.Poll pll) }
         ensures enters { Enters self.old self.old.flight.driver (Step (micro.Poll pll) (Some result)) Going self.new }
-        ensures lock { lock_in self.new.window.locks pll.0 ≡ option_map polled (lock_in self.old.window.locks pll.0) }
-        ensures answer { IfSome (lock_in self.new.window.locks pll.0) (λ now. result ≡ is_locked now) }
+        ensures polls { PollsLock pll (Some result) self.old self.new }
     {
         let yes = self.window.locked(pll);
         self.flight.poll(yes);
@@ -153,6 +153,7 @@ impl<B: Bank> Machine<B> {
         requires { self.old.flight.going ≡ true }
         ensures enters { Enters self.old self.old.flight.driver (Step result.step result.answer) result.turn self.new }
         ensures links { links_well self.old.desc.defs self.old.tree.clocks result.step ≡ true }
+        ensures locks { FollowsLocks self.old (Step result.step result.answer) self.new }
     {
         match self.next_work() {
             Work::Raise(clock) => {
@@ -175,6 +176,22 @@ impl<B: Bank> Machine<B> {
                 self.tell(step);
                 going_on(step, None)
             }
+            Work::HoldPrepare(clock) => {
+                self.hold_prepare(clock);
+                going_on(Micro::HoldPrepare(clock), None)
+            }
+            Work::HoldEnable(clock) => {
+                self.hold_enable(clock);
+                going_on(Micro::HoldEnable(clock), None)
+            }
+            Work::DropEnable(clock) => {
+                self.let_enable_go(clock);
+                going_on(Micro::DropEnable(clock), None)
+            }
+            Work::DropPrepare(clock) => {
+                self.let_prepare_go(clock);
+                going_on(Micro::DropPrepare(clock), None)
+            }
             Work::Relink(clock, parent) => {
                 self.relink(clock, parent);
                 going_on(Micro::Relink(clock, parent), None)
@@ -186,6 +203,14 @@ impl<B: Bank> Machine<B> {
             Work::Settle(clock) => {
                 self.settle(clock);
                 going_on(Micro::Settle(clock), None)
+            }
+            Work::Close(clock) => {
+                self.close(clock);
+                going_on(Micro::Close(clock), None)
+            }
+            Work::Unpower(clock) => {
+                self.unpower(clock);
+                going_on(Micro::Unpower(clock), None)
             }
             Work::Visit(clock) => {
                 self.visit(clock);

@@ -4,7 +4,7 @@ ghost use Rattle.std.specs.Prelude.{◌≡◌, ◌+◌, ◌^◌, ◌<◌, ◌≤
 ghost use Rattle.std.specs.Option.{option_map};
 ghost use Rattle.clk_model.specs.State.{State, is_quiet};
 ghost use Rattle.clk_base.specs.declared.event.Event.TheVariants.{Begin};
-ghost use Rattle.clk_machine.specs.InFlight.{changes_rate};
+ghost use Rattle.clk_machine.specs.InFlight.{is_worked_out};
 ghost use Rattle.clk_machine.specs.Row.{IsTreeOf};
 ghost use Rattle.clk_machine.specs.Sound.{takes_memory};
 ghost use Rattle.clk_machine.specs.Stands.{Stands, is_told, most_steps};
@@ -48,9 +48,9 @@ impl<B: Bank> Machine<B> {
         self.flight.driver()
     }
 
-    /// How many steps a call that changes no rate may come to at most, where it goes on.
+    /// How many steps a call may come to at most, where it goes on and its steps aren't worked out before.
     pub(crate) fn most_steps(&self, what: Sleeping) -> u64
-        requires { changes_rate what ≡ false }
+        requires { is_worked_out what ≡ false }
         ensures most { result ≡ most_steps self.now.desc.defs (Begin what) }
         ensures small { result < 2 ^ 63 }
         ensures free { takes_memory what ≡ false → result ≡ 0 }
@@ -88,7 +88,7 @@ impl<B: Bank> Machine<B> {
     /// The bank.
     pub(crate) fn into_bank(self) -> B
         ensures words { option_map (take self.window.size) (B.contents result) ≡ self.window.words }
-        ensures behind { option_map (drop self.window.size) (B.contents result) ≡ self.window.behind }
+        ensures behind { option_map (drop self.window.size) (B.contents result) ≡ self.window.behind.words }
     {
         let Machine {
             desc: _,
@@ -102,6 +102,8 @@ impl<B: Bank> Machine<B> {
             ignore_unused: _,
             flight: _,
             course: _,
+            prepare_holds: _,
+            enable_holds: _,
             alloc: _,
             steps: _,
         } = self;

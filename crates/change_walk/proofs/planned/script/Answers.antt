@@ -1,5 +1,5 @@
 -- The parts of a script are those of the definitions.
-use Rattle.std.proofs.Common.{◌≡◌, ◌∙◌, ◌+◌, ◌-◌, ◌^◌, ◌&&◌, ◌<◌, ℕ, List, [], cond, sym, ap, length, map, min, subst}
+use Rattle.std.proofs.Common.{◌≡◌, ◌∙◌, ◌+◌, ◌-◌, ◌^◌, ◌&&◌, ◌<◌, ℕ, List, [], arith, cond, sym, ap, length, map, min, subst}
 use Rattle.std.specs.Prelude.{flat_map, slice_index, sum_by}
 use Rattle.std.specs.List.{All, list_any}
 use Rattle.clk_base.specs.declared.call.Micro.{Micro}
@@ -13,7 +13,7 @@ use Rattle.clk_tree.specs.Plans.{ClockRate, chain_of, rates_of}
 use Rattle.change_walk.specs.declared.changes.Changed.{Changed}
 use Rattle.change_walk.specs.Changes.{AreThere, changed_along, parent_after}
 use Rattle.change_walk.specs.Given.{Script, IsTold, IsPlanFor, HasFewNotifiers, changed_in, extra_of, planned_by}
-use Rattle.change_walk.specs.Steps.{steps_for}
+use Rattle.change_walk.specs.Steps.{steps_for, told_by}
 use Rattle.change_walk.specs.Tellings.{notifiers_at, tell_before}
 use Rattle.change_walk.specs.Weights.{step_weight}
 use Rattle.change_walk.proofs.Telling.{changed_inside}
@@ -97,3 +97,35 @@ returns-clause-inside g c =
     subst (All (λ x. x.clock.0 < n)) (sym (ap (λ (l : Script). l.changed) c.new.ensures ∙ c.in_ok-changed.ensures))
     (changed_inside (parent_after t.clocks (chain_of c.as_slice-chain.result.now)) (slice_index t.rates) [] (rates_of c.as_slice.result.now) t.clocks n c.plls.ensures.stands.rows
     (subst (AreThere t.clocks) (sym c.as_slice.ensures) c.requires.there))
+
+-- the script is made of the plan, whatever the bank tells
+pub returns-clause-made : goal.returns-clause-made
+returns-clause-made g c =
+    let t = c.args.tree.now in
+    let lists = c.args.notifiers.now in
+    let held = (g.V.View.means c.args.view.now).prepared in
+    let k = c.plls.result in
+    let cut : ℕ → ℕ = λ n. min n (2 ^ 64 - 1) in
+    let steps = ap (λ (l : Script). l.steps) c.new.ensures in
+    let changed = ap (λ (l : Script). l.changed) c.new.ensures in
+    let extra = ap (λ (l : Script). l.extra) c.new.ensures in
+    record {
+      steps = steps ∙ c.in_ok-steps.ensures.steps ∙ ap (λ (xs : List Changed). steps_for t held lists c.args.plan.now xs) (c.deref.ensures.value ∙ sym changed);
+      vetoed =
+          ap (λ (l : Script). l.vetoed) c.new.ensures ∙ c.in_ok-steps.ensures.vetoed
+          ∙ ap (λ (xs : List Changed). list_any is_veto (flat_map (λ x. tell_before x (notifiers_at lists x)) xs)) (c.deref.ensures.value ∙ sym changed);
+      extra =
+          extra ∙ c.extra_of-extra.ensures
+          ∙ ap (λ (ms : List Micro). cond (c.args.plan.now.set_parent && list_any is_raise ms) (cut (told_by lists c.deref-3.result.now)) 0) (c.deref-2.ensures.value ∙ sym steps)
+          ∙ ap (λ (xs : List Changed). cond (c.args.plan.now.set_parent && list_any is_raise c.new.result.steps) (cut (told_by lists xs)) 0) (c.deref-3.ensures.value ∙ sym changed);
+      weight =
+          ap (λ (l : Script). l.weight) c.new.ensures
+          ∙ c.saturating_add-weight.ensures
+          ∙ ap (λ (n : ℕ). cut (n + c.extra_of-extra.result)) c.weigh.ensures
+          ∙ cut_once (sum_by (step_weight k lists) c.deref-4.result.now) c.extra_of-extra.result (2 ^ 64 - 1)
+          ∙ ap (λ (ms : List Micro). cut (sum_by (step_weight k lists) ms + c.extra_of-extra.result)) (c.deref-4.ensures.value ∙ sym steps)
+          ∙ ap (λ (n : ℕ). cut (sum_by (step_weight n lists) c.new.result.steps + c.extra_of-extra.result)) c.plls.ensures.plls
+          ∙ ap (λ (n : ℕ). cut (sum_by (step_weight (plls t.defs) lists) c.new.result.steps + n)) (sym extra);
+    } where
+      cut_once : (a b most : ℕ) → min (min a most + b) most ≡ min (a + b) most
+      cut_once a b most = omega arith

@@ -1,9 +1,8 @@
 use Rattle.std.proofs.Common.{[], refl, ℕ, ◌+◌, ◌++◌, List, map, drop, sym, ap, ◌∙◌, arith}
 use Rattle.clk_base.specs.declared.command.Answer.{Answer}
-use Rattle.clk_model.specs.Text.{answers_text}
+use Rattle.clk_model.specs.Text.{answers_text, all_answers_text}
 use Rattle.clk_io.proofs.Gathering.{PassesOn-none, PassesOn-after, front_of_whole}
 use Rattle.clk_journal.proofs.Lines.{Gathers-fault, one_more}
-use Rattle.clk_run.specs.Texts.{scripts_text}
 use Rattle.clk_run.proofs.RunTexts.{texts_at}
 use Rattle.clk_run.proofs.printing.print_drivers.Goals as goal
 
@@ -13,7 +12,7 @@ returns-in_err-print_answers-clause-gathers g c =
     let drivers = c.args.drivers.now in
     let answers = c.args.answers.now in
     let i = c.loop-index.index in
-    let rest = scripts_text defs (map (λ s. s.name) (drop (i + 1) drivers)) (drop (i + 1) answers) in
+    let rest = all_answers_text defs (map (λ s. s.name) (drop (i + 1) drivers)) (drop (i + 1) answers) in
     let many = c.requires.many in
     let was = c.loop-index.invariant.printed in
     let at = texts_at defs drivers answers i c.index-drivers-index.result c.index-answers-index.result c.loop-index-test.true (omega (arith, c.loop-index-test.true)) c.index-drivers-index.is c.index-answers-index.is
@@ -31,7 +30,7 @@ loop-index-preserved g c =
     let drivers = c.args.drivers.now in
     let answers = c.args.answers.now in
     let i = c.loop-index.index in
-    let rest = scripts_text defs (map (λ s. s.name) (drop (i + 1) drivers)) (drop (i + 1) answers) in
+    let rest = all_answers_text defs (map (λ s. s.name) (drop (i + 1) drivers)) (drop (i + 1) answers) in
     let many = c.requires.many in
     let was = c.loop-index.invariant.printed in
     let at = texts_at defs drivers answers i c.index-drivers-index.result c.index-answers-index.result c.loop-index-test.true (omega (arith, c.loop-index-test.true)) c.index-drivers-index.is c.index-answers-index.is

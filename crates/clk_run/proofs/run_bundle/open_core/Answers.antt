@@ -1,8 +1,8 @@
 use Rattle.std.proofs.Common.{◌≡◌, ℕ, ◌≤◌, refl, subst, sym, length, List}
-use Rattle.std.specs.Prelude.{Bool, IfOk, drop}
-use Rattle.std.specs.Option.{option_map}
+use Rattle.std.specs.Prelude.{Bool, IfOk}
 use Rattle.clk_base.specs.Checked.{Checked}
 use Rattle.clk_machine.specs.Run.{Run}
+use Rattle.clk_machine.specs.Window.{behind_of}
 use Rattle.clk_model.specs.Begin.{most_credits}
 use Rattle.clk_model.specs.Journal.{opening}
 use Rattle.clk_model.specs.State.{State}
@@ -29,4 +29,4 @@ returns-clause-start g c =
 
 pub returns-clause-behind : goal.returns-clause-behind
 returns-clause-behind g c =
-    subst (λ (words : List ℕ). IfOk c.create.result (λ (core : Run). core.behind ≡ option_map (drop (length words)) (g.B.Bank.contents c.args.bank))) c.as_slice-words.ensures c.create.ensures.behind
+    subst (λ (words : List ℕ). IfOk c.create.result (λ (core : Run). core.behind ≡ behind_of (length words) (g.B.Bank.contents c.args.bank) (g.B.Bank.lock c.args.bank))) c.as_slice-words.ensures c.create.ensures.behind

@@ -6,8 +6,10 @@ use Rattle.clk_io.specs.Counts.{RisesAtWrite}
 use Rattle.clk_io.specs.declared.faults.PrintFault.{PrintFault}
 use Rattle.drv_scripts.specs.declared.bundle.Bundle.{Bundle}
 use Rattle.clk_model.specs.State.{State}
-use Rattle.clk_run.specs.Runs.{IsTextOf, LeftByFault}
+use Rattle.clk_machine.specs.declared.behind.Behind.{Behind}
+use Rattle.clk_run.specs.Runs.{Telling, telling, IsTextOf, LeftByFault}
 use Rattle.clk_run.proofs.Leaving.{bank_back, same_behind}
+use Rattle.clk_run.proofs.Telling.{telling_from}
 use Rattle.clk_run.proofs.run_bundle.run_armed.Goals as goal
 
 pub returns-clause-done : goal.returns-clause-done
@@ -19,23 +21,23 @@ returns-clause-done g c =
     record {
       words = printed.words;
       text = printed.text;
-      run = subst (λ (t : Bool). IsTextOf b c.args.cli.now t printed.words printed.text) opened.told printed.run;
+      run = subst (λ (t : Telling). IsTextOf b c.args.cli.now t printed.words printed.text) (telling_from _ _ (g.B.Bank.contents c.args.bank) (g.B.Bank.lock c.args.bank) (length b.words) opened.told opened.behind) printed.run;
       printed = printed.printed;
       registers = bank_back _ _ _ _ _ _ c.into_bank.ensures.told (sym size) c.into_bank.ensures.words (λ tells. printed.registers (sym printed.told ∙ tells));
       behind = same_behind (g.B.Bank.contents c.into_bank.result) (g.B.Bank.contents c.args.bank) _ _ _ (length b.words) c.into_bank.ensures.behind
-          (printed.behind ∙ opened.behind) size refl;
+          (ap (λ (k : Behind). k.words) (printed.behind ∙ opened.behind)) size refl;
     }
 
 -- what a fault leaves is known of a core as of its bank
-same_told : (b : Bundle) (cli : Cli) (told tells : Bool) (old new : Option (List ℕ)) (fault : PrintFault) → told ≡ tells → LeftByFault b cli told old new fault → LeftByFault b cli tells old new fault
-same_told b cli told tells old new fault same left = subst (λ (t : Bool). LeftByFault b cli t old new fault) same left
+same_told : (b : Bundle) (cli : Cli) (told tells : Telling) (old new : Option (List ℕ)) (fault : PrintFault) → told ≡ tells → LeftByFault b cli told old new fault → LeftByFault b cli tells old new fault
+same_told b cli told tells old new fault same left = subst (λ (t : Telling). LeftByFault b cli t old new fault) same left
 
 pub returns-in_err-run_core-clause-fault : goal.returns-in_err-run_core-clause-fault
 returns-in_err-run_core-clause-fault g c =
     let p = err_from_is_err_and c.from_residual-in_err-run_core.result c.from_residual-in_err-run_core.ensures.1 in
-    let left = LeftByFault c.args.bundle.now c.args.cli.now (is_some (g.B.Bank.contents c.args.bank)) (g.K.Sink.written c.args.out.now) (g.K.Sink.written c.run_core.new.out) in
+    let left = LeftByFault c.args.bundle.now c.args.cli.now (telling (g.B.Bank.contents c.args.bank) (g.B.Bank.lock c.args.bank)) (g.K.Sink.written c.args.out.now) (g.K.Sink.written c.run_core.new.out) in
     rw p.1 (subst left (sym p.2)
-    (same_told _ _ _ _ _ _ _ c.in_ok-core.ensures.told c.in_err-run_core.ensures.fault))
+    (same_told _ _ _ _ _ _ _ (telling_from _ _ (g.B.Bank.contents c.args.bank) (g.B.Bank.lock c.args.bank) (length c.args.bundle.now.words) c.in_ok-core.ensures.told c.in_ok-core.ensures.behind) c.in_err-run_core.ensures.fault))
 
 pub returns-in_err-run_core-clause-counts : goal.returns-in_err-run_core-clause-counts
 returns-in_err-run_core-clause-counts g c =

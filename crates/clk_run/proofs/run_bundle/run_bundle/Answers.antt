@@ -1,10 +1,13 @@
-use Rattle.std.proofs.Common.{◌≡◌, ◌<◌, ◌≤◌, ℕ, List, [], ◌∷◌, Option, sym, subst, length, arith}
+use Rattle.std.proofs.Math.Path.{fun_ext}
+use Rattle.std.proofs.Common.{◌≡◌, ◌∙◌, ap, ◌<◌, ◌≤◌, ℕ, List, [], ◌∷◌, Option, sym, subst, length, arith}
 use Rattle.std.specs.Prelude.{is_some, IfOk, IfErr}
 use Rattle.std.specs.List.{AllByRecursion}
 use Rattle.clk_base.proofs.Valid.{length-valid}
 use Rattle.drv_scripts.specs.declared.bundle.LockLine.{LockLine}
 use Rattle.reg_bank.specs.Locks.{most_plls}
-use Rattle.clk_run.specs.Runs.{Printed, LeftByFault}
+use Rattle.reg_bank.specs.declared.pll_lock.PllLock.{PllLock}
+use Rattle.clk_run.specs.Arming.{armed_by}
+use Rattle.clk_run.specs.Runs.{telling, Printed, LeftByFault}
 use Rattle.clk_run.proofs.run_bundle.run_bundle.Goals as goal
 
 -- the PLLs of a description are among those that a bank has
@@ -20,8 +23,11 @@ arm_locks-requires g c =
 
 pub returns-clause-done : goal.returns-clause-done
 returns-clause-done g c =
-    subst (λ (contents : Option (List ℕ)). IfOk c.run_armed.result (λ left. Printed c.args.bundle.now c.args.cli.now contents (g.K.Sink.written c.args.out.now) (g.K.Sink.written c.run_armed.new.out) (g.B.Bank.contents left)))
-    c.arm_locks.ensures.words c.run_armed.ensures.done
+    let b = c.args.bundle.now in
+    let armed : g.B.Bank.lock c.arm_locks.new.bank ≡ (λ p. armed_by b.locks p (g.B.Bank.lock c.args.bank p)) = fun_ext (λ p. c.arm_locks.ensures.locks p ∙ ap (λ (ls : List LockLine). armed_by ls p (g.B.Bank.lock c.args.bank p)) c.as_slice.ensures) in
+    subst (λ (lock : ℕ → Option PllLock). IfOk c.run_armed.result (λ left. Printed b c.args.cli.now (telling (g.B.Bank.contents c.args.bank) lock) (g.B.Bank.contents c.args.bank) (g.K.Sink.written c.args.out.now) (g.K.Sink.written c.run_armed.new.out) (g.B.Bank.contents left))) armed
+    (subst (λ (contents : Option (List ℕ)). IfOk c.run_armed.result (λ left. Printed b c.args.cli.now (telling contents (g.B.Bank.lock c.arm_locks.new.bank)) contents (g.K.Sink.written c.args.out.now) (g.K.Sink.written c.run_armed.new.out) (g.B.Bank.contents left)))
+    c.arm_locks.ensures.words c.run_armed.ensures.done)
 
 pub returns-clause-told : goal.returns-clause-told
 returns-clause-told g c =
@@ -29,5 +35,8 @@ returns-clause-told g c =
 
 pub returns-clause-fault : goal.returns-clause-fault
 returns-clause-fault g c =
-    subst (λ (contents : Option (List ℕ)). IfErr c.run_armed.result (LeftByFault c.args.bundle.now c.args.cli.now (is_some contents) (g.K.Sink.written c.args.out.now) (g.K.Sink.written c.run_armed.new.out)))
-    c.arm_locks.ensures.words c.run_armed.ensures.fault
+    let b = c.args.bundle.now in
+    let armed : g.B.Bank.lock c.arm_locks.new.bank ≡ (λ p. armed_by b.locks p (g.B.Bank.lock c.args.bank p)) = fun_ext (λ p. c.arm_locks.ensures.locks p ∙ ap (λ (ls : List LockLine). armed_by ls p (g.B.Bank.lock c.args.bank p)) c.as_slice.ensures) in
+    subst (λ (lock : ℕ → Option PllLock). IfErr c.run_armed.result (LeftByFault b c.args.cli.now (telling (g.B.Bank.contents c.args.bank) lock) (g.K.Sink.written c.args.out.now) (g.K.Sink.written c.run_armed.new.out))) armed
+    (subst (λ (contents : Option (List ℕ)). IfErr c.run_armed.result (LeftByFault b c.args.cli.now (telling contents (g.B.Bank.lock c.arm_locks.new.bank)) (g.K.Sink.written c.args.out.now) (g.K.Sink.written c.run_armed.new.out)))
+    c.arm_locks.ensures.words c.run_armed.ensures.fault)

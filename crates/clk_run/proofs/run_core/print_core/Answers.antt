@@ -7,8 +7,10 @@ use Rattle.clk_summary.proofs.Lined.{some_summary}
 use Rattle.drv_scripts.specs.declared.bundle.Script.{Script}
 use Rattle.driver_runs.proofs.Following.{follow_many}
 use Rattle.clk_run.specs.Runs.{drivers_in, scripts_of}
-use Rattle.clk_run.specs.Texts.{calls_text, run_text}
+use Rattle.clk_run.specs.Texts.{command_count, calls_text, run_text}
+use Rattle.clk_run.proofs.OkAnswers.{few_fine}
 use Rattle.clk_run.proofs.Leaving.{text_of}
+use Rattle.clk_run.proofs.Readiness.{commands_few}
 use Rattle.clk_run.proofs.PrintedParts.{Prints-fault, front_of_parts, printed_of_parts, run_in_parts}
 use Rattle.clk_run.proofs.run_core.print_core.Goals as goal
 
@@ -19,7 +21,11 @@ print_calls-requires g c =
     let many = follow_many 0 (scripts_of mode b) c.args.answers.now c.args.core.now.journal c.requires.calls.follow in
     let drivers = ap (λ (xs : List Script). length xs) c.drivers_in-drivers.ensures in
     let same = length-map (drivers_in mode b) (λ (s : Script). s.commands) in
-    record { many = omega arith }
+    let fewer = commands_few mode b in
+    let few = c.requires.few in
+    let run = ap command_count c.drivers_in-drivers.ensures in
+    let fine = few_fine b.boot (drivers_in mode b) c.args.answers.now c.args.core.now.journal c.requires.calls.follow in
+    record { many = omega arith; commands = omega arith; good = omega arith }
 
 pub returns-in_err-print_calls-clause-prints : goal.returns-in_err-print_calls-clause-prints
 returns-in_err-print_calls-clause-prints g c =
@@ -37,7 +43,7 @@ returns-in_err-print_calls-clause-prints g c =
     record {
       words = words;
       text = run_text b.desc.defs cli (drivers_in cli.mode b) core.journal answers some.0 words;
-      run = text_of b cli core answers some.0 words has told.legal told.fed quiet some.1 (λ tells. refl);
+      run = text_of b cli core answers some.0 words has told.legal told.polled told.fed quiet some.1 (λ tells. refl);
       registers = λ tells. refl;
       prints = Prints-fault _ _ _ _ c.from_residual.ensures.0
           (front_of_parts _ _ _ calls (some.0 ++ registers_text words) _ c.new-gathered.ensures whole c.in_err-print_calls.ensures.gathers);
@@ -59,7 +65,7 @@ returns-in_err-print_state-clause-prints g c =
     record {
       words = state.words;
       text = run_text b.desc.defs cli (drivers_in cli.mode b) core.journal answers state.table state.words;
-      run = text_of b cli core answers state.table state.words has told.legal told.fed quiet state.summary state.registers;
+      run = text_of b cli core answers state.table state.words has told.legal told.polled told.fed quiet state.summary state.registers;
       registers = state.registers;
       prints = Prints-fault _ _ _ _ c.from_residual-in_err-print_state.ensures.0
           (front_of_parts _ _ _ (calls ++ behind) [] _ c.new-gathered.ensures (whole ∙ sym (append-nil (calls ++ behind)))
@@ -81,7 +87,7 @@ returns-in_err-finish-clause-prints g c =
     record {
       words = state.words;
       text = run_text b.desc.defs cli (drivers_in cli.mode b) core.journal answers state.table state.words;
-      run = text_of b cli core answers state.table state.words has told.legal told.fed quiet state.summary state.registers;
+      run = text_of b cli core answers state.table state.words has told.legal told.polled told.fed quiet state.summary state.registers;
       registers = state.registers;
       prints = Prints-fault _ _ _ _ c.from_residual-in_err-finish.ensures.0
           (printed_of_parts {T = ℕ} {E = ℕ} _ _ _ _ _ _ _ (Err 0) c.new-gathered.ensures whole done c.in_err-finish.ensures.prints);
@@ -102,7 +108,7 @@ returns-clause-prints g c =
     record {
       words = state.words;
       text = run_text b.desc.defs cli (drivers_in cli.mode b) core.journal answers state.table state.words;
-      run = text_of b cli core answers state.table state.words has told.legal told.fed quiet state.summary state.registers;
+      run = text_of b cli core answers state.table state.words has told.legal told.polled told.fed quiet state.summary state.registers;
       registers = state.registers;
       prints = printed_of_parts {T = ℕ} {E = ℕ} _ _ _ _ _ _ _ (Ok 0) c.new-gathered.ensures whole done c.in_ok-finish.ensures.prints;
     }

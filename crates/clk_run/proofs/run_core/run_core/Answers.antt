@@ -1,9 +1,10 @@
-use Rattle.std.proofs.Common.{◌≡◌, true, sum_by, ap, subst, sym, ◌∙◌, arith, length, List}
+use Rattle.std.proofs.Common.{◌≡◌, ℕ, ◌<◌, true, sum_by, ap, subst, sym, ◌∙◌, arith, length, List}
 use Rattle.std.specs.List.{AllByRecursion}
 use Rattle.clk_base.specs.Description.{Description, EachClock}
 use Rattle.clk_base.specs.declared.command.Answer.{Answer}
 use Rattle.clk_base.specs.declared.command.Command.{Command}
-use Rattle.clk_machine.specs.Fit.{has_earlier_parents, keeps_parents}
+use Rattle.clk_machine.specs.Built.{allowed_over}
+use Rattle.clk_machine.specs.Fit.{has_earlier_parents}
 use Rattle.clk_machine.specs.Run.{Run}
 use Rattle.clk_model.specs.State.{State}
 use Rattle.drv_scripts.specs.declared.bundle.Bundle.{Bundle}
@@ -13,10 +14,11 @@ use Rattle.drv_scripts.specs.Spelled.{boot_of}
 use Rattle.driver_runs.specs.Scripts.{are_built}
 use Rattle.driver_runs.specs.Turns.{HasRun}
 use Rattle.clk_run.specs.Cores.{HasCalls}
-use Rattle.clk_run.specs.Runs.{drivers_in}
+use Rattle.clk_run.specs.Runs.{drivers_in, told_by}
 use Rattle.clk_run.proofs.Fitness.{earlier_all}
-use Rattle.clk_run.proofs.Readiness.{drivers_keep, drivers_few, commands_few}
+use Rattle.clk_run.proofs.Readiness.{drivers_keep, drivers_few, commands_few, few_credits}
 use Rattle.clk_run.proofs.Leaving.{calls_of_run, printed_whole, printed_front, none_left, none_risen}
+use Rattle.clk_run.proofs.Telling.{same_telling}
 use Rattle.std.proofs.lemmas.Result.{err_from_is_err_and}
 use Rattle.clk_run.proofs.run_core.run_core.Goals as goal
 
@@ -26,7 +28,7 @@ run_scripts-requires g c =
     let mode = c.args.cli.now.mode in
     let ready = c.requires.ready in
     let start = c.requires.start in
-    let boot = c.as_slice.ensures in
+    let boot = c.as_slice-boot.ensures in
     let run = c.drivers_in-drivers.result.now in
     let drivers : drivers_in mode b ≡ run = sym c.drivers_in-drivers.ensures in
     let credits = ap (λ (s : State). s.credits) start in
@@ -45,15 +47,18 @@ run_scripts-requires g c =
       few = omega arith;
       placed = subst (λ (ds : Description). AllByRecursion (IsScript (length ds)) run) defs
           (subst (λ (xs : List Script). AllByRecursion (IsScript (length b.desc.defs)) xs) drivers (drivers_keep (IsScript (length b.desc.defs)) mode b ready.sound.scripts));
-      built = subst (λ (ds : Description). AllByRecursion (λ s. are_built (keeps_parents ds) s.commands ≡ true) run) defs
-          (subst (λ (xs : List Script). AllByRecursion (λ s. are_built (keeps_parents b.desc.defs) s.commands ≡ true) xs) drivers
-          (drivers_keep (λ s. are_built (keeps_parents b.desc.defs) s.commands ≡ true) mode b ready.built));
+      built = subst (λ (ds : Description). AllByRecursion (λ s. are_built (allowed_over ds) s.commands ≡ true) run) defs
+          (subst (λ (xs : List Script). AllByRecursion (λ s. are_built (allowed_over b.desc.defs) s.commands ≡ true) xs) drivers
+          (drivers_keep (λ s. are_built (allowed_over b.desc.defs) s.commands ≡ true) mode b ready.built));
+      turns = subst (λ (ds : List ℕ). AllByRecursion (λ d. 0 < d) ds) (sym c.as_slice-order.ensures) ready.sound.turns;
     }
 
 -- the commands that were run are those of the bundle
-ran_of : (b : Bundle) (boot : List Command) (drivers run : List Script) (answers : List (List Answer)) (old new : Run) → boot ≡ b.boot → run ≡ drivers
-    → HasRun boot run answers old new → HasRun b.boot drivers answers old new
-ran_of b boot drivers run answers old new these those ran = subst (λ (xs : List Script). HasRun b.boot xs answers old new) those (subst (λ (cs : List Command). HasRun cs run answers old new) these ran)
+ran_of : (b : Bundle) (boot : List Command) (drivers run : List Script) (order : List ℕ) (answers : List (List Answer)) (old new : Run) → boot ≡ b.boot → run ≡ drivers → order ≡ b.order
+    → HasRun boot run order answers old new → HasRun b.boot drivers b.order answers old new
+ran_of b boot drivers run order answers old new these those turns ran =
+    subst (λ (ds : List ℕ). HasRun b.boot drivers ds answers old new) turns
+    (subst (λ (xs : List Script). HasRun b.boot xs order answers old new) those (subst (λ (cs : List Command). HasRun cs run order answers old new) these ran))
 
 pub print_core-requires : goal.print_core-requires
 print_core-requires g c =
@@ -61,10 +66,11 @@ print_core-requires g c =
     let cli = c.args.cli.now in
     let core = c.run_scripts.new.core in
     let answers = c.in_ok-answers.answers.items in
-    let ran = ran_of b _ (drivers_in cli.mode b) _ answers c.args.core.now core c.as_slice.ensures c.drivers_in-drivers.ensures c.in_ok-answers.ensures in
+    let ran = ran_of b _ (drivers_in cli.mode b) _ _ answers c.args.core.now core c.as_slice-boot.ensures c.drivers_in-drivers.ensures c.as_slice-order.ensures c.in_ok-answers.ensures in
     record {
-      calls = subst (λ (as_ : List (List Answer)). HasCalls b cli as_ core) (sym c.as_slice-2.ensures.value)
-          (calls_of_run b cli c.args.core.now core answers c.requires.start c.requires.ready.unordered ran);
+      calls = subst (λ (as_ : List (List Answer)). HasCalls b cli as_ core) (sym c.as_slice.ensures.value)
+          (calls_of_run b cli c.args.core.now core answers c.requires.start ran);
+      few = few_credits b c.requires.ready;
     }
 
 pub returns-clause-done : goal.returns-clause-done
@@ -74,12 +80,12 @@ returns-clause-done g c =
 
 pub returns-clause-fault : goal.returns-clause-fault
 returns-clause-fault g c =
-    printed_front c.args.bundle.now c.args.cli.now c.args.core.now.told c.run_scripts.new.core _ _ c.print_core.result c.in_ok-answers.ensures.told c.print_core.ensures.prints
+    printed_front c.args.bundle.now c.args.cli.now (told_by c.args.core.now) c.run_scripts.new.core _ _ c.print_core.result (same_telling c.run_scripts.new.core c.args.core.now c.in_ok-answers.ensures.told c.in_ok-answers.ensures.behind) c.print_core.ensures.prints
 
 pub returns-in_err-answers-clause-fault : goal.returns-in_err-answers-clause-fault
 returns-in_err-answers-clause-fault g c =
     let p = err_from_is_err_and c.from_residual.result c.from_residual.ensures.1 in
-    none_left c.args.bundle.now c.args.cli.now c.args.core.now.told (g.K.Sink.written c.args.out.now) c.from_residual.result p.0 p.1 p.2
+    none_left c.args.bundle.now c.args.cli.now (told_by c.args.core.now) (g.K.Sink.written c.args.out.now) c.from_residual.result p.0 p.1 p.2
 
 pub returns-in_err-answers-clause-counts : goal.returns-in_err-answers-clause-counts
 returns-in_err-answers-clause-counts g c =

@@ -8,4 +8,4 @@ pub returns-in-Ok-write_all-clause-usage : goal.returns-in-Ok-write_all-clause-u
 returns-in-Ok-write_all-clause-usage g c = λ same. (c.words.ensures.usage (c.in-Err-Usage.is ∙ ap Err c.in-Err-Usage.field-0-is), refl, subst (Appends _ _) (c.as_bytes.ensures.value ∙ USAGE_LINE-spells) c.in-Ok-write_all.ensures.prints)
 
 pub returns-clause-unwritten : goal.returns-clause-unwritten
-returns-clause-unwritten g c = λ same. inl (c.words.ensures.usage (c.in-Err-Usage.is ∙ ap Err c.in-Err-Usage.field-0-is), subst (AppendsFront _ _) (c.as_bytes.ensures.value ∙ USAGE_LINE-spells) c.in-Err-write_all.ensures.prints)
+returns-clause-unwritten g c = λ same. inl (c.words.ensures.usage (c.in-Err-Usage.is ∙ ap Err c.in-Err-Usage.field-0-is), subst (AppendsFront _ _) (c.as_bytes.ensures.value ∙ USAGE_LINE-spells) c.in-Err.ensures.prints)

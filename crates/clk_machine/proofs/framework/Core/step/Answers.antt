@@ -26,7 +26,7 @@ invariant_of-self g c =
     let enters : Enters m.machine c.driver-driver.result (Step made.step made.answer) made.turn c.step-made.new.self =
     subst (λ (d : ℕ). Enters m.machine d (Step made.step made.answer) made.turn c.step-made.new.self) (sym c.driver-driver.ensures.driver) c.step-made.ensures.enters in
     let is : IsEntered m.machine c.step-made.new.self m.words.items m.log c.push.new.self c.driver-driver.result (Step made.step made.answer) made.turn =
-    stepped m.machine c.step-made.new.self m.words.items m.log c.push.new.self c.driver-driver.result made.step made.answer made.turn c.self.invariant enters c.step-made.ensures.links c.push.ensures.entries c.push.ensures.room in
+    stepped m.machine c.step-made.new.self m.words.items m.log c.push.new.self c.driver-driver.result made.step made.answer made.turn c.self.invariant enters c.step-made.ensures.links c.step-made.ensures.locks c.push.ensures.entries c.push.ensures.room in
     entered m.machine c.step-made.new.self m.words.items m.log c.push.new.self c.driver-driver.result (Step made.step made.answer) made.turn is
 
 pub returns-clause-made : goal.returns-clause-made
@@ -37,7 +37,7 @@ returns-clause-made g c =
     let enters : Enters m.machine c.driver-driver.result (Step made.step made.answer) made.turn c.step-made.new.self =
     subst (λ (d : ℕ). Enters m.machine d (Step made.step made.answer) made.turn c.step-made.new.self) (sym c.driver-driver.ensures.driver) c.step-made.ensures.enters in
     let is : IsEntered m.machine c.step-made.new.self m.words.items m.log c.push.new.self c.driver-driver.result (Step made.step made.answer) made.turn =
-    stepped m.machine c.step-made.new.self m.words.items m.log c.push.new.self c.driver-driver.result made.step made.answer made.turn c.self.invariant enters c.step-made.ensures.links c.push.ensures.entries c.push.ensures.room in
+    stepped m.machine c.step-made.new.self m.words.items m.log c.push.new.self c.driver-driver.result made.step made.answer made.turn c.self.invariant enters c.step-made.ensures.links c.step-made.ensures.locks c.push.ensures.entries c.push.ensures.room in
     let on = steps_on m.machine c.step-made.new.self m.words.items m.log c.push.new.self c.driver-driver.result made.step made.answer made.turn is (c.driver-driver.ensures.driver ∙ c.self.invariant.driver_ (c.self.invariant.going ∙ flies)) in
     rw (← c.self.view_is) on
 
@@ -49,6 +49,6 @@ returns-clause-turns g c =
     let enters : Enters m.machine c.driver-driver.result (Step made.step made.answer) made.turn c.step-made.new.self =
     subst (λ (d : ℕ). Enters m.machine d (Step made.step made.answer) made.turn c.step-made.new.self) (sym c.driver-driver.ensures.driver) c.step-made.ensures.enters in
     let is : IsEntered m.machine c.step-made.new.self m.words.items m.log c.push.new.self c.driver-driver.result (Step made.step made.answer) made.turn =
-    stepped m.machine c.step-made.new.self m.words.items m.log c.push.new.self c.driver-driver.result made.step made.answer made.turn c.self.invariant enters c.step-made.ensures.links c.push.ensures.entries c.push.ensures.room in
+    stepped m.machine c.step-made.new.self m.words.items m.log c.push.new.self c.driver-driver.result made.step made.answer made.turn c.self.invariant enters c.step-made.ensures.links c.step-made.ensures.locks c.push.ensures.entries c.push.ensures.room in
     let on = steps_on m.machine c.step-made.new.self m.words.items m.log c.push.new.self c.driver-driver.result made.step made.answer made.turn is (c.driver-driver.ensures.driver ∙ c.self.invariant.driver_ (c.self.invariant.going ∙ flies)) in
     rw (← c.self.view_is) (λ told. step_turns _ _ made.turn on refl told)

@@ -7,6 +7,6 @@ use Rattle.clk_machine.proofs.machine.Machine.can_raise.Goals as goal
 pub returns : goal.returns
 returns g c =
     let m = c.self.inside in
-    let p : Parts = parts_of m.desc m.window m.tree m.handles m.counts m.notifiers m.credits m.spent m.ignore_unused m.flight m.course m.steps in
+    let p : Parts = parts_of m.desc m.window m.tree m.handles m.counts m.notifiers m.credits m.spent m.ignore_unused m.flight m.course m.prepare_holds m.enable_holds m.steps in
     let most : c.plls.result ≡ plls m.desc.defs = c.plls.ensures.plls ∙ ap plls c.self.invariant.tied.defs in
     rw (← c.self.view_is) (c.has_room.ensures ∙ ap (λ (n : ℕ). nat_le (m.credits + m.steps + n) most_credits) (c.most_to_raise-most.ensures.most ∙ ap (λ (n : ℕ). 34 * n + 2) most))

@@ -1,8 +1,10 @@
-use Rattle.std.proofs.Common.{◌∙◌, ap, subst, length, List}
+use Rattle.std.proofs.Common.{◌∙◌, ap, subst, length, List, ℕ, Option, replicate}
 use Rattle.std.proofs.lemmas.List.{length-replicate}
+use Rattle.std.specs.Prelude.{is_some}
 use Rattle.clk_base.specs.Checked.{Checked}
 use Rattle.clk_base.specs.Valid.{IsValid}
 use Rattle.notifiers.specs.declared.notifier.Notifier.{Notifier}
+use Rattle.clk_machine.proofs.Following.{told_mapped}
 use Rattle.clk_machine.proofs.Opened.{whole_opening, counts_opening, stands_opening, blank_registered}
 use Rattle.clk_machine.proofs.machine.Machine.create.Goals as goal
 
@@ -10,7 +12,8 @@ pub invariant_of-result : goal.invariant_of-result
 invariant_of-result g c =
     let tree = c.in_ok-tree.tree in
     let made = c.in_ok-counts.ensures in
-    whole_opening c.args.desc c.create-window.result tree c.in_ok-handles.handles c.in_ok-counts.counts c.in_ok-notifiers.notifiers c.args.credits c.args.ignore_unused c.create-flight.result c.none-course.result c.create-flight.ensures.quiet
+    whole_opening c.args.desc c.create-window.result tree c.in_ok-handles.handles c.in_ok-counts.counts c.in_ok-notifiers.notifiers c.args.credits c.args.ignore_unused c.create-flight.result c.none-course.result c.in_ok-prepare_holds.prepare_holds c.in_ok-enable_holds.enable_holds
+    (c.in_ok-prepare_holds.ensures ∙ ap (λ (n : ℕ). replicate n 0) c.len.ensures.len) (c.in_ok-enable_holds.ensures ∙ ap (λ (n : ℕ). replicate n 0) c.len-2.ensures.len) c.create-flight.ensures.quiet
     (subst (λ (d : Checked). IsValid d.words d.defs) c.desc.view_is c.desc.invariant) c.requires.runs (c.create-window.ensures.size ∙ c.requires.words) c.create-window.ensures.told
     c.in_ok-tree.ensures.defs c.in_ok-tree.ensures.rows c.in_ok-tree.ensures.stands c.requires.credits
     c.in_ok-handles.ensures.clocks c.in_ok-handles.ensures.handles made.stands
@@ -19,9 +22,12 @@ invariant_of-result g c =
 
 pub returns-clause-stands : goal.returns-clause-stands
 returns-clause-stands g c = λ told.
-    stands_opening c.args.desc c.create-window.result c.in_ok-tree.tree c.in_ok-handles.handles c.in_ok-counts.counts c.in_ok-notifiers.notifiers c.args.credits c.args.ignore_unused c.create-flight.result c.none-course.result
-    c.args.words.now (g.B.Bank.contents c.args.bank) c.create-flight.ensures.quiet c.create-window.ensures.words c.in_ok-tree.ensures.rows c.in_ok-tree.ensures.order c.in_ok-handles.ensures.handles
+    stands_opening c.args.desc c.create-window.result c.in_ok-tree.tree c.in_ok-handles.handles c.in_ok-counts.counts c.in_ok-notifiers.notifiers c.args.credits c.args.ignore_unused c.create-flight.result c.none-course.result c.in_ok-prepare_holds.prepare_holds c.in_ok-enable_holds.enable_holds
+    c.args.words.now (g.B.Bank.contents c.args.bank) (c.in_ok-prepare_holds.ensures ∙ ap (λ (n : ℕ). replicate n 0) c.len.ensures.len) (c.in_ok-enable_holds.ensures ∙ ap (λ (n : ℕ). replicate n 0) c.len-2.ensures.len) c.create-flight.ensures.quiet c.create-window.ensures.words c.in_ok-tree.ensures.rows c.in_ok-tree.ensures.order c.in_ok-handles.ensures.handles
     c.in_ok-notifiers.ensures.told told
 
 pub returns-clause-none : goal.returns-clause-none
 returns-clause-none g c = λ k. blank_registered c.in_ok-tree.tree.clocks (length c.args.desc.defs) k c.in_ok-tree.ensures.rows
+
+pub returns-clause-told : goal.returns-clause-told
+returns-clause-told g c = ap (λ (o : Option (List ℕ)). is_some o) c.create-window.ensures.words ∙ told_mapped (λ (ws : List ℕ). c.args.words.now) (g.B.Bank.contents c.args.bank)

@@ -24,7 +24,7 @@ returns-in_default-clause-decides g c = λ s stands sound.
 pub returns-then-not-fits-clause-decides : goal.returns-then-not-fits-clause-decides
 returns-then-not-fits-clause-decides g c = λ s stands sound.
     let m = c.self.inside in
-    let p : Parts = parts_of m.desc m.window m.tree m.handles m.counts m.notifiers m.credits m.spent m.ignore_unused m.flight m.course m.steps in
+    let p : Parts = parts_of m.desc m.window m.tree m.handles m.counts m.notifiers m.credits m.spent m.ignore_unused m.flight m.course m.prepare_holds m.enable_holds m.steps in
     let row = c.in-Some.row in
     let live : handle_at p.table.handles c.args.handle.number ≡ Some row = subst (λ (q : Parts). handle_at q.table.handles c.args.handle.number ≡ Some row) (sym c.self.view_is) c.in-Some.ensures.live in
     let fits = c.fits.ensures row live in
@@ -36,7 +36,7 @@ returns-then-not-fits-clause-decides g c = λ s stands sound.
 pub decide_lifted-decided-requires-clause-place : goal.decide_lifted-decided-requires-clause-place
 decide_lifted-decided-requires-clause-place g c =
     let m = c.self.inside in
-    let p : Parts = parts_of m.desc m.window m.tree m.handles m.counts m.notifiers m.credits m.spent m.ignore_unused m.flight m.course m.steps in
+    let p : Parts = parts_of m.desc m.window m.tree m.handles m.counts m.notifiers m.credits m.spent m.ignore_unused m.flight m.course m.prepare_holds m.enable_holds m.steps in
     let row = c.in-Some.row in
     let live : handle_at p.table.handles c.args.handle.number ≡ Some row = subst (λ (q : Parts). handle_at q.table.handles c.args.handle.number ≡ Some row) (sym c.self.view_is) c.in-Some.ensures.live in
     place_among p row.clock.0 m.counts.exclusives c.self.invariant (row_place p c.args.handle.number row c.self.invariant live) c.self.invariant.counted.keeps.exclusives
@@ -44,7 +44,7 @@ decide_lifted-decided-requires-clause-place g c =
 pub decide_lifted-decided-requires-clause-held : goal.decide_lifted-decided-requires-clause-held
 decide_lifted-decided-requires-clause-held g c =
     let m = c.self.inside in
-    let p : Parts = parts_of m.desc m.window m.tree m.handles m.counts m.notifiers m.credits m.spent m.ignore_unused m.flight m.course m.steps in
+    let p : Parts = parts_of m.desc m.window m.tree m.handles m.counts m.notifiers m.credits m.spent m.ignore_unused m.flight m.course m.prepare_holds m.enable_holds m.steps in
     let row = c.in-Some.row in
     let live : handle_at p.table.handles c.args.handle.number ≡ Some row = subst (λ (q : Parts). handle_at q.table.handles c.args.handle.number ≡ Some row) (sym c.self.view_is) c.in-Some.ensures.live in
     exclusive_held p c.args.handle.number row c.self.invariant live
@@ -52,13 +52,13 @@ decide_lifted-decided-requires-clause-held g c =
 pub decide_lifted-decided-requires-clause-few : goal.decide_lifted-decided-requires-clause-few
 decide_lifted-decided-requires-clause-few g c =
     let m = c.self.inside in
-    let p : Parts = parts_of m.desc m.window m.tree m.handles m.counts m.notifiers m.credits m.spent m.ignore_unused m.flight m.course m.steps in
+    let p : Parts = parts_of m.desc m.window m.tree m.handles m.counts m.notifiers m.credits m.spent m.ignore_unused m.flight m.course m.prepare_holds m.enable_holds m.steps in
     exclusive_room p c.in-Some.row.clock.0 c.self.invariant
 
 pub set_range-requires-2 : goal.set_range-requires-2
 set_range-requires-2 g c =
     let m = c.self.inside in
-    let p : Parts = parts_of m.desc m.window m.tree m.handles m.counts m.notifiers m.credits m.spent m.ignore_unused m.flight m.course m.steps in
+    let p : Parts = parts_of m.desc m.window m.tree m.handles m.counts m.notifiers m.credits m.spent m.ignore_unused m.flight m.course m.prepare_holds m.enable_holds m.steps in
     let row = c.in-Some.row in
     let live : handle_at p.table.handles c.args.handle.number ≡ Some row = subst (λ (q : Parts). handle_at q.table.handles c.args.handle.number ≡ Some row) (sym c.self.view_is) c.in-Some.ensures.live in
     range_live m.handles.handles c.set_range.new.self.handles c.args.handle.number c.args.least c.args.most row live c.set_range.ensures.range
@@ -66,30 +66,30 @@ set_range-requires-2 g c =
 pub invariant_of-self : goal.invariant_of-self
 invariant_of-self g c =
     let m = c.self.inside in
-    let p : Parts = parts_of m.desc m.window m.tree m.handles m.counts m.notifiers m.credits m.spent m.ignore_unused m.flight m.course m.steps in
+    let p : Parts = parts_of m.desc m.window m.tree m.handles m.counts m.notifiers m.credits m.spent m.ignore_unused m.flight m.course m.prepare_holds m.enable_holds m.steps in
     let row = c.in-Some.row in
     let live : handle_at p.table.handles c.args.handle.number ≡ Some row = subst (λ (q : Parts). handle_at q.table.handles c.args.handle.number ≡ Some row) (sym c.self.view_is) c.in-Some.ensures.live in
-    subst (λ (t : HandleTable). IsWhole (parts_of m.desc m.window m.tree t c.decide_lifted-decided.new.counts m.notifiers m.credits m.spent m.ignore_unused m.flight m.course m.steps))
+    subst (λ (t : HandleTable). IsWhole (parts_of m.desc m.window m.tree t c.decide_lifted-decided.new.counts m.notifiers m.credits m.spent m.ignore_unused m.flight m.course m.prepare_holds m.enable_holds m.steps))
     (sym (table_back m.handles c.set_range.new.self c.set_range-2.new.self c.args.handle.number c.args.least c.args.most row live c.set_range.ensures.range c.set_range.ensures.clocks
     c.set_range-2.ensures.range c.set_range-2.ensures.clocks))
-    (subst (λ (k : CountState). IsWhole (parts_of m.desc m.window m.tree m.handles k m.notifiers m.credits m.spent m.ignore_unused m.flight m.course m.steps)) (sym c.decide_lifted-decided.ensures.same) c.self.invariant)
+    (subst (λ (k : CountState). IsWhole (parts_of m.desc m.window m.tree m.handles k m.notifiers m.credits m.spent m.ignore_unused m.flight m.course m.prepare_holds m.enable_holds m.steps)) (sym c.decide_lifted-decided.ensures.same) c.self.invariant)
 
 pub returns-clause-same : goal.returns-clause-same
 returns-clause-same g c =
     let m = c.self.inside in
-    let p : Parts = parts_of m.desc m.window m.tree m.handles m.counts m.notifiers m.credits m.spent m.ignore_unused m.flight m.course m.steps in
+    let p : Parts = parts_of m.desc m.window m.tree m.handles m.counts m.notifiers m.credits m.spent m.ignore_unused m.flight m.course m.prepare_holds m.enable_holds m.steps in
     let row = c.in-Some.row in
     let live : handle_at p.table.handles c.args.handle.number ≡ Some row = subst (λ (q : Parts). handle_at q.table.handles c.args.handle.number ≡ Some row) (sym c.self.view_is) c.in-Some.ensures.live in
     rw (← c.self.view_is)
-    (ap (λ (t : HandleTable). parts_of m.desc m.window m.tree t c.decide_lifted-decided.new.counts m.notifiers m.credits m.spent m.ignore_unused m.flight m.course m.steps)
+    (ap (λ (t : HandleTable). parts_of m.desc m.window m.tree t c.decide_lifted-decided.new.counts m.notifiers m.credits m.spent m.ignore_unused m.flight m.course m.prepare_holds m.enable_holds m.steps)
     (table_back m.handles c.set_range.new.self c.set_range-2.new.self c.args.handle.number c.args.least c.args.most row live c.set_range.ensures.range c.set_range.ensures.clocks
     c.set_range-2.ensures.range c.set_range-2.ensures.clocks)
-    ∙ ap (λ (k : CountState). parts_of m.desc m.window m.tree m.handles k m.notifiers m.credits m.spent m.ignore_unused m.flight m.course m.steps) c.decide_lifted-decided.ensures.same)
+    ∙ ap (λ (k : CountState). parts_of m.desc m.window m.tree m.handles k m.notifiers m.credits m.spent m.ignore_unused m.flight m.course m.prepare_holds m.enable_holds m.steps) c.decide_lifted-decided.ensures.same)
 
 pub returns-clause-decides : goal.returns-clause-decides
 returns-clause-decides g c =
     let m = c.self.inside in
-    let p : Parts = parts_of m.desc m.window m.tree m.handles m.counts m.notifiers m.credits m.spent m.ignore_unused m.flight m.course m.steps in
+    let p : Parts = parts_of m.desc m.window m.tree m.handles m.counts m.notifiers m.credits m.spent m.ignore_unused m.flight m.course m.prepare_holds m.enable_holds m.steps in
     let row = c.in-Some.row in
     let live : handle_at p.table.handles c.args.handle.number ≡ Some row = subst (λ (q : Parts). handle_at q.table.handles c.args.handle.number ≡ Some row) (sym c.self.view_is) c.in-Some.ensures.live in
     let own = subst (λ (q : Parts). own_in q.table.handles c.args.driver c.args.handle.number ≡ Some row) (sym c.self.view_is) (c.own.ensures.row ∙ c.in-Some.is) in

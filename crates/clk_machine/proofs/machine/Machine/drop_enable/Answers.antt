@@ -12,7 +12,7 @@ use Rattle.clk_machine.proofs.machine.Machine.drop_enable.Goals as goal
 pub disable_walk-stopped-requires-clause-place : goal.disable_walk-stopped-requires-clause-place
 disable_walk-stopped-requires-clause-place g c =
     let m = c.self.inside in
-    let p : Parts = parts_of m.desc m.window m.tree m.handles m.counts m.notifiers m.credits m.spent m.ignore_unused m.flight m.course m.steps in
+    let p : Parts = parts_of m.desc m.window m.tree m.handles m.counts m.notifiers m.credits m.spent m.ignore_unused m.flight m.course m.prepare_holds m.enable_holds m.steps in
     let row = c.args.row in
     let n = c.args.handle.number in
     let live : handle_at m.handles.handles n ≡ Some row = rw (← c.self.view_is) at c.requires.live in
@@ -21,7 +21,7 @@ disable_walk-stopped-requires-clause-place g c =
 pub disable_walk-stopped-requires-clause-links : goal.disable_walk-stopped-requires-clause-links
 disable_walk-stopped-requires-clause-links g c =
     let m = c.self.inside in
-    let p : Parts = parts_of m.desc m.window m.tree m.handles m.counts m.notifiers m.credits m.spent m.ignore_unused m.flight m.course m.steps in
+    let p : Parts = parts_of m.desc m.window m.tree m.handles m.counts m.notifiers m.credits m.spent m.ignore_unused m.flight m.course m.prepare_holds m.enable_holds m.steps in
     let row = c.args.row in
     let n = c.args.handle.number in
     let live : handle_at m.handles.handles n ≡ Some row = rw (← c.self.view_is) at c.requires.live in
@@ -30,7 +30,7 @@ disable_walk-stopped-requires-clause-links g c =
 pub disable_walk-stopped-requires-clause-held : goal.disable_walk-stopped-requires-clause-held
 disable_walk-stopped-requires-clause-held g c =
     let m = c.self.inside in
-    let p : Parts = parts_of m.desc m.window m.tree m.handles m.counts m.notifiers m.credits m.spent m.ignore_unused m.flight m.course m.steps in
+    let p : Parts = parts_of m.desc m.window m.tree m.handles m.counts m.notifiers m.credits m.spent m.ignore_unused m.flight m.course m.prepare_holds m.enable_holds m.steps in
     let row = c.args.row in
     let n = c.args.handle.number in
     let live : handle_at m.handles.handles n ≡ Some row = rw (← c.self.view_is) at c.requires.live in
@@ -39,7 +39,7 @@ disable_walk-stopped-requires-clause-held g c =
 pub close_path-requires-clause-place : goal.close_path-requires-clause-place
 close_path-requires-clause-place g c =
     let m = c.self.inside in
-    let p : Parts = parts_of m.desc m.window m.tree m.handles m.counts m.notifiers m.credits m.spent m.ignore_unused m.flight m.course m.steps in
+    let p : Parts = parts_of m.desc m.window m.tree m.handles m.counts m.notifiers m.credits m.spent m.ignore_unused m.flight m.course m.prepare_holds m.enable_holds m.steps in
     let row = c.args.row in
     let n = c.args.handle.number in
     let live : handle_at m.handles.handles n ≡ Some row = rw (← c.self.view_is) at c.requires.live in
@@ -48,7 +48,7 @@ close_path-requires-clause-place g c =
 pub close_path-requires-clause-links : goal.close_path-requires-clause-links
 close_path-requires-clause-links g c =
     let m = c.self.inside in
-    let p : Parts = parts_of m.desc m.window m.tree m.handles m.counts m.notifiers m.credits m.spent m.ignore_unused m.flight m.course m.steps in
+    let p : Parts = parts_of m.desc m.window m.tree m.handles m.counts m.notifiers m.credits m.spent m.ignore_unused m.flight m.course m.prepare_holds m.enable_holds m.steps in
     let row = c.args.row in
     let n = c.args.handle.number in
     let live : handle_at m.handles.handles n ≡ Some row = rw (← c.self.view_is) at c.requires.live in
@@ -57,7 +57,7 @@ close_path-requires-clause-links g c =
 pub invariant_of-self : goal.invariant_of-self
 invariant_of-self g c =
     let m = c.self.inside in
-    let p : Parts = parts_of m.desc m.window m.tree m.handles m.counts m.notifiers m.credits m.spent m.ignore_unused m.flight m.course m.steps in
+    let p : Parts = parts_of m.desc m.window m.tree m.handles m.counts m.notifiers m.credits m.spent m.ignore_unused m.flight m.course m.prepare_holds m.enable_holds m.steps in
     let row = c.args.row in
     let n = c.args.handle.number in
     let live : handle_at m.handles.handles n ≡ Some row = rw (← c.self.view_is) at c.requires.live in
@@ -76,7 +76,7 @@ invariant_of-self g c =
 pub returns : goal.returns
 returns g c =
     let m = c.self.inside in
-    let p : Parts = parts_of m.desc m.window m.tree m.handles m.counts m.notifiers m.credits m.spent m.ignore_unused m.flight m.course m.steps in
+    let p : Parts = parts_of m.desc m.window m.tree m.handles m.counts m.notifiers m.credits m.spent m.ignore_unused m.flight m.course m.prepare_holds m.enable_holds m.steps in
     let row = c.args.row in
     let n = c.args.handle.number in
     let live : handle_at m.handles.handles n ≡ Some row = rw (← c.self.view_is) at c.requires.live in
@@ -90,5 +90,5 @@ returns g c =
       more = omega arith;
     }) c.disable_walk-stopped.ensures.stands c.disable_walk-stopped.ensures.holders ((let held : 0 < get_or m.counts.enables row.clock.0 0 = enable_held p n row c.self.invariant live c.requires.some in let some = c.requires.some in omega arith)) refl refl in
     rw (← c.self.view_is)
-    (becomes_closed p n c.disable_walk-stopped.result row (enabled_less row) c.close_path.new.window c.set_counts.new.self c.disable_walk-stopped.new.self c.self.invariant written c.close_path.ensures.size c.close_path.ensures.behind
+    (becomes_closed p n c.disable_walk-stopped.result row (enabled_less row) c.close_path.new.window c.set_counts.new.self c.disable_walk-stopped.new.self c.self.invariant written c.close_path.ensures.size c.close_path.ensures.behind c.close_path.ensures.locks
     c.requires.some c.disable_walk-stopped.ensures.stopped c.close_path.ensures.words)

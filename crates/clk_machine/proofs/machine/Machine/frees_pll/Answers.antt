@@ -16,7 +16,7 @@ use Rattle.clk_machine.proofs.machine.Machine.frees_pll.Goals as goal
 pub release-requires-clause-place : goal.release-requires-clause-place
 release-requires-clause-place g c =
     let m = c.self.inside in
-    let p : Parts = parts_of m.desc m.window m.tree m.handles m.counts m.notifiers m.credits m.spent m.ignore_unused m.flight m.course m.steps in
+    let p : Parts = parts_of m.desc m.window m.tree m.handles m.counts m.notifiers m.credits m.spent m.ignore_unused m.flight m.course m.prepare_holds m.enable_holds m.steps in
     let live : handle_at p.table.handles c.args.handle.number ≡ Some c.args.row = subst (λ (q : Parts). handle_at q.table.handles c.args.handle.number ≡ Some c.args.row) (sym c.self.view_is) c.requires.live in
     counted_place p c.args.row.clock.0 c.self.invariant (row_place p c.args.handle.number c.args.row c.self.invariant live)
 
@@ -26,14 +26,14 @@ release-requires-clause-links g c = c.self.invariant.counted.stands.links
 pub release-requires-clause-held : goal.release-requires-clause-held
 release-requires-clause-held g c =
     let m = c.self.inside in
-    let p : Parts = parts_of m.desc m.window m.tree m.handles m.counts m.notifiers m.credits m.spent m.ignore_unused m.flight m.course m.steps in
+    let p : Parts = parts_of m.desc m.window m.tree m.handles m.counts m.notifiers m.credits m.spent m.ignore_unused m.flight m.course m.prepare_holds m.enable_holds m.steps in
     let live : handle_at p.table.handles c.args.handle.number ≡ Some c.args.row = subst (λ (q : Parts). handle_at q.table.handles c.args.handle.number ≡ Some c.args.row) (sym c.self.view_is) c.requires.live in
     prepare_held p c.args.handle.number c.args.row c.self.invariant live c.requires.some
 
 pub next_to_lower-found-requires-clause-place : goal.next_to_lower-found-requires-clause-place
 next_to_lower-found-requires-clause-place g c =
     let m = c.self.inside in
-    let p : Parts = parts_of m.desc m.window m.tree m.handles m.counts m.notifiers m.credits m.spent m.ignore_unused m.flight m.course m.steps in
+    let p : Parts = parts_of m.desc m.window m.tree m.handles m.counts m.notifiers m.credits m.spent m.ignore_unused m.flight m.course m.prepare_holds m.enable_holds m.steps in
     let live : handle_at p.table.handles c.args.handle.number ≡ Some c.args.row = subst (λ (q : Parts). handle_at q.table.handles c.args.handle.number ≡ Some c.args.row) (sym c.self.view_is) c.requires.live in
     row_place p c.args.handle.number c.args.row c.self.invariant live
 
@@ -47,7 +47,7 @@ next_to_lower-found-requires-clause-counted g c =
 pub hold-requires-clause-place : goal.hold-requires-clause-place
 hold-requires-clause-place g c =
     let m = c.self.inside in
-    let p : Parts = parts_of m.desc m.window m.tree m.handles m.counts m.notifiers m.credits m.spent m.ignore_unused m.flight m.course m.steps in
+    let p : Parts = parts_of m.desc m.window m.tree m.handles m.counts m.notifiers m.credits m.spent m.ignore_unused m.flight m.course m.prepare_holds m.enable_holds m.steps in
     let live : handle_at p.table.handles c.args.handle.number ≡ Some c.args.row = subst (λ (q : Parts). handle_at q.table.handles c.args.handle.number ≡ Some c.args.row) (sym c.self.view_is) c.requires.live in
     subst (λ (k : CountState). c.args.row.clock.0 < length k.links) (sym c.release.ensures.holders)
     (counted_place p c.args.row.clock.0 c.self.invariant (row_place p c.args.handle.number c.args.row c.self.invariant live))
@@ -58,7 +58,7 @@ hold-requires-clause-links g c = rw c.release.ensures.holders c.self.invariant.c
 pub hold-requires-clause-room : goal.hold-requires-clause-room
 hold-requires-clause-room g c =
     let m = c.self.inside in
-    let p : Parts = parts_of m.desc m.window m.tree m.handles m.counts m.notifiers m.credits m.spent m.ignore_unused m.flight m.course m.steps in
+    let p : Parts = parts_of m.desc m.window m.tree m.handles m.counts m.notifiers m.credits m.spent m.ignore_unused m.flight m.course m.prepare_holds m.enable_holds m.steps in
     let live : handle_at p.table.handles c.args.handle.number ≡ Some c.args.row = subst (λ (q : Parts). handle_at q.table.handles c.args.handle.number ≡ Some c.args.row) (sym c.self.view_is) c.requires.live in
     let within : c.args.row.clock.0 < length m.counts.links = counted_place p c.args.row.clock.0 c.self.invariant (row_place p c.args.handle.number c.args.row c.self.invariant live) in
     small_again m.counts c.release.new.self c.args.row.clock.0 c.self.invariant.counted.keeps within c.release.ensures.holders (prepare_room p c.args.row.clock.0 c.self.invariant)
@@ -66,12 +66,12 @@ hold-requires-clause-room g c =
 pub invariant_of-self : goal.invariant_of-self
 invariant_of-self g c =
     let m = c.self.inside in
-    let p : Parts = parts_of m.desc m.window m.tree m.handles m.counts m.notifiers m.credits m.spent m.ignore_unused m.flight m.course m.steps in
+    let p : Parts = parts_of m.desc m.window m.tree m.handles m.counts m.notifiers m.credits m.spent m.ignore_unused m.flight m.course m.prepare_holds m.enable_holds m.steps in
     let live : handle_at p.table.handles c.args.handle.number ≡ Some c.args.row = subst (λ (q : Parts). handle_at q.table.handles c.args.handle.number ≡ Some c.args.row) (sym c.self.view_is) c.requires.live in
     let within : c.args.row.clock.0 < length m.counts.links = counted_place p c.args.row.clock.0 c.self.invariant (row_place p c.args.handle.number c.args.row c.self.invariant live) in
     let same : c.hold.new.self ≡ m.counts =
     held_again m.counts c.release.new.self c.hold.new.self c.args.row.clock.0 c.self.invariant.counted.keeps (prepare_held p c.args.handle.number c.args.row c.self.invariant live c.requires.some) within c.release.ensures.holders c.hold.ensures.holders in
-    subst (λ (k : CountState). IsWhole (parts_of m.desc m.window m.tree m.handles k m.notifiers m.credits m.spent m.ignore_unused m.flight m.course m.steps)) (sym same) c.self.invariant
+    subst (λ (k : CountState). IsWhole (parts_of m.desc m.window m.tree m.handles k m.notifiers m.credits m.spent m.ignore_unused m.flight m.course m.prepare_holds m.enable_holds m.steps)) (sym same) c.self.invariant
 
 pub returns-clause-found : goal.returns-clause-found
 returns-clause-found g c =
@@ -85,9 +85,9 @@ returns-clause-counts g c = rw (← c.self.view_is) (subst (λ (k : CountState).
 pub returns-clause-same : goal.returns-clause-same
 returns-clause-same g c =
     let m = c.self.inside in
-    let p : Parts = parts_of m.desc m.window m.tree m.handles m.counts m.notifiers m.credits m.spent m.ignore_unused m.flight m.course m.steps in
+    let p : Parts = parts_of m.desc m.window m.tree m.handles m.counts m.notifiers m.credits m.spent m.ignore_unused m.flight m.course m.prepare_holds m.enable_holds m.steps in
     let live : handle_at p.table.handles c.args.handle.number ≡ Some c.args.row = subst (λ (q : Parts). handle_at q.table.handles c.args.handle.number ≡ Some c.args.row) (sym c.self.view_is) c.requires.live in
     let within : c.args.row.clock.0 < length m.counts.links = counted_place p c.args.row.clock.0 c.self.invariant (row_place p c.args.handle.number c.args.row c.self.invariant live) in
-    ap (λ (k : CountState). parts_of m.desc m.window m.tree m.handles k m.notifiers m.credits m.spent m.ignore_unused m.flight m.course m.steps)
+    ap (λ (k : CountState). parts_of m.desc m.window m.tree m.handles k m.notifiers m.credits m.spent m.ignore_unused m.flight m.course m.prepare_holds m.enable_holds m.steps)
     (held_again m.counts c.release.new.self c.hold.new.self c.args.row.clock.0 c.self.invariant.counted.keeps (prepare_held p c.args.handle.number c.args.row c.self.invariant live c.requires.some) within c.release.ensures.holders c.hold.ensures.holders)
     ∙ c.self.view_is

@@ -1,13 +1,10 @@
 use Rattle.std.proofs.Common.{None}
 use Rattle.std.proofs.lemmas.Result.{on_ok_weaker}
-use Rattle.clk_machine.proofs.Readying.{asks_changes, along_left, enters_along, room_to_start}
+use Rattle.clk_machine.proofs.Readying.{along_left, enters_along, room_to_start}
 use Rattle.clk_machine.proofs.machine.Machine.go_along.Goals as goal
 
 pub start_change-requires-clause-room : goal.start_change-requires-clause-room
 start_change-requires-clause-room g c = room_to_start c.args.self.now c.args.driver c.args.what c.args.scripted c.requires.can
-
-pub start_change-requires-clause-changes : goal.start_change-requires-clause-changes
-start_change-requires-clause-changes g c = asks_changes c.args.what c.requires.changes
 
 pub returns-clause-ok : goal.returns-clause-ok
 returns-clause-ok g c =

@@ -14,14 +14,14 @@ use Rattle.clk_machine.proofs.machine.Machine.land_requested.Goals as goal
 pub set_last_request-requires : goal.set_last_request-requires
 set_last_request-requires g c =
     let m = c.self.inside in
-    let p : Parts = parts_of m.desc m.window m.tree m.handles m.counts m.notifiers m.credits m.spent m.ignore_unused m.flight m.course m.steps in
+    let p : Parts = parts_of m.desc m.window m.tree m.handles m.counts m.notifiers m.credits m.spent m.ignore_unused m.flight m.course m.prepare_holds m.enable_holds m.steps in
     let requests : Requests p c.args.clock c.args.rate = subst (λ (q : Parts). Requests q c.args.clock c.args.rate) (sym c.self.view_is) c.requires.requests in
     record { place = subst (λ (d : Description). c.args.clock.0 < length d) (sym c.self.invariant.tied.defs) (clock_within m.desc m.window m.tree c.args.clock.0 c.self.invariant.tied requests.there) }
 
 pub invariant_of-self : goal.invariant_of-self
 invariant_of-self g c =
     let m = c.self.inside in
-    let p : Parts = parts_of m.desc m.window m.tree m.handles m.counts m.notifiers m.credits m.spent m.ignore_unused m.flight m.course m.steps in
+    let p : Parts = parts_of m.desc m.window m.tree m.handles m.counts m.notifiers m.credits m.spent m.ignore_unused m.flight m.course m.prepare_holds m.enable_holds m.steps in
     let going : p.flight.going ≡ true = subst (λ (q : Parts). q.flight.going ≡ true) (sym c.self.view_is) c.requires.going in
     let requests : Requests p c.args.clock c.args.rate = subst (λ (q : Parts). Requests q c.args.clock c.args.rate) (sym c.self.view_is) c.requires.requests in
     let requested_ : IsRequested m.tree c.set_last_request.new.self c.args.clock.0 c.args.rate = record {
@@ -37,7 +37,7 @@ invariant_of-self g c =
 pub returns : goal.returns
 returns g c =
     let m = c.self.inside in
-    let p : Parts = parts_of m.desc m.window m.tree m.handles m.counts m.notifiers m.credits m.spent m.ignore_unused m.flight m.course m.steps in
+    let p : Parts = parts_of m.desc m.window m.tree m.handles m.counts m.notifiers m.credits m.spent m.ignore_unused m.flight m.course m.prepare_holds m.enable_holds m.steps in
     let going : p.flight.going ≡ true = subst (λ (q : Parts). q.flight.going ≡ true) (sym c.self.view_is) c.requires.going in
     let first : ComesFirst p micro.End = subst (λ (q : Parts). ComesFirst q micro.End) (sym c.self.view_is) c.requires.first in
     let requests : Requests p c.args.clock c.args.rate = subst (λ (q : Parts). Requests q c.args.clock c.args.rate) (sym c.self.view_is) c.requires.requests in

@@ -9,8 +9,9 @@ use Rattle.clk_machine.specs.InFlight.{IsUnderWay}
 use Rattle.clk_machine.specs.Making.{ComesFirst}
 use Rattle.clk_machine.specs.Parts.{Parts, parts_of, rows_from}
 use Rattle.clk_machine.specs.Plls.{lowerable, Finds}
-use Rattle.clk_machine.proofs.InFlight.{under_way-lowered, lower_bare}
-use Rattle.clk_machine.proofs.Making.{SameCall, whole_stepped}
+use Rattle.clk_machine.proofs.InFlight.{under_way-lowered}
+use Rattle.clk_machine.proofs.Keeping.{along-lowered}
+use Rattle.clk_machine.proofs.Making.{SameCall, KeepsAlong, whole_stepped}
 use Rattle.clk_machine.proofs.Powering.{tied_powered}
 use Rattle.clk_machine.proofs.Raising.{power_lies, power_made, lower_enters}
 use Rattle.clk_machine.proofs.machine.Machine.power_down.Goals as goal
@@ -18,7 +19,7 @@ use Rattle.clk_machine.proofs.machine.Machine.power_down.Goals as goal
 pub set_power-requires : goal.set_power-requires
 set_power-requires g c =
     let m = c.self.inside in
-    let p : Parts = parts_of m.desc m.window m.tree m.handles m.counts m.notifiers m.credits m.spent m.ignore_unused m.flight m.course m.steps in
+    let p : Parts = parts_of m.desc m.window m.tree m.handles m.counts m.notifiers m.credits m.spent m.ignore_unused m.flight m.course m.prepare_holds m.enable_holds m.steps in
     let going : p.flight.going ≡ true = subst (λ (q : Parts). q.flight.going ≡ true) (sym c.self.view_is) c.requires.going in
     let place : c.args.pll.0 < length p.desc.defs = subst (λ (q : Parts). c.args.pll.0 < length q.desc.defs) (sym c.self.view_is) c.requires.place in
     power_lies p c.def.result.now.kind c.args.pll.0 c.self.invariant place (ap (λ (d : ClockDef). d.kind) c.def.ensures.def)
@@ -26,21 +27,21 @@ set_power-requires g c =
 pub invariant_of-self : goal.invariant_of-self
 invariant_of-self g c =
     let m = c.self.inside in
-    let p : Parts = parts_of m.desc m.window m.tree m.handles m.counts m.notifiers m.credits m.spent m.ignore_unused m.flight m.course m.steps in
+    let p : Parts = parts_of m.desc m.window m.tree m.handles m.counts m.notifiers m.credits m.spent m.ignore_unused m.flight m.course m.prepare_holds m.enable_holds m.steps in
     let going : p.flight.going ≡ true = subst (λ (q : Parts). q.flight.going ≡ true) (sym c.self.view_is) c.requires.going in
     let own : own_step p.flight ≡ Some (micro.Lower c.args.clock) = subst (λ (q : Parts). own_step q.flight ≡ Some (micro.Lower c.args.clock)) (sym c.self.view_is) c.requires.next in
     let place : c.args.pll.0 < length p.desc.defs = subst (λ (q : Parts). c.args.pll.0 < length q.desc.defs) (sym c.self.view_is) c.requires.place in
     whole_stepped p c.set_power.new.window c.lower.new.self c.self.invariant
     (tied_powered m.desc m.window c.set_power.new.window m.tree c.args.pll.0 false c.self.invariant.tied place c.set_power.ensures.size
     (power_made m.desc.defs c.def.result.now.kind c.args.pll.0 false m.window.words c.set_power.new.window.words (ap (λ (d : ClockDef). d.kind) c.def.ensures.def) c.set_power.ensures.words))
-    going (lower_bare m.flight (registered m.tree.clocks) c.args.clock own (c.self.invariant.flown going).way) (subst (λ (f : FlightState). SameCall m.flight f) (sym c.lower.ensures.flight) (record { plls = refl; driver = refl; call = refl; going = refl }))
+    going (subst (λ (f : FlightState). KeepsAlong m.flight f) (sym c.lower.ensures.flight) (along-lowered m.flight c.args.clock c.args.more own)) (subst (λ (f : FlightState). SameCall m.flight f) (sym c.lower.ensures.flight) (record { plls = refl; driver = refl; call = refl; going = refl }))
     (subst (λ (f : FlightState). IsUnderWay (registered m.tree.clocks) f) (sym c.lower.ensures.flight) (under_way-lowered m.flight (registered m.tree.clocks) c.args.clock c.args.more own (c.self.invariant.flown going).way))
     (c.lower.ensures.less (rows_from 0 m.notifiers))
 
 pub returns : goal.returns
 returns g c =
     let m = c.self.inside in
-    let p : Parts = parts_of m.desc m.window m.tree m.handles m.counts m.notifiers m.credits m.spent m.ignore_unused m.flight m.course m.steps in
+    let p : Parts = parts_of m.desc m.window m.tree m.handles m.counts m.notifiers m.credits m.spent m.ignore_unused m.flight m.course m.prepare_holds m.enable_holds m.steps in
     let going : p.flight.going ≡ true = subst (λ (q : Parts). q.flight.going ≡ true) (sym c.self.view_is) c.requires.going in
     let own : own_step p.flight ≡ Some (micro.Lower c.args.clock) = subst (λ (q : Parts). own_step q.flight ≡ Some (micro.Lower c.args.clock)) (sym c.self.view_is) c.requires.next in
     let first : ComesFirst p (micro.Lower c.args.clock) = subst (λ (q : Parts). ComesFirst q (micro.Lower c.args.clock)) (sym c.self.view_is) c.requires.first in
@@ -53,7 +54,6 @@ returns g c =
       size = c.set_power.ensures.size;
       words = power_made m.desc.defs c.def.result.now.kind c.args.pll.0 false m.window.words c.set_power.new.window.words (ap (λ (d : ClockDef). d.kind) c.def.ensures.def) c.set_power.ensures.words;
       behind = c.set_power.ensures.behind;
-      bare = lower_bare m.flight (registered m.tree.clocks) c.args.clock own (c.self.invariant.flown going).way;
       flight = c.lower.ensures.flight;
       change = c.lower.ensures.change;
       less = c.lower.ensures.less;

@@ -1,4 +1,4 @@
-use Rattle.std.proofs.Common.{◌≡◌, ◌∙◌, true, Some, sym, ap, subst, reverse}
+use Rattle.std.proofs.Common.{◌≡◌, ◌+◌, ◌∙◌, List, Option, true, Some, sym, ap, subst, reverse}
 use Rattle.clk_base.specs.declared.call.Micro.TheVariants as micro
 use Rattle.clk_base.specs.declared.clock.ClockDef.{ClockDef}
 use Rattle.clk_model.specs.State.{registered}
@@ -8,16 +8,22 @@ use Rattle.clk_machine.specs.InFlight.{IsUnderWay}
 use Rattle.clk_machine.specs.Making.{ComesFirst}
 use Rattle.clk_machine.specs.Parts.{Parts, parts_of, rows_from}
 use Rattle.clk_machine.specs.Plls.{raisable, Finds}
-use Rattle.clk_machine.proofs.InFlight.{under_way-raised, raise_bare}
-use Rattle.clk_machine.proofs.Making.{SameCall, whole_stepped, same_raised}
+use Rattle.clk_machine.proofs.InFlight.{under_way-raised}
+use Rattle.clk_machine.proofs.Keeping.{along-raised}
+use Rattle.clk_machine.proofs.Making.{SameCall, KeepsAlong, whole_stepped, same_raised}
 use Rattle.clk_machine.proofs.Powering.{tied_powered}
 use Rattle.clk_machine.proofs.Raising.{raised_place, known_pll, power_lies, power_made, raise_enters}
+use Rattle.std.specs.Option.{option_map}
+use Rattle.reg_bank.specs.Locks.{started}
+use Rattle.reg_bank.specs.declared.pll_lock.PllLock.{PllLock}
+use Rattle.clk_machine.specs.Window.{lock_in}
+use Rattle.clk_machine.proofs.Polling.{starts_raised}
 use Rattle.clk_machine.proofs.machine.Machine.power_up.Goals as goal
 
 pub def-requires : goal.def-requires
 def-requires g c =
     let m = c.self.inside in
-    let p : Parts = parts_of m.desc m.window m.tree m.handles m.counts m.notifiers m.credits m.spent m.ignore_unused m.flight m.course m.steps in
+    let p : Parts = parts_of m.desc m.window m.tree m.handles m.counts m.notifiers m.credits m.spent m.ignore_unused m.flight m.course m.prepare_holds m.enable_holds m.steps in
     let going : p.flight.going ≡ true = subst (λ (q : Parts). q.flight.going ≡ true) (sym c.self.view_is) c.requires.going in
     let own : own_step p.flight ≡ Some (micro.Raise c.args.clock) = subst (λ (q : Parts). own_step q.flight ≡ Some (micro.Raise c.args.clock)) (sym c.self.view_is) c.requires.next in
     let found : Finds (record { pll = Some c.args.pll; more = c.args.more }) (reverse (raisable p.desc.defs p.counts p.flight.raised (path p.tree.clocks c.args.clock.0))) = subst (λ (q : Parts). Finds (record { pll = Some c.args.pll; more = c.args.more }) (reverse (raisable q.desc.defs q.counts q.flight.raised (path q.tree.clocks c.args.clock.0)))) (sym c.self.view_is) c.requires.found in
@@ -27,7 +33,7 @@ def-requires g c =
 pub set_power-requires : goal.set_power-requires
 set_power-requires g c =
     let m = c.self.inside in
-    let p : Parts = parts_of m.desc m.window m.tree m.handles m.counts m.notifiers m.credits m.spent m.ignore_unused m.flight m.course m.steps in
+    let p : Parts = parts_of m.desc m.window m.tree m.handles m.counts m.notifiers m.credits m.spent m.ignore_unused m.flight m.course m.prepare_holds m.enable_holds m.steps in
     let going : p.flight.going ≡ true = subst (λ (q : Parts). q.flight.going ≡ true) (sym c.self.view_is) c.requires.going in
     let own : own_step p.flight ≡ Some (micro.Raise c.args.clock) = subst (λ (q : Parts). own_step q.flight ≡ Some (micro.Raise c.args.clock)) (sym c.self.view_is) c.requires.next in
     let found : Finds (record { pll = Some c.args.pll; more = c.args.more }) (reverse (raisable p.desc.defs p.counts p.flight.raised (path p.tree.clocks c.args.clock.0))) = subst (λ (q : Parts). Finds (record { pll = Some c.args.pll; more = c.args.more }) (reverse (raisable q.desc.defs q.counts q.flight.raised (path q.tree.clocks c.args.clock.0)))) (sym c.self.view_is) c.requires.found in
@@ -37,7 +43,7 @@ set_power-requires g c =
 pub start-requires : goal.start-requires
 start-requires g c =
     let m = c.self.inside in
-    let p : Parts = parts_of m.desc m.window m.tree m.handles m.counts m.notifiers m.credits m.spent m.ignore_unused m.flight m.course m.steps in
+    let p : Parts = parts_of m.desc m.window m.tree m.handles m.counts m.notifiers m.credits m.spent m.ignore_unused m.flight m.course m.prepare_holds m.enable_holds m.steps in
     let going : p.flight.going ≡ true = subst (λ (q : Parts). q.flight.going ≡ true) (sym c.self.view_is) c.requires.going in
     let own : own_step p.flight ≡ Some (micro.Raise c.args.clock) = subst (λ (q : Parts). own_step q.flight ≡ Some (micro.Raise c.args.clock)) (sym c.self.view_is) c.requires.next in
     let found : Finds (record { pll = Some c.args.pll; more = c.args.more }) (reverse (raisable p.desc.defs p.counts p.flight.raised (path p.tree.clocks c.args.clock.0))) = subst (λ (q : Parts). Finds (record { pll = Some c.args.pll; more = c.args.more }) (reverse (raisable q.desc.defs q.counts q.flight.raised (path q.tree.clocks c.args.clock.0)))) (sym c.self.view_is) c.requires.found in
@@ -47,7 +53,7 @@ start-requires g c =
 pub invariant_of-self : goal.invariant_of-self
 invariant_of-self g c =
     let m = c.self.inside in
-    let p : Parts = parts_of m.desc m.window m.tree m.handles m.counts m.notifiers m.credits m.spent m.ignore_unused m.flight m.course m.steps in
+    let p : Parts = parts_of m.desc m.window m.tree m.handles m.counts m.notifiers m.credits m.spent m.ignore_unused m.flight m.course m.prepare_holds m.enable_holds m.steps in
     let going : p.flight.going ≡ true = subst (λ (q : Parts). q.flight.going ≡ true) (sym c.self.view_is) c.requires.going in
     let own : own_step p.flight ≡ Some (micro.Raise c.args.clock) = subst (λ (q : Parts). own_step q.flight ≡ Some (micro.Raise c.args.clock)) (sym c.self.view_is) c.requires.next in
     let found : Finds (record { pll = Some c.args.pll; more = c.args.more }) (reverse (raisable p.desc.defs p.counts p.flight.raised (path p.tree.clocks c.args.clock.0))) = subst (λ (q : Parts). Finds (record { pll = Some c.args.pll; more = c.args.more }) (reverse (raisable q.desc.defs q.counts q.flight.raised (path q.tree.clocks c.args.clock.0)))) (sym c.self.view_is) c.requires.found in
@@ -55,14 +61,14 @@ invariant_of-self g c =
     whole_stepped p c.start.new.self c.raise.new.self c.self.invariant
     (tied_powered m.desc m.window c.start.new.self m.tree c.args.pll.0 true c.self.invariant.tied place.2 (c.start.ensures.size ∙ c.set_power.ensures.size)
     (c.start.ensures.words ∙ power_made m.desc.defs c.def.result.now.kind c.args.pll.0 true m.window.words c.set_power.new.window.words (ap (λ (d : ClockDef). d.kind) c.def.ensures.def) c.set_power.ensures.words))
-    going (raise_bare m.flight (registered m.tree.clocks) c.args.clock own (c.self.invariant.flown going).way) (subst (λ (f : FlightState). SameCall m.flight f) (sym c.raise.ensures.flight) (same_raised m.flight c.args.clock c.args.pll c.args.more))
+    going (subst (λ (f : FlightState). KeepsAlong m.flight f) (sym c.raise.ensures.flight) (along-raised m.flight (registered m.tree.clocks) c.args.clock c.args.pll c.args.more own (c.self.invariant.flown going).way)) (subst (λ (f : FlightState). SameCall m.flight f) (sym c.raise.ensures.flight) (same_raised m.flight c.args.clock c.args.pll c.args.more))
     (subst (λ (f : FlightState). IsUnderWay (registered m.tree.clocks) f) (sym c.raise.ensures.flight) (under_way-raised m.flight (registered m.tree.clocks) c.args.clock c.args.pll c.args.more own place.1 (c.self.invariant.flown going).way))
     (c.raise.ensures.less (rows_from 0 m.notifiers))
 
-pub returns : goal.returns
-returns g c =
+pub returns-clause-enters : goal.returns-clause-enters
+returns-clause-enters g c =
     let m = c.self.inside in
-    let p : Parts = parts_of m.desc m.window m.tree m.handles m.counts m.notifiers m.credits m.spent m.ignore_unused m.flight m.course m.steps in
+    let p : Parts = parts_of m.desc m.window m.tree m.handles m.counts m.notifiers m.credits m.spent m.ignore_unused m.flight m.course m.prepare_holds m.enable_holds m.steps in
     let going : p.flight.going ≡ true = subst (λ (q : Parts). q.flight.going ≡ true) (sym c.self.view_is) c.requires.going in
     let own : own_step p.flight ≡ Some (micro.Raise c.args.clock) = subst (λ (q : Parts). own_step q.flight ≡ Some (micro.Raise c.args.clock)) (sym c.self.view_is) c.requires.next in
     let first : ComesFirst p (micro.Raise c.args.clock) = subst (λ (q : Parts). ComesFirst q (micro.Raise c.args.clock)) (sym c.self.view_is) c.requires.first in
@@ -78,8 +84,15 @@ returns g c =
       size = c.start.ensures.size ∙ c.set_power.ensures.size;
       words = c.start.ensures.words ∙ power_made m.desc.defs c.def.result.now.kind c.args.pll.0 true m.window.words c.set_power.new.window.words (ap (λ (d : ClockDef). d.kind) c.def.ensures.def) c.set_power.ensures.words;
       behind = c.start.ensures.behind ∙ c.set_power.ensures.behind;
-      bare = raise_bare m.flight (registered m.tree.clocks) c.args.clock own (c.self.invariant.flown going).way;
       flight = c.raise.ensures.flight;
       change = c.raise.ensures.change;
       less = c.raise.ensures.less;
     }))
+
+pub returns-clause-starts : goal.returns-clause-starts
+returns-clause-starts g c =
+    let m = c.self.inside in
+    let p : Parts = parts_of m.desc m.window m.tree m.handles m.counts m.notifiers m.credits m.spent m.ignore_unused m.flight m.course m.prepare_holds m.enable_holds m.steps in
+    rw (← c.self.view_is)
+    (starts_raised p (parts_of m.desc c.start.new.self m.tree m.handles m.counts m.notifiers m.credits m.spent m.ignore_unused c.raise.new.self m.course m.prepare_holds m.enable_holds (m.steps + 1)) c.args.clock c.args.pll c.args.more c.raise.ensures.flight
+    (c.start.ensures.lock ∙ ap (λ (locks : List (Option PllLock)). option_map started (lock_in locks c.args.pll.0)) c.set_power.ensures.locks))

@@ -3,7 +3,7 @@ use Rattle.std.proofs.lemmas.Result.{IfOk-weaker}
 use Rattle.std.specs.Prelude.{IfOk}
 use Rattle.clk_machine.specs.declared.decision.Decision.{Decision}
 use Rattle.clk_machine.specs.declared.decision.Decision.TheVariants.{Change}
-use Rattle.clk_machine.specs.Deciding.{ArePlanned, Decided, IsOwned}
+use Rattle.clk_machine.specs.Deciding.{ArePlannedOver, Decided, IsOwned}
 use Rattle.clk_machine.specs.Parts.{Parts, IsWhole}
 use Rattle.clk_machine.specs.Readying.{Scripts}
 use Rattle.clk_machine.proofs.Readying.{ready_scripted, can_scripted}
@@ -15,9 +15,9 @@ returns-in-Change-clause-ready g c =
     let plan = c.in-Change.plan in
     let script = c.in-Change.script in
     let decided_ : Decided m c.args.driver c.args.what (Change plan script) = subst (λ (x : Decision). Decided m c.args.driver c.args.what x) c.in-Change.is c.in_ok-errno.ensures.decides in
-    let there : ArePlanned m.tree (Change plan script) = subst (λ (x : Decision). ArePlanned m.tree x) c.in-Change.is c.in_ok-errno.ensures.there in
+    let there : ArePlannedOver m c.args.what (Change plan script) = subst (λ (x : Decision). ArePlannedOver m c.args.what x) c.in-Change.is c.in_ok-errno.ensures.there in
     let whole : IsWhole m = subst IsWhole c.decide.ensures.same c.scripted.ensures.whole in
-    IfOk-weaker c.scripted.result _ _ (λ made scripts. ready_scripted m c.args.driver c.args.what plan script made whole c.requires.changes c.requires.still c.requires.credit there decided_ scripts)
+    IfOk-weaker c.scripted.result _ _ (λ made scripts. ready_scripted m c.args.driver c.args.what plan script made whole c.requires.changes c.requires.built c.requires.credit there decided_ scripts)
     (subst (λ (q : Parts). IfOk c.scripted.result (λ made. Scripts q plan script made)) c.decide.ensures.same c.scripted.ensures.scripts)
 
 pub returns-in-Change-clause-can : goal.returns-in-Change-clause-can
@@ -25,7 +25,8 @@ returns-in-Change-clause-can g c =
     let m : Parts = c.args.self.now in
     let plan = c.in-Change.plan in
     let script = c.in-Change.script in
-    let there : ArePlanned m.tree (Change plan script) = subst (λ (x : Decision). ArePlanned m.tree x) c.in-Change.is c.in_ok-errno.ensures.there in
+    let there : ArePlannedOver m c.args.what (Change plan script) = subst (λ (x : Decision). ArePlannedOver m c.args.what x) c.in-Change.is c.in_ok-errno.ensures.there in
     let own : IsOwned m.table.handles c.args.driver c.args.what (Change plan script) = subst (λ (x : Decision). IsOwned m.table.handles c.args.driver c.args.what x) c.in-Change.is c.in_ok-errno.ensures.own in
-    IfOk-weaker c.scripted.result _ _ (λ made scripts. can_scripted m c.args.driver c.args.what plan script made c.requires.changes there own scripts)
+    let whole : IsWhole m = subst IsWhole c.decide.ensures.same c.scripted.ensures.whole in
+    IfOk-weaker c.scripted.result _ _ (λ made scripts. can_scripted m c.args.driver c.args.what plan script made whole c.requires.changes there own scripts)
     (subst (λ (q : Parts). IfOk c.scripted.result (λ made. Scripts q plan script made)) c.decide.ensures.same c.scripted.ensures.scripts)

@@ -11,7 +11,7 @@ use Rattle.clk_machine.proofs.machine.Machine.register.Goals as goal
 pub moved-requires-clause-place : goal.moved-requires-clause-place
 moved-requires-clause-place g c =
     let m = c.self.inside in
-    let p : Parts = parts_of m.desc m.window m.tree m.handles m.counts m.notifiers m.credits m.spent m.ignore_unused m.flight m.course m.steps in
+    let p : Parts = parts_of m.desc m.window m.tree m.handles m.counts m.notifiers m.credits m.spent m.ignore_unused m.flight m.course m.prepare_holds m.enable_holds m.steps in
     let within : c.args.clock.0 < length m.desc.defs = rw (← c.self.view_is) at c.requires.place in
     counted_place p c.args.clock.0 c.self.invariant within
 
@@ -21,20 +21,20 @@ moved-requires-clause-made g c = c.register_clock.ensures.defs ∙ c.self.invari
 pub moved-requires-clause-from : goal.moved-requires-clause-from
 moved-requires-clause-from g c =
     let m = c.self.inside in
-    let p : Parts = parts_of m.desc m.window m.tree m.handles m.counts m.notifiers m.credits m.spent m.ignore_unused m.flight m.course m.steps in
+    let p : Parts = parts_of m.desc m.window m.tree m.handles m.counts m.notifiers m.credits m.spent m.ignore_unused m.flight m.course m.prepare_holds m.enable_holds m.steps in
     let free : registered m.tree.clocks c.args.clock.0 ≡ false = rw (← c.self.view_is) at c.requires.free in
     no_link p c.args.clock.0 c.self.invariant free
 
 pub moved-requires-clause-others : goal.moved-requires-clause-others
 moved-requires-clause-others g c =
     let m = c.self.inside in
-    let p : Parts = parts_of m.desc m.window m.tree m.handles m.counts m.notifiers m.credits m.spent m.ignore_unused m.flight m.course m.steps in
+    let p : Parts = parts_of m.desc m.window m.tree m.handles m.counts m.notifiers m.credits m.spent m.ignore_unused m.flight m.course m.prepare_holds m.enable_holds m.steps in
     other_links p c.args.clock.0 c.register_clock.new.tree.clocks c.self.invariant c.register_clock.ensures.links
 
 pub invariant_of-self : goal.invariant_of-self
 invariant_of-self g c =
     let m = c.self.inside in
-    let p : Parts = parts_of m.desc m.window m.tree m.handles m.counts m.notifiers m.credits m.spent m.ignore_unused m.flight m.course m.steps in
+    let p : Parts = parts_of m.desc m.window m.tree m.handles m.counts m.notifiers m.credits m.spent m.ignore_unused m.flight m.course m.prepare_holds m.enable_holds m.steps in
     let quiet : m.flight.going ≡ false = rw (← c.self.view_is) at c.requires.quiet in
     let left : m.spent < m.credits = rw (← c.self.view_is) at c.requires.credit in
     let place : c.args.clock.0 < length m.desc.defs = rw (← c.self.view_is) at c.requires.place in
@@ -61,7 +61,7 @@ invariant_of-self g c =
 pub returns : goal.returns
 returns g c =
     let m = c.self.inside in
-    let p : Parts = parts_of m.desc m.window m.tree m.handles m.counts m.notifiers m.credits m.spent m.ignore_unused m.flight m.course m.steps in
+    let p : Parts = parts_of m.desc m.window m.tree m.handles m.counts m.notifiers m.credits m.spent m.ignore_unused m.flight m.course m.prepare_holds m.enable_holds m.steps in
     let quiet : m.flight.going ≡ false = rw (← c.self.view_is) at c.requires.quiet in
     let place : c.args.clock.0 < length m.desc.defs = rw (← c.self.view_is) at c.requires.place in
     let free : registered m.tree.clocks c.args.clock.0 ≡ false = rw (← c.self.view_is) at c.requires.free in

@@ -15,7 +15,7 @@ use Rattle.clk_machine.proofs.machine.Machine.register_critical.Goals as goal
 pub moved-requires-clause-place : goal.moved-requires-clause-place
 moved-requires-clause-place g c =
     let m = c.self.inside in
-    let p : Parts = parts_of m.desc m.window m.tree m.handles m.counts m.notifiers m.credits m.spent m.ignore_unused m.flight m.course m.steps in
+    let p : Parts = parts_of m.desc m.window m.tree m.handles m.counts m.notifiers m.credits m.spent m.ignore_unused m.flight m.course m.prepare_holds m.enable_holds m.steps in
     let within : c.args.clock.0 < length m.desc.defs = rw (← c.self.view_is) at c.requires.place in
     counted_place p c.args.clock.0 c.self.invariant within
 
@@ -25,33 +25,33 @@ moved-requires-clause-made g c = c.register_clock.ensures.defs ∙ c.self.invari
 pub moved-requires-clause-from : goal.moved-requires-clause-from
 moved-requires-clause-from g c =
     let m = c.self.inside in
-    let p : Parts = parts_of m.desc m.window m.tree m.handles m.counts m.notifiers m.credits m.spent m.ignore_unused m.flight m.course m.steps in
+    let p : Parts = parts_of m.desc m.window m.tree m.handles m.counts m.notifiers m.credits m.spent m.ignore_unused m.flight m.course m.prepare_holds m.enable_holds m.steps in
     let free : registered m.tree.clocks c.args.clock.0 ≡ false = rw (← c.self.view_is) at c.requires.free in
     no_link p c.args.clock.0 c.self.invariant free
 
 pub moved-requires-clause-others : goal.moved-requires-clause-others
 moved-requires-clause-others g c =
     let m = c.self.inside in
-    let p : Parts = parts_of m.desc m.window m.tree m.handles m.counts m.notifiers m.credits m.spent m.ignore_unused m.flight m.course m.steps in
+    let p : Parts = parts_of m.desc m.window m.tree m.handles m.counts m.notifiers m.credits m.spent m.ignore_unused m.flight m.course m.prepare_holds m.enable_holds m.steps in
     other_links p c.args.clock.0 c.register_clock.new.tree.clocks c.self.invariant c.register_clock.ensures.links
 
 pub hold-requires-clause-room : goal.hold-requires-clause-room
 hold-requires-clause-room g c =
     let m = c.self.inside in
-    let p : Parts = parts_of m.desc m.window m.tree m.handles m.counts m.notifiers m.credits m.spent m.ignore_unused m.flight m.course m.steps in
+    let p : Parts = parts_of m.desc m.window m.tree m.handles m.counts m.notifiers m.credits m.spent m.ignore_unused m.flight m.course m.prepare_holds m.enable_holds m.steps in
     subst (λ (k : CountState). get_or k.prepares c.args.clock.0 0 < 8388608) (sym c.moved.ensures.moved) (prepare_room p c.args.clock.0 c.self.invariant)
 
 pub enable_walk-begun-requires-clause-room : goal.enable_walk-begun-requires-clause-room
 enable_walk-begun-requires-clause-room g c =
     let m = c.self.inside in
-    let p : Parts = parts_of m.desc m.window m.tree m.handles m.counts m.notifiers m.credits m.spent m.ignore_unused m.flight m.course m.steps in
+    let p : Parts = parts_of m.desc m.window m.tree m.handles m.counts m.notifiers m.credits m.spent m.ignore_unused m.flight m.course m.prepare_holds m.enable_holds m.steps in
     subst (λ (k : CountState). get_or k.enables c.args.clock.0 0 < 8388608) (sym c.hold.ensures.holders)
     (subst (λ (k : CountState). get_or k.enables c.args.clock.0 0 < 8388608) (sym c.moved.ensures.moved) (enable_room p c.args.clock.0 c.self.invariant))
 
 pub open_path-requires-clause-links : goal.open_path-requires-clause-links
 open_path-requires-clause-links g c =
     let m = c.self.inside in
-    let p : Parts = parts_of m.desc m.window m.tree m.handles m.counts m.notifiers m.credits m.spent m.ignore_unused m.flight m.course m.steps in
+    let p : Parts = parts_of m.desc m.window m.tree m.handles m.counts m.notifiers m.credits m.spent m.ignore_unused m.flight m.course m.prepare_holds m.enable_holds m.steps in
     let quiet : m.flight.going ≡ false = rw (← c.self.view_is) at c.requires.quiet in
     let left : m.spent < m.credits = rw (← c.self.view_is) at c.requires.credit in
     let place : c.args.clock.0 < length m.desc.defs = rw (← c.self.view_is) at c.requires.place in
@@ -77,7 +77,7 @@ open_path-requires-clause-links g c =
 pub invariant_of-self : goal.invariant_of-self
 invariant_of-self g c =
     let m = c.self.inside in
-    let p : Parts = parts_of m.desc m.window m.tree m.handles m.counts m.notifiers m.credits m.spent m.ignore_unused m.flight m.course m.steps in
+    let p : Parts = parts_of m.desc m.window m.tree m.handles m.counts m.notifiers m.credits m.spent m.ignore_unused m.flight m.course m.prepare_holds m.enable_holds m.steps in
     let quiet : m.flight.going ≡ false = rw (← c.self.view_is) at c.requires.quiet in
     let left : m.spent < m.credits = rw (← c.self.view_is) at c.requires.credit in
     let place : c.args.clock.0 < length m.desc.defs = rw (← c.self.view_is) at c.requires.place in
@@ -107,7 +107,7 @@ invariant_of-self g c =
 pub returns : goal.returns
 returns g c =
     let m = c.self.inside in
-    let p : Parts = parts_of m.desc m.window m.tree m.handles m.counts m.notifiers m.credits m.spent m.ignore_unused m.flight m.course m.steps in
+    let p : Parts = parts_of m.desc m.window m.tree m.handles m.counts m.notifiers m.credits m.spent m.ignore_unused m.flight m.course m.prepare_holds m.enable_holds m.steps in
     let quiet : m.flight.going ≡ false = rw (← c.self.view_is) at c.requires.quiet in
     let place : c.args.clock.0 < length m.desc.defs = rw (← c.self.view_is) at c.requires.place in
     let free : registered m.tree.clocks c.args.clock.0 ≡ false = rw (← c.self.view_is) at c.requires.free in
@@ -132,6 +132,6 @@ returns g c =
     held_twice c.moved.new.self c.hold.new.self c.enable_walk-begun.new.self c.args.clock.0 c.hold.ensures.holders c.enable_walk-begun.ensures.holders c.enable_walk-begun.ensures.stands in
     rw (← c.self.view_is)
     (becomes_critical p c.args.clock.0 c.register_clock.new.tree c.moved.new.self c.enable_walk-begun.new.self c.open_path.new.window c.enable_walk-begun.result c.self.invariant quiet now holds critical
-    c.open_path.ensures.size c.open_path.ensures.behind
+    c.open_path.ensures.size c.open_path.ensures.behind c.open_path.ensures.locks
     (held_begun c.moved.new.self c.hold.new.self c.enable_walk-begun.new.self c.args.clock.0 c.enable_walk-begun.result c.hold.ensures.holders c.enable_walk-begun.ensures.begun)
     c.open_path.ensures.words)

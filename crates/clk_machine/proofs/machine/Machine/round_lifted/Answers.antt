@@ -13,7 +13,7 @@ use Rattle.clk_machine.proofs.machine.Machine.round_lifted.Goals as goal
 pub returns-then-row-eq0-clause-rate : goal.returns-then-row-eq0-clause-rate
 returns-then-row-eq0-clause-rate g c =
     let m = c.self.inside in
-    let p : Parts = parts_of m.desc m.window m.tree m.handles m.counts m.notifiers m.credits m.spent m.ignore_unused m.flight m.course m.steps in
+    let p : Parts = parts_of m.desc m.window m.tree m.handles m.counts m.notifiers m.credits m.spent m.ignore_unused m.flight m.course m.prepare_holds m.enable_holds m.steps in
     let row = c.args.row in
     let n = c.args.handle.number in
     let live : handle_at m.handles.handles n ≡ Some row = rw (← c.self.view_is) at c.requires.live in
@@ -24,21 +24,21 @@ returns-then-row-eq0-clause-rate g c =
 pub unprotect-requires-clause-place : goal.unprotect-requires-clause-place
 unprotect-requires-clause-place g c =
     let m = c.self.inside in
-    let p : Parts = parts_of m.desc m.window m.tree m.handles m.counts m.notifiers m.credits m.spent m.ignore_unused m.flight m.course m.steps in
+    let p : Parts = parts_of m.desc m.window m.tree m.handles m.counts m.notifiers m.credits m.spent m.ignore_unused m.flight m.course m.prepare_holds m.enable_holds m.steps in
     let live : handle_at m.handles.handles c.args.handle.number ≡ Some c.args.row = rw (← c.self.view_is) at c.requires.live in
     counted_place p c.args.row.clock.0 c.self.invariant (row_place p c.args.handle.number c.args.row c.self.invariant live)
 
 pub unprotect-requires-clause-held : goal.unprotect-requires-clause-held
 unprotect-requires-clause-held g c =
     let m = c.self.inside in
-    let p : Parts = parts_of m.desc m.window m.tree m.handles m.counts m.notifiers m.credits m.spent m.ignore_unused m.flight m.course m.steps in
+    let p : Parts = parts_of m.desc m.window m.tree m.handles m.counts m.notifiers m.credits m.spent m.ignore_unused m.flight m.course m.prepare_holds m.enable_holds m.steps in
     let live : handle_at m.handles.handles c.args.handle.number ≡ Some c.args.row = rw (← c.self.view_is) at c.requires.live in
     exclusive_held p c.args.handle.number c.args.row c.self.invariant live (let some = c.if-row-eq0.false in grind (arith, nat_tests))
 
 pub protect-requires-clause-place : goal.protect-requires-clause-place
 protect-requires-clause-place g c =
     let m = c.self.inside in
-    let p : Parts = parts_of m.desc m.window m.tree m.handles m.counts m.notifiers m.credits m.spent m.ignore_unused m.flight m.course m.steps in
+    let p : Parts = parts_of m.desc m.window m.tree m.handles m.counts m.notifiers m.credits m.spent m.ignore_unused m.flight m.course m.prepare_holds m.enable_holds m.steps in
     let live : handle_at m.handles.handles c.args.handle.number ≡ Some c.args.row = rw (← c.self.view_is) at c.requires.live in
     subst (λ (ls : List (Option ClockId)). c.args.row.clock.0 < length ls) (sym (ap (λ (k : CountState). k.links) c.unprotect.ensures.holders))
     (counted_place p c.args.row.clock.0 c.self.invariant (row_place p c.args.handle.number c.args.row c.self.invariant live))
@@ -46,18 +46,18 @@ protect-requires-clause-place g c =
 pub protect-requires-clause-room : goal.protect-requires-clause-room
 protect-requires-clause-room g c =
     let m = c.self.inside in
-    let p : Parts = parts_of m.desc m.window m.tree m.handles m.counts m.notifiers m.credits m.spent m.ignore_unused m.flight m.course m.steps in
+    let p : Parts = parts_of m.desc m.window m.tree m.handles m.counts m.notifiers m.credits m.spent m.ignore_unused m.flight m.course m.prepare_holds m.enable_holds m.steps in
     exclusive_less p c.unprotect.new.self c.args.row.clock.0 c.self.invariant c.unprotect.ensures.holders
 
 pub invariant_of-self : goal.invariant_of-self
 invariant_of-self g c =
     let m = c.self.inside in
-    let p : Parts = parts_of m.desc m.window m.tree m.handles m.counts m.notifiers m.credits m.spent m.ignore_unused m.flight m.course m.steps in
+    let p : Parts = parts_of m.desc m.window m.tree m.handles m.counts m.notifiers m.credits m.spent m.ignore_unused m.flight m.course m.prepare_holds m.enable_holds m.steps in
     let row = c.args.row in
     let n = c.args.handle.number in
     let live : handle_at m.handles.handles n ≡ Some row = rw (← c.self.view_is) at c.requires.live in
     let some : 0 < row.exclusives = (let is = c.if-row-eq0.false in grind (arith, nat_tests)) in
-    subst (λ (k : CountState). IsWhole (parts_of m.desc m.window m.tree m.handles k m.notifiers m.credits m.spent m.ignore_unused m.flight m.course m.steps))
+    subst (λ (k : CountState). IsWhole (parts_of m.desc m.window m.tree m.handles k m.notifiers m.credits m.spent m.ignore_unused m.flight m.course m.prepare_holds m.enable_holds m.steps))
     (sym (counts_back m.counts c.unprotect.new.self c.protect.new.self row.clock.0 c.unprotect.ensures.holders c.protect.ensures.holders
     (place_among p row.clock.0 m.counts.exclusives c.self.invariant (row_place p n row c.self.invariant live) c.self.invariant.counted.keeps.exclusives)
     (exclusive_held p n row c.self.invariant live some)))
@@ -66,7 +66,7 @@ invariant_of-self g c =
 pub returns-clause-rate : goal.returns-clause-rate
 returns-clause-rate g c =
     let m = c.self.inside in
-    let p : Parts = parts_of m.desc m.window m.tree m.handles m.counts m.notifiers m.credits m.spent m.ignore_unused m.flight m.course m.steps in
+    let p : Parts = parts_of m.desc m.window m.tree m.handles m.counts m.notifiers m.credits m.spent m.ignore_unused m.flight m.course m.prepare_holds m.enable_holds m.steps in
     let row = c.args.row in
     let n = c.args.handle.number in
     let live : handle_at m.handles.handles n ≡ Some row = rw (← c.self.view_is) at c.requires.live in
@@ -78,13 +78,13 @@ returns-clause-rate g c =
 pub returns-clause-same : goal.returns-clause-same
 returns-clause-same g c =
     let m = c.self.inside in
-    let p : Parts = parts_of m.desc m.window m.tree m.handles m.counts m.notifiers m.credits m.spent m.ignore_unused m.flight m.course m.steps in
+    let p : Parts = parts_of m.desc m.window m.tree m.handles m.counts m.notifiers m.credits m.spent m.ignore_unused m.flight m.course m.prepare_holds m.enable_holds m.steps in
     let row = c.args.row in
     let n = c.args.handle.number in
     let live : handle_at m.handles.handles n ≡ Some row = rw (← c.self.view_is) at c.requires.live in
     let some : 0 < row.exclusives = (let is = c.if-row-eq0.false in grind (arith, nat_tests)) in
     rw (← c.self.view_is)
-    (ap (λ (k : CountState). parts_of m.desc m.window m.tree m.handles k m.notifiers m.credits m.spent m.ignore_unused m.flight m.course m.steps)
+    (ap (λ (k : CountState). parts_of m.desc m.window m.tree m.handles k m.notifiers m.credits m.spent m.ignore_unused m.flight m.course m.prepare_holds m.enable_holds m.steps)
     (counts_back m.counts c.unprotect.new.self c.protect.new.self row.clock.0 c.unprotect.ensures.holders c.protect.ensures.holders
     (place_among p row.clock.0 m.counts.exclusives c.self.invariant (row_place p n row c.self.invariant live) c.self.invariant.counted.keeps.exclusives)
     (exclusive_held p n row c.self.invariant live some)))

@@ -11,7 +11,7 @@ use Rattle.clk_machine.proofs.machine.Machine.select.Goals as goal
 pub set_to-requires-clause-place : goal.set_to-requires-clause-place
 set_to-requires-clause-place g c =
     let m = c.self.inside in
-    let p : Parts = parts_of m.desc m.window m.tree m.handles m.counts m.notifiers m.credits m.spent m.ignore_unused m.flight m.course m.steps in
+    let p : Parts = parts_of m.desc m.window m.tree m.handles m.counts m.notifiers m.credits m.spent m.ignore_unused m.flight m.course m.prepare_holds m.enable_holds m.steps in
     let going : p.flight.going ≡ true = subst (λ (q : Parts). q.flight.going ≡ true) (sym c.self.view_is) c.requires.going in
     let own : own_step p.flight ≡ Some (micro.WriteMux c.args.clock c.args.place) = subst (λ (q : Parts). own_step q.flight ≡ Some (micro.WriteMux c.args.clock c.args.place)) (sym c.self.view_is) c.requires.next in
     let may = may_select p c.args.clock c.args.place c.self.invariant going own in
@@ -20,7 +20,7 @@ set_to-requires-clause-place g c =
 pub set_to-requires-clause-fits : goal.set_to-requires-clause-fits
 set_to-requires-clause-fits g c =
     let m = c.self.inside in
-    let p : Parts = parts_of m.desc m.window m.tree m.handles m.counts m.notifiers m.credits m.spent m.ignore_unused m.flight m.course m.steps in
+    let p : Parts = parts_of m.desc m.window m.tree m.handles m.counts m.notifiers m.credits m.spent m.ignore_unused m.flight m.course m.prepare_holds m.enable_holds m.steps in
     let going : p.flight.going ≡ true = subst (λ (q : Parts). q.flight.going ≡ true) (sym c.self.view_is) c.requires.going in
     let own : own_step p.flight ≡ Some (micro.WriteMux c.args.clock c.args.place) = subst (λ (q : Parts). own_step q.flight ≡ Some (micro.WriteMux c.args.clock c.args.place)) (sym c.self.view_is) c.requires.next in
     let may = may_select p c.args.clock c.args.place c.self.invariant going own in
@@ -29,7 +29,7 @@ set_to-requires-clause-fits g c =
 pub invariant_of-self : goal.invariant_of-self
 invariant_of-self g c =
     let m = c.self.inside in
-    let p : Parts = parts_of m.desc m.window m.tree m.handles m.counts m.notifiers m.credits m.spent m.ignore_unused m.flight m.course m.steps in
+    let p : Parts = parts_of m.desc m.window m.tree m.handles m.counts m.notifiers m.credits m.spent m.ignore_unused m.flight m.course m.prepare_holds m.enable_holds m.steps in
     let going : p.flight.going ≡ true = subst (λ (q : Parts). q.flight.going ≡ true) (sym c.self.view_is) c.requires.going in
     let own : own_step p.flight ≡ Some (micro.WriteMux c.args.clock c.args.place) = subst (λ (q : Parts). own_step q.flight ≡ Some (micro.WriteMux c.args.clock c.args.place)) (sym c.self.view_is) c.requires.next in
     let first : ComesFirst p (micro.WriteMux c.args.clock c.args.place) = subst (λ (q : Parts). ComesFirst q (micro.WriteMux c.args.clock c.args.place)) (sym c.self.view_is) c.requires.first in
@@ -54,12 +54,12 @@ invariant_of-self g c =
       defs = c.set_to.ensures.defs;
       stands = c.set_to.ensures.stands;
     } in
-    whole_relinked p (micro.WriteMux c.args.clock c.args.place) c.set_to.new.window c.set_to.new.tree m.counts c.go_on.new.self (selected_of p c.args.clock c.args.place c.set_to.new.window c.set_to.new.tree c.go_on.new.self now to)
+    whole_relinked p (micro.WriteMux c.args.clock c.args.place) c.set_to.new.window c.set_to.new.tree m.counts m.prepare_holds m.enable_holds c.go_on.new.self (selected_of p c.args.clock c.args.place c.set_to.new.window c.set_to.new.tree c.go_on.new.self now to)
 
 pub returns : goal.returns
 returns g c =
     let m = c.self.inside in
-    let p : Parts = parts_of m.desc m.window m.tree m.handles m.counts m.notifiers m.credits m.spent m.ignore_unused m.flight m.course m.steps in
+    let p : Parts = parts_of m.desc m.window m.tree m.handles m.counts m.notifiers m.credits m.spent m.ignore_unused m.flight m.course m.prepare_holds m.enable_holds m.steps in
     let going : p.flight.going ≡ true = subst (λ (q : Parts). q.flight.going ≡ true) (sym c.self.view_is) c.requires.going in
     let own : own_step p.flight ≡ Some (micro.WriteMux c.args.clock c.args.place) = subst (λ (q : Parts). own_step q.flight ≡ Some (micro.WriteMux c.args.clock c.args.place)) (sym c.self.view_is) c.requires.next in
     let first : ComesFirst p (micro.WriteMux c.args.clock c.args.place) = subst (λ (q : Parts). ComesFirst q (micro.WriteMux c.args.clock c.args.place)) (sym c.self.view_is) c.requires.first in

@@ -16,7 +16,7 @@ use Rattle.clk_machine.proofs.machine.Machine.settle.Goals as goal
 pub settle_below-requires-clause-place : goal.settle_below-requires-clause-place
 settle_below-requires-clause-place g c =
     let m = c.self.inside in
-    let p : Parts = parts_of m.desc m.window m.tree m.handles m.counts m.notifiers m.credits m.spent m.ignore_unused m.flight m.course m.steps in
+    let p : Parts = parts_of m.desc m.window m.tree m.handles m.counts m.notifiers m.credits m.spent m.ignore_unused m.flight m.course m.prepare_holds m.enable_holds m.steps in
     let going : p.flight.going ≡ true = subst (λ (q : Parts). q.flight.going ≡ true) (sym c.self.view_is) c.requires.going in
     let own : own_step p.flight ≡ Some (micro.Settle c.args.clock) = subst (λ (q : Parts). own_step q.flight ≡ Some (micro.Settle c.args.clock)) (sym c.self.view_is) c.requires.next in
     subst (λ (ds : Description). c.args.clock.0 < length ds) (sym c.self.invariant.tied.defs) (clock_within m.desc m.window m.tree c.args.clock.0 c.self.invariant.tied (may_settle p c.args.clock c.self.invariant going own))
@@ -24,7 +24,7 @@ settle_below-requires-clause-place g c =
 pub invariant_of-self : goal.invariant_of-self
 invariant_of-self g c =
     let m = c.self.inside in
-    let p : Parts = parts_of m.desc m.window m.tree m.handles m.counts m.notifiers m.credits m.spent m.ignore_unused m.flight m.course m.steps in
+    let p : Parts = parts_of m.desc m.window m.tree m.handles m.counts m.notifiers m.credits m.spent m.ignore_unused m.flight m.course m.prepare_holds m.enable_holds m.steps in
     let going : p.flight.going ≡ true = subst (λ (q : Parts). q.flight.going ≡ true) (sym c.self.view_is) c.requires.going in
     let own : own_step p.flight ≡ Some (micro.Settle c.args.clock) = subst (λ (q : Parts). own_step q.flight ≡ Some (micro.Settle c.args.clock)) (sym c.self.view_is) c.requires.next in
     let first : ComesFirst p (micro.Settle c.args.clock) = subst (λ (q : Parts). ComesFirst q (micro.Settle c.args.clock)) (sym c.self.view_is) c.requires.first in
@@ -45,12 +45,12 @@ invariant_of-self g c =
       defs = c.settle_below.ensures.defs;
       stands = c.settle_below.ensures.stands;
     } in
-    whole_relinked p (micro.Settle c.args.clock) m.window c.settle_below.new.tree m.counts c.go_on.new.self (settled_of p c.args.clock c.settle_below.new.tree c.go_on.new.self now to)
+    whole_relinked p (micro.Settle c.args.clock) m.window c.settle_below.new.tree m.counts m.prepare_holds m.enable_holds c.go_on.new.self (settled_of p c.args.clock c.settle_below.new.tree c.go_on.new.self now to)
 
 pub returns : goal.returns
 returns g c =
     let m = c.self.inside in
-    let p : Parts = parts_of m.desc m.window m.tree m.handles m.counts m.notifiers m.credits m.spent m.ignore_unused m.flight m.course m.steps in
+    let p : Parts = parts_of m.desc m.window m.tree m.handles m.counts m.notifiers m.credits m.spent m.ignore_unused m.flight m.course m.prepare_holds m.enable_holds m.steps in
     let going : p.flight.going ≡ true = subst (λ (q : Parts). q.flight.going ≡ true) (sym c.self.view_is) c.requires.going in
     let own : own_step p.flight ≡ Some (micro.Settle c.args.clock) = subst (λ (q : Parts). own_step q.flight ≡ Some (micro.Settle c.args.clock)) (sym c.self.view_is) c.requires.next in
     let first : ComesFirst p (micro.Settle c.args.clock) = subst (λ (q : Parts). ComesFirst q (micro.Settle c.args.clock)) (sym c.self.view_is) c.requires.first in

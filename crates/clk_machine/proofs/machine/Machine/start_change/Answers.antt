@@ -10,13 +10,14 @@ use Rattle.clk_model.specs.State.{registered}
 use Rattle.clk_machine.specs.Course.{notifiers_at, tells_all}
 use Rattle.clk_machine.specs.InFlight.{can_link, is_script}
 use Rattle.clk_machine.specs.Parts.{Parts, parts_of, IsOwnCall, rows_from}
+use Rattle.clk_model.specs.Step.{sets_parent}
 use Rattle.clk_machine.proofs.Changing.{Changing, begun_changing, whole_changing, starts_change, begins_as, script_calm}
 use Rattle.clk_machine.proofs.machine.Machine.start_change.Goals as goal
 
 pub invariant_of-self-2 : goal.invariant_of-self-2
 invariant_of-self-2 g c =
     let m = c.self.inside in
-    let p : Parts = parts_of m.desc m.window m.tree m.handles m.counts m.notifiers m.credits m.spent m.ignore_unused m.flight m.course m.steps in
+    let p : Parts = parts_of m.desc m.window m.tree m.handles m.counts m.notifiers m.credits m.spent m.ignore_unused m.flight m.course m.prepare_holds m.enable_holds m.steps in
     let start : Start = record { driver = c.args.driver; call = c.args.what; script = c.args.steps; range = c.args.range; extra = 0; vetoed = c.args.vetoed } in
     let now : Changing p c.args.driver c.args.what c.args.steps.items c.begin.new.self =
     begun_changing p c.begin.new.self start c.plls.result c.in_ok-begin.ensures.begun (c.plls.ensures.plls ∙ ap plls c.self.invariant.tied.defs) refl in
@@ -32,11 +33,11 @@ invariant_of-self-2 g c =
 pub returns-clause-ok : goal.returns-clause-ok
 returns-clause-ok g c =
     let m = c.self.inside in
-    let p : Parts = parts_of m.desc m.window m.tree m.handles m.counts m.notifiers m.credits m.spent m.ignore_unused m.flight m.course m.steps in
+    let p : Parts = parts_of m.desc m.window m.tree m.handles m.counts m.notifiers m.credits m.spent m.ignore_unused m.flight m.course m.prepare_holds m.enable_holds m.steps in
     let start : Start = record { driver = c.args.driver; call = c.args.what; script = c.args.steps; range = c.args.range; extra = 0; vetoed = c.args.vetoed } in
     let now : Changing p c.args.driver c.args.what c.args.steps.items c.begin.new.self =
     begun_changing p c.begin.new.self start c.plls.result c.in_ok-begin.ensures.begun (c.plls.ensures.plls ∙ ap plls c.self.invariant.tied.defs) refl in
     let script : is_script c.args.what (registered p.tree.clocks) c.args.steps.items ≡ true = subst (λ (q : Parts). is_script c.args.what (registered q.tree.clocks) c.args.steps.items ≡ true) (sym c.self.view_is) c.requires.script in
-    let calm : list_any may_time_out c.args.steps.items ≡ false = script_calm c.args.what (registered p.tree.clocks) c.args.steps.items c.requires.changes script in
+    let calm : (sets_parent c.args.what ≡ true → list_any may_time_out c.args.steps.items ≡ false) = (λ sets. script_calm c.args.what (registered p.tree.clocks) c.args.steps.items sets script) in
     rw (← c.self.view_is) (starts_change p c.args.driver c.args.what c.args.steps.items c.args.course c.args.range c.args.vetoed c.begin.new.self now
     (λ s k begins. c.in_ok-begin.ensures.change s.notifiers k (begins_as s.notifiers c.args.driver c.args.what c.args.steps.items c.args.course c.args.range c.args.vetoed start k calm refl refl refl refl refl refl begins)))

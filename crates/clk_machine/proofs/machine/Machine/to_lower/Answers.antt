@@ -8,7 +8,7 @@ use Rattle.clk_machine.proofs.machine.Machine.to_lower.Goals as goal
 pub next_to_lower-requires-clause-place : goal.next_to_lower-requires-clause-place
 next_to_lower-requires-clause-place g c =
     let m = c.self.inside in
-    let p : Parts = parts_of m.desc m.window m.tree m.handles m.counts m.notifiers m.credits m.spent m.ignore_unused m.flight m.course m.steps in
+    let p : Parts = parts_of m.desc m.window m.tree m.handles m.counts m.notifiers m.credits m.spent m.ignore_unused m.flight m.course m.prepare_holds m.enable_holds m.steps in
     let here : registered p.tree.clocks c.args.clock.0 ≡ true = subst (λ (q : Parts). registered q.tree.clocks c.args.clock.0 ≡ true) (sym c.self.view_is) c.requires in
     clock_within m.desc m.window m.tree c.args.clock.0 c.self.invariant.tied here
 

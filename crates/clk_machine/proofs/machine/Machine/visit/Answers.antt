@@ -15,7 +15,7 @@ use Rattle.clk_machine.proofs.machine.Machine.visit.Goals as goal
 pub set_along-requires-clause-place : goal.set_along-requires-clause-place
 set_along-requires-clause-place g c =
     let m = c.self.inside in
-    let p : Parts = parts_of m.desc m.window m.tree m.handles m.counts m.notifiers m.credits m.spent m.ignore_unused m.flight m.course m.steps in
+    let p : Parts = parts_of m.desc m.window m.tree m.handles m.counts m.notifiers m.credits m.spent m.ignore_unused m.flight m.course m.prepare_holds m.enable_holds m.steps in
     let going : p.flight.going ≡ true = subst (λ (q : Parts). q.flight.going ≡ true) (sym c.self.view_is) c.requires.going in
     let own : own_step p.flight ≡ Some (micro.Visit c.args.clock) = subst (λ (q : Parts). own_step q.flight ≡ Some (micro.Visit c.args.clock)) (sym c.self.view_is) c.requires.next in
     clock_within m.desc m.window m.tree c.args.clock.0 c.self.invariant.tied (visit_there m.flight (registered m.tree.clocks) c.args.clock own (c.self.invariant.flown going).way)
@@ -28,7 +28,7 @@ set_along-requires-clause-links g c =
 pub rate-rate-requires : goal.rate-rate-requires
 rate-rate-requires g c =
     let m = c.self.inside in
-    let p : Parts = parts_of m.desc m.window m.tree m.handles m.counts m.notifiers m.credits m.spent m.ignore_unused m.flight m.course m.steps in
+    let p : Parts = parts_of m.desc m.window m.tree m.handles m.counts m.notifiers m.credits m.spent m.ignore_unused m.flight m.course m.prepare_holds m.enable_holds m.steps in
     let going : p.flight.going ≡ true = subst (λ (q : Parts). q.flight.going ≡ true) (sym c.self.view_is) c.requires.going in
     let own : own_step p.flight ≡ Some (micro.Visit c.args.clock) = subst (λ (q : Parts). own_step q.flight ≡ Some (micro.Visit c.args.clock)) (sym c.self.view_is) c.requires.next in
     record {
@@ -36,11 +36,11 @@ rate-rate-requires g c =
           (clock_within m.desc m.window m.tree c.args.clock.0 c.self.invariant.tied (visit_there m.flight (registered m.tree.clocks) c.args.clock own (c.self.invariant.flown going).way));
     }
 
-visited_of : (g : _) (c : goal.After-self-1 g) → Visited (parts_of c.self.inside.desc c.self.inside.window c.self.inside.tree c.self.inside.handles c.self.inside.counts c.self.inside.notifiers c.self.inside.credits c.self.inside.spent c.self.inside.ignore_unused c.self.inside.flight c.self.inside.course c.self.inside.steps)
+visited_of : (g : _) (c : goal.After-self-1 g) → Visited (parts_of c.self.inside.desc c.self.inside.window c.self.inside.tree c.self.inside.handles c.self.inside.counts c.self.inside.notifiers c.self.inside.credits c.self.inside.spent c.self.inside.ignore_unused c.self.inside.flight c.self.inside.course c.self.inside.prepare_holds c.self.inside.enable_holds c.self.inside.steps)
     c.args.clock c.set_along.new.window c.set_along.new.tree c.posts_of-posts.result c.visit.new.self c.pass.new.self
 visited_of g c =
     let m = c.self.inside in
-    let p : Parts = parts_of m.desc m.window m.tree m.handles m.counts m.notifiers m.credits m.spent m.ignore_unused m.flight m.course m.steps in
+    let p : Parts = parts_of m.desc m.window m.tree m.handles m.counts m.notifiers m.credits m.spent m.ignore_unused m.flight m.course m.prepare_holds m.enable_holds m.steps in
     let count : length c.chain-count.result.now ≡ notifiers_at m.notifiers c.args.clock.0 = ap (λ (ns : List Notifier). length ns) c.chain-count.ensures.chain in
     record {
       whole = c.self.invariant;
@@ -69,11 +69,11 @@ visited_of g c =
 pub invariant_of-self : goal.invariant_of-self
 invariant_of-self g c =
     let m = c.self.inside in
-    let p : Parts = parts_of m.desc m.window m.tree m.handles m.counts m.notifiers m.credits m.spent m.ignore_unused m.flight m.course m.steps in
+    let p : Parts = parts_of m.desc m.window m.tree m.handles m.counts m.notifiers m.credits m.spent m.ignore_unused m.flight m.course m.prepare_holds m.enable_holds m.steps in
     whole_visited p c.args.clock c.set_along.new.window c.set_along.new.tree c.posts_of-posts.result c.visit.new.self c.pass.new.self (visited_of g c)
 
 pub returns : goal.returns
 returns g c =
     let m = c.self.inside in
-    let p : Parts = parts_of m.desc m.window m.tree m.handles m.counts m.notifiers m.credits m.spent m.ignore_unused m.flight m.course m.steps in
+    let p : Parts = parts_of m.desc m.window m.tree m.handles m.counts m.notifiers m.credits m.spent m.ignore_unused m.flight m.course m.prepare_holds m.enable_holds m.steps in
     rw (← c.self.view_is) (visit_enters p c.args.clock c.set_along.new.window c.set_along.new.tree c.posts_of-posts.result c.visit.new.self c.pass.new.self (visited_of g c))

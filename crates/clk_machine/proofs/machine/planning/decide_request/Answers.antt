@@ -1,4 +1,7 @@
-use Rattle.std.proofs.Common.{◌<◌, ◌≤◌, ◌∙◌, sym, arith}
+use Rattle.std.proofs.Common.{◌<◌, ◌≤◌, ◌∙◌, Bool, sym, subst, arith}
+use Rattle.std.specs.Prelude.{IfOk}
+use Rattle.counts_core.specs.Counted.{is_prepared}
+use Rattle.clk_machine.specs.Deciding.{ArePlanned}
 use Rattle.std.proofs.lemmas.Bool.Decides.{nat_tests}
 use Rattle.std.proofs.lemmas.Result.{IfOk-weaker}
 use Rattle.clk_machine.proofs.Deciding.{answers_at_once, answers_busy, answers_no_plan, answers_planned}
@@ -34,3 +37,8 @@ pub returns-in-None-clause-decides : goal.returns-in-None-clause-decides
 returns-in-None-clause-decides g c = λ new lifted on.
     answers_no_plan on c.requires.tied c.keeps_rate.ensures.stands c.args.clock.0 c.args.wanted (rw c.if-keeps_rate.false at c.keeps_rate.ensures.keeps)
     (sym c.protected.ensures.guarded ∙ (let none : c.protected.result ≤ 0 = c.if-protected-gt0.false in grind (arith, nat_tests))) (rw c.in-None.is at c.in_ok-plan.ensures.chain)
+
+pub returns-in-Some-clause-there : goal.returns-in-Some-clause-there
+returns-in-Some-clause-there g c =
+    subst (λ (b : Bool). IfOk c.go_on.result (λ decision. ArePlanned c.args.tree.now (is_prepared c.args.view.now.counts.now) c.args.notifiers.now c.args.used b decision))
+    (rw c.in-Some.is at c.in_ok-plan.ensures.set_parent) c.go_on.ensures.there

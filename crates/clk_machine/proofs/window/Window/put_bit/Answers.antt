@@ -1,4 +1,6 @@
 use Rattle.std.proofs.Common.{◌<◌}
+use Rattle.std.proofs.Common.{ap}
+use Rattle.clk_machine.proofs.LockLaws.{delay_of, behind_stays}
 use Rattle.clk_machine.proofs.WindowLaws.{told_put, behind_put}
 use Rattle.clk_machine.proofs.window.Window.put_bit.Goals as goal
 
@@ -13,4 +15,7 @@ returns-clause-words g c =
 pub returns-clause-behind : goal.returns-clause-behind
 returns-clause-behind g c =
     let within : c.args.word < c.self.inside.size = rw (← c.self.view_is) at c.requires.word in
-    rw (← c.self.view_is) (behind_put c.self.inside.size (g.B.Bank.contents c.self.inside.bank) (g.B.Bank.contents c.write_bit.new.bank) c.args.word c.args.bit c.args.value within c.write_bit.ensures.words)
+    rw (← c.self.view_is)
+    (behind_stays c.self.inside.size (g.B.Bank.contents c.self.inside.bank) (g.B.Bank.contents c.write_bit.new.bank) (g.B.Bank.lock c.self.inside.bank) (g.B.Bank.lock c.write_bit.new.bank)
+    (behind_put c.self.inside.size (g.B.Bank.contents c.self.inside.bank) (g.B.Bank.contents c.write_bit.new.bank) c.args.word c.args.bit c.args.value within c.write_bit.ensures.words)
+    (λ p. ap delay_of (c.write_bit.ensures.locks p)))

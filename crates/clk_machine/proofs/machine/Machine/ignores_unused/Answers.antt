@@ -1,0 +1,10 @@
+use Rattle.std.proofs.Common.{◌≡◌, true}
+use Rattle.clk_model.specs.State.{registered}
+use Rattle.clk_machine.proofs.Moving.{clock_within}
+use Rattle.clk_machine.proofs.machine.Machine.ignores_unused.Goals as goal
+
+pub def-requires : goal.def-requires
+def-requires g c =
+    let m = c.self.inside in
+    let there : registered m.tree.clocks c.args.clock.0 ≡ true = rw (← c.self.view_is) at c.requires in
+    clock_within m.desc m.window m.tree c.args.clock.0 c.self.invariant.tied there

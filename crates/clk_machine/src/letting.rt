@@ -1,0 +1,25 @@
+//! PLLs that count as raised no more.
+
+ghost use Rattle.std.specs.Prelude.{◌≡◌};
+ghost use Rattle.clk_model.specs.State.{link_in};
+ghost use Rattle.clk_model.specs.Tree.{path_within};
+ghost use Rattle.clk_flight.specs.declared.front.Front.TheVariants.{Empty};
+ghost use Rattle.clk_machine.specs.Letting.{LetsGoAll};
+
+use clk_base::ClockId;
+use clk_flight::Flight;
+use clk_tree::Tree;
+
+/// The first so many clocks of a path count as raised no more.
+pub(crate) fn let_go_path(levels: u32, tree: &Tree, flight: &mut Flight, clock: ClockId)
+    requires { flight.old.front ≡ Empty }
+    ensures { LetsGoAll (path_within (link_in tree.now.clocks) levels clock.0) flight.old flight.new }
+{
+    if levels == 0 {
+        return;
+    }
+    flight.let_go(clock);
+    if let Some(parent) = tree.parent(clock) {
+        let_go_path(levels - 1, tree, flight, parent);
+    }
+}
