@@ -23,7 +23,7 @@ const ENABLES: u32 = 20_000;
 const LOOKS: u32 = 2_000;
 
 /// How often the run is tried: on a busy machine a driver may have ended before the other one begins.
-const TRIES: u32 = 3;
+const TRIES: u32 = 20;
 
 /// What came of the pause: there was none yet, it saw a write, or it waited in vain.
 const NONE_YET: u64 = 0;
