@@ -1,6 +1,6 @@
 -- The words of an entry, apart and as a line, and the lines of a journal from a place on.
-use Rattle.std.proofs.Common.{◌≡◌, ℕ, ◌+◌, ◌<◌, List, [], ◌∷◌, ◌++◌, length, drop, drop-cons, get_or, Option, Some, None, Bool, true, false, refl, sym, ap, ◌∙◌, append_assoc, add-one, codes}
-use Rattle.std.specs.Fmt.{decimal, signed_decimal}
+use Rattle.std.proofs.Common.{◌≡◌, ℕ, ◌+◌, ◌<◌, List, [], ◌∷◌, ◌++◌, length, drop, drop-cons, get_or, Option, Bool, true, false, sym, ap, ◌∙◌, append_assoc, add-one, codes}
+use Rattle.std.specs.Fmt.{decimal}
 use Rattle.clk_base.specs.Description.{Description}
 use Rattle.clk_base.specs.declared.call.Micro.{Micro}
 use Rattle.clk_base.specs.declared.call.Micro.TheVariants as micro

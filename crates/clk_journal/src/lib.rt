@@ -9,6 +9,7 @@ mod answers;
 mod call;
 mod entries;
 mod event;
+mod laws;
 mod names;
 mod registers;
 mod reply;
@@ -16,4 +17,5 @@ mod step;
 
 pub use answers::print_answers;
 pub use entries::{print_entries, print_entry};
+pub use laws::one_entry;
 pub use registers::print_registers;

@@ -1,4 +1,4 @@
-use Rattle.std.proofs.Common.{[], refl, ◌+◌, ◌∙◌, ap, ◌++◌, arith, map, string_bytes}
+use Rattle.std.proofs.Common.{[], refl, ◌+◌, ◌∙◌, ap, ◌++◌, map, string_bytes}
 use Rattle.clk_base.specs.declared.event.Entry.{Entry}
 use Rattle.clk_base.specs.declared.event.Event.TheVariants.{Enable}
 use Rattle.clk_base.specs.declared.event.Turn.TheVariants.{Going}

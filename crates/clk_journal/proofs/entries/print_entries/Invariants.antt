@@ -1,5 +1,5 @@
 -- The lines of the entries before the next one were gathered, and all lines are these and those of the rest.
-use Rattle.std.proofs.Common.{◌≡◌, ◌≤◌, ◌+◌, ℕ, List, ◌++◌, drop, is_some, map, string_bytes}
+use Rattle.std.proofs.Common.{◌≡◌, ◌+◌, ℕ, List, ◌++◌, drop, is_some, map, string_bytes}
 use Rattle.clk_io.specs.Gathers.{PassesOn}
 use Rattle.clk_model.specs.Text.{entries_from, journal_text}
 use Rattle.clk_journal.proofs.entries.print_entries.Given as goal
