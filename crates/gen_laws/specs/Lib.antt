@@ -1,0 +1,4 @@
+pub mod Rows
+pub mod Clocks
+pub mod Script
+pub mod Measured
