@@ -21,6 +21,7 @@ pub mod Events
 pub mod Moving
 pub mod HeldCounts
 pub mod HoldsPassing
+pub mod HoldsEnding
 pub mod Holdings
 pub mod Owning
 pub mod Room
@@ -56,7 +57,6 @@ pub mod Staying
 pub mod Movable
 pub mod Requesting
 pub mod Scripting
-pub mod Aborting
 pub mod Readying
 pub mod Ranging
 pub mod Sweeping
