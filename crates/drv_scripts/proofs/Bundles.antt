@@ -1,9 +1,11 @@
 -- The bundle that lines spell, and what holds of it.
-use Rattle.std.proofs.Common.{◌≡◌, ℕ, zero, suc, ◌+◌, ◌-◌, ◌<◌, ◌≤◌, ◌++◌, true, List, [], ◌∷◌, map, length, Option, Some, None, refl, ap, subst, arith}
+use Rattle.std.proofs.Common.{◌≡◌, ℕ, zero, suc, ◌+◌, ◌-◌, ◌*◌, ◌<◌, ◌≤◌, ◌++◌, true, List, [], ◌∷◌, map, length, Option, Some, None, refl, ap, subst, arith}
 use Rattle.std.specs.Prelude.{slice_get, Bool, false, cond, nat_lt}
 use Rattle.std.specs.List.{range_with_len, AllByRecursion, flat_map, list_all, position}
 use Rattle.std.specs.Option.{option_map, option_and_then, option_flatten}
 use Rattle.std.specs.Str.{bytes_eq}
+use Rattle.std.proofs.lemmas.List.{length-append}
+use Rattle.std.proofs.lemmas.List.Sums.{sum_by-cons}
 use Rattle.std.proofs.lemmas.Option.{none-some, same_Some}
 use Rattle.std.proofs.lemmas.Bool.{ltb-true}
 use Rattle.bundle_text.specs.Firsts.{onto, said_from}
@@ -19,6 +21,8 @@ use Rattle.dts_clocks.proofs.Parented.{passes_both}
 use Rattle.dts_clocks.specs.Assigned.{SeenAssigned}
 use Rattle.dts_clocks.specs.declared.loaded.AssignedStep.{AssignedStep}
 use Rattle.dts_clocks.specs.declared.loaded.AssignedStep.TheVariants.{Parent, Rate}
+use Rattle.clk_base.proofs.Valid.{length-valid}
+use Rattle.dts_clocks.proofs.FewSteps.{step_count}
 use Rattle.dts_clocks.proofs.Within.{are_below, consumer_below, step_below, assigned_below}
 use Rattle.drv_scripts.specs.declared.bundle.LateLine.{LateLine}
 use Rattle.drv_scripts.specs.declared.bundle.Script.{Script}
@@ -129,6 +133,48 @@ pub bundle_is : (ls : List (List ℕ)) (parts : Parts) (said : SaidClocks) (desc
 unfolding bundle_of
 bundle_is ls parts said desc words others e f read = rw (e, f, read.locks, read.late, read.drivers, read.order, read.lines) refl
 
+-- how many boot's commands are
+onto_few : (absent : List LateLine) (from : ℕ) (rest : List Command) → length (onto (probe_unless absent from) rest) ≤ suc (length rest)
+onto_few absent from rest = pick (is_late absent from) where
+  pick : (b : Bool) → length (onto (cond b None (Some (probe from))) rest) ≤ suc (length rest)
+  pick true = omega arith
+  pick false = omega arith
+
+probes_few : (absent : List LateLine) (from count : ℕ) → length (said_from (probe_unless absent) from count) ≤ count
+probes_few absent from zero = omega arith
+probes_few absent from (suc count) =
+    let one = onto_few absent from (said_from (probe_unless absent) (from + 1) count) in
+    let more = probes_few absent (from + 1) count in
+    omega arith
+
+step_few : (step : AssignedStep) → length (step_commands step) ≡ 3
+step_few (Parent clock parent) = refl
+step_few (Rate clock rate) = refl
+
+steps_few : (steps : List AssignedStep) → length (flat_map step_commands steps) ≡ 3 * length steps
+steps_few [] = refl
+steps_few (step ∷ steps) =
+    let one = step_few step in
+    let more = steps_few steps in
+    omega (arith, one, more, length-append (step_commands step) (flat_map step_commands steps))
+
+assigned_few : (assigned : List SeenAssigned) → length (assigned_commands assigned) ≡ 3 * step_count assigned
+unfolding assigned_commands
+assigned_few [] = refl
+assigned_few (a ∷ assigned) =
+    let one = steps_few a.steps in
+    let more = assigned_few assigned in
+    let all : length (assigned_commands (a ∷ assigned)) ≡ length (flat_map step_commands a.steps ++ assigned_commands assigned) = refl in
+    let sum : step_count (a ∷ assigned) ≡ length a.steps + step_count assigned = sum_by-cons (λ (x : SeenAssigned). length x.steps) a assigned in
+    omega (arith, one, more, all, sum, length-append (flat_map step_commands a.steps) (assigned_commands assigned))
+
+boot_few : (absent : List LateLine) (n : ℕ) (assigned : List SeenAssigned) → n ≤ 4096 → step_count assigned ≤ 4096 → length (probes_without absent n ++ assigned_commands assigned) ≤ 16384
+unfolding probes_without
+boot_few absent n assigned few steps =
+    let one = probes_few absent 0 n in
+    let more = assigned_few assigned in
+    omega (arith, length-append (said_from (probe_unless absent) 0 n) (assigned_commands assigned))
+
 pub boot_commands_of : (ls : List (List ℕ)) (parts : Parts) (said : SaidClocks)
     → (bundle_of ls parts said).boot ≡ probes_without (bundle_of ls parts said).late (length said.defs) ++ assigned_commands said.assigned
 unfolding bundle_of
@@ -148,6 +194,7 @@ pub record AreFit (ls : List (List ℕ)) (parts : Parts) (said : SaidClocks) : T
   pub count : length said.lines ≡ length said.defs
   pub named : list_all (consumer_below (length said.defs)) said.consumers ≡ true
   pub assigned : list_all (assigned_below (length said.defs)) said.assigned ≡ true
+  pub steps : step_count said.assigned ≤ 4096
   pub some : 0 < parts.bank.words
   pub few : parts.bank.words ≤ 65536
   pub words : length (bank_words ls parts.bank) ≡ parts.bank.words
@@ -167,6 +214,7 @@ bundle_sound ls parts said fit = record {
   locks = locks_placed (around ls parts said) parts.others;
   late = late_placed (around ls parts said) parts.others;
   boot = boot_placed (flat_map (late_in (around ls parts said)) parts.others) (length said.defs) said.assigned fit.assigned;
+  boots = boot_few (flat_map (late_in (around ls parts said)) parts.others) (length said.defs) said.assigned (length-valid parts.bank.words said.defs fit.valid) fit.steps;
   scripts = both (length said.defs) (flat_map (scripts_in (around ls parts said)) parts.others) (sections_placed (around ls parts said) parts.others fit.named) fit.scripts;
   drivers = fit.drivers;
   commands = fit.commands;

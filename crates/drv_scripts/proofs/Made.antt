@@ -6,6 +6,7 @@ use Rattle.clk_base.specs.Valid.{IsValid}
 use Rattle.bundle_clocks.specs.Said.{SaidClocks}
 use Rattle.bundle_sections.specs.Said.{Parts}
 use Rattle.bundle_sections.specs.Verdict as section_verdict
+use Rattle.dts_clocks.proofs.FewSteps.{step_count}
 use Rattle.dts_clocks.proofs.Within.{consumer_below, assigned_below}
 use Rattle.drv_scripts.specs.declared.bundle.Script.{Script}
 use Rattle.drv_scripts.specs.Placed.{IsSound}
@@ -28,8 +29,8 @@ pub record IsContent (ls : List (List ℕ)) (parts : Parts) (said : SaidClocks) 
 
 pub made_sound : (ls : List (List ℕ)) (parts : Parts) (said : SaidClocks) (words : List ℕ) (others : Others) → Lie ls parts → section_verdict.Accepts ls parts → IsValid parts.bank.words said.defs
     → length said.lines ≡ length said.defs → list_all (consumer_below (length said.defs)) said.consumers ≡ true → list_all (assigned_below (length said.defs)) said.assigned ≡ true
-    → IsContent ls parts said words others → IsSound (bundle_of ls parts said)
-made_sound ls parts said words others lie accepts valid count named assigned read =
+    → step_count said.assigned ≤ 4096 → IsContent ls parts said words others → IsSound (bundle_of ls parts said)
+made_sound ls parts said words others lie accepts valid count named assigned steps read =
     let within = lie.within in
     let drivers = read.others_are.drivers in
     bundle_sound ls parts said (record {
@@ -37,6 +38,7 @@ made_sound ls parts said words others lie accepts valid count named assigned rea
       count = count;
       named = named;
       assigned = assigned;
+      steps = steps;
       some = lie.some;
       few = lie.few;
       words = ap length (sym read.words_are) ∙ read.size;

@@ -36,6 +36,8 @@ pub record IsSound (b : Bundle) : Type 0 where
   pub locks : AllByRecursion (λ l. l.clock.0 < length b.desc.defs) b.locks
   pub late : AllByRecursion (λ l. l.clock.0 < length b.desc.defs) b.late
   pub boot : NamePlaces (length b.desc.defs) b.boot
+  -- a registration for each clock, and three commands for each assigned one
+  pub boots : length b.boot ≤ 16384
   pub scripts : AllByRecursion (IsScript (length b.desc.defs)) b.drivers
   pub drivers : length b.drivers ≤ 64
   pub commands : count_of b.drivers ≤ 1048576

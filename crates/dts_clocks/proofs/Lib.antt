@@ -15,3 +15,4 @@ pub mod Verdicts
 pub mod Places
 pub mod Lasting
 pub mod Within
+pub mod FewSteps

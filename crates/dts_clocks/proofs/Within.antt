@@ -1,8 +1,8 @@
 -- The clocks that consumers and assigned clocks name are clocks of the description.
-use Rattle.std.proofs.Common.{◌≡◌, ℕ, zero, suc, ◌+◌, Bool, true, false, cond, List, [], ◌∷◌, ◌++◌, length, Option, Some, None, refl, sym, ap, ◌∙◌, subst}
+use Rattle.std.proofs.Common.{◌≡◌, ℕ, zero, suc, ◌+◌, Bool, true, false, cond, List, [], ◌∷◌, length, Option, Some, None, refl, sym, ap, ◌∙◌, subst}
 use Rattle.std.specs.Prelude.{◌&&◌, ◌==◌, nat_lt, nat_le, slice_get, codes}
 use Rattle.std.specs.List.{list_all}
-use Rattle.std.specs.Option.{option_map, option_map_or, option_and_then, option_to_list, option_flatten}
+use Rattle.std.specs.Option.{option_map, option_map_or, option_and_then, option_to_list}
 use Rattle.std.proofs.lemmas.Option.{none-some, same_Some}
 use Rattle.clk_base.specs.declared.clock.ClockId.{ClockId}
 use Rattle.dts_tree.specs.declared.tree.Cell.{Cell}
@@ -15,7 +15,7 @@ use Rattle.dts_clocks.specs.Assigned.{Lists, SeenAssigned, lists_of, rates_of, c
 use Rattle.dts_clocks.specs.Clocks.{clocks_of, clocks_named}
 use Rattle.dts_clocks.specs.Consumers.{SeenName, SeenConsumer, clocks_in, named, named_by, names_of, consumer_of}
 use Rattle.dts_clocks.specs.Joined.{joined}
-use Rattle.dts_clocks.specs.Loaded.{SeenLoaded, consumers_at, assigned_at, defs_at, loaded_before}
+use Rattle.dts_clocks.specs.Loaded.{SeenLoaded, consumers_at, assigned_at, loaded_before}
 use Rattle.dts_clocks.specs.SecondPass.{Links, links_of, links_at, parents_at}
 use Rattle.dts_clocks.specs.Verdict.{Accepts}
 use Rattle.dts_clocks.proofs.Parented.{both_pass, passes_both, all_append, all_joined, is_below, Below, named_below, count_defined}

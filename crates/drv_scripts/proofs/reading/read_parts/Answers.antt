@@ -4,7 +4,7 @@ use Rattle.clk_base.specs.Valid.{IsValid}
 use Rattle.bundle_clocks.specs.Said.{said_clocks}
 use Rattle.bundle_clocks.specs.Verdict as clock_verdict
 use Rattle.bundle_clocks.proofs.Counts.{lines_count}
-use Rattle.bundle_clocks.proofs.Within.{consumers_named, assigned_named}
+use Rattle.bundle_clocks.proofs.Within.{consumers_named, assigned_named, steps_within}
 use Rattle.bundle_sections.specs.declared.section.BankSection.{BankSection}
 use Rattle.bundle_sections.specs.declared.section.ClockSection.{ClockSection}
 use Rattle.dts_clocks.specs.declared.loaded.Assigned.{Assigned}
@@ -71,4 +71,5 @@ returns-in_ok-bundle-in-Ok-clause-sound c =
     ∙ bundle_is ls parts said desc contents.words.items contents.others checked read.1.words_are read.1.others_are) in
     subst IsSound (sym content)
     (made_sound ls parts said contents.words.items contents.others (parts_lie ls parts c.requires.tiled c.requires.each) c.requires.accepted valid (lines_count _ ls _ _ c.in_ok-clocks.ensures.said)
-    (consumers_named _ ls _ _ c.in_ok-clocks.ensures.said) (assigned_named _ ls _ _ c.in_ok-clocks.ensures.said) read.1)
+    (consumers_named _ ls _ _ c.in_ok-clocks.ensures.said) (assigned_named _ ls _ _ c.in_ok-clocks.ensures.said)
+    (steps_within _ ls _ _ c.in_ok-clocks.ensures.said) read.1)
