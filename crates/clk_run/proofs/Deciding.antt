@@ -2,13 +2,13 @@
 use Rattle.std.proofs.Common.{◌≡◌, ℕ, ◌+◌, ◌≤◌, List, ◌++◌, Option, Some, None, refl, sym, ap, subst, ◌∙◌, arith, length, inl, inr}
 use Rattle.std.specs.Io.KnownBytes.{Consumes}
 use Rattle.std.proofs.lemmas.List.{append-nil, length-append}
-use Rattle.clk_io.specs.Streams.{TakesAll}
+use Rattle.clk_io.specs.Streams.{TakesAll, TakesMore}
 use Rattle.drv_scripts.specs.declared.bundle.Bundle.{Bundle}
 use Rattle.bundle_text.specs.declared.reason.Reason.{Reason}
 use Rattle.clk_io.specs.declared.reading.TheConstants.{MOST_BYTES}
 use Rattle.clk_run.specs.Built.{SpellsRun, RefusesRun}
 use Rattle.clk_run.proofs.RunVerdicts.{run_never_both}
-use Rattle.clk_run.specs.Outcomes.{bytes_of, TakesBytes, TakesTooMany, GivesBundle, RefusesInput, Decides}
+use Rattle.clk_run.specs.Outcomes.{bytes_of, TakesBytes, GivesBundle, RefusesSource, RefusesInput, Decides}
 
 -- what was taken to the end is what was left
 taken_all : (left left' : Option (List ℕ)) (bytes read : List ℕ) → left ≡ Some bytes → TakesAll MOST_BYTES left left' read → read ≡ bytes
@@ -36,12 +36,11 @@ takes_all (Some drivers) left left' bytes read is takes = takes.1 ∙ inside is 
   inside e = cc
 
 -- and they aren't too many where they spell a bundle
-never_too_many : (made : Option ℕ) (left left' : Option (List ℕ)) (bytes : List ℕ) → bytes_of made left ≡ Some bytes → length bytes ≤ MOST_BYTES → TakesTooMany made left left' → ⊥
-never_too_many None left left' bytes is few more =
+never_too_many : (left left' : Option (List ℕ)) (bytes : List ℕ) → left ≡ Some bytes → length bytes ≤ MOST_BYTES → TakesMore MOST_BYTES left left' → ⊥
+never_too_many left left' bytes is few more =
     let fits = taken_fits left left' bytes more.0 is more.2 in
     let over = more.1 in
     omega arith
-never_too_many (Some drivers) left left' bytes is few more = more
 
 -- a bundle was taken
 pub gives_decides : (made : Option ℕ) (left left' : Option (List ℕ)) (b : Bundle) → GivesBundle made left left' b → Decides made left 0
@@ -49,15 +48,20 @@ gives_decides made left left' b gives = record {
   accepts = λ bytes c is spelled. inl refl;
   refuses = λ bytes line reason is no.
       absurd (run_never_both bytes b line reason (subst (λ (xs : List ℕ). SpellsRun xs b) (takes_all made left left' bytes gives.0 is gives.1) gives.2) no);
+  measured = λ drivers is. inl refl;
 }
+
+-- what a source had left is refused
+source_refused : (left left' : Option (List ℕ)) (line : ℕ) (reason : Reason) (bytes : List ℕ) (b : Bundle) → left ≡ Some bytes → SpellsRun bytes b → RefusesSource left left' line reason → ⊥
+source_refused left left' line reason bytes b is spelled (inl more) = never_too_many left left' bytes is spelled.spelled.fits more.0
+source_refused left left' line reason bytes b is spelled (inr all) =
+    run_never_both bytes b line reason spelled (subst (λ (xs : List ℕ). RefusesRun xs line reason) (taken_all left left' bytes all.0 is all.1) all.2)
 
 -- the bytes that were taken are refused
 pub refuses_decides : (made : Option ℕ) (left left' : Option (List ℕ)) (line : ℕ) (reason : Reason) → RefusesInput made left left' line reason → Decides made left 2
-refuses_decides made left left' line reason refuses = record {
-  accepts = λ bytes b is spelled. absurd (no bytes b is spelled refuses);
+refuses_decides None left left' line reason refuses = record {
+  accepts = λ bytes b is spelled. absurd (source_refused left left' line reason bytes b is spelled refuses);
   refuses = λ bytes other why is not. inl refl;
-} where
-  no : (bytes : List ℕ) (b : Bundle) → bytes_of made left ≡ Some bytes → SpellsRun bytes b → RefusesInput made left left' line reason → ⊥
-  no bytes b is spelled (inl more) = never_too_many made left left' bytes is spelled.spelled.fits more.0
-  no bytes b is spelled (inr all) =
-      run_never_both bytes b line reason spelled (subst (λ (xs : List ℕ). RefusesRun xs line reason) (takes_all made left left' bytes all.0 is all.1) all.2)
+  measured = λ drivers is. absurd (cc);
+}
+refuses_decides (Some drivers) left left' line reason refuses = absurd refuses

@@ -10,3 +10,4 @@ pub mod Telling
 pub mod Threaded
 pub mod SpelledBytes
 pub mod OkAnswers
+pub mod MeasuredRuns

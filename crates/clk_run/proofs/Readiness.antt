@@ -1,30 +1,36 @@
 -- A bundle that was read is ready to be run.
-use Rattle.std.proofs.Common.{◌≡◌, ℕ, suc, ◌-◌, ◌≤◌, List, [], ◌∷◌, refl, ap, ◌∙◌, arith, length, sum_by, take, drop}
+use Rattle.std.proofs.Common.{◌≡◌, ℕ, suc, ◌-◌, ◌≤◌, List, [], ◌∷◌, refl, sym, ap, subst, ◌∙◌, arith, length, sum_by, take, drop}
 use Rattle.std.proofs.lemmas.List.{take_all}
 use Rattle.std.specs.List.{AllByRecursion}
-use Rattle.clk_base.specs.declared.command.Command.{Command}
-use Rattle.clk_base.proofs.Valid.{length-valid}
 use Rattle.drv_scripts.specs.declared.bundle.Bundle.{Bundle}
 use Rattle.drv_scripts.specs.declared.bundle.Script.{Script}
 use Rattle.drv_scripts.specs.Placed.{IsSound}
+use Rattle.drv_scripts.specs.Verdict.{Accepts}
+use Rattle.drv_scripts.specs.Spelled.{assigned_commands}
+use Rattle.driver_runs.specs.Scripts.{AreBoot}
 use Rattle.clk_run.specs.Built.{SpellsRun}
-use Rattle.clk_run.proofs.Fitness.{fit_all, built_all, plain_all}
+use Rattle.clk_run.proofs.Fitness.{fit_all, built_all, prompt_all, earlier_all}
 use Rattle.clk_cli.specs.declared.cli.Mode.{Mode}
 use Rattle.clk_cli.specs.declared.cli.Mode.TheVariants.{Check, Sim, Run, Bench}
 use Rattle.clk_run.specs.Runs.{credits_of, drivers_in, IsReady}
 use Rattle.drv_scripts.proofs.Verdicts.{boot_is}
-use Rattle.driver_runs.proofs.Going.{length-boot_of}
+use Rattle.driver_runs.proofs.Going.{boots_all, assigned_built}
 use Rattle.clk_model.specs.Begin.{most_credits}
 
 -- ---- ready
 
+-- boot's commands are registrations, and commands that can be run
+boots : (bytes : List ℕ) (b : Bundle) → Accepts bytes b → b.late ≡ [] → AreBoot b.desc.defs 0 b.boot
+boots bytes b spelled prompt =
+    let assigned = spelled.spelled.said.assigned in
+    subst (AreBoot b.desc.defs 0) (sym (boot_is bytes b spelled prompt)) (boots_all b.desc.defs (assigned_commands assigned) (assigned_built assigned))
+
 pub ready : (bytes : List ℕ) (b : Bundle) → SpellsRun bytes b → IsSound b → IsReady b
 ready bytes b runs sound =
-    let plain = plain_all b runs.built in
     record {
       sound = sound;
       fit = fit_all b runs.built;
-      boot = boot_is bytes b runs.spelled plain.prompt plain.unassigned;
+      boot = record { earlier = earlier_all b.desc.defs (fit_all b runs.built); placed = sound.boot; each = boots bytes b runs.spelled (prompt_all b runs.built) };
       few = sound.drivers;
       built = built_all b runs.built;
     }
@@ -32,8 +38,7 @@ ready bytes b runs sound =
 -- its commands are few enough for the credits
 pub few_credits : (b : Bundle) → IsReady b → credits_of b ≤ most_credits
 few_credits b is =
-    let clocks = length-valid b.desc.words b.desc.defs is.sound.valid in
-    let boot = ap (λ (cs : List Command). length cs) is.boot ∙ length-boot_of (length b.desc.defs) in
+    let boot = is.sound.boots in
     let sum = is.sound.commands in
     omega arith
 

@@ -25,7 +25,6 @@ use Rattle.reg_bank.specs.declared.pll_lock.PllLock.{PllLock}
 use Rattle.clk_run.specs.Cores.{HasCalls, opened_for}
 use Rattle.clk_run.specs.Runs.{drivers_in, scripts_of, has_threads, opening_of, credits_of, InOrder, IsReady, telling, told_by}
 use Rattle.clk_run.proofs.Telling.{telling_from}
-use Rattle.clk_run.proofs.Fitness.{earlier_all}
 
 -- ---- the order
 
@@ -64,7 +63,7 @@ can_start table b ignore_unused contents lock first boot drivers ready begins th
       begins = begins ∙ ap (λ (n : ℕ). first_known table (opened_for b ignore_unused contents lock) n) (sym room);
       credits = omega (arith, room);
       few = let most = ready.few in omega (arith, most);
-      runnable = record { earlier = earlier_all b.desc.defs ready.fit; boot_is = ready.boot; placed = ready.sound.scripts; built = ready.built };
+      runnable = record { boots = ready.boot; placed = ready.sound.scripts; built = ready.built };
     })
 
 -- ---- what it has done

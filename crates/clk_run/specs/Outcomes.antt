@@ -1,5 +1,5 @@
 -- What a program that ran a bundle did, and why.
-use Rattle.std.specs.Prelude.{◌≡◌, ◌⊎◌, ◌==◌, if◌then◌else◌, ℕ, List, Option, Some, None, Result, MatchResult, min}
+use Rattle.std.specs.Prelude.{◌≡◌, ◌⊎◌, ◌==◌, if◌then◌else◌, ℕ, List, Option, Some, None, Result, MatchResult, max, min}
 use Rattle.std.specs.Io.KnownBytes.{Appends}
 use Rattle.clk_cli.specs.declared.cli.Cli.{Cli}
 use Rattle.clk_cli.specs.declared.cli.Mode.{Mode}
@@ -23,22 +23,17 @@ use Rattle.clk_run.specs.Runs.{Printed, PrintedFront, armed_telling}
 
 -- ---- where a bundle comes from
 
--- how many drivers the bundle has that a command generates, where it generates one
+-- how many drivers the bundle has that a command generates, where it generates one: 1 to 64
 abbrev pub generates : Mode → Option ℕ
 generates Check = None
 generates Sim = None
 generates Run = None
-generates (Bench n) = Some (min n 64)
+generates (Bench n) = Some (max (min n 64) 1)
 
 -- the bytes of a command's bundle: those of a generated one, for which nothing is read, or all that was left of the source
 abbrev pub TakesBytes : Option ℕ → Option (List ℕ) → Option (List ℕ) → List ℕ → Type 0
 TakesBytes None old new bytes = TakesAll MOST_BYTES old new bytes
 TakesBytes (Some drivers) old new bytes = (new ≡ old) × (bytes ≡ generated drivers)
-
--- the source has more bytes than a bundle may have
-abbrev pub TakesTooMany : Option ℕ → Option (List ℕ) → Option (List ℕ) → Type 0
-TakesTooMany None old new = TakesMore MOST_BYTES old new
-TakesTooMany (Some drivers) old new = ⊥
 
 -- the bytes of a command's bundle, where they are known before it reads
 abbrev pub bytes_of : Option ℕ → Option (List ℕ) → Option (List ℕ)
@@ -49,10 +44,15 @@ bytes_of (Some drivers) left = Some (generated drivers)
 abbrev pub GivesBundle : Option ℕ → Option (List ℕ) → Option (List ℕ) → Bundle → Type 0
 GivesBundle made old new b = (bytes : List ℕ) × TakesBytes made old new bytes × SpellsRun bytes b
 
--- they are refused at this line for this reason: they are too many, or they spell no bundle that can be run
+-- what a source has left is refused at this line for this reason: it is more than a bundle may have, or spells no bundle that can be run
+abbrev pub RefusesSource : Option (List ℕ) → Option (List ℕ) → ℕ → Reason → Type 0
+RefusesSource old new line reason =
+    (TakesMore MOST_BYTES old new × (line ≡ 0) × (reason ≡ TooLong)) ⊎ ((bytes : List ℕ) × TakesAll MOST_BYTES old new bytes × RefusesRun bytes line reason)
+
+-- the bytes of a command's bundle are refused at this line for this reason; a generated one never is
 abbrev pub RefusesInput : Option ℕ → Option (List ℕ) → Option (List ℕ) → ℕ → Reason → Type 0
-RefusesInput made old new line reason =
-    (TakesTooMany made old new × (line ≡ 0) × (reason ≡ TooLong)) ⊎ ((bytes : List ℕ) × TakesBytes made old new bytes × RefusesRun bytes line reason)
+RefusesInput None old new line reason = RefusesSource old new line reason
+RefusesInput (Some drivers) old new line reason = ⊥
 
 -- why bytes give no bundle: they are refused, or memory ran out
 abbrev pub StopsSpelling : List ℕ → Stop → Type 0
@@ -122,10 +122,12 @@ Short cli before lock left left' written written' = (written' ≡ written) ⊎ U
 abbrev pub EndsWith : ℕ → ℕ → Type 0
 EndsWith wanted status = (status ≡ wanted) ⊎ ((status ≡ 3) ⊎ ((status ≡ 4) ⊎ (status ≡ 5)))
 
--- where a command's bytes are known, those that spell a bundle that can be run end in status 0, and those that are refused in status 2
+-- where a command's bytes are known, those that spell a bundle that can be run end in status 0, and those that are refused in status 2; a
+-- generated bundle ends in status 0
 pub record Decides (made : Option ℕ) (left : Option (List ℕ)) (status : ℕ) : Type 0 where
   pub accepts : (bytes : List ℕ) (b : Bundle) → bytes_of made left ≡ Some bytes → SpellsRun bytes b → EndsWith 0 status
   pub refuses : (bytes : List ℕ) (line : ℕ) (reason : Reason) → bytes_of made left ≡ Some bytes → RefusesRun bytes line reason → EndsWith 2 status
+  pub measured : (drivers : ℕ) → made ≡ Some drivers → EndsWith 0 status
 
 -- ---- the program, by what its words mean
 

@@ -20,17 +20,15 @@ use Rattle.clk_io.specs.Streams.{AppendsFront}
 use Rattle.clk_io.specs.declared.faults.PrintFault.{PrintFault}
 use Rattle.clk_io.specs.declared.faults.PrintFault.TheVariants as print_fault
 use Rattle.drv_scripts.specs.Placed.{IsSound}
-use Rattle.drv_scripts.specs.Spelled.{boot_of}
 use Rattle.clk_cli.specs.declared.cli.Cli.{Cli}
 use Rattle.clk_cli.specs.declared.cli.Mode.{Mode}
 use Rattle.clk_cli.specs.declared.cli.Mode.TheVariants.{Check, Sim, Bench}
 use Rattle.clk_cli.specs.declared.cli.Mode.TheVariants as mode
-use Rattle.clk_machine.specs.Built.{allowed_over}
 use Rattle.clk_machine.specs.Fit.{CanRun}
 use Rattle.clk_machine.specs.Run.{Run}
 use Rattle.clk_machine.specs.Window.{HasDelays, delays_in, locks_of}
 use Rattle.driver_runs.specs.Drivers.{FollowAll, are_among, boot_first}
-use Rattle.driver_runs.specs.Scripts.{are_built}
+use Rattle.driver_runs.specs.Scripts.{are_built, CanBoot}
 use Rattle.driver_runs.specs.Turns.{scripts_with}
 use Rattle.clk_run.specs.Arming.{armed_by}
 use Rattle.clk_run.specs.Texts.{command_count, run_text}
@@ -120,13 +118,13 @@ pub record IsTextOf (b : Bundle) (cli : Cli) (bank : Telling) (words : Registers
 
 -- ---- bundles
 
--- a bundle that can be run: its parts fit together, boot registers each clock, and each command of its drivers can be run so far
+-- a bundle that can be run: its parts fit together, boot can run its commands, and each command of its drivers can be run so far
 pub record IsReady (b : Bundle) : Type 0 where
   pub sound : IsSound b
   pub fit : CanRun b.desc.defs
-  pub boot : b.boot ≡ boot_of (length b.desc.defs)
+  pub boot : CanBoot b.desc.defs b.boot
   pub few : length b.drivers ≤ 64
-  pub built : AllByRecursion (λ s. are_built (allowed_over b.desc.defs) s.commands ≡ true) b.drivers
+  pub built : AllByRecursion (λ s. are_built s.commands ≡ true) b.drivers
 
 -- ---- what is left behind
 

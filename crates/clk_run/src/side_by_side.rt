@@ -142,7 +142,7 @@ pub(crate) fn run_side_by_side<
     ensures done { result.0 ≡ 0 → Done cli.now (B.contents bank) (B.lock bank) (S.left input.old) (S.left input.new) (K.written out.old) (K.written out.new) (option_map B.contents result.1) }
     // The bank comes back exactly with 0.
     ensures back { is_some result.1 ≡ (result.0 == 0) }
-    // 2: what was left of the source, or the generated text, is refused, and the line that says where and why was written.
+    // 2: the bundle isn't a generated one, what was left of the source is refused, and the line that says where and why was written.
     ensures refused { result.0 ≡ 2 → Refused cli.now (S.left input.old) (S.left input.new) (K.written out.old) (K.written out.new) }
     // The source's count of faults rises by one at 4, and stands at every other status.
     ensures reads { S.faults input.new ≡ count_behind 4 result.0 (S.faults input.old) }
@@ -156,7 +156,7 @@ pub(crate) fn run_side_by_side<
     ensures unwritten { result.0 ≡ 5 → Unwritten cli.now (B.contents bank) (B.lock bank) (S.left input.old) (S.left input.new) (K.written out.old) (K.written out.new) }
     // 3: nothing was written, or such a front.
     ensures short { result.0 ≡ 3 → Short cli.now (B.contents bank) (B.lock bank) (S.left input.old) (S.left input.new) (K.written out.old) (K.written out.new) }
-    // What the source has left, or the generated text, decides between 0 and 2, unless the status is 3, 4 or 5.
+    // What the source has left decides between 0 and 2, and a generated bundle ends in 0, unless the status is 3, 4 or 5.
     ensures decided { Decides (generates cli.now.mode) (S.left input.old) result.0 }
     // Source and sink tell their bytes as before.
     ensures tells { (is_some (S.left input.new) ≡ is_some (S.left input.old)) × (is_some (K.written out.new) ≡ is_some (K.written out.old)) }

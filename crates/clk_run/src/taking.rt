@@ -1,6 +1,6 @@
 //! Where the bundle of a command comes from: a source, or for `bench` the generator.
 
-ghost use Rattle.std.specs.Prelude.{◌≡◌, ◌≤◌, ℕ, Some, is_some, IfOk, IfErr, IfSome};
+ghost use Rattle.std.specs.Prelude.{◌≡◌, ◌<◌, ◌≤◌, ℕ, Some, is_some, IfOk, IfErr, IfSome};
 ghost use Rattle.clk_gen.specs.Generated.{generated};
 ghost use Rattle.clk_run.specs.Built.{SpellsRun};
 ghost use Rattle.clk_run.specs.Runs.{IsReady};
@@ -16,6 +16,9 @@ use std::alloc::Global;
 /// The most drivers that a bundle has.
 const MOST_DRIVERS: u32 = 64;
 
+/// The fewest drivers that a generated bundle has.
+const FEWEST_DRIVERS: u32 = 1;
+
 /// Why a command has no bundle.
 #[derive(Clone, Copy, Debug, PartialEq, Eq)]
 pub(crate) enum Stop {
@@ -27,11 +30,12 @@ pub(crate) enum Stop {
 // How many drivers the bundle has that a command generates, where it generates one.
 fn generates(mode: Mode) -> Option<u32>
     ensures made { result ≡ generates mode }
+    ensures some { IfSome result (λ drivers. 0 < drivers) }
     ensures few { IfSome result (λ drivers. drivers ≤ 64) }
 {
     match mode {
         Mode::Check | Mode::Sim | Mode::Run => None,
-        Mode::Bench(drivers) => Some(drivers.min(MOST_DRIVERS)),
+        Mode::Bench(drivers) => Some(drivers.min(MOST_DRIVERS).max(FEWEST_DRIVERS)),
     }
 }
 
@@ -68,16 +72,18 @@ fn take_read<S: Source>(alloc: Global, input: &mut S) -> Result<Bundle, Stop>
     }
 }
 
-// The bundle of so many drivers that is made to measure.
-fn take_generated(alloc: Global, drivers: u32) -> Result<Bundle, Stop>
-    requires { drivers ≤ 64 }
+// The bundle of so many drivers that is made to measure; its text is never refused.
+fn take_generated(alloc: Global, drivers: u32) -> Result<Bundle, NoMemory>
+    requires some { 0 < drivers }
+    requires few { drivers ≤ 64 }
     ensures spells { IfOk result (SpellsRun (generated drivers)) }
     ensures ready { IfOk result IsReady }
-    ensures stops { IfErr result (StopsSpelling (generated drivers)) }
 {
-    match generated(alloc, drivers) {
-        Ok(text) => spelled_by(alloc, text.as_bytes()),
-        Err(NoMemory) => Err(Stop::NoMemory),
+    let text = generated(alloc, drivers)?;
+    match check_bundle(alloc, text.as_bytes()) {
+        Ok(bundle) => Ok(bundle),
+        Err(BundleFault::Refused { .. }) => unreachable!(),
+        Err(BundleFault::NoMemory) => Err(NoMemory),
     }
 }
 
@@ -98,6 +104,9 @@ pub(crate) fn take_bundle<S: Source>(
 {
     match generates(mode) {
         None => take_read(alloc, input),
-        Some(drivers) => take_generated(alloc, drivers),
+        Some(drivers) => match take_generated(alloc, drivers) {
+            Ok(bundle) => Ok(bundle),
+            Err(NoMemory) => Err(Stop::NoMemory),
+        },
     }
 }

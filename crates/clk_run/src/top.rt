@@ -30,7 +30,7 @@ fn has_threads(mode: Mode) -> bool
 ///
 /// - 0: the bundle ran and its text was printed;
 /// - 1: the words mean nothing, and the line was printed that says how the program is called;
-/// - 2: the bundle is refused, and the line was printed that says where and why;
+/// - 2: the bundle is refused, which a generated one never is, and the line was printed that says where and why;
 /// - 3: memory ran out;
 /// - 4: a read failed, and nothing was printed;
 /// - 5: a write failed, and a front of the text was printed.
@@ -56,7 +56,7 @@ pub fn clkbench<
     ensures done { result.0 ≡ 0 → MeansDone (meaning (texts words.now)) (B.contents bank) (B.lock bank) (S.left input.old) (S.left input.new) (K.written out.old) (K.written out.new) (option_map B.contents result.1) }
     // The bank comes back exactly with 0.
     ensures back { is_some result.1 ≡ (result.0 == 0) }
-    // 2: the words ask for a run, its bytes are refused, and the line that says where and why was written.
+    // 2: the words ask for a run that reads a source, its bytes are refused, and the line that says where and why was written.
     ensures refused { result.0 ≡ 2 → MeansRefused (meaning (texts words.now)) (S.left input.old) (S.left input.new) (K.written out.old) (K.written out.new) }
     // The source's count of faults rises by one at 4, and stands at every other status.
     ensures reads { S.faults input.new ≡ count_behind 4 result.0 (S.faults input.old) }
@@ -70,7 +70,7 @@ pub fn clkbench<
     ensures unwritten { result.0 ≡ 5 → MeansUnwritten (meaning (texts words.now)) (B.contents bank) (B.lock bank) (S.left input.old) (S.left input.new) (K.written out.old) (K.written out.new) }
     // 3: nothing was written, or such a front.
     ensures short { result.0 ≡ 3 → MeansShort (meaning (texts words.now)) (B.contents bank) (B.lock bank) (S.left input.old) (S.left input.new) (K.written out.old) (K.written out.new) }
-    // Words that mean nothing end in 1, and for the others what the source has left, or the generated text, decides between 0 and 2, unless the status is 3, 4 or 5.
+    // Words that mean nothing end in 1, and for the others what the source has left decides between 0 and 2, and a generated bundle ends in 0, unless the status is 3, 4 or 5.
     ensures decided { MeansDecided (meaning (texts words.now)) (S.left input.old) result.0 }
     // Source and sink tell their bytes as before.
     ensures tells { (is_some (S.left input.new) ≡ is_some (S.left input.old)) × (is_some (K.written out.new) ≡ is_some (K.written out.old)) }

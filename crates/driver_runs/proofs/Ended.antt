@@ -88,9 +88,9 @@ follow_done n (s ∷ drivers) (x ∷ xs) (p ∷ ps) booted entries boots some st
 
 -- boot and the drivers have run, where boot did and then a course of events came to its end
 pub has_run : (old first new : Run) (boot : List Command) (held : Variables) (own_ : List Answer) (drivers : List Script) (order : List ℕ) (xs : List Standing) → old.journal ≡ []
-    → no_handles boot ≡ [] → GoesThrough old 0 [] boot own_ held first → Course first drivers order xs None [] new → AreDone drivers xs
+    → GoesThrough old 0 (no_handles boot) boot own_ held first → Course first drivers order xs None [] new → AreDone drivers xs
     → HasRun boot drivers order (own_ ∷ map (λ x. x.answers.items) xs) old new
-has_run old first new boot held own_ drivers order xs begins empty boots course done =
+has_run old first new boot held own_ drivers order xs begins boots course done =
     let booted = boots.entries in
     let entries = course.entries in
     let all : new.journal ≡ booted ++ entries = course.journal ∙ ap (λ (j : List Entry). j ++ entries) (boots.journal ∙ ap (λ (j : List Entry). j ++ booted) begins) in
@@ -108,7 +108,7 @@ has_run old first new boot held own_ drivers order xs begins empty boots course 
           course.legal (boots.told ∙ told) (boots.legal told (subst (Legal old.start) (sym begins) tt));
       follow = subst (FollowAll 0 (scripts_with boot drivers) (own_ ∷ map (λ x. x.answers.items) xs)) (sym all) (
         subst (λ (es : List Entry). Follows boot (calls_of es) own_) (sym mine)
-            (subst (λ (h : Variables). FollowsFrom h boot (calls_of booted) own_) (sym empty) (goes_follows old first 0 [] held boot own_ boots)),
+            (goes_follows old first 0 (no_handles boot) held boot own_ boots),
         subst (λ (es : List Entry). one_after_the_other false es ≡ true) (sym mine) (calls_alone 0 false booted boots.own),
         follow_done 1 drivers xs course.progress booted entries first_among (omega arith) course.stand done,
       );

@@ -1,7 +1,7 @@
 -- Going through commands: one after the other.
-use Rattle.std.proofs.Common.{◌≡◌, ℕ, zero, suc, ◌+◌, ◌<◌, ◌≤◌, ◌||◌, Bool, true, false, cond, List, [], ◌∷◌, ◌++◌, Option, Some, None, refl, sym, ap, subst, ◌∙◌, arith, length, take, get_or, add-zero, nat_lt, append_assoc, map, max}
+use Rattle.std.proofs.Common.{◌≡◌, ℕ, zero, suc, ◌+◌, ◌<◌, ◌≤◌, ◌||◌, Bool, true, false, cond, List, [], ◌∷◌, ◌++◌, Option, Some, None, refl, sym, ap, subst, ◌∙◌, arith, length, take, get_or, add-zero, nat_lt, append_assoc, map}
 use Rattle.std.proofs.lemmas.Bool.Decides.{nat_tests}
-use Rattle.std.specs.List.{AllByRecursion, list_all, list_any}
+use Rattle.std.specs.List.{AllByRecursion, flat_map, list_all, list_any}
 use Rattle.std.proofs.lemmas.List.{append-nil, length-append, take_more}
 use Rattle.std.proofs.lemmas.List.Folds.{list_any-append}
 use Rattle.std.proofs.lemmas.List.Sums.{sum_by-append}
@@ -18,17 +18,17 @@ use Rattle.clk_base.specs.declared.event.Reply.{Reply}
 use Rattle.clk_base.specs.declared.handle.Handle.{Handle}
 use Rattle.clk_model.specs.Journal.{Answered, is_paid, calls_of, cost, Legal}
 use Rattle.std.specs.List.{range_with_len}
-use Rattle.std.specs.Option.{option_map_or}
-use Rattle.std.proofs.lemmas.List.FromFn.{length-map-range_with_len}
-use Rattle.drv_scripts.specs.Spelled.{boot_of, probe}
-use Rattle.clk_model.specs.Follows.{Variables, variable_count, handle_of, call_of, held_after, NextFollows, FollowsFrom}
+use Rattle.dts_clocks.specs.Assigned.{SeenAssigned}
+use Rattle.dts_clocks.specs.declared.loaded.AssignedStep.{AssignedStep}
+use Rattle.dts_clocks.specs.declared.loaded.AssignedStep.TheVariants.{Parent, Rate}
+use Rattle.drv_scripts.specs.Spelled.{boot_of, probe, step_commands, assigned_commands}
+use Rattle.clk_model.specs.Follows.{Variables, handle_of, call_of, held_after, NextFollows, FollowsFrom}
 use Rattle.clk_machine.specs.Stands.{registers}
 use Rattle.clk_machine.specs.Run.{Run, was_probed, in_flight}
 use Rattle.clk_base.specs.Description.{Description, parents_of, EachClock}
 use Rattle.clk_machine.specs.Fit.{has_earlier_parents}
-use Rattle.drv_scripts.specs.Placed.{NamesPlace}
-use Rattle.clk_machine.specs.Built.{allowed_over}
-use Rattle.driver_runs.specs.Scripts.{is_built_act, AreProbes, CanCall, Answers, GoesThrough}
+use Rattle.drv_scripts.specs.Placed.{NamesPlace, NamePlaces}
+use Rattle.driver_runs.specs.Scripts.{is_built_act, are_built, IsBootAt, AreBoot, CanCall, Answers, GoesThrough}
 use Rattle.driver_runs.proofs.WholeCalls.{calls_of-append, are_calls-append, stays_idle}
 use Rattle.clk_model.proofs.Members.{both_left, both_right, test_same}
 use Rattle.std.proofs.lemmas.Bool.{and_from}
@@ -149,7 +149,7 @@ probes_now old new d held a e r c calls made is =
       inside e = cc
 
 -- a command that can be run so far can be run now
-pub can_built : (run : Run) (a : Act) → is_built_act (allowed_over run.start.defs) a ≡ true → CanCall run a
+pub can_built : (run : Run) (a : Act) → is_built_act a ≡ true → CanCall run a
 can_built run (act.Get found) h = h
 can_built run act.Put h = h
 can_built run act.Prepare h = h
@@ -184,38 +184,55 @@ element_true p (x ∷ xs) (suc i) d all within = element_true p xs i d (both_rig
 
 -- ---- boot
 
--- the command at a place registers the clock of that place
-pub probe_at : (from i : ℕ) (commands : List Command) (d : Command) → AreProbes from commands → i < length commands → (get_or commands i d).act ≡ act.Probe (record { 0 = from + i })
-probe_at from i [] d probes within = absurd (omega arith)
-probe_at from zero (c ∷ commands) d probes within = ap (λ (x : Command). x.act) probes.0 ∙ ap (λ (n : ℕ). act.Probe (record { 0 = n })) (sym (add-zero from))
-probe_at from (suc i) (c ∷ commands) d probes within =
+-- what is said of the commands of boot is said of the one at a place
+pub boot_at : (defs : Description) (from i : ℕ) (commands : List Command) (d : Command) → AreBoot defs from commands → i < length commands → IsBootAt defs (from + i) (get_or commands i d).act
+boot_at defs from i [] d each within = absurd (omega arith)
+boot_at defs from zero (c ∷ commands) d each within = subst (λ n. IsBootAt defs n c.act) (sym (add-zero from)) each.0
+boot_at defs from (suc i) (c ∷ commands) d each within =
     let sum : from + 1 + i ≡ from + suc i = omega arith in
-    probe_at (from + 1) i commands d probes.1 (omega arith) ∙ ap (λ (n : ℕ). act.Probe (record { 0 = n })) sum
+    subst (λ n. IsBootAt defs n (get_or commands i d).act) sum (boot_at defs (from + 1) i commands d each.1 (omega arith))
 
--- where they register the clocks from the first on, it is the clock of the same place
-pub probe_first : (i : ℕ) (commands : List Command) (d : Command) → AreProbes 0 commands → i < length commands → (get_or commands i d).act ≡ act.Probe (record { 0 = i })
-probe_first i commands d probes within =
+pub boot_first : (defs : Description) (i : ℕ) (commands : List Command) (d : Command) → AreBoot defs 0 commands → i < length commands → IsBootAt defs i (get_or commands i d).act
+boot_first defs i commands d each within =
     let same : 0 + i ≡ i = omega arith in
-    probe_at 0 i commands d probes within ∙ ap (λ (n : ℕ). act.Probe (record { 0 = n })) same
+    subst (λ n. IsBootAt defs n (get_or commands i d).act) same (boot_at defs 0 i commands d each within)
 
--- boot's commands do that
-pub boot_probes : (clocks : ℕ) → AreProbes 0 (boot_of clocks)
+-- registrations of each clock from one on, and commands behind them that can be run
+all_boot : (defs : Description) (from n : ℕ) (rest : List Command) → from + n ≡ length defs → are_built rest ≡ true → AreBoot defs from (map probe (range_with_len from n) ++ rest)
+all_boot defs from zero [] sum built = tt
+all_boot defs from zero (c ∷ rest) sum built = (
+  record { registers_ = λ less. absurd (omega arith); built = λ least. both_left _ _ built },
+  behind (from + 1) rest (omega arith) (both_right (is_built_act c.act) _ built),
+) where
+  behind : (place : ℕ) (cs : List Command) → length defs ≤ place → are_built cs ≡ true → AreBoot defs place cs
+  behind place [] least h = tt
+  behind place (c ∷ cs) least h = (
+    record { registers_ = λ less. absurd (omega arith); built = λ more. both_left _ _ h },
+    behind (place + 1) cs (omega arith) (both_right (is_built_act c.act) _ h),
+  )
+all_boot defs from (suc n) rest sum built = (
+  record { registers_ = λ less. refl; built = λ least. absurd (omega arith) },
+  all_boot defs (from + 1) n rest (omega arith) built,
+)
+
+-- what nodes assign can be run
+step_built : (step : AssignedStep) → are_built (step_commands step) ≡ true
+step_built (Parent clock parent) = refl
+step_built (Rate clock rate) = refl
+
+steps_built : (steps : List AssignedStep) → are_built (flat_map step_commands steps) ≡ true
+steps_built [] = refl
+steps_built (step ∷ steps) = list_all-append (λ c. is_built_act c.act) (step_commands step) (flat_map step_commands steps) (step_built step) (steps_built steps)
+
+pub assigned_built : (assigned : List SeenAssigned) → are_built (assigned_commands assigned) ≡ true
+unfolding assigned_commands
+assigned_built [] = refl
+assigned_built (a ∷ assigned) = list_all-append (λ c. is_built_act c.act) (flat_map step_commands a.steps) (assigned_commands assigned) (steps_built a.steps) (assigned_built assigned)
+
+-- boot's commands are such ones
+pub boots_all : (defs : Description) (rest : List Command) → are_built rest ≡ true → AreBoot defs 0 (boot_of (length defs) ++ rest)
 unfolding boot_of
-boot_probes clocks = from 0 clocks where
-  from : (first n : ℕ) → AreProbes first (map probe (range_with_len first n))
-  from first zero = tt
-  from first (suc n) = (refl, from (first + 1) n)
-
-pub length-boot_of : (clocks : ℕ) → length (boot_of clocks) ≡ clocks
-unfolding boot_of
-length-boot_of clocks = length-map-range_with_len probe 0 clocks
-
--- and use no variable
-pub no_variables : (first : ℕ) (commands : List Command) → AreProbes first commands → variable_count commands ≡ 0
-no_variables first [] probes = refl
-no_variables first (c ∷ commands) probes =
-    let none : option_map_or (λ v. v + 1) c.var 0 ≡ 0 = ap (λ (x : Command). option_map_or (λ v. v + 1) x.var 0) probes.0 in
-    ap (λ (n : ℕ). max n (variable_count commands)) none ∙ ap (λ (n : ℕ). max 0 n) (no_variables (first + 1) commands probes.1) ∙ refl
+boots_all defs rest built = all_boot defs 0 (length defs) rest (omega arith) built
 
 -- where each possible parent is an earlier clock and the earlier clocks were probed, the clock can be probed
 pub parents_probed : (run : Run) (defs : Description) (c : ℕ) → run.start.defs ≡ defs → EachClock defs (has_earlier_parents defs) → c < length defs → ((k : ℕ) → k < c → was_probed run.journal k ≡ true)
@@ -228,19 +245,26 @@ parents_probed run defs c same before within earlier =
         below : (p : ℕ) → nat_lt p c ≡ true → p < c
         below p h = grind (arith, nat_tests)
 
--- the clock that it registers is a clock of the description
-pub probe_placed : (clocks i : ℕ) (a : Act) → i < clocks → a ≡ act.Probe (record { 0 = i }) → NamesPlace clocks a
-probe_placed clocks i a within is = subst (NamesPlace clocks) (sym is) within
+-- the clock that the command at a place names is one of the description
+pub named_at : (run : Run) (defs : Description) (commands : List Command) (i : ℕ) (x : Command) → run.start.defs ≡ defs → NamePlaces (length defs) commands → i < length commands
+    → NamesPlace (length run.start.defs) (get_or commands i x).act
+named_at run defs commands i x same placed within =
+    subst (λ (ds : Description). NamesPlace (length ds) (get_or commands i x).act) (sym same) (element (λ (command : Command). NamesPlace (length defs) command.act) commands i x placed within)
 
--- and can be registered, where the earlier ones were
-pub probe_can : (run : Run) (defs : Description) (i : ℕ) (a : Act) → run.start.defs ≡ defs → EachClock defs (has_earlier_parents defs) → i < length defs → ((k : ℕ) → k < i → was_probed run.journal k ≡ true)
-    → a ≡ act.Probe (record { 0 = i }) → CanCall run a
-probe_can run defs i a same before within earlier is = subst (CanCall run) (sym is) (parents_probed run defs i same before within earlier)
+-- boot's command at a place can be run, where the clocks before were probed
+pub boot_can : (run : Run) (defs : Description) (i : ℕ) (a : Act) → run.start.defs ≡ defs → EachClock defs (has_earlier_parents defs) → IsBootAt defs i a
+    → ((k : ℕ) → k < i → k < length defs → was_probed run.journal k ≡ true) → CanCall run a
+boot_can run defs i a same before is earlier = pick (nat_lt i (length defs)) refl where
+  pick : (b : Bool) → nat_lt i (length defs) ≡ b → CanCall run a
+  pick true h =
+      let within : i < length defs = grind (arith, nat_tests) in
+      subst (CanCall run) (sym (is.registers_ within)) (parents_probed run defs i same before within (λ k less. earlier k less (omega arith)))
+  pick false h = can_built run a (is.built (grind (arith, nat_tests)))
 
--- the clocks before the next place were probed, where those before this one were and this one is
-pub probed_more : (run run' : Run) (i : ℕ) → ((k : ℕ) → k < i → was_probed run.journal k ≡ true) → ((k : ℕ) → was_probed run.journal k ≡ true → was_probed run'.journal k ≡ true)
-    → was_probed run'.journal i ≡ true → (k : ℕ) → k < i + 1 → was_probed run'.journal k ≡ true
-probed_more run run' i earlier keeps this k within = pick (nat_lt k i) refl where
+-- the clocks before the next place were probed, where those before this one were, and this one is where its command registers it
+pub probed_more : (run run' : Run) (clocks i : ℕ) → ((k : ℕ) → k < i → k < clocks → was_probed run.journal k ≡ true) → ((k : ℕ) → was_probed run.journal k ≡ true → was_probed run'.journal k ≡ true)
+    → (i < clocks → was_probed run'.journal i ≡ true) → (k : ℕ) → k < i + 1 → k < clocks → was_probed run'.journal k ≡ true
+probed_more run run' clocks i earlier keeps this k within low = pick (nat_lt k i) refl where
   pick : (b : Bool) → nat_lt k i ≡ b → was_probed run'.journal k ≡ true
-  pick true h = keeps k (earlier k (grind (arith, nat_tests)))
-  pick false h = let same : k ≡ i = grind (arith, nat_tests) in subst (λ (n : ℕ). was_probed run'.journal n ≡ true) (sym same) this
+  pick true h = keeps k (earlier k (grind (arith, nat_tests)) low)
+  pick false h = let same : k ≡ i = grind (arith, nat_tests) in subst (λ (n : ℕ). was_probed run'.journal n ≡ true) (sym same) (this (subst (λ (n : ℕ). n < clocks) same low))

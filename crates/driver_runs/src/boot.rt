@@ -1,21 +1,21 @@
 //! Running the commands of boot, one after the other.
 
-ghost use Rattle.std.specs.Prelude.{◌≡◌, ◌+◌, ◌≤◌, false, [], length, IfOk};
+ghost use Rattle.std.specs.Prelude.{◌≡◌, ◌+◌, ◌≤◌, false, length, IfOk};
 ghost use Rattle.clk_model.specs.Journal.{cost};
-ghost use Rattle.clk_model.specs.Follows.{Variables};
-ghost use Rattle.driver_runs.specs.Scripts.{AreProbes, GoesThrough};
-ghost use Rattle.clk_base.specs.Description.{EachClock};
-ghost use Rattle.clk_machine.specs.Fit.{has_earlier_parents};
+ghost use Rattle.clk_model.specs.Follows.{Variables, no_handles};
+ghost use Rattle.driver_runs.specs.Scripts.{CanBoot, GoesThrough};
 ghost use Rattle.clk_machine.specs.Run.{in_flight};
 
 use crate::command::run_command;
-use clk_base::{Answer, Command, Handle};
+use crate::variables::variable_count;
+use clk_base::{Answer, Command};
 use clk_io::NoMemory;
 use clk_machine::Core;
 use reg_bank::Bank;
 use std::alloc::Global;
 
-/// Registers the clocks of the description, each by a command of boot in its turn.
+/// Runs the commands of boot: registers the clocks of the description, each in its turn, and then
+/// does what is assigned. Its variables hold nothing at first.
 pub(crate) fn run_boot<B: Bank>(
     alloc: Global,
     core: &mut Core<B>,
@@ -23,12 +23,11 @@ pub(crate) fn run_boot<B: Bank>(
 ) -> Result<Vec<Answer>, NoMemory>
     requires credits { cost core.old.journal + length commands.now ≤ core.old.start.credits }
     requires quiet { in_flight core.old.journal ≡ false }
-    requires earlier { EachClock core.old.start.defs (has_earlier_parents core.old.start.defs) }
-    requires clocks { length commands.now ≤ length core.old.start.defs }
-    requires probes { AreProbes 0 commands.now }
-    ensures { IfOk result (λ answers. (held : Variables) × GoesThrough core.old 0 [] commands.now answers.items held core.new) }
+    requires boots { CanBoot core.old.start.defs commands.now }
+    ensures { IfOk result (λ answers. (held : Variables) × GoesThrough core.old 0 (no_handles commands.now) commands.now answers.items held core.new) }
 {
-    let held: &mut [Option<Handle>] = &mut [];
+    let mut variables = vec![in alloc; None; variable_count(commands)]?;
+    let held = variables.as_mut_slice();
     let mut answers = Vec::new(alloc);
     for command in commands {
         let answer = run_command(core, 0, held, command)?;

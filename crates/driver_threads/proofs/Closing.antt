@@ -1,5 +1,5 @@
 -- The framework is closed with all its drivers, and its core has run their scripts.
-use Rattle.std.proofs.Common.{◌≡◌, ℕ, suc, ◌+◌, ◌<◌, ◌≤◌, Bool, true, false, List, [], ◌∷◌, Some, None, All, refl, sym, ap, subst, ◌∙◌, arith, length, map, replicate, nat_eq}
+use Rattle.std.proofs.Common.{◌≡◌, ℕ, suc, ◌+◌, ◌<◌, ◌≤◌, Bool, true, false, List, [], ◌∷◌, Some, All, refl, sym, ap, subst, ◌∙◌, arith, length, map, nat_eq}
 use Rattle.std.specs.Prelude.{Contains}
 use Rattle.std.proofs.lemmas.Bool.Decides.{nat_tests}
 use Rattle.std.proofs.lemmas.List.Elements.{All-cons, All-head, All-tail}
@@ -8,7 +8,6 @@ use Rattle.clk_base.specs.declared.command.Answer.{Answer}
 use Rattle.clk_base.specs.declared.command.Command.{Command}
 use Rattle.clk_base.specs.declared.event.Entry.{Entry}
 use Rattle.clk_model.specs.Journal.{Legal, own}
-use Rattle.clk_model.specs.Follows.{Variables, no_handles}
 use Rattle.clk_machine.specs.Run.{Run, in_flight}
 use Rattle.tier_lock.specs.Entries.{IsPrefix, AreBelow}
 use Rattle.tier_lock.specs.Known.{AreAll}
@@ -16,8 +15,6 @@ use Rattle.clk_framework.specs.Opening.{opened_of, start_of}
 use Rattle.clk_framework.specs.Calls.{DriverView, IsReady}
 use Rattle.drv_scripts.specs.declared.bundle.Script.{Script}
 use Rattle.driver_runs.specs.Drivers.{FollowAll, are_among}
-use Rattle.driver_runs.specs.Scripts.{AreProbes}
-use Rattle.driver_runs.proofs.Going.{boot_probes, no_variables}
 use Rattle.driver_threads.specs.Going.{GoesThrough}
 use Rattle.driver_threads.specs.Workers.{AllDone}
 use Rattle.driver_threads.specs.Runs.{CanStart, HasRunOnThreads}
@@ -95,16 +92,9 @@ module _ (table : TableId) (first : DriverView) (boot : List Command) (scripts :
         ap (λ (n : ℕ). own core.journal n) (sym number) ∙ of_first (λ d. own core.journal d.number ≡ d.mine) closes.mine
         ∙ ap (λ (d : DriverView). d.mine) done.made
 
-    -- boot's commands use no variable
-    none : no_handles boot ≡ []
-    none = ap (λ (n : ℕ). replicate n None) (no_variables 0 boot (subst (AreProbes 0) (sym starts.runnable.boot_is) (boot_probes (length starts.opened.defs))))
-
-    boots : GoesThrough first (no_handles boot) boot done.own done.held done.booted
-    boots = subst (λ (held : Variables). GoesThrough first held boot done.own done.held done.booted) (sym none) done.boots
-
     follow : FollowAll 0 (boot ∷ map commands_of scripts) (done.own ∷ done.others) core.journal
     follow =
-        let its = its_calls first done.booted done.held boot done.own core.journal 0 (ap (λ (d : DriverView). d.mine) starts.begins) (ap (λ (d : DriverView). d.number) starts.begins) boots mine in (
+        let its = its_calls first done.booted done.held boot done.own core.journal 0 (ap (λ (d : DriverView). d.mine) starts.begins) (ap (λ (d : DriverView). d.number) starts.begins) done.boots mine in (
           its.follow,
           its.alone,
           subst (λ (n : ℕ). FollowAll n (map commands_of scripts) done.others core.journal) booted_made

@@ -8,8 +8,6 @@ use Rattle.clk_base.specs.declared.command.Command.{Command}
 use Rattle.clk_model.specs.Follows.{Variables, no_handles}
 use Rattle.clk_framework.specs.Calls.{DriverView}
 use Rattle.drv_scripts.specs.declared.bundle.Script.{Script}
-use Rattle.driver_runs.specs.Scripts.{AreProbes}
-use Rattle.driver_runs.proofs.Going.{boot_probes, length-boot_of}
 use Rattle.driver_threads.specs.Going.{MayBoot, IsSame, GoesThrough}
 use Rattle.driver_threads.specs.Workers.{Worked, HaveWorked, newcomers, MayMake, HasMade, AllDone}
 use Rattle.driver_threads.specs.Runs.{CanStart}
@@ -27,15 +25,13 @@ module _ (table : TableId) (first : DriverView) (boot : List Command) (scripts :
     credits = let paid = starts.credits in omega (arith, paid);
     opened = starts.opened;
     knows = ap (λ (d : DriverView). d.fixed) starts.begins;
-    earlier = starts.runnable.earlier;
-    clocks = let many = ap (λ (cs : List Command). length cs) starts.runnable.boot_is ∙ length-boot_of (length starts.opened.defs) in omega (arith, many);
-    probes = subst (AreProbes 0) (sym starts.runnable.boot_is) (boot_probes (length starts.opened.defs));
+    boots = starts.runnable.boots;
   }
 
-  module _ (booted : DriverView) (held : Variables) (own : List Answer) (boots : GoesThrough first [] boot own held booted) where
+  module _ (booted : DriverView) (held : Variables) (own : List Answer) (boots : GoesThrough first (no_handles boot) boot own held booted) where
     pub may_make : MayMake table booted scripts
     may_make = record {
-      ready = same_ready table first booted (goes_same first booted [] held boot own boots) may_boot.ready;
+      ready = same_ready table first booted (goes_same first booted (no_handles boot) held boot own boots) may_boot.ready;
       number = ap (λ (d : DriverView). d.number) boots.driver ∙ ap (λ (d : DriverView). d.number) starts.begins;
       credits = let paid = starts.credits in let few = boots.few in omega (arith, paid, few);
       few =
@@ -77,7 +73,7 @@ others_of own made (a ∷ answers) same =
 
 -- all drivers have done all
 pub all_done : (first booted last : DriverView) (boot : List Command) (held : Variables) (own : List Answer) (scripts : List Script) (commands : List (List Command)) (olds news drivers : List DriverView)
-    (made : List (Option (List Answer))) (answers : List (List Answer)) → GoesThrough first [] boot own held booted → HasMade booted (length scripts) last
+    (made : List (Option (List Answer))) (answers : List (List Answer)) → GoesThrough first (no_handles boot) boot own held booted → HasMade booted (length scripts) last
     → commands ≡ map commands_of scripts → olds ≡ newcomers booted booted.made (map commands_of scripts) → HaveWorked olds commands news made
     → drivers ≡ last ∷ news → map Some answers ≡ Some own ∷ made → AllDone first boot (map commands_of scripts) drivers answers
 all_done first booted last boot held own scripts commands olds news drivers made answers boots making these new worked drivers_are answers_are =

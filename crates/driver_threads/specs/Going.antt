@@ -1,7 +1,6 @@
 -- What a driver of a framework has gone through when it has run commands, as its own entries tell it.
 use Rattle.std.specs.Prelude.{◌≡◌, ℕ, ◌-◌, ◌+◌, ◌<◌, ◌≤◌, List, [], ◌∷◌, ◌++◌, true, false, Option, Some, None, length}
 use Rattle.atomic_table.specs.Seated.{TableId}
-use Rattle.clk_base.specs.Description.{EachClock}
 use Rattle.clk_base.specs.declared.call.Sleeping.{Sleeping}
 use Rattle.clk_base.specs.declared.command.Act.{Act}
 use Rattle.clk_base.specs.declared.command.Answer.{Answer}
@@ -12,8 +11,6 @@ use Rattle.clk_base.specs.declared.event.Reply.{Reply}
 use Rattle.clk_base.specs.declared.handle.Handle.{Handle}
 use Rattle.clk_model.specs.Journal.{Answered, calls_of}
 use Rattle.clk_model.specs.Follows.{Variables, call_of, FollowsFrom}
-use Rattle.clk_machine.specs.Built.{allowed_over}
-use Rattle.clk_machine.specs.Fit.{has_earlier_parents}
 use Rattle.clk_machine.specs.Run.{was_probed, can_make}
 use Rattle.clk_machine.specs.Sound.{IsPlaced}
 use Rattle.clk_machine.specs.Stands.{registers}
@@ -22,7 +19,7 @@ use Rattle.clk_framework.specs.declared.opened.Opened.{Opened}
 use Rattle.clk_framework.specs.Calls.{DriverView, IsReady}
 use Rattle.clk_framework.specs.Causes.{run_from}
 use Rattle.drv_scripts.specs.Placed.{NamesPlace, NamePlaces}
-use Rattle.driver_runs.specs.Scripts.{are_built, are_calls, AreProbes, CanCall}
+use Rattle.driver_runs.specs.Scripts.{are_built, are_calls, CanBoot, CanCall}
 
 -- ---- what a driver may do
 
@@ -52,18 +49,15 @@ pub record MayRun (table : TableId) (d : DriverView) (commands : List Command) :
   pub opened : Opened
   pub knows : d.fixed ≡ Some opened
   pub places : NamePlaces (length opened.defs) commands
-  pub built : are_built (allowed_over opened.defs) commands ≡ true
+  pub built : are_built commands ≡ true
 
--- it may run the commands of boot: it has a credit for each, they register clocks of the description from the first on, and each clock's possible
--- parents stand before it
+-- it may run the commands of boot: it has a credit for each, and boot can run them
 pub record MayBoot (table : TableId) (d : DriverView) (commands : List Command) : Type 0 where
   pub ready : IsReady table d
   pub credits : length commands ≤ d.room
   pub opened : Opened
   pub knows : d.fixed ≡ Some opened
-  pub earlier : EachClock opened.defs (has_earlier_parents opened.defs)
-  pub clocks : length commands ≤ length opened.defs
-  pub probes : AreProbes 0 commands
+  pub boots : CanBoot opened.defs commands
 
 -- ---- what it has done
 

@@ -2,31 +2,26 @@
 use Rattle.std.specs.Prelude.{◌≡◌, ◌+◌, ◌≤◌, List, true, false, Option, Some, length, sum_by}
 use Rattle.std.specs.List.{AllByRecursion}
 use Rattle.atomic_table.specs.Seated.{TableId}
-use Rattle.clk_base.specs.Description.{Description, EachClock}
+use Rattle.clk_base.specs.Description.{Description}
 use Rattle.clk_base.specs.declared.command.Answer.{Answer}
 use Rattle.clk_base.specs.declared.command.Command.{Command}
 use Rattle.clk_model.specs.Journal.{Legal}
-use Rattle.clk_machine.specs.Built.{allowed_over}
-use Rattle.clk_machine.specs.Fit.{has_earlier_parents}
 use Rattle.clk_machine.specs.Run.{Run, in_flight}
 use Rattle.tier_lock.specs.Known.{first_known}
 use Rattle.clk_framework.specs.declared.opened.Opened.{Opened}
 use Rattle.clk_framework.specs.Opening.{opened_of, start_of}
 use Rattle.clk_framework.specs.Calls.{DriverView}
 use Rattle.drv_scripts.specs.Placed.{IsScript}
-use Rattle.drv_scripts.specs.Spelled.{boot_of}
 use Rattle.drv_scripts.specs.declared.bundle.Script.{Script}
 use Rattle.driver_runs.specs.Drivers.{FollowAll, are_among, boot_first}
-use Rattle.driver_runs.specs.Scripts.{are_built}
+use Rattle.driver_runs.specs.Scripts.{are_built, CanBoot}
 use Rattle.driver_runs.specs.Turns.{scripts_with}
 
--- scripts that can be run over a description: each clock's possible parents stand before it, boot registers each clock, the drivers' commands name clocks of
--- the description, and each can be run so far
+-- scripts that can be run over a description: boot can run its commands, the drivers' commands name clocks of the description, and each can be run so far
 pub record AreRunnable (defs : Description) (boot : List Command) (drivers : List Script) : Type 0 where
-  pub earlier : EachClock defs (has_earlier_parents defs)
-  pub boot_is : boot ≡ boot_of (length defs)
+  pub boots : CanBoot defs boot
   pub placed : AllByRecursion (IsScript (length defs)) drivers
-  pub built : AllByRecursion (λ s. are_built (allowed_over defs) s.commands ≡ true) drivers
+  pub built : AllByRecursion (λ s. are_built s.commands ≡ true) drivers
 
 -- driver 0 of a framework with this lock, which has made no call and no driver, and has a credit for each command of scripts that can be run
 pub record CanStart (table : TableId) (first : DriverView) (boot : List Command) (drivers : List Script) : Type 0 where

@@ -1,11 +1,11 @@
 //! Running the commands of a driver, one after the other.
 
-ghost use Rattle.std.specs.Prelude.{[], IfOk};
+ghost use Rattle.std.specs.Prelude.{IfOk};
 ghost use Rattle.clk_model.specs.Follows.{Variables, no_handles};
 ghost use Rattle.driver_threads.specs.Going.{MayRun, MayBoot, IsSame, GoesThrough};
 
 use crate::command::run_command;
-use clk_base::{Answer, Command, Handle, Pause};
+use clk_base::{Answer, Command, Pause};
 use clk_framework::{Driver, Framework};
 use clk_io::NoMemory;
 use driver_runs::variable_count;
@@ -37,7 +37,8 @@ pub(crate) fn run_script<B: Bank, N: Named, R: Wait + Sync, Q: Pause>(
     Ok(answers)
 }
 
-/// Registers the clocks of the description, each by a command of boot in its turn.
+/// Runs the commands of boot: registers the clocks of the description, each in its turn, and then
+/// does what is assigned. Its variables hold nothing at first.
 pub(crate) fn run_boot<B: Bank, N: Named, R: Wait + Sync, Q: Pause>(
     rt: &R,
     alloc: Global,
@@ -47,9 +48,10 @@ pub(crate) fn run_boot<B: Bank, N: Named, R: Wait + Sync, Q: Pause>(
     pause: &Q,
 ) -> Result<Vec<Answer>, NoMemory>
     requires { MayBoot N.table driver.old commands.now }
-    ensures { IfOk result (λ answers. (held : Variables) × GoesThrough driver.old [] commands.now answers.items held driver.new) }
+    ensures { IfOk result (λ answers. (held : Variables) × GoesThrough driver.old (no_handles commands.now) commands.now answers.items held driver.new) }
 {
-    let held: &mut [Option<Handle>] = &mut [];
+    let mut variables = vec![in alloc; None; variable_count(commands)]?;
+    let held = variables.as_mut_slice();
     let mut answers = Vec::new(alloc);
     for command in commands {
         let answer = run_command(rt, framework, driver, held, command, pause)?;

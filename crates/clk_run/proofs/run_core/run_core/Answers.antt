@@ -1,21 +1,17 @@
 use Rattle.std.proofs.Common.{◌≡◌, ℕ, ◌<◌, true, sum_by, ap, subst, sym, ◌∙◌, arith, length, List}
 use Rattle.std.specs.List.{AllByRecursion}
-use Rattle.clk_base.specs.Description.{Description, EachClock}
+use Rattle.clk_base.specs.Description.{Description}
 use Rattle.clk_base.specs.declared.command.Answer.{Answer}
 use Rattle.clk_base.specs.declared.command.Command.{Command}
-use Rattle.clk_machine.specs.Built.{allowed_over}
-use Rattle.clk_machine.specs.Fit.{has_earlier_parents}
 use Rattle.clk_machine.specs.Run.{Run}
 use Rattle.clk_model.specs.State.{State}
 use Rattle.drv_scripts.specs.declared.bundle.Bundle.{Bundle}
 use Rattle.drv_scripts.specs.declared.bundle.Script.{Script}
 use Rattle.drv_scripts.specs.Placed.{IsScript}
-use Rattle.drv_scripts.specs.Spelled.{boot_of}
-use Rattle.driver_runs.specs.Scripts.{are_built}
+use Rattle.driver_runs.specs.Scripts.{are_built, CanBoot}
 use Rattle.driver_runs.specs.Turns.{HasRun}
 use Rattle.clk_run.specs.Cores.{HasCalls}
 use Rattle.clk_run.specs.Runs.{drivers_in, told_by}
-use Rattle.clk_run.proofs.Fitness.{earlier_all}
 use Rattle.clk_run.proofs.Readiness.{drivers_keep, drivers_few, commands_few, few_credits}
 use Rattle.clk_run.proofs.Leaving.{calls_of_run, printed_whole, printed_front, none_left, none_risen}
 use Rattle.clk_run.proofs.Telling.{same_telling}
@@ -42,14 +38,11 @@ run_scripts-requires g c =
     record {
       begins = c.requires.begins;
       credits = omega arith;
-      earlier = subst (λ (ds : Description). EachClock ds (has_earlier_parents ds)) defs (earlier_all b.desc.defs ready.fit);
-      boot = boot ∙ ready.boot ∙ ap (λ (ds : Description). boot_of (length ds)) defs;
+      boot = subst (λ (ds : Description). CanBoot ds c.as_slice-boot.result.now) defs (subst (CanBoot b.desc.defs) (sym boot) ready.boot);
       few = omega arith;
       placed = subst (λ (ds : Description). AllByRecursion (IsScript (length ds)) run) defs
           (subst (λ (xs : List Script). AllByRecursion (IsScript (length b.desc.defs)) xs) drivers (drivers_keep (IsScript (length b.desc.defs)) mode b ready.sound.scripts));
-      built = subst (λ (ds : Description). AllByRecursion (λ s. are_built (allowed_over ds) s.commands ≡ true) run) defs
-          (subst (λ (xs : List Script). AllByRecursion (λ s. are_built (allowed_over b.desc.defs) s.commands ≡ true) xs) drivers
-          (drivers_keep (λ s. are_built (allowed_over b.desc.defs) s.commands ≡ true) mode b ready.built));
+      built = subst (λ (xs : List Script). AllByRecursion (λ s. are_built s.commands ≡ true) xs) drivers (drivers_keep (λ s. are_built s.commands ≡ true) mode b ready.built);
       turns = subst (λ (ds : List ℕ). AllByRecursion (λ d. 0 < d) ds) (sym c.as_slice-order.ensures) ready.sound.turns;
     }
 

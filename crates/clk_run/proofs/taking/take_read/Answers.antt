@@ -12,7 +12,7 @@ returns-in-Ok-clause-gives g c =
 
 pub returns-in-Ok-clause-stops : goal.returns-in-Ok-clause-stops
 returns-in-Ok-clause-stops g c =
-    spelled_stops None _ _ c.in-Ok.bytes.items c.spelled_by.result c.in-Ok.ensures.ok
+    spelled_stops _ _ c.in-Ok.bytes.items c.spelled_by.result c.in-Ok.ensures.ok
     (subst (λ (xs : List ℕ). IfErr c.spelled_by.result (StopsSpelling xs)) c.as_slice.ensures.value c.spelled_by.ensures.stops)
 
 pub returns-in-Ok-clause-counts : goal.returns-in-Ok-clause-counts

@@ -1,4 +1,4 @@
-use Rattle.std.proofs.Common.{◌≡◌, ℕ, [], ◌∷◌, List, length, map, sym, ap, subst, ◌∙◌, arith, None, replicate}
+use Rattle.std.proofs.Common.{◌≡◌, ℕ, [], ◌∷◌, List, length, map, sym, ap, subst, ◌∙◌, arith}
 use Rattle.std.proofs.lemmas.List.{with_items_is}
 use Rattle.std.proofs.lemmas.Result.{IfOk-weaker}
 use Rattle.std.specs.Vec.{with_items}
@@ -9,21 +9,12 @@ use Rattle.clk_model.specs.Follows.{no_handles}
 use Rattle.clk_model.specs.Journal.{cost}
 use Rattle.clk_model.specs.State.{State}
 use Rattle.driver_runs.specs.Courses.{AreRunnable, BeginsCourse, Course}
-use Rattle.driver_runs.specs.Scripts.{AreProbes}
 use Rattle.driver_runs.specs.Turns.{HasRun}
 use Rattle.driver_runs.specs.declared.standing.Standing.{Standing}
-use Rattle.driver_runs.proofs.Going.{boot_probes, length-boot_of, no_variables, goes_cost, goes_idle}
+use Rattle.driver_runs.proofs.Going.{goes_cost, goes_idle}
 use Rattle.driver_runs.proofs.Sides.{new_owed}
 use Rattle.driver_runs.proofs.Ended.{has_run}
 use Rattle.driver_runs.proofs.scripts.run_scripts.Goals as goal
-
-pub run_boot-requires-clause-clocks : goal.run_boot-requires-clause-clocks
-run_boot-requires-clause-clocks g c =
-    let many = ap (λ (cs : List Command). length cs) c.requires.boot ∙ length-boot_of (length c.args.core.now.start.defs) in
-    omega arith
-
-pub run_boot-requires-clause-probes : goal.run_boot-requires-clause-probes
-run_boot-requires-clause-probes g c = subst (AreProbes 0) (sym c.requires.boot) (boot_probes (length c.args.core.now.start.defs))
 
 pub follow_order-requires-clause-runs : goal.follow_order-requires-clause-runs
 follow_order-requires-clause-runs g c =
@@ -35,8 +26,8 @@ follow_order-requires-clause-begins g c =
     let first = c.run_boot.new.core in
     let drivers = c.args.drivers.now in
     let goes = c.in_ok-first.ensures.1 in
-    let idle = goes_idle old first 0 [] c.in_ok-first.ensures.0 c.args.boot.now c.in_ok-first.first.items goes (ap in_flight c.requires.begins) in
-    let spent = goes_cost old first 0 [] c.in_ok-first.ensures.0 c.args.boot.now c.in_ok-first.first.items goes in
+    let idle = goes_idle old first 0 (no_handles c.args.boot.now) c.in_ok-first.ensures.0 c.args.boot.now c.in_ok-first.first.items goes (ap in_flight c.requires.begins) in
+    let spent = goes_cost old first 0 (no_handles c.args.boot.now) c.in_ok-first.ensures.0 c.args.boot.now c.in_ok-first.first.items goes in
     let nothing = ap cost c.requires.begins in
     let paid = c.requires.credits in
     let same = ap (λ (s : State). s.credits) goes.start in
@@ -59,8 +50,6 @@ returns g c =
     let first = c.run_boot.new.core in
     let core = c.run_rest.new.core in
     let answers = c.in_ok-first.first.items in
-    let probes = subst (AreProbes 0) (sym c.requires.boot) (boot_probes (length old.start.defs)) in
-    let empty : no_handles boot ≡ [] = ap (λ (n : ℕ). replicate n None) (no_variables 0 boot probes) in
     let xs = c.run_rest.new.standings in
     let v = c.in_ok-standings.standings in
     let w = with_items v c.follow_order.new.standings in
@@ -68,6 +57,6 @@ returns g c =
     let these = with_items_is w xs (c.run_rest.auto.standings ∙ c.as_mut_slice-2.ensures.len) in
     let ended = c.in_ok-run_rest.ensures in
     let before = subst (λ (ys : List Standing). Course first drivers order ys c.in_ok-going.going [] c.follow_order.new.core) (sym (c.as_mut_slice-2.ensures.value ∙ with_items_is v c.follow_order.new.standings kept)) c.in_ok-going.ensures in
-    let ran = has_run old first core boot c.in_ok-first.ensures.0 answers drivers order xs c.requires.begins empty c.in_ok-first.ensures.1 (ended.keeps first order before) ended.done in
+    let ran = has_run old first core boot c.in_ok-first.ensures.0 answers drivers order xs c.requires.begins c.in_ok-first.ensures.1 (ended.keeps first order before) ended.done in
     let those = ap (λ (ys : List Standing). answers ∷ map (λ (x : Standing). x.answers.items) ys) these in
     IfOk-weaker c.gather.result _ _ (λ all is. subst (λ (as_ : List (List Answer)). HasRun boot drivers order as_ old core) (sym (is ∙ those)) ran) c.gather.ensures
