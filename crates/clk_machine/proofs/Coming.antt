@@ -1,25 +1,26 @@
 -- What is left to come of a change in flight, and which work comes next.
-use Rattle.std.proofs.Common.{◌≡◌, ℕ, zero, suc, ◌+◌, ◌<◌, ◌≤◌, ◌&&◌, nat_eq, inl, inr, arith, length, Bool, true, false, List, [], ◌∷◌, Option, Some, None, refl, sym, ap, subst, ◌∙◌}
-use Rattle.std.specs.Prelude.{sum_by, is_none, slice_get, if◌then◌else◌}
+use Rattle.std.proofs.Common.{◌≡◌, ℕ, zero, suc, ◌+◌, ◌<◌, ◌≤◌, ◌&&◌, inl, inr, arith, length, Bool, true, false, List, [], ◌∷◌, ◌++◌, Option, Some, None, refl, sym, ap, subst, ◌∙◌}
+use Rattle.std.specs.Prelude.{sum_by, is_none, option_and_then, slice_get, if◌then◌else◌}
 use Rattle.std.specs.Option.{option_map}
 use Rattle.std.proofs.lemmas.List.Sums.{sum_by-cons}
 use Rattle.clk_base.specs.declared.call.Micro.{Micro}
 use Rattle.clk_base.specs.declared.call.Micro.TheVariants as micro
 use Rattle.clk_base.specs.declared.call.Sleeping.{Sleeping}
 use Rattle.clk_base.specs.declared.clock.ClockId.{ClockId}
-use Rattle.clk_model.specs.State.{NotifierRow}
+use Rattle.clk_model.specs.State.{Change, NotifierRow}
 use Rattle.clk_model.specs.Notices.{notifiers_of}
 use Rattle.clk_model.specs.Laws.Paced.{is_notice}
 use Rattle.clk_model.specs.Step.{is_end}
-use Rattle.clk_model.proofs.Members.{or_cases, both_left, both_right, same_from_test}
+use Rattle.clk_model.proofs.Members.{or_cases, both_left, both_right}
 use Rattle.clk_flight.specs.declared.front.Front.{Front}
 use Rattle.clk_flight.specs.declared.front.Front.TheVariants.{Empty, Poll, Raise, Lower, Falls, Posts}
-use Rattle.clk_flight.specs.Fronts.{HasSteps, post_to}
-use Rattle.clk_flight.specs.Flights.{FlightState, first_step, comes_next, fall_or_abort}
+use Rattle.clk_flight.specs.Fronts.{HasSteps, abort_of, is_empty, post_to}
+use Rattle.clk_flight.specs.Flights.{FlightState, IsChange, first_step, comes_next, fall_or_abort}
 use Rattle.clk_flight.specs.LeftOver.{step_weight, front_weight, left_over}
+use Rattle.clk_flight.proofs.ChangeLaws.{full, falls_first}
 use Rattle.clk_machine.specs.declared.work.Work.{Work}
 use Rattle.clk_machine.specs.Course.{PostsFit}
-use Rattle.clk_machine.specs.InFlight.{may_raise, may_make, cuts_behind, is_script, is_front, IsUnderWay}
+use Rattle.clk_machine.specs.InFlight.{may_make, cuts_behind, is_script, is_front, IsUnderWay}
 use Rattle.clk_machine.specs.Making.{work_of}
 
 -- ---- what is left to come
@@ -101,22 +102,34 @@ post_works : (c : ClockId) (old new : ℕ) (o : Option NotifierRow) → (o ≡ N
 post_works c old new None some h = some refl
 post_works c old new (Some n) some h = absurd cc
 
+-- where falls and notices that the change is called off stand in front, one of them comes next
+falls_come : (rows : List NotifierRow) (f : FlightState) (k : Change) (told left : ℕ) → f.front ≡ Falls told left → IsChange rows f k → fall_or_abort f.script told f.raised ≡ None → ⊥
+falls_come rows f k told left at is none =
+    some_first k.front k.left (full rows f k is ∙ ap is_empty at) (sym (falls_first rows f k told left at is) ∙ none) where
+      some_first : (xs ys : List Micro) → is_none (slice_get xs 0) ≡ false → slice_get (xs ++ ys) 0 ≡ None → ⊥
+      some_first [] ys e h = cc
+      some_first (x ∷ xs) ys e h = cc
+
+falls_work : (script : List Micro) (told : ℕ) (raised : List ℕ) → (fall_or_abort script told raised ≡ None → ⊥) → work_of (fall_or_abort script told raised) ≡ Work.End → ⊥
+falls_work script told (y ∷ ys) some h = cc
+falls_work script told [] some h = by (slice_get script told) some h where
+  by : (o : Option Micro) → (option_and_then abort_of o ≡ None → ⊥) → work_of (option_and_then abort_of o) ≡ Work.End → ⊥
+  by None some h = some refl
+  by (Some (micro.Notify kind c id old new)) some h = cc
+  by (Some _) some h = some refl
+
 -- where no raise, poll, fall, lower, notice or visit comes next the end does
-pub end_comes : (rows : List NotifierRow) (f : FlightState) (there : ℕ → Bool) → f.going ≡ true → HasSteps (length f.raised) f.front → PostsFit (λ c. length (notifiers_of rows c)) f.front
+pub end_comes : (rows : List NotifierRow) (f : FlightState) (there : ℕ → Bool) (k : Change) → f.going ≡ true → IsChange rows f k → PostsFit (λ c. length (notifiers_of rows c)) f.front
     → IsUnderWay there f → work_of (comes_next rows f) ≡ Work.End → comes_next rows f ≡ Some micro.End
-end_comes rows f there going steps posts is none =
+end_comes rows f there k going change posts is none =
     ap (λ (t : Bool). if t then first_step rows f f.front else None) going
-    ∙ by f.front refl steps is.front (sym (ap (λ (t : Bool). work_of (if t then first_step rows f f.front else None)) going) ∙ none) where
+    ∙ by f.front refl change.steps is.front (sym (ap (λ (t : Bool). work_of (if t then first_step rows f f.front else None)) going) ∙ none) where
       script : (ms : List Micro) → is_script f.call there ms ≡ true → work_of (slice_get ms 0) ≡ Work.End → slice_get ms 0 ≡ Some micro.End
       script [] e h = absurd cc
       script (m ∷ ms) e h = elim (or_cases (is_end m && is_none (slice_get ms 0)) (cuts_behind f.call m ms && (may_make f.call there m && is_script f.call there ms)) e) [
         | inl last ↦ ap (λ (n : Micro). Some n) (is_end_end m (both_left (is_end m) _ last))
         | inr seeks ↦ absurd (no_work f.call there m (both_left (may_make f.call there m) _ (both_right (cuts_behind f.call m ms) _ seeks)) h)
       ]
-
-      fallen_first : (told left : ℕ) (raised : List ℕ) → 0 < left + length raised → left ≡ 0 → work_of (fall_or_abort f.script told raised) ≡ Work.End → fall_or_abort f.script told raised ≡ Some micro.End
-      fallen_first told left [] some zero_ h = absurd (omega arith)
-      fallen_first told left (z ∷ zs) some zero_ h = absurd cc
 
       by : (front : Front) → f.front ≡ front → HasSteps (length f.raised) f.front → is_front f.call there f.front ≡ true → work_of (first_step rows f f.front) ≡ Work.End
           → first_step rows f f.front ≡ Some micro.End
@@ -125,9 +138,7 @@ end_comes rows f there going steps posts is none =
       by (Raise z) at some fits h = let no = sym (ap (λ (x : Front). work_of (first_step rows f x)) at) ∙ h in absurd cc
       by (Lower z) at some fits h = let no = sym (ap (λ (x : Front). work_of (first_step rows f x)) at) ∙ h in absurd cc
       by (Falls told left) at some fits h =
-          ap (first_step rows f) at
-          ∙ fallen_first told left f.raised (subst (λ (x : Front). HasSteps (length f.raised) x) at some) (same_from_test left 0 (both_right (may_raise f.call) (nat_eq left 0) (sym (ap (is_front f.call there) at) ∙ fits)))
-          (sym (ap (λ (x : Front). work_of (first_step rows f x)) at) ∙ h)
+          absurd (falls_work f.script told f.raised (falls_come rows f k told left at change) (sym (ap (λ (x : Front). work_of (first_step rows f x)) at) ∙ h))
       by (Posts c told left old new) at some fits h =
           let here : told + left ≤ length (notifiers_of rows c.0) = subst (λ (x : Front). PostsFit (λ c. length (notifiers_of rows c)) x) at posts in
           let steps_ : 0 < left = subst (λ (x : Front). HasSteps (length f.raised) x) at some in

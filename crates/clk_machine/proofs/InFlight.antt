@@ -10,8 +10,8 @@ use Rattle.clk_base.specs.declared.call.Sleeping.TheVariants as call
 use Rattle.clk_base.specs.declared.clock.ClockId.{ClockId}
 use Rattle.clk_model.specs.State.{NotifierRow}
 use Rattle.clk_model.specs.Notices.{notifiers_of}
-use Rattle.clk_model.specs.Step.{is_end, is_visit, from_first, cut_short, rest_of}
-use Rattle.clk_model.proofs.Members.{or_cases, both_left, both_right, same_from_test}
+use Rattle.clk_model.specs.Step.{is_end, is_visit, from_first, cut_short, rest_of, sets_parent}
+use Rattle.clk_model.proofs.Members.{or_cases, or_right, both_left, both_right}
 use Rattle.clk_flight.specs.declared.front.Front.{Front}
 use Rattle.clk_flight.specs.declared.front.Front.TheVariants.{Empty, Poll, Raise, Lower, Falls, Posts}
 use Rattle.clk_flight.specs.Fronts.{abort_of, post_to, falls, front_behind, script_behind}
@@ -275,11 +275,22 @@ cut_script (call.Prepare h) there ms may cut e = cut_end (call.Prepare h) there 
 cut_script (call.SetRate h x) there ms may cut e = cut_visit (call.SetRate h x) there ms (asks_visit ms cut) e
 cut_script (call.SetRateExclusive h x) there ms may cut e = cut_visit (call.SetRateExclusive h x) there ms (asks_visit ms cut) e
 cut_script (call.SetRange h least most) there ms may cut e = cut_visit (call.SetRange h least most) there ms (asks_visit ms cut) e
+cut_script (call.SetParent h p) there ms may cut e = cut_end (call.SetParent h p) there ms e
 cut_script _ there ms may cut e = absurd cc
 
-falls_front : (what : Sleeping) (there : ℕ → Bool) (raised : List ℕ) (left : ℕ) → may_raise what ≡ true → left ≡ 0 → is_front what there (falls raised 0 left) ≡ true
-falls_front what there [] left may none = ap (λ (n : ℕ). is_front what there (falls [] 0 n)) none
-falls_front what there (y ∷ ys) left may none = ap (λ (n : ℕ). is_front what there (falls (y ∷ ys) 0 n)) none ∙ ap (λ (b : Bool). b && true) may
+-- falls, and of a change of parent notices that it is called off
+falls_may : (what : Sleeping) (left : ℕ) → may_raise what ≡ true → (sets_parent what ≡ false → left ≡ 0) → (may_raise what && (nat_eq left 0 || sets_parent what)) ≡ true
+falls_may what left may lone = ap (λ (b : Bool). b && (nat_eq left 0 || sets_parent what)) may ∙ by (sets_parent what) lone where
+  by : (t : Bool) → (t ≡ false → left ≡ 0) → (nat_eq left 0 || t) ≡ true
+  by true h = or_right (nat_eq left 0) true refl
+  by false h = ap (λ (n : ℕ). nat_eq n 0 || false) (h refl)
+
+falls_front : (what : Sleeping) (there : ℕ → Bool) (raised : List ℕ) (told left : ℕ) → (may_raise what && (nat_eq left 0 || sets_parent what)) ≡ true → is_front what there (falls raised told left) ≡ true
+falls_front what there (y ∷ ys) told left may = may
+falls_front what there [] told left may = by (nat_eq left 0) where
+  by : (t : Bool) → is_front what there (if t then Empty else Falls told left) ≡ true
+  by true = refl
+  by false = may
 
 split_three : (a b c : Bool) → (a && b && c) ≡ true → (a ≡ true) × (b ≡ true) × (c ≡ true)
 split_three true true true e = (refl, refl, refl)
@@ -316,10 +327,10 @@ under_way-polled f there y answer own is = by (is_last_no f.front answer) where
   by true = record {
     call_ = is.call_;
     script = cut_script f.call there f.left parts.0 cuts is.script;
-    front = falls_front f.call there f.raised f.extra parts.0 is.extra;
+    front = falls_front f.call there f.raised 0 f.extra (falls_may f.call f.extra parts.0 is.extra);
     cut = cut_falls f.call (cut_short f.call f.left) f.raised 0 f.extra;
     raised = is.raised;
-    extra = refl;
+    extra = λ other. refl;
     vetoed = is.vetoed;
   }
   by false = record {
@@ -340,7 +351,8 @@ poll_there f there y own is =
 -- falls in front
 pub record FallsInFront (f : FlightState) : Type 0 where
   pub told : ℕ
-  pub front : f.front ≡ Falls told 0
+  pub left : ℕ
+  pub front : f.front ≡ Falls told left
 
 others_all : (there : ℕ → Bool) (ys : List ℕ) → list_all there ys ≡ true → list_all there (others ys) ≡ true
 others_all there [] e = refl
@@ -350,18 +362,14 @@ pub under_way-fallen : (f : FlightState) (there : ℕ → Bool) → FallsInFront
 under_way-fallen f there in_front is = record {
   call_ = is.call_;
   script = ap (λ (front : Front). is_script f.call there (script_behind front f.left)) in_front.front ∙ is.script;
-  front = ap (λ (front : Front). is_front f.call there (front_fallen (others f.raised) front)) in_front.front ∙ both_empty (others f.raised);
-  cut = ap (λ (front : Front). cuts_front f.call (script_behind front f.left) (front_fallen (others f.raised) front)) in_front.front ∙ cut_falls f.call f.left (others f.raised) in_front.told 0;
+  front = ap (λ (front : Front). is_front f.call there (front_fallen (others f.raised) front)) in_front.front ∙ falls_front f.call there (others f.raised) in_front.told in_front.left may;
+  cut = ap (λ (front : Front). cuts_front f.call (script_behind front f.left) (front_fallen (others f.raised) front)) in_front.front ∙ cut_falls f.call f.left (others f.raised) in_front.told in_front.left;
   raised = others_all there f.raised is.raised;
   extra = is.extra;
   vetoed = is.vetoed;
 } where
-  may : (may_raise f.call && true) ≡ true
+  may : (may_raise f.call && (nat_eq in_front.left 0 || sets_parent f.call)) ≡ true
   may = sym (ap (is_front f.call there) in_front.front) ∙ is.front
-
-  both_empty : (ys : List ℕ) → is_front f.call there (falls ys in_front.told 0) ≡ true
-  both_empty [] = refl
-  both_empty (y ∷ ys) = may
 
 -- ---- which step comes next
 
@@ -404,19 +412,17 @@ fall_told rows f y e = ap (λ (o : Option Micro). if f.going then o else None) (
 -- a fall that comes next stands in front, and is that of a clock that passes the test
 pub fall_in_front : (f : FlightState) (there : ℕ → Bool) (y : ClockId) → comes_next [] f ≡ Some (micro.Fall y) → IsUnderWay there f → FallsInFront f × (there y.0 ≡ true)
 fall_in_front f there y comes is = by f.front refl (own_going f.going (first_step [] f f.front) (micro.Fall y) comes) is.front where
-  drop : (told left : ℕ) → left ≡ 0 → (raised : List ℕ) → list_all there raised ≡ true → f.front ≡ Falls told left → fall_or_abort f.script told raised ≡ Some (micro.Fall y)
+  drop : (told left : ℕ) (raised : List ℕ) → list_all there raised ≡ true → f.front ≡ Falls told left → fall_or_abort f.script told raised ≡ Some (micro.Fall y)
       → FallsInFront f × (there y.0 ≡ true)
-  drop told left none [] all at e = absurd (abort_no_fall (slice_get f.script told) y e)
-  drop told left none (z ∷ zs) all at e =
+  drop told left [] all at e = absurd (abort_no_fall (slice_get f.script told) y e)
+  drop told left (z ∷ zs) all at e =
       let same : z ≡ y.0 = cc in
-      (record { told = told; front = at ∙ ap (λ (n : ℕ). let front : Front = Falls told n in front) none }, ap there (sym same) ∙ both_left (there z) (list_all there zs) all)
+      (record { told = told; left = left; front = at }, ap there (sym same) ∙ both_left (there z) (list_all there zs) all)
 
   by : (front : Front) → f.front ≡ front → first_step [] f f.front ≡ Some (micro.Fall y) → is_front f.call there f.front ≡ true → FallsInFront f × (there y.0 ≡ true)
   by Empty at e h = let never = first_seeks f there (micro.Fall y) (sym (ap (first_step [] f) at) ∙ e) refl is.script in absurd cc
   by (Poll z polls again) at e h = let first = sym (ap (first_step [] f) at) ∙ e in absurd cc
   by (Raise z) at e h = let first = sym (ap (first_step [] f) at) ∙ e in absurd cc
   by (Lower z) at e h = let first = sym (ap (first_step [] f) at) ∙ e in absurd cc
-  by (Falls told left) at e h =
-      let none : left ≡ 0 = same_from_test left 0 (both_right (may_raise f.call) (nat_eq left 0) (sym (ap (is_front f.call there) at) ∙ h)) in
-      drop told left none f.raised is.raised at (sym (ap (first_step [] f) at) ∙ e)
+  by (Falls told left) at e h = drop told left f.raised is.raised at (sym (ap (first_step [] f) at) ∙ e)
   by (Posts c told left old new) at e h = absurd (post_no_fall c old new (slice_get (notifiers_of [] c.0) told) y (sym (ap (first_step [] f) at) ∙ e))

@@ -104,6 +104,7 @@ tells_cut count ns (call.Prepare h) there ms may is all = tells_end count ns (ca
 tells_cut count ns (call.SetRate h x) there ms may is all = tells_visit count ns ms all
 tells_cut count ns (call.SetRateExclusive h x) there ms may is all = tells_visit count ns ms all
 tells_cut count ns (call.SetRange h least most) there ms may is all = tells_visit count ns ms all
+tells_cut count ns (call.SetParent h p) there ms may is all = tells_end count ns (call.SetParent h p) there ms is
 tells_cut count ns _ there ms may is all = absurd cc
 
 links_cut_short : (can : Micro → Bool) (what : Sleeping) (ms : List Micro) → may_raise what ≡ true → list_all can ms ≡ true → list_all can (cut_short what ms) ≡ true
@@ -111,6 +112,7 @@ links_cut_short can (call.Prepare h) ms may all = links_cut can is_end ms all
 links_cut_short can (call.SetRate h x) ms may all = links_cut can is_visit ms all
 links_cut_short can (call.SetRateExclusive h x) ms may all = links_cut can is_visit ms all
 links_cut_short can (call.SetRange h least most) ms may all = links_cut can is_visit ms all
+links_cut_short can (call.SetParent h p) ms may all = links_cut can is_end ms all
 links_cut_short can _ ms may all = absurd cc
 
 -- ---- each step
@@ -197,7 +199,7 @@ pub along-fallen : (f : FlightState) → FallsInFront f → KeepsAlong f (fallen
 along-fallen f in_front = record {
   call = refl;
   tells = λ count ns tells. record {
-    front = subst (λ (front : Front). PostsFit count (front_fallen (others f.raised) front)) (sym in_front.front) (falls_fit count (others f.raised) in_front.told 0);
+    front = subst (λ (front : Front). PostsFit count (front_fallen (others f.raised) front)) (sym in_front.front) (falls_fit count (others f.raised) in_front.told in_front.left);
     visits = ap (λ (front : Front). tells_all count (script_behind front f.left) ns) in_front.front ∙ tells.visits;
   };
   links = λ can all. links_behind can f.left f.front all;

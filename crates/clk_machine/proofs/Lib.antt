@@ -56,7 +56,6 @@ pub mod Staying
 pub mod Movable
 pub mod Requesting
 pub mod Scripting
-pub mod Aborting
 pub mod Readying
 pub mod Ranging
 pub mod Sweeping

@@ -1,7 +1,6 @@
 -- A call that changes a rate or a parent begins as it was made ready, in each sound state that the parts of a core stand for.
 use Rattle.std.proofs.Common.{◌≡◌, ℕ, ◌+◌, ◌-◌, ◌^◌, ◌<◌, ◌≤◌, ◌&&◌, ◌||◌, Bool, true, false, List, [], ◌∷◌, Option, Some, None, refl, sym, ap, subst, ◌∙◌, arith, length, map, min}
 use Rattle.std.proofs.Math.Bool.{or-false}
-use Rattle.std.proofs.Math.Path.{fun_ext}
 use Rattle.std.specs.Prelude.{sum_by, slice_index, if◌then◌else◌}
 use Rattle.std.specs.List.{list_any, AllByRecursion, list_all}
 use Rattle.clk_base.specs.Description.{Description}
@@ -17,26 +16,26 @@ use Rattle.clk_model.specs.declared.row.HandleRow.{HandleRow}
 use Rattle.clk_model.specs.Begin.{most_credits, own_handle}
 use Rattle.clk_model.specs.Chain.{outcome}
 use Rattle.clk_model.specs.Gates.{settled}
-use Rattle.clk_model.specs.Holders.{prepared}
 use Rattle.clk_model.specs.Laws.CallCauses.{with_limits}
 use Rattle.clk_model.specs.Machine.{paid, next}
 use Rattle.clk_model.specs.Rate.{rate}
 use Rattle.clk_model.specs.Round.{wiring, rate_in}
 use Rattle.clk_model.specs.Script.{is_raise, plls, planned}
-use Rattle.clk_model.specs.State.{State, Change, ChainStep, registered, handle_at, link_in}
+use Rattle.clk_model.specs.State.{State, Change, ChainStep, NotifierRow, registered, handle_at, link_in}
 use Rattle.clk_model.specs.Step.{sets_parent}
 use Rattle.clk_model.specs.Walk.{rates_in, walk}
 use Rattle.clk_model.proofs.StateLaws.{paid-still, paid-left, active-put_same}
+use Rattle.clk_flight.specs.Begun.{StartsAs}
 use Rattle.clk_flight.specs.LeftOver as flights
+use Rattle.clk_flight.proofs.StartLaws.{calls_start}
 use Rattle.clk_tree.specs.declared.plan.Plan.{Plan}
 use Rattle.clk_tree.specs.Plans.{ClockRate}
 use Rattle.counts_core.specs.Counted.{is_prepared}
-use Rattle.counts_core.proofs.Standing.{tells_holds}
 use Rattle.rate_planner.specs.Walks.{at_rate}
 use Rattle.rate_requests.specs.Handles.{HandleTable}
 use Rattle.change_walk.specs.Changes.{AreThere}
 use Rattle.change_walk.specs.Given.{Script}
-use Rattle.change_walk.specs.Steps.{steps_for}
+use Rattle.change_walk.specs.Steps.{steps_for, told_by}
 use Rattle.change_walk.specs.Weights.{step_weight}
 use Rattle.change_walk.proofs.Whole.{rate_at}
 use Rattle.clk_machine.specs.declared.course.Notified.{Notified}
@@ -44,16 +43,14 @@ use Rattle.clk_machine.specs.declared.decision.Decision.TheVariants as decided
 use Rattle.clk_machine.specs.declared.readied.Readied.{Readied}
 use Rattle.clk_machine.specs.declared.readied.Readied.TheVariants as readied
 use Rattle.clk_machine.specs.declared.readied.Scripted.{Scripted}
-use Rattle.clk_machine.specs.Built.{is_built_over}
 use Rattle.clk_machine.specs.Changing.{BeginsAlong, StartsChange}
 use Rattle.clk_machine.specs.Course.{notifiers_at, tells_all}
 use Rattle.clk_machine.specs.Deciding.{ArePlannedOver, Decided, GoesOn, IsPlanned, IsPlanOf, change_by, handle_of, made_in}
-use Rattle.clk_machine.specs.Fit.{gates_parents}
 use Rattle.clk_machine.specs.Holding.{ranged}
 use Rattle.clk_machine.specs.InFlight.{asks_rate, can_link, changes_rate, is_ranged, is_script}
 use Rattle.clk_machine.specs.Movable.{can_go_along}
 use Rattle.clk_machine.specs.Parts.{Parts, AreKept, IsOwnCall, IsWhole, own_in, rows_from, steps_left, with_range}
-use Rattle.clk_machine.specs.Readying.{CanBeginSo, CanGoAlong, GoesOnAlong, IsReady, IsScripted, Scripts, moves_well, range_before, weight_along}
+use Rattle.clk_machine.specs.Readying.{CanBeginSo, CanGoAlong, GoesOnAlong, IsReady, IsScripted, Scripts, moves_well, range_before, start_of, weight_along}
 use Rattle.clk_machine.specs.Sound.{IsSound}
 use Rattle.clk_machine.specs.Stands.{Stands, Enters, most_steps, registers}
 use Rattle.clk_machine.proofs.Entered.{own_stands}
@@ -61,9 +58,9 @@ use Rattle.clk_machine.proofs.Moving.{clock_within}
 use Rattle.clk_machine.proofs.Ranging.{stands_ranged}
 use Rattle.clk_machine.proofs.Movable.{parent_can}
 use Rattle.clk_machine.proofs.Requesting.{request_can}
-use Rattle.clk_machine.proofs.Scripting.{links_made, raises_none, script_made, tells_made, told_all, weighs_rows}
+use Rattle.clk_machine.proofs.Scripting.{links_made, script_made, tells_made, told_all, weighs_rows}
 use Rattle.clk_machine.proofs.Taking.{outcome_defs}
-use Rattle.clk_machine.proofs.Writing.{counts_stand, live_in}
+use Rattle.clk_machine.proofs.Writing.{live_in}
 
 -- ---- the change of a call
 
@@ -76,12 +73,7 @@ made_is s _ row = refl
 record BeginsPlain (n : State) (d : ℕ) (what : Sleeping) (range : Option (ℕ × ℕ)) (plan : Plan) (k : Change) : Type 0 where
   driver_ : k.driver ≡ d
   call_ : k.call ≡ what
-  front : k.front ≡ []
-  polls : k.polls ≡ 0
-  again : k.again ≡ 0
-  raised : k.raised ≡ []
   range_ : k.range ≡ range
-  timed_out : k.timed_out ≡ false
   before : k.before ≡ rates_in (wiring n)
   outcome_ : k.outcome ≡ rates_in (outcome plan.chain (wiring n))
 
@@ -89,18 +81,13 @@ record BeginsPlain (n : State) (d : ℕ) (what : Sleeping) (range : Option (ℕ 
 begins_plain : (s : State) (d : ℕ) (what : Sleeping) (row : HandleRow) (plan : Plan) → changes_rate what ≡ true → (change_by s d what row plan).chain ≡ plan.chain
     → BeginsPlain (made_in s what row) d what (range_before what row) plan (change_by s d what row plan)
 unfolding planned
-begins_plain s d (call.SetRate h x) row plan e at = record { driver_ = refl; call_ = refl; front = refl; polls = refl; again = refl; raised = refl; range_ = refl; timed_out = refl; before = refl; outcome_ = refl }
-begins_plain s d (call.SetRateExclusive h x) row plan e at = record { driver_ = refl; call_ = refl; front = refl; polls = refl; again = refl; raised = refl; range_ = refl; timed_out = refl; before = refl; outcome_ = refl }
-begins_plain s d (call.SetRange h least most) row plan e at = record { driver_ = refl; call_ = refl; front = refl; polls = refl; again = refl; raised = refl; range_ = refl; timed_out = refl; before = refl; outcome_ = refl }
+begins_plain s d (call.SetRate h x) row plan e at = record { driver_ = refl; call_ = refl; range_ = refl; before = refl; outcome_ = refl }
+begins_plain s d (call.SetRateExclusive h x) row plan e at = record { driver_ = refl; call_ = refl; range_ = refl; before = refl; outcome_ = refl }
+begins_plain s d (call.SetRange h least most) row plan e at = record { driver_ = refl; call_ = refl; range_ = refl; before = refl; outcome_ = refl }
 begins_plain s d (call.SetParent h p) row plan e at = record {
   driver_ = refl;
   call_ = refl;
-  front = refl;
-  polls = refl;
-  again = refl;
-  raised = refl;
   range_ = refl;
-  timed_out = refl;
   before = refl;
   outcome_ = ap (λ (ks : List ChainStep). rates_in (outcome ks (wiring s))) at;
 }
@@ -109,6 +96,10 @@ begins_plain s d _ row plan e at = absurd cc
 settled_change : (s y : State) → (settled s y).change ≡ y.change
 unfolding settled
 settled_change s y = refl
+
+settled_notifiers : (s y : State) → (settled s y).notifiers ≡ y.notifiers
+unfolding settled
+settled_notifiers s y = refl
 
 rated_all : (rates before will : List ℕ) (clocks : List ClockRow) (f : ℕ → ℕ) (cs : List ℕ)
     → ((c : ℕ) → registered clocks c ≡ true → (slice_index rates c ≡ slice_index before c) × (f c ≡ slice_index will c)) → AreThere clocks (map (at_rate f) cs)
@@ -122,36 +113,28 @@ linked_rows m whole c p at = whole.tied.stands.linked c p at
 
 -- ---- what its script comes to
 
--- a timeout brings no notice, since no step raises
-none_extra : (m : Parts) (sets : Bool) (plan : Plan) (script : Script) → IsPlanned m.tree (is_prepared m.counts) m.chains (m.credits + m.steps) sets plan script
-    → can_go_along plan.set_parent m.tree.defs m.tree.clocks (is_prepared m.counts) plan.chain ≡ true → script.extra ≡ 0
-none_extra m sets plan script planned_ can =
-    planned_.made.extra
-    ∙ none plan.set_parent (list_any is_raise script.steps) _
-    (λ sets. ap (λ (ms : List Micro). list_any is_raise ms) planned_.made.steps ∙ raises_none m.tree (is_prepared m.counts) m.chains plan script.changed can planned_.there sets) where
-      none : (a b : Bool) (x : ℕ) → (a ≡ true → b ≡ false) → (if a && b then x else 0) ≡ 0
-      none true true x e = let no : true ≡ false = e refl in absurd cc
-      none true false x e = refl
-      none false b x e = refl
+-- a timeout calls off only a change of parent
+lone_extra : (m : Parts) (sets : Bool) (plan : Plan) (script : Script) → IsPlanned m.tree (is_prepared m.counts) m.chains (m.credits + m.steps) sets plan script → sets ≡ false → script.extra ≡ 0
+lone_extra m sets plan script planned_ unset =
+    planned_.made.extra ∙ ap (λ (b : Bool). if b && list_any is_raise script.steps then min (told_by m.chains script.changed) (2 ^ 64 - 1) else 0) (planned_.set_parent ∙ unset)
 
--- it weighs what its steps do
-plain_weight : (m : Parts) (sets : Bool) (plan : Plan) (script : Script) → IsPlanned m.tree (is_prepared m.counts) m.chains (m.credits + m.steps) sets plan script
-    → can_go_along plan.set_parent m.tree.defs m.tree.clocks (is_prepared m.counts) plan.chain ≡ true → m.tree.defs ≡ m.desc.defs → script.weight ≡ weight_along m script.steps
-plain_weight m sets plan script planned_ can same =
-    uncut script.weight (sum_by (step_weight (plls m.tree.defs) m.chains) script.steps) script.extra (m.credits + m.steps) planned_.made.weight (none_extra m sets plan script planned_ can) planned_.room
-    ∙ ap (λ (ds : Description). sum_by (step_weight (plls ds) m.chains) script.steps) same where
-      uncut : (w a b used : ℕ) → w ≡ min (a + b) (2 ^ 64 - 1) → b ≡ 0 → used + w ≤ most_credits → w ≡ a
-      uncut w a b used cut none room = omega arith
+-- it weighs what its steps do, and the notices that a timeout may bring
+plain_weight : (m : Parts) (sets : Bool) (plan : Plan) (script : Script) → IsPlanned m.tree (is_prepared m.counts) m.chains (m.credits + m.steps) sets plan script → m.tree.defs ≡ m.desc.defs
+    → script.weight ≡ weight_along m script.steps + script.extra
+plain_weight m sets plan script planned_ same =
+    uncut script.weight (sum_by (step_weight (plls m.tree.defs) m.chains) script.steps) script.extra (m.credits + m.steps) planned_.made.weight planned_.room
+    ∙ ap (λ (ds : Description). sum_by (step_weight (plls ds) m.chains) script.steps + script.extra) same where
+      uncut : (w a b used : ℕ) → w ≡ min (a + b) (2 ^ 64 - 1) → used + w ≤ most_credits → w ≡ a + b
+      uncut w a b used cut room = omega arith
 
 -- ---- whether its moves can be made
 
 -- what the parts say of it is so in a state that they stand for
-moves_stand : (m : Parts) (s : State) (sets : Bool) (plan : Plan) → IsWhole m → Stands m s → plan.set_parent ≡ sets → can_go_along sets s.defs s.clocks (prepared s) plan.chain ≡ true → moves_well m plan ≡ true
+moves_stand : (m : Parts) (s : State) (sets : Bool) (plan : Plan) → IsWhole m → Stands m s → plan.set_parent ≡ sets → can_go_along sets s.defs s.clocks plan.chain ≡ true → moves_well m plan ≡ true
 moves_stand m s sets plan whole stands is can =
-    ap (λ (b : Bool). can_go_along b m.desc.defs m.tree.clocks (is_prepared m.counts) plan.chain) is
-    ∙ ap (λ (ds : Description). can_go_along sets ds m.tree.clocks (is_prepared m.counts) plan.chain) (sym stands.defs)
-    ∙ ap (λ (rows : List ClockRow). can_go_along sets s.defs rows (is_prepared m.counts) plan.chain) (sym stands.clocks)
-    ∙ ap (λ (f : ℕ → Bool). can_go_along sets s.defs s.clocks f plan.chain) (fun_ext (λ c. (tells_holds m.counts s whole.counted.keeps (counts_stand m s whole stands) c).prepared))
+    ap (λ (b : Bool). can_go_along b m.desc.defs m.tree.clocks plan.chain) is
+    ∙ ap (λ (ds : Description). can_go_along sets ds m.tree.clocks plan.chain) (sym stands.defs)
+    ∙ ap (λ (rows : List ClockRow). can_go_along sets s.defs rows plan.chain) (sym stands.clocks)
     ∙ can
 
 -- the chain of a change of parent
@@ -159,35 +142,35 @@ parent_steps : (s : State) (d : ℕ) (h : Handle) (p : ClockId) (row : HandleRow
     → (rate_ : ℕ) × (plan.chain ≡ record { clock = row.clock.0; rate = rate_; parent = Some p.0 } ∷ [])
 parent_steps s d h p row plan at = (_, sym at)
 
--- where the description allows the call, they can
+-- they can
 moves_can : (m : Parts) (s t : State) (d number : ℕ) (what : Sleeping) (plan : Plan) (script : Script) (k : Change) → IsWhole m → Stands m s → IsSound m.window.size s → changes_rate what ≡ true
-    → is_built_over m.desc.defs (registered m.tree.clocks) what ≡ true → number ≡ handle_of what → (goes : GoesOn s d number what plan script) → next s d (event.Begin what) ≡ Some (t, turn.Going) → t.change ≡ Some k
-    → k.chain ≡ plan.chain → can_go_along (sets_parent what) s.defs s.clocks (prepared s) plan.chain ≡ true
-moves_can m s t d number what plan script k whole stands sound changes built is goes comes at chain_ = by what changes built is goes comes where
+    → number ≡ handle_of what → (goes : GoesOn s d number what plan script) → next s d (event.Begin what) ≡ Some (t, turn.Going) → t.change ≡ Some k
+    → k.chain ≡ plan.chain → can_go_along (sets_parent what) s.defs s.clocks plan.chain ≡ true
+moves_can m s t d number what plan script k whole stands sound changes is goes comes at chain_ = by what changes is goes comes where
   there : (c p : ℕ) → link_in s.clocks c ≡ Some p → registered s.clocks p ≡ true
   there c p at' =
       ap (λ (rows : List ClockRow). registered rows p) stands.clocks ∙ whole.tied.stands.links c p (ap (λ (rows : List ClockRow). link_in rows c) (sym stands.clocks) ∙ at')
 
-  asked : (w : Sleeping) → asks_rate w ≡ true → next s d (event.Begin w) ≡ Some (t, turn.Going) → can_go_along false s.defs s.clocks (prepared s) plan.chain ≡ true
+  asked : (w : Sleeping) → asks_rate w ≡ true → next s d (event.Begin w) ≡ Some (t, turn.Going) → can_go_along false s.defs s.clocks plan.chain ≡ true
   asked w asks comes' =
-      ap (λ (ks : List ChainStep). can_go_along false s.defs s.clocks (prepared s) ks) (sym chain_)
+      ap (λ (ks : List ChainStep). can_go_along false s.defs s.clocks ks) (sym chain_)
       ∙ request_can m.window.size s t d w k sound there asks comes' at
 
-  by : (w : Sleeping) → changes_rate w ≡ true → is_built_over m.desc.defs (registered m.tree.clocks) w ≡ true → number ≡ handle_of w → GoesOn s d number w plan script → next s d (event.Begin w) ≡ Some (t, turn.Going)
-      → can_go_along (sets_parent w) s.defs s.clocks (prepared s) plan.chain ≡ true
-  by (call.SetRate h x) e keeps is' goes' comes' = asked (call.SetRate h x) refl comes'
-  by (call.SetRateExclusive h x) e keeps is' goes' comes' = asked (call.SetRateExclusive h x) refl comes'
-  by (call.SetRange h least most) e keeps is' goes' comes' = asked (call.SetRange h least most) refl comes'
-  by (call.SetParent h p) e gates is' goes' comes' =
+  by : (w : Sleeping) → changes_rate w ≡ true → number ≡ handle_of w → GoesOn s d number w plan script → next s d (event.Begin w) ≡ Some (t, turn.Going)
+      → can_go_along (sets_parent w) s.defs s.clocks plan.chain ≡ true
+  by (call.SetRate h x) e is' goes' comes' = asked (call.SetRate h x) refl comes'
+  by (call.SetRateExclusive h x) e is' goes' comes' = asked (call.SetRateExclusive h x) refl comes'
+  by (call.SetRange h least most) e is' goes' comes' = asked (call.SetRange h least most) refl comes'
+  by (call.SetParent h p) e is' goes' comes' =
       let steps = parent_steps s d h p goes'.row plan goes'.planned.chain in
-      ap (λ (ks : List ChainStep). can_go_along true s.defs s.clocks (prepared s) ks) steps.1
+      ap (λ (ks : List ChainStep). can_go_along true s.defs s.clocks ks) steps.1
       ∙ ap (λ (b : Bool). b && true)
-      (parent_can m.window.size s t d h p goes'.row (record { clock = goes'.row.clock.0; rate = steps.0; parent = Some p.0 }) sound (ap gates_parents stands.defs ∙ gates)
+      (parent_can m.window.size s t d h p goes'.row (record { clock = goes'.row.clock.0; rate = steps.0; parent = Some p.0 }) sound
       (ap (λ (n : ℕ). own_handle s d n) (sym is') ∙ goes'.own) comes' refl refl)
-  by _ e built' is' goes' comes' = absurd cc
+  by _ e is' goes' comes' = absurd cc
 
 module _ (m : Parts) (s : State) (d : ℕ) (what : Sleeping) (plan : Plan) (script : Script) (whole : IsWhole m) (stands : Stands m s) (sound : IsSound m.window.size s) (changes : changes_rate what ≡ true)
-    (built : is_built_over m.desc.defs (registered m.tree.clocks) what ≡ true) (left : m.spent < m.credits) (made_ : IsPlanned m.tree (is_prepared m.counts) m.chains (m.credits + m.steps) (sets_parent what) plan script)
+    (left : m.spent < m.credits) (made_ : IsPlanned m.tree (is_prepared m.counts) m.chains (m.credits + m.steps) (sets_parent what) plan script)
     (goes : GoesOn s d (handle_of what) what plan script) where
   abbrev n : State
   n = made_in s what goes.row
@@ -204,12 +187,17 @@ module _ (m : Parts) (s : State) (d : ℕ) (what : Sleeping) (plan : Plan) (scri
   beside : n ≡ record s { handles = n.handles }
   beside = made_is s what goes.row
 
+  -- the state behind its beginning
+  abbrev t : State
+  t = record (settled s (record n { change = Some k })) { spent = s.spent + 1 }
+
+  begins_ : next s d (event.Begin what) ≡ Some (t, turn.Going)
+  begins_ = goes.next_ ∙ paid-left s (record n { change = Some k }) turn.Going (let one = stands.spent in let two = stands.credits in omega arith)
+
   pub can_move : moves_well m plan ≡ true
   can_move =
-      let spends : s.spent < s.credits = let one = stands.spent in let two = stands.credits in omega arith in
       moves_stand m s (sets_parent what) plan whole stands goes.set_parent
-      (moves_can m s (record (settled s (record n { change = Some k })) { spent = s.spent + 1 }) d (handle_of what) what plan script k whole stands sound changes built refl goes
-      (goes.next_ ∙ paid-left s (record n { change = Some k }) turn.Going spends) (settled_change s (record n { change = Some k })) of_plan.chain)
+      (moves_can m s t d (handle_of what) what plan script k whole stands sound changes refl goes begins_ (settled_change s (record n { change = Some k })) of_plan.chain)
 
   within : (c : ℕ) → registered m.tree.clocks c ≡ true → c < length n.defs
   within c here = subst (λ (ds : Description). c < length ds) (sym (ap (λ (u : State). u.defs) beside ∙ stands.defs)) (clock_within m.desc m.window m.tree c whole.tied here)
@@ -241,17 +229,16 @@ module _ (m : Parts) (s : State) (d : ℕ) (what : Sleeping) (plan : Plan) (scri
     change = k;
     next_ = goes.next_;
     begins = record {
-      driver_ = plain.driver_;
-      call = plain.call_;
-      front = plain.front;
-      left = of_plan.steps ∙ sym made.steps;
-      polls = plain.polls;
-      again = plain.again;
-      raised = plain.raised;
-      range_ = plain.range_;
-      extra = of_plan.extra ∙ none_extra m (sets_parent what) plan script made_ (ap (λ (ds : Description). can_go_along plan.set_parent ds m.tree.clocks (is_prepared m.counts) plan.chain) whole.tied.defs ∙ made.moves);
-      vetoed_ = of_plan.vetoed ∙ sym made.vetoed;
-      timed_out = plain.timed_out;
+      starts =
+          subst (λ (ns : List NotifierRow). StartsAs ns (start_of d what (range_before what goes.row) scripted) k) (settled_notifiers s (record n { change = Some k }) ∙ ap (λ (u : State). u.notifiers) beside)
+          (calls_start s t d what k (start_of d what (range_before what goes.row) scripted) begins_ (settled_change s (record n { change = Some k })) (record {
+            driver = plain.driver_;
+            call = plain.call_;
+            left = of_plan.steps ∙ sym made.steps;
+            range = plain.range_;
+            extra = of_plan.extra ∙ sym made.extra;
+            vetoed = of_plan.vetoed ∙ sym made.vetoed;
+          }));
       chain = of_plan.chain ∙ sym made.chain;
       rates = subst (λ (ns : List Notified). AllByRecursion (λ x. (x.before ≡ slice_index k.before x.clock.0) × (x.after ≡ slice_index k.outcome x.clock.0)) ns) (sym made.notified)
           (told_all (notifiers_at m.chains) m.tree.rates k.before k.outcome plan.rates rates_all);
@@ -261,21 +248,13 @@ module _ (m : Parts) (s : State) (d : ℕ) (what : Sleeping) (plan : Plan) (scri
 -- ---- made ready
 
 -- a plan and its script make the call ready for which they were decided
-pub ready_scripted : (m : Parts) (d : ℕ) (what : Sleeping) (plan : Plan) (script : Script) (made : Readied) → IsWhole m → changes_rate what ≡ true → is_built_over m.desc.defs (registered m.tree.clocks) what ≡ true
+pub ready_scripted : (m : Parts) (d : ℕ) (what : Sleeping) (plan : Plan) (script : Script) (made : Readied) → IsWhole m → changes_rate what ≡ true
     → m.spent < m.credits → ArePlannedOver m what (decided.Change plan script) → Decided m d what (decided.Change plan script) → Scripts m plan script made → IsReady m d what made
-ready_scripted m d what plan script (readied.Refused e) whole changes built left planned_ goes stuck = λ s stands sound.
-    let no : true ≡ false = sym (can_move m s d what plan script whole stands sound changes built left planned_ (goes s stands sound)) ∙ stuck in absurd cc
-ready_scripted m d what plan script readied.AtOnce whole changes built left planned_ goes never = absurd never
-ready_scripted m d what plan script (readied.Change scripted) whole changes built left planned_ goes made = λ s stands sound.
-    goes_along m s d what plan script whole stands sound changes built left planned_ (goes s stands sound) scripted made
-
--- a change that sets no parent asks for a rate
-asks_unless : (what : Sleeping) → changes_rate what ≡ true → sets_parent what ≡ false → asks_rate what ≡ true
-asks_unless (call.SetRate h x) e f = refl
-asks_unless (call.SetRateExclusive h x) e f = refl
-asks_unless (call.SetRange h least most) e f = refl
-asks_unless (call.SetParent h p) e f = absurd cc
-asks_unless _ e f = absurd cc
+ready_scripted m d what plan script (readied.Refused e) whole changes left planned_ goes stuck = λ s stands sound.
+    let no : true ≡ false = sym (can_move m s d what plan script whole stands sound changes left planned_ (goes s stands sound)) ∙ stuck in absurd cc
+ready_scripted m d what plan script readied.AtOnce whole changes left planned_ goes never = absurd never
+ready_scripted m d what plan script (readied.Change scripted) whole changes left planned_ goes made = λ s stands sound.
+    goes_along m s d what plan script whole stands sound changes left planned_ (goes s stands sound) scripted made
 
 pub can_scripted : (m : Parts) (d : ℕ) (what : Sleeping) (plan : Plan) (script : Script) (made : Readied) → IsWhole m → changes_rate what ≡ true → ArePlannedOver m what (decided.Change plan script)
     → IsOwnCall m.table.handles d what → Scripts m plan script made → CanBeginSo m d what made
@@ -283,7 +262,7 @@ can_scripted m d what plan script (readied.Refused e) whole changes planned_ own
 can_scripted m d what plan script readied.AtOnce whole changes planned_ own never = absurd never
 can_scripted m d what plan script (readied.Change scripted) whole changes planned_ own made = record {
   own = own;
-  script = ap (λ (ms : List Micro). is_script what (registered m.tree.clocks) ms) steps ∙ script_made m.tree (is_prepared m.counts) m.chains plan script.changed can planned_.there what changes (λ unset. asks_unless what changes (sym planned_.set_parent ∙ unset)) (λ c p at. (whole.tied.stands.linked c p at, whole.tied.stands.links c p at));
+  script = ap (λ (ms : List Micro). is_script what (registered m.tree.clocks) ms) steps ∙ script_made m.tree (is_prepared m.counts) m.chains plan script.changed can planned_.there what changes (λ c p at. (whole.tied.stands.linked c p at, whole.tied.stands.links c p at));
   tells =
       ap (λ (ms : List Micro). tells_all (notifiers_at m.chains) ms scripted.course.notified) steps
       ∙ ap (λ (ns : List Notified). tells_all (notifiers_at m.chains) (steps_for m.tree (is_prepared m.counts) m.chains plan script.changed) ns) made.notified
@@ -291,11 +270,12 @@ can_scripted m d what plan script (readied.Change scripted) whole changes planne
   links =
       ap (λ (ds : Description). list_all (can_link ds m.tree.clocks) scripted.steps.items) (sym whole.tied.defs) ∙ ap (λ (ms : List Micro). list_all (can_link m.tree.defs m.tree.clocks) ms) steps
       ∙ links_made m.tree (is_prepared m.counts) m.chains plan script.changed can planned_.there (linked_rows m whole);
-  weight = made.weight ∙ plain_weight m (sets_parent what) plan script planned_ can whole.tied.defs ∙ ap (weight_along m) (sym made.steps);
+  lone = λ unset. made.extra ∙ lone_extra m (sets_parent what) plan script planned_ unset;
+  weight = made.weight ∙ plain_weight m (sets_parent what) plan script planned_ whole.tied.defs ∙ ap (λ (ms : List Micro). weight_along m ms + script.extra) (sym made.steps) ∙ ap (λ (x : ℕ). weight_along m scripted.steps.items + x) (sym made.extra);
   room = let same = made.weight in let room = planned_.room in omega arith;
 } where
-  can : can_go_along plan.set_parent m.tree.defs m.tree.clocks (is_prepared m.counts) plan.chain ≡ true
-  can = ap (λ (ds : Description). can_go_along plan.set_parent ds m.tree.clocks (is_prepared m.counts) plan.chain) whole.tied.defs ∙ made.moves
+  can : can_go_along plan.set_parent m.tree.defs m.tree.clocks plan.chain ≡ true
+  can = ap (λ (ds : Description). can_go_along plan.set_parent ds m.tree.clocks plan.chain) whole.tied.defs ∙ made.moves
 
   steps : scripted.steps.items ≡ steps_for m.tree (is_prepared m.counts) m.chains plan script.changed
   steps = made.steps ∙ planned_.made.steps
@@ -330,11 +310,12 @@ unranged_made s _ row e = refl
 
 -- what is left to come of a change that goes on so
 pub along_left : (old new : Parts) (d : ℕ) (what : Sleeping) (scripted : Scripted) (range : Option (ℕ × ℕ)) → CanGoAlong old d what scripted
-    → StartsChange old d what scripted.steps.items scripted.course range scripted.vetoed new → steps_left new ≡ scripted.weight
-along_left old new d what scripted range can starts_ = starts_.left ∙ weighs_rows old.chains (plls old.desc.defs) scripted.steps.items ∙ sym can.weight
+    → StartsChange old (start_of d what range scripted) scripted.course new → steps_left new ≡ scripted.weight
+along_left old new d what scripted range can starts_ =
+    starts_.left ∙ ap (λ (n : ℕ). n + scripted.extra) (weighs_rows old.chains (plls old.desc.defs) scripted.steps.items) ∙ sym can.weight
 
 pub room_to_start : (old : Parts) (d : ℕ) (what : Sleeping) (scripted : Scripted) → CanGoAlong old d what scripted
-    → old.credits + old.steps + sum_by (flights.step_weight (rows_from 0 old.chains) (plls old.desc.defs)) scripted.steps.items ≤ most_credits
+    → old.credits + old.steps + sum_by (flights.step_weight (rows_from 0 old.chains) (plls old.desc.defs)) scripted.steps.items + scripted.extra ≤ most_credits
 room_to_start old d what scripted can =
     let same = weighs_rows old.chains (plls old.desc.defs) scripted.steps.items in
     let weight_ = can.weight in
@@ -343,7 +324,7 @@ room_to_start old d what scripted can =
 
 -- one that sets no range takes the parts on
 pub enters_along : (old new : Parts) (d : ℕ) (what : Sleeping) (scripted : Scripted) → old.spent < old.credits → changes_rate what ≡ true → is_ranged what ≡ false → CanGoAlong old d what scripted
-    → IsReady old d what (readied.Change scripted) → StartsChange old d what scripted.steps.items scripted.course None scripted.vetoed new → Enters old d (event.Begin what) turn.Going new
+    → IsReady old d what (readied.Change scripted) → StartsChange old (start_of d what None scripted) scripted.course new → Enters old d (event.Begin what) turn.Going new
 enters_along old new d what scripted left changes unranged can ready starts_ = record {
   remains = starts_.remains;
   pays = starts_.spent;
@@ -363,14 +344,14 @@ enters_along old new d what scripted left changes unranged can ready starts_ = r
             goes.next_ ∙ ap (λ (u : State). paid s (record u { change = Some goes.change }, turn.Going)) (unranged_made s what goes.row unranged)
             ∙ paid-still s (record s { change = Some goes.change }) turn.Going spends (λ c. refl);
         stands = starts_.stands s goes.change stands
-            (subst (λ (range : Option (ℕ × ℕ)). BeginsAlong d what scripted.steps.items scripted.course range scripted.vetoed goes.change) (unranged_range what goes.row unranged) goes.begins);
+            (subst (λ (range : Option (ℕ × ℕ)). BeginsAlong s.notifiers (start_of d what range scripted) scripted.course goes.change) (unranged_range what goes.row unranged) goes.begins);
       };
 }
 
 -- and so does one that gives a handle another range
 pub enters_within : (old between new : Parts) (d : ℕ) (h : Handle) (least most : ℕ) (row : HandleRow) (scripted : Scripted) → old.spent < old.credits → own_in old.table.handles d h.number ≡ Some row
     → handle_at old.table.handles h.number ≡ Some row → CanGoAlong old d (call.SetRange h least most) scripted → IsReady old d (call.SetRange h least most) (readied.Change scripted)
-    → StartsChange old d (call.SetRange h least most) scripted.steps.items scripted.course (Some (row.min, row.max)) scripted.vetoed between → new ≡ with_range between h.number least most
+    → StartsChange old (start_of d (call.SetRange h least most) (Some (row.min, row.max)) scripted) scripted.course between → new ≡ with_range between h.number least most
     → Enters old d (event.Begin (call.SetRange h least most)) turn.Going new
 enters_within old between new d h least most row scripted left own live can ready starts_ is = subst (λ (m : Parts). Enters old d (event.Begin what) turn.Going m) (sym is) (record {
   remains = record {
@@ -401,7 +382,7 @@ enters_within old between new d h least most row scripted left own live can read
             (λ c. active-put_same s h.number row (ranged row least most) c (live_in old s h.number row stands live) refl refl);
         stands = stands_ranged between (record s { change = Some goes.change; spent = s.spent + 1 }) h.number least most row
             (starts_.stands s goes.change stands
-            (subst (λ (r : HandleRow). BeginsAlong d what scripted.steps.items scripted.course (range_before what r) scripted.vetoed goes.change) same goes.begins))
+            (subst (λ (r : HandleRow). BeginsAlong s.notifiers (start_of d what (range_before what r) scripted) scripted.course goes.change) same goes.begins))
             (ap (λ (t : HandleTable). handle_at t.handles h.number) starts_.table ∙ live);
       };
 }) where

@@ -4,7 +4,7 @@ use Rattle.std.proofs.Math.Path.{fun_ext}
 use Rattle.std.specs.Prelude.{sum_by, slice_index, slice_get, is_none, is_some, flat_map, length, nat_lt, if◌then◌else◌}
 use Rattle.std.specs.List.{AllByRecursion, list_all, list_any, position_or_len}
 use Rattle.std.specs.Option.{option_map_or}
-use Rattle.std.proofs.lemmas.Bool.{and_from, not-true}
+use Rattle.std.proofs.lemmas.Bool.{and_from}
 use Rattle.std.proofs.lemmas.Bool.Decides.{nat_tests}
 use Rattle.std.proofs.lemmas.List.Folds.{list_all-append, list_any-append}
 use Rattle.clk_base.specs.declared.call.Micro.{Micro}
@@ -54,46 +54,37 @@ all_mapped P f (x ∷ xs) each = all_both P (f x) (flat_map f xs) (each x) (all_
 
 -- ---- the moves of a chain
 
--- a clock that moves has a link, and its new parent is a candidate; by a change of parent it isn't prepared
-record IsMoved (sets : Bool) (defs : Description) (clocks : List ClockRow) (prepared : ℕ → Bool) (c p : ℕ) : Type 0 where
+-- a clock that moves has a link, and its new parent is a candidate
+record IsMoved (defs : Description) (clocks : List ClockRow) (c p : ℕ) : Type 0 where
   from : ℕ
   link : link_in clocks c ≡ Some from
   candidate : is_candidate defs clocks c p ≡ true
-  unheld : (sets && prepared c) ≡ false
 
 -- a step that can be made and moves its clock moves it so
-moved_so : (sets : Bool) (defs : Description) (clocks : List ClockRow) (prepared : ℕ → Bool) (c p : ℕ) → can_get sets defs clocks prepared c p ≡ true → not (same_place (Some p) (link_in clocks c)) ≡ true
-    → IsMoved sets defs clocks prepared c p
-moved_so sets defs clocks prepared c p can moving = by (link_in clocks c) refl where
+moved_so : (defs : Description) (clocks : List ClockRow) (c p : ℕ) → can_get defs clocks c p ≡ true → not (same_place (Some p) (link_in clocks c)) ≡ true → IsMoved defs clocks c p
+moved_so defs clocks c p can moving = by (link_in clocks c) refl where
   other : (x : ℕ) → link_in clocks c ≡ Some x → x ≡ p → ⊥
   other x at same =
       let no : false ≡ true =
       sym (ap (λ (u : Option ℕ). not (same_place (Some p) u)) at ∙ ap (λ (y : ℕ). not (nat_eq p y)) same ∙ ap not (test_same p)) ∙ moving in
       cc
 
-  by : (o : Option ℕ) → link_in clocks c ≡ o → IsMoved sets defs clocks prepared c p
-  by None at =
-      let no : false ≡ true = sym (ap (λ (u : Option ℕ). option_map_or (λ x. nat_eq x p || (is_candidate defs clocks c p && not (sets && prepared c))) u false) at) ∙ can in absurd cc
+  by : (o : Option ℕ) → link_in clocks c ≡ o → IsMoved defs clocks c p
+  by None at = let no : false ≡ true = sym (ap (λ (u : Option ℕ). option_map_or (λ x. nat_eq x p || is_candidate defs clocks c p) u false) at) ∙ can in absurd cc
   by (Some x) at =
-      let here : (nat_eq x p || (is_candidate defs clocks c p && not (sets && prepared c))) ≡ true =
-      sym (ap (λ (u : Option ℕ). option_map_or (λ x. nat_eq x p || (is_candidate defs clocks c p && not (sets && prepared c))) u false) at) ∙ can in
-      elim (or_cases (nat_eq x p) (is_candidate defs clocks c p && not (sets && prepared c)) here) [
+      let here : (nat_eq x p || is_candidate defs clocks c p) ≡ true = sym (ap (λ (u : Option ℕ). option_map_or (λ x. nat_eq x p || is_candidate defs clocks c p) u false) at) ∙ can in
+      elim (or_cases (nat_eq x p) (is_candidate defs clocks c p) here) [
         | inl same ↦ absurd (other x at (same_from_test x p same))
-        | inr both ↦ record {
-          from = x;
-          link = at;
-          candidate = both_left (is_candidate defs clocks c p) (not (sets && prepared c)) both;
-          unheld = not-true (sets && prepared c) (both_right (is_candidate defs clocks c p) (not (sets && prepared c)) both);
-        }
+        | inr may ↦ record { from = x; link = at; candidate = may }
       ]
 
 module _ (P : Micro → Bool) (sets : Bool) (defs : Description) (clocks : List ClockRow) (prepared : ℕ → Bool)
-    (each : (c p : ℕ) → IsMoved sets defs clocks prepared c p → list_all P (move defs clocks prepared c p) ≡ true) where
+    (each : (c p : ℕ) → IsMoved defs clocks c p → list_all P (move defs clocks prepared c p) ≡ true) where
   -- the move of a clock by one step
   abbrev by_step : ℕ → ChainStep → List Micro
   by_step c k = option_map_or (move defs clocks prepared c) k.parent []
 
-  step_all : (c : ℕ) (k : ChainStep) → (nat_eq k.clock c && moves clocks k) ≡ true → can_go sets defs clocks prepared k ≡ true → list_all P (by_step c k) ≡ true
+  step_all : (c : ℕ) (k : ChainStep) → (nat_eq k.clock c && moves clocks k) ≡ true → can_go sets defs clocks k ≡ true → list_all P (by_step c k) ≡ true
   step_all c k here can = by k.parent refl where
     same : k.clock ≡ c
     same = same_from_test k.clock c (both_left (nat_eq k.clock c) (moves clocks k) here)
@@ -101,22 +92,22 @@ module _ (P : Micro → Bool) (sets : Bool) (defs : Description) (clocks : List 
     by : (o : Option ℕ) → k.parent ≡ o → list_all P (option_map_or (move defs clocks prepared c) o []) ≡ true
     by None at = refl
     by (Some p) at =
-        each c p (moved_so sets defs clocks prepared c p
-        (ap (λ (x : ℕ). can_get sets defs clocks prepared x p) (sym same) ∙ sym (ap (λ (o : Option ℕ). option_map_or (can_get sets defs clocks prepared k.clock) o (not sets)) at) ∙ can)
+        each c p (moved_so defs clocks c p
+        (ap (λ (x : ℕ). can_get defs clocks x p) (sym same) ∙ sym (ap (λ (o : Option ℕ). option_map_or (can_get defs clocks k.clock) o (not sets)) at) ∙ can)
         (ap (λ (x : ℕ). not (same_place (Some p) (link_in clocks x))) (sym same) ∙ ap (λ (o : Option ℕ). not (same_place o (link_in clocks k.clock))) (sym at) ∙ both_right (nat_eq k.clock c) (moves clocks k) here))
 
-  moves_all : (c : ℕ) (ks : List ChainStep) → can_go_along sets defs clocks prepared ks ≡ true → list_all P (move_of defs clocks prepared ks c) ≡ true
+  moves_all : (c : ℕ) (ks : List ChainStep) → can_go_along sets defs clocks ks ≡ true → list_all P (move_of defs clocks prepared ks c) ≡ true
   moves_all c [] all = refl
   moves_all c (k ∷ ks) all =
-      by (nat_eq k.clock c && moves clocks k) refl (moves_all c ks (both_right (can_go sets defs clocks prepared k) (can_go_along sets defs clocks prepared ks) all)) where
+      by (nat_eq k.clock c && moves clocks k) refl (moves_all c ks (both_right (can_go sets defs clocks k) (can_go_along sets defs clocks ks) all)) where
         rest : List ChainStep
         rest = filter (λ k. nat_eq k.clock c && moves clocks k) ks
 
         by : (t : Bool) → (nat_eq k.clock c && moves clocks k) ≡ t → list_all P (flat_map (by_step c) rest) ≡ true → list_all P (flat_map (by_step c) (cond t (k ∷ rest) rest)) ≡ true
-        by true here more = all_both P (by_step c k) (flat_map (by_step c) rest) (step_all c k here (both_left (can_go sets defs clocks prepared k) (can_go_along sets defs clocks prepared ks) all)) more
+        by true here more = all_both P (by_step c k) (flat_map (by_step c) rest) (step_all c k here (both_left (can_go sets defs clocks k) (can_go_along sets defs clocks ks) all)) more
         by false here more = more
 
-  visits_all : (ks : List ChainStep) (rates : List ClockRate) → can_go_along sets defs clocks prepared ks ≡ true → AllByRecursion (λ r. P (micro.Visit (clock_id r.clock)) ≡ true) rates
+  visits_all : (ks : List ChainStep) (rates : List ClockRate) → can_go_along sets defs clocks ks ≡ true → AllByRecursion (λ r. P (micro.Visit (clock_id r.clock)) ≡ true) rates
       → list_all P (visits defs clocks prepared ks rates) ≡ true
   visits_all ks [] all seen = refl
   visits_all ks (r ∷ rates) all seen =
@@ -158,13 +149,13 @@ body_of t prepared lists plan changed = notices_before lists changed ++ behind_n
 -- what each kind of its steps passes
 record Passes (P : Micro → Bool) (t : TreeState) (prepared : ℕ → Bool) (plan : Plan) : Type 0 where
   tells : (kind : Notice) (c : ClockId) (id old new : ℕ) → P (micro.Notify kind c id old new) ≡ true
-  moved : (c p : ℕ) → IsMoved plan.set_parent t.defs t.clocks prepared c p → list_all P (move t.defs t.clocks prepared c p) ≡ true
+  moved : (c p : ℕ) → IsMoved t.defs t.clocks c p → list_all P (move t.defs t.clocks prepared c p) ≡ true
   seen : AllByRecursion (λ r. P (micro.Visit (clock_id r.clock)) ≡ true) plan.rates
   settled : list_all P (settles plan.set_parent plan.chain) ≡ true
 
 -- all of them pass
 body_all : (P : Micro → Bool) (t : TreeState) (prepared : ℕ → Bool) (lists : List (List Notifier)) (plan : Plan) (changed : List Changed)
-    → can_go_along plan.set_parent t.defs t.clocks prepared plan.chain ≡ true → Passes P t prepared plan → list_all P (body_of t prepared lists plan changed) ≡ true
+    → can_go_along plan.set_parent t.defs t.clocks plan.chain ≡ true → Passes P t prepared plan → list_all P (body_of t prepared lists plan changed) ≡ true
 body_all P t prepared lists plan changed all passes =
     all_both P (notices_before lists changed) (behind_notices t prepared lists plan changed (list_any is_veto (notices_before lists changed)))
     (all_mapped P (λ x. tellings.tell_before x (tellings.notifiers_at lists x)) changed (λ x. before_all P passes.tells x (tellings.notifiers_at lists x)))
@@ -224,23 +215,23 @@ all_eight a b c d e f g h one two three four five six seven eight =
 
 -- a move links a clock and selects its parent, and holds them meanwhile where the clock is prepared
 move_all : (P : Micro → Bool) (defs : Description) (clocks : List ClockRow) (prepared : ℕ → Bool) (c p : ℕ) → P (micro.Relink (clock_id c) (clock_id p)) ≡ true → P (micro.WriteMux (clock_id c) (place_of defs c p)) ≡ true
-    → (prepared c ≡ true → HeldPass P clocks c p) → list_all P (move defs clocks prepared c p) ≡ true
-move_all P defs clocks prepared c p links selects held = by (prepared c) refl where
+    → HeldPass P clocks c p → list_all P (move defs clocks prepared c p) ≡ true
+move_all P defs clocks prepared c p links selects pass = by (prepared c) where
   let_go : (l : Option ℕ) → ((o : ℕ) → l ≡ Some o → list_all P (drops_of o) ≡ true) → list_all P (option_map_or drops_of l []) ≡ true
   let_go None each = refl
   let_go (Some o) each = each o refl
 
-  whole : HeldPass P clocks c p → list_all P (micro.Raise (clock_id p) ∷ micro.HoldPrepare (clock_id p) ∷ micro.HoldEnable (clock_id p) ∷ micro.HoldEnable (clock_id c)
+  whole : list_all P (micro.Raise (clock_id p) ∷ micro.HoldPrepare (clock_id p) ∷ micro.HoldEnable (clock_id p) ∷ micro.HoldEnable (clock_id c)
       ∷ micro.Relink (clock_id c) (clock_id p) ∷ micro.WriteMux (clock_id c) (place_of defs c p) ∷ micro.DropEnable (clock_id c) ∷ option_map_or drops_of (link_in clocks c) []) ≡ true
-  whole pass = all_eight _ _ _ _ _ _ _ _ pass.raises pass.prepares pass.enables pass.own links selects pass.drops (let_go (link_in clocks c) pass.old)
+  whole = all_eight _ _ _ _ _ _ _ _ pass.raises pass.prepares pass.enables pass.own links selects pass.drops (let_go (link_in clocks c) pass.old)
 
-  by : (t : Bool) → prepared c ≡ t
+  by : (t : Bool)
       → list_all P (if t
       then micro.Raise (clock_id p) ∷ micro.HoldPrepare (clock_id p) ∷ micro.HoldEnable (clock_id p) ∷ micro.HoldEnable (clock_id c)
       ∷ micro.Relink (clock_id c) (clock_id p) ∷ micro.WriteMux (clock_id c) (place_of defs c p) ∷ micro.DropEnable (clock_id c) ∷ option_map_or drops_of (link_in clocks c) []
       else micro.Relink (clock_id c) (clock_id p) ∷ micro.WriteMux (clock_id c) (place_of defs c p) ∷ []) ≡ true
-  by true is = whole (held is)
-  by false is = and_from (P (micro.Relink (clock_id c) (clock_id p))) (P (micro.WriteMux (clock_id c) (place_of defs c p)) && true) links (ap (λ (b : Bool). b && true) selects)
+  by true = whole
+  by false = and_from (P (micro.Relink (clock_id c) (clock_id p))) (P (micro.WriteMux (clock_id c) (place_of defs c p)) && true) links (ap (λ (b : Bool). b && true) selects)
 
 -- what a change of parent settles passes where its clock does
 settles_all : (P : Micro → Bool) (sets : Bool) (ks : List ChainStep) → ((k : ChainStep) (ls : List ChainStep) → sets ≡ true → ks ≡ k ∷ ls → P (micro.Settle (clock_id k.clock)) ≡ true) → list_all P (settles sets ks) ≡ true
@@ -311,13 +302,13 @@ visit_told count before r rates rest more = by (nat_eq (count r.clock) 0) more w
 
 -- ---- the script of a plan whose moves can be made
 
-module _ (t : TreeState) (prepared : ℕ → Bool) (lists : List (List Notifier)) (plan : Plan) (changed : List Changed) (can : can_go_along plan.set_parent t.defs t.clocks prepared plan.chain ≡ true)
+module _ (t : TreeState) (prepared : ℕ → Bool) (lists : List (List Notifier)) (plan : Plan) (changed : List Changed) (can : can_go_along plan.set_parent t.defs t.clocks plan.chain ≡ true)
     (there : AllByRecursion (λ r. registered t.clocks r.clock ≡ true) plan.rates) where
   -- what a call may make of a move
-  moved_may : (what : Sleeping) → changes_rate what ≡ true → (plan.set_parent ≡ false → asks_rate what ≡ true) → ((c p : ℕ) → link_in t.clocks c ≡ Some p → (registered t.clocks c ≡ true) × (registered t.clocks p ≡ true))
-      → (c p : ℕ) → IsMoved plan.set_parent t.defs t.clocks prepared c p → prepared c ≡ true → HeldPass (may_make what (registered t.clocks)) t.clocks c p
-  moved_may what changes asks linked c p is held = record {
-    raises = and_from (is_prepare what || asks_rate what) (registered t.clocks p) (or_right (is_prepare what) (asks_rate what) (asks (unset plan.set_parent (prepared c) held is.unheld))) new;
+  moved_may : (what : Sleeping) → changes_rate what ≡ true → ((c p : ℕ) → link_in t.clocks c ≡ Some p → (registered t.clocks c ≡ true) × (registered t.clocks p ≡ true))
+      → (c p : ℕ) → IsMoved t.defs t.clocks c p → HeldPass (may_make what (registered t.clocks)) t.clocks c p
+  moved_may what changes linked c p is = record {
+    raises = and_from (is_prepare what || changes_rate what) (registered t.clocks p) (or_right (is_prepare what) (changes_rate what) changes) new;
     prepares = and_from (changes_rate what) (registered t.clocks p) changes new;
     enables = and_from (changes_rate what) (registered t.clocks p) changes new;
     own = and_from (changes_rate what) (registered t.clocks c) changes own_;
@@ -334,33 +325,28 @@ module _ (t : TreeState) (prepared : ℕ → Bool) (lists : List (List Notifier)
     new : registered t.clocks p ≡ true
     new = both_left (registered t.clocks p) _ (both_right (is_some (mux_field (kind_of t.defs c)) && is_in p (parents_of t.defs c)) (rooted t.defs t.clocks p) is.candidate)
 
-    unset : (a b : Bool) → b ≡ true → (a && b) ≡ false → a ≡ false
-    unset true true e f = absurd cc
-    unset true false e f = absurd cc
-    unset false b e f = refl
-
   -- it is a script of the call
-  visits_script : (what : Sleeping) → changes_rate what ≡ true → (plan.set_parent ≡ false → asks_rate what ≡ true) → ((c p : ℕ) → link_in t.clocks c ≡ Some p → (registered t.clocks c ≡ true) × (registered t.clocks p ≡ true)) → (rates : List ClockRate) → AllByRecursion (λ r. registered t.clocks r.clock ≡ true) rates
+  visits_script : (what : Sleeping) → changes_rate what ≡ true → ((c p : ℕ) → link_in t.clocks c ≡ Some p → (registered t.clocks c ≡ true) × (registered t.clocks p ≡ true)) → (rates : List ClockRate) → AllByRecursion (λ r. registered t.clocks r.clock ≡ true) rates
       → is_script what (registered t.clocks) (visits t.defs t.clocks prepared plan.chain rates ++ (settles plan.set_parent plan.chain ++ micro.End ∷ [])) ≡ true
-  visits_script what changes asks linked [] all =
+  visits_script what changes linked [] all =
       script_calm what (registered t.clocks) (settles plan.set_parent plan.chain) (micro.End ∷ [])
       (settles_all (λ m. may_make what (registered t.clocks) m && not (is_raise m)) plan.set_parent plan.chain (λ k ls sets at. ap (λ (b : Bool). b && true) changes)) refl
-  visits_script what changes asks linked (r ∷ rates) all =
+  visits_script what changes linked (r ∷ rates) all =
       ap (is_script what (registered t.clocks))
       (append_assoc (moved ++ micro.Visit (clock_id r.clock) ∷ []) (visits t.defs t.clocks prepared plan.chain rates) rest_ ∙ append_assoc moved (micro.Visit (clock_id r.clock) ∷ []) (visits t.defs t.clocks prepared plan.chain rates ++ rest_))
       ∙ script_before what (registered t.clocks) moved (micro.Visit (clock_id r.clock) ∷ (visits t.defs t.clocks prepared plan.chain rates ++ rest_))
-      (moves_all (may_make what (registered t.clocks)) plan.set_parent t.defs t.clocks prepared (λ c p is. move_all (may_make what (registered t.clocks)) t.defs t.clocks prepared c p changes changes (moved_may what changes asks linked c p is)) r.clock plan.chain can)
+      (moves_all (may_make what (registered t.clocks)) plan.set_parent t.defs t.clocks prepared (λ c p is. move_all (may_make what (registered t.clocks)) t.defs t.clocks prepared c p changes changes (moved_may what changes linked c p is)) r.clock plan.chain can)
       refl
       (and_from (changes_rate what && registered t.clocks r.clock) (is_script what (registered t.clocks) (visits t.defs t.clocks prepared plan.chain rates ++ rest_))
-      (and_from (changes_rate what) (registered t.clocks r.clock) changes all.0) (visits_script what changes asks linked rates all.1)) where
+      (and_from (changes_rate what) (registered t.clocks r.clock) changes all.0) (visits_script what changes linked rates all.1)) where
         moved : List Micro
         moved = move_of t.defs t.clocks prepared plan.chain r.clock
 
         rest_ : List Micro
         rest_ = settles plan.set_parent plan.chain ++ micro.End ∷ []
 
-  pub script_made : (what : Sleeping) → changes_rate what ≡ true → (plan.set_parent ≡ false → asks_rate what ≡ true) → ((c p : ℕ) → link_in t.clocks c ≡ Some p → (registered t.clocks c ≡ true) × (registered t.clocks p ≡ true)) → is_script what (registered t.clocks) (steps_for t prepared lists plan changed) ≡ true
-  script_made what changes asks linked =
+  pub script_made : (what : Sleeping) → changes_rate what ≡ true → ((c p : ℕ) → link_in t.clocks c ≡ Some p → (registered t.clocks c ≡ true) × (registered t.clocks p ≡ true)) → is_script what (registered t.clocks) (steps_for t prepared lists plan changed) ≡ true
+  script_made what changes linked =
       ap (is_script what (registered t.clocks)) (append_assoc (notices_before lists changed) (behind_notices t prepared lists plan changed vetoed) (micro.End ∷ []))
       ∙ script_calm what (registered t.clocks) (notices_before lists changed) (behind_notices t prepared lists plan changed vetoed ++ micro.End ∷ [])
       (all_mapped calm (λ x. tellings.tell_before x (tellings.notifiers_at lists x)) changed (λ x. before_all calm (λ kind c id old new. ap (λ (b : Bool). b && true) changes) x (tellings.notifiers_at lists x)))
@@ -378,73 +364,51 @@ module _ (t : TreeState) (prepared : ℕ → Bool) (lists : List (List Notifier)
         by true = script_calm what (registered t.clocks) (notices_off lists changed) (micro.End ∷ []) off refl
         by false =
             ap (is_script what (registered t.clocks)) (append_assoc (visits t.defs t.clocks prepared plan.chain plan.rates) (settles plan.set_parent plan.chain) (micro.End ∷ []))
-            ∙ visits_script what changes asks linked plan.rates there
+            ∙ visits_script what changes linked plan.rates there
 
   -- the clock that settles is registered
   settled_there : (k : ChainStep) (ls : List ChainStep) → plan.set_parent ≡ true → plan.chain ≡ k ∷ ls → ((c p : ℕ) → link_in t.clocks c ≡ Some p → registered t.clocks c ≡ true) → registered t.clocks k.clock ≡ true
   settled_there k ls sets at linked = by k.parent refl where
-    first : can_go true t.defs t.clocks prepared k ≡ true
+    first : can_go true t.defs t.clocks k ≡ true
     first =
-        both_left (can_go true t.defs t.clocks prepared k) (can_go_along true t.defs t.clocks prepared ls)
-        (sym (ap (λ (b : Bool). can_go_along b t.defs t.clocks prepared plan.chain) sets ∙ ap (λ (ks : List ChainStep). can_go_along true t.defs t.clocks prepared ks) at) ∙ can)
+        both_left (can_go true t.defs t.clocks k) (can_go_along true t.defs t.clocks ls)
+        (sym (ap (λ (b : Bool). can_go_along b t.defs t.clocks plan.chain) sets ∙ ap (λ (ks : List ChainStep). can_go_along true t.defs t.clocks ks) at) ∙ can)
 
-    from : (p : ℕ) (o : Option ℕ) → link_in t.clocks k.clock ≡ o → option_map_or (λ x. nat_eq x p || (is_candidate t.defs t.clocks k.clock p && not (true && prepared k.clock))) o false ≡ true → registered t.clocks k.clock ≡ true
+    from : (p : ℕ) (o : Option ℕ) → link_in t.clocks k.clock ≡ o → option_map_or (λ x. nat_eq x p || is_candidate t.defs t.clocks k.clock p) o false ≡ true → registered t.clocks k.clock ≡ true
     from p None at' e = absurd cc
     from p (Some x) at' e = linked k.clock x at'
 
     by : (o : Option ℕ) → k.parent ≡ o → registered t.clocks k.clock ≡ true
-    by None at' = let no : false ≡ true = sym (ap (λ (o : Option ℕ). option_map_or (can_get true t.defs t.clocks prepared k.clock) o false) at') ∙ first in absurd cc
-    by (Some p) at' = from p (link_in t.clocks k.clock) refl (sym (ap (λ (o : Option ℕ). option_map_or (can_get true t.defs t.clocks prepared k.clock) o false) at') ∙ first)
+    by None at' = let no : false ≡ true = sym (ap (λ (o : Option ℕ). option_map_or (can_get t.defs t.clocks k.clock) o false) at') ∙ first in absurd cc
+    by (Some p) at' = from p (link_in t.clocks k.clock) refl (sym (ap (λ (o : Option ℕ). option_map_or (can_get t.defs t.clocks k.clock) o false) at') ∙ first)
 
   -- its links can be made
   pub links_made : ((c p : ℕ) → link_in t.clocks c ≡ Some p → registered t.clocks c ≡ true) → list_all (can_link t.defs t.clocks) (steps_for t prepared lists plan changed) ≡ true
   links_made linked = all_both (can_link t.defs t.clocks) (body_of t prepared lists plan changed) (micro.End ∷ []) (body_all (can_link t.defs t.clocks) t prepared lists plan changed can (record {
     tells = λ kind c id old new. refl;
-    moved = λ c p is. move_all (can_link t.defs t.clocks) t.defs t.clocks prepared c p (relinks c p is) (selects c p is) (λ held. record { raises = refl; prepares = refl; enables = refl; own = refl; drops = refl; old = λ o at. refl });
+    moved = λ c p is. move_all (can_link t.defs t.clocks) t.defs t.clocks prepared c p (relinks c p is) (selects c p is) (record { raises = refl; prepares = refl; enables = refl; own = refl; drops = refl; old = λ o at. refl });
     seen = each_there (λ c. true) (registered t.clocks) plan.rates (λ c here. refl) there;
     settled = settles_all (can_link t.defs t.clocks) plan.set_parent plan.chain (λ k ls sets at. settled_there k ls sets at linked);
   })) refl where
-    is_mux : (c p : ℕ) → IsMoved plan.set_parent t.defs t.clocks prepared c p → is_some (mux_field (kind_of t.defs c)) ≡ true
+    is_mux : (c p : ℕ) → IsMoved t.defs t.clocks c p → is_some (mux_field (kind_of t.defs c)) ≡ true
     is_mux c p is = both_left (is_some (mux_field (kind_of t.defs c))) (is_in p (parents_of t.defs c)) (both_left (is_some (mux_field (kind_of t.defs c)) && is_in p (parents_of t.defs c)) (rooted t.defs t.clocks p) is.candidate)
 
-    is_possible : (c p : ℕ) → IsMoved plan.set_parent t.defs t.clocks prepared c p → is_in p (parents_of t.defs c) ≡ true
+    is_possible : (c p : ℕ) → IsMoved t.defs t.clocks c p → is_in p (parents_of t.defs c) ≡ true
     is_possible c p is = both_right (is_some (mux_field (kind_of t.defs c))) (is_in p (parents_of t.defs c)) (both_left (is_some (mux_field (kind_of t.defs c)) && is_in p (parents_of t.defs c)) (rooted t.defs t.clocks p) is.candidate)
 
-    is_there : (c p : ℕ) → IsMoved plan.set_parent t.defs t.clocks prepared c p → registered t.clocks p ≡ true
+    is_there : (c p : ℕ) → IsMoved t.defs t.clocks c p → registered t.clocks p ≡ true
     is_there c p is = both_left (registered t.clocks p) _ (both_right (is_some (mux_field (kind_of t.defs c)) && is_in p (parents_of t.defs c)) (rooted t.defs t.clocks p) is.candidate)
 
-    has_link : (c p : ℕ) → IsMoved plan.set_parent t.defs t.clocks prepared c p → is_some (link_in t.clocks c) ≡ true
+    has_link : (c p : ℕ) → IsMoved t.defs t.clocks c p → is_some (link_in t.clocks c) ≡ true
     has_link c p is = ap (λ (o : Option ℕ). is_some o) is.link
 
-    relinks : (c p : ℕ) → IsMoved plan.set_parent t.defs t.clocks prepared c p → can_link t.defs t.clocks (micro.Relink (clock_id c) (clock_id p)) ≡ true
+    relinks : (c p : ℕ) → IsMoved t.defs t.clocks c p → can_link t.defs t.clocks (micro.Relink (clock_id c) (clock_id p)) ≡ true
     relinks c p is = all_four (is_some (mux_field (kind_of t.defs c))) (is_some (link_in t.clocks c)) (registered t.clocks p) (is_in p (parents_of t.defs c)) (is_mux c p is) (has_link c p is) (is_there c p is) (is_possible c p is)
 
-    selects : (c p : ℕ) → IsMoved plan.set_parent t.defs t.clocks prepared c p → can_link t.defs t.clocks (micro.WriteMux (clock_id c) (place_of t.defs c p)) ≡ true
+    selects : (c p : ℕ) → IsMoved t.defs t.clocks c p → can_link t.defs t.clocks (micro.WriteMux (clock_id c) (place_of t.defs c p)) ≡ true
     selects c p is =
         all_three (is_some (mux_field (kind_of t.defs c))) (is_some (link_in t.clocks c)) (nat_lt (place_of t.defs c p) (length (parents_of t.defs c))) (is_mux c p is) (has_link c p is)
         (place_below p (parents_of t.defs c) (is_possible c p is))
-
-  -- no step of a change of parent raises
-  pub raises_none : plan.set_parent ≡ true → list_any is_raise (steps_for t prepared lists plan changed) ≡ false
-  raises_none sets = none_raised (steps_for t prepared lists plan changed) (all_both still_ (body_of t prepared lists plan changed) (micro.End ∷ []) (body_all still_ t prepared lists plan changed can (record {
-    tells = λ kind c id old new. refl;
-    moved = λ c p is. move_all still_ t.defs t.clocks prepared c p refl refl (λ held. absurd (never plan.set_parent (prepared c) sets held is.unheld));
-    seen = each_there (λ c. true) (registered t.clocks) plan.rates (λ c here. refl) there;
-    settled = settles_all still_ plan.set_parent plan.chain (λ k ls sets at. refl);
-  })) refl) where
-    never : (a b : Bool) → a ≡ true → b ≡ true → (a && b) ≡ false → ⊥
-    never true true e f g = cc
-    never true false e f g = cc
-    never false b e f g = cc
-
-    still_ : Micro → Bool
-    still_ m = not (is_raise m)
-
-    none_raised : (ms : List Micro) → list_all (λ m. not (is_raise m)) ms ≡ true → list_any is_raise ms ≡ false
-    none_raised [] all = refl
-    none_raised (m ∷ ms) all =
-        ap (λ (b : Bool). b || list_any is_raise ms) (not-true (is_raise m) (both_left (not (is_raise m)) (list_all (λ m. not (is_raise m)) ms) all))
-        ∙ none_raised ms (both_right (not (is_raise m)) (list_all (λ m. not (is_raise m)) ms) all)
 
   -- the clocks that it visits are told
   visits_told : (count : ℕ → ℕ) (before : List ℕ) (rates : List ClockRate)
@@ -455,7 +419,7 @@ module _ (t : TreeState) (prepared : ℕ → Bool) (lists : List (List Notifier)
       ap (λ (ms : List Micro). tells_all count ms (told_clocks count before (r ∷ rates)))
       (append_assoc (moved ++ micro.Visit (clock_id r.clock) ∷ []) (visits t.defs t.clocks prepared plan.chain rates) rest_ ∙ append_assoc moved (micro.Visit (clock_id r.clock) ∷ []) (visits t.defs t.clocks prepared plan.chain rates ++ rest_))
       ∙ unseen_first count moved (micro.Visit (clock_id r.clock) ∷ (visits t.defs t.clocks prepared plan.chain rates ++ rest_)) (told_clocks count before (r ∷ rates))
-      (moves_all unseen plan.set_parent t.defs t.clocks prepared (λ c p is. move_all unseen t.defs t.clocks prepared c p refl refl (λ held. record { raises = refl; prepares = refl; enables = refl; own = refl; drops = refl; old = λ o at. refl })) r.clock plan.chain can)
+      (moves_all unseen plan.set_parent t.defs t.clocks prepared (λ c p is. move_all unseen t.defs t.clocks prepared c p refl refl (record { raises = refl; prepares = refl; enables = refl; own = refl; drops = refl; old = λ o at. refl })) r.clock plan.chain can)
       ∙ visit_told count before r rates (visits t.defs t.clocks prepared plan.chain rates ++ rest_) (visits_told count before rates) where
         moved : List Micro
         moved = move_of t.defs t.clocks prepared plan.chain r.clock

@@ -231,7 +231,7 @@ started_way old d what steps flight' there now goes script = record {
   front = ap (is_front flight'.call there) now.front;
   cut = ap (cuts_front flight'.call flight'.left) now.front;
   raised = ap (λ (ys : List ℕ). list_all there ys) now.raised;
-  extra = now.extra;
+  extra = λ other. now.extra;
   vetoed = λ is. let no : true ≡ false = sym is ∙ now.vetoed in absurd cc;
 }
 

@@ -11,13 +11,13 @@ use Rattle.clk_base.specs.declared.event.Event.TheVariants as event
 use Rattle.clk_base.specs.declared.event.Turn.TheVariants as turn
 use Rattle.clk_model.specs.State.{NotifierRow, registered}
 use Rattle.clk_model.specs.Notices.{notifiers_of, by_priority, sorted}
-use Rattle.clk_model.specs.Step.{taken, is_end, rest_of}
+use Rattle.clk_model.specs.Step.{taken, is_end, rest_of, sets_parent}
 use Rattle.clk_model.specs.Laws.Paced.{is_notice}
-use Rattle.clk_model.proofs.Members.{both_right, same_from_test, test_same}
+use Rattle.clk_model.proofs.Members.{both_right, or_right, same_from_test, test_same}
 use Rattle.clk_flight.specs.declared.front.Front.{Front}
 use Rattle.clk_flight.specs.declared.front.Front.TheVariants.{Empty, Poll, Raise, Lower, Falls, Posts}
 use Rattle.clk_flight.specs.Flights.{FlightState, first_step, comes_next}
-use Rattle.clk_flight.specs.Fronts.{post_to, falls, aborts_behind, front_behind, script_behind}
+use Rattle.clk_flight.specs.Fronts.{post_to, aborts_behind, front_behind, script_behind}
 use Rattle.clk_flight.specs.Moves.{gone_on}
 use Rattle.clk_flight.specs.Steps.{GoesOn, LeavesLessAt, is_taken}
 use Rattle.notifiers.specs.declared.notifier.Notifier.{Notifier}
@@ -184,11 +184,24 @@ behind_front f there (Poll y polls (Some x)) is = again_there (may_raise f.call)
   again_there true false c e = absurd cc
   again_there false b c e = absurd cc
 behind_front f there (Falls told left) is = by f.raised where
-  none : left ≡ 0
-  none = same_from_test left 0 (both_right (may_raise f.call) (nat_eq left 0) is)
+  -- a notice fewer is left
+  fewer : (a t : Bool) (n : ℕ) → (a && (nat_eq n 0 || t)) ≡ true → (a && (nat_eq (n - 1) 0 || t)) ≡ true
+  fewer true true n e = or_right (nat_eq (n - 1) 0) true refl
+  fewer true false n e = still n (either (nat_eq n 0) e) where
+    either : (b : Bool) → (b || false) ≡ true → b ≡ true
+    either true e = refl
+    either false e = absurd cc
+
+    still : (k : ℕ) → nat_eq k 0 ≡ true → (nat_eq (k - 1) 0 || false) ≡ true
+    still k e = ap (λ (x : ℕ). nat_eq (x - 1) 0 || false) (same_from_test k 0 e)
+  fewer false t n e = absurd cc
+
+  after : (t : Bool) → is_front f.call there (if t then Empty else Falls (told + 1) (left - 1)) ≡ true
+  after true = refl
+  after false = fewer (may_raise f.call) (sets_parent f.call) left is
 
   by : (raised : List ℕ) → is_front f.call there (aborts_behind raised told left) ≡ true
-  by [] = ap (λ (n : ℕ). is_front f.call there (falls [] (told + 1) (n - 1))) none
+  by [] = after (nat_eq (left - 1) 0)
   by (y ∷ ys) = is
 behind_front f there (Posts c told left old new) is = by (nat_eq (left - 1) 0) where
   by : (t : Bool) → is_front f.call there (if t then Empty else Posts c (told + 1) (left - 1) old new) ≡ true

@@ -100,7 +100,7 @@ works p r (work.Settle c) whole going is step own first =
 works p r work.End whole going is step own first = λ rows k tells change.
     let way = (whole.flown going).way in
     let same = step rows tells in
-    sym (first rows k tells change) ∙ same ∙ end_comes rows p.flight (registered p.tree.clocks) going change.steps (posts_fit p rows whole going tells) way (ap work_of (sym same) ∙ sym is)
+    sym (first rows k tells change) ∙ same ∙ end_comes rows p.flight (registered p.tree.clocks) k going change (posts_fit p rows whole going tells) way (ap work_of (sym same) ∙ sym is)
 
 -- ---- a search
 

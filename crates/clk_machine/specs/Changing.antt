@@ -1,11 +1,11 @@
--- A change of rate that goes on.
-use Rattle.std.specs.Prelude.{◌≡◌, ℕ, ◌+◌, ◌==◌, List, [], Bool, true, false, not, Option, Some, map, filter, sum_by, slice_index}
+-- A change of rate or parent that goes on.
+use Rattle.std.specs.Prelude.{◌≡◌, ℕ, ◌+◌, ◌==◌, List, true, not, Some, map, filter, sum_by, slice_index}
 use Rattle.std.specs.List.{AllByRecursion}
-use Rattle.clk_base.specs.declared.call.Micro.{Micro}
-use Rattle.clk_base.specs.declared.call.Sleeping.{Sleeping}
 use Rattle.clk_model.specs.Chain.{clock_id}
 use Rattle.clk_model.specs.Script.{plls}
-use Rattle.clk_model.specs.State.{State, Change, registered}
+use Rattle.clk_model.specs.State.{State, Change, NotifierRow, registered}
+use Rattle.clk_flight.specs.declared.start.Start.{Start}
+use Rattle.clk_flight.specs.Begun.{StartsAs}
 use Rattle.clk_flight.specs.LeftOver.{step_weight}
 use Rattle.clk_tree.specs.Plans.{ClockRate}
 use Rattle.clk_machine.specs.declared.course.Notified.{Notified}
@@ -13,33 +13,22 @@ use Rattle.clk_machine.specs.Course.{CourseState}
 use Rattle.clk_machine.specs.Parts.{Parts, rows_from, steps_left}
 use Rattle.clk_machine.specs.Stands.{Stands, Remains}
 
--- a change begins with this driver, call and script, along this course; the handle had this range where the call sets one, and a notice
--- of the script is a veto or none is
-pub record BeginsAlong (driver : ℕ) (what : Sleeping) (steps : List Micro) (course : CourseState) (range : Option (ℕ × ℕ)) (vetoed : Bool) (k : Change) : Type 0 where
-  pub driver_ : k.driver ≡ driver
-  pub call : k.call ≡ what
-  pub front : k.front ≡ []
-  pub left : k.left ≡ steps
-  pub polls : k.polls ≡ 0
-  pub again : k.again ≡ 0
-  pub raised : k.raised ≡ []
-  pub range_ : k.range ≡ range
-  pub extra : k.extra ≡ 0
-  pub vetoed_ : k.vetoed ≡ vetoed
-  pub timed_out : k.timed_out ≡ false
+-- a change begins as a flight takes it where these are the notifiers, along this course
+pub record BeginsAlong (notifiers : List NotifierRow) (start : Start) (course : CourseState) (k : Change) : Type 0 where
+  pub starts : StartsAs notifiers start k
   pub chain : k.chain ≡ course.chain
   pub rates : AllByRecursion (λ n. (n.before ≡ slice_index k.before n.clock.0) × (n.after ≡ slice_index k.outcome n.clock.0)) course.notified
 
--- a change of rate of a driver goes on so, by parts that stood for a state, and a credit is spent
-pub record StartsChange (old : Parts) (driver : ℕ) (what : Sleeping) (steps : List Micro) (course : CourseState) (range : Option (ℕ × ℕ)) (vetoed : Bool) (new : Parts) : Type 0 where
+-- a change of a rate or a parent goes on so, by parts that stood for a state, and a credit is spent
+pub record StartsChange (old : Parts) (start : Start) (course : CourseState) (new : Parts) : Type 0 where
   pub remains : Remains old new
   pub spent : new.spent ≡ old.spent + 1
   pub rows : (c : ℕ) → registered new.tree.clocks c ≡ registered old.tree.clocks c
   pub table : new.table ≡ old.table
   pub going : new.flight.going ≡ true
-  pub driver_ : new.flight.driver ≡ driver
-  pub left : steps_left new ≡ sum_by (step_weight (rows_from 0 old.chains) (plls old.desc.defs)) steps
-  pub stands : (s : State) (k : Change) → Stands old s → BeginsAlong driver what steps course range vetoed k → Stands new (record s { change = Some k; spent = s.spent + 1 })
+  pub driver_ : new.flight.driver ≡ start.driver
+  pub left : steps_left new ≡ sum_by (step_weight (rows_from 0 old.chains) (plls old.desc.defs)) start.script.items + start.extra
+  pub stands : (s : State) (k : Change) → Stands old s → BeginsAlong s.notifiers start course k → Stands new (record s { change = Some k; spent = s.spent + 1 })
 
 -- the clocks among these that have notifiers, each with its rate before the change and its planned rate
 abbrev pub told_clocks : (ℕ → ℕ) → List ℕ → List ClockRate → List Notified

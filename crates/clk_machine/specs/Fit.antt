@@ -25,11 +25,3 @@ CanRun defs = EachClock defs (can_run defs)
 -- whether a request for a rate may move a clock to another parent: it is a mux that isn't only read, and hasn't the flag that its parent stays
 abbrev pub may_move : ClockDef → Bool
 may_move d = is_some (mux_field d.kind) && can_round d.kind && not (has_flag d.flags 16)
-
--- whether a change of parent may move the clock while it is prepared: it is a mux, and hasn't the flag that a prepared clock keeps its parent
-abbrev pub moves_prepared : ClockDef → Bool
-moves_prepared d = is_some (mux_field d.kind) && not (has_flag d.flags 2)
-
--- whether each clock of the description keeps its parent while it is prepared
-abbrev pub gates_parents : Description → Bool
-gates_parents defs = not (list_any moves_prepared defs)

@@ -51,9 +51,9 @@ asks_rate _ = false
 abbrev pub is_worked_out : Sleeping → Bool
 is_worked_out what = changes_rate what || is_sweep what
 
--- whether a call may raise PLLs: a prepare, or a request for a rate or a range so far
+-- whether a call may raise PLLs: a prepare, or a change of a rate or a parent
 abbrev pub may_raise : Sleeping → Bool
-may_raise what = is_prepare what || asks_rate what
+may_raise what = is_prepare what || changes_rate what
 
 -- whether a call may lower PLLs: an unprepare, or a change of a rate or a parent
 abbrev pub may_lower : Sleeping → Bool
@@ -113,13 +113,14 @@ cuts_front what ms (Poll y polls again) = can_cut what ms
 cuts_front what ms (Raise x) = can_cut what ms
 cuts_front what ms _ = true
 
--- whether such steps, polls, falls and notices that a rate has changed alone stand in front
+-- whether such steps, polls, falls and notices that a rate has changed alone stand in front, and behind the falls of a change of parent
+-- notices that it is called off
 abbrev pub is_front : Sleeping → (ℕ → Bool) → Front → Bool
 is_front what there Empty = true
 is_front what there (Poll y polls again) = may_raise what && there y.0 && option_map_or (λ x. there x.0) again true
 is_front what there (Raise x) = may_raise what && there x.0
 is_front what there (Lower x) = may_lower what && there x.0
-is_front what there (Falls told left) = may_raise what && (left == 0)
+is_front what there (Falls told left) = may_raise what && (left == 0 || sets_parent what)
 is_front what there (Posts c told left old new) = changes_rate what
 
 -- what is left to do of a call over clocks that pass a test: raises, lowers, polls, falls and visits of such clocks, notices, and the end
@@ -129,7 +130,8 @@ pub record IsUnderWay (there : ℕ → Bool) (f : FlightState) : Type 0 where
   pub front : is_front f.call there f.front ≡ true
   pub raised : list_all there f.raised ≡ true
   pub cut : cuts_front f.call f.left f.front ≡ true
-  pub extra : f.extra ≡ 0
+  -- a timeout calls off only a change of parent
+  pub extra : sets_parent f.call ≡ false → f.extra ≡ 0
   -- only a change of rate can be vetoed
   pub vetoed : f.vetoed ≡ true → changes_rate f.call ≡ true
 

@@ -1,5 +1,5 @@
 -- Whether the moves of a planned chain can be made.
-use Rattle.std.specs.Prelude.{ℕ, ◌==◌, ◌&&◌, ◌||◌, List, Bool, false, not}
+use Rattle.std.specs.Prelude.{ℕ, ◌==◌, ◌||◌, List, Bool, false, not}
 use Rattle.std.specs.List.{list_all}
 use Rattle.std.specs.Option.{option_map_or}
 use Rattle.clk_base.specs.Description.{Description}
@@ -8,15 +8,14 @@ use Rattle.clk_model.specs.State.{ChainStep, link_in}
 use Rattle.clk_machine.specs.Reparenting.{is_candidate}
 
 -- whether a clock can get a parent: it has a link, and this is the one that it is linked to, or it is a mux with this possible parent, which is
--- rooted; for a change of parent it isn't prepared either
-abbrev pub can_get : Bool → Description → List ClockRow → (ℕ → Bool) → ℕ → ℕ → Bool
-can_get sets_parent defs clocks prepared c p =
-    option_map_or (λ o. (o == p) || (is_candidate defs clocks c p && not (sets_parent && prepared c))) (link_in clocks c) false
+-- rooted
+abbrev pub can_get : Description → List ClockRow → ℕ → ℕ → Bool
+can_get defs clocks c p = option_map_or (λ o. (o == p) || is_candidate defs clocks c p) (link_in clocks c) false
 
 -- whether a step of a chain can be made; of a change of parent each step has a parent
-abbrev pub can_go : Bool → Description → List ClockRow → (ℕ → Bool) → ChainStep → Bool
-can_go sets_parent defs clocks prepared k = option_map_or (can_get sets_parent defs clocks prepared k.clock) k.parent (not sets_parent)
+abbrev pub can_go : Bool → Description → List ClockRow → ChainStep → Bool
+can_go sets_parent defs clocks k = option_map_or (can_get defs clocks k.clock) k.parent (not sets_parent)
 
 -- whether each step of a chain can
-abbrev pub can_go_along : Bool → Description → List ClockRow → (ℕ → Bool) → List ChainStep → Bool
-can_go_along sets_parent defs clocks prepared ks = list_all (can_go sets_parent defs clocks prepared) ks
+abbrev pub can_go_along : Bool → Description → List ClockRow → List ChainStep → Bool
+can_go_along sets_parent defs clocks ks = list_all (can_go sets_parent defs clocks) ks

@@ -1,4 +1,4 @@
--- A call that changes a rate, ready to begin: what it goes on with, and that it begins so.
+-- A call that changes a rate or a parent, ready to begin: what it goes on with, and that it begins so.
 use Rattle.std.specs.List.{list_all}
 use Rattle.std.specs.Prelude.{◌≡◌, ℕ, ◌+◌, ◌≤◌, List, Bool, true, false, Option, Some, None, sum_by}
 use Rattle.clk_base.specs.declared.call.Micro.{Micro}
@@ -11,9 +11,10 @@ use Rattle.clk_model.specs.Begin.{most_credits, own_handle, refused}
 use Rattle.clk_model.specs.Machine.{paid, next}
 use Rattle.clk_model.specs.Script.{plls}
 use Rattle.clk_model.specs.State.{State, Change, registered}
+use Rattle.clk_model.specs.Step.{sets_parent}
+use Rattle.clk_flight.specs.declared.start.Start.{Start}
 use Rattle.clk_tree.specs.declared.plan.Plan.{Plan}
 use Rattle.change_walk.specs.Given.{Script}
-use Rattle.counts_core.specs.Counted.{is_prepared}
 use Rattle.change_walk.specs.Weights.{step_weight}
 use Rattle.clk_machine.specs.declared.readied.Readied.{Readied}
 use Rattle.clk_machine.specs.declared.readied.Readied.TheVariants as readied
@@ -35,7 +36,7 @@ weight_along m steps = sum_by (step_weight (plls m.desc.defs) m.chains) steps
 
 -- whether the moves of a plan can be made
 abbrev pub moves_well : Parts → Plan → Bool
-moves_well m plan = can_go_along plan.set_parent m.desc.defs m.tree.clocks (is_prepared m.counts) plan.chain
+moves_well m plan = can_go_along plan.set_parent m.desc.defs m.tree.clocks plan.chain
 
 -- it is that of a plan whose moves can be made, and of its script: its steps, the chain, and the clocks that are told
 pub record IsScripted (m : Parts) (plan : Plan) (script : Script) (scripted : Scripted) : Type 0 where
@@ -43,6 +44,7 @@ pub record IsScripted (m : Parts) (plan : Plan) (script : Script) (scripted : Sc
   pub steps : scripted.steps.items ≡ script.steps
   pub chain : scripted.course.chain ≡ plan.chain
   pub notified : scripted.course.notified ≡ told_clocks (notifiers_at m.chains) m.tree.rates plan.rates
+  pub extra : scripted.extra ≡ script.extra
   pub vetoed : scripted.vetoed ≡ script.vetoed
   pub weight : scripted.weight ≡ script.weight
 
@@ -53,13 +55,14 @@ Scripts m plan script readied.AtOnce = ⊥
 Scripts m plan script (readied.Change scripted) = IsScripted m plan script scripted
 
 -- a change of rate or parent can go on so, whatever the bank tells: its steps are those that such a call may make, and the end; the clocks with
--- notifiers that it visits are told, its links can be made, and there is room
+-- notifiers that it visits are told, its links can be made, a timeout calls off only a change of parent, and there is room
 pub record CanGoAlong (m : Parts) (d : ℕ) (what : Sleeping) (scripted : Scripted) : Type 0 where
   pub own : IsOwnCall m.table.handles d what
   pub script : is_script what (registered m.tree.clocks) scripted.steps.items ≡ true
   pub tells : tells_all (notifiers_at m.chains) scripted.steps.items scripted.course.notified ≡ true
   pub links : list_all (can_link m.desc.defs m.tree.clocks) scripted.steps.items ≡ true
-  pub weight : scripted.weight ≡ weight_along m scripted.steps.items
+  pub lone : sets_parent what ≡ false → scripted.extra ≡ 0
+  pub weight : scripted.weight ≡ weight_along m scripted.steps.items + scripted.extra
   pub room : m.credits + m.steps + scripted.weight ≤ most_credits
 
 -- what holds of a call that was made ready, whatever the bank tells
@@ -80,13 +83,24 @@ abbrev pub range_before : Sleeping → HandleRow → Option (ℕ × ℕ)
 range_before (call.SetRange h least most) row = Some (row.min, row.max)
 range_before _ row = None
 
+-- so a change begins that goes on with this, of a driver's call on a handle that had this range
+abbrev pub start_of : ℕ → Sleeping → Option (ℕ × ℕ) → Scripted → Start
+start_of d what range scripted = record {
+  driver = d;
+  call = what;
+  script = scripted.steps;
+  range = range;
+  extra = scripted.extra;
+  vetoed = scripted.vetoed;
+}
+
 -- a call on a driver's own handle goes on with these steps, along this course
 pub record GoesOnAlong (s : State) (d number : ℕ) (what : Sleeping) (scripted : Scripted) : Type 0 where
   pub row : HandleRow
   pub own : own_handle s d number ≡ Some row
   pub change : Change
   pub next_ : next s d (event.Begin what) ≡ paid s (record (made_in s what row) { change = Some change }, turn.Going)
-  pub begins : BeginsAlong d what scripted.steps.items scripted.course (range_before what row) scripted.vetoed change
+  pub begins : BeginsAlong s.notifiers (start_of d what (range_before what row) scripted) scripted.course change
 
 -- a call on the handle of this number begins in a state as it was made ready
 abbrev pub BeginsSo : State → ℕ → ℕ → Sleeping → Readied → Type 0

@@ -2,11 +2,11 @@
 
 ghost use Rattle.std.specs.Prelude.{◌≡◌, ◌<◌, length, nat_lt};
 ghost use Rattle.std.specs.List.{list_all};
-ghost use Rattle.clk_base.specs.Description.{FindsFirst, def_of, kind_of};
+ghost use Rattle.clk_base.specs.Description.{FindsFirst, kind_of};
 ghost use Rattle.clk_base.specs.Places.{places};
 ghost use Rattle.clk_base.specs.Flags.{is_critical};
 ghost use Rattle.clk_model.specs.Kinds.{is_pll};
-ghost use Rattle.clk_machine.specs.Fit.{can_run, has_pll, moves_prepared, gates_parents};
+ghost use Rattle.clk_machine.specs.Fit.{can_run, has_pll};
 
 use bitflags::Flags;
 use clk_base::{ClkFlags, ClockId, Kind, ValidDesc};
@@ -72,26 +72,4 @@ pub fn has_pll(desc: &ValidDesc) -> bool
         }
     }
     false
-}
-
-// Whether a change of parent may move a clock while it is prepared.
-fn moves_prepared(desc: &ValidDesc, clock: ClockId) -> bool
-    requires { clock.0 < length desc.now.defs }
-    ensures { result ≡ moves_prepared (def_of desc.now.defs clock.0) }
-{
-    let def = desc.def(clock);
-    matches!(def.kind, Kind::Mux { .. }) && !Flags::contains(&def.flags, ClkFlags::SET_PARENT_GATE)
-}
-
-/// Whether each clock of the description keeps its parent while it is prepared. A core takes changes
-/// of parent only where it does.
-pub fn gates_parents(desc: &ValidDesc) -> bool
-    ensures { result ≡ gates_parents desc.now.defs }
-{
-    for place in 0..desc.len() {
-        if moves_prepared(desc, ClockId(place as u32)) {
-            return false;
-        }
-    }
-    true
 }

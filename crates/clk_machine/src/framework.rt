@@ -8,7 +8,7 @@ ghost use Rattle.clk_model.specs.Fed.{Fed};
 ghost use Rattle.clk_model.specs.Begin.{most_credits};
 ghost use Rattle.clk_machine.specs.InFlight.{is_worked_out};
 
-use crate::built::{Allowed, allowed_over, is_built};
+use crate::built::is_built;
 use crate::log::Log;
 use crate::machine::Machine;
 use crate::row::Row;
@@ -29,9 +29,6 @@ pub struct Core<B: Bank> {
     words: Vec<u32>,
     log: Log,
 }
-
-// Where no call asks for what a description allows.
-const NOTHING: Allowed = Allowed { parents: false };
 
 // Whether the steps of a call are worked out before it begins.
 fn is_worked_out(what: &Sleeping) -> bool
@@ -174,11 +171,8 @@ impl<B: Bank> Core<B> {
         ensures { result ≡ can_make self.now what.now }
     {
         match what {
-            Sleeping::Probe(clock) => is_built(what, self.machine.has_parents(*clock), NOTHING),
-            Sleeping::SetParent(_, _) => {
-                is_built(what, false, allowed_over(self.machine.desc()))
-            }
-            _ => is_built(what, false, NOTHING),
+            Sleeping::Probe(clock) => is_built(what, self.machine.has_parents(*clock)),
+            _ => is_built(what, false),
         }
     }
 

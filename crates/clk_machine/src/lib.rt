@@ -30,8 +30,8 @@ mod window;
 mod work;
 
 pub use behind::Behind;
-pub use built::{Allowed, allowed_over, is_built};
-pub use fit::{first_unfit, gates_parents, has_pll, is_fit};
+pub use built::is_built;
+pub use fit::{first_unfit, has_pll, is_fit};
 pub use framework::Core;
 pub use laws::always_fed;
 pub use row::Row;

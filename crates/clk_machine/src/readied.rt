@@ -1,21 +1,23 @@
-//! A call that changes a rate, ready to begin.
+//! A call that changes a rate or a parent, ready to begin.
 
 use crate::course::Course;
 use clk_base::{Errno, Micro};
 
-/// What a change of rate goes on with.
+/// What a change of a rate or a parent goes on with.
 #[derive(Drop)]
 pub(crate) struct Scripted {
     pub(crate) steps: Vec<Micro>,
     /// Its chain, and the clocks that it tells.
     pub(crate) course: Course,
+    /// How many notices at the head of its script a timeout calls off.
+    pub(crate) extra: usize,
     /// Whether a notice of its script is a veto.
     pub(crate) vetoed: bool,
     /// How many entries its steps may come to.
     pub(crate) weight: u64,
 }
 
-/// How a call that changes a rate begins, with all that it needs. Nothing is changed yet.
+/// How a call that changes a rate or a parent begins, with all that it needs. Nothing is changed yet.
 #[derive(Drop)]
 pub(crate) enum Readied {
     /// It is refused.

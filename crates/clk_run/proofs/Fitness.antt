@@ -4,8 +4,6 @@ use Rattle.std.specs.List.{reduce, filter_map, cons_option, AllByRecursion}
 use Rattle.bundle_text.specs.Firsts.{onto, said_from}
 use Rattle.clk_base.specs.Description.{Description, EachClock}
 use Rattle.clk_base.specs.declared.command.Command.{Command}
-use Rattle.clk_machine.specs.declared.built.Allowed.{Allowed}
-use Rattle.clk_machine.specs.Built.{allowed_over}
 use Rattle.clk_machine.specs.Fit.{has_earlier_parents, can_run, CanRun}
 use Rattle.drv_scripts.specs.declared.bundle.Bundle.{Bundle}
 use Rattle.drv_scripts.specs.declared.bundle.LateLine.{LateLine}
@@ -58,25 +56,25 @@ option_nothing : {X : Type 0} (o : Option X) (xs : List X) → cons_option o xs 
 option_nothing None xs e = (refl, e)
 option_nothing (Some x) xs e = absurd cc
 
-commands_built : (allowed : Allowed) (commands : List Command) → filter_map (unbuilt_command allowed) commands ≡ [] → are_built allowed commands ≡ true
+commands_built : (commands : List Command) → filter_map unbuilt_command commands ≡ [] → are_built commands ≡ true
 unfolding unbuilt_command
-commands_built allowed [] e = refl
-commands_built allowed (c ∷ commands) e =
-    let none = option_nothing (unbuilt_command allowed c) (filter_map (unbuilt_command allowed) commands) e in
-    and_from (is_built_act allowed c.act) _ (true_from_none (is_built_act allowed c.act) c.line none.0) (commands_built allowed commands none.1)
+commands_built [] e = refl
+commands_built (c ∷ commands) e =
+    let none = option_nothing (unbuilt_command c) (filter_map unbuilt_command commands) e in
+    and_from (is_built_act c.act) _ (true_from_none (is_built_act c.act) c.line none.0) (commands_built commands none.1)
 
-drivers_built : (allowed : Allowed) (drivers : List Script) → unbuilt_commands allowed drivers ≡ [] → AllByRecursion (λ (s : Script). are_built allowed s.commands ≡ true) drivers
-drivers_built allowed [] e = tt
-drivers_built allowed (s ∷ drivers) e = (
-  commands_built allowed s.commands (nothing (filter_map (unbuilt_command allowed) s.commands) (unbuilt_commands allowed drivers) e),
-  drivers_built allowed drivers (nothing_behind (filter_map (unbuilt_command allowed) s.commands) (unbuilt_commands allowed drivers) e),
+drivers_built : (drivers : List Script) → unbuilt_commands drivers ≡ [] → AllByRecursion (λ (s : Script). are_built s.commands ≡ true) drivers
+drivers_built [] e = tt
+drivers_built (s ∷ drivers) e = (
+  commands_built s.commands (nothing (filter_map unbuilt_command s.commands) (unbuilt_commands drivers) e),
+  drivers_built drivers (nothing_behind (filter_map unbuilt_command s.commands) (unbuilt_commands drivers) e),
 )
 
 -- and each command
-pub built_all : (b : Bundle) → unbuilt_line b ≡ None → AllByRecursion (λ (s : Script). are_built (allowed_over b.desc.defs) s.commands ≡ true) b.drivers
+pub built_all : (b : Bundle) → unbuilt_line b ≡ None → AllByRecursion (λ (s : Script). are_built s.commands ≡ true) b.drivers
 unfolding unbuilt_lines
 built_all b e =
-    drivers_built (allowed_over b.desc.defs) b.drivers
+    drivers_built b.drivers
     (nothing_behind (unbuilt_sections b) _ (nothing_behind (said_from (unfit_line b.desc.defs b.clock_lines) 0 (length b.desc.defs)) _ (least_none _ e)))
 
 -- and there is no node with assigned clocks, and no late clock

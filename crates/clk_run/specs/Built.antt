@@ -4,8 +4,6 @@ use Rattle.std.specs.List.{reduce, filter_map, flat_map}
 use Rattle.bundle_text.specs.Firsts.{said_from}
 use Rattle.clk_base.specs.Description.{Description}
 use Rattle.clk_base.specs.declared.command.Command.{Command}
-use Rattle.clk_machine.specs.declared.built.Allowed.{Allowed}
-use Rattle.clk_machine.specs.Built.{allowed_over}
 use Rattle.clk_machine.specs.Fit.{can_run}
 use Rattle.drv_scripts.specs.declared.bundle.Bundle.{Bundle}
 use Rattle.drv_scripts.specs.declared.bundle.Script.{Script}
@@ -20,13 +18,13 @@ use Rattle.driver_runs.specs.Scripts.{is_built_act}
 abbrev pub unfit_line : Description → List ℕ → ℕ → Option ℕ
 unfit_line defs lines c = if can_run defs c then None else Some (slice_index lines c)
 
--- the line of a command that can't be run yet, where this is allowed
-unfoldable pub unbuilt_command : Allowed → Command → Option ℕ
-unbuilt_command allowed command = if is_built_act allowed command.act then None else Some command.line
+-- the line of a command that can't be run yet
+unfoldable pub unbuilt_command : Command → Option ℕ
+unbuilt_command command = if is_built_act command.act then None else Some command.line
 
 -- the lines of such commands of these drivers
-abbrev pub unbuilt_commands : Allowed → List Script → List ℕ
-unbuilt_commands allowed drivers = flat_map (λ s. filter_map (unbuilt_command allowed) s.commands) drivers
+abbrev pub unbuilt_commands : List Script → List ℕ
+unbuilt_commands drivers = flat_map (λ s. filter_map unbuilt_command s.commands) drivers
 
 -- the lines of what can't be run yet besides clocks and commands: of the nodes with assigned clocks, and of late clocks
 abbrev pub unbuilt_sections : Bundle → List ℕ
@@ -35,7 +33,7 @@ unbuilt_sections b = b.assigned_lines ++ map (λ l. l.line) b.late
 -- the lines of these clocks, of these sections, and of these commands
 unfoldable pub unbuilt_lines : Bundle → List ℕ
 unbuilt_lines b =
-    said_from (unfit_line b.desc.defs b.clock_lines) 0 (length b.desc.defs) ++ (unbuilt_sections b ++ unbuilt_commands (allowed_over b.desc.defs) b.drivers)
+    said_from (unfit_line b.desc.defs b.clock_lines) 0 (length b.desc.defs) ++ (unbuilt_sections b ++ unbuilt_commands b.drivers)
 
 -- the least of them, if there is one
 abbrev pub unbuilt_line : Bundle → Option ℕ

@@ -25,7 +25,6 @@ use Rattle.clk_cli.specs.declared.cli.Cli.{Cli}
 use Rattle.clk_cli.specs.declared.cli.Mode.{Mode}
 use Rattle.clk_cli.specs.declared.cli.Mode.TheVariants.{Check, Sim, Bench}
 use Rattle.clk_cli.specs.declared.cli.Mode.TheVariants as mode
-use Rattle.clk_machine.specs.Built.{allowed_over}
 use Rattle.clk_machine.specs.Fit.{CanRun}
 use Rattle.clk_machine.specs.Run.{Run}
 use Rattle.clk_machine.specs.Window.{HasDelays, delays_in, locks_of}
@@ -126,7 +125,7 @@ pub record IsReady (b : Bundle) : Type 0 where
   pub fit : CanRun b.desc.defs
   pub boot : b.boot ≡ boot_of (length b.desc.defs)
   pub few : length b.drivers ≤ 64
-  pub built : AllByRecursion (λ s. are_built (allowed_over b.desc.defs) s.commands ≡ true) b.drivers
+  pub built : AllByRecursion (λ s. are_built s.commands ≡ true) b.drivers
 
 -- ---- what is left behind
 

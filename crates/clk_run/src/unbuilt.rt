@@ -9,7 +9,7 @@ ghost use Rattle.clk_run.specs.Built.{unfit_line, unbuilt_command, unbuilt_comma
 
 use clk_base::{Act, ClockId, Command, Handle, ValidDesc};
 use clk_io::NoMemory;
-use clk_machine::{Allowed, allowed_over, is_built, is_fit};
+use clk_machine::{is_built, is_fit};
 use driver_runs::{Called, made_by};
 use drv_scripts::{Bundle, LateLine, Script};
 use std::alloc::{AllocError, Global};
@@ -63,12 +63,12 @@ const ANY: Handle = Handle {
     driver: 0,
 };
 
-// Whether a command can be run so far, where this is allowed. A driver registers no clock.
-fn can_run(allowed: Allowed, act: Act) -> bool
-    ensures { result ≡ is_built_act allowed act }
+// Whether a command can be run so far. A driver registers no clock.
+fn can_run(act: Act) -> bool
+    ensures { result ≡ is_built_act act }
 {
     match made_by(ANY, act) {
-        Some(Called::Sleeping(what)) => is_built(&what, false, allowed),
+        Some(Called::Sleeping(what)) => is_built(&what, false),
         Some(_) => true,
         None => false,
     }
@@ -76,35 +76,31 @@ fn can_run(allowed: Allowed, act: Act) -> bool
 
 // The line of a command that can't be run yet.
 #[tactic(auto, unfolding(crate::specs::Built::unbuilt_command))]
-fn unbuilt_command(allowed: Allowed, command: &Command) -> Option<u32>
-    ensures { result ≡ unbuilt_command allowed command.now }
+fn unbuilt_command(command: &Command) -> Option<u32>
+    ensures { result ≡ unbuilt_command command.now }
 {
-    if can_run(allowed, command.act) {
+    if can_run(command.act) {
         return None;
     }
     Some(command.line)
 }
 
 // The lines of such commands of a driver more.
-fn push_commands(
-    lines: &mut Vec<u32>,
-    allowed: Allowed,
-    commands: &[Command],
-) -> Result<(), NoMemory>
-    ensures { OnOk result (lines.new.items ≡ lines.old.items ++ filter_map (unbuilt_command allowed) commands.now) }
+fn push_commands(lines: &mut Vec<u32>, commands: &[Command]) -> Result<(), NoMemory>
+    ensures { OnOk result (lines.new.items ≡ lines.old.items ++ filter_map unbuilt_command commands.now) }
 {
     for command in commands {
-        push_line(lines, unbuilt_command(allowed, command))?;
+        push_line(lines, unbuilt_command(command))?;
     }
     Ok(())
 }
 
 // The lines of such commands of all drivers.
-fn push_drivers(lines: &mut Vec<u32>, allowed: Allowed, drivers: &[Script]) -> Result<(), NoMemory>
-    ensures { OnOk result (lines.new.items ≡ lines.old.items ++ unbuilt_commands allowed drivers.now) }
+fn push_drivers(lines: &mut Vec<u32>, drivers: &[Script]) -> Result<(), NoMemory>
+    ensures { OnOk result (lines.new.items ≡ lines.old.items ++ unbuilt_commands drivers.now) }
 {
     for script in drivers {
-        push_commands(lines, allowed, script.commands.as_slice())?;
+        push_commands(lines, script.commands.as_slice())?;
     }
     Ok(())
 }
@@ -135,7 +131,6 @@ pub(crate) fn least_unbuilt(alloc: Global, bundle: &Bundle) -> Result<Option<u32
 {
     let mut lines = unfit_lines(alloc, &bundle.desc, bundle.clock_lines.as_slice())?;
     push_sections(alloc, &mut lines, bundle)?;
-    let allowed = allowed_over(&bundle.desc);
-    push_drivers(&mut lines, allowed, bundle.drivers.as_slice())?;
+    push_drivers(&mut lines, bundle.drivers.as_slice())?;
     Ok(least(&lines))
 }

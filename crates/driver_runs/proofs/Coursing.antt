@@ -16,7 +16,6 @@ use Rattle.clk_model.specs.Ordered.{Progress, at_start, unskipped, is_atomic, ca
 use Rattle.clk_model.specs.State.{State}
 use Rattle.clk_model.specs.Tier.{is_step}
 use Rattle.clk_model.proofs.Members.{test_same}
-use Rattle.clk_machine.specs.Built.{allowed_over}
 use Rattle.clk_machine.specs.Run.{Run}
 use Rattle.drv_scripts.specs.Placed.{IsScript}
 use Rattle.drv_scripts.specs.declared.bundle.Script.{Script}
@@ -289,7 +288,7 @@ may_move first run drivers order left xs going d runs course some can s x is_s i
           let paid = course.credits in
           omega (arith, one, own_, owes, paid);
       places = (at_place (IsScript (length run.start.defs)) drivers (d - 1) s runs.placed is_s).placed;
-      built = at_place (λ (t : Script). are_built (allowed_over run.start.defs) t.commands ≡ true) drivers (d - 1) s runs.built is_s;
+      built = at_place (λ (t : Script). are_built t.commands ≡ true) drivers (d - 1) s runs.built is_s;
       can = may;
     } where
       passed : (b : Bool) → Stands d s.commands x b (own course.entries d) → unskipped x.held.items (left_of s.commands x) ≡ left_of s.commands x

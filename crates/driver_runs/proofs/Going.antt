@@ -27,7 +27,6 @@ use Rattle.clk_machine.specs.Run.{Run, was_probed, in_flight}
 use Rattle.clk_base.specs.Description.{Description, parents_of, EachClock}
 use Rattle.clk_machine.specs.Fit.{has_earlier_parents}
 use Rattle.drv_scripts.specs.Placed.{NamesPlace}
-use Rattle.clk_machine.specs.Built.{allowed_over}
 use Rattle.driver_runs.specs.Scripts.{is_built_act, AreProbes, CanCall, Answers, GoesThrough}
 use Rattle.driver_runs.proofs.WholeCalls.{calls_of-append, are_calls-append, stays_idle}
 use Rattle.clk_model.proofs.Members.{both_left, both_right, test_same}
@@ -149,7 +148,7 @@ probes_now old new d held a e r c calls made is =
       inside e = cc
 
 -- a command that can be run so far can be run now
-pub can_built : (run : Run) (a : Act) → is_built_act (allowed_over run.start.defs) a ≡ true → CanCall run a
+pub can_built : (run : Run) (a : Act) → is_built_act a ≡ true → CanCall run a
 can_built run (act.Get found) h = h
 can_built run act.Put h = h
 can_built run act.Prepare h = h

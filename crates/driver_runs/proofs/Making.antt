@@ -13,7 +13,6 @@ use Rattle.clk_model.specs.Follows.{handle_of, call_of}
 use Rattle.clk_model.specs.Lists.{is_at}
 use Rattle.clk_model.specs.Ordered.{unskipped, is_atomic, can_take}
 use Rattle.clk_model.proofs.Members.{both_left, both_right}
-use Rattle.clk_machine.specs.Built.{allowed_over}
 use Rattle.clk_machine.specs.Run.{Run}
 use Rattle.drv_scripts.specs.Placed.{NamesPlace}
 use Rattle.driver_runs.specs.Scripts.{is_built_act}
@@ -82,7 +81,7 @@ module _ (run : Run) (d : ℕ) (commands : List Command) (x : Standing) (going :
     credit = λ away. may.credit (sym is ∙ away);
     quiet = λ away sleeps. subst (λ (o : Option ℕ). IsGoing o run.journal) (none_going (is_atomic c.act) (takes (sym is ∙ away)) sleeps) may.flies;
     place = first_left (λ (y : Command). NamesPlace (length run.start.defs) y.act) (length x.answers.items) commands c rest may.places next;
-    can = can_built run c.act (first_passes (λ (y : Command). is_built_act (allowed_over run.start.defs) y.act) (length x.answers.items) commands c rest may.built next);
+    can = can_built run c.act (first_passes (λ (y : Command). is_built_act y.act) (length x.answers.items) commands c rest may.built next);
   }
 
   -- the call goes on

@@ -6,7 +6,6 @@ use Rattle.clk_base.specs.declared.event.Entry.{Entry}
 use Rattle.clk_model.specs.Journal.{cost, Legal}
 use Rattle.clk_model.specs.Lists.{is_at}
 use Rattle.clk_model.specs.Ordered.{Progress, at_start, OrderedFrom}
-use Rattle.clk_machine.specs.Built.{allowed_over}
 use Rattle.clk_machine.specs.Run.{Run, in_flight}
 use Rattle.drv_scripts.specs.Placed.{IsScript}
 use Rattle.drv_scripts.specs.declared.bundle.Script.{Script}
@@ -18,7 +17,7 @@ use Rattle.driver_runs.specs.declared.standing.Standing.{Standing}
 -- the drivers' commands name clocks of the description, and each can be run so far
 pub record AreRunnable (defs : Description) (drivers : List Script) : Type 0 where
   pub placed : AllByRecursion (IsScript (length defs)) drivers
-  pub built : AllByRecursion (λ s. are_built (allowed_over defs) s.commands ≡ true) drivers
+  pub built : AllByRecursion (λ s. are_built s.commands ≡ true) drivers
 
 -- no driver has made an event, no call is in flight, and a credit is left for each command
 pub record BeginsCourse (run : Run) (drivers : List Script) (xs : List Standing) : Type 0 where

@@ -14,7 +14,6 @@ use Rattle.clk_model.specs.Follows.{no_handles, handle_of, call_of, FollowsFrom}
 use Rattle.clk_model.specs.Lists.{is_at}
 use Rattle.clk_model.specs.Ordered.{Progress, is_atomic, can_take, going_after, progress_after, unskipped}
 use Rattle.clk_model.specs.Tier.{is_step}
-use Rattle.clk_machine.specs.Built.{allowed_over}
 use Rattle.clk_machine.specs.Run.{Run, in_flight, driver_in_flight, Appends}
 use Rattle.drv_scripts.specs.Placed.{NamesPlace, NamePlaces}
 use Rattle.driver_runs.specs.Scripts.{CanCall, are_built, are_calls}
@@ -95,7 +94,7 @@ pub record MayMove (run : Run) (d : ℕ) (commands : List Command) (x : Standing
   pub passed : unskipped x.held.items (left_of commands x) ≡ left_of commands x
   pub credit : is_at d going ≡ false → cost run.journal < run.start.credits
   pub places : NamePlaces (length run.start.defs) commands
-  pub built : are_built (allowed_over run.start.defs) commands ≡ true
+  pub built : are_built commands ≡ true
   pub can : (is_at d going || can_take going (left_of commands x)) ≡ true
 
 -- a driver made its next event: its entry is appended, and the driver stands where the entry leaves it

@@ -15,10 +15,9 @@ use Rattle.drv_scripts.specs.Spelled.{probe}
 use Rattle.clk_model.specs.Journal.{Answered, is_going, calls_of, cost, Legal}
 use Rattle.clk_model.specs.Tier.{is_step}
 use Rattle.clk_model.specs.Follows.{Variables, call_of, FollowsFrom}
-use Rattle.clk_machine.specs.declared.built.Allowed.{Allowed}
 use Rattle.clk_machine.specs.Run.{Run, was_probed}
 use Rattle.clk_machine.specs.Stands.{registers}
-use Rattle.clk_machine.specs.Built.{allowed_over, is_built}
+use Rattle.clk_machine.specs.Built.{is_built}
 use Rattle.std.specs.Option.{option_map_or}
 
 -- the call that a command makes where its variable lets it: a get with no handle, and another with this one
@@ -26,24 +25,24 @@ abbrev pub made_by : Handle → Act → Option Event
 made_by h (act.Get found) = call_of None (act.Get found)
 made_by h a = call_of (Some h) a
 
--- whether an event can be made so far, where this is allowed; a clock is probed by boot alone
-abbrev pub is_built_event : Allowed → Event → Bool
-is_built_event allowed (event.Begin what) = is_built (λ c. false) allowed what
-is_built_event allowed (event.Step m answer) = false
-is_built_event allowed _ = true
+-- whether an event can be made so far; a clock is probed by boot alone
+abbrev pub is_built_event : Event → Bool
+is_built_event (event.Begin what) = is_built (λ c. false) what
+is_built_event (event.Step m answer) = false
+is_built_event _ = true
 
 -- whether a driver's command can be run so far: its call can be made, whatever its handle
-abbrev pub is_built_act : Allowed → Act → Bool
-is_built_act allowed a = option_map_or (is_built_event allowed) (made_by (record { number = 0; slot = 0; driver = 0 }) a) false
+abbrev pub is_built_act : Act → Bool
+is_built_act a = option_map_or is_built_event (made_by (record { number = 0; slot = 0; driver = 0 }) a) false
 
 -- whether each of these commands can be run so far
-abbrev pub are_built : Allowed → List Command → Bool
-are_built allowed commands = list_all (λ c. is_built_act allowed c.act) commands
+abbrev pub are_built : List Command → Bool
+are_built commands = list_all (λ c. is_built_act c.act) commands
 
 -- a command that can be run now: one of those, or the registration of a clock whose possible parents were probed
 abbrev pub CanCall : Run → Act → Type 0
 CanCall run (act.Probe c) = list_all (was_probed run.journal) (parents_of run.start.defs c.0) ≡ true
-CanCall run a = is_built_act (allowed_over run.start.defs) a ≡ true
+CanCall run a = is_built_act a ≡ true
 
 -- the commands register the clocks from this one on, each in its turn
 abbrev pub AreProbes : ℕ → List Command → Type 0

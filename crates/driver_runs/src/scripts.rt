@@ -3,7 +3,6 @@
 ghost use Rattle.std.specs.Prelude.{◌≡◌, ◌≤◌, ◌<◌, ◌+◌, ◌∷◌, [], true, length, map, sum_by, IfOk};
 ghost use Rattle.std.specs.List.{AllByRecursion};
 ghost use Rattle.clk_base.specs.Description.{EachClock};
-ghost use Rattle.clk_machine.specs.Built.{allowed_over};
 ghost use Rattle.clk_machine.specs.Fit.{has_earlier_parents};
 ghost use Rattle.drv_scripts.specs.Placed.{IsScript};
 ghost use Rattle.drv_scripts.specs.Spelled.{boot_of};
@@ -72,7 +71,7 @@ pub fn run_scripts<B: Bank>(
     // The commands of each driver name clocks of the description.
     requires placed { AllByRecursion (IsScript (length core.old.start.defs)) drivers.now }
     // Each of them can be run so far.
-    requires built { AllByRecursion (λ s. are_built (allowed_over core.old.start.defs) s.commands ≡ true) drivers.now }
+    requires built { AllByRecursion (λ s. are_built s.commands ≡ true) drivers.now }
     // Drivers are numbered from 1.
     requires turns { AllByRecursion (λ d. 0 < d) order.now }
     // Boot and each driver, and nobody else, have their calls once, in their order, one after the other, answered so; boot's entries come first, and behind them

@@ -5,7 +5,6 @@ use Rattle.atomic_table.specs.Seated.{TableId}
 use Rattle.clk_base.specs.declared.command.Answer.{Answer}
 use Rattle.clk_base.specs.declared.command.Command.{Command}
 use Rattle.clk_model.specs.Follows.{Variables}
-use Rattle.clk_machine.specs.Built.{allowed_over}
 use Rattle.clk_machine.specs.Run.{was_probed}
 use Rattle.clk_framework.specs.declared.opened.Opened.{Opened}
 use Rattle.clk_framework.specs.Calls.{DriverView}
@@ -41,7 +40,7 @@ module _ (table : TableId) (old now : DriverView) (held held' : Variables) (comm
     opened = may.opened;
     knows = fixed ∙ may.knows;
     place = element (λ (command : Command). NamesPlace (length may.opened.defs) command.act) commands i x may.places within;
-    can = can_built (run_from may.opened now.seen) (get_or commands i x).act (element_true (λ (command : Command). is_built_act (allowed_over may.opened.defs) command.act) commands i x may.built within);
+    can = can_built (run_from may.opened now.seen) (get_or commands i x).act (element_true (λ (command : Command). is_built_act command.act) commands i x may.built within);
   }
 
   -- boot's next command registers a clock whose possible parents were probed

@@ -12,7 +12,6 @@ use Rattle.clk_base.specs.declared.event.Reply.{Reply}
 use Rattle.clk_base.specs.declared.handle.Handle.{Handle}
 use Rattle.clk_model.specs.Journal.{Answered, calls_of}
 use Rattle.clk_model.specs.Follows.{Variables, call_of, FollowsFrom}
-use Rattle.clk_machine.specs.Built.{allowed_over}
 use Rattle.clk_machine.specs.Fit.{has_earlier_parents}
 use Rattle.clk_machine.specs.Run.{was_probed, can_make}
 use Rattle.clk_machine.specs.Sound.{IsPlaced}
@@ -52,7 +51,7 @@ pub record MayRun (table : TableId) (d : DriverView) (commands : List Command) :
   pub opened : Opened
   pub knows : d.fixed ≡ Some opened
   pub places : NamePlaces (length opened.defs) commands
-  pub built : are_built (allowed_over opened.defs) commands ≡ true
+  pub built : are_built commands ≡ true
 
 -- it may run the commands of boot: it has a credit for each, they register clocks of the description from the first on, and each clock's possible
 -- parents stand before it

@@ -6,7 +6,6 @@ use Rattle.clk_base.specs.Description.{Description, EachClock}
 use Rattle.clk_base.specs.declared.command.Answer.{Answer}
 use Rattle.clk_base.specs.declared.command.Command.{Command}
 use Rattle.clk_model.specs.Journal.{Legal}
-use Rattle.clk_machine.specs.Built.{allowed_over}
 use Rattle.clk_machine.specs.Fit.{has_earlier_parents}
 use Rattle.clk_machine.specs.Run.{Run, in_flight}
 use Rattle.tier_lock.specs.Known.{first_known}
@@ -26,7 +25,7 @@ pub record AreRunnable (defs : Description) (boot : List Command) (drivers : Lis
   pub earlier : EachClock defs (has_earlier_parents defs)
   pub boot_is : boot ≡ boot_of (length defs)
   pub placed : AllByRecursion (IsScript (length defs)) drivers
-  pub built : AllByRecursion (λ s. are_built (allowed_over defs) s.commands ≡ true) drivers
+  pub built : AllByRecursion (λ s. are_built s.commands ≡ true) drivers
 
 -- driver 0 of a framework with this lock, which has made no call and no driver, and has a credit for each command of scripts that can be run
 pub record CanStart (table : TableId) (first : DriverView) (boot : List Command) (drivers : List Script) : Type 0 where

@@ -4,7 +4,6 @@ use Rattle.std.specs.List.{AllByRecursion}
 use Rattle.atomic_table.specs.Seated.{TableId}
 use Rattle.clk_base.specs.declared.command.Answer.{Answer}
 use Rattle.clk_base.specs.declared.command.Command.{Command}
-use Rattle.clk_machine.specs.Built.{allowed_over}
 use Rattle.clk_model.specs.Follows.{Variables, no_handles}
 use Rattle.clk_framework.specs.declared.opened.Opened.{Opened}
 use Rattle.clk_framework.specs.Calls.{DriverView, IsReady}
@@ -54,7 +53,7 @@ pub record MayMake (table : TableId) (first : DriverView) (scripts : List Script
   pub opened : Opened
   pub knows : first.fixed ≡ Some opened
   pub placed : AllByRecursion (IsScript (length opened.defs)) scripts
-  pub built : AllByRecursion (λ s. are_built (allowed_over opened.defs) s.commands ≡ true) scripts
+  pub built : AllByRecursion (λ s. are_built s.commands ≡ true) scripts
 
 -- it has made so many drivers more, and gave them credits
 abbrev pub HasMade : DriverView → ℕ → DriverView → Type 0

@@ -5,12 +5,10 @@ ghost use Rattle.clk_base.specs.declared.call.Sleeping.TheVariants.{SetRange};
 ghost use Rattle.clk_base.specs.declared.event.Event.TheVariants.{Begin};
 ghost use Rattle.clk_base.specs.declared.event.Reply.TheVariants.{Fine};
 ghost use Rattle.clk_base.specs.declared.event.Turn.TheVariants.{Done, Going};
-ghost use Rattle.clk_model.specs.Begin.{most_credits};
 ghost use Rattle.clk_model.specs.Journal.{is_going};
-ghost use Rattle.clk_model.specs.State.{handle_at, registered};
+ghost use Rattle.clk_model.specs.State.{handle_at};
 ghost use Rattle.change_walk.specs.Changes.{AreThere};
 ghost use Rattle.clk_machine.specs.declared.readied.Readied.TheVariants.{AtOnce, Change};
-ghost use Rattle.clk_machine.specs.Built.{is_built_over};
 ghost use Rattle.clk_machine.specs.InFlight.{changes_rate, is_ranged};
 ghost use Rattle.clk_machine.specs.Parts.{own_in, IsOwnCall, IsWhole, steps_left};
 ghost use Rattle.clk_machine.specs.Readying.{CanBeginSo, CanGoAlong, IsReady, Scripts, moves_well, weight_of};
@@ -25,6 +23,7 @@ use crate::readied::{Readied, Scripted};
 use crate::scripted::told_clocks;
 use change_walk::StepList;
 use clk_base::{Errno, Handle, Reply, Sleeping, Turn};
+use clk_flight::Start;
 use clk_io::NoMemory;
 use clk_model::HandleRow;
 use clk_tree::Plan;
@@ -47,7 +46,7 @@ impl<B: Bank> Machine<B> {
         ensures whole { IsWhole self.now }
     {
         let chain = plan.chain.as_slice();
-        can_go_along(&self.desc, &self.tree, &self.counts, plan.set_parent, chain)
+        can_go_along(&self.desc, &self.tree, plan.set_parent, chain)
     }
 
     // A plan with its script is made ready to go on, where its moves can be made.
@@ -61,6 +60,7 @@ impl<B: Bank> Machine<B> {
         }
         let rates = plan.rates.as_slice();
         let told = told_clocks(self.alloc, &self.tree, &self.notifiers, rates)?;
+        let extra = script.extra() as usize;
         let vetoed = script.vetoed();
         let weight = script.weight();
         let Plan {
@@ -71,6 +71,7 @@ impl<B: Bank> Machine<B> {
         Ok(Readied::Change(Scripted {
             steps: script.into_steps(),
             course: Course::of(chain, told),
+            extra,
             vetoed,
             weight,
         }))
@@ -81,7 +82,6 @@ impl<B: Bank> Machine<B> {
         requires credit { self.old.spent < self.old.credits }
         requires quiet { self.old.flight.going ≡ false }
         requires changes { changes_rate what ≡ true }
-        requires built { is_built_over self.old.desc.defs (registered self.old.tree.clocks) what ≡ true }
         ensures ready { IfOk result (λ readied. IsReady self.old driver what readied) }
         ensures can { IfOk result (λ readied. CanBeginSo self.old driver what readied) }
         ensures same { self.new ≡ self.old }
@@ -143,10 +143,19 @@ impl<B: Bank> Machine<B> {
         let Scripted {
             steps,
             course,
+            extra,
             vetoed,
             weight: _,
         } = scripted;
-        self.start_change(driver, what, steps, course, None, vetoed)
+        let start = Start {
+            driver,
+            call: what,
+            script: steps,
+            range: None,
+            extra,
+            vetoed,
+        };
+        self.start_change(start, course)
     }
 
     // A change of rate goes on that gives a handle another range in Hz. All memory that it needs is
@@ -168,15 +177,22 @@ impl<B: Bank> Machine<B> {
         ensures err { OnErr result (self.new ≡ self.old) }
     {
         let row = self.known(driver, handle);
-        let what = Sleeping::SetRange(handle, least, most);
         let Scripted {
             steps,
             course,
+            extra,
             vetoed,
             weight: _,
         } = scripted;
-        let range = Some((row.min, row.max));
-        self.start_change(driver, what, steps, course, range, vetoed)?;
+        let start = Start {
+            driver,
+            call: Sleeping::SetRange(handle, least, most),
+            script: steps,
+            range: Some((row.min, row.max)),
+            extra,
+            vetoed,
+        };
+        self.start_change(start, course)?;
         self.write_range(handle, row, least, most);
         Ok(())
     }
@@ -240,7 +256,6 @@ impl<B: Bank> Machine<B> {
         requires credit { self.old.spent < self.old.credits }
         requires quiet { self.old.flight.going ≡ false }
         requires changes { changes_rate what ≡ true }
-        requires built { is_built_over self.old.desc.defs (registered self.old.tree.clocks) what ≡ true }
         requires paid { self.old.credits ≤ self.old.spent + log.old.room }
         ensures ok { IfOk result (λ turn. Enters self.old driver (Begin what) turn self.new) }
         ensures room { IfOk result (λ turn. is_going turn ≡ true → self.old.credits + steps_left self.new ≤ self.old.spent + log.new.room) }

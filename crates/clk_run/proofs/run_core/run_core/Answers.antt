@@ -3,7 +3,6 @@ use Rattle.std.specs.List.{AllByRecursion}
 use Rattle.clk_base.specs.Description.{Description, EachClock}
 use Rattle.clk_base.specs.declared.command.Answer.{Answer}
 use Rattle.clk_base.specs.declared.command.Command.{Command}
-use Rattle.clk_machine.specs.Built.{allowed_over}
 use Rattle.clk_machine.specs.Fit.{has_earlier_parents}
 use Rattle.clk_machine.specs.Run.{Run}
 use Rattle.clk_model.specs.State.{State}
@@ -47,9 +46,7 @@ run_scripts-requires g c =
       few = omega arith;
       placed = subst (λ (ds : Description). AllByRecursion (IsScript (length ds)) run) defs
           (subst (λ (xs : List Script). AllByRecursion (IsScript (length b.desc.defs)) xs) drivers (drivers_keep (IsScript (length b.desc.defs)) mode b ready.sound.scripts));
-      built = subst (λ (ds : Description). AllByRecursion (λ s. are_built (allowed_over ds) s.commands ≡ true) run) defs
-          (subst (λ (xs : List Script). AllByRecursion (λ s. are_built (allowed_over b.desc.defs) s.commands ≡ true) xs) drivers
-          (drivers_keep (λ s. are_built (allowed_over b.desc.defs) s.commands ≡ true) mode b ready.built));
+      built = subst (λ (xs : List Script). AllByRecursion (λ s. are_built s.commands ≡ true) xs) drivers (drivers_keep (λ s. are_built s.commands ≡ true) mode b ready.built);
       turns = subst (λ (ds : List ℕ). AllByRecursion (λ d. 0 < d) ds) (sym c.as_slice-order.ensures) ready.sound.turns;
     }
 

@@ -8,7 +8,7 @@ use Rattle.clk_run.proofs.unbuilt.push_commands.Goals as goal
 
 pub loop-command-preserved : goal.loop-command-preserved
 loop-command-preserved c =
-    let f = unbuilt_command c.args.allowed in
+    let f = unbuilt_command in
     let commands = c.args.commands.now in
     let i = c.loop-command.command-index in
     let done = c.loop-command.lines.items in

@@ -6,5 +6,5 @@ use Rattle.clk_run.proofs.unbuilt.push_commands.Given as goal
 -- the lines so far, and those of the commands that are left
 abbrev pub invariant-loop-command : goal.invariant-loop-command
 invariant-loop-command l =
-    l.lines.items ++ filter_map (unbuilt_command l.allowed) (drop l.command-index l.commands)
-    ≡ l.fn.lines.items ++ filter_map (unbuilt_command l.allowed) l.commands
+    l.lines.items ++ filter_map unbuilt_command (drop l.command-index l.commands)
+    ≡ l.fn.lines.items ++ filter_map unbuilt_command l.commands

@@ -13,9 +13,9 @@ loop-script-preserved c =
     let done = c.loop-script.lines.items in
     let s = c.script-item.result in
     let rest = drop (i + 1) drivers in
-    ap (λ (lines : List ℕ). lines ++ unbuilt_commands c.args.allowed rest) c.in_ok-push_commands.ensures
-    ∙ append_assoc done _ (unbuilt_commands c.args.allowed rest)
-    ∙ ap (λ (commands : List Command). done ++ (filter_map (unbuilt_command c.args.allowed) commands ++ unbuilt_commands c.args.allowed rest)) c.as_slice.ensures
-    ∙ ap (λ (t : Script). done ++ unbuilt_commands c.args.allowed (t ∷ rest)) c.script-item.is
-    ∙ ap (λ (ts : List Script). done ++ unbuilt_commands c.args.allowed ts) (sym (drop_more drivers i s c.loop-script-test.true))
+    ap (λ (lines : List ℕ). lines ++ unbuilt_commands rest) c.in_ok-push_commands.ensures
+    ∙ append_assoc done _ (unbuilt_commands rest)
+    ∙ ap (λ (commands : List Command). done ++ (filter_map unbuilt_command commands ++ unbuilt_commands rest)) c.as_slice.ensures
+    ∙ ap (λ (t : Script). done ++ unbuilt_commands (t ∷ rest)) c.script-item.is
+    ∙ ap (λ (ts : List Script). done ++ unbuilt_commands ts) (sym (drop_more drivers i s c.loop-script-test.true))
     ∙ c.loop-script.invariant

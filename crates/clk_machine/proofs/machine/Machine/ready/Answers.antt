@@ -17,7 +17,7 @@ returns-in-Change-clause-ready g c =
     let decided_ : Decided m c.args.driver c.args.what (Change plan script) = subst (λ (x : Decision). Decided m c.args.driver c.args.what x) c.in-Change.is c.in_ok-errno.ensures.decides in
     let there : ArePlannedOver m c.args.what (Change plan script) = subst (λ (x : Decision). ArePlannedOver m c.args.what x) c.in-Change.is c.in_ok-errno.ensures.there in
     let whole : IsWhole m = subst IsWhole c.decide.ensures.same c.scripted.ensures.whole in
-    IfOk-weaker c.scripted.result _ _ (λ made scripts. ready_scripted m c.args.driver c.args.what plan script made whole c.requires.changes c.requires.built c.requires.credit there decided_ scripts)
+    IfOk-weaker c.scripted.result _ _ (λ made scripts. ready_scripted m c.args.driver c.args.what plan script made whole c.requires.changes c.requires.credit there decided_ scripts)
     (subst (λ (q : Parts). IfOk c.scripted.result (λ made. Scripts q plan script made)) c.decide.ensures.same c.scripted.ensures.scripts)
 
 pub returns-in-Change-clause-can : goal.returns-in-Change-clause-can

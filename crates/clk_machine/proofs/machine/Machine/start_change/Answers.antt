@@ -1,6 +1,5 @@
-use Rattle.std.proofs.Common.{◌≡◌, ◌+◌, ◌<◌, ◌≤◌, ◌∙◌, true, false, refl, sym, ap, subst}
-use Rattle.std.specs.List.{list_all, list_any}
-use Rattle.clk_model.specs.Laws.Paced.{may_time_out}
+use Rattle.std.proofs.Common.{◌≡◌, ◌+◌, ◌<◌, ◌≤◌, ◌∙◌, true, sym, ap, subst}
+use Rattle.std.specs.List.{list_all}
 use Rattle.std.specs.Prelude.{sum_by}
 use Rattle.clk_flight.specs.declared.start.Start.{Start}
 use Rattle.clk_flight.specs.LeftOver.{step_weight}
@@ -10,34 +9,28 @@ use Rattle.clk_model.specs.State.{registered}
 use Rattle.clk_machine.specs.Course.{notifiers_at, tells_all}
 use Rattle.clk_machine.specs.InFlight.{can_link, is_script}
 use Rattle.clk_machine.specs.Parts.{Parts, parts_of, IsOwnCall, rows_from}
-use Rattle.clk_model.specs.Step.{sets_parent}
-use Rattle.clk_machine.proofs.Changing.{Changing, begun_changing, whole_changing, starts_change, begins_as, script_calm}
+use Rattle.clk_machine.proofs.Changing.{Changing, begun_changing, whole_changing, starts_change}
 use Rattle.clk_machine.proofs.machine.Machine.start_change.Goals as goal
 
 pub invariant_of-self-2 : goal.invariant_of-self-2
 invariant_of-self-2 g c =
     let m = c.self.inside in
     let p : Parts = parts_of m.desc m.window m.tree m.handles m.counts m.notifiers m.credits m.spent m.ignore_unused m.flight m.course m.prepare_holds m.enable_holds m.steps in
-    let start : Start = record { driver = c.args.driver; call = c.args.what; script = c.args.steps; range = c.args.range; extra = 0; vetoed = c.args.vetoed } in
-    let now : Changing p c.args.driver c.args.what c.args.steps.items c.begin.new.self =
-    begun_changing p c.begin.new.self start c.plls.result c.in_ok-begin.ensures.begun (c.plls.ensures.plls ∙ ap plls c.self.invariant.tied.defs) refl in
+    let start : Start = c.args.start in
+    let now : Changing p start c.begin.new.self = begun_changing p c.begin.new.self start c.plls.result c.in_ok-begin.ensures.begun (c.plls.ensures.plls ∙ ap plls c.self.invariant.tied.defs) in
     let left : p.spent < p.credits = subst (λ (q : Parts). q.spent < q.credits) (sym c.self.view_is) c.requires.credit in
-    let own : IsOwnCall p.table.handles c.args.driver c.args.what = subst (λ (q : Parts). IsOwnCall q.table.handles c.args.driver c.args.what) (sym c.self.view_is) c.requires.own in
-    let script : is_script c.args.what (registered p.tree.clocks) c.args.steps.items ≡ true = subst (λ (q : Parts). is_script c.args.what (registered q.tree.clocks) c.args.steps.items ≡ true) (sym c.self.view_is) c.requires.script in
-    let tells : tells_all (notifiers_at p.chains) c.args.steps.items c.args.course.notified ≡ true = subst (λ (q : Parts). tells_all (notifiers_at q.chains) c.args.steps.items c.args.course.notified ≡ true) (sym c.self.view_is) c.requires.tells in
-    let links : list_all (can_link p.desc.defs p.tree.clocks) c.args.steps.items ≡ true = subst (λ (q : Parts). list_all (can_link q.desc.defs q.tree.clocks) c.args.steps.items ≡ true) (sym c.self.view_is) c.requires.links in
-    let room : p.credits + p.steps + sum_by (step_weight (rows_from 0 p.chains) (plls p.desc.defs)) c.args.steps.items ≤ most_credits =
-    subst (λ (q : Parts). q.credits + q.steps + sum_by (step_weight (rows_from 0 q.chains) (plls q.desc.defs)) c.args.steps.items ≤ most_credits) (sym c.self.view_is) c.requires.room in
-    whole_changing p c.args.driver c.args.what c.args.steps.items c.begin.new.self c.args.course c.self.invariant left now c.requires.changes own script tells links room
+    let own : IsOwnCall p.table.handles start.driver start.call = subst (λ (q : Parts). IsOwnCall q.table.handles start.driver start.call) (sym c.self.view_is) c.requires.own in
+    let script : is_script start.call (registered p.tree.clocks) start.script.items ≡ true = subst (λ (q : Parts). is_script start.call (registered q.tree.clocks) start.script.items ≡ true) (sym c.self.view_is) c.requires.script in
+    let tells : tells_all (notifiers_at p.chains) start.script.items c.args.course.notified ≡ true = subst (λ (q : Parts). tells_all (notifiers_at q.chains) start.script.items c.args.course.notified ≡ true) (sym c.self.view_is) c.requires.tells in
+    let links : list_all (can_link p.desc.defs p.tree.clocks) start.script.items ≡ true = subst (λ (q : Parts). list_all (can_link q.desc.defs q.tree.clocks) start.script.items ≡ true) (sym c.self.view_is) c.requires.links in
+    let room : p.credits + p.steps + sum_by (step_weight (rows_from 0 p.chains) (plls p.desc.defs)) start.script.items + start.extra ≤ most_credits =
+    subst (λ (q : Parts). q.credits + q.steps + sum_by (step_weight (rows_from 0 q.chains) (plls q.desc.defs)) start.script.items + start.extra ≤ most_credits) (sym c.self.view_is) c.requires.room in
+    whole_changing p start c.begin.new.self c.args.course c.self.invariant left now c.requires.changes own script tells links c.requires.lone room
 
 pub returns-clause-ok : goal.returns-clause-ok
 returns-clause-ok g c =
     let m = c.self.inside in
     let p : Parts = parts_of m.desc m.window m.tree m.handles m.counts m.notifiers m.credits m.spent m.ignore_unused m.flight m.course m.prepare_holds m.enable_holds m.steps in
-    let start : Start = record { driver = c.args.driver; call = c.args.what; script = c.args.steps; range = c.args.range; extra = 0; vetoed = c.args.vetoed } in
-    let now : Changing p c.args.driver c.args.what c.args.steps.items c.begin.new.self =
-    begun_changing p c.begin.new.self start c.plls.result c.in_ok-begin.ensures.begun (c.plls.ensures.plls ∙ ap plls c.self.invariant.tied.defs) refl in
-    let script : is_script c.args.what (registered p.tree.clocks) c.args.steps.items ≡ true = subst (λ (q : Parts). is_script c.args.what (registered q.tree.clocks) c.args.steps.items ≡ true) (sym c.self.view_is) c.requires.script in
-    let calm : (sets_parent c.args.what ≡ true → list_any may_time_out c.args.steps.items ≡ false) = (λ sets. script_calm c.args.what (registered p.tree.clocks) c.args.steps.items sets script) in
-    rw (← c.self.view_is) (starts_change p c.args.driver c.args.what c.args.steps.items c.args.course c.args.range c.args.vetoed c.begin.new.self now
-    (λ s k begins. c.in_ok-begin.ensures.change s.notifiers k (begins_as s.notifiers c.args.driver c.args.what c.args.steps.items c.args.course c.args.range c.args.vetoed start k calm refl refl refl refl refl refl begins)))
+    let start : Start = c.args.start in
+    let now : Changing p start c.begin.new.self = begun_changing p c.begin.new.self start c.plls.result c.in_ok-begin.ensures.begun (c.plls.ensures.plls ∙ ap plls c.self.invariant.tied.defs) in
+    rw (← c.self.view_is) (starts_change p start c.args.course c.begin.new.self now (λ s k starts. c.in_ok-begin.ensures.change s.notifiers k starts))

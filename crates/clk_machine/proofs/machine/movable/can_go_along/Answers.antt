@@ -5,7 +5,6 @@ use Rattle.std.specs.List.{list_all}
 use Rattle.clk_model.specs.State as state
 use Rattle.clk_tree.specs.declared.chain.ChainStep.{ChainStep}
 use Rattle.clk_tree.specs.Plans.{chain_of}
-use Rattle.counts_core.specs.Counted.{is_prepared}
 use Rattle.rate_planner.specs.Chains.{step_of}
 use Rattle.clk_machine.specs.Movable.{can_go}
 use Rattle.clk_machine.proofs.Setting.{drop_mapped}
@@ -18,14 +17,14 @@ first_left test chain k s at = ap (λ (ks : List state.ChainStep). list_all test
 
 pub returns-then-not-can_go : goal.returns-then-not-can_go
 returns-then-not-can_go c =
-    let test = can_go c.args.sets_parent c.args.desc.now.defs c.args.tree.now.clocks (is_prepared c.args.counts.now) in
+    let test = can_go c.args.sets_parent c.args.desc.now.defs c.args.tree.now.clocks in
     sym (c.loop-place.invariant
     ∙ first_left test c.args.chain.now c.loop-place.place c.step_at.result c.step_at.ensures
     ∙ ap (λ (t : Bool). t && list_all test (drop (c.loop-place.place + 1) (chain_of c.args.chain.now))) (sym c.can_go.ensures ∙ c.if-not-can_go.true))
 
 pub loop-place-preserved : goal.loop-place-preserved
 loop-place-preserved c =
-    let test = can_go c.args.sets_parent c.args.desc.now.defs c.args.tree.now.clocks (is_prepared c.args.counts.now) in
+    let test = can_go c.args.sets_parent c.args.desc.now.defs c.args.tree.now.clocks in
     c.loop-place.invariant
     ∙ first_left test c.args.chain.now c.loop-place.place c.step_at.result c.step_at.ensures
     ∙ ap (λ (t : Bool). t && list_all test (drop (c.loop-place.place + 1) (chain_of c.args.chain.now))) (sym c.can_go.ensures ∙ c.if-not-can_go.false)

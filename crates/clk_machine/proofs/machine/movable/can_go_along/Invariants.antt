@@ -1,5 +1,4 @@
 use Rattle.std.proofs.Common.{◌≡◌, drop}
-use Rattle.counts_core.specs.Counted.{is_prepared}
 use Rattle.clk_tree.specs.Plans.{chain_of}
 use Rattle.clk_machine.specs.Movable.{can_go_along}
 use Rattle.clk_machine.proofs.machine.movable.can_go_along.Given as goal
@@ -7,5 +6,5 @@ use Rattle.clk_machine.proofs.machine.movable.can_go_along.Given as goal
 -- whether all can be made is up to those that are left
 abbrev pub invariant-loop-place : goal.invariant-loop-place
 invariant-loop-place l =
-    can_go_along l.sets_parent l.desc.defs l.tree.clocks (is_prepared l.counts) (chain_of l.chain)
-    ≡ can_go_along l.sets_parent l.desc.defs l.tree.clocks (is_prepared l.counts) (drop l.place (chain_of l.chain))
+    can_go_along l.sets_parent l.desc.defs l.tree.clocks (chain_of l.chain)
+    ≡ can_go_along l.sets_parent l.desc.defs l.tree.clocks (drop l.place (chain_of l.chain))
