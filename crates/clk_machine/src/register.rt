@@ -8,7 +8,7 @@ ghost use Rattle.clk_base.specs.Places.{places};
 ghost use Rattle.clk_base.specs.Valid.{IsValid};
 ghost use Rattle.clk_model.specs.Lists.{is_in, to_front};
 ghost use Rattle.clk_model.specs.State.{registered, link_in};
-ghost use Rattle.clk_model.specs.Tree.{selected};
+ghost use Rattle.clk_model.specs.Tree.{selected, link_given};
 ghost use Rattle.clk_model.specs.Begin.{registered_rows};
 ghost use Rattle.clk_tree.specs.TreeState.{IsTree};
 ghost use Rattle.clk_machine.specs.Parts.{AreKept};
@@ -61,6 +61,27 @@ fn selected_parent<B: Bank>(desc: &ValidDesc, window: &Window<B>, clock: ClockId
         _ => 0,
     };
     parent_at(desc, clock, place)
+}
+
+/// The parent that a registration of the clock gives it: the one that the registers select, if it is
+/// registered.
+pub(crate) fn given_parent<B: Bank>(
+    desc: &ValidDesc,
+    window: &Window<B>,
+    tree: &Tree,
+    clock: ClockId,
+) -> Option<ClockId>
+    requires place { clock.0 < length desc.now.defs }
+    requires words { window.now.size ≡ desc.now.words }
+    ensures link { IfSome window.now.words (λ regs. option_map (λ p. p.0) result ≡ link_given desc.now.defs regs tree.now.clocks clock.0) }
+    ensures there { IfSome result (λ p. registered tree.now.clocks p.0 ≡ true) }
+{
+    let parent = selected_parent(desc, window, clock)?;
+    if tree.registered(parent) {
+        Some(parent)
+    } else {
+        None
+    }
 }
 
 /// Registers a clock whose possible parents are registered: it is linked to the parent that the
