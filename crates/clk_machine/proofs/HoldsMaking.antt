@@ -247,7 +247,7 @@ module _ (old : Parts) (x : ClockId) (levels : ℕ) (window' : Shown) (counts' :
     tied = tied-moved old.desc old.window window' old.tree (λ _. false) (λ _. true) (path_within (link_in old.tree.clocks) levels x.0) now.whole.tied
         (path_within_desc old.desc old.window old.tree levels x.0 now.whole.tied enabled_there) to.size to.words;
     there = λ c. refl;
-    linked = λ c. refl;
+    linked = λ c has. has;
     keeps = to.keeps;
     prepares = held_on (registered old.tree.clocks) (length old.desc.defs) old.steps old.prepare_holds now.whole.prepares_held;
     enables = subst (λ (xs : List ℕ). AreHeld (registered old.tree.clocks) (length old.desc.defs) (old.steps + 1) xs) (sym to.holds)
@@ -342,7 +342,7 @@ module _ (old : Parts) (x : ClockId) (levels : ℕ) (window' : Shown) (counts' :
     behind = to.behind;
     tied = tied-moved old.desc old.window window' old.tree (λ _. true) (λ _. false) (reverse (path_within (link_in old.tree.clocks) levels x.0)) now.whole.tied dropped_within to.size to.words;
     there = λ c. refl;
-    linked = λ c. refl;
+    linked = λ c has. has;
     keeps = to.keeps;
     prepares = held_on (registered old.tree.clocks) (length old.desc.defs) old.steps old.prepare_holds now.whole.prepares_held;
     enables = subst (λ (xs : List ℕ). AreHeld (registered old.tree.clocks) (length old.desc.defs) (old.steps + 1) xs) (sym to.holds)
@@ -441,7 +441,7 @@ module _ (old : Parts) (x : ClockId) (counts' : CountState) (prepares' : List �
     behind = refl;
     tied = now.whole.tied;
     there = λ c. refl;
-    linked = λ c. refl;
+    linked = λ c has. has;
     keeps = to.keeps;
     prepares = subst (λ (xs : List ℕ). AreHeld (registered old.tree.clocks) (length old.desc.defs) (old.steps + 1) xs) (sym to.holds)
         (held_more (registered old.tree.clocks) (length old.desc.defs) old.steps old.prepare_holds x.0 now.whole.prepares_held at_prepared.desc prepared_there);
@@ -519,7 +519,7 @@ module _ (old : Parts) (x : ClockId) (counts' : CountState) (prepares' : List �
     behind = refl;
     tied = now.whole.tied;
     there = λ c. refl;
-    linked = λ c. refl;
+    linked = λ c has. has;
     keeps = to.keeps;
     prepares = subst (λ (xs : List ℕ). AreHeld (registered old.tree.clocks) (length old.desc.defs) (old.steps + 1) xs) (sym to.holds)
         (held_less (registered old.tree.clocks) (length old.desc.defs) old.steps old.prepare_holds x.0 now.whole.prepares_held at_freed.desc freed_there to.some);
@@ -566,7 +566,7 @@ module _ (old : Parts) (m : Micro) (flight' : FlightState) (now : Stepped old m 
     behind = refl;
     tied = now.whole.tied;
     there = λ c. refl;
-    linked = λ c. refl;
+    linked = λ c has. has;
     keeps = now.whole.counted.keeps;
     prepares = held_on (registered old.tree.clocks) (length old.desc.defs) old.steps old.prepare_holds now.whole.prepares_held;
     enables = held_on (registered old.tree.clocks) (length old.desc.defs) old.steps old.enable_holds now.whole.enables_held;

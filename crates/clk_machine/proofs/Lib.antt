@@ -21,6 +21,7 @@ pub mod Events
 pub mod Moving
 pub mod HeldCounts
 pub mod HoldsPassing
+pub mod HoldsEnding
 pub mod Holdings
 pub mod Owning
 pub mod Room

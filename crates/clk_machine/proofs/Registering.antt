@@ -1,7 +1,6 @@
--- Registering a clock whose possible parents are registered.
+-- Registering a clock.
 use Rattle.std.proofs.Common.{◌≡◌, ◌≢◌, ℕ, zero, suc, ◌+◌, ◌<◌, ◌≤◌, ◌||◌, ◌&&◌, Bool, true, false, cond, List, [], ◌∷◌, Option, Some, None, refl, sym, ap, subst, ◌∙◌, inl, inr, arith, length, set, take, nat_eq}
-use Rattle.std.specs.Prelude.{IfSome, slice_get, slice_index}
-use Rattle.std.specs.List.{list_all}
+use Rattle.std.specs.Prelude.{IfSome, option_and_then, slice_get, slice_index}
 use Rattle.std.specs.Option.{option_map}
 use Rattle.std.proofs.lemmas.Bool.{cases_lt}
 use Rattle.std.proofs.lemmas.List.{get_or_past, length-set}
@@ -10,22 +9,24 @@ use Rattle.clk_base.specs.declared.clock.ClockId.{ClockId}
 use Rattle.clk_base.specs.declared.clock.Kind.{Kind}
 use Rattle.clk_base.specs.declared.clock.Kind.TheVariants.{FixedRate, Factor, Gate, Mux, Divider, Pll}
 use Rattle.clk_base.specs.Flags.{is_critical}
-use Rattle.clk_base.specs.Description.{Description, nobody, kind_of, parents_of}
+use Rattle.clk_base.specs.Description.{Description, nobody, kind_of}
 use Rattle.clk_base.specs.Fields.{Field, fields_of}
 use Rattle.clk_base.specs.Valid.{IsValid}
 use Rattle.clk_base.proofs.Valid.{fields-within}
 use Rattle.reg_bank.specs.Registers.{Registers}
 use Rattle.clk_model.specs.declared.row.ClockRow.{ClockRow}
 use Rattle.clk_model.specs.declared.row.HandleRow.{HandleRow}
-use Rattle.clk_model.specs.Lists.{is_in, to_front}
+use Rattle.clk_model.specs.Lists.{to_front}
 use Rattle.clk_model.specs.State.{State, row_of, registered, link_in, requested}
-use Rattle.clk_model.specs.Tree.{selected}
+use Rattle.clk_model.specs.Kinds.{mux_field}
+use Rattle.clk_model.specs.Tree.{if_registered, link_given}
 use Rattle.clk_model.specs.Rate.{rate}
 use Rattle.clk_model.specs.Begin.{registered_rows, register}
 use Rattle.clk_model.specs.Laws.Paths.{scales_by}
 use Rattle.clk_model.proofs.StateLaws.{settled-still, row_of-set_other}
-use Rattle.clk_model.proofs.Members.{is_in_head, is_in_tail, test_same}
+use Rattle.clk_model.proofs.Members.{test_same}
 use Rattle.clk_model.proofs.RateLaws.{rate-links, writes_leave_rates}
+use Rattle.clk_model.proofs.SupplyLaws.{selected_same}
 use Rattle.clk_tree.specs.TreeState.{TreeState, IsTree, attached}
 use Rattle.counts_core.specs.Sums.{up_in}
 use Rattle.counts_core.specs.Counted.{CountState, AreCounts, HasLinks, HasOtherLinks}
@@ -38,8 +39,6 @@ use Rattle.clk_machine.specs.Parts.{Parts, bare, AreKept, AreTied, ArePaid, IsWh
 use Rattle.clk_machine.specs.Window.{Shown}
 use Rattle.clk_machine.specs.Stands.{Stands, Becomes}
 use Rattle.clk_machine.proofs.HeldCounts.{held_still}
-use Rattle.clk_machine.proofs.Fitting.{all_in}
-use Rattle.clk_machine.proofs.Attaching.{link_given-selected}
 use Rattle.clk_machine.proofs.Attached.{critical_more, active_beside, IsAttached, stands_attached}
 use Rattle.clk_machine.proofs.Flying.{never_flown}
 use Rattle.clk_machine.proofs.Writing.{counts_stand}
@@ -47,33 +46,6 @@ use Rattle.counts_core.proofs.Standing.{tells_holds}
 use Rattle.counts_core.specs.Counted.{is_active}
 use Rattle.clk_model.specs.Holders.{active}
 use Rattle.clk_machine.proofs.WindowLaws.{field-take}
-
--- ---- the parent
-
--- what is at a place of a list is in it
-pub in-at : (xs : List ℕ) (n x : ℕ) → slice_get xs n ≡ Some x → is_in x xs ≡ true
-in-at [] n x e = absurd cc
-in-at (y ∷ xs) zero x e = let same : x ≡ y = cc in ap (λ (k : ℕ). is_in k (y ∷ xs)) same ∙ is_in_head y xs
-in-at (y ∷ xs) (suc n) x e = is_in_tail x y xs (in-at xs n x e)
-
--- what was found at a place is a possible parent
-pub found_possible : (ps : List ℕ) (n : ℕ) (found : Option ClockId) → option_map (λ p. p.0) found ≡ slice_get ps n → IfSome found (λ p. is_in p.0 ps ≡ true)
-found_possible ps n None e = tt
-found_possible ps n (Some p) e = in-at ps n p.0 (sym e)
-
--- the field of a mux lies in the bank
-pub mux_lies : (words : ℕ) (defs : Description) (c word shift width : ℕ) (read_only : Bool) → IsValid words defs → c < length defs
-    → kind_of defs c ≡ Mux word shift width read_only → (word < words) × (shift + width ≤ 32)
-mux_lies words defs c word shift width read_only valid within is =
-    fields-within words defs valid c 0 (record { word = word; shift = shift; width = width }) within (ap (λ (k : Kind). slice_get (fields_of k) 0) is)
-
--- ---- registered parents
-
--- a possible parent of a clock whose possible parents are registered
-pub parent_there : (clocks : List ClockRow) (ps : List ℕ) (found : Option ClockId) → list_all (registered clocks) ps ≡ true → IfSome found (λ p. is_in p.0 ps ≡ true)
-    → IfSome found (λ p. registered clocks p.0 ≡ true)
-parent_there clocks ps None all can = tt
-parent_there clocks ps (Some p) all can = all_in (registered clocks) ps p.0 all can
 
 -- ---- the rates of the first words
 
@@ -98,6 +70,37 @@ pub rate-take : (words : ℕ) (defs : Description) (regs : Registers) (clocks : 
     → rate defs (take words regs) clocks c ≡ rate defs regs clocks c
 rate-take words defs regs clocks c valid =
     writes_leave_rates defs regs (take words regs) clocks c (λ a m f e. field-take words regs f.word f.shift f.width (scales_lies words defs a f valid e))
+
+-- ---- the parent that the first words give
+
+-- the field of a mux lies in the first words
+mux_lies : (words : ℕ) (defs : Description) (c : ℕ) (f : Field) → IsValid words defs → mux_field (kind_of defs c) ≡ Some f → f.word < words
+mux_lies words defs c f valid e = elim (cases_lt c (length defs)) [
+  | inl inside ↦ by (kind_of defs c) e (λ at. (fields-within words defs valid c 0 f inside at).0)
+  | inr outside ↦
+      let none : mux_field (kind_of defs c) ≡ None = ap (λ (d : ClockDef). mux_field d.kind) (get_or_past defs c nobody (omega arith)) in
+      absurd cc
+] where
+  by : (kind : Kind) → mux_field kind ≡ Some f → (slice_get (fields_of kind) 0 ≡ Some f → f.word < words) → f.word < words
+  by (FixedRate rate) e lies = absurd cc
+  by (Factor mult div) e lies = absurd cc
+  by (Gate word bit set_to_disable) e lies = absurd cc
+  by (Mux word shift width read_only) e lies = lies e
+  by (Divider word shift width one_based power_of_two) e lies = absurd cc
+  by (Pll word shift width power_word power_bit least most m) e lies = absurd cc
+
+-- so they give the parent that all words give
+pub link_given-take : (words : ℕ) (defs : Description) (regs : Registers) (clocks : List ClockRow) (c : ℕ) → IsValid words defs → link_given defs (take words regs) clocks c ≡ link_given defs regs clocks c
+unfolding link_given
+link_given-take words defs regs clocks c valid =
+    ap (option_and_then (if_registered clocks)) (selected_same defs regs (take words regs) c (λ f e. field-take words regs f.word f.shift f.width (mux_lies words defs c f valid e)))
+
+-- and the one that is found over a bank is that
+pub given_first : (n : ℕ) (told : Option (List ℕ)) (defs : Description) (clocks : List ClockRow) (c : ℕ) (parent : Option ClockId) → IsValid n defs
+    → ((regs : Registers) → told ≡ Some regs → option_map (λ p. p.0) parent ≡ link_given defs regs clocks c)
+    → IfSome (option_map (take n) told) (λ regs. option_map (λ p. p.0) parent ≡ link_given defs regs clocks c)
+given_first n None defs clocks c parent valid link = tt
+given_first n (Some regs) defs clocks c parent valid link = link regs refl ∙ sym (link_given-take n defs regs clocks c valid)
 
 -- ---- the tree after a registration
 
@@ -125,16 +128,15 @@ fresh_registered n (Some regs) defs clocks old new c parent valid within kept re
 
 -- the rows are those of the registration
 pub rows_registered : (n : ℕ) (told : Option (List ℕ)) (defs : Description) (clocks : List ClockRow) (rates : List ℕ) (c : ℕ) (parent : Option ClockId)
-    → IsValid n defs → c < length clocks → list_all (registered clocks) (parents_of defs c) ≡ true
-    → IfSome (option_map (take n) told) (λ regs. option_map (λ p. p.0) parent ≡ selected defs regs c)
+    → IsValid n defs → c < length clocks → IfSome (option_map (take n) told) (λ regs. option_map (λ p. p.0) parent ≡ link_given defs regs clocks c)
     → IfSome told (λ regs. (k : ℕ) → registered (attached clocks c parent) k ≡ true → slice_index rates k ≡ rate defs regs (attached clocks c parent) k)
     → IfSome (option_map (take n) told) (λ regs. requested (attached clocks c parent) c (slice_index rates c) ≡ registered_rows defs regs clocks c)
-rows_registered n None defs clocks rates c parent valid within parents is fresh = tt
-rows_registered n (Some regs) defs clocks rates c parent valid within parents is fresh =
+rows_registered n None defs clocks rates c parent valid within is fresh = tt
+rows_registered n (Some regs) defs clocks rates c parent valid within is fresh =
     let rows : List ClockRow = attached clocks c parent in
     let there : registered rows c ≡ true = registered-set clocks c _ c within refl ∙ ap (λ (b : Bool). b || registered clocks c) (test_same c) in
     ap (λ (r : ℕ). requested rows c r) (fresh c there ∙ sym (rate-take n defs regs rows c valid))
-    ∙ attached-registered defs (take n regs) clocks c parent within (is ∙ sym (link_given-selected defs (take n regs) clocks c parents))
+    ∙ attached-registered defs (take n regs) clocks c parent within is
 
 -- who is registered after it
 pub registered-registered : (clocks : List ClockRow) (c : ℕ) (parent : Option ClockId) (request k : ℕ) → c < length clocks → c < length (attached clocks c parent)
@@ -166,7 +168,6 @@ row_within clocks new c n parent is rows within =
 pub record Registered (old : Parts) (c : ℕ) (tree' : TreeState) (counts' : CountState) : Type 0 where
   pub place : c < length old.desc.defs
   pub free : registered old.tree.clocks c ≡ false
-  pub parents : list_all (registered old.tree.clocks) (parents_of old.desc.defs c) ≡ true
   pub rows : (k : ℕ) → registered tree'.clocks k ≡ (registered old.tree.clocks k || nat_eq c k)
   pub clocks : IfSome old.window.words (λ regs. tree'.clocks ≡ registered_rows old.desc.defs regs old.tree.clocks c)
   pub order : tree'.order ≡ to_front c old.tree.order

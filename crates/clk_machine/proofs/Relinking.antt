@@ -5,6 +5,7 @@ use Rattle.std.specs.List.{list_all}
 use Rattle.std.specs.Option.{option_map_or}
 use Rattle.std.proofs.Math.Path.{fun_ext}
 use Rattle.std.proofs.Math.Bool.{or-false}
+use Rattle.std.proofs.lemmas.Bool.{and_from}
 use Rattle.clk_base.specs.declared.call.Micro.{Micro}
 use Rattle.clk_base.specs.declared.call.Micro.TheVariants as micro
 use Rattle.clk_base.specs.declared.call.Sleeping.{Sleeping}
@@ -170,7 +171,7 @@ pub record Relinked (old : Parts) (m : Micro) (window' : Shown) (tree' : TreeSta
   pub behind : window'.behind ≡ old.window.behind
   pub tied : AreTied old.desc window' tree'
   pub there : (c : ℕ) → registered tree'.clocks c ≡ registered old.tree.clocks c
-  pub linked : (c : ℕ) → is_some (link_in tree'.clocks c) ≡ is_some (link_in old.tree.clocks c)
+  pub linked : (c : ℕ) → is_some (link_in old.tree.clocks c) ≡ true → is_some (link_in tree'.clocks c) ≡ true
   pub keeps : AreCounts counts'
   pub prepares : AreHeld (registered old.tree.clocks) (length old.desc.defs) (old.steps + 1) prepares'
   pub enables : AreHeld (registered old.tree.clocks) (length old.desc.defs) (old.steps + 1) enables'
@@ -187,14 +188,21 @@ with_relinked old window' tree' counts' prepares' enables' flight' =
     record old { window = window'; tree = tree'; counts = counts'; prepare_holds = prepares'; enable_holds = enables'; flight = flight'; steps = old.steps + 1 }
 
 -- what can be made over the tree stays so
-can_same : (defs : Description) (old new : List ClockRow) → ((c : ℕ) → registered new c ≡ registered old c) → ((c : ℕ) → is_some (link_in new c) ≡ is_some (link_in old c)) → (m : Micro) → can_link defs new m ≡ can_link defs old m
-can_same defs old new there linked (micro.Relink c p) =
-    ap (λ (t : Bool). is_some (mux_field (kind_of defs c.0)) && t && registered new p.0 && is_in p.0 (parents_of defs c.0)) (linked c.0)
-    ∙ ap (λ (t : Bool). is_some (mux_field (kind_of defs c.0)) && is_some (link_in old c.0) && t && is_in p.0 (parents_of defs c.0)) (there p.0)
-can_same defs old new there linked (micro.WriteMux c place) =
-    ap (λ (t : Bool). is_some (mux_field (kind_of defs c.0)) && t && nat_lt place (length (parents_of defs c.0))) (linked c.0)
-can_same defs old new there linked (micro.Settle c) = there c.0
-can_same defs old new there linked _ = refl
+can_more : (defs : Description) (old new : List ClockRow) → ((c : ℕ) → registered new c ≡ registered old c) → ((c : ℕ) → is_some (link_in old c) ≡ true → is_some (link_in new c) ≡ true) → (m : Micro) → can_link defs old m ≡ true
+    → can_link defs new m ≡ true
+can_more defs old new there linked (micro.Relink c p) can =
+    ap (λ (t : Bool). t && registered new p.0 && is_in p.0 (parents_of defs c.0)) (there c.0)
+    ∙ ap (λ (t : Bool). registered old c.0 && t && is_in p.0 (parents_of defs c.0)) (there p.0) ∙ can
+can_more defs old new there linked (micro.WriteMux c place) can =
+    ap (λ (t : Bool). is_some (mux_field (kind_of defs c.0)) && t && nat_lt place (length (parents_of defs c.0)))
+    (linked c.0 (both_right _ _ (both_left _ _ can)) ∙ sym (both_right _ _ (both_left _ _ can))) ∙ can
+can_more defs old new there linked (micro.Settle c) can = there c.0 ∙ can
+can_more defs old new there linked _ can = can
+
+-- where each step that passes one test passes another, so do lists of them
+pub all_more : (before after : Micro → Bool) (ms : List Micro) → ((m : Micro) → before m ≡ true → after m ≡ true) → list_all before ms ≡ true → list_all after ms ≡ true
+all_more before after [] each all = refl
+all_more before after (m ∷ ms) each all = and_from _ _ (each m (both_left _ _ all)) (all_more before after ms each (both_right _ _ all))
 
 pub own_step_of : (old : Parts) (m : Micro) → IsWhole old → old.flight.going ≡ true → relinks m ≡ true → own_step old.flight ≡ Some m → OwnStep old.flight m
 own_step_of old m whole going is own = own_of old.flight (registered old.tree.clocks) m is own (whole.flown going).way
@@ -243,8 +251,8 @@ whole_relinked old m window' tree' counts' prepares' enables' flight' now =
         paid = flown.paid;
         tells = λ changes. let tells = tells-own old.flight (notifiers_at old.chains) old.course.notified m now.is at (flown.tells changes) in record { front = tells.front; visits = tells.visits };
         links = λ changes.
-            ap (λ (can : Micro → Bool). list_all can (gone_on old.flight).left) (fun_ext (can_same old.desc.defs old.tree.clocks tree'.clocks now.there now.linked))
-            ∙ (links-own old.flight old.desc.defs old.tree.clocks m at (flown.links changes)).1;
+            all_more (can_link old.desc.defs old.tree.clocks) (can_link old.desc.defs tree'.clocks) (gone_on old.flight).left (can_more old.desc.defs old.tree.clocks tree'.clocks now.there now.linked)
+            (links-own old.flight old.desc.defs old.tree.clocks m at (flown.links changes)).1;
       });
       room = let room = whole.room in omega arith;
       prepares_held = held_still (registered old.tree.clocks) (registered tree'.clocks) (length old.desc.defs) (old.steps + 1) prepares' (λ k there. now.there k ∙ there) now.prepares;

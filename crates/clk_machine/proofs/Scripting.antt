@@ -248,10 +248,6 @@ each_there Q there (r ∷ rates) each all = (each r.clock all.0, each_there Q th
 all_three : (a b c : Bool) → a ≡ true → b ≡ true → c ≡ true → (a && b && c) ≡ true
 all_three a b c one two three = ap (λ (t : Bool). t && b && c) one ∙ ap (λ (t : Bool). t && c) two ∙ three
 
-all_four : (a b c d : Bool) → a ≡ true → b ≡ true → c ≡ true → d ≡ true → (a && b && c && d) ≡ true
-all_four a b c d one two three four =
-    ap (λ (t : Bool). t && b && c && d) one ∙ ap (λ (t : Bool). t && c && d) two ∙ ap (λ (t : Bool). t && d) three ∙ four
-
 -- the place of a possible parent is one of the list
 place_first : (p q : ℕ) (ps : List ℕ) (t : Bool) → nat_eq q p ≡ t → (t || is_in p ps) ≡ true → (is_in p ps ≡ true → position_or_len (λ r. nat_eq r p) ps < length ps)
     → position_or_len (λ r. nat_eq r p) (q ∷ ps) < length (q ∷ ps)
@@ -403,7 +399,7 @@ module _ (t : TreeState) (prepared : ℕ → Bool) (lists : List (List Notifier)
     has_link c p is = ap (λ (o : Option ℕ). is_some o) is.link
 
     relinks : (c p : ℕ) → IsMoved t.defs t.clocks c p → can_link t.defs t.clocks (micro.Relink (clock_id c) (clock_id p)) ≡ true
-    relinks c p is = all_four (is_some (mux_field (kind_of t.defs c))) (is_some (link_in t.clocks c)) (registered t.clocks p) (is_in p (parents_of t.defs c)) (is_mux c p is) (has_link c p is) (is_there c p is) (is_possible c p is)
+    relinks c p is = all_three (registered t.clocks c) (registered t.clocks p) (is_in p (parents_of t.defs c)) (linked c is.from is.link) (is_there c p is) (is_possible c p is)
 
     selects : (c p : ℕ) → IsMoved t.defs t.clocks c p → can_link t.defs t.clocks (micro.WriteMux (clock_id c) (place_of t.defs c p)) ≡ true
     selects c p is =

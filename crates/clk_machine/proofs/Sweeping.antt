@@ -117,7 +117,7 @@ adds_more m step test xs ys before mid after one two = record {
 }
 
 -- one clock more of an order
-take_one : (xs : List ClockId) (k : ℕ) (c : ClockId) → slice_get xs k ≡ Some c → take (k + 1) (places xs) ≡ take k (places xs) ++ c.0 ∷ []
+pub take_one : (xs : List ClockId) (k : ℕ) (c : ClockId) → slice_get xs k ≡ Some c → take (k + 1) (places xs) ≡ take k (places xs) ++ c.0 ∷ []
 take_one [] k c at = absurd cc
 take_one (x ∷ xs) zero c at = let same : x ≡ c = cc in ap (λ (y : ClockId). y.0 ∷ []) same
 take_one (x ∷ xs) (suc k) c at =
@@ -129,7 +129,7 @@ pub adds_on : (m : Parts) (step : ℕ → Micro) (test : State → ℕ → Bool)
 adds_on m step test order k c before mid after at so_far one =
     subst (λ (xs : List ℕ). Adds m step test xs before after) (sym (take_one order k c at)) (adds_more m step test (take k (places order)) (c.0 ∷ []) before mid after so_far one)
 
-take_whole : (xs : List ClockId) (k : ℕ) → length xs ≤ k → take k (places xs) ≡ places xs
+pub take_whole : (xs : List ClockId) (k : ℕ) → length xs ≤ k → take k (places xs) ≡ places xs
 take_whole [] zero le = refl
 take_whole [] (suc k) le = refl
 take_whole (x ∷ xs) zero le = absurd (omega arith)

@@ -36,7 +36,7 @@ use Rattle.clk_machine.proofs.Relinked.{linked_there, settled_there}
 
 -- ---- a call in flight in a state of a run
 
-run_of : (words : ℕ) (s : State) (is : IsReached words s) → runs.IsRun s
+pub run_of : (words : ℕ) (s : State) (is : IsReached words s) → runs.IsRun s
 run_of words s is = subst (λ (t : State). runs.IsRun t) (sym is.leads) (fed.run_of is.defs is.regs is.ignore_unused is.credits is.journal is.valid)
 
 in_call : (words : ℕ) (s : State) (k : Change) → IsReached words s → s.change ≡ Some k → InCall s k

@@ -37,3 +37,10 @@ pub record Passes (from to : ℕ) (own own' held held' : List ℕ) : Type 0 wher
   pub coupled : (d : ℕ) → slice_index own' d + slice_index held d ≡ slice_index own d + slice_index held' d
   pub both : slice_index held' from + slice_index held' to ≡ slice_index held from + slice_index held to
   pub others : (d : ℕ) → d ≢ from → d ≢ to → slice_index held' d ≡ slice_index held d
+
+-- holds of a clock end, and with them what it has of its own
+pub record Ends (clock : ℕ) (own own' held held' : List ℕ) : Type 0 where
+  pub length_ : length held' ≡ length held
+  pub sum_ : sum_by (λ n. n) held' ≤ sum_by (λ n. n) held
+  pub coupled : (d : ℕ) → slice_index own' d + slice_index held d ≡ slice_index own d + slice_index held' d
+  pub others : (d : ℕ) → d ≢ clock → slice_index held' d ≡ slice_index held d

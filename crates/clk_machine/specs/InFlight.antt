@@ -85,10 +85,10 @@ may_make what there (micro.Close c) = is_sweep what && there c.0
 may_make what there (micro.Unpower c) = is_sweep what && there c.0
 may_make what there m = may_seek what there m
 
--- whether a step can be made over a tree: a mux that has a link gets one to a registered possible parent, or selects the one at a place,
--- and a registered clock settles
+-- whether a step can be made over a tree: a registered clock gets a link to a registered possible parent, a mux that has a link selects the
+-- parent at a place, and a registered clock settles
 abbrev pub can_link : Description → List ClockRow → Micro → Bool
-can_link defs clocks (micro.Relink c p) = is_some (mux_field (kind_of defs c.0)) && is_some (link_in clocks c.0) && registered clocks p.0 && is_in p.0 (parents_of defs c.0)
+can_link defs clocks (micro.Relink c p) = registered clocks c.0 && registered clocks p.0 && is_in p.0 (parents_of defs c.0)
 can_link defs clocks (micro.WriteMux c place) = is_some (mux_field (kind_of defs c.0)) && is_some (link_in clocks c.0) && nat_lt place (length (parents_of defs c.0))
 can_link defs clocks (micro.Settle c) = registered clocks c.0
 can_link defs clocks _ = true

@@ -5,6 +5,7 @@ mod behind;
 mod built;
 mod course;
 mod decision;
+mod dropping;
 mod fit;
 mod framework;
 mod free;

@@ -1,21 +1,19 @@
 //! Registering a clock.
 
-ghost use Rattle.std.specs.Prelude.{◌≡◌, ◌≢◌, ℕ, ◌<◌, ◌||◌, ◌==◌, true, length, slice_get, IfSome};
-ghost use Rattle.std.specs.Option.{option_map};
+ghost use Rattle.std.specs.Prelude.{◌≡◌, ◌≢◌, ℕ, ◌<◌, ◌||◌, ◌==◌, length, IfSome};
 ghost use Rattle.std.specs.List.{list_all};
-ghost use Rattle.clk_base.specs.Description.{parents_of};
 ghost use Rattle.clk_base.specs.Places.{places};
 ghost use Rattle.clk_base.specs.Valid.{IsValid};
-ghost use Rattle.clk_model.specs.Lists.{is_in, to_front};
+ghost use Rattle.clk_model.specs.Lists.{to_front};
 ghost use Rattle.clk_model.specs.State.{registered, link_in};
-ghost use Rattle.clk_model.specs.Tree.{selected};
 ghost use Rattle.clk_model.specs.Begin.{registered_rows};
 ghost use Rattle.clk_tree.specs.TreeState.{IsTree};
 ghost use Rattle.clk_machine.specs.Parts.{AreKept};
 
 use crate::window::Window;
-use clk_base::{ClockId, Kind, ValidDesc};
+use clk_base::{ClockId, ValidDesc};
 use clk_tree::Tree;
+use orphans::link_of;
 use reg_bank::Bank;
 
 /// Whether all of these clocks are registered.
@@ -30,41 +28,8 @@ pub(crate) fn are_registered(tree: &Tree, wanted: &[ClockId]) -> bool
     true
 }
 
-// The possible parent of a clock at a place.
-fn parent_at(desc: &ValidDesc, clock: ClockId, place: u32) -> Option<ClockId>
-    requires { clock.0 < length desc.now.defs }
-    ensures { option_map (λ p. p.0) result ≡ slice_get (parents_of desc.now.defs clock.0) place }
-{
-    desc.def(clock)
-        .parents
-        .as_slice()
-        .get(place as usize)
-        .copied()
-}
-
-// The parent that the registers select: of a mux the one at the place in its field, of another clock
-// its one possible parent.
-fn selected_parent<B: Bank>(desc: &ValidDesc, window: &Window<B>, clock: ClockId) -> Option<ClockId>
-    requires place { clock.0 < length desc.now.defs }
-    requires words { window.now.size ≡ desc.now.words }
-    ensures selected { IfSome window.now.words (λ regs. option_map (λ p. p.0) result ≡ selected desc.now.defs regs clock.0) }
-    ensures possible { IfSome result (λ p. is_in p.0 (parents_of desc.now.defs clock.0) ≡ true) }
-    ensures valid { IsValid desc.now.words desc.now.defs }
-{
-    let place = match desc.def(clock).kind {
-        Kind::Mux {
-            word,
-            shift,
-            width,
-            ..
-        } => window.field(word, shift, width),
-        _ => 0,
-    };
-    parent_at(desc, clock, place)
-}
-
-/// Registers a clock whose possible parents are registered: it is linked to the parent that the
-/// registers select, and its rate is its last request.
+/// Registers a clock: it is linked to the parent that the registers select, where that is registered,
+/// and its rate is its last request.
 pub(crate) fn register_clock<B: Bank>(
     desc: &ValidDesc,
     window: &Window<B>,
@@ -72,9 +37,9 @@ pub(crate) fn register_clock<B: Bank>(
     clock: ClockId,
 )
     requires place { clock.0 < length desc.now.defs }
+    requires valid { IsValid desc.now.words desc.now.defs }
     requires words { window.now.size ≡ desc.now.words }
     requires made { tree.old.defs ≡ desc.now.defs }
-    requires parents { list_all (registered tree.old.clocks) (parents_of desc.now.defs clock.0) ≡ true }
     requires kept { AreKept desc.now.defs window.now.words tree.old.clocks tree.old.rates }
     ensures rows { (k : ℕ) → registered tree.new.clocks k ≡ (registered tree.old.clocks k || clock.0 == k) }
     ensures links { (d : ℕ) → d ≢ clock.0 → link_in tree.new.clocks d ≡ link_in tree.old.clocks d }
@@ -84,9 +49,10 @@ pub(crate) fn register_clock<B: Bank>(
     ensures kept { AreKept desc.now.defs window.now.words tree.new.clocks tree.new.rates }
     ensures stands { IsTree tree.new.defs tree.new.clocks tree.new.order tree.new.rates }
 {
-    let parent = selected_parent(desc, window, clock);
+    let bank = window.bank();
+    let parent = link_of(desc, tree, bank, clock);
     tree.attach(clock, parent);
-    tree.refresh(desc, window.bank(), clock);
+    tree.refresh(desc, bank, clock);
     let rate = tree.rate(clock);
     tree.set_last_request(clock, rate);
 }

@@ -1,6 +1,6 @@
 -- Laws on the orphans that wait for a parent.
 use Rattle.std.proofs.Common.{◌≡◌, ℕ, suc, ◌+◌, ◌<◌, ◌≤◌, ◌++◌, Bool, true, false, cond, List, [], ◌∷◌, Option, Some, None, refl, sym, ap, subst, ◌∙◌, inl, inr, arith, length, drop}
-use Rattle.std.specs.Prelude.{IfSome, filter, slice_get, find}
+use Rattle.std.specs.Prelude.{All, IfSome, filter, slice_get, find}
 use Rattle.std.specs.Option.{option_map, option_map_or}
 use Rattle.std.proofs.lemmas.List.{append-nil, append_assoc}
 use Rattle.clk_base.specs.declared.clock.ClockId.{ClockId}
@@ -9,6 +9,8 @@ use Rattle.clk_base.specs.Valid.{IsValid}
 use Rattle.reg_bank.specs.Registers.{Registers}
 use Rattle.clk_model.specs.declared.row.ClockRow.{ClockRow}
 use Rattle.clk_model.specs.Kinds.{is_fixed}
+use Rattle.clk_model.specs.Lists.{is_in}
+use Rattle.clk_model.specs.State.{registered}
 use Rattle.clk_model.specs.Tree.{roots, orphans, is_orphan}
 use Rattle.clk_model.proofs.OnceLaws.{in_append, is_in-filter, filter_passes, length-filter-le}
 use Rattle.clk_model.proofs.StateLaws.{filter_none}
@@ -36,6 +38,13 @@ together_few t cs tree (inl e) =
     let same = ap length e in let kept = length-filter-le (λ c. is_fixed (kind_of t.defs c)) t.order in let few = order-few t.defs t.clocks t.order t.rates tree in omega arith
 together_few t cs tree (inr e) =
     let same = ap length e in let kept = length-filter-le (is_orphan t.defs t.clocks) t.order in let few = order-few t.defs t.clocks t.order t.rates tree in omega arith
+
+-- and each is registered
+pub together_there : (t : TreeState) (cs : List ℕ) (j c : ℕ) → IsTree t.defs t.clocks t.order t.rates → StandTogether t cs → slice_get cs j ≡ Some c → registered t.clocks c ≡ true
+together_there t cs j c tree (inl e) at =
+    sym (tree.order_lists.listed c) ∙ is_in-filter (λ d. is_fixed (kind_of t.defs d)) c t.order (ap (is_in c) (sym e) ∙ at_place cs j c at)
+together_there t cs j c tree (inr e) at =
+    sym (tree.order_lists.listed c) ∙ is_in-filter (is_orphan t.defs t.clocks) c t.order (ap (is_in c) (sym e) ∙ at_place cs j c at)
 
 -- what waits of a clock and of those behind it
 pub one_more : (test : ℕ → Bool) (c : ℕ) (cs rest one two whole : List ℕ) → cs ≡ c ∷ rest → two ≡ one ++ cond (test c) (c ∷ []) []
@@ -77,6 +86,18 @@ both_lists t test (r ∷ rs) os first second done one two are_roots are_orphans 
     pushed' os 0 are_orphans (next ∙ get_second (r ∷ rs) os done 0 (omega arith))
     ∙ ap (λ (xs : List ℕ). one ++ filter test xs) (drop_zero os)
     ∙ ap (λ (xs : List ℕ). xs ++ filter test os) (pushed (r ∷ rs) 0 are_roots at ∙ none)
+
+-- so what holds of each clock that waits of one of two such lists, and then of what stands behind it, holds of all that wait
+pub both_there : (t : TreeState) (test : ClockId → Type 0) (rs os : List ℕ) (first second : Option ClockId) (done : ℕ) (one two : List ClockId) → StandTogether t rs → StandTogether t os
+    → option_map (λ c. c.0) first ≡ slice_get (rs ++ os) 0 → option_map (λ c. c.0) second ≡ slice_get (rs ++ os) done
+    → ((cs : List ℕ) (k : ℕ) → StandTogether t cs → option_map (λ c. c.0) first ≡ slice_get cs k → All test one)
+    → ((cs : List ℕ) (k : ℕ) → StandTogether t cs → option_map (λ c. c.0) first ≡ slice_get cs k → k ≤ length cs → k + done ≡ length cs)
+    → ((cs : List ℕ) (k : ℕ) → StandTogether t cs → option_map (λ c. c.0) second ≡ slice_get cs k → All test one → All test two)
+    → All test two
+both_there t test [] os first second done one two are_roots are_orphans at next pushed counted pushed' = pushed' os done are_orphans next (pushed os 0 are_orphans at)
+both_there t test (r ∷ rs) os first second done one two are_roots are_orphans at next pushed counted pushed' =
+    let all = counted (r ∷ rs) 0 are_roots at (omega arith) in
+    pushed' os 0 are_orphans (next ∙ get_second (r ∷ rs) os done 0 (omega arith)) (pushed (r ∷ rs) 0 are_roots at)
 
 -- ---- the first that is free
 

@@ -1,6 +1,6 @@
 //! The order of adoptions.
 
-ghost use Rattle.std.specs.Prelude.{◌≡◌, ◌<◌, ◌≤◌, Some, false, length, map, IfOk};
+ghost use Rattle.std.specs.Prelude.{◌≡◌, ◌<◌, ◌≤◌, Some, true, false, length, map, All, IfOk};
 ghost use Rattle.clk_model.specs.State.{State, registered};
 ghost use Rattle.clk_model.specs.Script.{adoptable, adoption_order};
 ghost use Rattle.clk_model.specs.Begin.{register};
@@ -27,8 +27,9 @@ pub fn adoptable<B: Bank>(
     requires made { tree.now.defs ≡ desc.now.defs }
     requires bank { desc.now.words ≤ B.size bank.now }
     requires free { registered tree.now.clocks new.0 ≡ false }
-    ensures { (s : State) → s.defs ≡ desc.now.defs → s.clocks ≡ tree.now.clocks → s.order ≡ tree.now.order → B.contents bank.now ≡ Some s.regs
+    ensures order { (s : State) → s.defs ≡ desc.now.defs → s.clocks ≡ tree.now.clocks → s.order ≡ tree.now.order → B.contents bank.now ≡ Some s.regs
         → IfOk result (λ list. map (λ c. c.0) list.items ≡ adoption_order (length (adoptable (register s new.0))) (register s new.0) (adoptable (register s new.0))) }
+    ensures there { IfOk result (λ list. All (λ c. registered tree.now.clocks c.0 ≡ true) list.items) }
 {
     let link = link_of(desc, tree, bank, new);
     let mut left = waiting(alloc, desc, tree, bank, new)?;

@@ -1,10 +1,12 @@
 //! The tree as it is with one clock more.
 
-ghost use Rattle.std.specs.Prelude.{◌≡◌, ◌<◌, ◌≤◌, ◌==◌, ◌&&◌, ◌||◌, not, Some, length};
+ghost use Rattle.std.specs.Prelude.{◌≡◌, ◌<◌, ◌≤◌, ◌==◌, ◌&&◌, ◌||◌, not, true, Some, length, IfSome};
 ghost use Rattle.std.specs.List.{list_any};
 ghost use Rattle.std.specs.Option.{option_map};
+ghost use Rattle.clk_base.specs.Description.{parents_of};
 ghost use Rattle.clk_base.specs.Tables.{flag_at};
 ghost use Rattle.reg_bank.specs.Registers.{Registers};
+ghost use Rattle.clk_model.specs.Lists.{is_in};
 ghost use Rattle.clk_model.specs.State.{registered};
 ghost use Rattle.clk_model.specs.Tree.{path_within, link_given};
 ghost use Rattle.clk_model.specs.Begin.{registered_rows};
@@ -26,7 +28,7 @@ fn is_there(tree: &Tree, new: ClockId, clock: ClockId) -> bool
 }
 
 /// The parent that a registration of the clock would link if the new one was registered.
-pub(crate) fn link_beside<B: Bank>(
+pub fn link_beside<B: Bank>(
     desc: &ValidDesc,
     tree: &Tree,
     bank: &B,
@@ -37,8 +39,10 @@ pub(crate) fn link_beside<B: Bank>(
     requires new { new.0 < length desc.now.defs }
     requires made { tree.now.defs ≡ desc.now.defs }
     requires bank { desc.now.words ≤ B.size bank.now }
-    ensures { (regs : Registers) → B.contents bank.now ≡ Some regs
+    ensures link { (regs : Registers) → B.contents bank.now ≡ Some regs
         → option_map (λ p. p.0) result ≡ link_given desc.now.defs regs (registered_rows desc.now.defs regs tree.now.clocks new.0) clock.0 }
+    ensures possible { IfSome result (λ p. is_in p.0 (parents_of desc.now.defs clock.0) ≡ true) }
+    ensures there { IfSome result (λ p. (new.0 == p.0 || registered tree.now.clocks p.0) ≡ true) }
 {
     let parent = selected(desc, bank, clock)?;
     if is_there(tree, new, parent) {

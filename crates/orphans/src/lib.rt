@@ -8,4 +8,5 @@ mod marks;
 mod waiting;
 
 pub use adopting::adoptable;
+pub use beside::link_beside;
 pub use link::link_of;

@@ -4,6 +4,7 @@ ghost use Rattle.std.specs.Prelude.{◌≡◌, ℕ, ◌+◌, ◌<◌, ◌≤◌,
 ghost use Rattle.std.specs.Option.{option_map, option_map_or};
 ghost use Rattle.clk_base.specs.Valid.{IsValid};
 ghost use Rattle.reg_bank.specs.Registers.{Registers};
+ghost use Rattle.clk_model.specs.State.{registered};
 ghost use Rattle.clk_model.specs.Tree.{roots, orphans, link_given};
 ghost use Rattle.clk_model.specs.Begin.{registered_rows};
 ghost use Rattle.clk_tree.specs.TreeState.{IsTree};
@@ -31,6 +32,7 @@ fn push_if_waiting<B: Bank>(
     requires bank { desc.now.words ≤ B.size bank.now }
     requires before { All (λ c. c.0 < length desc.now.defs) waiting.old.items }
     ensures inside { OnOk result (All (λ c. c.0 < length desc.now.defs) waiting.new.items) }
+    ensures there { registered tree.now.clocks clock.0 ≡ true → All (λ c. registered tree.now.clocks c.0 ≡ true) waiting.old.items → OnOk result (All (λ c. registered tree.now.clocks c.0 ≡ true) waiting.new.items) }
     ensures pushed { (regs : Registers) → B.contents bank.now ≡ Some regs
         → OnOk result (map (λ c. c.0) waiting.new.items ≡ map (λ c. c.0) waiting.old.items ++ (if has_parent desc.now.defs regs (registered_rows desc.now.defs regs tree.now.clocks new.0) clock.0 then clock.0 ∷ [] else [])) }
 {
@@ -57,6 +59,8 @@ fn push_waiting<B: Bank>(
     requires inside { IfSome first (λ c. c.0 < length desc.now.defs) }
     requires before { All (λ c. c.0 < length desc.now.defs) waiting.old.items }
     ensures inside { IfOk result (λ count. All (λ c. c.0 < length desc.now.defs) waiting.new.items) }
+    ensures there { (cs : List ℕ) (k : ℕ) → StandTogether tree.now cs → option_map (λ c. c.0) first ≡ slice_get cs k
+        → All (λ c. registered tree.now.clocks c.0 ≡ true) waiting.old.items → IfOk result (λ count. All (λ c. registered tree.now.clocks c.0 ≡ true) waiting.new.items) }
     ensures pushed { (regs : Registers) (cs : List ℕ) (k : ℕ) → B.contents bank.now ≡ Some regs → StandTogether tree.now cs → option_map (λ c. c.0) first ≡ slice_get cs k
         → IfOk result (λ count. map (λ c. c.0) waiting.new.items ≡ map (λ c. c.0) waiting.old.items ++ filter (has_parent desc.now.defs regs (registered_rows desc.now.defs regs tree.now.clocks new.0)) (drop k cs)) }
     ensures counted { (cs : List ℕ) (k : ℕ) → StandTogether tree.now cs → option_map (λ c. c.0) first ≡ slice_get cs k
@@ -88,6 +92,7 @@ pub(crate) fn waiting<B: Bank>(
     requires bank { desc.now.words ≤ B.size bank.now }
     ensures stands { IsTree tree.now.defs tree.now.clocks tree.now.order tree.now.rates }
     ensures inside { IfOk result (λ list. All (λ c. c.0 < length desc.now.defs) list.items) }
+    ensures there { IfOk result (λ list. All (λ c. registered tree.now.clocks c.0 ≡ true) list.items) }
     ensures list { (regs : Registers) → B.contents bank.now ≡ Some regs
         → IfOk result (λ list. map (λ c. c.0) list.items ≡ filter (has_parent desc.now.defs regs (registered_rows desc.now.defs regs tree.now.clocks new.0)) (orphans tree.now.defs tree.now.order tree.now.clocks)) }
 {

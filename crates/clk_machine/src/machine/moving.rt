@@ -1,6 +1,7 @@
 //! The steps that give a clock another parent, and those behind them.
 
-ghost use Rattle.std.specs.Prelude.{◌≡◌, is_some, true, Some, None};
+ghost use Rattle.std.specs.Prelude.{◌≡◌, true, Some, None};
+ghost use Rattle.std.specs.Option.{option_map};
 ghost use Rattle.clk_model.specs.State.{link_in};
 ghost use Rattle.clk_base.specs.declared.call.Micro.TheVariants as micro;
 ghost use Rattle.clk_base.specs.declared.event.Event.TheVariants.{Step};
@@ -10,6 +11,7 @@ ghost use Rattle.clk_machine.specs.Making.{ComesFirst};
 ghost use Rattle.clk_machine.specs.Stands.{Enters};
 
 use super::Machine;
+use crate::dropping::{end_enables, end_prepares};
 use crate::linking::link_to;
 use crate::passing::{pass_enables, pass_prepares};
 use crate::settling::settle_below;
@@ -18,26 +20,22 @@ use clk_base::{ClockId, depth};
 use reg_bank::Bank;
 
 impl<B: Bank> Machine<B> {
-    // The parent of a clock that has one.
-    fn linked_parent(&self, clock: ClockId) -> ClockId
-        requires { is_some (link_in self.now.tree.clocks clock.0) ≡ true }
-        ensures { link_in self.now.tree.clocks clock.0 ≡ Some result.0 }
+    // The parent of a clock, if it has one.
+    fn parent_now(&self, clock: ClockId) -> Option<ClockId>
+        ensures { option_map (λ p. p.0) result ≡ link_in self.now.tree.clocks clock.0 }
     {
-        match self.tree.parent(clock) {
-            Some(parent) => parent,
-            None => unreachable!(),
-        }
+        self.tree.parent(clock)
     }
 
-    /// A clock gets another parent, and is its newest child. What is held of that parent is held of the
-    /// one that it had.
-    pub(super) fn relink(&mut self, clock: ClockId, parent: ClockId)
+    // A clock that has a parent gets another one. What is held of that parent is held of the one that
+    // it had.
+    fn pass_on(&mut self, clock: ClockId, parent: ClockId, from: ClockId)
         requires going { self.old.flight.going ≡ true }
         requires next { own_step self.old.flight ≡ Some (micro.Relink clock parent) }
         requires first { ComesFirst self.old (micro.Relink clock parent) }
+        requires link { link_in self.old.tree.clocks clock.0 ≡ Some from.0 }
         ensures { Enters self.old self.old.flight.driver (Step (micro.Relink clock parent) None) Going self.new }
     {
-        let from = self.linked_parent(clock);
         link_to(&self.desc, &self.window, &mut self.tree, clock, parent);
         self.counts.moved(&self.tree, clock, Some(from));
         pass_prepares(
@@ -56,6 +54,41 @@ impl<B: Bank> Machine<B> {
         );
         self.flight.go_on();
         self.steps += 1;
+    }
+
+    // An orphan gets a parent. What is held of that parent is held no more.
+    fn adopt(&mut self, clock: ClockId, parent: ClockId)
+        requires going { self.old.flight.going ≡ true }
+        requires next { own_step self.old.flight ≡ Some (micro.Relink clock parent) }
+        requires first { ComesFirst self.old (micro.Relink clock parent) }
+        requires link { link_in self.old.tree.clocks clock.0 ≡ None }
+        ensures { Enters self.old self.old.flight.driver (Step (micro.Relink clock parent) None) Going self.new }
+    {
+        link_to(&self.desc, &self.window, &mut self.tree, clock, parent);
+        self.counts.moved(&self.tree, clock, None);
+        end_prepares(
+            &self.tree,
+            &mut self.counts,
+            &mut self.prepare_holds,
+            parent,
+        );
+        end_enables(&self.tree, &mut self.counts, &mut self.enable_holds, parent);
+        self.flight.go_on();
+        self.steps += 1;
+    }
+
+    /// A clock gets a parent, and is its newest child. What is held of that parent is held of the one
+    /// that the clock had, and ends where it had none.
+    pub(super) fn relink(&mut self, clock: ClockId, parent: ClockId)
+        requires going { self.old.flight.going ≡ true }
+        requires next { own_step self.old.flight ≡ Some (micro.Relink clock parent) }
+        requires first { ComesFirst self.old (micro.Relink clock parent) }
+        ensures { Enters self.old self.old.flight.driver (Step (micro.Relink clock parent) None) Going self.new }
+    {
+        match self.parent_now(clock) {
+            Some(from) => self.pass_on(clock, parent, from),
+            None => self.adopt(clock, parent),
+        }
     }
 
     /// The field of a mux selects the parent at a place.

@@ -35,14 +35,12 @@ impl<B: Bank> Machine<B> {
         are_registered(&self.tree, self.desc.def(clock).parents.as_slice())
     }
 
-    // Registers a clock whose possible parents are registered and that isn't critical, and spends a
-    // credit.
+    // Registers a clock that isn't critical, and spends a credit.
     fn register(&mut self, clock: ClockId)
         requires credit { self.old.spent < self.old.credits }
         requires quiet { self.old.flight.going ≡ false }
         requires place { clock.0 < length self.old.desc.defs }
         requires free { registered self.old.tree.clocks clock.0 ≡ false }
-        requires parents { list_all (registered self.old.tree.clocks) (parents_of self.old.desc.defs clock.0) ≡ true }
         requires plain { is_critical self.old.desc.defs clock.0 ≡ false }
         ensures { Becomes self.old (λ k. clock.0 == k) (λ s. register s clock.0) self.new }
     {
@@ -57,7 +55,6 @@ impl<B: Bank> Machine<B> {
         requires quiet { self.old.flight.going ≡ false }
         requires place { clock.0 < length self.old.desc.defs }
         requires free { registered self.old.tree.clocks clock.0 ≡ false }
-        requires parents { list_all (registered self.old.tree.clocks) (parents_of self.old.desc.defs clock.0) ≡ true }
         requires critical { is_critical self.old.desc.defs clock.0 ≡ true }
         ensures { Becomes self.old (λ k. clock.0 == k) (λ s. register s clock.0) self.new }
     {

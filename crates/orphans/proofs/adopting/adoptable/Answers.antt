@@ -3,7 +3,7 @@ use Rattle.std.proofs.Common.{◌≡◌, ◌∙◌, ◌<◌, ◌++◌, Bool, tru
 use Rattle.std.specs.Prelude.{find, filter, slice_get, slice_set, All}
 use Rattle.std.specs.Option.{option_map}
 use Rattle.std.proofs.lemmas.List.{append-nil, map-append, length-map, take-map, drop-map}
-use Rattle.std.proofs.lemmas.List.Elements.{All-append, All-take, All-drop}
+use Rattle.std.proofs.lemmas.List.Elements.{All-append, All-take, All-drop, All-get_or, All-nil, All-push}
 use Rattle.std.proofs.lemmas.Option.{slice_get-map, slice_get-get_or}
 use Rattle.clk_base.specs.declared.clock.ClockId.{ClockId}
 use Rattle.clk_base.specs.Description.{Description}
@@ -60,6 +60,8 @@ pub loop-turn-init : goal.loop-turn-init
 loop-turn-init g c = record {
   few = omega arith;
   inside = c.in_ok-left.ensures.inside;
+  there = c.in_ok-left.ensures.there;
+  ordered = subst (λ (ds : List ClockId). All (λ d. registered c.args.tree.now.clocks d.0 ≡ true) ds) (sym c.new-order.ensures.items) (All-nil (λ (d : ClockId). registered c.args.tree.now.clocks d.0 ≡ true));
   marked = λ regs told.
       let t = c.args.tree.now in
       let rows = registered_rows c.args.desc.now.defs regs t.clocks c.args.new.0 in
@@ -80,8 +82,8 @@ loop-turn-init g c = record {
       ap (λ (ds : List ClockId). places ds ++ adoption_order (length c.in_ok-left.left.items) (register s c.args.new.0) (places c.in_ok-left.left.items)) c.new-order.ensures.items;
 }
 
-pub returns-in-None : goal.returns-in-None
-returns-in-None g c = λ s defs clocks order told.
+pub returns-in-None-clause-order : goal.returns-in-None-clause-order
+returns-in-None-clause-order g c = λ s defs clocks order told.
     let t = c.args.tree.now in
     let stands = c.in_ok-left.ensures.stands in
     no_turn s c.args.new.0 (length c.args.desc.now.defs) (length c.loop-turn.left.items) c.loop-turn.marks.items (places c.loop-turn.left.items) (places c.loop-turn.order.items)
@@ -94,8 +96,8 @@ returns-in-None g c = λ s defs clocks order told.
     (all_waiting s c.args.new.0 c.args.desc.now.defs t.defs t.clocks t.order (places c.in_ok-left.left.items) defs clocks order c.requires.made stands.lines
     (let rows = stands.rows in let made = ap (λ (ds : Description). length ds) c.requires.made in let place = c.requires.place in omega arith) c.requires.free stands.order_lists (c.in_ok-left.ensures.list s.regs told))
 
-pub returns : goal.returns
-returns g c = λ s defs clocks order told.
+pub returns-clause-order : goal.returns-clause-order
+returns-clause-order g c = λ s defs clocks order told.
     let t = c.args.tree.now in
     let stands = c.in_ok-left.ensures.stands in
     let none : length c.loop-turn.left.items ≡ 0 = let few = c.loop-turn.invariant.few in let over = c.loop-turn-test.false in let len = c.len-turn-end.ensures in let ok = c.in_ok-left.left.ok in omega arith in
@@ -124,6 +126,15 @@ loop-turn-preserved g c =
           let test : ClockId → Type 0 = λ d. d.0 < length c.args.desc.now.defs in
           subst (λ (ds : List ClockId). All test ds) (sym c.remove-clock.ensures.items)
           (All-append test (take k left) (drop (suc k) left) (All-take test k left c.loop-turn.invariant.inside) (All-drop test (suc k) left c.loop-turn.invariant.inside));
+      there =
+          let test : ClockId → Type 0 = λ d. registered c.args.tree.now.clocks d.0 ≡ true in
+          subst (λ (ds : List ClockId). All test ds) (sym c.remove-clock.ensures.items)
+          (All-append test (take k left) (drop (suc k) left) (All-take test k left c.loop-turn.invariant.there) (All-drop test (suc k) left c.loop-turn.invariant.there));
+      ordered =
+          let test : ClockId → Type 0 = λ d. registered c.args.tree.now.clocks d.0 ≡ true in
+          subst (λ (ds : List ClockId). All test ds) (sym c.in_ok-push-in-Some.ensures.items)
+          (All-push test c.loop-turn.order.items a c.loop-turn.invariant.ordered
+          (subst test (sym c.remove-clock.ensures.value) (All-get_or test left k a lt c.loop-turn.invariant.there)));
       marked = λ regs told.
           let are = c.loop-turn.invariant.marked regs told in
           subst (λ (xs : List ℕ). AreMarked (length c.args.desc.now.defs) (slice_set c.loop-turn.marks.items a.0 false) xs) (taken_at (places left) k a.0 at are.once ∙ sym items)

@@ -22,4 +22,4 @@ returns-in-Some g c = λ regs told.
     ∙ ap (λ (n : ℕ). list_any test (path_within (up_beside clocks c.args.new.0 (option_map (λ (p : ClockId). p.0) c.args.link)) n c.in-Some.parent.0)) c.depth.ensures
     ∙ ap (list_any test) (path_beside d.defs regs clocks c.args.new.0 c.in-Some.parent.0 (option_map (λ (p : ClockId). p.0) c.args.link) within (c.requires.link regs told)))
     ∙ sym (free_by d.defs regs (registered_rows d.defs regs clocks c.args.new.0) c.args.marks.now c.args.clock.0 (Some c.in-Some.parent.0)
-    (sym (c.link_beside.ensures regs told) ∙ ap (option_map (λ (p : ClockId). p.0)) c.in-Some.is))
+    (sym (c.link_beside.ensures.link regs told) ∙ ap (option_map (λ (p : ClockId). p.0)) c.in-Some.is))

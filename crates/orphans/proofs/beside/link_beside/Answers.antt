@@ -8,21 +8,21 @@ use Rattle.orphans.proofs.LinkLaws.{given_none, given_there, given_away}
 use Rattle.orphans.proofs.BesideLaws.{registered_beside}
 use Rattle.orphans.proofs.beside.link_beside.Goals as goal
 
-pub returns-in_err-parent : goal.returns-in_err-parent
-returns-in_err-parent g c = λ regs told.
+pub returns-in_err-parent-clause-link : goal.returns-in_err-parent-clause-link
+returns-in_err-parent-clause-link g c = λ regs told.
     let d = c.args.desc.now in
     ap (option_map (λ (p : ClockId). p.0)) c.from_residual.ensures
     ∙ sym (given_none d.defs regs (registered_rows d.defs regs c.args.tree.now.clocks c.args.new.0) c.args.clock.0 (sym (c.in_err-parent.ensures.selected regs told)))
 
-pub returns-then-is_there : goal.returns-then-is_there
-returns-then-is_there g c = λ regs told.
+pub returns-then-is_there-clause-link : goal.returns-then-is_there-clause-link
+returns-then-is_there-clause-link g c = λ regs told.
     let d = c.args.desc.now in
     let rows = c.requires.made in
     sym (given_there d.defs regs (registered_rows d.defs regs c.args.tree.now.clocks c.args.new.0) c.args.clock.0 c.in_ok-parent.parent.0 (sym (c.in_ok-parent.ensures.selected regs told))
     (registered_beside d.defs regs c.args.tree.now.clocks c.args.new.0 c.in_ok-parent.parent.0 (let rows = c.is_there.ensures.stands.rows in let new = c.requires.new in let made = ap (λ (ds : Description). length ds) c.requires.made in omega arith) ∙ sym c.is_there.ensures.there ∙ c.if-is_there.true))
 
-pub returns-else-is_there : goal.returns-else-is_there
-returns-else-is_there g c = λ regs told.
+pub returns-else-is_there-clause-link : goal.returns-else-is_there-clause-link
+returns-else-is_there-clause-link g c = λ regs told.
     let d = c.args.desc.now in
     sym (given_away d.defs regs (registered_rows d.defs regs c.args.tree.now.clocks c.args.new.0) c.args.clock.0 c.in_ok-parent.parent.0 (sym (c.in_ok-parent.ensures.selected regs told))
     (registered_beside d.defs regs c.args.tree.now.clocks c.args.new.0 c.in_ok-parent.parent.0 (let rows = c.is_there.ensures.stands.rows in let new = c.requires.new in let made = ap (λ (ds : Description). length ds) c.requires.made in omega arith) ∙ sym c.is_there.ensures.there ∙ c.if-is_there.false))

@@ -9,7 +9,7 @@ use Rattle.clk_model.specs.Begin.{registered_rows}
 use Rattle.clk_tree.proofs.Along.{none_left}
 use Rattle.orphans.specs.Beside.{has_parent}
 use Rattle.clk_tree.proofs.Along.{drop_at, few_at, within_at}
-use Rattle.orphans.proofs.WaitingLaws.{next_along, together_few, one_more}
+use Rattle.orphans.proofs.WaitingLaws.{next_along, together_few, together_there, one_more}
 use Rattle.orphans.proofs.waiting.push_waiting.Goals as goal
 
 pub returns-in_default-clause-pushed : goal.returns-in_default-clause-pushed
@@ -54,6 +54,9 @@ loop-count-preserved g c =
     record {
       at_inside = subst (λ (ds : Description). IfSome c.next_sibling-at.result (λ x. x.0 < length ds)) c.requires.made c.next_sibling-at.ensures.inside;
       inside = c.in_ok-push_if_waiting.ensures.inside;
+      there = λ cs k are at before.
+          let is : slice_get cs (k + n) ≡ Some c.in-Some.clock.0 = sym (c.loop-count.invariant.along cs k are at) ∙ ap (option_map (λ (x : ClockId). x.0)) c.in-Some.is in
+          c.in_ok-push_if_waiting.ensures.there (together_there tree cs (k + n) c.in-Some.clock.0 c.requires.stands are is) (c.loop-count.invariant.there cs k are at before);
       along = λ cs k are at.
           let is : slice_get cs (k + n) ≡ Some c.in-Some.clock.0 = sym (c.loop-count.invariant.along cs k are at) ∙ ap (option_map (λ (x : ClockId). x.0)) c.in-Some.is in
           next_along tree cs (k + n) c.in-Some.clock.0 c.next_sibling-at.result are is c.next_sibling-at.ensures.root c.next_sibling-at.ensures.orphan

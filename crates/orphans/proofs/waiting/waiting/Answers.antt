@@ -1,13 +1,15 @@
 -- The roots, of which none waits, and the orphans.
-use Rattle.std.proofs.Common.{◌∙◌, ◌++◌, List, map, refl, sym, ap, subst, inl, inr, length}
-use Rattle.std.specs.Prelude.{drop, filter}
+use Rattle.std.proofs.Common.{◌≡◌, ◌∙◌, ◌++◌, true, List, map, refl, sym, ap, subst, inl, inr, length}
+use Rattle.std.specs.Prelude.{All, drop, filter}
+use Rattle.std.proofs.lemmas.List.Elements.{All-nil}
 use Rattle.clk_base.specs.declared.clock.ClockId.{ClockId}
 use Rattle.clk_base.specs.Description.{Description}
 use Rattle.clk_base.specs.Valid.{IsValid}
 use Rattle.clk_model.specs.Begin.{registered_rows}
+use Rattle.clk_model.specs.State.{registered}
 use Rattle.clk_model.specs.Tree.{roots, orphans}
 use Rattle.orphans.specs.Beside.{has_parent}
-use Rattle.orphans.proofs.WaitingLaws.{both_lists, roots_wait_not, top_inside}
+use Rattle.orphans.proofs.WaitingLaws.{both_lists, both_there, roots_wait_not, top_inside}
 use Rattle.orphans.proofs.waiting.waiting.Goals as goal
 
 pub push_waiting-requires-clause-inside : goal.push_waiting-requires-clause-inside
@@ -17,6 +19,16 @@ push_waiting-requires-clause-inside g c =
 pub push_waiting-requires-2-clause-inside : goal.push_waiting-requires-2-clause-inside
 push_waiting-requires-2-clause-inside g c =
     top_inside c.args.tree.now c.in_ok-done.done (length c.args.desc.now.defs) c.top-2.result c.top.ensures.stands (ap (λ (ds : Description). length ds) c.requires.made) c.top-2.ensures.top
+
+pub returns-clause-there : goal.returns-clause-there
+returns-clause-there g c =
+    let t = c.args.tree.now in
+    let test : ClockId → Type 0 = λ d. registered t.clocks d.0 ≡ true in
+    both_there t test (roots t.defs t.order) (orphans t.defs t.order t.clocks) c.top.result c.top-2.result c.in_ok-done.done c.push_waiting.new.waiting.items c.push_waiting-2.new.waiting.items
+    (inl refl) (inr refl) c.top.ensures.top c.top-2.ensures.top
+    (λ cs k are at. c.in_ok-done.ensures.there cs k are at (subst (λ (ds : List ClockId). All test ds) (sym c.new-list.ensures.items) (All-nil test)))
+    (λ cs k are at within. c.in_ok-done.ensures.counted cs k are at within)
+    (λ cs k are at before. c.in_ok-push_waiting.ensures.there cs k are at before)
 
 pub returns-clause-list : goal.returns-clause-list
 returns-clause-list g c = λ regs told.

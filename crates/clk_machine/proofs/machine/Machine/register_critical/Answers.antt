@@ -1,6 +1,4 @@
 use Rattle.std.proofs.Common.{◌≡◌, ◌<◌, ◌∙◌, sym, subst, true, false, length, get_or}
-use Rattle.std.specs.List.{list_all}
-use Rattle.clk_base.specs.Description.{parents_of}
 use Rattle.clk_base.specs.Flags.{is_critical}
 use Rattle.clk_model.specs.State.{registered, row_of}
 use Rattle.counts_core.specs.Counted.{CountState}
@@ -56,11 +54,9 @@ open_path-requires-clause-links g c =
     let left : m.spent < m.credits = rw (← c.self.view_is) at c.requires.credit in
     let place : c.args.clock.0 < length m.desc.defs = rw (← c.self.view_is) at c.requires.place in
     let free : registered m.tree.clocks c.args.clock.0 ≡ false = rw (← c.self.view_is) at c.requires.free in
-    let parents : list_all (registered m.tree.clocks) (parents_of m.desc.defs c.args.clock.0) ≡ true = rw (← c.self.view_is) at c.requires.parents in
     let now : Registered p c.args.clock.0 c.register_clock.new.tree c.moved.new.self = record {
       place = place;
       free = free;
-      parents = parents;
       rows = c.register_clock.ensures.rows;
       clocks = c.register_clock.ensures.clocks;
       order = c.register_clock.ensures.order;
@@ -82,11 +78,9 @@ invariant_of-self g c =
     let left : m.spent < m.credits = rw (← c.self.view_is) at c.requires.credit in
     let place : c.args.clock.0 < length m.desc.defs = rw (← c.self.view_is) at c.requires.place in
     let free : registered m.tree.clocks c.args.clock.0 ≡ false = rw (← c.self.view_is) at c.requires.free in
-    let parents : list_all (registered m.tree.clocks) (parents_of m.desc.defs c.args.clock.0) ≡ true = rw (← c.self.view_is) at c.requires.parents in
     let now : Registered p c.args.clock.0 c.register_clock.new.tree c.moved.new.self = record {
       place = place;
       free = free;
-      parents = parents;
       rows = c.register_clock.ensures.rows;
       clocks = c.register_clock.ensures.clocks;
       order = c.register_clock.ensures.order;
@@ -111,11 +105,9 @@ returns g c =
     let quiet : m.flight.going ≡ false = rw (← c.self.view_is) at c.requires.quiet in
     let place : c.args.clock.0 < length m.desc.defs = rw (← c.self.view_is) at c.requires.place in
     let free : registered m.tree.clocks c.args.clock.0 ≡ false = rw (← c.self.view_is) at c.requires.free in
-    let parents : list_all (registered m.tree.clocks) (parents_of m.desc.defs c.args.clock.0) ≡ true = rw (← c.self.view_is) at c.requires.parents in
     let now : Registered p c.args.clock.0 c.register_clock.new.tree c.moved.new.self = record {
       place = place;
       free = free;
-      parents = parents;
       rows = c.register_clock.ensures.rows;
       clocks = c.register_clock.ensures.clocks;
       order = c.register_clock.ensures.order;

@@ -1,6 +1,6 @@
 use Rattle.std.proofs.Common.{◌≡◌, ◌<◌, ◌≤◌, ◌+◌, ℕ, true, Some, refl, sym, ap, subst, ◌∙◌, List, length, arith}
 use Rattle.std.proofs.lemmas.List.{length-set}
-use Rattle.std.specs.Prelude.{is_some, slice_index}
+use Rattle.std.specs.Prelude.{slice_index}
 use Rattle.counts_core.specs.Counted.{CountState}
 use Rattle.clk_machine.proofs.Room.{prepare_owned, enable_owned, prepare_more, enable_more}
 use Rattle.clk_base.specs.declared.call.Micro.TheVariants as micro
@@ -15,8 +15,8 @@ use Rattle.clk_machine.proofs.Registering.{other_links}
 use Rattle.clk_machine.proofs.Rows.{counted_place}
 use Rattle.clk_model.specs.State.{link_in}
 use Rattle.clk_machine.proofs.Relinking.{whole_relinked}
-use Rattle.clk_machine.proofs.LinkSteps.{Stepped, LinksTo, HoldsPass, may_link, relinked_of, relink_enters}
-use Rattle.clk_machine.proofs.machine.Machine.relink.Goals as goal
+use Rattle.clk_machine.proofs.LinkSteps.{Stepped, LinksTo, HoldsPass, holds_passed, may_link, relinked_of, relink_enters}
+use Rattle.clk_machine.proofs.machine.Machine.pass_on.Goals as goal
 
 pub link_to-requires-clause-place : goal.link_to-requires-clause-place
 link_to-requires-clause-place g c =
@@ -70,7 +70,7 @@ moved-requires-clause-made g c =
 pub moved-requires-clause-from : goal.moved-requires-clause-from
 moved-requires-clause-from g c =
     let m = c.self.inside in
-    sym (c.self.invariant.counted.stands.links c.args.clock.0) ∙ subst (λ (q : Parts). link_in q.tree.clocks c.args.clock.0 ≡ Some c.linked_parent-from.result.0) (sym c.self.view_is) c.linked_parent-from.ensures
+    sym (c.self.invariant.counted.stands.links c.args.clock.0) ∙ subst (λ (q : Parts). link_in q.tree.clocks c.args.clock.0 ≡ Some c.args.from.0) (sym c.self.view_is) c.requires.link
 
 pub moved-requires-clause-others : goal.moved-requires-clause-others
 moved-requires-clause-others g c =
@@ -106,8 +106,8 @@ invariant_of-self g c =
       links = c.moved.ensures.links;
       keeps = c.moved.ensures.stands;
     } in
-    let pass : HoldsPass p c.args.clock c.args.parent c.moved.new.self c.pass_prepares.new.counts c.pass_enables.new.counts c.linked_parent-from.result.0 c.pass_prepares.new.held c.pass_enables.new.held = record {
-      link = subst (λ (q : Parts). link_in q.tree.clocks c.args.clock.0 ≡ Some c.linked_parent-from.result.0) (sym c.self.view_is) c.linked_parent-from.ensures;
+    let pass : HoldsPass p c.args.clock c.args.parent c.moved.new.self c.pass_prepares.new.counts c.pass_enables.new.counts c.args.from.0 c.pass_prepares.new.held c.pass_enables.new.held = record {
+      link = subst (λ (q : Parts). link_in q.tree.clocks c.args.clock.0 ≡ Some c.args.from.0) (sym c.self.view_is) c.requires.link;
       mid_ = c.pass_prepares.ensures.counts;
       counts = c.pass_enables.ensures.counts;
       keeps = c.pass_enables.ensures.stands;
@@ -117,7 +117,8 @@ invariant_of-self g c =
       enables_are = c.pass_enables.ensures.passed;
     } in
     whole_relinked p (micro.Relink c.args.clock c.args.parent) m.window c.link_to.new.tree c.pass_enables.new.counts c.pass_prepares.new.held c.pass_enables.new.held c.go_on.new.self
-    (relinked_of p c.args.clock c.args.parent c.link_to.new.tree c.moved.new.self c.pass_prepares.new.counts c.pass_enables.new.counts c.linked_parent-from.result.0 c.pass_prepares.new.held c.pass_enables.new.held c.go_on.new.self now to pass)
+    (relinked_of p c.args.clock c.args.parent c.link_to.new.tree c.moved.new.self c.pass_enables.new.counts c.pass_prepares.new.held c.pass_enables.new.held c.go_on.new.self now to
+    (holds_passed p c.args.clock c.args.parent c.moved.new.self c.pass_prepares.new.counts c.pass_enables.new.counts c.args.from.0 c.pass_prepares.new.held c.pass_enables.new.held c.self.invariant pass))
 
 pub returns : goal.returns
 returns g c =
@@ -147,8 +148,8 @@ returns g c =
       links = c.moved.ensures.links;
       keeps = c.moved.ensures.stands;
     } in
-    let pass : HoldsPass p c.args.clock c.args.parent c.moved.new.self c.pass_prepares.new.counts c.pass_enables.new.counts c.linked_parent-from.result.0 c.pass_prepares.new.held c.pass_enables.new.held = record {
-      link = subst (λ (q : Parts). link_in q.tree.clocks c.args.clock.0 ≡ Some c.linked_parent-from.result.0) (sym c.self.view_is) c.linked_parent-from.ensures;
+    let pass : HoldsPass p c.args.clock c.args.parent c.moved.new.self c.pass_prepares.new.counts c.pass_enables.new.counts c.args.from.0 c.pass_prepares.new.held c.pass_enables.new.held = record {
+      link = subst (λ (q : Parts). link_in q.tree.clocks c.args.clock.0 ≡ Some c.args.from.0) (sym c.self.view_is) c.requires.link;
       mid_ = c.pass_prepares.ensures.counts;
       counts = c.pass_enables.ensures.counts;
       keeps = c.pass_enables.ensures.stands;
@@ -158,16 +159,8 @@ returns g c =
       enables_are = c.pass_enables.ensures.passed;
     } in
     rw (← c.self.view_is)
-    (relink_enters p c.args.clock c.args.parent c.link_to.new.tree c.moved.new.self c.pass_prepares.new.counts c.pass_enables.new.counts c.linked_parent-from.result.0 c.pass_prepares.new.held c.pass_enables.new.held c.go_on.new.self now to pass)
-
-pub linked_parent-from-requires : goal.linked_parent-from-requires
-linked_parent-from-requires g c =
-    let m = c.self.inside in
-    let p : Parts = parts_of m.desc m.window m.tree m.handles m.counts m.notifiers m.credits m.spent m.ignore_unused m.flight m.course m.prepare_holds m.enable_holds m.steps in
-    let going : p.flight.going ≡ true = subst (λ (q : Parts). q.flight.going ≡ true) (sym c.self.view_is) c.requires.going in
-    let own : own_step p.flight ≡ Some (micro.Relink c.args.clock c.args.parent) = subst (λ (q : Parts). own_step q.flight ≡ Some (micro.Relink c.args.clock c.args.parent)) (sym c.self.view_is) c.requires.next in
-    let may = may_link p c.args.clock c.args.parent c.self.invariant going own in
-    subst (λ (q : Parts). is_some (link_in q.tree.clocks c.args.clock.0) ≡ true) c.self.view_is may.linked_
+    (relink_enters p c.args.clock c.args.parent c.link_to.new.tree c.moved.new.self c.pass_enables.new.counts c.pass_prepares.new.held c.pass_enables.new.held c.go_on.new.self now to
+    (holds_passed p c.args.clock c.args.parent c.moved.new.self c.pass_prepares.new.counts c.pass_enables.new.counts c.args.from.0 c.pass_prepares.new.held c.pass_enables.new.held c.self.invariant pass))
 
 pub pass_prepares-requires-clause-place : goal.pass_prepares-requires-clause-place
 pass_prepares-requires-clause-place g c =
@@ -188,10 +181,10 @@ pass_prepares-requires-clause-to g c =
     let own : own_step p.flight ≡ Some (micro.Relink c.args.clock c.args.parent) = subst (λ (q : Parts). own_step q.flight ≡ Some (micro.Relink c.args.clock c.args.parent)) (sym c.self.view_is) c.requires.next in
     let may = may_link p c.args.clock c.args.parent c.self.invariant going own in
     let len : length c.moved.new.self.links ≡ length m.counts.links = ap (λ (k : CountState). length k.links) c.moved.ensures.moved ∙ length-set m.counts.links c.args.clock.0 (row_of c.link_to.new.tree.clocks c.args.clock.0).link in
-    let link : link_in m.tree.clocks c.args.clock.0 ≡ Some c.linked_parent-from.result.0 = subst (λ (q : Parts). link_in q.tree.clocks c.args.clock.0 ≡ Some c.linked_parent-from.result.0) (sym c.self.view_is) c.linked_parent-from.ensures in
-    let place : c.linked_parent-from.result.0 < length m.counts.links =
-    counted_place p c.linked_parent-from.result.0 c.self.invariant
-    (clock_within m.desc m.window m.tree c.linked_parent-from.result.0 c.self.invariant.tied (c.self.invariant.tied.stands.links c.args.clock.0 c.linked_parent-from.result.0 link)) in
+    let link : link_in m.tree.clocks c.args.clock.0 ≡ Some c.args.from.0 = subst (λ (q : Parts). link_in q.tree.clocks c.args.clock.0 ≡ Some c.args.from.0) (sym c.self.view_is) c.requires.link in
+    let place : c.args.from.0 < length m.counts.links =
+    counted_place p c.args.from.0 c.self.invariant
+    (clock_within m.desc m.window m.tree c.args.from.0 c.self.invariant.tied (c.self.invariant.tied.stands.links c.args.clock.0 c.args.from.0 link)) in
     omega arith
 
 pub pass_prepares-requires-clause-owned : goal.pass_prepares-requires-clause-owned
@@ -214,7 +207,7 @@ pass_prepares-requires-clause-room g c =
     let may = may_link p c.args.clock c.args.parent c.self.invariant going own in
     let len : length c.moved.new.self.links ≡ length m.counts.links = ap (λ (k : CountState). length k.links) c.moved.ensures.moved ∙ length-set m.counts.links c.args.clock.0 (row_of c.link_to.new.tree.clocks c.args.clock.0).link in
     let same : c.moved.new.self.prepares ≡ m.counts.prepares = ap (λ (k : CountState). k.prepares) c.moved.ensures.moved in
-    subst (λ (xs : List ℕ). slice_index xs c.linked_parent-from.result.0 + slice_index m.prepare_holds c.args.parent.0 < 8388608) (sym same) (prepare_more p c.linked_parent-from.result.0 c.args.parent.0 c.self.invariant going)
+    subst (λ (xs : List ℕ). slice_index xs c.args.from.0 + slice_index m.prepare_holds c.args.parent.0 < 8388608) (sym same) (prepare_more p c.args.from.0 c.args.parent.0 c.self.invariant going)
 
 pub pass_enables-requires-clause-place : goal.pass_enables-requires-clause-place
 pass_enables-requires-clause-place g c =
@@ -237,10 +230,10 @@ pass_enables-requires-clause-to g c =
     let may = may_link p c.args.clock c.args.parent c.self.invariant going own in
     let len : length c.moved.new.self.links ≡ length m.counts.links = ap (λ (k : CountState). length k.links) c.moved.ensures.moved ∙ length-set m.counts.links c.args.clock.0 (row_of c.link_to.new.tree.clocks c.args.clock.0).link in
     let mid : length c.pass_prepares.new.counts.links ≡ length c.moved.new.self.links = ap (λ (k : CountState). length k.links) c.pass_prepares.ensures.counts in
-    let link : link_in m.tree.clocks c.args.clock.0 ≡ Some c.linked_parent-from.result.0 = subst (λ (q : Parts). link_in q.tree.clocks c.args.clock.0 ≡ Some c.linked_parent-from.result.0) (sym c.self.view_is) c.linked_parent-from.ensures in
-    let place : c.linked_parent-from.result.0 < length m.counts.links =
-    counted_place p c.linked_parent-from.result.0 c.self.invariant
-    (clock_within m.desc m.window m.tree c.linked_parent-from.result.0 c.self.invariant.tied (c.self.invariant.tied.stands.links c.args.clock.0 c.linked_parent-from.result.0 link)) in
+    let link : link_in m.tree.clocks c.args.clock.0 ≡ Some c.args.from.0 = subst (λ (q : Parts). link_in q.tree.clocks c.args.clock.0 ≡ Some c.args.from.0) (sym c.self.view_is) c.requires.link in
+    let place : c.args.from.0 < length m.counts.links =
+    counted_place p c.args.from.0 c.self.invariant
+    (clock_within m.desc m.window m.tree c.args.from.0 c.self.invariant.tied (c.self.invariant.tied.stands.links c.args.clock.0 c.args.from.0 link)) in
     omega arith
 
 pub pass_enables-requires-clause-owned : goal.pass_enables-requires-clause-owned
@@ -263,4 +256,4 @@ pass_enables-requires-clause-room g c =
     let may = may_link p c.args.clock c.args.parent c.self.invariant going own in
     let len : length c.moved.new.self.links ≡ length m.counts.links = ap (λ (k : CountState). length k.links) c.moved.ensures.moved ∙ length-set m.counts.links c.args.clock.0 (row_of c.link_to.new.tree.clocks c.args.clock.0).link in
     let same : c.pass_prepares.new.counts.enables ≡ m.counts.enables = ap (λ (k : CountState). k.enables) c.pass_prepares.ensures.counts ∙ ap (λ (k : CountState). k.enables) c.moved.ensures.moved in
-    subst (λ (xs : List ℕ). slice_index xs c.linked_parent-from.result.0 + slice_index m.enable_holds c.args.parent.0 < 8388608) (sym same) (enable_more p c.linked_parent-from.result.0 c.args.parent.0 c.self.invariant going)
+    subst (λ (xs : List ℕ). slice_index xs c.args.from.0 + slice_index m.enable_holds c.args.parent.0 < 8388608) (sym same) (enable_more p c.args.from.0 c.args.parent.0 c.self.invariant going)
