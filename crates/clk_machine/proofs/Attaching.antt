@@ -1,8 +1,9 @@
 -- A registration whose possible parents are registered: no orphan is to be adopted behind it, and what is kept so far stays so.
 use Rattle.std.proofs.Common.{◌≡◌, ℕ, ◌<◌, ◌||◌, Bool, true, false, cond, not, List, [], ◌∷◌, Option, Some, None, refl, sym, ap, subst, ◌∙◌, ◌⊎◌, inl, inr, arith, length, nat_eq}
-use Rattle.std.specs.Prelude.{filter, is_none, option_and_then}
+use Rattle.std.specs.Prelude.{filter, is_none, option_and_then, IfSome}
 use Rattle.std.specs.List.{list_all}
-use Rattle.std.specs.Option.{option_map_or}
+use Rattle.std.specs.Option.{option_map, option_map_or}
+use Rattle.clk_base.specs.declared.clock.ClockId.{ClockId}
 use Rattle.std.proofs.lemmas.List.{length-set}
 use Rattle.clk_base.specs.Description.{Description, kind_of, parents_of}
 use Rattle.reg_bank.specs.Registers.{Registers}
@@ -69,6 +70,18 @@ link_in-register_same s c within parents = given_link s c within ∙ link_given-
 pub link_in-register_other : (s : State) (c k : ℕ) → (c ≡ k → ⊥) → link_in (register s c).clocks k ≡ link_in s.clocks k
 unfolding register
 link_in-register_other s c k other = given_others s c k other
+
+-- ---- the parent that a registration gives
+
+given_of : (defs : Description) (regs : Registers) (clocks : List ClockRow) (c : ℕ) → link_given defs regs clocks c ≡ option_and_then (if_registered clocks) (selected defs regs c)
+unfolding link_given
+given_of defs regs clocks c = refl
+
+-- the one that the registers select, if it is registered
+pub given_told : (words : Option (List ℕ)) (defs : Description) (clocks : List ClockRow) (c : ℕ) (found given : Option ClockId) → IfSome words (λ regs. option_map (λ p. p.0) found ≡ selected defs regs c)
+    → option_map (λ p. p.0) given ≡ option_and_then (if_registered clocks) (option_map (λ p. p.0) found) → IfSome words (λ regs. option_map (λ p. p.0) given ≡ link_given defs regs clocks c)
+given_told None defs clocks c found given is same = tt
+given_told (Some regs) defs clocks c found given is same = same ∙ ap (option_and_then (if_registered clocks)) is ∙ sym (given_of defs regs clocks c)
 
 -- ---- orphans
 

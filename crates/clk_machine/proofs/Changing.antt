@@ -17,9 +17,10 @@ use Rattle.clk_flight.specs.Flights.{FlightState, IsChange}
 use Rattle.clk_flight.specs.LeftOver.{step_weight, front_weight, left_over}
 use Rattle.clk_machine.specs.Changing.{StartsChange}
 use Rattle.clk_machine.specs.Course.{CourseState, notifiers_at, tells_all, PostsFit}
-use Rattle.clk_machine.specs.InFlight.{changes_rate, may_go_on, cuts_front, is_script, is_front, can_link}
+use Rattle.clk_machine.specs.InFlight.{changes_rate, may_go_on, cuts_front, is_script, is_front, can_link, probes, is_near}
 use Rattle.clk_machine.specs.Parts.{Parts, bare, IsOwnCall, rows_from, IsWhole}
 use Rattle.clk_machine.proofs.Holdings.{StandsFor-same}
+use Rattle.clk_machine.proofs.InFlight.{changes_plain, no_probes}
 use Rattle.clk_machine.proofs.Writing.{whole_spent}
 
 -- a change of a rate or a parent may go on
@@ -101,7 +102,7 @@ whole_changing old start flight' course' whole left now changes own script tells
           script = ap (λ (c : Sleeping). is_script c (registered old.tree.clocks) flight'.left) now.call_ ∙ ap (λ (ms : List Micro). is_script start.call (registered old.tree.clocks) ms) now.left ∙ script;
           front = ap (is_front flight'.call (registered old.tree.clocks)) now.front;
           cut = ap (cuts_front flight'.call flight'.left) now.front;
-          raised = ap (λ (ys : List ℕ). list_all (registered old.tree.clocks) ys) now.raised;
+          raised = ap (λ (ys : List ℕ). list_all (is_near flight'.call (registered old.tree.clocks)) ys) now.raised;
           extra = λ other. now.extra ∙ lone (ap sets_parent (sym now.call_) ∙ other);
           vetoed = λ is. ap changes_rate now.call_ ∙ changes;
         };
@@ -112,6 +113,7 @@ whole_changing old start flight' course' whole left now changes own script tells
           visits = ap (λ (ms : List Micro). tells_all (notifiers_at old.chains) ms course'.notified) now.left ∙ tells;
         };
         links = λ is. ap (λ (ms : List Micro). list_all (can_link old.desc.defs old.tree.clocks) ms) now.left ∙ links;
+        placed = λ c here. let no : true ≡ false = sym here ∙ ap (λ (w : Sleeping). probes w c) now.call_ ∙ no_probes start.call c (changes_plain start.call changes) in absurd cc;
       };
       room = omega arith;
       prepares_held = whole.prepares_held;

@@ -20,7 +20,7 @@ use Rattle.clk_flight.specs.LeftOver.{step_weight, front_weight, left_over}
 use Rattle.clk_flight.proofs.ChangeLaws.{full, falls_first}
 use Rattle.clk_machine.specs.declared.work.Work.{Work}
 use Rattle.clk_machine.specs.Course.{PostsFit}
-use Rattle.clk_machine.specs.InFlight.{may_make, cuts_behind, is_script, is_front, IsUnderWay}
+use Rattle.clk_machine.specs.InFlight.{may_make, cuts_behind, there_behind, is_script, is_front, IsUnderWay}
 use Rattle.clk_machine.specs.Making.{work_of}
 
 -- ---- what is left to come
@@ -126,7 +126,7 @@ end_comes rows f there k going change posts is none =
     ∙ by f.front refl change.steps is.front (sym (ap (λ (t : Bool). work_of (if t then first_step rows f f.front else None)) going) ∙ none) where
       script : (ms : List Micro) → is_script f.call there ms ≡ true → work_of (slice_get ms 0) ≡ Work.End → slice_get ms 0 ≡ Some micro.End
       script [] e h = absurd cc
-      script (m ∷ ms) e h = elim (or_cases (is_end m && is_none (slice_get ms 0)) (cuts_behind f.call m ms && (may_make f.call there m && is_script f.call there ms)) e) [
+      script (m ∷ ms) e h = elim (or_cases (is_end m && is_none (slice_get ms 0)) (cuts_behind f.call m ms && (may_make f.call there m && is_script f.call (there_behind there m) ms)) e) [
         | inl last ↦ ap (λ (n : Micro). Some n) (is_end_end m (both_left (is_end m) _ last))
         | inr seeks ↦ absurd (no_work f.call there m (both_left (may_make f.call there m) _ (both_right (cuts_behind f.call m ms) _ seeks)) h)
       ]
@@ -174,6 +174,11 @@ pub work_visits : (o : Option Micro) (x : ClockId) → work_of o ≡ Work.Visit 
 work_visits None x e = absurd cc
 work_visits (Some (micro.Visit y)) x e = let same : y ≡ x = cc in ap (λ (z : ClockId). Some (micro.Visit z)) same
 work_visits (Some _) x e = absurd cc
+
+pub work_registers : (o : Option Micro) (x : ClockId) → work_of o ≡ Work.Register x → o ≡ Some (micro.Register x)
+work_registers None x e = absurd cc
+work_registers (Some (micro.Register y)) x e = let same : y ≡ x = cc in ap (λ (z : ClockId). Some (micro.Register z)) same
+work_registers (Some _) x e = absurd cc
 
 pub work_holds_prepare : (o : Option Micro) (x : ClockId) → work_of o ≡ Work.HoldPrepare x → o ≡ Some (micro.HoldPrepare x)
 work_holds_prepare None x e = absurd cc

@@ -4,13 +4,8 @@ use Rattle.std.proofs.Math.Path.{fun_ext}
 use Rattle.std.proofs.lemmas.Bool.Decides.{nat_tests}
 use Rattle.std.specs.Prelude.{is_some, slice_index}
 use Rattle.std.specs.Option.{option_map}
-use Rattle.std.specs.List.{list_all}
 use Rattle.clk_base.specs.declared.clock.ClockId.{ClockId}
 use Rattle.clk_base.specs.Description.{Description, parents_of}
-use Rattle.clk_base.specs.declared.call.Sleeping.TheVariants as call
-use Rattle.clk_base.specs.declared.event.Event.TheVariants as event
-use Rattle.clk_base.specs.declared.event.Reply.TheVariants as reply
-use Rattle.clk_base.specs.declared.event.Turn.TheVariants as turn
 use Rattle.clk_base.specs.Flags.{is_critical}
 use Rattle.clk_model.specs.declared.row.ClockRow.{ClockRow}
 use Rattle.clk_model.specs.Lists.{is_in, count_from}
@@ -19,7 +14,6 @@ use Rattle.clk_model.specs.Tree.{path_within, path_to_be}
 use Rattle.clk_model.specs.Holders.{active}
 use Rattle.clk_model.specs.Gates.{gates_moved, settled}
 use Rattle.clk_model.specs.Begin.{register}
-use Rattle.clk_model.specs.Machine.{paid, next}
 use Rattle.clk_model.proofs.Members.{test_same}
 use Rattle.clk_tree.specs.TreeState.{TreeState}
 use Rattle.counts_core.specs.Sums.{up_in}
@@ -29,19 +23,14 @@ use Rattle.counts_core.proofs.Standing.{tells_holds}
 use Rattle.counts_core.proofs.Walking.{count-more}
 use Rattle.clk_machine.specs.Window.{Shown}
 use Rattle.clk_machine.specs.Parts.{Parts, bare, IsWhole}
-use Rattle.clk_machine.specs.Sound.{IsSound}
 use Rattle.clk_machine.specs.Stands.{Stands, Becomes}
-use Rattle.clk_machine.proofs.Attaching.{IsNarrow-register, adoptable-sound}
-use Rattle.clk_machine.proofs.CallEvents.{probe-alone}
-use Rattle.clk_machine.proofs.Fitting.{calm_path}
-use Rattle.clk_machine.proofs.Flying.{quiet_stands}
 use Rattle.clk_machine.proofs.Attached.{critical_more, held_more, IsAttached, stands_attached}
 use Rattle.clk_machine.proofs.Following.{opens_all, told_mapped, regs_told, regs_lie, lists_alike}
 use Rattle.clk_machine.proofs.Moving.{path_within_desc, tied-moved}
 use Rattle.clk_machine.proofs.Registering.{Registered, with_registered, tied_registered, whole_attached, bare_attached, rows_stand, register_rest, state_attached, registered_stands, active_linked}
 use Rattle.clk_machine.proofs.Writing.{counts_stand}
 
-register_regs : (s : State) (c : ℕ) → (register s c).regs ≡ s.regs
+pub register_regs : (s : State) (c : ℕ) → (register s c).regs ≡ s.regs
 unfolding register
 register_regs s c = refl
 
@@ -69,7 +58,7 @@ held_begun counts' mid held c levels one began d =
     ap (λ (k : CountState). is_in d (path_within (up_in k.links) levels c)) (sym one) ∙ began d ∙ ap (λ (k : CountState). is_active held d && not (is_active k d)) one
 
 module _ (old : Parts) (c : ℕ) (tree' : TreeState) (counts' held : CountState) (window' : Shown) (levels : ℕ)
-    (whole : IsWhole old) (quiet : old.flight.going ≡ false) (now : Registered old c tree' counts') (holds : IsHeld counts' held c) (critical : is_critical old.desc.defs c ≡ true) where
+    (whole : IsWhole old) (now : Registered old c tree' counts') (holds : IsHeld counts' held c) (critical : is_critical old.desc.defs c ≡ true) where
   -- one more of each for the clock
   one_more : (defs : Description) (before xs ys : List ℕ) → is_critical defs c ≡ true → c < length xs → xs ≡ before → ys ≡ set xs c (get_or xs c 0 + 1)
       → (d : ℕ) → slice_index ys d ≡ slice_index before d + critical_more defs c d
@@ -85,7 +74,7 @@ module _ (old : Parts) (c : ℕ) (tree' : TreeState) (counts' held : CountState)
       let inside = now.place in
       omega arith
 
-  held_stands : (s t : State) → is_critical s.defs c ≡ true → StandsFor old.counts s → IsAttached s t c → t.clocks ≡ tree'.clocks → StandsFor held t
+  pub held_stands : (s t : State) → is_critical s.defs c ≡ true → StandsFor old.counts s → IsAttached s t c → t.clocks ≡ tree'.clocks → StandsFor held t
   held_stands s t is stands attached rows =
       stands_attached old.counts held s t c stands attached
       (subst (λ (rs : List ClockRow). HasLinks rs held.links) (sym rows) (subst (λ (ls : List (Option ClockId)). HasLinks tree'.clocks ls) (sym (ap (λ (k : CountState). k.links) holds.is)) now.links))
@@ -104,13 +93,13 @@ module _ (old : Parts) (c : ℕ) (tree' : TreeState) (counts' held : CountState)
     or_true true = refl
     or_true false = refl
 
-  in_desc : (d : ℕ) → is_in d cs ≡ true → d < length old.desc.defs
+  pub in_desc : (d : ℕ) → is_in d cs ≡ true → d < length old.desc.defs
   in_desc d m = path_within_desc old.desc old.window tree' levels c (tied_registered old c tree' counts' whole now) there d m
 
   -- the parts stay whole
-  pub whole_critical : old.spent < old.credits → window'.size ≡ old.window.size → window'.words ≡ option_map (gates_moved old.desc.defs (λ _. false) (λ _. true) cs) old.window.words
+  pub whole_critical : old.flight.going ≡ false → old.spent < old.credits → window'.size ≡ old.window.size → window'.words ≡ option_map (gates_moved old.desc.defs (λ _. false) (λ _. true) cs) old.window.words
       → IsWhole (with_registered old window' tree' held)
-  whole_critical left size words =
+  whole_critical quiet left size words =
       whole_attached old c window' tree' counts' held whole quiet now left
       (tied-moved old.desc old.window window' tree' (λ _. false) (λ _. true) cs (tied_registered old c tree' counts' whole now) in_desc size words) holds.keeps
       (held_stands (bare old) (bare (with_registered old window' tree' held)) critical whole.counted.stands (bare_attached old c window' tree' counts' held now) refl)
@@ -125,6 +114,30 @@ module _ (old : Parts) (c : ℕ) (tree' : TreeState) (counts' held : CountState)
       ∙ held_more counts'.links (slice_index counts'.enables) (slice_index (set counts'.enables c (get_or counts'.enables c 0 + 1))) d more was where
         more : (h : ℕ) → nat_lt 0 (slice_index counts'.enables h) ≡ true → nat_lt 0 (slice_index (set counts'.enables c (get_or counts'.enables c 0 + 1)) h) ≡ true
         more h some = let raised = count-more counts'.enables c h (place counts'.enables now.keeps.enables) in grind (arith, nat_tests)
+
+  -- the gates of its path open in the state
+  pub critical_regs : (s : State) → Stands old s → ((d : ℕ) → is_in d (path_within (up_in counts'.links) levels c) ≡ (is_active held d && not (is_active counts' d)))
+      → gates_moved (register s c).defs (active s) (active (register s c)) (count_from 0 (length (register s c).defs)) (register s c).regs ≡ gates_moved s.defs (λ _. false) (λ _. true) cs s.regs
+  critical_regs s stands began =
+      let r : State = register s c in
+      let is : is_critical s.defs c ≡ true = ap (λ (ds : Description). is_critical ds c) stands.defs ∙ critical in
+      let after = held_stands s r is (counts_stand old s whole stands) (state_attached old c tree' counts' s now stands) (rows_stand old c tree' counts' s now stands) in
+      let new : (d : ℕ) → is_active held d ≡ active r d = (λ d. (tells_holds held r holds.keeps after d).active) in
+      let was : (d : ℕ) → is_active counts' d ≡ active s d = (λ d. active_linked old c tree' counts' s d whole now stands) in
+      let opened : gates_moved s.defs (active s) (active r) (count_from 0 (length s.defs)) s.regs ≡ gates_moved s.defs (λ _. false) (λ _. true) cs s.regs =
+      opens_all s.defs (active s) (active r) cs s.regs (regs_told old s whole stands).0 (regs_lie old s whole stands)
+      (λ d m. subst (λ (ds : Description). d < length ds) (sym stands.defs) (in_desc d m))
+      (λ d. ap (is_in d) (sym linked_cs) ∙ began d ∙ lists_alike _ _ _ _ (new d) (was d))
+      (λ d on. sym (new d) ∙ grows d (was d ∙ on)) in
+      ap (λ (ds : Description). gates_moved ds (active s) (active r) (count_from 0 (length ds)) r.regs) (register_rest s c).0
+      ∙ ap (gates_moved s.defs (active s) (active r) (count_from 0 (length s.defs))) (register_regs s c) ∙ opened
+
+  -- and in the words
+  pub critical_words : (s : State) → Stands old s → window'.words ≡ option_map (gates_moved old.desc.defs (λ _. false) (λ _. true) cs) old.window.words
+      → window'.words ≡ Some (gates_moved s.defs (λ _. false) (λ _. true) cs s.regs)
+  critical_words s stands words =
+      words ∙ ap (option_map (gates_moved old.desc.defs (λ _. false) (λ _. true) cs)) stands.regs
+      ∙ ap (λ (ds : Description). Some (gates_moved ds (λ _. false) (λ _. true) cs s.regs)) (sym stands.defs)
 
   -- that is what is done to the state
   pub becomes_critical : window'.size ≡ old.window.size → window'.behind ≡ old.window.behind → window'.locks ≡ old.window.locks
@@ -141,38 +154,6 @@ module _ (old : Parts) (c : ℕ) (tree' : TreeState) (counts' held : CountState)
     steps = refl;
     rows = now.rows;
     stands = λ s stands sound.
-        let r : State = register s c in
-        let is : is_critical s.defs c ≡ true = ap (λ (ds : Description). is_critical ds c) stands.defs ∙ critical in
-        let after = held_stands s r is (counts_stand old s whole stands) (state_attached old c tree' counts' s now stands) (rows_stand old c tree' counts' s now stands) in
-        let new : (d : ℕ) → is_active held d ≡ active r d = (λ d. (tells_holds held r holds.keeps after d).active) in
-        let was : (d : ℕ) → is_active counts' d ≡ active s d = (λ d. active_linked old c tree' counts' s d whole now stands) in
-        let defs : r.defs ≡ s.defs = (register_rest s c).0 in
-        let regs : r.regs ≡ s.regs = register_regs s c in
-        let opened : gates_moved s.defs (active s) (active r) (count_from 0 (length s.defs)) s.regs ≡ gates_moved s.defs (λ _. false) (λ _. true) cs s.regs =
-        opens_all s.defs (active s) (active r) cs s.regs (regs_told old s whole stands).0 (regs_lie old s whole stands)
-        (λ d m. subst (λ (ds : Description). d < length ds) (sym stands.defs) (in_desc d m))
-        (λ d. ap (is_in d) (sym linked_cs) ∙ began d ∙ lists_alike _ _ _ _ (new d) (was d))
-        (λ d on. sym (new d) ∙ grows d (was d ∙ on)) in
-        subst (λ (ws : List ℕ). Stands (with_registered old window' tree' held) (record r { regs = ws; spent = s.spent + 1 }))
-        (sym (ap (λ (ds : Description). gates_moved ds (active s) (active r) (count_from 0 (length ds)) r.regs) defs
-        ∙ ap (gates_moved s.defs (active s) (active r) (count_from 0 (length s.defs))) regs ∙ opened))
-        (registered_stands old c window' tree' counts' held s (gates_moved s.defs (λ _. false) (λ _. true) cs s.regs) now stands
-        (words ∙ ap (option_map (gates_moved old.desc.defs (λ _. false) (λ _. true) cs)) stands.regs
-        ∙ ap (λ (ds : Description). Some (gates_moved ds (λ _. false) (λ _. true) cs s.regs)) (sym stands.defs)));
+        subst (λ (ws : List ℕ). Stands (with_registered old window' tree' held) (record (register s c) { regs = ws; spent = s.spent + 1 })) (sym (critical_regs s stands began))
+        (registered_stands old c window' tree' counts' held s (gates_moved s.defs (λ _. false) (λ _. true) cs s.regs) now stands (critical_words s stands words));
   }
-
--- ---- the probe
-
--- a probe of a clock that isn't registered, and whose possible parents are, registers it at once
-pub probe_stands : (m : Parts) (s : State) (d : ℕ) (c : ClockId) → Stands m s → m.flight.going ≡ false → IsSound m.window.size s → c.0 < length m.desc.defs → registered m.tree.clocks c.0 ≡ false
-    → list_all (registered m.tree.clocks) (parents_of m.desc.defs c.0) ≡ true → next s d (event.Begin (call.Probe c)) ≡ paid s (register s c.0, turn.Done reply.Fine)
-probe_stands m s d c stands quiet sound place free parents =
-    let words : ℕ = m.window.size in
-    let within : c.0 < length s.defs = subst (λ (ds : Description). c.0 < length ds) (sym stands.defs) place in
-    let free_s : registered s.clocks c.0 ≡ false = ap (λ (rs : List ClockRow). registered rs c.0) stands.clocks ∙ free in
-    let parents_s : list_all (registered s.clocks) (parents_of s.defs c.0) ≡ true =
-    ap (λ (rs : List ClockRow). list_all (registered rs) (parents_of s.defs c.0)) stands.clocks
-    ∙ ap (λ (ds : Description). list_all (registered m.tree.clocks) (parents_of ds c.0)) stands.defs ∙ parents in
-    probe-alone s d c (quiet_stands m s stands quiet) free_s
-    (adoptable-sound words (register s c.0) (IsNarrow-register words s c.0 sound.narrow within free_s parents_s))
-    (calm_path s c.0 (path_to_be s.defs s.regs s.clocks c.0) sound.narrow.runs within)

@@ -3,11 +3,8 @@ use Rattle.std.proofs.Common.{◌≡◌, ℕ, ◌+◌, ◌<◌, ◌&&◌, ◌||�
 use Rattle.std.proofs.lemmas.Bool.Decides.{nat_tests}
 use Rattle.clk_base.specs.Description.{Description}
 use Rattle.clk_base.specs.declared.call.Sleeping.TheVariants as call
-use Rattle.clk_base.specs.declared.clock.ClockId.{ClockId}
-use Rattle.clk_base.specs.declared.event.Errno.TheVariants as errno
 use Rattle.clk_base.specs.declared.event.Event.{Event}
 use Rattle.clk_base.specs.declared.event.Event.TheVariants as event
-use Rattle.clk_base.specs.declared.event.Reply.TheVariants as reply
 use Rattle.clk_base.specs.declared.event.Reply.{Reply}
 use Rattle.clk_base.specs.declared.event.Turn.TheVariants as turn
 use Rattle.clk_model.specs.declared.row.HandleRow.{HandleRow}
@@ -19,14 +16,14 @@ use Rattle.clk_model.specs.Begin.{own_handle, keeps_prepare}
 use Rattle.clk_model.specs.Machine.{paid, next}
 use Rattle.clk_model.specs.Journal.{slotless, is_paid}
 use Rattle.clk_model.proofs.StateLaws.{paid-left}
-use Rattle.clk_model.proofs.Members.{same_from_test, not_either}
+use Rattle.clk_model.proofs.Members.{not_either}
 use Rattle.std.specs.Prelude.{if◌then◌else◌}
 use Rattle.clk_model.specs.Tier.{is_enable_tier}
 use Rattle.clk_flight.specs.Flights.{FlightState}
-use Rattle.clk_machine.specs.Holding.{stays}
 use Rattle.clk_machine.specs.Parts.{Parts, own_in}
 use Rattle.clk_machine.specs.Sound.{IsSound}
-use Rattle.clk_machine.specs.Stands.{Stands, Becomes, nothing, Enters, registers}
+use Rattle.clk_machine.specs.Fit.{stands_alone}
+use Rattle.clk_machine.specs.Stands.{Stands, Becomes, Enters, registers, joins}
 
 -- a driver's own handle in the state
 pub own_stands : (m : Parts) (s : State) (d n : ℕ) (o : Option HandleRow) → Stands m s → own_in m.table.handles d n ≡ o → own_handle s d n ≡ o
@@ -42,12 +39,14 @@ same_driver f d true leaves still = refl
 same_driver f d false leaves still = absurd cc
 
 -- an event that comes to what is done to the state takes the parts on
-pub enters : (old new : Parts) (d : ℕ) (event : Event) (r : Reply) (does : State → State) → is_paid event ≡ true → old.flight.going ≡ (if is_enable_tier event then old.flight.going else false) → old.spent < old.credits
-    → Becomes old (registers event) does new → Comes old d event r does → Enters old d event (turn.Done r) new
-enters old new d event r does pays going left becomes comes = record {
+pub enters_all : (old new : Parts) (d : ℕ) (event : Event) (r : Reply) (does : State → State) → is_paid event ≡ true
+    → ((c : ℕ) → registers event c ≡ true → stands_alone old.desc.defs c ≡ true → registered new.tree.clocks c ≡ true) → old.flight.going ≡ (if is_enable_tier event then old.flight.going else false) → old.spent < old.credits
+    → Becomes old (joins event (turn.Done r)) does new → Comes old d event r does → Enters old d event (turn.Done r) new
+enters_all old new d event r does pays alone going left becomes comes = record {
   remains = becomes.remains;
   pays = becomes.spent ∙ sym (ap (λ (b : Bool). old.spent + cond b 1 0) pays);
   rows = becomes.rows;
+  alone = alone;
   going = ap (λ (f : FlightState). f.going) becomes.flight ∙ going;
   driver_ = λ still.
       ap (λ (f : FlightState). f.driver) becomes.flight ∙ same_driver old.flight d (is_enable_tier event) going (sym (ap (λ (f : FlightState). f.going) becomes.flight) ∙ still);
@@ -64,6 +63,27 @@ enters old new d event r does pays going left becomes comes = record {
       };
 }
 
+-- whether an event is one of the enable tier, or the beginning of a call that asks for no registration
+abbrev pub is_plain : Event → Bool
+is_plain (event.Step m answer) = false
+is_plain (event.Begin (call.Probe c)) = false
+is_plain _ = true
+
+plain_paid : (e : Event) → is_plain e ≡ true → is_paid e ≡ true
+plain_paid (event.Step m answer) is = absurd cc
+plain_paid _ is = refl
+
+plain_registers : (e : Event) (c : ℕ) → is_plain e ≡ true → registers e c ≡ false
+plain_registers (event.Step m answer) c is = absurd cc
+plain_registers (event.Begin (call.Probe k)) c is = absurd cc
+plain_registers _ c is = refl
+
+-- so does each of these
+pub enters : (old new : Parts) (d : ℕ) (event : Event) (r : Reply) (does : State → State) → is_plain event ≡ true → old.flight.going ≡ (if is_enable_tier event then old.flight.going else false) → old.spent < old.credits
+    → Becomes old (joins event (turn.Done r)) does new → Comes old d event r does → Enters old d event (turn.Done r) new
+enters old new d event r does plain going left becomes comes =
+    enters_all old new d event r does (plain_paid event plain) (λ c asks alone. let no : false ≡ true = sym (plain_registers event c plain) ∙ asks in absurd cc) going left becomes comes
+
 -- a clock is rooted in the state where it is so in the tree
 pub rooted_stands : (m : Parts) (s : State) (c : ℕ) → Stands m s → rooted s.defs s.clocks c ≡ rooted m.desc.defs m.tree.clocks c
 rooted_stands m s c stands =
@@ -74,25 +94,3 @@ pub frees_some : (row : HandleRow) → keeps_prepare row ≡ false → 0 < row.p
 frees_some row free =
     let some : nat_eq row.prepares 0 ≡ false = (not_either (nat_eq row.prepares 0) (nat_eq row.prepares 1 && nat_lt 0 row.enables) free).0 in
     grind (arith, nat_tests)
-
--- the probe of a clock that is registered already registers nothing
-pub enters_known : (old new : Parts) (d : ℕ) (c : ClockId) → old.flight.going ≡ false → old.spent < old.credits → Becomes old nothing stays new → registered old.tree.clocks c.0 ≡ true
-    → ((s : State) → Stands old s → IsSound old.window.size s → next s d (event.Begin (call.Probe c)) ≡ paid s (s, turn.Done (reply.Refused errno.EEXIST)))
-    → Enters old d (event.Begin (call.Probe c)) (turn.Done (reply.Refused errno.EEXIST)) new
-enters_known old new d c quiet left becomes there comes =
-    enters old new d (event.Begin (call.Probe c)) (reply.Refused errno.EEXIST) stays refl quiet left (record {
-      remains = becomes.remains;
-      spent = becomes.spent;
-      flight = becomes.flight;
-      locks = becomes.locks;
-      left = becomes.left;
-      steps = becomes.steps;
-      rows = λ k. becomes.rows k ∙ known k;
-      stands = becomes.stands;
-    }) comes where
-      known : (k : ℕ) → (registered old.tree.clocks k || false) ≡ (registered old.tree.clocks k || nat_eq c.0 k)
-      known k = elim (nat_eq c.0 k) as (λ t. nat_eq c.0 k ≡ t → (registered old.tree.clocks k || false) ≡ (registered old.tree.clocks k || t)) [
-        | true ↦ λ same. let here : registered old.tree.clocks k ≡ true = ap (registered old.tree.clocks) (sym (same_from_test c.0 k same)) ∙ there in
-            ap (λ (b : Bool). b || false) here ∙ sym (ap (λ (b : Bool). b || true) here)
-        | false ↦ λ other. refl
-      ] refl

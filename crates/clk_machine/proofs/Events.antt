@@ -1,6 +1,7 @@
 -- Each event that can come leaves a sound state sound.
-use Rattle.std.proofs.Common.{◌≡◌, ℕ, zero, suc, ◌+◌, ◌-◌, ◌<◌, ◌||◌, Bool, true, false, cond, List, [], ◌∷◌, Option, Some, None, refl, sym, ap, subst, ◌∙◌, arith, length, nat_lt, nat_le, filter, reverse}
+use Rattle.std.proofs.Common.{◌≡◌, ℕ, zero, suc, ◌+◌, ◌-◌, ◌<◌, ◌&&◌, ◌||◌, not, Bool, true, false, cond, List, [], ◌∷◌, Option, Some, None, refl, sym, ap, subst, ◌∙◌, arith, length, nat_lt, nat_le, filter, reverse}
 use Rattle.std.specs.Prelude.{is_none, slice_get, if◌then◌else◌}
+use Rattle.std.specs.List.{list_all}
 use Rattle.std.specs.Option.{option_map_or}
 use Rattle.std.proofs.lemmas.Bool.Decides.{nat_tests}
 use Rattle.clk_base.specs.declared.call.Micro.{Micro}
@@ -19,23 +20,22 @@ use Rattle.clk_model.specs.Chain.{chain, linked}
 use Rattle.clk_model.specs.Lists.{to_front}
 use Rattle.clk_model.specs.Laws.CallCauses.{with_limits}
 use Rattle.clk_model.specs.State.{State, Change, ChainStep, registered, link_in, handle_at, requested}
-use Rattle.clk_model.specs.Tree.{rooted, path, path_to_be, children}
-use Rattle.clk_model.specs.Script.{unprepared_plls, runs, sweep_script}
+use Rattle.clk_model.specs.Tree.{rooted, path, children}
+use Rattle.clk_model.specs.Script.{unprepared_plls, runs, probe_script, sweep_script}
 use Rattle.reg_bank.specs.Registers.{Registers}
-use Rattle.clk_model.specs.Step.{taken, on, powered, visit, set_in_chain, to_raise, raise_one, poll, fall, to_lower, lower_one, passed_over, settle_all, ended_well, unranged, is_yes, stepped, hold_prepare, hold_enable, drop_prepare, drop_enable}
+use Rattle.clk_model.specs.Step.{taken, on, powered, visit, set_in_chain, to_raise, raise_one, poll, fall, to_lower, lower_one, passed_over, settle_all, ended_well, unranged, is_yes, stepped, hold_prepare, hold_enable, drop_prepare, drop_enable, register_in}
 use Rattle.clk_model.specs.Holders.{active}
 use Rattle.clk_model.specs.Gates.{settled, gates_moved}
 use Rattle.clk_model.specs.Begin.{refused, starts, change_of, weight_of, most_credits, put_handle, own_handle, given, register, keeps_prepare, prepare, unprepare, prepared_once_more, held_once_more, request_between, change_along, request, misses, range_set, reparenting, parent_set, holds_something, has_notifier, most_notifiers, begun}
 use Rattle.clk_model.specs.Machine.{paid, next}
 use Rattle.clk_model.proofs.StateLaws.{settled-still, active-append}
-use Rattle.clk_model.proofs.EventLaws.{enable-unknown, enable-unprepared, enable-fine, disable-unknown, disable-warned, disable-fine, running-unknown, running-told, get-not_found, get-deferred, get-given, put-unknown, put-busy, put-fine, rate-unknown, rate-told, parent-unknown, parent-told, probe-twice}
+use Rattle.clk_model.proofs.EventLaws.{enable-unknown, enable-unprepared, enable-fine, disable-unknown, disable-warned, disable-fine, running-unknown, running-told, get-not_found, get-deferred, get-given, put-unknown, put-busy, put-fine, rate-unknown, rate-told, parent-unknown, parent-told}
 use Rattle.clk_model.specs.Notices.{notifiers_of}
 use Rattle.clk_model.specs.Round.{wiring, round_rate}
 use Rattle.clk_model.specs.Views.{view, lift}
 use Rattle.clk_machine.specs.Holding.{notified, unnotified}
-use Rattle.clk_machine.proofs.CallEvents.{exclusive_get-unknown, exclusive_get-fine, exclusive_put-unknown, exclusive_put-warned, exclusive_put-fine, notifier_add-unknown, notifier_add-known, notifier_add-full, notifier_add-fine, notifier_remove-unknown, notifier_remove-lacking, notifier_remove-fine, round-unknown, round-told, round-none, probe-alone}
+use Rattle.clk_machine.proofs.CallEvents.{exclusive_get-unknown, exclusive_get-fine, exclusive_put-unknown, exclusive_put-warned, exclusive_put-fine, notifier_add-unknown, notifier_add-known, notifier_add-full, notifier_add-fine, notifier_remove-unknown, notifier_remove-lacking, notifier_remove-fine, round-unknown, round-told, round-none}
 use Rattle.clk_machine.specs.Sound.{IsNarrow, IsSound, links_well, CanTake}
-use Rattle.clk_machine.proofs.Fitting.{calm_path}
 use Rattle.clk_model.proofs.FlightLaws.{begin_is, step_is}
 use Rattle.clk_model.proofs.TierLaws.{pick_either, with_handle_either}
 use Rattle.clk_machine.proofs.Soundness.{reached_next}
@@ -46,7 +46,7 @@ use Rattle.clk_model.proofs.Members.{both_left, both_right}
 use Rattle.clk_model.specs.Walk.{below_within}
 use Rattle.clk_base.specs.Levels.{depth}
 use Rattle.clk_base.specs.Description.{parents_of}
-use Rattle.clk_machine.proofs.Attaching.{IsNarrow-register, adoptable-sound}
+use Rattle.clk_machine.proofs.Attaching.{IsNarrow-register}
 use Rattle.clk_machine.proofs.Closing.{closed_regs}
 use Rattle.clk_machine.proofs.Kept.{IsNarrow-spent, IsNarrow-counted, IsNarrow-notified, IsNarrow-settled, IsNarrow-gated, IsNarrow-change, IsNarrow-powered, IsNarrow-set, IsNarrow-handles, IsNarrow-put, IsNarrow-given, IsNarrow-requested, IsNarrow-held}
 
@@ -199,6 +199,14 @@ unfolding begun
 sweep_stays words s d sound =
     pick_either (Stays words s) s.ignore_unused _ _ (λ off. refused_stays words s sound) (λ goes. starts_stays words s s (change_of s d call.Sweep (sweep_script s)) sound sound)
 
+-- and a registration
+probe_stays : (words : ℕ) (s : State) (d : ℕ) (c : ClockId) → IsNarrow words s → c.0 < length s.defs → list_all (registered s.clocks) (parents_of s.defs c.0) ≡ true → Stays words s (begun s d (call.Probe c))
+unfolding begun
+probe_stays words s d c sound within parents =
+    pick_either (Stays words s) (registered s.clocks c.0) _ _ (λ known. refused_stays words s sound)
+    (λ free. pick_either (Stays words s) _ _ _ (λ alone. IsNarrow-settled words s (register s c.0) (IsNarrow-register words s c.0 sound within free parents))
+    (λ goes. starts_stays words s s (change_of s d (call.Probe c) (probe_script (register s c.0) c.0)) sound sound))
+
 leaves_sound : (words : ℕ) (s t : State) (d : ℕ) (what : Sleeping) (x : Turn) → IsNarrow words s → Stays words s (begun s d what) → next s d (event.Begin what) ≡ Some (t, x) → IsNarrow words t
 leaves_sound words s t d what x sound stays comes =
     subst (IsNarrow words) (begin_is s t d what x comes).1 (IsNarrow-spent words (settled s (begun s d what).0) (s.spent + 1) stays)
@@ -278,13 +286,7 @@ begin_sound words s t d (call.NotifierRemove h id) x whole quiet sound can comes
   by : (o : Option HandleRow) → own_handle s d h.number ≡ o → IsNarrow words t
   by None lacks = same_sound words s t d (event.Begin (call.NotifierRemove h id)) _ x sound (notifier_remove-unknown s d h id quiet lacks) comes
   by (Some row) own = known row (has_notifier s row.clock.0 id) own refl
-begin_sound words s t d (call.Probe c) x whole quiet sound can comes = by (registered s.clocks c.0) refl where
-  by : (b : Bool) → registered s.clocks c.0 ≡ b → IsNarrow words t
-  by true there = same_sound words s t d (event.Begin (call.Probe c)) _ x sound (probe-twice s d c quiet there) comes
-  by false free =
-      let after = IsNarrow-register words s c.0 sound can.0 free can.1 in
-      comes_to words s (register s c.0) t d (event.Begin (call.Probe c)) _ x (IsNarrow-settled words s (register s c.0) after)
-      (probe-alone s d c quiet free (adoptable-sound words (register s c.0) after) (calm_path s c.0 (path_to_be s.defs s.regs s.clocks c.0) sound.runs can.0)) comes
+begin_sound words s t d (call.Probe c) x whole quiet sound can comes = leaves_sound words s t d (call.Probe c) x sound (probe_stays words s d c sound can.0 can.1) comes
 begin_sound words s t d (call.RoundRate h r) x whole quiet sound can comes = by (own_handle s d h.number) refl where
   given_rate : (row : HandleRow) (o : Option ℕ) → own_handle s d h.number ≡ Some row → round_rate (wiring s) (view (lift s h.number)) row.clock.0 r ≡ o → IsNarrow words t
   given_rate row None own none = same_sound words s t d (event.Begin (call.RoundRate h r)) _ x sound (round-none s d h r row quiet own none) comes
@@ -326,6 +328,10 @@ ended_sound : (words : ℕ) (s : State) (k : Change) (b : Bool) → IsNarrow wor
 ended_sound words s k true sound = IsNarrow-handles words s (unranged s k).handles sound
 ended_sound words s k false sound = well_sound words s k.driver k.call sound
 
+untrue : (b : Bool) → not b ≡ true → b ≡ false
+untrue true e = absurd cc
+untrue false e = refl
+
 stepped_sound : (words : ℕ) (s : State) (k : Change) (answer : Option Bool) (m : Micro) → IsNarrow words s → links_well s.defs s.clocks m ≡ true → IsNarrow words (stepped s k answer m).0
 unfolding stepped
 stepped_sound words s k answer (micro.Notify kind c id old new) sound leaves = IsNarrow-change words s (Some k) sound
@@ -351,6 +357,12 @@ stepped_sound words s k answer (micro.DropPrepare x) sound leaves = IsNarrow-hel
 stepped_sound words s k answer (micro.WriteMux c place) sound leaves =
     let few : nat_lt place (length (parents_of s.defs c.0)) ≡ true = both_right _ _ leaves in
     IsNarrow-change words (record s { regs = mux_written s c.0 place }) (Some k) (IsNarrow-written words s c.0 place sound (both_left _ _ leaves) (grind (arith, nat_tests)))
+stepped_sound words s k answer (micro.Register c) sound leaves =
+    let two = both_left (nat_lt c.0 (length s.defs) && not (registered s.clocks c.0)) _ leaves in
+    let within : nat_lt c.0 (length s.defs) ≡ true = both_left (nat_lt c.0 (length s.defs)) _ two in
+    let free : registered s.clocks c.0 ≡ false = untrue (registered s.clocks c.0) (both_right (nat_lt c.0 (length s.defs)) _ two) in
+    IsNarrow-change words (register s c.0) (register_in s k c.0).change
+    (IsNarrow-register words s c.0 sound (grind (arith, nat_tests)) free (both_right (nat_lt c.0 (length s.defs) && not (registered s.clocks c.0)) _ leaves))
 stepped_sound words s k answer (micro.Settle c) sound leaves =
     IsNarrow-change words (record s { clocks = settle_all s (below_within (children s.order s.clocks) depth c.0) }) (Some k)
     (IsNarrow-settle words s (below_within (children s.order s.clocks) depth c.0) sound)
@@ -360,7 +372,6 @@ stepped_sound words s k answer (micro.Close c) sound leaves =
 stepped_sound words s k answer (micro.Unpower c) sound leaves = IsNarrow-change words (powered s c.0 false) (Some k) (IsNarrow-powered words s c.0 false sound)
 stepped_sound words s k answer micro.End sound leaves =
     IsNarrow-change words (if k.vetoed || k.timed_out then unranged s k else ended_well s k.driver k.call) None (ended_sound words s k (k.vetoed || k.timed_out) sound)
-stepped_sound words s k answer _ sound leaves = absurd cc
 
 step_sound : (words : ℕ) (s t : State) (d : ℕ) (m : Micro) (answer : Option Bool) (x : Turn) → IsNarrow words s → links_well s.defs s.clocks m ≡ true → next s d (event.Step m answer) ≡ Some (t, x) → IsNarrow words t
 step_sound words s t d m answer x sound leaves comes =

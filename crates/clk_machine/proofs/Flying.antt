@@ -86,6 +86,7 @@ flown_written defs clocks handles handles' chains notified spent n row new f flo
       paid = let few = flown.paid in let sums = sum_by-set held_in_all handles n row new at in omega arith;
       tells = flown.tells;
       links = flown.links;
+      placed = flown.placed;
     })
 
 -- and where a credit alone is spent
@@ -98,4 +99,5 @@ flown_spent defs clocks handles chains notified spent f flown = record {
   paid = let few = flown.paid in omega arith;
   tells = flown.tells;
   links = flown.links;
+  placed = flown.placed;
 }

@@ -29,7 +29,7 @@ use Rattle.counts_core.specs.Standing.{StandsFor}
 use Rattle.counts_core.specs.Sums.{up_in}
 use Rattle.counts_core.proofs.Standing.{tells_holds}
 use Rattle.clk_machine.specs.Holds.{TellsHolds, AreHeld}
-use Rattle.clk_machine.specs.InFlight.{changes_rate, is_script, may_make}
+use Rattle.clk_machine.specs.InFlight.{changes_rate, is_script, may_make, is_near}
 use Rattle.clk_machine.specs.Letting.{LetsGoAll}
 use Rattle.clk_machine.specs.Parts.{Parts, bare, IsWhole, rows_from}
 use Rattle.clk_machine.specs.Stands.{Enters}
@@ -450,7 +450,7 @@ module _ (old : Parts) (x : ClockId) (counts' : CountState) (prepares' : List �
         (ap (λ (k : CountState). k.links) to.counts) (ap (λ (k : CountState). k.exclusives) to.counts) refl refl refl prepared_same prepared_more (listed_tells old.enable_holds) (listed_tells old.enable_holds)
         (listed_tells old.prepare_holds) (listed_tells prepares');
     raised = without (path_within (link_in old.tree.clocks) depth x.0) old.flight.raised;
-    raised_there = still_raised (registered old.tree.clocks) (path_within (link_in old.tree.clocks) depth x.0) old.flight.raised (now.whole.flown now.going).way.raised;
+    raised_there = still_raised (is_near old.flight.call (registered old.tree.clocks)) (path_within (link_in old.tree.clocks) depth x.0) old.flight.raised (now.whole.flown now.going).way.raised;
     flight = to.lets.flight ∙ ap (λ (f : FlightState). let g : FlightState = record f { raised = without (path_within (link_in old.tree.clocks) depth x.0) f.raised } in g) now.flight;
     less =
         let one = falls_of old (micro.HoldPrepare x) gone now.whole now.going refl now.own now.less in

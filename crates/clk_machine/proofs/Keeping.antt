@@ -1,14 +1,14 @@
 -- What the steps of raises, lowers, polls and falls leave of what a change of rate tells and links.
 use Rattle.std.proofs.Common.{◌≡◌, ℕ, ◌&&◌, ◌||◌, nat_eq, nat_lt, Bool, true, false, List, [], ◌∷◌, Option, Some, None, refl, sym, ap, subst, ◌∙◌, inl, inr}
 use Rattle.std.specs.Prelude.{is_none, slice_get, if◌then◌else◌}
-use Rattle.std.specs.List.{list_all}
+use Rattle.std.specs.List.{list_all, list_any}
 use Rattle.std.specs.Option.{option_map_or}
 use Rattle.clk_base.specs.declared.call.Micro.{Micro}
 use Rattle.clk_base.specs.declared.call.Micro.TheVariants as micro
 use Rattle.clk_base.specs.declared.call.Sleeping.{Sleeping}
 use Rattle.clk_base.specs.declared.call.Sleeping.TheVariants as call
 use Rattle.clk_base.specs.declared.clock.ClockId.{ClockId}
-use Rattle.clk_model.specs.Step.{is_end, is_visit, from_first, cut_short, rest_of}
+use Rattle.clk_model.specs.Step.{is_end, is_visit, is_register, is_settle, from_first, behind_first, cut_short, rest_of}
 use Rattle.clk_model.proofs.Members.{or_cases, both_left, both_right}
 use Rattle.clk_flight.specs.declared.front.Front.{Front}
 use Rattle.clk_flight.specs.declared.front.Front.TheVariants.{Empty, Poll, Raise, Lower, Falls, Posts}
@@ -17,8 +17,8 @@ use Rattle.clk_flight.specs.Flights.{FlightState, own_first, own_step}
 use Rattle.clk_flight.specs.Moves.{others, found_none, comes_again, raised_once, raised_in, lowered_once, is_last_no, timed_out_in, polled_in, front_polled, fallen, front_fallen}
 use Rattle.clk_machine.specs.declared.course.Notified.{Notified}
 use Rattle.clk_machine.specs.Course.{PostsFit, tells_all, begins_with, behind_visit, visited_by}
-use Rattle.clk_machine.specs.InFlight.{may_raise, may_seek, is_front, is_script, IsUnderWay}
-use Rattle.clk_machine.proofs.InFlight.{own_going, raise_there, poll_in_front, PollsInFront, FallsInFront}
+use Rattle.clk_machine.specs.InFlight.{may_raise, may_seek, may_make, there_behind, is_front, is_script, IsUnderWay}
+use Rattle.clk_machine.proofs.InFlight.{behind_seek, end_alone, own_going, raise_there, poll_in_front, PollsInFront, FallsInFront}
 use Rattle.clk_machine.proofs.Making.{KeepsAlong}
 use Rattle.clk_machine.proofs.Telling.{behind_fits}
 
@@ -78,7 +78,7 @@ end_unseen _ e = absurd cc
 -- up to its end
 tells_end : (count : ℕ → ℕ) (ns : List Notified) (what : Sleeping) (there : ℕ → Bool) (ms : List Micro) → is_script what there ms ≡ true → tells_all count (from_first is_end ms) ns ≡ true
 tells_end count ns what there [] is = refl
-tells_end count ns what there (m ∷ ms) is = by (is_end m) refl (λ rest. tells_end count ns what there ms rest) where
+tells_end count ns what there (m ∷ ms) is = by (is_end m) refl (λ rest. tells_end count ns what (there_behind there m) ms rest) where
   last : (ns' : List Micro) → is_none (slice_get ns' 0) ≡ true → tells_all count ns' ns ≡ true
   last [] e = refl
   last (n ∷ rest) e = absurd cc
@@ -90,12 +90,49 @@ tells_end count ns what there (m ∷ ms) is = by (is_end m) refl (λ rest. tells
     either false e = absurd cc
   ended _ e all = absurd cc
 
-  by : (t : Bool) → is_end m ≡ t → (is_script what there ms ≡ true → tells_all count (from_first is_end ms) ns ≡ true) → tells_all count (if t then m ∷ ms else from_first is_end ms) ns ≡ true
+  by : (t : Bool) → is_end m ≡ t → (is_script what (there_behind there m) ms ≡ true → tells_all count (from_first is_end ms) ns ≡ true) → tells_all count (if t then m ∷ ms else from_first is_end ms) ns ≡ true
   by true at more = ended m at is
   by false at more = elim (or_cases (is_end m && is_none (slice_get ms 0)) _ is) [
     | inl end ↦ let no : true ≡ false = sym (both_left (is_end m) _ end) ∙ at in absurd cc
     | inr rest ↦ more (both_right _ _ (both_right _ _ rest))
   ]
+
+-- a registration visits no clock
+abbrev unvisited : Micro → Bool
+unvisited m = is_none (visited_by m)
+
+tells_unvisited : (count : ℕ → ℕ) (ns : List Notified) (ms : List Micro) → list_all unvisited ms ≡ true → tells_all count ms ns ≡ true
+tells_unvisited count ns [] all = refl
+tells_unvisited count ns (m ∷ ms) all = tells_unseen count ns m ms (nothing (visited_by m) (both_left (unvisited m) _ all)) ∙ tells_unvisited count ns ms (both_right (unvisited m) _ all) where
+  nothing : (o : Option ℕ) → is_none o ≡ true → o ≡ None
+  nothing None e = refl
+  nothing (Some c) e = absurd cc
+
+made_unvisited : (c : ClockId) (there : ℕ → Bool) (m : Micro) → may_make (call.Probe c) there m ≡ true → unvisited m ≡ true
+made_unvisited c there (micro.Visit x) e = absurd cc
+made_unvisited c there _ e = refl
+
+probe_unvisited : (c : ClockId) (there : ℕ → Bool) (ms : List Micro) → is_script (call.Probe c) there ms ≡ true → list_all unvisited ms ≡ true
+probe_unvisited c there [] is = refl
+probe_unvisited c there (m ∷ ms) is = by (is_end m) refl (λ rest. probe_unvisited c (there_behind there m) ms rest) where
+  by : (t : Bool) → is_end m ≡ t → (is_script (call.Probe c) (there_behind there m) ms ≡ true → list_all unvisited ms ≡ true) → list_all unvisited (m ∷ ms) ≡ true
+  by true ends more = ap (λ (ks : List Micro). list_all unvisited ks) (end_alone (call.Probe c) there m ms ends is)
+  by false goes more =
+      let made = behind_seek (call.Probe c) there m ms goes is in
+      ap (λ (b : Bool). b && list_all unvisited ms) (made_unvisited c there m made.0) ∙ more made.1
+
+links_behind_first : (can test : Micro → Bool) (ms : List Micro) → list_all can ms ≡ true → list_all can (behind_first test ms) ≡ true
+links_behind_first can test [] all = refl
+links_behind_first can test (m ∷ ms) all = by (test m) (links_behind_first can test ms (both_right (can m) (list_all can ms) all)) where
+  by : (t : Bool) → list_all can (behind_first test ms) ≡ true → list_all can (if t then ms else behind_first test ms) ≡ true
+  by true rest = both_right (can m) (list_all can ms) all
+  by false rest = rest
+
+links_probe : (can : Micro → Bool) (c : ClockId) (ms : List Micro) → list_all can ms ≡ true → list_all can (cut_short (call.Probe c) ms) ≡ true
+links_probe can c ms all = by (list_any is_register ms) where
+  by : (t : Bool) → list_all can (if t then from_first is_end ms else behind_first is_settle ms) ≡ true
+  by true = links_cut can is_end ms all
+  by false = links_behind_first can is_settle ms all
 
 -- what a timeout leaves of the script of a call that may raise
 tells_cut : (count : ℕ → ℕ) (ns : List Notified) (what : Sleeping) (there : ℕ → Bool) (ms : List Micro) → may_raise what ≡ true → is_script what there ms ≡ true → tells_all count ms ns ≡ true
@@ -104,6 +141,7 @@ tells_cut count ns (call.Prepare h) there ms may is all = tells_end count ns (ca
 tells_cut count ns (call.SetRate h x) there ms may is all = tells_visit count ns ms all
 tells_cut count ns (call.SetRateExclusive h x) there ms may is all = tells_visit count ns ms all
 tells_cut count ns (call.SetRange h least most) there ms may is all = tells_visit count ns ms all
+tells_cut count ns (call.Probe c) there ms may is all = tells_unvisited count ns (cut_short (call.Probe c) ms) (links_probe unvisited c ms (probe_unvisited c there ms is))
 tells_cut count ns (call.SetParent h p) there ms may is all = tells_end count ns (call.SetParent h p) there ms is
 tells_cut count ns _ there ms may is all = absurd cc
 
@@ -112,6 +150,7 @@ links_cut_short can (call.Prepare h) ms may all = links_cut can is_end ms all
 links_cut_short can (call.SetRate h x) ms may all = links_cut can is_visit ms all
 links_cut_short can (call.SetRateExclusive h x) ms may all = links_cut can is_visit ms all
 links_cut_short can (call.SetRange h least most) ms may all = links_cut can is_visit ms all
+links_cut_short can (call.Probe c) ms may all = links_probe can c ms all
 links_cut_short can (call.SetParent h p) ms may all = links_cut can is_end ms all
 links_cut_short can _ ms may all = absurd cc
 

@@ -21,7 +21,7 @@ use Rattle.clk_flight.specs.Moves.{landed}
 use Rattle.counts_core.specs.Counted.{CountState, is_active}
 use Rattle.rate_requests.specs.Handles.{HandleTable, with_range_at}
 use Rattle.clk_machine.specs.Holding.{prepared_more, exclusive_more}
-use Rattle.clk_machine.specs.InFlight.{may_go_on, is_unprepare, is_ranged, is_called_off, ends_bare}
+use Rattle.clk_machine.specs.InFlight.{may_go_on, is_probe, is_unprepare, is_ranged, is_called_off, ends_bare}
 use Rattle.clk_machine.specs.Landing.{Requests, PutsBack}
 use Rattle.clk_machine.specs.Making.{ComesFirst}
 use Rattle.clk_machine.specs.Parts.{Parts, IsWhole}
@@ -96,9 +96,9 @@ bare_ends old flight' whole going first nothing is = record {
   active_ = λ c. refl;
   ends = λ s k stands same.
       end_bare s (taken k) (ap may_go_on same.call ∙ (whole.flown going).way.call_)
-      (ap (λ (t : Bool). if t then not (is_ranged k.call && is_some k.range) else (is_unprepare k.call || sets_parent k.call || is_sweep k.call)) (off_of old s k same)
-      ∙ ap (λ (what : Sleeping). if is_called_off old.flight then not (is_ranged what && is_some k.range) else (is_unprepare what || sets_parent what || is_sweep what)) same.call
-      ∙ ap (λ (r : Option (ℕ × ℕ)). if is_called_off old.flight then not (is_ranged old.flight.call && is_some r) else (is_unprepare old.flight.call || sets_parent old.flight.call || is_sweep old.flight.call)) same.range ∙ nothing);
+      (ap (λ (t : Bool). if t then not (is_ranged k.call && is_some k.range) else (is_unprepare k.call || sets_parent k.call || is_sweep k.call || is_probe k.call)) (off_of old s k same)
+      ∙ ap (λ (what : Sleeping). if is_called_off old.flight then not (is_ranged what && is_some k.range) else (is_unprepare what || sets_parent what || is_sweep what || is_probe what)) same.call
+      ∙ ap (λ (r : Option (ℕ × ℕ)). if is_called_off old.flight then not (is_ranged old.flight.call && is_some r) else (is_unprepare old.flight.call || sets_parent old.flight.call || is_sweep old.flight.call || is_probe old.flight.call)) same.range ∙ nothing);
   stands = λ s stands. stands_ended old old.tree old.table old.counts flight' s s.clocks s.handles stands (ap (λ (f : FlightState). f.going) is) stands.clocks refl stands.handles;
 }
 

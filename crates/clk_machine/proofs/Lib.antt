@@ -66,6 +66,8 @@ pub mod Entered
 pub mod Opened
 pub mod Registering
 pub mod Critical
+pub mod Joining
+pub mod Probing
 pub mod Notifying
 pub mod Polling
 pub mod Entering

@@ -32,7 +32,7 @@ use Rattle.clk_flight.specs.LeftOver.{step_weight}
 use Rattle.counts_core.specs.Counted.{CountState, AreCounts}
 use Rattle.rate_requests.specs.Handles.{HandleTable}
 use Rattle.clk_machine.specs.Holding.{prepared_less, puts}
-use Rattle.clk_machine.specs.InFlight.{changes_rate}
+use Rattle.clk_machine.specs.InFlight.{changes_rate, links_clocks, probes}
 use Rattle.clk_machine.specs.Parts.{Parts, held_in_all, IsOwnCall, IsWhole, rows_from}
 use Rattle.clk_machine.specs.Plls.{lowerable, Finds}
 use Rattle.clk_machine.specs.declared.plls.Sought.{Sought}
@@ -186,7 +186,8 @@ whole_lowering old d h row table' flight' is written room now =
     whole_flying p flight' whole (record {
       plls_ = now.plls_;
       tells = λ changes. let no : true ≡ false = sym changes ∙ ap changes_rate now.call_ in absurd cc;
-      links = λ changes. let no : true ≡ false = sym changes ∙ ap changes_rate now.call_ in absurd cc;
+      links = λ changes. let no : true ≡ false = sym changes ∙ ap links_clocks now.call_ in absurd cc;
+      placed = λ c here. let no : true ≡ false = sym here ∙ ap (λ (what : Sleeping). probes what c) now.call_ in absurd cc;
       way = started_way old d (call.Unprepare h) (lower_script row.clock) flight' (registered old.tree.clocks) now refl (ap (λ (b : Bool). b && true) (is.whole.handled h.number row is.live));
       own = subst (λ (what : Sleeping). IsOwnCall table'.handles flight'.driver what) (sym now.call_) tt;
       paid = less_held old h.number row table' is written;
@@ -225,6 +226,7 @@ enters_unprepare old new d h row quiet left own frees some room starts_ = record
   fewer = λ free. absurd cc;
   begun = λ paid goes. let steps = starts_.left in let few = lower_left (rows_from 0 old.chains) (plls old.desc.defs) row.clock in omega arith;
   no_more = λ paid done. absurd cc;
+  alone = λ c asks. absurd cc;
   beside = λ tier. absurd cc;
   step = λ s stands sound.
       let spends : s.spent < s.credits = let one = stands.spent in let two = stands.credits in omega arith in

@@ -1,10 +1,11 @@
 -- The parts of a core where a step of the change in flight is made.
-use Rattle.std.proofs.Common.{◌≡◌, ℕ, ◌+◌, ◌<◌, ◌&&◌, not, Bool, true, false, cond, List, [], ◌∷◌, Option, Some, None, refl, sym, ap, subst, ◌∙◌, arith, length, filter, reverse, nat_lt}
-use Rattle.std.specs.Prelude.{is_some, slice_get, if◌then◌else◌}
+use Rattle.std.proofs.Common.{◌≡◌, ℕ, ◌+◌, ◌<◌, ◌&&◌, ◌||◌, inl, inr, not, Bool, true, false, cond, List, [], ◌∷◌, Option, Some, None, refl, sym, ap, subst, ◌∙◌, arith, length, filter, reverse, nat_lt}
+use Rattle.std.specs.Prelude.{is_some, slice_get, if◌then◌else◌, IfSome}
 use Rattle.std.specs.List.{list_all}
-use Rattle.std.specs.Option.{option_map_or}
+use Rattle.std.specs.Option.{option_map, option_map_or}
 use Rattle.std.proofs.Math.Bool.{or-false}
 use Rattle.clk_base.specs.declared.call.Micro.{Micro}
+use Rattle.clk_base.specs.declared.call.Micro.TheVariants as micro
 use Rattle.clk_base.specs.declared.call.Sleeping.{Sleeping}
 use Rattle.clk_base.specs.declared.clock.ClockId.{ClockId}
 use Rattle.clk_base.specs.declared.event.Event.TheVariants as event
@@ -14,11 +15,11 @@ use Rattle.clk_model.specs.declared.row.ClockRow.{ClockRow}
 use Rattle.clk_model.specs.Lists.{is_in}
 use Rattle.clk_model.specs.State.{State, Change, registered, link_in}
 use Rattle.clk_model.specs.Kinds.{is_pll}
-use Rattle.clk_model.specs.Tree.{path, link_given}
+use Rattle.clk_model.specs.Tree.{path, path_to_be, link_given}
 use Rattle.clk_model.specs.Holders.{prepared}
 use Rattle.clk_model.specs.Script.{unprepared_plls, runs}
-use Rattle.clk_model.specs.Step.{todo, taken, to_raise, to_lower}
-use Rattle.clk_model.proofs.Members.{is_in-reverse}
+use Rattle.clk_model.specs.Step.{todo, taken, to_raise, to_lower, is_register}
+use Rattle.clk_model.proofs.Members.{is_in-reverse, is_in_cases, or_cases}
 use Rattle.clk_model.proofs.PllLaws.{at_place}
 use Rattle.clk_model.proofs.PowerLaws.{filter-agree}
 use Rattle.clk_model.proofs.OnceLaws.{is_in-filter}
@@ -28,15 +29,16 @@ use Rattle.clk_flight.specs.LeftOver.{left_over}
 use Rattle.clk_flight.specs.Moves.{raised_once, raised_in, found_none, polled_in, timed_out_in, is_last_no, front_polled}
 use Rattle.clk_flight.specs.Fronts.{script_behind}
 use Rattle.clk_machine.specs.Window.{Shown}
-use Rattle.clk_machine.specs.InFlight.{can_link, changes_rate, IsUnderWay}
+use Rattle.clk_machine.specs.InFlight.{can_link, changes_rate, IsUnderWay, links_clocks, probes, is_near}
 use Rattle.clk_machine.specs.declared.course.Notified.{Notified}
 use Rattle.clk_machine.specs.Course.{IsAlong, TellsAlong, notifiers_at}
 use Rattle.clk_machine.specs.Parts.{Parts, IsOwnCall, AreTied, IsWhole, rows_from}
-use Rattle.clk_machine.specs.Plls.{is_loose, raisable, lowerable}
+use Rattle.clk_machine.specs.declared.plls.Sought.{Sought}
+use Rattle.clk_machine.specs.Plls.{is_loose, raisable, lowerable, Finds}
 use Rattle.clk_machine.specs.Sound.{IsSound}
-use Rattle.clk_machine.specs.Stands.{Stands, Leads, Enters}
+use Rattle.clk_machine.specs.Stands.{Stands, Leads, Enters, step_registers}
 use Rattle.clk_machine.proofs.HeldCounts.{held_on}
-use Rattle.clk_machine.proofs.Moving.{path_within_desc}
+use Rattle.clk_machine.proofs.Moving.{clock_within, path_within_desc}
 use Rattle.clk_machine.proofs.Rows.{holds_stand}
 use Rattle.clk_machine.proofs.Stepping.{IsNext}
 
@@ -77,7 +79,8 @@ whole_stepped old window' flight' whole tied going along same way less =
             (subst (λ (what : Sleeping). IsOwnCall old.table.handles old.flight.driver what) (sym same.call) flown.own);
         paid = flown.paid;
         tells = λ changes. along.tells (notifiers_at old.chains) old.course.notified (flown.tells (sym (ap changes_rate along.call) ∙ changes));
-        links = λ changes. along.links (can_link old.desc.defs old.tree.clocks) (flown.links (sym (ap changes_rate along.call) ∙ changes));
+        links = λ changes. along.links (can_link old.desc.defs old.tree.clocks) (flown.links (sym (ap links_clocks along.call) ∙ changes));
+        placed = λ c here. flown.placed c (sym (ap (λ (what : Sleeping). probes what c) along.call) ∙ here);
       };
       room = let room = whole.room in omega arith;
       prepares_held = held_on _ _ _ _ whole.prepares_held;
@@ -104,20 +107,26 @@ stands_stepped old window' flight' s regs' change' stands words along flies = re
   ignore_unused = stands.ignore_unused;
 }
 
--- a step after which the call goes on takes the parts on
-pub enters_step : (old : Parts) (window' : Shown) (flight' : FlightState) (m : Micro) (answer : Option Bool) → is_some window'.words ≡ is_some old.window.words → window'.size ≡ old.window.size
+-- a step that is no registration registers no clock
+pub no_registers : (m : Micro) (c : ℕ) → is_register m ≡ false → step_registers m c ≡ false
+no_registers (micro.Register k) c e = absurd cc
+no_registers _ c e = refl
+
+-- a step after which the call goes on, and that registers no clock, takes the parts on
+pub enters_step : (old : Parts) (window' : Shown) (flight' : FlightState) (m : Micro) (answer : Option Bool) → is_register m ≡ false → is_some window'.words ≡ is_some old.window.words → window'.size ≡ old.window.size
     → window'.behind ≡ old.window.behind → flight'.going ≡ true → flight'.driver ≡ old.flight.driver → left_over (rows_from 0 old.chains) flight' < left_over (rows_from 0 old.chains) old.flight
     → ((s : State) → Stands old s → IsSound old.window.size s → Leads s old.flight.driver (event.Step m answer) turn.Going (with_step old window' flight'))
     → Enters old old.flight.driver (event.Step m answer) turn.Going (with_step old window' flight')
-enters_step old window' flight' m answer told size behind going same less leads = record {
+enters_step old window' flight' m answer plain told size behind going same less leads = record {
   remains = record { desc = refl; told = told; size = size; behind = behind; credits = refl; ignore_unused = refl };
   pays = let same : old.spent ≡ old.spent + 0 = omega arith in same;
-  rows = λ c. sym (or-false (registered old.tree.clocks c));
+  rows = λ c. sym (or-false (registered old.tree.clocks c)) ∙ ap (λ (t : Bool). registered old.tree.clocks c || t) (sym (no_registers m c plain));
   going = going;
   driver_ = λ still. same;
   fewer = λ free. less;
   begun = λ paid. absurd cc;
   no_more = λ paid. absurd cc;
+  alone = λ c asks. let none : false ≡ true = sym (no_registers m c plain) ∙ asks in absurd cc;
   beside = λ tier. absurd cc;
   step = leads;
 }
@@ -148,19 +157,35 @@ loose_stands m s c whole stands =
     ap (λ (d : Description). is_pll (kind_of d c) && not (prepared s c)) stands.defs
     ∙ ap (λ (b : Bool). is_pll (kind_of m.desc.defs c) && not b) (sym (holds_stand m s c whole stands).prepared)
 
+-- those of these clocks
+pub loose_among : (m : Parts) (s : State) (xs : List ℕ) → IsWhole m → Stands m s → unprepared_plls s xs ≡ filter (is_loose m.desc.defs m.counts) xs
+loose_among m s xs whole stands = filter-agree (λ c. is_pll (kind_of s.defs c) && not (prepared s c)) (is_loose m.desc.defs m.counts) xs (λ c. loose_stands m s c whole stands)
+
 pub unprepared_stand : (m : Parts) (s : State) (x : ℕ) → IsWhole m → Stands m s → unprepared_plls s (path s.clocks x) ≡ filter (is_loose m.desc.defs m.counts) (path m.tree.clocks x)
-unprepared_stand m s x whole stands =
-    filter-agree (λ c. is_pll (kind_of s.defs c) && not (prepared s c)) (is_loose m.desc.defs m.counts) (path s.clocks x) (λ c. loose_stands m s c whole stands)
-    ∙ ap (λ (rs : List ClockRow). filter (is_loose m.desc.defs m.counts) (path rs x)) stands.clocks
+unprepared_stand m s x whole stands = loose_among m s (path s.clocks x) whole stands ∙ ap (λ (rs : List ClockRow). filter (is_loose m.desc.defs m.counts) (path rs x)) stands.clocks
+
+-- the path that a clock has, or is to get
+pub path_stands : (m : Parts) (s : State) (x : ℕ) → Stands m s → path_to_be s.defs s.regs s.clocks x ≡ path_to_be m.desc.defs s.regs m.tree.clocks x
+path_stands m s x stands =
+    ap (λ (ds : Description). path_to_be ds s.regs s.clocks x) stands.defs ∙ ap (λ (rs : List ClockRow). path_to_be m.desc.defs s.regs rs x) stands.clocks
+
+-- of a clock that isn't registered, where its registration gives it this parent
+pub path_under : (defs : Description) (regs : List ℕ) (clocks : List ClockRow) (c : ℕ) (parent : Option ClockId) → registered clocks c ≡ false → option_map (λ p. p.0) parent ≡ link_given defs regs clocks c
+    → c ∷ option_map_or (λ p. path clocks p.0) parent [] ≡ path_to_be defs regs clocks c
+path_under defs regs clocks c parent free given =
+    ap (λ (ys : List ℕ). c ∷ ys) (up parent) ∙ ap (λ (o : Option ℕ). c ∷ option_map_or (path clocks) o []) given
+    ∙ sym (ap (λ (t : Bool). cond t (path clocks c) (c ∷ option_map_or (path clocks) (link_given defs regs clocks c) [])) free) where
+      up : (o : Option ClockId) → option_map_or (λ p. path clocks p.0) o [] ≡ option_map_or (path clocks) (option_map (λ p. p.0) o) []
+      up None = refl
+      up (Some p) = refl
 
 -- what a raise is to power
-pub to_raise_stands : (m : Parts) (s : State) (k : Change) (x : ℕ) → IsWhole m → Stands m s → IsChange s.notifiers m.flight k → registered m.tree.clocks x ≡ true
-    → to_raise s (taken k) x ≡ raisable m.desc.defs m.counts m.flight.raised (path m.tree.clocks x)
-to_raise_stands m s k x whole stands is here =
-    let there : registered s.clocks x ≡ true = ap (λ (rs : List ClockRow). registered rs x) stands.clocks ∙ here in
-    ap (λ (b : Bool). filter (λ y. not (is_in y k.raised)) (unprepared_plls s (cond b (path s.clocks x) (x ∷ option_map_or (path s.clocks) (link_given s.defs s.regs s.clocks x) [])))) there
-    ∙ ap (λ (ys : List ℕ). filter (λ y. not (is_in y ys)) (unprepared_plls s (path s.clocks x))) is.raised
-    ∙ ap (filter (λ y. not (is_in y m.flight.raised))) (unprepared_stand m s x whole stands)
+pub to_raise_stands : (m : Parts) (s : State) (k : Change) (x : ℕ) → IsWhole m → Stands m s → IsChange s.notifiers m.flight k
+    → to_raise s (taken k) x ≡ raisable m.desc.defs m.counts m.flight.raised (path_to_be m.desc.defs s.regs m.tree.clocks x)
+to_raise_stands m s k x whole stands is =
+    ap (λ (ys : List ℕ). filter (λ y. not (is_in y ys)) (unprepared_plls s (path_to_be s.defs s.regs s.clocks x))) is.raised
+    ∙ ap (λ (xs : List ℕ). filter (λ y. not (is_in y m.flight.raised)) (unprepared_plls s xs)) (path_stands m s x stands)
+    ∙ ap (filter (λ y. not (is_in y m.flight.raised))) (loose_among m s (path_to_be m.desc.defs s.regs m.tree.clocks x) whole stands)
 
 -- what a lower is to switch off
 pub to_lower_stands : (m : Parts) (s : State) (x : ℕ) → IsWhole m → Stands m s → to_lower s x ≡ lowerable m.desc.defs m.counts s.regs (path m.tree.clocks x)
@@ -175,14 +200,70 @@ on_path m x y whole here inside = (
   path_within_desc m.desc m.window m.tree _ x whole.tied here y inside,
 )
 
-pub raisable_there : (m : Parts) (x y : ℕ) → IsWhole m → registered m.tree.clocks x ≡ true
-    → slice_get (reverse (raisable m.desc.defs m.counts m.flight.raised (path m.tree.clocks x))) 0 ≡ Some y → (registered m.tree.clocks y ≡ true) × (y < length m.desc.defs)
-raisable_there m x y whole here at =
-    let xs : List ℕ = raisable m.desc.defs m.counts m.flight.raised (path m.tree.clocks x) in
-    on_path m x y whole here
-    (is_in-filter (is_loose m.desc.defs m.counts) y (path m.tree.clocks x)
-    (is_in-filter (λ c. not (is_in c m.flight.raised)) y (filter (is_loose m.desc.defs m.counts) (path m.tree.clocks x))
-    (sym (is_in-reverse y xs) ∙ at_place (reverse xs) 0 y at)))
+-- a clock that is registered, or that the call in flight registers, is one of the description
+pub near_within : (m : Parts) (y : ℕ) → IsWhole m → m.flight.going ≡ true → is_near m.flight.call (registered m.tree.clocks) y ≡ true → y < length m.desc.defs
+near_within m y whole going near = elim (or_cases (registered m.tree.clocks y) (probes m.flight.call y) near) [
+  | inl there ↦ clock_within m.desc m.window m.tree y whole.tied there
+  | inr own ↦ (whole.flown going).placed y own
+]
+
+-- ---- what a raise finds
+
+-- each clock of a list passes near, so what is found among its PLLs does
+found_near : (m : Parts) (found : Sought) (xs : List ℕ) → Finds found (reverse (raisable m.desc.defs m.counts m.flight.raised xs)) → ((y : ℕ) → is_in y xs ≡ true → is_near m.flight.call (registered m.tree.clocks) y ≡ true)
+    → IfSome found.pll (λ pll. is_near m.flight.call (registered m.tree.clocks) pll.0 ≡ true)
+found_near m found xs finds each = by found.pll finds.first where
+  ys : List ℕ
+  ys = raisable m.desc.defs m.counts m.flight.raised xs
+
+  by : (o : Option ClockId) → option_map (λ c. c.0) o ≡ slice_get (reverse ys) 0 → IfSome o (λ pll. is_near m.flight.call (registered m.tree.clocks) pll.0 ≡ true)
+  by None at = tt
+  by (Some y) at =
+      each y.0
+      (is_in-filter (is_loose m.desc.defs m.counts) y.0 xs
+      (is_in-filter (λ c. not (is_in c m.flight.raised)) y.0 (filter (is_loose m.desc.defs m.counts) xs) (sym (is_in-reverse y.0 ys) ∙ at_place (reverse ys) 0 y.0 (sym at))))
+
+-- and it is found on the path that the clock has, or is to get
+found_told : (m : Parts) (x : ℕ) (found : Sought) (xs : List ℕ) (words : Option (List ℕ)) → IfSome words (λ regs. xs ≡ path_to_be m.desc.defs regs m.tree.clocks x) → Finds found (reverse (raisable m.desc.defs m.counts m.flight.raised xs))
+    → IfSome words (λ regs. Finds found (reverse (raisable m.desc.defs m.counts m.flight.raised (path_to_be m.desc.defs regs m.tree.clocks x))))
+found_told m x found xs None same finds = tt
+found_told m x found xs (Some regs) same finds = subst (λ (ys : List ℕ). Finds found (reverse (raisable m.desc.defs m.counts m.flight.raised ys))) same finds
+
+near_there : (t u : Bool) → t ≡ true → (t || u) ≡ true
+near_there true u e = refl
+near_there false u e = absurd cc
+
+pub found_on_path : (m : Parts) (x : ℕ) (found : Sought) → registered m.tree.clocks x ≡ true → Finds found (reverse (raisable m.desc.defs m.counts m.flight.raised (path m.tree.clocks x)))
+    → IfSome m.window.words (λ regs. Finds found (reverse (raisable m.desc.defs m.counts m.flight.raised (path_to_be m.desc.defs regs m.tree.clocks x))))
+found_on_path m x found here finds = found_told m x found (path m.tree.clocks x) m.window.words (same m.window.words) finds where
+  same : (words : Option (List ℕ)) → IfSome words (λ regs. path m.tree.clocks x ≡ path_to_be m.desc.defs regs m.tree.clocks x)
+  same None = tt
+  same (Some regs) = sym (ap (λ (t : Bool). cond t (path m.tree.clocks x) (x ∷ option_map_or (path m.tree.clocks) (link_given m.desc.defs regs m.tree.clocks x) [])) here)
+
+pub near_on_path : (m : Parts) (x : ℕ) (found : Sought) → IsWhole m → registered m.tree.clocks x ≡ true → Finds found (reverse (raisable m.desc.defs m.counts m.flight.raised (path m.tree.clocks x)))
+    → IfSome found.pll (λ pll. is_near m.flight.call (registered m.tree.clocks) pll.0 ≡ true)
+near_on_path m x found whole here finds = found_near m found (path m.tree.clocks x) finds (λ y inside. near_there (registered m.tree.clocks y) (probes m.flight.call y) (on_path m x y whole here inside).0)
+
+pub found_under : (m : Parts) (x : ℕ) (parent : Option ClockId) (found : Sought) → registered m.tree.clocks x ≡ false → IfSome m.window.words (λ regs. option_map (λ p. p.0) parent ≡ link_given m.desc.defs regs m.tree.clocks x)
+    → Finds found (reverse (raisable m.desc.defs m.counts m.flight.raised (x ∷ option_map_or (λ p. path m.tree.clocks p.0) parent [])))
+    → IfSome m.window.words (λ regs. Finds found (reverse (raisable m.desc.defs m.counts m.flight.raised (path_to_be m.desc.defs regs m.tree.clocks x))))
+found_under m x parent found free given finds = found_told m x found (x ∷ option_map_or (λ p. path m.tree.clocks p.0) parent []) m.window.words (same m.window.words given) finds where
+  same : (words : Option (List ℕ)) → IfSome words (λ regs. option_map (λ p. p.0) parent ≡ link_given m.desc.defs regs m.tree.clocks x)
+      → IfSome words (λ regs. x ∷ option_map_or (λ p. path m.tree.clocks p.0) parent [] ≡ path_to_be m.desc.defs regs m.tree.clocks x)
+  same None is = tt
+  same (Some regs) is = path_under m.desc.defs regs m.tree.clocks x parent free is
+
+pub near_under : (m : Parts) (x : ℕ) (parent : Option ClockId) (found : Sought) → IsWhole m → is_near m.flight.call (registered m.tree.clocks) x ≡ true → IfSome parent (λ p. registered m.tree.clocks p.0 ≡ true)
+    → Finds found (reverse (raisable m.desc.defs m.counts m.flight.raised (x ∷ option_map_or (λ p. path m.tree.clocks p.0) parent [])))
+    → IfSome found.pll (λ pll. is_near m.flight.call (registered m.tree.clocks) pll.0 ≡ true)
+near_under m x parent found whole near there finds =
+    found_near m found (x ∷ option_map_or (λ p. path m.tree.clocks p.0) parent []) finds (λ y inside. elim (is_in_cases y x (option_map_or (λ p. path m.tree.clocks p.0) parent []) inside) [
+      | inl same ↦ ap (λ (z : ℕ). is_near m.flight.call (registered m.tree.clocks) z) (sym same) ∙ near
+      | inr above ↦ by y parent there above
+    ]) where
+      by : (y : ℕ) (o : Option ClockId) → IfSome o (λ p. registered m.tree.clocks p.0 ≡ true) → is_in y (option_map_or (λ p. path m.tree.clocks p.0) o []) ≡ true → is_near m.flight.call (registered m.tree.clocks) y ≡ true
+      by y None here inside = absurd cc
+      by y (Some p) here inside = near_there (registered m.tree.clocks y) (probes m.flight.call y) (on_path m p.0 y whole here inside).0
 
 -- ---- the same call goes on
 

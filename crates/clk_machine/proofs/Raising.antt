@@ -19,7 +19,7 @@ use Rattle.clk_model.proofs.Members.{both_right}
 use Rattle.clk_base.specs.Valid.{IsValid}
 use Rattle.clk_model.specs.Chain.{clock_id}
 use Rattle.clk_model.specs.State.{State, Change, registered}
-use Rattle.clk_model.specs.Tree.{path}
+use Rattle.clk_model.specs.Tree.{path, path_to_be}
 use Rattle.clk_model.specs.Wired.{LinksArePossible}
 use Rattle.clk_model.specs.Script.{plls}
 use Rattle.clk_model.specs.Step.{taken, on, timed_out, powered, to_raise, raise_one, raise, to_lower, lower_one, lower, poll, fall}
@@ -31,15 +31,14 @@ use Rattle.clk_flight.proofs.SeekLaws.{paced_seek_few}
 use Rattle.clk_machine.specs.Window.{Shown}
 use Rattle.clk_flight.specs.LeftOver.{left_over}
 use Rattle.clk_machine.specs.Course.{CourseState, IsAlong}
-use Rattle.clk_machine.specs.InFlight.{may_seek}
+use Rattle.clk_machine.specs.InFlight.{is_near, may_seek}
 use Rattle.clk_machine.specs.Making.{ComesFirst, FindsNothing}
 use Rattle.clk_machine.specs.Parts.{Parts, IsWhole, rows_from}
 use Rattle.clk_machine.specs.Plls.{raisable, lowerable, Finds}
 use Rattle.clk_machine.specs.Sound.{IsSound}
 use Rattle.clk_machine.specs.Stands.{Stands, Leads, Enters}
-use Rattle.clk_machine.proofs.InFlight.{fall_in_front, fall_told, raise_there, poll_there}
-use Rattle.clk_machine.proofs.Making.{with_step, stands_stepped, enters_step, change_of, next_of, to_raise_stands, to_lower_stands, raisable_there, same_raised, same_polled}
-use Rattle.clk_machine.proofs.Moving.{clock_within}
+use Rattle.clk_machine.proofs.InFlight.{fall_in_front, fall_told, raise_there, poll_there, seeks_plain}
+use Rattle.clk_machine.proofs.Making.{with_step, stands_stepped, enters_step, change_of, next_of, to_raise_stands, to_lower_stands, near_within, same_raised, same_polled}
 use Rattle.clk_machine.proofs.Opening.{power_fits}
 use Rattle.clk_machine.proofs.Powering.{power_put, powered_words, told_put}
 use Rattle.clk_machine.proofs.Soundness.{wired_reached, links_reached, room_reached}
@@ -68,8 +67,7 @@ pub record Raised (old : Parts) (x pll : ClockId) (more : Bool) (window' : Shown
   pub going : old.flight.going ≡ true
   pub own : own_step old.flight ≡ Some (micro.Raise x)
   pub first : ComesFirst old (micro.Raise x)
-  pub here : registered old.tree.clocks x.0 ≡ true
-  pub found : Finds (record { pll = Some pll; more = more }) (reverse (raisable old.desc.defs old.counts old.flight.raised (path old.tree.clocks x.0)))
+  pub found : IfSome old.window.words (λ regs. Finds (record { pll = Some pll; more = more }) (reverse (raisable old.desc.defs old.counts old.flight.raised (path_to_be old.desc.defs regs old.tree.clocks x.0))))
   pub size : window'.size ≡ old.window.size
   pub words : window'.words ≡ option_map (power_put old.desc.defs pll.0 true) old.window.words
   pub behind : window'.behind ≡ old.window.behind
@@ -84,10 +82,13 @@ raise_leads old x pll more window' flight' now s stands sound =
     let k = has.k in
     let first = now.first s.notifiers k stands.notifiers has.is in
     let sure = steady old.window.size s k sound has.change in
-    let seeks : to_raise s (taken k) x.0 ≡ raisable old.desc.defs old.counts old.flight.raised (path old.tree.clocks x.0) = to_raise_stands old s k x.0 now.whole stands has.is now.here in
-    let at : slice_get (reverse (to_raise s (taken k) x.0)) 0 ≡ Some pll.0 = ap (λ (ys : List ℕ). slice_get (reverse ys) 0) seeks ∙ sym now.found.first in
+    let xs : List ℕ = raisable old.desc.defs old.counts old.flight.raised (path_to_be old.desc.defs s.regs old.tree.clocks x.0) in
+    let found : Finds (record { pll = Some pll; more = more }) (reverse xs) =
+    subst (λ (o : Option (List ℕ)). IfSome o (λ regs. Finds (record { pll = Some pll; more = more }) (reverse (raisable old.desc.defs old.counts old.flight.raised (path_to_be old.desc.defs regs old.tree.clocks x.0))))) stands.regs now.found in
+    let seeks : to_raise s (taken k) x.0 ≡ xs = to_raise_stands old s k x.0 now.whole stands has.is in
+    let at : slice_get (reverse (to_raise s (taken k) x.0)) 0 ≡ Some pll.0 = ap (λ (ys : List ℕ). slice_get (reverse ys) 0) seeks ∙ sym found.first in
     let many : more ≡ nat_le 2 (length (to_raise s (taken k) x.0)) =
-    now.found.more ∙ ap (nat_le 2) (length-reverse (raisable old.desc.defs old.counts old.flight.raised (path old.tree.clocks x.0))) ∙ sym (ap (λ (ys : List ℕ). nat_le 2 (length ys)) seeks) in
+    found.more ∙ ap (nat_le 2) (length-reverse xs) ∙ sym (ap (λ (ys : List ℕ). nat_le 2 (length ys)) seeks) in
     let few : old.flight.plls ≡ plls s.defs = (now.whole.flown now.going).plls_ ∙ ap plls (sym stands.defs) in
     let flies : Flies s.notifiers flight' (raise s (taken k) x.0).change =
     now.change s k has.is few first ((paced_seek_few s k x sure.valid sure.links sure.paced).0 first) at many in
@@ -104,7 +105,7 @@ raise_leads old x pll more window' flight' now s stands sound =
 pub raise_enters : (old : Parts) (x pll : ClockId) (more : Bool) (window' : Shown) (flight' : FlightState) → Raised old x pll more window' flight'
     → Enters old old.flight.driver (event.Step (micro.Raise x) None) turn.Going (with_step old window' flight')
 raise_enters old x pll more window' flight' now =
-    enters_step old window' flight' (micro.Raise x) None (told_put old.desc.defs pll.0 true old.window.words window'.words now.words) now.size now.behind
+    enters_step old window' flight' (micro.Raise x) None refl (told_put old.desc.defs pll.0 true old.window.words window'.words now.words) now.size now.behind
     (ap (λ (f : FlightState). f.going) now.flight ∙ (same_raised old.flight x pll more).going ∙ now.going)
     (ap (λ (f : FlightState). f.driver) now.flight ∙ (same_raised old.flight x pll more).driver) (now.less (rows_from 0 old.chains)) (raise_leads old x pll more window' flight' now)
 
@@ -118,7 +119,7 @@ seeks_of what there _ e = absurd cc
 pub none_enters : (old : Parts) (step : Micro) (flight' : FlightState) → old.flight.going ≡ true → FindsNothing old step → flight' ≡ found_none old.flight → FindsNone old.flight flight'
     → LeavesLess old.flight flight' → Enters old old.flight.driver (event.Step step None) turn.Going (with_step old old.window flight')
 none_enters old step flight' going nothing is change less =
-    enters_step old old.window flight' step None refl refl refl (ap (λ (f : FlightState). f.going) is ∙ going) (ap (λ (f : FlightState). f.driver) is) (less (rows_from 0 old.chains))
+    enters_step old old.window flight' step None (seeks_plain old.flight.call (registered old.tree.clocks) step nothing.seeks) refl refl refl (ap (λ (f : FlightState). f.going) is ∙ going) (ap (λ (f : FlightState). f.driver) is) (less (rows_from 0 old.chains))
     (λ s stands sound.
     let has = change_of old s stands going in
     let first = nothing.first s.notifiers has.k stands.notifiers has.is in
@@ -172,7 +173,7 @@ lower_leads old x pll more window' flight' now s stands sound =
 pub lower_enters : (old : Parts) (x pll : ClockId) (more : Bool) (window' : Shown) (flight' : FlightState) → Lowered old x pll more window' flight'
     → Enters old old.flight.driver (event.Step (micro.Lower x) None) turn.Going (with_step old window' flight')
 lower_enters old x pll more window' flight' now =
-    enters_step old window' flight' (micro.Lower x) None (told_put old.desc.defs pll.0 false old.window.words window'.words now.words) now.size now.behind
+    enters_step old window' flight' (micro.Lower x) None refl (told_put old.desc.defs pll.0 false old.window.words window'.words now.words) now.size now.behind
     (ap (λ (f : FlightState). f.going) now.flight ∙ now.going) (ap (λ (f : FlightState). f.driver) now.flight) (now.less (rows_from 0 old.chains)) (lower_leads old x pll more window' flight' now)
 
 -- ---- a poll
@@ -190,7 +191,7 @@ pub poll_enters : (old : Parts) (pll : ClockId) (answer : Bool) (window' : Shown
     → flight' ≡ polled_in old.flight answer → Polls answer old.flight flight' → LeavesLess old.flight flight'
     → Enters old old.flight.driver (event.Step (micro.Poll pll) (Some answer)) turn.Going (with_step old window' flight')
 poll_enters old pll answer window' flight' going own comes size words behind is change less =
-    enters_step old window' flight' (micro.Poll pll) (Some answer) (ap (λ (o : Option (List ℕ)). is_some o) words) size behind
+    enters_step old window' flight' (micro.Poll pll) (Some answer) refl (ap (λ (o : Option (List ℕ)). is_some o) words) size behind
     (ap (λ (f : FlightState). f.going) is ∙ (same_polled old.flight answer).going ∙ going) (ap (λ (f : FlightState). f.driver) is ∙ (same_polled old.flight answer).driver) (less (rows_from 0 old.chains))
     (λ s stands sound.
     let has = change_of old s stands going in
@@ -216,7 +217,7 @@ pub fall_enters : (old : Parts) (pll : ClockId) (window' : Shown) (flight' : Fli
     → flight' ≡ fallen old.flight → Drops old.flight flight' → LeavesLessAt is_fall old.flight flight'
     → Enters old old.flight.driver (event.Step (micro.Fall pll) None) turn.Going (with_step old window' flight')
 fall_enters old pll window' flight' going next comes size words behind is change less =
-    enters_step old window' flight' (micro.Fall pll) None (told_put old.desc.defs pll.0 false old.window.words window'.words words) size behind
+    enters_step old window' flight' (micro.Fall pll) None refl (told_put old.desc.defs pll.0 false old.window.words window'.words words) size behind
     (ap (λ (f : FlightState). f.going) is ∙ going) (ap (λ (f : FlightState). f.driver) is) (fall_less old pll flight' next less)
     (λ s stands sound.
     let has = change_of old s stands going in
@@ -234,25 +235,20 @@ fall_enters old pll window' flight' going next comes size words behind is change
 
 -- ---- what the steps need
 
--- the clock of a raise that comes next, and the PLL that it finds, are registered clocks
-pub raised_place : (m : Parts) (x pll : ClockId) (more : Bool) → IsWhole m → m.flight.going ≡ true → own_step m.flight ≡ Some (micro.Raise x)
-    → Finds (record { pll = Some pll; more = more }) (reverse (raisable m.desc.defs m.counts m.flight.raised (path m.tree.clocks x.0)))
-    → (registered m.tree.clocks x.0 ≡ true) × (registered m.tree.clocks pll.0 ≡ true) × (pll.0 < length m.desc.defs)
-raised_place m x pll more whole going own found =
-    let here : registered m.tree.clocks x.0 ≡ true = both_right _ _ (raise_there m.flight (registered m.tree.clocks) x own (whole.flown going).way) in
-    let there = raisable_there m x.0 pll.0 whole here (sym found.first) in
-    (here, there.0, there.1)
+-- the clock of a raise that comes next is registered, or is the one that its call registers
+pub raised_near : (m : Parts) (x : ClockId) → IsWhole m → m.flight.going ≡ true → own_step m.flight ≡ Some (micro.Raise x) → is_near m.flight.call (registered m.tree.clocks) x.0 ≡ true
+raised_near m x whole going own = both_right _ _ (raise_there m.flight (registered m.tree.clocks) x own (whole.flown going).way)
 
--- so is the PLL that is polled next, or falls
+-- the PLL that is polled next, or falls, is a clock of the description
 pub polled_place : (m : Parts) (y : ClockId) → IsWhole m → m.flight.going ≡ true → own_step m.flight ≡ Some (micro.Poll y) → y.0 < length m.desc.defs
 polled_place m y whole going own =
     let way = (whole.flown going).way in
-    clock_within m.desc m.window m.tree y.0 whole.tied (poll_there m.flight (registered m.tree.clocks) y own way)
+    near_within m y.0 whole going (poll_there m.flight (registered m.tree.clocks) y own way)
 
 pub fallen_place : (m : Parts) (y : ClockId) → IsWhole m → m.flight.going ≡ true → comes_next [] m.flight ≡ Some (micro.Fall y) → y.0 < length m.desc.defs
 fallen_place m y whole going next =
     let way = (whole.flown going).way in
-    clock_within m.desc m.window m.tree y.0 whole.tied (fall_in_front m.flight (registered m.tree.clocks) y next way).1
+    near_within m y.0 whole going (fall_in_front m.flight (registered m.tree.clocks) y next way).1
 
 -- a PLL of the description is one that a bank knows
 pub known_pll : (m : Parts) (y : ℕ) → IsWhole m → y < length m.desc.defs → y < most_plls

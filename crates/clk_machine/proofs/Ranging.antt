@@ -53,6 +53,7 @@ flown_ranged defs clocks handles chains notified spent n least most row f flown 
   paid = let few = flown.paid in let sums = sum_by-set held_in_all handles n row (ranged row least most) at in omega arith;
   tells = flown.tells;
   links = flown.links;
+  placed = flown.placed;
 }
 
 -- the parts stay whole

@@ -230,7 +230,7 @@ none_more defs c xs ys plain same d =
     omega arith
 
 -- its counts stand for what it leaves
-plain_stands : (old : Parts) (c : ℕ) (tree' : TreeState) (counts' : CountState) (s t : State) → Registered old c tree' counts' → is_critical s.defs c ≡ false
+pub plain_stands : (old : Parts) (c : ℕ) (tree' : TreeState) (counts' : CountState) (s t : State) → Registered old c tree' counts' → is_critical s.defs c ≡ false
     → StandsFor old.counts s → IsAttached s t c → t.clocks ≡ tree'.clocks → StandsFor counts' t
 plain_stands old c tree' counts' s t now plain stands is rows =
     stands_attached old.counts counts' s t c stands is (subst (λ (rs : List ClockRow). HasLinks rs counts'.links) (sym rows) now.links) (ap (λ (k : CountState). k.defs) now.counts)

@@ -1,5 +1,5 @@
 -- What the steps that give a clock another parent make of the parts of a core.
-use Rattle.std.proofs.Common.{◌≡◌, ℕ, ◌+◌, ◌<◌, ◌&&◌, Bool, ◌||◌, true, false, nat_eq, nat_lt, List, [], ◌∷◌, Option, Some, None, refl, sym, ap, subst, ◌∙◌, length, arith}
+use Rattle.std.proofs.Common.{◌≡◌, ℕ, ◌+◌, ◌<◌, ◌&&◌, not, Bool, ◌||◌, true, false, nat_eq, nat_lt, List, [], ◌∷◌, Option, Some, None, refl, sym, ap, subst, ◌∙◌, length, arith}
 use Rattle.std.specs.Prelude.{is_some, slice_get, if◌then◌else◌}
 use Rattle.std.specs.List.{list_all}
 use Rattle.std.specs.Option.{option_map_or}
@@ -19,7 +19,7 @@ use Rattle.clk_model.specs.State.{State, Change, registered, link_in}
 use Rattle.clk_model.specs.Kinds.{mux_field}
 use Rattle.clk_model.specs.Lists.{is_in}
 use Rattle.clk_model.specs.Machine.{next}
-use Rattle.clk_model.specs.Step.{rest_of, is_end}
+use Rattle.clk_model.specs.Step.{rest_of, is_end, is_register}
 use Rattle.clk_model.proofs.Members.{both_left, both_right}
 use Rattle.clk_flight.specs.declared.front.Front.{Front}
 use Rattle.clk_flight.specs.declared.front.Front.TheVariants.{Empty, Poll, Raise, Lower, Falls, Posts}
@@ -34,7 +34,7 @@ use Rattle.counts_core.specs.Standing.{StandsFor}
 use Rattle.clk_machine.specs.declared.course.Notified.{Notified}
 use Rattle.clk_machine.specs.Holds.{TellsHolds, AreHeld}
 use Rattle.clk_machine.specs.Course.{IsAlong, TellsAlong, tells_all, begins_with, behind_visit, visited_by, notifiers_at}
-use Rattle.clk_machine.specs.InFlight.{IsUnderWay, changes_rate, can_link, may_make, is_front}
+use Rattle.clk_machine.specs.InFlight.{IsUnderWay, changes_rate, can_link, may_make, is_front, is_near}
 use Rattle.clk_machine.specs.Making.{ComesFirst}
 use Rattle.clk_machine.specs.Parts.{Parts, bare, IsWhole, IsFlown, AreTied, rows_from}
 use Rattle.clk_machine.specs.Sound.{IsSound}
@@ -42,8 +42,8 @@ use Rattle.clk_machine.specs.Stands.{Stands, Enters}
 use Rattle.clk_machine.specs.Window.{Shown}
 use Rattle.clk_machine.proofs.HeldCounts.{held_still}
 use Rattle.clk_machine.proofs.Holdings.{StandsFor-same}
-use Rattle.clk_machine.proofs.InFlight.{own_going, script_rest, first_seeks, cut_behind}
-use Rattle.clk_machine.proofs.Making.{change_of, next_of}
+use Rattle.clk_machine.proofs.InFlight.{own_going, script_rest, first_seeks, cut_behind, changes_links}
+use Rattle.clk_machine.proofs.Making.{change_of, next_of, no_registers}
 use Rattle.clk_machine.proofs.Stepping.{IsNext}
 
 -- whether a step gives a clock another parent, comes behind such a step, or holds clocks for it
@@ -67,18 +67,19 @@ pub record OwnStep (f : FlightState) (m : Micro) : Type 0 where
 -- what such a step is
 pub record IsKind (m : Micro) : Type 0 where
   pub no_end : is_end m ≡ false
+  pub plain : is_register m ≡ false
   pub taken_ : is_taken m ≡ true
   pub unseen : visited_by m ≡ None
   pub may : (what : Sleeping) (there : ℕ → Bool) → may_make what there m ≡ true → changes_rate what ≡ true
 
 pub kind_is : (m : Micro) → relinks m ≡ true → IsKind m
-kind_is (micro.HoldPrepare x) e = record { no_end = refl; taken_ = refl; unseen = refl; may = λ what there made. both_left (changes_rate what) (there x.0) made }
-kind_is (micro.HoldEnable x) e = record { no_end = refl; taken_ = refl; unseen = refl; may = λ what there made. both_left (changes_rate what) (there x.0) made }
-kind_is (micro.DropEnable x) e = record { no_end = refl; taken_ = refl; unseen = refl; may = λ what there made. both_left (changes_rate what) (there x.0) made }
-kind_is (micro.DropPrepare x) e = record { no_end = refl; taken_ = refl; unseen = refl; may = λ what there made. both_left (changes_rate what) (there x.0) made }
-kind_is (micro.Relink c p) e = record { no_end = refl; taken_ = refl; unseen = refl; may = λ what there made. made }
-kind_is (micro.WriteMux c place) e = record { no_end = refl; taken_ = refl; unseen = refl; may = λ what there made. made }
-kind_is (micro.Settle c) e = record { no_end = refl; taken_ = refl; unseen = refl; may = λ what there made. made }
+kind_is (micro.HoldPrepare x) e = record { no_end = refl; plain = refl; taken_ = refl; unseen = refl; may = λ what there made. both_left (changes_rate what) (there x.0) made }
+kind_is (micro.HoldEnable x) e = record { no_end = refl; plain = refl; taken_ = refl; unseen = refl; may = λ what there made. both_left (changes_rate what) (there x.0) made }
+kind_is (micro.DropEnable x) e = record { no_end = refl; plain = refl; taken_ = refl; unseen = refl; may = λ what there made. both_left (changes_rate what) (there x.0) made }
+kind_is (micro.DropPrepare x) e = record { no_end = refl; plain = refl; taken_ = refl; unseen = refl; may = λ what there made. both_left (changes_rate what) (there x.0) made }
+kind_is (micro.Relink c p) e = record { no_end = refl; plain = refl; taken_ = refl; unseen = refl; may = λ what there made. made }
+kind_is (micro.WriteMux c place) e = record { no_end = refl; plain = refl; taken_ = refl; unseen = refl; may = λ what there made. made }
+kind_is (micro.Settle c) e = record { no_end = refl; plain = refl; taken_ = refl; unseen = refl; may = λ what there made. made }
 kind_is _ e = absurd cc
 
 pub own_of : (f : FlightState) (there : ℕ → Bool) (m : Micro) → relinks m ≡ true → own_step f ≡ Some m → IsUnderWay there f → OwnStep f m
@@ -131,10 +132,10 @@ pub front_gone : (old : Parts) (m : Micro) (flight' : FlightState) → IsWhole o
 front_gone old m flight' whole going is own gone =
     ap (λ (f : FlightState). f.front) (gone ∙ own_behind old.flight m (own_of old.flight (registered old.tree.clocks) m is own (whole.flown going).way))
 
-under_way-own : (f : FlightState) (there : ℕ → Bool) (m : Micro) (ys : List ℕ) → relinks m ≡ true → own_step f ≡ Some m → list_all there ys ≡ true → IsUnderWay there f → IsUnderWay there (raised_then f ys)
+under_way-own : (f : FlightState) (there : ℕ → Bool) (m : Micro) (ys : List ℕ) → relinks m ≡ true → own_step f ≡ Some m → list_all (is_near f.call there) ys ≡ true → IsUnderWay there f → IsUnderWay there (raised_then f ys)
 under_way-own f there m ys is own all way = record {
   call_ = way.call_;
-  script = script_rest f there f.front m (own_going f.going (own_first f f.front) m own) (kind_is m is).no_end way.script;
+  script = script_rest f there f.front m (own_going f.going (own_first f f.front) m own) (kind_is m is).no_end (kind_is m is).plain way.script;
   front = ap (λ (front : Front). is_front f.call there (front_behind f.raised front)) (own_of f there m is own way).front;
   cut = cut_behind f.call f.raised f.left f.front way.cut;
   raised = all;
@@ -178,7 +179,7 @@ pub record Relinked (old : Parts) (m : Micro) (window' : Shown) (tree' : TreeSta
   pub stands : StandsFor counts' (bare (record old { tree = tree'; prepare_holds = prepares'; enable_holds = enables' }))
   -- these PLLs count as raised then
   pub raised : List ℕ
-  pub raised_there : list_all (registered old.tree.clocks) raised ≡ true
+  pub raised_there : list_all (is_near old.flight.call (registered old.tree.clocks)) raised ≡ true
   pub flight : flight' ≡ raised_then old.flight raised
   pub less : left_over (rows_from 0 old.chains) flight' < left_over (rows_from 0 old.chains) old.flight
 
@@ -190,13 +191,10 @@ with_relinked old window' tree' counts' prepares' enables' flight' =
 -- what can be made over the tree stays so
 can_more : (defs : Description) (old new : List ClockRow) → ((c : ℕ) → registered new c ≡ registered old c) → ((c : ℕ) → is_some (link_in old c) ≡ true → is_some (link_in new c) ≡ true) → (m : Micro) → can_link defs old m ≡ true
     → can_link defs new m ≡ true
-can_more defs old new there linked (micro.Relink c p) can =
-    ap (λ (t : Bool). t && registered new p.0 && is_in p.0 (parents_of defs c.0)) (there c.0)
-    ∙ ap (λ (t : Bool). registered old c.0 && t && is_in p.0 (parents_of defs c.0)) (there p.0) ∙ can
 can_more defs old new there linked (micro.WriteMux c place) can =
     ap (λ (t : Bool). is_some (mux_field (kind_of defs c.0)) && t && nat_lt place (length (parents_of defs c.0)))
     (linked c.0 (both_right _ _ (both_left _ _ can)) ∙ sym (both_right _ _ (both_left _ _ can))) ∙ can
-can_more defs old new there linked (micro.Settle c) can = there c.0 ∙ can
+can_more defs old new there linked (micro.Register c) can = ap (λ (t : Bool). nat_lt c.0 (length defs) && not t) (there c.0) ∙ can
 can_more defs old new there linked _ can = can
 
 -- where each step that passes one test passes another, so do lists of them
@@ -211,7 +209,7 @@ own_step_of old m whole going is own = own_of old.flight (registered old.tree.cl
 pub can_now : (old : Parts) (m : Micro) → IsWhole old → old.flight.going ≡ true → relinks m ≡ true → own_step old.flight ≡ Some m → can_link old.desc.defs old.tree.clocks m ≡ true
 can_now old m whole going is own =
     let at = own_step_of old m whole going is own in
-    (links-own old.flight old.desc.defs old.tree.clocks m at ((whole.flown going).links at.changes)).0
+    (links-own old.flight old.desc.defs old.tree.clocks m at ((whole.flown going).links (changes_links old.flight.call at.changes))).0
 
 -- fewer steps are to come
 pub falls_of : (old : Parts) (m : Micro) (flight' : FlightState) → IsWhole old → old.flight.going ≡ true → relinks m ≡ true → own_step old.flight ≡ Some m → LeavesLessAt is_taken old.flight flight'
@@ -253,6 +251,7 @@ whole_relinked old m window' tree' counts' prepares' enables' flight' now =
         links = λ changes.
             all_more (can_link old.desc.defs old.tree.clocks) (can_link old.desc.defs tree'.clocks) (gone_on old.flight).left (can_more old.desc.defs old.tree.clocks tree'.clocks now.there now.linked)
             (links-own old.flight old.desc.defs old.tree.clocks m at (flown.links changes)).1;
+         placed = flown.placed;
       });
       room = let room = whole.room in omega arith;
       prepares_held = held_still (registered old.tree.clocks) (registered tree'.clocks) (length old.desc.defs) (old.steps + 1) prepares' (λ k there. now.there k ∙ there) now.prepares;
@@ -284,12 +283,13 @@ pub relinked_enters : (old : Parts) (m : Micro) (window' : Shown) (tree' : TreeS
 relinked_enters old m window' tree' counts' prepares' enables' flight' now does = record {
   remains = record { desc = refl; told = now.told; size = now.size; behind = now.behind; credits = refl; ignore_unused = refl };
   pays = let same : old.spent ≡ old.spent + 0 = omega arith in same;
-  rows = λ d. now.there d ∙ sym (or-false (registered old.tree.clocks d));
+  rows = λ d. now.there d ∙ sym (or-false (registered old.tree.clocks d)) ∙ ap (λ (t : Bool). registered old.tree.clocks d || t) (sym (no_registers m d (kind_is m now.is).plain));
   going = ap (λ (f : FlightState). f.going) now.flight ∙ now.going;
   driver_ = λ still. ap (λ (f : FlightState). f.driver) now.flight;
   fewer = λ free. now.less;
   begun = λ paid. absurd cc;
   no_more = λ paid. absurd cc;
+  alone = λ c asks. let none : false ≡ true = sym (no_registers m c (kind_is m now.is).plain) ∙ asks in absurd cc;
   beside = λ tier. absurd cc;
   step = λ s stands sound.
       let has = change_of old s stands now.going in

@@ -21,7 +21,7 @@ use Rattle.clk_model.specs.Lists.{is_in, same_place}
 use Rattle.clk_model.specs.Notices.{is_veto, vetoes}
 use Rattle.clk_model.specs.Script.{is_raise, move, move_of}
 use Rattle.clk_model.specs.State.{ChainStep, registered, link_in}
-use Rattle.clk_model.specs.Step.{is_end, is_visit}
+use Rattle.clk_model.specs.Step.{is_end, is_visit, is_register}
 use Rattle.clk_model.specs.Tree.{rooted}
 use Rattle.clk_model.proofs.Members.{both_left, both_right, or_cases, or_right, same_from_test, test_same}
 use Rattle.clk_flight.specs.LeftOver as flights
@@ -37,11 +37,12 @@ use Rattle.change_walk.specs.Weights.{step_weight}
 use Rattle.clk_machine.specs.declared.course.Notified.{Notified}
 use Rattle.clk_machine.specs.Changing.{told_clocks}
 use Rattle.clk_machine.specs.Course.{behind_first, behind_visit, begins_with, tells_all, visited_by}
-use Rattle.clk_machine.specs.InFlight.{asks_rate, can_link, changes_rate, cuts_behind, is_prepare, is_unprepare, may_make, is_script}
+use Rattle.clk_machine.specs.InFlight.{asks_rate, can_link, changes_rate, cuts_behind, is_near, is_prepare, is_probe, is_unprepare, may_make, may_raise, probes, there_behind, is_script}
 use Rattle.clk_machine.specs.Movable.{can_get, can_go, can_go_along}
 use Rattle.clk_machine.specs.Parts.{rows_from}
 use Rattle.clk_machine.specs.Reparenting.{is_candidate}
 use Rattle.clk_machine.proofs.Telling.{rows_count}
+use Rattle.clk_machine.proofs.InFlight.{changes_plain, cut_plain, makes_plain, there_still}
 
 -- ---- lists of steps that pass
 
@@ -168,33 +169,42 @@ body_all P t prepared lists plan changed all passes =
 
 -- ---- what its steps are
 
--- steps that a call may make, none of which raises, in front of a script
-script_calm : (what : Sleeping) (there : ℕ → Bool) (xs tail : List Micro) → list_all (λ m. may_make what there m && not (is_raise m)) xs ≡ true → is_script what there tail ≡ true → is_script what there (xs ++ tail) ≡ true
-script_calm what there [] tail may more = more
-script_calm what there (m ∷ xs) tail may more =
-    or_right (is_end m && is_none (slice_get (xs ++ tail) 0)) (cuts_behind what m (xs ++ tail) && (may_make what there m && is_script what there (xs ++ tail)))
-    (and_from (cuts_behind what m (xs ++ tail)) (may_make what there m && is_script what there (xs ++ tail)) (cuts m (both_right (may_make what there m) (not (is_raise m)) first))
-    (and_from (may_make what there m) (is_script what there (xs ++ tail)) (both_left (may_make what there m) (not (is_raise m)) first)
-    (script_calm what there xs tail (both_right (may_make what there m && not (is_raise m)) (list_all (λ m. may_make what there m && not (is_raise m)) xs) may) more))) where
+-- steps that a call may make, none of which raises, in front of a script; it registers no clock
+script_calm : (what : Sleeping) (there : ℕ → Bool) (xs tail : List Micro) → is_probe what ≡ false → list_all (λ m. may_make what there m && not (is_raise m)) xs ≡ true → is_script what there tail ≡ true → is_script what there (xs ++ tail) ≡ true
+script_calm what there [] tail none may more = more
+script_calm what there (m ∷ xs) tail none may more =
+    or_right (is_end m && is_none (slice_get (xs ++ tail) 0)) (cuts_behind what m (xs ++ tail) && (may_make what there m && is_script what (there_behind there m) (xs ++ tail)))
+    (and_from (cuts_behind what m (xs ++ tail)) (may_make what there m && is_script what (there_behind there m) (xs ++ tail)) (cuts m plain (both_right (may_make what there m) (not (is_raise m)) first))
+    (and_from (may_make what there m) (is_script what (there_behind there m) (xs ++ tail)) (both_left (may_make what there m) (not (is_raise m)) first)
+    (ap (λ (test : ℕ → Bool). is_script what test (xs ++ tail)) (there_still there m plain) ∙ script_calm what there xs tail none (both_right (may_make what there m && not (is_raise m)) (list_all (λ m. may_make what there m && not (is_raise m)) xs) may) more))) where
       first : (may_make what there m && not (is_raise m)) ≡ true
       first = both_left (may_make what there m && not (is_raise m)) (list_all (λ m. may_make what there m && not (is_raise m)) xs) may
 
-      cuts : (n : Micro) → not (is_raise n) ≡ true → cuts_behind what n (xs ++ tail) ≡ true
-      cuts (micro.Raise x) e = absurd cc
-      cuts _ e = refl
+      plain : is_register m ≡ false
+      plain = makes_plain what there m none (both_left (may_make what there m) (not (is_raise m)) first)
+
+      cuts : (n : Micro) → is_register n ≡ false → not (is_raise n) ≡ true → cuts_behind what n (xs ++ tail) ≡ true
+      cuts (micro.Raise x) other e = absurd cc
+      cuts (micro.Register c) other e = absurd cc
+      cuts _ other e = refl
 
 -- and steps that it may make in front of one that has a visit, which a timeout leaves
-script_before : (what : Sleeping) (there : ℕ → Bool) (xs tail : List Micro) → list_all (may_make what there) xs ≡ true → list_any is_visit tail ≡ true → is_script what there tail ≡ true → is_script what there (xs ++ tail) ≡ true
-script_before what there [] tail may seen more = more
-script_before what there (m ∷ xs) tail may seen more =
-    or_right (is_end m && is_none (slice_get (xs ++ tail) 0)) (cuts_behind what m (xs ++ tail) && (may_make what there m && is_script what there (xs ++ tail)))
-    (and_from (cuts_behind what m (xs ++ tail)) (may_make what there m && is_script what there (xs ++ tail))
-    (cuts m (list_any-append is_visit xs tail ∙ or_right (list_any is_visit xs) (list_any is_visit tail) seen))
-    (and_from (may_make what there m) (is_script what there (xs ++ tail)) (both_left (may_make what there m) (list_all (may_make what there) xs) may)
-    (script_before what there xs tail (both_right (may_make what there m) (list_all (may_make what there) xs) may) seen more))) where
-      cuts : (n : Micro) → list_any is_visit (xs ++ tail) ≡ true → cuts_behind what n (xs ++ tail) ≡ true
-      cuts (micro.Raise x) e = ap (λ (t : Bool). t || not (asks_rate what)) e
-      cuts _ e = refl
+script_before : (what : Sleeping) (there : ℕ → Bool) (xs tail : List Micro) → is_probe what ≡ false → list_all (may_make what there) xs ≡ true → list_any is_visit tail ≡ true → is_script what there tail ≡ true → is_script what there (xs ++ tail) ≡ true
+script_before what there [] tail none may seen more = more
+script_before what there (m ∷ xs) tail none may seen more =
+    or_right (is_end m && is_none (slice_get (xs ++ tail) 0)) (cuts_behind what m (xs ++ tail) && (may_make what there m && is_script what (there_behind there m) (xs ++ tail)))
+    (and_from (cuts_behind what m (xs ++ tail)) (may_make what there m && is_script what (there_behind there m) (xs ++ tail))
+    (cuts m plain (list_any-append is_visit xs tail ∙ or_right (list_any is_visit xs) (list_any is_visit tail) seen))
+    (and_from (may_make what there m) (is_script what (there_behind there m) (xs ++ tail)) (both_left (may_make what there m) (list_all (may_make what there) xs) may)
+    (ap (λ (test : ℕ → Bool). is_script what test (xs ++ tail)) (there_still there m plain)
+    ∙ script_before what there xs tail none (both_right (may_make what there m) (list_all (may_make what there) xs) may) seen more))) where
+      plain : is_register m ≡ false
+      plain = makes_plain what there m none (both_left (may_make what there m) (list_all (may_make what there) xs) may)
+
+      cuts : (n : Micro) → is_register n ≡ false → list_any is_visit (xs ++ tail) ≡ true → cuts_behind what n (xs ++ tail) ≡ true
+      cuts (micro.Raise x) other e = cut_plain what (xs ++ tail) none ∙ ap (λ (t : Bool). t || not (asks_rate what)) e
+      cuts (micro.Register c) other e = absurd cc
+      cuts _ other e = refl
 
 -- what the steps that let the old parent go pass
 abbrev drops_of : ℕ → List Micro
@@ -304,7 +314,8 @@ module _ (t : TreeState) (prepared : ℕ → Bool) (lists : List (List Notifier)
   moved_may : (what : Sleeping) → changes_rate what ≡ true → ((c p : ℕ) → link_in t.clocks c ≡ Some p → (registered t.clocks c ≡ true) × (registered t.clocks p ≡ true))
       → (c p : ℕ) → IsMoved t.defs t.clocks c p → HeldPass (may_make what (registered t.clocks)) t.clocks c p
   moved_may what changes linked c p is = record {
-    raises = and_from (is_prepare what || changes_rate what) (registered t.clocks p) (or_right (is_prepare what) (changes_rate what) changes) new;
+    raises = and_from (may_raise what) (is_near what (registered t.clocks) p)
+        (ap (λ (b : Bool). b || is_probe what) (or_right (is_prepare what) (changes_rate what) changes)) (ap (λ (b : Bool). b || probes what p) new);
     prepares = and_from (changes_rate what) (registered t.clocks p) changes new;
     enables = and_from (changes_rate what) (registered t.clocks p) changes new;
     own = and_from (changes_rate what) (registered t.clocks c) changes own_;
@@ -325,12 +336,12 @@ module _ (t : TreeState) (prepared : ℕ → Bool) (lists : List (List Notifier)
   visits_script : (what : Sleeping) → changes_rate what ≡ true → ((c p : ℕ) → link_in t.clocks c ≡ Some p → (registered t.clocks c ≡ true) × (registered t.clocks p ≡ true)) → (rates : List ClockRate) → AllByRecursion (λ r. registered t.clocks r.clock ≡ true) rates
       → is_script what (registered t.clocks) (visits t.defs t.clocks prepared plan.chain rates ++ (settles plan.set_parent plan.chain ++ micro.End ∷ [])) ≡ true
   visits_script what changes linked [] all =
-      script_calm what (registered t.clocks) (settles plan.set_parent plan.chain) (micro.End ∷ [])
+      script_calm what (registered t.clocks) (settles plan.set_parent plan.chain) (micro.End ∷ []) (changes_plain what changes)
       (settles_all (λ m. may_make what (registered t.clocks) m && not (is_raise m)) plan.set_parent plan.chain (λ k ls sets at. ap (λ (b : Bool). b && true) changes)) refl
   visits_script what changes linked (r ∷ rates) all =
       ap (is_script what (registered t.clocks))
       (append_assoc (moved ++ micro.Visit (clock_id r.clock) ∷ []) (visits t.defs t.clocks prepared plan.chain rates) rest_ ∙ append_assoc moved (micro.Visit (clock_id r.clock) ∷ []) (visits t.defs t.clocks prepared plan.chain rates ++ rest_))
-      ∙ script_before what (registered t.clocks) moved (micro.Visit (clock_id r.clock) ∷ (visits t.defs t.clocks prepared plan.chain rates ++ rest_))
+      ∙ script_before what (registered t.clocks) moved (micro.Visit (clock_id r.clock) ∷ (visits t.defs t.clocks prepared plan.chain rates ++ rest_)) (changes_plain what changes)
       (moves_all (may_make what (registered t.clocks)) plan.set_parent t.defs t.clocks prepared (λ c p is. move_all (may_make what (registered t.clocks)) t.defs t.clocks prepared c p changes changes (moved_may what changes linked c p is)) r.clock plan.chain can)
       refl
       (and_from (changes_rate what && registered t.clocks r.clock) (is_script what (registered t.clocks) (visits t.defs t.clocks prepared plan.chain rates ++ rest_))
@@ -344,7 +355,7 @@ module _ (t : TreeState) (prepared : ℕ → Bool) (lists : List (List Notifier)
   pub script_made : (what : Sleeping) → changes_rate what ≡ true → ((c p : ℕ) → link_in t.clocks c ≡ Some p → (registered t.clocks c ≡ true) × (registered t.clocks p ≡ true)) → is_script what (registered t.clocks) (steps_for t prepared lists plan changed) ≡ true
   script_made what changes linked =
       ap (is_script what (registered t.clocks)) (append_assoc (notices_before lists changed) (behind_notices t prepared lists plan changed vetoed) (micro.End ∷ []))
-      ∙ script_calm what (registered t.clocks) (notices_before lists changed) (behind_notices t prepared lists plan changed vetoed ++ micro.End ∷ [])
+      ∙ script_calm what (registered t.clocks) (notices_before lists changed) (behind_notices t prepared lists plan changed vetoed ++ micro.End ∷ []) (changes_plain what changes)
       (all_mapped calm (λ x. tellings.tell_before x (tellings.notifiers_at lists x)) changed (λ x. before_all calm (λ kind c id old new. ap (λ (b : Bool). b && true) changes) x (tellings.notifiers_at lists x)))
       (by vetoed) where
         vetoed : Bool
@@ -357,7 +368,7 @@ module _ (t : TreeState) (prepared : ℕ → Bool) (lists : List (List Notifier)
         off = all_mapped calm (λ x. tellings.tell_off x (tellings.notifiers_at lists x)) changed (λ x. off_all calm (λ kind c id old new. ap (λ (b : Bool). b && true) changes) x (tellings.notifiers_at lists x))
 
         by : (v : Bool) → is_script what (registered t.clocks) (behind_notices t prepared lists plan changed v ++ micro.End ∷ []) ≡ true
-        by true = script_calm what (registered t.clocks) (notices_off lists changed) (micro.End ∷ []) off refl
+        by true = script_calm what (registered t.clocks) (notices_off lists changed) (micro.End ∷ []) (changes_plain what changes) off refl
         by false =
             ap (is_script what (registered t.clocks)) (append_assoc (visits t.defs t.clocks prepared plan.chain plan.rates) (settles plan.set_parent plan.chain) (micro.End ∷ []))
             ∙ visits_script what changes linked plan.rates there

@@ -36,7 +36,7 @@ use Rattle.clk_flight.specs.declared.start.Start.{Start}
 use Rattle.clk_machine.specs.Holding.{stays}
 use Rattle.clk_machine.specs.Course.{IsAlong}
 use Rattle.clk_machine.specs.Parts.{Parts, bare, own_in, IsOwnCall, IsFlown, IsWhole, rows_from}
-use Rattle.clk_machine.specs.InFlight.{may_go_on, changes_rate, cuts_front, is_script, is_front, IsUnderWay}
+use Rattle.clk_machine.specs.InFlight.{may_go_on, changes_rate, cuts_front, is_near, is_script, is_front, IsUnderWay, links_clocks, probes}
 use Rattle.clk_machine.specs.Plls.{is_loose}
 use Rattle.clk_machine.specs.Stands.{Stands, Enters}
 use Rattle.clk_machine.specs.Starting.{StartsCall}
@@ -63,7 +63,7 @@ one_more : (t : Bool) (x : ℕ) (xs : List ℕ) (rest : Bool) → is_none (slice
 one_more true x xs rest e = refl
 one_more false x xs rest e = e
 
-none_or_any : (test : ℕ → Bool) (xs : List ℕ) → is_none (slice_get (filter test xs) 0) ≡ not (list_any test xs)
+pub none_or_any : (test : ℕ → Bool) (xs : List ℕ) → is_none (slice_get (filter test xs) 0) ≡ not (list_any test xs)
 none_or_any test [] = refl
 none_or_any test (x ∷ xs) = one_more (test x) x (filter test xs) (list_any test xs) (none_or_any test xs)
 
@@ -163,6 +163,7 @@ enters_prepare old new d h row whole quiet left own some room starts_ = record {
   fewer = λ free. absurd cc;
   begun = λ paid goes. let steps = starts_.left in let few = raise_left (rows_from 0 old.chains) (plls old.desc.defs) row.clock in omega arith;
   no_more = λ paid done. absurd cc;
+  alone = λ c asks. absurd cc;
   beside = λ tier. absurd cc;
   step = λ s stands sound.
       let spends : s.spent < s.credits = let one = stands.spent in let two = stands.credits in omega arith in
@@ -230,7 +231,7 @@ started_way old d what steps flight' there now goes script = record {
   script = ap (λ (c : Sleeping). is_script c there flight'.left) now.call_ ∙ ap (λ (ms : List Micro). is_script what there ms) now.left ∙ script;
   front = ap (is_front flight'.call there) now.front;
   cut = ap (cuts_front flight'.call flight'.left) now.front;
-  raised = ap (λ (ys : List ℕ). list_all there ys) now.raised;
+  raised = ap (λ (ys : List ℕ). list_all (is_near flight'.call there) ys) now.raised;
   extra = λ other. now.extra;
   vetoed = λ is. let no : true ≡ false = sym is ∙ now.vetoed in absurd cc;
 }
@@ -289,8 +290,9 @@ whole_started old d h row flight' whole left live own room now =
     whole_flying (with_spent old) flight' (whole_spent old whole left) (record {
       plls_ = now.plls_;
       tells = λ changes. let no : true ≡ false = sym changes ∙ ap changes_rate now.call_ in absurd cc;
-      links = λ changes. let no : true ≡ false = sym changes ∙ ap changes_rate now.call_ in absurd cc;
-      way = started_way old d (call.Prepare h) (raise_script row.clock) flight' (registered old.tree.clocks) now refl (ap (λ (b : Bool). b && true) (whole.handled h.number row live));
+      links = λ changes. let no : true ≡ false = sym changes ∙ ap links_clocks now.call_ in absurd cc;
+      placed = λ c here. let no : true ≡ false = sym here ∙ ap (λ (what : Sleeping). probes what c) now.call_ in absurd cc;
+      way = started_way old d (call.Prepare h) (raise_script row.clock) flight' (registered old.tree.clocks) now refl (ap (λ (b : Bool). (b || false) && true) (whole.handled h.number row live));
       own = subst (λ (what : Sleeping). IsOwnCall old.table.handles flight'.driver what) (sym now.call_)
           (ap (λ (e : ℕ). is_some (own_in old.table.handles e h.number)) now.driver ∙ ap (λ (o : Option HandleRow). is_some o) own);
       paid = let few = whole.paid.few_holds in omega arith;

@@ -15,7 +15,7 @@ use Rattle.clk_base.specs.declared.event.Reply.{Reply}
 use Rattle.clk_base.specs.declared.event.Reply.TheVariants as reply
 use Rattle.clk_model.specs.State.{State, Change, link_in}
 use Rattle.clk_model.specs.Holders.{active}
-use Rattle.clk_machine.specs.InFlight.{is_unprepare, is_ranged, may_go_on}
+use Rattle.clk_machine.specs.InFlight.{is_unprepare, is_ranged, is_probe, may_go_on}
 use Rattle.clk_model.specs.Chain.{clock_id, linked}
 use Rattle.clk_model.specs.Lists.{to_front}
 use Rattle.clk_model.specs.Tree.{children}
@@ -25,7 +25,7 @@ use Rattle.clk_model.proofs.KeepLaws.{mux_written}
 use Rattle.clk_model.specs.Gates.{settled}
 use Rattle.clk_model.specs.Laws.Paced.{is_notice}
 use Rattle.clk_model.specs.Prep.{is_sweep}
-use Rattle.clk_model.specs.Step.{todo, taken, on, visit, timed_out, to_raise, raise_one, poll, fall, to_lower, lower_one, unranged, range_back, relink, passed_over, write_mux, settle, settle_all, close, powered, ended_well, end_of, sets_parent, stepped, hold_prepare, hold_enable, drop_prepare, drop_enable}
+use Rattle.clk_model.specs.Step.{todo, taken, on, visit, timed_out, to_raise, raise_one, poll, fall, to_lower, lower_one, unranged, range_back, relink, passed_over, write_mux, settle, settle_all, close, powered, ended_well, end_of, sets_parent, stepped, hold_prepare, hold_enable, drop_prepare, drop_enable, register_in}
 use Rattle.clk_model.specs.Machine.{same_list, micro_code, comes_next, may_step, counted, next}
 use Rattle.clk_model.proofs.Members.{test_same}
 use Rattle.clk_model.proofs.StateLaws.{settled-still}
@@ -230,6 +230,14 @@ pub disables_one : (s : State) (d : ℕ) (k : Change) (x : ClockId) → IsNext s
 unfolding stepped
 disables_one s d k x is = takes s k d (micro.DropEnable x) None is.change (three _ _ (mine s d k (micro.DropEnable x) is) (first_comes (micro.DropEnable x) (todo k) is.first))
 
+-- ---- a registration
+
+-- the gates follow a critical clock
+pub registers_one : (s : State) (d : ℕ) (k : Change) (c : ClockId) → IsNext s d k (micro.Register c)
+    → next s d (event.Step (micro.Register c) None) ≡ Some (record (settled s (register_in s (taken k) c.0)) { steps = s.steps + 1 }, turn.Going)
+unfolding stepped
+registers_one s d k c is = takes s k d (micro.Register c) None is.change (three _ _ (mine s d k (micro.Register c) is) (first_comes (micro.Register c) (todo k) is.first))
+
 -- ---- the end
 
 pub ends : (s : State) (d : ℕ) (k : Change) → IsNext s d k micro.End
@@ -258,20 +266,21 @@ left_as s k y = (record y { change = None }, turn.Done (reply_of k.vetoed k.time
 
 -- an end that leaves the state as it is
 pub end_bare : (s : State) (k : Change) → may_go_on k.call ≡ true
-    → (if k.vetoed || k.timed_out then not (is_ranged k.call && is_some k.range) else (is_unprepare k.call || sets_parent k.call || is_sweep k.call)) ≡ true → end_of s k ≡ (record s { change = None }, turn.Done (reply_of k.vetoed k.timed_out))
+    → (if k.vetoed || k.timed_out then not (is_ranged k.call && is_some k.range) else (is_unprepare k.call || sets_parent k.call || is_sweep k.call || is_probe k.call)) ≡ true → end_of s k ≡ (record s { change = None }, turn.Done (reply_of k.vetoed k.timed_out))
 end_bare s k goes bare = by (k.vetoed || k.timed_out) refl bare where
   ranged : (what : Sleeping) (o : Option (ℕ × ℕ)) → not (is_ranged what && is_some o) ≡ true → record s { handles = range_back what o s.handles } ≡ s
   ranged (call.SetRange h least most) None e = refl
   ranged (call.SetRange h least most) (Some range) e = absurd cc
   ranged _ o e = refl
 
-  lowered : (what : Sleeping) → (is_unprepare what || sets_parent what || is_sweep what) ≡ true → ended_well s k.driver what ≡ s
+  lowered : (what : Sleeping) → (is_unprepare what || sets_parent what || is_sweep what || is_probe what) ≡ true → ended_well s k.driver what ≡ s
   lowered (call.Unprepare h) e = refl
   lowered (call.SetParent h p) e = refl
   lowered call.Sweep e = refl
+  lowered (call.Probe c) e = refl
   lowered _ e = absurd cc
 
-  by : (t : Bool) → (k.vetoed || k.timed_out) ≡ t → (if t then not (is_ranged k.call && is_some k.range) else (is_unprepare k.call || sets_parent k.call || is_sweep k.call)) ≡ true
+  by : (t : Bool) → (k.vetoed || k.timed_out) ≡ t → (if t then not (is_ranged k.call && is_some k.range) else (is_unprepare k.call || sets_parent k.call || is_sweep k.call || is_probe k.call)) ≡ true
       → end_of s k ≡ (record s { change = None }, turn.Done (reply_of k.vetoed k.timed_out))
   by true off e = end_off s k off ∙ ap (left_as s k) (ranged k.call k.range e)
   by false off e = end_well s k off ∙ ap (left_as s k) (lowered k.call e)

@@ -30,7 +30,7 @@ use Rattle.clk_model.specs.Machine.{paid, next}
 use Rattle.clk_model.specs.Prep.{is_sweep}
 use Rattle.clk_model.specs.Script.{plls, sweep_order, sweep_script, tree_within, weight}
 use Rattle.clk_model.specs.State.{State, Change, NotifierRow, registered}
-use Rattle.clk_model.specs.Step.{is_end, powered, close, rest_of, taken, todo}
+use Rattle.clk_model.specs.Step.{is_end, powered, close, rest_of, taken, todo, is_register}
 use Rattle.clk_model.specs.Tree.{children, orphans, roots}
 use Rattle.clk_model.proofs.EventLaws.{pick-true, pick-false}
 use Rattle.clk_model.proofs.Members.{both_left, both_right, is_in_head, is_in_tail, is_in_cases}
@@ -45,7 +45,7 @@ use Rattle.clk_flight.specs.Steps.{GoesOn, LeavesLessAt, is_taken}
 use Rattle.clk_machine.specs.Window.{Shown}
 use Rattle.clk_machine.specs.Course.{TellsAlong, begins_with, behind_visit, tells_all, visited_by}
 use Rattle.clk_machine.specs.Holding.{stays}
-use Rattle.clk_machine.specs.InFlight.{changes_rate, may_make, is_script, is_front, IsUnderWay}
+use Rattle.clk_machine.specs.InFlight.{changes_rate, may_make, is_script, is_front, IsUnderWay, links_clocks, probes}
 use Rattle.clk_machine.specs.Making.{ComesFirst}
 use Rattle.clk_machine.specs.Parts.{Parts, bare, AreTied, IsOwnCall, IsWhole, rows_from}
 use Rattle.clk_machine.specs.Stands.{Stands, Enters}
@@ -310,7 +310,8 @@ whole_sweeping old d steps flight' whole left script light room now =
     whole_flying (with_spent old) flight' (whole_spent old whole left) (record {
       plls_ = now.plls_;
       tells = λ changes. let no : true ≡ false = sym changes ∙ ap changes_rate now.call_ in absurd cc;
-      links = λ changes. let no : true ≡ false = sym changes ∙ ap changes_rate now.call_ in absurd cc;
+      links = λ changes. let no : true ≡ false = sym changes ∙ ap links_clocks now.call_ in absurd cc;
+      placed = λ c here. let no : true ≡ false = sym here ∙ ap (λ (what : Sleeping). probes what c) now.call_ in absurd cc;
       way = started_way old d call.Sweep steps flight' (registered old.tree.clocks) now refl script;
       own = subst (λ (what : Sleeping). IsOwnCall old.table.handles flight'.driver what) (sym now.call_) tt;
       paid = let few = whole.paid.few_holds in omega arith;
@@ -344,6 +345,7 @@ enters_sweep old new d steps whole quiet on_ left light told room starts_ = reco
   fewer = λ free. absurd cc;
   begun = λ paid goes. let few = sweep_left old new d steps light starts_ in omega arith;
   no_more = λ paid done. absurd cc;
+  alone = λ c asks. absurd cc;
   beside = λ tier. absurd cc;
   step = λ s stands sound.
       let is = told s stands in
@@ -369,12 +371,13 @@ sweeps _ = false
 
 pub record IsSwitch (m : Micro) : Type 0 where
   pub no_end : is_end m ≡ false
+  pub plain : is_register m ≡ false
   pub taken_ : is_taken m ≡ true
   pub unseen : visited_by m ≡ None
 
 switch_is : (m : Micro) → sweeps m ≡ true → IsSwitch m
-switch_is (micro.Close c) e = record { no_end = refl; taken_ = refl; unseen = refl }
-switch_is (micro.Unpower c) e = record { no_end = refl; taken_ = refl; unseen = refl }
+switch_is (micro.Close c) e = record { no_end = refl; plain = refl; taken_ = refl; unseen = refl }
+switch_is (micro.Unpower c) e = record { no_end = refl; plain = refl; taken_ = refl; unseen = refl }
 switch_is _ e = absurd cc
 
 -- such a step is the script's own
@@ -455,7 +458,7 @@ module _ (old : Parts) (m : Micro) (window' : Shown) (flight' : FlightState) (no
   way_on : IsUnderWay (registered old.tree.clocks) (gone_on old.flight)
   way_on = let way = (now.whole.flown now.going).way in record {
     call_ = way.call_;
-    script = script_rest old.flight (registered old.tree.clocks) old.flight.front m (own_going old.flight.going (own_first old.flight old.flight.front) m now.own) (switch_is m now.is).no_end way.script;
+    script = script_rest old.flight (registered old.tree.clocks) old.flight.front m (own_going old.flight.going (own_first old.flight old.flight.front) m now.own) (switch_is m now.is).no_end (switch_is m now.is).plain way.script;
     front = ap (λ (front : Front). is_front old.flight.call (registered old.tree.clocks) (front_behind old.flight.raised front)) here.front;
     raised = way.raised;
     cut = cut_behind old.flight.call old.flight.raised old.flight.left old.flight.front way.cut;
@@ -473,7 +476,7 @@ module _ (old : Parts) (m : Micro) (window' : Shown) (flight' : FlightState) (no
       → (regs : Registers) × (window'.words ≡ Some regs) × (next s old.flight.driver (event.Step m None) ≡ Some (record s { regs = regs; change = Some (taken k); steps = s.steps + 1 }, turn.Going)))
       → Enters old old.flight.driver (event.Step m None) turn.Going (with_step old window' flight')
   switch_enters does =
-      enters_step old window' flight' m None now.told now.size now.behind (ap (λ (f : FlightState). f.going) now.flight ∙ now.going) (ap (λ (f : FlightState). f.driver) now.flight) fewer_left
+      enters_step old window' flight' m None (switch_is m now.is).plain now.told now.size now.behind (ap (λ (f : FlightState). f.going) now.flight ∙ now.going) (ap (λ (f : FlightState). f.driver) now.flight) fewer_left
       (λ s stands sound.
       let has = now_of old s stands now.going in
       let first = now.first s.notifiers has.k stands.notifiers has.is in

@@ -11,7 +11,7 @@ use Rattle.clk_base.specs.declared.event.Event.TheVariants as event
 use Rattle.clk_base.specs.declared.event.Turn.TheVariants as turn
 use Rattle.clk_model.specs.State.{NotifierRow, registered}
 use Rattle.clk_model.specs.Notices.{notifiers_of, by_priority, sorted}
-use Rattle.clk_model.specs.Step.{taken, is_end, rest_of, sets_parent}
+use Rattle.clk_model.specs.Step.{taken, is_end, rest_of, is_register, sets_parent}
 use Rattle.clk_model.specs.Laws.Paced.{is_notice}
 use Rattle.clk_model.proofs.Members.{both_right, or_right, same_from_test, test_same}
 use Rattle.clk_flight.specs.declared.front.Front.{Front}
@@ -23,7 +23,7 @@ use Rattle.clk_flight.specs.Steps.{GoesOn, LeavesLessAt, is_taken}
 use Rattle.notifiers.specs.declared.notifier.Notifier.{Notifier}
 use Rattle.notifiers.specs.Chains.{Tells, row_on}
 use Rattle.clk_machine.specs.declared.course.Notified.{Notified}
-use Rattle.clk_machine.specs.InFlight.{may_raise, changes_rate, is_script, is_front, IsUnderWay, can_link}
+use Rattle.clk_machine.specs.InFlight.{may_raise, changes_rate, is_script, is_front, IsUnderWay, can_link, is_near}
 use Rattle.clk_machine.specs.Course.{notifiers_at, visited_by, behind_visit, begins_with, tells_all, PostsFit, TellsAlong}
 use Rattle.clk_machine.specs.Making.{ComesFirst, TellsNext}
 use Rattle.clk_machine.specs.Parts.{Parts, rows_from, IsFlown, IsWhole}
@@ -167,8 +167,8 @@ tells_next p m whole going comes notice = by p.flight.front refl where
 
 -- ---- what stays
 
-pub notice_taken : (m : Micro) → is_notice m ≡ true → (is_taken m ≡ true) × (is_end m ≡ false) × (visited_by m ≡ None)
-notice_taken (micro.Notify kind c id old new) e = (refl, refl, refl)
+pub notice_taken : (m : Micro) → is_notice m ≡ true → (is_taken m ≡ true) × (is_end m ≡ false) × (visited_by m ≡ None) × (is_register m ≡ false)
+notice_taken (micro.Notify kind c id old new) e = (refl, refl, refl, refl)
 notice_taken _ e = absurd cc
 
 -- what stands in front behind a notice
@@ -177,7 +177,7 @@ behind_front f there Empty is = refl
 behind_front f there (Raise x) is = refl
 behind_front f there (Lower x) is = refl
 behind_front f there (Poll y polls None) is = refl
-behind_front f there (Poll y polls (Some x)) is = again_there (may_raise f.call) (there y.0) (there x.0) is where
+behind_front f there (Poll y polls (Some x)) is = again_there (may_raise f.call) (is_near f.call there y.0) (is_near f.call there x.0) is where
   again_there : (a b c : Bool) → (a && b && c) ≡ true → (a && c) ≡ true
   again_there true true true e = refl
   again_there true true false e = absurd cc
@@ -211,7 +211,7 @@ behind_front f there (Posts c told left old new) is = by (nat_eq (left - 1) 0) w
 -- what is left of a script behind a notice
 behind_script : (f : FlightState) (there : ℕ → Bool) (rows : List NotifierRow) (front : Front) (m : Micro) → first_step rows f front ≡ Some m → is_notice m ≡ true → is_script f.call there f.left ≡ true
     → is_script f.call there (script_behind front f.left) ≡ true
-behind_script f there rows Empty m first notice is = script_rest f there Empty m first (notice_taken m notice).1 is
+behind_script f there rows Empty m first notice is = script_rest f there Empty m first (notice_taken m notice).1 (notice_taken m notice).3 is
 behind_script f there rows (Poll y polls again) m first notice is = is
 behind_script f there rows (Raise x) m first notice is = is
 behind_script f there rows (Lower x) m first notice is = is
@@ -302,6 +302,7 @@ whole_told old flight' whole going next is less =
         paid = flown.paid;
         tells = λ changes. tells-told old.flight (notifiers_at old.chains) old.course.notified (rows_from 0 old.chains) next.notice next.next_ next.is (flown.tells changes);
         links = λ changes. links-told old.flight (can_link old.desc.defs old.tree.clocks) (rows_from 0 old.chains) old.flight.front next.notice (own_going old.flight.going (first_step (rows_from 0 old.chains) old.flight old.flight.front) next.notice next.next_) (flown.links changes);
+        placed = flown.placed;
       });
       room = let room = whole.room in omega arith;
       prepares_held = held_on _ _ _ _ whole.prepares_held;
@@ -312,7 +313,7 @@ whole_told old flight' whole going next is less =
 pub tell_enters : (old : Parts) (m : Micro) (flight' : FlightState) → old.flight.going ≡ true → is_notice m ≡ true → TellsNext old → ComesFirst old m → flight' ≡ gone_on old.flight → GoesOn old.flight flight'
     → LeavesLessAt is_taken old.flight flight' → Enters old old.flight.driver (event.Step m None) turn.Going (with_step old old.window flight')
 tell_enters old m flight' going notice next comes is change less =
-    enters_step old old.window flight' m None refl refl refl (ap (λ (f : FlightState). f.going) is ∙ going) (ap (λ (f : FlightState). f.driver) is)
+    enters_step old old.window flight' m None (notice_taken m notice).3 refl refl refl (ap (λ (f : FlightState). f.going) is ∙ going) (ap (λ (f : FlightState). f.driver) is)
     (less (rows_from 0 old.chains) next.notice next.next_ (notice_taken next.notice next.is).0)
     (λ s stands sound.
     let has = change_of old s stands going in

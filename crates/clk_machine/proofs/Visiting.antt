@@ -110,7 +110,7 @@ visit_there f there c own is = (own_visit f there c own is).there_
 under_way-visited : (f : FlightState) (there : ℕ → Bool) (c : ClockId) (count before after : ℕ) → own_step f ≡ Some (micro.Visit c) → IsUnderWay there f → IsUnderWay there (visited f c count before after)
 under_way-visited f there c count before after own is = record {
   call_ = is.call_;
-  script = script_rest f there f.front (micro.Visit c) (own_going f.going (own_first f f.front) (micro.Visit c) own) refl is.script;
+  script = script_rest f there f.front (micro.Visit c) (own_going f.going (own_first f f.front) (micro.Visit c) own) refl refl is.script;
   front = by (nat_eq count 0);
   cut = still (nat_eq count 0);
   raised = is.raised;
@@ -204,6 +204,7 @@ whole_visited old c window' tree' posts' flight' course' now =
                 (ap (λ (front : Front). script_behind front old.flight.left) own.front ∙ ap (λ (ms : List Micro). rest_of ms) own.left)
                 ∙ both_right (can_link old.desc.defs old.tree.clocks (micro.Visit c)) (list_all (can_link old.desc.defs old.tree.clocks) own.rest)
                 (sym (ap (λ (ms : List Micro). list_all (can_link old.desc.defs old.tree.clocks) ms) own.left) ∙ flown.links changes);
+            placed = flown.placed;
             tells = λ changes. tells-visited old.flight (registered old.tree.clocks) (notifiers_at old.chains) old.course.notified c posts'.count posts'.before posts'.after now.own flown.way now.few (flown.tells changes);
           })));
       room = let room = whole.room in omega arith;
@@ -327,6 +328,7 @@ visit_enters old c window' tree' posts' flight' course' now = record {
   fewer = λ free. now.less (few_told old c.0 posts'.count now.few);
   begun = λ paid. absurd cc;
   no_more = λ paid. absurd cc;
+  alone = λ c asks. absurd cc;
   beside = λ tier. absurd cc;
   step = visit_leads old c window' tree' posts' flight' course' now;
 }

@@ -6,7 +6,7 @@ use Rattle.clk_base.specs.declared.call.Micro.{Micro}
 use Rattle.clk_base.specs.declared.call.Micro.TheVariants as micro
 use Rattle.clk_base.specs.declared.clock.ClockId.{ClockId}
 use Rattle.clk_model.specs.State.{Change, NotifierRow, registered}
-use Rattle.clk_model.specs.Tree.{path}
+use Rattle.clk_model.specs.Tree.{path, path_to_be}
 use Rattle.clk_model.specs.Step.{todo}
 use Rattle.clk_model.specs.Laws.Paced.{is_notice}
 use Rattle.clk_model.specs.Notices.{notifiers_of}
@@ -23,7 +23,7 @@ use Rattle.clk_machine.specs.declared.work.Work.TheVariants as work
 use Rattle.clk_machine.specs.Making.{ComesFirst, ComesNext, FindsNothing, work_of}
 use Rattle.clk_machine.specs.Parts.{Parts, IsWhole}
 use Rattle.clk_machine.specs.Plls.{raisable, lowerable, Finds}
-use Rattle.clk_machine.proofs.Coming.{end_comes, work_raises, work_polls, work_falls, work_lowers, work_tells, work_visits, work_relinks, work_selects, work_settles, work_closes, work_unpowers, work_holds_prepare, work_holds_enable, work_drops_enable, work_drops_prepare}
+use Rattle.clk_machine.proofs.Coming.{end_comes, work_raises, work_polls, work_falls, work_lowers, work_tells, work_visits, work_registers, work_relinks, work_selects, work_settles, work_closes, work_unpowers, work_holds_prepare, work_holds_enable, work_drops_enable, work_drops_prepare}
 use Rattle.clk_machine.proofs.InFlight.{raise_there, lower_there, fall_untold}
 use Rattle.clk_machine.proofs.Telling.{count_told, tells_next}
 use Rattle.clk_machine.proofs.Making.{to_raise_stands, to_lower_stands}
@@ -70,6 +70,9 @@ works p r (work.Tell m) whole going is step own first =
 works p r (work.Visit c) whole going is step own first =
     let at = work_visits r c (sym is) in
     (own (micro.Visit c) at refl refl, λ rows k tells change. sym (first rows k tells change) ∙ at)
+works p r (work.Register c) whole going is step own first =
+    let at = work_registers r c (sym is) in
+    (own (micro.Register c) at refl refl, λ rows k tells change. sym (first rows k tells change) ∙ at)
 works p r (work.HoldPrepare x) whole going is step own first =
     let at = work_holds_prepare r x (sym is) in
     (own (micro.HoldPrepare x) at refl refl, λ rows k tells change. sym (first rows k tells change) ∙ at)
@@ -115,13 +118,15 @@ finds_some_told found pll (Some regs) xs at is = finds_some found pll (xs regs) 
 
 -- a raise that finds none
 pub raise_nothing : (p : Parts) (x : ClockId) (found : Sought) → IsWhole p → p.flight.going ≡ true → own_step p.flight ≡ Some (micro.Raise x) → ComesFirst p (micro.Raise x)
-    → registered p.tree.clocks x.0 ≡ true → Finds found (reverse (raisable p.desc.defs p.counts p.flight.raised (path p.tree.clocks x.0))) → found.pll ≡ None → FindsNothing p (micro.Raise x)
-raise_nothing p x found whole going own first here is none = record {
+    → IfSome p.window.words (λ regs. Finds found (reverse (raisable p.desc.defs p.counts p.flight.raised (path_to_be p.desc.defs regs p.tree.clocks x.0)))) → found.pll ≡ None → FindsNothing p (micro.Raise x)
+raise_nothing p x found whole going own first is none = record {
   first = first;
   seeks = raise_there p.flight (registered p.tree.clocks) x own (whole.flown going).way;
   taken_ = λ s k stands change same.
+      let told : Finds found (reverse (raisable p.desc.defs p.counts p.flight.raised (path_to_be p.desc.defs s.regs p.tree.clocks x.0))) =
+      subst (λ (o : Option (List ℕ)). IfSome o (λ regs. Finds found (reverse (raisable p.desc.defs p.counts p.flight.raised (path_to_be p.desc.defs regs p.tree.clocks x.0))))) stands.regs is in
       raises_none s p.flight.driver k x (record { change = change; driver = same.driver; first = first s.notifiers k stands.notifiers same })
-      (ap (λ (ys : List ℕ). slice_get (reverse ys) 0) (to_raise_stands p s k x.0 whole stands same here) ∙ sym is.first ∙ ap (option_map (λ c. c.0)) none);
+      (ap (λ (ys : List ℕ). slice_get (reverse ys) 0) (to_raise_stands p s k x.0 whole stands same) ∙ sym told.first ∙ ap (option_map (λ c. c.0)) none);
 }
 
 -- a lower that finds none

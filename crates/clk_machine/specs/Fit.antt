@@ -14,10 +14,13 @@ has_earlier_parents defs c = list_all (λ p. nat_lt p c) (parents_of defs c)
 abbrev pub has_pll : Description → Bool
 has_pll defs = list_any (λ d. is_pll d.kind) defs
 
--- a clock that this core can run: its possible parents are earlier clocks, and it isn't critical where there is a PLL, which might
--- have to be raised for it
+-- whether a clock is always registered at once: it isn't critical, or there is no PLL that might have to be raised for it
+abbrev pub stands_alone : Description → ℕ → Bool
+stands_alone defs c = not (is_critical defs c) || not (has_pll defs)
+
+-- a clock that this core can run: its possible parents are earlier clocks, and such that are always registered at once
 abbrev pub can_run : Description → ℕ → Bool
-can_run defs c = has_earlier_parents defs c && (not (is_critical defs c) || not (has_pll defs))
+can_run defs c = has_earlier_parents defs c && list_all (λ p. nat_lt p c && stands_alone defs p) (parents_of defs c)
 
 abbrev pub CanRun : Description → Type 0
 CanRun defs = EachClock defs (can_run defs)

@@ -11,6 +11,7 @@ pub mod Stands
 pub mod Making
 pub mod Starting
 pub mod Sweeping
+pub mod Probing
 pub mod Changing
 pub mod Landing
 pub mod Letting

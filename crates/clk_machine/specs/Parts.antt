@@ -25,7 +25,7 @@ use Rattle.clk_machine.specs.Fit.{CanRun}
 use Rattle.clk_machine.specs.declared.course.Notified.{Notified}
 use Rattle.std.specs.List.{list_all}
 use Rattle.clk_machine.specs.Holds.{listed, AreHeld}
-use Rattle.clk_machine.specs.InFlight.{can_link, changes_rate, handle_to_end, IsUnderWay}
+use Rattle.clk_machine.specs.InFlight.{can_link, changes_rate, links_clocks, probes, handle_to_end, IsUnderWay}
 use Rattle.clk_machine.specs.Course.{CourseState, notifiers_at, TellsAlong}
 
 -- a core without its journal, as what contracts see of each part
@@ -121,15 +121,16 @@ pub record AreCounted (m : Parts) : Type 0 where
 abbrev pub IsOwnCall : List (Option HandleRow) → ℕ → Sleeping → Type 0
 IsOwnCall handles driver what = IfSome (handle_to_end what) (λ h. is_some (own_in handles driver h.number) ≡ true)
 
--- what is kept of a change in flight: what is left of it to do, its call's own handle, that what it may come to hold was paid for, and of a change of rate
--- or parent the clocks that are still to be told and that its links can be made
+-- what is kept of a change in flight: what is left of it to do, its call's own handle or clock, that what it may come to hold was paid for, of a change of rate
+-- or parent the clocks that are still to be told, and that its links and registration can be made
 pub record IsFlown (defs : Description) (clocks : List ClockRow) (handles : List (Option HandleRow)) (chains : List (List Notifier)) (notified : List Notified) (spent : ℕ) (f : FlightState) : Type 0 where
   pub plls_ : f.plls ≡ plls defs
   pub way : IsUnderWay (registered clocks) f
   pub own : IsOwnCall handles f.driver f.call
   pub paid : sum_by held_in_all (present handles) < spent
   pub tells : changes_rate f.call ≡ true → TellsAlong (notifiers_at chains) notified f
-  pub links : changes_rate f.call ≡ true → list_all (can_link defs clocks) f.left ≡ true
+  pub links : links_clocks f.call ≡ true → list_all (can_link defs clocks) f.left ≡ true
+  pub placed : (c : ℕ) → probes f.call c ≡ true → c < length defs
 
 -- the notifiers of these chains, clock by clock, of a clock and those behind it
 abbrev pub rows_from : ℕ → List (List Notifier) → List NotifierRow

@@ -18,7 +18,8 @@ use Rattle.clk_model.specs.Laws.EndCauses.{EndsCall}
 use Rattle.clk_machine.specs.declared.behind.Behind.{Behind}
 use Rattle.clk_machine.specs.Parts.{Parts, steps_left}
 use Rattle.clk_machine.specs.Polls.{IfPoll, IsAsked, asked_by}
-use Rattle.clk_machine.specs.Stands.{Stands, is_told, registers}
+use Rattle.clk_machine.specs.Fit.{CanRun, stands_alone}
+use Rattle.clk_machine.specs.Stands.{Stands, is_told, registers, joins}
 use Rattle.clk_machine.specs.Sound.{IsSound}
 use Rattle.clk_machine.specs.Built.{is_built_over}
 use Rattle.clk_machine.specs.Window.{HasDelays}
@@ -38,9 +39,12 @@ pub record Run : Type 0 where
 abbrev pub now_of : Run → State
 now_of run = replay run.start run.journal
 
--- whether the clock was probed
+-- whether the clock was probed, and whether it was registered
 abbrev pub was_probed : List Entry → ℕ → Bool
 was_probed journal c = list_any (λ e. registers e.event c) journal
+
+abbrev pub was_registered : List Entry → ℕ → Bool
+was_registered journal c = list_any (λ e. joins e.event e.turn c) journal
 
 -- whether a call is in flight behind these entries: the last of them that isn't of the enable tier tells that one goes on
 abbrev pub going_after : Bool → List Entry → Bool
@@ -121,4 +125,7 @@ pub record IsRun (m : Parts) (words : List ℕ) (log : Logged) : Type 0 where
   pub polling : is_told m ≡ true → m.flight.going ≡ true → IfPoll m.flight.front (IsAsked m.window.locks (asked_by [] log.entries))
   pub polled : is_told m ≡ true → (delay : ℕ → ℕ) → HasDelays m.window.behind.delays delay → Polled delay log.entries
   pub size : m.window.size ≡ length words
-  pub probed : (c : ℕ) → registered m.tree.clocks c ≡ was_probed log.entries c
+  pub runs : CanRun m.desc.defs
+  pub probed : (c : ℕ) → registered m.tree.clocks c ≡ was_registered log.entries c
+  -- a clock that is always registered at once is so where it was probed
+  pub alone : (c : ℕ) → was_probed log.entries c ≡ true → stands_alone m.desc.defs c ≡ true → registered m.tree.clocks c ≡ true

@@ -1,5 +1,5 @@
 -- What every state of a core keeps, where only calls are made that can be made so far.
-use Rattle.std.specs.Prelude.{◌≡◌, ℕ, ◌<◌, ◌≤◌, ◌&&◌, List, Bool, true, false, Some, None, is_some, length, nat_lt}
+use Rattle.std.specs.Prelude.{◌≡◌, ℕ, ◌<◌, ◌≤◌, ◌&&◌, List, Bool, true, false, not, Some, None, is_some, length, nat_lt}
 use Rattle.std.specs.List.{list_all}
 use Rattle.clk_base.specs.declared.call.Micro.{Micro}
 use Rattle.clk_base.specs.declared.call.Micro.TheVariants as micro
@@ -73,11 +73,12 @@ takes_memory (call.SetRateExclusive h x) = true
 takes_memory (call.SetRange h least most) = true
 takes_memory (call.SetParent h p) = true
 takes_memory (call.NotifierAdd h id priority policy) = true
+takes_memory (call.Probe c) = true
 takes_memory call.Sweep = true
 takes_memory _ = false
 
 -- whether a step links clocks and selects parents as it may: a registered clock gets a link to a possible parent, a parent is selected for a
--- clock that has a link, and none is registered
+-- clock that has a link, and a clock of the description that isn't registered is, where its possible parents are
 abbrev pub links_well : Description → List ClockRow → Micro → Bool
 links_well defs clocks (micro.Notify kind c id old new) = true
 links_well defs clocks (micro.Raise x) = true
@@ -91,11 +92,11 @@ links_well defs clocks (micro.DropPrepare x) = true
 links_well defs clocks (micro.Relink c p) = registered clocks c.0 && is_in p.0 (parents_of defs c.0)
 links_well defs clocks (micro.WriteMux c place) = is_some (link_in clocks c.0) && nat_lt place (length (parents_of defs c.0))
 links_well defs clocks (micro.Visit c) = true
+links_well defs clocks (micro.Register c) = nat_lt c.0 (length defs) && not (registered clocks c.0) && list_all (registered clocks) (parents_of defs c.0)
 links_well defs clocks (micro.Settle c) = true
 links_well defs clocks (micro.Close c) = true
 links_well defs clocks (micro.Unpower c) = true
 links_well defs clocks micro.End = true
-links_well defs clocks _ = false
 
 -- an event that can come in a state: one of the enable tier, a call that can begin, or a step that links as it may
 abbrev pub CanTake : State → Event → Type 0

@@ -1,9 +1,13 @@
 -- When the parts of a core stand for a state of the machine, and what an event does to both.
 use Rattle.std.specs.Prelude.{◌≡◌, ℕ, ◌+◌, ◌*◌, ◌<◌, ◌≤◌, ◌||◌, true, ◌==◌, Bool, false, Some, is_some, if◌then◌else◌}
+use Rattle.clk_base.specs.declared.call.Micro.{Micro}
+use Rattle.clk_base.specs.declared.call.Micro.TheVariants as micro
 use Rattle.clk_base.specs.declared.call.Sleeping.TheVariants as call
 use Rattle.clk_base.specs.declared.event.Event.{Event}
 use Rattle.clk_base.specs.declared.event.Event.TheVariants as event
+use Rattle.clk_base.specs.declared.event.Reply.TheVariants as reply
 use Rattle.clk_base.specs.declared.event.Turn.{Turn}
+use Rattle.clk_base.specs.declared.event.Turn.TheVariants as turn
 use Rattle.clk_model.specs.State.{State, registered}
 use Rattle.clk_model.specs.Gates.{settled}
 use Rattle.clk_model.specs.Machine.{next}
@@ -15,6 +19,7 @@ use Rattle.clk_flight.specs.Flights.{Flies}
 use Rattle.notifiers.specs.Chains.{Tells}
 use Rattle.clk_model.specs.Begin.{most_credits}
 use Rattle.clk_machine.specs.Course.{IsAlong}
+use Rattle.clk_machine.specs.Fit.{stands_alone}
 use Rattle.clk_machine.specs.Holds.{TellsHolds}
 use Rattle.clk_machine.specs.Parts.{Parts, steps_left}
 use Rattle.clk_machine.specs.Sound.{IsSound}
@@ -71,13 +76,25 @@ pub record Leads (s : State) (driver : ℕ) (event : Event) (turn : Turn) (new :
   pub next_ : next s driver event ≡ Some (to, slotless turn)
   pub stands : Stands new to
 
--- whether an event registers the clock
+-- whether a step registers the clock
+abbrev pub step_registers : Micro → ℕ → Bool
+step_registers (micro.Register k) c = k.0 == c
+step_registers _ c = false
+
+-- whether an event asks for the registration of the clock, or makes it
 abbrev pub registers : Event → ℕ → Bool
 registers (event.Begin (call.Probe k)) c = k.0 == c
+registers (event.Step m answer) c = step_registers m c
 registers _ c = false
 
+-- whether an event that is answered so makes it: a probe that ends well at once, or the step of one that goes on
+abbrev pub joins : Event → Turn → ℕ → Bool
+joins (event.Begin (call.Probe k)) (turn.Done reply.Fine) c = k.0 == c
+joins (event.Step m answer) t c = step_registers m c
+joins _ t c = false
+
 -- how many steps a call may come to where it goes on: the raise of the PLLs of a path or the lower of them, and the end; of a change of rate or
--- parent as many as its script weighs, for which there is room
+-- parent, of a sweep and of a probe as many as its script weighs, for which there is room
 abbrev pub most_steps : Description → Event → ℕ
 most_steps defs (event.Begin (call.Prepare h)) = 34 * plls defs + 2
 most_steps defs (event.Begin (call.Unprepare h)) = plls defs + 2
@@ -85,6 +102,7 @@ most_steps defs (event.Begin (call.SetRate h x)) = most_credits
 most_steps defs (event.Begin (call.SetRateExclusive h x)) = most_credits
 most_steps defs (event.Begin (call.SetRange h least most)) = most_credits
 most_steps defs (event.Begin (call.SetParent h p)) = most_credits
+most_steps defs (event.Begin (call.Probe c)) = most_credits
 most_steps defs (event.Begin call.Sweep) = most_credits
 most_steps defs e = 0
 
@@ -106,5 +124,7 @@ pub record Enters (old : Parts) (driver : ℕ) (event : Event) (turn : Turn) (ne
   pub no_more : is_paid event ≡ true → is_going turn ≡ false → steps_left new ≤ steps_left old
   -- the enable tier leaves the locks of PLLs and what comes next of a change in flight
   pub beside : is_enable_tier event ≡ true → (new.window.locks ≡ old.window.locks) × (new.flight ≡ old.flight)
-  pub rows : (c : ℕ) → registered new.tree.clocks c ≡ (registered old.tree.clocks c || registers event c)
+  pub rows : (c : ℕ) → registered new.tree.clocks c ≡ (registered old.tree.clocks c || joins event turn c)
+  -- a clock that is always registered at once is so then
+  pub alone : (c : ℕ) → registers event c ≡ true → stands_alone old.desc.defs c ≡ true → registered new.tree.clocks c ≡ true
   pub step : (s : State) → Stands old s → IsSound old.window.size s → Leads s driver event turn new

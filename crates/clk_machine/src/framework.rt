@@ -40,6 +40,7 @@ fn is_worked_out(what: &Sleeping) -> bool
             | Sleeping::SetRateExclusive(_, _)
             | Sleeping::SetRange(_, _, _)
             | Sleeping::SetParent(_, _)
+            | Sleeping::Probe(_)
             | Sleeping::Sweep
     )
 }
@@ -62,7 +63,7 @@ impl<B: Bank> Core<B> {
     ghost use Rattle.clk_model.specs.Journal.{slotless};
     ghost use Rattle.clk_model.specs.Laws.CallCauses.{CallTurns};
     ghost use Rattle.clk_model.specs.Laws.Causes.{EnableCauses, DisableCauses, RunningCauses, LeavesRefused};
-    ghost use Rattle.clk_machine.specs.Run.{Run, now_of, was_probed, in_flight, can_make, Appends, StepsOn, StepTurns};
+    ghost use Rattle.clk_machine.specs.Run.{Run, now_of, was_registered, in_flight, can_make, Appends, StepsOn, StepTurns};
     ghost use Rattle.clk_machine.specs.Row.{IsRowOf, IsTreeOf};
     ghost use Rattle.clk_machine.specs.Window.{behind_of, HasDelays};
 
@@ -179,8 +180,8 @@ impl<B: Bank> Core<B> {
     /// Begins a call of a driver. It is answered at once, or goes on by steps.
     ///
     /// After `NoMemory` the core is as it was, without an entry. It comes at a get, where a notifier
-    /// is added, and at a prepare, an unprepare, a change of rate or parent and the sweep, which take the
-    /// room for the entries of their steps before they begin.
+    /// is added, and at a prepare, an unprepare, a change of rate or parent, a probe and the sweep, which
+    /// take the room for the entries of their steps before they begin.
     pub fn begin(&mut self, driver: u32, what: &Sleeping) -> Result<Turn, NoMemory>
         // A credit is left.
         requires credit { cost self.old.journal < self.old.start.credits }
@@ -316,8 +317,8 @@ impl<B: Bank> Core<B> {
     pub fn row(&self, c: ClockId) -> Option<Row>
         // The clock is one of the description.
         requires { c.0 < length self.now.start.defs }
-        // There is a row exactly where the clock was probed.
-        ensures found { is_some result ≡ was_probed self.now.journal c.0 }
+        // There is a row exactly where the clock was registered.
+        ensures found { is_some result ≡ was_registered self.now.journal c.0 }
         // Where the bank tells its words, the row tells the counts, the rate and the switch of the clock in the state.
         ensures row { self.now.told ≡ true → IsRowOf (now_of self.now) c.0 result }
     {

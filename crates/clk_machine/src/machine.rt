@@ -21,6 +21,7 @@ mod movable;
 mod moving;
 mod notifying;
 mod planning;
+mod probing;
 mod ranging;
 mod readying;
 mod registering;
@@ -187,7 +188,6 @@ impl<B: Bank> Machine<B> {
                 self.notifier_add(driver, handle, id, priority, policy)
             }
             Sleeping::NotifierRemove(handle, id) => Ok(self.notifier_remove(driver, handle, id)),
-            Sleeping::Probe(clock) => Ok(self.probe(driver, clock)),
             _ => unreachable!(),
         }
     }
@@ -202,6 +202,7 @@ impl<B: Bank> Machine<B> {
     ) -> Result<Turn, NoMemory>
         requires credit { self.old.spent < self.old.credits }
         requires quiet { self.old.flight.going ≡ false }
+        requires place { IsPlaced self.old.desc.defs what }
         requires worked_out { is_worked_out what ≡ true }
         requires built { is_built_over self.old.desc.defs (registered self.old.tree.clocks) what ≡ true }
         requires paid { self.old.credits ≤ self.old.spent + log.old.room }
@@ -213,6 +214,7 @@ impl<B: Bank> Machine<B> {
     {
         match what {
             Sleeping::Sweep => self.begin_sweep(log, driver),
+            Sleeping::Probe(clock) => self.begin_probe(log, driver, clock),
             _ => self.begin_change(log, driver, what),
         }
     }

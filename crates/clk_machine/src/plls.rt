@@ -208,6 +208,44 @@ pub(crate) fn next_to_raise(
     raisable_above(depth(), desc, tree, counts, flight, Some(clock))
 }
 
+/// Whether a clock that isn't registered yet, or a clock of the path of the parent that it is to get,
+/// is a PLL that is kept powered by no prepare.
+pub(crate) fn is_unprepared_under(
+    desc: &ValidDesc,
+    tree: &Tree,
+    counts: &Counts,
+    parent: Option<ClockId>,
+    clock: ClockId,
+) -> bool
+    requires place { clock.0 < length desc.now.defs }
+    requires parent { IfSome parent (λ p. p.0 < length desc.now.defs) }
+    requires links { LinksLie desc.now.defs tree.now.clocks }
+    requires counted { length counts.now.links ≡ length desc.now.defs }
+    ensures { result ≡ list_any (is_loose desc.now.defs counts.now) (clock.0 ∷ option_map_or (λ p. path tree.now.clocks p.0) parent []) }
+{
+    is_loose(desc, counts, clock) || has_loose(depth(), desc, tree, counts, parent)
+}
+
+/// The highest of them that the change in flight doesn't keep powered either.
+pub(crate) fn next_to_raise_under(
+    desc: &ValidDesc,
+    tree: &Tree,
+    counts: &Counts,
+    flight: &Flight,
+    parent: Option<ClockId>,
+    clock: ClockId,
+) -> Sought
+    requires place { clock.0 < length desc.now.defs }
+    requires parent { IfSome parent (λ p. p.0 < length desc.now.defs) }
+    requires links { LinksLie desc.now.defs tree.now.clocks }
+    requires counted { length counts.now.links ≡ length desc.now.defs }
+    ensures { Finds result (reverse (raisable desc.now.defs counts.now flight.now.raised (clock.0 ∷ option_map_or (λ p. path tree.now.clocks p.0) parent []))) }
+{
+    let above = raisable_above(depth(), desc, tree, counts, flight, parent);
+    let sought = is_raisable(desc, counts, flight, clock);
+    with_last(above, clock, sought)
+}
+
 /// The lowest PLL of a clock's path that is powered without a prepare.
 pub(crate) fn next_to_lower<B: Bank>(
     desc: &ValidDesc,

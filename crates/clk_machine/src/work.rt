@@ -25,6 +25,8 @@ pub(crate) enum Work {
     DropEnable(ClockId),
     DropPrepare(ClockId),
     Visit(ClockId),
+    /// A clock is registered.
+    Register(ClockId),
     Settle(ClockId),
     Close(ClockId),
     Unpower(ClockId),
@@ -41,8 +43,7 @@ pub(crate) struct Made {
     pub turn: Turn,
 }
 
-/// The work that a step is: any but a raise, a poll, a fall, a lower, a notice, a hold, a new link, a
-/// selection, the end of a hold, a visit, a settling and what a sweep switches off is the end.
+/// The work that a step is: what is none of the others is the end.
 pub(crate) fn work_of(step: Option<Micro>) -> Work
     ensures { result ≡ work_of step }
 {
@@ -73,6 +74,7 @@ pub(crate) fn work_of(step: Option<Micro>) -> Work
         Some(Micro::Relink(clock, parent)) => Work::Relink(clock, parent),
         Some(Micro::WriteMux(clock, place)) => Work::Select(clock, place),
         Some(Micro::Visit(clock)) => Work::Visit(clock),
+        Some(Micro::Register(clock)) => Work::Register(clock),
         Some(Micro::Settle(clock)) => Work::Settle(clock),
         Some(Micro::Close(clock)) => Work::Close(clock),
         Some(Micro::Unpower(clock)) => Work::Unpower(clock),

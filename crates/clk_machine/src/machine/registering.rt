@@ -5,18 +5,20 @@ ghost use Rattle.std.specs.List.{list_all};
 ghost use Rattle.clk_base.specs.Description.{parents_of};
 ghost use Rattle.clk_base.specs.Flags.{is_critical};
 ghost use Rattle.clk_base.specs.declared.event.Event.TheVariants.{Begin};
+ghost use Rattle.clk_base.specs.declared.event.Reply.TheVariants.{Fine};
 ghost use Rattle.clk_base.specs.declared.event.Turn.TheVariants.{Done};
 ghost use Rattle.clk_base.specs.declared.call.Sleeping.TheVariants.{Probe};
-ghost use Rattle.clk_model.specs.State.{registered};
+ghost use Rattle.clk_model.specs.State.{State, registered};
 ghost use Rattle.clk_model.specs.Begin.{register};
 ghost use Rattle.clk_machine.specs.Parts.{IsWhole};
-ghost use Rattle.clk_machine.specs.Stands.{Becomes, Enters};
+ghost use Rattle.clk_machine.specs.Probing.{must_raise};
+ghost use Rattle.clk_machine.specs.Stands.{Stands, Becomes, Enters};
 
 use super::Machine;
 use crate::fit::is_critical;
 use crate::gates::open_path;
 use crate::register::{are_registered, register_clock};
-use clk_base::{ClockId, Errno, Reply};
+use clk_base::ClockId;
 use reg_bank::Bank;
 
 impl<B: Bank> Machine<B> {
@@ -67,7 +69,7 @@ impl<B: Bank> Machine<B> {
     }
 
     // Whether a clock is critical.
-    fn is_critical(&self, clock: ClockId) -> bool
+    pub(super) fn is_critical(&self, clock: ClockId) -> bool
         requires { clock.0 < length self.now.desc.defs }
         ensures critical { result ≡ is_critical self.now.desc.defs clock.0 }
         ensures whole { IsWhole self.now }
@@ -75,23 +77,20 @@ impl<B: Bank> Machine<B> {
         is_critical(&self.desc, clock)
     }
 
-    /// Registers a clock whose possible parents are registered, unless it is registered already.
-    pub(crate) fn probe(&mut self, driver: u32, clock: ClockId) -> Reply
+    /// Registers a clock whose possible parents are registered, and for which no PLL has to be raised.
+    pub(super) fn probe_at_once(&mut self, driver: u32, clock: ClockId)
         requires credit { self.old.spent < self.old.credits }
         requires quiet { self.old.flight.going ≡ false }
         requires place { clock.0 < length self.old.desc.defs }
+        requires free { registered self.old.tree.clocks clock.0 ≡ false }
         requires parents { list_all (registered self.old.tree.clocks) (parents_of self.old.desc.defs clock.0) ≡ true }
-        ensures { Enters self.old driver (Begin (Probe clock)) (Done result) self.new }
+        requires calm { (s : State) → Stands self.old s → must_raise s clock.0 ≡ false }
+        ensures { Enters self.old driver (Begin (Probe clock)) (Done Fine) self.new }
     {
-        if self.is_registered(clock) {
-            self.spend();
-            return Reply::Refused(Errno::EEXIST);
-        }
         if self.is_critical(clock) {
             self.register_critical(clock);
-            return Reply::Fine;
+        } else {
+            self.register(clock);
         }
-        self.register(clock);
-        Reply::Fine
     }
 }

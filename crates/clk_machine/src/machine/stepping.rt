@@ -5,8 +5,9 @@ ghost use Rattle.clk_base.specs.declared.call.Micro.TheVariants as micro;
 ghost use Rattle.clk_base.specs.declared.event.Event.TheVariants.{Step};
 ghost use Rattle.clk_base.specs.declared.event.Turn.TheVariants.{Going};
 ghost use Rattle.clk_model.specs.State.{registered};
-ghost use Rattle.clk_model.specs.Tree.{path};
+ghost use Rattle.clk_model.specs.Tree.{path, path_to_be};
 ghost use Rattle.clk_flight.specs.Flights.{own_step, comes_next};
+ghost use Rattle.clk_machine.specs.InFlight.{is_near};
 ghost use Rattle.clk_machine.specs.Making.{ComesFirst, ComesNext, FindsNothing};
 ghost use Rattle.clk_machine.specs.Parts.{IsWhole};
 ghost use Rattle.clk_machine.specs.Polls.{FollowsLocks, PollsLock, StartsLock};
@@ -15,20 +16,35 @@ ghost use Rattle.clk_machine.specs.Sound.{links_well};
 ghost use Rattle.clk_machine.specs.Stands.{Enters};
 
 use super::Machine;
-use crate::plls::{Sought, next_to_lower, next_to_raise};
+use crate::plls::{Sought, next_to_lower, next_to_raise, next_to_raise_under};
 use crate::power::set_power;
+use crate::register::given_parent;
 use crate::work::{Made, Work, going_on, work_of};
 use clk_base::{ClockId, Micro, Turn};
 use reg_bank::Bank;
 
 impl<B: Bank> Machine<B> {
-    // The highest PLL above a clock that is to be raised.
+    // The highest PLL above a clock that is to be raised, where the clock is registered or the one that
+    // the call registers.
     fn to_raise(&self, clock: ClockId) -> Sought
-        requires { registered self.now.tree.clocks clock.0 ≡ true }
-        ensures found { Finds result (reverse (raisable self.now.desc.defs self.now.counts self.now.flight.raised (path self.now.tree.clocks clock.0))) }
+        requires going { self.now.flight.going ≡ true }
+        requires near { is_near self.now.flight.call (registered self.now.tree.clocks) clock.0 ≡ true }
+        ensures found { IfSome self.now.window.words (λ regs. Finds result (reverse (raisable self.now.desc.defs self.now.counts self.now.flight.raised (path_to_be self.now.desc.defs regs self.now.tree.clocks clock.0)))) }
+        ensures near { IfSome result.pll (λ pll. is_near self.now.flight.call (registered self.now.tree.clocks) pll.0 ≡ true) }
         ensures whole { IsWhole self.now }
     {
-        next_to_raise(&self.desc, &self.tree, &self.counts, &self.flight, clock)
+        if self.tree.registered(clock) {
+            return next_to_raise(&self.desc, &self.tree, &self.counts, &self.flight, clock);
+        }
+        let parent = given_parent(&self.desc, &self.window, &self.tree, clock);
+        next_to_raise_under(
+            &self.desc,
+            &self.tree,
+            &self.counts,
+            &self.flight,
+            parent,
+            clock,
+        )
     }
 
     // The lowest PLL above a clock that is powered without a prepare.
@@ -58,7 +74,8 @@ impl<B: Bank> Machine<B> {
         requires going { self.old.flight.going ≡ true }
         requires next { own_step self.old.flight ≡ Some (micro.Raise clock) }
         requires first { ComesFirst self.old (micro.Raise clock) }
-        requires found { Finds (record { pll = Some pll; more = more }) (reverse (raisable self.old.desc.defs self.old.counts self.old.flight.raised (path self.old.tree.clocks clock.0))) }
+        requires near { is_near self.old.flight.call (registered self.old.tree.clocks) pll.0 ≡ true }
+        requires found { IfSome self.old.window.words (λ regs. Finds (record { pll = Some pll; more = more }) (reverse (raisable self.old.desc.defs self.old.counts self.old.flight.raised (path_to_be self.old.desc.defs regs self.old.tree.clocks clock.0)))) }
         ensures enters { Enters self.old self.old.flight.driver (Step (micro.Raise clock) None) Going self.new }
         ensures starts { StartsLock self.old self.new }
     {
@@ -87,7 +104,7 @@ impl<B: Bank> Machine<B> {
         requires going { self.old.flight.going ≡ true }
         requires next { own_step self.old.flight ≡ Some (micro.Raise clock) }
         requires first { ComesFirst self.old (micro.Raise clock) }
-        requires there { registered self.old.tree.clocks clock.0 ≡ true }
+        requires near { is_near self.old.flight.call (registered self.old.tree.clocks) clock.0 ≡ true }
         ensures enters { Enters self.old self.old.flight.driver (Step (micro.Raise clock) None) Going self.new }
         ensures starts { StartsLock self.old self.new }
     {
@@ -215,6 +232,10 @@ impl<B: Bank> Machine<B> {
             Work::Visit(clock) => {
                 self.visit(clock);
                 going_on(Micro::Visit(clock), None)
+            }
+            Work::Register(clock) => {
+                self.register_next(clock);
+                going_on(Micro::Register(clock), None)
             }
             Work::End => {
                 let reply = self.end();

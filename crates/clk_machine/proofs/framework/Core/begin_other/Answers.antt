@@ -24,14 +24,15 @@ pub begin-requires-clause-built : goal.begin-requires-clause-built
 begin-requires-clause-built g c =
     let m = c.self.inside in
     let built : can_make (run_of m.machine m.words.items m.log) c.args.what ≡ true = rw (← c.self.view_is) at c.requires.built in
-    can_begin m.machine m.words.items m.log c.args.what c.self.invariant built
+    let placed : IsPlaced m.machine.desc.defs c.args.what = rw (← c.self.view_is) at c.requires.place in
+    can_begin m.machine m.words.items m.log c.args.what placed c.self.invariant built
 
 pub invariant_of-self-2 : goal.invariant_of-self-2
 invariant_of-self-2 g c =
     let m = c.self.inside in
     let built : can_make (run_of m.machine m.words.items m.log) c.args.what ≡ true = rw (← c.self.view_is) at c.requires.built in
     let placed : IsPlaced m.machine.desc.defs c.args.what = rw (← c.self.view_is) at c.requires.place in
-    let begins : is_built_over m.machine.desc.defs (registered m.machine.tree.clocks) c.args.what ≡ true = can_begin m.machine m.words.items m.log c.args.what c.self.invariant built in
+    let begins : is_built_over m.machine.desc.defs (registered m.machine.tree.clocks) c.args.what ≡ true = can_begin m.machine m.words.items m.log c.args.what placed c.self.invariant built in
     let room : m.machine.credits + most_steps m.machine.desc.defs (Begin c.args.what) ≤ m.machine.spent + c.make_room.new.self.room =
     room_made m.machine c.args.what c.make_room.new.self c.credits_left-credits.result c.most_steps-steps.result c.credits_left-credits.ensures c.most_steps-steps.ensures.most c.in_ok-make_room.ensures.room in
     let run : IsRun m.machine m.words.items c.make_room.new.self = roomier m.machine m.words.items m.log c.make_room.new.self c.self.invariant c.make_room.ensures.entries c.make_room.ensures.kept in
@@ -45,7 +46,7 @@ returns-clause-ok g c =
     let m = c.self.inside in
     let built : can_make (run_of m.machine m.words.items m.log) c.args.what ≡ true = rw (← c.self.view_is) at c.requires.built in
     let placed : IsPlaced m.machine.desc.defs c.args.what = rw (← c.self.view_is) at c.requires.place in
-    let begins : is_built_over m.machine.desc.defs (registered m.machine.tree.clocks) c.args.what ≡ true = can_begin m.machine m.words.items m.log c.args.what c.self.invariant built in
+    let begins : is_built_over m.machine.desc.defs (registered m.machine.tree.clocks) c.args.what ≡ true = can_begin m.machine m.words.items m.log c.args.what placed c.self.invariant built in
     let room : m.machine.credits + most_steps m.machine.desc.defs (Begin c.args.what) ≤ m.machine.spent + c.make_room.new.self.room =
     room_made m.machine c.args.what c.make_room.new.self c.credits_left-credits.result c.most_steps-steps.result c.credits_left-credits.ensures c.most_steps-steps.ensures.most c.in_ok-make_room.ensures.room in
     let run : IsRun m.machine m.words.items c.make_room.new.self = roomier m.machine m.words.items m.log c.make_room.new.self c.self.invariant c.make_room.ensures.entries c.make_room.ensures.kept in

@@ -17,7 +17,8 @@ pub begin_worked_out-requires-clause-built : goal.begin_worked_out-requires-clau
 begin_worked_out-requires-clause-built g c =
     let m = c.self.inside in
     let built : can_make (run_of m.machine m.words.items m.log) c.args.what ≡ true = rw (← c.self.view_is) at c.requires.built in
-    can_begin m.machine m.words.items m.log c.args.what c.self.invariant built
+    let placed : IsPlaced m.machine.desc.defs c.args.what = rw (← c.self.view_is) at c.requires.place in
+    can_begin m.machine m.words.items m.log c.args.what placed c.self.invariant built
 
 pub begin_worked_out-requires-clause-paid : goal.begin_worked_out-requires-clause-paid
 begin_worked_out-requires-clause-paid g c = let room = c.self.invariant.room in omega arith
@@ -27,7 +28,7 @@ invariant_of-self-2 g c =
     let m = c.self.inside in
     let built : can_make (run_of m.machine m.words.items m.log) c.args.what ≡ true = rw (← c.self.view_is) at c.requires.built in
     let placed : IsPlaced m.machine.desc.defs c.args.what = rw (← c.self.view_is) at c.requires.place in
-    let begins : is_built_over m.machine.desc.defs (registered m.machine.tree.clocks) c.args.what ≡ true = can_begin m.machine m.words.items m.log c.args.what c.self.invariant built in
+    let begins : is_built_over m.machine.desc.defs (registered m.machine.tree.clocks) c.args.what ≡ true = can_begin m.machine m.words.items m.log c.args.what placed c.self.invariant built in
     let run : IsRun m.machine m.words.items c.begin_worked_out.new.log = roomier m.machine m.words.items m.log c.begin_worked_out.new.log c.self.invariant c.begin_worked_out.ensures.entries c.begin_worked_out.ensures.kept in
     let is : IsEntered m.machine c.begin_worked_out.new.self m.words.items c.begin_worked_out.new.log c.push.new.self c.args.driver (Begin c.args.what) c.in_ok-turn.turn =
     begun_along m.machine c.begin_worked_out.new.self m.words.items c.begin_worked_out.new.log c.push.new.self c.args.driver c.args.what c.in_ok-turn.turn run c.in_ok-turn.ensures.ok
@@ -39,7 +40,7 @@ returns-clause-ok g c =
     let m = c.self.inside in
     let built : can_make (run_of m.machine m.words.items m.log) c.args.what ≡ true = rw (← c.self.view_is) at c.requires.built in
     let placed : IsPlaced m.machine.desc.defs c.args.what = rw (← c.self.view_is) at c.requires.place in
-    let begins : is_built_over m.machine.desc.defs (registered m.machine.tree.clocks) c.args.what ≡ true = can_begin m.machine m.words.items m.log c.args.what c.self.invariant built in
+    let begins : is_built_over m.machine.desc.defs (registered m.machine.tree.clocks) c.args.what ≡ true = can_begin m.machine m.words.items m.log c.args.what placed c.self.invariant built in
     let run : IsRun m.machine m.words.items c.begin_worked_out.new.log = roomier m.machine m.words.items m.log c.begin_worked_out.new.log c.self.invariant c.begin_worked_out.ensures.entries c.begin_worked_out.ensures.kept in
     let is : IsEntered m.machine c.begin_worked_out.new.self m.words.items c.begin_worked_out.new.log c.push.new.self c.args.driver (Begin c.args.what) c.in_ok-turn.turn =
     begun_along m.machine c.begin_worked_out.new.self m.words.items c.begin_worked_out.new.log c.push.new.self c.args.driver c.args.what c.in_ok-turn.turn run c.in_ok-turn.ensures.ok

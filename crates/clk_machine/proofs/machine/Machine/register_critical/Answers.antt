@@ -95,8 +95,8 @@ invariant_of-self g c =
     let critical : is_critical m.desc.defs c.args.clock.0 ≡ true = rw (← c.self.view_is) at c.requires.critical in
     let holds : IsHeld c.moved.new.self c.enable_walk-begun.new.self c.args.clock.0 =
     held_twice c.moved.new.self c.hold.new.self c.enable_walk-begun.new.self c.args.clock.0 c.hold.ensures.holders c.enable_walk-begun.ensures.holders c.enable_walk-begun.ensures.stands in
-    whole_critical p c.args.clock.0 c.register_clock.new.tree c.moved.new.self c.enable_walk-begun.new.self c.open_path.new.window c.enable_walk-begun.result c.self.invariant quiet now holds critical
-    left c.open_path.ensures.size c.open_path.ensures.words
+    whole_critical p c.args.clock.0 c.register_clock.new.tree c.moved.new.self c.enable_walk-begun.new.self c.open_path.new.window c.enable_walk-begun.result c.self.invariant now holds critical
+    quiet left c.open_path.ensures.size c.open_path.ensures.words
 
 pub returns : goal.returns
 returns g c =
@@ -123,7 +123,7 @@ returns g c =
     let holds : IsHeld c.moved.new.self c.enable_walk-begun.new.self c.args.clock.0 =
     held_twice c.moved.new.self c.hold.new.self c.enable_walk-begun.new.self c.args.clock.0 c.hold.ensures.holders c.enable_walk-begun.ensures.holders c.enable_walk-begun.ensures.stands in
     rw (← c.self.view_is)
-    (becomes_critical p c.args.clock.0 c.register_clock.new.tree c.moved.new.self c.enable_walk-begun.new.self c.open_path.new.window c.enable_walk-begun.result c.self.invariant quiet now holds critical
+    (becomes_critical p c.args.clock.0 c.register_clock.new.tree c.moved.new.self c.enable_walk-begun.new.self c.open_path.new.window c.enable_walk-begun.result c.self.invariant now holds critical
     c.open_path.ensures.size c.open_path.ensures.behind c.open_path.ensures.locks
     (held_begun c.moved.new.self c.hold.new.self c.enable_walk-begun.new.self c.args.clock.0 c.enable_walk-begun.result c.hold.ensures.holders c.enable_walk-begun.ensures.begun)
     c.open_path.ensures.words)

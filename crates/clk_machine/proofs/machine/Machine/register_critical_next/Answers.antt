@@ -1,0 +1,219 @@
+use Rattle.std.proofs.Common.{◌≡◌, ◌<◌, ◌∙◌, true, false, Some, sym, ap, subst, get_or}
+use Rattle.clk_base.specs.declared.call.Micro.TheVariants as micro
+use Rattle.clk_base.specs.Flags.{is_critical}
+use Rattle.clk_model.specs.State.{row_of}
+use Rattle.clk_flight.specs.Flights.{own_step}
+use Rattle.clk_machine.specs.Making.{ComesFirst}
+use Rattle.clk_machine.specs.Parts.{Parts, parts_of}
+use Rattle.counts_core.specs.Counted.{CountState}
+use Rattle.clk_machine.proofs.Critical.{IsHeld, held_begun, held_twice}
+use Rattle.clk_machine.proofs.Joining.{ComesOff, may_join, front_joining, whole_held, held_enters}
+use Rattle.clk_machine.proofs.Moving.{links_within}
+use Rattle.clk_machine.proofs.Registering.{Registered, no_link, other_links, tied_registered}
+use Rattle.clk_machine.proofs.Room.{prepare_room, enable_room}
+use Rattle.clk_machine.proofs.Rows.{counted_place}
+use Rattle.clk_machine.proofs.machine.Machine.register_critical_next.Goals as goal
+
+pub given_parent-parent-requires-clause-place : goal.given_parent-parent-requires-clause-place
+given_parent-parent-requires-clause-place g c =
+    let m = c.self.inside in
+    let p : Parts = parts_of m.desc m.window m.tree m.handles m.counts m.notifiers m.credits m.spent m.ignore_unused m.flight m.course m.prepare_holds m.enable_holds m.steps in
+    let going : p.flight.going ≡ true = subst (λ (q : Parts). q.flight.going ≡ true) (sym c.self.view_is) c.requires.going in
+    let own : own_step p.flight ≡ Some (micro.Register c.args.clock) = subst (λ (q : Parts). own_step q.flight ≡ Some (micro.Register c.args.clock)) (sym c.self.view_is) c.requires.next in
+    let may = may_join p c.args.clock c.self.invariant going own in
+    may.place
+
+pub given_parent-parent-requires-clause-words : goal.given_parent-parent-requires-clause-words
+given_parent-parent-requires-clause-words g c = c.self.invariant.tied.words
+
+pub let_go_under-requires : goal.let_go_under-requires
+let_go_under-requires g c =
+    let m = c.self.inside in
+    let p : Parts = parts_of m.desc m.window m.tree m.handles m.counts m.notifiers m.credits m.spent m.ignore_unused m.flight m.course m.prepare_holds m.enable_holds m.steps in
+    let going : p.flight.going ≡ true = subst (λ (q : Parts). q.flight.going ≡ true) (sym c.self.view_is) c.requires.going in
+    let own : own_step p.flight ≡ Some (micro.Register c.args.clock) = subst (λ (q : Parts). own_step q.flight ≡ Some (micro.Register c.args.clock)) (sym c.self.view_is) c.requires.next in
+    let may = may_join p c.args.clock c.self.invariant going own in
+    front_joining p c.args.clock c.go_on.new.self c.self.invariant going own c.go_on.ensures.flight
+
+pub register_clock-requires-clause-place : goal.register_clock-requires-clause-place
+register_clock-requires-clause-place g c =
+    let m = c.self.inside in
+    let p : Parts = parts_of m.desc m.window m.tree m.handles m.counts m.notifiers m.credits m.spent m.ignore_unused m.flight m.course m.prepare_holds m.enable_holds m.steps in
+    let going : p.flight.going ≡ true = subst (λ (q : Parts). q.flight.going ≡ true) (sym c.self.view_is) c.requires.going in
+    let own : own_step p.flight ≡ Some (micro.Register c.args.clock) = subst (λ (q : Parts). own_step q.flight ≡ Some (micro.Register c.args.clock)) (sym c.self.view_is) c.requires.next in
+    let may = may_join p c.args.clock c.self.invariant going own in
+    may.place
+
+pub register_clock-requires-clause-words : goal.register_clock-requires-clause-words
+register_clock-requires-clause-words g c = c.self.invariant.tied.words
+
+pub register_clock-requires-clause-made : goal.register_clock-requires-clause-made
+register_clock-requires-clause-made g c = c.self.invariant.tied.defs
+
+pub register_clock-requires-clause-parents : goal.register_clock-requires-clause-parents
+register_clock-requires-clause-parents g c =
+    let m = c.self.inside in
+    let p : Parts = parts_of m.desc m.window m.tree m.handles m.counts m.notifiers m.credits m.spent m.ignore_unused m.flight m.course m.prepare_holds m.enable_holds m.steps in
+    let going : p.flight.going ≡ true = subst (λ (q : Parts). q.flight.going ≡ true) (sym c.self.view_is) c.requires.going in
+    let own : own_step p.flight ≡ Some (micro.Register c.args.clock) = subst (λ (q : Parts). own_step q.flight ≡ Some (micro.Register c.args.clock)) (sym c.self.view_is) c.requires.next in
+    let may = may_join p c.args.clock c.self.invariant going own in
+    may.parents
+
+pub register_clock-requires-clause-kept : goal.register_clock-requires-clause-kept
+register_clock-requires-clause-kept g c = c.self.invariant.tied.kept
+
+pub moved-requires-clause-place : goal.moved-requires-clause-place
+moved-requires-clause-place g c =
+    let m = c.self.inside in
+    let p : Parts = parts_of m.desc m.window m.tree m.handles m.counts m.notifiers m.credits m.spent m.ignore_unused m.flight m.course m.prepare_holds m.enable_holds m.steps in
+    let going : p.flight.going ≡ true = subst (λ (q : Parts). q.flight.going ≡ true) (sym c.self.view_is) c.requires.going in
+    let own : own_step p.flight ≡ Some (micro.Register c.args.clock) = subst (λ (q : Parts). own_step q.flight ≡ Some (micro.Register c.args.clock)) (sym c.self.view_is) c.requires.next in
+    let may = may_join p c.args.clock c.self.invariant going own in
+    counted_place p c.args.clock.0 c.self.invariant may.place
+
+pub moved-requires-clause-made : goal.moved-requires-clause-made
+moved-requires-clause-made g c = c.register_clock.ensures.defs ∙ c.self.invariant.tied.defs ∙ sym c.self.invariant.counted.stands.defs
+
+pub moved-requires-clause-from : goal.moved-requires-clause-from
+moved-requires-clause-from g c =
+    let m = c.self.inside in
+    let p : Parts = parts_of m.desc m.window m.tree m.handles m.counts m.notifiers m.credits m.spent m.ignore_unused m.flight m.course m.prepare_holds m.enable_holds m.steps in
+    let going : p.flight.going ≡ true = subst (λ (q : Parts). q.flight.going ≡ true) (sym c.self.view_is) c.requires.going in
+    let own : own_step p.flight ≡ Some (micro.Register c.args.clock) = subst (λ (q : Parts). own_step q.flight ≡ Some (micro.Register c.args.clock)) (sym c.self.view_is) c.requires.next in
+    let may = may_join p c.args.clock c.self.invariant going own in
+    no_link p c.args.clock.0 c.self.invariant may.free
+
+pub moved-requires-clause-others : goal.moved-requires-clause-others
+moved-requires-clause-others g c =
+    let m = c.self.inside in
+    let p : Parts = parts_of m.desc m.window m.tree m.handles m.counts m.notifiers m.credits m.spent m.ignore_unused m.flight m.course m.prepare_holds m.enable_holds m.steps in
+    let going : p.flight.going ≡ true = subst (λ (q : Parts). q.flight.going ≡ true) (sym c.self.view_is) c.requires.going in
+    let own : own_step p.flight ≡ Some (micro.Register c.args.clock) = subst (λ (q : Parts). own_step q.flight ≡ Some (micro.Register c.args.clock)) (sym c.self.view_is) c.requires.next in
+    let may = may_join p c.args.clock c.self.invariant going own in
+    other_links p c.args.clock.0 c.register_clock.new.tree.clocks c.self.invariant c.register_clock.ensures.links
+
+pub hold-requires-clause-room : goal.hold-requires-clause-room
+hold-requires-clause-room g c =
+    let m = c.self.inside in
+    let p : Parts = parts_of m.desc m.window m.tree m.handles m.counts m.notifiers m.credits m.spent m.ignore_unused m.flight m.course m.prepare_holds m.enable_holds m.steps in
+    let going : p.flight.going ≡ true = subst (λ (q : Parts). q.flight.going ≡ true) (sym c.self.view_is) c.requires.going in
+    let own : own_step p.flight ≡ Some (micro.Register c.args.clock) = subst (λ (q : Parts). own_step q.flight ≡ Some (micro.Register c.args.clock)) (sym c.self.view_is) c.requires.next in
+    let may = may_join p c.args.clock c.self.invariant going own in
+    subst (λ (k : CountState). get_or k.prepares c.args.clock.0 0 < 8388608) (sym c.moved.ensures.moved) (prepare_room p c.args.clock.0 c.self.invariant)
+
+pub enable_walk-begun-requires-clause-room : goal.enable_walk-begun-requires-clause-room
+enable_walk-begun-requires-clause-room g c =
+    let m = c.self.inside in
+    let p : Parts = parts_of m.desc m.window m.tree m.handles m.counts m.notifiers m.credits m.spent m.ignore_unused m.flight m.course m.prepare_holds m.enable_holds m.steps in
+    let going : p.flight.going ≡ true = subst (λ (q : Parts). q.flight.going ≡ true) (sym c.self.view_is) c.requires.going in
+    let own : own_step p.flight ≡ Some (micro.Register c.args.clock) = subst (λ (q : Parts). own_step q.flight ≡ Some (micro.Register c.args.clock)) (sym c.self.view_is) c.requires.next in
+    let may = may_join p c.args.clock c.self.invariant going own in
+    subst (λ (k : CountState). get_or k.enables c.args.clock.0 0 < 8388608) (sym c.hold.ensures.holders)
+    (subst (λ (k : CountState). get_or k.enables c.args.clock.0 0 < 8388608) (sym c.moved.ensures.moved) (enable_room p c.args.clock.0 c.self.invariant))
+
+pub open_path-requires-clause-links : goal.open_path-requires-clause-links
+open_path-requires-clause-links g c =
+    let m = c.self.inside in
+    let p : Parts = parts_of m.desc m.window m.tree m.handles m.counts m.notifiers m.credits m.spent m.ignore_unused m.flight m.course m.prepare_holds m.enable_holds m.steps in
+    let going : p.flight.going ≡ true = subst (λ (q : Parts). q.flight.going ≡ true) (sym c.self.view_is) c.requires.going in
+    let own : own_step p.flight ≡ Some (micro.Register c.args.clock) = subst (λ (q : Parts). own_step q.flight ≡ Some (micro.Register c.args.clock)) (sym c.self.view_is) c.requires.next in
+    let may = may_join p c.args.clock c.self.invariant going own in
+    let now : Registered p c.args.clock.0 c.register_clock.new.tree c.moved.new.self = record {
+      place = may.place;
+      free = may.free;
+      parents = may.parents;
+      rows = c.register_clock.ensures.rows;
+      clocks = c.register_clock.ensures.clocks;
+      order = c.register_clock.ensures.order;
+      defs = c.register_clock.ensures.defs;
+      kept = c.register_clock.ensures.kept;
+      stands = c.register_clock.ensures.stands;
+      link = (row_of c.register_clock.new.tree.clocks c.args.clock.0).link;
+      counts = c.moved.ensures.moved;
+      links = c.moved.ensures.links;
+      keeps = c.moved.ensures.stands;
+    } in
+    links_within m.desc m.window c.register_clock.new.tree (tied_registered p c.args.clock.0 c.register_clock.new.tree c.moved.new.self c.self.invariant now)
+
+pub invariant_of-self : goal.invariant_of-self
+invariant_of-self g c =
+    let m = c.self.inside in
+    let p : Parts = parts_of m.desc m.window m.tree m.handles m.counts m.notifiers m.credits m.spent m.ignore_unused m.flight m.course m.prepare_holds m.enable_holds m.steps in
+    let going : p.flight.going ≡ true = subst (λ (q : Parts). q.flight.going ≡ true) (sym c.self.view_is) c.requires.going in
+    let own : own_step p.flight ≡ Some (micro.Register c.args.clock) = subst (λ (q : Parts). own_step q.flight ≡ Some (micro.Register c.args.clock)) (sym c.self.view_is) c.requires.next in
+    let may = may_join p c.args.clock c.self.invariant going own in
+    let now : Registered p c.args.clock.0 c.register_clock.new.tree c.moved.new.self = record {
+      place = may.place;
+      free = may.free;
+      parents = may.parents;
+      rows = c.register_clock.ensures.rows;
+      clocks = c.register_clock.ensures.clocks;
+      order = c.register_clock.ensures.order;
+      defs = c.register_clock.ensures.defs;
+      kept = c.register_clock.ensures.kept;
+      stands = c.register_clock.ensures.stands;
+      link = (row_of c.register_clock.new.tree.clocks c.args.clock.0).link;
+      counts = c.moved.ensures.moved;
+      links = c.moved.ensures.links;
+      keeps = c.moved.ensures.stands;
+    } in
+    let first : ComesFirst p (micro.Register c.args.clock) = subst (λ (q : Parts). ComesFirst q (micro.Register c.args.clock)) (sym c.self.view_is) c.requires.first in
+    let critical : is_critical p.desc.defs c.args.clock.0 ≡ true = subst (λ (q : Parts). is_critical q.desc.defs c.args.clock.0 ≡ true) (sym c.self.view_is) c.requires.critical in
+    let before : ComesOff p c.args.clock c.go_on.new.self c.let_go_under.new.flight = record {
+      whole = c.self.invariant;
+      going = going;
+      own = own;
+      first = first;
+      gone_ = c.go_on.ensures.flight;
+      change = c.go_on.ensures.change;
+      less = c.go_on.ensures.less;
+      parent = c.given_parent-parent.result;
+      given = c.given_parent-parent.ensures.link;
+      lets = c.let_go_under.ensures;
+    } in
+    let holds : IsHeld c.moved.new.self c.enable_walk-begun.new.self c.args.clock.0 =
+    held_twice c.moved.new.self c.hold.new.self c.enable_walk-begun.new.self c.args.clock.0 c.hold.ensures.holders c.enable_walk-begun.ensures.holders c.enable_walk-begun.ensures.stands in
+    whole_held p c.args.clock c.register_clock.new.tree c.moved.new.self c.enable_walk-begun.new.self c.open_path.new.window c.enable_walk-begun.result c.go_on.new.self c.let_go_under.new.flight before now c.register_clock.ensures.links holds critical
+    c.open_path.ensures.size c.open_path.ensures.behind c.open_path.ensures.words
+
+pub returns : goal.returns
+returns g c =
+    let m = c.self.inside in
+    let p : Parts = parts_of m.desc m.window m.tree m.handles m.counts m.notifiers m.credits m.spent m.ignore_unused m.flight m.course m.prepare_holds m.enable_holds m.steps in
+    let going : p.flight.going ≡ true = subst (λ (q : Parts). q.flight.going ≡ true) (sym c.self.view_is) c.requires.going in
+    let own : own_step p.flight ≡ Some (micro.Register c.args.clock) = subst (λ (q : Parts). own_step q.flight ≡ Some (micro.Register c.args.clock)) (sym c.self.view_is) c.requires.next in
+    let may = may_join p c.args.clock c.self.invariant going own in
+    let now : Registered p c.args.clock.0 c.register_clock.new.tree c.moved.new.self = record {
+      place = may.place;
+      free = may.free;
+      parents = may.parents;
+      rows = c.register_clock.ensures.rows;
+      clocks = c.register_clock.ensures.clocks;
+      order = c.register_clock.ensures.order;
+      defs = c.register_clock.ensures.defs;
+      kept = c.register_clock.ensures.kept;
+      stands = c.register_clock.ensures.stands;
+      link = (row_of c.register_clock.new.tree.clocks c.args.clock.0).link;
+      counts = c.moved.ensures.moved;
+      links = c.moved.ensures.links;
+      keeps = c.moved.ensures.stands;
+    } in
+    let first : ComesFirst p (micro.Register c.args.clock) = subst (λ (q : Parts). ComesFirst q (micro.Register c.args.clock)) (sym c.self.view_is) c.requires.first in
+    let critical : is_critical p.desc.defs c.args.clock.0 ≡ true = subst (λ (q : Parts). is_critical q.desc.defs c.args.clock.0 ≡ true) (sym c.self.view_is) c.requires.critical in
+    let before : ComesOff p c.args.clock c.go_on.new.self c.let_go_under.new.flight = record {
+      whole = c.self.invariant;
+      going = going;
+      own = own;
+      first = first;
+      gone_ = c.go_on.ensures.flight;
+      change = c.go_on.ensures.change;
+      less = c.go_on.ensures.less;
+      parent = c.given_parent-parent.result;
+      given = c.given_parent-parent.ensures.link;
+      lets = c.let_go_under.ensures;
+    } in
+    let holds : IsHeld c.moved.new.self c.enable_walk-begun.new.self c.args.clock.0 =
+    held_twice c.moved.new.self c.hold.new.self c.enable_walk-begun.new.self c.args.clock.0 c.hold.ensures.holders c.enable_walk-begun.ensures.holders c.enable_walk-begun.ensures.stands in
+    rw (← c.self.view_is) (held_enters p c.args.clock c.register_clock.new.tree c.moved.new.self c.enable_walk-begun.new.self c.open_path.new.window c.enable_walk-begun.result c.go_on.new.self c.let_go_under.new.flight before now c.register_clock.ensures.links holds critical
+    c.open_path.ensures.size c.open_path.ensures.behind c.open_path.ensures.words
+    (held_begun c.moved.new.self c.hold.new.self c.enable_walk-begun.new.self c.args.clock.0 c.enable_walk-begun.result c.hold.ensures.holders c.enable_walk-begun.ensures.begun))

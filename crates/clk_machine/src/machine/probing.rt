@@ -1,0 +1,210 @@
+//! Registrations that go on: PLLs are raised first, where a critical clock is to be registered.
+
+ghost use Rattle.std.specs.Prelude.{◌≡◌, ◌+◌, ◌*◌, ◌^◌, ◌<◌, ◌≤◌, ◌∷◌, [], true, false, None, Some, length, sum_by, IfOk, OnOk, OnErr};
+ghost use Rattle.std.specs.List.{list_all};
+ghost use Rattle.clk_base.specs.declared.call.Micro.TheVariants as micro;
+ghost use Rattle.clk_base.specs.declared.call.Sleeping.TheVariants.{Probe};
+ghost use Rattle.clk_base.specs.declared.event.Event.TheVariants.{Begin, Step};
+ghost use Rattle.clk_base.specs.declared.event.Turn.TheVariants.{Going};
+ghost use Rattle.clk_base.specs.Description.{parents_of};
+ghost use Rattle.clk_base.specs.Flags.{is_critical};
+ghost use Rattle.clk_model.specs.Begin.{most_credits};
+ghost use Rattle.clk_model.specs.Journal.{is_going};
+ghost use Rattle.clk_model.specs.Script.{plls};
+ghost use Rattle.clk_model.specs.State.{State, registered};
+ghost use Rattle.clk_flight.specs.Flights.{own_step};
+ghost use Rattle.clk_flight.specs.LeftOver.{step_weight};
+ghost use Rattle.clk_machine.specs.Fit.{stands_alone};
+ghost use Rattle.clk_machine.specs.Holding.{stays};
+ghost use Rattle.clk_machine.specs.InFlight.{can_link, is_script};
+ghost use Rattle.clk_machine.specs.Making.{ComesFirst};
+ghost use Rattle.clk_machine.specs.Parts.{IsWhole, rows_from, steps_left};
+ghost use Rattle.clk_machine.specs.Probing.{must_raise, steps_alone};
+ghost use Rattle.clk_machine.specs.Stands.{Enters, Stands};
+ghost use Rattle.clk_machine.specs.Starting.{StartsCall};
+
+use super::Machine;
+use super::planning::fits;
+use crate::fit::{is_critical, stands_alone};
+use crate::gates::open_path;
+use crate::letting::let_go_under;
+use crate::log::Log;
+use crate::plls::is_unprepared_under;
+use crate::register::{given_parent, register_clock};
+use clk_base::{ClockId, Errno, Micro, Reply, Sleeping, Turn};
+use clk_flight::Start;
+use clk_io::NoMemory;
+use reg_bank::Bank;
+use std::alloc::Global;
+
+// The steps of a registration of a critical clock.
+fn steps_alone(alloc: Global, clock: ClockId) -> Result<Vec<Micro>, NoMemory>
+    ensures { IfOk result (λ steps. steps.items ≡ steps_alone clock) }
+{
+    let mut steps = Vec::with_capacity(alloc, 3)?;
+    steps.push_reserved(Micro::Raise(clock));
+    steps.push_reserved(Micro::Register(clock));
+    steps.push_reserved(Micro::End);
+    Ok(steps)
+}
+
+// How many entries they may come to, where a line has so many PLLs.
+fn most_alone(plls: u32) -> u64
+    ensures most { result ≡ 34 * plls + 3 }
+    ensures small { result < 2 ^ 63 }
+{
+    34 * u64::from(plls) + 3
+}
+
+impl<B: Bank> Machine<B> {
+    // Whether a clock that isn't registered is critical, and a PLL of the path that it is to get isn't
+    // prepared.
+    fn must_raise(&self, clock: ClockId) -> bool
+        requires place { clock.0 < length self.now.desc.defs }
+        requires free { registered self.now.tree.clocks clock.0 ≡ false }
+        ensures told { (s : State) → Stands self.now s → result ≡ must_raise s clock.0 }
+        ensures alone { stands_alone self.now.desc.defs clock.0 ≡ true → result ≡ false }
+        ensures whole { IsWhole self.now }
+    {
+        if stands_alone(&self.desc, clock) {
+            return false;
+        }
+        let parent = given_parent(&self.desc, &self.window, &self.tree, clock);
+        is_unprepared_under(&self.desc, &self.tree, &self.counts, parent, clock)
+    }
+
+    // How many entries the registration of a critical clock may come to.
+    fn weight_alone(&self) -> u64
+        ensures most { result ≡ 34 * plls self.now.desc.defs + 3 }
+        ensures small { result < 2 ^ 63 }
+    {
+        most_alone(self.tree.plls())
+    }
+
+    // A registration goes on with its script. All memory that it needs is taken.
+    fn start_probe(
+        &mut self,
+        driver: u32,
+        clock: ClockId,
+        steps: Vec<Micro>,
+    ) -> Result<(), NoMemory>
+        requires credit { self.old.spent < self.old.credits }
+        requires quiet { self.old.flight.going ≡ false }
+        requires place { clock.0 < length self.old.desc.defs }
+        requires script { is_script (Probe clock) (registered self.old.tree.clocks) steps.items ≡ true }
+        requires links { list_all (can_link self.old.desc.defs self.old.tree.clocks) steps.items ≡ true }
+        requires room { self.old.credits + self.old.steps + sum_by (step_weight (rows_from 0 self.old.chains) (plls self.old.desc.defs)) steps.items ≤ most_credits }
+        ensures ok { OnOk result (StartsCall self.old driver (Probe clock) steps.items stays self.new) }
+        ensures err { OnErr result (self.new ≡ self.old) }
+    {
+        let start = Start {
+            driver,
+            call: Sleeping::Probe(clock),
+            script: steps,
+            range: None,
+            extra: 0,
+            vetoed: false,
+        };
+        self.flight.begin(start, self.tree.plls())?;
+        self.spent += 1;
+        Ok(())
+    }
+
+    /// Begins the registration of a clock whose possible parents are registered: at once where no PLL has
+    /// to be raised for it, and else it goes on, with room in the log for the entries of its steps,
+    /// unless there is none behind the credits and the steps so far.
+    pub(crate) fn begin_probe(
+        &mut self,
+        log: &mut Log,
+        driver: u32,
+        clock: ClockId,
+    ) -> Result<Turn, NoMemory>
+        requires credit { self.old.spent < self.old.credits }
+        requires quiet { self.old.flight.going ≡ false }
+        requires place { clock.0 < length self.old.desc.defs }
+        requires parents { list_all (registered self.old.tree.clocks) (parents_of self.old.desc.defs clock.0) ≡ true }
+        requires paid { self.old.credits ≤ self.old.spent + log.old.room }
+        ensures ok { IfOk result (λ turn. Enters self.old driver (Begin (Probe clock)) turn self.new) }
+        ensures room { IfOk result (λ turn. is_going turn ≡ true → self.old.credits + steps_left self.new ≤ self.old.spent + log.new.room) }
+        ensures entries { log.new.entries ≡ log.old.entries }
+        ensures kept { log.old.room ≤ log.new.room }
+        ensures err { OnErr result (self.new ≡ self.old) }
+    {
+        if self.is_registered(clock) {
+            self.spend();
+            return Ok(Turn::Done(Reply::Refused(Errno::EEXIST)));
+        }
+        if !self.must_raise(clock) {
+            self.probe_at_once(driver, clock);
+            return Ok(Turn::Done(Reply::Fine));
+        }
+        let weight = self.weight_alone();
+        if !fits(self.used(), weight) {
+            self.spend();
+            return Ok(Turn::Done(Reply::Refused(Errno::ENOSPC)));
+        }
+        let steps = steps_alone(self.alloc, clock)?;
+        log.make_room(self.credits_left(), weight)?;
+        self.start_probe(driver, clock, steps)?;
+        Ok(Turn::Going)
+    }
+
+    // Whether the clock that is registered next is critical.
+    fn is_critical_next(&self, clock: ClockId) -> bool
+        requires going { self.now.flight.going ≡ true }
+        requires next { own_step self.now.flight ≡ Some (micro.Register clock) }
+        ensures critical { result ≡ is_critical self.now.desc.defs clock.0 }
+    {
+        is_critical(&self.desc, clock)
+    }
+
+    // A clock is registered that isn't critical.
+    fn register_plain_next(&mut self, clock: ClockId)
+        requires going { self.old.flight.going ≡ true }
+        requires next { own_step self.old.flight ≡ Some (micro.Register clock) }
+        requires first { ComesFirst self.old (micro.Register clock) }
+        requires plain { is_critical self.old.desc.defs clock.0 ≡ false }
+        ensures { Enters self.old self.old.flight.driver (Step (micro.Register clock) None) Going self.new }
+    {
+        let parent = given_parent(&self.desc, &self.window, &self.tree, clock);
+        self.flight.go_on();
+        let_go_under(&self.tree, &mut self.flight, parent, clock);
+        register_clock(&self.desc, &self.window, &mut self.tree, clock);
+        self.counts.moved(&self.tree, clock, None);
+        self.steps += 1;
+    }
+
+    // A critical clock is registered: it is prepared and enabled from now on, so that no PLL above it
+    // counts as raised any more, and the gates of its path open.
+    fn register_critical_next(&mut self, clock: ClockId)
+        requires going { self.old.flight.going ≡ true }
+        requires next { own_step self.old.flight ≡ Some (micro.Register clock) }
+        requires first { ComesFirst self.old (micro.Register clock) }
+        requires critical { is_critical self.old.desc.defs clock.0 ≡ true }
+        ensures { Enters self.old self.old.flight.driver (Step (micro.Register clock) None) Going self.new }
+    {
+        let parent = given_parent(&self.desc, &self.window, &self.tree, clock);
+        self.flight.go_on();
+        let_go_under(&self.tree, &mut self.flight, parent, clock);
+        register_clock(&self.desc, &self.window, &mut self.tree, clock);
+        self.counts.moved(&self.tree, clock, None);
+        self.counts.hold(&self.tree, clock);
+        let begun = self.counts.enable_walk(&self.tree, clock);
+        open_path(begun, &self.desc, &self.tree, &mut self.window, clock);
+        self.steps += 1;
+    }
+
+    /// The clock of the call in flight is registered.
+    pub(super) fn register_next(&mut self, clock: ClockId)
+        requires going { self.old.flight.going ≡ true }
+        requires next { own_step self.old.flight ≡ Some (micro.Register clock) }
+        requires first { ComesFirst self.old (micro.Register clock) }
+        ensures { Enters self.old self.old.flight.driver (Step (micro.Register clock) None) Going self.new }
+    {
+        if self.is_critical_next(clock) {
+            self.register_critical_next(clock);
+        } else {
+            self.register_plain_next(clock);
+        }
+    }
+}
