@@ -65,6 +65,8 @@ pub mod Lowering
 pub mod Entered
 pub mod Opened
 pub mod Registering
+pub mod Adopting
+pub mod AdoptionSteps
 pub mod Critical
 pub mod Joining
 pub mod Probing

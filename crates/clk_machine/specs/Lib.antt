@@ -17,6 +17,7 @@ pub mod Landing
 pub mod Letting
 pub mod Holding
 pub mod Sound
+pub mod Adopting
 pub mod Polls
 pub mod Settling
 pub mod Run

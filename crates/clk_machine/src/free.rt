@@ -43,8 +43,8 @@ impl<'a> View for FreeSeen<'a> {
     }
 }
 
-// Whether a clock is among the first so many of another's path.
-fn is_among(many: u32, tree: &Tree, from: ClockId, clock: ClockId) -> bool
+/// Whether a clock is among the first so many of another's path.
+pub(crate) fn is_among(many: u32, tree: &Tree, from: ClockId, clock: ClockId) -> bool
     ensures { result ≡ is_in clock.0 (path_within (link_in tree.now.clocks) many from.0) }
 {
     if many == 0 {

@@ -7,6 +7,7 @@ ghost use Rattle.clk_model.specs.State.{registered, handle_at};
 ghost use Rattle.clk_model.specs.Journal.{is_going, opening};
 ghost use Rattle.clk_model.specs.Begin.{most_credits};
 
+mod adopting;
 mod calls;
 mod changing;
 mod deciding;

@@ -68,7 +68,7 @@ impl<B: Bank> Machine<B> {
         self.spent += 1;
     }
 
-    // Whether a clock is critical.
+    /// Whether a clock is critical.
     pub(super) fn is_critical(&self, clock: ClockId) -> bool
         requires { clock.0 < length self.now.desc.defs }
         ensures critical { result ≡ is_critical self.now.desc.defs clock.0 }

@@ -91,8 +91,8 @@ impl<B: Bank> Machine<B> {
         is_running(self.desc.def(clock).kind, &self.window)
     }
 
-    // Whether something keeps a clock prepared.
-    fn is_prepared(&self, clock: ClockId) -> bool
+    /// Whether something keeps a clock prepared.
+    pub(super) fn is_prepared(&self, clock: ClockId) -> bool
         requires { registered self.now.tree.clocks clock.0 ≡ true }
         ensures { (s : State) → Stands self.now s → result ≡ prepared s clock.0 }
     {

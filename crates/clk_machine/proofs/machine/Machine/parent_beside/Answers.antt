@@ -1,0 +1,21 @@
+use Rattle.std.proofs.Common.{◌≡◌, ◌∙◌, sym, ap, subst, take, true, false, List, Option, ℕ}
+use Rattle.std.specs.Prelude.{IfSome}
+use Rattle.std.specs.Option.{option_map}
+use Rattle.clk_base.specs.Valid.{IsValid}
+use Rattle.reg_bank.specs.Registers.{Registers}
+use Rattle.clk_model.specs.State.{registered}
+use Rattle.clk_model.specs.Tree.{link_given}
+use Rattle.clk_model.specs.Begin.{registered_rows}
+use Rattle.clk_machine.specs.Parts.{Parts, parts_of}
+use Rattle.clk_machine.proofs.Adopting.{beside_first, given_beside}
+use Rattle.clk_machine.proofs.machine.Machine.parent_beside.Goals as goal
+
+pub returns-clause-told : goal.returns-clause-told
+returns-clause-told g c =
+    let m = c.self.inside in
+    let p : Parts = parts_of m.desc m.window m.tree m.handles m.counts m.notifiers m.credits m.spent m.ignore_unused m.flight m.course m.prepare_holds m.enable_holds m.steps in
+    rw (← c.self.view_is) (λ s stands.
+    given_beside p s c.args.new.0 c.args.clock.0 c.link_beside.result stands
+    (subst (λ (o : Option (List ℕ)). IfSome o (λ regs. option_map (λ q. q.0) c.link_beside.result ≡ link_given m.desc.defs regs (registered_rows m.desc.defs regs m.tree.clocks c.args.new.0) c.args.clock.0)) c.bank.ensures.words
+    (beside_first m.window.size (g.B.Bank.contents c.bank.result.now) m.desc.defs m.tree.clocks c.args.new.0 c.args.clock.0 c.link_beside.result
+    (subst (λ (n : ℕ). IsValid n m.desc.defs) (sym c.self.invariant.tied.words) c.self.invariant.tied.valid) c.link_beside.ensures.link)))
