@@ -15,3 +15,4 @@ mod weight;
 pub use changes::Changed;
 pub use planned::script;
 pub use step_list::StepList;
+pub use weight::weigh;

@@ -23,8 +23,9 @@ fn step_weight(notifiers: &Notifiers, plls: u32, step: Micro) -> u64
     }
 }
 
-/// What steps weigh together, and 2^64 - 1 where it is more.
-pub(crate) fn weigh(notifiers: &Notifiers, plls: u32, steps: &[Micro]) -> u64
+/// How many entries of a journal steps may come to together, and 2^64 - 1 where it is more. Takes no
+/// memory.
+pub fn weigh(notifiers: &Notifiers, plls: u32, steps: &[Micro]) -> u64
     ensures { result ≡ min (sum_by (step_weight plls notifiers.now) steps.now) (2 ^ 64 - 1) }
 {
     let mut sum: u64 = 0;

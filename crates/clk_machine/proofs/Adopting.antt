@@ -1,5 +1,5 @@
 -- What a registration lets adopt: who is prepared behind it, that someone is adopted where someone can be, and that the first words of a bank tell all.
-use Rattle.std.proofs.Common.{◌≡◌, ℕ, zero, suc, ◌<◌, ◌&&◌, ◌||◌, ◌⊎◌, inl, inr, not, Bool, true, false, cond, List, [], ◌∷◌, Option, Some, None, refl, sym, ap, subst, ◌∙◌, length, take, nat_eq}
+use Rattle.std.proofs.Common.{◌≡◌, ℕ, zero, suc, ◌&&◌, ◌||◌, ◌⊎◌, inl, inr, not, Bool, true, false, cond, List, [], ◌∷◌, Option, Some, None, refl, sym, ap, subst, ◌∙◌, length, take, nat_eq}
 use Rattle.std.proofs.Math.Path.{fun_ext}
 use Rattle.std.specs.Prelude.{All, IfSome, filter, find, slice_set}
 use Rattle.std.specs.List.{list_all, list_any}
@@ -21,7 +21,7 @@ use Rattle.clk_model.specs.Holders.{prepared}
 use Rattle.clk_model.specs.Lists.{is_in, to_front, without_one}
 use Rattle.clk_model.specs.Rate.{rate}
 use Rattle.clk_model.specs.Script.{adoptable, adoption_order, is_next}
-use Rattle.clk_model.specs.State.{State, Change, registered, link_in}
+use Rattle.clk_model.specs.State.{State, registered, link_in}
 use Rattle.clk_model.specs.Tree.{path, path_to_be, path_within, link_given, orphans}
 use Rattle.clk_model.specs.Wired.{LinesEnd, LinksArePossible}
 use Rattle.clk_model.proofs.ArriveLaws.{prepared_told, to_be_told}

@@ -1,12 +1,6 @@
 -- What the calls on exclusives, notifiers, roundings and registrations come to.
-use Rattle.std.proofs.Common.{◌≡◌, ℕ, ℤ, ◌+◌, ◌-◌, ◌<◌, ◌≤◌, ◌++◌, [], ◌∷◌, true, false, not, ◌||◌, cond, List, Option, Some, None, ap, ◌∙◌, arith, nat_eq, length, nat_le}
+use Rattle.std.proofs.Common.{◌≡◌, ℕ, ℤ, ◌+◌, ◌-◌, ◌<◌, ◌≤◌, ◌++◌, [], ◌∷◌, true, false, cond, Option, Some, None, ap, ◌∙◌, arith, nat_eq, length, nat_le}
 use Rattle.std.specs.Option.{option_map_or}
-use Rattle.std.specs.Prelude.{is_none, slice_get}
-use Rattle.std.proofs.lemmas.Bool.{and_from}
-use Rattle.clk_base.specs.declared.clock.ClockId.{ClockId}
-use Rattle.clk_base.specs.Flags.{is_critical}
-use Rattle.clk_model.specs.Tree.{path_to_be}
-use Rattle.clk_model.specs.Script.{adoptable, unprepared_plls}
 use Rattle.std.proofs.lemmas.Bool.Decides.{nat_tests}
 use Rattle.clk_base.specs.declared.call.Sleeping.{Sleeping}
 use Rattle.clk_base.specs.declared.call.Sleeping.TheVariants as call
@@ -18,11 +12,11 @@ use Rattle.clk_base.specs.declared.event.Turn.TheVariants as turn
 use Rattle.clk_base.specs.declared.handle.Handle.{Handle}
 use Rattle.clk_base.specs.declared.handle.Policy.{Policy}
 use Rattle.clk_model.specs.declared.row.HandleRow.{HandleRow}
-use Rattle.clk_model.specs.State.{State, Change, is_quiet, registered}
+use Rattle.clk_model.specs.State.{State, Change, is_quiet}
 use Rattle.clk_model.specs.Notices.{notifiers_of}
 use Rattle.clk_model.specs.Round.{wiring, round_rate}
 use Rattle.clk_model.specs.Views.{view, lift}
-use Rattle.clk_model.specs.Begin.{done, refused, put_handle, own_handle, with_handle, held_once_more, exclusive_put, has_notifier, most_notifiers, notifier_added, notifier_removed, rounded, register, begun}
+use Rattle.clk_model.specs.Begin.{done, refused, put_handle, own_handle, with_handle, held_once_more, exclusive_put, has_notifier, most_notifiers, notifier_added, notifier_removed, rounded, begun}
 use Rattle.clk_model.specs.Machine.{paid, next}
 use Rattle.clk_model.proofs.EventLaws.{pick-true, pick-false}
 use Rattle.notifiers.specs.Chains.{without_notifier}
@@ -157,14 +151,3 @@ round-none s d h x row quiet own gives =
     begin_quiet s d (call.RoundRate h x) quiet
     ∙ ap (paid s) (with-some s d h.number (λ row. rounded s h.number row x) row own
     ∙ ap (λ (o : Option ℕ). option_map_or (λ r. done s (reply.Rate r)) o (refused s errno.EINVAL)) gives)
-
--- ---- registrations
-
--- a clock is registered at once where no orphan is adopted, and no PLL has to be raised for it
-pub probe-alone : (s : State) (d : ℕ) (c : ClockId) → s.change ≡ None → registered s.clocks c.0 ≡ false → adoptable (register s c.0) ≡ []
-    → (not (is_critical s.defs c.0) || is_none (slice_get (unprepared_plls s (path_to_be s.defs s.regs s.clocks c.0)) 0)) ≡ true
-    → next s d (event.Begin (call.Probe c)) ≡ paid s (register s c.0, turn.Done reply.Fine)
-unfolding begun
-probe-alone s d c quiet free none calm =
-    begin_quiet s d (call.Probe c) quiet
-    ∙ ap (paid s) (pick-false (registered s.clocks c.0) _ _ free ∙ pick-true _ _ _ (and_from _ _ (ap (λ (cs : List ℕ). is_none (slice_get cs 0)) none) calm))

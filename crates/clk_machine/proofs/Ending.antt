@@ -125,7 +125,6 @@ pub whole_requested : (m : Parts) (tree' : TreeState) (c x : ℕ) → IsWhole m 
 whole_requested m tree' c x whole quiet now = record {
   tied = record {
     valid = whole.tied.valid;
-    runs = whole.tied.runs;
     words = whole.tied.words;
     told = whole.tied.told;
     defs = now.defs ∙ whole.tied.defs;
@@ -202,7 +201,6 @@ end_enters old new does now = record {
       omega arith;
   begun = λ paid. absurd cc;
   no_more = λ paid. absurd cc;
-  alone = λ c asks. absurd cc;
   beside = λ tier. absurd cc;
   step = λ s stands sound.
       let has = change_of old s stands now.going in

@@ -1,15 +1,13 @@
 -- From what is done to a state to the event that does it.
-use Rattle.std.proofs.Common.{◌≡◌, ℕ, ◌+◌, ◌<◌, ◌&&◌, ◌||◌, Bool, true, false, List, Option, refl, sym, ap, ◌∙◌, arith, nat_lt, nat_eq, cond}
+use Rattle.std.proofs.Common.{◌≡◌, ℕ, ◌+◌, ◌<◌, ◌&&◌, Bool, true, false, List, Option, refl, sym, ap, ◌∙◌, arith, nat_lt, nat_eq, cond}
 use Rattle.std.proofs.lemmas.Bool.Decides.{nat_tests}
 use Rattle.clk_base.specs.Description.{Description}
-use Rattle.clk_base.specs.declared.call.Sleeping.TheVariants as call
 use Rattle.clk_base.specs.declared.event.Event.{Event}
-use Rattle.clk_base.specs.declared.event.Event.TheVariants as event
 use Rattle.clk_base.specs.declared.event.Reply.{Reply}
 use Rattle.clk_base.specs.declared.event.Turn.TheVariants as turn
 use Rattle.clk_model.specs.declared.row.HandleRow.{HandleRow}
 use Rattle.clk_model.specs.declared.row.ClockRow.{ClockRow}
-use Rattle.clk_model.specs.State.{State, registered}
+use Rattle.clk_model.specs.State.{State}
 use Rattle.clk_model.specs.Tree.{rooted}
 use Rattle.clk_model.specs.Gates.{settled}
 use Rattle.clk_model.specs.Begin.{own_handle, keeps_prepare}
@@ -22,8 +20,7 @@ use Rattle.clk_model.specs.Tier.{is_enable_tier}
 use Rattle.clk_flight.specs.Flights.{FlightState}
 use Rattle.clk_machine.specs.Parts.{Parts, own_in}
 use Rattle.clk_machine.specs.Sound.{IsSound}
-use Rattle.clk_machine.specs.Fit.{stands_alone}
-use Rattle.clk_machine.specs.Stands.{Stands, Becomes, Enters, registers, joins}
+use Rattle.clk_machine.specs.Stands.{Stands, Becomes, Enters, joins}
 
 -- a driver's own handle in the state
 pub own_stands : (m : Parts) (s : State) (d n : ℕ) (o : Option HandleRow) → Stands m s → own_in m.table.handles d n ≡ o → own_handle s d n ≡ o
@@ -39,14 +36,12 @@ same_driver f d true leaves still = refl
 same_driver f d false leaves still = absurd cc
 
 -- an event that comes to what is done to the state takes the parts on
-pub enters_all : (old new : Parts) (d : ℕ) (event : Event) (r : Reply) (does : State → State) → is_paid event ≡ true
-    → ((c : ℕ) → registers event c ≡ true → stands_alone old.desc.defs c ≡ true → registered new.tree.clocks c ≡ true) → old.flight.going ≡ (if is_enable_tier event then old.flight.going else false) → old.spent < old.credits
+pub enters : (old new : Parts) (d : ℕ) (event : Event) (r : Reply) (does : State → State) → is_paid event ≡ true → old.flight.going ≡ (if is_enable_tier event then old.flight.going else false) → old.spent < old.credits
     → Becomes old (joins event (turn.Done r)) does new → Comes old d event r does → Enters old d event (turn.Done r) new
-enters_all old new d event r does pays alone going left becomes comes = record {
+enters old new d event r does pays going left becomes comes = record {
   remains = becomes.remains;
   pays = becomes.spent ∙ sym (ap (λ (b : Bool). old.spent + cond b 1 0) pays);
   rows = becomes.rows;
-  alone = alone;
   going = ap (λ (f : FlightState). f.going) becomes.flight ∙ going;
   driver_ = λ still.
       ap (λ (f : FlightState). f.driver) becomes.flight ∙ same_driver old.flight d (is_enable_tier event) going (sym (ap (λ (f : FlightState). f.going) becomes.flight) ∙ still);
@@ -62,27 +57,6 @@ enters_all old new d event r does pays alone going left becomes comes = record {
         stands = becomes.stands s stands sound;
       };
 }
-
--- whether an event is one of the enable tier, or the beginning of a call that asks for no registration
-abbrev pub is_plain : Event → Bool
-is_plain (event.Step m answer) = false
-is_plain (event.Begin (call.Probe c)) = false
-is_plain _ = true
-
-plain_paid : (e : Event) → is_plain e ≡ true → is_paid e ≡ true
-plain_paid (event.Step m answer) is = absurd cc
-plain_paid _ is = refl
-
-plain_registers : (e : Event) (c : ℕ) → is_plain e ≡ true → registers e c ≡ false
-plain_registers (event.Step m answer) c is = absurd cc
-plain_registers (event.Begin (call.Probe k)) c is = absurd cc
-plain_registers _ c is = refl
-
--- so does each of these
-pub enters : (old new : Parts) (d : ℕ) (event : Event) (r : Reply) (does : State → State) → is_plain event ≡ true → old.flight.going ≡ (if is_enable_tier event then old.flight.going else false) → old.spent < old.credits
-    → Becomes old (joins event (turn.Done r)) does new → Comes old d event r does → Enters old d event (turn.Done r) new
-enters old new d event r does plain going left becomes comes =
-    enters_all old new d event r does (plain_paid event plain) (λ c asks alone. let no : false ≡ true = sym (plain_registers event c plain) ∙ asks in absurd cc) going left becomes comes
 
 -- a clock is rooted in the state where it is so in the tree
 pub rooted_stands : (m : Parts) (s : State) (c : ℕ) → Stands m s → rooted s.defs s.clocks c ≡ rooted m.desc.defs m.tree.clocks c

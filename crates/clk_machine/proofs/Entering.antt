@@ -1,9 +1,8 @@
 -- Entering an event that the machine has taken into the journal.
-use Rattle.std.proofs.Common.{◌≡◌, ℕ, ◌+◌, ◌<◌, ◌&&◌, ◌||◌, not, Bool, true, false, cond, List, [], ◌∷◌, ◌++◌, Option, Some, None, refl, sym, ap, subst, ◌∙◌, inl, inr, arith, length, take, nat_le, nat_lt, ◌≤◌}
+use Rattle.std.proofs.Common.{◌≡◌, ℕ, ◌+◌, ◌<◌, ◌||◌, not, Bool, true, false, cond, List, [], ◌∷◌, ◌++◌, Option, Some, None, refl, sym, ap, subst, ◌∙◌, arith, length, take, nat_le, ◌≤◌}
 use Rattle.std.proofs.lemmas.Bool.Decides.{nat_tests}
 use Rattle.std.proofs.lemmas.List.{length-append, take-append-le, take_all}
 use Rattle.std.proofs.lemmas.List.Sums.{sum_by-append}
-use Rattle.std.specs.List.{list_all}
 use Rattle.clk_base.specs.declared.call.Micro.{Micro}
 use Rattle.clk_base.specs.declared.call.Sleeping.{Sleeping}
 use Rattle.clk_base.specs.declared.call.Sleeping.TheVariants as call
@@ -16,22 +15,20 @@ use Rattle.clk_base.specs.declared.event.Turn.{Turn}
 use Rattle.clk_base.specs.declared.event.Turn.TheVariants as turn
 use Rattle.clk_base.specs.Checked.{Checked}
 use Rattle.clk_model.specs.declared.row.ClockRow.{ClockRow}
-use Rattle.clk_base.specs.Description.{Description, parents_of}
+use Rattle.clk_base.specs.Description.{Description}
 use Rattle.clk_model.specs.State.{State, registered}
 use Rattle.clk_model.specs.Machine.{next}
 use Rattle.clk_model.specs.Journal.{slotless, replay, Legal, opening, is_paid, is_going, cost, Polled}
 use Rattle.clk_model.proofs.EndCauseLaws.{going_leaves_changes}
 use Rattle.clk_model.proofs.JournalCauseLaws.{journals_have_causes}
 use Rattle.clk_model.proofs.JournalLaws.{replay-append, Legal-append}
-use Rattle.clk_machine.specs.Fit.{CanRun, has_earlier_parents, stands_alone}
 use Rattle.clk_machine.specs.InFlight.{is_worked_out}
 use Rattle.clk_machine.specs.Sound.{IsSound, IsPlaced, takes_memory, links_well, CanTake}
 use Rattle.clk_machine.specs.Parts.{Parts, rows_from, steps_left}
 use Rattle.clk_machine.proofs.Flying.{never_flown, none_left}
 use Rattle.std.specs.Prelude.{if◌then◌else◌}
 use Rattle.clk_model.specs.Tier.{is_enable_tier}
-use Rattle.clk_machine.specs.Stands.{Stands, is_told, Remains, Leads, Enters, registers, joins, most_steps, price}
-use Rattle.clk_machine.specs.Built.{is_built_over}
+use Rattle.clk_machine.specs.Stands.{Stands, is_told, Remains, Leads, Enters, joins, most_steps, price}
 use Rattle.clk_machine.specs.declared.behind.Behind.{Behind}
 use Rattle.clk_machine.specs.Polls.{FollowsLocks, IfPoll, IsAsked, asked_by}
 use Rattle.clk_machine.specs.Window.{HasDelays}
@@ -41,9 +38,8 @@ use Rattle.clk_model.specs.Fed.{Fed}
 use Rattle.clk_machine.proofs.Soundness.{fed_reached, sound_opening}
 use Rattle.clk_model.specs.Begin.{most_credits}
 use Rattle.clk_machine.proofs.Events.{sound_next}
-use Rattle.clk_machine.specs.Run.{Run, now_of, was_probed, was_registered, going_after, in_flight, driver_after, driver_in_flight, Logged, start_of, state_of, run_of, IsRun, Appends, StepsOn, StepTurns, can_make}
-use Rattle.std.proofs.Math.Bool.{or-false, or-true}
-use Rattle.clk_model.proofs.Members.{both_left, both_right, or_cases}
+use Rattle.clk_machine.specs.Run.{Run, now_of, was_registered, going_after, in_flight, driver_after, driver_in_flight, Logged, start_of, state_of, run_of, IsRun, Appends, StepsOn, StepTurns}
+use Rattle.std.proofs.Math.Bool.{or-false}
 
 -- an entry more costs its price more
 cost-append : (journal : List Entry) (e : Entry) → cost (journal ++ e ∷ []) ≡ cost journal + price e.event
@@ -205,8 +201,6 @@ roomier m words log log' run same more = record {
   polling = λ told goes. subst (λ (j : List Entry). IfPoll m.flight.front (IsAsked m.window.locks (asked_by [] j))) (sym same) (run.polling told goes);
   polled = λ told delay delays. subst (λ (j : List Entry). Polled delay j) (sym same) (run.polled told delay delays);
   probed = λ c. run.probed c ∙ sym (ap (λ (j : List Entry). was_registered j c) same);
-  runs = run.runs;
-  alone = λ c asked. run.alone c (sym (ap (λ (j : List Entry). was_probed j c) same) ∙ asked);
 }
 
 -- it is the same core
@@ -292,15 +286,6 @@ module _ (old new : Parts) (words : List ℕ) (log log' : Logged) (d : ℕ) (e :
         is.enters.rows c ∙ ap (λ (b : Bool). b || joins e t c) (is.run.probed c)
         ∙ ap (λ (b : Bool). was_registered log.entries c || b) (sym (or-false (joins e t c)))
         ∙ sym (ap (λ (j : List Entry). was_registered j c) is.entries ∙ list_any-append (λ f. joins f.event f.turn c) log.entries (entry_of d e t ∷ []));
-    runs = subst (λ (k : Checked). CanRun k.defs) (sym is.enters.remains.desc) is.run.runs;
-    alone = λ c asked alone.
-        let alone_old : stands_alone old.desc.defs c ≡ true = sym (ap (λ (k : Checked). stands_alone k.defs c) is.enters.remains.desc) ∙ alone in
-        let asked_or : (was_probed log.entries c || (registers e c || false)) ≡ true =
-        sym (ap (λ (j : List Entry). was_probed j c) is.entries ∙ list_any-append (λ f. registers f.event c) log.entries (entry_of d e t ∷ [])) ∙ asked in
-        elim (or_cases (was_probed log.entries c) (registers e c || false) asked_or) [
-          | inl before ↦ is.enters.rows c ∙ ap (λ (b : Bool). b || joins e t c) (is.run.alone c before alone_old)
-          | inr now_ ↦ is.enters.alone c (sym (or-false (registers e c)) ∙ now_) alone_old
-        ];
   }
 
   -- and the entry was appended
@@ -367,10 +352,6 @@ step_turns old new t on opens told =
 
 -- ---- which calls can begin
 
-list_all-agree : (p q : ℕ → Bool) (xs : List ℕ) → ((x : ℕ) → p x ≡ q x) → list_all p xs ≡ list_all q xs
-list_all-agree p q [] same = refl
-list_all-agree p q (x ∷ xs) same = ap (λ (b : Bool). b && list_all p xs) (same x) ∙ ap (λ (b : Bool). q x && b) (list_all-agree p q xs same)
-
 -- a call whose steps are worked out before takes memory
 pub takes_room : (what : Sleeping) → is_worked_out what ≡ true → takes_memory what ≡ true
 takes_room (call.SetRate h x) e = refl
@@ -381,56 +362,9 @@ takes_room (call.Probe c) e = refl
 takes_room call.Sweep e = refl
 takes_room _ e = absurd cc
 
--- a clock that was registered was probed
-joined_asked : (e : Event) (t : Turn) (c : ℕ) → joins e t c ≡ true → registers e c ≡ true
-joined_asked (event.Begin (call.Probe k)) (turn.Done reply.Fine) c is = is
-joined_asked (event.Step m answer) t c is = is
-joined_asked _ t c is = absurd cc
-
-registered_asked : (c : ℕ) (es : List Entry) → was_registered es c ≡ true → was_probed es c ≡ true
-registered_asked c [] is = is
-registered_asked c (e ∷ es) is = elim (or_cases (joins e.event e.turn c) (was_registered es c) is) [
-  | inl now_ ↦ ap (λ (b : Bool). b || was_probed es c) (joined_asked e.event e.turn c now_)
-  | inr later ↦ ap (λ (b : Bool). registers e.event c || b) (registered_asked c es later) ∙ or-true (registers e.event c)
-]
-
-same_bool : (a b : Bool) → (a ≡ true → b ≡ true) → (b ≡ true → a ≡ true) → a ≡ b
-same_bool true b f g = sym (f refl)
-same_bool false true f g = g refl
-same_bool false false f g = refl
-
--- and one that is always registered at once is registered exactly where it was probed
-pub probed_alone : (m : Parts) (words : List ℕ) (log : Logged) (ps : List ℕ) → IsRun m words log → list_all (stands_alone m.desc.defs) ps ≡ true
-    → list_all (registered m.tree.clocks) ps ≡ list_all (was_probed log.entries) ps
-probed_alone m words log [] run all = refl
-probed_alone m words log (p ∷ ps) run all =
-    let same : registered m.tree.clocks p ≡ was_probed log.entries p =
-    same_bool (registered m.tree.clocks p) (was_probed log.entries p) (λ there. registered_asked p log.entries (sym (run.probed p) ∙ there))
-    (λ asked. run.alone p asked (both_left (stands_alone m.desc.defs p) _ all)) in
-    ap (λ (b : Bool). b && list_all (registered m.tree.clocks) ps) same ∙ ap (λ (b : Bool). was_probed log.entries p && b) (probed_alone m words log ps run (both_right (stands_alone m.desc.defs p) _ all))
-
--- so are the possible parents of a clock
-pub parents_alone : (defs : Description) (c : ℕ) → CanRun defs → c < length defs → list_all (stands_alone defs) (parents_of defs c) ≡ true
-parents_alone defs c runs within = each (parents_of defs c) (both_right (has_earlier_parents defs c) _ (runs c within)) where
-  each : (ps : List ℕ) → list_all (λ p. nat_lt p c && stands_alone defs p) ps ≡ true → list_all (stands_alone defs) ps ≡ true
-  each [] all = refl
-  each (p ∷ ps) all =
-      ap (λ (b : Bool). b && list_all (stands_alone defs) ps) (both_right (nat_lt p c) (stands_alone defs p) (both_left (nat_lt p c && stands_alone defs p) _ all))
-      ∙ each ps (both_right (nat_lt p c && stands_alone defs p) _ all)
-
--- and a call that can be made is built
-pub can_begin : (m : Parts) (words : List ℕ) (log : Logged) (what : Sleeping) → IsPlaced m.desc.defs what → IsRun m words log
-    → can_make (run_of m words log) what ≡ true → is_built_over m.desc.defs (registered m.tree.clocks) what ≡ true
-can_begin m words log (call.Probe c) placed run built =
-    probed_alone m words log (parents_of m.desc.defs c.0) run (parents_alone m.desc.defs c.0 run.runs placed) ∙ built
-can_begin m words log _ placed run built = built
-
--- and it can begin in the state
-pub can_take : (m : Parts) (s : State) (what : Sleeping) → Stands m s → IsPlaced m.desc.defs what → is_built_over m.desc.defs (registered m.tree.clocks) what ≡ true
-    → CanTake s (event.Begin what)
-can_take m s what stands placed built =
-    subst (λ (d : Description). IsPlaced d what × (is_built_over d (registered s.clocks) what ≡ true)) (sym stands.defs)
-    (placed, ap (λ (rs : List ClockRow). is_built_over m.desc.defs (registered rs) what) stands.clocks ∙ built)
+-- it can begin in the state
+pub can_take : (m : Parts) (s : State) (what : Sleeping) → Stands m s → IsPlaced m.desc.defs what → CanTake s (event.Begin what)
+can_take m s what stands placed = subst (λ (d : Description). IsPlaced d what) (sym stands.defs) placed
 
 -- ---- the beginning
 
@@ -438,16 +372,16 @@ can_take m s what stands placed built =
 pub begins : (m : Parts) (words given : List ℕ) (log : Logged) (desc : Checked) (ignore_unused : Bool) (credits : ℕ)
     → words ≡ given → log.entries ≡ [] → log.room ≡ credits → (is_told m ≡ true → Stands m (opening desc.defs given ignore_unused credits))
     → m.desc ≡ desc → m.credits ≡ credits → m.ignore_unused ≡ ignore_unused → m.spent ≡ 0
-    → ((c : ℕ) → registered m.tree.clocks c ≡ false) → m.window.size ≡ length given → IsValid (length given) desc.defs → CanRun desc.defs → credits ≤ most_credits → m.flight.going ≡ false
+    → ((c : ℕ) → registered m.tree.clocks c ≡ false) → m.window.size ≡ length given → IsValid (length given) desc.defs → credits ≤ most_credits → m.flight.going ≡ false
     → IsRun m words log
-begins m words given log desc ignore_unused credits same empty room stands at credit unused spent none size valid runs few quiet =
+begins m words given log desc ignore_unused credits same empty room stands at credit unused spent none size valid few quiet =
     let start : start_of m words ≡ opening desc.defs given ignore_unused credits =
     ap (λ (d : Checked). opening d.defs words m.ignore_unused m.credits) at
     ∙ ap (λ (ws : List ℕ). opening desc.defs ws m.ignore_unused m.credits) same
     ∙ ap (λ (b : Bool). opening desc.defs given b m.credits) unused
     ∙ ap (λ (n : ℕ). opening desc.defs given ignore_unused n) credit in
     let now : state_of m words log ≡ opening desc.defs given ignore_unused credits = ap (replay (start_of m words)) empty ∙ start in
-    let sound : IsSound (length given) (opening desc.defs given ignore_unused credits) = sound_opening given desc.defs ignore_unused credits valid runs few in
+    let sound : IsSound (length given) (opening desc.defs given ignore_unused credits) = sound_opening given desc.defs ignore_unused credits valid few in
     record {
       stands = λ told. subst (λ (s : State). Stands m s) (sym now) (stands told);
       legal = λ told. subst (λ (j : List Entry). Legal (start_of m words) j) (sym empty) tt;
@@ -465,6 +399,4 @@ begins m words given log desc ignore_unused credits same empty room stands at cr
       polling = λ told goes. let no : true ≡ false = sym goes ∙ quiet in absurd cc;
       polled = λ told delay delays. subst (λ (j : List Entry). Polled delay j) (sym empty) tt;
       probed = λ c. none c ∙ sym (ap (λ (j : List Entry). was_registered j c) empty);
-      runs = subst (λ (k : Checked). CanRun k.defs) (sym at) runs;
-      alone = λ c asked. let no : false ≡ true = sym (ap (λ (j : List Entry). was_probed j c) empty) ∙ asked in absurd cc;
     }

@@ -1,7 +1,6 @@
 -- Each event that can come leaves a sound state sound.
-use Rattle.std.proofs.Common.{◌≡◌, ℕ, zero, suc, ◌+◌, ◌-◌, ◌<◌, ◌&&◌, ◌||◌, not, Bool, true, false, cond, List, [], ◌∷◌, Option, Some, None, refl, sym, ap, subst, ◌∙◌, arith, length, nat_lt, nat_le, filter, reverse}
+use Rattle.std.proofs.Common.{◌≡◌, ℕ, zero, suc, ◌+◌, ◌-◌, ◌<◌, ◌||◌, Bool, true, false, cond, List, [], ◌∷◌, Option, Some, None, refl, sym, ap, subst, ◌∙◌, arith, length, nat_lt, nat_le, filter, reverse}
 use Rattle.std.specs.Prelude.{is_none, slice_get, if◌then◌else◌}
-use Rattle.std.specs.List.{list_all}
 use Rattle.std.specs.Option.{option_map_or}
 use Rattle.std.proofs.lemmas.Bool.Decides.{nat_tests}
 use Rattle.clk_base.specs.declared.call.Micro.{Micro}
@@ -45,7 +44,6 @@ use Rattle.clk_model.proofs.KeepLaws.{mux_written}
 use Rattle.clk_model.proofs.Members.{both_left, both_right}
 use Rattle.clk_model.specs.Walk.{below_within}
 use Rattle.clk_base.specs.Levels.{depth}
-use Rattle.clk_base.specs.Description.{parents_of}
 use Rattle.clk_machine.proofs.Attaching.{IsNarrow-register}
 use Rattle.clk_machine.proofs.Closing.{closed_regs}
 use Rattle.clk_machine.proofs.Kept.{IsNarrow-spent, IsNarrow-counted, IsNarrow-notified, IsNarrow-settled, IsNarrow-gated, IsNarrow-change, IsNarrow-powered, IsNarrow-set, IsNarrow-handles, IsNarrow-put, IsNarrow-given, IsNarrow-requested, IsNarrow-held}
@@ -200,11 +198,11 @@ sweep_stays words s d sound =
     pick_either (Stays words s) s.ignore_unused _ _ (λ off. refused_stays words s sound) (λ goes. starts_stays words s s (change_of s d call.Sweep (sweep_script s)) sound sound)
 
 -- and a registration
-probe_stays : (words : ℕ) (s : State) (d : ℕ) (c : ClockId) → IsNarrow words s → c.0 < length s.defs → list_all (registered s.clocks) (parents_of s.defs c.0) ≡ true → Stays words s (begun s d (call.Probe c))
+probe_stays : (words : ℕ) (s : State) (d : ℕ) (c : ClockId) → IsNarrow words s → c.0 < length s.defs → Stays words s (begun s d (call.Probe c))
 unfolding begun
-probe_stays words s d c sound within parents =
+probe_stays words s d c sound within =
     pick_either (Stays words s) (registered s.clocks c.0) _ _ (λ known. refused_stays words s sound)
-    (λ free. pick_either (Stays words s) _ _ _ (λ alone. IsNarrow-settled words s (register s c.0) (IsNarrow-register words s c.0 sound within free parents))
+    (λ free. pick_either (Stays words s) _ _ _ (λ alone. IsNarrow-settled words s (register s c.0) (IsNarrow-register words s c.0 sound within))
     (λ goes. starts_stays words s s (change_of s d (call.Probe c) (probe_script (register s c.0) c.0)) sound sound))
 
 leaves_sound : (words : ℕ) (s t : State) (d : ℕ) (what : Sleeping) (x : Turn) → IsNarrow words s → Stays words s (begun s d what) → next s d (event.Begin what) ≡ Some (t, x) → IsNarrow words t
@@ -286,7 +284,7 @@ begin_sound words s t d (call.NotifierRemove h id) x whole quiet sound can comes
   by : (o : Option HandleRow) → own_handle s d h.number ≡ o → IsNarrow words t
   by None lacks = same_sound words s t d (event.Begin (call.NotifierRemove h id)) _ x sound (notifier_remove-unknown s d h id quiet lacks) comes
   by (Some row) own = known row (has_notifier s row.clock.0 id) own refl
-begin_sound words s t d (call.Probe c) x whole quiet sound can comes = leaves_sound words s t d (call.Probe c) x sound (probe_stays words s d c sound can.0 can.1) comes
+begin_sound words s t d (call.Probe c) x whole quiet sound can comes = leaves_sound words s t d (call.Probe c) x sound (probe_stays words s d c sound can) comes
 begin_sound words s t d (call.RoundRate h r) x whole quiet sound can comes = by (own_handle s d h.number) refl where
   given_rate : (row : HandleRow) (o : Option ℕ) → own_handle s d h.number ≡ Some row → round_rate (wiring s) (view (lift s h.number)) row.clock.0 r ≡ o → IsNarrow words t
   given_rate row None own none = same_sound words s t d (event.Begin (call.RoundRate h r)) _ x sound (round-none s d h r row quiet own none) comes
@@ -328,10 +326,6 @@ ended_sound : (words : ℕ) (s : State) (k : Change) (b : Bool) → IsNarrow wor
 ended_sound words s k true sound = IsNarrow-handles words s (unranged s k).handles sound
 ended_sound words s k false sound = well_sound words s k.driver k.call sound
 
-untrue : (b : Bool) → not b ≡ true → b ≡ false
-untrue true e = absurd cc
-untrue false e = refl
-
 stepped_sound : (words : ℕ) (s : State) (k : Change) (answer : Option Bool) (m : Micro) → IsNarrow words s → links_well s.defs s.clocks m ≡ true → IsNarrow words (stepped s k answer m).0
 unfolding stepped
 stepped_sound words s k answer (micro.Notify kind c id old new) sound leaves = IsNarrow-change words s (Some k) sound
@@ -355,14 +349,10 @@ stepped_sound words s k answer (micro.HoldEnable x) sound leaves = IsNarrow-held
 stepped_sound words s k answer (micro.DropEnable x) sound leaves = IsNarrow-held words s s.prepare_holds (drop_enable s k x.0).enable_holds (Some k) sound
 stepped_sound words s k answer (micro.DropPrepare x) sound leaves = IsNarrow-held words s (drop_prepare s k x.0).prepare_holds s.enable_holds (Some k) sound
 stepped_sound words s k answer (micro.WriteMux c place) sound leaves =
-    let few : nat_lt place (length (parents_of s.defs c.0)) ≡ true = both_right _ _ leaves in
-    IsNarrow-change words (record s { regs = mux_written s c.0 place }) (Some k) (IsNarrow-written words s c.0 place sound (both_left _ _ leaves) (grind (arith, nat_tests)))
+    IsNarrow-change words (record s { regs = mux_written s c.0 place }) (Some k) (IsNarrow-written words s c.0 place sound)
 stepped_sound words s k answer (micro.Register c) sound leaves =
-    let two = both_left (nat_lt c.0 (length s.defs) && not (registered s.clocks c.0)) _ leaves in
-    let within : nat_lt c.0 (length s.defs) ≡ true = both_left (nat_lt c.0 (length s.defs)) _ two in
-    let free : registered s.clocks c.0 ≡ false = untrue (registered s.clocks c.0) (both_right (nat_lt c.0 (length s.defs)) _ two) in
-    IsNarrow-change words (register s c.0) (register_in s k c.0).change
-    (IsNarrow-register words s c.0 sound (grind (arith, nat_tests)) free (both_right (nat_lt c.0 (length s.defs) && not (registered s.clocks c.0)) _ leaves))
+    let within : nat_lt c.0 (length s.defs) ≡ true = both_left (nat_lt c.0 (length s.defs)) _ leaves in
+    IsNarrow-change words (register s c.0) (register_in s k c.0).change (IsNarrow-register words s c.0 sound (grind (arith, nat_tests)))
 stepped_sound words s k answer (micro.Settle c) sound leaves =
     IsNarrow-change words (record s { clocks = settle_all s (below_within (children s.order s.clocks) depth c.0) }) (Some k)
     (IsNarrow-settle words s (below_within (children s.order s.clocks) depth c.0) sound)

@@ -1,7 +1,7 @@
 -- What a hold, and the end of one, makes of the parts of a core.
 use Rattle.std.proofs.Common.{◌≡◌, ℕ, ◌+◌, ◌-◌, ◌<◌, ◌&&◌, ◌⊎◌, not, Bool, true, false, cond, List, [], ◌∷◌, ◌++◌, Option, Some, None, refl, sym, ap, subst, ◌∙◌, inl, inr, arith, length, set, nat_eq, reverse}
 use Rattle.std.proofs.lemmas.List.{get_or-set_same, get_or-set_other}
-use Rattle.std.specs.Prelude.{is_some, slice_get, slice_index}
+use Rattle.std.specs.Prelude.{is_some, slice_index}
 use Rattle.std.specs.List.{list_all}
 use Rattle.std.specs.Option.{option_map}
 use Rattle.clk_base.specs.declared.call.Micro.{Micro}
@@ -18,7 +18,7 @@ use Rattle.clk_model.specs.Gates.{gates_moved, settled}
 use Rattle.clk_model.specs.Holders.{active, clocks_of, critical_clocks, enable_holders, is_enabled}
 use Rattle.clk_model.specs.Lists.{is_in, count_from, without, without_one}
 use Rattle.clk_model.specs.State.{State, Change, registered, link_in}
-use Rattle.clk_model.specs.Step.{is_end, rest_of, taken, hold_enable, drop_enable}
+use Rattle.clk_model.specs.Step.{rest_of, taken, hold_enable, drop_enable}
 use Rattle.clk_model.specs.Tree.{path, path_within}
 use Rattle.clk_model.proofs.Members.{any_in, any_from_in, or_left, or_right, both_left, both_right, same_from_test, test_other, test_same, is_in_cases, is_in_tail, is_in-reverse}
 use Rattle.clk_model.proofs.OnceLaws.{is_in-append, in_append}
@@ -29,7 +29,7 @@ use Rattle.counts_core.specs.Standing.{StandsFor}
 use Rattle.counts_core.specs.Sums.{up_in}
 use Rattle.counts_core.proofs.Standing.{tells_holds}
 use Rattle.clk_machine.specs.Holds.{TellsHolds, AreHeld}
-use Rattle.clk_machine.specs.InFlight.{changes_rate, is_script, may_make, is_near}
+use Rattle.clk_machine.specs.InFlight.{links_clocks, may_make, is_near}
 use Rattle.clk_machine.specs.Letting.{LetsGoAll}
 use Rattle.clk_machine.specs.Parts.{Parts, bare, IsWhole, rows_from}
 use Rattle.clk_machine.specs.Stands.{Enters}
@@ -37,10 +37,9 @@ use Rattle.clk_machine.specs.Window.{Shown}
 use Rattle.clk_machine.proofs.HeldCounts.{times_in, times_more, listed_tells, held_on, held_more, held_less}
 use Rattle.clk_machine.proofs.Holdings.{StandsFor-moved}
 use Rattle.clk_machine.proofs.Following.{opens_all, closes_all, told_mapped, regs_told, regs_lie, links_are, lists_alike}
-use Rattle.clk_machine.proofs.InFlight.{first_seeks}
 use Rattle.clk_machine.proofs.LinkSteps.{Stepped, goes_taken}
 use Rattle.clk_machine.proofs.Moving.{clock_within, path_within_desc, tied-moved}
-use Rattle.clk_machine.proofs.Relinking.{relinks, Relinked, with_relinked, own_step_of, kind_is, falls_of, relinked_enters}
+use Rattle.clk_machine.proofs.Relinking.{relinks, Relinked, with_relinked, own_step_of, made_now, falls_of, relinked_enters}
 use Rattle.clk_machine.proofs.Room.{enable_owned, prepare_owned}
 use Rattle.clk_machine.proofs.Stepping.{prepares_one, unprepares_one, enables_one, disables_one}
 use Rattle.clk_machine.proofs.Writing.{counts_stand}
@@ -163,16 +162,10 @@ active_grows s es d more act =
 
 -- ---- the parts
 
-pub held_made : (f : FlightState) (there : ℕ → Bool) (m : Micro) (rest : List Micro) → f.left ≡ m ∷ rest → is_end m ≡ false → is_script f.call there f.left ≡ true → may_make f.call there m ≡ true
-held_made f there m rest left goes script = first_seeks f there m (ap (λ (ms : List Micro). slice_get ms 0) left) goes script
-
 -- such a step is of a registered clock
 pub held_there : (old : Parts) (m : Micro) (x : ℕ) → IsWhole old → old.flight.going ≡ true → relinks m ≡ true → own_step old.flight ≡ Some m
-    → may_make old.flight.call (registered old.tree.clocks) m ≡ (changes_rate old.flight.call && registered old.tree.clocks x) → registered old.tree.clocks x ≡ true
-held_there old m x whole going is own may =
-    let at = own_step_of old m whole going is own in
-    both_right (changes_rate old.flight.call) (registered old.tree.clocks x)
-    (sym may ∙ held_made old.flight (registered old.tree.clocks) m at.rest at.left (kind_is m is).no_end (whole.flown going).way.script)
+    → may_make old.flight.call (registered old.tree.clocks) m ≡ (links_clocks old.flight.call && registered old.tree.clocks x) → registered old.tree.clocks x ≡ true
+held_there old m x whole going is own may = both_right (links_clocks old.flight.call) (registered old.tree.clocks x) (sym may ∙ made_now old m whole going is own)
 
 -- counts that changed with what is held stand for what is held then
 stands_held : (old : Parts) (k' : CountState) (prepares' enables' : List ℕ) (s t : State) → StandsFor old.counts s → k'.defs ≡ old.counts.defs → k'.links ≡ old.counts.links → k'.exclusives ≡ old.counts.exclusives

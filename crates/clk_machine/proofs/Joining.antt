@@ -1,5 +1,5 @@
 -- A clock that is registered by a step of its call, and what that makes of the parts of a core.
-use Rattle.std.proofs.Common.{◌≡◌, ◌≢◌, ℕ, ◌+◌, ◌<◌, ◌≤◌, ◌&&◌, ◌||◌, not, Bool, true, false, List, [], ◌∷◌, Option, Some, None, refl, sym, ap, subst, ◌∙◌, arith, length, nat_eq, nat_lt, cond}
+use Rattle.std.proofs.Common.{◌≡◌, ◌≢◌, ℕ, ◌+◌, ◌<◌, ◌&&◌, ◌||◌, not, Bool, true, false, List, [], ◌∷◌, Option, Some, None, refl, sym, ap, subst, ◌∙◌, arith, length, nat_eq, nat_lt, cond}
 use Rattle.std.specs.Prelude.{if◌then◌else◌, is_some, slice_get, IfSome}
 use Rattle.std.specs.List.{list_all, list_any}
 use Rattle.std.specs.Option.{option_map, option_map_or}
@@ -21,7 +21,7 @@ use Rattle.clk_model.specs.Holders.{active}
 use Rattle.clk_model.specs.Kinds.{mux_field}
 use Rattle.clk_model.specs.Lists.{is_in, to_front, without}
 use Rattle.clk_model.specs.State.{State, Change, registered, link_in}
-use Rattle.clk_model.specs.Step.{is_end, is_register, register_in, rest_of, taken}
+use Rattle.clk_model.specs.Step.{is_register, register_in, rest_of, taken}
 use Rattle.clk_model.specs.Tree.{path, path_to_be, path_within, link_given}
 use Rattle.clk_model.proofs.Members.{both_left, both_right}
 use Rattle.clk_model.proofs.StateLaws.{settled-still}
@@ -38,7 +38,7 @@ use Rattle.counts_core.specs.Standing.{StandsFor}
 use Rattle.counts_core.specs.Sums.{up_in}
 use Rattle.counts_core.proofs.Standing.{tells_holds}
 use Rattle.clk_machine.specs.Course.{IsAlong}
-use Rattle.clk_machine.specs.InFlight.{IsUnderWay, can_link, changes_rate, is_near, is_script, links_clocks, may_make, probes}
+use Rattle.clk_machine.specs.InFlight.{IsUnderWay, can_link, is_near, is_script, links_clocks, probes}
 use Rattle.clk_machine.specs.Letting.{LetsGoAll}
 use Rattle.clk_machine.specs.Making.{ComesFirst}
 use Rattle.clk_machine.specs.Parts.{Parts, bare, AreTied, IsFlown, IsWhole, rows_from}
@@ -49,7 +49,7 @@ use Rattle.clk_machine.proofs.Attached.{IsAttached}
 use Rattle.clk_machine.proofs.Critical.{IsHeld, critical_regs, critical_words, held_stands, in_desc, register_regs}
 use Rattle.clk_machine.proofs.Following.{told_mapped}
 use Rattle.clk_machine.proofs.HeldCounts.{held_on, held_still}
-use Rattle.clk_machine.proofs.InFlight.{behind_seek, changes_plain, first_seeks, no_probes, own_going}
+use Rattle.clk_machine.proofs.InFlight.{behind_seek, changes_plain, no_probes, own_going}
 use Rattle.clk_machine.proofs.Making.{change_of, next_of, path_stands, path_under}
 use Rattle.clk_machine.proofs.Moving.{tied-moved}
 use Rattle.clk_machine.proofs.Registering.{Registered, active_linked, plain_stands, rows_stand, state_attached, tied_registered}
@@ -98,7 +98,6 @@ pub record MayJoin (old : Parts) (c : ClockId) : Type 0 where
   pub well : links_well old.desc.defs old.tree.clocks (micro.Register c) ≡ true
   pub place : c.0 < length old.desc.defs
   pub free : registered old.tree.clocks c.0 ≡ false
-  pub parents : list_all (registered old.tree.clocks) (parents_of old.desc.defs c.0) ≡ true
   pub rest : list_all (can_link old.desc.defs old.tree.clocks) own.rest ≡ true
 
 probe_links : (what : Sleeping) (c : ℕ) → probes what c ≡ true → links_clocks what ≡ true
@@ -112,14 +111,12 @@ may_join old c whole going own_ =
     let all : (can_link old.desc.defs old.tree.clocks (micro.Register c) && list_all (can_link old.desc.defs old.tree.clocks) own.rest) ≡ true =
     sym (ap (λ (ms : List Micro). list_all (can_link old.desc.defs old.tree.clocks) ms) own.left) ∙ flown.links (probe_links old.flight.call c.0 own.probes_) in
     let can = both_left (can_link old.desc.defs old.tree.clocks (micro.Register c)) _ all in
-    let two = both_left (nat_lt c.0 (length old.desc.defs) && not (registered old.tree.clocks c.0)) _ can in
-    let inside : nat_lt c.0 (length old.desc.defs) ≡ true = both_left (nat_lt c.0 (length old.desc.defs)) _ two in
+    let inside : nat_lt c.0 (length old.desc.defs) ≡ true = both_left (nat_lt c.0 (length old.desc.defs)) _ can in
     record {
       own = own;
       well = can;
       place = grind (arith, nat_tests);
-      free = untrue (registered old.tree.clocks c.0) (both_right (nat_lt c.0 (length old.desc.defs)) _ two);
-      parents = both_right (nat_lt c.0 (length old.desc.defs) && not (registered old.tree.clocks c.0)) _ can;
+      free = untrue (registered old.tree.clocks c.0) (both_right (nat_lt c.0 (length old.desc.defs)) _ can);
       rest = both_right (can_link old.desc.defs old.tree.clocks (micro.Register c)) _ all;
     }
 
@@ -133,30 +130,25 @@ more_both false a' b b' f g e = absurd cc
 kept : (a : Bool) → a ≡ true → a ≡ true
 kept a e = e
 
-can_more : (defs : Description) (old new : List ClockRow) → ((k : ℕ) → registered old k ≡ true → registered new k ≡ true) → ((d : ℕ) → is_some (link_in old d) ≡ true → is_some (link_in new d) ≡ true)
+can_more : (defs : Description) (old new : List ClockRow) → ((d : ℕ) → is_some (link_in old d) ≡ true → is_some (link_in new d) ≡ true)
     → (m : Micro) → is_register m ≡ false → can_link defs old m ≡ true → can_link defs new m ≡ true
-can_more defs old new there linked (micro.Relink c p) plain can =
-    more_both (is_some (mux_field (kind_of defs c.0)) && is_some (link_in old c.0) && registered old p.0) (is_some (mux_field (kind_of defs c.0)) && is_some (link_in new c.0) && registered new p.0) _ _
-    (more_both (is_some (mux_field (kind_of defs c.0)) && is_some (link_in old c.0)) (is_some (mux_field (kind_of defs c.0)) && is_some (link_in new c.0)) (registered old p.0) (registered new p.0)
-    (more_both _ _ (is_some (link_in old c.0)) (is_some (link_in new c.0)) (kept (is_some (mux_field (kind_of defs c.0)))) (linked c.0)) (there p.0)) (kept (is_in p.0 (parents_of defs c.0))) can
-can_more defs old new there linked (micro.WriteMux c place) plain can =
+can_more defs old new linked (micro.WriteMux c place) plain can =
     more_both (is_some (mux_field (kind_of defs c.0)) && is_some (link_in old c.0)) (is_some (mux_field (kind_of defs c.0)) && is_some (link_in new c.0)) _ _
     (more_both _ _ (is_some (link_in old c.0)) (is_some (link_in new c.0)) (kept (is_some (mux_field (kind_of defs c.0)))) (linked c.0)) (kept (nat_lt place (length (parents_of defs c.0)))) can
-can_more defs old new there linked (micro.Settle c) plain can = there c.0 can
-can_more defs old new there linked (micro.Register c) plain can = absurd cc
-can_more defs old new there linked _ plain can = refl
+can_more defs old new linked (micro.Register c) plain can = absurd cc
+can_more defs old new linked _ plain can = can
 
 not_first : (a b : Bool) → (a || b) ≡ false → (a ≡ false) × (b ≡ false)
 not_first true b e = absurd cc
 not_first false b e = (refl, e)
 
-can_rest : (defs : Description) (old new : List ClockRow) → ((k : ℕ) → registered old k ≡ true → registered new k ≡ true) → ((d : ℕ) → is_some (link_in old d) ≡ true → is_some (link_in new d) ≡ true)
+can_rest : (defs : Description) (old new : List ClockRow) → ((d : ℕ) → is_some (link_in old d) ≡ true → is_some (link_in new d) ≡ true)
     → (ms : List Micro) → list_any is_register ms ≡ false → list_all (can_link defs old) ms ≡ true → list_all (can_link defs new) ms ≡ true
-can_rest defs old new there linked [] none all = refl
-can_rest defs old new there linked (m ∷ ms) none all =
+can_rest defs old new linked [] none all = refl
+can_rest defs old new linked (m ∷ ms) none all =
     more_both (can_link defs old m) (can_link defs new m) (list_all (can_link defs old) ms) (list_all (can_link defs new) ms)
-    (can_more defs old new there linked m (not_first (is_register m) (list_any is_register ms) none).0)
-    (can_rest defs old new there linked ms (not_first (is_register m) (list_any is_register ms) none).1) all
+    (can_more defs old new linked m (not_first (is_register m) (list_any is_register ms) none).0)
+    (can_rest defs old new linked ms (not_first (is_register m) (list_any is_register ms) none).1) all
 
 -- ---- the parts behind it
 
@@ -281,7 +273,7 @@ module _ (old : Parts) (c : ClockId) (window' : Shown) (tree' : TreeState) (coun
           own = flown.own;
           paid = flown.paid;
           tells = λ changes. let no : true ≡ false = sym may.own.probes_ ∙ no_probes old.flight.call c.0 (changes_plain old.flight.call changes) in absurd cc;
-          links = λ changes. can_rest old.desc.defs old.tree.clocks tree'.clocks grows links_stay may.own.rest may.own.none may.rest;
+          links = λ changes. can_rest old.desc.defs old.tree.clocks tree'.clocks links_stay may.own.rest may.own.none may.rest;
           placed = flown.placed;
         });
         room = let room = whole.room in let less = joined_less in omega arith;
@@ -338,7 +330,6 @@ module _ (old : Parts) (c : ClockId) (window' : Shown) (tree' : TreeState) (coun
     fewer = λ free. joined_less;
     begun = λ paid. absurd cc;
     no_more = λ paid. absurd cc;
-    alone = λ k asks alone_. to.now.rows k ∙ ap (λ (t : Bool). registered old.tree.clocks k || t) asks ∙ either_true (registered old.tree.clocks k);
     beside = λ tier. absurd cc;
     step = λ s stands sound.
         let has = change_of old s stands to.off.going in

@@ -1,19 +1,15 @@
 -- What is kept so far stays so: with a credit spent or a step counted, another change in flight, power bits, handles and last requests.
 use Rattle.std.proofs.Common.{◌≡◌, ℕ, Bool, true, false, List, Option, Some, None, refl, sym, ap, ◌∙◌, length, set, nat_eq}
 use Rattle.std.specs.Option.{option_map_or}
-use Rattle.std.specs.List.{list_all}
-use Rattle.std.proofs.Math.Path.{fun_ext}
 use Rattle.std.proofs.lemmas.List.{length-set}
 use Rattle.clk_base.specs.declared.clock.Kind.{Kind}
 use Rattle.clk_base.specs.declared.clock.Kind.TheVariants.{FixedRate, Factor, Gate, Mux, Divider, Pll}
-use Rattle.clk_base.specs.Description.{kind_of, parents_of}
+use Rattle.clk_base.specs.Description.{kind_of}
 use Rattle.clk_base.specs.Fields.{Field}
 use Rattle.reg_bank.specs.Registers.{Registers, field}
 use Rattle.clk_model.specs.declared.row.ClockRow.{ClockRow}
 use Rattle.clk_model.specs.declared.row.HandleRow.{HandleRow}
-use Rattle.clk_model.specs.Lists.{count_from}
 use Rattle.clk_model.specs.State.{State, Change, NotifierRow, row_of, registered, link_in, requested}
-use Rattle.clk_model.specs.Holders.{active}
 use Rattle.clk_model.specs.Gates.{settled, gates_moved}
 use Rattle.clk_model.specs.Kinds.{mux_field}
 use Rattle.clk_model.specs.Round.{wiring, parent_rate_in}
@@ -22,11 +18,9 @@ use Rattle.clk_model.specs.Step.{powered, planned_rate, set_in_chain}
 use Rattle.clk_model.proofs.Members.{same_from_test, test_other}
 use Rattle.clk_model.specs.Begin.{put_handle, given}
 use Rattle.clk_model.proofs.ApartLaws.{mux_is_field}
-use Rattle.clk_model.proofs.FieldLaws.{powered_stays, set_stays}
-use Rattle.clk_model.proofs.GateRateLaws.{selected-moved}
+use Rattle.clk_model.proofs.FieldLaws.{set_stays}
 use Rattle.clk_model.proofs.HoldSteps.{link_set_same}
 use Rattle.clk_model.proofs.SceneStepLaws.{registered_set}
-use Rattle.clk_model.proofs.SupplyLaws.{selected_same}
 use Rattle.clk_machine.specs.Sound.{IsNarrow}
 
 -- ---- credits
@@ -34,13 +28,10 @@ use Rattle.clk_machine.specs.Sound.{IsNarrow}
 pub IsNarrow-spent : (words : ℕ) (s : State) (k : ℕ) → IsNarrow words s → IsNarrow words (record s { spent = k })
 IsNarrow-spent words s k sound = record {
   valid = sound.valid;
-  runs = sound.runs;
   rows = sound.rows;
   attached = sound.attached;
   unlinked = sound.unlinked;
-  parents = sound.parents;
   possible = sound.possible;
-  unselected = sound.unselected;
 }
 
 -- ---- notifiers
@@ -48,13 +39,10 @@ IsNarrow-spent words s k sound = record {
 pub IsNarrow-notified : (words : ℕ) (s : State) (notifiers : List NotifierRow) → IsNarrow words s → IsNarrow words (record s { notifiers = notifiers })
 IsNarrow-notified words s notifiers sound = record {
   valid = sound.valid;
-  runs = sound.runs;
   rows = sound.rows;
   attached = sound.attached;
   unlinked = sound.unlinked;
-  parents = sound.parents;
   possible = sound.possible;
-  unselected = sound.unselected;
 }
 
 -- ---- gates
@@ -64,26 +52,20 @@ pub IsNarrow-settled : (words : ℕ) (old new : State) → IsNarrow words new �
 unfolding settled
 IsNarrow-settled words old new sound = record {
   valid = sound.valid;
-  runs = sound.runs;
   rows = sound.rows;
   attached = sound.attached;
   unlinked = sound.unlinked;
-  parents = sound.parents;
   possible = sound.possible;
-  unselected = λ c there loose. selected-moved words new.defs (active old) (active new) (count_from 0 (length new.defs)) new.regs c sound.valid ∙ sound.unselected c there loose;
 }
 
 -- nor have the gates of these clocks
 pub IsNarrow-gated : (words : ℕ) (s : State) (before after : ℕ → Bool) (cs : List ℕ) → IsNarrow words s → IsNarrow words (record s { regs = gates_moved s.defs before after cs s.regs })
 IsNarrow-gated words s before after cs sound = record {
   valid = sound.valid;
-  runs = sound.runs;
   rows = sound.rows;
   attached = sound.attached;
   unlinked = sound.unlinked;
-  parents = sound.parents;
   possible = sound.possible;
-  unselected = λ c there loose. selected-moved words s.defs before after cs s.regs c sound.valid ∙ sound.unselected c there loose;
 }
 
 -- ---- a change in flight
@@ -91,53 +73,40 @@ IsNarrow-gated words s before after cs sound = record {
 pub IsNarrow-change : (words : ℕ) (s : State) (k : Option Change) → IsNarrow words s → IsNarrow words (record s { change = k })
 IsNarrow-change words s k sound = record {
   valid = sound.valid;
-  runs = sound.runs;
   rows = sound.rows;
   attached = sound.attached;
   unlinked = sound.unlinked;
-  parents = sound.parents;
   possible = sound.possible;
-  unselected = sound.unselected;
 }
 
 -- with other holds
 pub IsNarrow-held : (words : ℕ) (s : State) (ps es : List ℕ) (k : Option Change) → IsNarrow words s → IsNarrow words (record s { prepare_holds = ps; enable_holds = es; change = k })
 IsNarrow-held words s ps es k sound = record {
   valid = sound.valid;
-  runs = sound.runs;
   rows = sound.rows;
   attached = sound.attached;
   unlinked = sound.unlinked;
-  parents = sound.parents;
   possible = sound.possible;
-  unselected = sound.unselected;
 }
 
 -- a step counted
 pub IsNarrow-counted : (words : ℕ) (s : State) (k : ℕ) → IsNarrow words s → IsNarrow words (record s { steps = k })
 IsNarrow-counted words s k sound = record {
   valid = sound.valid;
-  runs = sound.runs;
   rows = sound.rows;
   attached = sound.attached;
   unlinked = sound.unlinked;
-  parents = sound.parents;
   possible = sound.possible;
-  unselected = sound.unselected;
 }
 
 -- power bits have no part in it
 pub IsNarrow-powered : (words : ℕ) (s : State) (y : ℕ) (up : Bool) → IsNarrow words s → IsNarrow words (powered s y up)
 IsNarrow-powered words s y up sound = record {
   valid = sound.valid;
-  runs = sound.runs;
   rows = sound.rows;
   attached = sound.attached;
   unlinked = sound.unlinked;
-  parents = sound.parents;
   possible = sound.possible;
-  unselected = λ c there loose.
-      selected_same s.defs s.regs (powered s y up).regs c (λ f at. powered_stays s words y up c sound.valid f (mux_is_field (kind_of s.defs c) f at)) ∙ sound.unselected c there loose;
 }
 
 -- the setting of a mux writes nothing
@@ -153,13 +122,10 @@ mux_setting (Pll word shift width power_word power_bit least most m) f parent pl
 pub IsNarrow-set : (words : ℕ) (s : State) (k : Change) (c : ℕ) → IsNarrow words s → IsNarrow words (record s { regs = set_in_chain s k c })
 IsNarrow-set words s k c sound = record {
   valid = sound.valid;
-  runs = sound.runs;
   rows = sound.rows;
   attached = sound.attached;
   unlinked = sound.unlinked;
-  parents = sound.parents;
   possible = sound.possible;
-  unselected = λ d there loose. selected_same s.defs s.regs (set_in_chain s k c) d (λ f at. reads d f at (nat_eq d c) refl) ∙ sound.unselected d there loose;
 } where
   own : (f : Field) → mux_field (kind_of s.defs c) ≡ Some f → (o : Option ℕ) → option_map_or (λ planned. setting (kind_of s.defs c) (parent_rate_in (wiring s) c) planned s.regs) o s.regs ≡ s.regs
   own f at None = refl
@@ -177,13 +143,10 @@ IsNarrow-set words s k c sound = record {
 pub IsNarrow-handles : (words : ℕ) (s : State) (handles : List (Option HandleRow)) → IsNarrow words s → IsNarrow words (record s { handles = handles })
 IsNarrow-handles words s handles sound = record {
   valid = sound.valid;
-  runs = sound.runs;
   rows = sound.rows;
   attached = sound.attached;
   unlinked = sound.unlinked;
-  parents = sound.parents;
   possible = sound.possible;
-  unselected = sound.unselected;
 }
 
 -- a handle that changes or is put back, with the gates that follow
@@ -199,13 +162,10 @@ pub IsNarrow-rows : (words : ℕ) (s : State) (clocks : List ClockRow) → lengt
     → IsNarrow words s → IsNarrow words (record s { clocks = clocks })
 IsNarrow-rows words s clocks many there link sound = record {
   valid = sound.valid;
-  runs = sound.runs;
   rows = many ∙ sound.rows;
   attached = λ d m. there d ∙ sound.attached d m;
   unlinked = λ d free. link d ∙ sound.unlinked d (sym (there d) ∙ free);
-  parents = λ d is. ap (λ (test : ℕ → Bool). list_all test (parents_of s.defs d)) (fun_ext there) ∙ sound.parents d (sym (there d) ∙ is);
   possible = λ d p at. sound.possible d p (sym (link d) ∙ at);
-  unselected = λ d is loose. sound.unselected d (sym (there d) ∙ is) (sym (link d) ∙ loose);
 }
 
 -- another last request of a clock

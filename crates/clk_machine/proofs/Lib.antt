@@ -7,7 +7,6 @@ pub mod InFlight
 pub mod Coming
 pub mod Opening
 pub mod Closing
-pub mod Fitting
 pub mod Shapes
 pub mod Soundness
 pub mod Kept

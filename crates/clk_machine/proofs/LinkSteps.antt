@@ -1,5 +1,5 @@
 -- A new link, a mux that selects, and last requests that settle: each takes the parts of a core on.
-use Rattle.std.proofs.Common.{◌≡◌, ℕ, ◌+◌, ◌<◌, ◌-◌, ◌^◌, ◌⊎◌, inl, inr, true, false, List, [], ◌∷◌, Option, Some, None, refl, sym, ap, subst, ◌∙◌, length, set, nat_lt, arith}
+use Rattle.std.proofs.Common.{◌≡◌, ℕ, ◌+◌, ◌<◌, ◌-◌, ◌^◌, ◌&&◌, ◌⊎◌, inl, inr, true, false, List, [], ◌∷◌, Option, Some, None, refl, sym, ap, subst, ◌∙◌, length, set, nat_lt, arith}
 use Rattle.std.specs.Prelude.{is_some, slice_index, IfSome}
 use Rattle.std.specs.Option.{option_map, option_map_or}
 use Rattle.std.proofs.lemmas.Bool.Decides.{nat_tests}
@@ -36,6 +36,7 @@ use Rattle.counts_core.specs.Counted.{CountState, AreCounts, HasLinks}
 use Rattle.counts_core.specs.Standing.{StandsFor}
 use Rattle.rate_planner.specs.Settings.{put_field}
 use Rattle.clk_machine.specs.Course.{CourseState, IsAlong}
+use Rattle.clk_machine.specs.InFlight.{links_clocks}
 use Rattle.clk_machine.specs.Holds.{TellsHolds, AreHeld, Passes, Ends, passed_times}
 use Rattle.clk_machine.specs.Making.{ComesFirst}
 use Rattle.clk_machine.specs.Parts.{Parts, bare, IsWhole, AreKept}
@@ -47,7 +48,7 @@ use Rattle.clk_machine.proofs.HoldsEnding.{tells_ended, held_ended}
 use Rattle.clk_machine.proofs.Holdings.{StandsFor-like, StandsFor-same, StandsFor-linked, StandsFor-moved}
 use Rattle.clk_machine.proofs.Moving.{clock_within}
 use Rattle.clk_machine.proofs.Relinked.{linked_there, place_fits}
-use Rattle.clk_machine.proofs.Relinking.{relinks, Relinked, with_relinked, own_step_of, can_now, falls_of, relinked_enters}
+use Rattle.clk_machine.proofs.Relinking.{relinks, Relinked, with_relinked, own_step_of, can_now, made_now, falls_of, relinked_enters}
 use Rattle.clk_machine.proofs.SettledRows.{links_settled, there_settled}
 use Rattle.clk_machine.proofs.Stepping.{relinks_one, writes_one, settles_one}
 use Rattle.clk_machine.proofs.Unmoved.{relink_still, settled_still}
@@ -77,9 +78,8 @@ pub record MayLink (old : Parts) (c p : ClockId) : Type 0 where
 
 pub may_link : (old : Parts) (c p : ClockId) → IsWhole old → old.flight.going ≡ true → own_step old.flight ≡ Some (micro.Relink c p) → MayLink old c p
 may_link old c p whole going own =
-    let can = can_now old (micro.Relink c p) whole going refl own in
-    let both = both_left _ _ can in
-    record { there = both_left _ _ both; parent = both_right _ _ both; possible = both_right _ _ can }
+    let both : (registered old.tree.clocks c.0 && registered old.tree.clocks p.0) ≡ true = both_right (links_clocks old.flight.call) _ (made_now old (micro.Relink c p) whole going refl own) in
+    record { there = both_left _ _ both; parent = both_right _ _ both; possible = can_now old (micro.Relink c p) whole going refl own }
 
 -- what a new link makes of tree and counts
 pub record LinksTo (old : Parts) (c p : ClockId) (tree' : TreeState) (counts' : CountState) : Type 0 where
@@ -190,7 +190,6 @@ relinked_of old c p tree' moved counts' prepares' enables' flight' now to go = r
   behind = refl;
   tied = record {
     valid = whole.tied.valid;
-    runs = whole.tied.runs;
     words = whole.tied.words;
     told = whole.tied.told;
     defs = to.defs ∙ whole.tied.defs;
@@ -326,7 +325,6 @@ selected_of old c place window' tree' flight' now to = record {
   behind = to.behind;
   tied = record {
     valid = now.whole.tied.valid;
-    runs = now.whole.tied.runs;
     words = to.size ∙ now.whole.tied.words;
     told = to.told;
     defs = to.defs ∙ now.whole.tied.defs;
@@ -380,7 +378,7 @@ pub record Settles (old : Parts) (c : ClockId) (tree' : TreeState) : Type 0 wher
   pub stands : IsTree tree'.defs tree'.clocks tree'.order tree'.rates
 
 pub may_settle : (old : Parts) (c : ClockId) → IsWhole old → old.flight.going ≡ true → own_step old.flight ≡ Some (micro.Settle c) → registered old.tree.clocks c.0 ≡ true
-may_settle old c whole going own = can_now old (micro.Settle c) whole going refl own
+may_settle old c whole going own = both_right (links_clocks old.flight.call) (registered old.tree.clocks c.0) (made_now old (micro.Settle c) whole going refl own)
 
 settled_agree : (f g : ℕ → ℕ) (clocks : List ClockRow) (xs : List ℕ) → ((d : ℕ) → is_in d xs ≡ true → f d ≡ g d) → settled_rows f clocks xs ≡ settled_rows g clocks xs
 settled_agree f g clocks [] same = refl
@@ -422,7 +420,6 @@ settled_of old c tree' flight' now to = record {
   behind = refl;
   tied = record {
     valid = whole.tied.valid;
-    runs = whole.tied.runs;
     words = whole.tied.words;
     told = whole.tied.told;
     defs = to.defs ∙ whole.tied.defs;

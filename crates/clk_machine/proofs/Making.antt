@@ -126,7 +126,6 @@ enters_step old window' flight' m answer plain told size behind going same less 
   fewer = λ free. less;
   begun = λ paid. absurd cc;
   no_more = λ paid. absurd cc;
-  alone = λ c asks. let none : false ≡ true = sym (no_registers m c plain) ∙ asks in absurd cc;
   beside = λ tier. absurd cc;
   step = leads;
 }

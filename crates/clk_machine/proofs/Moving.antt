@@ -75,7 +75,6 @@ pub tied-moved : (desc : Checked) (window window' : Shown) (tree : TreeState) (b
     → AreTied desc window' tree
 tied-moved desc window window' tree before after cs tied within size words = record {
   valid = tied.valid;
-  runs = tied.runs;
   words = size ∙ tied.words;
   told = subst (λ (n : ℕ). AreTold n window'.words) (sym size)
       (subst (λ (o : Option (List ℕ)). AreTold window.size o) (sym words)

@@ -20,7 +20,6 @@ use Rattle.notifiers.specs.declared.notifier.Notifier.{Notifier}
 use Rattle.notifiers.specs.Chains.{Tells}
 use Rattle.rate_requests.specs.Handles.{HandleTable}
 use Rattle.clk_machine.specs.Window.{Shown, AreTold}
-use Rattle.clk_machine.specs.Fit.{CanRun}
 use Rattle.clk_machine.specs.Course.{CourseState}
 use Rattle.clk_machine.specs.Parts.{parts_of, bare, held_in_all, AreKept, IsWhole, rows_from}
 use Rattle.clk_machine.specs.Stands.{Stands}
@@ -72,12 +71,12 @@ counts_at_first desc counts words defs links enables prepares exclusives = recor
 
 -- a core without a registered clock, a handle and a notifier
 pub whole_opening : (desc : Checked) (window : Shown) (tree : TreeState) (table : HandleTable) (counts : CountState) (chains : List (List Notifier)) (credits : ℕ) (ignore_unused : Bool) (flight : FlightState) (course : CourseState) (prepare_holds enable_holds : List ℕ)
-    → prepare_holds ≡ replicate (length desc.defs) 0 → enable_holds ≡ replicate (length desc.defs) 0 → flight.going ≡ false → IsValid desc.words desc.defs → CanRun desc.defs → window.size ≡ desc.words → AreTold window.size window.words
+    → prepare_holds ≡ replicate (length desc.defs) 0 → enable_holds ≡ replicate (length desc.defs) 0 → flight.going ≡ false → IsValid desc.words desc.defs → window.size ≡ desc.words → AreTold window.size window.words
     → tree.defs ≡ desc.defs → tree.clocks ≡ replicate (length desc.defs) unregistered_row → IsTree tree.defs tree.clocks tree.order tree.rates → credits ≤ most_credits
     → table.clocks ≡ length desc.defs → table.handles ≡ [] → AreCounts counts → StandsFor counts (opening desc.defs [] false 0) → length chains ≡ length desc.defs → Tells chains []
     → IsWhole (parts_of desc window tree table counts chains credits 0 ignore_unused flight course prepare_holds enable_holds 0)
-whole_opening desc window tree table counts chains credits ignore_unused flight course prepare_holds enable_holds prepares enables quiet valid runs size told defs blank stands few clocks empty keeps counted notified tells = record {
-  tied = record { valid = valid; runs = runs; words = size; told = told; defs = defs; stands = stands; kept = none_kept window.words };
+whole_opening desc window tree table counts chains credits ignore_unused flight course prepare_holds enable_holds prepares enables quiet valid size told defs blank stands few clocks empty keeps counted notified tells = record {
+  tied = record { valid = valid; words = size; told = told; defs = defs; stands = stands; kept = none_kept window.words };
   paid = record {
     few_credits = few;
     within = omega arith;

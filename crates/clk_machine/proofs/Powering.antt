@@ -52,7 +52,6 @@ pub tied_powered : (desc : Checked) (window window' : Shown) (tree : TreeState) 
     → window'.size ≡ window.size → window'.words ≡ option_map (power_put desc.defs y up) window.words → AreTied desc window' tree
 tied_powered desc window window' tree y up tied within size words = record {
   valid = tied.valid;
-  runs = tied.runs;
   words = size ∙ tied.words;
   told = subst (λ (n : ℕ). AreTold n window'.words) (sym size)
       (subst (λ (o : Option (List ℕ)). AreTold window.size o) (sym words)
@@ -68,7 +67,6 @@ pub tied_same : (desc : Checked) (window window' : Shown) (tree : TreeState) →
     → AreTied desc window' tree
 tied_same desc window window' tree tied size words = record {
   valid = tied.valid;
-  runs = tied.runs;
   words = size ∙ tied.words;
   told = subst (λ (n : ℕ). AreTold n window'.words) (sym size) (subst (λ (o : Option (List ℕ)). AreTold window.size o) (sym words) tied.told);
   defs = tied.defs;

@@ -52,7 +52,7 @@ use Rattle.clk_machine.specs.Movable.{can_go_along}
 use Rattle.clk_machine.specs.Parts.{Parts, AreKept, IsOwnCall, IsWhole, own_in, rows_from, steps_left, with_range}
 use Rattle.clk_machine.specs.Readying.{CanBeginSo, CanGoAlong, GoesOnAlong, IsReady, IsScripted, Scripts, moves_well, range_before, start_of, weight_along}
 use Rattle.clk_machine.specs.Sound.{IsSound}
-use Rattle.clk_machine.specs.Stands.{Stands, Enters, most_steps, registers, joins}
+use Rattle.clk_machine.specs.Stands.{Stands, Enters, most_steps, joins}
 use Rattle.clk_machine.proofs.Entered.{own_stands}
 use Rattle.clk_machine.proofs.Moving.{clock_within}
 use Rattle.clk_machine.proofs.Ranging.{stands_ranged}
@@ -269,7 +269,7 @@ can_scripted m d what plan script (readied.Change scripted) whole changes planne
       ∙ tells_made m.tree (is_prepared m.counts) m.chains plan script.changed can planned_.there (notifiers_at m.chains) m.tree.rates;
   links =
       ap (λ (ds : Description). list_all (can_link ds m.tree.clocks) scripted.steps.items) (sym whole.tied.defs) ∙ ap (λ (ms : List Micro). list_all (can_link m.tree.defs m.tree.clocks) ms) steps
-      ∙ links_made m.tree (is_prepared m.counts) m.chains plan script.changed can planned_.there (linked_rows m whole);
+      ∙ links_made m.tree (is_prepared m.counts) m.chains plan script.changed can planned_.there;
   lone = λ unset. made.extra ∙ lone_extra m (sets_parent what) plan script planned_ unset;
   weight = made.weight ∙ plain_weight m (sets_parent what) plan script planned_ whole.tied.defs ∙ ap (λ (ms : List Micro). weight_along m ms + script.extra) (sym made.steps) ∙ ap (λ (x : ℕ). weight_along m scripted.steps.items + x) (sym made.extra);
   room = let same = made.weight in let room = planned_.room in omega arith;
@@ -292,10 +292,6 @@ same_row s d n a b one two = inside (sym one ∙ two) where
 no_more_rows : (what : Sleeping) (c : ℕ) → changes_rate what ≡ true → joins (event.Begin what) turn.Going c ≡ false
 no_more_rows (call.Probe k) c e = absurd cc
 no_more_rows _ c e = refl
-
-asks_none : (what : Sleeping) (c : ℕ) → changes_rate what ≡ true → registers (event.Begin what) c ≡ false
-asks_none (call.Probe k) c e = absurd cc
-asks_none _ c e = refl
 
 most_room : (defs : Description) (what : Sleeping) → changes_rate what ≡ true → most_steps defs (event.Begin what) ≡ most_credits
 most_room defs (call.SetRate h x) e = refl
@@ -338,7 +334,6 @@ enters_along old new d what scripted left changes unranged can ready starts_ = r
   fewer = λ free. absurd cc;
   begun = λ paid goes. let left_ = along_left old new d what scripted None can starts_ in let most = most_room old.desc.defs what changes in let room = can.room in omega arith;
   no_more = λ paid done. absurd cc;
-  alone = λ c asks. let none : false ≡ true = sym (asks_none what c changes) ∙ asks in absurd cc;
   beside = λ tier. absurd cc;
   step = λ s stands sound.
       let spends : s.spent < s.credits = let one = stands.spent in let two = stands.credits in omega arith in
@@ -374,7 +369,6 @@ enters_within old between new d h least most row scripted left own live can read
   fewer = λ free. absurd cc;
   begun = λ paid goes. let left_ = along_left old between d what scripted (Some (row.min, row.max)) can starts_ in let room = can.room in omega arith;
   no_more = λ paid done. absurd cc;
-  alone = λ c asks. absurd cc;
   beside = λ tier. absurd cc;
   step = λ s stands sound.
       let spends : s.spent < s.credits = let one = stands.spent in let two = stands.credits in omega arith in

@@ -1,5 +1,5 @@
 -- Registering a clock.
-use Rattle.std.proofs.Common.{◌≡◌, ◌≢◌, ℕ, zero, suc, ◌+◌, ◌<◌, ◌≤◌, ◌||◌, ◌&&◌, Bool, true, false, cond, List, [], ◌∷◌, Option, Some, None, refl, sym, ap, subst, ◌∙◌, inl, inr, arith, length, set, take, nat_eq}
+use Rattle.std.proofs.Common.{◌≡◌, ◌≢◌, ℕ, ◌+◌, ◌<◌, ◌||◌, ◌&&◌, Bool, true, false, cond, List, Option, Some, None, refl, sym, ap, subst, ◌∙◌, inl, inr, arith, length, set, take, nat_eq}
 use Rattle.std.specs.Prelude.{IfSome, option_and_then, slice_get, slice_index}
 use Rattle.std.specs.Option.{option_map}
 use Rattle.std.proofs.lemmas.Bool.{cases_lt}
@@ -196,7 +196,6 @@ paid_more handles credits spent paid left = record {
 pub tied_registered : (old : Parts) (c : ℕ) (tree' : TreeState) (counts' : CountState) → IsWhole old → Registered old c tree' counts' → AreTied old.desc old.window tree'
 tied_registered old c tree' counts' whole now = record {
   valid = whole.tied.valid;
-  runs = whole.tied.runs;
   words = whole.tied.words;
   told = whole.tied.told;
   defs = now.defs ∙ whole.tied.defs;

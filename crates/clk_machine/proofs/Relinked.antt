@@ -1,9 +1,6 @@
 -- What is kept so far stays so where a registered clock gets a link to a possible parent, a linked mux selects another one, and last requests
 -- are settled.
-use Rattle.std.proofs.Common.{◌≡◌, ℕ, ◌<◌, ◌≤◌, ◌^◌, ◌⊎◌, inl, inr, Bool, true, false, not, List, [], ◌∷◌, Option, Some, None, refl, sym, ap, subst, ◌∙◌, length, nat_le, arith}
-use Rattle.std.specs.Prelude.{is_some}
-use Rattle.std.specs.List.{list_all}
-use Rattle.std.proofs.Math.Path.{fun_ext}
+use Rattle.std.proofs.Common.{◌≡◌, ℕ, ◌<◌, ◌≤◌, ◌^◌, ◌⊎◌, inl, inr, true, false, not, List, [], ◌∷◌, Some, None, refl, sym, ap, subst, ◌∙◌, length, nat_le, arith}
 use Rattle.std.proofs.lemmas.Bool.Decides.{nat_tests}
 use Rattle.std.proofs.lemmas.List.{length-set}
 use Rattle.clk_base.specs.declared.clock.Kind.{Kind}
@@ -17,9 +14,7 @@ use Rattle.clk_model.specs.Kinds.{mux_field}
 use Rattle.clk_model.specs.Lists.{is_in, to_front, without}
 use Rattle.clk_model.specs.State.{State, row_of, registered, link_in}
 use Rattle.clk_model.specs.Step.{settle_all}
-use Rattle.clk_model.specs.Tree.{selected}
-use Rattle.clk_model.proofs.ApartLaws.{mux_is_field, ranges_hold}
-use Rattle.clk_model.proofs.FieldLaws.{written_stays}
+use Rattle.clk_model.proofs.ApartLaws.{ranges_hold}
 use Rattle.clk_model.proofs.HoldSteps.{settled_links}
 use Rattle.clk_model.proofs.KeepLaws.{mux_written}
 use Rattle.clk_model.proofs.Members.{both_right, is_in_cases}
@@ -27,7 +22,6 @@ use Rattle.clk_model.proofs.OnceLaws.{is_in-filter}
 use Rattle.clk_model.proofs.SceneStepLaws.{registered_set, parent_lt}
 use Rattle.clk_model.proofs.ShapeLaws.{length-settle_all}
 use Rattle.clk_model.specs.Rate.{rate}
-use Rattle.clk_model.proofs.SupplyLaws.{selected_same}
 use Rattle.clk_model.proofs.WholePathLaws.{same_or_not, linked_same, linked_other}
 use Rattle.clk_machine.specs.Sound.{IsNarrow}
 use Rattle.clk_machine.proofs.Kept.{IsNarrow-rows}
@@ -42,13 +36,10 @@ pub IsNarrow-linked : (words : ℕ) (s : State) (c p : ℕ) (ps es : List ℕ) �
     → IsNarrow words (record s { clocks = linked s.clocks c p; order = to_front c s.order; prepare_holds = ps; enable_holds = es })
 IsNarrow-linked words s c p ps es sound there can = record {
   valid = sound.valid;
-  runs = sound.runs;
   rows = length-set s.clocks c _ ∙ sound.rows;
   attached = λ d m. linked_there s.clocks c p d ∙ by_place d (is_in_cases d c (without (c ∷ []) s.order) m);
   unlinked = λ d free. by_free d free (same_or_not c d);
-  parents = λ d is. ap (λ (test : ℕ → Bool). list_all test (parents_of s.defs d)) (fun_ext (linked_there s.clocks c p)) ∙ sound.parents d (sym (linked_there s.clocks c p d) ∙ is);
   possible = λ d q at. by_link d q at (same_or_not c d);
-  unselected = λ d is loose. by_loose d is loose (same_or_not c d);
 } where
   within : c < length s.clocks
   within = let lt = parent_lt s.defs c p can in let rows = sound.rows in omega arith
@@ -67,10 +58,6 @@ IsNarrow-linked words s c p ps es sound there can = record {
       let one : p ≡ q = cc in
       ap (λ (x : ℕ). is_in x (parents_of s.defs d)) (sym one) ∙ ap (λ (x : ℕ). is_in p (parents_of s.defs x)) (sym same) ∙ can
   by_link d q at (inr other) = sound.possible d q (sym (linked_other s.clocks c p d other) ∙ at)
-
-  by_loose : (d : ℕ) → registered (linked s.clocks c p) d ≡ true → link_in (linked s.clocks c p) d ≡ None → (c ≡ d) ⊎ (c ≡ d → ⊥) → selected s.defs s.regs d ≡ None
-  by_loose d is loose (inl same) = let no : Some p ≡ None = sym (linked_same s.clocks c p within) ∙ ap (link_in (linked s.clocks c p)) same ∙ loose in absurd cc
-  by_loose d is loose (inr other) = sound.unselected d (sym (linked_there s.clocks c p d) ∙ is) (sym (linked_other s.clocks c p d other) ∙ loose)
 
 -- ---- a mux that selects
 
@@ -91,24 +78,14 @@ place_fits words defs c place valid few f at = by (kind_of defs c) at (ranges_ho
   by (Divider word shift width one_based power_of_two) e ranges = absurd cc
   by (Pll word shift width power_word power_bit least most m) e ranges = absurd cc
 
-pub IsNarrow-written : (words : ℕ) (s : State) (c place : ℕ) → IsNarrow words s → is_some (link_in s.clocks c) ≡ true → place < length (parents_of s.defs c)
-    → IsNarrow words (record s { regs = mux_written s c place })
-IsNarrow-written words s c place sound linked_ few = record {
+pub IsNarrow-written : (words : ℕ) (s : State) (c place : ℕ) → IsNarrow words s → IsNarrow words (record s { regs = mux_written s c place })
+IsNarrow-written words s c place sound = record {
   valid = sound.valid;
-  runs = sound.runs;
   rows = sound.rows;
   attached = sound.attached;
   unlinked = sound.unlinked;
-  parents = sound.parents;
   possible = sound.possible;
-  unselected = λ d there loose. by d there loose (same_or_not d c);
-} where
-  by : (d : ℕ) → registered s.clocks d ≡ true → link_in s.clocks d ≡ None → (d ≡ c) ⊎ (d ≡ c → ⊥) → selected s.defs (mux_written s c place) d ≡ None
-  by d there loose (inl same) = let no : false ≡ true = sym (ap (λ (o : Option ℕ). is_some o) (ap (link_in s.clocks) (sym same) ∙ loose)) ∙ linked_ in absurd cc
-  by d there loose (inr other) =
-      selected_same s.defs s.regs (mux_written s c place) d
-      (λ f at. written_stays s words c place d sound.valid (place_fits words s.defs c place sound.valid few) other f (mux_is_field (kind_of s.defs d) f at))
-      ∙ sound.unselected d there loose
+}
 
 -- ---- last requests
 

@@ -17,7 +17,6 @@ use Rattle.reg_bank.specs.Registers.{Registers}
 use Rattle.clk_model.specs.declared.row.ClockRow.{ClockRow}
 use Rattle.clk_model.specs.State.{State, Change, registered, link_in}
 use Rattle.clk_model.specs.Kinds.{mux_field}
-use Rattle.clk_model.specs.Lists.{is_in}
 use Rattle.clk_model.specs.Machine.{next}
 use Rattle.clk_model.specs.Step.{rest_of, is_end, is_register}
 use Rattle.clk_model.proofs.Members.{both_left, both_right}
@@ -34,7 +33,7 @@ use Rattle.counts_core.specs.Standing.{StandsFor}
 use Rattle.clk_machine.specs.declared.course.Notified.{Notified}
 use Rattle.clk_machine.specs.Holds.{TellsHolds, AreHeld}
 use Rattle.clk_machine.specs.Course.{IsAlong, TellsAlong, tells_all, begins_with, behind_visit, visited_by, notifiers_at}
-use Rattle.clk_machine.specs.InFlight.{IsUnderWay, changes_rate, can_link, may_make, is_front, is_near}
+use Rattle.clk_machine.specs.InFlight.{IsUnderWay, links_clocks, can_link, may_make, is_front, is_near}
 use Rattle.clk_machine.specs.Making.{ComesFirst}
 use Rattle.clk_machine.specs.Parts.{Parts, bare, IsWhole, IsFlown, AreTied, rows_from}
 use Rattle.clk_machine.specs.Sound.{IsSound}
@@ -62,7 +61,7 @@ pub record OwnStep (f : FlightState) (m : Micro) : Type 0 where
   pub front : f.front ≡ Empty
   pub rest : List Micro
   pub left : f.left ≡ m ∷ rest
-  pub changes : changes_rate f.call ≡ true
+  pub changes : links_clocks f.call ≡ true
 
 -- what such a step is
 pub record IsKind (m : Micro) : Type 0 where
@@ -70,16 +69,16 @@ pub record IsKind (m : Micro) : Type 0 where
   pub plain : is_register m ≡ false
   pub taken_ : is_taken m ≡ true
   pub unseen : visited_by m ≡ None
-  pub may : (what : Sleeping) (there : ℕ → Bool) → may_make what there m ≡ true → changes_rate what ≡ true
+  pub may : (what : Sleeping) (there : ℕ → Bool) → may_make what there m ≡ true → links_clocks what ≡ true
 
 pub kind_is : (m : Micro) → relinks m ≡ true → IsKind m
-kind_is (micro.HoldPrepare x) e = record { no_end = refl; plain = refl; taken_ = refl; unseen = refl; may = λ what there made. both_left (changes_rate what) (there x.0) made }
-kind_is (micro.HoldEnable x) e = record { no_end = refl; plain = refl; taken_ = refl; unseen = refl; may = λ what there made. both_left (changes_rate what) (there x.0) made }
-kind_is (micro.DropEnable x) e = record { no_end = refl; plain = refl; taken_ = refl; unseen = refl; may = λ what there made. both_left (changes_rate what) (there x.0) made }
-kind_is (micro.DropPrepare x) e = record { no_end = refl; plain = refl; taken_ = refl; unseen = refl; may = λ what there made. both_left (changes_rate what) (there x.0) made }
-kind_is (micro.Relink c p) e = record { no_end = refl; plain = refl; taken_ = refl; unseen = refl; may = λ what there made. made }
-kind_is (micro.WriteMux c place) e = record { no_end = refl; plain = refl; taken_ = refl; unseen = refl; may = λ what there made. made }
-kind_is (micro.Settle c) e = record { no_end = refl; plain = refl; taken_ = refl; unseen = refl; may = λ what there made. made }
+kind_is (micro.HoldPrepare x) e = record { no_end = refl; plain = refl; taken_ = refl; unseen = refl; may = λ what there made. both_left (links_clocks what) (there x.0) made }
+kind_is (micro.HoldEnable x) e = record { no_end = refl; plain = refl; taken_ = refl; unseen = refl; may = λ what there made. both_left (links_clocks what) (there x.0) made }
+kind_is (micro.DropEnable x) e = record { no_end = refl; plain = refl; taken_ = refl; unseen = refl; may = λ what there made. both_left (links_clocks what) (there x.0) made }
+kind_is (micro.DropPrepare x) e = record { no_end = refl; plain = refl; taken_ = refl; unseen = refl; may = λ what there made. both_left (links_clocks what) (there x.0) made }
+kind_is (micro.Relink c p) e = record { no_end = refl; plain = refl; taken_ = refl; unseen = refl; may = λ what there made. both_left (links_clocks what) (there c.0 && there p.0) made }
+kind_is (micro.WriteMux c place) e = record { no_end = refl; plain = refl; taken_ = refl; unseen = refl; may = λ what there made. changes_links what made }
+kind_is (micro.Settle c) e = record { no_end = refl; plain = refl; taken_ = refl; unseen = refl; may = λ what there made. both_left (links_clocks what) (there c.0) made }
 kind_is _ e = absurd cc
 
 pub own_of : (f : FlightState) (there : ℕ → Bool) (m : Micro) → relinks m ≡ true → own_step f ≡ Some m → IsUnderWay there f → OwnStep f m
@@ -205,11 +204,17 @@ all_more before after (m ∷ ms) each all = and_from _ _ (each m (both_left _ _ 
 pub own_step_of : (old : Parts) (m : Micro) → IsWhole old → old.flight.going ≡ true → relinks m ≡ true → own_step old.flight ≡ Some m → OwnStep old.flight m
 own_step_of old m whole going is own = own_of old.flight (registered old.tree.clocks) m is own (whole.flown going).way
 
+-- it is one that its call may make
+pub made_now : (old : Parts) (m : Micro) → IsWhole old → old.flight.going ≡ true → relinks m ≡ true → own_step old.flight ≡ Some m → may_make old.flight.call (registered old.tree.clocks) m ≡ true
+made_now old m whole going is own =
+    let at = own_step_of old m whole going is own in
+    first_seeks old.flight (registered old.tree.clocks) m (ap (λ (ms : List Micro). slice_get ms 0) at.left) (kind_is m is).no_end (whole.flown going).way.script
+
 -- the step can be made
 pub can_now : (old : Parts) (m : Micro) → IsWhole old → old.flight.going ≡ true → relinks m ≡ true → own_step old.flight ≡ Some m → can_link old.desc.defs old.tree.clocks m ≡ true
 can_now old m whole going is own =
     let at = own_step_of old m whole going is own in
-    (links-own old.flight old.desc.defs old.tree.clocks m at ((whole.flown going).links (changes_links old.flight.call at.changes))).0
+    (links-own old.flight old.desc.defs old.tree.clocks m at ((whole.flown going).links at.changes)).0
 
 -- fewer steps are to come
 pub falls_of : (old : Parts) (m : Micro) (flight' : FlightState) → IsWhole old → old.flight.going ≡ true → relinks m ≡ true → own_step old.flight ≡ Some m → LeavesLessAt is_taken old.flight flight'
@@ -251,7 +256,7 @@ whole_relinked old m window' tree' counts' prepares' enables' flight' now =
         links = λ changes.
             all_more (can_link old.desc.defs old.tree.clocks) (can_link old.desc.defs tree'.clocks) (gone_on old.flight).left (can_more old.desc.defs old.tree.clocks tree'.clocks now.there now.linked)
             (links-own old.flight old.desc.defs old.tree.clocks m at (flown.links changes)).1;
-         placed = flown.placed;
+        placed = flown.placed;
       });
       room = let room = whole.room in omega arith;
       prepares_held = held_still (registered old.tree.clocks) (registered tree'.clocks) (length old.desc.defs) (old.steps + 1) prepares' (λ k there. now.there k ∙ there) now.prepares;
@@ -289,7 +294,6 @@ relinked_enters old m window' tree' counts' prepares' enables' flight' now does 
   fewer = λ free. now.less;
   begun = λ paid. absurd cc;
   no_more = λ paid. absurd cc;
-  alone = λ c asks. let none : false ≡ true = sym (no_registers m c (kind_is m now.is).plain) ∙ asks in absurd cc;
   beside = λ tier. absurd cc;
   step = λ s stands sound.
       let has = change_of old s stands now.going in

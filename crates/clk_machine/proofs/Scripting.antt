@@ -37,7 +37,7 @@ use Rattle.change_walk.specs.Weights.{step_weight}
 use Rattle.clk_machine.specs.declared.course.Notified.{Notified}
 use Rattle.clk_machine.specs.Changing.{told_clocks}
 use Rattle.clk_machine.specs.Course.{behind_first, behind_visit, begins_with, tells_all, visited_by}
-use Rattle.clk_machine.specs.InFlight.{asks_rate, can_link, changes_rate, cuts_behind, is_near, is_prepare, is_probe, is_unprepare, may_make, may_raise, probes, there_behind, is_script}
+use Rattle.clk_machine.specs.InFlight.{asks_rate, can_link, changes_rate, cuts_behind, is_near, is_prepare, is_probe, is_unprepare, links_clocks, may_make, may_raise, probes, there_behind, is_script}
 use Rattle.clk_machine.specs.Movable.{can_get, can_go, can_go_along}
 use Rattle.clk_machine.specs.Parts.{rows_from}
 use Rattle.clk_machine.specs.Reparenting.{is_candidate}
@@ -316,33 +316,61 @@ module _ (t : TreeState) (prepared : ℕ → Bool) (lists : List (List Notifier)
   moved_may what changes linked c p is = record {
     raises = and_from (may_raise what) (is_near what (registered t.clocks) p)
         (ap (λ (b : Bool). b || is_probe what) (or_right (is_prepare what) (changes_rate what) changes)) (ap (λ (b : Bool). b || probes what p) new);
-    prepares = and_from (changes_rate what) (registered t.clocks p) changes new;
-    enables = and_from (changes_rate what) (registered t.clocks p) changes new;
-    own = and_from (changes_rate what) (registered t.clocks c) changes own_;
-    drops = and_from (changes_rate what) (registered t.clocks c) changes own_;
+    prepares = and_from (links_clocks what) (registered t.clocks p) links new;
+    enables = and_from (links_clocks what) (registered t.clocks p) links new;
+    own = and_from (links_clocks what) (registered t.clocks c) links own_;
+    drops = and_from (links_clocks what) (registered t.clocks c) links own_;
     old = λ o at.
         let there_ = (linked c o at).1 in
-        let may = and_from (changes_rate what) (registered t.clocks o) changes there_ in
+        let lets = and_from (links_clocks what) (registered t.clocks o) links there_ in
         let lowers = and_from (is_unprepare what || changes_rate what) (registered t.clocks o) (or_right (is_unprepare what) (changes_rate what) changes) there_ in
-        and_from (changes_rate what && registered t.clocks o) _ may (and_from (changes_rate what && registered t.clocks o) _ may (ap (λ (b : Bool). b && true) lowers));
+        and_from (links_clocks what && registered t.clocks o) _ lets (and_from (links_clocks what && registered t.clocks o) _ lets (ap (λ (b : Bool). b && true) lowers));
   } where
+    links : links_clocks what ≡ true
+    links = ap (λ (b : Bool). b || is_probe what) changes
+
     own_ : registered t.clocks c ≡ true
     own_ = (linked c is.from is.link).0
 
     new : registered t.clocks p ≡ true
     new = both_left (registered t.clocks p) _ (both_right (is_some (mux_field (kind_of t.defs c)) && is_in p (parents_of t.defs c)) (rooted t.defs t.clocks p) is.candidate)
 
+  -- a new link is between registered clocks
+  relinked_may : (what : Sleeping) → changes_rate what ≡ true → ((c p : ℕ) → link_in t.clocks c ≡ Some p → (registered t.clocks c ≡ true) × (registered t.clocks p ≡ true))
+      → (c p : ℕ) → IsMoved t.defs t.clocks c p → (links_clocks what && (registered t.clocks c && registered t.clocks p)) ≡ true
+  relinked_may what changes linked c p is =
+      and_from (links_clocks what) (registered t.clocks c && registered t.clocks p) (ap (λ (b : Bool). b || is_probe what) changes)
+      (and_from (registered t.clocks c) (registered t.clocks p) (linked c is.from is.link).0
+      (both_left (registered t.clocks p) _ (both_right (is_some (mux_field (kind_of t.defs c)) && is_in p (parents_of t.defs c)) (rooted t.defs t.clocks p) is.candidate)))
+
+  -- the clock that settles is registered
+  settled_there : (k : ChainStep) (ls : List ChainStep) → plan.set_parent ≡ true → plan.chain ≡ k ∷ ls → ((c p : ℕ) → link_in t.clocks c ≡ Some p → registered t.clocks c ≡ true) → registered t.clocks k.clock ≡ true
+  settled_there k ls sets at linked = by k.parent refl where
+    first : can_go true t.defs t.clocks k ≡ true
+    first =
+        both_left (can_go true t.defs t.clocks k) (can_go_along true t.defs t.clocks ls)
+        (sym (ap (λ (b : Bool). can_go_along b t.defs t.clocks plan.chain) sets ∙ ap (λ (ks : List ChainStep). can_go_along true t.defs t.clocks ks) at) ∙ can)
+
+    from : (p : ℕ) (o : Option ℕ) → link_in t.clocks k.clock ≡ o → option_map_or (λ x. nat_eq x p || is_candidate t.defs t.clocks k.clock p) o false ≡ true → registered t.clocks k.clock ≡ true
+    from p None at' e = absurd cc
+    from p (Some x) at' e = linked k.clock x at'
+
+    by : (o : Option ℕ) → k.parent ≡ o → registered t.clocks k.clock ≡ true
+    by None at' = let no : false ≡ true = sym (ap (λ (o : Option ℕ). option_map_or (can_get t.defs t.clocks k.clock) o false) at') ∙ first in absurd cc
+    by (Some p) at' = from p (link_in t.clocks k.clock) refl (sym (ap (λ (o : Option ℕ). option_map_or (can_get t.defs t.clocks k.clock) o false) at') ∙ first)
+
   -- it is a script of the call
   visits_script : (what : Sleeping) → changes_rate what ≡ true → ((c p : ℕ) → link_in t.clocks c ≡ Some p → (registered t.clocks c ≡ true) × (registered t.clocks p ≡ true)) → (rates : List ClockRate) → AllByRecursion (λ r. registered t.clocks r.clock ≡ true) rates
       → is_script what (registered t.clocks) (visits t.defs t.clocks prepared plan.chain rates ++ (settles plan.set_parent plan.chain ++ micro.End ∷ [])) ≡ true
   visits_script what changes linked [] all =
       script_calm what (registered t.clocks) (settles plan.set_parent plan.chain) (micro.End ∷ []) (changes_plain what changes)
-      (settles_all (λ m. may_make what (registered t.clocks) m && not (is_raise m)) plan.set_parent plan.chain (λ k ls sets at. ap (λ (b : Bool). b && true) changes)) refl
+      (settles_all (λ m. may_make what (registered t.clocks) m && not (is_raise m)) plan.set_parent plan.chain
+      (λ k ls sets at. ap (λ (b : Bool). b && true) (and_from (links_clocks what) (registered t.clocks k.clock) (ap (λ (b : Bool). b || is_probe what) changes) (settled_there k ls sets at (λ c p at. (linked c p at).0))))) refl
   visits_script what changes linked (r ∷ rates) all =
       ap (is_script what (registered t.clocks))
       (append_assoc (moved ++ micro.Visit (clock_id r.clock) ∷ []) (visits t.defs t.clocks prepared plan.chain rates) rest_ ∙ append_assoc moved (micro.Visit (clock_id r.clock) ∷ []) (visits t.defs t.clocks prepared plan.chain rates ++ rest_))
       ∙ script_before what (registered t.clocks) moved (micro.Visit (clock_id r.clock) ∷ (visits t.defs t.clocks prepared plan.chain rates ++ rest_)) (changes_plain what changes)
-      (moves_all (may_make what (registered t.clocks)) plan.set_parent t.defs t.clocks prepared (λ c p is. move_all (may_make what (registered t.clocks)) t.defs t.clocks prepared c p changes changes (moved_may what changes linked c p is)) r.clock plan.chain can)
+      (moves_all (may_make what (registered t.clocks)) plan.set_parent t.defs t.clocks prepared (λ c p is. move_all (may_make what (registered t.clocks)) t.defs t.clocks prepared c p (relinked_may what changes linked c p is) changes (moved_may what changes linked c p is)) r.clock plan.chain can)
       refl
       (and_from (changes_rate what && registered t.clocks r.clock) (is_script what (registered t.clocks) (visits t.defs t.clocks prepared plan.chain rates ++ rest_))
       (and_from (changes_rate what) (registered t.clocks r.clock) changes all.0) (visits_script what changes linked rates all.1)) where
@@ -373,29 +401,13 @@ module _ (t : TreeState) (prepared : ℕ → Bool) (lists : List (List Notifier)
             ap (is_script what (registered t.clocks)) (append_assoc (visits t.defs t.clocks prepared plan.chain plan.rates) (settles plan.set_parent plan.chain) (micro.End ∷ []))
             ∙ visits_script what changes linked plan.rates there
 
-  -- the clock that settles is registered
-  settled_there : (k : ChainStep) (ls : List ChainStep) → plan.set_parent ≡ true → plan.chain ≡ k ∷ ls → ((c p : ℕ) → link_in t.clocks c ≡ Some p → registered t.clocks c ≡ true) → registered t.clocks k.clock ≡ true
-  settled_there k ls sets at linked = by k.parent refl where
-    first : can_go true t.defs t.clocks k ≡ true
-    first =
-        both_left (can_go true t.defs t.clocks k) (can_go_along true t.defs t.clocks ls)
-        (sym (ap (λ (b : Bool). can_go_along b t.defs t.clocks plan.chain) sets ∙ ap (λ (ks : List ChainStep). can_go_along true t.defs t.clocks ks) at) ∙ can)
-
-    from : (p : ℕ) (o : Option ℕ) → link_in t.clocks k.clock ≡ o → option_map_or (λ x. nat_eq x p || is_candidate t.defs t.clocks k.clock p) o false ≡ true → registered t.clocks k.clock ≡ true
-    from p None at' e = absurd cc
-    from p (Some x) at' e = linked k.clock x at'
-
-    by : (o : Option ℕ) → k.parent ≡ o → registered t.clocks k.clock ≡ true
-    by None at' = let no : false ≡ true = sym (ap (λ (o : Option ℕ). option_map_or (can_get t.defs t.clocks k.clock) o false) at') ∙ first in absurd cc
-    by (Some p) at' = from p (link_in t.clocks k.clock) refl (sym (ap (λ (o : Option ℕ). option_map_or (can_get t.defs t.clocks k.clock) o false) at') ∙ first)
-
   -- its links can be made
-  pub links_made : ((c p : ℕ) → link_in t.clocks c ≡ Some p → registered t.clocks c ≡ true) → list_all (can_link t.defs t.clocks) (steps_for t prepared lists plan changed) ≡ true
-  links_made linked = all_both (can_link t.defs t.clocks) (body_of t prepared lists plan changed) (micro.End ∷ []) (body_all (can_link t.defs t.clocks) t prepared lists plan changed can (record {
+  pub links_made : list_all (can_link t.defs t.clocks) (steps_for t prepared lists plan changed) ≡ true
+  links_made = all_both (can_link t.defs t.clocks) (body_of t prepared lists plan changed) (micro.End ∷ []) (body_all (can_link t.defs t.clocks) t prepared lists plan changed can (record {
     tells = λ kind c id old new. refl;
-    moved = λ c p is. move_all (can_link t.defs t.clocks) t.defs t.clocks prepared c p (relinks c p is) (selects c p is) (record { raises = refl; prepares = refl; enables = refl; own = refl; drops = refl; old = λ o at. refl });
+    moved = λ c p is. move_all (can_link t.defs t.clocks) t.defs t.clocks prepared c p (is_possible c p is) (selects c p is) (record { raises = refl; prepares = refl; enables = refl; own = refl; drops = refl; old = λ o at. refl });
     seen = each_there (λ c. true) (registered t.clocks) plan.rates (λ c here. refl) there;
-    settled = settles_all (can_link t.defs t.clocks) plan.set_parent plan.chain (λ k ls sets at. settled_there k ls sets at linked);
+    settled = settles_all (can_link t.defs t.clocks) plan.set_parent plan.chain (λ k ls sets at. refl);
   })) refl where
     is_mux : (c p : ℕ) → IsMoved t.defs t.clocks c p → is_some (mux_field (kind_of t.defs c)) ≡ true
     is_mux c p is = both_left (is_some (mux_field (kind_of t.defs c))) (is_in p (parents_of t.defs c)) (both_left (is_some (mux_field (kind_of t.defs c)) && is_in p (parents_of t.defs c)) (rooted t.defs t.clocks p) is.candidate)
@@ -403,14 +415,8 @@ module _ (t : TreeState) (prepared : ℕ → Bool) (lists : List (List Notifier)
     is_possible : (c p : ℕ) → IsMoved t.defs t.clocks c p → is_in p (parents_of t.defs c) ≡ true
     is_possible c p is = both_right (is_some (mux_field (kind_of t.defs c))) (is_in p (parents_of t.defs c)) (both_left (is_some (mux_field (kind_of t.defs c)) && is_in p (parents_of t.defs c)) (rooted t.defs t.clocks p) is.candidate)
 
-    is_there : (c p : ℕ) → IsMoved t.defs t.clocks c p → registered t.clocks p ≡ true
-    is_there c p is = both_left (registered t.clocks p) _ (both_right (is_some (mux_field (kind_of t.defs c)) && is_in p (parents_of t.defs c)) (rooted t.defs t.clocks p) is.candidate)
-
     has_link : (c p : ℕ) → IsMoved t.defs t.clocks c p → is_some (link_in t.clocks c) ≡ true
     has_link c p is = ap (λ (o : Option ℕ). is_some o) is.link
-
-    relinks : (c p : ℕ) → IsMoved t.defs t.clocks c p → can_link t.defs t.clocks (micro.Relink (clock_id c) (clock_id p)) ≡ true
-    relinks c p is = all_three (registered t.clocks c) (registered t.clocks p) (is_in p (parents_of t.defs c)) (linked c is.from is.link) (is_there c p is) (is_possible c p is)
 
     selects : (c p : ℕ) → IsMoved t.defs t.clocks c p → can_link t.defs t.clocks (micro.WriteMux (clock_id c) (place_of t.defs c p)) ≡ true
     selects c p is =

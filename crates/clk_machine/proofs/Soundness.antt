@@ -4,7 +4,7 @@ use Rattle.std.proofs.lemmas.List.{length-replicate}
 use Rattle.clk_base.specs.declared.event.Entry.{Entry}
 use Rattle.clk_base.specs.declared.event.Event.{Event}
 use Rattle.clk_base.specs.declared.event.Turn.{Turn}
-use Rattle.clk_base.specs.Description.{Description, parents_of}
+use Rattle.clk_base.specs.Description.{Description}
 use Rattle.clk_base.specs.Valid.{IsValid}
 use Rattle.clk_model.specs.State.{State, registered, link_in}
 use Rattle.clk_model.specs.Fed.{Fed}
@@ -15,14 +15,12 @@ use Rattle.clk_model.specs.Wired.{LinksArePossible}
 use Rattle.clk_model.specs.Laws.LinksKept.{KeepsLinks, IsWiredOver}
 use Rattle.clk_model.specs.Laws.RunsFed.{IsSettled}
 use Rattle.clk_model.specs.Laws.RunsEnd.{HasRoom}
-use Rattle.clk_model.proofs.GatesFollowLaws.{blank_registered, blank_link}
+use Rattle.clk_model.proofs.GatesFollowLaws.{blank_link}
 use Rattle.clk_model.proofs.JournalLaws.{replay-append}
 use Rattle.clk_model.proofs.LinkLaws.{runs_keep_links, runs_are_wired}
 use Rattle.clk_model.proofs.RoomLaws.{runs_have_room}
 use Rattle.clk_model.proofs.RunsFedLaws.{runs_are_fed, quiet_runs_are_settled}
-use Rattle.clk_machine.specs.Fit.{CanRun}
 use Rattle.clk_machine.specs.Sound.{IsReached, IsNarrow, IsSound}
-use Rattle.clk_machine.proofs.Fitting.{all_in}
 
 -- ---- a state that a journal leads to
 
@@ -85,16 +83,11 @@ linked_is_registered words s sound c p at = by_row (registered s.clocks c) refl 
 pub links_possible : (words : ℕ) (s : State) → IsNarrow words s → LinksArePossible s.defs s.clocks
 links_possible words s sound c p at = sound.possible c p at
 
--- and registered
-pub link_is_registered : (words : ℕ) (s : State) → IsNarrow words s → (c p : ℕ) → link_in s.clocks c ≡ Some p → registered s.clocks p ≡ true
-link_is_registered words s sound c p at =
-    all_in (registered s.clocks) (parents_of s.defs c) p (sound.parents c (linked_is_registered words s sound c p at)) (links_possible words s sound c p at)
-
 -- ---- the opening
 
-pub sound_opening : (words : List ℕ) (defs : Description) (ignore_unused : Bool) (credits : ℕ) → IsValid (length words) defs → CanRun defs → credits ≤ most_credits
+pub sound_opening : (words : List ℕ) (defs : Description) (ignore_unused : Bool) (credits : ℕ) → IsValid (length words) defs → credits ≤ most_credits
     → IsSound (length words) (opening defs words ignore_unused credits)
-sound_opening words defs ignore_unused credits valid runs few = record {
+sound_opening words defs ignore_unused credits valid few = record {
   reached = record {
     defs = defs;
     regs = words;
@@ -108,12 +101,9 @@ sound_opening words defs ignore_unused credits valid runs few = record {
   };
   narrow = record {
     valid = valid;
-    runs = runs;
     rows = length-replicate (length defs) _;
     attached = λ c m. absurd cc;
     unlinked = λ c free. blank_link (length defs) c;
-    parents = λ c there. let none = blank_registered (length defs) c in absurd cc;
     possible = λ c p at. let none = blank_link (length defs) c in absurd cc;
-    unselected = λ c there loose. let none = blank_registered (length defs) c in absurd cc;
   };
 }

@@ -345,7 +345,6 @@ enters_sweep old new d steps whole quiet on_ left light told room starts_ = reco
   fewer = λ free. absurd cc;
   begun = λ paid goes. let few = sweep_left old new d steps light starts_ in omega arith;
   no_more = λ paid done. absurd cc;
-  alone = λ c asks. absurd cc;
   beside = λ tier. absurd cc;
   step = λ s stands sound.
       let is = told s stands in

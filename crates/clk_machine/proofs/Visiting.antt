@@ -179,7 +179,6 @@ whole_visited old c window' tree' posts' flight' course' now =
     record {
       tied = record {
         valid = whole.tied.valid;
-        runs = whole.tied.runs;
         words = now.size ∙ whole.tied.words;
         told = now.are;
         defs = now.defs ∙ whole.tied.defs;
@@ -328,7 +327,6 @@ visit_enters old c window' tree' posts' flight' course' now = record {
   fewer = λ free. now.less (few_told old c.0 posts'.count now.few);
   begun = λ paid. absurd cc;
   no_more = λ paid. absurd cc;
-  alone = λ c asks. absurd cc;
   beside = λ tier. absurd cc;
   step = visit_leads old c window' tree' posts' flight' course' now;
 }

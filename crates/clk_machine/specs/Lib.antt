@@ -1,11 +1,9 @@
 pub mod Window
 pub mod Shape
-pub mod Fit
 pub mod Plls
 pub mod InFlight
 pub mod Course
 pub mod Holds
-pub mod Built
 pub mod Parts
 pub mod Stands
 pub mod Making

@@ -21,7 +21,6 @@ use Rattle.notifiers.specs.declared.notifier.Notifier.{Notifier}
 use Rattle.notifiers.specs.Chains.{Tells, row_on}
 use Rattle.rate_requests.specs.Handles.{HandleTable, with_range_at}
 use Rattle.clk_machine.specs.Window.{Shown, AreTold}
-use Rattle.clk_machine.specs.Fit.{CanRun}
 use Rattle.clk_machine.specs.declared.course.Notified.{Notified}
 use Rattle.std.specs.List.{list_all}
 use Rattle.clk_machine.specs.Holds.{listed, AreHeld}
@@ -87,10 +86,9 @@ bare m = record {
 abbrev pub AreKept : Description → Option (List ℕ) → List ClockRow → List ℕ → Type 0
 AreKept defs words clocks rates = IfSome words (λ regs. (c : ℕ) → registered clocks c ≡ true → slice_index rates c ≡ rate defs regs clocks c)
 
--- the words and the tree are those of a valid description whose clocks can be run
+-- the words and the tree are those of a valid description
 pub record AreTied (desc : Checked) (window : Shown) (tree : TreeState) : Type 0 where
   pub valid : IsValid desc.words desc.defs
-  pub runs : CanRun desc.defs
   pub words : window.size ≡ desc.words
   pub told : AreTold window.size window.words
   pub defs : tree.defs ≡ desc.defs

@@ -1,10 +1,8 @@
 -- A registration that goes on.
-use Rattle.std.specs.Prelude.{ℕ, ◌&&◌, List, [], ◌∷◌, Bool, not, is_none, slice_get}
-use Rattle.clk_base.specs.declared.call.Micro.{Micro}
-use Rattle.clk_base.specs.declared.call.Micro.TheVariants as micro
-use Rattle.clk_base.specs.declared.clock.ClockId.{ClockId}
+use Rattle.std.specs.Prelude.{ℕ, ◌&&◌, ◌||◌, Bool, not, is_none, slice_get}
 use Rattle.clk_base.specs.Flags.{is_critical}
-use Rattle.clk_model.specs.Script.{unprepared_plls}
+use Rattle.clk_model.specs.Begin.{register}
+use Rattle.clk_model.specs.Script.{adoptable, unprepared_plls}
 use Rattle.clk_model.specs.State.{State}
 use Rattle.clk_model.specs.Tree.{path_to_be}
 
@@ -12,6 +10,6 @@ use Rattle.clk_model.specs.Tree.{path_to_be}
 abbrev pub must_raise : State → ℕ → Bool
 must_raise s c = is_critical s.defs c && not (is_none (slice_get (unprepared_plls s (path_to_be s.defs s.regs s.clocks c)) 0))
 
--- the steps of a registration of a critical clock, where no orphan is adopted
-abbrev pub steps_alone : ClockId → List Micro
-steps_alone c = micro.Raise c ∷ micro.Register c ∷ micro.End ∷ []
+-- whether its registration goes on: an orphan can be adopted behind it, or a PLL has to be raised for it
+abbrev pub goes_on : State → ℕ → Bool
+goes_on s c = not (is_none (slice_get (adoptable (register s c)) 0)) || must_raise s c

@@ -2,7 +2,6 @@
 use Rattle.std.specs.Prelude.{◌≡◌, ◌↔◌, ℕ, ◌+◌, ◌<◌, ◌≤◌, false, if◌then◌else◌, List, [], ◌∷◌, ◌++◌, Bool, true, Option, Some, length, take}
 use Rattle.std.specs.List.{list_any}
 use Rattle.clk_base.specs.declared.call.Micro.{Micro}
-use Rattle.clk_base.specs.declared.call.Sleeping.{Sleeping}
 use Rattle.clk_base.specs.declared.event.Entry.{Entry}
 use Rattle.clk_base.specs.declared.event.Event.{Event}
 use Rattle.clk_base.specs.declared.event.Event.TheVariants as event
@@ -18,10 +17,8 @@ use Rattle.clk_model.specs.Laws.EndCauses.{EndsCall}
 use Rattle.clk_machine.specs.declared.behind.Behind.{Behind}
 use Rattle.clk_machine.specs.Parts.{Parts, steps_left}
 use Rattle.clk_machine.specs.Polls.{IfPoll, IsAsked, asked_by}
-use Rattle.clk_machine.specs.Fit.{CanRun, stands_alone}
-use Rattle.clk_machine.specs.Stands.{Stands, is_told, registers, joins}
+use Rattle.clk_machine.specs.Stands.{Stands, is_told, joins}
 use Rattle.clk_machine.specs.Sound.{IsSound}
-use Rattle.clk_machine.specs.Built.{is_built_over}
 use Rattle.clk_machine.specs.Window.{HasDelays}
 
 -- a core as its opening and its journal, and what it knows of its bank
@@ -39,10 +36,7 @@ pub record Run : Type 0 where
 abbrev pub now_of : Run → State
 now_of run = replay run.start run.journal
 
--- whether the clock was probed, and whether it was registered
-abbrev pub was_probed : List Entry → ℕ → Bool
-was_probed journal c = list_any (λ e. registers e.event c) journal
-
+-- whether the clock was registered
 abbrev pub was_registered : List Entry → ℕ → Bool
 was_registered journal c = list_any (λ e. joins e.event e.turn c) journal
 
@@ -63,10 +57,6 @@ driver_after d (e ∷ es) = driver_after (if is_enable_tier e.event then d else 
 -- the driver of the call in flight behind a journal
 abbrev pub driver_in_flight : List Entry → ℕ
 driver_in_flight journal = driver_after 0 journal
-
--- whether a call can be made now, where the probed clocks are the registered ones
-abbrev pub can_make : Run → Sleeping → Bool
-can_make run what = is_built_over run.start.defs (was_probed run.journal) what
 
 -- an event of a driver answers the machine's turn, and its entry is appended
 pub record Appends (old : Run) (driver : ℕ) (event : Event) (turn : Turn) (new : Run) : Type 0 where
@@ -125,7 +115,4 @@ pub record IsRun (m : Parts) (words : List ℕ) (log : Logged) : Type 0 where
   pub polling : is_told m ≡ true → m.flight.going ≡ true → IfPoll m.flight.front (IsAsked m.window.locks (asked_by [] log.entries))
   pub polled : is_told m ≡ true → (delay : ℕ → ℕ) → HasDelays m.window.behind.delays delay → Polled delay log.entries
   pub size : m.window.size ≡ length words
-  pub runs : CanRun m.desc.defs
   pub probed : (c : ℕ) → registered m.tree.clocks c ≡ was_registered log.entries c
-  -- a clock that is always registered at once is so where it was probed
-  pub alone : (c : ℕ) → was_probed log.entries c ≡ true → stands_alone m.desc.defs c ≡ true → registered m.tree.clocks c ≡ true

@@ -1,6 +1,5 @@
--- What every state of a core keeps, where only calls are made that can be made so far.
+-- What every state of a core keeps.
 use Rattle.std.specs.Prelude.{◌≡◌, ℕ, ◌<◌, ◌≤◌, ◌&&◌, List, Bool, true, false, not, Some, None, is_some, length, nat_lt}
-use Rattle.std.specs.List.{list_all}
 use Rattle.clk_base.specs.declared.call.Micro.{Micro}
 use Rattle.clk_base.specs.declared.call.Micro.TheVariants as micro
 use Rattle.clk_base.specs.declared.call.Sleeping.{Sleeping}
@@ -14,11 +13,8 @@ use Rattle.reg_bank.specs.Registers.{Registers}
 use Rattle.clk_model.specs.Lists.{is_in}
 use Rattle.clk_model.specs.declared.row.ClockRow.{ClockRow}
 use Rattle.clk_model.specs.State.{State, registered, link_in}
-use Rattle.clk_model.specs.Tree.{selected}
 use Rattle.clk_model.specs.Begin.{most_credits}
 use Rattle.clk_model.specs.Journal.{opening, replay}
-use Rattle.clk_machine.specs.Fit.{CanRun}
-use Rattle.clk_machine.specs.Built.{is_built_over}
 
 -- a journal leads to the state, from the opening of a valid description with so many words and as many credits as there may be
 pub record IsReached (words : ℕ) (s : State) : Type 0 where
@@ -32,22 +28,18 @@ pub record IsReached (words : ℕ) (s : State) : Type 0 where
   pub few : credits ≤ most_credits
   pub leads : s ≡ replay (opening defs regs ignore_unused credits) journal
 
--- what is kept so far, where only calls are made that can be made so far
+-- what is kept where calls name clocks of the description alone
 pub record IsNarrow (words : ℕ) (s : State) : Type 0 where
-  -- the description is valid for so many words, and each clock can be run
+  -- the description is valid for so many words
   pub valid : IsValid words s.defs
-  pub runs : CanRun s.defs
   -- each clock has a row, and those in the order are registered
   pub rows : length s.clocks ≡ length s.defs
   pub attached : (c : ℕ) → is_in c s.order ≡ true → registered s.clocks c ≡ true
-  -- a clock that isn't registered has no link; the possible parents of a registered one are registered, and it is linked to one of
-  -- them, or to none where the registers select none
+  -- a clock that isn't registered has no link, and one that is linked is so to a possible parent
   pub unlinked : (c : ℕ) → registered s.clocks c ≡ false → link_in s.clocks c ≡ None
-  pub parents : (c : ℕ) → registered s.clocks c ≡ true → list_all (registered s.clocks) (parents_of s.defs c) ≡ true
   pub possible : (c p : ℕ) → link_in s.clocks c ≡ Some p → is_in p (parents_of s.defs c) ≡ true
-  pub unselected : (c : ℕ) → registered s.clocks c ≡ true → link_in s.clocks c ≡ None → selected s.defs s.regs c ≡ None
 
--- what every state of a core keeps: all that holds behind a journal, and what is kept so far
+-- what every state of a core keeps: all that holds behind a journal, and what is kept besides
 pub record IsSound (words : ℕ) (s : State) : Type 0 where
   pub reached : IsReached words s
   pub narrow : IsNarrow words s
@@ -58,10 +50,6 @@ IsPlaced defs (call.Get (Some c)) = c.0 < length defs
 IsPlaced defs (call.SetParent h p) = p.0 < length defs
 IsPlaced defs (call.Probe c) = c.0 < length defs
 IsPlaced defs _ = Unit {0}
-
--- a call that can begin in a state
-abbrev pub CanBegin : State → Sleeping → Type 0
-CanBegin s what = is_built_over s.defs (registered s.clocks) what ≡ true
 
 -- a get takes memory, for its handle, and so do adding a notifier and the calls that may go on, for their steps; no other call does
 abbrev pub takes_memory : Sleeping → Bool
@@ -78,7 +66,7 @@ takes_memory call.Sweep = true
 takes_memory _ = false
 
 -- whether a step links clocks and selects parents as it may: a registered clock gets a link to a possible parent, a parent is selected for a
--- clock that has a link, and a clock of the description that isn't registered is, where its possible parents are
+-- clock that has a link, and a clock of the description that isn't registered is
 abbrev pub links_well : Description → List ClockRow → Micro → Bool
 links_well defs clocks (micro.Notify kind c id old new) = true
 links_well defs clocks (micro.Raise x) = true
@@ -92,14 +80,14 @@ links_well defs clocks (micro.DropPrepare x) = true
 links_well defs clocks (micro.Relink c p) = registered clocks c.0 && is_in p.0 (parents_of defs c.0)
 links_well defs clocks (micro.WriteMux c place) = is_some (link_in clocks c.0) && nat_lt place (length (parents_of defs c.0))
 links_well defs clocks (micro.Visit c) = true
-links_well defs clocks (micro.Register c) = nat_lt c.0 (length defs) && not (registered clocks c.0) && list_all (registered clocks) (parents_of defs c.0)
+links_well defs clocks (micro.Register c) = nat_lt c.0 (length defs) && not (registered clocks c.0)
 links_well defs clocks (micro.Settle c) = true
 links_well defs clocks (micro.Close c) = true
 links_well defs clocks (micro.Unpower c) = true
 links_well defs clocks micro.End = true
 
--- an event that can come in a state: one of the enable tier, a call that can begin, or a step that links as it may
+-- an event that can come in a state: one of the enable tier, a call that names clocks of the description, or a step that links as it may
 abbrev pub CanTake : State → Event → Type 0
-CanTake s (event.Begin what) = IsPlaced s.defs what × CanBegin s what
+CanTake s (event.Begin what) = IsPlaced s.defs what
 CanTake s (event.Step m answer) = links_well s.defs s.clocks m ≡ true
 CanTake s e = Unit {0}

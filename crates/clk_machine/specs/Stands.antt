@@ -19,7 +19,6 @@ use Rattle.clk_flight.specs.Flights.{Flies}
 use Rattle.notifiers.specs.Chains.{Tells}
 use Rattle.clk_model.specs.Begin.{most_credits}
 use Rattle.clk_machine.specs.Course.{IsAlong}
-use Rattle.clk_machine.specs.Fit.{stands_alone}
 use Rattle.clk_machine.specs.Holds.{TellsHolds}
 use Rattle.clk_machine.specs.Parts.{Parts, steps_left}
 use Rattle.clk_machine.specs.Sound.{IsSound}
@@ -81,13 +80,7 @@ abbrev pub step_registers : Micro → ℕ → Bool
 step_registers (micro.Register k) c = k.0 == c
 step_registers _ c = false
 
--- whether an event asks for the registration of the clock, or makes it
-abbrev pub registers : Event → ℕ → Bool
-registers (event.Begin (call.Probe k)) c = k.0 == c
-registers (event.Step m answer) c = step_registers m c
-registers _ c = false
-
--- whether an event that is answered so makes it: a probe that ends well at once, or the step of one that goes on
+-- whether an event that is answered so registers the clock: a probe that ends well at once, or the step of one that goes on
 abbrev pub joins : Event → Turn → ℕ → Bool
 joins (event.Begin (call.Probe k)) (turn.Done reply.Fine) c = k.0 == c
 joins (event.Step m answer) t c = step_registers m c
@@ -125,6 +118,4 @@ pub record Enters (old : Parts) (driver : ℕ) (event : Event) (turn : Turn) (ne
   -- the enable tier leaves the locks of PLLs and what comes next of a change in flight
   pub beside : is_enable_tier event ≡ true → (new.window.locks ≡ old.window.locks) × (new.flight ≡ old.flight)
   pub rows : (c : ℕ) → registered new.tree.clocks c ≡ (registered old.tree.clocks c || joins event turn c)
-  -- a clock that is always registered at once is so then
-  pub alone : (c : ℕ) → registers event c ≡ true → stands_alone old.desc.defs c ≡ true → registered new.tree.clocks c ≡ true
   pub step : (s : State) → Stands old s → IsSound old.window.size s → Leads s driver event turn new

@@ -8,7 +8,6 @@ ghost use Rattle.clk_model.specs.Fed.{Fed};
 ghost use Rattle.clk_model.specs.Begin.{most_credits};
 ghost use Rattle.clk_machine.specs.InFlight.{is_worked_out};
 
-use crate::built::is_built;
 use crate::log::Log;
 use crate::machine::Machine;
 use crate::row::Row;
@@ -58,12 +57,11 @@ impl<B: Bank> Model for Core<B> {
 impl<B: Bank> Core<B> {
     ghost use Rattle.clk_base.specs.declared.event.Event.TheVariants.{Enable, Disable, Running, Begin};
     ghost use Rattle.clk_base.specs.declared.event.Turn.TheVariants.{Done};
-    ghost use Rattle.clk_machine.specs.Fit.{CanRun};
     ghost use Rattle.clk_machine.specs.Sound.{IsPlaced, takes_memory};
     ghost use Rattle.clk_model.specs.Journal.{slotless};
     ghost use Rattle.clk_model.specs.Laws.CallCauses.{CallTurns};
     ghost use Rattle.clk_model.specs.Laws.Causes.{EnableCauses, DisableCauses, RunningCauses, LeavesRefused};
-    ghost use Rattle.clk_machine.specs.Run.{Run, now_of, was_registered, in_flight, can_make, Appends, StepsOn, StepTurns};
+    ghost use Rattle.clk_machine.specs.Run.{Run, now_of, was_registered, in_flight, Appends, StepsOn, StepTurns};
     ghost use Rattle.clk_machine.specs.Row.{IsRowOf, IsTreeOf};
     ghost use Rattle.clk_machine.specs.Window.{behind_of, HasDelays};
 
@@ -77,8 +75,6 @@ impl<B: Bank> Core<B> {
         ignore_unused: bool,
         credits: u32,
     ) -> Result<Core<B>, NoMemory>
-        // The core can run each clock.
-        requires runs { CanRun desc.defs }
         // There are as many words as the description was checked for.
         requires words { length words.now ≡ desc.words }
         // The bank has at least as many.
@@ -164,19 +160,6 @@ impl<B: Bank> Core<B> {
         reply
     }
 
-    /// Whether this call can be made so far.
-    pub fn built(&self, what: &Sleeping) -> bool
-        // The clocks that the call names are clocks of the description.
-        requires { IsPlaced self.now.start.defs what.now }
-        // It tells whether `begin` may be called with it.
-        ensures { result ≡ can_make self.now what.now }
-    {
-        match what {
-            Sleeping::Probe(clock) => is_built(what, self.machine.has_parents(*clock)),
-            _ => is_built(what, false),
-        }
-    }
-
     /// Begins a call of a driver. It is answered at once, or goes on by steps.
     ///
     /// After `NoMemory` the core is as it was, without an entry. It comes at a get, where a notifier
@@ -189,8 +172,6 @@ impl<B: Bank> Core<B> {
         requires quiet { in_flight self.old.journal ≡ false }
         // The clocks that the call names are clocks of the description.
         requires place { IsPlaced self.old.start.defs what.now }
-        // The call is one of those that can be made so far.
-        requires built { can_make self.old what.now ≡ true }
         // The machine takes the event, answers so, and its entry is appended.
         ensures ok { IfOk result (λ turn. Appends self.old driver (Begin what.now) turn self.new) }
         // Where the bank tells its words, the turn of each call comes exactly where its cause in the state before holds.
@@ -213,7 +194,6 @@ impl<B: Bank> Core<B> {
         requires credit { cost self.old.journal < self.old.start.credits }
         requires quiet { in_flight self.old.journal ≡ false }
         requires place { IsPlaced self.old.start.defs what }
-        requires built { can_make self.old what ≡ true }
         requires worked_out { is_worked_out what ≡ true }
         ensures ok { IfOk result (λ turn. Appends self.old driver (Begin what) turn self.new) }
         ensures err { OnErr result (self.new ≡ self.old) }
@@ -232,7 +212,6 @@ impl<B: Bank> Core<B> {
         requires credit { cost self.old.journal < self.old.start.credits }
         requires quiet { in_flight self.old.journal ≡ false }
         requires place { IsPlaced self.old.start.defs what }
-        requires built { can_make self.old what ≡ true }
         requires other { is_worked_out what ≡ false }
         ensures ok { IfOk result (λ turn. Appends self.old driver (Begin what) turn self.new) }
         ensures err { OnErr result (self.new ≡ self.old) }

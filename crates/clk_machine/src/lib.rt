@@ -2,16 +2,15 @@
 #![tactic(auto)]
 
 mod behind;
-mod built;
 mod course;
 mod decision;
 mod dropping;
-mod fit;
 mod framework;
 mod free;
 mod gates;
 mod handles;
 mod held;
+mod kinds;
 mod laws;
 mod letting;
 mod linking;
@@ -31,8 +30,6 @@ mod window;
 mod work;
 
 pub use behind::Behind;
-pub use built::is_built;
-pub use fit::{first_unfit, has_pll, is_fit};
 pub use framework::Core;
 pub use laws::always_fed;
 pub use row::Row;

@@ -86,8 +86,6 @@ impl<B: Bank> Model for Machine<B> {
 impl<B: Bank> Machine<B> {
     ghost use Rattle.clk_base.specs.declared.event.Event.TheVariants.{Begin};
     ghost use Rattle.clk_base.specs.declared.event.Turn.TheVariants.{Done};
-    ghost use Rattle.clk_machine.specs.Built.{is_built_over};
-    ghost use Rattle.clk_machine.specs.Fit.{CanRun};
     ghost use Rattle.clk_machine.specs.InFlight.{is_worked_out, may_go_on};
     ghost use Rattle.clk_machine.specs.Sound.{IsPlaced, takes_memory};
     ghost use Rattle.clk_machine.specs.Parts.{Parts, own_in, steps_left, IsWhole};
@@ -104,7 +102,6 @@ impl<B: Bank> Machine<B> {
         ignore_unused: bool,
         credits: u32,
     ) -> Result<Machine<B>, NoMemory>
-        requires runs { CanRun desc.defs }
         requires words { length words.now ≡ desc.words }
         requires bank { length words.now ≤ B.size bank }
         requires credits { credits ≤ most_credits }
@@ -166,12 +163,11 @@ impl<B: Bank> Machine<B> {
         }
     }
 
-    // Answers one of the calls that are built and never go on.
+    // Answers one of the calls that never go on.
     fn answer(&mut self, driver: u32, what: Sleeping) -> Result<Reply, NoMemory>
         requires credit { self.old.spent < self.old.credits }
         requires quiet { self.old.flight.going ≡ false }
         requires place { IsPlaced self.old.desc.defs what }
-        requires built { is_built_over self.old.desc.defs (registered self.old.tree.clocks) what ≡ true }
         requires at_once { may_go_on what ≡ false }
         ensures ok { IfOk result (λ reply. Enters self.old driver (Begin what) (Done reply) self.new) }
         ensures err { OnErr result (self.new ≡ self.old) }
@@ -193,8 +189,7 @@ impl<B: Bank> Machine<B> {
         }
     }
 
-    /// Begins a call that is built and whose steps are worked out before, with room in the log for their
-    /// entries.
+    /// Begins a call whose steps are worked out before, with room in the log for their entries.
     pub(crate) fn begin_worked_out(
         &mut self,
         log: &mut Log,
@@ -205,7 +200,6 @@ impl<B: Bank> Machine<B> {
         requires quiet { self.old.flight.going ≡ false }
         requires place { IsPlaced self.old.desc.defs what }
         requires worked_out { is_worked_out what ≡ true }
-        requires built { is_built_over self.old.desc.defs (registered self.old.tree.clocks) what ≡ true }
         requires paid { self.old.credits ≤ self.old.spent + log.old.room }
         ensures ok { IfOk result (λ turn. Enters self.old driver (Begin what) turn self.new) }
         ensures room { IfOk result (λ turn. is_going turn ≡ true → self.old.credits + steps_left self.new ≤ self.old.spent + log.new.room) }
@@ -220,12 +214,11 @@ impl<B: Bank> Machine<B> {
         }
     }
 
-    /// Begins another of the calls that are built.
+    /// Begins another call.
     pub(crate) fn begin(&mut self, driver: u32, what: Sleeping) -> Result<Turn, NoMemory>
         requires credit { self.old.spent < self.old.credits }
         requires quiet { self.old.flight.going ≡ false }
         requires place { IsPlaced self.old.desc.defs what }
-        requires built { is_built_over self.old.desc.defs (registered self.old.tree.clocks) what ≡ true }
         requires other { is_worked_out what ≡ false }
         ensures ok { IfOk result (λ turn. Enters self.old driver (Begin what) turn self.new) }
         ensures err { OnErr result (self.new ≡ self.old) }

@@ -10,7 +10,7 @@ ghost use Rattle.clk_model.specs.Tree.{path_within, path};
 ghost use Rattle.clk_machine.specs.Plls.{is_loose, raisable, lowerable, Finds};
 ghost use Rattle.clk_machine.specs.Shape.{LinksLie};
 
-use crate::fit::is_pll;
+use crate::kinds::is_pll;
 use crate::power::is_running;
 use crate::window::Window;
 use clk_base::{ClockId, ValidDesc, depth};

@@ -1,11 +1,11 @@
 //! Registering a clock.
 
-ghost use Rattle.std.specs.Prelude.{◌≡◌, ◌≢◌, ℕ, ◌<◌, ◌||◌, ◌==◌, length, IfSome};
-ghost use Rattle.std.specs.List.{list_all};
-ghost use Rattle.clk_base.specs.Places.{places};
+ghost use Rattle.std.specs.Prelude.{◌≡◌, ◌≢◌, ℕ, ◌<◌, ◌||◌, ◌==◌, true, length, IfSome};
+ghost use Rattle.std.specs.Option.{option_map};
 ghost use Rattle.clk_base.specs.Valid.{IsValid};
 ghost use Rattle.clk_model.specs.Lists.{to_front};
 ghost use Rattle.clk_model.specs.State.{registered, link_in};
+ghost use Rattle.clk_model.specs.Tree.{link_given};
 ghost use Rattle.clk_model.specs.Begin.{registered_rows};
 ghost use Rattle.clk_tree.specs.TreeState.{IsTree};
 ghost use Rattle.clk_machine.specs.Parts.{AreKept};
@@ -16,16 +16,21 @@ use clk_tree::Tree;
 use orphans::link_of;
 use reg_bank::Bank;
 
-/// Whether all of these clocks are registered.
-pub(crate) fn are_registered(tree: &Tree, wanted: &[ClockId]) -> bool
-    ensures { result ≡ list_all (registered tree.now.clocks) (places wanted.now) }
+/// The parent that a registration of the clock gives it: the one that the registers select, if it is
+/// registered.
+pub(crate) fn given_parent<B: Bank>(
+    desc: &ValidDesc,
+    window: &Window<B>,
+    tree: &Tree,
+    clock: ClockId,
+) -> Option<ClockId>
+    requires place { clock.0 < length desc.now.defs }
+    requires valid { IsValid desc.now.words desc.now.defs }
+    requires words { window.now.size ≡ desc.now.words }
+    ensures link { IfSome window.now.words (λ regs. option_map (λ p. p.0) result ≡ link_given desc.now.defs regs tree.now.clocks clock.0) }
+    ensures there { IfSome result (λ p. registered tree.now.clocks p.0 ≡ true) }
 {
-    for clock in wanted {
-        if !tree.registered(*clock) {
-            return false;
-        }
-    }
-    true
+    link_of(desc, tree, window.bank(), clock)
 }
 
 /// Registers a clock: it is linked to the parent that the registers select, where that is registered,

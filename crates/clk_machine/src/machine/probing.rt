@@ -1,59 +1,50 @@
-//! Registrations that go on: PLLs are raised first, where a critical clock is to be registered.
+//! Registrations that go on: PLLs are raised first where a critical clock is to be registered, and
+//! orphans are adopted behind it.
 
-ghost use Rattle.std.specs.Prelude.{◌≡◌, ◌+◌, ◌*◌, ◌^◌, ◌<◌, ◌≤◌, ◌∷◌, [], true, false, None, Some, length, sum_by, IfOk, OnOk, OnErr};
+ghost use Rattle.std.specs.Prelude.{◌≡◌, ◌+◌, ◌-◌, ◌^◌, ◌<◌, ◌≤◌, ◌||◌, not, true, false, None, Some, length, min, sum_by, IfOk, OnOk, OnErr};
 ghost use Rattle.std.specs.List.{list_all};
 ghost use Rattle.clk_base.specs.declared.call.Micro.TheVariants as micro;
 ghost use Rattle.clk_base.specs.declared.call.Sleeping.TheVariants.{Probe};
 ghost use Rattle.clk_base.specs.declared.event.Event.TheVariants.{Begin, Step};
 ghost use Rattle.clk_base.specs.declared.event.Turn.TheVariants.{Going};
-ghost use Rattle.clk_base.specs.Description.{parents_of};
+ghost use Rattle.clk_base.specs.Places.{places};
 ghost use Rattle.clk_base.specs.Flags.{is_critical};
-ghost use Rattle.clk_model.specs.Begin.{most_credits};
+ghost use Rattle.clk_model.specs.Begin.{most_credits, register};
 ghost use Rattle.clk_model.specs.Journal.{is_going};
 ghost use Rattle.clk_model.specs.Script.{plls};
 ghost use Rattle.clk_model.specs.State.{State, registered};
 ghost use Rattle.clk_flight.specs.Flights.{own_step};
 ghost use Rattle.clk_flight.specs.LeftOver.{step_weight};
-ghost use Rattle.clk_machine.specs.Fit.{stands_alone};
+ghost use Rattle.clk_machine.specs.Adopting.{adopted};
 ghost use Rattle.clk_machine.specs.Holding.{stays};
 ghost use Rattle.clk_machine.specs.InFlight.{can_link, is_script};
 ghost use Rattle.clk_machine.specs.Making.{ComesFirst};
 ghost use Rattle.clk_machine.specs.Parts.{IsWhole, rows_from, steps_left};
-ghost use Rattle.clk_machine.specs.Probing.{must_raise, steps_alone};
+ghost use Rattle.clk_machine.specs.Probing.{must_raise, goes_on};
+ghost use Rattle.clk_machine.specs.Sound.{IsSound};
 ghost use Rattle.clk_machine.specs.Stands.{Enters, Stands};
 ghost use Rattle.clk_machine.specs.Starting.{StartsCall};
 
 use super::Machine;
 use super::planning::fits;
-use crate::fit::{is_critical, stands_alone};
 use crate::gates::open_path;
+use crate::kinds::is_critical;
 use crate::letting::let_go_under;
 use crate::log::Log;
 use crate::plls::is_unprepared_under;
 use crate::register::{given_parent, register_clock};
+use change_walk::weigh;
 use clk_base::{ClockId, Errno, Micro, Reply, Sleeping, Turn};
 use clk_flight::Start;
 use clk_io::NoMemory;
 use reg_bank::Bank;
-use std::alloc::Global;
 
-// The steps of a registration of a critical clock.
-fn steps_alone(alloc: Global, clock: ClockId) -> Result<Vec<Micro>, NoMemory>
-    ensures { IfOk result (λ steps. steps.items ≡ steps_alone clock) }
+// Whether a registration goes on behind which orphans are adopted or none are, and for which a PLL has
+// to be raised or none has.
+fn goes_on(alone: bool, raises: bool) -> bool
+    ensures { result ≡ (not alone || raises) }
 {
-    let mut steps = Vec::with_capacity(alloc, 3)?;
-    steps.push_reserved(Micro::Raise(clock));
-    steps.push_reserved(Micro::Register(clock));
-    steps.push_reserved(Micro::End);
-    Ok(steps)
-}
-
-// How many entries they may come to, where a line has so many PLLs.
-fn most_alone(plls: u32) -> u64
-    ensures most { result ≡ 34 * plls + 3 }
-    ensures small { result < 2 ^ 63 }
-{
-    34 * u64::from(plls) + 3
+    !alone || raises
 }
 
 impl<B: Bank> Machine<B> {
@@ -63,22 +54,31 @@ impl<B: Bank> Machine<B> {
         requires place { clock.0 < length self.now.desc.defs }
         requires free { registered self.now.tree.clocks clock.0 ≡ false }
         ensures told { (s : State) → Stands self.now s → result ≡ must_raise s clock.0 }
-        ensures alone { stands_alone self.now.desc.defs clock.0 ≡ true → result ≡ false }
         ensures whole { IsWhole self.now }
     {
-        if stands_alone(&self.desc, clock) {
+        if !is_critical(&self.desc, clock) {
             return false;
         }
         let parent = given_parent(&self.desc, &self.window, &self.tree, clock);
         is_unprepared_under(&self.desc, &self.tree, &self.counts, parent, clock)
     }
 
-    // How many entries the registration of a critical clock may come to.
-    fn weight_alone(&self) -> u64
-        ensures most { result ≡ 34 * plls self.now.desc.defs + 3 }
-        ensures small { result < 2 ^ 63 }
+    // Whether the registration of a clock goes on behind which these orphans are adopted.
+    fn goes_on(&self, clock: ClockId, orphans: &[ClockId]) -> bool
+        requires place { clock.0 < length self.now.desc.defs }
+        requires free { registered self.now.tree.clocks clock.0 ≡ false }
+        ensures told { (s : State) → Stands self.now s → IsSound self.now.window.size s → places orphans.now ≡ adopted (register s clock.0) → result ≡ goes_on s clock.0 }
+        ensures whole { IsWhole self.now }
     {
-        most_alone(self.tree.plls())
+        let raises = self.must_raise(clock);
+        goes_on(orphans.is_empty(), raises)
+    }
+
+    // How many entries the steps of a registration may come to, and 2^64 - 1 where it is more.
+    fn weigh(&self, steps: &[Micro]) -> u64
+        ensures { result ≡ min (sum_by (step_weight (rows_from 0 self.now.chains) (plls self.now.desc.defs)) steps.now) (2 ^ 64 - 1) }
+    {
+        weigh(&self.notifiers, self.tree.plls(), steps)
     }
 
     // A registration goes on with its script. All memory that it needs is taken.
@@ -110,9 +110,9 @@ impl<B: Bank> Machine<B> {
         Ok(())
     }
 
-    /// Begins the registration of a clock whose possible parents are registered: at once where no PLL has
-    /// to be raised for it, and else it goes on, with room in the log for the entries of its steps,
-    /// unless there is none behind the credits and the steps so far.
+    /// Begins the registration of a clock: at once where no orphan is adopted behind it and no PLL has to
+    /// be raised for it, and else it goes on, with room in the log for the entries of its steps, unless
+    /// there is none behind the credits and the steps so far.
     pub(crate) fn begin_probe(
         &mut self,
         log: &mut Log,
@@ -122,7 +122,6 @@ impl<B: Bank> Machine<B> {
         requires credit { self.old.spent < self.old.credits }
         requires quiet { self.old.flight.going ≡ false }
         requires place { clock.0 < length self.old.desc.defs }
-        requires parents { list_all (registered self.old.tree.clocks) (parents_of self.old.desc.defs clock.0) ≡ true }
         requires paid { self.old.credits ≤ self.old.spent + log.old.room }
         ensures ok { IfOk result (λ turn. Enters self.old driver (Begin (Probe clock)) turn self.new) }
         ensures room { IfOk result (λ turn. is_going turn ≡ true → self.old.credits + steps_left self.new ≤ self.old.spent + log.new.room) }
@@ -134,16 +133,17 @@ impl<B: Bank> Machine<B> {
             self.spend();
             return Ok(Turn::Done(Reply::Refused(Errno::EEXIST)));
         }
-        if !self.must_raise(clock) {
+        let orphans = self.adopted(clock)?;
+        if !self.goes_on(clock, orphans.as_slice()) {
             self.probe_at_once(driver, clock);
             return Ok(Turn::Done(Reply::Fine));
         }
-        let weight = self.weight_alone();
+        let steps = self.probe_steps(clock, orphans.as_slice())?;
+        let weight = self.weigh(steps.as_slice());
         if !fits(self.used(), weight) {
             self.spend();
             return Ok(Turn::Done(Reply::Refused(Errno::ENOSPC)));
         }
-        let steps = steps_alone(self.alloc, clock)?;
         log.make_room(self.credits_left(), weight)?;
         self.start_probe(driver, clock, steps)?;
         Ok(Turn::Going)

@@ -1,8 +1,6 @@
 //! Registering clocks.
 
 ghost use Rattle.std.specs.Prelude.{◌≡◌, ◌<◌, ◌==◌, true, false, length};
-ghost use Rattle.std.specs.List.{list_all};
-ghost use Rattle.clk_base.specs.Description.{parents_of};
 ghost use Rattle.clk_base.specs.Flags.{is_critical};
 ghost use Rattle.clk_base.specs.declared.event.Event.TheVariants.{Begin};
 ghost use Rattle.clk_base.specs.declared.event.Reply.TheVariants.{Fine};
@@ -11,13 +9,14 @@ ghost use Rattle.clk_base.specs.declared.call.Sleeping.TheVariants.{Probe};
 ghost use Rattle.clk_model.specs.State.{State, registered};
 ghost use Rattle.clk_model.specs.Begin.{register};
 ghost use Rattle.clk_machine.specs.Parts.{IsWhole};
-ghost use Rattle.clk_machine.specs.Probing.{must_raise};
+ghost use Rattle.clk_machine.specs.Probing.{goes_on};
+ghost use Rattle.clk_machine.specs.Sound.{IsSound};
 ghost use Rattle.clk_machine.specs.Stands.{Stands, Becomes, Enters};
 
 use super::Machine;
-use crate::fit::is_critical;
 use crate::gates::open_path;
-use crate::register::{are_registered, register_clock};
+use crate::kinds::is_critical;
+use crate::register::register_clock;
 use clk_base::ClockId;
 use reg_bank::Bank;
 
@@ -27,14 +26,6 @@ impl<B: Bank> Machine<B> {
         ensures { result ≡ registered self.now.tree.clocks clock.0 }
     {
         self.tree.registered(clock)
-    }
-
-    /// Whether the possible parents of a clock are registered.
-    pub(crate) fn has_parents(&self, clock: ClockId) -> bool
-        requires { clock.0 < length self.now.desc.defs }
-        ensures { result ≡ list_all (registered self.now.tree.clocks) (parents_of self.now.desc.defs clock.0) }
-    {
-        are_registered(&self.tree, self.desc.def(clock).parents.as_slice())
     }
 
     // Registers a clock that isn't critical, and spends a credit.
@@ -77,14 +68,13 @@ impl<B: Bank> Machine<B> {
         is_critical(&self.desc, clock)
     }
 
-    /// Registers a clock whose possible parents are registered, and for which no PLL has to be raised.
+    /// Registers a clock at once, where no orphan is adopted behind it and no PLL has to be raised for it.
     pub(super) fn probe_at_once(&mut self, driver: u32, clock: ClockId)
         requires credit { self.old.spent < self.old.credits }
         requires quiet { self.old.flight.going ≡ false }
         requires place { clock.0 < length self.old.desc.defs }
         requires free { registered self.old.tree.clocks clock.0 ≡ false }
-        requires parents { list_all (registered self.old.tree.clocks) (parents_of self.old.desc.defs clock.0) ≡ true }
-        requires calm { (s : State) → Stands self.old s → must_raise s clock.0 ≡ false }
+        requires calm { (s : State) → Stands self.old s → IsSound self.old.window.size s → goes_on s clock.0 ≡ false }
         ensures { Enters self.old driver (Begin (Probe clock)) (Done Fine) self.new }
     {
         if self.is_critical(clock) {

@@ -4,7 +4,7 @@ use Rattle.clk_base.specs.declared.clock.ClockId.{ClockId}
 use Rattle.clk_model.specs.State.{link_in}
 use Rattle.clk_model.specs.Tree.{path, path_within}
 use Rattle.clk_machine.specs.Letting.{LetsGoAll}
-use Rattle.clk_machine.proofs.LettingGo.{lets_go_none, lets_go_then, front_still}
+use Rattle.clk_machine.proofs.LettingGo.{lets_go_then, front_still}
 use Rattle.clk_machine.proofs.letting.let_go_under.Goals as goal
 
 pub let_go_path-requires : goal.let_go_path-requires

@@ -1,19 +1,15 @@
-use Rattle.std.proofs.Common.{◌∙◌, Some, None, cond, sym, ap, Bool}
+use Rattle.std.proofs.Common.{◌≡◌, ◌∙◌, ℕ, List, Option, sym, ap, subst, take}
+use Rattle.std.specs.Prelude.{IfSome}
 use Rattle.std.specs.Option.{option_map}
-use Rattle.clk_base.specs.declared.clock.ClockId.{ClockId}
-use Rattle.clk_machine.proofs.Attaching.{given_told}
+use Rattle.clk_model.specs.Tree.{link_given}
+use Rattle.clk_machine.proofs.Registering.{given_first}
 use Rattle.clk_machine.proofs.register.given_parent.Goals as goal
 
-pub returns-in_err-parent-clause-link : goal.returns-in_err-parent-clause-link
-returns-in_err-parent-clause-link g c =
-    given_told c.args.window.now.words c.args.desc.now.defs c.args.tree.now.clocks c.args.clock.0 None c.from_residual.result c.in_err-parent.ensures.selected (ap (option_map (λ (p : ClockId). p.0)) c.from_residual.ensures)
-
-pub returns-then-registered-clause-link : goal.returns-then-registered-clause-link
-returns-then-registered-clause-link g c =
-    given_told c.args.window.now.words c.args.desc.now.defs c.args.tree.now.clocks c.args.clock.0 (Some c.in_ok-parent.parent) (Some c.in_ok-parent.parent) c.in_ok-parent.ensures.selected
-    (sym (ap (λ (t : Bool). cond t (Some c.in_ok-parent.parent.0) None) (sym c.registered.ensures.registered ∙ c.if-registered.true)))
-
-pub returns-else-registered-clause-link : goal.returns-else-registered-clause-link
-returns-else-registered-clause-link g c =
-    given_told c.args.window.now.words c.args.desc.now.defs c.args.tree.now.clocks c.args.clock.0 (Some c.in_ok-parent.parent) None c.in_ok-parent.ensures.selected
-    (sym (ap (λ (t : Bool). cond t (Some c.in_ok-parent.parent.0) None) (sym c.registered.ensures.registered ∙ c.if-registered.false)))
+pub returns-clause-link : goal.returns-clause-link
+returns-clause-link g c =
+    let desc = c.args.desc.now in
+    let clocks = c.args.tree.now.clocks in
+    let contents = g.B.Bank.contents c.bank.result.now in
+    let words : option_map (take desc.words) contents ≡ c.args.window.now.words = ap (λ (n : ℕ). option_map (take n) contents) (sym c.requires.words) ∙ c.bank.ensures.words in
+    subst (λ (o : Option (List ℕ)). IfSome o (λ regs. option_map (λ p. p.0) c.link_of.result ≡ link_given desc.defs regs clocks c.args.clock.0)) words
+    (given_first desc.words contents desc.defs clocks c.args.clock.0 c.link_of.result c.requires.valid c.link_of.ensures.link)

@@ -1,8 +1,8 @@
-use Rattle.std.proofs.Common.{◌≡◌, ◌<◌, ◌≤◌, ◌+◌, ℕ, true, Some, None, refl, sym, ap, subst, ◌∙◌, List, length, arith}
+use Rattle.std.proofs.Common.{◌≡◌, ◌<◌, ◌≤◌, ℕ, true, Some, None, refl, sym, ap, subst, ◌∙◌, List, length, arith}
 use Rattle.std.proofs.lemmas.List.{length-set}
 use Rattle.std.specs.Prelude.{slice_index}
 use Rattle.counts_core.specs.Counted.{CountState}
-use Rattle.clk_machine.proofs.Room.{prepare_owned, enable_owned, prepare_more, enable_more}
+use Rattle.clk_machine.proofs.Room.{prepare_owned, enable_owned}
 use Rattle.clk_base.specs.declared.call.Micro.TheVariants as micro
 use Rattle.clk_model.specs.State.{row_of}
 use Rattle.clk_model.specs.declared.row.ClockRow.{ClockRow}

@@ -14,7 +14,7 @@ invariant_of-result g c =
     let made = c.in_ok-counts.ensures in
     whole_opening c.args.desc c.create-window.result tree c.in_ok-handles.handles c.in_ok-counts.counts c.in_ok-notifiers.notifiers c.args.credits c.args.ignore_unused c.create-flight.result c.none-course.result c.in_ok-prepare_holds.prepare_holds c.in_ok-enable_holds.enable_holds
     (c.in_ok-prepare_holds.ensures ∙ ap (λ (n : ℕ). replicate n 0) c.len.ensures.len) (c.in_ok-enable_holds.ensures ∙ ap (λ (n : ℕ). replicate n 0) c.len-2.ensures.len) c.create-flight.ensures.quiet
-    (subst (λ (d : Checked). IsValid d.words d.defs) c.desc.view_is c.desc.invariant) c.requires.runs (c.create-window.ensures.size ∙ c.requires.words) c.create-window.ensures.told
+    (subst (λ (d : Checked). IsValid d.words d.defs) c.desc.view_is c.desc.invariant) (c.create-window.ensures.size ∙ c.requires.words) c.create-window.ensures.told
     c.in_ok-tree.ensures.defs c.in_ok-tree.ensures.rows c.in_ok-tree.ensures.stands c.requires.credits
     c.in_ok-handles.ensures.clocks c.in_ok-handles.ensures.handles made.stands
     (counts_opening c.args.desc c.in_ok-counts.counts made.defs made.links made.enables made.prepares made.exclusives)

@@ -2,19 +2,19 @@ use Rattle.std.proofs.Common.{◌≡◌, ◌<◌, ◌∙◌, Option, Some, None,
 use Rattle.std.specs.Prelude.{IfSome}
 use Rattle.clk_base.specs.declared.clock.ClockId.{ClockId}
 use Rattle.clk_base.specs.Description.{Description}
+use Rattle.clk_base.specs.Flags.{is_critical}
 use Rattle.clk_model.specs.State.{registered}
-use Rattle.clk_machine.specs.Fit.{stands_alone}
 use Rattle.clk_machine.specs.Parts.{Parts, parts_of}
 use Rattle.clk_machine.specs.Stands.{Stands}
 use Rattle.clk_machine.proofs.Moving.{links_within, clock_within}
-use Rattle.clk_machine.proofs.Probing.{alone_not, must_alone, must_critical}
+use Rattle.clk_machine.proofs.Probing.{must_plain, must_critical}
 use Rattle.clk_machine.proofs.machine.Machine.must_raise.Goals as goal
-
-pub stands_alone-requires : goal.stands_alone-requires
-stands_alone-requires g c = subst (λ (q : Parts). c.args.clock.0 < length q.desc.defs) (sym c.self.view_is) c.requires.place
 
 pub given_parent-parent-requires-clause-place : goal.given_parent-parent-requires-clause-place
 given_parent-parent-requires-clause-place g c = subst (λ (q : Parts). c.args.clock.0 < length q.desc.defs) (sym c.self.view_is) c.requires.place
+
+pub given_parent-parent-requires-clause-valid : goal.given_parent-parent-requires-clause-valid
+given_parent-parent-requires-clause-valid g c = c.self.invariant.tied.valid
 
 pub given_parent-parent-requires-clause-words : goal.given_parent-parent-requires-clause-words
 given_parent-parent-requires-clause-words g c = c.self.invariant.tied.words
@@ -35,14 +35,9 @@ is_unprepared_under-requires-clause-links g c = links_within c.self.inside.desc 
 pub is_unprepared_under-requires-clause-counted : goal.is_unprepared_under-requires-clause-counted
 is_unprepared_under-requires-clause-counted g c = c.self.invariant.counted.keeps.links ∙ ap (λ (d : Description). length d) c.self.invariant.counted.stands.defs
 
-pub returns-then-stands_alone-clause-told : goal.returns-then-stands_alone-clause-told
-returns-then-stands_alone-clause-told g c = λ s stands.
-    must_alone c.args.self.now s c.args.clock.0 stands (ap (λ (q : Parts). stands_alone q.desc.defs c.args.clock.0) (sym c.self.view_is) ∙ sym c.stands_alone.ensures ∙ c.if-stands_alone.true)
-
-pub returns-clause-alone : goal.returns-clause-alone
-returns-clause-alone g c = λ alone.
-    let no : true ≡ false = sym alone ∙ ap (λ (q : Parts). stands_alone q.desc.defs c.args.clock.0) (sym c.self.view_is) ∙ sym c.stands_alone.ensures ∙ c.if-stands_alone.false in
-    absurd cc
+pub returns-then-not-is_critical-clause-told : goal.returns-then-not-is_critical-clause-told
+returns-then-not-is_critical-clause-told g c = λ s stands.
+    must_plain c.args.self.now s c.args.clock.0 stands (ap (λ (q : Parts). is_critical q.desc.defs c.args.clock.0) (sym c.self.view_is) ∙ sym c.is_critical.ensures ∙ c.if-not-is_critical.true)
 
 pub returns-clause-told : goal.returns-clause-told
 returns-clause-told g c = λ s stands.
@@ -50,4 +45,4 @@ returns-clause-told g c = λ s stands.
     let p : Parts = parts_of m.desc m.window m.tree m.handles m.counts m.notifiers m.credits m.spent m.ignore_unused m.flight m.course m.prepare_holds m.enable_holds m.steps in
     let at : Stands p s = subst (λ (q : Parts). Stands q s) (sym c.self.view_is) stands in
     let free : registered m.tree.clocks c.args.clock.0 ≡ false = subst (λ (q : Parts). registered q.tree.clocks c.args.clock.0 ≡ false) (sym c.self.view_is) c.requires.free in
-    must_critical p s c.args.clock.0 c.given_parent-parent.result c.is_unprepared_under.result c.self.invariant at (alone_not p.desc.defs c.args.clock.0 (sym c.stands_alone.ensures ∙ c.if-stands_alone.false)) free c.given_parent-parent.ensures.link c.is_unprepared_under.ensures
+    must_critical p s c.args.clock.0 c.given_parent-parent.result c.is_unprepared_under.result c.self.invariant at (sym c.is_critical.ensures ∙ c.if-not-is_critical.false) free c.given_parent-parent.ensures.link c.is_unprepared_under.ensures

@@ -1,9 +1,7 @@
-use Rattle.std.proofs.Common.{◌≡◌, ◌∙◌, sym, ap, subst, take, true, false, List, Option, ℕ}
+use Rattle.std.proofs.Common.{◌≡◌, sym, subst, List, Option, ℕ}
 use Rattle.std.specs.Prelude.{IfSome}
 use Rattle.std.specs.Option.{option_map}
 use Rattle.clk_base.specs.Valid.{IsValid}
-use Rattle.reg_bank.specs.Registers.{Registers}
-use Rattle.clk_model.specs.State.{registered}
 use Rattle.clk_model.specs.Tree.{link_given}
 use Rattle.clk_model.specs.Begin.{registered_rows}
 use Rattle.clk_machine.specs.Parts.{Parts, parts_of}

@@ -1,5 +1,3 @@
-use Rattle.std.proofs.Common.{◌≡◌, ap, subst, List}
-use Rattle.clk_base.specs.declared.clock.ClockId.{ClockId}
 use Rattle.clk_base.specs.Places.{places}
 use Rattle.clk_machine.proofs.AdoptionSteps.{probe_steps_are}
 use Rattle.clk_machine.proofs.machine.Machine.probe_steps.Goals as goal

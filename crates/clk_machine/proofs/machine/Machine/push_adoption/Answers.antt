@@ -1,6 +1,4 @@
-use Rattle.std.proofs.Common.{◌∙◌, sym, ap}
-use Rattle.std.specs.Option.{option_map}
-use Rattle.clk_base.specs.declared.clock.ClockId.{ClockId}
+use Rattle.std.proofs.Common.{sym}
 use Rattle.clk_machine.proofs.AdoptionSteps.{adopts_not, adopts_one}
 use Rattle.clk_machine.proofs.machine.Machine.push_adoption.Goals as goal
 

@@ -1,4 +1,4 @@
-use Rattle.std.proofs.Common.{◌≡◌, true, Some, List, reverse, sym, subst}
+use Rattle.std.proofs.Common.{◌≡◌, true, List, reverse, subst}
 use Rattle.std.specs.Prelude.{IfSome}
 use Rattle.clk_base.specs.declared.clock.ClockId.{ClockId}
 use Rattle.clk_model.specs.State.{registered}

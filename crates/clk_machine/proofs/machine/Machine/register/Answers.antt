@@ -1,4 +1,4 @@
-use Rattle.std.proofs.Common.{◌≡◌, ◌<◌, ◌∙◌, sym, true, false, length}
+use Rattle.std.proofs.Common.{◌≡◌, ◌<◌, ◌∙◌, sym, false, length}
 use Rattle.clk_base.specs.Flags.{is_critical}
 use Rattle.clk_model.specs.State.{registered, row_of}
 use Rattle.clk_machine.specs.Parts.{Parts, parts_of}

@@ -1,4 +1,4 @@
-use Rattle.std.proofs.Common.{◌≡◌, ◌<◌, ◌∙◌, true, false, Some, sym, ap, subst, get_or}
+use Rattle.std.proofs.Common.{◌≡◌, ◌∙◌, true, false, Some, sym, subst}
 use Rattle.clk_base.specs.declared.call.Micro.TheVariants as micro
 use Rattle.clk_base.specs.Flags.{is_critical}
 use Rattle.clk_model.specs.State.{row_of}
@@ -18,6 +18,9 @@ given_parent-parent-requires-clause-place g c =
     let own : own_step p.flight ≡ Some (micro.Register c.args.clock) = subst (λ (q : Parts). own_step q.flight ≡ Some (micro.Register c.args.clock)) (sym c.self.view_is) c.requires.next in
     let may = may_join p c.args.clock c.self.invariant going own in
     may.place
+
+pub given_parent-parent-requires-clause-valid : goal.given_parent-parent-requires-clause-valid
+given_parent-parent-requires-clause-valid g c = c.self.invariant.tied.valid
 
 pub given_parent-parent-requires-clause-words : goal.given_parent-parent-requires-clause-words
 given_parent-parent-requires-clause-words g c = c.self.invariant.tied.words
@@ -45,15 +48,6 @@ register_clock-requires-clause-words g c = c.self.invariant.tied.words
 
 pub register_clock-requires-clause-made : goal.register_clock-requires-clause-made
 register_clock-requires-clause-made g c = c.self.invariant.tied.defs
-
-pub register_clock-requires-clause-parents : goal.register_clock-requires-clause-parents
-register_clock-requires-clause-parents g c =
-    let m = c.self.inside in
-    let p : Parts = parts_of m.desc m.window m.tree m.handles m.counts m.notifiers m.credits m.spent m.ignore_unused m.flight m.course m.prepare_holds m.enable_holds m.steps in
-    let going : p.flight.going ≡ true = subst (λ (q : Parts). q.flight.going ≡ true) (sym c.self.view_is) c.requires.going in
-    let own : own_step p.flight ≡ Some (micro.Register c.args.clock) = subst (λ (q : Parts). own_step q.flight ≡ Some (micro.Register c.args.clock)) (sym c.self.view_is) c.requires.next in
-    let may = may_join p c.args.clock c.self.invariant going own in
-    may.parents
 
 pub register_clock-requires-clause-kept : goal.register_clock-requires-clause-kept
 register_clock-requires-clause-kept g c = c.self.invariant.tied.kept
@@ -98,7 +92,6 @@ invariant_of-self g c =
     let now : Registered p c.args.clock.0 c.register_clock.new.tree c.moved.new.self = record {
       place = may.place;
       free = may.free;
-      parents = may.parents;
       rows = c.register_clock.ensures.rows;
       clocks = c.register_clock.ensures.clocks;
       order = c.register_clock.ensures.order;
@@ -136,7 +129,6 @@ returns g c =
     let now : Registered p c.args.clock.0 c.register_clock.new.tree c.moved.new.self = record {
       place = may.place;
       free = may.free;
-      parents = may.parents;
       rows = c.register_clock.ensures.rows;
       clocks = c.register_clock.ensures.clocks;
       order = c.register_clock.ensures.order;

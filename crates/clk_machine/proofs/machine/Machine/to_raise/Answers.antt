@@ -1,4 +1,4 @@
-use Rattle.std.proofs.Common.{◌≡◌, ◌<◌, ◌∙◌, Option, Some, None, List, true, sym, subst, ap, length}
+use Rattle.std.proofs.Common.{◌≡◌, ◌<◌, ◌∙◌, Option, Some, None, true, sym, subst, ap, length}
 use Rattle.std.specs.Prelude.{IfSome}
 use Rattle.clk_base.specs.declared.clock.ClockId.{ClockId}
 use Rattle.clk_base.specs.Description.{Description}
@@ -27,6 +27,9 @@ given_parent-parent-requires-clause-place g c =
     let going : p.flight.going ≡ true = subst (λ (q : Parts). q.flight.going ≡ true) (sym c.self.view_is) c.requires.going in
     let near : is_near p.flight.call (registered p.tree.clocks) c.args.clock.0 ≡ true = subst (λ (q : Parts). is_near q.flight.call (registered q.tree.clocks) c.args.clock.0 ≡ true) (sym c.self.view_is) c.requires.near in
     near_within p c.args.clock.0 c.self.invariant going near
+
+pub given_parent-parent-requires-clause-valid : goal.given_parent-parent-requires-clause-valid
+given_parent-parent-requires-clause-valid g c = c.self.invariant.tied.valid
 
 pub given_parent-parent-requires-clause-words : goal.given_parent-parent-requires-clause-words
 given_parent-parent-requires-clause-words g c = c.self.invariant.tied.words
