@@ -15,16 +15,15 @@ use Rattle.clk_base.specs.declared.event.Turn.{Turn}
 use Rattle.clk_base.specs.declared.event.Turn.TheVariants as turn
 use Rattle.clk_base.specs.declared.handle.Handle.{Handle}
 use Rattle.clk_model.specs.declared.row.HandleRow.{HandleRow}
-use Rattle.clk_model.specs.Chain.{chain, linked}
-use Rattle.clk_model.specs.Lists.{to_front}
+use Rattle.clk_model.specs.Chain.{chain}
 use Rattle.clk_model.specs.Laws.CallCauses.{with_limits}
 use Rattle.clk_model.specs.State.{State, Change, ChainStep, registered, link_in, handle_at, requested}
 use Rattle.clk_model.specs.Tree.{rooted, path, children}
 use Rattle.clk_model.specs.Script.{unprepared_plls, runs, probe_script, sweep_script}
 use Rattle.reg_bank.specs.Registers.{Registers}
-use Rattle.clk_model.specs.Step.{taken, on, powered, visit, set_in_chain, to_raise, raise_one, poll, fall, to_lower, lower_one, passed_over, settle_all, ended_well, unranged, is_yes, stepped, hold_prepare, hold_enable, drop_prepare, drop_enable, register_in}
+use Rattle.clk_model.specs.Step.{taken, on, to_raise, raise_one, to_lower, lower_one, passed_over, ended_well, unranged, is_yes, stepped}
 use Rattle.clk_model.specs.Holders.{active}
-use Rattle.clk_model.specs.Gates.{settled, gates_moved}
+use Rattle.clk_model.specs.Gates.{settled}
 use Rattle.clk_model.specs.Begin.{refused, starts, change_of, weight_of, most_credits, put_handle, own_handle, given, register, keeps_prepare, prepare, unprepare, prepared_once_more, held_once_more, request_between, change_along, request, misses, range_set, reparenting, parent_set, holds_something, has_notifier, most_notifiers, begun}
 use Rattle.clk_model.specs.Machine.{paid, next}
 use Rattle.clk_model.proofs.StateLaws.{settled-still, active-append}
@@ -39,14 +38,13 @@ use Rattle.clk_model.proofs.FlightLaws.{begin_is, step_is}
 use Rattle.clk_model.proofs.TierLaws.{pick_either, with_handle_either}
 use Rattle.clk_machine.proofs.Soundness.{reached_next}
 use Rattle.clk_machine.proofs.Stepping.{polled_change}
-use Rattle.clk_machine.proofs.Relinked.{IsNarrow-linked, IsNarrow-written, IsNarrow-settle}
-use Rattle.clk_model.proofs.KeepLaws.{mux_written}
+use Rattle.clk_machine.proofs.Relinked.{IsNarrow-linked, IsNarrow-settle}
 use Rattle.clk_model.proofs.Members.{both_left, both_right}
 use Rattle.clk_model.specs.Walk.{below_within}
 use Rattle.clk_base.specs.Levels.{depth}
 use Rattle.clk_machine.proofs.Attaching.{IsNarrow-register}
 use Rattle.clk_machine.proofs.Closing.{closed_regs}
-use Rattle.clk_machine.proofs.Kept.{IsNarrow-spent, IsNarrow-counted, IsNarrow-notified, IsNarrow-settled, IsNarrow-gated, IsNarrow-change, IsNarrow-powered, IsNarrow-set, IsNarrow-handles, IsNarrow-put, IsNarrow-given, IsNarrow-requested, IsNarrow-held}
+use Rattle.clk_machine.proofs.Kept.{IsNarrow-settled, IsNarrow-requested}
 
 -- ---- paid events
 
@@ -66,7 +64,7 @@ paid_leaves s y t a b comes = by (nat_lt s.spent s.credits) comes where
 -- so an event that is known to come to a state that is sound once its gates are settled leaves it sound
 comes_to : (words : ℕ) (s y t : State) (d : ℕ) (e : Event) (a b : Turn) → IsNarrow words (settled s y) → next s d e ≡ paid s (y, a) → next s d e ≡ Some (t, b) → IsNarrow words t
 comes_to words s y t d e a b sound known comes =
-    subst (IsNarrow words) (sym (paid_leaves s y t a b (sym known ∙ comes))) (IsNarrow-spent words (settled s y) (s.spent + 1) sound)
+    subst (IsNarrow words) (sym (paid_leaves s y t a b (sym known ∙ comes))) sound
 
 -- no gate moves where each clock is active as it was
 stills : (words : ℕ) (s y : State) → ((c : ℕ) → active s c ≡ active y c) → IsNarrow words y → IsNarrow words (settled s y)
@@ -79,7 +77,7 @@ same_sound words s t d e a b sound known comes = comes_to words s s t d e a b (s
 -- a handle in the place of another of the same clock
 put_sound : (words : ℕ) (s t : State) (n d : ℕ) (e : Event) (a b : Turn) (o : Option HandleRow) → IsNarrow words s → next s d e ≡ paid s (put_handle s n o, a)
     → next s d e ≡ Some (t, b) → IsNarrow words t
-put_sound words s t n d e a b o sound known comes = comes_to words s (put_handle s n o) t d e a b (IsNarrow-put words s n o sound) known comes
+put_sound words s t n d e a b o sound known comes = comes_to words s (put_handle s n o) t d e a b (IsNarrow-settled words s (put_handle s n o) sound) known comes
 
 -- ---- the enable tier
 
@@ -125,14 +123,14 @@ starts_stays : (words : ℕ) (s new : State) (k : Change) → IsNarrow words s �
 starts_stays words s new k sound after =
     pick_either (Stays words s) (nat_lt most_credits (new.credits + new.steps + weight_of new k)) (λ t. refused s errno.ENOSPC) (λ t. (record new { change = Some k }, turn.Going))
     (λ full. refused_stays words s sound)
-    (λ room. IsNarrow-settled words s (record new { change = Some k }) (IsNarrow-change words new (Some k) after))
+    (λ room. IsNarrow-settled words s (record new { change = Some k }) after)
 
 prepare_stays : (words : ℕ) (s : State) (d : ℕ) (h : Handle) → IsNarrow words s → Stays words s (begun s d (call.Prepare h))
 unfolding begun
 prepare_stays words s d h sound =
     with_handle_either (Stays words s) s d h.number (prepare s d (call.Prepare h) h.number) (refused_stays words s sound)
     (λ row own. pick_either (Stays words s) (is_none (slice_get (unprepared_plls s (path s.clocks row.clock.0)) 0)) _ _
-    (λ none. IsNarrow-put words s h.number (Some (record row { prepares = row.prepares + 1 })) sound)
+    (λ none. IsNarrow-settled words s (put_handle s h.number (Some (record row { prepares = row.prepares + 1 }))) sound)
     (λ some. starts_stays words s s (change_of s d (call.Prepare h) (micro.Raise row.clock ∷ micro.End ∷ [])) sound sound))
 
 unprepare_stays : (words : ℕ) (s : State) (d : ℕ) (h : Handle) → IsNarrow words s → Stays words s (begun s d (call.Unprepare h))
@@ -144,9 +142,9 @@ unprepare_stays words s d h sound =
     (λ frees.
     let less : State = put_handle s h.number (Some (record row { prepares = row.prepares - 1 })) in
     pick_either (Stays words s) (is_none (slice_get (filter (runs s.defs s.regs) (unprepared_plls less (path s.clocks row.clock.0))) 0)) _ _
-    (λ none. IsNarrow-put words s h.number (Some (record row { prepares = row.prepares - 1 })) sound)
+    (λ none. IsNarrow-settled words s (put_handle s h.number (Some (record row { prepares = row.prepares - 1 }))) sound)
     (λ some. starts_stays words s less (change_of s d (call.Unprepare h) (micro.Lower row.clock ∷ micro.End ∷ [])) sound
-    (IsNarrow-handles words s less.handles sound))))
+    sound)))
 
 chosen_stays : (words : ℕ) (s new : State) (d : ℕ) (what : Sleeping) (range : Option (ℕ × ℕ)) (o : Option (List ChainStep)) → IsNarrow words s → IsNarrow words new
     → Stays words s (option_map_or (λ ks. starts s new (change_along new d what ks [] range)) o (refused s errno.EINVAL))
@@ -171,14 +169,14 @@ unfolding begun
 exclusive_stays words s d h x sound =
     with_handle_either (Stays words s) s d h.number (λ row. request s s (held_once_more s h.number row) s d (call.SetRateExclusive h x) row.clock.0 x None) (refused_stays words s sound)
     (λ row own. request_leaves words s s (held_once_more s h.number row) s d (call.SetRateExclusive h x) row.clock.0 x None sound sound
-    (IsNarrow-handles words s (held_once_more s h.number row).handles sound))
+    sound)
 
 range_stays : (words : ℕ) (s : State) (d : ℕ) (h : Handle) (least most : ℕ) → IsNarrow words s → Stays words s (begun s d (call.SetRange h least most))
 unfolding begun
 range_stays words s d h least most sound =
     with_handle_either (Stays words s) s d h.number (λ row. range_set s d (call.SetRange h least most) h.number row least most) (refused_stays words s sound)
     (λ row own. let new : State = with_limits s h.number row least most in
-    let after : IsNarrow words new = IsNarrow-handles words s new.handles sound in
+    let after : IsNarrow words new = sound in
     pick_either (Stays words s) (misses s h.number row least most) _ _ (λ missed. refused_stays words s sound)
     (λ fits. request_leaves words s new new (lift new h.number) d (call.SetRange h least most) row.clock.0 (request_between s.clocks row.clock.0 least most) (Some (row.min, row.max)) sound after after))
 
@@ -207,7 +205,7 @@ probe_stays words s d c sound within =
 
 leaves_sound : (words : ℕ) (s t : State) (d : ℕ) (what : Sleeping) (x : Turn) → IsNarrow words s → Stays words s (begun s d what) → next s d (event.Begin what) ≡ Some (t, x) → IsNarrow words t
 leaves_sound words s t d what x sound stays comes =
-    subst (IsNarrow words) (begin_is s t d what x comes).1 (IsNarrow-spent words (settled s (begun s d what).0) (s.spent + 1) stays)
+    subst (IsNarrow words) (begin_is s t d what x comes).1 stays
 
 -- ---- calls
 
@@ -218,7 +216,7 @@ begin_sound words s t d (call.Get (Some c)) x whole quiet sound can comes = by (
   by : (b : Bool) → rooted s.defs s.clocks c.0 ≡ b → IsNarrow words t
   by true fast =
       comes_to words s (given s d c.0).0 t d (event.Begin (call.Get (Some c))) _ x
-      (stills words s (given s d c.0).0 (λ k. active-append s _ k refl) (IsNarrow-given words s d c.0 sound))
+      (stills words s (given s d c.0).0 (λ k. active-append s _ k refl) sound)
       (get-given s d c quiet fast) comes
   by false loose = same_sound words s t d (event.Begin (call.Get (Some c))) _ x sound (get-deferred s d c quiet loose) comes
 begin_sound words s t d (call.Put h) x whole quiet sound can comes = by (own_handle s d h.number) refl where
@@ -262,7 +260,7 @@ begin_sound words s t d (call.NotifierAdd h id priority policy) x whole quiet so
       (notifier_add-full s d h id priority policy row quiet own new (grind (arith, nat_tests))) comes
   fits row false own new room =
       comes_to words s (notified row.clock.0 id priority policy s) t d (event.Begin (call.NotifierAdd h id priority policy)) _ x
-      (stills words s (notified row.clock.0 id priority policy s) (λ c. refl) (IsNarrow-notified words s _ sound))
+      (stills words s (notified row.clock.0 id priority policy s) (λ c. refl) sound)
       (notifier_add-fine s d h id priority policy row quiet own new (grind (arith, nat_tests))) comes
 
   known : (row : HandleRow) (b : Bool) → own_handle s d h.number ≡ Some row → has_notifier s row.clock.0 id ≡ b → IsNarrow words t
@@ -277,7 +275,7 @@ begin_sound words s t d (call.NotifierRemove h id) x whole quiet sound can comes
   known : (row : HandleRow) (b : Bool) → own_handle s d h.number ≡ Some row → has_notifier s row.clock.0 id ≡ b → IsNarrow words t
   known row true own has =
       comes_to words s (unnotified row.clock.0 id s) t d (event.Begin (call.NotifierRemove h id)) _ x
-      (stills words s (unnotified row.clock.0 id s) (λ c. refl) (IsNarrow-notified words s _ sound)) (notifier_remove-fine s d h id row quiet own has) comes
+      (stills words s (unnotified row.clock.0 id s) (λ c. refl) sound) (notifier_remove-fine s d h id row quiet own has) comes
   known row false own lacks =
       same_sound words s t d (event.Begin (call.NotifierRemove h id)) _ x sound (notifier_remove-lacking s d h id row quiet own lacks) comes
 
@@ -311,64 +309,59 @@ row_or words (Some row) f y some none = some row
 
 well_sound : (words : ℕ) (s : State) (d : ℕ) (what : Sleeping) → IsNarrow words s → IsNarrow words (ended_well s d what)
 well_sound words s d (call.Prepare h) sound =
-    row_or words (handle_at s.handles h.number) (prepared_once_more s h.number) s (λ row. IsNarrow-handles words s (prepared_once_more s h.number row).handles sound) sound
+    row_or words (handle_at s.handles h.number) (prepared_once_more s h.number) s (λ row. sound) sound
 well_sound words s d (call.SetRate h x) sound =
     row_or words (handle_at s.handles h.number) (λ row. record s { clocks = requested s.clocks row.clock.0 x }) s (λ row. IsNarrow-requested words s row.clock.0 x sound) sound
 well_sound words s d (call.SetRateExclusive h x) sound =
     row_or words (handle_at s.handles h.number) (λ row. record (held_once_more s h.number row) { clocks = requested s.clocks row.clock.0 x }) s
-    (λ row. IsNarrow-requested words (held_once_more s h.number row) row.clock.0 x (IsNarrow-handles words s (held_once_more s h.number row).handles sound)) sound
+    (λ row. IsNarrow-requested words (held_once_more s h.number row) row.clock.0 x sound) sound
 well_sound words s d (call.SetRange h least most) sound =
     row_or words (handle_at s.handles h.number) (λ row. record s { clocks = requested s.clocks row.clock.0 (request_between s.clocks row.clock.0 least most) }) s
     (λ row. IsNarrow-requested words s row.clock.0 (request_between s.clocks row.clock.0 least most) sound) sound
 well_sound words s d _ sound = sound
 
 ended_sound : (words : ℕ) (s : State) (k : Change) (b : Bool) → IsNarrow words s → IsNarrow words (if b then unranged s k else ended_well s k.driver k.call)
-ended_sound words s k true sound = IsNarrow-handles words s (unranged s k).handles sound
+ended_sound words s k true sound = sound
 ended_sound words s k false sound = well_sound words s k.driver k.call sound
 
 stepped_sound : (words : ℕ) (s : State) (k : Change) (answer : Option Bool) (m : Micro) → IsNarrow words s → links_well s.defs s.clocks m ≡ true → IsNarrow words (stepped s k answer m).0
 unfolding stepped
-stepped_sound words s k answer (micro.Notify kind c id old new) sound leaves = IsNarrow-change words s (Some k) sound
+stepped_sound words s k answer (micro.Notify kind c id old new) sound leaves = sound
 stepped_sound words s k answer (micro.Raise x) sound leaves =
     found_or words (slice_get (reverse (to_raise s k x.0)) 0) (raise_one s k x.0) (on s (record k { again = 0 }))
-    (λ y. IsNarrow-change words (powered s y true) (raise_one s k x.0 y).change (IsNarrow-powered words s y true sound))
-    (IsNarrow-change words s (Some (record k { again = 0 })) sound)
+    (λ y. sound) sound
 stepped_sound words s k answer (micro.Poll y) sound leaves =
-    subst (IsNarrow words) (sym (polled_change s k y.0 (is_yes answer))) (IsNarrow-change words s (poll s k y.0 (is_yes answer)).change sound)
-stepped_sound words s k answer (micro.Fall y) sound leaves = IsNarrow-change words (powered s y.0 false) (fall s k y.0).change (IsNarrow-powered words s y.0 false sound)
+    subst (IsNarrow words) (sym (polled_change s k y.0 (is_yes answer))) sound
+stepped_sound words s k answer (micro.Fall y) sound leaves = sound
 stepped_sound words s k answer (micro.Lower x) sound leaves =
     found_or words (slice_get (to_lower s x.0) 0) (lower_one s k x.0) (on s (record k { again = 0 }))
-    (λ y. IsNarrow-change words (powered s y false) (lower_one s k x.0 y).change (IsNarrow-powered words s y false sound))
-    (IsNarrow-change words s (Some (record k { again = 0 })) sound)
-stepped_sound words s k answer (micro.Visit c) sound leaves = IsNarrow-change words (record s { regs = set_in_chain s k c.0 }) (visit s k c.0).change (IsNarrow-set words s k c.0 sound)
+    (λ y. sound) sound
+stepped_sound words s k answer (micro.Visit c) sound leaves = sound
 stepped_sound words s k answer (micro.Relink c p) sound leaves =
-    IsNarrow-change words (record s { clocks = linked s.clocks c.0 p.0; order = to_front c.0 s.order; prepare_holds = passed_over p.0 (link_in s.clocks c.0) s.prepare_holds; enable_holds = passed_over p.0 (link_in s.clocks c.0) s.enable_holds }) (Some k)
-    (IsNarrow-linked words s c.0 p.0 (passed_over p.0 (link_in s.clocks c.0) s.prepare_holds) (passed_over p.0 (link_in s.clocks c.0) s.enable_holds) sound (both_left _ _ leaves) (both_right _ _ leaves))
-stepped_sound words s k answer (micro.HoldPrepare x) sound leaves = IsNarrow-held words s (hold_prepare s k x.0).prepare_holds s.enable_holds (hold_prepare s k x.0).change sound
-stepped_sound words s k answer (micro.HoldEnable x) sound leaves = IsNarrow-held words s s.prepare_holds (hold_enable s k x.0).enable_holds (Some k) sound
-stepped_sound words s k answer (micro.DropEnable x) sound leaves = IsNarrow-held words s s.prepare_holds (drop_enable s k x.0).enable_holds (Some k) sound
-stepped_sound words s k answer (micro.DropPrepare x) sound leaves = IsNarrow-held words s (drop_prepare s k x.0).prepare_holds s.enable_holds (Some k) sound
-stepped_sound words s k answer (micro.WriteMux c place) sound leaves =
-    IsNarrow-change words (record s { regs = mux_written s c.0 place }) (Some k) (IsNarrow-written words s c.0 place sound)
+    IsNarrow-linked words s c.0 p.0 (passed_over p.0 (link_in s.clocks c.0) s.prepare_holds) (passed_over p.0 (link_in s.clocks c.0) s.enable_holds) sound (both_left _ _ leaves) (both_right _ _ leaves)
+stepped_sound words s k answer (micro.HoldPrepare x) sound leaves = sound
+stepped_sound words s k answer (micro.HoldEnable x) sound leaves = sound
+stepped_sound words s k answer (micro.DropEnable x) sound leaves = sound
+stepped_sound words s k answer (micro.DropPrepare x) sound leaves = sound
+stepped_sound words s k answer (micro.WriteMux c place) sound leaves = sound
 stepped_sound words s k answer (micro.Register c) sound leaves =
     let within : nat_lt c.0 (length s.defs) ≡ true = both_left (nat_lt c.0 (length s.defs)) _ leaves in
-    IsNarrow-change words (register s c.0) (register_in s k c.0).change (IsNarrow-register words s c.0 sound (grind (arith, nat_tests)))
+    IsNarrow-register words s c.0 sound (grind (arith, nat_tests))
 stepped_sound words s k answer (micro.Settle c) sound leaves =
-    IsNarrow-change words (record s { clocks = settle_all s (below_within (children s.order s.clocks) depth c.0) }) (Some k)
-    (IsNarrow-settle words s (below_within (children s.order s.clocks) depth c.0) sound)
+    IsNarrow-settle words s (below_within (children s.order s.clocks) depth c.0) sound
 stepped_sound words s k answer (micro.Close c) sound leaves =
     subst (λ (regs : Registers). IsNarrow words (record s { regs = regs; change = Some k })) (closed_regs s c.0 (active s c.0) refl)
-    (IsNarrow-change words (record s { regs = gates_moved s.defs (λ _. true) (λ _. active s c.0) (c.0 ∷ []) s.regs }) (Some k) (IsNarrow-gated words s (λ _. true) (λ _. active s c.0) (c.0 ∷ []) sound))
-stepped_sound words s k answer (micro.Unpower c) sound leaves = IsNarrow-change words (powered s c.0 false) (Some k) (IsNarrow-powered words s c.0 false sound)
+    sound
+stepped_sound words s k answer (micro.Unpower c) sound leaves = sound
 stepped_sound words s k answer micro.End sound leaves =
-    IsNarrow-change words (if k.vetoed || k.timed_out then unranged s k else ended_well s k.driver k.call) None (ended_sound words s k (k.vetoed || k.timed_out) sound)
+    ended_sound words s k (k.vetoed || k.timed_out) sound
 
 step_sound : (words : ℕ) (s t : State) (d : ℕ) (m : Micro) (answer : Option Bool) (x : Turn) → IsNarrow words s → links_well s.defs s.clocks m ≡ true → next s d (event.Step m answer) ≡ Some (t, x) → IsNarrow words t
 step_sound words s t d m answer x sound leaves comes =
     let is = step_is s t d m answer x comes in
     let y : State = (stepped s (taken is.0) answer m).0 in
     subst (IsNarrow words) is.1.state
-    (IsNarrow-counted words (settled s y) (s.steps + 1) (IsNarrow-settled words s y (stepped_sound words s (taken is.0) answer m sound leaves)))
+    (IsNarrow-settled words s y (stepped_sound words s (taken is.0) answer m sound leaves))
 
 -- ---- each event
 

@@ -16,7 +16,6 @@ use Rattle.clk_model.specs.State.{State, row_of, registered, link_in}
 use Rattle.clk_model.specs.Step.{settle_all}
 use Rattle.clk_model.proofs.ApartLaws.{ranges_hold}
 use Rattle.clk_model.proofs.HoldSteps.{settled_links}
-use Rattle.clk_model.proofs.KeepLaws.{mux_written}
 use Rattle.clk_model.proofs.Members.{both_right, is_in_cases}
 use Rattle.clk_model.proofs.OnceLaws.{is_in-filter}
 use Rattle.clk_model.proofs.SceneStepLaws.{registered_set, parent_lt}
@@ -77,15 +76,6 @@ place_fits words defs c place valid few f at = by (kind_of defs c) at (ranges_ho
   by (Gate word bit set_to_disable) e ranges = absurd cc
   by (Divider word shift width one_based power_of_two) e ranges = absurd cc
   by (Pll word shift width power_word power_bit least most m) e ranges = absurd cc
-
-pub IsNarrow-written : (words : ℕ) (s : State) (c place : ℕ) → IsNarrow words s → IsNarrow words (record s { regs = mux_written s c place })
-IsNarrow-written words s c place sound = record {
-  valid = sound.valid;
-  rows = sound.rows;
-  attached = sound.attached;
-  unlinked = sound.unlinked;
-  possible = sound.possible;
-}
 
 -- ---- last requests
 

@@ -28,16 +28,20 @@ pub record IsReached (words : ℕ) (s : State) : Type 0 where
   pub few : credits ≤ most_credits
   pub leads : s ≡ replay (opening defs regs ignore_unused credits) journal
 
--- what is kept where calls name clocks of the description alone
-pub record IsNarrow (words : ℕ) (s : State) : Type 0 where
+-- what is kept of the rows and the order where calls name clocks of the description alone
+pub record KeepsRows (words : ℕ) (defs : Description) (clocks : List ClockRow) (order : List ℕ) : Type 0 where
   -- the description is valid for so many words
-  pub valid : IsValid words s.defs
+  pub valid : IsValid words defs
   -- each clock has a row, and those in the order are registered
-  pub rows : length s.clocks ≡ length s.defs
-  pub attached : (c : ℕ) → is_in c s.order ≡ true → registered s.clocks c ≡ true
+  pub rows : length clocks ≡ length defs
+  pub attached : (c : ℕ) → is_in c order ≡ true → registered clocks c ≡ true
   -- a clock that isn't registered has no link, and one that is linked is so to a possible parent
-  pub unlinked : (c : ℕ) → registered s.clocks c ≡ false → link_in s.clocks c ≡ None
-  pub possible : (c p : ℕ) → link_in s.clocks c ≡ Some p → is_in p (parents_of s.defs c) ≡ true
+  pub unlinked : (c : ℕ) → registered clocks c ≡ false → link_in clocks c ≡ None
+  pub possible : (c p : ℕ) → link_in clocks c ≡ Some p → is_in p (parents_of defs c) ≡ true
+
+-- of a state
+abbrev pub IsNarrow : ℕ → State → Type 0
+IsNarrow words s = KeepsRows words s.defs s.clocks s.order
 
 -- what every state of a core keeps: all that holds behind a journal, and what is kept besides
 pub record IsSound (words : ℕ) (s : State) : Type 0 where
