@@ -17,4 +17,6 @@ mod descriptions;
 #[cfg(test)]
 mod kinds;
 #[cfg(test)]
+mod room;
+#[cfg(test)]
 mod texts;

@@ -96,6 +96,7 @@ fn begin(rt: &impl Abort, core: &mut Core<MemBank>, what: &Sleeping) -> Result<T
 }
 
 /// A call behind others that are answered at once, and the most credits with which it goes on.
+#[derive(Drop)]
 struct Row<'a> {
     before: &'a [Sleeping],
     what: Sleeping,
