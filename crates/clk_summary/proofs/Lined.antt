@@ -8,7 +8,7 @@ use Rattle.clk_io.specs.Gathers.{Gathers, PassesOn}
 use Rattle.clk_io.specs.Streams.{AppendsFront}
 use Rattle.clk_io.proofs.Gathering.{PassesOn-after, front_after}
 use Rattle.clk_machine.specs.declared.row.Row.{Row}
-use Rattle.clk_machine.specs.Run.{Run, now_of, was_probed}
+use Rattle.clk_machine.specs.Run.{Run, now_of, was_registered}
 use Rattle.clk_model.specs.Summary.{header, summary}
 use Rattle.clk_model.specs.Text.{Word}
 use Rattle.clk_summary.specs.Rows.{columns_of}
@@ -20,12 +20,12 @@ pub no_lines : (defs : Description) (journal : List Entry) → HasLines defs jou
 no_lines defs journal = ([], refl)
 
 -- the line of a row that was found
-pub line_of_row : (defs : Description) (journal : List Entry) (level c : ℕ) (name : Word) (found : Option Row) (row : Row) → found ≡ Some row → is_some found ≡ was_probed journal c
+pub line_of_row : (defs : Description) (journal : List Entry) (level c : ℕ) (name : Word) (found : Option Row) (row : Row) → found ≡ Some row → is_some found ≡ was_registered journal c
     → name ≡ name_of defs c → HasLines defs journal (columns_of level name row)
-line_of_row defs journal level c name found row is probed named = (
+line_of_row defs journal level c name found row is there named = (
   columns_of level name row ∷ [],
   (
-    record { clock = c; level = level; row = row; probed = sym probed ∙ ap is_some is; text_is = ap (λ (n : Word). columns_of level n row) named },
+    record { clock = c; level = level; row = row; registered_ = sym there ∙ ap is_some is; text_is = ap (λ (n : Word). columns_of level n row) named },
     ([], refl, sym (append-nil (columns_of level name row))),
   ),
 )

@@ -1,19 +1,19 @@
--- What a table says where the bank doesn't tell its words: lines of clocks that were probed.
+-- What a table says where the bank doesn't tell its words: lines of clocks that were registered.
 use Rattle.std.specs.Prelude.{◌≡◌, ℕ, ◌++◌, List, [], ◌∷◌, true, false, Option, Result}
 use Rattle.clk_base.specs.Description.{Description, name_of}
 use Rattle.clk_base.specs.declared.event.Entry.{Entry}
 use Rattle.clk_io.specs.Gathers.{Gathers}
 use Rattle.clk_machine.specs.declared.row.Row.{Row}
-use Rattle.clk_machine.specs.Run.{Run, now_of, was_probed}
+use Rattle.clk_machine.specs.Run.{Run, now_of, was_registered}
 use Rattle.clk_model.specs.Summary.{header, summary}
 use Rattle.clk_summary.specs.Rows.{columns_of}
 
--- the line of a row under the name of a clock that was probed, on some level of the tree
+-- the line of a row under the name of a clock that was registered, on some level of the tree
 pub record IsLine (defs : Description) (journal : List Entry) (text : List ℕ) : Type 0 where
   pub clock : ℕ
   pub level : ℕ
   pub row : Row
-  pub probed : was_probed journal clock ≡ true
+  pub registered_ : was_registered journal clock ≡ true
   pub text_is : text ≡ columns_of level (name_of defs clock) row
 
 -- a text of such lines, one behind another
@@ -37,7 +37,7 @@ pub record IsTable (defs : Description) (journal : List Entry) (text : List ℕ)
   pub of_rows : HasLines defs journal lines
   pub text_is : text ≡ header ++ lines
 
--- what is printed of a core: where its bank tells its words the summary of its state, else a table of the clocks that were probed
+-- what is printed of a core: where its bank tells its words the summary of its state, else a table of the clocks that were registered
 pub record IsSummary (run : Run) (text : List ℕ) : Type 0 where
   pub told : run.told ≡ true → text ≡ summary (now_of run)
   pub untold : run.told ≡ false → IsTable run.start.defs run.journal text

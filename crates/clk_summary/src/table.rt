@@ -29,7 +29,7 @@ const HEADER: &str =
 /// registered has no line. No memory is taken but for the line at hand.
 ///
 /// Of a core whose bank doesn't tell its words the clause says that the lines behind the header are
-/// those of clocks that were probed, and not what their rows tell.
+/// those of clocks that were registered, and not what their rows tell.
 pub fn print_summary<B: Bank, K: Sink>(
     alloc: Global,
     core: &Core<B>,
@@ -37,7 +37,7 @@ pub fn print_summary<B: Bank, K: Sink>(
     out: &mut K,
 ) -> Result<(), PrintFault>
     // Where the bank tells its words the summary of the core's state was gathered or written, else a
-    // table of clocks that were probed; after a fault a front of it was written.
+    // table of clocks that were registered; after a fault a front of it was written.
     ensures gathers { (text : List ℕ) × IsSummary core.now text × Gathers (K.written out.old) (K.written out.new) gathered.old gathered.new text result }
     ensures tells { is_some (K.written out.new) ≡ is_some (K.written out.old) }
     ensures later { K.faults out.old ≤ K.faults out.new }
