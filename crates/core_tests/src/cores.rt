@@ -9,7 +9,7 @@ mod noting;
 use crate::clocks::clock;
 use clk_base::{AddFault, ClockId, Desc, Handle, Kind, Parents, Reply, Sleeping, Turn, ValidDesc};
 use clk_io::NoMemory;
-use clk_machine::{Core, Row, first_unfit};
+use clk_machine::{Core, Row};
 use noting::Noting;
 use reg_bank::Bank;
 use std::alloc::Global;
@@ -98,7 +98,7 @@ fn take(rt: &impl Abort, core: &mut Core<Noting>, step: &Step) -> Result<(), NoM
     assert!(rt; core.credits_left() > 0);
     match step {
         Step::Begin(what, reply) => {
-            assert!(rt; core.quiet() && is_placed(core, what) && core.built(what));
+            assert!(rt; core.quiet() && is_placed(core, what));
             let turn = core.begin(1, what)?;
             assert!(rt; turn == Turn::Done(*reply));
         }
@@ -131,7 +131,6 @@ fn row(enable: u32, prepare: u32, on: Option<bool>) -> Option<Row> {
 #[test]
 fn a_gate_is_used_and_left(rt: HostRuntime) -> Result<(), Fail> {
     let desc = three_gates(&rt, rt.alloc())?;
-    assert!(rt; first_unfit(&desc) == None);
     let mut core = Core::create(rt.alloc(), desc, Noting::new(), &[0], false, 100)?;
     let steps = [
         Step::Row(LAST, None),
