@@ -1,5 +1,5 @@
 -- Runs of a bundle: which journals they have, and what they print.
-use Rattle.std.specs.Prelude.{◌≡◌, ◌≤◌, ◌⊎◌, IfSome, is_some, take, drop, ℕ, ◌+◌, List, [], Bool, true, false, Option, length}
+use Rattle.std.specs.Prelude.{◌≡◌, ◌⊎◌, IfSome, is_some, take, drop, ℕ, ◌+◌, List, [], Bool, true, false, Option, length}
 use Rattle.std.specs.Option.{option_map}
 use Rattle.clk_base.specs.declared.command.Answer.{Answer}
 use Rattle.clk_base.specs.declared.command.Command.{Command}

@@ -1,5 +1,5 @@
 -- Which calls commands make, and that these name clocks of the description.
-use Rattle.std.proofs.Common.{◌≡◌, ℕ, ◌||◌, Bool, true, false, List, [], ◌∷◌, Option, Some, None, length, refl, sym, ap, subst, ◌∙◌}
+use Rattle.std.proofs.Common.{◌≡◌, Option, Some, None, length, subst}
 use Rattle.atomic_table.specs.Seated.{TableId}
 use Rattle.clk_base.specs.Description.{Description}
 use Rattle.clk_base.specs.declared.call.Sleeping.{Sleeping}

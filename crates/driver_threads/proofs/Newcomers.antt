@@ -1,5 +1,5 @@
 -- Driver 0 makes a driver for each script, one after the other.
-use Rattle.std.proofs.Common.{◌≡◌, ℕ, suc, ◌+◌, ◌-◌, ◌<◌, ◌≤◌, true, List, [], ◌∷◌, ◌++◌, sym, ap, subst, ◌∙◌, arith, length, map, take, drop, get_or, add-zero, sum_by}
+use Rattle.std.proofs.Common.{◌≡◌, ℕ, suc, ◌+◌, ◌-◌, ◌<◌, ◌≤◌, List, [], ◌∷◌, ◌++◌, sym, ap, subst, ◌∙◌, arith, length, map, take, drop, get_or, add-zero, sum_by}
 use Rattle.std.proofs.lemmas.List.{map-append, take_more, length-map, length-take}
 use Rattle.std.proofs.lemmas.List.Sums.{sum_by-drop_more}
 use Rattle.atomic_table.specs.Seated.{TableId}

@@ -1,4 +1,4 @@
-use Rattle.std.proofs.Common.{◌≡◌, ℕ, ◌<◌, sum_by, ap, subst, sym, ◌∙◌, arith, length, List}
+use Rattle.std.proofs.Common.{◌≡◌, ℕ, ◌<◌, sum_by, ap, subst, sym, arith, length, List}
 use Rattle.std.specs.List.{AllByRecursion}
 use Rattle.clk_base.specs.Description.{Description}
 use Rattle.clk_base.specs.declared.command.Answer.{Answer}

@@ -1,6 +1,5 @@
-use Rattle.std.proofs.Common.{rules, ◌≡◌, ◌<◌, None, replicate, List, [], length, sym, ap, subst, ◌∙◌, arith}
+use Rattle.std.proofs.Common.{rules, ◌≡◌, None, replicate, List, [], sym, ap, subst}
 use Rattle.clk_base.specs.declared.command.Answer.{Answer}
-use Rattle.clk_base.specs.declared.command.Command.{Command}
 use Rattle.clk_model.specs.Follows.{Variables, variable_count, no_handles}
 use Rattle.clk_model.specs.State.{State}
 use Rattle.driver_runs.specs.Scripts.{GoesThrough}

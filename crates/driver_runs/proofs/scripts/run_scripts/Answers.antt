@@ -1,9 +1,8 @@
-use Rattle.std.proofs.Common.{◌≡◌, ℕ, [], ◌∷◌, List, length, map, sym, ap, subst, ◌∙◌, arith}
+use Rattle.std.proofs.Common.{[], ◌∷◌, List, map, sym, ap, subst, ◌∙◌, arith}
 use Rattle.std.proofs.lemmas.List.{with_items_is}
 use Rattle.std.proofs.lemmas.Result.{IfOk-weaker}
 use Rattle.std.specs.Vec.{with_items}
 use Rattle.clk_base.specs.declared.command.Answer.{Answer}
-use Rattle.clk_base.specs.declared.command.Command.{Command}
 use Rattle.clk_machine.specs.Run.{in_flight}
 use Rattle.clk_model.specs.Follows.{no_handles}
 use Rattle.clk_model.specs.Journal.{cost}
