@@ -79,6 +79,4 @@ pub enum Reason {
     TooManyCommands,
     /// One turn too many.
     TooManyTurns,
-    /// What isn't built yet.
-    NotYet,
 }

@@ -1,4 +1,3 @@
 pub mod Opening
 pub mod Tiers
 pub mod Calls
-pub mod Causes

@@ -1,17 +1,16 @@
 //! Sleeping calls: under the prepare lock, one turn of the lock for the beginning and for each step.
 
-ghost use Rattle.std.specs.Prelude.{◌≡◌, ◌<◌, true, false, IfOk, IfErr, OnErr, IfSome};
+ghost use Rattle.std.specs.Prelude.{◌≡◌, ◌<◌, true, false, IfOk, IsOk, OnErr, IfSome};
 ghost use Rattle.clk_base.specs.declared.event.Turn.TheVariants.{Done};
 ghost use Rattle.clk_machine.specs.Run.{in_flight, driver_in_flight};
-ghost use Rattle.clk_machine.specs.Sound.{IsPlaced};
+ghost use Rattle.clk_machine.specs.Sound.{IsPlaced, takes_memory};
 ghost use Rattle.clk_model.specs.Journal.{is_going};
 ghost use Rattle.clk_framework.specs.Calls.{IsReady, Makes, Steps, MakesNone, Calls};
-ghost use Rattle.clk_framework.specs.Causes.{IsWhy};
 
 use crate::desk::Desk;
 use crate::framework::{Driver, Framework, LockOf};
-use crate::uncalled::Uncalled;
 use clk_base::{Pause, Place, Reply, Sleeping, Turn};
+use clk_io::NoMemory;
 use reg_bank::Bank;
 use std::sync::Wait;
 use tier_lock::Named;
@@ -22,7 +21,7 @@ fn begin<B: Bank, R: Wait>(
     lock: &LockOf<B>,
     driver: &mut Driver<B>,
     what: &Sleeping,
-) -> Result<Turn, Uncalled>
+) -> Result<Turn, NoMemory>
     requires lock { driver.old.table ≡ lock.now.table }
     requires idle { driver.old.turn ≡ false }
     requires baton { driver.old.baton ≡ true }
@@ -33,7 +32,7 @@ fn begin<B: Bank, R: Wait>(
     ensures going { IfOk result (λ turn. in_flight driver.new.seen ≡ is_going turn) }
     ensures caller { IfOk result (λ turn. driver_in_flight driver.new.seen ≡ driver.new.number) }
     ensures err { OnErr result (MakesNone driver.old driver.new) }
-    ensures why { IfErr result (IsWhy driver.new what.now) }
+    ensures memory { takes_memory what.now ≡ false → IsOk result }
     ensures quiet { OnErr result (in_flight driver.new.seen ≡ false) }
 {
     let number = driver.number();
@@ -43,9 +42,9 @@ fn begin<B: Bank, R: Wait>(
             lock.give_entry(driver, guard);
             Ok(turn)
         }
-        Err(uncalled) => {
+        Err(fault) => {
             lock.give_back(driver, guard);
-            Err(uncalled)
+            Err(fault)
         }
     }
 }
@@ -72,7 +71,7 @@ fn make<B: Bank, R: Wait + Sync, Q: Pause>(
     driver: &mut Driver<B>,
     what: &Sleeping,
     pause: &Q,
-) -> Result<Reply, Uncalled>
+) -> Result<Reply, NoMemory>
     requires lock { driver.old.table ≡ lock.now.table }
     requires idle { driver.old.turn ≡ false }
     requires baton { driver.old.baton ≡ true }
@@ -81,7 +80,7 @@ fn make<B: Bank, R: Wait + Sync, Q: Pause>(
     requires place { IfSome driver.old.fixed (λ opened. IsPlaced opened.defs what.now) }
     ensures ok { IfOk result (λ reply. Makes driver.old what.now (Done reply) driver.new) }
     ensures err { OnErr result (MakesNone driver.old driver.new) }
-    ensures why { IfErr result (IsWhy driver.new what.now) }
+    ensures memory { takes_memory what.now ≡ false → IsOk result }
     ensures quiet { in_flight driver.new.seen ≡ false }
 {
     let mut turn = begin(rt, lock, driver, what)?;
@@ -106,14 +105,14 @@ impl<B: Bank, N: Named> Desk<B, N> {
         driver: &mut Driver<B>,
         what: &Sleeping,
         pause: &Q,
-    ) -> Result<Reply, Uncalled>
+    ) -> Result<Reply, NoMemory>
         requires named { lock.now.table ≡ N.table }
         requires ready { IsReady N.table driver.old }
         requires credit { 0 < driver.old.room }
         requires place { IfSome driver.old.fixed (λ opened. IsPlaced opened.defs what.now) }
         ensures ok { IfOk result (λ reply. Calls driver.old what.now reply driver.new) }
         ensures err { OnErr result (MakesNone driver.old driver.new) }
-        ensures why { IfErr result (IsWhy driver.new what.now) }
+        ensures memory { takes_memory what.now ≡ false → IsOk result }
     {
         let Some(baton) = self.baton.take() else {
             unreachable!()
@@ -136,7 +135,7 @@ impl<B: Bank, N: Named> Framework<B, N> {
         driver: &mut Driver<B>,
         what: &Sleeping,
         pause: &Q,
-    ) -> Result<Reply, Uncalled>
+    ) -> Result<Reply, NoMemory>
         // It is a driver of this framework, between two calls.
         requires ready { IsReady N.table driver.old }
         // It has a credit.
@@ -147,8 +146,8 @@ impl<B: Bank, N: Named> Framework<B, N> {
         ensures ok { IfOk result (λ reply. Calls driver.old what.now reply driver.new) }
         // Or the driver has made no entry, and has only seen what others did.
         ensures err { OnErr result (MakesNone driver.old driver.new) }
-        // That is so only where the core can't make the call so far, over what the driver has then seen, or where memory ran out at a call that takes memory.
-        ensures why { IfErr result (IsWhy driver.new what.now) }
+        // That can be only where the call takes memory.
+        ensures memory { takes_memory what.now ≡ false → IsOk result }
     {
         let mut desk = self.desk.lock(rt);
         desk.call(rt, &self.lock, driver, what, pause)

@@ -2,7 +2,6 @@
 
 ghost use Rattle.std.specs.Prelude.{◌≡◌, ◌≤◌, [], false, length, IfOk, Some};
 ghost use Rattle.clk_model.specs.Begin.{most_credits};
-ghost use Rattle.clk_machine.specs.Fit.{CanRun};
 ghost use Rattle.clk_machine.specs.Run.{in_flight};
 ghost use Rattle.tier_lock.specs.Known.{first_known};
 ghost use Rattle.clk_framework.specs.Opening.{opened_with};
@@ -47,8 +46,6 @@ impl<B: Bank> Unnamed<B> {
         ignore_unused: bool,
         credits: u32,
     ) -> Result<(Unnamed<B>, Driver<B>), NoMemory>
-        // The core can run each clock.
-        requires runs { CanRun desc.defs }
         // There are as many words as the description was checked for.
         requires words { length words.now ≡ desc.words }
         // The bank has at least as many.

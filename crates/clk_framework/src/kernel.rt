@@ -1,18 +1,15 @@
 //! What the lock keeps: the core, as a log of entries.
 
-ghost use Rattle.std.specs.Prelude.{◌≡◌, ◌<◌, ◌≤◌, true, false, length, IfOk, IfErr, OnErr};
+ghost use Rattle.std.specs.Prelude.{◌≡◌, ◌<◌, ◌≤◌, true, false, length, IfOk, IsOk, OnErr};
 ghost use Rattle.clk_base.specs.declared.event.Event.TheVariants.{Enable, Disable, Running, Begin};
 ghost use Rattle.clk_base.specs.declared.event.Turn.TheVariants.{Done};
 ghost use Rattle.clk_model.specs.Begin.{most_credits};
 ghost use Rattle.clk_model.specs.Journal.{cost};
-ghost use Rattle.clk_machine.specs.Fit.{CanRun};
-ghost use Rattle.clk_machine.specs.Sound.{IsPlaced};
+ghost use Rattle.clk_machine.specs.Sound.{IsPlaced, takes_memory};
 ghost use Rattle.clk_machine.specs.Run.{Appends, StepsOn, in_flight};
 ghost use Rattle.clk_framework.specs.Opening.{opened_with, opened_of, start_of, AnswersPolls, Begins};
-ghost use Rattle.clk_framework.specs.Causes.{IsCause};
 
 use crate::opened::Opened;
-use crate::uncalled::Uncalled;
 use clk_base::{Entry, Event, Handle, Reply, Sleeping, Turn, ValidDesc};
 use clk_io::NoMemory;
 use clk_machine::Core;
@@ -91,7 +88,6 @@ impl<B: Bank> Kernel<B> {
         ignore_unused: bool,
         credits: u32,
     ) -> Result<Kernel<B>, NoMemory>
-        requires runs { CanRun desc.defs }
         requires words { length words.now ≡ desc.words }
         requires bank { length words.now ≤ B.size bank }
         requires credits { credits ≤ most_credits }
@@ -125,21 +121,17 @@ impl<B: Bank> Kernel<B> {
         self.core.running(driver, handle)
     }
 
-    // A call begins, unless the core can't make it so far.
-    pub(crate) fn begin(&mut self, driver: u32, what: &Sleeping) -> Result<Turn, Uncalled>
+    // A call begins, unless memory runs out.
+    pub(crate) fn begin(&mut self, driver: u32, what: &Sleeping) -> Result<Turn, NoMemory>
         requires credit { cost self.old.journal < self.old.start.credits }
         requires quiet { in_flight self.old.journal ≡ false }
         requires place { IsPlaced self.old.start.defs what.now }
         ensures ok { IfOk result (λ turn. Appends self.old driver (Begin what.now) turn self.new) }
         ensures err { OnErr result (self.new ≡ self.old) }
-        ensures cause { IfErr result (IsCause self.old what.now) }
+        ensures memory { takes_memory what.now ≡ false → IsOk result }
         ensures opened { self.old.start ≡ start_of (opened_of self.old) }
     {
-        if !self.core.built(what) {
-            return Err(Uncalled::NotBuilt);
-        }
-        let turn = self.core.begin(driver, what)?;
-        Ok(turn)
+        self.core.begin(driver, what)
     }
 
     // The next step of the call in flight.

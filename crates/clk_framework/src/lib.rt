@@ -15,10 +15,8 @@ mod framework;
 mod kernel;
 mod making;
 mod opened;
-mod uncalled;
 
 pub use closing::Closed;
 pub use framework::{Driver, Framework, Unnamed};
 pub use kernel::Kernel;
 pub use opened::Opened;
-pub use uncalled::Uncalled;

@@ -6,8 +6,8 @@ use Rattle.clk_io.specs.Streams.{TakesAll, TakesMore}
 use Rattle.drv_scripts.specs.declared.bundle.Bundle.{Bundle}
 use Rattle.bundle_text.specs.declared.reason.Reason.{Reason}
 use Rattle.clk_io.specs.declared.reading.TheConstants.{MOST_BYTES}
-use Rattle.clk_run.specs.Built.{SpellsRun, RefusesRun}
-use Rattle.clk_run.proofs.RunVerdicts.{run_never_both}
+use Rattle.drv_scripts.specs.Verdict.{Accepts, Refuses}
+use Rattle.drv_scripts.proofs.Verdicts.{never_both}
 use Rattle.clk_run.specs.Outcomes.{bytes_of, TakesBytes, GivesBundle, RefusesSource, RefusesInput, Decides}
 
 -- what was taken to the end is what was left
@@ -47,15 +47,15 @@ pub gives_decides : (made : Option ℕ) (left left' : Option (List ℕ)) (b : Bu
 gives_decides made left left' b gives = record {
   accepts = λ bytes c is spelled. inl refl;
   refuses = λ bytes line reason is no.
-      absurd (run_never_both bytes b line reason (subst (λ (xs : List ℕ). SpellsRun xs b) (takes_all made left left' bytes gives.0 is gives.1) gives.2) no);
+      absurd (never_both bytes b line reason (subst (λ (xs : List ℕ). Accepts xs b) (takes_all made left left' bytes gives.0 is gives.1) gives.2) no);
   measured = λ drivers is. inl refl;
 }
 
 -- what a source had left is refused
-source_refused : (left left' : Option (List ℕ)) (line : ℕ) (reason : Reason) (bytes : List ℕ) (b : Bundle) → left ≡ Some bytes → SpellsRun bytes b → RefusesSource left left' line reason → ⊥
-source_refused left left' line reason bytes b is spelled (inl more) = never_too_many left left' bytes is spelled.spelled.fits more.0
+source_refused : (left left' : Option (List ℕ)) (line : ℕ) (reason : Reason) (bytes : List ℕ) (b : Bundle) → left ≡ Some bytes → Accepts bytes b → RefusesSource left left' line reason → ⊥
+source_refused left left' line reason bytes b is spelled (inl more) = never_too_many left left' bytes is spelled.fits more.0
 source_refused left left' line reason bytes b is spelled (inr all) =
-    run_never_both bytes b line reason spelled (subst (λ (xs : List ℕ). RefusesRun xs line reason) (taken_all left left' bytes all.0 is all.1) all.2)
+    never_both bytes b line reason spelled (subst (λ (xs : List ℕ). Refuses xs line reason) (taken_all left left' bytes all.0 is all.1) all.2)
 
 -- the bytes that were taken are refused
 pub refuses_decides : (made : Option ℕ) (left left' : Option (List ℕ)) (line : ℕ) (reason : Reason) → RefusesInput made left left' line reason → Decides made left 2

@@ -2,13 +2,13 @@
 use Rattle.std.proofs.Common.{◌≡◌, ℕ, List, Option, None, Result, Ok, Err, inr}
 use Rattle.std.specs.Prelude.{IfOk, IfErr}
 use Rattle.drv_scripts.specs.declared.bundle.Bundle.{Bundle}
-use Rattle.clk_run.specs.Built.{SpellsRun}
+use Rattle.drv_scripts.specs.Verdict.{Accepts}
 use Rattle.clk_run.specs.declared.taking.Stop.{Stop}
 use Rattle.clk_run.specs.declared.taking.Stop.TheVariants as stop
 use Rattle.clk_run.specs.Outcomes.{TakesBytes, GivesBundle, StopsSpelling, StopsReading, CountsStop}
 
 -- the bundle that they spell
-pub spelled_gives : (made : Option ℕ) (old new : Option (List ℕ)) (bytes : List ℕ) (r : Result Bundle Stop) → TakesBytes made old new bytes → IfOk r (SpellsRun bytes) → IfOk r (GivesBundle made old new)
+pub spelled_gives : (made : Option ℕ) (old new : Option (List ℕ)) (bytes : List ℕ) (r : Result Bundle Stop) → TakesBytes made old new bytes → IfOk r (Accepts bytes) → IfOk r (GivesBundle made old new)
 spelled_gives made old new bytes (Ok b) takes spelled = (bytes, takes, spelled)
 spelled_gives made old new bytes (Err e) takes spelled = tt
 

@@ -16,6 +16,7 @@ use Rattle.clk_framework.specs.declared.opened.Opened.{Opened}
 use Rattle.clk_framework.specs.Opening.{opened_of, start_of}
 use Rattle.clk_framework.specs.Calls.{DriverView}
 use Rattle.drv_scripts.specs.declared.bundle.Bundle.{Bundle}
+use Rattle.drv_scripts.specs.Placed.{IsSound}
 use Rattle.drv_scripts.specs.declared.bundle.Script.{Script}
 use Rattle.driver_runs.specs.Turns.{scripts_with}
 use Rattle.driver_runs.specs.Drivers.{FollowAll, are_among, boot_first}
@@ -23,7 +24,7 @@ use Rattle.driver_threads.specs.Runs.{CanStart, HasRunOnThreads}
 use Rattle.clk_machine.specs.Window.{behind_of}
 use Rattle.reg_bank.specs.declared.pll_lock.PllLock.{PllLock}
 use Rattle.clk_run.specs.Cores.{HasCalls, opened_for}
-use Rattle.clk_run.specs.Runs.{drivers_in, scripts_of, has_threads, opening_of, credits_of, InOrder, IsReady, telling, told_by}
+use Rattle.clk_run.specs.Runs.{drivers_in, scripts_of, has_threads, opening_of, credits_of, InOrder, telling, told_by}
 use Rattle.clk_run.proofs.Telling.{telling_from}
 
 -- ---- the order
@@ -53,17 +54,17 @@ boot_alone_first (Bench n) scripts order journal threads first = first
 -- ---- where it begins
 
 -- driver 0 of a framework in which a bundle waits can start
-pub can_start : (table : TableId) (b : Bundle) (ignore_unused : Bool) (contents : Option (List ℕ)) (lock : ℕ → Option PllLock) (first : DriverView) (boot : List Command) (drivers : List Script) → IsReady b
+pub can_start : (table : TableId) (b : Bundle) (ignore_unused : Bool) (contents : Option (List ℕ)) (lock : ℕ → Option PllLock) (first : DriverView) (boot : List Command) (drivers : List Script) → IsSound b
     → first ≡ first_known table (opened_for b ignore_unused contents lock) (credits_of b) → boot ≡ b.boot → drivers ≡ b.drivers → CanStart table first boot drivers
-can_start table b ignore_unused contents lock first boot drivers ready begins these those =
+can_start table b ignore_unused contents lock first boot drivers sound begins these those =
     let room : first.room ≡ credits_of b = ap (λ (d : DriverView). d.room) begins in
     subst (λ (ds : List Script). CanStart table first boot ds) (sym those)
     (subst (λ (cs : List Command). CanStart table first cs b.drivers) (sym these) record {
       opened = opened_for b ignore_unused contents lock;
       begins = begins ∙ ap (λ (n : ℕ). first_known table (opened_for b ignore_unused contents lock) n) (sym room);
       credits = omega (arith, room);
-      few = let most = ready.few in omega (arith, most);
-      runnable = record { boots = ready.boot; placed = ready.sound.scripts; built = ready.built };
+      few = let most = sound.drivers in omega (arith, most);
+      placed = record { boot_ = sound.boot; drivers_ = sound.scripts };
     })
 
 -- ---- what it has done

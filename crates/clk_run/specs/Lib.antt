@@ -4,4 +4,3 @@ pub mod Runs
 pub mod Cores
 pub mod Refusals
 pub mod Outcomes
-pub mod Built

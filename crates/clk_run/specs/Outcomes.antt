@@ -15,7 +15,7 @@ use Rattle.drv_scripts.specs.declared.bundle.Bundle.{Bundle}
 use Rattle.bundle_text.specs.declared.reason.Reason.{Reason}
 use Rattle.bundle_text.specs.declared.reason.Reason.TheVariants.{TooLong}
 use Rattle.clk_io.specs.declared.reading.TheConstants.{MOST_BYTES}
-use Rattle.clk_run.specs.Built.{SpellsRun, RefusesRun}
+use Rattle.drv_scripts.specs.Verdict.{Accepts, Refuses}
 use Rattle.clk_run.specs.declared.taking.Stop.{Stop}
 use Rattle.clk_run.specs.declared.taking.Stop.TheVariants as stop
 use Rattle.clk_run.specs.Refusals.{refusal_text}
@@ -40,14 +40,14 @@ abbrev pub bytes_of : Option ℕ → Option (List ℕ) → Option (List ℕ)
 bytes_of None left = left
 bytes_of (Some drivers) left = Some (generated drivers)
 
--- the bytes of a command's bundle spell this one, and all of it can be run
+-- the bytes of a command's bundle spell this one
 abbrev pub GivesBundle : Option ℕ → Option (List ℕ) → Option (List ℕ) → Bundle → Type 0
-GivesBundle made old new b = (bytes : List ℕ) × TakesBytes made old new bytes × SpellsRun bytes b
+GivesBundle made old new b = (bytes : List ℕ) × TakesBytes made old new bytes × Accepts bytes b
 
--- what a source has left is refused at this line for this reason: it is more than a bundle may have, or spells no bundle that can be run
+-- what a source has left is refused at this line for this reason: it is more than a bundle may have, or spells no bundle
 abbrev pub RefusesSource : Option (List ℕ) → Option (List ℕ) → ℕ → Reason → Type 0
 RefusesSource old new line reason =
-    (TakesMore MOST_BYTES old new × (line ≡ 0) × (reason ≡ TooLong)) ⊎ ((bytes : List ℕ) × TakesAll MOST_BYTES old new bytes × RefusesRun bytes line reason)
+    (TakesMore MOST_BYTES old new × (line ≡ 0) × (reason ≡ TooLong)) ⊎ ((bytes : List ℕ) × TakesAll MOST_BYTES old new bytes × Refuses bytes line reason)
 
 -- the bytes of a command's bundle are refused at this line for this reason; a generated one never is
 abbrev pub RefusesInput : Option ℕ → Option (List ℕ) → Option (List ℕ) → ℕ → Reason → Type 0
@@ -56,7 +56,7 @@ RefusesInput (Some drivers) old new line reason = ⊥
 
 -- why bytes give no bundle: they are refused, or memory ran out
 abbrev pub StopsSpelling : List ℕ → Stop → Type 0
-StopsSpelling bytes (stop.Refused line reason) = RefusesRun bytes line reason
+StopsSpelling bytes (stop.Refused line reason) = Refuses bytes line reason
 StopsSpelling bytes stop.Read = ⊥
 StopsSpelling bytes stop.NoMemory = Unit {0}
 
@@ -125,8 +125,8 @@ EndsWith wanted status = (status ≡ wanted) ⊎ ((status ≡ 3) ⊎ ((status �
 -- where a command's bytes are known, those that spell a bundle that can be run end in status 0, and those that are refused in status 2; a
 -- generated bundle ends in status 0
 pub record Decides (made : Option ℕ) (left : Option (List ℕ)) (status : ℕ) : Type 0 where
-  pub accepts : (bytes : List ℕ) (b : Bundle) → bytes_of made left ≡ Some bytes → SpellsRun bytes b → EndsWith 0 status
-  pub refuses : (bytes : List ℕ) (line : ℕ) (reason : Reason) → bytes_of made left ≡ Some bytes → RefusesRun bytes line reason → EndsWith 2 status
+  pub accepts : (bytes : List ℕ) (b : Bundle) → bytes_of made left ≡ Some bytes → Accepts bytes b → EndsWith 0 status
+  pub refuses : (bytes : List ℕ) (line : ℕ) (reason : Reason) → bytes_of made left ≡ Some bytes → Refuses bytes line reason → EndsWith 2 status
   pub measured : (drivers : ℕ) → made ≡ Some drivers → EndsWith 0 status
 
 -- ---- the program, by what its words mean

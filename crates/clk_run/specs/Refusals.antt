@@ -44,7 +44,6 @@ reason_word reason.TooMuchWork = codes "TooMuchWork"
 reason_word reason.UnknownCommand = codes "UnknownCommand"
 reason_word reason.TooManyCommands = codes "TooManyCommands"
 reason_word reason.TooManyTurns = codes "TooManyTurns"
-reason_word reason.NotYet = codes "NotYet"
 
 -- the line that says what a bundle is refused for: `error: line L: REASON`
 abbrev pub refusal_text : ℕ → Reason → List ℕ

@@ -1,6 +1,5 @@
 -- Runs of a bundle: which journals they have, and what they print.
-use Rattle.std.specs.Prelude.{◌≡◌, ◌≤◌, ◌⊎◌, IfSome, is_some, take, drop, ℕ, ◌+◌, List, [], Bool, true, false, Option, length}
-use Rattle.std.specs.List.{AllByRecursion}
+use Rattle.std.specs.Prelude.{◌≡◌, ◌⊎◌, IfSome, is_some, take, drop, ℕ, ◌+◌, List, [], Bool, true, false, Option, length}
 use Rattle.std.specs.Option.{option_map}
 use Rattle.clk_base.specs.declared.command.Answer.{Answer}
 use Rattle.clk_base.specs.declared.command.Command.{Command}
@@ -19,16 +18,13 @@ use Rattle.std.specs.Io.KnownBytes.{Appends}
 use Rattle.clk_io.specs.Streams.{AppendsFront}
 use Rattle.clk_io.specs.declared.faults.PrintFault.{PrintFault}
 use Rattle.clk_io.specs.declared.faults.PrintFault.TheVariants as print_fault
-use Rattle.drv_scripts.specs.Placed.{IsSound}
 use Rattle.clk_cli.specs.declared.cli.Cli.{Cli}
 use Rattle.clk_cli.specs.declared.cli.Mode.{Mode}
 use Rattle.clk_cli.specs.declared.cli.Mode.TheVariants.{Check, Sim, Bench}
 use Rattle.clk_cli.specs.declared.cli.Mode.TheVariants as mode
-use Rattle.clk_machine.specs.Fit.{CanRun}
 use Rattle.clk_machine.specs.Run.{Run}
 use Rattle.clk_machine.specs.Window.{HasDelays, delays_in, locks_of}
 use Rattle.driver_runs.specs.Drivers.{FollowAll, are_among, boot_first}
-use Rattle.driver_runs.specs.Scripts.{are_built, CanBoot}
 use Rattle.driver_runs.specs.Turns.{scripts_with}
 use Rattle.clk_run.specs.Arming.{armed_by}
 use Rattle.clk_run.specs.Texts.{command_count, run_text}
@@ -105,7 +101,7 @@ pub record IsRunOf (b : Bundle) (cli : Cli) (bank : Telling) (journal : List Ent
 -- ---- what a run prints
 
 -- a text that a run of a bundle prints: the journal where the words ask for it, the answers, a summary and registers. Where the bank tells its words, the summary
--- is that of the state behind the journal, and the registers are those that it leaves; else the summary is a table of clocks that were probed
+-- is that of the state behind the journal, and the registers are those that it leaves; else the summary is a table of clocks that were registered
 pub record IsTextOf (b : Bundle) (cli : Cli) (bank : Telling) (words : Registers) (text : List ℕ) : Type 0 where
   pub journal : List Entry
   pub answers : List (List Answer)
@@ -115,16 +111,6 @@ pub record IsTextOf (b : Bundle) (cli : Cli) (bank : Telling) (words : Registers
   pub listed : bank.told ≡ false → IsTable b.desc.defs journal table
   pub registers : bank.told ≡ true → words ≡ (replay (opening_of b cli.ignore_unused) journal).regs
   pub text_is : text ≡ run_text b.desc.defs cli (drivers_in cli.mode b) journal answers table words
-
--- ---- bundles
-
--- a bundle that can be run: its parts fit together, boot can run its commands, and each command of its drivers can be run so far
-pub record IsReady (b : Bundle) : Type 0 where
-  pub sound : IsSound b
-  pub fit : CanRun b.desc.defs
-  pub boot : CanBoot b.desc.defs b.boot
-  pub few : length b.drivers ≤ 64
-  pub built : AllByRecursion (λ s. are_built s.commands ≡ true) b.drivers
 
 -- ---- what is left behind
 

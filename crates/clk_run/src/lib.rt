@@ -17,10 +17,7 @@ mod sim;
 mod state;
 mod taking;
 mod top;
-mod unbuilt;
-mod verdict;
 
 pub use reading::check_bundle;
 pub use sim::simulate;
 pub use top::clkbench;
-pub use verdict::one_run_verdict;

@@ -1,29 +1,21 @@
-//! Reading a bundle that can be run.
+//! Reading a bundle.
 
 ghost use Rattle.std.specs.Prelude.{IfOk, IfErr};
+ghost use Rattle.bundle_text.specs.Faults.{Tells};
 ghost use Rattle.drv_scripts.specs.Placed.{IsSound};
-ghost use Rattle.clk_run.specs.Built.{SpellsRun, IsRunFault};
+ghost use Rattle.drv_scripts.specs.Verdict.{Accepts, Refuses};
 
-use crate::unbuilt::least_unbuilt;
-use drv_scripts::{Bundle, BundleFault, Reason, read_bundle};
+use drv_scripts::{Bundle, BundleFault, read_bundle};
 use std::alloc::Global;
 
-/// The bundle that bytes spell, where all of it can be run so far. Clocks that no core can run,
-/// nodes with assigned clocks, late clocks, and commands that can't be run, as a `set`, are refused with `NotYet`, at the least of their lines.
+/// The bundle that bytes spell, or the first reason why they spell none, with its line.
 pub fn check_bundle(alloc: Global, bytes: &[u8]) -> Result<Bundle, BundleFault>
-    ensures accepted { IfOk result (SpellsRun bytes.now) }
+    // What is read is the bundle that the bytes spell.
+    ensures accepted { IfOk result (Accepts bytes.now) }
+    // Its parts fit together.
     ensures sound { IfOk result IsSound }
-    ensures refused { IfErr result (IsRunFault bytes.now) }
+    // Other bytes spell none: this is the first line at fault, and what is wrong with it. Want of memory says nothing of the bytes.
+    ensures refused { IfErr result (Tells (Refuses bytes.now)) }
 {
-    let bundle = match read_bundle(alloc, bytes) {
-        Ok(bundle) => bundle,
-        Err(fault) => return Err(fault),
-    };
-    match least_unbuilt(alloc, &bundle)? {
-        None => Ok(bundle),
-        Some(line) => Err(BundleFault::Refused {
-            line,
-            reason: Reason::NotYet,
-        }),
-    }
+    read_bundle(alloc, bytes)
 }

@@ -53,7 +53,6 @@ fn reason_word(reason: Reason) -> &'static str
         Reason::UnknownCommand => "UnknownCommand",
         Reason::TooManyCommands => "TooManyCommands",
         Reason::TooManyTurns => "TooManyTurns",
-        Reason::NotYet => "NotYet",
     }
 }
 

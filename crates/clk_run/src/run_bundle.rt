@@ -5,7 +5,8 @@ ghost use Rattle.std.specs.Option.{option_map};
 ghost use Rattle.clk_io.specs.Counts.{CountsPrintFault};
 ghost use Rattle.clk_model.specs.Begin.{most_credits};
 ghost use Rattle.clk_machine.specs.Window.{behind_of};
-ghost use Rattle.clk_run.specs.Runs.{armed_telling, credits_of, opening_of, telling, IsReady, Printed, LeftByFault};
+ghost use Rattle.drv_scripts.specs.Placed.{IsSound};
+ghost use Rattle.clk_run.specs.Runs.{armed_telling, credits_of, opening_of, telling, Printed, LeftByFault};
 
 use crate::arming::arm_locks;
 use crate::counting::command_count;
@@ -33,7 +34,7 @@ fn open_core<B: Bank>(
     ignore_unused: bool,
     bank: B,
 ) -> Result<Core<B>, NoMemory>
-    requires ready { IsReady bundle.now }
+    requires sound { IsSound bundle.now }
     requires room { 65536 ≤ B.size bank }
     ensures start { IfOk result (λ core. core.start ≡ opening_of bundle.now ignore_unused) }
     ensures journal { IfOk result (λ core. core.journal ≡ []) }
@@ -54,7 +55,7 @@ fn run_armed<K: Sink, B: Bank>(
     out: &mut K,
     bank: B,
 ) -> Result<B, PrintFault>
-    requires ready { IsReady bundle.now }
+    requires sound { IsSound bundle.now }
     requires room { 65536 ≤ B.size bank }
     ensures done { IfOk result (λ left. Printed bundle.now cli.now (telling (B.contents bank) (B.lock bank)) (B.contents bank) (K.written out.old) (K.written out.new) (B.contents left)) }
     ensures told { IfOk result (λ left. is_some (B.contents left) ≡ is_some (B.contents bank)) }
@@ -76,7 +77,7 @@ pub(crate) fn run_bundle<K: Sink, B: Bank>(
     out: &mut K,
     bank: B,
 ) -> Result<B, PrintFault>
-    requires ready { IsReady bundle.now }
+    requires sound { IsSound bundle.now }
     requires room { 65536 ≤ B.size bank }
     ensures done { IfOk result (λ left. Printed bundle.now cli.now (armed_telling bundle.now (B.contents bank) (B.lock bank)) (B.contents bank) (K.written out.old) (K.written out.new) (B.contents left)) }
     ensures told { IfOk result (λ left. is_some (B.contents left) ≡ is_some (B.contents bank)) }

@@ -3,8 +3,9 @@
 ghost use Rattle.std.specs.Prelude.{◌≡◌, ◌≤◌, [], is_some, IfOk, IfErr};
 ghost use Rattle.clk_io.specs.Counts.{CountsPrintFault};
 ghost use Rattle.clk_model.specs.Begin.{most_credits};
+ghost use Rattle.drv_scripts.specs.Placed.{IsSound};
 ghost use Rattle.clk_run.specs.Cores.{HasCalls, PrintsRun, HasPrinted};
-ghost use Rattle.clk_run.specs.Runs.{drivers_in, credits_of, opening_of, told_by, IsReady, LeftByFault};
+ghost use Rattle.clk_run.specs.Runs.{drivers_in, credits_of, opening_of, told_by, LeftByFault};
 
 use crate::printing::print_calls;
 use crate::state::print_state;
@@ -72,7 +73,7 @@ pub(crate) fn run_core<K: Sink, B: Bank>(
     core: &mut Core<B>,
     out: &mut K,
 ) -> Result<(), PrintFault>
-    requires ready { IsReady bundle.now }
+    requires sound { IsSound bundle.now }
     requires start { core.old.start ≡ opening_of bundle.now cli.now.ignore_unused }
     requires begins { core.old.journal ≡ [] }
     ensures done { IfOk result (λ _. HasPrinted bundle.now cli.now core.old core.new (K.written out.old) (K.written out.new)) }

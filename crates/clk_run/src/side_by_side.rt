@@ -4,10 +4,11 @@ ghost use Rattle.std.specs.Prelude.{◌≡◌, ◌≤◌, ◌==◌, ℕ, true, S
 ghost use Rattle.std.specs.Option.{option_map};
 ghost use Rattle.clk_io.specs.Counts.{CountsPrintFault};
 ghost use Rattle.tier_lock.specs.Known.{first_known};
+ghost use Rattle.drv_scripts.specs.Placed.{IsSound};
 ghost use Rattle.driver_threads.specs.Runs.{HasRunOnThreads};
 ghost use Rattle.clk_run.specs.Cores.{opened_for};
 ghost use Rattle.clk_run.specs.Outcomes.{generates, IsRunStatus, Done, Refused, Unread, Unwritten, Short, Decides, count_behind};
-ghost use Rattle.clk_run.specs.Runs.{armed_telling, credits_of, has_threads, telling, IsReady, Printed, LeftByFault};
+ghost use Rattle.clk_run.specs.Runs.{armed_telling, credits_of, has_threads, telling, Printed, LeftByFault};
 
 use crate::arming::arm_locks;
 use crate::refusal::print_refusal;
@@ -34,7 +35,7 @@ fn open_framework<B: Bank>(
     ignore_unused: bool,
     bank: B,
 ) -> Result<(Unnamed<B>, Driver<B>), NoMemory>
-    requires ready { IsReady bundle.now }
+    requires sound { IsSound bundle.now }
     requires room { 65536 ≤ B.size bank }
     ensures { IfOk result (λ made. made.1 ≡ first_known made.0.lock.table (opened_for bundle.now ignore_unused (B.contents bank) (B.lock bank)) (credits_of bundle.now)) }
 {
@@ -53,7 +54,7 @@ fn run_framework<B: Bank + Send + Sync, R: Threads + Wait + Sync, Q: Pause + Syn
     bank: B,
     pause: &Q,
 ) -> Result<(Core<B>, Vec<Listed<Answer>>), NoMemory>
-    requires ready { IsReady bundle.now }
+    requires sound { IsSound bundle.now }
     requires room { 65536 ≤ B.size bank }
     ensures { IfOk result (λ ran. HasRunOnThreads (Some (opened_for bundle.now ignore_unused (B.contents bank) (B.lock bank))) bundle.now.boot bundle.now.drivers ran.1.items ran.0) }
 {
@@ -74,7 +75,7 @@ fn run_armed<K: Sink, B: Bank + Send + Sync, R: Threads + Wait + Sync, Q: Pause 
     pause: &Q,
 ) -> Result<B, PrintFault>
     requires mode { has_threads cli.now.mode ≡ true }
-    requires ready { IsReady bundle.now }
+    requires sound { IsSound bundle.now }
     requires room { 65536 ≤ B.size bank }
     ensures done { IfOk result (λ left. Printed bundle.now cli.now (telling (B.contents bank) (B.lock bank)) (B.contents bank) (K.written out.old) (K.written out.new) (B.contents left)) }
     ensures told { IfOk result (λ left. is_some (B.contents left) ≡ is_some (B.contents bank)) }
@@ -100,7 +101,7 @@ fn run_bundle<K: Sink, B: Bank + Send + Sync, R: Threads + Wait + Sync, Q: Pause
     pause: &Q,
 ) -> Result<B, PrintFault>
     requires mode { has_threads cli.now.mode ≡ true }
-    requires ready { IsReady bundle.now }
+    requires sound { IsSound bundle.now }
     requires room { 65536 ≤ B.size bank }
     ensures done { IfOk result (λ left. Printed bundle.now cli.now (armed_telling bundle.now (B.contents bank) (B.lock bank)) (B.contents bank) (K.written out.old) (K.written out.new) (B.contents left)) }
     ensures told { IfOk result (λ left. is_some (B.contents left) ≡ is_some (B.contents bank)) }

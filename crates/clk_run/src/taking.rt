@@ -2,8 +2,8 @@
 
 ghost use Rattle.std.specs.Prelude.{◌≡◌, ◌<◌, ◌≤◌, ℕ, Some, is_some, IfOk, IfErr, IfSome};
 ghost use Rattle.clk_gen.specs.Generated.{generated};
-ghost use Rattle.clk_run.specs.Built.{SpellsRun};
-ghost use Rattle.clk_run.specs.Runs.{IsReady};
+ghost use Rattle.drv_scripts.specs.Placed.{IsSound};
+ghost use Rattle.drv_scripts.specs.Verdict.{Accepts};
 ghost use Rattle.clk_run.specs.Outcomes.{generates, GivesBundle, StopsSpelling, StopsReading, CountsStop};
 
 use crate::reading::check_bundle;
@@ -41,8 +41,8 @@ fn generates(mode: Mode) -> Option<u32>
 
 // The bundle that bytes spell.
 fn spelled_by(alloc: Global, bytes: &[u8]) -> Result<Bundle, Stop>
-    ensures spells { IfOk result (SpellsRun bytes.now) }
-    ensures ready { IfOk result IsReady }
+    ensures spells { IfOk result (Accepts bytes.now) }
+    ensures sound { IfOk result IsSound }
     ensures stops { IfErr result (StopsSpelling bytes.now) }
 {
     match check_bundle(alloc, bytes) {
@@ -55,7 +55,7 @@ fn spelled_by(alloc: Global, bytes: &[u8]) -> Result<Bundle, Stop>
 // The bundle that a source's bytes spell.
 fn take_read<S: Source>(alloc: Global, input: &mut S) -> Result<Bundle, Stop>
     ensures gives { IfOk result (GivesBundle None (S.left input.old) (S.left input.new)) }
-    ensures ready { IfOk result IsReady }
+    ensures sound { IfOk result IsSound }
     ensures stops { IfErr result (StopsReading None (S.left input.old) (S.left input.new)) }
     ensures tells { is_some (S.left input.new) ≡ is_some (S.left input.old) }
     ensures later { S.faults input.old ≤ S.faults input.new }
@@ -76,8 +76,8 @@ fn take_read<S: Source>(alloc: Global, input: &mut S) -> Result<Bundle, Stop>
 fn take_generated(alloc: Global, drivers: u32) -> Result<Bundle, NoMemory>
     requires some { 0 < drivers }
     requires few { drivers ≤ 64 }
-    ensures spells { IfOk result (SpellsRun (generated drivers)) }
-    ensures ready { IfOk result IsReady }
+    ensures spells { IfOk result (Accepts (generated drivers)) }
+    ensures sound { IfOk result IsSound }
 {
     let text = generated(alloc, drivers)?;
     match check_bundle(alloc, text.as_bytes()) {
@@ -95,7 +95,7 @@ pub(crate) fn take_bundle<S: Source>(
     input: &mut S,
 ) -> Result<Bundle, Stop>
     ensures gives { IfOk result (GivesBundle (generates mode) (S.left input.old) (S.left input.new)) }
-    ensures ready { IfOk result IsReady }
+    ensures sound { IfOk result IsSound }
     ensures stops { IfErr result (StopsReading (generates mode) (S.left input.old) (S.left input.new)) }
     ensures unasked { (drivers : ℕ) → generates mode ≡ Some drivers → input.new ≡ input.old }
     ensures tells { is_some (S.left input.new) ≡ is_some (S.left input.old) }

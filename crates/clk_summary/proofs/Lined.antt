@@ -22,10 +22,10 @@ no_lines defs journal = ([], refl)
 -- the line of a row that was found
 pub line_of_row : (defs : Description) (journal : List Entry) (level c : ℕ) (name : Word) (found : Option Row) (row : Row) → found ≡ Some row → is_some found ≡ was_registered journal c
     → name ≡ name_of defs c → HasLines defs journal (columns_of level name row)
-line_of_row defs journal level c name found row is probed named = (
+line_of_row defs journal level c name found row is there named = (
   columns_of level name row ∷ [],
   (
-    record { clock = c; level = level; row = row; probed = sym probed ∙ ap is_some is; text_is = ap (λ (n : Word). columns_of level n row) named },
+    record { clock = c; level = level; row = row; registered_ = sym there ∙ ap is_some is; text_is = ap (λ (n : Word). columns_of level n row) named },
     ([], refl, sym (append-nil (columns_of level name row))),
   ),
 )

@@ -13,7 +13,7 @@ pub record IsLine (defs : Description) (journal : List Entry) (text : List ℕ) 
   pub clock : ℕ
   pub level : ℕ
   pub row : Row
-  pub probed : was_registered journal clock ≡ true
+  pub registered_ : was_registered journal clock ≡ true
   pub text_is : text ≡ columns_of level (name_of defs clock) row
 
 -- a text of such lines, one behind another

@@ -19,11 +19,10 @@ use Rattle.clk_model.proofs.Members.{test_same}
 use Rattle.clk_machine.specs.Run.{Run}
 use Rattle.drv_scripts.specs.Placed.{IsScript}
 use Rattle.drv_scripts.specs.declared.bundle.Script.{Script}
-use Rattle.driver_runs.specs.Scripts.{are_built}
 use Rattle.driver_runs.specs.Standing.{left_of}
 use Rattle.driver_runs.specs.Events.{Stands, owed}
 use Rattle.driver_runs.specs.Moves.{can_move_at, AllStand, AreDone, owed_by, MayMoveAt, MovesAt}
-use Rattle.driver_runs.specs.Courses.{AreRunnable, BeginsCourse, Course, IsUnderWay, IsNextAt, effort, HasEnded}
+use Rattle.driver_runs.specs.Courses.{ArePlaced, BeginsCourse, Course, IsUnderWay, IsNextAt, effort, HasEnded}
 use Rattle.driver_runs.specs.declared.standing.Standing.{Standing}
 use Rattle.driver_runs.proofs.Going.{list_all-append}
 use Rattle.driver_runs.proofs.Entered.{cost_one}
@@ -269,9 +268,9 @@ some_there [] i less = absurd (omega arith)
 some_there (x ∷ xs) zero less = (x, refl)
 some_there (x ∷ xs) (suc i) less = some_there xs i (omega (arith, less))
 
-pub may_move : (first run : Run) (drivers : List Script) (order left : List ℕ) (xs : List Standing) (going : Option ℕ) (d : ℕ) → AreRunnable run.start.defs drivers
+pub may_move : (first run : Run) (drivers : List Script) (order left : List ℕ) (xs : List Standing) (going : Option ℕ) (d : ℕ) → ArePlaced run.start.defs drivers
     → Course first drivers order xs going left run → 0 < d → can_move_at going drivers xs d ≡ true → MayMoveAt run drivers xs going d
-may_move first run drivers order left xs going d runs course some can s x is_s is_x =
+may_move first run drivers order left xs going d placed course some can s x is_s is_x =
     let place : d ≡ 1 + (d - 1) = omega (arith, some) in
     let there = stands_there going d 1 (d - 1) drivers xs course.progress course.entries s x place is_s is_x course.stand in
     let may : (is_at d going || can_take going (left_of s.commands x)) ≡ true =
@@ -287,8 +286,7 @@ may_move first run drivers order left xs going d runs course some can s x is_s i
           let own_ : owed s.commands x (is_at d going) ≡ length (left_of s.commands x) - 0 = ap (λ (b : Bool). owed s.commands x b) away in
           let paid = course.credits in
           omega (arith, one, own_, owes, paid);
-      places = (at_place (IsScript (length run.start.defs)) drivers (d - 1) s runs.placed is_s).placed;
-      built = at_place (λ (t : Script). are_built t.commands ≡ true) drivers (d - 1) s runs.built is_s;
+      places = (at_place (IsScript (length run.start.defs)) drivers (d - 1) s placed is_s).placed;
       can = may;
     } where
       passed : (b : Bool) → Stands d s.commands x b (own course.entries d) → unskipped x.held.items (left_of s.commands x) ≡ left_of s.commands x

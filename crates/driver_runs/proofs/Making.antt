@@ -1,7 +1,7 @@
 -- What an event needs, and what it makes, whether it is a step or a call that begins.
 use Rattle.std.proofs.Common.{◌≡◌, ℕ, zero, suc, ◌||◌, Bool, true, false, nat_eq, List, [], ◌∷◌, Option, Some, None, refl, sym, ap, subst, ◌∙◌, arith, length, drop}
 use Rattle.std.specs.Prelude.{is_none, if◌then◌else◌}
-use Rattle.std.specs.List.{list_all, AllByRecursion}
+use Rattle.std.specs.List.{AllByRecursion}
 use Rattle.std.specs.Option.{option_eq}
 use Rattle.std.proofs.lemmas.Bool.Decides.{nat_tests}
 use Rattle.clk_base.specs.declared.command.Command.{Command}
@@ -12,14 +12,11 @@ use Rattle.clk_base.specs.declared.handle.Handle.{Handle}
 use Rattle.clk_model.specs.Follows.{handle_of, call_of}
 use Rattle.clk_model.specs.Lists.{is_at}
 use Rattle.clk_model.specs.Ordered.{unskipped, is_atomic, can_take}
-use Rattle.clk_model.proofs.Members.{both_left, both_right}
 use Rattle.clk_machine.specs.Run.{Run}
 use Rattle.drv_scripts.specs.Placed.{NamesPlace}
-use Rattle.driver_runs.specs.Scripts.{is_built_act}
 use Rattle.driver_runs.specs.Standing.{left_of, IsAnswered}
 use Rattle.driver_runs.specs.Events.{IsGoing, MayEnter, Enters, MayMove, MakesEvent}
 use Rattle.driver_runs.specs.declared.standing.Standing.{Standing}
-use Rattle.driver_runs.proofs.Going.{can_built}
 use Rattle.driver_runs.proofs.Passing.{unskipped_short, unskipped_more}
 use Rattle.driver_runs.proofs.Entered.{step_goes, step_ends, call_goes, call_answered}
 
@@ -34,12 +31,6 @@ first_left P zero [] c rest all is = absurd cc
 first_left P zero (x ∷ xs) c rest all is = let same : x ≡ c = cc in subst P same all.0
 first_left P (suc n) [] c rest all is = absurd cc
 first_left P (suc n) (x ∷ xs) c rest all is = first_left P n xs c rest all.1 is
-
-first_passes : (p : Command → Bool) (n : ℕ) (commands : List Command) (c : Command) (rest : List Command) → list_all p commands ≡ true → drop n commands ≡ c ∷ rest → p c ≡ true
-first_passes p zero [] c rest all is = absurd cc
-first_passes p zero (x ∷ xs) c rest all is = let same : x ≡ c = cc in subst (λ (y : Command). p y ≡ true) same (both_left (p x) (list_all p xs) all)
-first_passes p (suc n) [] c rest all is = absurd cc
-first_passes p (suc n) (x ∷ xs) c rest all is = first_passes p n xs c rest (both_right (p x) (list_all p xs) all) is
 
 -- a command in front of which the skipped ones were passed over makes a call
 makes_call : (x : Standing) (c : Command) (rest : List Command) → unskipped x.held.items (c ∷ rest) ≡ c ∷ rest → is_none (call_of (handle_of x.held.items c) c.act) ≡ false
@@ -81,7 +72,6 @@ module _ (run : Run) (d : ℕ) (commands : List Command) (x : Standing) (going :
     credit = λ away. may.credit (sym is ∙ away);
     quiet = λ away sleeps. subst (λ (o : Option ℕ). IsGoing o run.journal) (none_going (is_atomic c.act) (takes (sym is ∙ away)) sleeps) may.flies;
     place = first_left (λ (y : Command). NamesPlace (length run.start.defs) y.act) (length x.answers.items) commands c rest may.places next;
-    can = can_built run c.act (first_passes (λ (y : Command). is_built_act y.act) (length x.answers.items) commands c rest may.built next);
   }
 
   -- the call goes on

@@ -1,9 +1,8 @@
 -- Whole calls of a driver: their entries, and how they come about by steps.
-use Rattle.std.proofs.Common.{◌≡◌, ℕ, ◌+◌, ◌&&◌, ◌||◌, not, Bool, true, false, cond, List, [], ◌∷◌, ◌++◌, Option, Some, None, refl, sym, ap, subst, ◌∙◌, arith, nat_eq, append_assoc}
+use Rattle.std.proofs.Common.{◌≡◌, ℕ, ◌+◌, ◌&&◌, not, Bool, true, false, cond, List, [], ◌∷◌, ◌++◌, Option, Some, None, refl, sym, ap, subst, ◌∙◌, arith, nat_eq, append_assoc}
 use Rattle.std.specs.Prelude.{if◌then◌else◌}
 use Rattle.std.proofs.lemmas.Bool.Decides.{nat_tests}
-use Rattle.std.specs.List.{list_all, list_any}
-use Rattle.std.proofs.lemmas.List.Folds.{list_any-append}
+use Rattle.std.specs.List.{list_all}
 use Rattle.std.proofs.lemmas.List.{append-nil}
 use Rattle.std.proofs.lemmas.List.Sums.{sum_by-append}
 use Rattle.std.proofs.lemmas.Bool.{and_from}
@@ -17,8 +16,7 @@ use Rattle.clk_base.specs.declared.event.Turn.TheVariants as turn
 use Rattle.clk_model.specs.Tier.{is_step, is_enable_tier}
 use Rattle.clk_model.specs.Journal.{Answered, is_paid, is_going, reply_at, end_reply, call_at, calls_of, cost}
 use Rattle.clk_model.proofs.Members.{both_left, both_right, test_same}
-use Rattle.clk_machine.specs.Run.{Run, was_probed, going_after, in_flight, driver_in_flight, Appends, StepsOn}
-use Rattle.clk_machine.specs.Stands.{registers}
+use Rattle.clk_machine.specs.Run.{Run, going_after, in_flight, driver_in_flight, Appends, StepsOn}
 use Rattle.clk_machine.proofs.Entering.{going_append, driver_append}
 use Rattle.driver_runs.specs.Scripts.{are_calls, Answers}
 use Rattle.driver_runs.specs.Steps.{goes_on, MakesSteps, Finishes}
@@ -179,15 +177,6 @@ stays_idle old new d entries is own idle =
 
 -- ---- a call that is answered at once
 
--- the clock that the first entry of a call registers was probed
-probed_first : (old new : Run) (e : Entry) (es : List Entry) (c : ℕ) → new.journal ≡ old.journal ++ e ∷ es → registers e.event c ≡ true → was_probed new.journal c ≡ true
-probed_first old new e es c is this =
-    ap (λ (j : List Entry). was_probed j c) is ∙ list_any-append (λ f. registers f.event c) old.journal (e ∷ es)
-    ∙ ap (λ (b : Bool). was_probed old.journal c || (b || list_any (λ f. registers f.event c) es)) this ∙ either_true (was_probed old.journal c) where
-      either_true : (b : Bool) → (b || true) ≡ true
-      either_true true = refl
-      either_true false = refl
-
 pub answers_at_once : (old new : Run) (d : ℕ) (e : Event) (r : Reply) → Appends old d e (turn.Done r) new → is_paid e ≡ true → Answers old d e r new
 answers_at_once old new d e r appends paid =
     let entry : Entry = record { driver = d; event = e; turn = turn.Done r } in
@@ -201,7 +190,6 @@ answers_at_once old new d e r appends paid =
       own = and_from (nat_eq d d && not (is_step e)) true (and_from (nat_eq d d) (not (is_step e)) (test_same d) no_step) refl;
       paid = ap (λ (b : Bool). 0 + cond b 1 0) paid;
       calls = ap (λ (ls : List Answered). ls ++ []) (call_at-done e r None no_step);
-      probes = λ c is. probed_first old new entry [] c appends.entry is;
       legal = λ told was. appends.legal told;
     }
 
@@ -310,7 +298,5 @@ answers_by_steps old mid new d n what r appends same ends =
       calls =
           ap (λ (ls : List Answered). call_at (event.Begin what) turn.Going (end_reply ends.entries) ++ ls) ends.calls
           ∙ ap (λ (ls : List Answered). ls ++ []) (call_at-going (event.Begin what) r (end_reply ends.entries) ends.ends refl);
-      probes = λ c is.
-          probed_first old new entry ends.entries c (ends.journal ∙ ap (λ (j : List Entry). j ++ ends.entries) appends.entry ∙ append_assoc old.journal (entry ∷ []) ends.entries) is;
       legal = λ told was. ends.legal (appends.told ∙ told) (appends.legal told);
     }

@@ -9,15 +9,13 @@ use Rattle.clk_model.specs.Ordered.{Progress, at_start, OrderedFrom}
 use Rattle.clk_machine.specs.Run.{Run, in_flight}
 use Rattle.drv_scripts.specs.Placed.{IsScript}
 use Rattle.drv_scripts.specs.declared.bundle.Script.{Script}
-use Rattle.driver_runs.specs.Scripts.{are_built}
 use Rattle.driver_runs.specs.Events.{IsGoing}
 use Rattle.driver_runs.specs.Moves.{can_move_at, AreNew, AllStand, AreDone, owed_by}
 use Rattle.driver_runs.specs.declared.standing.Standing.{Standing}
 
--- the drivers' commands name clocks of the description, and each can be run so far
-pub record AreRunnable (defs : Description) (drivers : List Script) : Type 0 where
-  pub placed : AllByRecursion (IsScript (length defs)) drivers
-  pub built : AllByRecursion (λ s. are_built s.commands ≡ true) drivers
+-- the drivers' commands name clocks of the description
+abbrev pub ArePlaced : Description → List Script → Type 0
+ArePlaced defs drivers = AllByRecursion (IsScript (length defs)) drivers
 
 -- no driver has made an event, no call is in flight, and a credit is left for each command
 pub record BeginsCourse (run : Run) (drivers : List Script) (xs : List Standing) : Type 0 where

@@ -16,7 +16,7 @@ use Rattle.clk_model.specs.Ordered.{Progress, is_atomic, can_take, going_after, 
 use Rattle.clk_model.specs.Tier.{is_step}
 use Rattle.clk_machine.specs.Run.{Run, in_flight, driver_in_flight, Appends}
 use Rattle.drv_scripts.specs.Placed.{NamesPlace, NamePlaces}
-use Rattle.driver_runs.specs.Scripts.{CanCall, are_built, are_calls}
+use Rattle.driver_runs.specs.Scripts.{are_calls}
 use Rattle.driver_runs.specs.Standing.{left_of}
 use Rattle.driver_runs.specs.Steps.{goes_on}
 use Rattle.driver_runs.specs.declared.standing.Standing.{Standing}
@@ -35,7 +35,6 @@ pub record MayEnter (run : Run) (steps : Bool) (held : Option Handle) (a : Act) 
   pub credit : steps ≡ false → cost run.journal < run.start.credits
   pub quiet : steps ≡ false → is_atomic a ≡ false → in_flight run.journal ≡ false
   pub place : NamesPlace (length run.start.defs) a
-  pub can : CanCall run a
 
 -- the next step of the call in flight was made, with fewer to come then, or the call of the command was begun; what never sleeps is answered at once
 pub record Enters (old : Run) (d : ℕ) (steps : Bool) (held : Option Handle) (a : Act) (t : Turn) (new : Run) : Type 0 where
@@ -94,7 +93,6 @@ pub record MayMove (run : Run) (d : ℕ) (commands : List Command) (x : Standing
   pub passed : unskipped x.held.items (left_of commands x) ≡ left_of commands x
   pub credit : is_at d going ≡ false → cost run.journal < run.start.credits
   pub places : NamePlaces (length run.start.defs) commands
-  pub built : are_built commands ≡ true
   pub can : (is_at d going || can_take going (left_of commands x)) ≡ true
 
 -- a driver made its next event: its entry is appended, and the driver stands where the entry leaves it

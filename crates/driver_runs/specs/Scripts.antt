@@ -1,66 +1,22 @@
 -- What a core has gone through when it has run the commands of a driver.
-use Rattle.std.specs.Prelude.{◌≡◌, ℕ, ◌+◌, ◌<◌, ◌≤◌, ◌==◌, ◌&&◌, List, [], ◌∷◌, ◌++◌, Bool, true, false, not, Option, Some, None, length, if◌then◌else◌}
-use Rattle.std.specs.List.{list_all}
-use Rattle.clk_base.specs.Description.{Description, EachClock, parents_of}
+use Rattle.std.specs.Prelude.{◌≡◌, ℕ, ◌+◌, ◌≤◌, ◌==◌, ◌&&◌, List, [], ◌∷◌, ◌++◌, Bool, true, false, not, Option, Some, None, length, if◌then◌else◌}
 use Rattle.clk_base.specs.declared.command.Act.{Act}
 use Rattle.clk_base.specs.declared.command.Act.TheVariants as act
 use Rattle.clk_base.specs.declared.command.Answer.{Answer}
 use Rattle.clk_base.specs.declared.command.Command.{Command}
 use Rattle.clk_base.specs.declared.event.Entry.{Entry}
 use Rattle.clk_base.specs.declared.event.Event.{Event}
-use Rattle.clk_base.specs.declared.event.Event.TheVariants as event
 use Rattle.clk_base.specs.declared.event.Reply.{Reply}
 use Rattle.clk_base.specs.declared.handle.Handle.{Handle}
-use Rattle.drv_scripts.specs.Placed.{NamePlaces}
 use Rattle.clk_model.specs.Journal.{Answered, is_going, calls_of, cost, Legal}
 use Rattle.clk_model.specs.Tier.{is_step}
 use Rattle.clk_model.specs.Follows.{Variables, call_of, FollowsFrom}
-use Rattle.clk_machine.specs.Fit.{has_earlier_parents}
-use Rattle.clk_machine.specs.Run.{Run, was_probed}
-use Rattle.clk_machine.specs.Stands.{registers}
-use Rattle.clk_machine.specs.Built.{is_built}
-use Rattle.std.specs.Option.{option_map_or}
+use Rattle.clk_machine.specs.Run.{Run}
 
 -- the call that a command makes where its variable lets it: a get with no handle, and another with this one
 abbrev pub made_by : Handle → Act → Option Event
 made_by h (act.Get found) = call_of None (act.Get found)
 made_by h a = call_of (Some h) a
-
--- whether an event can be made so far; a clock is probed by boot alone
-abbrev pub is_built_event : Event → Bool
-is_built_event (event.Begin what) = is_built (λ c. false) what
-is_built_event (event.Step m answer) = false
-is_built_event _ = true
-
--- whether a driver's command can be run so far: its call can be made, whatever its handle
-abbrev pub is_built_act : Act → Bool
-is_built_act a = option_map_or is_built_event (made_by (record { number = 0; slot = 0; driver = 0 }) a) false
-
--- whether each of these commands can be run so far
-abbrev pub are_built : List Command → Bool
-are_built commands = list_all (λ c. is_built_act c.act) commands
-
--- a command that can be run now: one of those, or the registration of a clock whose possible parents were probed
-abbrev pub CanCall : Run → Act → Type 0
-CanCall run (act.Probe c) = list_all (was_probed run.journal) (parents_of run.start.defs c.0) ≡ true
-CanCall run a = is_built_act a ≡ true
-
--- a command of boot at a place: it registers the clock of that place, and behind the last clock it can be run so far
-pub record IsBootAt (defs : Description) (place : ℕ) (a : Act) : Type 0 where
-  pub registers_ : place < length defs → a ≡ act.Probe (record { 0 = place })
-  pub built : length defs ≤ place → is_built_act a ≡ true
-
--- the commands of boot from a place on
-abbrev pub AreBoot : Description → ℕ → List Command → Type 0
-AreBoot defs place [] = Unit {0}
-AreBoot defs place (command ∷ commands) = IsBootAt defs place command.act × AreBoot defs (place + 1) commands
-
--- commands that boot can run: they register each clock in its turn, where its possible parents stand before it, and behind that come
--- commands that can be run so far, on clocks of the description
-pub record CanBoot (defs : Description) (commands : List Command) : Type 0 where
-  pub earlier : EachClock defs (has_earlier_parents defs)
-  pub placed : NamePlaces (length defs) commands
-  pub each : AreBoot defs 0 commands
 
 -- whether entries are whole calls of this driver, where one of its calls goes on before them or none does: while one goes on the next entry
 -- is a step of it, and else it begins one, and none goes on behind them
@@ -78,7 +34,6 @@ pub record Answers (old : Run) (d : ℕ) (made : Event) (answer : Reply) (new : 
   pub own : are_calls d false entries ≡ true
   pub paid : cost entries ≡ 1
   pub calls : calls_of entries ≡ record { call = made; reply = answer } ∷ []
-  pub probes : (c : ℕ) → registers made c ≡ true → was_probed new.journal c ≡ true
   pub legal : old.told ≡ true → Legal old.start old.journal → Legal new.start new.journal
 
 -- what the call of a command has done: none was made, or the next call was made and answered

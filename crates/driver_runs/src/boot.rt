@@ -3,7 +3,8 @@
 ghost use Rattle.std.specs.Prelude.{◌≡◌, ◌+◌, ◌≤◌, false, length, IfOk};
 ghost use Rattle.clk_model.specs.Journal.{cost};
 ghost use Rattle.clk_model.specs.Follows.{Variables, no_handles};
-ghost use Rattle.driver_runs.specs.Scripts.{CanBoot, GoesThrough};
+ghost use Rattle.drv_scripts.specs.Placed.{NamePlaces};
+ghost use Rattle.driver_runs.specs.Scripts.{GoesThrough};
 ghost use Rattle.clk_machine.specs.Run.{in_flight};
 
 use crate::command::run_command;
@@ -14,8 +15,8 @@ use clk_machine::Core;
 use reg_bank::Bank;
 use std::alloc::Global;
 
-/// Runs the commands of boot: registers the clocks of the description, each in its turn, and then
-/// does what is assigned. Its variables hold nothing at first.
+/// Runs the commands of boot: registers the clocks that it names, each in its turn, and then does
+/// what is assigned. Its variables hold nothing at first.
 pub(crate) fn run_boot<B: Bank>(
     alloc: Global,
     core: &mut Core<B>,
@@ -23,7 +24,7 @@ pub(crate) fn run_boot<B: Bank>(
 ) -> Result<Vec<Answer>, NoMemory>
     requires credits { cost core.old.journal + length commands.now ≤ core.old.start.credits }
     requires quiet { in_flight core.old.journal ≡ false }
-    requires boots { CanBoot core.old.start.defs commands.now }
+    requires placed { NamePlaces (length core.old.start.defs) commands.now }
     ensures { IfOk result (λ answers. (held : Variables) × GoesThrough core.old 0 (no_handles commands.now) commands.now answers.items held core.new) }
 {
     let mut variables = vec![in alloc; None; variable_count(commands)]?;

@@ -4,7 +4,7 @@ ghost use Rattle.std.specs.Prelude.{◌≡◌, ◌<◌, true, false, IfOk, OnErr
 ghost use Rattle.clk_model.specs.Journal.{cost};
 ghost use Rattle.clk_base.specs.declared.event.Event.TheVariants.{Begin};
 ghost use Rattle.clk_machine.specs.Sound.{IsPlaced};
-ghost use Rattle.clk_machine.specs.Run.{can_make, in_flight, driver_in_flight};
+ghost use Rattle.clk_machine.specs.Run.{in_flight, driver_in_flight};
 ghost use Rattle.driver_runs.specs.Scripts.{Answers};
 ghost use Rattle.driver_runs.specs.Steps.{Finishes};
 
@@ -34,7 +34,6 @@ pub(crate) fn make_sleeping<B: Bank>(
     requires credit { cost core.old.journal < core.old.start.credits }
     requires quiet { in_flight core.old.journal ≡ false }
     requires place { IsPlaced core.old.start.defs what.now }
-    requires built { can_make core.old what.now ≡ true }
     ensures ok { IfOk result (λ reply. Answers core.old driver (Begin what.now) reply core.new) }
     ensures err { OnErr result (core.new ≡ core.old) }
 {

@@ -1,11 +1,10 @@
 //! The call of one command.
 
-ghost use Rattle.std.specs.Prelude.{◌≡◌, ℕ, ◌<◌, true, false, [], ◌∷◌, length, IfOk, OnErr};
+ghost use Rattle.std.specs.Prelude.{◌≡◌, ◌<◌, false, [], ◌∷◌, length, IfOk, OnErr};
 ghost use Rattle.clk_model.specs.Journal.{cost};
-ghost use Rattle.clk_base.specs.declared.command.Act.TheVariants.{Probe};
-ghost use Rattle.clk_machine.specs.Run.{in_flight, was_probed};
+ghost use Rattle.clk_machine.specs.Run.{in_flight};
 ghost use Rattle.drv_scripts.specs.Placed.{NamesPlace};
-ghost use Rattle.driver_runs.specs.Scripts.{CanCall, MakesCall, GoesThrough};
+ghost use Rattle.driver_runs.specs.Scripts.{MakesCall, GoesThrough};
 
 use crate::called::{Called, call_of};
 use crate::calling::make_sleeping;
@@ -26,7 +25,6 @@ pub(crate) fn make_call<B: Bank>(
     requires credit { cost core.old.journal < core.old.start.credits }
     requires quiet { in_flight core.old.journal ≡ false }
     requires place { NamesPlace (length core.old.start.defs) act }
-    requires can { CanCall core.old act }
     ensures ok { IfOk result (λ reply. MakesCall core.old driver held act reply core.new) }
     ensures err { OnErr result (core.new ≡ core.old) }
 {
@@ -52,9 +50,7 @@ pub(crate) fn run_command<B: Bank>(
     requires credit { cost core.old.journal < core.old.start.credits }
     requires quiet { in_flight core.old.journal ≡ false }
     requires place { NamesPlace (length core.old.start.defs) command.now.act }
-    requires can { CanCall core.old command.now.act }
-    ensures goes { IfOk result (λ answer. GoesThrough core.old driver held.old (command.now ∷ []) (answer ∷ []) held.new core.new) }
-    ensures probed { IfOk result (λ _. (c : ℕ) → command.now.act ≡ Probe (record { 0 = c }) → was_probed core.new.journal c ≡ true) }
+    ensures { IfOk result (λ answer. GoesThrough core.old driver held.old (command.now ∷ []) (answer ∷ []) held.new core.new) }
 {
     let before = handle_of(held, command);
     match make_call(core, driver, before, command.act)? {

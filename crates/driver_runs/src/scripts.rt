@@ -1,9 +1,8 @@
 //! Running boot, and then the drivers.
 
-ghost use Rattle.std.specs.Prelude.{◌≡◌, ◌≤◌, ◌<◌, ◌+◌, ◌∷◌, [], true, length, map, sum_by, IfOk};
+ghost use Rattle.std.specs.Prelude.{◌≡◌, ◌≤◌, ◌<◌, ◌+◌, ◌∷◌, [], length, map, sum_by, IfOk};
 ghost use Rattle.std.specs.List.{AllByRecursion};
-ghost use Rattle.drv_scripts.specs.Placed.{IsScript};
-ghost use Rattle.driver_runs.specs.Scripts.{CanBoot, are_built};
+ghost use Rattle.drv_scripts.specs.Placed.{IsScript, NamePlaces};
 ghost use Rattle.driver_runs.specs.Moves.{AreNew};
 ghost use Rattle.driver_runs.specs.Turns.{HasRun};
 
@@ -59,14 +58,12 @@ pub fn run_scripts<B: Bank>(
     requires begins { core.old.journal ≡ [] }
     // A credit is left for each command.
     requires credits { length boot.now + sum_by (λ s. length s.commands) drivers.now ≤ core.old.start.credits }
-    // Boot registers each clock in its turn, its possible parents before it; what it does then can be run so far.
-    requires boot { CanBoot core.old.start.defs boot.now }
+    // The commands of boot name clocks of the description.
+    requires boot { NamePlaces (length core.old.start.defs) boot.now }
     // There are at most so many drivers.
     requires few { length drivers.now ≤ 65536 }
-    // The commands of each driver name clocks of the description.
+    // So do those of each driver.
     requires placed { AllByRecursion (IsScript (length core.old.start.defs)) drivers.now }
-    // Each of them can be run so far.
-    requires built { AllByRecursion (λ s. are_built s.commands ≡ true) drivers.now }
     // Drivers are numbered from 1.
     requires turns { AllByRecursion (λ d. 0 < d) order.now }
     // Boot and each driver, and nobody else, have their calls once, in their order, one after the other, answered so; boot's entries come first, and behind them

@@ -2,7 +2,7 @@
 
 ghost use Rattle.std.specs.Prelude.{◌<◌, ◌≤◌, [], length, IfOk};
 ghost use Rattle.std.specs.List.{AllByRecursion};
-ghost use Rattle.driver_runs.specs.Courses.{AreRunnable, BeginsCourse, Course, IsUnderWay, IsNextAt, HasEnded, KeepsCourse};
+ghost use Rattle.driver_runs.specs.Courses.{ArePlaced, BeginsCourse, Course, IsUnderWay, IsNextAt, HasEnded, KeepsCourse};
 
 use crate::moving::{can_move_at, first_to_move, move_driver};
 use crate::standing::Standing;
@@ -19,7 +19,7 @@ pub(crate) fn follow_order<B: Bank>(
     standings: &mut [Standing],
     order: &[u32],
 ) -> Result<Option<u32>, NoMemory>
-    requires runs { AreRunnable core.old.start.defs drivers.now }
+    requires placed { ArePlaced core.old.start.defs drivers.now }
     requires begins { BeginsCourse core.old drivers.now standings.old }
     requires turns { AllByRecursion (λ d. 0 < d) order.now }
     ensures { IfOk result (λ going. Course core.old drivers.now order.now standings.new going [] core.new) }
@@ -41,7 +41,7 @@ fn run_on<B: Bank>(
     going: Option<u32>,
     driver: u32,
 ) -> Result<Option<u32>, NoMemory>
-    requires runs { AreRunnable core.old.start.defs drivers.now }
+    requires placed { ArePlaced core.old.start.defs drivers.now }
     requires way { IsUnderWay drivers.now standings.old going core.old }
     requires next { IsNextAt going drivers.now standings.old driver }
     ensures { IfOk result (λ after. KeepsCourse drivers.now standings.old going core.old standings.new after core.new) }
@@ -62,7 +62,7 @@ pub(crate) fn run_rest<B: Bank>(
     going: Option<u32>,
 ) -> Result<(), NoMemory>
     requires few { length drivers.now ≤ 65536 }
-    requires runs { AreRunnable core.old.start.defs drivers.now }
+    requires placed { ArePlaced core.old.start.defs drivers.now }
     requires way { IsUnderWay drivers.now standings.old going core.old }
     ensures { IfOk result (λ _. HasEnded drivers.now standings.old going core.old standings.new core.new) }
 {

@@ -1,21 +1,17 @@
 -- A driver that may run commands may make the call of each in its turn.
-use Rattle.std.proofs.Common.{◌≡◌, ℕ, ◌+◌, ◌<◌, ◌≤◌, true, List, [], Option, refl, sym, ap, subst, ◌∙◌, arith, length, take, get_or, IfSome}
-use Rattle.std.specs.Option.{option_map_or}
+use Rattle.std.proofs.Common.{◌≡◌, ℕ, ◌+◌, ◌<◌, ◌≤◌, List, [], Option, sym, ap, subst, ◌∙◌, arith, length, take, get_or, IfSome}
 use Rattle.std.proofs.lemmas.List.{length-take}
 use Rattle.atomic_table.specs.Seated.{TableId}
 use Rattle.clk_base.specs.declared.command.Answer.{Answer}
 use Rattle.clk_base.specs.declared.command.Command.{Command}
 use Rattle.clk_model.specs.Follows.{Variables}
-use Rattle.clk_machine.specs.Run.{was_probed}
 use Rattle.clk_framework.specs.declared.opened.Opened.{Opened}
 use Rattle.clk_framework.specs.Calls.{DriverView}
-use Rattle.clk_framework.specs.Causes.{run_from}
 use Rattle.clk_machine.specs.Sound.{IsPlaced}
 use Rattle.clk_base.specs.declared.call.Sleeping.{Sleeping}
 use Rattle.drv_scripts.specs.Placed.{NamesPlace}
-use Rattle.driver_runs.specs.Scripts.{is_built_act}
-use Rattle.driver_runs.proofs.Going.{element, element_true, can_built, boot_first, boot_can}
-use Rattle.driver_threads.specs.Going.{MayBegin, MayCall, MayRun, MayBoot, IsSame, GoesThrough}
+use Rattle.driver_runs.proofs.Going.{element}
+use Rattle.driver_threads.specs.Going.{MayBegin, MayCall, MayRun, IsSame, GoesThrough}
 use Rattle.driver_threads.proofs.Going.{same_ready, goes_same}
 
 -- what the framework asks of a call, in its own words
@@ -41,25 +37,7 @@ module _ (table : TableId) (old now : DriverView) (held held' : Variables) (comm
     opened = may.opened;
     knows = fixed ∙ may.knows;
     place = element (λ (command : Command). NamesPlace (length may.opened.defs) command.act) commands i x may.places within;
-    can = can_built (run_from may.opened now.seen) (get_or commands i x).act (element_true (λ (command : Command). is_built_act command.act) commands i x may.built within);
   }
-
-  -- so may boot, where the clocks before were probed
-  pub may_boot_next : (may : MayBoot table old commands) → ((k : ℕ) → k < i → k < length may.opened.defs → was_probed now.seen k ≡ true) → MayCall table now (get_or commands i x).act
-  may_boot_next may earlier =
-      let is = boot_first may.opened.defs i commands x may.boots.each within in
-      record {
-        ready = same_ready table old now (goes_same old now held held' (take i commands) answers goes) may.ready;
-        credit = credit_left old.room now.room (length (take i commands)) i goes.few (taken commands i) (length commands) may.credits within;
-        opened = may.opened;
-        knows = fixed ∙ may.knows;
-        place = element (λ (command : Command). NamesPlace (length may.opened.defs) command.act) commands i x may.boots.placed within;
-        can = boot_can (run_from may.opened now.seen) may.opened.defs i (get_or commands i x).act refl may.boots.earlier is earlier;
-      }
-
--- how many clocks the description has that a driver knows
-abbrev pub known_clocks : Option Opened → ℕ
-known_clocks fixed = option_map_or (λ opened. length opened.defs) fixed 0
 
 -- a driver whose commands are run may run what is left: none
 pub may_rest : (table : TableId) (old new : DriverView) (commands : List Command) → IsSame old new → MayRun table old commands → MayRun table new []
@@ -69,5 +47,4 @@ may_rest table old new commands same may = record {
   opened = may.opened;
   knows = ap (λ (d : DriverView). d.fixed) same ∙ may.knows;
   places = tt;
-  built = refl;
 }

@@ -1,5 +1,5 @@
 -- Driver 0 makes a driver for each script, one after the other.
-use Rattle.std.proofs.Common.{◌≡◌, ℕ, suc, ◌+◌, ◌-◌, ◌<◌, ◌≤◌, true, List, [], ◌∷◌, ◌++◌, sym, ap, subst, ◌∙◌, arith, length, map, take, drop, get_or, add-zero, sum_by}
+use Rattle.std.proofs.Common.{◌≡◌, ℕ, suc, ◌+◌, ◌-◌, ◌<◌, ◌≤◌, List, [], ◌∷◌, ◌++◌, sym, ap, subst, ◌∙◌, arith, length, map, take, drop, get_or, add-zero, sum_by}
 use Rattle.std.proofs.lemmas.List.{map-append, take_more, length-map, length-take}
 use Rattle.std.proofs.lemmas.List.Sums.{sum_by-drop_more}
 use Rattle.atomic_table.specs.Seated.{TableId}
@@ -8,7 +8,6 @@ use Rattle.tier_lock.specs.Known.{parted, next_pass}
 use Rattle.clk_framework.specs.Calls.{DriverView, IsReady}
 use Rattle.drv_scripts.specs.declared.bundle.Script.{Script}
 use Rattle.drv_scripts.specs.Placed.{IsScript, NamePlaces}
-use Rattle.driver_runs.specs.Scripts.{are_built}
 use Rattle.driver_runs.proofs.Going.{element}
 use Rattle.driver_threads.specs.Going.{MayRun}
 use Rattle.driver_threads.specs.Workers.{MayMake, HasMade, newcomer, newcomers}
@@ -85,7 +84,6 @@ module _ (table : TableId) (old mid : DriverView) (scripts : List Script) (i : �
         opened = may.opened;
         knows = fixed ∙ may.knows;
         places = subst (λ (x : Script). NamePlaces (length may.opened.defs) x.commands) (sym is) (element (IsScript (length may.opened.defs)) scripts i s may.placed within).placed;
-        built = subst (λ (x : Script). are_built x.commands ≡ true) (sym is) (element (λ (x : Script). are_built x.commands ≡ true) scripts i s may.built within);
       }
 
 -- ---- the new drivers

@@ -8,14 +8,14 @@ use Rattle.clk_base.specs.declared.command.Command.{Command}
 use Rattle.clk_model.specs.Follows.{Variables, no_handles}
 use Rattle.clk_framework.specs.Calls.{DriverView}
 use Rattle.drv_scripts.specs.declared.bundle.Script.{Script}
-use Rattle.driver_threads.specs.Going.{MayBoot, IsSame, GoesThrough}
+use Rattle.driver_threads.specs.Going.{MayRun, IsSame, GoesThrough}
 use Rattle.driver_threads.specs.Workers.{Worked, HaveWorked, newcomers, MayMake, HasMade, AllDone}
 use Rattle.driver_threads.specs.Runs.{CanStart}
 use Rattle.driver_threads.proofs.Going.{same_ready, goes_same}
 use Rattle.driver_threads.proofs.Newcomers.{commands_of}
 
 module _ (table : TableId) (first : DriverView) (boot : List Command) (scripts : List Script) (starts : CanStart table first boot scripts) where
-  pub may_boot : MayBoot table first boot
+  pub may_boot : MayRun table first boot
   may_boot = record {
     ready = record {
       table_is = ap (λ (d : DriverView). d.table) starts.begins;
@@ -25,7 +25,7 @@ module _ (table : TableId) (first : DriverView) (boot : List Command) (scripts :
     credits = let paid = starts.credits in omega (arith, paid);
     opened = starts.opened;
     knows = ap (λ (d : DriverView). d.fixed) starts.begins;
-    boots = starts.runnable.boots;
+    places = starts.placed.boot_;
   }
 
   module _ (booted : DriverView) (held : Variables) (own : List Answer) (boots : GoesThrough first (no_handles boot) boot own held booted) where
@@ -40,8 +40,7 @@ module _ (table : TableId) (first : DriverView) (boot : List Command) (scripts :
           omega (arith, one, many);
       opened = starts.opened;
       knows = ap (λ (d : DriverView). d.fixed) boots.driver ∙ ap (λ (d : DriverView). d.fixed) starts.begins;
-      placed = starts.runnable.placed;
-      built = starts.runnable.built;
+      placed = starts.placed.drivers_;
     }
 
 -- a driver that has run its script, or met want of memory

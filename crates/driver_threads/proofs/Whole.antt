@@ -1,8 +1,6 @@
 -- The calls that a framework makes, as whole calls of their driver.
-use Rattle.std.proofs.Common.{◌≡◌, ℕ, ◌&&◌, ◌||◌, not, Bool, true, false, cond, List, [], ◌∷◌, ◌++◌, Option, Some, None, filter, nat_eq, refl, sym, ap, ◌∙◌}
-use Rattle.std.specs.List.{list_any}
+use Rattle.std.proofs.Common.{◌≡◌, ℕ, ◌&&◌, not, true, false, List, [], ◌∷◌, ◌++◌, Option, Some, None, Result, Ok, Err, IfOk, OnErr, nat_eq, refl, sym, ap, ◌∙◌}
 use Rattle.std.proofs.lemmas.Bool.{and_from}
-use Rattle.std.proofs.lemmas.List.Folds.{list_any-append}
 use Rattle.clk_base.specs.declared.call.Sleeping.{Sleeping}
 use Rattle.clk_base.specs.declared.event.Entry.{Entry}
 use Rattle.clk_base.specs.declared.event.Event.{Event}
@@ -13,33 +11,12 @@ use Rattle.clk_base.specs.declared.event.Turn.TheVariants as turn
 use Rattle.clk_model.specs.Journal.{Answered, is_paid, is_going, reply_at, end_reply, call_at, calls_of}
 use Rattle.clk_model.specs.Tier.{is_step}
 use Rattle.clk_model.proofs.Members.{test_same}
-use Rattle.clk_machine.specs.Run.{was_probed}
-use Rattle.clk_machine.specs.Stands.{registers}
-use Rattle.clk_framework.specs.Calls.{DriverView, entry_of, Answers, AreSteps, AreCall, Calls}
-use Rattle.clk_framework.specs.Tiers.{is_prepare_tier}
+use Rattle.clk_framework.specs.Calls.{DriverView, entry_of, Answers, AreSteps, AreCall, MakesNone, Calls}
 use Rattle.clk_framework.proofs.Growing.{front_of_front}
 use Rattle.driver_runs.specs.Scripts.{are_calls}
 use Rattle.driver_runs.proofs.WholeCalls.{step_done, step_going, step_no_call, call_at-done, paid_no_step}
-use Rattle.driver_threads.specs.Going.{AnswersCall}
-
--- ---- lists
-
-either_true : (b : Bool) → (b || true) ≡ true
-either_true true = refl
-either_true false = refl
-
-or_more : (b c c' : Bool) → (b || c) ≡ true → (c ≡ true → c' ≡ true) → (b || c') ≡ true
-or_more true c c' either more = refl
-or_more false c c' either more = more either
-
--- what stands among those that pass a test stands among all
-any_passed : {X : Type 0} (f p : X → Bool) (xs : List X) → list_any f (filter p xs) ≡ true → list_any f xs ≡ true
-any_passed f p [] h = h
-any_passed {X = X} f p (x ∷ xs) h = by (p x) refl (λ rest. any_passed f p xs rest) where
-  by : (b : Bool) → p x ≡ b → (list_any f (filter p xs) ≡ true → list_any f xs ≡ true) → (f x || list_any f xs) ≡ true
-  by true passes more = or_more (f x) (list_any f (filter p xs)) (list_any f xs) (sym (ap (λ (b : Bool). list_any f (cond b (x ∷ filter p xs) (filter p xs))) passes) ∙ h) more
-  by false passes more =
-      ap (λ (b : Bool). f x || b) (more (sym (ap (λ (b : Bool). list_any f (cond b (x ∷ filter p xs) (filter p xs))) passes) ∙ h)) ∙ either_true (f x)
+use Rattle.driver_threads.specs.Going.{IsSame, AnswersCall}
+use Rattle.driver_threads.proofs.Going.{answers_same, none_same}
 
 -- ---- the steps of a call, up to its end
 
@@ -93,12 +70,6 @@ call_alone d what (e ∷ es) r call =
           ∙ ap (λ (o : Option Reply). call_at (event.Begin what) turn.Going o) (steps_end d e.turn es r call.2 at)
       by (turn.Done s) at = ap (λ (u : Turn). call_at (event.Begin what) u (end_reply es)) at ∙ ap one (last_done d e.turn es r s call.2 at)
 
-call_probes : (d : ℕ) (what : Sleeping) (es : List Entry) (last : Turn) (c : ℕ) → AreCall d what es last → registers (event.Begin what) c ≡ true
-    → list_any (λ e. registers e.event c) es ≡ true
-call_probes d what [] last c call is = absurd call
-call_probes d what (e ∷ es) last c call is =
-    ap (λ (b : Bool). b || list_any (λ f. registers f.event c) es) (ap (λ (v : Event). registers v c) call.1 ∙ is)
-
 -- a call that the framework made whole
 pub answers_sleeping : (old new : DriverView) (what : Sleeping) (r : Reply) → Calls old what r new → AnswersCall old (event.Begin what) r new
 answers_sleeping old new what r calls =
@@ -109,15 +80,14 @@ answers_sleeping old new what r calls =
       continues = front_of_front old.seen makes.before new.seen makes.continues record { rest = makes.section; whole = makes.seen };
       own = call_whole old.number what makes.entries r makes.call_;
       calls = call_alone old.number what makes.entries r makes.call_;
-      probes = λ c is.
-          ap (λ (j : List Entry). was_probed j c) makes.seen ∙ list_any-append (λ f. registers f.event c) makes.before makes.section
-          ∙ ap (λ (b : Bool). was_probed makes.before c || b)
-          (any_passed (λ f. registers f.event c) is_prepare_tier makes.section
-          (ap (λ (es : List Entry). list_any (λ f. registers f.event c) es) makes.alone ∙ call_probes old.number what makes.entries (turn.Done r) c makes.call_ is))
-          ∙ either_true (was_probed makes.before c);
       alone = λ zero one.
           makes.run.alone (ap (λ (d : DriverView). d.number) makes.driver ∙ zero) (ap (λ (d : DriverView). d.made) makes.driver ∙ one);
     }
+
+-- whether it made it or not, it is the same driver
+pub call_same : {E : Type 0} (old new : DriverView) (what : Sleeping) (made : Result Reply E) → IfOk made (λ reply. Calls old what reply new) → OnErr made (MakesNone old new) → IsSame old new
+call_same old new what (Ok reply) calls none = answers_same old new (event.Begin what) reply (answers_sleeping old new what reply calls)
+call_same old new what (Err fault) calls none = none_same old new none
 
 -- ---- a call that is answered in one turn
 
@@ -131,9 +101,6 @@ answers_at_once old new e r paid answers =
       continues = front_of_front old.seen answers.before new.seen answers.continues record { rest = entry ∷ []; whole = answers.seen };
       own = and_from (nat_eq old.number old.number && not (is_step e)) true (and_from (nat_eq old.number old.number) (not (is_step e)) (test_same old.number) no_step) refl;
       calls = ap (λ (ls : List Answered). ls ++ []) (call_at-done e r None no_step);
-      probes = λ c is.
-          ap (λ (j : List Entry). was_probed j c) answers.seen ∙ list_any-append (λ f. registers f.event c) answers.before (entry ∷ [])
-          ∙ ap (λ (b : Bool). was_probed answers.before c || (b || false)) is ∙ either_true (was_probed answers.before c);
       alone = λ zero one.
           answers.run.alone (ap (λ (d : DriverView). d.number) answers.driver ∙ zero) (ap (λ (d : DriverView). d.made) answers.driver ∙ one);
     }

@@ -1,5 +1,5 @@
 -- What a driver of a framework has gone through when it has run commands, as its own entries tell it.
-use Rattle.std.specs.Prelude.{◌≡◌, ℕ, ◌-◌, ◌+◌, ◌<◌, ◌≤◌, List, [], ◌∷◌, ◌++◌, true, false, Option, Some, None, length}
+use Rattle.std.specs.Prelude.{◌≡◌, ◌-◌, ◌+◌, ◌<◌, ◌≤◌, List, [], ◌∷◌, ◌++◌, true, false, Option, Some, None, length}
 use Rattle.atomic_table.specs.Seated.{TableId}
 use Rattle.clk_base.specs.declared.call.Sleeping.{Sleeping}
 use Rattle.clk_base.specs.declared.command.Act.{Act}
@@ -11,27 +11,22 @@ use Rattle.clk_base.specs.declared.event.Reply.{Reply}
 use Rattle.clk_base.specs.declared.handle.Handle.{Handle}
 use Rattle.clk_model.specs.Journal.{Answered, calls_of}
 use Rattle.clk_model.specs.Follows.{Variables, call_of, FollowsFrom}
-use Rattle.clk_machine.specs.Run.{was_probed, can_make}
 use Rattle.clk_machine.specs.Sound.{IsPlaced}
-use Rattle.clk_machine.specs.Stands.{registers}
 use Rattle.tier_lock.specs.Entries.{IsPrefix}
 use Rattle.clk_framework.specs.declared.opened.Opened.{Opened}
 use Rattle.clk_framework.specs.Calls.{DriverView, IsReady}
-use Rattle.clk_framework.specs.Causes.{run_from}
 use Rattle.drv_scripts.specs.Placed.{NamesPlace, NamePlaces}
-use Rattle.driver_runs.specs.Scripts.{are_built, are_calls, CanBoot, CanCall}
+use Rattle.driver_runs.specs.Scripts.{are_calls}
 
 -- ---- what a driver may do
 
--- a driver between two calls may begin this call: it has a credit, the call names clocks of the description, and it can be made over what the
--- driver has seen
+-- a driver between two calls may begin this call: it has a credit, and the call names clocks of the description
 pub record MayBegin (table : TableId) (d : DriverView) (what : Sleeping) : Type 0 where
   pub ready : IsReady table d
   pub credit : 0 < d.room
   pub opened : Opened
   pub knows : d.fixed ≡ Some opened
   pub place : IsPlaced opened.defs what
-  pub can : can_make (run_from opened d.seen) what ≡ true
 
 -- it may make the call of a command
 pub record MayCall (table : TableId) (d : DriverView) (a : Act) : Type 0 where
@@ -40,24 +35,14 @@ pub record MayCall (table : TableId) (d : DriverView) (a : Act) : Type 0 where
   pub opened : Opened
   pub knows : d.fixed ≡ Some opened
   pub place : NamesPlace (length opened.defs) a
-  pub can : CanCall (run_from opened d.seen) a
 
--- it may run these commands: it has a credit for each, they name clocks of the description, and each can be run so far
+-- it may run these commands: it has a credit for each, and they name clocks of the description
 pub record MayRun (table : TableId) (d : DriverView) (commands : List Command) : Type 0 where
   pub ready : IsReady table d
   pub credits : length commands ≤ d.room
   pub opened : Opened
   pub knows : d.fixed ≡ Some opened
   pub places : NamePlaces (length opened.defs) commands
-  pub built : are_built commands ≡ true
-
--- it may run the commands of boot: it has a credit for each, and boot can run them
-pub record MayBoot (table : TableId) (d : DriverView) (commands : List Command) : Type 0 where
-  pub ready : IsReady table d
-  pub credits : length commands ≤ d.room
-  pub opened : Opened
-  pub knows : d.fixed ≡ Some opened
-  pub boots : CanBoot opened.defs commands
 
 -- ---- what it has done
 
@@ -72,7 +57,6 @@ pub record AnswersCall (old : DriverView) (made : Event) (answer : Reply) (new :
   pub continues : IsPrefix old.seen new.seen
   pub own : are_calls old.number false entries ≡ true
   pub calls : calls_of entries ≡ record { call = made; reply = answer } ∷ []
-  pub probes : (c : ℕ) → registers made c ≡ true → was_probed new.seen c ≡ true
   -- while driver 0 alone was made, it has seen its own entries alone
   pub alone : old.number ≡ 0 → old.made ≡ 1 → new.seen ≡ new.mine
 

@@ -11,25 +11,24 @@ use Rattle.tier_lock.specs.Known.{first_known}
 use Rattle.clk_framework.specs.declared.opened.Opened.{Opened}
 use Rattle.clk_framework.specs.Opening.{opened_of, start_of}
 use Rattle.clk_framework.specs.Calls.{DriverView}
-use Rattle.drv_scripts.specs.Placed.{IsScript}
+use Rattle.drv_scripts.specs.Placed.{IsScript, NamePlaces}
 use Rattle.drv_scripts.specs.declared.bundle.Script.{Script}
 use Rattle.driver_runs.specs.Drivers.{FollowAll, are_among, boot_first}
-use Rattle.driver_runs.specs.Scripts.{are_built, CanBoot}
 use Rattle.driver_runs.specs.Turns.{scripts_with}
 
--- scripts that can be run over a description: boot can run its commands, the drivers' commands name clocks of the description, and each can be run so far
-pub record AreRunnable (defs : Description) (boot : List Command) (drivers : List Script) : Type 0 where
-  pub boots : CanBoot defs boot
-  pub placed : AllByRecursion (IsScript (length defs)) drivers
-  pub built : AllByRecursion (λ s. are_built s.commands ≡ true) drivers
+-- the commands of boot and of the drivers name clocks of the description
+pub record ArePlaced (defs : Description) (boot : List Command) (drivers : List Script) : Type 0 where
+  pub boot_ : NamePlaces (length defs) boot
+  pub drivers_ : AllByRecursion (IsScript (length defs)) drivers
 
--- driver 0 of a framework with this lock, which has made no call and no driver, and has a credit for each command of scripts that can be run
+-- driver 0 of a framework with this lock, which has made no call and no driver, and has a credit for each command of these scripts, which name
+-- clocks of the description
 pub record CanStart (table : TableId) (first : DriverView) (boot : List Command) (drivers : List Script) : Type 0 where
   pub opened : Opened
   pub begins : first ≡ first_known table opened first.room
   pub credits : length boot + sum_by (λ s. length s.commands) drivers ≤ first.room
   pub few : length drivers ≤ 65536
-  pub runnable : AreRunnable opened.defs boot drivers
+  pub placed : ArePlaced opened.defs boot drivers
 
 -- a core has run the commands of boot, and then those of each of these drivers, whichever of them came first at each turn: it began at the opening that driver 0
 -- knew; its journal is legal from there where the bank tells its words; boot and each driver, and nobody else, have their calls once, in their order, one after the

@@ -1,5 +1,5 @@
 -- Drivers that work side by side, each through a script of its own.
-use Rattle.std.specs.Prelude.{◌≡◌, ℕ, ◌+◌, ◌≤◌, List, [], ◌∷◌, Option, Some, length, map, sum_by, IfSome, true, false}
+use Rattle.std.specs.Prelude.{◌≡◌, ℕ, ◌+◌, ◌≤◌, List, [], ◌∷◌, Option, Some, length, map, sum_by, IfSome, false}
 use Rattle.std.specs.List.{AllByRecursion}
 use Rattle.atomic_table.specs.Seated.{TableId}
 use Rattle.clk_base.specs.declared.command.Answer.{Answer}
@@ -9,7 +9,6 @@ use Rattle.clk_framework.specs.declared.opened.Opened.{Opened}
 use Rattle.clk_framework.specs.Calls.{DriverView, IsReady}
 use Rattle.drv_scripts.specs.Placed.{IsScript}
 use Rattle.drv_scripts.specs.declared.bundle.Script.{Script}
-use Rattle.driver_runs.specs.Scripts.{are_built}
 use Rattle.driver_threads.specs.Going.{IsSame, GoesThrough}
 
 -- a driver has worked through its commands and has these answers, or memory ran out before, and it has none
@@ -44,7 +43,8 @@ newcomers first number (commands ∷ scripts) = newcomer first number commands �
 
 -- ---- driver 0 makes them
 
--- driver 0 may make a driver for each of these scripts: it has the credits, numbers are left, and the scripts can be run
+-- driver 0 may make a driver for each of these scripts: it has the credits, numbers are left, and the scripts' commands name clocks of
+-- the description
 pub record MayMake (table : TableId) (first : DriverView) (scripts : List Script) : Type 0 where
   pub ready : IsReady table first
   pub number : first.number ≡ 0
@@ -53,7 +53,6 @@ pub record MayMake (table : TableId) (first : DriverView) (scripts : List Script
   pub opened : Opened
   pub knows : first.fixed ≡ Some opened
   pub placed : AllByRecursion (IsScript (length opened.defs)) scripts
-  pub built : AllByRecursion (λ s. are_built s.commands ≡ true) scripts
 
 -- it has made so many drivers more, and gave them credits
 abbrev pub HasMade : DriverView → ℕ → DriverView → Type 0

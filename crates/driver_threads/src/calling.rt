@@ -5,7 +5,7 @@ ghost use Rattle.clk_base.specs.declared.event.Event.TheVariants.{Begin};
 ghost use Rattle.driver_threads.specs.Going.{MayBegin, IsSame, AnswersCall};
 
 use clk_base::{Pause, Reply, Sleeping};
-use clk_framework::{Driver, Framework, Uncalled};
+use clk_framework::{Driver, Framework};
 use clk_io::NoMemory;
 use reg_bank::Bank;
 use std::sync::Wait;
@@ -23,9 +23,5 @@ pub(crate) fn make_sleeping<B: Bank, N: Named, R: Wait + Sync, Q: Pause>(
     ensures ok { IfOk result (λ reply. AnswersCall driver.old (Begin what.now) reply driver.new) }
     ensures same { IsSame driver.old driver.new }
 {
-    match framework.call(rt, driver, what, pause) {
-        Ok(reply) => Ok(reply),
-        Err(Uncalled::NoMemory) => Err(NoMemory),
-        Err(Uncalled::NotBuilt) => unreachable!(),
-    }
+    framework.call(rt, driver, what, pause)
 }

@@ -1,8 +1,6 @@
 //! The call of one command.
 
-ghost use Rattle.std.specs.Prelude.{◌≡◌, ℕ, [], ◌∷◌, true, IfOk};
-ghost use Rattle.clk_base.specs.declared.command.Act.TheVariants.{Probe};
-ghost use Rattle.clk_machine.specs.Run.{was_probed};
+ghost use Rattle.std.specs.Prelude.{[], ◌∷◌, IfOk};
 ghost use Rattle.driver_threads.specs.Going.{MayCall, IsSame, MakesCall, GoesThrough};
 
 use crate::calling::make_sleeping;
@@ -53,7 +51,6 @@ pub(crate) fn run_command<B: Bank, N: Named, R: Wait + Sync, Q: Pause>(
 ) -> Result<Answer, NoMemory>
     requires { MayCall N.table driver.old command.now.act }
     ensures goes { IfOk result (λ answer. GoesThrough driver.old held.old (command.now ∷ []) (answer ∷ []) held.new driver.new) }
-    ensures probed { IfOk result (λ _. (c : ℕ) → command.now.act ≡ Probe (record { 0 = c }) → was_probed driver.new.seen c ≡ true) }
     ensures same { IsSame driver.old driver.new }
 {
     let before = handle_of(held, command);

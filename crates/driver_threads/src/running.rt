@@ -5,7 +5,7 @@ ghost use Rattle.driver_threads.specs.Runs.{CanStart, HasRunOnThreads};
 ghost use Rattle.driver_threads.specs.Workers.{AllDone};
 
 use crate::making::make_workers;
-use crate::script::run_boot;
+use crate::script::run_script;
 use crate::working::{gather, work_all};
 use clk_base::{Answer, Command, Pause};
 use clk_framework::{Driver, Framework, Unnamed};
@@ -38,7 +38,7 @@ fn run_all<
     ensures { IfOk result (λ all. AllDone first boot.now (map (λ s. s.commands) drivers.now) all.0.items all.1.items) }
 {
     let mut first = first;
-    let own = run_boot(rt, alloc, framework, &mut first, boot, pause)?;
+    let own = run_script(rt, alloc, framework, &mut first, boot, pause)?;
     let mut workers = make_workers(alloc, framework, &mut first, drivers)?;
     work_all(rt, alloc, framework, workers.as_mut_slice(), pause);
     gather(alloc, first, own, workers)
@@ -85,7 +85,7 @@ pub fn run_on_threads<B: Bank + Send + Sync, R: Threads + Wait + Sync, Q: Pause 
     drivers: &[Script],
     pause: &Q,
 ) -> Result<(Core<B>, Vec<Listed<Answer>>), NoMemory>
-    // The driver is number 0 of this framework and has made no call; it has a credit for each command, and the scripts can be run.
+    // The driver is number 0 of this framework and has made no call; it has a credit for each command, and the commands name clocks of the description.
     requires { CanStart unnamed.lock.table first boot.now drivers.now }
     // The core began at the opening that the driver knew, and its journal is a legal run from there, in which boot and then each driver has its calls once, in its order, answered so.
     ensures { IfOk result (λ ran. HasRunOnThreads first.fixed boot.now drivers.now ran.1.items ran.0) }

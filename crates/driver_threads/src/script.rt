@@ -2,7 +2,7 @@
 
 ghost use Rattle.std.specs.Prelude.{IfOk};
 ghost use Rattle.clk_model.specs.Follows.{Variables, no_handles};
-ghost use Rattle.driver_threads.specs.Going.{MayRun, MayBoot, IsSame, GoesThrough};
+ghost use Rattle.driver_threads.specs.Going.{MayRun, IsSame, GoesThrough};
 
 use crate::command::run_command;
 use clk_base::{Answer, Command, Pause};
@@ -14,7 +14,7 @@ use std::alloc::Global;
 use std::sync::Wait;
 use tier_lock::Named;
 
-/// Runs the commands of a driver. Its variables hold nothing at first.
+/// Runs the commands of a driver, or those of boot. Its variables hold nothing at first.
 pub(crate) fn run_script<B: Bank, N: Named, R: Wait + Sync, Q: Pause>(
     rt: &R,
     alloc: Global,
@@ -26,29 +26,6 @@ pub(crate) fn run_script<B: Bank, N: Named, R: Wait + Sync, Q: Pause>(
     requires { MayRun N.table driver.old commands.now }
     ensures goes { IfOk result (λ answers. (held : Variables) × GoesThrough driver.old (no_handles commands.now) commands.now answers.items held driver.new) }
     ensures same { IsSame driver.old driver.new }
-{
-    let mut variables = vec![in alloc; None; variable_count(commands)]?;
-    let held = variables.as_mut_slice();
-    let mut answers = Vec::new(alloc);
-    for command in commands {
-        let answer = run_command(rt, framework, driver, held, command, pause)?;
-        answers.push(answer)?;
-    }
-    Ok(answers)
-}
-
-/// Runs the commands of boot: registers the clocks of the description, each in its turn, and then
-/// does what is assigned. Its variables hold nothing at first.
-pub(crate) fn run_boot<B: Bank, N: Named, R: Wait + Sync, Q: Pause>(
-    rt: &R,
-    alloc: Global,
-    framework: &Framework<B, N>,
-    driver: &mut Driver<B>,
-    commands: &[Command],
-    pause: &Q,
-) -> Result<Vec<Answer>, NoMemory>
-    requires { MayBoot N.table driver.old commands.now }
-    ensures { IfOk result (λ answers. (held : Variables) × GoesThrough driver.old (no_handles commands.now) commands.now answers.items held driver.new) }
 {
     let mut variables = vec![in alloc; None; variable_count(commands)]?;
     let held = variables.as_mut_slice();

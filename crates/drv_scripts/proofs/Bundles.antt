@@ -175,11 +175,6 @@ boot_few absent n assigned few steps =
     let more = assigned_few assigned in
     omega (arith, length-append (said_from (probe_unless absent) 0 n) (assigned_commands assigned))
 
-pub boot_commands_of : (ls : List (List ℕ)) (parts : Parts) (said : SaidClocks)
-    → (bundle_of ls parts said).boot ≡ probes_without (bundle_of ls parts said).late (length said.defs) ++ assigned_commands said.assigned
-unfolding bundle_of
-boot_commands_of ls parts said = refl
-
 pub assigned_lines_of : (ls : List (List ℕ)) (parts : Parts) (said : SaidClocks) → (bundle_of ls parts said).assigned_lines ≡ map (λ a. a.line) said.assigned
 unfolding bundle_of
 assigned_lines_of ls parts said = refl

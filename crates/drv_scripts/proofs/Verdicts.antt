@@ -1,6 +1,6 @@
 -- Bytes have one verdict.
-use Rattle.std.proofs.Common.{◌≡◌, ◌⊎◌, Bool, ℕ, ◌+◌, ◌<◌, ◌≤◌, List, [], length, refl, ap, subst, sym, ◌∙◌, inl, inr, arith}
-use Rattle.std.specs.Prelude.{◌==◌, ◌++◌, if◌then◌else◌, slice_index}
+use Rattle.std.proofs.Common.{◌≡◌, ◌⊎◌, Bool, ℕ, ◌+◌, ◌<◌, ◌≤◌, List, length, refl, ap, subst, sym, ◌∙◌, inl, inr, arith}
+use Rattle.std.specs.Prelude.{◌==◌, if◌then◌else◌, slice_index}
 use Rattle.std.specs.Str.Lines.{lines}
 use Rattle.std.proofs.lemmas.Bool.{both_ways, cases_lt, lt-ltb}
 use Rattle.bundle_text.specs.Firsts.{First, KeepsBelow}
@@ -18,9 +18,8 @@ use Rattle.drv_scripts.specs.declared.bundle.Bundle.{Bundle}
 use Rattle.bundle_text.specs.declared.reason.Reason.{Reason}
 use Rattle.bundle_text.specs.declared.reason.Reason.TheVariants.{TooLong}
 use Rattle.drv_scripts.specs.Reasons.{rule_reason}
-use Rattle.drv_scripts.specs.Spelled.{boot_of, probes_without, assigned_commands, bundle_of}
+use Rattle.drv_scripts.specs.Spelled.{bundle_of}
 use Rattle.drv_scripts.specs.Verdict.{last_line, line_fault, KeepsRules, PartsSpell, Breaks, BreaksRule, HasFault, PartsRefuse, Accepts, Refuses, IsUndivided, IsDivided}
-use Rattle.drv_scripts.proofs.Bundles.{all_probes, boot_commands_of, desc_of}
 use Rattle.drv_scripts.proofs.Decided.{parts_decided}
 
 -- ## Rules
@@ -184,16 +183,3 @@ each_decided bytes =
       | inl over ↦ inr (0, TooLong, inl (record { over = over; line_is = refl; reason_is = refl }))
       | inr fits ↦ fitting bytes (omega (arith, fits))
     ]
-
--- what is accepted, where no clock is late, has boot's commands for its clocks, and behind them those for what its nodes assign
-pub boot_is : (bytes : List ℕ) (b : Bundle) (x : Accepts bytes b) → b.late ≡ [] → b.boot ≡ boot_of (length b.desc.defs) ++ assigned_commands x.spelled.said.assigned
-boot_is bytes b x prompt =
-    let ls = lines bytes in
-    let parts = x.parts in
-    let said = x.spelled.said in
-    let desc = ap (λ bundle. bundle.desc.defs) x.spelled.content ∙ ap (λ d. d.defs) (desc_of ls parts said) in
-    let late = ap (λ bundle. bundle.late) (sym x.spelled.content) ∙ prompt in
-    ap (λ bundle. bundle.boot) x.spelled.content ∙ boot_commands_of ls parts said
-    ∙ ap (λ found. probes_without found (length said.defs) ++ assigned_commands said.assigned) late
-    ∙ ap (λ probes. probes ++ assigned_commands said.assigned) (all_probes (length said.defs))
-    ∙ ap (λ defs. boot_of (length defs) ++ assigned_commands said.assigned) (sym desc)

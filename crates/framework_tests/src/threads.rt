@@ -8,7 +8,6 @@ use clk_base::{
     Sleeping, ValidDesc,
 };
 use clk_framework::{Driver, Framework, Unnamed};
-use clk_machine::first_unfit;
 use reg_bank::MemBank;
 use std::alloc::Global;
 use std::marker::{Brand, PhantomData};
@@ -126,7 +125,6 @@ fn one_clock(rt: &impl Abort, alloc: Global) -> Result<ValidDesc, Fail>
 #[test]
 fn drivers_are_answered_side_by_side(rt: HostRuntime) -> Result<(), Fail> {
     let desc = one_clock(&rt, rt.alloc())?;
-    assert!(rt; first_unfit(&desc) == None);
     let bank = MemBank::new(rt.alloc())?;
     let (unnamed, mut boot) = Unnamed::create(rt.alloc(), desc, bank, &[0], false, 1_000)?;
     let answered = drive::<Brand, HostRuntime>(&rt, rt.alloc(), unnamed, &mut boot)?;

@@ -12,10 +12,10 @@ use Rattle.clk_run.proofs.Readiness.{few_credits}
 use Rattle.clk_run.proofs.run_bundle.open_core.Goals as goal
 
 pub credits_of-credits-requires : goal.credits_of-credits-requires
-credits_of-credits-requires g c = few_credits c.args.bundle.now c.requires.ready
+credits_of-credits-requires g c = few_credits c.args.bundle.now c.requires.sound
 
 pub create-requires-clause-credits : goal.create-requires-clause-credits
-create-requires-clause-credits g c = subst (λ (n : ℕ). n ≤ most_credits) (sym c.credits_of-credits.ensures) (few_credits c.args.bundle.now c.requires.ready)
+create-requires-clause-credits g c = subst (λ (n : ℕ). n ≤ most_credits) (sym c.credits_of-credits.ensures) (few_credits c.args.bundle.now c.requires.sound)
 
 -- where the core begins
 opens : (b : Bundle) (desc : Checked) (words : List ℕ) (ignore_unused : Bool) (credits : ℕ) → desc ≡ b.desc → words ≡ b.words → credits ≡ credits_of b

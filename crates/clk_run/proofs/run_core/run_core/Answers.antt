@@ -1,4 +1,4 @@
-use Rattle.std.proofs.Common.{◌≡◌, ℕ, ◌<◌, true, sum_by, ap, subst, sym, ◌∙◌, arith, length, List}
+use Rattle.std.proofs.Common.{◌≡◌, ℕ, ◌<◌, sum_by, ap, subst, sym, arith, length, List}
 use Rattle.std.specs.List.{AllByRecursion}
 use Rattle.clk_base.specs.Description.{Description}
 use Rattle.clk_base.specs.declared.command.Answer.{Answer}
@@ -7,8 +7,7 @@ use Rattle.clk_machine.specs.Run.{Run}
 use Rattle.clk_model.specs.State.{State}
 use Rattle.drv_scripts.specs.declared.bundle.Bundle.{Bundle}
 use Rattle.drv_scripts.specs.declared.bundle.Script.{Script}
-use Rattle.drv_scripts.specs.Placed.{IsScript}
-use Rattle.driver_runs.specs.Scripts.{are_built, CanBoot}
+use Rattle.drv_scripts.specs.Placed.{IsScript, NamePlaces}
 use Rattle.driver_runs.specs.Turns.{HasRun}
 use Rattle.clk_run.specs.Cores.{HasCalls}
 use Rattle.clk_run.specs.Runs.{drivers_in, told_by}
@@ -22,7 +21,7 @@ pub run_scripts-requires : goal.run_scripts-requires
 run_scripts-requires g c =
     let b = c.args.bundle.now in
     let mode = c.args.cli.now.mode in
-    let ready = c.requires.ready in
+    let sound = c.requires.sound in
     let start = c.requires.start in
     let boot = c.as_slice-boot.ensures in
     let run = c.drivers_in-drivers.result.now in
@@ -34,16 +33,15 @@ run_scripts-requires g c =
     let few = ap (λ (xs : List Script). length xs) drivers in
     let fewer = commands_few mode b in
     let no_more = drivers_few mode b in
-    let one = ready.few in
+    let one = sound.drivers in
     record {
       begins = c.requires.begins;
       credits = omega arith;
-      boot = subst (λ (ds : Description). CanBoot ds c.as_slice-boot.result.now) defs (subst (CanBoot b.desc.defs) (sym boot) ready.boot);
+      boot = subst (λ (ds : Description). NamePlaces (length ds) c.as_slice-boot.result.now) defs (subst (NamePlaces (length b.desc.defs)) (sym boot) sound.boot);
       few = omega arith;
       placed = subst (λ (ds : Description). AllByRecursion (IsScript (length ds)) run) defs
-          (subst (λ (xs : List Script). AllByRecursion (IsScript (length b.desc.defs)) xs) drivers (drivers_keep (IsScript (length b.desc.defs)) mode b ready.sound.scripts));
-      built = subst (λ (xs : List Script). AllByRecursion (λ s. are_built s.commands ≡ true) xs) drivers (drivers_keep (λ s. are_built s.commands ≡ true) mode b ready.built);
-      turns = subst (λ (ds : List ℕ). AllByRecursion (λ d. 0 < d) ds) (sym c.as_slice-order.ensures) ready.sound.turns;
+          (subst (λ (xs : List Script). AllByRecursion (IsScript (length b.desc.defs)) xs) drivers (drivers_keep (IsScript (length b.desc.defs)) mode b sound.scripts));
+      turns = subst (λ (ds : List ℕ). AllByRecursion (λ d. 0 < d) ds) (sym c.as_slice-order.ensures) sound.turns;
     }
 
 -- the commands that were run are those of the bundle
@@ -63,7 +61,7 @@ print_core-requires g c =
     record {
       calls = subst (λ (as_ : List (List Answer)). HasCalls b cli as_ core) (sym c.as_slice.ensures.value)
           (calls_of_run b cli c.args.core.now core answers c.requires.start ran);
-      few = few_credits b c.requires.ready;
+      few = few_credits b c.requires.sound;
     }
 
 pub returns-clause-done : goal.returns-clause-done

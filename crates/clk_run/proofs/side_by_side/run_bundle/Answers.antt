@@ -19,7 +19,7 @@ pub arm_locks-requires : goal.arm_locks-requires
 arm_locks-requires g c =
     let b = c.args.bundle.now in
     subst (λ (locks : List LockLine). AllByRecursion (λ l. l.clock.0 < most_plls) locks) (sym c.as_slice.ensures)
-    (locks_few (length b.desc.defs) b.locks (length-valid b.desc.words b.desc.defs c.requires.ready.sound.valid) c.requires.ready.sound.locks)
+    (locks_few (length b.desc.defs) b.locks (length-valid b.desc.words b.desc.defs c.requires.sound.valid) c.requires.sound.locks)
 
 pub returns-clause-done : goal.returns-clause-done
 returns-clause-done g c =

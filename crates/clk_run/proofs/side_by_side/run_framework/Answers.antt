@@ -9,7 +9,7 @@ use Rattle.clk_run.proofs.side_by_side.run_framework.Goals as goal
 
 pub run_on_threads-requires-after_bounds : goal.run_on_threads-requires-after_bounds
 run_on_threads-requires-after_bounds g c κs within =
-    can_start _ c.args.bundle.now c.args.ignore_unused (g.B.Bank.contents c.args.bank) (g.B.Bank.lock c.args.bank) c.in_ok-unnamed.first _ _ c.requires.ready c.in_ok-unnamed.ensures c.as_slice-boot.ensures
+    can_start _ c.args.bundle.now c.args.ignore_unused (g.B.Bank.contents c.args.bank) (g.B.Bank.lock c.args.bank) c.in_ok-unnamed.first _ _ c.requires.sound c.in_ok-unnamed.ensures c.as_slice-boot.ensures
     c.as_slice-drivers.ensures
 
 pub returns : goal.returns

@@ -1,49 +1,28 @@
-use Rattle.std.proofs.Common.{rules, ◌≡◌, ◌<◌, None, replicate, List, [], length, sym, ap, subst, ◌∙◌, arith}
+use Rattle.std.proofs.Common.{rules, ◌≡◌, None, replicate, List, [], sym, ap, subst}
 use Rattle.clk_base.specs.declared.command.Answer.{Answer}
-use Rattle.clk_base.specs.declared.command.Command.{Command}
 use Rattle.clk_model.specs.Follows.{Variables, variable_count, no_handles}
 use Rattle.clk_model.specs.State.{State}
 use Rattle.driver_runs.specs.Scripts.{GoesThrough}
-use Rattle.driver_runs.proofs.Going.{named_at, goes_none, goes_more, goes_idle, goes_probed, boot_first, boot_can, probed_more}
+use Rattle.driver_runs.proofs.Going.{named_at, goes_none, goes_more, goes_idle}
 use Rattle.driver_runs.proofs.boot.run_boot.Goals as goal
 
 pub run_command-requires-clause-place : goal.run_command-requires-clause-place
 run_command-requires-clause-place g c =
-    let same = ap (λ (s : State). s.defs) c.loop-command.invariant.goes.start in
-    named_at c.loop-command.core c.args.core.now.start.defs c.args.commands.now c.loop-command.command-index _ same c.requires.boots.placed c.loop-command-test.true
-
-pub run_command-requires-clause-can : goal.run_command-requires-clause-can
-run_command-requires-clause-can g c =
-    let i = c.loop-command.command-index in
-    let defs = c.args.core.now.start.defs in
-    let same = ap (λ (s : State). s.defs) c.loop-command.invariant.goes.start in
-    boot_can c.loop-command.core defs i _ same c.requires.boots.earlier (boot_first defs i c.args.commands.now _ c.requires.boots.each c.loop-command-test.true) c.loop-command.invariant.probed
+    let same = ap (λ (s : State). s.defs) c.loop-command.invariant.start in
+    named_at c.loop-command.core c.args.core.now.start.defs c.args.commands.now c.loop-command.command-index _ same c.requires.placed c.loop-command-test.true
 
 pub run_command-requires-clause-quiet : goal.run_command-requires-clause-quiet
-run_command-requires-clause-quiet g c = goes_idle c.args.core.now c.loop-command.core 0 _ _ _ _ c.loop-command.invariant.goes c.requires.quiet
+run_command-requires-clause-quiet g c = goes_idle c.args.core.now c.loop-command.core 0 _ _ _ _ c.loop-command.invariant c.requires.quiet
 
 pub loop-command-init : goal.loop-command-init
 loop-command-init g c =
     let core = c.args.core.now in
     let empty = no_handles c.args.commands.now in
     let none : c.as_mut_slice-held.result.now ≡ replicate (variable_count c.args.commands.now) None = search rules in
-    record {
-      goes = subst (λ (answers : List Answer). GoesThrough core 0 empty [] answers c.as_mut_slice-held.result.now core) (sym c.new-answers.ensures.items)
-          (subst (λ (held : Variables). GoesThrough core 0 empty [] [] held core) (sym none) (goes_none core 0 empty));
-      probed = λ k less low. absurd (omega (arith, less));
-    }
+    subst (λ (answers : List Answer). GoesThrough core 0 empty [] answers c.as_mut_slice-held.result.now core) (sym c.new-answers.ensures.items)
+    (subst (λ (held : Variables). GoesThrough core 0 empty [] [] held core) (sym none) (goes_none core 0 empty))
 
 pub loop-command-preserved : goal.loop-command-preserved
 loop-command-preserved g c =
-    let first = c.args.core.now in
-    let mid = c.loop-command.core in
-    let last = c.run_command.new.core in
-    let i = c.loop-command.command-index in
-    let next = c.in_ok-answer.ensures.goes in
-    let is = boot_first first.start.defs i c.args.commands.now _ c.requires.boots.each c.loop-command-test.true in
-    record {
-      goes = goes_more first mid last 0 (no_handles c.args.commands.now) c.loop-command.held c.run_command.new.held c.args.commands.now i _ c.loop-command.answers.items c.push.new.self.items c.in_ok-answer.answer c.loop-command-test.true
-          c.loop-command.invariant.goes next c.in_ok-push.ensures.items;
-      probed = probed_more mid last (length first.start.defs) i c.loop-command.invariant.probed (λ k was. goes_probed mid last 0 c.loop-command.held c.run_command.new.held _ _ k next was)
-          (λ low. c.in_ok-answer.ensures.probed i (is.registers_ low));
-    }
+    goes_more c.args.core.now c.loop-command.core c.run_command.new.core 0 (no_handles c.args.commands.now) c.loop-command.held c.run_command.new.held c.args.commands.now c.loop-command.command-index _ c.loop-command.answers.items
+    c.push.new.self.items c.in_ok-answer.answer c.loop-command-test.true c.loop-command.invariant c.in_ok-answer.ensures c.in_ok-push.ensures.items

@@ -1,14 +1,13 @@
-use Rattle.std.proofs.Common.{◌≡◌, ℕ, [], ◌∷◌, List, length, map, sym, ap, subst, ◌∙◌, arith}
+use Rattle.std.proofs.Common.{[], ◌∷◌, List, map, sym, ap, subst, ◌∙◌, arith}
 use Rattle.std.proofs.lemmas.List.{with_items_is}
 use Rattle.std.proofs.lemmas.Result.{IfOk-weaker}
 use Rattle.std.specs.Vec.{with_items}
 use Rattle.clk_base.specs.declared.command.Answer.{Answer}
-use Rattle.clk_base.specs.declared.command.Command.{Command}
 use Rattle.clk_machine.specs.Run.{in_flight}
 use Rattle.clk_model.specs.Follows.{no_handles}
 use Rattle.clk_model.specs.Journal.{cost}
 use Rattle.clk_model.specs.State.{State}
-use Rattle.driver_runs.specs.Courses.{AreRunnable, BeginsCourse, Course}
+use Rattle.driver_runs.specs.Courses.{ArePlaced, BeginsCourse, Course}
 use Rattle.driver_runs.specs.Turns.{HasRun}
 use Rattle.driver_runs.specs.declared.standing.Standing.{Standing}
 use Rattle.driver_runs.proofs.Going.{goes_cost, goes_idle}
@@ -16,9 +15,9 @@ use Rattle.driver_runs.proofs.Sides.{new_owed}
 use Rattle.driver_runs.proofs.Ended.{has_run}
 use Rattle.driver_runs.proofs.scripts.run_scripts.Goals as goal
 
-pub follow_order-requires-clause-runs : goal.follow_order-requires-clause-runs
-follow_order-requires-clause-runs g c =
-    subst (λ (s : State). AreRunnable s.defs c.args.drivers.now) (sym c.in_ok-first.ensures.1.start) record { placed = c.requires.placed; built = c.requires.built }
+pub follow_order-requires-clause-placed : goal.follow_order-requires-clause-placed
+follow_order-requires-clause-placed g c =
+    subst (λ (s : State). ArePlaced s.defs c.args.drivers.now) (sym c.in_ok-first.ensures.1.start) c.requires.placed
 
 pub follow_order-requires-clause-begins : goal.follow_order-requires-clause-begins
 follow_order-requires-clause-begins g c =
@@ -37,9 +36,9 @@ follow_order-requires-clause-begins g c =
       credits = let few = new_owed 1 drivers c.in_ok-standings.standings.items c.in_ok-standings.ensures in omega arith;
     }
 
-pub run_rest-requires-clause-runs : goal.run_rest-requires-clause-runs
-run_rest-requires-clause-runs g c =
-    subst (λ (s : State). AreRunnable s.defs c.args.drivers.now) (sym (c.in_ok-going.ensures.start ∙ c.in_ok-first.ensures.1.start)) record { placed = c.requires.placed; built = c.requires.built }
+pub run_rest-requires-clause-placed : goal.run_rest-requires-clause-placed
+run_rest-requires-clause-placed g c =
+    subst (λ (s : State). ArePlaced s.defs c.args.drivers.now) (sym (c.in_ok-going.ensures.start ∙ c.in_ok-first.ensures.1.start)) c.requires.placed
 
 pub returns : goal.returns
 returns g c =

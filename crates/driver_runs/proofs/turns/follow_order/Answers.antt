@@ -1,7 +1,7 @@
 use Rattle.std.proofs.Common.{ℕ, ◌+◌, ◌<◌, List, sym, subst, ◌∙◌, drop, get_or}
 use Rattle.std.proofs.lemmas.List.{drop_more}
 use Rattle.clk_model.specs.State.{State}
-use Rattle.driver_runs.specs.Courses.{AreRunnable, Course}
+use Rattle.driver_runs.specs.Courses.{ArePlaced, Course}
 use Rattle.driver_runs.proofs.Going.{element}
 use Rattle.driver_runs.proofs.Coursing.{course_begins, course_listed, course_passes, course_many, moves_within, may_move}
 use Rattle.driver_runs.proofs.turns.follow_order.Goals.{then-can_move_at+in_ok-going, else-can_move_at}
@@ -22,7 +22,7 @@ pub move_driver-requires-clause-may : goal.move_driver-requires-clause-may
 move_driver-requires-clause-may g c =
     let some = element (λ (d : ℕ). 0 < d) c.args.order.now c.loop-driver.driver-index 0 c.requires.turns c.loop-driver-test.true in
     may_move c.args.core.now c.loop-driver.core c.args.drivers.now c.args.order.now _ c.loop-driver.standings c.loop-driver.going _
-    (subst (λ (s : State). AreRunnable s.defs c.args.drivers.now) (sym c.loop-driver.invariant.start) c.requires.runs) c.loop-driver.invariant some (sym c.can_move_at.ensures ∙ c.if-can_move_at.true)
+    (subst (λ (s : State). ArePlaced s.defs c.args.drivers.now) (sym c.loop-driver.invariant.start) c.requires.placed) c.loop-driver.invariant some (sym c.can_move_at.ensures ∙ c.if-can_move_at.true)
 
 pub loop-driver-preserved : goal.loop-driver-preserved
 loop-driver-preserved g c =

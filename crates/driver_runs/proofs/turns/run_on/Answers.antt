@@ -1,7 +1,7 @@
 use Rattle.std.proofs.Common.{◌≡◌, true, [], sym, subst, ◌∙◌}
 use Rattle.clk_model.specs.Lists.{is_at}
 use Rattle.clk_model.specs.State.{State}
-use Rattle.driver_runs.specs.Courses.{AreRunnable}
+use Rattle.driver_runs.specs.Courses.{ArePlaced}
 use Rattle.driver_runs.proofs.Making.{steps_is}
 use Rattle.driver_runs.proofs.Coursing.{course_found, course_many, may_move, effort_less, next_on, effort_on}
 use Rattle.driver_runs.proofs.turns.run_on.Goals as goal
@@ -14,7 +14,7 @@ move_driver-requires-clause-many g c =
 pub move_driver-requires-clause-may : goal.move_driver-requires-clause-may
 move_driver-requires-clause-may g c =
     let way = c.requires.way in
-    may_move way.0 c.args.core.now c.args.drivers.now way.1 [] c.args.standings.now c.args.going c.args.driver c.requires.runs way.2 c.requires.next.some c.requires.next.moves
+    may_move way.0 c.args.core.now c.args.drivers.now way.1 [] c.args.standings.now c.args.going c.args.driver c.requires.placed way.2 c.requires.next.some c.requires.next.moves
 
 pub steps-init : goal.steps-init
 steps-init g c =
@@ -42,7 +42,7 @@ move_driver-requires-in-steps-clause-may g c =
     let flies : is_at c.args.driver c.steps.flying ≡ true = sym (steps_is c.steps.flying c.args.driver) ∙ sym c.steps-test.ensures in
     let next = c.steps.invariant.next flies in
     may_move way.0 c.steps.core c.args.drivers.now way.1 [] c.steps.standings c.steps.flying c.args.driver
-    (subst (λ (s : State). AreRunnable s.defs c.args.drivers.now) (way.2.start ∙ sym course.start) c.requires.runs) course next.some next.moves
+    (subst (λ (s : State). ArePlaced s.defs c.args.drivers.now) (way.2.start ∙ sym course.start) c.requires.placed) course next.some next.moves
 
 pub steps-preserved : goal.steps-preserved
 steps-preserved g c =
