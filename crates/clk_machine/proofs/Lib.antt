@@ -72,5 +72,6 @@ pub mod Probing
 pub mod Notifying
 pub mod Polling
 pub mod Entering
+pub mod Lawful
 pub mod Rows
 pub mod Causing

@@ -19,6 +19,7 @@ pub mod Adopting
 pub mod Polls
 pub mod Settling
 pub mod Run
+pub mod Lawful
 pub mod Row
 pub mod Seen
 pub mod Free

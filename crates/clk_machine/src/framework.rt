@@ -63,6 +63,7 @@ impl<B: Bank> Core<B> {
     ghost use Rattle.clk_model.specs.Laws.Causes.{EnableCauses, DisableCauses, RunningCauses, LeavesRefused};
     ghost use Rattle.clk_machine.specs.Run.{Run, now_of, was_registered, in_flight, Appends, StepsOn, StepTurns};
     ghost use Rattle.clk_machine.specs.Row.{IsRowOf, IsTreeOf};
+    ghost use Rattle.clk_machine.specs.Lawful.{KeepsLaws};
     ghost use Rattle.clk_machine.specs.Window.{behind_of, HasDelays};
 
     /// A core at its opening: the words are written to the bank, nothing is registered, and the
@@ -258,6 +259,8 @@ impl<B: Bank> Core<B> {
         ensures polled { self.now.told ≡ true → (delay : ℕ → ℕ) → HasDelays self.now.behind.delays delay → Polled delay self.now.journal }
         // Where the bank tells its words, after each prefix of them each active clock is fed.
         ensures fed { self.now.told ≡ true → (n : ℕ) → Fed (replay self.now.start (take n self.now.journal)) }
+        // And they keep the laws of journals: rates that are held exclusively, what each call writes and tells, and that vetoes and timeouts leave nothing.
+        ensures laws { self.now.told ≡ true → KeepsLaws self.now.start self.now.journal }
     {
         self.log.as_slice()
     }

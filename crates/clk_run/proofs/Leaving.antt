@@ -13,6 +13,7 @@ use Rattle.clk_model.specs.Summary.{summary}
 use Rattle.clk_summary.specs.Tables.{IsTable, IsSummary}
 use Rattle.drv_scripts.specs.declared.bundle.Bundle.{Bundle}
 use Rattle.clk_cli.specs.declared.cli.Cli.{Cli}
+use Rattle.clk_machine.specs.Lawful.{KeepsLaws}
 use Rattle.clk_machine.specs.Run.{Run}
 use Rattle.clk_run.specs.Outcomes.{status_of, generates, GivesBundle, Short}
 use Rattle.clk_run.specs.Cores.{HasCalls, PrintsRun, HasPrinted}
@@ -39,10 +40,11 @@ calls_of_run b cli old core answers opens ran = record {
 -- a core that has run a bundle gives the text of a run of it
 pub text_of : (b : Bundle) (cli : Cli) (core : Run) (answers : List (List Answer)) (table words : List ℕ) → HasCalls b cli answers core
     → (core.told ≡ true → Legal core.start core.journal) → (core.told ≡ true → (delay : ℕ → ℕ) → HasDelays core.behind.delays delay → Polled delay core.journal) → (core.told ≡ true → (n : ℕ) → Fed (replay core.start (take n core.journal)))
+    → (core.told ≡ true → KeepsLaws core.start core.journal)
     → (core.told ≡ true → is_quiet (replay core.start core.journal).change ≡ true)
     → IsSummary core table → (core.told ≡ true → words ≡ (replay core.start core.journal).regs)
     → IsTextOf b cli (told_by core) words (run_text b.desc.defs cli (drivers_in cli.mode b) core.journal answers table words)
-text_of b cli core answers table words has legal polled fed quiet sums means = record {
+text_of b cli core answers table words has legal polled fed laws quiet sums means = record {
   journal = core.journal;
   answers = answers;
   table = table;
@@ -50,6 +52,7 @@ text_of b cli core answers table words has legal polled fed quiet sums means = r
     legal = λ tells. subst (λ (s : State). Legal s core.journal) has.start (legal tells);
     polled = polled;
     fed = λ tells n. subst (λ (s : State). Fed (replay s (take n core.journal))) has.start (fed tells n);
+    laws = λ tells. subst (λ (s : State). KeepsLaws s core.journal) has.start (laws tells);
     quiet = λ tells. ap (λ (s : State). is_quiet (replay s core.journal).change) (sym has.start) ∙ quiet tells;
     follow = has.follow;
     among = has.among;

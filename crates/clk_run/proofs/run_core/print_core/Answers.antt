@@ -43,7 +43,7 @@ returns-in_err-print_calls-clause-prints g c =
     record {
       words = words;
       text = run_text b.desc.defs cli (drivers_in cli.mode b) core.journal answers some.0 words;
-      run = text_of b cli core answers some.0 words has told.legal told.polled told.fed quiet some.1 (λ tells. refl);
+      run = text_of b cli core answers some.0 words has told.legal told.polled told.fed told.laws quiet some.1 (λ tells. refl);
       registers = λ tells. refl;
       prints = Prints-fault _ _ _ _ c.from_residual.ensures.0
           (front_of_parts _ _ _ calls (some.0 ++ registers_text words) _ c.new-gathered.ensures whole c.in_err-print_calls.ensures.gathers);
@@ -65,7 +65,7 @@ returns-in_err-print_state-clause-prints g c =
     record {
       words = state.words;
       text = run_text b.desc.defs cli (drivers_in cli.mode b) core.journal answers state.table state.words;
-      run = text_of b cli core answers state.table state.words has told.legal told.polled told.fed quiet state.summary state.registers;
+      run = text_of b cli core answers state.table state.words has told.legal told.polled told.fed told.laws quiet state.summary state.registers;
       registers = state.registers;
       prints = Prints-fault _ _ _ _ c.from_residual-in_err-print_state.ensures.0
           (front_of_parts _ _ _ (calls ++ behind) [] _ c.new-gathered.ensures (whole ∙ sym (append-nil (calls ++ behind)))
@@ -87,7 +87,7 @@ returns-in_err-finish-clause-prints g c =
     record {
       words = state.words;
       text = run_text b.desc.defs cli (drivers_in cli.mode b) core.journal answers state.table state.words;
-      run = text_of b cli core answers state.table state.words has told.legal told.polled told.fed quiet state.summary state.registers;
+      run = text_of b cli core answers state.table state.words has told.legal told.polled told.fed told.laws quiet state.summary state.registers;
       registers = state.registers;
       prints = Prints-fault _ _ _ _ c.from_residual-in_err-finish.ensures.0
           (printed_of_parts {T = ℕ} {E = ℕ} _ _ _ _ _ _ _ (Err 0) c.new-gathered.ensures whole done c.in_err-finish.ensures.prints);
@@ -108,7 +108,7 @@ returns-clause-prints g c =
     record {
       words = state.words;
       text = run_text b.desc.defs cli (drivers_in cli.mode b) core.journal answers state.table state.words;
-      run = text_of b cli core answers state.table state.words has told.legal told.polled told.fed quiet state.summary state.registers;
+      run = text_of b cli core answers state.table state.words has told.legal told.polled told.fed told.laws quiet state.summary state.registers;
       registers = state.registers;
       prints = printed_of_parts {T = ℕ} {E = ℕ} _ _ _ _ _ _ _ (Ok 0) c.new-gathered.ensures whole done c.in_ok-finish.ensures.prints;
     }
