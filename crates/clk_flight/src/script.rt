@@ -1,6 +1,6 @@
 //! A script and the place at which it stands.
 
-ghost use Rattle.std.specs.Prelude.{◌≡◌, [], slice_get, sum_by, IfSome};
+ghost use Rattle.std.specs.Prelude.{◌≡◌, ◌≤◌, ◌^◌, [], slice_get, sum_by, IfSome, IfNone};
 ghost use Rattle.clk_model.specs.Step.{cut_short, rest_of};
 ghost use Rattle.clk_flight.specs.Kept.{room_for};
 
@@ -28,9 +28,11 @@ impl Model for Script {
     ghost invariant = { λ s. s.at ≤ length s.steps.items };
 }
 
-// How many PLLs the raises among these steps may raise, where a line has so many.
+// How many PLLs the raises among these steps may raise, where a line has so many; none where they
+// are more than a `usize` can count.
 pub(crate) fn room_for(steps: &[Micro], plls: u32) -> Option<usize>
-    ensures { IfSome result (λ room. room ≡ sum_by (room_for plls) steps.now) }
+    ensures room { IfSome result (λ room. room ≡ sum_by (room_for plls) steps.now) }
+    ensures none { IfNone result (2 ^ 64 ≤ sum_by (room_for plls) steps.now) }
 {
     let mut room: usize = 0;
     for step in steps {
