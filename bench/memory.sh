@@ -4,9 +4,10 @@
 #
 # The program is built as ever. A small library, compiled here by `cc`, stands before the C library's
 # allocation calls and lets the one of a given number fail; `LD_PRELOAD` puts it there. The runs are
-# of examples/uart.bundle and examples/kinds.bundle under `sim`, of examples/board.bundle under
-# `check`, and of a bundle that is refused. Each line tells how many allocations a whole run makes,
-# how many runs with one that fails ended in status 3, and how many as the whole run does.
+# of the examples on one thread, with and without the journal, and of a bundle that is refused. Each
+# line tells how many allocations a whole run makes, how many runs with one that fails ended in status
+# 3, and how many as the whole run does. Of runs with a thread a driver and of `bench`, whose journals
+# come in any order, the status alone is looked at.
 set -eu
 
 root=$(dirname -- "$(dirname -- "$(readlink -f -- "$0")")")
@@ -105,12 +106,12 @@ __attribute__((destructor)) static void tell(void) {
 LIBRARY
 cc -O1 -shared -fPIC -o "$scratch/fail.so" "$scratch/fail.c" -ldl
 
-# Runs the program with a word on a bundle, with the allocation of a number failing. Leaves what it
+# Runs the program with words on a bundle, with the allocation of a number failing. Leaves what it
 # writes in `written`, how many allocations it makes in `count`, and its status in `status`.
 run_failing() {
     status=0
     LD_PRELOAD=$scratch/fail.so FAIL_AT=$3 FAIL_COUNT=$scratch/count \
-        "$program" "$1" <"$2" >"$scratch/written" || status=$?
+        "$program" $1 <"$2" >"$scratch/written" || status=$?
 }
 
 # Whether what was written is a front of the whole text.
@@ -142,9 +143,39 @@ measure() {
     printf '%-24s %6d %8d %8d %8d\n' "$1" "$wanted" "$most" "$short" "$same"
 }
 
+# Runs a bundle on threads with each allocation failing in turn, and prints its line.
+measure_threads() {
+    run_failing "$2" "$3" 0
+    most=$(cat "$scratch/count")
+    short=0
+    same=0
+    at=1
+    while [ "$at" -le "$most" ]; do
+        run_failing "$2" "$3" "$at"
+        case $status in
+        0) same=$((same + 1)) ;;
+        3) short=$((short + 1)) ;;
+        *)
+            echo "memory.sh: $1: with allocation $at failing the status is $status" >&2
+            exit 1
+            ;;
+        esac
+        at=$((at + 1))
+    done
+    printf '%-24s %6d %8d %8d %8d\n' "$1" 0 "$most" "$short" "$same"
+}
+
 printf '%-24s %6s %8s %8s %8s\n' run status made short same
-measure uart-sim sim "$root/examples/uart.bundle"
-measure kinds-sim sim "$root/examples/kinds.bundle"
+for example in uart kinds holders exclusive board; do
+    measure "$example-sim" sim "$root/examples/$example.bundle"
+done
 measure board-check check "$root/examples/board.bundle"
-printf '%%bundle 1\n%%clocks\nfixed f 5 critical\n%%regs 1\n' >"$scratch/refused"
+for example in lock notices migration late sweep timeout; do
+    measure "$example-journal" '--journal sim' "$root/examples/$example.bundle"
+done
+printf '%%bundle 1\n%%clocks\nfixed f 5 twice twice\n%%regs 1\n' >"$scratch/refused"
 measure refused-sim sim "$scratch/refused"
+for example in holders migration; do
+    measure_threads "$example-run" run "$root/examples/$example.bundle"
+done
+measure_threads bench-2 'bench 2' /dev/null
