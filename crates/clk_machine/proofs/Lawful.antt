@@ -91,7 +91,7 @@ holds_of_call defs regs ignore_unused credits journal valid legal is =
       vetoed = λ veto. vetoed_over q s t d is.call.what (steps_made is) is.made is.answer is.given is.call.flight veto step;
       raised = raised_end_as_prepared defs regs ignore_unused credits is.call.before s t d is.call.what (steps_made is) is.made is.answer is.given valid is.call.flight step;
       timed_out = λ late whole. timeouts_leave_nothing defs regs ignore_unused credits is.call.before s t d is.call.what (steps_made is) is.made is.answer valid whole is.call.flight
-      (gave (reply.Refused errno.ETIMEDOUT) late);
+          (gave (reply.Refused errno.ETIMEDOUT) late);
     }
 
 -- each legal journal from an opening with a valid description
@@ -105,7 +105,7 @@ keeps_laws defs regs ignore_unused credits journal valid legal =
       exclusive = λ held. rates_stay_exclusive defs regs ignore_unused credits held.front held.since held.number valid held.quiet held.holds held.lifts_none;
       calls = holds_of_call defs regs ignore_unused credits journal valid legal;
       causes = λ front rest last m answer r parts is turned.
-      journals_have_causes start front last m answer r refl (entry_at start front rest last (subst (λ (j : List Entry). Legal start j) parts legal)).with_it is turned;
+          journals_have_causes start front last m answer r refl (entry_at start front rest last (subst (λ (j : List Entry). Legal start j) parts legal)).with_it is turned;
     }
 
 -- the journal of a core
