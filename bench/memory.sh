@@ -26,6 +26,7 @@ cat >"$scratch/fail.c" <<'LIBRARY'
 #include <stdio.h>
 #include <stdlib.h>
 #include <string.h>
+#include <sys/syscall.h>
 #include <unistd.h>
 
 static unsigned long made, failing;
@@ -91,7 +92,7 @@ int posix_memalign(void **place, size_t align, size_t size) {
     return next_posix(place, align, size);
 }
 
-__attribute__((destructor)) static void tell(void) {
+static void tell(void) {
     const char *path = getenv("FAIL_COUNT");
     char text[32];
     if (!path)
@@ -102,6 +103,13 @@ __attribute__((destructor)) static void tell(void) {
         return;
     fwrite(text, 1, (size_t)length, file);
     fclose(file);
+}
+
+/* The program ends by this call, behind which no destructor runs. */
+void _exit(int status) {
+    tell();
+    for (;;)
+        syscall(SYS_exit_group, status);
 }
 LIBRARY
 cc -O1 -shared -fPIC -o "$scratch/fail.so" "$scratch/fail.c" -ldl
