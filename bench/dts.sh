@@ -12,14 +12,15 @@ scratch=$(mktemp -d)
 trap 'rm -rf "$scratch"' EXIT
 mkdir -p "$scratch/crates/dts_bench/src"
 cp -r "$root/crates/clk_io" "$root/crates/dts_tokens" "$root/crates/dts_tree" "$scratch/crates/"
-printf '%s\n' 'clk_io:' 'dts_tokens: clk_io' 'dts_tree: dts_tokens indexmap' \
-    'dts_bench: dts_tree dts_tokens' >"$scratch/crates.txt"
+printf '%s\n' 'clk_io:' 'dts_tokens: clk_io' 'dts_tree: dts_tokens clk_io indexmap' \
+    'dts_bench: dts_tree dts_tokens clk_io' >"$scratch/crates.txt"
 cat >"$scratch/crates/dts_bench/src/main.rt" <<'PROGRAM'
 //! Reads the source on standard input, and prints its bytes, tokens and nodes, the nanoseconds that
 //! its tokens took, and those that its tree took.
 #![tactic(auto)]
 
-use dts_tokens::{MOST_BYTES, tokens};
+use clk_io::MOST_BYTES;
+use dts_tokens::tokens;
 use dts_tree::parse;
 use std::io;
 use std::time::Instant;
