@@ -20,7 +20,7 @@ use Rattle.clk_machine.specs.Adopting.{adopted, adoption_by, registration_of, is
 use Rattle.clk_machine.specs.Parts.{Parts}
 use Rattle.clk_machine.specs.Sound.{IsSound}
 use Rattle.clk_machine.specs.Stands.{Stands}
-use Rattle.clk_machine.proofs.Sweeping.{take_one, take_whole}
+use Rattle.clk_machine.proofs.SweepScript.{take_one, take_whole}
 
 -- no orphan
 pub adopts_none : (m : Parts) (new : ℕ) (steps : List Micro) → Adopts m new [] steps steps

@@ -20,7 +20,7 @@ use Rattle.clk_machine.specs.Course.{CourseState, notifiers_at, tells_all, Posts
 use Rattle.clk_machine.specs.InFlight.{changes_rate, may_go_on, cuts_front, is_script, is_front, can_link, probes, is_near}
 use Rattle.clk_machine.specs.Parts.{Parts, bare, IsOwnCall, rows_from, IsWhole}
 use Rattle.clk_machine.proofs.Holdings.{StandsFor-same}
-use Rattle.clk_machine.proofs.InFlight.{changes_plain, no_probes}
+use Rattle.clk_machine.proofs.StepsInFlight.{changes_plain, no_probes}
 use Rattle.clk_machine.proofs.Writing.{whole_spent}
 
 -- a change of a rate or a parent may go on

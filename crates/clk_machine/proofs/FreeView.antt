@@ -126,3 +126,14 @@ module _ (k : CountState) (s : State) (keeps : AreCounts k) (stands : StandsFor 
       ap (λ (rs : List ClockRow). free_seen handles k (freed rs k c)) (sym rows)
       ∙ ap (λ (v : View). let u : View = record v { guarded = λ a. is_guarded k a && not (is_in a (freed s.clocks k c)) } in u) sees
       ∙ ap (λ (test : ℕ → Bool). let u : View = record (view s) { guarded = test } in u) (fun_ext (guarded_free c))
+
+-- ---- a clock that isn't guarded
+
+-- what isn't guarded is free already
+pub free_unguarded : (handles : List (Option HandleRow)) (k : CountState) (clocks : List ClockRow) (c : ℕ) → is_guarded k c ≡ false → free_seen handles k (freed clocks k c) ≡ seen handles k
+free_unguarded handles k clocks c free =
+    ap (λ (t : Bool). free_seen handles k (cond t (path_within (sole_parent (link_in clocks) (protect_sum k)) depth c) [])) free
+    ∙ ap (λ (test : ℕ → Bool). let v : View = record (seen handles k) { guarded = test } in v) (fun_ext (λ a. stays (is_guarded k a))) where
+      stays : (t : Bool) → (t && true) ≡ t
+      stays true = refl
+      stays false = refl

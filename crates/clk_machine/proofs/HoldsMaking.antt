@@ -48,7 +48,7 @@ use Rattle.clk_model.proofs.StateLaws.{settled-still}
 -- ---- one more, and one less
 
 -- what is put to two lists in one place is put to their difference
-both_more : (xs ys : List ℕ) (x c : ℕ) → x < length xs → x < length ys → slice_index (set xs x (slice_index xs x + 1)) c + slice_index ys c ≡ slice_index xs c + slice_index (set ys x (slice_index ys x + 1)) c
+pub both_more : (xs ys : List ℕ) (x c : ℕ) → x < length xs → x < length ys → slice_index (set xs x (slice_index xs x + 1)) c + slice_index ys c ≡ slice_index xs c + slice_index (set ys x (slice_index ys x + 1)) c
 both_more xs ys x c one two = by (nat_eq x c) refl where
   by : (t : Bool) → nat_eq x c ≡ t → slice_index (set xs x (slice_index xs x + 1)) c + slice_index ys c ≡ slice_index xs c + slice_index (set ys x (slice_index ys x + 1)) c
   by true e =
@@ -59,7 +59,7 @@ both_more xs ys x c one two = by (nat_eq x c) refl where
       let b = get_or-set_other ys x c (slice_index ys x + 1) 0 (λ same. test_other x c e (sym same)) in
       omega arith
 
-both_less : (xs ys : List ℕ) (x c : ℕ) → x < length xs → x < length ys → 0 < slice_index xs x → 0 < slice_index ys x
+pub both_less : (xs ys : List ℕ) (x c : ℕ) → x < length xs → x < length ys → 0 < slice_index xs x → 0 < slice_index ys x
     → slice_index (set xs x (slice_index xs x - 1)) c + slice_index ys c ≡ slice_index xs c + slice_index (set ys x (slice_index ys x - 1)) c
 both_less xs ys x c one two some some' = by (nat_eq x c) refl where
   by : (t : Bool) → nat_eq x c ≡ t → slice_index (set xs x (slice_index xs x - 1)) c + slice_index ys c ≡ slice_index xs c + slice_index (set ys x (slice_index ys x - 1)) c
@@ -72,7 +72,7 @@ both_less xs ys x c one two some some' = by (nat_eq x c) refl where
       omega arith
 
 -- counts with one more tell a hold more
-tells_more : (counts holds : List ℕ) (x : ℕ) → TellsHolds counts holds → x < length counts → TellsHolds (set counts x (slice_index counts x + 1)) (x ∷ holds)
+pub tells_more : (counts holds : List ℕ) (x : ℕ) → TellsHolds counts holds → x < length counts → TellsHolds (set counts x (slice_index counts x + 1)) (x ∷ holds)
 tells_more counts holds x tells place = record { each = λ c. times_more c x holds ∙ by c (nat_eq x c) refl } where
   by : (c : ℕ) (t : Bool) → nat_eq x c ≡ t → cond t 1 0 + times_in c holds ≡ slice_index (set counts x (slice_index counts x + 1)) c
   by c true e =
@@ -105,7 +105,7 @@ times_without x c (y ∷ ys) some = by (nat_eq y x) refl (λ more. times_without
       let step = rest more in
       omega arith
 
-tells_less : (counts holds : List ℕ) (x : ℕ) → TellsHolds counts holds → x < length counts → 0 < slice_index counts x → TellsHolds (set counts x (slice_index counts x - 1)) (without_one x holds)
+pub tells_less : (counts holds : List ℕ) (x : ℕ) → TellsHolds counts holds → x < length counts → 0 < slice_index counts x → TellsHolds (set counts x (slice_index counts x - 1)) (without_one x holds)
 tells_less counts holds x tells place some = record { each = λ c. by c (nat_eq x c) refl } where
   held : 0 < times_in x holds
   held = let was = tells.each x in omega arith
@@ -139,7 +139,7 @@ without_none x (y ∷ ys) none = by (nat_eq y x) refl (λ rest. without_none x y
       let all = times_more x y ys in
       ap (λ (zs : List ℕ). y ∷ zs) (rest (omega arith))
 
-without_in : (x h : ℕ) (holds : List ℕ) → is_in h (without_one x holds) ≡ true → is_in h holds ≡ true
+pub without_in : (x h : ℕ) (holds : List ℕ) → is_in h (without_one x holds) ≡ true → is_in h holds ≡ true
 without_in x h [] m = m
 without_in x h (y ∷ ys) m = by (nat_eq y x) m (λ rest. without_in x h ys rest) where
   by : (t : Bool) → is_in h (cond t ys (y ∷ without_one x ys)) ≡ true → (is_in h (without_one x ys) ≡ true → is_in h ys ≡ true) → is_in h (y ∷ ys) ≡ true
@@ -152,7 +152,7 @@ without_in x h (y ∷ ys) m = by (nat_eq y x) m (λ rest. without_in x h ys rest
 -- ---- who is active
 
 -- more holds keep who was active
-active_grows : (s : State) (es : List ℕ) (d : ℕ) → ((h : ℕ) → is_in h s.enable_holds ≡ true → is_in h es ≡ true) → active s d ≡ true → active (record s { enable_holds = es }) d ≡ true
+pub active_grows : (s : State) (es : List ℕ) (d : ℕ) → ((h : ℕ) → is_in h s.enable_holds ≡ true → is_in h es ≡ true) → active s d ≡ true → active (record s { enable_holds = es }) d ≡ true
 active_grows s es d more act =
     let found = any_in (λ h. is_in d (path s.clocks h)) (enable_holders s) act in
     any_from_in (λ h. is_in d (path s.clocks h)) (clocks_of is_enabled s.handles ++ critical_clocks s ++ es) found.0 (by found.0 (in_append found.0 (clocks_of is_enabled s.handles ++ critical_clocks s) s.enable_holds found.1)) found.2 where
@@ -168,7 +168,7 @@ pub held_there : (old : Parts) (m : Micro) (x : ℕ) → IsWhole old → old.fli
 held_there old m x whole going is own may = both_right (links_clocks old.flight.call) (registered old.tree.clocks x) (sym may ∙ made_now old m whole going is own)
 
 -- counts that changed with what is held stand for what is held then
-stands_held : (old : Parts) (k' : CountState) (prepares' enables' : List ℕ) (s t : State) → StandsFor old.counts s → k'.defs ≡ old.counts.defs → k'.links ≡ old.counts.links → k'.exclusives ≡ old.counts.exclusives
+pub stands_held : (old : Parts) (k' : CountState) (prepares' enables' : List ℕ) (s t : State) → StandsFor old.counts s → k'.defs ≡ old.counts.defs → k'.links ≡ old.counts.links → k'.exclusives ≡ old.counts.exclusives
     → t.defs ≡ s.defs → t.clocks ≡ s.clocks → t.handles ≡ s.handles
     → ((c : ℕ) → slice_index k'.enables c + slice_index old.enable_holds c ≡ slice_index old.counts.enables c + slice_index enables' c)
     → ((c : ℕ) → slice_index k'.prepares c + slice_index old.prepare_holds c ≡ slice_index old.counts.prepares c + slice_index prepares' c)
@@ -181,14 +181,14 @@ same_held : (xs ys : List ℕ) (c : ℕ) → slice_index xs c + slice_index ys c
 same_held xs ys c = refl
 
 -- the places of a registered clock
-record HasPlaces (old : Parts) (x : ℕ) : Type 0 where
-  desc : x < length old.desc.defs
-  enables : x < length old.counts.enables
-  prepares : x < length old.counts.prepares
-  enable_holds : x < length old.enable_holds
-  prepare_holds : x < length old.prepare_holds
+pub record HasPlaces (old : Parts) (x : ℕ) : Type 0 where
+  pub desc : x < length old.desc.defs
+  pub enables : x < length old.counts.enables
+  pub prepares : x < length old.counts.prepares
+  pub enable_holds : x < length old.enable_holds
+  pub prepare_holds : x < length old.prepare_holds
 
-places : (old : Parts) (x : ℕ) → IsWhole old → registered old.tree.clocks x ≡ true → HasPlaces old x
+pub places : (old : Parts) (x : ℕ) → IsWhole old → registered old.tree.clocks x ≡ true → HasPlaces old x
 places old x whole there =
     let within : x < length old.desc.defs = clock_within old.desc old.window old.tree x whole.tied there in
     let same : length old.counts.defs ≡ length old.desc.defs = ap (λ (ds : Description). length ds) whole.counted.stands.defs in
@@ -197,352 +197,6 @@ places old x whole there =
     let three = whole.enables_held.size in
     let four = whole.prepares_held.size in
     record { desc = within; enables = omega arith; prepares = omega arith; enable_holds = omega arith; prepare_holds = omega arith }
-
--- ---- a clock is held enabled
-
-pub record HoldsEnabled (old : Parts) (x : ClockId) (levels : ℕ) (window' : Shown) (counts' : CountState) (enables' : List ℕ) : Type 0 where
-  pub size : window'.size ≡ old.window.size
-  pub behind : window'.behind ≡ old.window.behind
-  pub words : window'.words ≡ option_map (gates_moved old.desc.defs (λ _. false) (λ _. true) (path_within (link_in old.tree.clocks) levels x.0)) old.window.words
-  pub counts : counts' ≡ record old.counts { enables = set old.counts.enables x.0 (slice_index old.counts.enables x.0 + 1) }
-  pub begun : (d : ℕ) → is_in d (path_within (up_in old.counts.links) levels x.0) ≡ (is_active counts' d && not (is_active old.counts d))
-  pub keeps : AreCounts counts'
-  pub holds : enables' ≡ set old.enable_holds x.0 (slice_index old.enable_holds x.0 + 1)
-
-module _ (old : Parts) (x : ClockId) (levels : ℕ) (window' : Shown) (counts' : CountState) (enables' : List ℕ) (flight' : FlightState) (now : Stepped old (micro.HoldEnable x) flight')
-    (to : HoldsEnabled old x levels window' counts' enables') where
-  enabled_there : registered old.tree.clocks x.0 ≡ true
-  enabled_there = held_there old (micro.HoldEnable x) x.0 now.whole now.going refl now.own refl
-
-  at_enabled : HasPlaces old x.0
-  at_enabled = places old x.0 now.whole enabled_there
-
-  enabled_more : (c : ℕ) → slice_index counts'.enables c + slice_index old.enable_holds c ≡ slice_index old.counts.enables c + slice_index enables' c
-  enabled_more c =
-      let one = ap (λ (k : CountState). slice_index k.enables c) to.counts in
-      let two = ap (λ (xs : List ℕ). slice_index xs c) to.holds in
-      let both = both_more old.counts.enables old.enable_holds x.0 c at_enabled.enables at_enabled.enable_holds in
-      omega arith
-
-  enabled_less : (c : ℕ) → slice_index counts'.prepares c + slice_index old.prepare_holds c ≡ slice_index old.counts.prepares c + slice_index old.prepare_holds c
-  enabled_less c = ap (λ (k : CountState). slice_index k.prepares c + slice_index old.prepare_holds c) to.counts
-
-  pub enabled_of : Relinked old (micro.HoldEnable x) window' old.tree counts' old.prepare_holds enables' flight'
-  enabled_of = record {
-    whole = now.whole;
-    going = now.going;
-    is = refl;
-    own = now.own;
-    first = now.first;
-    size = to.size;
-    told = ap (λ (o : Option (List ℕ)). is_some o) to.words ∙ told_mapped _ old.window.words;
-    behind = to.behind;
-    tied = tied-moved old.desc old.window window' old.tree (λ _. false) (λ _. true) (path_within (link_in old.tree.clocks) levels x.0) now.whole.tied
-        (path_within_desc old.desc old.window old.tree levels x.0 now.whole.tied enabled_there) to.size to.words;
-    there = λ c. refl;
-    linked = λ c has. has;
-    keeps = to.keeps;
-    prepares = held_on (registered old.tree.clocks) (length old.desc.defs) old.steps old.prepare_holds now.whole.prepares_held;
-    enables = subst (λ (xs : List ℕ). AreHeld (registered old.tree.clocks) (length old.desc.defs) (old.steps + 1) xs) (sym to.holds)
-        (held_more (registered old.tree.clocks) (length old.desc.defs) old.steps old.enable_holds x.0 now.whole.enables_held at_enabled.desc enabled_there);
-    stands = stands_held old counts' old.prepare_holds enables' (bare old) (bare (record old { enable_holds = enables' })) now.whole.counted.stands (ap (λ (k : CountState). k.defs) to.counts)
-        (ap (λ (k : CountState). k.links) to.counts) (ap (λ (k : CountState). k.exclusives) to.counts) refl refl refl enabled_more enabled_less (listed_tells old.enable_holds) (listed_tells enables')
-        (listed_tells old.prepare_holds) (listed_tells old.prepare_holds);
-    raised = old.flight.raised;
-    raised_there = (now.whole.flown now.going).way.raised;
-    flight = now.flight;
-    less = falls_of old (micro.HoldEnable x) flight' now.whole now.going refl now.own now.less;
-  }
-
-  pub enable_enters : Enters old old.flight.driver (event.Step (micro.HoldEnable x) None) turn.Going (with_relinked old window' old.tree counts' old.prepare_holds enables' flight')
-  unfolding settled
-  enable_enters = relinked_enters old (micro.HoldEnable x) window' old.tree counts' old.prepare_holds enables' flight' enabled_of (λ s k stands sound next is.
-      let cs : List ℕ = path_within (link_in old.tree.clocks) levels x.0 in
-      let tells : TellsHolds enables' (x.0 ∷ s.enable_holds) = subst (λ (xs : List ℕ). TellsHolds xs (x.0 ∷ s.enable_holds)) (sym to.holds) (tells_more old.enable_holds s.enable_holds x.0 stands.enable_holds at_enabled.enable_holds) in
-      let counted = counts_stand old s now.whole stands in
-      let then_ = stands_held old counts' old.prepare_holds enables' s (hold_enable s (taken k) x.0) counted (ap (λ (k : CountState). k.defs) to.counts) (ap (λ (k : CountState). k.links) to.counts)
-      (ap (λ (k : CountState). k.exclusives) to.counts) refl refl refl enabled_more enabled_less stands.enable_holds tells stands.prepare_holds stands.prepare_holds in
-      let same : path_within (up_in old.counts.links) levels x.0 ≡ cs = ap (λ (up : ℕ → Option ℕ). path_within up levels x.0) (sym (links_are old now.whole)) in
-      let opened : gates_moved s.defs (active s) (active (hold_enable s (taken k) x.0)) (count_from 0 (length s.defs)) s.regs ≡ gates_moved s.defs (λ _. false) (λ _. true) cs s.regs =
-      opens_all s.defs (active s) (active (hold_enable s (taken k) x.0)) cs s.regs (regs_told old s now.whole stands).0 (regs_lie old s now.whole stands)
-      (λ c m. subst (λ (d : Description). c < length d) (sym stands.defs) (path_within_desc old.desc old.window old.tree levels x.0 now.whole.tied enabled_there c m))
-      (λ d. ap (is_in d) (sym same) ∙ to.begun d ∙ lists_alike _ _ _ _ (tells_holds counts' (hold_enable s (taken k) x.0) to.keeps then_ d).active (tells_holds old.counts s now.whole.counted.keeps counted d).active)
-      (λ d was. active_grows s (x.0 ∷ s.enable_holds) d (λ h m. is_in_tail h x.0 s.enable_holds m) was) in
-      record {
-        regs = gates_moved s.defs (λ _. false) (λ _. true) cs s.regs;
-        clocks = s.clocks;
-        order = s.order;
-        prepare_holds = s.prepare_holds;
-        enable_holds = x.0 ∷ s.enable_holds;
-        change = taken k;
-        next_ = enables_one s old.flight.driver k x next
-            ∙ ap (λ (regs : Registers). let r : Option (State × Turn) = Some (record (hold_enable s (taken k) x.0) { regs = regs; steps = s.steps + 1 }, turn.Going) in r) opened;
-        words = to.words ∙ ap (option_map (gates_moved old.desc.defs (λ _. false) (λ _. true) cs)) stands.regs
-            ∙ ap (λ (d : Description). Some (gates_moved d (λ _. false) (λ _. true) cs s.regs)) (sym stands.defs);
-        rows = stands.clocks;
-        order_ = stands.order;
-        prepares = stands.prepare_holds;
-        enables = tells;
-        flies = now.change s.notifiers k (micro.HoldEnable x) is next.first refl;
-        along = goes_taken old.course k;
-      })
-
--- ---- it is so no more
-
-pub record DropsEnabled (old : Parts) (x : ClockId) (levels : ℕ) (window' : Shown) (counts' : CountState) (enables' : List ℕ) : Type 0 where
-  pub some : 0 < slice_index old.enable_holds x.0
-  pub size : window'.size ≡ old.window.size
-  pub behind : window'.behind ≡ old.window.behind
-  pub words : window'.words ≡ option_map (gates_moved old.desc.defs (λ _. true) (λ _. false) (reverse (path_within (link_in old.tree.clocks) levels x.0))) old.window.words
-  pub counts : counts' ≡ record old.counts { enables = set old.counts.enables x.0 (slice_index old.counts.enables x.0 - 1) }
-  pub stopped : (d : ℕ) → is_in d (path_within (up_in old.counts.links) levels x.0) ≡ (is_active old.counts d && not (is_active counts' d))
-  pub keeps : AreCounts counts'
-  pub holds : enables' ≡ set old.enable_holds x.0 (slice_index old.enable_holds x.0 - 1)
-
-module _ (old : Parts) (x : ClockId) (levels : ℕ) (window' : Shown) (counts' : CountState) (enables' : List ℕ) (flight' : FlightState) (now : Stepped old (micro.DropEnable x) flight')
-    (to : DropsEnabled old x levels window' counts' enables') where
-  dropped_there : registered old.tree.clocks x.0 ≡ true
-  dropped_there = held_there old (micro.DropEnable x) x.0 now.whole now.going refl now.own refl
-
-  at_dropped : HasPlaces old x.0
-  at_dropped = places old x.0 now.whole dropped_there
-
-  dropped_less : (c : ℕ) → slice_index counts'.enables c + slice_index old.enable_holds c ≡ slice_index old.counts.enables c + slice_index enables' c
-  dropped_less c =
-      let one = ap (λ (k : CountState). slice_index k.enables c) to.counts in
-      let two = ap (λ (xs : List ℕ). slice_index xs c) to.holds in
-      let some = to.some in
-      let owned = enable_owned old x.0 now.whole in
-      let both = both_less old.counts.enables old.enable_holds x.0 c at_dropped.enables at_dropped.enable_holds (omega arith) some in
-      omega arith
-
-  dropped_same : (c : ℕ) → slice_index counts'.prepares c + slice_index old.prepare_holds c ≡ slice_index old.counts.prepares c + slice_index old.prepare_holds c
-  dropped_same c = ap (λ (k : CountState). slice_index k.prepares c + slice_index old.prepare_holds c) to.counts
-
-  dropped_within : (c : ℕ) → is_in c (reverse (path_within (link_in old.tree.clocks) levels x.0)) ≡ true → c < length old.desc.defs
-  dropped_within c m =
-      path_within_desc old.desc old.window old.tree levels x.0 now.whole.tied dropped_there c (sym (is_in-reverse c (path_within (link_in old.tree.clocks) levels x.0)) ∙ m)
-
-  pub dropped_of : Relinked old (micro.DropEnable x) window' old.tree counts' old.prepare_holds enables' flight'
-  dropped_of = record {
-    whole = now.whole;
-    going = now.going;
-    is = refl;
-    own = now.own;
-    first = now.first;
-    size = to.size;
-    told = ap (λ (o : Option (List ℕ)). is_some o) to.words ∙ told_mapped _ old.window.words;
-    behind = to.behind;
-    tied = tied-moved old.desc old.window window' old.tree (λ _. true) (λ _. false) (reverse (path_within (link_in old.tree.clocks) levels x.0)) now.whole.tied dropped_within to.size to.words;
-    there = λ c. refl;
-    linked = λ c has. has;
-    keeps = to.keeps;
-    prepares = held_on (registered old.tree.clocks) (length old.desc.defs) old.steps old.prepare_holds now.whole.prepares_held;
-    enables = subst (λ (xs : List ℕ). AreHeld (registered old.tree.clocks) (length old.desc.defs) (old.steps + 1) xs) (sym to.holds)
-        (held_less (registered old.tree.clocks) (length old.desc.defs) old.steps old.enable_holds x.0 now.whole.enables_held at_dropped.desc dropped_there to.some);
-    stands = stands_held old counts' old.prepare_holds enables' (bare old) (bare (record old { enable_holds = enables' })) now.whole.counted.stands (ap (λ (k : CountState). k.defs) to.counts)
-        (ap (λ (k : CountState). k.links) to.counts) (ap (λ (k : CountState). k.exclusives) to.counts) refl refl refl dropped_less dropped_same (listed_tells old.enable_holds) (listed_tells enables')
-        (listed_tells old.prepare_holds) (listed_tells old.prepare_holds);
-    raised = old.flight.raised;
-    raised_there = (now.whole.flown now.going).way.raised;
-    flight = now.flight;
-    less = falls_of old (micro.DropEnable x) flight' now.whole now.going refl now.own now.less;
-  }
-
-  pub drop_enters : Enters old old.flight.driver (event.Step (micro.DropEnable x) None) turn.Going (with_relinked old window' old.tree counts' old.prepare_holds enables' flight')
-  unfolding settled
-  drop_enters = relinked_enters old (micro.DropEnable x) window' old.tree counts' old.prepare_holds enables' flight' dropped_of (λ s k stands sound next is.
-      let cs : List ℕ = path_within (link_in old.tree.clocks) levels x.0 in
-      let left : List ℕ = without_one x.0 s.enable_holds in
-      let tells : TellsHolds enables' left = subst (λ (xs : List ℕ). TellsHolds xs left) (sym to.holds) (tells_less old.enable_holds s.enable_holds x.0 stands.enable_holds at_dropped.enable_holds to.some) in
-      let counted = counts_stand old s now.whole stands in
-      let then_ = stands_held old counts' old.prepare_holds enables' s (drop_enable s (taken k) x.0) counted (ap (λ (k : CountState). k.defs) to.counts) (ap (λ (k : CountState). k.links) to.counts)
-      (ap (λ (k : CountState). k.exclusives) to.counts) refl refl refl dropped_less dropped_same stands.enable_holds tells stands.prepare_holds stands.prepare_holds in
-      let same : path_within (up_in old.counts.links) levels x.0 ≡ cs = ap (λ (up : ℕ → Option ℕ). path_within up levels x.0) (sym (links_are old now.whole)) in
-      let closed : gates_moved s.defs (active s) (active (drop_enable s (taken k) x.0)) (count_from 0 (length s.defs)) s.regs ≡ gates_moved s.defs (λ _. true) (λ _. false) (reverse cs) s.regs =
-      closes_all s.defs (active s) (active (drop_enable s (taken k) x.0)) cs s.regs (regs_told old s now.whole stands).0 (regs_lie old s now.whole stands)
-      (λ c m. subst (λ (d : Description). c < length d) (sym stands.defs) (path_within_desc old.desc old.window old.tree levels x.0 now.whole.tied dropped_there c m))
-      (λ d. ap (is_in d) (sym same) ∙ to.stopped d ∙ lists_alike _ _ _ _ (tells_holds old.counts s now.whole.counted.keeps counted d).active (tells_holds counts' (drop_enable s (taken k) x.0) to.keeps then_ d).active)
-      (λ d is_. active_grows (drop_enable s (taken k) x.0) s.enable_holds d (λ h m. without_in x.0 h s.enable_holds m) is_) in
-      record {
-        regs = gates_moved s.defs (λ _. true) (λ _. false) (reverse cs) s.regs;
-        clocks = s.clocks;
-        order = s.order;
-        prepare_holds = s.prepare_holds;
-        enable_holds = left;
-        change = taken k;
-        next_ = disables_one s old.flight.driver k x next
-            ∙ ap (λ (regs : Registers). let r : Option (State × Turn) = Some (record (drop_enable s (taken k) x.0) { regs = regs; steps = s.steps + 1 }, turn.Going) in r) closed;
-        words = to.words ∙ ap (option_map (gates_moved old.desc.defs (λ _. true) (λ _. false) (reverse cs))) stands.regs
-            ∙ ap (λ (d : Description). Some (gates_moved d (λ _. true) (λ _. false) (reverse cs) s.regs)) (sym stands.defs);
-        rows = stands.clocks;
-        order_ = stands.order;
-        prepares = stands.prepare_holds;
-        enables = tells;
-        flies = now.change s.notifiers k (micro.DropEnable x) is next.first refl;
-        along = goes_taken old.course k;
-      })
-
--- ---- a clock is held prepared
-
-pub record HoldsPrepared (old : Parts) (x : ClockId) (counts' : CountState) (prepares' : List ℕ) (gone flight' : FlightState) : Type 0 where
-  pub counts : counts' ≡ record old.counts { prepares = set old.counts.prepares x.0 (slice_index old.counts.prepares x.0 + 1) }
-  pub keeps : AreCounts counts'
-  pub holds : prepares' ≡ set old.prepare_holds x.0 (slice_index old.prepare_holds x.0 + 1)
-  pub lets : LetsGoAll (path_within (link_in old.tree.clocks) depth x.0) gone flight'
-
--- what is still raised was raised
-still_raised : (there : ℕ → Bool) (ys raised : List ℕ) → list_all there raised ≡ true → list_all there (without ys raised) ≡ true
-still_raised there ys [] all = refl
-still_raised there ys (x ∷ xs) all = by (not (is_in x ys)) (still_raised there ys xs (both_right (there x) (list_all there xs) all)) where
-  by : (t : Bool) → list_all there (without ys xs) ≡ true → list_all there (cond {A = List ℕ} t (x ∷ without ys xs) (without ys xs)) ≡ true
-  by true rest = ap (λ (b : Bool). b && list_all there (without ys xs)) (both_left (there x) (list_all there xs) all) ∙ rest
-  by false rest = rest
-
--- nothing stands in front of the change behind a step of the script
-none_in_front : (old : Parts) (m : Micro) (s : State) (k : Change) → IsWhole old → old.flight.going ≡ true → relinks m ≡ true → own_step old.flight ≡ Some m → IsChange s.notifiers old.flight k → (taken k).front ≡ []
-none_in_front old m s k whole going is own change =
-    let at = own_step_of old m whole going is own in
-    ap (λ (ms : List Micro). rest_of ms) (change.front ∙ ap (front_steps s.notifiers old.flight.script old.flight.raised) at.front)
-
-module _ (old : Parts) (x : ClockId) (counts' : CountState) (prepares' : List ℕ) (gone flight' : FlightState) (now : Stepped old (micro.HoldPrepare x) gone) (to : HoldsPrepared old x counts' prepares' gone flight') where
-  prepared_there : registered old.tree.clocks x.0 ≡ true
-  prepared_there = held_there old (micro.HoldPrepare x) x.0 now.whole now.going refl now.own refl
-
-  at_prepared : HasPlaces old x.0
-  at_prepared = places old x.0 now.whole prepared_there
-
-  prepared_more : (c : ℕ) → slice_index counts'.prepares c + slice_index old.prepare_holds c ≡ slice_index old.counts.prepares c + slice_index prepares' c
-  prepared_more c =
-      let one = ap (λ (k : CountState). slice_index k.prepares c) to.counts in
-      let two = ap (λ (xs : List ℕ). slice_index xs c) to.holds in
-      let both = both_more old.counts.prepares old.prepare_holds x.0 c at_prepared.prepares at_prepared.prepare_holds in
-      omega arith
-
-  prepared_same : (c : ℕ) → slice_index counts'.enables c + slice_index old.enable_holds c ≡ slice_index old.counts.enables c + slice_index old.enable_holds c
-  prepared_same c = ap (λ (k : CountState). slice_index k.enables c + slice_index old.enable_holds c) to.counts
-
-  pub prepared_of : Relinked old (micro.HoldPrepare x) old.window old.tree counts' prepares' old.enable_holds flight'
-  prepared_of = record {
-    whole = now.whole;
-    going = now.going;
-    is = refl;
-    own = now.own;
-    first = now.first;
-    size = refl;
-    told = refl;
-    behind = refl;
-    tied = now.whole.tied;
-    there = λ c. refl;
-    linked = λ c has. has;
-    keeps = to.keeps;
-    prepares = subst (λ (xs : List ℕ). AreHeld (registered old.tree.clocks) (length old.desc.defs) (old.steps + 1) xs) (sym to.holds)
-        (held_more (registered old.tree.clocks) (length old.desc.defs) old.steps old.prepare_holds x.0 now.whole.prepares_held at_prepared.desc prepared_there);
-    enables = held_on (registered old.tree.clocks) (length old.desc.defs) old.steps old.enable_holds now.whole.enables_held;
-    stands = stands_held old counts' prepares' old.enable_holds (bare old) (bare (record old { prepare_holds = prepares' })) now.whole.counted.stands (ap (λ (k : CountState). k.defs) to.counts)
-        (ap (λ (k : CountState). k.links) to.counts) (ap (λ (k : CountState). k.exclusives) to.counts) refl refl refl prepared_same prepared_more (listed_tells old.enable_holds) (listed_tells old.enable_holds)
-        (listed_tells old.prepare_holds) (listed_tells prepares');
-    raised = without (path_within (link_in old.tree.clocks) depth x.0) old.flight.raised;
-    raised_there = still_raised (is_near old.flight.call (registered old.tree.clocks)) (path_within (link_in old.tree.clocks) depth x.0) old.flight.raised (now.whole.flown now.going).way.raised;
-    flight = to.lets.flight ∙ ap (λ (f : FlightState). let g : FlightState = record f { raised = without (path_within (link_in old.tree.clocks) depth x.0) f.raised } in g) now.flight;
-    less =
-        let one = falls_of old (micro.HoldPrepare x) gone now.whole now.going refl now.own now.less in
-        let two = to.lets.less (rows_from 0 old.chains) in
-        omega arith;
-  }
-
-  pub prepare_enters : Enters old old.flight.driver (event.Step (micro.HoldPrepare x) None) turn.Going (with_relinked old old.window old.tree counts' prepares' old.enable_holds flight')
-  prepare_enters = relinked_enters old (micro.HoldPrepare x) old.window old.tree counts' prepares' old.enable_holds flight' prepared_of (λ s k stands sound next is.
-      let same : path_within (link_in old.tree.clocks) depth x.0 ≡ path s.clocks x.0 = ap (λ (rs : List ClockRow). path rs x.0) (sym stands.clocks) in
-      let gone_is = now.change s.notifiers k (micro.HoldPrepare x) is next.first refl in
-      record {
-        regs = s.regs;
-        clocks = s.clocks;
-        order = s.order;
-        prepare_holds = x.0 ∷ s.prepare_holds;
-        enable_holds = s.enable_holds;
-        change = record (taken k) { raised = without (path s.clocks x.0) k.raised };
-        next_ = prepares_one s old.flight.driver k x next;
-        words = stands.regs;
-        rows = stands.clocks;
-        order_ = stands.order;
-        prepares = subst (λ (xs : List ℕ). TellsHolds xs (x.0 ∷ s.prepare_holds)) (sym to.holds) (tells_more old.prepare_holds s.prepare_holds x.0 stands.prepare_holds at_prepared.prepare_holds);
-        enables = stands.enable_holds;
-        flies = subst (λ (ys : List ℕ). IsChange s.notifiers flight' (record (taken k) { raised = without ys k.raised })) same
-            (to.lets.change s.notifiers (taken k) gone_is (none_in_front old (micro.HoldPrepare x) s k now.whole now.going refl now.own is));
-        along = λ along_ changes. let goes = along_ changes in record { chain = goes.chain; rates = goes.rates };
-      })
-
--- ---- it is so no more
-
-pub record DropsPrepared (old : Parts) (x : ClockId) (counts' : CountState) (prepares' : List ℕ) : Type 0 where
-  pub some : 0 < slice_index old.prepare_holds x.0
-  pub counts : counts' ≡ record old.counts { prepares = set old.counts.prepares x.0 (slice_index old.counts.prepares x.0 - 1) }
-  pub keeps : AreCounts counts'
-  pub holds : prepares' ≡ set old.prepare_holds x.0 (slice_index old.prepare_holds x.0 - 1)
-
-module _ (old : Parts) (x : ClockId) (counts' : CountState) (prepares' : List ℕ) (flight' : FlightState) (now : Stepped old (micro.DropPrepare x) flight') (to : DropsPrepared old x counts' prepares') where
-  freed_there : registered old.tree.clocks x.0 ≡ true
-  freed_there = held_there old (micro.DropPrepare x) x.0 now.whole now.going refl now.own refl
-
-  at_freed : HasPlaces old x.0
-  at_freed = places old x.0 now.whole freed_there
-
-  freed_less : (c : ℕ) → slice_index counts'.prepares c + slice_index old.prepare_holds c ≡ slice_index old.counts.prepares c + slice_index prepares' c
-  freed_less c =
-      let one = ap (λ (k : CountState). slice_index k.prepares c) to.counts in
-      let two = ap (λ (xs : List ℕ). slice_index xs c) to.holds in
-      let some = to.some in
-      let owned = prepare_owned old x.0 now.whole in
-      let both = both_less old.counts.prepares old.prepare_holds x.0 c at_freed.prepares at_freed.prepare_holds (omega arith) some in
-      omega arith
-
-  freed_same : (c : ℕ) → slice_index counts'.enables c + slice_index old.enable_holds c ≡ slice_index old.counts.enables c + slice_index old.enable_holds c
-  freed_same c = ap (λ (k : CountState). slice_index k.enables c + slice_index old.enable_holds c) to.counts
-
-  pub freed_of : Relinked old (micro.DropPrepare x) old.window old.tree counts' prepares' old.enable_holds flight'
-  freed_of = record {
-    whole = now.whole;
-    going = now.going;
-    is = refl;
-    own = now.own;
-    first = now.first;
-    size = refl;
-    told = refl;
-    behind = refl;
-    tied = now.whole.tied;
-    there = λ c. refl;
-    linked = λ c has. has;
-    keeps = to.keeps;
-    prepares = subst (λ (xs : List ℕ). AreHeld (registered old.tree.clocks) (length old.desc.defs) (old.steps + 1) xs) (sym to.holds)
-        (held_less (registered old.tree.clocks) (length old.desc.defs) old.steps old.prepare_holds x.0 now.whole.prepares_held at_freed.desc freed_there to.some);
-    enables = held_on (registered old.tree.clocks) (length old.desc.defs) old.steps old.enable_holds now.whole.enables_held;
-    stands = stands_held old counts' prepares' old.enable_holds (bare old) (bare (record old { prepare_holds = prepares' })) now.whole.counted.stands (ap (λ (k : CountState). k.defs) to.counts)
-        (ap (λ (k : CountState). k.links) to.counts) (ap (λ (k : CountState). k.exclusives) to.counts) refl refl refl freed_same freed_less (listed_tells old.enable_holds) (listed_tells old.enable_holds)
-        (listed_tells old.prepare_holds) (listed_tells prepares');
-    raised = old.flight.raised;
-    raised_there = (now.whole.flown now.going).way.raised;
-    flight = now.flight;
-    less = falls_of old (micro.DropPrepare x) flight' now.whole now.going refl now.own now.less;
-  }
-
-  pub free_enters : Enters old old.flight.driver (event.Step (micro.DropPrepare x) None) turn.Going (with_relinked old old.window old.tree counts' prepares' old.enable_holds flight')
-  free_enters = relinked_enters old (micro.DropPrepare x) old.window old.tree counts' prepares' old.enable_holds flight' freed_of (λ s k stands sound next is. record {
-    regs = s.regs;
-    clocks = s.clocks;
-    order = s.order;
-    prepare_holds = without_one x.0 s.prepare_holds;
-    enable_holds = s.enable_holds;
-    change = taken k;
-    next_ = unprepares_one s old.flight.driver k x next;
-    words = stands.regs;
-    rows = stands.clocks;
-    order_ = stands.order;
-    prepares = subst (λ (xs : List ℕ). TellsHolds xs (without_one x.0 s.prepare_holds)) (sym to.holds) (tells_less old.prepare_holds s.prepare_holds x.0 stands.prepare_holds at_freed.prepare_holds to.some);
-    enables = stands.enable_holds;
-    flies = now.change s.notifiers k (micro.DropPrepare x) is next.first refl;
-    along = goes_taken old.course k;
-  })
 
 -- ---- a clock that isn't held stays so
 

@@ -49,7 +49,8 @@ use Rattle.clk_machine.proofs.Attached.{IsAttached}
 use Rattle.clk_machine.proofs.Critical.{IsHeld, critical_regs, critical_words, held_stands, in_desc, register_regs}
 use Rattle.clk_machine.proofs.Following.{told_mapped}
 use Rattle.clk_machine.proofs.HeldCounts.{held_on, held_still}
-use Rattle.clk_machine.proofs.InFlight.{behind_seek, changes_plain, no_probes, own_going}
+use Rattle.clk_machine.proofs.InFlight.{behind_seek, own_going}
+use Rattle.clk_machine.proofs.StepsInFlight.{changes_plain, no_probes}
 use Rattle.clk_machine.proofs.Making.{change_of, next_of, path_stands, path_under}
 use Rattle.clk_machine.proofs.Moving.{tied-moved}
 use Rattle.clk_machine.proofs.Registering.{Registered, active_linked, plain_stands, rows_stand, state_attached, tied_registered}

@@ -18,7 +18,8 @@ use Rattle.clk_flight.specs.Moves.{others, found_none, comes_again, raised_once,
 use Rattle.clk_machine.specs.declared.course.Notified.{Notified}
 use Rattle.clk_machine.specs.Course.{PostsFit, tells_all, begins_with, behind_visit, visited_by}
 use Rattle.clk_machine.specs.InFlight.{may_raise, may_seek, may_make, there_behind, is_front, is_script, IsUnderWay}
-use Rattle.clk_machine.proofs.InFlight.{behind_seek, end_alone, own_going, raise_there, poll_in_front, PollsInFront, FallsInFront}
+use Rattle.clk_machine.proofs.InFlight.{behind_seek, own_going, raise_there, poll_in_front, PollsInFront}
+use Rattle.clk_machine.proofs.StepsInFlight.{end_alone, FallsInFront}
 use Rattle.clk_machine.proofs.Making.{KeepsAlong}
 use Rattle.clk_machine.proofs.Telling.{behind_fits}
 

@@ -4,6 +4,7 @@ pub mod Seeking
 pub mod Setting
 pub mod Stepping
 pub mod InFlight
+pub mod StepsInFlight
 pub mod Coming
 pub mod Opening
 pub mod Closing
@@ -45,8 +46,11 @@ pub mod Keeping
 pub mod Visiting
 pub mod Relinking
 pub mod LinkSteps
+pub mod Selecting
 pub mod LettingGo
 pub mod HoldsMaking
+pub mod EnableHolds
+pub mod PrepareHolds
 pub mod Ending
 pub mod Landings
 pub mod Working
@@ -55,9 +59,11 @@ pub mod Changing
 pub mod Staying
 pub mod Movable
 pub mod Requesting
+pub mod ScriptSteps
 pub mod Scripting
 pub mod Readying
 pub mod Ranging
+pub mod SweepScript
 pub mod Sweeping
 pub mod Added
 pub mod Lowering

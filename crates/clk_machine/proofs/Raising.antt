@@ -37,7 +37,8 @@ use Rattle.clk_machine.specs.Parts.{Parts, IsWhole, rows_from}
 use Rattle.clk_machine.specs.Plls.{raisable, lowerable, Finds}
 use Rattle.clk_machine.specs.Sound.{IsSound}
 use Rattle.clk_machine.specs.Stands.{Stands, Leads, Enters}
-use Rattle.clk_machine.proofs.InFlight.{fall_in_front, fall_told, raise_there, poll_there, seeks_plain}
+use Rattle.clk_machine.proofs.InFlight.{raise_there}
+use Rattle.clk_machine.proofs.StepsInFlight.{fall_in_front, fall_told, poll_there, seeks_plain}
 use Rattle.clk_machine.proofs.Making.{with_step, stands_stepped, enters_step, change_of, next_of, to_raise_stands, to_lower_stands, near_within, same_raised, same_polled}
 use Rattle.clk_machine.proofs.Opening.{power_fits}
 use Rattle.clk_machine.proofs.Powering.{power_put, powered_words, told_put}

@@ -41,7 +41,8 @@ use Rattle.clk_machine.specs.Stands.{Stands, Enters}
 use Rattle.clk_machine.specs.Window.{Shown}
 use Rattle.clk_machine.proofs.HeldCounts.{held_still}
 use Rattle.clk_machine.proofs.Holdings.{StandsFor-same}
-use Rattle.clk_machine.proofs.InFlight.{own_going, script_rest, first_seeks, cut_behind, changes_links}
+use Rattle.clk_machine.proofs.InFlight.{own_going, script_rest, first_seeks, cut_behind}
+use Rattle.clk_machine.proofs.StepsInFlight.{changes_links}
 use Rattle.clk_machine.proofs.Making.{change_of, next_of, no_registers}
 use Rattle.clk_machine.proofs.Stepping.{IsNext}
 

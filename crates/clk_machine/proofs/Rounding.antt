@@ -11,7 +11,7 @@ use Rattle.clk_model.specs.declared.row.HandleRow.{HandleRow}
 use Rattle.clk_model.specs.State.{State, handle_at}
 use Rattle.clk_model.specs.Holders.{guarded}
 use Rattle.clk_model.specs.declared.row.ClockRow.{ClockRow}
-use Rattle.clk_model.specs.Round.{View, wiring, most_rate, round_rate}
+use Rattle.clk_model.specs.Round.{View, Rounded, wiring, most_rate, round, round_rate}
 use Rattle.clk_model.specs.Views.{view, lift, lifted_row}
 use Rattle.clk_model.specs.Begin.{put_handle}
 use Rattle.clk_model.proofs.SameRateLaws.{round_same}
@@ -32,13 +32,23 @@ use Rattle.clk_machine.proofs.Registering.{rate-take}
 -- ---- registers
 
 -- a rounding reads kept rates alone, so the first words give the one that all words give
+pub rounding_words : (n : ℕ) (defs : Description) (regs : Registers) (t : TreeState) (v : View) (c x : ℕ) → IsValid n defs → round (wired defs (take n regs) t) v c x ≡ round (wired defs regs t) v c x
+rounding_words n defs regs t v c x valid = round_same defs t.clocks regs (take n regs) v c x (fun_ext (λ k. rate-take n defs regs t.clocks k valid))
+
+pub rounding-take : (n : ℕ) (told : Option Registers) (defs : Description) (t : TreeState) (v : View) (c x : ℕ) (found : Option Rounded) → IsValid n defs
+    → AreKept defs (option_map (take n) told) t.clocks t.rates → Told told defs t (λ w. found ≡ round w v c x)
+    → IfSome (option_map (take n) told) (λ regs. found ≡ round (wired defs regs t) v c x)
+rounding-take n None defs t v c x found valid kept says = tt
+rounding-take n (Some regs) defs t v c x found valid kept says =
+    says (record { kept = λ k there. kept k there ∙ rate-take n defs regs t.clocks k valid }) ∙ sym (rounding_words n defs regs t v c x valid)
+
 pub round-take : (n : ℕ) (told : Option Registers) (defs : Description) (t : TreeState) (v : View) (c x : ℕ) (found : Option ℕ) → IsValid n defs
     → AreKept defs (option_map (take n) told) t.clocks t.rates → Told told defs t (λ w. found ≡ round_rate w v c x)
     → IfSome (option_map (take n) told) (λ regs. found ≡ round_rate (wired defs regs t) v c x)
 round-take n None defs t v c x found valid kept says = tt
 round-take n (Some regs) defs t v c x found valid kept says =
     says (record { kept = λ k there. kept k there ∙ rate-take n defs regs t.clocks k valid })
-    ∙ sym (ap (λ o. option_map (λ r. r.rate) o) (round_same defs t.clocks regs (take n regs) v c x (fun_ext (λ k. rate-take n defs regs t.clocks k valid))))
+    ∙ sym (ap (λ o. option_map (λ r. r.rate) o) (rounding_words n defs regs t v c x valid))
 
 -- ---- boundaries
 

@@ -15,6 +15,7 @@ use Rattle.kind_math.specs.Dividers.{div_setting}
 use Rattle.kind_math.specs.Plls.{pll_multiplier}
 use Rattle.reg_bank.specs.Registers.{Registers, put, with_bits}
 use Rattle.clk_model.specs.declared.row.ClockRow.{ClockRow}
+use Rattle.clk_model.specs.declared.row.HandleRow.{HandleRow}
 use Rattle.clk_model.specs.Chain.{moves, place_of, select, setting, set_one, outcome, chain_from, chain_within, keeps_boundaries, chain}
 use Rattle.clk_model.specs.Kinds.{can_round, mux_field}
 use Rattle.clk_model.specs.Lists.{is_at}
@@ -25,9 +26,15 @@ use Rattle.clk_model.specs.Walk.{walk}
 use Rattle.clk_model.proofs.PlanLaws.{step_of}
 use Rattle.clk_model.proofs.SameRateLaws.{tree_over, round_same}
 use Rattle.clk_tree.specs.TreeState.{TreeState}
+use Rattle.counts_core.specs.Counted.{CountState, is_guarded}
+use Rattle.rate_planner.specs.declared.rounded.Rounded as code
 use Rattle.rate_planner.specs.Kept.{Told, wired}
+use Rattle.rate_planner.specs.Rounded.{rounded_of}
 use Rattle.rate_planner.specs.Walks.{at_rate, parent_chain, walked_rates}
+use Rattle.clk_machine.specs.Free.{freed, free_seen}
 use Rattle.clk_machine.specs.Parts.{AreKept}
+use Rattle.clk_machine.specs.Seen.{seen}
+use Rattle.clk_machine.proofs.FreeView.{free_unguarded}
 use Rattle.clk_machine.proofs.Registering.{rate-take}
 use Rattle.clk_machine.proofs.WindowLaws.{take_set}
 
@@ -169,6 +176,21 @@ pub none_given : (told : Option Registers) (defs : Description) (t : TreeState) 
     → IfSome told (λ regs. false ≡ is_at (rate defs regs t.clocks c) (round_rate (wired defs regs t) v c x))
 none_given None defs t v c x says = tt
 none_given (Some regs) defs t v c x says = ap (λ (o : Option ℕ). is_at (rate defs regs t.clocks c) o) says
+
+-- and so it is of a clock that isn't guarded, by its rounding alone
+pub unguarded_given : (told : Option Registers) (defs : Description) (t : TreeState) (handles : List (Option HandleRow)) (k : CountState) (c x kept : ℕ) (first : Option code.Rounded) (same : Bool)
+    → is_guarded k c ≡ false → registered t.clocks c ≡ true → kept ≡ slice_index t.rates c → AreKept defs told t.clocks t.rates → same ≡ is_at kept (option_map (λ (r : code.Rounded). r.rate) first)
+    → IfSome told (λ regs. option_map rounded_of first ≡ round (wired defs regs t) (seen handles k) c x)
+    → IfSome told (λ regs. same ≡ is_at (rate defs regs t.clocks c) (round_rate (wired defs regs t) (free_seen handles k (freed t.clocks k c)) c x))
+unguarded_given None defs t handles k c x kept first same free there is rates tests says = tt
+unguarded_given (Some regs) defs t handles k c x kept first same free there is rates tests says =
+    tests
+    ∙ ap (λ (n : ℕ). is_at n (option_map (λ (r : code.Rounded). r.rate) first)) (is ∙ rates c there)
+    ∙ ap (λ (o : Option ℕ). is_at (rate defs regs t.clocks c) o) (by first ∙ ap (λ (o : Option Rounded). option_map (λ r. r.rate) o) says)
+    ∙ ap (λ (v : View). is_at (rate defs regs t.clocks c) (round_rate (wired defs regs t) v c x)) (sym (free_unguarded handles k t.clocks c free)) where
+      by : (o : Option code.Rounded) → option_map (λ (r : code.Rounded). r.rate) o ≡ option_map (λ (r : Rounded). r.rate) (option_map rounded_of o)
+      by None = refl
+      by (Some r) = refl
 
 -- the chain of a change of parent over the first words
 pub parent_chain-take : (n : ℕ) (w : Wiring) (c p : ℕ) → IsValid n w.defs → parent_chain (first_words n w) c p ≡ parent_chain w c p

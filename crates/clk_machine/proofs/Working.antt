@@ -24,7 +24,8 @@ use Rattle.clk_machine.specs.Making.{ComesFirst, ComesNext, FindsNothing, work_o
 use Rattle.clk_machine.specs.Parts.{Parts, IsWhole}
 use Rattle.clk_machine.specs.Plls.{raisable, lowerable, Finds}
 use Rattle.clk_machine.proofs.Coming.{end_comes, work_raises, work_polls, work_falls, work_lowers, work_tells, work_visits, work_registers, work_relinks, work_selects, work_settles, work_closes, work_unpowers, work_holds_prepare, work_holds_enable, work_drops_enable, work_drops_prepare}
-use Rattle.clk_machine.proofs.InFlight.{raise_there, lower_there, fall_untold}
+use Rattle.clk_machine.proofs.InFlight.{raise_there, lower_there}
+use Rattle.clk_machine.proofs.StepsInFlight.{fall_untold}
 use Rattle.clk_machine.proofs.Telling.{count_told, tells_next}
 use Rattle.clk_machine.proofs.Making.{to_raise_stands, to_lower_stands}
 use Rattle.clk_machine.proofs.Stepping.{raises_none, lowers_none}

@@ -4,9 +4,8 @@ use Rattle.std.specs.Prelude.{option_map, option_and_then}
 use Rattle.std.proofs.lemmas.List.{map-append}
 use Rattle.clk_base.specs.declared.clock.ClockId.{ClockId}
 use Rattle.clk_base.specs.Description.{kind_of}
-use Rattle.clk_base.specs.Levels.{depth}
 use Rattle.clk_model.specs.Kinds.{can_round}
-use Rattle.clk_model.specs.Round.{Wiring, View, Rounded, passes_on, round_by, rate_for, round}
+use Rattle.clk_model.specs.Round.{Wiring, View, Rounded, passes_on, round}
 use Rattle.clk_model.specs.Chain.{chain_from, chain_within}
 use Rattle.clk_model.specs.State as state
 use Rattle.clk_tree.specs.declared.chain.ChainStep.{ChainStep}
@@ -14,13 +13,12 @@ use Rattle.clk_tree.specs.Plans.{chain_of}
 use Rattle.rate_planner.specs.declared.next.Next.{Next}
 use Rattle.rate_planner.specs.declared.next.Next.TheVariants.{NoPlan, Last, More}
 use Rattle.rate_planner.specs.Chains.{step_of, continued, chain_here}
-use Rattle.rate_planner.proofs.Best.{round_whole}
 
 -- a clock that takes requests goes on by its rounding, and another has no chain
-pub chain_taken : (more : ℕ → ℕ → Option (List state.ChainStep)) (w : Wiring) (view : View) (c x : ℕ) (o : Option Rounded) (levels : ℕ) → (can_round (kind_of w.defs c) || passes_on w c) ≡ true
-    → levels ≡ depth → o ≡ round_by (rate_for levels w view) w view c x → option_and_then (λ r. chain_from more w view c x r) o ≡ chain_here more w view c x
-chain_taken more w view c x o levels takes all is =
-    ap (option_and_then (λ (r : Rounded). chain_from more w view c x r)) (round_whole w view c x o levels all is)
+pub chain_taken : (more : ℕ → ℕ → Option (List state.ChainStep)) (w : Wiring) (view : View) (c x : ℕ) (o : Option Rounded) → (can_round (kind_of w.defs c) || passes_on w c) ≡ true
+    → o ≡ round w view c x → option_and_then (λ r. chain_from more w view c x r) o ≡ chain_here more w view c x
+chain_taken more w view c x o takes is =
+    ap (option_and_then (λ (r : Rounded). chain_from more w view c x r)) is
     ∙ sym (ap (λ (t : Bool). elim t [ false ↦ None | true ↦ option_and_then (λ r. chain_from more w view c x r) (round w view c x) ]) takes)
 
 pub chain_untaken : (more : ℕ → ℕ → Option (List state.ChainStep)) (w : Wiring) (view : View) (c x : ℕ) → (can_round (kind_of w.defs c) || passes_on w c) ≡ false → None ≡ chain_here more w view c x

@@ -1,10 +1,10 @@
 -- The parameters of a clock of a valid description.
-use Rattle.std.proofs.Common.{◌≡◌, ℕ, ◌^◌, ◌<◌, ◌≤◌, true, false, arith, length}
+use Rattle.std.proofs.Common.{◌≡◌, ℕ, ◌^◌, ◌<◌, true, false, length}
 use Rattle.std.proofs.lemmas.Bool.{and_parts, ltb-true, leb-true}
 use Rattle.clk_base.specs.declared.clock.Kind.{Kind}
 use Rattle.clk_base.specs.declared.clock.Kind.TheVariants.{FixedRate, Factor, Gate, Mux, Divider, Pll}
 use Rattle.clk_base.specs.Description.{Description, kind_of, parents_of}
-use Rattle.clk_base.specs.Valid.{IsValid, has_ranges, is_width, ranges}
+use Rattle.clk_base.specs.Valid.{IsValid, has_ranges, ranges}
 use Rattle.rate_planner.specs.Given.{CanScale}
 use Rattle.clk_model.proofs.SettingLaws.{is_wide}
 

@@ -1,5 +1,5 @@
 -- The rates that come out of a whole chain.
-use Rattle.std.proofs.Common.{◌≡◌, ℕ, ◌<◌, Bool, true, false, not, List, [], ◌∷◌, map, Option, Some, None, refl, sym, ap, subst, ◌∙◌, inl, arith, length, nat_eq}
+use Rattle.std.proofs.Common.{◌≡◌, ℕ, ◌<◌, true, false, List, [], ◌∷◌, map, Option, Some, None, refl, sym, ap, subst, ◌∙◌, inl, arith, length, nat_eq}
 use Rattle.std.specs.Prelude.{option_map}
 use Rattle.std.specs.List.{AllByRecursion}
 use Rattle.std.specs.Option.{option_map_or}
@@ -8,14 +8,14 @@ use Rattle.clk_base.specs.Fields.{Field, field_of}
 use Rattle.clk_base.specs.Valid.{IsValid}
 use Rattle.clk_base.proofs.Valid.{lines_end, field-field}
 use Rattle.clk_model.specs.declared.row.ClockRow.{ClockRow}
-use Rattle.clk_model.specs.Lists.{is_in, same_place, none_twice}
+use Rattle.clk_model.specs.Lists.{is_in, none_twice}
 use Rattle.clk_model.specs.State.{ChainStep, link_in}
 use Rattle.clk_model.specs.Rate.{rate_over, rate}
 use Rattle.clk_model.specs.Round.{Wiring, rate_in}
 use Rattle.clk_model.specs.Chain.{set_one, outcome}
 use Rattle.clk_model.specs.Wired.{LinksArePossible, IsOrder}
 use Rattle.clk_model.specs.Laws.Plans.{clocks_in, HasParent, LeadsUp, LieApart, LiesOutside, DiffersIn}
-use Rattle.clk_model.proofs.Members.{not_either, same_from_test, test_other}
+use Rattle.clk_model.proofs.Members.{not_either, test_other}
 use Rattle.clk_model.proofs.OnceLaws.{once_head}
 use Rattle.clk_model.proofs.PlanLaws.{IsAbove}
 use Rattle.clk_model.proofs.ApartLaws.{fields_apart}

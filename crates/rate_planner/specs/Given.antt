@@ -1,27 +1,15 @@
--- What the code's roundings mean, and what they ask of the kind of a clock.
-use Rattle.std.specs.Prelude.{◌≡◌, ℕ, ◌*◌, ◌^◌, ◌<◌, ◌≤◌, List, true, false, Option, Some, None, IfSome, filter, fold, max, nat_le}
+-- What the code's roundings come to, try by try, and what they ask of the kind of a clock.
+use Rattle.std.specs.Prelude.{ℕ, ◌*◌, ◌^◌, ◌<◌, ◌≤◌, List, true, false, Option, Some, None, filter, fold, max, nat_le}
 use Rattle.std.specs.List.{filter_map}
 use Rattle.std.specs.Int.{div_ceil}
-use Rattle.std.specs.Option.{option_map}
 use Rattle.clk_base.specs.declared.clock.Kind.{Kind}
 use Rattle.clk_base.specs.declared.clock.Kind.TheVariants.{FixedRate, Factor, Gate, Mux, Divider, Pll}
 use Rattle.kind_math.specs.declared.div_style.DivStyle.{DivStyle}
 use Rattle.kind_math.specs.Dividers.{IsDividerWidth, valid_divisors, div_round}
 use Rattle.clk_base.specs.Flags.{keeps_parent}
-use Rattle.clk_model.specs.declared.row.ClockRow.{ClockRow}
 use Rattle.clk_model.specs.Rate.{style_of}
 use Rattle.clk_model.specs.Round as round
-use Rattle.clk_model.specs.State.{registered}
 use Rattle.clk_model.specs.Tree.{rooted}
-use Rattle.rate_planner.specs.declared.rounded.Rounded.{Rounded}
-
--- a rounding as the definitions have it
-abbrev pub rounded_of : Rounded → round.Rounded
-rounded_of r = record { rate = r.rate; parent = option_map (λ p. p.0) r.parent; parent_rate = r.parent_rate }
-
--- the parent that a rounding names is registered
-abbrev pub NamesRegistered : List ClockRow → Option Rounded → Type 0
-NamesRegistered clocks result = IfSome result (λ r. IfSome r.parent (λ p. registered clocks p.0 ≡ true))
 
 -- the parameters by which a kind divides and multiplies are in their ranges
 abbrev pub CanScale : Kind → Type 0

@@ -1,4 +1,5 @@
 pub mod Kept
+pub mod Rounded
 pub mod Given
 pub mod Divisors
 pub mod Settings

@@ -7,7 +7,8 @@ ghost use Rattle.clk_base.specs.declared.clock.Kind.TheVariants as kinds;
 ghost use Rattle.kind_math.specs.Dividers.{IsDividerWidth, valid_divisors};
 ghost use Rattle.clk_model.specs.Round as round;
 ghost use Rattle.clk_model.specs.State.{registered};
-ghost use Rattle.rate_planner.specs.Given.{rounded_of, NamesRegistered, CanScale, after_divisors, over_rooted, divider_rounding, mux_rounding};
+ghost use Rattle.rate_planner.specs.Given.{CanScale, after_divisors, over_rooted, divider_rounding, mux_rounding};
+ghost use Rattle.rate_planner.specs.Rounded.{rounded_of, NamesRegistered};
 ghost use Rattle.rate_planner.specs.Kept.{Always};
 
 use crate::divisors::{divisor_of, end_of_fields, exact_fit, first_field, greatest_divisor};

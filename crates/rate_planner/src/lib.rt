@@ -20,6 +20,7 @@ mod settings;
 mod walk;
 
 pub use parent::plan_parent;
-pub use request::{plan, plan_now};
-pub use rounding::{round, round_now};
+pub use request::{plan, plan_from, plan_now};
+pub use rounded::Rounded;
+pub use rounding::{first_rounding, round, round_now};
 pub use settings::setting;

@@ -1,22 +1,20 @@
 //! One clock of a chain, and how the chain goes on from it.
 
-ghost use Rattle.std.specs.Prelude.{◌≡◌, ℕ, ◌||◌, true, List, Option, Some, length};
+ghost use Rattle.std.specs.Prelude.{◌≡◌, ℕ, ◌||◌, true, List, Option, Some, length, option_map};
 ghost use Rattle.clk_base.specs.Description.{kind_of};
 ghost use Rattle.clk_model.specs.Kinds.{can_round};
-ghost use Rattle.clk_model.specs.Round.{passes_on};
+ghost use Rattle.clk_model.specs.Round.{passes_on, round};
 ghost use Rattle.clk_model.specs.State as state;
 ghost use Rattle.clk_model.specs.State.{registered};
 ghost use Rattle.clk_model.specs.Chain as chain;
 ghost use Rattle.rate_planner.specs.Chains.{step_of, continued, chain_here, NextIsThere};
-ghost use Rattle.rate_planner.specs.Given.{rounded_of, NamesRegistered};
+ghost use Rattle.rate_planner.specs.Rounded.{rounded_of, NamesRegistered};
 ghost use Rattle.rate_planner.specs.Kept.{Always};
 
-use crate::asking::round_by;
 use crate::kind::{can_round, kind_of, sets_parent_gate, sets_rate_parent};
 use crate::now::{passes_on, rate_now};
-use crate::rest::Rest;
 use crate::rounded::Rounded;
-use clk_base::{ClockId, ValidDesc, depth};
+use clk_base::{ClockId, ValidDesc};
 use clk_tree::{ChainStep, Tree, View};
 
 /// How a chain goes on from a clock.
@@ -91,23 +89,25 @@ fn takes_requests(desc: &ValidDesc, tree: &Tree, clock: ClockId) -> bool
     can_round(kind_of(desc, clock)) || passes_on(desc, tree, clock)
 }
 
-/// How a chain goes on from a clock that is asked for a rate.
-pub(crate) fn next_step<V: View, W: Rest>(
+/// How a chain goes on from a clock that is asked for a rate, where it would be rounded so.
+pub(crate) fn next_step<V: View>(
     desc: &ValidDesc,
     tree: &Tree,
     view: &V,
-    rest: &W,
     clock: ClockId,
     x: u64,
+    rounding: Option<Rounded>,
 ) -> Next
     requires made { desc.now.defs ≡ tree.now.defs }
     requires seen { V.size view.now ≡ length tree.now.defs }
     requires there { registered tree.now.clocks clock.0 ≡ true }
-    ensures next { Always desc.now.defs tree.now (λ w. (more : ℕ → ℕ → Option (List state.ChainStep)) → continued more result ≡ chain_here more w (V.means view.now) clock.0 x) }
+    requires names { NamesRegistered tree.now.clocks rounding }
+    ensures next { Always desc.now.defs tree.now (λ w. option_map rounded_of rounding ≡ round w (V.means view.now) clock.0 x
+        → (more : ℕ → ℕ → Option (List state.ChainStep)) → continued more result ≡ chain_here more w (V.means view.now) clock.0 x) }
     ensures there { NextIsThere tree.now.clocks result }
 {
     if takes_requests(desc, tree, clock) {
-        match round_by(depth(), desc, tree, view, rest, clock, x) {
+        match rounding {
             Some(rounded) => continue_from(desc, tree, view, clock, x, rounded),
             None => Next::NoPlan,
         }

@@ -4,7 +4,7 @@ ghost use Rattle.std.specs.Prelude.{◌≡◌, ◌<◌, true, Some, length};
 ghost use Rattle.std.specs.Option.{option_map};
 ghost use Rattle.clk_model.specs.Round as round;
 ghost use Rattle.clk_model.specs.State.{registered};
-ghost use Rattle.rate_planner.specs.Given.{rounded_of, NamesRegistered};
+ghost use Rattle.rate_planner.specs.Rounded.{rounded_of, NamesRegistered};
 ghost use Rattle.rate_planner.specs.Kept.{Always};
 
 use crate::kind::sets_rate_parent;

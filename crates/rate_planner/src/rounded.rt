@@ -4,16 +4,20 @@ ghost use Rattle.std.specs.Prelude.{◌≡◌, List, Some};
 ghost use Rattle.std.specs.Option.{option_map};
 ghost use Rattle.clk_model.specs.declared.row.ClockRow.{ClockRow};
 ghost use Rattle.clk_model.specs.Round as round;
-ghost use Rattle.rate_planner.specs.Given.{rounded_of, after_try, NamesRegistered};
+ghost use Rattle.rate_planner.specs.Given.{after_try};
+ghost use Rattle.rate_planner.specs.Rounded.{rounded_of, NamesRegistered};
 
 use clk_base::ClockId;
 
 /// A rounded rate, with the parent that gives it and that parent's rate.
 #[derive(Clone, Copy, Debug, PartialEq, Eq)]
-pub(crate) struct Rounded {
-    pub(crate) rate: u64,
-    pub(crate) parent: Option<ClockId>,
-    pub(crate) parent_rate: u64,
+pub struct Rounded {
+    /// The rate that the clock would get, in Hz.
+    pub rate: u64,
+    /// The parent that it would have.
+    pub parent: Option<ClockId>,
+    /// The rate in Hz that this parent would have; 0 where there is none.
+    pub parent_rate: u64,
 }
 
 /// What a parent gives as it is.

@@ -1,17 +1,37 @@
 //! Rounding.
 
 ghost use Rattle.std.specs.Prelude.{◌≡◌, true, length};
-ghost use Rattle.clk_model.specs.Round.{round_rate};
+ghost use Rattle.std.specs.Option.{option_map};
+ghost use Rattle.clk_model.specs.Round as model;
 ghost use Rattle.clk_model.specs.State.{registered};
-ghost use Rattle.rate_planner.specs.Given.{rounded_of, NamesRegistered};
+ghost use Rattle.rate_planner.specs.Rounded.{rounded_of, NamesRegistered};
 ghost use Rattle.rate_planner.specs.Kept.{Always, Told};
 
 use crate::asking::round_by;
 use crate::rest::{NoRest, Pausing, Rest};
+use crate::rounded::Rounded;
 use clk_base::{ClockId, Pause, ValidDesc, depth};
 use clk_tree::{Tree, View};
 use reg_bank::Bank;
 use std::sync::Wait;
+
+/// How a clock would be rounded for a request.
+pub(crate) fn rounding<V: View, W: Rest>(
+    desc: &ValidDesc,
+    tree: &Tree,
+    view: &V,
+    rest: &W,
+    c: ClockId,
+    x: u64,
+) -> Option<Rounded>
+    requires made { desc.now.defs ≡ tree.now.defs }
+    requires seen { V.size view.now ≡ length tree.now.defs }
+    requires there { registered tree.now.clocks c.0 ≡ true }
+    ensures rounding { Always desc.now.defs tree.now (λ w. option_map rounded_of result ≡ model.round w (V.means view.now) c.0 x) }
+    ensures names { NamesRegistered tree.now.clocks result }
+{
+    round_by(depth(), desc, tree, view, rest, c, x)
+}
 
 // The rate that a clock would get for a request.
 fn round_resting<V: View, W: Rest>(
@@ -25,9 +45,9 @@ fn round_resting<V: View, W: Rest>(
     requires made { desc.now.defs ≡ tree.now.defs }
     requires seen { V.size view.now ≡ length tree.now.defs }
     requires there { registered tree.now.clocks c.0 ≡ true }
-    ensures { Always desc.now.defs tree.now (λ w. result ≡ round_rate w (V.means view.now) c.0 x) }
+    ensures { Always desc.now.defs tree.now (λ w. result ≡ model.round_rate w (V.means view.now) c.0 x) }
 {
-    match round_by(depth(), desc, tree, view, rest, c, x) {
+    match rounding(desc, tree, view, rest, c, x) {
         Some(rounded) => Some(rounded.rate),
         None => None,
     }
@@ -48,7 +68,7 @@ pub fn round<R: Wait + Sync, B: Bank, V: View, Q: Pause>(
     requires made { desc.now.defs ≡ tree.now.defs }
     requires seen { V.size view.now ≡ length tree.now.defs }
     requires there { registered tree.now.clocks c.0 ≡ true }
-    ensures rate { Told (B.contents _bank.now) desc.now.defs tree.now (λ w. result ≡ round_rate w (V.means view.now) c.0 x) }
+    ensures rate { Told (B.contents _bank.now) desc.now.defs tree.now (λ w. result ≡ model.round_rate w (V.means view.now) c.0 x) }
 {
     round_resting(desc, tree, view, &Pausing { rt, pause }, c, x)
 }
@@ -65,7 +85,26 @@ pub fn round_now<B: Bank, V: View>(
     requires made { desc.now.defs ≡ tree.now.defs }
     requires seen { V.size view.now ≡ length tree.now.defs }
     requires there { registered tree.now.clocks c.0 ≡ true }
-    ensures rate { Told (B.contents _bank.now) desc.now.defs tree.now (λ w. result ≡ round_rate w (V.means view.now) c.0 x) }
+    ensures rate { Told (B.contents _bank.now) desc.now.defs tree.now (λ w. result ≡ model.round_rate w (V.means view.now) c.0 x) }
 {
     round_resting(desc, tree, view, &NoRest, c, x)
+}
+
+/// How a clock would be rounded for a request, without a pause: the rate that `round_now` tells, with
+/// the parent that gives it. A plan for the request begins with it (`plan_from`). Takes no memory.
+pub fn first_rounding<B: Bank, V: View>(
+    desc: &ValidDesc,
+    tree: &Tree,
+    _bank: &B,
+    view: &V,
+    c: ClockId,
+    x: u64,
+) -> Option<Rounded>
+    requires made { desc.now.defs ≡ tree.now.defs }
+    requires seen { V.size view.now ≡ length tree.now.defs }
+    requires there { registered tree.now.clocks c.0 ≡ true }
+    ensures rounding { Told (B.contents _bank.now) desc.now.defs tree.now (λ w. option_map rounded_of result ≡ model.round w (V.means view.now) c.0 x) }
+    ensures names { NamesRegistered tree.now.clocks result }
+{
+    rounding(desc, tree, view, &NoRest, c, x)
 }

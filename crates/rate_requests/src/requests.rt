@@ -3,7 +3,7 @@
 ghost use Rattle.std.specs.Prelude.{◌≡◌, ℕ, ◌<◌, [], ◌∷◌, ◌++◌, Some, None, not, length, slice_set, IsSome, IfOk, OnOk, OnErr};
 ghost use Rattle.clk_model.specs.State.{handle_at};
 
-use crate::held::{Held, add_row, row_of, take_row, write_row};
+use crate::held::{Held, row_of, take_row, write_row};
 use crate::span::{
     Span, bounds_of, drop_span, fits_beside, no_spans, push_span, set_span, spans_on,
 };
@@ -20,8 +20,9 @@ use std::marker::Model;
 /// back, and the number of clocks. No call but `create` and `add` takes memory.
 #[derive(Drop)]
 pub struct Requests {
-    /// How many handles were made: the number of the next one.
-    made: u32,
+    /// By number, the slot where the record of each handle was put. Once a handle was put back, its
+    /// slot may have the record of another.
+    places: Vec<usize>,
     records: Slab<Held>,
     /// For each clock the ranges of its live handles, by rising number.
     spans: Vec<Vec<Span>>,
@@ -37,9 +38,9 @@ impl Model for Requests {
     ghost use Rattle.rate_requests.specs.Spans.{lists};
     ghost use Rattle.rate_requests.specs.Kept.{IsKept};
 
-    ghost view = { λ r. record { clocks = length r.spans.items; handles = handles_of r.records.slots r.made } };
+    ghost view = { λ r. record { clocks = length r.spans.items; handles = handles_of r.records.slots r.places.items } };
 
-    ghost invariant = { λ r. IsKept r.made r.records.slots (lists r.spans.items) };
+    ghost invariant = { λ r. IsKept (handles_of r.records.slots r.places.items) (lists r.spans.items) };
 }
 
 impl Requests {
@@ -51,7 +52,7 @@ impl Requests {
         ensures handles { IfOk result (λ made. made.handles ≡ []) }
     {
         Ok(Requests {
-            made: 0,
+            places: Vec::new(alloc),
             records: Slab::new(alloc),
             spans: no_spans(alloc, desc.len())?,
         })
@@ -67,7 +68,7 @@ impl Requests {
         ensures err { OnErr result (self.new.handles ≡ self.old.handles) }
         ensures clocks { self.new.clocks ≡ self.old.clocks }
     {
-        let number = self.made;
+        let number = self.places.len() as u32;
         let row = HandleRow {
             driver,
             clock,
@@ -82,10 +83,11 @@ impl Requests {
             min: 0,
             max: u64::MAX,
         };
+        self.places.reserve(1)?;
         self.records.reserve(1)?;
         push_span(&mut self.spans, clock, span)?;
-        let slot = add_row(&mut self.records, number, row);
-        self.made += 1;
+        let slot = self.records.insert_reserved(Held { number, row });
+        self.places.push_reserved(slot);
         Ok(Handle {
             number,
             slot: slot.min(u32::MAX as usize) as u32,
@@ -97,7 +99,7 @@ impl Requests {
     pub fn live(&self, driver: u32, h: Handle) -> bool
         ensures { result ≡ has_handle self.now.handles driver h.number }
     {
-        match row_of(&self.records, h) {
+        match row_of(&self.places, &self.records, h.number) {
             Some(row) => row.driver == driver,
             None => false,
         }
@@ -108,7 +110,7 @@ impl Requests {
         requires { IsSome (handle_at self.now.handles h.number) }
         ensures { handle_at self.now.handles h.number ≡ Some result }
     {
-        match row_of(&self.records, h) {
+        match row_of(&self.places, &self.records, h.number) {
             Some(row) => row,
             None => unreachable!(),
         }
@@ -143,7 +145,7 @@ impl Requests {
             max,
             ..self.of(h)
         };
-        write_row(&mut self.records, h, row);
+        write_row(&self.places, &mut self.records, h.number, row);
         set_span(&mut self.spans, row.clock, h.number, min, max);
     }
 
@@ -159,7 +161,7 @@ impl Requests {
             exclusives,
             ..self.of(h)
         };
-        write_row(&mut self.records, h, row);
+        write_row(&self.places, &mut self.records, h.number, row);
     }
 
     /// Takes out a live handle. Its number isn't used again.
@@ -169,7 +171,7 @@ impl Requests {
         ensures clocks { self.new.clocks ≡ self.old.clocks }
     {
         let clock = self.of(h).clock;
-        take_row(&mut self.records, h);
+        take_row(&self.places, &mut self.records, h.number);
         drop_span(&mut self.spans, clock, h.number);
     }
 }

@@ -7,10 +7,11 @@ ghost use Rattle.clk_model.specs.Begin.{most_credits};
 ghost use Rattle.clk_model.specs.Chain as chain;
 ghost use Rattle.clk_model.specs.Lists.{is_at};
 ghost use Rattle.clk_model.specs.Rate.{rate};
-ghost use Rattle.clk_model.specs.Round.{round_rate};
+ghost use Rattle.clk_model.specs.Round.{round, round_rate};
 ghost use Rattle.clk_model.specs.State.{State, registered};
-ghost use Rattle.counts_core.specs.Counted.{AreCounts, is_prepared};
+ghost use Rattle.counts_core.specs.Counted.{AreCounts, is_guarded, is_prepared};
 ghost use Rattle.rate_planner.specs.Kept.{wired};
+ghost use Rattle.rate_planner.specs.Rounded.{rounded_of, NamesRegistered};
 ghost use Rattle.rate_planner.specs.Walks.{AreThere, walked_rates};
 ghost use Rattle.clk_machine.specs.Deciding.{ArePlanned, Fits, IsAnswer, IsGiven};
 ghost use Rattle.clk_machine.specs.Free.{free_seen, freed};
@@ -26,7 +27,7 @@ use clk_base::{ClockId, Errno, MOST_CREDITS, ValidDesc};
 use clk_io::NoMemory;
 use clk_tree::{Plan, Tree};
 use notifiers::Notifiers;
-use rate_planner::{plan_now, round_now};
+use rate_planner::{Rounded, first_rounding, plan_from, round_now};
 use reg_bank::Bank;
 use std::alloc::Global;
 
@@ -37,7 +38,7 @@ pub(super) fn fits(used: u64, weight: u64) -> bool
     used.saturating_add(weight) <= u64::from(MOST_CREDITS)
 }
 
-// Whether a clock would get the rate for a request that it has, if it were free.
+// Whether a guarded clock would get the rate for a request that it has, if it were free.
 fn keeps_rate<B: Bank>(
     desc: &ValidDesc,
     window: &Window<B>,
@@ -66,7 +67,35 @@ fn keeps_rate<B: Bank>(
     }
 }
 
-// The plan of a request for a rate, if there is one.
+// How a clock would be rounded for a request.
+fn first_seen<B: Bank>(
+    desc: &ValidDesc,
+    window: &Window<B>,
+    tree: &Tree,
+    view: &Seen,
+    clock: ClockId,
+    wanted: u64,
+) -> Option<Rounded>
+    requires tied { AreTied desc.now window.now tree.now }
+    requires seen { length view.now.counts.now.links ≡ length tree.now.defs }
+    requires there { registered tree.now.clocks clock.0 ≡ true }
+    ensures rounding { IfSome window.now.words (λ regs. option_map rounded_of result ≡ round (wired desc.now.defs regs tree.now) (seen view.now.handles.now.handles view.now.counts.now) clock.0 wanted) }
+    ensures names { NamesRegistered tree.now.clocks result }
+{
+    first_rounding(desc, tree, window.bank(), view, clock, wanted)
+}
+
+// Whether a clock that has a rate in Hz keeps it where it is rounded so.
+fn leaves_rate(rounding: Option<Rounded>, rate: u64) -> bool
+    ensures { result ≡ is_at rate (option_map (λ r. r.rate) rounding) }
+{
+    match rounding {
+        Some(rounded) => rounded.rate == rate,
+        None => false,
+    }
+}
+
+// The plan of a request for a rate, if there is one, where the clock would be rounded so.
 fn plan_seen<B: Bank>(
     alloc: Global,
     desc: &ValidDesc,
@@ -75,16 +104,19 @@ fn plan_seen<B: Bank>(
     view: &Seen,
     clock: ClockId,
     wanted: u64,
+    first: Option<Rounded>,
 ) -> Result<Option<Plan>, NoMemory>
     requires tied { AreTied desc.now window.now tree.now }
     requires seen { length view.now.counts.now.links ≡ length tree.now.defs }
     requires there { registered tree.now.clocks clock.0 ≡ true }
+    requires rounding { IfSome window.now.words (λ regs. option_map rounded_of first ≡ round (wired desc.now.defs regs tree.now) (seen view.now.handles.now.handles view.now.counts.now) clock.0 wanted) }
+    requires names { NamesRegistered tree.now.clocks first }
     ensures chain { IfOk result (λ found. IfSome window.now.words (λ regs. option_map (λ plan. plan.chain) found ≡ chain.chain (wired desc.now.defs regs tree.now) (seen view.now.handles.now.handles view.now.counts.now) clock.0 wanted)) }
     ensures rates { IfOk result (λ found. IfSome found (λ plan. IfSome window.now.words (λ regs. plan.rates ≡ walked_rates tree.now.order (wired desc.now.defs regs tree.now) plan.chain))) }
     ensures set_parent { IfOk result (λ found. IfSome found (λ plan. plan.set_parent ≡ false)) }
     ensures there { IfOk result (λ found. IfSome found (λ plan. AreThere tree.now.clocks plan.rates)) }
 {
-    plan_now(alloc, desc, tree, window.bank(), view, clock, wanted)
+    plan_from(alloc, desc, tree, window.bank(), view, clock, wanted, first)
 }
 
 // A plan goes on with its script, where there is room for the entries of its steps behind so many.
@@ -111,6 +143,37 @@ pub(super) fn go_on(
     }
 }
 
+// What a request for the rate of a clock comes to that isn't guarded. Its first rounding says whether
+// the clock keeps its rate, and else the plan begins with it.
+fn decide_unguarded<B: Bank>(
+    alloc: Global,
+    desc: &ValidDesc,
+    window: &Window<B>,
+    tree: &Tree,
+    view: &Seen,
+    notifiers: &Notifiers,
+    used: u64,
+    clock: ClockId,
+    wanted: u64,
+) -> Result<Decision, NoMemory>
+    requires tied { AreTied desc.now window.now tree.now }
+    requires seen { length view.now.counts.now.links ≡ length tree.now.defs }
+    requires there { registered tree.now.clocks clock.0 ≡ true }
+    requires stands { AreCounts view.now.counts.now }
+    requires free { is_guarded view.now.counts.now clock.0 ≡ false }
+    ensures decides { IfOk result (λ decision. (new lifted : State) → IsGiven desc.now window.now tree.now view.now.handles.now.handles view.now.counts.now notifiers.now used new lifted → IsAnswer new lifted clock.0 wanted decision) }
+    ensures there { IfOk result (λ decision. ArePlanned tree.now (is_prepared view.now.counts.now) notifiers.now used false decision) }
+{
+    let first = first_seen(desc, window, tree, view, clock, wanted);
+    if leaves_rate(first, tree.rate(clock)) {
+        return Ok(Decision::AtOnce);
+    }
+    match plan_seen(alloc, desc, window, tree, view, clock, wanted, first)? {
+        Some(plan) => go_on(alloc, desc, tree, view, notifiers, used, plan),
+        None => Ok(Decision::Refused(Errno::EINVAL)),
+    }
+}
+
 // What a request for a rate comes to, which is planned over these handles and counts.
 pub(super) fn decide_request<B: Bank>(
     alloc: Global,
@@ -129,14 +192,13 @@ pub(super) fn decide_request<B: Bank>(
     ensures decides { IfOk result (λ decision. (new lifted : State) → IsGiven desc.now window.now tree.now view.now.handles.now.handles view.now.counts.now notifiers.now used new lifted → IsAnswer new lifted clock.0 wanted decision) }
     ensures there { IfOk result (λ decision. ArePlanned tree.now (is_prepared view.now.counts.now) notifiers.now used false decision) }
 {
-    if keeps_rate(desc, window, tree, view, clock, wanted) {
-        return Ok(Decision::AtOnce);
+    if view.counts.protected(clock) == 0 {
+        return decide_unguarded(
+            alloc, desc, window, tree, view, notifiers, used, clock, wanted,
+        );
     }
-    if view.counts.protected(clock) > 0 {
+    if !keeps_rate(desc, window, tree, view, clock, wanted) {
         return Ok(Decision::Refused(Errno::EBUSY));
     }
-    match plan_seen(alloc, desc, window, tree, view, clock, wanted)? {
-        Some(plan) => go_on(alloc, desc, tree, view, notifiers, used, plan),
-        None => Ok(Decision::Refused(Errno::EINVAL)),
-    }
+    Ok(Decision::AtOnce)
 }

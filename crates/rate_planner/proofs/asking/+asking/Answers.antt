@@ -3,7 +3,8 @@ use Rattle.std.proofs.Common.{◌<◌, ◌≤◌, ◌*◌, sym, subst, arith, re
 use Rattle.std.specs.Option.{option_map}
 use Rattle.kind_math.specs.Dividers.{valid_divisors}
 use Rattle.clk_model.specs.Round as round
-use Rattle.rate_planner.specs.Given.{rounded_of, after_divisors}
+use Rattle.rate_planner.specs.Given.{after_divisors}
+use Rattle.rate_planner.specs.Rounded.{rounded_of}
 use Rattle.rate_planner.specs.Kept.{wired}
 use Rattle.rate_planner.proofs.DivisorChoice.{round_divides}
 use Rattle.rate_planner.proofs.Best.{divisors_begin, divisor_step, divisors_above, candidate_step, rate_level}

@@ -5,7 +5,8 @@ use Rattle.clk_base.specs.Places.{places}
 use Rattle.clk_model.specs.Round.{by_candidate, rate_for}
 use Rattle.kind_math.specs.Dividers.{valid_divisors}
 use Rattle.rate_planner.specs.Divisors.{divisors_from}
-use Rattle.rate_planner.specs.Given.{rounded_of, NamesRegistered, after_divisors, after_candidates}
+use Rattle.rate_planner.specs.Given.{after_divisors, after_candidates}
+use Rattle.rate_planner.specs.Rounded.{rounded_of, NamesRegistered}
 use Rattle.rate_planner.specs.Kept.{Always}
 use Rattle.std.specs.Prelude.{None}
 use Rattle.rate_planner.proofs.asking.+asking.Given as goal

@@ -1,18 +1,16 @@
--- The slot that was found has the row, or no slot has it.
-use Rattle.std.proofs.Common.{sym, ap, ◌∙◌}
-use Rattle.std.specs.Option.{option_map}
-use Rattle.rate_requests.specs.declared.held.Held.{Held}
-use Rattle.rate_requests.specs.Records.{slot_at}
-use Rattle.rate_requests.proofs.Recorded.{numbered_record, row-found, row-absent}
+-- A number that was given out has its place; no other has a handle.
+use Rattle.std.proofs.Common.{ap, sym, ◌∙◌}
+use Rattle.rate_requests.specs.Records.{slot_at, row_in}
+use Rattle.rate_requests.proofs.Recorded.{handle_at-placed, handle_at-past}
 use Rattle.rate_requests.proofs.held.row_of.Goals as goal
 
 pub returns-in-Some : goal.returns-in-Some
-returns-in-Some c = λ made records.
+returns-in-Some c =
     let slots = c.args.records.now.slots in
-    let there = numbered_record c.args.h.number (slot_at slots c.in-Some.slot) c.in-Some.ensures.found in
+    let there = c.in-Some.ensures.lookup.3 in
     c.row_in_slot.ensures
-    ∙ ap (option_map (λ (h : Held). h.row)) there.1
-    ∙ sym (row-found slots made c.args.h.number c.in-Some.slot there.0 records there.1 there.2)
+    ∙ ap (λ k. row_in c.args.number (slot_at slots k)) (there.1 0)
+    ∙ sym (handle_at-placed c.args.number slots c.args.places.now there.0)
 
 pub returns-in-None : goal.returns-in-None
-returns-in-None c = λ made records. sym (row-absent c.args.records.now.slots made c.args.h.number c.in-None.ensures.absent)
+returns-in-None c = sym (handle_at-past c.args.number c.args.records.now.slots c.args.places.now c.in-None.ensures.lookup.3)

@@ -1,12 +1,19 @@
--- The slot that was found has nothing any more; a live handle has a slot.
-use Rattle.std.proofs.Common.{None}
-use Rattle.rate_requests.proofs.Recorded.{found_turns, not_absent}
+-- A live handle has its record in its place, which has nothing then.
+use Rattle.std.proofs.Common.{Option, None, IsSome, refl, sym, subst}
+use Rattle.rate_requests.specs.declared.held.Held.{Held}
+use Rattle.rate_requests.proofs.Recorded.{live_placed, placed_set}
 use Rattle.rate_requests.proofs.held.take_row.Goals as goal
 
-pub returns-in-Some : goal.returns-in-Some
-returns-in-Some c = λ made records live.
-    found_turns c.args.records.now.slots c.try_remove.new.self.slots c.args.h.number made c.in-Some.slot None c.in-Some.ensures.found
-    c.try_remove.ensures.updates.changed c.try_remove.ensures.updates.others records
+pub bounds-places-number : goal.bounds-places-number
+bounds-places-number c = (live_placed c.args.number c.args.records.now.slots c.args.places.now c.requires).within
 
-pub returns-in_default : goal.returns-in_default
-returns-in_default c = λ made records live. absurd (not_absent c.args.records.now.slots made c.args.h.number c.in_default.ensures.absent live)
+pub remove-requires : goal.remove-requires
+remove-requires c =
+    let live = live_placed c.args.number c.args.records.now.slots c.args.places.now c.requires in
+    subst (λ (o : Option Held). IsSome o) (sym live.lies) refl
+
+pub returns : goal.returns
+returns c =
+    placed_set c.args.records.now.slots c.remove.new.self.slots c.args.number c.args.places.now None
+    (live_placed c.args.number c.args.records.now.slots c.args.places.now c.requires)
+    c.remove.ensures.updates.changed c.remove.ensures.updates.others

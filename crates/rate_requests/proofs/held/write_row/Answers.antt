@@ -1,18 +1,25 @@
--- The slot that was found has the new row; a live handle has a slot.
-use Rattle.std.proofs.Common.{ℕ, Some, ap, ◌∙◌}
+-- A live handle has its record in its place, which has the new row then.
+use Rattle.std.proofs.Common.{Option, Some, None, IsSome, refl, sym, subst, get_or}
+use Rattle.std.proofs.lemmas.List.{get_or-set_same, get_or-set_other}
 use Rattle.rate_requests.specs.declared.held.Held.{Held}
-use Rattle.rate_requests.specs.Records.{slot_at}
-use Rattle.rate_requests.proofs.Recorded.{numbered_record, found_turns, not_absent}
+use Rattle.rate_requests.proofs.Recorded.{record_of, slot_within, live_placed, placed_set}
 use Rattle.rate_requests.proofs.held.write_row.Goals as goal
 
-pub returns-in-Some : goal.returns-in-Some
-returns-in-Some c = λ made records live.
-    let old = c.args.records.now.slots in
-    let slot = c.in-Some.slot in
-    let there = numbered_record c.args.h.number (slot_at old slot) c.in-Some.ensures.found in
-    found_turns old c.write_slot.new.records.slots c.args.h.number made slot (Some c.args.row) c.in-Some.ensures.found
-    (c.write_slot.ensures.written there.0 there.1 ∙ ap (λ (m : ℕ). let h : Held = record { number = m; row = c.args.row } in Some h) there.2)
-    c.write_slot.ensures.others records
+pub bounds-places-number : goal.bounds-places-number
+bounds-places-number c = (live_placed c.args.number c.args.records.now.slots c.args.places.now c.requires).within
 
-pub returns-in_default : goal.returns-in_default
-returns-in_default c = λ made records live. absurd (not_absent c.args.records.now.slots made c.args.h.number c.in_default.ensures.absent live)
+pub index_mut-requires : goal.index_mut-requires
+index_mut-requires c =
+    let live = live_placed c.args.number c.args.records.now.slots c.args.places.now c.requires in
+    subst (λ (o : Option Held). IsSome o) (sym live.lies) refl
+
+pub returns : goal.returns
+returns c =
+    let old = c.args.records.now.slots in
+    let n = c.args.number in
+    let live = live_placed n old c.args.places.now c.requires in
+    let place = get_or c.args.places.now n 0 in
+    let written = record_of n (Some c.args.row) in
+    placed_set old _ n c.args.places.now (Some c.args.row) live
+    (get_or-set_same old place written None (slot_within old place live.held live.lies))
+    (λ k other. get_or-set_other old place k written None other)

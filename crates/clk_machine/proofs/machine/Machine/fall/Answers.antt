@@ -6,7 +6,7 @@ use Rattle.clk_flight.specs.Flights.{FlightState, comes_next}
 use Rattle.clk_machine.specs.InFlight.{IsUnderWay}
 use Rattle.clk_machine.specs.Making.{ComesFirst}
 use Rattle.clk_machine.specs.Parts.{Parts, parts_of}
-use Rattle.clk_machine.proofs.InFlight.{under_way-fallen, fall_in_front}
+use Rattle.clk_machine.proofs.StepsInFlight.{under_way-fallen, fall_in_front}
 use Rattle.clk_machine.proofs.Keeping.{along-fallen}
 use Rattle.clk_machine.proofs.Making.{SameCall, KeepsAlong, whole_stepped}
 use Rattle.clk_machine.proofs.Powering.{tied_powered}

@@ -4,7 +4,7 @@ use Rattle.clk_flight.specs.Flights.{FlightState, seeks_plls, own_step}
 use Rattle.clk_machine.specs.InFlight.{IsUnderWay}
 use Rattle.clk_machine.specs.Making.{FindsNothing}
 use Rattle.clk_machine.specs.Parts.{Parts, parts_of, rows_from}
-use Rattle.clk_machine.proofs.InFlight.{under_way-none}
+use Rattle.clk_machine.proofs.StepsInFlight.{under_way-none}
 use Rattle.clk_machine.proofs.Keeping.{along-none}
 use Rattle.clk_machine.proofs.Making.{SameCall, KeepsAlong, whole_stepped}
 use Rattle.clk_machine.proofs.Raising.{seeks_of, none_enters}

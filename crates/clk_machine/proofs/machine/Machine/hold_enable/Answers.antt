@@ -4,7 +4,8 @@ use Rattle.clk_model.specs.State.{registered}
 use Rattle.clk_flight.specs.Flights.{own_step}
 use Rattle.clk_machine.specs.Making.{ComesFirst}
 use Rattle.clk_machine.specs.Parts.{Parts, parts_of}
-use Rattle.clk_machine.proofs.HoldsMaking.{HoldsEnabled, held_there, enabled_of, enable_enters}
+use Rattle.clk_machine.proofs.HoldsMaking.{held_there}
+use Rattle.clk_machine.proofs.EnableHolds.{HoldsEnabled, enabled_of, enable_enters}
 use Rattle.clk_machine.proofs.LinkSteps.{Stepped}
 use Rattle.clk_machine.proofs.Moving.{clock_within, links_within}
 use Rattle.clk_machine.proofs.Relinking.{whole_relinked}

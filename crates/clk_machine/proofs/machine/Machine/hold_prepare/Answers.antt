@@ -6,7 +6,8 @@ use Rattle.clk_flight.specs.Flights.{own_step}
 use Rattle.clk_machine.specs.Letting.{LetsGoAll}
 use Rattle.clk_machine.specs.Making.{ComesFirst}
 use Rattle.clk_machine.specs.Parts.{Parts, parts_of}
-use Rattle.clk_machine.proofs.HoldsMaking.{HoldsPrepared, held_there, prepared_of, prepare_enters}
+use Rattle.clk_machine.proofs.HoldsMaking.{held_there}
+use Rattle.clk_machine.proofs.PrepareHolds.{HoldsPrepared, prepared_of, prepare_enters}
 use Rattle.clk_machine.proofs.LinkSteps.{Stepped}
 use Rattle.clk_machine.proofs.Moving.{clock_within}
 use Rattle.clk_machine.proofs.Relinking.{front_gone, whole_relinked}

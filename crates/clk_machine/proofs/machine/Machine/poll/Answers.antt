@@ -5,7 +5,8 @@ use Rattle.clk_flight.specs.Flights.{FlightState, own_step}
 use Rattle.clk_machine.specs.InFlight.{IsUnderWay}
 use Rattle.clk_machine.specs.Making.{ComesFirst}
 use Rattle.clk_machine.specs.Parts.{Parts, parts_of, rows_from}
-use Rattle.clk_machine.proofs.InFlight.{under_way-polled, poll_in_front}
+use Rattle.clk_machine.proofs.InFlight.{poll_in_front}
+use Rattle.clk_machine.proofs.StepsInFlight.{under_way-polled}
 use Rattle.clk_machine.proofs.Keeping.{along-polled}
 use Rattle.clk_machine.proofs.Making.{SameCall, KeepsAlong, whole_stepped, same_polled}
 use Rattle.clk_machine.proofs.Polling.{polled_again}

@@ -9,7 +9,7 @@ use Rattle.clk_machine.specs.InFlight.{IsUnderWay}
 use Rattle.clk_machine.specs.Making.{ComesFirst}
 use Rattle.clk_machine.specs.Parts.{Parts, parts_of, rows_from}
 use Rattle.clk_machine.specs.Plls.{lowerable, Finds}
-use Rattle.clk_machine.proofs.InFlight.{under_way-lowered}
+use Rattle.clk_machine.proofs.StepsInFlight.{under_way-lowered}
 use Rattle.clk_machine.proofs.Keeping.{along-lowered}
 use Rattle.clk_machine.proofs.Making.{SameCall, KeepsAlong, whole_stepped}
 use Rattle.clk_machine.proofs.Powering.{tied_powered}

@@ -8,7 +8,7 @@ use Rattle.clk_machine.specs.InFlight.{is_near, IsUnderWay}
 use Rattle.clk_machine.specs.Making.{ComesFirst}
 use Rattle.clk_machine.specs.Parts.{Parts, parts_of, rows_from}
 use Rattle.clk_machine.specs.Plls.{raisable, Finds}
-use Rattle.clk_machine.proofs.InFlight.{under_way-raised}
+use Rattle.clk_machine.proofs.StepsInFlight.{under_way-raised}
 use Rattle.clk_machine.proofs.Keeping.{along-raised}
 use Rattle.clk_machine.proofs.Making.{SameCall, KeepsAlong, near_within, whole_stepped, same_raised}
 use Rattle.clk_machine.proofs.Powering.{tied_powered}

@@ -1,7 +1,7 @@
 use Rattle.std.proofs.Common.{arith}
 use Rattle.clk_model.specs.State.{registered}
 use Rattle.clk_machine.proofs.AdoptionSteps.{adopts_none, adopts_on, adopts_all}
-use Rattle.clk_machine.proofs.Sweeping.{all_at}
+use Rattle.clk_machine.proofs.SweepScript.{all_at}
 use Rattle.clk_machine.proofs.machine.Machine.push_adoptions.Goals as goal
 
 pub loop-place-init : goal.loop-place-init

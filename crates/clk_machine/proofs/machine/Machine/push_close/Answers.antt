@@ -1,5 +1,5 @@
 use Rattle.clk_machine.specs.Sweeping.{closes, close_step}
-use Rattle.clk_machine.proofs.Sweeping.{adds_one, adds_not}
+use Rattle.clk_machine.proofs.SweepScript.{adds_one, adds_not}
 use Rattle.clk_machine.proofs.machine.Machine.push_close.Goals as goal
 
 pub returns-in_ok-push : goal.returns-in_ok-push

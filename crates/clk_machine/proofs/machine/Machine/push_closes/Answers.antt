@@ -1,7 +1,7 @@
 use Rattle.std.proofs.Common.{arith}
 use Rattle.clk_model.specs.State.{registered}
 use Rattle.clk_machine.specs.Sweeping.{closes, close_step}
-use Rattle.clk_machine.proofs.Sweeping.{adds_none, adds_on, adds_all, all_at}
+use Rattle.clk_machine.proofs.SweepScript.{adds_none, adds_on, adds_all, all_at}
 use Rattle.clk_machine.proofs.machine.Machine.push_closes.Goals as goal
 
 pub loop-place-init : goal.loop-place-init

@@ -5,7 +5,8 @@ use Rattle.clk_machine.specs.Making.{ComesFirst}
 use Rattle.clk_machine.specs.Parts.{Parts, parts_of}
 use Rattle.clk_machine.proofs.Moving.{clock_within}
 use Rattle.clk_machine.proofs.Relinking.{whole_relinked}
-use Rattle.clk_machine.proofs.LinkSteps.{Stepped, Selects, may_select, select_fits, selected_of, select_enters}
+use Rattle.clk_machine.proofs.LinkSteps.{Stepped}
+use Rattle.clk_machine.proofs.Selecting.{Selects, may_select, select_fits, selected_of, select_enters}
 use Rattle.clk_machine.proofs.machine.Machine.select.Goals as goal
 
 pub set_to-requires-clause-place : goal.set_to-requires-clause-place

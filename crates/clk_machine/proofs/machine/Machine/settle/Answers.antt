@@ -10,7 +10,8 @@ use Rattle.clk_model.specs.Tree.{children}
 use Rattle.clk_model.specs.Walk.{below_within}
 use Rattle.clk_machine.specs.Settling.{settled_rows}
 use Rattle.clk_machine.proofs.Relinking.{whole_relinked}
-use Rattle.clk_machine.proofs.LinkSteps.{Stepped, Settles, may_settle, settled_of, settle_enters}
+use Rattle.clk_machine.proofs.LinkSteps.{Stepped}
+use Rattle.clk_machine.proofs.Selecting.{Settles, may_settle, settled_of, settle_enters}
 use Rattle.clk_machine.proofs.machine.Machine.settle.Goals as goal
 
 pub settle_below-requires-clause-place : goal.settle_below-requires-clause-place

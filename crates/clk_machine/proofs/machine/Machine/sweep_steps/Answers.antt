@@ -8,7 +8,7 @@ use Rattle.clk_model.specs.State.{registered}
 use Rattle.clk_machine.specs.Parts.{Parts, parts_of, bare}
 use Rattle.clk_machine.specs.Stands.{Stands}
 use Rattle.clk_machine.specs.Sweeping.{Adds, closes, unpowers, close_step, unpower_step}
-use Rattle.clk_machine.proofs.Sweeping.{order_there, order_stands, swept_script, swept_light, swept_told}
+use Rattle.clk_machine.proofs.SweepScript.{order_there, order_stands, swept_script, swept_light, swept_told}
 use Rattle.clk_machine.proofs.machine.Machine.sweep_steps.Goals as goal
 
 pub push_closes-requires : goal.push_closes-requires

@@ -1,37 +1,66 @@
 -- The new handle has the next number, and its range comes last among those of its clock.
-use Rattle.std.proofs.Common.{◌≡◌, ℕ, suc, ◌<◌, List, Option, sym, ap, ◌∙◌, subst, add-one, arith, length}
+use Rattle.std.proofs.Common.{◌≡◌, ℕ, ◌<◌, List, [], ◌∷◌, ◌++◌, Option, Some, sym, ap, ◌∙◌, subst, arith, length, set, get_or}
 use Rattle.std.proofs.lemmas.List.{length-map}
 use Rattle.slab.specs.Slab.{Slab}
+use Rattle.clk_model.specs.declared.row.HandleRow.{HandleRow}
 use Rattle.rate_requests.specs.declared.held.Held.{Held}
 use Rattle.rate_requests.specs.declared.span.Span.{Span}
 use Rattle.rate_requests.specs.Handles.{HandleTable, new_row}
+use Rattle.rate_requests.specs.Records.{handles_of}
 use Rattle.rate_requests.specs.Spans.{lists}
 use Rattle.rate_requests.specs.Kept.{IsKept}
-use Rattle.rate_requests.proofs.Recorded.{length-handles_of}
+use Rattle.rate_requests.proofs.Recorded.{record_of, length-handles_of, placed_added}
 use Rattle.rate_requests.proofs.KeptLaws.{kept_added}
 use Rattle.rate_requests.proofs.requests.Requests.add.Goals as goal
 
-pub overflow_add-self : goal.overflow_add-self
-overflow_add-self c =
-    let made : c.self.inside.made ≡ length c.args.self.now.handles =
-    sym (length-handles_of c.self.inside.records.slots c.self.inside.made) ∙ ap (λ (t : HandleTable). length t.handles) c.self.view_is in
+pub overflow_cast-number : goal.overflow_cast-number
+overflow_cast-number c =
+    let made : length c.self.inside.places.items ≡ length c.args.self.now.handles =
+    sym (length-handles_of c.self.inside.records.slots c.self.inside.places.items) ∙ ap (λ (t : HandleTable). length t.handles) c.self.view_is in
+    let len = c.self.inside.places.ok.0 in
     let few = c.requires.numbers in
+    let is = c.len-number.ensures in
     record { fits = omega arith }
+
+-- the number is that of the places so far
+next : (c : goal.After-min) → c.len-number.result ≡ length c.self.inside.places.items
+next c = let len = c.self.inside.places.ok.0 in let is = c.len-number.ensures in omega arith
+
+-- the handles have one more row
+added : (c : goal.After-min) → handles_of c.insert_reserved-slot.new.self.slots c.push_reserved.new.self.items
+    ≡ handles_of c.self.inside.records.slots c.self.inside.places.items ++ Some (new_row c.args.driver c.args.clock) ∷ []
+added c =
+    let places = c.self.inside.places.items in
+    let slot = c.insert_reserved-slot.result in
+    let row = new_row c.args.driver c.args.clock in
+    ap (handles_of c.insert_reserved-slot.new.self.slots) (c.push_reserved.ensures.items ∙ ap (λ (ps : List ℕ). ps ++ slot ∷ []) c.in_ok-reserve.ensures.items)
+    ∙ placed_added c.reserve-2.new.self.slots c.insert_reserved-slot.new.self.slots slot places row
+    c.insert_reserved-slot.ensures.was_vacant
+    (c.insert_reserved-slot.ensures.updates.changed ∙ ap (λ (n : ℕ). record_of n (Some row)) (next c))
+    c.insert_reserved-slot.ensures.updates.others
+    ∙ ap (λ (s : Slab Held). handles_of s.slots places ++ Some row ∷ []) c.in_ok-reserve-2.ensures.rest_kept
 
 pub invariant_of-self-2 : goal.invariant_of-self-2
 invariant_of-self-2 c =
-    let made = c.self.inside.made in
+    let handles = handles_of c.self.inside.records.slots c.self.inside.places.items in
+    let spans = lists c.self.inside.spans.items in
     let row = new_row c.args.driver c.args.clock in
-    let slots : c.reserve.new.self.slots ≡ c.self.inside.records.slots = ap (λ (s : Slab Held). s.slots) c.in_ok-reserve.ensures.rest_kept in
-    let kept : IsKept made c.reserve.new.self.slots (lists c.self.inside.spans.items) =
-    subst (λ (ss : List (Option Held)). IsKept made ss (lists c.self.inside.spans.items)) (sym slots) c.self.invariant in
     let clocks : length c.self.inside.spans.items ≡ c.args.self.now.clocks = ap (λ (t : HandleTable). t.clocks) c.self.view_is in
-    let same : length (lists c.self.inside.spans.items) ≡ length c.self.inside.spans.items = length-map c.self.inside.spans.items _ in
-    let within : c.args.clock.0 < length (lists c.self.inside.spans.items) = omega (arith, c.requires.place) in
-    subst (λ (n : ℕ). IsKept n c.add_row-slot.new.records.slots (lists c.push_span.new.spans.items)) (sym (add-one made))
-    (subst (λ (spans : List (List Span)). IsKept (suc made) c.add_row-slot.new.records.slots spans) (sym c.in_ok-push_span.ensures.ok)
-    (kept_added made c.reserve.new.self.slots c.add_row-slot.new.records.slots (lists c.self.inside.spans.items) row kept (c.add_row-slot.ensures kept.records) within))
+    let long : length spans ≡ length c.self.inside.spans.items = length-map c.self.inside.spans.items _ in
+    let within : c.args.clock.0 < length spans = omega (arith, c.requires.place) in
+    let number : c.len-number.result ≡ length handles = next c ∙ sym (length-handles_of c.self.inside.records.slots c.self.inside.places.items) in
+    let pushed : List (List Span) = set spans c.args.clock.0 (get_or spans c.args.clock.0 [] ++ record { number = length handles; min = row.min; max = row.max } ∷ []) in
+    let same : lists c.push_span.new.spans.items ≡ pushed =
+    c.in_ok-push_span.ensures.ok
+    ∙ ap (λ (n : ℕ). let s : Span = record { number = n; min = row.min; max = row.max } in set spans c.args.clock.0 (get_or spans c.args.clock.0 [] ++ s ∷ [])) number in
+    subst (λ (hs : List (Option HandleRow)). IsKept hs (lists c.push_span.new.spans.items)) (sym (added c))
+    (subst (IsKept (handles ++ Some row ∷ [])) (sym same) (kept_added handles spans row c.self.invariant within))
 
 pub returns-clause-number : goal.returns-clause-number
 returns-clause-number c =
-    sym (length-handles_of c.self.inside.records.slots c.self.inside.made) ∙ ap (λ (t : HandleTable). length t.handles) c.self.view_is
+    next c
+    ∙ sym (length-handles_of c.self.inside.records.slots c.self.inside.places.items)
+    ∙ ap (λ (t : HandleTable). length t.handles) c.self.view_is
+
+pub returns-clause-handles : goal.returns-clause-handles
+returns-clause-handles c = added c ∙ ap (λ (t : HandleTable). t.handles ++ Some (new_row c.args.driver c.args.clock) ∷ []) c.self.view_is

@@ -1,5 +1,5 @@
 -- The range of the handle goes from those of its clock.
-use Rattle.std.proofs.Common.{◌≡◌, not, List, Option, Some, None, IsSome, refl, sym, ap, ◌∙◌, subst}
+use Rattle.std.proofs.Common.{◌≡◌, ℕ, not, List, Option, Some, None, refl, sym, ap, ◌∙◌, subst, set}
 use Rattle.std.specs.Prelude.{filter}
 use Rattle.clk_model.specs.declared.row.HandleRow.{HandleRow}
 use Rattle.clk_model.specs.State.{handle_at}
@@ -15,12 +15,15 @@ use Rattle.rate_requests.proofs.requests.Requests.remove.Goals as goal
 pub invariant_of-self : goal.invariant_of-self
 invariant_of-self c =
     let n = c.args.h.number in
-    let made = c.self.inside.made in
     let old = c.self.inside.records.slots in
+    let new = c.take_row.new.records.slots in
+    let places = c.self.inside.places.items in
+    let spans = lists c.self.inside.spans.items in
     let h : HandleRow = c.of.result in
-    let at : handle_at (handles_of old made) n ≡ Some h = ap (λ (t : HandleTable). handle_at t.handles n) c.self.view_is ∙ c.of.ensures in
-    let live : IsSome (handle_at (handles_of old made) n) = subst (λ (o : Option HandleRow). IsSome o) (sym at) refl in
-    subst (λ (spans : List (List Span)). IsKept made c.take_row.new.records.slots spans) (sym c.drop_span.ensures)
-    (kept_turned made old c.take_row.new.records.slots (lists c.self.inside.spans.items) n None h (filter (λ s. not (has_number n s))) c.self.invariant
-    (c.take_row.ensures made c.self.invariant.records live) at
-    (λ k x e. refl) refl (λ ss. filter-has_number n ss))
+    let at : handle_at (handles_of old places) n ≡ Some h = ap (λ (t : HandleTable). handle_at t.handles n) c.self.view_is ∙ c.of.ensures in
+    let turned : handles_of new places ≡ set (handles_of old places) n None =
+    subst (λ (ps : List ℕ). handles_of new ps ≡ set (handles_of old ps) n None) c.deref.ensures.value c.take_row.ensures in
+    subst (λ (hs : List (Option HandleRow)). IsKept hs (lists c.drop_span.new.spans.items)) (sym turned)
+    (subst (λ (ss : List (List Span)). IsKept (set (handles_of old places) n None) ss) (sym c.drop_span.ensures)
+    (kept_turned (handles_of old places) spans n None h (filter (λ s. not (has_number n s))) c.self.invariant at
+    (λ k x e. refl) refl (λ ss. filter-has_number n ss)))

@@ -1,20 +1,24 @@
 -- The handle keeps its clock and its range.
-use Rattle.std.proofs.Common.{◌≡◌, Option, Some, IsSome, refl, sym, ap, ◌∙◌, subst}
+use Rattle.std.proofs.Common.{◌≡◌, ℕ, List, Option, Some, refl, sym, ap, ◌∙◌, subst, set}
 use Rattle.clk_model.specs.declared.row.HandleRow.{HandleRow}
 use Rattle.clk_model.specs.State.{handle_at}
 use Rattle.rate_requests.specs.Handles.{HandleTable}
 use Rattle.rate_requests.specs.Records.{handles_of}
 use Rattle.rate_requests.specs.Spans.{lists}
+use Rattle.rate_requests.specs.Kept.{IsKept}
 use Rattle.rate_requests.proofs.KeptLaws.{kept_same}
 use Rattle.rate_requests.proofs.requests.Requests.set_counts.Goals as goal
 
 pub invariant_of-self : goal.invariant_of-self
 invariant_of-self c =
     let n = c.args.h.number in
-    let made = c.self.inside.made in
     let old = c.self.inside.records.slots in
-    let at : handle_at (handles_of old made) n ≡ Some c.of.result = ap (λ (t : HandleTable). handle_at t.handles n) c.self.view_is ∙ c.of.ensures in
-    let live : IsSome (handle_at (handles_of old made) n) = subst (λ (o : Option HandleRow). IsSome o) (sym at) refl in
+    let new = c.write_row.new.records.slots in
+    let places = c.self.inside.places.items in
+    let spans = lists c.self.inside.spans.items in
     let row : HandleRow = record c.of.result { prepares = c.args.prepares; enables = c.args.enables; exclusives = c.args.exclusives } in
-    kept_same made old c.write_row.new.records.slots (lists c.self.inside.spans.items) n (Some row) c.of.result c.self.invariant
-    (c.write_row.ensures made c.self.invariant.records live) at (λ k x. refl)
+    let at : handle_at (handles_of old places) n ≡ Some c.of.result = ap (λ (t : HandleTable). handle_at t.handles n) c.self.view_is ∙ c.of.ensures in
+    let turned : handles_of new places ≡ set (handles_of old places) n (Some row) =
+    subst (λ (ps : List ℕ). handles_of new ps ≡ set (handles_of old ps) n (Some row)) c.deref.ensures.value c.write_row.ensures in
+    subst (λ (hs : List (Option HandleRow)). IsKept hs spans) (sym turned)
+    (kept_same (handles_of old places) spans n (Some row) c.of.result c.self.invariant at (λ k x. refl))

@@ -1,5 +1,5 @@
 -- The range of the handle is replaced among those of its clock.
-use Rattle.std.proofs.Common.{◌≡◌, ℕ, Bool, cond, List, [], ◌∷◌, Option, Some, IsSome, refl, sym, ap, ◌∙◌, subst, map}
+use Rattle.std.proofs.Common.{◌≡◌, ℕ, Bool, cond, List, [], ◌∷◌, Option, Some, refl, sym, ap, ◌∙◌, subst, map, set}
 use Rattle.clk_model.specs.declared.row.HandleRow.{HandleRow}
 use Rattle.clk_model.specs.State.{handle_at}
 use Rattle.rate_requests.specs.declared.span.Span.{Span}
@@ -15,16 +15,19 @@ use Rattle.clk_model.proofs.Members.{test_same}
 pub invariant_of-self : goal.invariant_of-self
 invariant_of-self c =
     let n = c.args.h.number in
-    let made = c.self.inside.made in
     let old = c.self.inside.records.slots in
+    let new = c.write_row.new.records.slots in
+    let places = c.self.inside.places.items in
+    let spans = lists c.self.inside.spans.items in
     let h : HandleRow = c.of.result in
-    let at : handle_at (handles_of old made) n ≡ Some h = ap (λ (t : HandleTable). handle_at t.handles n) c.self.view_is ∙ c.of.ensures in
-    let live : IsSome (handle_at (handles_of old made) n) = subst (λ (o : Option HandleRow). IsSome o) (sym at) refl in
     let row : HandleRow = record h { min = c.args.min; max = c.args.max } in
     let span : ℕ → Span = λ x. record { number = x; min = c.args.min; max = c.args.max } in
-    subst (λ (spans : List (List Span)). IsKept made c.write_row.new.records.slots spans) (sym c.set_span.ensures)
-    (kept_turned made old c.write_row.new.records.slots (lists c.self.inside.spans.items) n (Some row) h (map (with_range n c.args.min c.args.max)) c.self.invariant
-    (c.write_row.ensures made c.self.invariant.records live) at
+    let at : handle_at (handles_of old places) n ≡ Some h = ap (λ (t : HandleTable). handle_at t.handles n) c.self.view_is ∙ c.of.ensures in
+    let turned : handles_of new places ≡ set (handles_of old places) n (Some row) =
+    subst (λ (ps : List ℕ). handles_of new ps ≡ set (handles_of old ps) n (Some row)) c.deref.ensures.value c.write_row.ensures in
+    subst (λ (hs : List (Option HandleRow)). IsKept hs (lists c.set_span.new.spans.items)) (sym turned)
+    (subst (λ (ss : List (List Span)). IsKept (set (handles_of old places) n (Some row)) ss) (sym c.set_span.ensures)
+    (kept_turned (handles_of old places) spans n (Some row) h (map (with_range n c.args.min c.args.max)) c.self.invariant at
     (λ k x e. ap (λ (t : Bool). cond t (span x ∷ []) []) e)
     refl
-    (λ ss. map-with_range n c.args.min c.args.max ss ∙ ap (λ (t : Bool). swapped n (cond t (span n ∷ []) []) ss) (sym (test_same h.clock.0))))
+    (λ ss. map-with_range n c.args.min c.args.max ss ∙ ap (λ (t : Bool). swapped n (cond t (span n ∷ []) []) ss) (sym (test_same h.clock.0)))))
