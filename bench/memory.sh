@@ -127,8 +127,19 @@ is_front() {
     head -c "$(wc -c <"$scratch/written")" "$scratch/whole" | cmp -s - "$scratch/written"
 }
 
-# Runs a bundle with each allocation failing in turn, and prints its line.
+# Whether the text is the one that a run that stops short may write, and one that a run that doesn't
+# stop may: a front of the whole text, and the whole; any where the order of the journal is free.
+is_short() {
+    [ "$status" -eq 3 ] && { [ "$order" = free ] || is_front; }
+}
+is_whole() {
+    [ "$status" -eq "$wanted" ] && { [ "$order" = free ] || cmp -s "$scratch/written" "$scratch/whole"; }
+}
+
+# Runs a bundle with each allocation failing in turn, and prints its line. The text is compared where
+# its order is `fixed`, and not where it is `free`.
 measure() {
+    order=$4
     run_failing "$2" "$3" 0
     wanted=$status
     cp "$scratch/written" "$scratch/whole"
@@ -138,9 +149,9 @@ measure() {
     at=1
     while [ "$at" -le "$most" ]; do
         run_failing "$2" "$3" "$at"
-        if [ "$status" -eq 3 ] && is_front; then
+        if is_short; then
             short=$((short + 1))
-        elif [ "$status" -eq "$wanted" ] && cmp -s "$scratch/written" "$scratch/whole"; then
+        elif is_whole; then
             same=$((same + 1))
         else
             echo "memory.sh: $1: with allocation $at failing the status is $status" >&2
@@ -151,39 +162,17 @@ measure() {
     printf '%-24s %6d %8d %8d %8d\n' "$1" "$wanted" "$most" "$short" "$same"
 }
 
-# Runs a bundle on threads with each allocation failing in turn, and prints its line.
-measure_threads() {
-    run_failing "$2" "$3" 0
-    most=$(cat "$scratch/count")
-    short=0
-    same=0
-    at=1
-    while [ "$at" -le "$most" ]; do
-        run_failing "$2" "$3" "$at"
-        case $status in
-        0) same=$((same + 1)) ;;
-        3) short=$((short + 1)) ;;
-        *)
-            echo "memory.sh: $1: with allocation $at failing the status is $status" >&2
-            exit 1
-            ;;
-        esac
-        at=$((at + 1))
-    done
-    printf '%-24s %6d %8d %8d %8d\n' "$1" 0 "$most" "$short" "$same"
-}
-
 printf '%-24s %6s %8s %8s %8s\n' run status made short same
 for example in uart kinds holders exclusive board; do
-    measure "$example-sim" sim "$root/examples/$example.bundle"
+    measure "$example-sim" sim "$root/examples/$example.bundle" fixed
 done
-measure board-check check "$root/examples/board.bundle"
+measure board-check check "$root/examples/board.bundle" fixed
 for example in lock notices migration late sweep timeout; do
-    measure "$example-journal" '--journal sim' "$root/examples/$example.bundle"
+    measure "$example-journal" '--journal sim' "$root/examples/$example.bundle" fixed
 done
 printf '%%bundle 1\n%%clocks\nfixed f 5 twice twice\n%%regs 1\n' >"$scratch/refused"
-measure refused-sim sim "$scratch/refused"
+measure refused-sim sim "$scratch/refused" fixed
 for example in holders migration; do
-    measure_threads "$example-run" run "$root/examples/$example.bundle"
+    measure "$example-run" run "$root/examples/$example.bundle" free
 done
-measure_threads bench-2 'bench 2' /dev/null
+measure bench-2 'bench 2' /dev/null free

@@ -1,15 +1,23 @@
 -- What the words behind the program's name mean.
-use Rattle.std.specs.Prelude.{ℕ, Bool, List, [], ◌∷◌, Option, Some, None, false, map, codes, slice_index, ◌==◌, if◌then◌else◌}
+use Rattle.std.specs.Prelude.{ℕ, Bool, List, [], ◌∷◌, Option, Some, None, Result, Ok, Err, ok_or, false, map, codes, slice_index, ◌==◌, if◌then◌else◌}
 use Rattle.std.specs.Borrow.{Bor}
 use Rattle.std.specs.Option.{option_map, option_map_or}
 use Rattle.std.specs.Str.{bytes_eq}
 use Rattle.bundle_text.specs.Numbers.{number_up_to}
 use Rattle.clap.specs.Faults.{fault_of}
 use Rattle.clap.specs.Kinds.{Kinds}
+use Rattle.clap.specs.Matches.{found_of}
 use Rattle.clap.specs.Simple.{matches_of}
-use Rattle.clap.specs.Walk.{Row, Text, first_of}
+use Rattle.clap.specs.Values.{kind_of}
+use Rattle.clap.specs.Walk.{Row, Text, first_of, rows_of}
+use Rattle.clap.specs.declared.error.Error.{Error}
+use Rattle.clap.specs.declared.error.kind.ErrorKind.{ErrorKind}
+use Rattle.clap.specs.declared.error.kind.ErrorKind.TheVariants.{OutOfMemory}
+use Rattle.clap.specs.declared.parser.matches.ArgMatches.{ArgMatches}
 use Rattle.clk_cli.specs.CommandLine.{clkbench}
 use Rattle.clk_cli.specs.declared.cli.Cli.{Cli}
+use Rattle.clk_cli.specs.declared.cli.CliFault.{CliFault}
+use Rattle.clk_cli.specs.declared.cli.CliFault.TheVariants.{Usage, NoMemory}
 use Rattle.clk_cli.specs.declared.cli.Mode.{Mode}
 use Rattle.clk_cli.specs.declared.cli.Mode.TheVariants.{Check, Sim, Run, Bench}
 
@@ -60,6 +68,16 @@ cli_of journal ignore_unused (Some name) count =
 abbrev pub read_rows : List Row → Option Cli
 read_rows rows =
     cli_of (first_of (codes "journal") rows) (first_of (codes "ignore_unused") rows) (first_of (codes "command") rows) (first_of (codes "count") rows)
+
+-- what an error of this kind tells: want of memory, or else that the words mean nothing
+abbrev pub fault_told : ErrorKind → CliFault
+fault_told OutOfMemory = NoMemory
+fault_told kind = Usage
+
+-- what `clap`'s answer tells: what its matches say, or why there is nothing
+abbrev pub cli_told : Result ArgMatches Error → Result Cli CliFault
+cli_told (Ok matches) = ok_or (read_rows (rows_of (found_of matches))) Usage
+cli_told (Err error) = Err (fault_told (kind_of error))
 
 -- this, unless there are faults
 abbrev pub unless : Kinds → Option Cli → Option Cli

@@ -1,15 +1,11 @@
 //! What the words behind the program's name mean.
 
-ghost use Rattle.std.specs.Prelude.{◌≡◌, ◌≢◌, [], IfOk};
+ghost use Rattle.std.specs.Prelude.{◌≡◌, IfOk};
 ghost use Rattle.std.specs.Option.{option_map};
-ghost use Rattle.clap.specs.Faults.{fault_of};
 ghost use Rattle.clap.specs.Matches.{found_of};
-ghost use Rattle.clap.specs.Simple.{matches_of};
 ghost use Rattle.clap.specs.Values.{kind_of};
 ghost use Rattle.clap.specs.Walk.{first_of, rows_of};
-ghost use Rattle.clap.specs.declared.error.kind.ErrorKind.TheVariants.{OutOfMemory};
-ghost use Rattle.clk_cli.specs.CommandLine.{clkbench};
-ghost use Rattle.clk_cli.specs.Meaning.{texts, count_of, mode_of, is_given, cli_of, read_rows, meaning};
+ghost use Rattle.clk_cli.specs.Meaning.{texts, count_of, mode_of, is_given, cli_of, read_rows, fault_told, cli_told, meaning};
 
 use crate::cli::{Cli, CliFault, Mode};
 use crate::command_line::command_line;
@@ -79,9 +75,9 @@ fn read_matches(matches: &ArgMatches<'_>) -> Option<Cli>
 
 // ---- the words
 
-// Why `clap` gave no matches.
+// What an error of `clap` tells.
 fn fault_in(error: &Error) -> CliFault
-    ensures { result ≡ CliFault.Usage → kind_of error.now ≢ OutOfMemory }
+    ensures { result ≡ fault_told (kind_of error.now) }
 {
     match error.kind() {
         ErrorKind::OutOfMemory => CliFault::NoMemory,
@@ -89,17 +85,15 @@ fn fault_in(error: &Error) -> CliFault
     }
 }
 
-// The matches of the words.
-fn matches_of<'w>(alloc: Global, words: &'w [&'w str]) -> Result<ArgMatches<'w>, CliFault>
-    ensures accepted { IfOk result (λ _. fault_of clkbench (texts words.now) ≡ []) }
-    ensures rows { IfOk result (λ m. rows_of (found_of m) ≡ matches_of clkbench (texts words.now)) }
-    ensures usage { result ≡ Err CliFault.Usage → meaning (texts words.now) ≡ None }
+// What `clap`'s answer says.
+fn cli_in(answer: Result<ArgMatches<'_>, Error>) -> Result<Cli, CliFault>
+    ensures { result ≡ cli_told answer.entry }
 {
-    let Ok(command) = command_line(alloc) else {
-        return Err(CliFault::NoMemory);
-    };
-    match command.try_get_matches_from(words) {
-        Ok(matches) => Ok(matches),
+    match answer {
+        Ok(matches) => match read_matches(&matches) {
+            Some(cli) => Ok(cli),
+            None => Err(CliFault::Usage),
+        },
         Err(error) => Err(fault_in(&error)),
     }
 }
@@ -114,9 +108,8 @@ pub fn words<'w>(alloc: Global, words: &'w [&'w str]) -> Result<Cli, CliFault>
     ensures ok { IfOk result (λ cli. meaning (texts words.now) ≡ Some cli) }
     ensures usage { result ≡ Err CliFault.Usage → meaning (texts words.now) ≡ None }
 {
-    let matches = matches_of(alloc, words)?;
-    match read_matches(&matches) {
-        Some(cli) => Ok(cli),
-        None => Err(CliFault::Usage),
-    }
+    let Ok(command) = command_line(alloc) else {
+        return Err(CliFault::NoMemory);
+    };
+    cli_in(command.try_get_matches_from(words))
 }
