@@ -1,11 +1,13 @@
 //! The state of the machine, kept in parts.
 
-ghost use Rattle.std.specs.Prelude.{◌≡◌, ℕ, ◌+◌, ◌<◌, ◌≤◌, true, false, length, drop, is_some, IfSome, IfOk, IsOk, OnErr, Some};
+ghost use Rattle.std.specs.Prelude.{◌≡◌, ℕ, ◌+◌, ◌<◌, ◌≤◌, true, false, [], None, length, drop, replicate, is_some, IfSome, IfOk, IsOk, OnErr, Some};
 ghost use Rattle.std.specs.Option.{option_map};
 ghost use Rattle.clk_base.specs.Valid.{IsValid};
 ghost use Rattle.clk_model.specs.State.{registered, handle_at};
 ghost use Rattle.clk_model.specs.Journal.{is_going, opening};
 ghost use Rattle.clk_model.specs.Begin.{most_credits};
+ghost use Rattle.counts_core.specs.Counted.{AreCounts};
+ghost use Rattle.notifiers.specs.Chains.{Tells};
 
 mod adopting;
 mod calls;
@@ -50,6 +52,35 @@ use rate_requests::Requests;
 use reg_bank::Bank;
 use std::alloc::Global;
 use std::marker::Model;
+
+// No handle, no holder and no notifier of the clocks of a description.
+fn nobody(alloc: Global, desc: &ValidDesc) -> Result<(Requests, Counts, Notifiers), NoMemory>
+    ensures clocks { IfOk result (λ made. made.0.clocks ≡ length desc.now.defs) }
+    ensures handles { IfOk result (λ made. made.0.handles ≡ []) }
+    ensures defs { IfOk result (λ made. made.1.defs ≡ desc.now.defs) }
+    ensures links { IfOk result (λ made. made.1.links ≡ replicate (length desc.now.defs) None) }
+    ensures enables { IfOk result (λ made. made.1.enables ≡ replicate (length desc.now.defs) 0) }
+    ensures prepares { IfOk result (λ made. made.1.prepares ≡ replicate (length desc.now.defs) 0) }
+    ensures exclusives { IfOk result (λ made. made.1.exclusives ≡ replicate (length desc.now.defs) 0) }
+    ensures stands { IfOk result (λ made. AreCounts made.1) }
+    ensures chains { IfOk result (λ made. made.2 ≡ replicate (length desc.now.defs) []) }
+    ensures told { IfOk result (λ made. Tells made.2 []) }
+{
+    let handles = Requests::create(alloc, desc)?;
+    let counts = Counts::create(alloc, desc)?;
+    let notifiers = Notifiers::create(alloc, desc)?;
+    Ok((handles, counts, notifiers))
+}
+
+// No hold of so many clocks for a change: of prepares, and of enables.
+fn no_holds(alloc: Global, clocks: usize) -> Result<(Held, Held), NoMemory>
+    ensures prepares { IfOk result (λ made. made.0 ≡ replicate clocks 0) }
+    ensures enables { IfOk result (λ made. made.1 ≡ replicate clocks 0) }
+{
+    let prepares = Held::create(alloc, clocks)?;
+    let enables = Held::create(alloc, clocks)?;
+    Ok((prepares, enables))
+}
 
 /// The machine without its journal, seen by contracts as its parts. They stand for a state of the
 /// definitions.
@@ -115,28 +146,25 @@ impl<B: Bank> Machine<B> {
         ensures valid { IsValid (length words.now) desc.defs }
     {
         let tree = Tree::create(alloc, &desc)?;
-        let handles = Requests::create(alloc, &desc)?;
-        let counts = Counts::create(alloc, &desc)?;
-        let notifiers = Notifiers::create(alloc, &desc)?;
+        let lists = nobody(alloc, &desc)?;
+        let holds = no_holds(alloc, desc.len())?;
         let window = Window::create(bank, words);
         let flight = Flight::create(alloc);
         let course = Course::none(alloc);
-        let prepare_holds = Held::create(alloc, desc.len())?;
-        let enable_holds = Held::create(alloc, desc.len())?;
         Ok(Machine {
             desc,
             window,
             tree,
-            handles,
-            counts,
-            notifiers,
+            handles: lists.0,
+            counts: lists.1,
+            notifiers: lists.2,
             credits,
             spent: 0,
             ignore_unused,
             flight,
             course,
-            prepare_holds,
-            enable_holds,
+            prepare_holds: holds.0,
+            enable_holds: holds.1,
             alloc,
             steps: 0,
         })

@@ -11,20 +11,20 @@ use Rattle.clk_machine.proofs.machine.Machine.create.Goals as goal
 pub invariant_of-result : goal.invariant_of-result
 invariant_of-result g c =
     let tree = c.in_ok-tree.tree in
-    let made = c.in_ok-counts.ensures in
-    whole_opening c.args.desc c.create-window.result tree c.in_ok-handles.handles c.in_ok-counts.counts c.in_ok-notifiers.notifiers c.args.credits c.args.ignore_unused c.create-flight.result c.none-course.result c.in_ok-prepare_holds.prepare_holds c.in_ok-enable_holds.enable_holds
-    (c.in_ok-prepare_holds.ensures ∙ ap (λ (n : ℕ). replicate n 0) c.len.ensures.len) (c.in_ok-enable_holds.ensures ∙ ap (λ (n : ℕ). replicate n 0) c.len-2.ensures.len) c.create-flight.ensures.quiet
+    let made = c.in_ok-lists.ensures in
+    whole_opening c.args.desc c.create-window.result tree c.in_ok-lists.lists.0 c.in_ok-lists.lists.1 c.in_ok-lists.lists.2 c.args.credits c.args.ignore_unused c.create-flight.result c.none-course.result c.in_ok-holds.holds.0 c.in_ok-holds.holds.1
+    (c.in_ok-holds.ensures.prepares ∙ ap (λ (n : ℕ). replicate n 0) c.len.ensures.len) (c.in_ok-holds.ensures.enables ∙ ap (λ (n : ℕ). replicate n 0) c.len.ensures.len) c.create-flight.ensures.quiet
     (subst (λ (d : Checked). IsValid d.words d.defs) c.desc.view_is c.desc.invariant) (c.create-window.ensures.size ∙ c.requires.words) c.create-window.ensures.told
     c.in_ok-tree.ensures.defs c.in_ok-tree.ensures.rows c.in_ok-tree.ensures.stands c.requires.credits
-    c.in_ok-handles.ensures.clocks c.in_ok-handles.ensures.handles made.stands
-    (counts_opening c.args.desc c.in_ok-counts.counts made.defs made.links made.enables made.prepares made.exclusives)
-    (ap (λ (chains : List (List Notifier)). length chains) c.in_ok-notifiers.ensures.chains ∙ length-replicate (length c.args.desc.defs) _) c.in_ok-notifiers.ensures.told
+    made.clocks made.handles made.stands
+    (counts_opening c.args.desc c.in_ok-lists.lists.1 made.defs made.links made.enables made.prepares made.exclusives)
+    (ap (λ (chains : List (List Notifier)). length chains) made.chains ∙ length-replicate (length c.args.desc.defs) _) made.told
 
 pub returns-clause-stands : goal.returns-clause-stands
 returns-clause-stands g c = λ told.
-    stands_opening c.args.desc c.create-window.result c.in_ok-tree.tree c.in_ok-handles.handles c.in_ok-counts.counts c.in_ok-notifiers.notifiers c.args.credits c.args.ignore_unused c.create-flight.result c.none-course.result c.in_ok-prepare_holds.prepare_holds c.in_ok-enable_holds.enable_holds
-    c.args.words.now (g.B.Bank.contents c.args.bank) (c.in_ok-prepare_holds.ensures ∙ ap (λ (n : ℕ). replicate n 0) c.len.ensures.len) (c.in_ok-enable_holds.ensures ∙ ap (λ (n : ℕ). replicate n 0) c.len-2.ensures.len) c.create-flight.ensures.quiet c.create-window.ensures.words c.in_ok-tree.ensures.rows c.in_ok-tree.ensures.order c.in_ok-handles.ensures.handles
-    c.in_ok-notifiers.ensures.told told
+    stands_opening c.args.desc c.create-window.result c.in_ok-tree.tree c.in_ok-lists.lists.0 c.in_ok-lists.lists.1 c.in_ok-lists.lists.2 c.args.credits c.args.ignore_unused c.create-flight.result c.none-course.result c.in_ok-holds.holds.0 c.in_ok-holds.holds.1
+    c.args.words.now (g.B.Bank.contents c.args.bank) (c.in_ok-holds.ensures.prepares ∙ ap (λ (n : ℕ). replicate n 0) c.len.ensures.len) (c.in_ok-holds.ensures.enables ∙ ap (λ (n : ℕ). replicate n 0) c.len.ensures.len) c.create-flight.ensures.quiet c.create-window.ensures.words c.in_ok-tree.ensures.rows c.in_ok-tree.ensures.order c.in_ok-lists.ensures.handles
+    c.in_ok-lists.ensures.told told
 
 pub returns-clause-none : goal.returns-clause-none
 returns-clause-none g c = λ k. blank_registered c.in_ok-tree.tree.clocks (length c.args.desc.defs) k c.in_ok-tree.ensures.rows
