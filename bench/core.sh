@@ -1,88 +1,101 @@
 #!/bin/sh
-# Times the calls of the core as `clkbench sim` makes them, on one thread and without a lock, and
-# prints nanoseconds a call.
+# How many nanoseconds the calls of the core take, each with its steps and its journal entries, on one thread and
+# without a lock:
 #
-# Each line is a bundle of one driver whose commands are the calls of one kind, again and again. What
-# stands is the time of `sim` less that of `check` on the same bundle, by the number of the calls:
-# both read the bundle and register the clocks, so what is left is each call with its steps, its
-# journal entries and its printed answer. Each time is the best of five runs.
+# - of the lowest of 1, 4, 16 and 63 gates in a row below a fixed clock, each pair of calls together: a handle that is
+#   got and put; prepare and unprepare, and enable and disable, with nobody else ("from off": all gates open and close,
+#   the clock is prepared by this handle alone) and with another handle that holds the clock prepared and enabled; then
+#   one question whether it runs, and one for its rate;
+# - one request for 500 kHz or 250 kHz, in turn, of a divider over 1 MHz, and one rounding of them, with 0, 16, 256 and
+#   4,000 factors below the divider, and with none below and 4,000 elsewhere;
+# - one change of parent of a mux that nobody prepares; one request that moves a mux whose only child is held enabled,
+#   and one rounding of that;
+# - the registration of 4,096 clocks, gates in a binary tree: one clock, and all in milliseconds.
+#
+# Each time is the best of five runs, of 10,000 pairs or, where there are more than 100 clocks, of 200.
+#
+# The program in bench/core is proved and built in a folder of its own, which is removed at the end. Its files end in
+# .txt, since it is no part of the gate.
+set -eu
+top=$(dirname -- "$(dirname -- "$(readlink -f -- "$0")")")
+scratch=$(mktemp -d)
+trap 'rm -rf "$scratch"' EXIT
+mkdir "$scratch/crates"
+below='clk_io|reg_bank|kind_math|clk_base|clk_model|clk_tree|notifiers|orphans|unused_sweep|rate_requests|counts_core|rate_planner|change_walk|bundle_text|clock_lines|clk_flight|clk_machine'
+for crate in $(printf '%s' "$below" | tr '|' ' '); do
+    cp -r "$top/crates/$crate" "$scratch/crates/"
+done
+cp "$top/HANDLES" "$scratch/"
+cp -r "$top/bench/core" "$scratch/crates/core_bench"
+find "$scratch/crates/core_bench" -name '*.txt' | while read -r file; do mv "$file" "${file%.txt}"; done
+grep -E "^($below)[: ]" "$top/crates.txt" >"$scratch/crates.txt"
+printf '%s\n' 'core_bench: clk_machine clk_tree clk_model clock_lines bundle_text clk_base reg_bank clk_io' >>"$scratch/crates.txt"
+cd "$scratch/crates/core_bench"
 
-root=$(dirname -- "$(dirname -- "$(readlink -f -- "$0")")") || exit 1
-program=$root/crates/clkbench/out/clkbench
-. "$root/bench/best_of_five.sh"
-bundle=$(mktemp) || exit 1
-trap 'rm -f "$bundle"' EXIT
-
-# So many calls, by twos, follow what is set up.
-calls=60000
-
-# Prints the commands that set up, and then two commands in turn.
-driver() {
-    printf '%%driver A\n'
-    printf '%s\n' "$1" | tr ';' '\n'
-    awk -v one="$2" -v two="$3" -v calls="$calls" 'BEGIN { for (k = 0; k < calls; k += 2) { print one; print two } }'
-}
-
-# Prints a chain of so many gates below a fixed clock, g1 first.
+# So many gates in a row below a fixed clock, the lowest is asked.
 chain() {
-    printf '%%bundle 1\n%%clocks\nfixed g0 24000000\n'
-    awk -v levels="$1" 'BEGIN { for (k = 1; k <= levels; k++) printf "gate g%d g%d %d %d\n", k, k - 1, int((k - 1) / 32), (k - 1) % 32 }'
-    printf '%%regs 3\n'
-}
-
-# Prints a divider with so many factors below it, and so many elsewhere.
-spread() {
-    printf '%%bundle 1\n%%clocks\nfixed f 1000000\ndivider d f 0 0 8\n'
-    awk -v below="$1" -v elsewhere="$2" 'BEGIN {
-        for (k = 1; k <= below; k++) printf "factor b%d d 1 2\n", k
-        for (k = 1; k <= elsewhere; k++) printf "factor e%d f 1 2\n", k
+    awk -v count="$1" 'BEGIN {
+        print "fixed c0 24000000"
+        for (i = 1; i <= count; i++) printf "gate %s c%d %d %d\n", i == count ? "asked" : "c" i, i - 1, int((i - 1) / 32), (i - 1) % 32
     }'
-    printf '%%regs 1\n'
 }
 
-# Prints a mux over two gates, with a gate below it.
+# A divider with so many factors below it, and so many elsewhere.
+spread() {
+    printf '%s\n' 'fixed osc 1000000' 'divider asked osc 0 0 8'
+    awk -v below="$1" -v elsewhere="$2" 'BEGIN {
+        for (i = 1; i <= below; i++) printf "factor b%d asked 1 2\n", i
+        for (i = 1; i <= elsewhere; i++) printf "factor e%d osc 1 2\n", i
+    }'
+}
+
+# A mux over two gates, with a gate below it of the name that is given.
 choice() {
-    printf '%%bundle 1\n%%clocks\nfixed osc 24000000\nfixed alt 30000000\ngate ga osc 0 0\ngate gb alt 0 1\nmux m 1 0 1 2 ga gb\ngate g m 0 2\n%%regs 2\n'
+    printf '%s\n' 'fixed low 250000' 'fixed high 500000' 'gate first low 0 0' 'gate second high 0 1' \
+        'mux asked 1 0 1 2 first second' "gate $1 asked 0 2"
 }
 
-# Times the bundle, and prints its line.
+# So many gates in a binary tree below a fixed clock.
+bush() {
+    awk -v count="$1" 'BEGIN {
+        print "fixed g0 24000000"
+        for (i = 1; i <= count; i++) printf "gate g%d g%d %d %d\n", i, int(i / 2), int((i - 1) / 32), (i - 1) % 32
+    }'
+}
+
+chain 4 >stdin
+if ! rt run -- holders <stdin >"$scratch/log" 2>&1; then
+    cat "$scratch/log" >&2
+    exit 1
+fi
+
+# Measures by this word over the clock lines on standard input, and prints a line for each measure, with these words
+# behind its name.
 measure() {
-    whole=$(best_of_five sim) && boot=$(best_of_five check) || { echo "core.sh: the program failed on: $1" >&2; exit 1; }
-    printf '%-58s %10d\n' "$1" $(((whole - boot) / calls))
+    cat >"$scratch/lines"
+    for run in 1 2 3 4 5; do
+        ./out/core_bench "$1" <"$scratch/lines"
+    done | awk -v over="$2" '
+        $1 !~ /^[0-9]+$/ { print "core.sh: the program says: " $0; failed = 1; exit 1 }
+        {
+            taken = $1
+            sub(/^[0-9]+ /, "")
+            if (!($0 in best)) names[count++] = $0
+            if (!($0 in best) || taken < best[$0]) best[$0] = taken
+        }
+        END { if (!failed) for (i = 0; i < count; i++) printf "%-72s %12d\n", names[i] ", " over, best[names[i]] }'
 }
 
-# Builds the program where it isn't built.
-"$root/clkbench" sim <"$root/examples/uart.bundle" >/dev/null || exit 1
-
-printf '%-58s %10s\n' calls ns-a-call
-for levels in 1 4 16 63; do
-    { chain $levels; driver "get a g$levels;prepare a" 'enable a' 'disable a'; } >"$bundle"
-    measure "enable and disable from off, $levels gates in a row"
+printf '%-72s %12s\n' calls ns
+for count in 1 4 16 63; do
+    chain "$count" | measure holders "$count gates in a row"
 done
-{ chain 4; driver 'get b g4;prepare b;enable b;get a g4;prepare a' 'enable a' 'disable a'; } >"$bundle"
-measure 'enable and disable with another holder'
-{ chain 4; driver 'get a g4' 'prepare a' 'unprepare a'; } >"$bundle"
-measure 'prepare and unprepare'
-{ chain 4; driver 'get b g4' 'get a g4' 'put a'; } >"$bundle"
-measure 'get and put'
-{ chain 4; driver 'get a g4' 'rate a' 'rate a'; } >"$bundle"
-measure 'rate'
-{ spread 0 0; driver 'get a d' 'round a 300000' 'round a 700000'; } >"$bundle"
-measure 'round of a divider'
-for below in 0 16 256 4000; do
-    calls=$((below > 256 ? 600 : below > 16 ? 6000 : 60000))
-    { spread $below 0; driver 'get a d' 'set a 500000' 'set a 250000'; } >"$bundle"
-    measure "set of a divider, $below clocks below it"
+for count in 0 16 256 4000; do
+    spread "$count" 0 | measure rates "a divider with $count clocks below"
 done
-calls=60000
-{ spread 0 4000; driver 'get a d' 'set a 500000' 'set a 250000'; } >"$bundle"
-measure 'set of a divider, 4000 clocks elsewhere'
-{ choice; driver 'get a m' 'reparent a gb' 'reparent a ga'; } >"$bundle"
-measure 'reparent of a mux that nobody prepares'
-{ choice; driver 'get a m;get b g;prepare b;enable b' 'set a 30000000' 'set a 24000000'; } >"$bundle"
-measure 'set that moves an enabled mux'
-
-printf '%%bundle 1\n%%clocks\nfixed g0 24000000\n' >"$bundle"
-awk 'BEGIN { for (k = 1; k < 4096; k++) printf "gate g%d g%d %d %d\n", k, int(k / 2), int((k - 1) / 32), (k - 1) % 32 }' >>"$bundle"
-printf '%%regs 128\n' >>"$bundle"
-printf '%-58s %10d\n' 'registering 4096 clocks, read and printed too, a clock' $(($(best_of_five check) / 4096))
+spread 0 4000 | measure rates 'a divider with 4000 clocks elsewhere'
+choice idle | measure parents 'a mux that nobody prepares'
+choice held | measure rates 'a mux that is held enabled and moves'
+bush 4095 | measure registration '4096 clocks' | awk '
+    NF == 0 || $NF !~ /^[0-9]+$/ { print; next }
+    { printf "%-72s %12d\n%-72s %12.1f\n", "registering a clock, of 4096", $NF / 4096, "registering 4096 clocks, in milliseconds", $NF / 1000000 }'
