@@ -1,6 +1,7 @@
 pub mod WindowLaws
 pub mod LockLaws
 pub mod Seeking
+pub mod PreparedAbove
 pub mod Setting
 pub mod Stepping
 pub mod InFlight

@@ -7,6 +7,7 @@ ghost use Rattle.clk_model.specs.Lists.{is_in};
 ghost use Rattle.clk_model.specs.Script.{runs};
 ghost use Rattle.clk_model.specs.State.{link_in};
 ghost use Rattle.clk_model.specs.Tree.{path_within, path};
+ghost use Rattle.counts_core.specs.Counted.{HasLinks};
 ghost use Rattle.clk_machine.specs.Plls.{is_loose, raisable, lowerable, Finds};
 ghost use Rattle.clk_machine.specs.Shape.{LinksLie};
 
@@ -182,13 +183,18 @@ fn lowerable_above<B: Bank>(
     with_first(above, clock, sought)
 }
 
-/// Whether a PLL of a clock's path is kept powered by no prepare.
+/// Whether a PLL of a clock's path is kept powered by no prepare. On the path of a prepared clock
+/// there is none, so that isn't walked.
 pub(crate) fn is_unprepared(desc: &ValidDesc, tree: &Tree, counts: &Counts, clock: ClockId) -> bool
     requires place { clock.0 < length desc.now.defs }
     requires links { LinksLie desc.now.defs tree.now.clocks }
     requires counted { length counts.now.links ≡ length desc.now.defs }
+    requires same { HasLinks tree.now.clocks counts.now.links }
     ensures { result ≡ list_any (is_loose desc.now.defs counts.now) (path tree.now.clocks clock.0) }
 {
+    if counts.prepared(clock) > 0 {
+        return false;
+    }
     has_loose(depth(), desc, tree, counts, Some(clock))
 }
 
@@ -246,7 +252,8 @@ pub(crate) fn next_to_raise_under(
     with_last(above, clock, sought)
 }
 
-/// The lowest PLL of a clock's path that is powered without a prepare.
+/// The lowest PLL of a clock's path that is powered without a prepare. On the path of a prepared
+/// clock there is none, so that isn't walked.
 pub(crate) fn next_to_lower<B: Bank>(
     desc: &ValidDesc,
     tree: &Tree,
@@ -257,9 +264,13 @@ pub(crate) fn next_to_lower<B: Bank>(
     requires place { clock.0 < length desc.now.defs }
     requires links { LinksLie desc.now.defs tree.now.clocks }
     requires counted { length counts.now.links ≡ length desc.now.defs }
+    requires same { HasLinks tree.now.clocks counts.now.links }
     requires words { window.now.size ≡ desc.now.words }
     ensures found { IfSome window.now.words (λ regs. Finds result (lowerable desc.now.defs counts.now regs (path tree.now.clocks clock.0))) }
     ensures inside { IfSome result.pll (λ pll. pll.0 < length desc.now.defs) }
 {
+    if counts.prepared(clock) > 0 {
+        return nothing();
+    }
     lowerable_above(depth(), desc, tree, counts, window, Some(clock))
 }

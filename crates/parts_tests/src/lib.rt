@@ -1,11 +1,17 @@
-//! Tests of the parts of the core: each call with ample memory, worked out by hand, and long runs
-//! beside plain lists.
+//! Tests of the parts of the core, from the register bank up: each call with ample memory, worked out
+//! by hand, and long runs beside plain lists.
 #![tactic(auto)]
 
+#[cfg(test)]
+mod banks;
 #[cfg(test)]
 mod beside;
 #[cfg(test)]
 mod clocks;
+#[cfg(test)]
+mod descriptions;
+#[cfg(test)]
+mod kinds;
 #[cfg(test)]
 mod orders;
 #[cfg(test)]

@@ -44,6 +44,9 @@ pub next_to_lower-found-requires-clause-counted : goal.next_to_lower-found-requi
 next_to_lower-found-requires-clause-counted g c =
     c.release.ensures.stands.links ∙ ap (λ (k : CountState). length k.defs) c.release.ensures.holders ∙ ap (λ (d : Description). length d) c.self.invariant.counted.stands.defs
 
+pub next_to_lower-found-requires-clause-same : goal.next_to_lower-found-requires-clause-same
+next_to_lower-found-requires-clause-same g c = rw c.release.ensures.holders c.self.invariant.counted.stands.links
+
 pub hold-requires-clause-place : goal.hold-requires-clause-place
 hold-requires-clause-place g c =
     let m = c.self.inside in

@@ -17,3 +17,6 @@ is_unprepared-requires-clause-links g c = links_within c.self.inside.desc c.self
 
 pub is_unprepared-requires-clause-counted : goal.is_unprepared-requires-clause-counted
 is_unprepared-requires-clause-counted g c = c.self.invariant.counted.keeps.links ∙ ap (λ (d : Description). length d) c.self.invariant.counted.stands.defs
+
+pub is_unprepared-requires-clause-same : goal.is_unprepared-requires-clause-same
+is_unprepared-requires-clause-same g c = c.self.invariant.counted.stands.links

@@ -17,3 +17,6 @@ next_to_lower-requires-clause-links g c = links_within c.self.inside.desc c.self
 
 pub next_to_lower-requires-clause-counted : goal.next_to_lower-requires-clause-counted
 next_to_lower-requires-clause-counted g c = c.self.invariant.counted.keeps.links ∙ ap (λ (d : Description). length d) c.self.invariant.counted.stands.defs
+
+pub next_to_lower-requires-clause-same : goal.next_to_lower-requires-clause-same
+next_to_lower-requires-clause-same g c = c.self.invariant.counted.stands.links
