@@ -3,28 +3,74 @@
 # command.
 #
 # The program makes the bundle itself: each driver has a PLL, a divider and a gate of its own, and
-# 404 commands. The first time is without the journal, the second with it, written to /dev/null. Each
-# is the best of five runs, and making the bundle and reading it is part of it.
+# 404 commands. `a-command` is without the journal, `with-journal` with it, written to /dev/null; both
+# are of the whole process, in which the bundle is made and read, and threads are started. `reading`
+# is `check` on the same text, which reads it and runs no driver, and `one-thread` is `sim` on it less
+# that: the calls themselves with their entries, and the printing of their answers. Each is the best
+# of five runs.
 
 root=$(dirname -- "$(dirname -- "$(readlink -f -- "$0")")") || exit 1
 program=$root/crates/clkbench/out/clkbench
 . "$root/bench/best_of_five.sh"
-bundle=/dev/null
+text=$(mktemp) || exit 1
+trap 'rm -f "$text"' EXIT
+
+# The text of the bundle that the program makes for so many drivers.
+generated() {
+    awk -v drivers="$1" 'BEGIN {
+        print "%bundle 1"
+        print "%clocks"
+        print "fixed osc 24000000"
+        for (k = 1; k <= drivers; k++) {
+            printf "pll p%d osc %d 0 9 %d 31 100 400 24\n", k, 2 * k - 2, 2 * k - 2
+            printf "divider d%d p%d %d 0 4 set-rate-parent\n", k, k, 2 * k - 1
+            printf "gate g%d d%d %d 8 set-rate-parent\n", k, k, 2 * k - 1
+        }
+        print "%regs " 2 * drivers
+        for (k = 1; k <= drivers; k++) print 2 * k - 2 " 0x64"
+        for (k = 1; k <= drivers; k++) {
+            printf "%%driver w%d\nget x g%d\nprepare x\n", k, k
+            for (turn = 1; turn <= 100; turn++)
+                printf "set x %d\nenable x\nrunning x\ndisable x\n", turn % 2 ? 40000000 : 30000000
+            print "unprepare x"
+            print "put x"
+        }
+    }'
+}
+
+# Whether the runs of this text and of the program's own end in the same summary and registers.
+is_same() {
+    own=$("$program" bench "$1" </dev/null | grep -v '^drivers \|^commands \|^ok ') || return 1
+    ran=$("$program" sim <"$text" | grep -v '^w[0-9]*\.[0-9]* \|^boot\.[0-9]* ') || return 1
+    [ "$own" = "$ran" ]
+}
 
 # Times so many drivers, and prints their line.
 measure() {
     commands=$(($1 * 404))
+    generated "$1" >"$text"
+    if ! is_same "$1"; then
+        echo "run.sh: the text isn't that of bench $1" >&2
+        exit 1
+    fi
+    bundle=/dev/null
     if ! plain=$(best_of_five bench "$1") || ! journal=$(best_of_five --journal bench "$1"); then
         echo "run.sh: the program failed on $1 drivers" >&2
         exit 1
     fi
-    printf '%8d %10d %14d %14d\n' "$1" "$commands" $((plain / commands)) $((journal / commands))
+    bundle=$text
+    if ! reading=$(best_of_five check) || ! one_thread=$(best_of_five sim); then
+        echo "run.sh: the program failed on the text of $1 drivers" >&2
+        exit 1
+    fi
+    printf '%8d %10d %12d %14d %12d %12d\n' "$1" "$commands" $((plain / commands)) \
+        $((journal / commands)) $((reading / commands)) $(((one_thread - reading) / commands))
 }
 
 # Builds the program where it isn't built.
 "$root/clkbench" sim <"$root/examples/uart.bundle" >/dev/null || exit 1
 
-printf '%8s %10s %14s %14s\n' drivers commands a-command with-journal
+printf '%8s %10s %12s %14s %12s %12s\n' drivers commands a-command with-journal reading one-thread
 for drivers in 1 2 4 8 16 32 64; do
     measure "$drivers"
 done
