@@ -2,26 +2,35 @@
 # What the gate costs, crate by crate, in processor minutes. It runs beside `rt ci` and changes
 # nothing:
 #
-#     bench/gate.sh watch > gate.times & rt ci; kill $!
+#     rt ci & bench/gate.sh watch $! > gate.times
 #     bench/gate.sh table < gate.times
 #
-# `watch` notes each second what each run of the prover has taken so far, until it is stopped.
-# `table` prints a line a crate: its own proof, that of its tests, and its must-fail edits. What an
-# earlier run has kept costs nothing and has no line. A run of less than a second may be missed.
+# `watch` notes each second what each run of the prover has taken that this `rt ci` started, until it
+# ends. `table` prints a line a crate: its own proof, that of its tests, and its must-fail edits. What
+# an earlier run has kept costs nothing and has no line; `rt ci --anew` keeps nothing. A run of less
+# than a second may be missed.
 
 case "${1:-}" in
 watch)
-    while sleep 1; do
-        ps -eo pid=,lstart=,cputimes=,args= | awk '
+    while kill -0 "$2" 2>/dev/null; do
+        ps -eo pid=,ppid=,lstart=,cputimes=,args= | awk -v gate="$2" '
+            { above[$1] = $2 }
             / --crate-name / && /rattle (build|check|verdict) / {
                 kind = "proof"
-                for (i = 8; i < NF; i++) {
+                for (i = 9; i < NF; i++) {
                     if ($i == "--crate-name") crate = $(i + 1)
                     if ($i == "--test") kind = "tests"
                 }
-                if ($9 == "check") kind = "edits"
-                print $1 "-" $5, $7, crate, kind
+                if ($10 == "check") kind = "edits"
+                told[$1] = $1 "-" $6 " " $8 " " crate " " kind
+            }
+            END {
+                for (run in told) {
+                    for (at = run; at in above && at != gate; at = above[at]) {}
+                    if (at == gate) print told[run]
+                }
             }'
+        sleep 1
     done
     ;;
 table)
@@ -40,7 +49,7 @@ table)
     ' | { printf '%-18s %7s %7s %7s %7s\n' crate proof tests edits all; cat; }
     ;;
 *)
-    echo "usage: bench/gate.sh watch|table" >&2
+    echo "usage: bench/gate.sh watch PID | bench/gate.sh table" >&2
     exit 1
     ;;
 esac
