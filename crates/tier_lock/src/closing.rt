@@ -30,6 +30,7 @@ fn end_all<T: Kept>(shared: &SharedOf<T>, keeper: &mut SeatOf<T>, passes: Vec<Pa
             number: _,
             room: _,
             made: _,
+            last: _,
         } = pass;
         shared.join_seat::<End>(keeper, seat);
     }

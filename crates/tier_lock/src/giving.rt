@@ -50,7 +50,8 @@ impl<T: Kept> Lock<T> {
         let cost = value.last_cost();
         let shared = &self.table.shared;
         refill(shared, &mut pass.seat, value);
-        shared.fetch_add::<Give<T>>(&mut pass.seat, 0, 1);
+        let word = shared.fetch_add::<Give<T>>(&mut pass.seat, 0, 1);
+        pass.last = word.wrapping_add(1);
         pass.room -= cost;
     }
 
@@ -70,6 +71,7 @@ impl<T: Kept> Lock<T> {
         let Guard { value } = guard;
         let shared = &self.table.shared;
         refill(shared, &mut pass.seat, value);
-        shared.fetch_sub::<GiveBack<T>>(&mut pass.seat, 0, 1);
+        let word = shared.fetch_sub::<GiveBack<T>>(&mut pass.seat, 0, 1);
+        pass.last = word.wrapping_sub(1);
     }
 }

@@ -57,6 +57,7 @@ impl<T: Kept> Lock<T> {
             number: 0,
             room,
             made: 1,
+            last: 0,
         };
         Ok((Lock { table }, pass, baton))
     }

@@ -23,7 +23,7 @@ fn split_off<T: Kept, N: Amount>(lock: &Lock<T>, pass: &mut Pass<T>, room: u32) 
 {
     let shared = &lock.table.shared;
     let mut seat = shared.split_seat::<Part<N>>(&mut pass.seat);
-    shared.load::<Look<T>>(&mut seat, 0);
+    let last = shared.load::<Look<T>>(&mut seat, 0);
     let number = pass.made;
     pass.made += 1;
     pass.room -= room;
@@ -32,6 +32,7 @@ fn split_off<T: Kept, N: Amount>(lock: &Lock<T>, pass: &mut Pass<T>, room: u32) 
         number,
         room,
         made: 0,
+        last,
     }
 }
 

@@ -13,6 +13,9 @@ pub struct Pass<T: Kept> {
     pub(crate) number: u32,
     pub(crate) room: u32,
     pub(crate) made: u32,
+    // The lock's word as this pass saw it last: where nobody else has had a turn since, it still is so,
+    // and the next turn begins without a look at it.
+    pub(crate) last: u64,
 }
 
 impl<T: Kept> Model for Pass<T> {

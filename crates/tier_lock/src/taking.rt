@@ -12,7 +12,14 @@ use crate::rule::{SeatOf, SharedOf};
 use crossbeam_utils::Backoff;
 use std::sync::Wait;
 
-// One try, at the word that was just read. It fails where the lock is taken, or where another pass came first.
+// `Backoff` is at its end after so many: seven times it spins, up to 64 pauses of the processor, and
+// from then on it yields.
+const SNOOZES: u32 = 11;
+
+// The most rounds between two tries, some 20 microseconds.
+const MOST_ROUNDS: u32 = 6;
+
+// One try, where the lock has this word. It fails where the lock is taken, or where it has another word by now.
 fn try_take<T: Kept>(shared: &SharedOf<T>, seat: &mut SeatOf<T>, word: u64) -> Option<T>
     requires table { IsOf shared.now.table_id seat.old.table_id }
     requires free { IsFree seat.old.me }
@@ -33,22 +40,53 @@ fn try_take<T: Kept>(shared: &SharedOf<T>, seat: &mut SeatOf<T>, word: u64) -> O
     Some(value)
 }
 
-// Until this seat is the one that wins. Between two tries it spins: a turn is short, and to sleep and be woken costs calls of the system.
-fn take_value<T: Kept, R: Wait>(rt: &R, shared: &SharedOf<T>, seat: &mut SeatOf<T>) -> T
+// One round of waiting: it spins longer and longer, and then lets other threads run.
+fn rest_once() {
+    let backoff = Backoff::new();
+    for _ in 0..SNOOZES {
+        backoff.snooze();
+    }
+}
+
+// So many rounds of waiting, but few.
+fn rest(rounds: u32) {
+    for _ in 0..rounds.min(MOST_ROUNDS) {
+        rest_once();
+    }
+}
+
+// Until this seat is the one that wins. A turn is short, and to sleep and be woken costs calls of the
+// system; but each try takes the lock's word from the processor that is in its turn. So between two
+// tries it rests, the longer the more tries have failed.
+fn wait_for_value<T: Kept, R: Wait>(rt: &R, shared: &SharedOf<T>, seat: &mut SeatOf<T>) -> T
     requires table { IsOf shared.now.table_id seat.old.table_id }
     requires free { IsFree seat.old.me }
     ensures same { (seat.new.table_id ≡ seat.old.table_id) × (seat.new.id ≡ seat.old.id) }
     ensures taken { Took (reading T.entries T.fixed T.by T.prep T.cost T.most) result seat.old.me seat.new.me }
 {
-    let backoff = Backoff::new();
+    let mut failed = 0u32;
     for _ in rt.forever() {
         let word = shared.peek(0);
         if let Some(value) = try_take(shared, seat, word) {
             return value;
         }
-        backoff.snooze();
+        failed = failed.saturating_add(1);
+        rest(failed);
     }
     unreachable!()
+}
+
+// Takes the value: at once where nobody has had a turn since the lock's word was this, and else as soon as the lock is free.
+fn take_value<T: Kept, R: Wait>(rt: &R, shared: &SharedOf<T>, seat: &mut SeatOf<T>, last: u64) -> T
+    requires table { IsOf shared.now.table_id seat.old.table_id }
+    requires free { IsFree seat.old.me }
+    ensures same { (seat.new.table_id ≡ seat.old.table_id) × (seat.new.id ≡ seat.old.id) }
+    ensures taken { Took (reading T.entries T.fixed T.by T.prep T.cost T.most) result seat.old.me seat.new.me }
+{
+    if let Some(value) = try_take(shared, seat, last) {
+        return value;
+    }
+    wait_for_value(rt, shared, seat)
 }
 
 impl<T: Kept> Lock<T> {
@@ -73,7 +111,7 @@ impl<T: Kept> Lock<T> {
         // Where the pass has the baton, nobody else has added an entry of the prepare tier.
         ensures baton { pass.old.baton ≡ true → AddsEnablesOnly T.prep pass.old.seen (T.entries result.value) }
     {
-        let value = take_value(rt, &self.table.shared, &mut pass.seat);
+        let value = take_value(rt, &self.table.shared, &mut pass.seat, pass.last);
         Guard { value }
     }
 }

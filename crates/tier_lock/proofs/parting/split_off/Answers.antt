@@ -9,7 +9,7 @@ split_seat-seat-requires g c =
     let room = ap (λ p. p.room) at in
     (ap (λ p. p.table) at ∙ c.requires.lock ∙ ap (λ l. l.table) (sym c.lock.view_is), omega (arith, c.lock.invariant.0), parts _ _ _ g.N.Amount.amount _ c.pass.invariant.live (ap (λ p. p.number) at ∙ c.requires.first) (ap (λ p. p.turn) at ∙ c.requires.idle) (omega (arith, c.requires.amount, c.requires.fits, room)))
 
-pub load-requires : goal.load-requires
-load-requires g c =
+pub load-last-requires : goal.load-last-requires
+load-last-requires g c =
     let e = c.split_seat-seat.ensures in
     (e.3 ∙ ap (λ p. p.table) c.pass.view_is ∙ c.requires.lock ∙ ap (λ l. l.table) (sym c.lock.view_is), omega (arith, c.lock.invariant.0), looks _ _ _ _ _ _ (ap (λ m. m.0.live) e.4))

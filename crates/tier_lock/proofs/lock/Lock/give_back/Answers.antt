@@ -3,8 +3,8 @@ use Rattle.std.proofs.Common.{◌∙◌, ap, sym, arith}
 use Rattle.tier_lock.proofs.Hands.{may_give_back}
 use Rattle.tier_lock.proofs.lock.Lock.give_back.Goals as goal
 
-pub fetch_sub-requires : goal.fetch_sub-requires
-fetch_sub-requires g c =
+pub fetch_sub-word-requires : goal.fetch_sub-word-requires
+fetch_sub-word-requires g c =
     let r = c.refill.ensures in (
       r.same.0 ∙ ap (λ p. p.table) c.pass.view_is ∙ c.requires.lock ∙ ap (λ l. l.table) (sym c.self.view_is),
       omega (arith, c.self.invariant.0),

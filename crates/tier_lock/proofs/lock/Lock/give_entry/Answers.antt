@@ -3,8 +3,8 @@ use Rattle.std.proofs.Common.{◌∙◌, ap, sym, arith}
 use Rattle.tier_lock.proofs.Hands.{may_give}
 use Rattle.tier_lock.proofs.lock.Lock.give_entry.Goals as goal
 
-pub fetch_add-requires : goal.fetch_add-requires
-fetch_add-requires g c =
+pub fetch_add-word-requires : goal.fetch_add-word-requires
+fetch_add-word-requires g c =
     let r = c.refill.ensures in (
       r.same.0 ∙ ap (λ p. p.table) c.pass.view_is ∙ c.requires.lock ∙ ap (λ l. l.table) (sym c.self.view_is),
       omega (arith, c.self.invariant.0),
