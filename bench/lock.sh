@@ -1,5 +1,6 @@
 #!/bin/sh
 # How many nanoseconds a turn of the counted lock takes, beside a mutex that does the same, with 1, 2, 4 and 8 threads.
+# Each thread makes a million turns and does nothing between them, so the threads meet throughout.
 # The program in bench/lock is proved and built in a folder of its own, which is removed at the end. Its files end in
 # .txt, since it is no part of the gate.
 set -eu
