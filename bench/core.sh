@@ -25,7 +25,7 @@ top=$(dirname -- "$(dirname -- "$(readlink -f -- "$0")")")
 scratch=$(mktemp -d)
 trap 'rm -rf "$scratch"' EXIT
 mkdir "$scratch/crates"
-below='clk_io|reg_bank|kind_math|clk_base|clk_model|clk_tree|notifiers|orphans|unused_sweep|rate_requests|counts_core|rate_planner|change_walk|bundle_text|clock_lines|clk_flight|clk_machine'
+below='clk_io|reg_bank|kind_math|clk_base|clk_model|clk_tree|notifiers|orphans|unused_sweep|rate_requests|counts_core|rate_planner|change_walk|bundle_text|clock_lines|clk_flight|core_parts|clk_machine'
 for crate in $(printf '%s' "$below" | tr '|' ' '); do
     cp -r "$top/crates/$crate" "$scratch/crates/"
 done

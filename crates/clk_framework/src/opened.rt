@@ -1,7 +1,7 @@
 //! What a framework began with. No value of this type is made: it exists for contracts alone.
 
 use clk_base::ClockDef;
-use clk_machine::Behind;
+use core_parts::Behind;
 use std::alloc::Global;
 use std::collections::LinkedList;
 

@@ -40,7 +40,7 @@ use Rattle.clk_machine.specs.Adopting.{adopted}
 use Rattle.clk_machine.specs.Parts.{Parts, IsWhole}
 use Rattle.clk_machine.specs.Sound.{IsReached}
 use Rattle.clk_machine.specs.Stands.{Stands}
-use Rattle.clk_machine.proofs.Registering.{link_given-take, rate-take}
+use Rattle.core_parts.proofs.RegisteredTree.{link_given-take, rate-take}
 use Rattle.clk_machine.proofs.Unmoved.{run_of}
 
 -- ---- who is prepared

@@ -16,7 +16,8 @@ use Rattle.clk_model.specs.Lists.{is_in}
 use Rattle.clk_model.specs.Script.{adoption, probe_script}
 use Rattle.clk_model.specs.State.{State, registered}
 use Rattle.clk_model.specs.Tree.{link_given}
-use Rattle.clk_machine.specs.Adopting.{adopted, adoption_by, registration_of, is_beside, AreAdoptions, none, one_more, Adopts, AreProbeSteps}
+use Rattle.core_parts.specs.Adoption.{adoption_by, registration_of}
+use Rattle.clk_machine.specs.Adopting.{adopted, is_beside, AreAdoptions, none, one_more, Adopts, AreProbeSteps}
 use Rattle.clk_machine.specs.Parts.{Parts}
 use Rattle.clk_machine.specs.Sound.{IsSound}
 use Rattle.clk_machine.specs.Stands.{Stands}

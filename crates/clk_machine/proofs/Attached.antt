@@ -22,9 +22,9 @@ use Rattle.counts_core.specs.Sums.{up_in}
 use Rattle.counts_core.specs.Counted.{CountState, HasLinks, is_held, is_active}
 use Rattle.counts_core.specs.Standing.{StandsFor, own_enables}
 use Rattle.clk_machine.specs.Parts.{Parts, bare, IsWhole}
-use Rattle.clk_machine.proofs.HeldCounts.{listed_tells}
+use Rattle.core_parts.proofs.HeldCounts.{listed_tells}
 use Rattle.clk_machine.proofs.Following.{links_are}
-use Rattle.clk_machine.proofs.Holdings.{sum_on}
+use Rattle.core_parts.proofs.Holdings.{sum_on}
 
 -- ---- nobody holds a clock that isn't registered
 

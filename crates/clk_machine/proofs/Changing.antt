@@ -16,11 +16,12 @@ use Rattle.clk_flight.specs.Begun as flights
 use Rattle.clk_flight.specs.Flights.{FlightState, IsChange}
 use Rattle.clk_flight.specs.LeftOver.{step_weight, front_weight, left_over}
 use Rattle.clk_machine.specs.Changing.{StartsChange}
-use Rattle.clk_machine.specs.Course.{CourseState, notifiers_at, tells_all, PostsFit}
-use Rattle.clk_machine.specs.InFlight.{changes_rate, may_go_on, cuts_front, is_script, is_front, can_link, probes, is_near}
-use Rattle.clk_machine.specs.Parts.{Parts, bare, IsOwnCall, rows_from, IsWhole}
-use Rattle.clk_machine.proofs.Holdings.{StandsFor-same}
-use Rattle.clk_machine.proofs.StepsInFlight.{changes_plain, no_probes}
+use Rattle.core_parts.specs.Course.{CourseState, notifiers_at, tells_all, PostsFit}
+use Rattle.core_parts.specs.InFlight.{changes_rate, may_go_on, cuts_front, is_script, is_front, can_link, probes, is_near}
+use Rattle.core_parts.specs.Listed.{rows_from}
+use Rattle.clk_machine.specs.Parts.{Parts, bare, IsOwnCall, IsWhole}
+use Rattle.core_parts.proofs.Holdings.{StandsFor-same}
+use Rattle.core_parts.proofs.StepsInFlight.{changes_plain, no_probes}
 use Rattle.clk_machine.proofs.Writing.{whole_spent}
 
 -- a change of a rate or a parent may go on

@@ -21,12 +21,12 @@ use Rattle.counts_core.specs.Counted.{CountState, AreCounts, HasLinks, is_active
 use Rattle.counts_core.specs.Standing.{StandsFor}
 use Rattle.counts_core.proofs.Standing.{tells_holds}
 use Rattle.counts_core.proofs.Walking.{count-more}
-use Rattle.clk_machine.specs.Window.{Shown}
+use Rattle.core_parts.specs.Window.{Shown}
 use Rattle.clk_machine.specs.Parts.{Parts, bare, IsWhole}
 use Rattle.clk_machine.specs.Stands.{Stands, Becomes}
 use Rattle.clk_machine.proofs.Attached.{critical_more, held_more, IsAttached, stands_attached}
 use Rattle.clk_machine.proofs.Following.{opens_all, told_mapped, regs_told, regs_lie, lists_alike}
-use Rattle.clk_machine.proofs.Moving.{path_within_desc, tied-moved}
+use Rattle.core_parts.proofs.Moving.{path_within_desc, tied-moved}
 use Rattle.clk_machine.proofs.Registering.{Registered, with_registered, tied_registered, whole_attached, bare_attached, rows_stand, register_rest, state_attached, registered_stands, active_linked}
 use Rattle.clk_machine.proofs.Writing.{counts_stand}
 

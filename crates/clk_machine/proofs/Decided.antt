@@ -1,9 +1,7 @@
 -- A call that changes a rate begins as was decided, in each sound state that the parts of a core stand for.
-use Rattle.std.proofs.Common.{◌≡◌, ℕ, ◌+◌, ◌-◌, ◌<◌, Bool, true, false, cond, List, Option, Some, None, refl, sym, ap, subst, ◌∙◌, arith, length, set, get_or, nat_eq}
+use Rattle.std.proofs.Common.{◌≡◌, ℕ, ◌+◌, ◌<◌, Bool, false, List, Option, Some, None, refl, sym, ap, subst, ◌∙◌, arith, length, get_or}
 use Rattle.std.proofs.Math.Path.{fun_ext}
 use Rattle.std.specs.Option.{option_map}
-use Rattle.std.proofs.lemmas.Bool.Decides.{nat_tests}
-use Rattle.std.proofs.lemmas.List.{length-set}
 use Rattle.clk_base.specs.declared.call.Sleeping.{Sleeping}
 use Rattle.clk_base.specs.declared.call.Sleeping.TheVariants as call
 use Rattle.clk_base.specs.declared.event.Errno.TheVariants as errno
@@ -21,56 +19,22 @@ use Rattle.counts_core.specs.Counted.{CountState, AreCounts, is_prepared}
 use Rattle.counts_core.specs.Standing.{StandsFor}
 use Rattle.counts_core.proofs.Standing.{tells_holds}
 use Rattle.rate_requests.specs.Handles.{low_in, high_in}
-use Rattle.clk_machine.specs.declared.decision.Decision.{Decision}
-use Rattle.clk_machine.specs.declared.decision.Decision.TheVariants as decided
-use Rattle.clk_machine.specs.Deciding.{IsAnswer, IsGiven, Decides, answered, less_protected}
+use Rattle.core_parts.specs.declared.decision.Decision.{Decision}
+use Rattle.core_parts.specs.declared.decision.Decision.TheVariants as decided
+use Rattle.core_parts.specs.Planned.{IsAnswer, IsGiven, answered, less_protected}
+use Rattle.clk_machine.specs.Deciding.{Decides}
 use Rattle.clk_machine.specs.Parts.{Parts, own_in, IsWhole}
-use Rattle.clk_machine.specs.Seen.{seen}
+use Rattle.core_parts.specs.Seen.{seen}
 use Rattle.clk_machine.specs.Sound.{IsSound}
 use Rattle.clk_machine.specs.Stands.{Stands}
 use Rattle.clk_machine.proofs.CallEvents.{begin_quiet, with-none, with-some}
 use Rattle.clk_machine.proofs.Entered.{own_stands}
 use Rattle.clk_machine.proofs.FewNotifiers.{few_reached}
 use Rattle.clk_machine.proofs.Flying.{quiet_stands}
-use Rattle.clk_machine.proofs.Holdings.{moves_one, moves_none, StandsFor-put}
 use Rattle.clk_machine.proofs.Room.{exclusive_held}
 use Rattle.clk_machine.proofs.Rounding.{seen_lifted}
 use Rattle.clk_machine.proofs.Writing.{counts_stand, live_in, row_place, place_among}
-
--- ---- counts with one exclusive hold less
-
-pub less_keeps : (row : HandleRow) (k : CountState) → AreCounts k → AreCounts (less_protected row k)
-less_keeps row k keeps = record {
-  links = keeps.links;
-  enables = keeps.enables;
-  prepares = keeps.prepares;
-  exclusives = by (nat_eq row.exclusives 0);
-  possible = keeps.possible;
-  lines = keeps.lines;
-} where
-  by : (t : Bool) → length (cond t k.exclusives (set k.exclusives row.clock.0 (get_or k.exclusives row.clock.0 0 - 1))) ≡ length k.defs
-  by true = keeps.exclusives
-  by false = length-set k.exclusives row.clock.0 (get_or k.exclusives row.clock.0 0 - 1) ∙ keeps.exclusives
-
--- they stand for the state with one exclusive hold of the handle lifted
-less_stands : (k : CountState) (t : State) (n : ℕ) (row : HandleRow) → StandsFor k t → handle_at t.handles n ≡ Some row → row.clock.0 < length k.exclusives
-    → (0 < row.exclusives → 0 < get_or k.exclusives row.clock.0 0) → StandsFor (less_protected row k) (put_handle t n (Some (lifted_row row)))
-less_stands k t n row stands at within held = by (nat_eq row.exclusives 0) refl where
-  by : (b : Bool) → nat_eq row.exclusives 0 ≡ b
-      → StandsFor (record k { exclusives = cond b k.exclusives (set k.exclusives row.clock.0 (get_or k.exclusives row.clock.0 0 - 1)) }) (put_handle t n (Some (lifted_row row)))
-  by true e =
-      let none : row.exclusives ≡ 0 = grind (arith, nat_tests) in
-      StandsFor-put k k t n row (lifted_row row) stands at refl refl
-      (moves_none (λ h. h.enables) k.enables row (lifted_row row) refl refl)
-      (moves_none (λ h. h.prepares) k.prepares row (lifted_row row) refl refl)
-      (moves_none (λ h. h.exclusives) k.exclusives row (lifted_row row) refl (omega arith))
-  by false e =
-      let some : 0 < row.exclusives = grind (arith, nat_tests) in
-      let one = held some in
-      StandsFor-put k (record k { exclusives = set k.exclusives row.clock.0 (get_or k.exclusives row.clock.0 0 - 1) }) t n row (lifted_row row) stands at refl refl
-      (moves_none (λ h. h.enables) k.enables row (lifted_row row) refl refl)
-      (moves_none (λ h. h.prepares) k.prepares row (lifted_row row) refl refl)
-      (moves_one (λ h. h.exclusives) k.exclusives row.clock.0 (get_or k.exclusives row.clock.0 0 - 1) row (lifted_row row) within refl refl (omega arith))
+use Rattle.core_parts.proofs.LessProtected.{less_keeps, less_stands}
 
 -- ---- what planning is given
 
@@ -213,14 +177,3 @@ pub decides_exclusive : (m : Parts) (s : State) (d : ℕ) (h : Handle) (x used :
     → Stands m s → IsSound m.window.size s → Decides s d h.number (call.SetRateExclusive h x) decision
 decides_exclusive m s d h x used row decision whole quiet is own answers stands sound =
     exclusive_known s d h x row decision (quiet_stands m s stands quiet) (own_stands m s d h.number (Some row) stands own) (answers s s (given_itself m s used whole stands sound is))
-
--- ---- with an exclusive hold less or without
-
-pub less_none : (row : HandleRow) (k : CountState) → row.exclusives ≡ 0 → less_protected row k ≡ k
-less_none row k none =
-    ap (λ (n : ℕ). let x : CountState = record k { exclusives = cond (nat_eq n 0) k.exclusives (set k.exclusives row.clock.0 (get_or k.exclusives row.clock.0 0 - 1)) } in x) none
-
-pub less_one : (row : HandleRow) (k less : CountState) → 0 < row.exclusives → less ≡ record k { exclusives = set k.exclusives row.clock.0 (get_or k.exclusives row.clock.0 0 - 1) } → less ≡ less_protected row k
-less_one row k less some is =
-    let not_none : nat_eq row.exclusives 0 ≡ false = grind (arith, nat_tests) in
-    is ∙ ap (λ (b : Bool). let x : CountState = record k { exclusives = cond b k.exclusives (set k.exclusives row.clock.0 (get_or k.exclusives row.clock.0 0 - 1)) } in x) (sym not_none)

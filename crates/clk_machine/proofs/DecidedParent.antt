@@ -34,16 +34,18 @@ use Rattle.rate_planner.specs.Walks.{parent_chain, walked_rates}
 use Rattle.change_walk.specs.Given as given
 use Rattle.change_walk.specs.Given.{Script, HasFewNotifiers, OfPlan}
 use Rattle.change_walk.proofs.Leading.{parent_fits}
-use Rattle.clk_machine.specs.declared.decision.Decision.{Decision}
-use Rattle.clk_machine.specs.declared.decision.Decision.TheVariants as decided
-use Rattle.clk_machine.specs.Deciding.{IsPlanOf, Fits, IsGiven, Decides, less_protected}
+use Rattle.core_parts.specs.declared.decision.Decision.{Decision}
+use Rattle.core_parts.specs.declared.decision.Decision.TheVariants as decided
+use Rattle.core_parts.specs.Planned.{IsPlanOf, Fits, IsGiven, less_protected}
+use Rattle.clk_machine.specs.Deciding.{Decides}
 use Rattle.clk_machine.specs.Parts.{Parts, own_in, IsWhole}
-use Rattle.clk_machine.specs.Reparenting.{is_bound, is_candidate, first_cause, parent_refusal}
+use Rattle.core_parts.specs.Reparenting.{is_bound, is_candidate, first_cause, parent_refusal}
 use Rattle.clk_machine.specs.Sound.{IsSound}
 use Rattle.clk_machine.specs.Stands.{Stands}
 use Rattle.clk_machine.proofs.CallEvents.{begin_quiet, with-some}
-use Rattle.clk_machine.proofs.Decided.{less_keeps, decides_unknown, given_lifted, given_itself}
-use Rattle.clk_machine.proofs.Deciding.{less_is, not_less, told_here, rates_told, script_told}
+use Rattle.core_parts.proofs.LessProtected.{less_keeps}
+use Rattle.clk_machine.proofs.Decided.{decides_unknown, given_lifted, given_itself}
+use Rattle.core_parts.proofs.Deciding.{less_is, not_less, told_here, rates_told, script_told}
 use Rattle.clk_machine.proofs.Entered.{own_stands}
 use Rattle.clk_machine.proofs.FewNotifiers.{few_reached}
 use Rattle.clk_machine.proofs.Flying.{quiet_stands}

@@ -17,9 +17,10 @@ use Rattle.clk_model.proofs.EventLaws.{pick-true, pick-false}
 use Rattle.clk_model.proofs.StateLaws.{handle_at-set_same, set-back}
 use Rattle.counts_core.specs.Standing.{StandsFor}
 use Rattle.rate_requests.specs.Handles.{HandleTable, misses_in, with_range_at}
-use Rattle.clk_machine.specs.declared.decision.Decision.{Decision}
-use Rattle.clk_machine.specs.declared.decision.Decision.TheVariants as decided
-use Rattle.clk_machine.specs.Deciding.{IsAnswer, IsGiven, Decides, answered, less_protected}
+use Rattle.core_parts.specs.declared.decision.Decision.{Decision}
+use Rattle.core_parts.specs.declared.decision.Decision.TheVariants as decided
+use Rattle.core_parts.specs.Planned.{IsAnswer, IsGiven, answered, less_protected}
+use Rattle.clk_machine.specs.Deciding.{Decides}
 use Rattle.clk_machine.specs.Holding.{ranged}
 use Rattle.clk_machine.specs.Parts.{Parts, own_in, IsWhole}
 use Rattle.clk_machine.specs.Sound.{IsSound}
@@ -28,7 +29,7 @@ use Rattle.clk_machine.proofs.CallEvents.{begin_quiet, with-some}
 use Rattle.clk_machine.proofs.Decided.{decides_unknown, given_lifted, with_handles}
 use Rattle.clk_machine.proofs.Entered.{own_stands}
 use Rattle.clk_machine.proofs.Flying.{quiet_stands}
-use Rattle.clk_machine.proofs.Holdings.{moves_none, StandsFor-put}
+use Rattle.core_parts.proofs.Holdings.{moves_none, StandsFor-put}
 use Rattle.clk_machine.proofs.Room.{exclusive_held}
 use Rattle.clk_machine.proofs.Writing.{counts_stand, live_in, row_place, place_among}
 

@@ -22,17 +22,19 @@ use Rattle.clk_flight.specs.Flights.{FlightState, IsChange}
 use Rattle.clk_flight.specs.Moves.{landed}
 use Rattle.counts_core.specs.Counted.{CountState, is_active}
 use Rattle.rate_requests.specs.Handles.{HandleTable}
-use Rattle.clk_machine.specs.Window.{Shown}
+use Rattle.core_parts.specs.Window.{Shown}
 use Rattle.clk_machine.specs.Making.{ComesFirst}
-use Rattle.clk_machine.specs.Parts.{Parts, bare, held_in_all, ArePaid, AreKept, IsWhole, rows_from}
+use Rattle.core_parts.specs.Listed.{rows_from}
+use Rattle.core_parts.specs.Tied.{AreKept}
+use Rattle.clk_machine.specs.Parts.{Parts, bare, held_in_all, ArePaid, IsWhole}
 use Rattle.clk_machine.specs.Stands.{Stands, Enters}
-use Rattle.clk_machine.proofs.HeldCounts.{held_on, held_still}
+use Rattle.core_parts.proofs.HeldCounts.{held_on, held_still}
 use Rattle.clk_machine.proofs.Flying.{none_left}
-use Rattle.clk_machine.proofs.Holdings.{StandsFor-same, StandsFor-like}
-use Rattle.clk_machine.proofs.Coming.{some_left}
+use Rattle.core_parts.proofs.Holdings.{StandsFor-same, StandsFor-like}
+use Rattle.core_parts.proofs.Coming.{some_left}
 use Rattle.clk_machine.proofs.Making.{with_step, change_of, next_of}
 use Rattle.clk_machine.proofs.Rows.{holds_stand}
-use Rattle.clk_machine.proofs.Shapes.{handle_at-put, sum_by-set}
+use Rattle.core_parts.proofs.Shapes.{handle_at-put, sum_by-set}
 use Rattle.clk_machine.proofs.Stepping.{reply_of, ends_still}
 use Rattle.clk_machine.proofs.Writing.{Written, written_stands}
 

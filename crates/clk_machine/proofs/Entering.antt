@@ -22,16 +22,17 @@ use Rattle.clk_model.specs.Journal.{slotless, replay, Legal, opening, is_paid, i
 use Rattle.clk_model.proofs.EndCauseLaws.{going_leaves_changes}
 use Rattle.clk_model.proofs.JournalCauseLaws.{journals_have_causes}
 use Rattle.clk_model.proofs.JournalLaws.{replay-append, Legal-append}
-use Rattle.clk_machine.specs.InFlight.{is_worked_out}
+use Rattle.core_parts.specs.InFlight.{is_worked_out}
 use Rattle.clk_machine.specs.Sound.{IsSound, IsPlaced, takes_memory, links_well, CanTake}
-use Rattle.clk_machine.specs.Parts.{Parts, rows_from, steps_left}
+use Rattle.core_parts.specs.Listed.{rows_from}
+use Rattle.clk_machine.specs.Parts.{Parts, steps_left}
 use Rattle.clk_machine.proofs.Flying.{never_flown, none_left}
 use Rattle.std.specs.Prelude.{if◌then◌else◌}
 use Rattle.clk_model.specs.Tier.{is_enable_tier}
 use Rattle.clk_machine.specs.Stands.{Stands, is_told, Remains, Leads, Enters, joins, most_steps, price}
-use Rattle.clk_machine.specs.declared.behind.Behind.{Behind}
+use Rattle.core_parts.specs.declared.behind.Behind.{Behind}
 use Rattle.clk_machine.specs.Polls.{FollowsLocks, IfPoll, IsAsked, asked_by}
-use Rattle.clk_machine.specs.Window.{HasDelays}
+use Rattle.core_parts.specs.Window.{HasDelays}
 use Rattle.clk_machine.proofs.Polling.{Takes, answers_on, asked_append, front_behind_journal, polled_append, polling_on}
 use Rattle.clk_base.specs.Valid.{IsValid}
 use Rattle.clk_model.specs.Fed.{Fed}

@@ -43,7 +43,7 @@ use Rattle.clk_model.proofs.Members.{both_left, both_right}
 use Rattle.clk_model.specs.Walk.{below_within}
 use Rattle.clk_base.specs.Levels.{depth}
 use Rattle.clk_machine.proofs.Attaching.{IsNarrow-register}
-use Rattle.clk_machine.proofs.Closing.{closed_regs}
+use Rattle.core_parts.proofs.Closing.{closed_regs}
 use Rattle.clk_machine.proofs.Kept.{IsNarrow-settled, IsNarrow-requested}
 
 -- ---- paid events

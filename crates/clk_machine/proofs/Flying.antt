@@ -14,11 +14,11 @@ use Rattle.clk_model.proofs.OffPathLaws.{handle_at-set_other}
 use Rattle.clk_flight.specs.Flights.{FlightState, Flies}
 use Rattle.clk_flight.specs.LeftOver.{left_over}
 use Rattle.notifiers.specs.declared.notifier.Notifier.{Notifier}
-use Rattle.clk_machine.specs.declared.course.Notified.{Notified}
-use Rattle.clk_machine.specs.InFlight.{handle_to_end}
+use Rattle.core_parts.specs.declared.course.Notified.{Notified}
+use Rattle.core_parts.specs.InFlight.{handle_to_end}
 use Rattle.clk_machine.specs.Parts.{Parts, held_in_all, own_in, IsOwnCall, IsFlown}
 use Rattle.clk_machine.specs.Stands.{Stands}
-use Rattle.clk_machine.proofs.Shapes.{sum_by-set}
+use Rattle.core_parts.proofs.Shapes.{sum_by-set}
 
 -- ---- no change in flight
 

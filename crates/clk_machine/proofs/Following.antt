@@ -22,12 +22,13 @@ use Rattle.counts_core.specs.Sums.{up_in}
 use Rattle.counts_core.specs.Counted.{CountState, is_active}
 use Rattle.counts_core.proofs.Standing.{tells_holds}
 use Rattle.rate_requests.specs.Handles.{HandleTable}
-use Rattle.clk_machine.specs.Window.{Shown, AreTold}
+use Rattle.core_parts.specs.Window.{Shown, AreTold}
 use Rattle.clk_machine.specs.Holding.{enabled_more, puts}
-use Rattle.clk_machine.specs.Parts.{Parts, AreTied, IsWhole}
+use Rattle.core_parts.specs.Tied.{AreTied}
+use Rattle.clk_machine.specs.Parts.{Parts, IsWhole}
 use Rattle.clk_machine.specs.Stands.{Stands, Becomes, nothing}
-use Rattle.clk_machine.proofs.Shapes.{gates_lie}
-use Rattle.clk_machine.proofs.Moving.{path_within_desc, tied-moved}
+use Rattle.core_parts.proofs.Shapes.{gates_lie}
+use Rattle.core_parts.proofs.Moving.{path_within_desc, tied-moved}
 use Rattle.clk_machine.proofs.Writing.{counts_stand, Written, with_written, written_stands, stands_written, live_in}
 
 -- ---- gates of some clocks among those of all

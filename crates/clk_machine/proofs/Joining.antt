@@ -37,22 +37,24 @@ use Rattle.counts_core.specs.Counted.{CountState, AreCounts, is_active}
 use Rattle.counts_core.specs.Standing.{StandsFor}
 use Rattle.counts_core.specs.Sums.{up_in}
 use Rattle.counts_core.proofs.Standing.{tells_holds}
-use Rattle.clk_machine.specs.Course.{IsAlong}
-use Rattle.clk_machine.specs.InFlight.{IsUnderWay, can_link, is_near, is_script, links_clocks, probes}
-use Rattle.clk_machine.specs.Letting.{LetsGoAll}
+use Rattle.core_parts.specs.Course.{IsAlong}
+use Rattle.core_parts.specs.InFlight.{IsUnderWay, can_link, is_near, is_script, links_clocks, probes}
+use Rattle.core_parts.specs.Letting.{LetsGoAll}
 use Rattle.clk_machine.specs.Making.{ComesFirst}
-use Rattle.clk_machine.specs.Parts.{Parts, bare, AreTied, IsFlown, IsWhole, rows_from}
+use Rattle.core_parts.specs.Listed.{rows_from}
+use Rattle.core_parts.specs.Tied.{AreTied}
+use Rattle.clk_machine.specs.Parts.{Parts, bare, IsFlown, IsWhole}
 use Rattle.clk_machine.specs.Sound.{links_well}
 use Rattle.clk_machine.specs.Stands.{Stands, Enters}
-use Rattle.clk_machine.specs.Window.{Shown}
+use Rattle.core_parts.specs.Window.{Shown}
 use Rattle.clk_machine.proofs.Attached.{IsAttached}
 use Rattle.clk_machine.proofs.Critical.{IsHeld, critical_regs, critical_words, held_stands, in_desc, register_regs}
 use Rattle.clk_machine.proofs.Following.{told_mapped}
-use Rattle.clk_machine.proofs.HeldCounts.{held_on, held_still}
-use Rattle.clk_machine.proofs.InFlight.{behind_seek, own_going}
-use Rattle.clk_machine.proofs.StepsInFlight.{changes_plain, no_probes}
+use Rattle.core_parts.proofs.HeldCounts.{held_on, held_still}
+use Rattle.core_parts.proofs.InFlight.{behind_seek, own_going}
+use Rattle.core_parts.proofs.StepsInFlight.{changes_plain, no_probes}
 use Rattle.clk_machine.proofs.Making.{change_of, next_of, path_stands, path_under}
-use Rattle.clk_machine.proofs.Moving.{tied-moved}
+use Rattle.core_parts.proofs.Moving.{tied-moved}
 use Rattle.clk_machine.proofs.Registering.{Registered, active_linked, plain_stands, rows_stand, state_attached, tied_registered}
 use Rattle.clk_machine.proofs.Stepping.{registers_one}
 use Rattle.clk_machine.proofs.Writing.{counts_stand}

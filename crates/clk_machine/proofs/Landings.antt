@@ -21,15 +21,15 @@ use Rattle.clk_flight.specs.Moves.{landed}
 use Rattle.counts_core.specs.Counted.{CountState, is_active}
 use Rattle.rate_requests.specs.Handles.{HandleTable, with_range_at}
 use Rattle.clk_machine.specs.Holding.{prepared_more, exclusive_more}
-use Rattle.clk_machine.specs.InFlight.{may_go_on, is_probe, is_unprepare, is_ranged, is_called_off, ends_bare}
+use Rattle.core_parts.specs.InFlight.{may_go_on, is_probe, is_unprepare, is_ranged, is_called_off, ends_bare}
 use Rattle.clk_machine.specs.Landing.{Requests, PutsBack}
 use Rattle.clk_machine.specs.Making.{ComesFirst}
 use Rattle.clk_machine.specs.Parts.{Parts, IsWhole}
 use Rattle.clk_machine.specs.Stands.{Stands}
 use Rattle.clk_machine.proofs.Ending.{IsRequested, Ends, with_ended, whole_landed, whole_ended, whole_requested}
-use Rattle.clk_machine.proofs.Holdings.{moves_none}
+use Rattle.core_parts.proofs.Holdings.{moves_none}
 use Rattle.clk_machine.proofs.Making.{with_step}
-use Rattle.clk_machine.proofs.Moving.{clock_within}
+use Rattle.core_parts.proofs.Moving.{clock_within}
 use Rattle.clk_machine.proofs.Stepping.{left_as, end_off, end_well, end_bare}
 use Rattle.clk_machine.proofs.Writing.{Written, live_in}
 

@@ -1,57 +1,40 @@
 -- A new link: it takes the parts of a core on.
-use Rattle.std.proofs.Common.{◌≡◌, ℕ, ◌+◌, ◌<◌, ◌-◌, ◌^◌, ◌&&◌, ◌⊎◌, inl, inr, true, false, List, [], ◌∷◌, Option, Some, None, refl, sym, ap, subst, ◌∙◌, length, set, nat_lt, arith}
-use Rattle.std.specs.Prelude.{is_some, slice_index, IfSome}
-use Rattle.std.specs.Option.{option_map, option_map_or}
-use Rattle.std.proofs.lemmas.Bool.Decides.{nat_tests}
+use Rattle.std.proofs.Common.{◌≡◌, ℕ, ◌+◌, ◌<◌, ◌&&◌, ◌⊎◌, inl, inr, true, List, Option, Some, None, refl, sym, ap, subst, ◌∙◌, length, set, arith}
+use Rattle.std.specs.Prelude.{is_some, slice_index}
 use Rattle.clk_base.specs.declared.call.Micro.{Micro}
 use Rattle.clk_base.specs.declared.call.Micro.TheVariants as micro
 use Rattle.clk_base.specs.declared.clock.ClockId.{ClockId}
 use Rattle.clk_base.specs.declared.event.Event.TheVariants as event
 use Rattle.clk_base.specs.declared.event.Turn.TheVariants as turn
-use Rattle.clk_base.specs.Description.{Description, kind_of, parents_of}
-use Rattle.clk_base.specs.Fields.{Field, field_of}
-use Rattle.clk_base.specs.Levels.{depth}
-use Rattle.reg_bank.specs.Registers.{Registers, put}
+use Rattle.clk_base.specs.Description.{Description, parents_of}
 use Rattle.clk_model.specs.declared.row.ClockRow.{ClockRow}
 use Rattle.clk_model.specs.Chain.{linked}
-use Rattle.clk_model.specs.Kinds.{mux_field}
 use Rattle.clk_model.specs.Lists.{is_in, to_front}
-use Rattle.clk_model.specs.Rate.{rate}
-use Rattle.clk_model.specs.State.{State, Change, registered, link_in, requested}
-use Rattle.clk_model.specs.Step.{taken, passed_over, settle_all}
-use Rattle.clk_model.specs.Tree.{children, path}
-use Rattle.clk_model.specs.Walk.{below_within}
-use Rattle.clk_model.proofs.ApartLaws.{mux_is_field}
-use Rattle.clk_model.proofs.KeepLaws.{mux_written}
-use Rattle.clk_model.proofs.Members.{both_left, both_right, is_in_cases, is_in_head, is_in_tail}
-use Rattle.clk_model.proofs.PathLaws.{above, path_cons, some_levels}
-use Rattle.clk_model.proofs.RateLaws.{rate-links}
+use Rattle.clk_model.specs.State.{Change, registered, link_in}
+use Rattle.clk_model.specs.Step.{taken, passed_over}
+use Rattle.clk_model.proofs.Members.{both_left, both_right}
 use Rattle.clk_model.proofs.WholePathLaws.{same_or_not, linked_same, linked_other}
 use Rattle.clk_flight.specs.Flights.{FlightState, own_step}
 use Rattle.clk_flight.specs.Moves.{gone_on}
 use Rattle.clk_flight.specs.Steps.{GoesOn, LeavesLessAt, is_taken}
 use Rattle.clk_tree.specs.TreeState.{TreeState, IsTree}
-use Rattle.clk_tree.proofs.Freshness.{below_by_path}
 use Rattle.counts_core.specs.Counted.{CountState, AreCounts, HasLinks}
 use Rattle.counts_core.specs.Standing.{StandsFor}
-use Rattle.rate_planner.specs.Settings.{put_field}
-use Rattle.clk_machine.specs.Course.{CourseState, IsAlong}
-use Rattle.clk_machine.specs.InFlight.{links_clocks}
-use Rattle.clk_machine.specs.Holds.{TellsHolds, AreHeld, Passes, Ends, passed_times}
+use Rattle.core_parts.specs.Course.{CourseState, IsAlong}
+use Rattle.core_parts.specs.InFlight.{links_clocks}
+use Rattle.core_parts.specs.Holds.{TellsHolds, AreHeld, Passes, Ends, passed_times}
 use Rattle.clk_machine.specs.Making.{ComesFirst}
-use Rattle.clk_machine.specs.Parts.{Parts, bare, IsWhole, AreKept}
-use Rattle.clk_machine.specs.Settling.{settled_rows}
+use Rattle.core_parts.specs.Tied.{AreKept}
+use Rattle.clk_machine.specs.Parts.{Parts, bare, IsWhole}
 use Rattle.clk_machine.specs.Stands.{Enters}
-use Rattle.clk_machine.specs.Window.{Shown, AreTold}
-use Rattle.clk_machine.proofs.HeldCounts.{held_on, held_passed, listed_tells, tells_passed}
-use Rattle.clk_machine.proofs.HoldsEnding.{tells_ended, held_ended}
-use Rattle.clk_machine.proofs.Holdings.{StandsFor-like, StandsFor-same, StandsFor-linked, StandsFor-moved}
-use Rattle.clk_machine.proofs.Moving.{clock_within}
-use Rattle.clk_machine.proofs.Relinked.{linked_there, place_fits}
+use Rattle.core_parts.proofs.HeldCounts.{held_passed, listed_tells, tells_passed}
+use Rattle.core_parts.proofs.HoldsEnding.{tells_ended, held_ended}
+use Rattle.core_parts.proofs.Holdings.{StandsFor-linked, StandsFor-moved}
+use Rattle.core_parts.proofs.Moving.{clock_within}
+use Rattle.clk_machine.proofs.Relinked.{linked_there}
 use Rattle.clk_machine.proofs.Relinking.{relinks, Relinked, with_relinked, own_step_of, can_now, made_now, falls_of, relinked_enters}
-use Rattle.clk_machine.proofs.SettledRows.{links_settled, there_settled}
-use Rattle.clk_machine.proofs.Stepping.{relinks_one, writes_one, settles_one}
-use Rattle.clk_machine.proofs.Unmoved.{relink_still, settled_still}
+use Rattle.clk_machine.proofs.Stepping.{relinks_one}
+use Rattle.clk_machine.proofs.Unmoved.{relink_still}
 
 -- what is known of the flight where a step comes next and was made
 pub record Stepped (old : Parts) (m : Micro) (flight' : FlightState) : Type 0 where

@@ -32,17 +32,18 @@ use Rattle.clk_flight.specs.LeftOver.{step_weight}
 use Rattle.counts_core.specs.Counted.{CountState, AreCounts}
 use Rattle.rate_requests.specs.Handles.{HandleTable}
 use Rattle.clk_machine.specs.Holding.{prepared_less, puts}
-use Rattle.clk_machine.specs.InFlight.{changes_rate, links_clocks, probes}
-use Rattle.clk_machine.specs.Parts.{Parts, held_in_all, IsOwnCall, IsWhole, rows_from}
-use Rattle.clk_machine.specs.Plls.{lowerable, Finds}
-use Rattle.clk_machine.specs.declared.plls.Sought.{Sought}
+use Rattle.core_parts.specs.InFlight.{changes_rate, links_clocks, probes}
+use Rattle.core_parts.specs.Listed.{rows_from}
+use Rattle.clk_machine.specs.Parts.{Parts, held_in_all, IsOwnCall, IsWhole}
+use Rattle.core_parts.specs.Plls.{lowerable, Finds}
+use Rattle.core_parts.specs.declared.plls.Sought.{Sought}
 use Rattle.clk_machine.specs.Stands.{Stands, Enters}
 use Rattle.clk_machine.specs.Starting.{StartsCall, released}
 use Rattle.clk_machine.proofs.CallEvents.{begin_quiet, with-some}
 use Rattle.clk_machine.proofs.Flying.{quiet_stands}
 use Rattle.clk_machine.proofs.Making.{to_lower_stands}
 use Rattle.clk_machine.proofs.Room.{prepare_held}
-use Rattle.clk_machine.proofs.Shapes.{sum_by-set}
+use Rattle.core_parts.proofs.Shapes.{sum_by-set}
 use Rattle.clk_machine.proofs.Starting.{not_less, Started, started_left, started_way, flying, whole_flying, stands_flying}
 use Rattle.clk_machine.proofs.Writing.{Written, with_written, whole_written, stands_written, written_prepares}
 

@@ -1,7 +1,6 @@
 -- The parts of a core where a step of the change in flight is made.
-use Rattle.std.proofs.Common.{◌≡◌, ℕ, ◌+◌, ◌<◌, ◌&&◌, ◌||◌, inl, inr, not, Bool, true, false, cond, List, [], ◌∷◌, Option, Some, None, refl, sym, ap, subst, ◌∙◌, arith, length, filter, reverse, nat_lt}
-use Rattle.std.specs.Prelude.{is_some, slice_get, if◌then◌else◌, IfSome}
-use Rattle.std.specs.List.{list_all}
+use Rattle.std.proofs.Common.{◌≡◌, ℕ, ◌+◌, ◌<◌, ◌&&◌, ◌||◌, inl, inr, not, Bool, true, false, cond, List, [], ◌∷◌, Option, Some, None, refl, sym, ap, subst, ◌∙◌, arith, length, filter, reverse}
+use Rattle.std.specs.Prelude.{is_some, slice_get, IfSome}
 use Rattle.std.specs.Option.{option_map, option_map_or}
 use Rattle.std.proofs.Math.Bool.{or-false}
 use Rattle.clk_base.specs.declared.call.Micro.{Micro}
@@ -26,38 +25,25 @@ use Rattle.clk_model.proofs.OnceLaws.{is_in-filter}
 use Rattle.clk_model.proofs.PathLaws.{path_all}
 use Rattle.clk_flight.specs.Flights.{FlightState, IsChange, Flies}
 use Rattle.clk_flight.specs.LeftOver.{left_over}
-use Rattle.clk_flight.specs.Moves.{raised_once, raised_in, found_none, polled_in, timed_out_in, is_last_no, front_polled}
-use Rattle.clk_flight.specs.Fronts.{script_behind}
-use Rattle.clk_machine.specs.Window.{Shown}
-use Rattle.clk_machine.specs.InFlight.{can_link, changes_rate, IsUnderWay, links_clocks, probes, is_near}
-use Rattle.clk_machine.specs.declared.course.Notified.{Notified}
-use Rattle.clk_machine.specs.Course.{IsAlong, TellsAlong, notifiers_at}
-use Rattle.clk_machine.specs.Parts.{Parts, IsOwnCall, AreTied, IsWhole, rows_from}
-use Rattle.clk_machine.specs.declared.plls.Sought.{Sought}
-use Rattle.clk_machine.specs.Plls.{is_loose, raisable, lowerable, Finds}
+use Rattle.core_parts.specs.Window.{Shown}
+use Rattle.core_parts.specs.InFlight.{can_link, changes_rate, IsUnderWay, links_clocks, probes, is_near}
+use Rattle.core_parts.specs.Course.{IsAlong, notifiers_at}
+use Rattle.core_parts.specs.Listed.{rows_from}
+use Rattle.core_parts.specs.Tied.{AreTied}
+use Rattle.clk_machine.specs.Parts.{Parts, IsOwnCall, IsWhole}
+use Rattle.core_parts.specs.declared.plls.Sought.{Sought}
+use Rattle.core_parts.specs.Plls.{is_loose, raisable, lowerable, Finds}
 use Rattle.clk_machine.specs.Sound.{IsSound}
 use Rattle.clk_machine.specs.Stands.{Stands, Leads, Enters, step_registers}
-use Rattle.clk_machine.proofs.HeldCounts.{held_on}
-use Rattle.clk_machine.proofs.Moving.{clock_within, path_within_desc}
+use Rattle.core_parts.proofs.HeldCounts.{held_on}
+use Rattle.core_parts.proofs.Moving.{clock_within, path_within_desc}
 use Rattle.clk_machine.proofs.Rows.{holds_stand}
 use Rattle.clk_machine.proofs.Stepping.{IsNext}
+use Rattle.core_parts.proofs.SameCall.{SameCall, KeepsAlong}
 
 -- the parts with these words and this flight, and a step counted
 abbrev pub with_step : Parts → Shown → FlightState → Parts
 with_step old window' flight' = record old { window = window'; flight = flight'; steps = old.steps + 1 }
-
--- the call that is in flight is the same
-pub record SameCall (f g : FlightState) : Type 0 where
-  pub plls : g.plls ≡ f.plls
-  pub driver : g.driver ≡ f.driver
-  pub call : g.call ≡ f.call
-  pub going : g.going ≡ f.going
-
--- and of a change of a rate or a parent what is told and what is linked fits as before
-pub record KeepsAlong (f g : FlightState) : Type 0 where
-  pub call : g.call ≡ f.call
-  pub tells : (count : ℕ → ℕ) (ns : List Notified) → TellsAlong count ns f → TellsAlong count ns g
-  pub links : (can : Micro → Bool) → list_all can f.left ≡ true → list_all can g.left ≡ true
 
 -- the parts stay whole
 pub whole_stepped : (old : Parts) (window' : Shown) (flight' : FlightState) → IsWhole old → AreTied old.desc window' old.tree → old.flight.going ≡ true → KeepsAlong old.flight flight' → SameCall old.flight flight'
@@ -263,17 +249,3 @@ near_under m x parent found whole near there finds =
       by : (y : ℕ) (o : Option ClockId) → IfSome o (λ p. registered m.tree.clocks p.0 ≡ true) → is_in y (option_map_or (λ p. path m.tree.clocks p.0) o []) ≡ true → is_near m.flight.call (registered m.tree.clocks) y ≡ true
       by y None here inside = absurd cc
       by y (Some p) here inside = near_there (registered m.tree.clocks y) (probes m.flight.call y) (on_path m p.0 y whole here inside).0
-
--- ---- the same call goes on
-
-pub same_raised : (f : FlightState) (x y : ClockId) (more : Bool) → SameCall f (raised_in f x y more)
-same_raised f x y more = by (nat_lt f.again f.plls) where
-  by : (t : Bool) → SameCall f (if t then raised_once f x y more else found_none f)
-  by true = record { plls = refl; driver = refl; call = refl; going = refl }
-  by false = record { plls = refl; driver = refl; call = refl; going = refl }
-
-pub same_polled : (f : FlightState) (answer : Bool) → SameCall f (polled_in f answer)
-same_polled f answer = by (is_last_no f.front answer) where
-  by : (t : Bool) → SameCall f (if t then timed_out_in f else record f { front = front_polled f.front answer; left = script_behind f.front f.left })
-  by true = record { plls = refl; driver = refl; call = refl; going = refl }
-  by false = record { plls = refl; driver = refl; call = refl; going = refl }

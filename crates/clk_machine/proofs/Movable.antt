@@ -25,8 +25,8 @@ use Rattle.clk_model.proofs.RunsFedLaws.{run_of}
 use Rattle.clk_model.proofs.SafeRunLaws.{IsRunning, quietly, in_flight, IsRun}
 use Rattle.clk_model.proofs.EventLaws.{own_is_live}
 use Rattle.clk_model.proofs.TierLaws.{pick_either}
-use Rattle.clk_machine.specs.Movable.{can_go}
-use Rattle.clk_machine.specs.Reparenting.{is_candidate}
+use Rattle.core_parts.specs.Movable.{can_go}
+use Rattle.core_parts.specs.Reparenting.{is_candidate}
 use Rattle.clk_machine.specs.Sound.{IsReached, IsSound}
 use Rattle.clk_machine.proofs.CallEvents.{with-some}
 

@@ -12,10 +12,11 @@ use Rattle.clk_model.proofs.StateLaws.{settled-still}
 use Rattle.notifiers.specs.declared.notifier.Notifier.{Notifier}
 use Rattle.notifiers.specs.Chains.{chain_of, Tells, has_id, without_notifier}
 use Rattle.clk_machine.specs.Holding.{unnotified}
-use Rattle.clk_machine.specs.Parts.{rows_from, AreListed, Parts, bare, IsWhole}
+use Rattle.core_parts.specs.Listed.{rows_from, AreListed}
+use Rattle.clk_machine.specs.Parts.{Parts, bare, IsWhole}
 use Rattle.clk_machine.specs.Stands.{Stands, Becomes, nothing}
 use Rattle.clk_machine.proofs.Flying.{none_left, never_flown, flies_quiet}
-use Rattle.clk_machine.proofs.Holdings.{StandsFor-same}
+use Rattle.core_parts.proofs.Holdings.{StandsFor-same}
 use Rattle.clk_machine.proofs.Registering.{paid_more}
 
 -- the parts with these chains, and a credit spent

@@ -19,14 +19,16 @@ use Rattle.counts_core.proofs.Linking.{links_at_first}
 use Rattle.notifiers.specs.declared.notifier.Notifier.{Notifier}
 use Rattle.notifiers.specs.Chains.{Tells}
 use Rattle.rate_requests.specs.Handles.{HandleTable}
-use Rattle.clk_machine.specs.Window.{Shown, AreTold}
-use Rattle.clk_machine.specs.Course.{CourseState}
-use Rattle.clk_machine.specs.Parts.{parts_of, bare, held_in_all, AreKept, IsWhole, rows_from}
+use Rattle.core_parts.specs.Window.{Shown, AreTold}
+use Rattle.core_parts.specs.Course.{CourseState}
+use Rattle.core_parts.specs.Listed.{rows_from}
+use Rattle.core_parts.specs.Tied.{AreKept}
+use Rattle.clk_machine.specs.Parts.{parts_of, bare, held_in_all, IsWhole}
 use Rattle.clk_machine.specs.Stands.{Stands}
 use Rattle.clk_flight.specs.Flights.{FlightState}
 use Rattle.clk_machine.proofs.Flying.{never_flown, none_left}
-use Rattle.clk_machine.proofs.HeldCounts.{listed_tells, tells_none, held_none}
-use Rattle.clk_machine.proofs.Holdings.{StandsFor-held}
+use Rattle.core_parts.proofs.HeldCounts.{listed_tells, tells_none, held_none}
+use Rattle.core_parts.proofs.Holdings.{StandsFor-held}
 
 -- no clock is registered at first
 blank_row : (n c : ℕ) → row_of (replicate n unregistered_row) c ≡ unregistered_row

@@ -39,8 +39,8 @@ use Rattle.clk_flight.specs.Fronts.{front_behind, front_steps, script_behind, fa
 use Rattle.clk_flight.specs.Moves.{found_none, raised_once, raised_in, is_last_no, front_polled, polled_in, timed_out_in}
 use Rattle.clk_machine.specs.Parts.{Parts}
 use Rattle.clk_machine.specs.Polls.{IfPoll, IsPoll, IsAsked, asked_by, StartsLock, PollsLock, FollowsLocks}
-use Rattle.clk_machine.specs.Window.{lock_in, HasDelays}
-use Rattle.clk_machine.proofs.LockLaws.{delay_of, delay_in}
+use Rattle.core_parts.specs.Window.{lock_in, HasDelays}
+use Rattle.core_parts.proofs.LockLaws.{delay_of, delay_in}
 
 -- ---- what stands in front
 

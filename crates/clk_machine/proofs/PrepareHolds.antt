@@ -1,49 +1,33 @@
 -- A clock that is held prepared for a change, and one that is so no more: what each makes of the parts of a core.
-use Rattle.std.proofs.Common.{◌≡◌, ℕ, ◌+◌, ◌-◌, ◌<◌, ◌&&◌, ◌⊎◌, not, Bool, true, false, cond, List, [], ◌∷◌, ◌++◌, Option, Some, None, refl, sym, ap, subst, ◌∙◌, inl, inr, arith, length, set, nat_eq, reverse}
-use Rattle.std.proofs.lemmas.List.{get_or-set_same, get_or-set_other}
-use Rattle.std.specs.Prelude.{is_some, slice_index}
+use Rattle.std.proofs.Common.{◌≡◌, ℕ, ◌+◌, ◌-◌, ◌<◌, ◌&&◌, not, Bool, true, false, cond, List, [], ◌∷◌, Some, None, refl, sym, ap, subst, ◌∙◌, arith, length, set}
+use Rattle.std.specs.Prelude.{slice_index}
 use Rattle.std.specs.List.{list_all}
-use Rattle.std.specs.Option.{option_map}
 use Rattle.clk_base.specs.declared.call.Micro.{Micro}
 use Rattle.clk_base.specs.declared.call.Micro.TheVariants as micro
 use Rattle.clk_base.specs.declared.clock.ClockId.{ClockId}
 use Rattle.clk_base.specs.declared.event.Event.TheVariants as event
-use Rattle.clk_base.specs.declared.event.Turn.{Turn}
 use Rattle.clk_base.specs.declared.event.Turn.TheVariants as turn
-use Rattle.clk_base.specs.Description.{Description}
 use Rattle.clk_base.specs.Levels.{depth}
-use Rattle.reg_bank.specs.Registers.{Registers}
 use Rattle.clk_model.specs.declared.row.ClockRow.{ClockRow}
-use Rattle.clk_model.specs.Gates.{gates_moved, settled}
-use Rattle.clk_model.specs.Holders.{active, clocks_of, critical_clocks, enable_holders, is_enabled}
-use Rattle.clk_model.specs.Lists.{is_in, count_from, without, without_one}
+use Rattle.clk_model.specs.Lists.{is_in, without, without_one}
 use Rattle.clk_model.specs.State.{State, Change, registered, link_in}
-use Rattle.clk_model.specs.Step.{rest_of, taken, hold_enable, drop_enable}
+use Rattle.clk_model.specs.Step.{rest_of, taken}
 use Rattle.clk_model.specs.Tree.{path, path_within}
-use Rattle.clk_model.proofs.Members.{any_in, any_from_in, or_left, or_right, both_left, both_right, same_from_test, test_other, test_same, is_in_cases, is_in_tail, is_in-reverse}
-use Rattle.clk_model.proofs.OnceLaws.{is_in-append, in_append}
+use Rattle.clk_model.proofs.Members.{both_left, both_right}
 use Rattle.clk_flight.specs.Flights.{FlightState, IsChange, own_step}
 use Rattle.clk_flight.specs.Fronts.{front_steps}
-use Rattle.counts_core.specs.Counted.{CountState, AreCounts, is_active}
-use Rattle.counts_core.specs.Standing.{StandsFor}
-use Rattle.counts_core.specs.Sums.{up_in}
-use Rattle.counts_core.proofs.Standing.{tells_holds}
-use Rattle.clk_machine.specs.Holds.{TellsHolds, AreHeld}
-use Rattle.clk_machine.specs.InFlight.{links_clocks, may_make, is_near}
-use Rattle.clk_machine.specs.Letting.{LetsGoAll}
-use Rattle.clk_machine.specs.Parts.{Parts, bare, IsWhole, rows_from}
+use Rattle.counts_core.specs.Counted.{CountState, AreCounts}
+use Rattle.core_parts.specs.Holds.{TellsHolds, AreHeld}
+use Rattle.core_parts.specs.InFlight.{is_near}
+use Rattle.core_parts.specs.Letting.{LetsGoAll}
+use Rattle.core_parts.specs.Listed.{rows_from}
+use Rattle.clk_machine.specs.Parts.{Parts, bare, IsWhole}
 use Rattle.clk_machine.specs.Stands.{Enters}
-use Rattle.clk_machine.specs.Window.{Shown}
-use Rattle.clk_machine.proofs.HeldCounts.{times_in, times_more, listed_tells, held_on, held_more, held_less}
-use Rattle.clk_machine.proofs.Holdings.{StandsFor-moved}
-use Rattle.clk_machine.proofs.Following.{opens_all, closes_all, told_mapped, regs_told, regs_lie, links_are, lists_alike}
+use Rattle.core_parts.proofs.HeldCounts.{listed_tells, held_on, held_more, held_less}
 use Rattle.clk_machine.proofs.LinkSteps.{Stepped, goes_taken}
-use Rattle.clk_machine.proofs.Moving.{clock_within, path_within_desc, tied-moved}
-use Rattle.clk_machine.proofs.Relinking.{relinks, Relinked, with_relinked, own_step_of, made_now, falls_of, relinked_enters}
-use Rattle.clk_machine.proofs.Room.{enable_owned, prepare_owned}
-use Rattle.clk_machine.proofs.Stepping.{prepares_one, unprepares_one, enables_one, disables_one}
-use Rattle.clk_machine.proofs.Writing.{counts_stand}
-use Rattle.clk_model.proofs.StateLaws.{settled-still}
+use Rattle.clk_machine.proofs.Relinking.{relinks, Relinked, with_relinked, own_step_of, falls_of, relinked_enters}
+use Rattle.clk_machine.proofs.Room.{prepare_owned}
+use Rattle.clk_machine.proofs.Stepping.{prepares_one, unprepares_one}
 use Rattle.clk_machine.proofs.HoldsMaking.{places, both_more, both_less, tells_more, tells_less, held_there, stands_held, HasPlaces}
 
 -- ---- a clock is held prepared

@@ -34,11 +34,13 @@ use Rattle.clk_model.proofs.Members.{not_either, or_right, same_from_test, test_
 use Rattle.clk_model.proofs.StateLaws.{paid-still}
 use Rattle.clk_flight.specs.Flights.{FlightState, IsChange}
 use Rattle.clk_flight.specs.LeftOver.{step_weight, left_over}
-use Rattle.clk_machine.specs.Adopting.{adopted, adoption_by, registration_of, is_beside, AreAdoptions, none, one_more, AreProbeSteps}
+use Rattle.core_parts.specs.Adoption.{adoption_by, registration_of}
+use Rattle.clk_machine.specs.Adopting.{adopted, is_beside, AreAdoptions, none, one_more, AreProbeSteps}
 use Rattle.clk_machine.specs.Holding.{stays}
-use Rattle.clk_machine.specs.InFlight.{can_link, changes_rate, cuts_behind, is_script, may_make, probes, there_behind}
-use Rattle.clk_machine.specs.Parts.{Parts, IsOwnCall, IsWhole, rows_from}
-use Rattle.clk_machine.specs.Plls.{is_loose}
+use Rattle.core_parts.specs.InFlight.{can_link, changes_rate, cuts_behind, is_script, may_make, probes, there_behind}
+use Rattle.core_parts.specs.Listed.{rows_from}
+use Rattle.clk_machine.specs.Parts.{Parts, IsOwnCall, IsWhole}
+use Rattle.core_parts.specs.Plls.{is_loose}
 use Rattle.clk_machine.specs.Probing.{must_raise, goes_on}
 use Rattle.clk_machine.specs.Sound.{IsNarrow, IsSound}
 use Rattle.clk_machine.specs.Stands.{Stands, Enters}
@@ -49,7 +51,8 @@ use Rattle.clk_machine.proofs.CallEvents.{begin_quiet}
 use Rattle.clk_machine.proofs.Flying.{quiet_stands}
 use Rattle.clk_machine.proofs.Making.{loose_among, path_stands, path_under}
 use Rattle.clk_machine.proofs.Soundness.{links_possible}
-use Rattle.clk_machine.proofs.Starting.{Started, flying, none_or_any, not_less, stands_flying, stands_spent, started_left, started_way, whole_flying, with_spent}
+use Rattle.core_parts.proofs.Seeking.{none_or_any}
+use Rattle.clk_machine.proofs.Starting.{Started, flying, not_less, stands_flying, stands_spent, started_left, started_way, whole_flying, with_spent}
 use Rattle.clk_machine.proofs.Writing.{whole_spent}
 
 -- ---- whether something has to be raised

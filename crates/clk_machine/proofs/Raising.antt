@@ -28,20 +28,22 @@ use Rattle.clk_flight.specs.Flights.{FlightState, Flies, own_step, seeks_plls, c
 use Rattle.clk_flight.specs.Moves.{raised_in, lowered_once, found_none, polled_in, fallen}
 use Rattle.clk_flight.specs.Steps.{Raises, LowersOne, FindsNone, Polls, Drops, LeavesLess, LeavesLessAt, is_fall}
 use Rattle.clk_flight.proofs.SeekLaws.{paced_seek_few}
-use Rattle.clk_machine.specs.Window.{Shown}
+use Rattle.core_parts.specs.Window.{Shown}
 use Rattle.clk_flight.specs.LeftOver.{left_over}
-use Rattle.clk_machine.specs.Course.{CourseState, IsAlong}
-use Rattle.clk_machine.specs.InFlight.{is_near, may_seek}
+use Rattle.core_parts.specs.Course.{CourseState, IsAlong}
+use Rattle.core_parts.specs.InFlight.{is_near, may_seek}
 use Rattle.clk_machine.specs.Making.{ComesFirst, FindsNothing}
-use Rattle.clk_machine.specs.Parts.{Parts, IsWhole, rows_from}
-use Rattle.clk_machine.specs.Plls.{raisable, lowerable, Finds}
+use Rattle.core_parts.specs.Listed.{rows_from}
+use Rattle.clk_machine.specs.Parts.{Parts, IsWhole}
+use Rattle.core_parts.specs.Plls.{raisable, lowerable, Finds}
 use Rattle.clk_machine.specs.Sound.{IsSound}
 use Rattle.clk_machine.specs.Stands.{Stands, Leads, Enters}
-use Rattle.clk_machine.proofs.InFlight.{raise_there}
-use Rattle.clk_machine.proofs.StepsInFlight.{fall_in_front, fall_told, poll_there, seeks_plain}
-use Rattle.clk_machine.proofs.Making.{with_step, stands_stepped, enters_step, change_of, next_of, to_raise_stands, to_lower_stands, near_within, same_raised, same_polled}
-use Rattle.clk_machine.proofs.Opening.{power_fits}
-use Rattle.clk_machine.proofs.Powering.{power_put, powered_words, told_put}
+use Rattle.core_parts.proofs.InFlight.{raise_there}
+use Rattle.core_parts.proofs.StepsInFlight.{fall_in_front, fall_told, poll_there, seeks_plain}
+use Rattle.core_parts.proofs.SameCall.{same_raised, same_polled}
+use Rattle.clk_machine.proofs.Making.{with_step, stands_stepped, enters_step, change_of, next_of, to_raise_stands, to_lower_stands, near_within}
+use Rattle.core_parts.proofs.Opening.{power_fits}
+use Rattle.core_parts.proofs.Powering.{power_put, powered_words, told_put}
 use Rattle.clk_machine.proofs.Soundness.{wired_reached, links_reached, room_reached}
 use Rattle.clk_machine.proofs.Stepping.{raises_one, lowers_one, polls_one, falls_one}
 

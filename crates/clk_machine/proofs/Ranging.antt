@@ -9,14 +9,14 @@ use Rattle.clk_model.specs.State.{State, registered, handle_at}
 use Rattle.clk_flight.specs.Flights.{FlightState}
 use Rattle.notifiers.specs.declared.notifier.Notifier.{Notifier}
 use Rattle.rate_requests.specs.Handles.{HandleTable, with_range_at}
-use Rattle.clk_machine.specs.declared.course.Notified.{Notified}
+use Rattle.core_parts.specs.declared.course.Notified.{Notified}
 use Rattle.clk_machine.specs.Holding.{ranged}
 use Rattle.clk_machine.specs.Parts.{Parts, bare, held_in_all, with_range, ArePaid, IsFlown, IsWhole}
 use Rattle.clk_machine.specs.Stands.{Stands}
 use Rattle.clk_machine.proofs.DecidedRange.{range_written}
 use Rattle.clk_machine.proofs.Flying.{own_call}
-use Rattle.clk_machine.proofs.Holdings.{moves_none, StandsFor-same, StandsFor-put}
-use Rattle.clk_machine.proofs.Shapes.{handle_at-put, sum_by-set}
+use Rattle.core_parts.proofs.Holdings.{moves_none, StandsFor-same, StandsFor-put}
+use Rattle.core_parts.proofs.Shapes.{handle_at-put, sum_by-set}
 use Rattle.clk_machine.proofs.Writing.{Written}
 
 -- a table with these clocks and handles

@@ -38,28 +38,31 @@ use Rattle.change_walk.specs.Given.{Script}
 use Rattle.change_walk.specs.Steps.{steps_for, told_by}
 use Rattle.change_walk.specs.Weights.{step_weight}
 use Rattle.change_walk.proofs.Whole.{rate_at}
-use Rattle.clk_machine.specs.declared.course.Notified.{Notified}
-use Rattle.clk_machine.specs.declared.decision.Decision.TheVariants as decided
+use Rattle.core_parts.specs.declared.course.Notified.{Notified}
+use Rattle.core_parts.specs.declared.decision.Decision.TheVariants as decided
 use Rattle.clk_machine.specs.declared.readied.Readied.{Readied}
 use Rattle.clk_machine.specs.declared.readied.Readied.TheVariants as readied
 use Rattle.clk_machine.specs.declared.readied.Scripted.{Scripted}
 use Rattle.clk_machine.specs.Changing.{BeginsAlong, StartsChange}
-use Rattle.clk_machine.specs.Course.{notifiers_at, tells_all}
-use Rattle.clk_machine.specs.Deciding.{ArePlannedOver, Decided, GoesOn, IsPlanned, IsPlanOf, change_by, handle_of, made_in}
+use Rattle.core_parts.specs.Course.{notifiers_at, tells_all}
+use Rattle.core_parts.specs.Planned.{IsPlanned, IsPlanOf}
+use Rattle.clk_machine.specs.Deciding.{ArePlannedOver, Decided, GoesOn, change_by, handle_of, made_in}
 use Rattle.clk_machine.specs.Holding.{ranged}
-use Rattle.clk_machine.specs.InFlight.{asks_rate, can_link, changes_rate, is_ranged, is_script}
-use Rattle.clk_machine.specs.Movable.{can_go_along}
-use Rattle.clk_machine.specs.Parts.{Parts, AreKept, IsOwnCall, IsWhole, own_in, rows_from, steps_left, with_range}
+use Rattle.core_parts.specs.InFlight.{asks_rate, can_link, changes_rate, is_ranged, is_script}
+use Rattle.core_parts.specs.Movable.{can_go_along}
+use Rattle.core_parts.specs.Listed.{rows_from}
+use Rattle.core_parts.specs.Tied.{AreKept}
+use Rattle.clk_machine.specs.Parts.{Parts, IsOwnCall, IsWhole, own_in, steps_left, with_range}
 use Rattle.clk_machine.specs.Readying.{CanBeginSo, CanGoAlong, GoesOnAlong, IsReady, IsScripted, Scripts, moves_well, range_before, start_of, weight_along}
 use Rattle.clk_machine.specs.Sound.{IsSound}
 use Rattle.clk_machine.specs.Stands.{Stands, Enters, most_steps, joins}
 use Rattle.clk_machine.proofs.Entered.{own_stands}
-use Rattle.clk_machine.proofs.Moving.{clock_within}
+use Rattle.core_parts.proofs.Moving.{clock_within}
 use Rattle.clk_machine.proofs.Ranging.{stands_ranged}
 use Rattle.clk_machine.proofs.Movable.{parent_can}
 use Rattle.clk_machine.proofs.Requesting.{request_can}
-use Rattle.clk_machine.proofs.Scripting.{links_made, script_made, tells_made, told_all, weighs_rows}
-use Rattle.clk_machine.proofs.Taking.{outcome_defs}
+use Rattle.core_parts.proofs.Scripting.{links_made, script_made, tells_made, told_all, weighs_rows}
+use Rattle.core_parts.proofs.Taking.{outcome_defs}
 use Rattle.clk_machine.proofs.Writing.{live_in}
 
 -- ---- the change of a call

@@ -30,19 +30,21 @@ use Rattle.clk_flight.specs.Steps.{LeavesLessAt, is_taken}
 use Rattle.clk_tree.specs.TreeState.{TreeState}
 use Rattle.counts_core.specs.Counted.{CountState, AreCounts}
 use Rattle.counts_core.specs.Standing.{StandsFor}
-use Rattle.clk_machine.specs.declared.course.Notified.{Notified}
-use Rattle.clk_machine.specs.Holds.{TellsHolds, AreHeld}
-use Rattle.clk_machine.specs.Course.{IsAlong, TellsAlong, tells_all, begins_with, behind_visit, visited_by, notifiers_at}
-use Rattle.clk_machine.specs.InFlight.{IsUnderWay, links_clocks, can_link, may_make, is_front, is_near}
+use Rattle.core_parts.specs.declared.course.Notified.{Notified}
+use Rattle.core_parts.specs.Holds.{TellsHolds, AreHeld}
+use Rattle.core_parts.specs.Course.{IsAlong, TellsAlong, tells_all, begins_with, behind_visit, visited_by, notifiers_at}
+use Rattle.core_parts.specs.InFlight.{IsUnderWay, links_clocks, can_link, may_make, is_front, is_near}
 use Rattle.clk_machine.specs.Making.{ComesFirst}
-use Rattle.clk_machine.specs.Parts.{Parts, bare, IsWhole, IsFlown, AreTied, rows_from}
+use Rattle.core_parts.specs.Listed.{rows_from}
+use Rattle.core_parts.specs.Tied.{AreTied}
+use Rattle.clk_machine.specs.Parts.{Parts, bare, IsWhole, IsFlown}
 use Rattle.clk_machine.specs.Sound.{IsSound}
 use Rattle.clk_machine.specs.Stands.{Stands, Enters}
-use Rattle.clk_machine.specs.Window.{Shown}
-use Rattle.clk_machine.proofs.HeldCounts.{held_still}
-use Rattle.clk_machine.proofs.Holdings.{StandsFor-same}
-use Rattle.clk_machine.proofs.InFlight.{own_going, script_rest, first_seeks, cut_behind}
-use Rattle.clk_machine.proofs.StepsInFlight.{changes_links}
+use Rattle.core_parts.specs.Window.{Shown}
+use Rattle.core_parts.proofs.HeldCounts.{held_still}
+use Rattle.core_parts.proofs.Holdings.{StandsFor-same}
+use Rattle.core_parts.proofs.InFlight.{own_going, script_rest, first_seeks, cut_behind}
+use Rattle.core_parts.proofs.StepsInFlight.{changes_links}
 use Rattle.clk_machine.proofs.Making.{change_of, next_of, no_registers}
 use Rattle.clk_machine.proofs.Stepping.{IsNext}
 

@@ -33,9 +33,9 @@ use Rattle.clk_model.proofs.PlanRootLaws.{StepsRooted, chain_all, plan_rooted, r
 use Rattle.clk_model.proofs.RoundLaws.{Fits, fits_round}
 use Rattle.clk_model.specs.Round.{rate_for}
 use Rattle.clk_model.proofs.TierLaws.{pick_either, with_handle_either}
-use Rattle.clk_machine.specs.InFlight.{asks_rate}
-use Rattle.clk_machine.specs.Movable.{can_go, can_go_along, may_move}
-use Rattle.clk_machine.specs.Reparenting.{is_candidate}
+use Rattle.core_parts.specs.InFlight.{asks_rate}
+use Rattle.core_parts.specs.Movable.{can_go, can_go_along, may_move}
+use Rattle.core_parts.specs.Reparenting.{is_candidate}
 use Rattle.clk_machine.specs.Sound.{IsSound}
 use Rattle.clk_machine.proofs.Movable.{handle_has_root}
 use Rattle.clk_machine.proofs.Staying.{Stays, round_stays}

@@ -8,11 +8,12 @@ use Rattle.clk_model.specs.State.{registered, handle_at}
 use Rattle.clk_model.specs.Begin.{most_credits}
 use Rattle.clk_model.proofs.CountLaws.{sum_by-part}
 use Rattle.clk_model.proofs.Members.{test_same}
-use Rattle.clk_machine.specs.Parts.{Parts, held_in_all, IsWhole, rows_from}
-use Rattle.clk_machine.proofs.Coming.{some_left}
-use Rattle.clk_machine.proofs.Shapes.{count-le}
-use Rattle.clk_machine.proofs.HeldCounts.{listed_tells, held_few}
-use Rattle.clk_machine.proofs.Holdings.{part, sum_on, sum_filtered}
+use Rattle.core_parts.specs.Listed.{rows_from}
+use Rattle.clk_machine.specs.Parts.{Parts, held_in_all, IsWhole}
+use Rattle.core_parts.proofs.Coming.{some_left}
+use Rattle.core_parts.proofs.Shapes.{count-le}
+use Rattle.core_parts.proofs.HeldCounts.{listed_tells, held_few}
+use Rattle.core_parts.proofs.Holdings.{part, sum_on, sum_filtered}
 
 -- what a live handle holds was paid for
 pub row_few : (m : Parts) (n : ℕ) (row : HandleRow) → IsWhole m → handle_at m.table.handles n ≡ Some row → held_in_all row ≤ most_credits

@@ -1,54 +1,28 @@
 -- A rounding over handles and counts is that of the state, with one exclusive hold of a handle lifted.
-use Rattle.std.proofs.Common.{◌≡◌, ℕ, zero, suc, ◌+◌, ◌-◌, ◌<◌, ◌≤◌, Bool, true, false, cond, List, [], ◌∷◌, Option, Some, None, refl, sym, ap, subst, ◌∙◌, arith, length, set, get_or, take, nat_eq}
+use Rattle.std.proofs.Common.{◌≡◌, ℕ, zero, suc, ◌-◌, ◌<◌, ◌≤◌, Bool, true, false, cond, List, [], ◌∷◌, Option, Some, None, refl, sym, ap, subst, ◌∙◌, arith, set, get_or, nat_eq}
 use Rattle.std.proofs.Math.Path.{fun_ext}
 use Rattle.std.specs.Prelude.{IfSome, map, fold, min, max}
 use Rattle.std.specs.Option.{option_map}
 use Rattle.clk_base.specs.declared.clock.ClockId.{ClockId}
 use Rattle.clk_base.specs.Description.{Description}
-use Rattle.clk_base.specs.Valid.{IsValid}
-use Rattle.reg_bank.specs.Registers.{Registers}
 use Rattle.clk_model.specs.declared.row.HandleRow.{HandleRow}
 use Rattle.clk_model.specs.State.{State, handle_at}
 use Rattle.clk_model.specs.Holders.{guarded}
 use Rattle.clk_model.specs.declared.row.ClockRow.{ClockRow}
-use Rattle.clk_model.specs.Round.{View, Rounded, wiring, most_rate, round, round_rate}
+use Rattle.clk_model.specs.Round.{View, wiring, most_rate, round_rate}
 use Rattle.clk_model.specs.Views.{view, lift, lifted_row}
 use Rattle.clk_model.specs.Begin.{put_handle}
-use Rattle.clk_model.proofs.SameRateLaws.{round_same}
-use Rattle.clk_tree.specs.TreeState.{TreeState}
 use Rattle.counts_core.specs.Counted.{CountState, AreCounts, is_guarded, is_prepared}
 use Rattle.counts_core.specs.Standing.{StandsFor}
 use Rattle.counts_core.proofs.Standing.{tells_holds}
 use Rattle.rate_requests.specs.Handles.{rows_on, low_in, high_in}
-use Rattle.rate_planner.specs.Kept.{Told, wired}
-use Rattle.clk_machine.specs.Parts.{Parts, AreKept, IsWhole}
-use Rattle.clk_machine.specs.Seen.{seen}
+use Rattle.rate_planner.specs.Kept.{wired}
+use Rattle.clk_machine.specs.Parts.{Parts, IsWhole}
+use Rattle.core_parts.specs.Seen.{seen}
 use Rattle.clk_machine.specs.Stands.{Stands}
-use Rattle.clk_machine.proofs.Holdings.{Moves, moves_one, moves_none, StandsFor-put}
+use Rattle.core_parts.proofs.Holdings.{Moves, moves_one, moves_none, StandsFor-put}
 use Rattle.clk_machine.proofs.Room.{exclusive_held, exclusive_room}
 use Rattle.clk_machine.proofs.Writing.{counts_stand, live_in, row_place, place_among}
-use Rattle.clk_machine.proofs.Registering.{rate-take}
-
--- ---- registers
-
--- a rounding reads kept rates alone, so the first words give the one that all words give
-pub rounding_words : (n : ℕ) (defs : Description) (regs : Registers) (t : TreeState) (v : View) (c x : ℕ) → IsValid n defs → round (wired defs (take n regs) t) v c x ≡ round (wired defs regs t) v c x
-rounding_words n defs regs t v c x valid = round_same defs t.clocks regs (take n regs) v c x (fun_ext (λ k. rate-take n defs regs t.clocks k valid))
-
-pub rounding-take : (n : ℕ) (told : Option Registers) (defs : Description) (t : TreeState) (v : View) (c x : ℕ) (found : Option Rounded) → IsValid n defs
-    → AreKept defs (option_map (take n) told) t.clocks t.rates → Told told defs t (λ w. found ≡ round w v c x)
-    → IfSome (option_map (take n) told) (λ regs. found ≡ round (wired defs regs t) v c x)
-rounding-take n None defs t v c x found valid kept says = tt
-rounding-take n (Some regs) defs t v c x found valid kept says =
-    says (record { kept = λ k there. kept k there ∙ rate-take n defs regs t.clocks k valid }) ∙ sym (rounding_words n defs regs t v c x valid)
-
-pub round-take : (n : ℕ) (told : Option Registers) (defs : Description) (t : TreeState) (v : View) (c x : ℕ) (found : Option ℕ) → IsValid n defs
-    → AreKept defs (option_map (take n) told) t.clocks t.rates → Told told defs t (λ w. found ≡ round_rate w v c x)
-    → IfSome (option_map (take n) told) (λ regs. found ≡ round_rate (wired defs regs t) v c x)
-round-take n None defs t v c x found valid kept says = tt
-round-take n (Some regs) defs t v c x found valid kept says =
-    says (record { kept = λ k there. kept k there ∙ rate-take n defs regs t.clocks k valid })
-    ∙ sym (ap (λ o. option_map (λ r. r.rate) o) (rounding_words n defs regs t v c x valid))
 
 -- ---- boundaries
 
@@ -127,21 +101,6 @@ lifted_one m s n row k whole stands live some is =
     (subst (λ (x : CountState). Moves (λ h. h.exclusives) m.counts.exclusives x.exclusives row (lifted_row row)) (sym is)
     (moves_one (λ h. h.exclusives) m.counts.exclusives row.clock.0 (get_or m.counts.exclusives row.clock.0 0 - 1) row (lifted_row row)
     (place_among m row.clock.0 m.counts.exclusives whole (row_place m n row whole live) whole.counted.keeps.exclusives) refl refl (omega arith)))
-
--- a number that is lowered by one and raised again is as it was
-back_in : (xs : List ℕ) (c : ℕ) → c < length xs → 0 < get_or xs c 0
-    → set (set xs c (get_or xs c 0 - 1)) c (get_or (set xs c (get_or xs c 0 - 1)) c 0 + 1) ≡ xs
-back_in [] c within some = absurd (omega arith)
-back_in (x ∷ xs) zero within some = let same : x - 1 + 1 ≡ x = omega arith in ap (λ (y : ℕ). y ∷ xs) same
-back_in (x ∷ xs) (suc c) within some = ap (λ (ys : List ℕ). x ∷ ys) (back_in xs c (omega arith) some)
-
--- so counts with one exclusive holder less and then one more are as they were
-pub counts_back : (k less more : CountState) (c : ℕ) → less ≡ record k { exclusives = set k.exclusives c (get_or k.exclusives c 0 - 1) }
-    → more ≡ record less { exclusives = set less.exclusives c (get_or less.exclusives c 0 + 1) } → c < length k.exclusives → 0 < get_or k.exclusives c 0 → more ≡ k
-counts_back k less more c one two within some =
-    two
-    ∙ ap (λ (x : CountState). let y : CountState = record x { exclusives = set x.exclusives c (get_or x.exclusives c 0 + 1) } in y) one
-    ∙ ap (λ (xs : List ℕ). let y : CountState = record k { exclusives = xs } in y) (back_in k.exclusives c within some)
 
 -- ---- the rounding of the state
 

@@ -9,7 +9,8 @@ use Rattle.clk_model.specs.Rate.{rate}
 use Rattle.counts_core.specs.Standing.{HoldsAsIn, CountsAsIn}
 use Rattle.counts_core.proofs.Standing.{tells_holds, tells_counts}
 use Rattle.clk_machine.specs.Row.{IsTreeOf}
-use Rattle.clk_machine.specs.Parts.{Parts, AreKept, IsWhole}
+use Rattle.core_parts.specs.Tied.{AreKept}
+use Rattle.clk_machine.specs.Parts.{Parts, IsWhole}
 use Rattle.clk_machine.specs.Stands.{Stands}
 use Rattle.clk_machine.proofs.Writing.{counts_stand}
 

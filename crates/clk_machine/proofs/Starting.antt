@@ -1,5 +1,5 @@
 -- How a call goes on, and what a prepare that goes on comes to, in states and in the parts of a core.
-use Rattle.std.proofs.Common.{◌≡◌, ℕ, ◌+◌, ◌*◌, ◌<◌, ◌≤◌, ◌||◌, ◌&&◌, not, Bool, true, false, List, [], ◌∷◌, Option, Some, None, refl, sym, ap, subst, ◌∙◌, arith, length, filter, nat_lt, nat_le, take, map}
+use Rattle.std.proofs.Common.{◌≡◌, ℕ, ◌+◌, ◌*◌, ◌<◌, ◌≤◌, ◌||◌, ◌&&◌, not, Bool, true, false, List, [], ◌∷◌, Option, Some, None, refl, sym, ap, subst, ◌∙◌, arith, length, nat_lt, nat_le, take, map}
 use Rattle.std.specs.Prelude.{if◌then◌else◌, is_none, is_some, slice_get, sum_by}
 use Rattle.std.specs.List.{list_any, list_all}
 use Rattle.std.proofs.Math.Bool.{or-false}
@@ -34,17 +34,19 @@ use Rattle.clk_flight.specs.LeftOver.{step_weight, front_weight, left_over}
 use Rattle.clk_flight.specs.Fronts.{called_off}
 use Rattle.clk_flight.specs.declared.start.Start.{Start}
 use Rattle.clk_machine.specs.Holding.{stays}
-use Rattle.clk_machine.specs.Course.{IsAlong}
-use Rattle.clk_machine.specs.Parts.{Parts, bare, own_in, IsOwnCall, IsFlown, IsWhole, rows_from}
-use Rattle.clk_machine.specs.InFlight.{may_go_on, changes_rate, cuts_front, is_near, is_script, is_front, IsUnderWay, links_clocks, probes}
-use Rattle.clk_machine.specs.Plls.{is_loose}
+use Rattle.core_parts.specs.Course.{IsAlong}
+use Rattle.core_parts.specs.Listed.{rows_from}
+use Rattle.clk_machine.specs.Parts.{Parts, bare, own_in, IsOwnCall, IsFlown, IsWhole}
+use Rattle.core_parts.specs.InFlight.{may_go_on, changes_rate, cuts_front, is_near, is_script, is_front, IsUnderWay, links_clocks, probes}
+use Rattle.core_parts.specs.Plls.{is_loose}
 use Rattle.clk_machine.specs.Stands.{Stands, Enters}
 use Rattle.clk_machine.specs.Starting.{StartsCall}
 use Rattle.clk_machine.proofs.CallEvents.{begin_quiet, with-some}
 use Rattle.clk_machine.proofs.Flying.{quiet_stands}
-use Rattle.clk_machine.proofs.Holdings.{StandsFor-same}
+use Rattle.core_parts.proofs.Holdings.{StandsFor-same}
 use Rattle.clk_machine.proofs.Writing.{whole_spent}
 use Rattle.clk_machine.proofs.Making.{unprepared_stand}
+use Rattle.core_parts.proofs.Seeking.{none_or_any}
 
 -- ---- in states
 
@@ -57,15 +59,6 @@ raise_weighs s d what c =
     let one = sum_by-cons (weight s) (micro.Raise c) (micro.End ∷ []) in
     let two = sum_by-cons (weight s) micro.End [] in
     omega arith
-
--- whether there is something to raise
-one_more : (t : Bool) (x : ℕ) (xs : List ℕ) (rest : Bool) → is_none (slice_get xs 0) ≡ not rest → is_none (slice_get (if t then x ∷ xs else xs) 0) ≡ not (t || rest)
-one_more true x xs rest e = refl
-one_more false x xs rest e = e
-
-pub none_or_any : (test : ℕ → Bool) (xs : List ℕ) → is_none (slice_get (filter test xs) 0) ≡ not (list_any test xs)
-none_or_any test [] = refl
-none_or_any test (x ∷ xs) = one_more (test x) x (filter test xs) (list_any test xs) (none_or_any test xs)
 
 pub not_less : (a b : ℕ) → a ≤ b → nat_lt b a ≡ false
 not_less a b le = grind (arith, nat_tests)

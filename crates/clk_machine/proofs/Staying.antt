@@ -16,7 +16,7 @@ use Rattle.clk_model.specs.Rate.{style_of}
 use Rattle.clk_model.specs.Round.{Wiring, View, Rounded, most_rate, rate_in, parent_rate_in, over_parent, passes_on, through, over_link, best_of, by_divisor, by_candidate, by_kind, clamped, rate_for, round_by, round}
 use Rattle.clk_model.specs.State.{link_in}
 use Rattle.clk_model.proofs.RoundLaws.{round_fold, round_tries, round_or}
-use Rattle.clk_machine.specs.Movable.{may_move}
+use Rattle.core_parts.specs.Movable.{may_move}
 
 -- ---- rounding
 

@@ -15,7 +15,7 @@ use Rattle.clk_base.specs.declared.event.Reply.{Reply}
 use Rattle.clk_base.specs.declared.event.Reply.TheVariants as reply
 use Rattle.clk_model.specs.State.{State, Change, link_in}
 use Rattle.clk_model.specs.Holders.{active}
-use Rattle.clk_machine.specs.InFlight.{is_unprepare, is_ranged, is_probe, may_go_on}
+use Rattle.core_parts.specs.InFlight.{is_unprepare, is_ranged, is_probe, may_go_on}
 use Rattle.clk_model.specs.Chain.{clock_id, linked}
 use Rattle.clk_model.specs.Lists.{to_front}
 use Rattle.clk_model.specs.Tree.{children}

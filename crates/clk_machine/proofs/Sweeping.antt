@@ -1,11 +1,10 @@
 -- The unused sweep: how it begins, and what its steps make of the parts of a core.
-use Rattle.std.proofs.Common.{◌≡◌, ℕ, zero, suc, ◌+◌, ◌<◌, ◌≤◌, ◌&&◌, ◌||◌, inl, inr, not, Bool, true, false, cond, List, [], ◌∷◌, ◌++◌, Option, Some, None, refl, sym, ap, subst, ◌∙◌, arith, length, map, filter, take, append_assoc, append-nil, nat_eq, nat_lt, nat_le, true≢false}
-use Rattle.std.specs.Prelude.{if◌then◌else◌, is_some, slice_get, sum_by, flat_map, IfSome}
+use Rattle.std.proofs.Common.{◌≡◌, ℕ, ◌+◌, ◌<◌, ◌≤◌, ◌&&◌, ◌||◌, inl, inr, not, Bool, true, false, List, [], ◌∷◌, Option, Some, None, refl, sym, ap, subst, ◌∙◌, arith, length, nat_eq, nat_lt, nat_le, true≢false}
+use Rattle.std.specs.Prelude.{if◌then◌else◌, is_some, slice_get, IfSome}
 use Rattle.std.specs.List.{list_all}
 use Rattle.std.specs.Option.{option_map, option_map_or}
 use Rattle.std.proofs.Math.Bool.{or-false}
 use Rattle.std.proofs.lemmas.Bool.Decides.{nat_tests}
-use Rattle.std.proofs.lemmas.List.Sums.{sum_by-cons}
 use Rattle.clk_base.specs.declared.call.Micro.{Micro}
 use Rattle.clk_base.specs.declared.call.Micro.TheVariants as micro
 use Rattle.clk_base.specs.declared.call.Sleeping.{Sleeping}
@@ -19,8 +18,6 @@ use Rattle.clk_base.specs.declared.event.Turn.{Turn}
 use Rattle.clk_base.specs.declared.event.Turn.TheVariants as turn
 use Rattle.clk_base.specs.Description.{Description, kind_of}
 use Rattle.clk_base.specs.Fields.{gate_of, power_of}
-use Rattle.clk_base.specs.Levels.{depth}
-use Rattle.clk_base.specs.Places.{places}
 use Rattle.reg_bank.specs.Registers.{Registers}
 use Rattle.clk_model.specs.Begin.{most_credits, weight_of, change_of, begun, done, refused}
 use Rattle.clk_model.specs.Gates.{follow, gates_moved}
@@ -28,12 +25,11 @@ use Rattle.clk_model.specs.Holders.{active}
 use Rattle.clk_model.specs.Lists.{is_in}
 use Rattle.clk_model.specs.Machine.{paid, next}
 use Rattle.clk_model.specs.Prep.{is_sweep}
-use Rattle.clk_model.specs.Script.{plls, sweep_order, sweep_script, tree_within, weight}
-use Rattle.clk_model.specs.State.{State, Change, NotifierRow, registered}
+use Rattle.clk_model.specs.Script.{plls, sweep_script, weight}
+use Rattle.clk_model.specs.State.{State, Change, registered}
 use Rattle.clk_model.specs.Step.{is_end, powered, close, rest_of, taken, todo, is_register}
-use Rattle.clk_model.specs.Tree.{children, orphans, roots}
 use Rattle.clk_model.proofs.EventLaws.{pick-true, pick-false}
-use Rattle.clk_model.proofs.Members.{both_left, both_right, is_in_head, is_in_tail, is_in_cases}
+use Rattle.clk_model.proofs.Members.{both_right, is_in_cases}
 use Rattle.clk_model.proofs.StateLaws.{paid-still}
 use Rattle.clk_flight.specs.declared.front.Front.{Front}
 use Rattle.clk_flight.specs.declared.front.Front.TheVariants.{Empty, Poll, Raise, Lower, Falls, Posts}
@@ -42,24 +38,27 @@ use Rattle.clk_flight.specs.Fronts.{front_behind, script_behind}
 use Rattle.clk_flight.specs.LeftOver.{step_weight, left_over}
 use Rattle.clk_flight.specs.Moves.{gone_on}
 use Rattle.clk_flight.specs.Steps.{GoesOn, LeavesLessAt, is_taken}
-use Rattle.clk_machine.specs.Window.{Shown}
-use Rattle.clk_machine.specs.Course.{TellsAlong, begins_with, behind_visit, tells_all, visited_by}
+use Rattle.core_parts.specs.Window.{Shown}
+use Rattle.core_parts.specs.Course.{TellsAlong, begins_with, behind_visit, tells_all, visited_by}
 use Rattle.clk_machine.specs.Holding.{stays}
-use Rattle.clk_machine.specs.InFlight.{changes_rate, may_make, is_script, is_front, IsUnderWay, links_clocks, probes}
+use Rattle.core_parts.specs.InFlight.{changes_rate, may_make, is_script, is_front, IsUnderWay, links_clocks, probes}
 use Rattle.clk_machine.specs.Making.{ComesFirst}
-use Rattle.clk_machine.specs.Parts.{Parts, bare, AreTied, IsOwnCall, IsWhole, rows_from}
+use Rattle.core_parts.specs.Listed.{rows_from}
+use Rattle.core_parts.specs.Tied.{AreTied}
+use Rattle.clk_machine.specs.Parts.{Parts, IsOwnCall, IsWhole}
 use Rattle.clk_machine.specs.Stands.{Stands, Enters}
 use Rattle.clk_machine.specs.Starting.{StartsCall}
-use Rattle.clk_machine.specs.Sweeping.{Adds, closes, unpowers, close_step, unpower_step, is_light, are_light}
+use Rattle.clk_machine.specs.Sweeping.{are_light}
 use Rattle.clk_machine.proofs.CallEvents.{begin_quiet}
-use Rattle.clk_machine.proofs.Closing.{closed_regs}
+use Rattle.core_parts.proofs.Closing.{closed_regs}
 use Rattle.clk_machine.proofs.Flying.{quiet_stands}
-use Rattle.clk_machine.proofs.InFlight.{cut_behind, first_seeks, own_going, script_rest}
-use Rattle.clk_machine.proofs.Making.{SameCall, KeepsAlong, with_step, enters_step, stands_stepped, whole_stepped, change_of as now_of}
-use Rattle.clk_machine.proofs.Moving.{clock_within, tied-moved}
-use Rattle.clk_machine.proofs.Opening.{gate_fits}
+use Rattle.core_parts.proofs.InFlight.{cut_behind, first_seeks, own_going, script_rest}
+use Rattle.core_parts.proofs.SameCall.{SameCall, KeepsAlong}
+use Rattle.clk_machine.proofs.Making.{with_step, enters_step, stands_stepped, whole_stepped, change_of as now_of}
+use Rattle.core_parts.proofs.Moving.{clock_within, tied-moved}
+use Rattle.core_parts.proofs.Opening.{gate_fits}
 use Rattle.clk_machine.proofs.Raising.{power_lies}
-use Rattle.clk_machine.proofs.Powering.{powered_words, power_put}
+use Rattle.core_parts.proofs.Powering.{powered_words, power_put}
 use Rattle.clk_machine.proofs.Starting.{Started, started_left, started_way, whole_flying, flying, with_spent, stands_flying, stands_spent, not_less}
 use Rattle.clk_machine.proofs.Stepping.{closes_one, unpowers_one}
 use Rattle.clk_machine.proofs.Writing.{whole_spent}

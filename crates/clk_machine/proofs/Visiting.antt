@@ -27,21 +27,23 @@ use Rattle.clk_flight.specs.Steps.{told_by_visit}
 use Rattle.clk_flight.proofs.DropLaws.{visited-change}
 use Rattle.clk_tree.specs.TreeState.{TreeState, IsTree}
 use Rattle.rate_planner.specs.Kept.{wired}
-use Rattle.clk_machine.specs.Window.{Shown, AreTold}
-use Rattle.clk_machine.specs.declared.course.Notified.{Notified}
-use Rattle.clk_machine.specs.declared.machine.visiting.Posting.{Posting}
-use Rattle.clk_machine.specs.InFlight.{changes_rate, is_front, IsUnderWay, can_link, cuts_front}
-use Rattle.clk_machine.specs.Course.{CourseState, set_along, notifiers_at, begins_with, behind_first, behind_visit, tells_all, PostsFit, TellsAlong, GoesAlong}
+use Rattle.core_parts.specs.Window.{Shown, AreTold}
+use Rattle.core_parts.specs.declared.course.Notified.{Notified}
+use Rattle.core_parts.specs.declared.posting.Posting.{Posting}
+use Rattle.core_parts.specs.InFlight.{changes_rate, is_front, IsUnderWay, can_link, cuts_front}
+use Rattle.core_parts.specs.Course.{CourseState, set_along, notifiers_at, begins_with, behind_first, behind_visit, tells_all, PostsFit, TellsAlong, GoesAlong}
 use Rattle.clk_machine.specs.Making.{ComesFirst}
-use Rattle.clk_machine.specs.Parts.{Parts, AreKept, bare, rows_from, IsFlown, IsWhole}
+use Rattle.core_parts.specs.Listed.{rows_from}
+use Rattle.core_parts.specs.Tied.{AreKept}
+use Rattle.clk_machine.specs.Parts.{Parts, bare, IsFlown, IsWhole}
 use Rattle.clk_machine.specs.Sound.{IsSound}
 use Rattle.clk_machine.specs.Stands.{Stands, Leads, Enters}
-use Rattle.clk_machine.proofs.HeldCounts.{held_on, held_still}
-use Rattle.clk_machine.proofs.Holdings.{StandsFor-same}
-use Rattle.clk_machine.proofs.InFlight.{own_going, first_seeks, script_rest}
+use Rattle.core_parts.proofs.HeldCounts.{held_on, held_still}
+use Rattle.core_parts.proofs.Holdings.{StandsFor-same}
+use Rattle.core_parts.proofs.InFlight.{own_going, first_seeks, script_rest}
 use Rattle.clk_machine.proofs.Making.{change_of, next_of}
 use Rattle.clk_machine.proofs.Stepping.{visits_one}
-use Rattle.clk_machine.proofs.Telling.{count_told, rows_count}
+use Rattle.core_parts.proofs.NotifierRows.{count_told, rows_count}
 
 -- a clock is visited: its setting is written, the kept rates follow, and so many of its notifiers are told next
 pub record Visited (old : Parts) (c : ClockId) (window' : Shown) (tree' : TreeState) (posts' : Posting) (flight' : FlightState) (course' : CourseState) : Type 0 where

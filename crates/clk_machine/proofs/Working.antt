@@ -12,21 +12,23 @@ use Rattle.clk_model.specs.Laws.Paced.{is_notice}
 use Rattle.clk_model.specs.Notices.{notifiers_of}
 use Rattle.clk_flight.specs.declared.front.Front.{Front}
 use Rattle.clk_flight.specs.declared.front.Front.TheVariants.{Empty, Poll, Raise, Lower, Falls, Posts}
-use Rattle.clk_machine.specs.InFlight.{changes_rate, is_front}
-use Rattle.clk_machine.specs.Course.{notifiers_at, PostsFit}
+use Rattle.core_parts.specs.InFlight.{changes_rate, is_front}
+use Rattle.core_parts.specs.Course.{notifiers_at, PostsFit}
 use Rattle.clk_flight.specs.Flights.{IsChange, own_step, comes_next}
 use Rattle.clk_flight.specs.Steps.{is_fall}
 use Rattle.notifiers.specs.Chains.{Tells}
-use Rattle.clk_machine.specs.declared.plls.Sought.{Sought}
-use Rattle.clk_machine.specs.declared.work.Work.{Work}
-use Rattle.clk_machine.specs.declared.work.Work.TheVariants as work
-use Rattle.clk_machine.specs.Making.{ComesFirst, ComesNext, FindsNothing, work_of}
+use Rattle.core_parts.specs.declared.plls.Sought.{Sought}
+use Rattle.core_parts.specs.declared.work.Work.{Work}
+use Rattle.core_parts.specs.declared.work.Work.TheVariants as work
+use Rattle.core_parts.specs.Works.{work_of}
+use Rattle.clk_machine.specs.Making.{ComesFirst, ComesNext, FindsNothing}
 use Rattle.clk_machine.specs.Parts.{Parts, IsWhole}
-use Rattle.clk_machine.specs.Plls.{raisable, lowerable, Finds}
-use Rattle.clk_machine.proofs.Coming.{end_comes, work_raises, work_polls, work_falls, work_lowers, work_tells, work_visits, work_registers, work_relinks, work_selects, work_settles, work_closes, work_unpowers, work_holds_prepare, work_holds_enable, work_drops_enable, work_drops_prepare}
-use Rattle.clk_machine.proofs.InFlight.{raise_there, lower_there}
-use Rattle.clk_machine.proofs.StepsInFlight.{fall_untold}
-use Rattle.clk_machine.proofs.Telling.{count_told, tells_next}
+use Rattle.core_parts.specs.Plls.{raisable, lowerable, Finds}
+use Rattle.core_parts.proofs.Coming.{end_comes, work_raises, work_polls, work_falls, work_lowers, work_tells, work_visits, work_registers, work_relinks, work_selects, work_settles, work_closes, work_unpowers, work_holds_prepare, work_holds_enable, work_drops_enable, work_drops_prepare}
+use Rattle.core_parts.proofs.InFlight.{raise_there, lower_there}
+use Rattle.core_parts.proofs.StepsInFlight.{fall_untold}
+use Rattle.core_parts.proofs.NotifierRows.{count_told}
+use Rattle.clk_machine.proofs.Telling.{tells_next}
 use Rattle.clk_machine.proofs.Making.{to_raise_stands, to_lower_stands}
 use Rattle.clk_machine.proofs.Stepping.{raises_none, lowers_none}
 

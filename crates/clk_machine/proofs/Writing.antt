@@ -14,15 +14,16 @@ use Rattle.clk_model.proofs.StateLaws.{settled-still, active-put_same, active-pu
 use Rattle.counts_core.specs.Counted.{CountState, AreCounts}
 use Rattle.counts_core.specs.Standing.{StandsFor}
 use Rattle.rate_requests.specs.Handles.{HandleTable, new_row, with_counts_at}
-use Rattle.clk_machine.specs.Window.{Shown}
-use Rattle.clk_machine.specs.Parts.{Parts, bare, held_in_all, AreTied, ArePaid, IsWhole}
+use Rattle.core_parts.specs.Window.{Shown}
+use Rattle.core_parts.specs.Tied.{AreTied}
+use Rattle.clk_machine.specs.Parts.{Parts, bare, held_in_all, ArePaid, IsWhole}
 use Rattle.clk_machine.specs.Stands.{Stands, Becomes, nothing}
 use Rattle.clk_machine.specs.Holding.{puts, gives, stays}
-use Rattle.clk_machine.proofs.HeldCounts.{listed_tells}
+use Rattle.core_parts.proofs.HeldCounts.{listed_tells}
 use Rattle.clk_machine.proofs.Flying.{never_flown, flown_written, flown_spent}
-use Rattle.clk_machine.proofs.Shapes.{holds_nothing, handle_at-put, handle_at-append, sum_by-set, sum_by-gone, sum_by-append}
-use Rattle.clk_machine.proofs.Moving.{clock_within}
-use Rattle.clk_machine.proofs.Holdings.{Moves, moves_one, moves_none, StandsFor-same, StandsFor-held, StandsFor-put, StandsFor-gone, StandsFor-given}
+use Rattle.core_parts.proofs.Shapes.{holds_nothing, handle_at-put, handle_at-append, sum_by-set, sum_by-gone, sum_by-append}
+use Rattle.core_parts.proofs.Moving.{clock_within}
+use Rattle.core_parts.proofs.Holdings.{Moves, moves_one, moves_none, StandsFor-same, StandsFor-held, StandsFor-put, StandsFor-gone, StandsFor-given}
 use Rattle.std.proofs.Math.Bool.{or-false}
 
 -- ---- counts and the state

@@ -1,5 +1,5 @@
 -- What a registration lets adopt.
-use Rattle.std.specs.Prelude.{◌≡◌, ℕ, ◌||◌, ◌==◌, ◌++◌, List, [], ◌∷◌, Bool, true, if◌then◌else◌, flat_map, length}
+use Rattle.std.specs.Prelude.{◌≡◌, ℕ, ◌||◌, ◌==◌, ◌++◌, List, [], ◌∷◌, Bool, true, flat_map, length}
 use Rattle.clk_base.specs.declared.call.Micro.{Micro}
 use Rattle.clk_base.specs.declared.call.Micro.TheVariants as micro
 use Rattle.clk_base.specs.declared.clock.ClockId.{ClockId}
@@ -12,21 +12,11 @@ use Rattle.clk_model.specs.State.{State, registered}
 use Rattle.clk_machine.specs.Parts.{Parts}
 use Rattle.clk_machine.specs.Sound.{IsSound}
 use Rattle.clk_machine.specs.Stands.{Stands}
+use Rattle.core_parts.specs.Adoption.{adoption_by, registration_of}
 
 -- the orphans that are adopted behind a registration, in their order
 abbrev pub adopted : State → List ℕ
 adopted s = adoption_order (length (adoptable s)) s (adoptable s)
-
--- the steps by which a parent adopts an orphan that is prepared or isn't
-abbrev pub adoption_by : ClockId → ClockId → Bool → List Micro
-adoption_by a p prepared =
-    if prepared
-    then micro.Raise p ∷ micro.HoldPrepare p ∷ micro.HoldEnable p ∷ micro.HoldEnable a ∷ micro.Relink a p ∷ micro.DropEnable a ∷ micro.Settle a ∷ []
-    else micro.Relink a p ∷ micro.Settle a ∷ []
-
--- the steps that register a clock that is critical or isn't
-abbrev pub registration_of : Bool → ClockId → List Micro
-registration_of critical c = (if critical then micro.Raise c ∷ [] else []) ++ micro.Register c ∷ []
 
 -- whether a clock is registered, or the new one
 abbrev pub is_beside : Parts → ℕ → ℕ → Bool

@@ -8,7 +8,7 @@ use Rattle.clk_model.specs.State.{State, registered, handle_at, requested}
 use Rattle.clk_model.specs.Step.{ended_well}
 use Rattle.clk_machine.specs.declared.machine.landing.Landing.{Landing}
 use Rattle.clk_machine.specs.declared.machine.landing.Landing.TheVariants as landing
-use Rattle.clk_machine.specs.InFlight.{is_called_off, ends_bare}
+use Rattle.core_parts.specs.InFlight.{is_called_off, ends_bare}
 use Rattle.clk_machine.specs.Parts.{Parts}
 use Rattle.clk_machine.specs.Stands.{Stands}
 

@@ -1,5 +1,5 @@
 -- What the step that comes next of a core's change in flight is to the change of the definitions.
-use Rattle.std.specs.Prelude.{◌≡◌, ◌+◌, true, List, [], Option, Some, None, slice_get}
+use Rattle.std.specs.Prelude.{◌≡◌, ◌+◌, true, List, [], Some, None, slice_get}
 use Rattle.clk_base.specs.declared.call.Micro.{Micro}
 use Rattle.clk_base.specs.declared.call.Micro.TheVariants as micro
 use Rattle.clk_base.specs.declared.event.Event.TheVariants as event
@@ -10,10 +10,11 @@ use Rattle.clk_model.specs.Machine.{next}
 use Rattle.clk_model.specs.Laws.Paced.{is_notice}
 use Rattle.clk_flight.specs.Flights.{IsChange, own_step, comes_next}
 use Rattle.notifiers.specs.Chains.{Tells}
-use Rattle.clk_machine.specs.declared.work.Work.{Work}
-use Rattle.clk_machine.specs.declared.work.Work.TheVariants as work
-use Rattle.clk_machine.specs.InFlight.{may_seek}
-use Rattle.clk_machine.specs.Parts.{Parts, rows_from}
+use Rattle.core_parts.specs.declared.work.Work.{Work}
+use Rattle.core_parts.specs.declared.work.Work.TheVariants as work
+use Rattle.core_parts.specs.InFlight.{may_seek}
+use Rattle.core_parts.specs.Listed.{rows_from}
+use Rattle.clk_machine.specs.Parts.{Parts}
 use Rattle.clk_machine.specs.Stands.{Stands}
 
 -- the step is the first that the change has left to do
@@ -32,26 +33,6 @@ pub record TellsNext (m : Parts) : Type 0 where
   pub notice : Micro
   pub next_ : comes_next (rows_from 0 m.chains) m.flight ≡ Some notice
   pub is : is_notice notice ≡ true
-
--- the work that a step is: one of these, or the end
-abbrev pub work_of : Option Micro → Work
-work_of (Some (micro.Raise x)) = work.Raise x
-work_of (Some (micro.Poll y)) = work.Poll y
-work_of (Some (micro.Fall y)) = work.Fall y
-work_of (Some (micro.Lower x)) = work.Lower x
-work_of (Some (micro.Notify kind c id old new)) = work.Tell (micro.Notify kind c id old new)
-work_of (Some (micro.HoldPrepare x)) = work.HoldPrepare x
-work_of (Some (micro.HoldEnable x)) = work.HoldEnable x
-work_of (Some (micro.DropEnable x)) = work.DropEnable x
-work_of (Some (micro.DropPrepare x)) = work.DropPrepare x
-work_of (Some (micro.Relink c p)) = work.Relink c p
-work_of (Some (micro.WriteMux c place)) = work.Select c place
-work_of (Some (micro.Visit c)) = work.Visit c
-work_of (Some (micro.Register c)) = work.Register c
-work_of (Some (micro.Settle c)) = work.Settle c
-work_of (Some (micro.Close c)) = work.Close c
-work_of (Some (micro.Unpower c)) = work.Unpower c
-work_of _ = work.End
 
 -- the work comes next
 abbrev pub ComesNext : Parts → Work → Type 0

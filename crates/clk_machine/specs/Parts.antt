@@ -1,9 +1,8 @@
 -- The parts of a core, and what they keep.
-use Rattle.std.specs.Prelude.{◌≡◌, ℕ, suc, ◌+◌, ◌<◌, ◌≤◌, ◌==◌, ◌++◌, List, [], ◌∷◌, is_some, Bool, true, Option, Some, None, IfSome, if◌then◌else◌, length, map, sum_by, slice_index}
+use Rattle.std.specs.Prelude.{◌≡◌, ℕ, ◌+◌, ◌<◌, ◌≤◌, ◌==◌, List, [], is_some, Bool, true, Option, Some, None, IfSome, if◌then◌else◌, length, sum_by}
 use Rattle.std.specs.Option.{option_map_or}
 use Rattle.clk_base.specs.Checked.{Checked}
 use Rattle.clk_base.specs.Description.{Description}
-use Rattle.clk_base.specs.Valid.{IsValid}
 use Rattle.clk_base.specs.declared.call.Sleeping.{Sleeping}
 use Rattle.clk_flight.specs.Flights.{FlightState}
 use Rattle.clk_flight.specs.LeftOver.{left_over}
@@ -11,21 +10,21 @@ use Rattle.clk_model.specs.Script.{plls}
 use Rattle.clk_model.specs.declared.row.ClockRow.{ClockRow}
 use Rattle.clk_model.specs.declared.row.HandleRow.{HandleRow}
 use Rattle.clk_model.specs.Lists.{present}
-use Rattle.clk_model.specs.State.{State, NotifierRow, registered, handle_at}
-use Rattle.clk_model.specs.Rate.{rate}
+use Rattle.clk_model.specs.State.{State, registered, handle_at}
 use Rattle.clk_model.specs.Begin.{most_credits}
-use Rattle.clk_tree.specs.TreeState.{TreeState, IsTree}
+use Rattle.clk_tree.specs.TreeState.{TreeState}
 use Rattle.counts_core.specs.Counted.{CountState, AreCounts}
 use Rattle.counts_core.specs.Standing.{StandsFor}
 use Rattle.notifiers.specs.declared.notifier.Notifier.{Notifier}
-use Rattle.notifiers.specs.Chains.{Tells, row_on}
 use Rattle.rate_requests.specs.Handles.{HandleTable, with_range_at}
-use Rattle.clk_machine.specs.Window.{Shown, AreTold}
-use Rattle.clk_machine.specs.declared.course.Notified.{Notified}
+use Rattle.core_parts.specs.Window.{Shown}
+use Rattle.core_parts.specs.declared.course.Notified.{Notified}
 use Rattle.std.specs.List.{list_all}
-use Rattle.clk_machine.specs.Holds.{listed, AreHeld}
-use Rattle.clk_machine.specs.InFlight.{can_link, changes_rate, links_clocks, probes, handle_to_end, IsUnderWay}
-use Rattle.clk_machine.specs.Course.{CourseState, notifiers_at, TellsAlong}
+use Rattle.core_parts.specs.Holds.{listed, AreHeld}
+use Rattle.core_parts.specs.InFlight.{can_link, changes_rate, links_clocks, probes, handle_to_end, IsUnderWay}
+use Rattle.core_parts.specs.Course.{CourseState, notifiers_at, TellsAlong}
+use Rattle.core_parts.specs.Listed.{rows_from, AreListed}
+use Rattle.core_parts.specs.Tied.{AreTied}
 
 -- a core without its journal, as what contracts see of each part
 pub record Parts : Type 0 where
@@ -82,19 +81,6 @@ bare m = record {
   ignore_unused = m.ignore_unused;
 }
 
--- the kept rate of each registered clock is the one that the registers give, where they are told
-abbrev pub AreKept : Description → Option (List ℕ) → List ClockRow → List ℕ → Type 0
-AreKept defs words clocks rates = IfSome words (λ regs. (c : ℕ) → registered clocks c ≡ true → slice_index rates c ≡ rate defs regs clocks c)
-
--- the words and the tree are those of a valid description
-pub record AreTied (desc : Checked) (window : Shown) (tree : TreeState) : Type 0 where
-  pub valid : IsValid desc.words desc.defs
-  pub words : window.size ≡ desc.words
-  pub told : AreTold window.size window.words
-  pub defs : tree.defs ≡ desc.defs
-  pub stands : IsTree tree.defs tree.clocks tree.order tree.rates
-  pub kept : AreKept desc.defs window.words tree.clocks tree.rates
-
 -- the row of a driver's own live handle
 abbrev pub own_in : List (Option HandleRow) → ℕ → ℕ → Option HandleRow
 own_in handles driver number = option_map_or (λ h. if h.driver == driver then Some h else None) (handle_at handles number) None
@@ -130,11 +116,6 @@ pub record IsFlown (defs : Description) (clocks : List ClockRow) (handles : List
   pub links : links_clocks f.call ≡ true → list_all (can_link defs clocks) f.left ≡ true
   pub placed : (c : ℕ) → probes f.call c ≡ true → c < length defs
 
--- the notifiers of these chains, clock by clock, of a clock and those behind it
-abbrev pub rows_from : ℕ → List (List Notifier) → List NotifierRow
-rows_from c [] = []
-rows_from c (chain ∷ chains) = map (row_on c) chain ++ rows_from (suc c) chains
-
 -- how many steps the change in flight may still come to
 abbrev pub steps_left : Parts → ℕ
 steps_left m = left_over (rows_from 0 m.chains) m.flight
@@ -142,11 +123,6 @@ steps_left m = left_over (rows_from 0 m.chains) m.flight
 -- the parts with another range of a handle
 abbrev pub with_range : Parts → ℕ → ℕ → ℕ → Parts
 with_range m number least most = record m { table = record { clocks = m.table.clocks; handles = with_range_at m.table.handles number least most } }
-
--- the chains are those of some notifiers
-pub record AreListed (chains : List (List Notifier)) : Type 0 where
-  pub rows : List NotifierRow
-  pub tells : Tells chains rows
 
 -- what the parts of a core keep
 pub record IsWhole (m : Parts) : Type 0 where

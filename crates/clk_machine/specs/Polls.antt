@@ -12,7 +12,7 @@ use Rattle.clk_model.specs.Journal.{asked_after}
 use Rattle.clk_model.specs.Step.{most_polls}
 use Rattle.clk_flight.specs.declared.front.Front.{Front}
 use Rattle.clk_flight.specs.declared.front.Front.TheVariants.{Poll}
-use Rattle.clk_machine.specs.Window.{delays_in, lock_in}
+use Rattle.core_parts.specs.Window.{delays_in, lock_in}
 use Rattle.clk_machine.specs.Parts.{Parts}
 
 -- the PLLs that were polled since the last raise, behind these entries

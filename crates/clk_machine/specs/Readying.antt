@@ -19,11 +19,12 @@ use Rattle.change_walk.specs.Weights.{step_weight}
 use Rattle.clk_machine.specs.declared.readied.Readied.{Readied}
 use Rattle.clk_machine.specs.declared.readied.Readied.TheVariants as readied
 use Rattle.clk_machine.specs.declared.readied.Scripted.{Scripted}
-use Rattle.clk_machine.specs.Changing.{BeginsAlong, told_clocks}
-use Rattle.clk_machine.specs.Course.{notifiers_at, tells_all}
+use Rattle.core_parts.specs.Told.{told_clocks}
+use Rattle.clk_machine.specs.Changing.{BeginsAlong}
+use Rattle.core_parts.specs.Course.{notifiers_at, tells_all}
 use Rattle.clk_machine.specs.Deciding.{EndsAtOnce, handle_of, made_in}
-use Rattle.clk_machine.specs.InFlight.{is_script, can_link}
-use Rattle.clk_machine.specs.Movable.{can_go_along}
+use Rattle.core_parts.specs.InFlight.{is_script, can_link}
+use Rattle.core_parts.specs.Movable.{can_go_along}
 use Rattle.clk_machine.specs.Parts.{Parts, IsOwnCall}
 use Rattle.clk_machine.specs.Sound.{IsSound}
 use Rattle.clk_machine.specs.Stands.{Stands}

@@ -14,12 +14,12 @@ use Rattle.clk_model.specs.Tier.{is_enable_tier}
 use Rattle.clk_model.specs.Journal.{is_paid, is_going, slotless, replay, Legal, opening, cost, Polled}
 use Rattle.clk_model.specs.Fed.{Fed}
 use Rattle.clk_model.specs.Laws.EndCauses.{EndsCall}
-use Rattle.clk_machine.specs.declared.behind.Behind.{Behind}
+use Rattle.core_parts.specs.declared.behind.Behind.{Behind}
 use Rattle.clk_machine.specs.Parts.{Parts, steps_left}
 use Rattle.clk_machine.specs.Polls.{IfPoll, IsAsked, asked_by}
 use Rattle.clk_machine.specs.Stands.{Stands, is_told, joins}
 use Rattle.clk_machine.specs.Sound.{IsSound}
-use Rattle.clk_machine.specs.Window.{HasDelays}
+use Rattle.core_parts.specs.Window.{HasDelays}
 
 -- a core as its opening and its journal, and what it knows of its bank
 pub record Run : Type 0 where

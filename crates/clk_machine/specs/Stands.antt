@@ -18,8 +18,8 @@ use Rattle.clk_base.specs.Description.{Description}
 use Rattle.clk_flight.specs.Flights.{Flies}
 use Rattle.notifiers.specs.Chains.{Tells}
 use Rattle.clk_model.specs.Begin.{most_credits}
-use Rattle.clk_machine.specs.Course.{IsAlong}
-use Rattle.clk_machine.specs.Holds.{TellsHolds}
+use Rattle.core_parts.specs.Course.{IsAlong}
+use Rattle.core_parts.specs.Holds.{TellsHolds}
 use Rattle.clk_machine.specs.Parts.{Parts, steps_left}
 use Rattle.clk_machine.specs.Sound.{IsSound}
 

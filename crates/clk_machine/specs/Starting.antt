@@ -7,7 +7,8 @@ use Rattle.clk_model.specs.Begin.{change_of}
 use Rattle.clk_model.specs.Script.{plls}
 use Rattle.clk_flight.specs.LeftOver.{step_weight}
 use Rattle.counts_core.specs.Counted.{CountState}
-use Rattle.clk_machine.specs.Parts.{Parts, rows_from, steps_left}
+use Rattle.core_parts.specs.Listed.{rows_from}
+use Rattle.clk_machine.specs.Parts.{Parts, steps_left}
 use Rattle.clk_machine.specs.Stands.{Stands, Remains}
 
 -- a call of a driver goes on with a script, by parts that stood for a state; this is done to the state, and a credit is spent

@@ -6,7 +6,7 @@ ghost use Rattle.clk_model.specs.State.{is_quiet};
 ghost use Rattle.clk_model.specs.Journal.{opening, replay, Legal, Polled, cost};
 ghost use Rattle.clk_model.specs.Fed.{Fed};
 ghost use Rattle.clk_model.specs.Begin.{most_credits};
-ghost use Rattle.clk_machine.specs.InFlight.{is_worked_out};
+ghost use Rattle.core_parts.specs.InFlight.{is_worked_out};
 
 use crate::log::Log;
 use crate::machine::Machine;
@@ -64,7 +64,7 @@ impl<B: Bank> Core<B> {
     ghost use Rattle.clk_machine.specs.Run.{Run, now_of, was_registered, in_flight, Appends, StepsOn, StepTurns};
     ghost use Rattle.clk_machine.specs.Row.{IsRowOf, IsTreeOf};
     ghost use Rattle.clk_machine.specs.Lawful.{KeepsLaws};
-    ghost use Rattle.clk_machine.specs.Window.{behind_of, HasDelays};
+    ghost use Rattle.core_parts.specs.Window.{behind_of, HasDelays};
 
     /// A core at its opening: the words are written to the bank, nothing is registered, and the
     /// journal is empty with room for all credits.

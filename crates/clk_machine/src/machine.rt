@@ -1,13 +1,10 @@
 //! The state of the machine, kept in parts.
 
-ghost use Rattle.std.specs.Prelude.{◌≡◌, ℕ, ◌+◌, ◌<◌, ◌≤◌, true, false, [], None, length, drop, replicate, is_some, IfSome, IfOk, IsOk, OnErr, Some};
-ghost use Rattle.std.specs.Option.{option_map};
+ghost use Rattle.std.specs.Prelude.{◌≡◌, ℕ, ◌+◌, ◌<◌, ◌≤◌, true, false, None, length, is_some, IfSome, IfOk, IsOk, OnErr, Some};
 ghost use Rattle.clk_base.specs.Valid.{IsValid};
 ghost use Rattle.clk_model.specs.State.{registered, handle_at};
 ghost use Rattle.clk_model.specs.Journal.{is_going, opening};
 ghost use Rattle.clk_model.specs.Begin.{most_credits};
-ghost use Rattle.counts_core.specs.Counted.{AreCounts};
-ghost use Rattle.notifiers.specs.Chains.{Tells};
 
 mod adopting;
 mod calls;
@@ -18,12 +15,9 @@ mod exclusives;
 mod holding;
 mod holds;
 mod landing;
-mod lifting;
 mod lowering;
-mod movable;
 mod moving;
 mod notifying;
-mod planning;
 mod probing;
 mod ranging;
 mod readying;
@@ -37,50 +31,19 @@ mod sweeping;
 mod telling;
 mod visiting;
 
-use crate::course::Course;
-use crate::held::Held;
 use crate::log::Log;
-use crate::window::Window;
 use clk_base::{Handle, Reply, Sleeping, Turn, ValidDesc};
 use clk_flight::Flight;
 use clk_io::NoMemory;
 use clk_model::HandleRow;
 use clk_tree::Tree;
+use core_parts::{Course, Held, Window, no_holds, nobody};
 use counts_core::Counts;
 use notifiers::Notifiers;
 use rate_requests::Requests;
 use reg_bank::Bank;
 use std::alloc::Global;
 use std::marker::Model;
-
-// No handle, no holder and no notifier of the clocks of a description.
-fn nobody(alloc: Global, desc: &ValidDesc) -> Result<(Requests, Counts, Notifiers), NoMemory>
-    ensures clocks { IfOk result (λ made. made.0.clocks ≡ length desc.now.defs) }
-    ensures handles { IfOk result (λ made. made.0.handles ≡ []) }
-    ensures defs { IfOk result (λ made. made.1.defs ≡ desc.now.defs) }
-    ensures links { IfOk result (λ made. made.1.links ≡ replicate (length desc.now.defs) None) }
-    ensures enables { IfOk result (λ made. made.1.enables ≡ replicate (length desc.now.defs) 0) }
-    ensures prepares { IfOk result (λ made. made.1.prepares ≡ replicate (length desc.now.defs) 0) }
-    ensures exclusives { IfOk result (λ made. made.1.exclusives ≡ replicate (length desc.now.defs) 0) }
-    ensures stands { IfOk result (λ made. AreCounts made.1) }
-    ensures chains { IfOk result (λ made. made.2 ≡ replicate (length desc.now.defs) []) }
-    ensures told { IfOk result (λ made. Tells made.2 []) }
-{
-    let handles = Requests::create(alloc, desc)?;
-    let counts = Counts::create(alloc, desc)?;
-    let notifiers = Notifiers::create(alloc, desc)?;
-    Ok((handles, counts, notifiers))
-}
-
-// No hold of so many clocks for a change: of prepares, and of enables.
-fn no_holds(alloc: Global, clocks: usize) -> Result<(Held, Held), NoMemory>
-    ensures prepares { IfOk result (λ made. made.0 ≡ replicate clocks 0) }
-    ensures enables { IfOk result (λ made. made.1 ≡ replicate clocks 0) }
-{
-    let prepares = Held::create(alloc, clocks)?;
-    let enables = Held::create(alloc, clocks)?;
-    Ok((prepares, enables))
-}
 
 /// The machine without its journal, seen by contracts as its parts. They stand for a state of the
 /// definitions.
@@ -117,12 +80,12 @@ impl<B: Bank> Model for Machine<B> {
 impl<B: Bank> Machine<B> {
     ghost use Rattle.clk_base.specs.declared.event.Event.TheVariants.{Begin};
     ghost use Rattle.clk_base.specs.declared.event.Turn.TheVariants.{Done};
-    ghost use Rattle.clk_machine.specs.InFlight.{is_worked_out, may_go_on};
+    ghost use Rattle.core_parts.specs.InFlight.{is_worked_out, may_go_on};
     ghost use Rattle.clk_machine.specs.Sound.{IsPlaced, takes_memory};
     ghost use Rattle.clk_machine.specs.Parts.{Parts, own_in, steps_left, IsWhole};
     ghost use Rattle.clk_machine.specs.Holding.{stays};
     ghost use Rattle.clk_machine.specs.Stands.{Stands, is_told, nothing, Becomes, Enters};
-    ghost use Rattle.clk_machine.specs.Window.{behind_of};
+    ghost use Rattle.core_parts.specs.Window.{behind_of};
 
     /// The machine at its opening. The words are written to the bank.
     pub(crate) fn create(

@@ -1,7 +1,7 @@
 //! A call that changes a rate or a parent, ready to begin.
 
-use crate::course::Course;
 use clk_base::{Errno, Micro};
+use core_parts::Course;
 
 /// What a change of a rate or a parent goes on with.
 #[derive(Drop)]

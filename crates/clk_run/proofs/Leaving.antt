@@ -17,8 +17,8 @@ use Rattle.clk_machine.specs.Lawful.{KeepsLaws}
 use Rattle.clk_machine.specs.Run.{Run}
 use Rattle.clk_run.specs.Outcomes.{status_of, generates, GivesBundle, Short}
 use Rattle.clk_run.specs.Cores.{HasCalls, PrintsRun, HasPrinted}
-use Rattle.clk_machine.specs.declared.behind.Behind.{Behind}
-use Rattle.clk_machine.specs.Window.{HasDelays, behind_of}
+use Rattle.core_parts.specs.declared.behind.Behind.{Behind}
+use Rattle.core_parts.specs.Window.{HasDelays, behind_of}
 use Rattle.reg_bank.specs.declared.pll_lock.PllLock.{PllLock}
 use Rattle.clk_run.specs.Runs.{Telling, drivers_in, scripts_of, opening_of, telling, armed_telling, told_by, IsTextOf, PrintedFront, LeftByFault}
 use Rattle.clk_run.specs.Texts.{run_text}

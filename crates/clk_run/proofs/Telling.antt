@@ -2,8 +2,8 @@
 use Rattle.std.proofs.Common.{◌≡◌, ℕ, Bool, List, Option, ap, ◌∙◌}
 use Rattle.std.specs.Prelude.{is_some}
 use Rattle.clk_machine.specs.Run.{Run}
-use Rattle.clk_machine.specs.declared.behind.Behind.{Behind}
-use Rattle.clk_machine.specs.Window.{behind_of}
+use Rattle.core_parts.specs.declared.behind.Behind.{Behind}
+use Rattle.core_parts.specs.Window.{behind_of}
 use Rattle.reg_bank.specs.declared.pll_lock.PllLock.{PllLock}
 use Rattle.clk_run.specs.Runs.{Telling, telling, told_by}
 

@@ -21,7 +21,7 @@ use Rattle.drv_scripts.specs.declared.bundle.Script.{Script}
 use Rattle.driver_runs.specs.Turns.{scripts_with}
 use Rattle.driver_runs.specs.Drivers.{FollowAll, are_among, boot_first}
 use Rattle.driver_threads.specs.Runs.{CanStart, HasRunOnThreads}
-use Rattle.clk_machine.specs.Window.{behind_of}
+use Rattle.core_parts.specs.Window.{behind_of}
 use Rattle.reg_bank.specs.declared.pll_lock.PllLock.{PllLock}
 use Rattle.clk_run.specs.Cores.{HasCalls, opened_for}
 use Rattle.clk_run.specs.Runs.{drivers_in, scripts_of, has_threads, opening_of, credits_of, InOrder, telling, told_by}

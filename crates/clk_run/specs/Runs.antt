@@ -24,7 +24,7 @@ use Rattle.clk_cli.specs.declared.cli.Mode.TheVariants.{Check, Sim, Bench}
 use Rattle.clk_cli.specs.declared.cli.Mode.TheVariants as mode
 use Rattle.clk_machine.specs.Lawful.{KeepsLaws}
 use Rattle.clk_machine.specs.Run.{Run}
-use Rattle.clk_machine.specs.Window.{HasDelays, delays_in, locks_of}
+use Rattle.core_parts.specs.Window.{HasDelays, delays_in, locks_of}
 use Rattle.driver_runs.specs.Drivers.{FollowAll, are_among, boot_first}
 use Rattle.driver_runs.specs.Turns.{scripts_with}
 use Rattle.clk_run.specs.Arming.{armed_by}

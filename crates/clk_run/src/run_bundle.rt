@@ -4,7 +4,7 @@ ghost use Rattle.std.specs.Prelude.{◌≡◌, ◌≤◌, [], length, drop, is_s
 ghost use Rattle.std.specs.Option.{option_map};
 ghost use Rattle.clk_io.specs.Counts.{CountsPrintFault};
 ghost use Rattle.clk_model.specs.Begin.{most_credits};
-ghost use Rattle.clk_machine.specs.Window.{behind_of};
+ghost use Rattle.core_parts.specs.Window.{behind_of};
 ghost use Rattle.drv_scripts.specs.Placed.{IsSound};
 ghost use Rattle.clk_run.specs.Runs.{armed_telling, credits_of, opening_of, telling, Printed, LeftByFault};
 

@@ -1,6 +1,6 @@
 //! What a registration lets adopt.
 
-ghost use Rattle.std.specs.Prelude.{◌≡◌, ◌<◌, ◌++◌, ◌||◌, ◌&&◌, ◌∷◌, [], true, false, length, slice_get, IfOk, IfSome, OnOk, Some};
+ghost use Rattle.std.specs.Prelude.{◌≡◌, ◌<◌, ◌∷◌, [], true, false, length, slice_get, IfOk, IfSome, OnOk, Some};
 ghost use Rattle.std.specs.List.{list_all};
 ghost use Rattle.std.specs.Option.{option_map};
 ghost use Rattle.clk_base.specs.Description.{parents_of};
@@ -10,62 +10,17 @@ ghost use Rattle.clk_model.specs.Holders.{prepared};
 ghost use Rattle.clk_model.specs.Lists.{is_in};
 ghost use Rattle.clk_model.specs.State.{State, registered};
 ghost use Rattle.clk_model.specs.Tree.{link_given, path_to_be};
-ghost use Rattle.clk_machine.specs.Adopting.{adopted, adoption_by, registration_of, is_beside, Adopts, AreProbeSteps};
+ghost use Rattle.clk_machine.specs.Adopting.{adopted, is_beside, Adopts, AreProbeSteps};
 ghost use Rattle.clk_machine.specs.Parts.{IsWhole};
 ghost use Rattle.clk_machine.specs.Sound.{IsSound};
 ghost use Rattle.clk_machine.specs.Stands.{Stands};
 
 use super::Machine;
-use crate::free::is_among;
 use clk_base::{ClockId, Micro, depth};
 use clk_io::NoMemory;
+use core_parts::{is_among, is_held, push_adoption_by, push_registration};
 use orphans::{adoptable, link_beside, link_of};
 use reg_bank::Bank;
-
-// The steps by which a parent adopts an orphan that is prepared or isn't, behind these.
-fn push_adoption_by(
-    steps: &mut Vec<Micro>,
-    orphan: ClockId,
-    parent: ClockId,
-    prepared: bool,
-) -> Result<(), NoMemory>
-    ensures { OnOk result (steps.new.items ≡ steps.old.items ++ adoption_by orphan parent prepared) }
-{
-    if prepared {
-        steps.extend_from_slice(&[
-            Micro::Raise(parent),
-            Micro::HoldPrepare(parent),
-            Micro::HoldEnable(parent),
-            Micro::HoldEnable(orphan),
-            Micro::Relink(orphan, parent),
-            Micro::DropEnable(orphan),
-            Micro::Settle(orphan),
-        ])?;
-    } else {
-        steps.extend_from_slice(&[Micro::Relink(orphan, parent), Micro::Settle(orphan)])?;
-    }
-    Ok(())
-}
-
-// The steps that register a clock that is critical or isn't, behind these.
-fn push_registration(steps: &mut Vec<Micro>, clock: ClockId, critical: bool) -> Result<(), NoMemory>
-    ensures { OnOk result (steps.new.items ≡ steps.old.items ++ registration_of critical clock) }
-{
-    if critical {
-        steps.extend_from_slice(&[Micro::Raise(clock), Micro::Register(clock)])?;
-    } else {
-        steps.push(Micro::Register(clock))?;
-    }
-    Ok(())
-}
-
-// Whether a clock is prepared that was so or not, and that stands above a critical clock or above one
-// that isn't.
-fn is_held(prepared: bool, critical: bool, above: bool) -> bool
-    ensures { result ≡ (prepared || (critical && above)) }
-{
-    prepared || (critical && above)
-}
 
 // The clock of an order at a place.
 fn clock_at(order: &[ClockId], place: usize) -> ClockId

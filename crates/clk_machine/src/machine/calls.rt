@@ -14,9 +14,9 @@ ghost use Rattle.clk_machine.specs.Parts.{IsWhole};
 ghost use Rattle.clk_machine.specs.Stands.{Stands, Enters};
 
 use super::Machine;
-use crate::handles::holds_something;
 use clk_base::{ClockId, Errno, Handle, Reply};
 use clk_io::NoMemory;
+use core_parts::holds_something;
 use reg_bank::Bank;
 
 impl<B: Bank> Machine<B> {

@@ -8,14 +8,15 @@ ghost use Rattle.clk_model.specs.State.{registered};
 ghost use Rattle.clk_model.specs.Step.{sets_parent};
 ghost use Rattle.clk_flight.specs.LeftOver.{step_weight};
 ghost use Rattle.clk_machine.specs.Changing.{StartsChange};
-ghost use Rattle.clk_machine.specs.Course.{notifiers_at, tells_all};
-ghost use Rattle.clk_machine.specs.InFlight.{can_link, changes_rate, is_script};
-ghost use Rattle.clk_machine.specs.Parts.{IsOwnCall, rows_from};
+ghost use Rattle.core_parts.specs.Course.{notifiers_at, tells_all};
+ghost use Rattle.core_parts.specs.InFlight.{can_link, changes_rate, is_script};
+ghost use Rattle.core_parts.specs.Listed.{rows_from};
+ghost use Rattle.clk_machine.specs.Parts.{IsOwnCall};
 
 use super::Machine;
-use crate::course::Course;
 use clk_flight::Start;
 use clk_io::NoMemory;
+use core_parts::Course;
 use reg_bank::Bank;
 
 impl<B: Bank> Machine<B> {

@@ -6,12 +6,9 @@ ghost use Rattle.clk_model.specs.Laws.PlansRead.{plans};
 ghost use Rattle.clk_machine.specs.Deciding.{ArePlannedOver, Decided, IsOwned};
 
 use super::Machine;
-use super::lifting::decide_lifted;
-use super::planning::decide_request;
-use crate::decision::Decision;
-use crate::seen::Seen;
 use clk_base::{Errno, Handle, Sleeping};
 use clk_io::NoMemory;
+use core_parts::{Decision, Seen, decide_lifted, decide_request};
 use reg_bank::Bank;
 
 // A rate between two others.

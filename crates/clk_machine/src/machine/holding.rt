@@ -7,10 +7,10 @@ ghost use Rattle.clk_machine.specs.Holding.{enabled_more, enabled_less, prepared
 ghost use Rattle.clk_machine.specs.Stands.{nothing, Becomes};
 
 use super::Machine;
-use crate::gates::{close_path, open_path};
 use clk_base::{ClockId, Handle};
 use clk_io::NoMemory;
 use clk_model::HandleRow;
+use core_parts::{close_path, open_path};
 use reg_bank::Bank;
 
 impl<B: Bank> Machine<B> {

@@ -10,9 +10,8 @@ ghost use Rattle.clk_machine.specs.Parts.{IsWhole};
 ghost use Rattle.clk_machine.specs.Stands.{Enters};
 
 use super::Machine;
-use crate::gates::{close_path, open_path};
-use crate::letting::let_go_path;
 use clk_base::{ClockId, depth};
+use core_parts::{close_path, let_go_path, open_path};
 use reg_bank::Bank;
 
 impl<B: Bank> Machine<B> {

@@ -10,7 +10,7 @@ ghost use Rattle.clk_base.specs.declared.event.Turn.TheVariants.{Done};
 ghost use Rattle.clk_base.specs.declared.handle.Handle.{Handle};
 ghost use Rattle.clk_model.specs.State.{registered, handle_at};
 ghost use Rattle.clk_model.specs.Begin.{request_between};
-ghost use Rattle.clk_machine.specs.InFlight.{ends_bare, is_called_off, handle_to_end};
+ghost use Rattle.core_parts.specs.InFlight.{ends_bare, is_called_off, handle_to_end};
 ghost use Rattle.clk_machine.specs.Landing.{IsLanding, Requests, PutsBack};
 ghost use Rattle.clk_machine.specs.Making.{ComesFirst};
 ghost use Rattle.clk_machine.specs.Parts.{own_in, IsWhole};

@@ -1,6 +1,6 @@
 //! The beginning of an unprepare, which may go on.
 
-ghost use Rattle.std.specs.Prelude.{◌≡◌, ◌+◌, ◌^◌, ◌<◌, ◌≤◌, true, false, [], ◌∷◌, Some, nat_le, is_some, slice_get, IfSome, IfOk, OnOk, OnErr};
+ghost use Rattle.std.specs.Prelude.{◌≡◌, ◌+◌, ◌<◌, ◌≤◌, false, [], ◌∷◌, Some, nat_le, is_some, slice_get, IfSome, IfOk, OnOk, OnErr};
 ghost use Rattle.clk_base.specs.declared.call.Micro.TheVariants.{Lower, End};
 ghost use Rattle.clk_base.specs.declared.call.Sleeping.TheVariants.{Unprepare};
 ghost use Rattle.clk_base.specs.declared.event.Event.TheVariants.{Begin};
@@ -11,28 +11,17 @@ ghost use Rattle.clk_model.specs.Script.{plls};
 ghost use Rattle.counts_core.specs.Counted.{AreCounts};
 ghost use Rattle.clk_machine.specs.Holding.{prepared_less, puts};
 ghost use Rattle.clk_machine.specs.Parts.{IsWhole};
-ghost use Rattle.clk_machine.specs.Plls.{lowerable};
+ghost use Rattle.core_parts.specs.Plls.{lowerable};
 ghost use Rattle.clk_machine.specs.Starting.{StartsCall, released};
 ghost use Rattle.clk_machine.specs.Stands.{Enters};
 
 use super::Machine;
-use super::starting::{ending, has_room};
-use crate::handles::keeps_prepare;
-use crate::plls::next_to_lower;
 use clk_base::{Errno, Handle, Micro, Reply, Sleeping, Turn};
 use clk_flight::Start;
 use clk_io::NoMemory;
 use clk_model::HandleRow;
+use core_parts::{ending, has_room, keeps_prepare, most_to_lower, next_to_lower};
 use reg_bank::Bank;
-
-/// How many entries a lower of a path's PLLs and the end come to at most, where a line has so many
-/// PLLs.
-pub(super) fn most_to_lower(plls: u32) -> u64
-    ensures most { result ≡ plls + 2 }
-    ensures small { result < 2 ^ 63 }
-{
-    u64::from(plls) + 2
-}
 
 impl<B: Bank> Machine<B> {
     // Whether a PLL above a handle's clock would be powered without a prepare, were a prepare of the

@@ -11,12 +11,10 @@ ghost use Rattle.clk_machine.specs.Making.{ComesFirst};
 ghost use Rattle.clk_machine.specs.Stands.{Enters};
 
 use super::Machine;
-use crate::dropping::{end_enables, end_prepares};
-use crate::linking::link_to;
-use crate::passing::{pass_enables, pass_prepares};
-use crate::settling::settle_below;
-use crate::visits::set_to;
 use clk_base::{ClockId, depth};
+use core_parts::{
+    end_enables, end_prepares, link_to, pass_enables, pass_prepares, set_to, settle_below,
+};
 use reg_bank::Bank;
 
 impl<B: Bank> Machine<B> {

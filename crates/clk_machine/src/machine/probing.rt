@@ -17,26 +17,24 @@ ghost use Rattle.clk_flight.specs.Flights.{own_step};
 ghost use Rattle.clk_flight.specs.LeftOver.{step_weight};
 ghost use Rattle.clk_machine.specs.Adopting.{adopted};
 ghost use Rattle.clk_machine.specs.Holding.{stays};
-ghost use Rattle.clk_machine.specs.InFlight.{can_link, is_script};
+ghost use Rattle.core_parts.specs.InFlight.{can_link, is_script};
 ghost use Rattle.clk_machine.specs.Making.{ComesFirst};
-ghost use Rattle.clk_machine.specs.Parts.{IsWhole, rows_from, steps_left};
+ghost use Rattle.core_parts.specs.Listed.{rows_from};
+ghost use Rattle.clk_machine.specs.Parts.{IsWhole, steps_left};
 ghost use Rattle.clk_machine.specs.Probing.{must_raise, goes_on};
 ghost use Rattle.clk_machine.specs.Sound.{IsSound};
 ghost use Rattle.clk_machine.specs.Stands.{Enters, Stands};
 ghost use Rattle.clk_machine.specs.Starting.{StartsCall};
 
 use super::Machine;
-use super::planning::fits;
-use crate::gates::open_path;
-use crate::kinds::is_critical;
-use crate::letting::let_go_under;
 use crate::log::Log;
-use crate::plls::is_unprepared_under;
-use crate::register::{given_parent, register_clock};
 use change_walk::weigh;
 use clk_base::{ClockId, Errno, Micro, Reply, Sleeping, Turn};
 use clk_flight::Start;
 use clk_io::NoMemory;
+use core_parts::{
+    fits, given_parent, is_critical, is_unprepared_under, let_go_under, open_path, register_clock,
+};
 use reg_bank::Bank;
 
 // Whether a registration goes on behind which orphans are adopted or none are, and for which a PLL has

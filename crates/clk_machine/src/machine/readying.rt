@@ -9,24 +9,21 @@ ghost use Rattle.clk_model.specs.Journal.{is_going};
 ghost use Rattle.clk_model.specs.State.{handle_at};
 ghost use Rattle.change_walk.specs.Changes.{AreThere};
 ghost use Rattle.clk_machine.specs.declared.readied.Readied.TheVariants.{AtOnce, Change};
-ghost use Rattle.clk_machine.specs.InFlight.{changes_rate, is_ranged};
+ghost use Rattle.core_parts.specs.InFlight.{changes_rate, is_ranged};
 ghost use Rattle.clk_machine.specs.Parts.{own_in, IsOwnCall, IsWhole, steps_left};
 ghost use Rattle.clk_machine.specs.Readying.{CanBeginSo, CanGoAlong, IsReady, Scripts, moves_well, weight_of};
 ghost use Rattle.clk_machine.specs.Stands.{Enters};
 
 use super::Machine;
-use super::movable::can_go_along;
-use crate::course::Course;
-use crate::decision::Decision;
 use crate::log::Log;
 use crate::readied::{Readied, Scripted};
-use crate::scripted::told_clocks;
 use change_walk::StepList;
 use clk_base::{Errno, Handle, Reply, Sleeping, Turn};
 use clk_flight::Start;
 use clk_io::NoMemory;
 use clk_model::HandleRow;
 use clk_tree::Plan;
+use core_parts::{Course, Decision, can_go_along, told_clocks};
 use reg_bank::Bank;
 
 // How many entries a call that was made ready may come to besides its own.

@@ -14,10 +14,8 @@ ghost use Rattle.clk_machine.specs.Sound.{IsSound};
 ghost use Rattle.clk_machine.specs.Stands.{Stands, Becomes, Enters};
 
 use super::Machine;
-use crate::gates::open_path;
-use crate::kinds::is_critical;
-use crate::register::register_clock;
 use clk_base::ClockId;
+use core_parts::{is_critical, open_path, register_clock};
 use reg_bank::Bank;
 
 impl<B: Bank> Machine<B> {

@@ -9,9 +9,9 @@ ghost use Rattle.clk_machine.specs.Row.{IsRowOf};
 ghost use Rattle.clk_machine.specs.Stands.{Stands};
 
 use super::Machine;
-use crate::gates::switch_state;
 use crate::row::Row;
 use clk_base::ClockId;
+use core_parts::switch_state;
 use reg_bank::Bank;
 
 impl<B: Bank> Machine<B> {

@@ -1,6 +1,6 @@
 //! The beginning of a prepare, which may go on.
 
-ghost use Rattle.std.specs.Prelude.{◌≡◌, ◌+◌, ◌*◌, ◌^◌, ◌<◌, ◌≤◌, true, false, [], ◌∷◌, Some, nat_le, IfOk, IsOk, OnOk, OnErr};
+ghost use Rattle.std.specs.Prelude.{◌≡◌, ◌+◌, ◌*◌, ◌<◌, ◌≤◌, true, false, [], ◌∷◌, Some, nat_le, IfOk, OnOk, OnErr};
 ghost use Rattle.std.specs.List.{list_any};
 ghost use Rattle.clk_base.specs.declared.call.Micro.TheVariants.{Raise, End};
 ghost use Rattle.clk_base.specs.declared.call.Sleeping.TheVariants.{Prepare};
@@ -11,45 +11,17 @@ ghost use Rattle.clk_model.specs.Begin.{most_credits};
 ghost use Rattle.clk_model.specs.Script.{plls};
 ghost use Rattle.clk_machine.specs.Holding.{stays};
 ghost use Rattle.clk_machine.specs.Parts.{own_in, IsWhole};
-ghost use Rattle.clk_machine.specs.Plls.{is_loose};
+ghost use Rattle.core_parts.specs.Plls.{is_loose};
 ghost use Rattle.clk_machine.specs.Starting.{StartsCall};
 ghost use Rattle.clk_machine.specs.Stands.{Enters};
 
 use super::Machine;
-use crate::plls::is_unprepared;
-use clk_base::{ClockId, Errno, Handle, MOST_CREDITS, Micro, Reply, Sleeping, Turn};
+use clk_base::{ClockId, Errno, Handle, Micro, Reply, Sleeping, Turn};
 use clk_flight::Start;
 use clk_io::NoMemory;
 use clk_model::HandleRow;
+use core_parts::{ending, has_room, is_unprepared, most_to_raise};
 use reg_bank::Bank;
-use std::alloc::Global;
-
-/// A script of this step and the end.
-pub(super) fn ending(alloc: Global, first: Micro) -> Result<Vec<Micro>, NoMemory>
-    ensures { IfOk result (λ steps. steps.items ≡ first ∷ End ∷ []) }
-{
-    let mut steps = Vec::with_capacity(alloc, 2)?;
-    steps.push_reserved(first);
-    steps.push_reserved(Micro::End);
-    Ok(steps)
-}
-
-/// How many entries a raise of a path's PLLs and the end come to at most, where a line has so many
-/// PLLs.
-pub(super) fn most_to_raise(plls: u32) -> u64
-    ensures most { result ≡ 34 * plls + 2 }
-    ensures small { result < 2 ^ 63 }
-{
-    34 * u64::from(plls) + 2
-}
-
-/// Whether there is room for so many entries of steps behind credits and steps that were made.
-pub(super) fn has_room(credits: u32, steps: u32, most: u64) -> bool
-    requires { most < 2 ^ 63 }
-    ensures { result ≡ nat_le (credits + steps + most) most_credits }
-{
-    u64::from(credits) + u64::from(steps) + most <= u64::from(MOST_CREDITS)
-}
 
 impl<B: Bank> Machine<B> {
     // Whether a PLL above a clock is kept powered by no prepare.

@@ -7,20 +7,20 @@ ghost use Rattle.clk_base.specs.declared.event.Turn.TheVariants.{Going};
 ghost use Rattle.clk_model.specs.State.{registered};
 ghost use Rattle.clk_model.specs.Tree.{path, path_to_be};
 ghost use Rattle.clk_flight.specs.Flights.{own_step, comes_next};
-ghost use Rattle.clk_machine.specs.InFlight.{is_near};
+ghost use Rattle.core_parts.specs.InFlight.{is_near};
 ghost use Rattle.clk_machine.specs.Making.{ComesFirst, ComesNext, FindsNothing};
 ghost use Rattle.clk_machine.specs.Parts.{IsWhole};
 ghost use Rattle.clk_machine.specs.Polls.{FollowsLocks, PollsLock, StartsLock};
-ghost use Rattle.clk_machine.specs.Plls.{raisable, lowerable, Finds};
+ghost use Rattle.core_parts.specs.Plls.{raisable, lowerable, Finds};
 ghost use Rattle.clk_machine.specs.Sound.{links_well};
 ghost use Rattle.clk_machine.specs.Stands.{Enters};
 
 use super::Machine;
-use crate::plls::{Sought, next_to_lower, next_to_raise, next_to_raise_under};
-use crate::power::set_power;
-use crate::register::given_parent;
-use crate::work::{Made, Work, going_on, work_of};
 use clk_base::{ClockId, Micro, Turn};
+use core_parts::{
+    Made, Sought, Work, given_parent, going_on, next_to_lower, next_to_raise, next_to_raise_under,
+    set_power, work_of,
+};
 use reg_bank::Bank;
 
 impl<B: Bank> Machine<B> {

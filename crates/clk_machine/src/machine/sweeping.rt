@@ -18,7 +18,7 @@ ghost use Rattle.clk_model.specs.Script.{lets_through, runs, sweep_script};
 ghost use Rattle.clk_model.specs.State.{State, registered};
 ghost use Rattle.clk_flight.specs.Flights.{own_step};
 ghost use Rattle.clk_machine.specs.Holding.{stays};
-ghost use Rattle.clk_machine.specs.InFlight.{is_script};
+ghost use Rattle.core_parts.specs.InFlight.{is_script};
 ghost use Rattle.clk_machine.specs.Making.{ComesFirst};
 ghost use Rattle.clk_machine.specs.Parts.{IsWhole, steps_left};
 ghost use Rattle.clk_machine.specs.Stands.{Enters, Stands};
@@ -26,15 +26,12 @@ ghost use Rattle.clk_machine.specs.Starting.{StartsCall};
 ghost use Rattle.clk_machine.specs.Sweeping.{Adds, closes, unpowers, close_step, unpower_step, are_light};
 
 use super::Machine;
-use super::planning::fits;
-use crate::gates::{close_gate, is_open};
 use crate::log::Log;
-use crate::power::{is_running, set_power};
-use crate::window::Window;
 use bitflags::Flags;
 use clk_base::{ClkFlags, ClockId, Errno, Kind, Micro, Reply, Sleeping, Turn};
 use clk_flight::Start;
 use clk_io::NoMemory;
+use core_parts::{Window, close_gate, fits, is_open, is_running, set_power};
 use reg_bank::Bank;
 use unused_sweep::sweep_order;
 

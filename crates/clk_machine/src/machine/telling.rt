@@ -4,16 +4,15 @@ ghost use Rattle.std.specs.Prelude.{◌≡◌, ◌+◌, ◌^◌, ◌<◌, ◌≤
 ghost use Rattle.std.specs.Option.{option_map};
 ghost use Rattle.clk_model.specs.State.{State, is_quiet};
 ghost use Rattle.clk_base.specs.declared.event.Event.TheVariants.{Begin};
-ghost use Rattle.clk_machine.specs.InFlight.{is_worked_out};
+ghost use Rattle.core_parts.specs.InFlight.{is_worked_out};
 ghost use Rattle.clk_machine.specs.Row.{IsTreeOf};
 ghost use Rattle.clk_machine.specs.Sound.{takes_memory};
 ghost use Rattle.clk_machine.specs.Stands.{Stands, is_told, most_steps};
 
 use super::Machine;
-use super::lowering::most_to_lower;
-use super::starting::most_to_raise;
 use clk_base::{Sleeping, ValidDesc};
 use clk_tree::Tree;
+use core_parts::{most_to_lower, most_to_raise};
 use reg_bank::Bank;
 
 impl<B: Bank> Machine<B> {

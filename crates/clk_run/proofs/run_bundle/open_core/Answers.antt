@@ -2,7 +2,7 @@ use Rattle.std.proofs.Common.{◌≡◌, ℕ, ◌≤◌, refl, subst, sym, lengt
 use Rattle.std.specs.Prelude.{Bool, IfOk}
 use Rattle.clk_base.specs.Checked.{Checked}
 use Rattle.clk_machine.specs.Run.{Run}
-use Rattle.clk_machine.specs.Window.{behind_of}
+use Rattle.core_parts.specs.Window.{behind_of}
 use Rattle.clk_model.specs.Begin.{most_credits}
 use Rattle.clk_model.specs.Journal.{opening}
 use Rattle.clk_model.specs.State.{State}

@@ -6,7 +6,7 @@ use Rattle.clk_io.specs.Counts.{RisesAtWrite}
 use Rattle.clk_io.specs.declared.faults.PrintFault.{PrintFault}
 use Rattle.drv_scripts.specs.declared.bundle.Bundle.{Bundle}
 use Rattle.clk_model.specs.State.{State}
-use Rattle.clk_machine.specs.declared.behind.Behind.{Behind}
+use Rattle.core_parts.specs.declared.behind.Behind.{Behind}
 use Rattle.clk_run.specs.Runs.{Telling, telling, IsTextOf, LeftByFault}
 use Rattle.clk_run.proofs.Leaving.{bank_back, same_behind}
 use Rattle.clk_run.proofs.Telling.{telling_from}

@@ -3,7 +3,7 @@ use Rattle.std.specs.Prelude.{is_some, Bool}
 use Rattle.std.proofs.lemmas.Result.{err_from_is_err_and}
 use Rattle.clk_io.specs.Counts.{RisesAtWrite}
 use Rattle.clk_model.specs.State.{State}
-use Rattle.clk_machine.specs.declared.behind.Behind.{Behind}
+use Rattle.core_parts.specs.declared.behind.Behind.{Behind}
 use Rattle.clk_run.specs.Runs.{Telling, telling, IsTextOf, LeftByFault}
 use Rattle.clk_run.proofs.Leaving.{bank_back, same_behind, printed_whole, printed_front}
 use Rattle.clk_run.proofs.Readiness.{few_credits}

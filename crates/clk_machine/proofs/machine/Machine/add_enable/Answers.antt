@@ -2,7 +2,7 @@ use Rattle.std.proofs.Common.{◌≡◌, ◌<◌, ◌+◌, ◌∙◌, refl, arit
 use Rattle.clk_model.specs.State.{handle_at}
 use Rattle.clk_machine.specs.Parts.{Parts, parts_of}
 use Rattle.clk_machine.specs.Holding.{enabled_more}
-use Rattle.clk_machine.proofs.Moving.{links_within}
+use Rattle.core_parts.proofs.Moving.{links_within}
 use Rattle.clk_machine.proofs.Following.{becomes_opened, tied_opened}
 use Rattle.clk_machine.proofs.Room.{row_few, enable_room}
 use Rattle.clk_machine.proofs.Rows.{counted_place}

@@ -9,7 +9,7 @@ use Rattle.clk_model.specs.declared.row.ClockRow.{ClockRow}
 use Rattle.clk_flight.specs.Flights.{own_step}
 use Rattle.clk_machine.specs.Making.{ComesFirst}
 use Rattle.clk_machine.specs.Parts.{Parts, parts_of}
-use Rattle.clk_machine.proofs.Moving.{clock_within}
+use Rattle.core_parts.proofs.Moving.{clock_within}
 use Rattle.clk_model.proofs.WholePathLaws.{linked_other}
 use Rattle.clk_machine.proofs.Registering.{other_links}
 use Rattle.clk_machine.proofs.Rows.{counted_place}

@@ -12,7 +12,7 @@ use Rattle.clk_model.specs.State.{registered}
 use Rattle.clk_model.proofs.EventLaws.{probe-twice}
 use Rattle.clk_flight.specs.LeftOver.{step_weight}
 use Rattle.clk_machine.specs.Holding.{stays}
-use Rattle.clk_machine.specs.Parts.{rows_from}
+use Rattle.core_parts.specs.Listed.{rows_from}
 use Rattle.clk_machine.proofs.Entered.{enters}
 use Rattle.clk_machine.proofs.Flying.{quiet_stands}
 use Rattle.clk_machine.proofs.Probing.{may_probe, probe_refused, probe_links, probe_script_is, enters_probe}

@@ -5,7 +5,7 @@ use Rattle.clk_flight.specs.Flights.{own_step}
 use Rattle.clk_machine.specs.Making.{ComesFirst}
 use Rattle.clk_machine.specs.Parts.{Parts, parts_of}
 use Rattle.clk_machine.specs.Stands.{Stands}
-use Rattle.clk_machine.proofs.Moving.{clock_within}
+use Rattle.core_parts.proofs.Moving.{clock_within}
 use Rattle.clk_machine.proofs.Sweeping.{Switched, clock_switched, gate_there, tied_gate, told_gate, closes_gate, whole_switched, switch_enters}
 use Rattle.clk_machine.proofs.machine.Machine.close.Goals as goal
 

@@ -8,7 +8,7 @@ use Rattle.clk_machine.specs.Parts.{Parts, parts_of}
 use Rattle.clk_machine.proofs.HoldsMaking.{held_there}
 use Rattle.clk_machine.proofs.EnableHolds.{DropsEnabled, dropped_of, drop_enters}
 use Rattle.clk_machine.proofs.LinkSteps.{Stepped}
-use Rattle.clk_machine.proofs.Moving.{clock_within, links_within}
+use Rattle.core_parts.proofs.Moving.{clock_within, links_within}
 use Rattle.clk_machine.proofs.Relinking.{whole_relinked}
 use Rattle.clk_machine.proofs.Room.{enable_place, enable_owned}
 use Rattle.clk_machine.proofs.Rows.{counted_place}

@@ -8,7 +8,7 @@ use Rattle.clk_machine.specs.Parts.{Parts, parts_of}
 use Rattle.clk_machine.proofs.HoldsMaking.{held_there}
 use Rattle.clk_machine.proofs.PrepareHolds.{DropsPrepared, freed_of, free_enters}
 use Rattle.clk_machine.proofs.LinkSteps.{Stepped}
-use Rattle.clk_machine.proofs.Moving.{clock_within}
+use Rattle.core_parts.proofs.Moving.{clock_within}
 use Rattle.clk_machine.proofs.Relinking.{whole_relinked}
 use Rattle.clk_machine.proofs.Room.{prepare_place, prepare_owned}
 use Rattle.clk_machine.proofs.Rows.{counted_place}

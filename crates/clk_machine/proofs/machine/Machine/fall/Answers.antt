@@ -3,13 +3,14 @@ use Rattle.clk_base.specs.declared.call.Micro.TheVariants as micro
 use Rattle.clk_base.specs.declared.clock.ClockDef.{ClockDef}
 use Rattle.clk_model.specs.State.{registered}
 use Rattle.clk_flight.specs.Flights.{FlightState, comes_next}
-use Rattle.clk_machine.specs.InFlight.{IsUnderWay}
+use Rattle.core_parts.specs.InFlight.{IsUnderWay}
 use Rattle.clk_machine.specs.Making.{ComesFirst}
 use Rattle.clk_machine.specs.Parts.{Parts, parts_of}
-use Rattle.clk_machine.proofs.StepsInFlight.{under_way-fallen, fall_in_front}
-use Rattle.clk_machine.proofs.Keeping.{along-fallen}
-use Rattle.clk_machine.proofs.Making.{SameCall, KeepsAlong, whole_stepped}
-use Rattle.clk_machine.proofs.Powering.{tied_powered}
+use Rattle.core_parts.proofs.StepsInFlight.{under_way-fallen, fall_in_front}
+use Rattle.core_parts.proofs.Keeping.{along-fallen}
+use Rattle.core_parts.proofs.SameCall.{SameCall, KeepsAlong}
+use Rattle.clk_machine.proofs.Making.{whole_stepped}
+use Rattle.core_parts.proofs.Powering.{tied_powered}
 use Rattle.clk_machine.proofs.Raising.{fallen_place, power_lies, power_made, fall_enters, fall_less}
 use Rattle.clk_machine.proofs.machine.Machine.fall.Goals as goal
 

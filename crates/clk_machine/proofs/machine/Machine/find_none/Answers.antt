@@ -1,12 +1,14 @@
 use Rattle.std.proofs.Common.{◌≡◌, ◌∙◌, ◌+◌, true, Some, refl, sym, ap, subst}
 use Rattle.clk_model.specs.State.{registered}
 use Rattle.clk_flight.specs.Flights.{FlightState, seeks_plls, own_step}
-use Rattle.clk_machine.specs.InFlight.{IsUnderWay}
+use Rattle.core_parts.specs.InFlight.{IsUnderWay}
 use Rattle.clk_machine.specs.Making.{FindsNothing}
-use Rattle.clk_machine.specs.Parts.{Parts, parts_of, rows_from}
-use Rattle.clk_machine.proofs.StepsInFlight.{under_way-none}
-use Rattle.clk_machine.proofs.Keeping.{along-none}
-use Rattle.clk_machine.proofs.Making.{SameCall, KeepsAlong, whole_stepped}
+use Rattle.core_parts.specs.Listed.{rows_from}
+use Rattle.clk_machine.specs.Parts.{Parts, parts_of}
+use Rattle.core_parts.proofs.StepsInFlight.{under_way-none}
+use Rattle.core_parts.proofs.Keeping.{along-none}
+use Rattle.core_parts.proofs.SameCall.{SameCall, KeepsAlong}
+use Rattle.clk_machine.proofs.Making.{whole_stepped}
 use Rattle.clk_machine.proofs.Raising.{seeks_of, none_enters}
 use Rattle.clk_machine.proofs.Polling.{starts_none}
 use Rattle.clk_machine.proofs.machine.Machine.find_none.Goals as goal

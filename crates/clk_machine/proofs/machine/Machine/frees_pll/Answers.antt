@@ -5,9 +5,9 @@ use Rattle.clk_model.specs.State.{handle_at}
 use Rattle.clk_model.specs.Tree.{path}
 use Rattle.counts_core.specs.Counted.{CountState, AreCounts}
 use Rattle.clk_machine.specs.Parts.{Parts, parts_of, IsWhole}
-use Rattle.clk_machine.specs.Plls.{lowerable}
+use Rattle.core_parts.specs.Plls.{lowerable}
 use Rattle.clk_machine.proofs.Lowering.{held_again, found_some, small_again}
-use Rattle.clk_machine.proofs.Moving.{links_within}
+use Rattle.core_parts.proofs.Moving.{links_within}
 use Rattle.clk_machine.proofs.Room.{prepare_held, prepare_room}
 use Rattle.clk_machine.proofs.Rows.{counted_place}
 use Rattle.clk_machine.proofs.Writing.{row_place}

@@ -5,7 +5,7 @@ use Rattle.clk_model.specs.State.{registered}
 use Rattle.clk_flight.specs.Flights.{own_step}
 use Rattle.clk_machine.specs.Parts.{Parts, parts_of}
 use Rattle.clk_machine.proofs.HoldsMaking.{held_there}
-use Rattle.clk_machine.proofs.Moving.{clock_within}
+use Rattle.core_parts.proofs.Moving.{clock_within}
 use Rattle.clk_machine.proofs.Room.{prepare_place}
 use Rattle.clk_machine.proofs.machine.Machine.held_prepared.Goals as goal
 

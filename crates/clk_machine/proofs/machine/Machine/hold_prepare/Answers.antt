@@ -3,13 +3,13 @@ use Rattle.clk_base.specs.declared.call.Micro.TheVariants as micro
 use Rattle.clk_model.specs.State.{registered, link_in}
 use Rattle.clk_model.specs.Tree.{path_within}
 use Rattle.clk_flight.specs.Flights.{own_step}
-use Rattle.clk_machine.specs.Letting.{LetsGoAll}
+use Rattle.core_parts.specs.Letting.{LetsGoAll}
 use Rattle.clk_machine.specs.Making.{ComesFirst}
 use Rattle.clk_machine.specs.Parts.{Parts, parts_of}
 use Rattle.clk_machine.proofs.HoldsMaking.{held_there}
 use Rattle.clk_machine.proofs.PrepareHolds.{HoldsPrepared, prepared_of, prepare_enters}
 use Rattle.clk_machine.proofs.LinkSteps.{Stepped}
-use Rattle.clk_machine.proofs.Moving.{clock_within}
+use Rattle.core_parts.proofs.Moving.{clock_within}
 use Rattle.clk_machine.proofs.Relinking.{front_gone, whole_relinked}
 use Rattle.clk_machine.proofs.Room.{prepare_room, prepare_place, prepare_hold_room}
 use Rattle.clk_machine.proofs.Rows.{counted_place}

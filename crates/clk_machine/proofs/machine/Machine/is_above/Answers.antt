@@ -8,7 +8,7 @@ use Rattle.clk_model.specs.State.{registered, link_in}
 use Rattle.clk_model.specs.Tree.{link_given, path_within}
 use Rattle.clk_machine.specs.Parts.{Parts, parts_of}
 use Rattle.clk_machine.proofs.Adopting.{above_to_be}
-use Rattle.clk_machine.proofs.Registering.{given_first}
+use Rattle.core_parts.proofs.RegisteredTree.{given_first}
 use Rattle.clk_machine.proofs.machine.Machine.is_above.Goals as goal
 
 pub returns-in-Some : goal.returns-in-Some

@@ -8,7 +8,7 @@ use Rattle.clk_base.specs.Fields.{power_of}
 use Rattle.clk_model.specs.Kinds.{is_powered}
 use Rattle.clk_model.specs.State.{registered}
 use Rattle.clk_machine.specs.Parts.{Parts, parts_of}
-use Rattle.clk_machine.proofs.Moving.{clock_within}
+use Rattle.core_parts.proofs.Moving.{clock_within}
 use Rattle.clk_machine.proofs.Sweeping.{power_there}
 use Rattle.clk_machine.proofs.machine.Machine.is_powered.Goals as goal
 

@@ -1,7 +1,7 @@
 use Rattle.std.proofs.Common.{◌≡◌, ◌∙◌, true}
 use Rattle.clk_model.specs.State.{registered}
 use Rattle.clk_machine.specs.Parts.{Parts, parts_of}
-use Rattle.clk_machine.proofs.Moving.{clock_within}
+use Rattle.core_parts.proofs.Moving.{clock_within}
 use Rattle.clk_machine.proofs.Rows.{counted_place, holds_stand}
 use Rattle.clk_machine.proofs.machine.Machine.is_prepared.Goals as goal
 

@@ -2,7 +2,7 @@ use Rattle.std.proofs.Common.{◌≡◌, true, sym, subst}
 use Rattle.clk_base.specs.declared.call.Micro.TheVariants as micro
 use Rattle.clk_machine.specs.Making.{ComesFirst}
 use Rattle.clk_machine.specs.Parts.{Parts, parts_of}
-use Rattle.clk_machine.specs.InFlight.{ends_bare}
+use Rattle.core_parts.specs.InFlight.{ends_bare}
 use Rattle.clk_machine.proofs.Ending.{whole_landed, end_enters}
 use Rattle.clk_machine.proofs.Landings.{bare_ends}
 use Rattle.clk_machine.proofs.machine.Machine.land.Goals as goal

@@ -8,7 +8,7 @@ use Rattle.clk_flight.specs.Flights.{FlightState}
 use Rattle.clk_base.specs.declared.call.Sleeping.TheVariants as call
 use Rattle.clk_machine.specs.Making.{ComesFirst}
 use Rattle.counts_core.specs.Counted.{CountState, is_active}
-use Rattle.clk_machine.specs.InFlight.{is_called_off}
+use Rattle.core_parts.specs.InFlight.{is_called_off}
 use Rattle.clk_machine.proofs.Ending.{IsRequested, with_ended, whole_ended, whole_requested, end_enters}
 use Rattle.clk_machine.proofs.Landings.{held_ends, row_among}
 use Rattle.clk_machine.proofs.Room.{row_few, exclusive_room}

@@ -6,7 +6,7 @@ use Rattle.clk_base.specs.declared.call.Micro.TheVariants as micro
 use Rattle.clk_base.specs.declared.call.Sleeping.TheVariants as call
 use Rattle.clk_machine.specs.Making.{ComesFirst}
 use Rattle.counts_core.specs.Counted.{CountState, is_active}
-use Rattle.clk_machine.specs.InFlight.{is_called_off}
+use Rattle.core_parts.specs.InFlight.{is_called_off}
 use Rattle.clk_machine.proofs.Ending.{whole_ended, end_enters}
 use Rattle.clk_machine.proofs.Landings.{prepared_ends}
 use Rattle.clk_machine.proofs.Room.{row_few, prepare_room}

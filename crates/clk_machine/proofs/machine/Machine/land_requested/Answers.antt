@@ -8,7 +8,7 @@ use Rattle.clk_machine.specs.Parts.{Parts, parts_of}
 use Rattle.clk_machine.proofs.Ending.{IsRequested, whole_landed, whole_requested, end_enters}
 use Rattle.clk_machine.proofs.Landings.{requested_ends, clock_among}
 use Rattle.clk_machine.proofs.Making.{with_step}
-use Rattle.clk_machine.proofs.Moving.{clock_within}
+use Rattle.core_parts.proofs.Moving.{clock_within}
 use Rattle.clk_machine.proofs.machine.Machine.land_requested.Goals as goal
 
 pub set_last_request-requires : goal.set_last_request-requires

@@ -8,7 +8,7 @@ use Rattle.clk_base.specs.Fields.{gate_of}
 use Rattle.clk_model.specs.Kinds.{is_open}
 use Rattle.clk_model.specs.State.{registered}
 use Rattle.clk_machine.specs.Parts.{Parts, parts_of}
-use Rattle.clk_machine.proofs.Moving.{clock_within}
+use Rattle.core_parts.proofs.Moving.{clock_within}
 use Rattle.clk_machine.proofs.Sweeping.{gate_there}
 use Rattle.clk_machine.proofs.machine.Machine.lets_through.Goals as goal
 

@@ -1,6 +1,6 @@
 use Rattle.std.proofs.Common.{List, ℕ}
 use Rattle.clk_model.specs.Tree.{path}
-use Rattle.clk_machine.specs.Plls.{lowerable}
+use Rattle.core_parts.specs.Plls.{lowerable}
 use Rattle.clk_machine.proofs.Working.{finds_some_told, lower_nothing}
 use Rattle.clk_machine.proofs.machine.Machine.lower.Goals as goal
 

@@ -6,7 +6,7 @@ use Rattle.clk_base.specs.Flags.{is_critical}
 use Rattle.clk_model.specs.State.{registered}
 use Rattle.clk_machine.specs.Parts.{Parts, parts_of}
 use Rattle.clk_machine.specs.Stands.{Stands}
-use Rattle.clk_machine.proofs.Moving.{links_within, clock_within}
+use Rattle.core_parts.proofs.Moving.{links_within, clock_within}
 use Rattle.clk_machine.proofs.Probing.{must_plain, must_critical}
 use Rattle.clk_machine.proofs.machine.Machine.must_raise.Goals as goal
 

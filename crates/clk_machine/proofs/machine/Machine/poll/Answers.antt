@@ -2,15 +2,17 @@ use Rattle.std.proofs.Common.{◌≡◌, true, Some, sym, subst}
 use Rattle.clk_base.specs.declared.call.Micro.TheVariants as micro
 use Rattle.clk_model.specs.State.{registered}
 use Rattle.clk_flight.specs.Flights.{FlightState, own_step}
-use Rattle.clk_machine.specs.InFlight.{IsUnderWay}
+use Rattle.core_parts.specs.InFlight.{IsUnderWay}
 use Rattle.clk_machine.specs.Making.{ComesFirst}
-use Rattle.clk_machine.specs.Parts.{Parts, parts_of, rows_from}
-use Rattle.clk_machine.proofs.InFlight.{poll_in_front}
-use Rattle.clk_machine.proofs.StepsInFlight.{under_way-polled}
-use Rattle.clk_machine.proofs.Keeping.{along-polled}
-use Rattle.clk_machine.proofs.Making.{SameCall, KeepsAlong, whole_stepped, same_polled}
+use Rattle.core_parts.specs.Listed.{rows_from}
+use Rattle.clk_machine.specs.Parts.{Parts, parts_of}
+use Rattle.core_parts.proofs.InFlight.{poll_in_front}
+use Rattle.core_parts.proofs.StepsInFlight.{under_way-polled}
+use Rattle.core_parts.proofs.Keeping.{along-polled}
+use Rattle.core_parts.proofs.SameCall.{SameCall, KeepsAlong, same_polled}
+use Rattle.clk_machine.proofs.Making.{whole_stepped}
 use Rattle.clk_machine.proofs.Polling.{polled_again}
-use Rattle.clk_machine.proofs.Powering.{tied_same}
+use Rattle.core_parts.proofs.Powering.{tied_same}
 use Rattle.clk_machine.proofs.Raising.{polled_place, known_pll, poll_enters}
 use Rattle.clk_machine.proofs.machine.Machine.poll.Goals as goal
 

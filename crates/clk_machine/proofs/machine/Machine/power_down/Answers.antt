@@ -5,14 +5,16 @@ use Rattle.clk_base.specs.declared.clock.ClockDef.{ClockDef}
 use Rattle.clk_model.specs.State.{registered}
 use Rattle.clk_model.specs.Tree.{path}
 use Rattle.clk_flight.specs.Flights.{FlightState, own_step}
-use Rattle.clk_machine.specs.InFlight.{IsUnderWay}
+use Rattle.core_parts.specs.InFlight.{IsUnderWay}
 use Rattle.clk_machine.specs.Making.{ComesFirst}
-use Rattle.clk_machine.specs.Parts.{Parts, parts_of, rows_from}
-use Rattle.clk_machine.specs.Plls.{lowerable, Finds}
-use Rattle.clk_machine.proofs.StepsInFlight.{under_way-lowered}
-use Rattle.clk_machine.proofs.Keeping.{along-lowered}
-use Rattle.clk_machine.proofs.Making.{SameCall, KeepsAlong, whole_stepped}
-use Rattle.clk_machine.proofs.Powering.{tied_powered}
+use Rattle.core_parts.specs.Listed.{rows_from}
+use Rattle.clk_machine.specs.Parts.{Parts, parts_of}
+use Rattle.core_parts.specs.Plls.{lowerable, Finds}
+use Rattle.core_parts.proofs.StepsInFlight.{under_way-lowered}
+use Rattle.core_parts.proofs.Keeping.{along-lowered}
+use Rattle.core_parts.proofs.SameCall.{SameCall, KeepsAlong}
+use Rattle.clk_machine.proofs.Making.{whole_stepped}
+use Rattle.core_parts.proofs.Powering.{tied_powered}
 use Rattle.clk_machine.proofs.Raising.{power_lies, power_made, lower_enters}
 use Rattle.clk_machine.proofs.machine.Machine.power_down.Goals as goal
 

@@ -4,20 +4,22 @@ use Rattle.clk_base.specs.declared.clock.ClockDef.{ClockDef}
 use Rattle.clk_model.specs.State.{registered}
 use Rattle.clk_model.specs.Tree.{path_to_be}
 use Rattle.clk_flight.specs.Flights.{FlightState, own_step}
-use Rattle.clk_machine.specs.InFlight.{is_near, IsUnderWay}
+use Rattle.core_parts.specs.InFlight.{is_near, IsUnderWay}
 use Rattle.clk_machine.specs.Making.{ComesFirst}
-use Rattle.clk_machine.specs.Parts.{Parts, parts_of, rows_from}
-use Rattle.clk_machine.specs.Plls.{raisable, Finds}
-use Rattle.clk_machine.proofs.StepsInFlight.{under_way-raised}
-use Rattle.clk_machine.proofs.Keeping.{along-raised}
-use Rattle.clk_machine.proofs.Making.{SameCall, KeepsAlong, near_within, whole_stepped, same_raised}
-use Rattle.clk_machine.proofs.Powering.{tied_powered}
+use Rattle.core_parts.specs.Listed.{rows_from}
+use Rattle.clk_machine.specs.Parts.{Parts, parts_of}
+use Rattle.core_parts.specs.Plls.{raisable, Finds}
+use Rattle.core_parts.proofs.StepsInFlight.{under_way-raised}
+use Rattle.core_parts.proofs.Keeping.{along-raised}
+use Rattle.core_parts.proofs.SameCall.{SameCall, KeepsAlong, same_raised}
+use Rattle.clk_machine.proofs.Making.{near_within, whole_stepped}
+use Rattle.core_parts.proofs.Powering.{tied_powered}
 use Rattle.clk_machine.proofs.Raising.{known_pll, power_lies, power_made, raise_enters}
 use Rattle.std.specs.Option.{option_map}
 use Rattle.std.specs.Prelude.{IfSome}
 use Rattle.reg_bank.specs.Locks.{started}
 use Rattle.reg_bank.specs.declared.pll_lock.PllLock.{PllLock}
-use Rattle.clk_machine.specs.Window.{lock_in}
+use Rattle.core_parts.specs.Window.{lock_in}
 use Rattle.clk_machine.proofs.Polling.{starts_raised}
 use Rattle.clk_machine.proofs.machine.Machine.power_up.Goals as goal
 

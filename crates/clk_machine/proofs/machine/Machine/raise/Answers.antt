@@ -3,8 +3,8 @@ use Rattle.std.specs.Prelude.{IfSome}
 use Rattle.clk_base.specs.declared.clock.ClockId.{ClockId}
 use Rattle.clk_model.specs.State.{registered}
 use Rattle.clk_model.specs.Tree.{path_to_be}
-use Rattle.clk_machine.specs.InFlight.{is_near}
-use Rattle.clk_machine.specs.Plls.{raisable}
+use Rattle.core_parts.specs.InFlight.{is_near}
+use Rattle.core_parts.specs.Plls.{raisable}
 use Rattle.clk_machine.proofs.Working.{finds_some_told, raise_nothing}
 use Rattle.clk_machine.proofs.machine.Machine.raise.Goals as goal
 

@@ -1,8 +1,8 @@
 use Rattle.std.proofs.Common.{subst}
 use Rattle.std.proofs.lemmas.Result.{IfOk-weaker}
 use Rattle.std.specs.Prelude.{IfOk}
-use Rattle.clk_machine.specs.declared.decision.Decision.{Decision}
-use Rattle.clk_machine.specs.declared.decision.Decision.TheVariants.{Change}
+use Rattle.core_parts.specs.declared.decision.Decision.{Decision}
+use Rattle.core_parts.specs.declared.decision.Decision.TheVariants.{Change}
 use Rattle.clk_machine.specs.Deciding.{ArePlannedOver, Decided, IsOwned}
 use Rattle.clk_machine.specs.Parts.{Parts, IsWhole}
 use Rattle.clk_machine.specs.Readying.{Scripts}

@@ -5,7 +5,7 @@ use Rattle.counts_core.specs.Counted.{CountState}
 use Rattle.clk_machine.specs.Parts.{Parts, parts_of}
 use Rattle.clk_machine.proofs.Rows.{counted_place}
 use Rattle.clk_machine.proofs.Critical.{IsHeld, held_twice, whole_critical, becomes_critical, held_begun}
-use Rattle.clk_machine.proofs.Moving.{links_within}
+use Rattle.core_parts.proofs.Moving.{links_within}
 use Rattle.clk_machine.proofs.Registering.{Registered, tied_registered, no_link, other_links}
 use Rattle.clk_machine.proofs.Room.{prepare_room, enable_room}
 use Rattle.clk_machine.proofs.machine.Machine.register_critical.Goals as goal

@@ -8,7 +8,7 @@ use Rattle.clk_machine.specs.Parts.{Parts, parts_of}
 use Rattle.counts_core.specs.Counted.{CountState}
 use Rattle.clk_machine.proofs.Critical.{IsHeld, held_begun, held_twice}
 use Rattle.clk_machine.proofs.Joining.{ComesOff, may_join, front_joining, whole_held, held_enters}
-use Rattle.clk_machine.proofs.Moving.{links_within}
+use Rattle.core_parts.proofs.Moving.{links_within}
 use Rattle.clk_machine.proofs.Registering.{Registered, no_link, other_links, tied_registered}
 use Rattle.clk_machine.proofs.Room.{prepare_room, enable_room}
 use Rattle.clk_machine.proofs.Rows.{counted_place}

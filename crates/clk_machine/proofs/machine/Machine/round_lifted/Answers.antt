@@ -5,7 +5,8 @@ use Rattle.clk_model.specs.State.{handle_at}
 use Rattle.counts_core.specs.Counted.{CountState}
 use Rattle.clk_machine.specs.Parts.{Parts, parts_of, IsWhole}
 use Rattle.clk_machine.proofs.Room.{exclusive_held}
-use Rattle.clk_machine.proofs.Rounding.{lifted_none, lifted_one, counts_back, exclusive_less, round_stands}
+use Rattle.core_parts.proofs.LessProtected.{counts_back}
+use Rattle.clk_machine.proofs.Rounding.{lifted_none, lifted_one, exclusive_less, round_stands}
 use Rattle.clk_machine.proofs.Rows.{counted_place}
 use Rattle.clk_machine.proofs.Writing.{row_place, place_among}
 use Rattle.clk_machine.proofs.machine.Machine.round_lifted.Goals as goal

@@ -3,7 +3,7 @@ use Rattle.clk_base.specs.declared.call.Micro.TheVariants as micro
 use Rattle.clk_flight.specs.Flights.{own_step}
 use Rattle.clk_machine.specs.Making.{ComesFirst}
 use Rattle.clk_machine.specs.Parts.{Parts, parts_of}
-use Rattle.clk_machine.proofs.Moving.{clock_within}
+use Rattle.core_parts.proofs.Moving.{clock_within}
 use Rattle.clk_machine.proofs.Relinking.{whole_relinked}
 use Rattle.clk_machine.proofs.LinkSteps.{Stepped}
 use Rattle.clk_machine.proofs.Selecting.{Selects, may_select, select_fits, selected_of, select_enters}

@@ -4,11 +4,11 @@ use Rattle.clk_base.specs.Description.{Description}
 use Rattle.clk_flight.specs.Flights.{own_step}
 use Rattle.clk_machine.specs.Making.{ComesFirst}
 use Rattle.clk_machine.specs.Parts.{Parts, parts_of}
-use Rattle.clk_machine.proofs.Moving.{clock_within}
+use Rattle.core_parts.proofs.Moving.{clock_within}
 use Rattle.std.specs.Prelude.{slice_index}
 use Rattle.clk_model.specs.Tree.{children}
 use Rattle.clk_model.specs.Walk.{below_within}
-use Rattle.clk_machine.specs.Settling.{settled_rows}
+use Rattle.core_parts.specs.Settling.{settled_rows}
 use Rattle.clk_machine.proofs.Relinking.{whole_relinked}
 use Rattle.clk_machine.proofs.LinkSteps.{Stepped}
 use Rattle.clk_machine.proofs.Selecting.{Settles, may_settle, settled_of, settle_enters}

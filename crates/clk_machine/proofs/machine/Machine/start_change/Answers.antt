@@ -6,9 +6,10 @@ use Rattle.clk_flight.specs.LeftOver.{step_weight}
 use Rattle.clk_model.specs.Begin.{most_credits}
 use Rattle.clk_model.specs.Script.{plls}
 use Rattle.clk_model.specs.State.{registered}
-use Rattle.clk_machine.specs.Course.{notifiers_at, tells_all}
-use Rattle.clk_machine.specs.InFlight.{can_link, is_script}
-use Rattle.clk_machine.specs.Parts.{Parts, parts_of, IsOwnCall, rows_from}
+use Rattle.core_parts.specs.Course.{notifiers_at, tells_all}
+use Rattle.core_parts.specs.InFlight.{can_link, is_script}
+use Rattle.core_parts.specs.Listed.{rows_from}
+use Rattle.clk_machine.specs.Parts.{Parts, parts_of, IsOwnCall}
 use Rattle.clk_machine.proofs.Changing.{Changing, begun_changing, whole_changing, starts_change}
 use Rattle.clk_machine.proofs.machine.Machine.start_change.Goals as goal
 

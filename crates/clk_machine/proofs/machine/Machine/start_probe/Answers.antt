@@ -7,8 +7,9 @@ use Rattle.clk_flight.specs.LeftOver.{step_weight}
 use Rattle.clk_model.specs.Begin.{most_credits, change_of}
 use Rattle.clk_model.specs.Script.{plls}
 use Rattle.clk_model.specs.State.{registered}
-use Rattle.clk_machine.specs.InFlight.{can_link, is_script}
-use Rattle.clk_machine.specs.Parts.{Parts, parts_of, rows_from}
+use Rattle.core_parts.specs.InFlight.{can_link, is_script}
+use Rattle.core_parts.specs.Listed.{rows_from}
+use Rattle.clk_machine.specs.Parts.{Parts, parts_of}
 use Rattle.clk_machine.proofs.Starting.{Started, begun_started, starts_as}
 use Rattle.clk_machine.proofs.Probing.{whole_probing, starts_probe}
 use Rattle.clk_machine.proofs.machine.Machine.start_probe.Goals as goal

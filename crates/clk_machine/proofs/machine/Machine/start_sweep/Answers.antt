@@ -4,7 +4,7 @@ use Rattle.clk_flight.specs.declared.start.Start.{Start}
 use Rattle.clk_model.specs.Begin.{most_credits, change_of}
 use Rattle.clk_model.specs.Script.{plls}
 use Rattle.clk_model.specs.State.{registered}
-use Rattle.clk_machine.specs.InFlight.{is_script}
+use Rattle.core_parts.specs.InFlight.{is_script}
 use Rattle.clk_machine.specs.Parts.{Parts, parts_of}
 use Rattle.clk_machine.proofs.Starting.{Started, begun_started, starts_as}
 use Rattle.clk_machine.proofs.Sweeping.{whole_sweeping, starts_sweep}

@@ -1,12 +1,12 @@
 use Rattle.std.proofs.Common.{◌≡◌, ◌&&◌, ◌∙◌, Bool, true, false, refl, ap}
-use Rattle.clk_machine.specs.declared.work.Made.{Made}
+use Rattle.core_parts.specs.declared.work.Made.{Made}
 use Rattle.clk_machine.specs.Sound.{links_well}
 use Rattle.clk_machine.proofs.Joining.{may_join}
 use Rattle.clk_machine.proofs.LinkSteps.{may_link}
 use Rattle.clk_machine.proofs.Selecting.{may_select}
 use Rattle.clk_model.specs.State.{registered}
 use Rattle.clk_model.proofs.Members.{both_right}
-use Rattle.clk_machine.proofs.InFlight.{raise_there, lower_there}
+use Rattle.core_parts.proofs.InFlight.{raise_there, lower_there}
 use Rattle.clk_machine.proofs.machine.Machine.step.Goals as goal
 
 pub raise-requires-clause-near : goal.raise-requires-clause-near

@@ -3,7 +3,7 @@ use Rattle.std.specs.Prelude.{IfSome}
 use Rattle.clk_base.specs.declared.clock.ClockDef.{ClockDef}
 use Rattle.clk_base.specs.declared.clock.Kind.{Kind}
 use Rattle.clk_base.specs.Fields.{gate_of, power_of}
-use Rattle.clk_machine.proofs.Opening.{gate_fits, power_fits}
+use Rattle.core_parts.proofs.Opening.{gate_fits, power_fits}
 use Rattle.clk_machine.proofs.machine.Machine.switch.Goals as goal
 
 pub switch_state-requires-clause-gate : goal.switch_state-requires-clause-gate

@@ -2,7 +2,7 @@ use Rattle.std.proofs.Common.{◌≡◌, true, sym, subst, ap, ◌∙◌, length
 use Rattle.clk_base.specs.Description.{Description}
 use Rattle.clk_model.specs.State.{registered}
 use Rattle.clk_machine.specs.Parts.{Parts, parts_of}
-use Rattle.clk_machine.proofs.Moving.{links_within, clock_within}
+use Rattle.core_parts.proofs.Moving.{links_within, clock_within}
 use Rattle.clk_machine.proofs.machine.Machine.to_lower.Goals as goal
 
 pub next_to_lower-requires-clause-place : goal.next_to_lower-requires-clause-place

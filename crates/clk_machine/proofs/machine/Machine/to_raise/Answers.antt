@@ -3,10 +3,10 @@ use Rattle.std.specs.Prelude.{IfSome}
 use Rattle.clk_base.specs.declared.clock.ClockId.{ClockId}
 use Rattle.clk_base.specs.Description.{Description}
 use Rattle.clk_model.specs.State.{registered}
-use Rattle.clk_machine.specs.InFlight.{is_near}
+use Rattle.core_parts.specs.InFlight.{is_near}
 use Rattle.clk_machine.specs.Parts.{Parts, parts_of}
 use Rattle.clk_machine.proofs.Making.{found_on_path, found_under, near_on_path, near_under, near_within}
-use Rattle.clk_machine.proofs.Moving.{links_within, clock_within}
+use Rattle.core_parts.proofs.Moving.{links_within, clock_within}
 use Rattle.clk_machine.proofs.machine.Machine.to_raise.Goals as goal
 
 pub next_to_raise-requires-clause-place : goal.next_to_raise-requires-clause-place

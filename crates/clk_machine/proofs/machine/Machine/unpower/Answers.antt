@@ -4,8 +4,8 @@ use Rattle.clk_base.specs.declared.clock.ClockDef.{ClockDef}
 use Rattle.clk_flight.specs.Flights.{own_step}
 use Rattle.clk_machine.specs.Making.{ComesFirst}
 use Rattle.clk_machine.specs.Parts.{Parts, parts_of}
-use Rattle.clk_machine.proofs.Moving.{clock_within}
-use Rattle.clk_machine.proofs.Powering.{tied_powered, told_put}
+use Rattle.core_parts.proofs.Moving.{clock_within}
+use Rattle.core_parts.proofs.Powering.{tied_powered, told_put}
 use Rattle.clk_machine.proofs.Raising.{power_made}
 use Rattle.clk_machine.proofs.Sweeping.{Switched, clock_switched, power_there, unpowers_pll, whole_switched, switch_enters}
 use Rattle.clk_machine.proofs.machine.Machine.unpower.Goals as goal

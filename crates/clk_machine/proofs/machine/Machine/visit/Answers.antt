@@ -4,11 +4,12 @@ use Rattle.clk_base.specs.declared.call.Micro.TheVariants as micro
 use Rattle.clk_model.specs.State.{registered}
 use Rattle.clk_flight.specs.Flights.{own_step}
 use Rattle.notifiers.specs.declared.notifier.Notifier.{Notifier}
-use Rattle.clk_machine.specs.Course.{notifiers_at, behind_visit}
+use Rattle.core_parts.specs.Course.{notifiers_at, behind_visit}
 use Rattle.clk_machine.specs.Making.{ComesFirst}
-use Rattle.clk_machine.specs.Parts.{Parts, parts_of, rows_from}
-use Rattle.clk_machine.specs.Shape.{LinksLie}
-use Rattle.clk_machine.proofs.Moving.{links_within, clock_within}
+use Rattle.core_parts.specs.Listed.{rows_from}
+use Rattle.clk_machine.specs.Parts.{Parts, parts_of}
+use Rattle.core_parts.specs.Shape.{LinksLie}
+use Rattle.core_parts.proofs.Moving.{links_within, clock_within}
 use Rattle.clk_machine.proofs.Visiting.{Visited, visit_there, whole_visited, visit_enters, passes, posts_same}
 use Rattle.clk_machine.proofs.machine.Machine.visit.Goals as goal
 

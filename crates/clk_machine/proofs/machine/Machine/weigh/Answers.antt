@@ -2,7 +2,7 @@ use Rattle.std.proofs.Common.{ℕ, ◌-◌, ◌^◌, ◌∙◌, sym, ap, min}
 use Rattle.std.specs.Prelude.{sum_by}
 use Rattle.clk_model.specs.Script.{plls}
 use Rattle.change_walk.specs.Weights.{step_weight}
-use Rattle.clk_machine.proofs.Scripting.{weighs_rows}
+use Rattle.core_parts.proofs.Scripting.{weighs_rows}
 use Rattle.clk_machine.proofs.machine.Machine.weigh.Goals as goal
 
 pub returns : goal.returns

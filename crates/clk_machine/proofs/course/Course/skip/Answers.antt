@@ -1,8 +1,0 @@
--- What is left is what stands behind the first clock of what was.
-use Rattle.std.proofs.Common.{◌∙◌, ap}
-use Rattle.clk_machine.specs.Course.{CourseState, behind_first}
-use Rattle.clk_machine.proofs.Setting.{drop_one}
-use Rattle.clk_machine.proofs.course.Course.skip.Goals as goal
-
-pub returns-then-self-len-clause-notified : goal.returns-then-self-len-clause-notified
-returns-then-self-len-clause-notified c = drop_one c.self.inside.at c.self.inside.notified.items ∙ ap (λ (s : CourseState). behind_first s.notified) c.self.view_is

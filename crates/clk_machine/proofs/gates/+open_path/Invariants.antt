@@ -1,4 +1,0 @@
-use Rattle.clk_machine.proofs.gates.+open_path.Given as goal
-
-abbrev pub decreases-open_path : goal.decreases-open_path
-decreases-open_path g l = l.levels

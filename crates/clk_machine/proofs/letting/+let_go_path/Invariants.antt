@@ -1,5 +1,0 @@
--- Fewer levels with each call.
-use Rattle.clk_machine.proofs.letting.+let_go_path.Given as goal
-
-abbrev pub decreases-let_go_path : goal.decreases-let_go_path
-decreases-let_go_path l = l.levels

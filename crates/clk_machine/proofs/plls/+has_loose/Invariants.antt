@@ -1,4 +1,0 @@
-use Rattle.clk_machine.proofs.plls.+has_loose.Given as goal
-
-abbrev pub decreases-has_loose : goal.decreases-has_loose
-decreases-has_loose l = l.levels

@@ -1,4 +1,0 @@
-use Rattle.clk_machine.proofs.plls.+raisable_above.Given as goal
-
-abbrev pub decreases-raisable_above : goal.decreases-raisable_above
-decreases-raisable_above l = l.levels

@@ -1,6 +1,0 @@
-use Rattle.std.proofs.Common.{◌∙◌, sym, ap}
-use Rattle.std.specs.Option.{option_map}
-use Rattle.clk_machine.proofs.visits.rate_above.Goals as goal
-
-pub rate-requires : goal.rate-requires
-rate-requires c = record { place = c.requires.links.lie c.args.clock.0 c.in-Some.parent.0 (sym c.parent.ensures.link ∙ ap (option_map (λ p. p.0)) c.in-Some.is) }

@@ -1,0 +1,59 @@
+-- What is added to the clocks that a change tells, one by one.
+use Rattle.std.proofs.Common.{◌≡◌, ℕ, ◌+◌, ◌≤◌, ◌++◌, not, Bool, true, false, cond, List, [], ◌∷◌, Some, refl, sym, ap, ◌∙◌, arith, length, map, filter, drop, append_assoc, append-nil, nat_eq}
+use Rattle.std.specs.Prelude.{slice_get, slice_index}
+use Rattle.clk_model.specs.Chain.{clock_id}
+use Rattle.clk_tree.specs.declared.walk_rates.WalkRate.{WalkRate}
+use Rattle.clk_tree.specs.Plans.{ClockRate, rates_of}
+use Rattle.core_parts.specs.declared.course.Notified.{Notified}
+use Rattle.core_parts.specs.Told.{told_clocks}
+use Rattle.core_parts.proofs.Setting.{drop_mapped, drop_past}
+
+-- a clock of a walk with its rate
+abbrev rate_of : WalkRate → ClockRate
+rate_of w = record { clock = w.clock.0; rate = w.rate }
+
+length-rates : (rates : List WalkRate) → length (rates_of rates) ≡ length rates
+length-rates [] = refl
+length-rates (w ∷ rates) = let more = length-rates rates in omega arith
+
+-- ---- clocks that are told
+
+told_first : (count : ℕ → ℕ) (before : List ℕ) (r : ClockRate) (rs : List ClockRate) → told_clocks count before (r ∷ rs) ≡ told_clocks count before (r ∷ []) ++ told_clocks count before rs
+told_first count before r rs = by (not (nat_eq (count r.clock) 0)) where
+  told : ClockRate → Notified
+  told r = record { clock = clock_id r.clock; before = slice_index before r.clock; after = r.rate }
+
+  rest : List ClockRate
+  rest = filter (λ r. not (nat_eq (count r.clock) 0)) rs
+
+  by : (t : Bool) → map (λ (r : ClockRate). let n : Notified = record { clock = clock_id r.clock; before = slice_index before r.clock; after = r.rate } in n) (cond t (r ∷ rest) rest)
+      ≡ map (λ (r : ClockRate). let n : Notified = record { clock = clock_id r.clock; before = slice_index before r.clock; after = r.rate } in n) (cond t (r ∷ []) [])
+      ++ map (λ (r : ClockRate). let n : Notified = record { clock = clock_id r.clock; before = slice_index before r.clock; after = r.rate } in n) rest
+  by true = refl
+  by false = refl
+
+pub told_on : (count : ℕ → ℕ) (before : List ℕ) (rates : List WalkRate) (k : ℕ) (w : WalkRate) (items new whole : List Notified) → slice_get rates k ≡ Some w
+    → new ≡ items ++ told_clocks count before (rates_of (w ∷ [])) → items ++ told_clocks count before (drop k (rates_of rates)) ≡ whole
+    → new ++ told_clocks count before (drop (k + 1) (rates_of rates)) ≡ whole
+told_on count before rates k w items new whole at added all =
+    ap (λ (ns : List Notified). ns ++ told_clocks count before (drop (k + 1) (rates_of rates))) added
+    ∙ append_assoc items (told_clocks count before (rate_of w ∷ [])) (told_clocks count before (drop (k + 1) (rates_of rates)))
+    ∙ ap (λ (ns : List Notified). items ++ ns) (sym (ap (told_clocks count before) (drop_mapped rate_of rates k w at) ∙ told_first count before (rate_of w) (drop (k + 1) (rates_of rates)))) ∙ all
+
+pub told_end : (count : ℕ → ℕ) (before : List ℕ) (rates : List WalkRate) (k : ℕ) (items whole : List Notified) → length rates ≤ k → items ++ told_clocks count before (drop k (rates_of rates)) ≡ whole → items ≡ whole
+told_end count before rates k items whole past all =
+    sym (append-nil items)
+    ∙ ap (λ (rs : List ClockRate). items ++ told_clocks count before rs) (sym (drop_past (rates_of rates) k (let same = length-rates rates in omega arith))) ∙ all
+
+-- one clock, which has no notifier, or has some
+pub told_none : (count : ℕ → ℕ) (before : List ℕ) (w : WalkRate) (items : List Notified) → count w.clock.0 ≡ 0 → items ≡ items ++ told_clocks count before (rates_of (w ∷ []))
+told_none count before w items none =
+    sym (append-nil items)
+    ∙ ap (λ (n : ℕ). items ++ map (λ (r : ClockRate). let n : Notified = record { clock = clock_id r.clock; before = slice_index before r.clock; after = r.rate } in n) (cond (not (nat_eq n 0)) (rate_of w ∷ []) [])) (sym none)
+
+pub told_some : (count : ℕ → ℕ) (before : List ℕ) (w : WalkRate) (items new : List Notified) (rate : ℕ) → nat_eq (count w.clock.0) 0 ≡ false → rate ≡ slice_index before w.clock.0
+    → new ≡ items ++ record { clock = w.clock; before = rate; after = w.rate } ∷ [] → new ≡ items ++ told_clocks count before (rates_of (w ∷ []))
+told_some count before w items new rate some is added =
+    added
+    ∙ ap (λ (x : ℕ). items ++ (let n : Notified = record { clock = w.clock; before = x; after = w.rate } in n) ∷ []) is
+    ∙ ap (λ (t : Bool). items ++ map (λ (r : ClockRate). let n : Notified = record { clock = clock_id r.clock; before = slice_index before r.clock; after = r.rate } in n) (cond (not t) (rate_of w ∷ []) [])) (sym some)

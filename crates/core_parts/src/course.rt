@@ -1,0 +1,122 @@
+//! What is kept of a change of rate besides its flight.
+
+ghost use Rattle.std.specs.Prelude.{◌≡◌, ◌<◌, [], Some, length, slice_get, if◌then◌else◌};
+ghost use Rattle.clk_tree.specs.Plans.{chain_of};
+ghost use Rattle.core_parts.specs.Course.{planned_along, behind_first};
+
+use clk_base::ClockId;
+use clk_tree::{ChainStep, PlannedChain};
+use std::alloc::Global;
+use std::marker::Model;
+
+/// A clock with notifiers that a change visits.
+#[derive(Clone, Copy, Debug, PartialEq, Eq)]
+pub struct Notified {
+    pub clock: ClockId,
+    /// Its rate in Hz before the change.
+    pub before: u64,
+    /// Its planned rate in Hz.
+    pub after: u64,
+}
+
+/// The planned chain of a change of rate, and the clocks with notifiers that it still visits. To
+/// contracts it is a `CourseState`. No call takes memory.
+#[derive(Drop)]
+pub struct Course {
+    chain: PlannedChain,
+    notified: Vec<Notified>,
+    /// How many of them were visited.
+    at: usize,
+}
+
+impl Model for Course {
+    ghost use Rattle.std.specs.Prelude.{◌≤◌, drop, length};
+    ghost use Rattle.core_parts.specs.Course.{CourseState};
+
+    ghost Value = { CourseState };
+
+    ghost view = { λ c. record { chain = c.chain; notified = drop c.at c.notified.items } };
+
+    ghost invariant = { λ c. c.at ≤ length c.notified.items };
+}
+
+// The step of a chain at a place.
+fn step_at(steps: &[ChainStep], place: usize) -> ChainStep
+    requires { place < length steps.now }
+    ensures { slice_get steps.now place ≡ Some result }
+{
+    steps[place]
+}
+
+// The planned rate in Hz of a clock of a chain.
+fn planned_in(steps: &[ChainStep], clock: ClockId) -> Option<u64>
+    ensures { result ≡ planned_along (chain_of steps.now) clock.0 }
+{
+    for place in 0..steps.len() {
+        let step = step_at(steps, place);
+        if step.clock.0 == clock.0 {
+            return Some(step.rate);
+        }
+    }
+    None
+}
+
+impl Course {
+    /// No chain, and no clock.
+    pub fn none(alloc: Global) -> Course
+        ensures chain { result.chain ≡ [] }
+        ensures notified { result.notified ≡ [] }
+    {
+        Course {
+            chain: PlannedChain::new(Vec::new(alloc)),
+            notified: Vec::new(alloc),
+            at: 0,
+        }
+    }
+
+    /// This chain and these clocks, of which none was visited.
+    pub fn of(chain: PlannedChain, notified: Vec<Notified>) -> Course
+        ensures chain { result.chain ≡ chain }
+        ensures notified { result.notified ≡ notified.items }
+    {
+        Course {
+            chain,
+            notified,
+            at: 0,
+        }
+    }
+
+    /// The planned rate in Hz of a clock, if it is one of the chain.
+    pub fn planned(&self, clock: ClockId) -> Option<u64>
+        ensures { result ≡ planned_along self.now.chain clock.0 }
+    {
+        planned_in(self.chain.as_slice(), clock)
+    }
+
+    /// The clock with notifiers that is visited next.
+    pub fn first(&self) -> Option<Notified>
+        ensures { result ≡ slice_get self.now.notified 0 }
+    {
+        self.notified.get(self.at).copied()
+    }
+
+    // The clock with notifiers that is visited next is visited.
+    fn skip(&mut self)
+        ensures chain { self.new.chain ≡ self.old.chain }
+        ensures notified { self.new.notified ≡ behind_first self.old.notified }
+    {
+        if self.at < self.notified.len() {
+            self.at += 1;
+        }
+    }
+
+    /// A clock is visited, which has notifiers or none.
+    pub fn pass(&mut self, told: bool)
+        ensures chain { self.new.chain ≡ self.old.chain }
+        ensures notified { self.new.notified ≡ (if told then behind_first self.old.notified else self.old.notified) }
+    {
+        if told {
+            self.skip();
+        }
+    }
+}

@@ -1,0 +1,66 @@
+//! The parts of the core by themselves, and what an event does to one part at a time.
+#![tactic(auto)]
+
+mod adoption;
+mod beginning;
+mod behind;
+mod course;
+mod decision;
+mod dropping;
+mod free;
+mod gates;
+mod handles;
+mod held;
+mod kinds;
+mod letting;
+mod lifting;
+mod linking;
+mod movable;
+mod passing;
+mod planning;
+mod plls;
+mod posting;
+mod power;
+mod register;
+mod reparenting;
+mod room;
+mod rounding;
+mod scripted;
+mod seen;
+mod settling;
+mod visits;
+mod window;
+mod work;
+
+pub use adoption::{is_held, push_adoption_by, push_registration};
+pub use beginning::{no_holds, nobody};
+pub use behind::Behind;
+pub use course::{Course, Notified};
+pub use decision::Decision;
+pub use dropping::{end_enables, end_prepares};
+pub use free::is_among;
+pub use gates::{close_gate, close_path, is_open, open_path, switch_state};
+pub use handles::{holds_something, keeps_prepare};
+pub use held::Held;
+pub use kinds::is_critical;
+pub use letting::{let_go_path, let_go_under};
+pub use lifting::decide_lifted;
+pub use linking::link_to;
+pub use movable::can_go_along;
+pub use passing::{pass_enables, pass_prepares};
+pub use planning::{decide_request, fits, go_on};
+pub use plls::{
+    Sought, is_unprepared, is_unprepared_under, next_to_lower, next_to_raise, next_to_raise_under,
+};
+pub use posting::{Posting, posts_of};
+pub use power::{is_running, set_power};
+pub use register::{given_parent, register_clock};
+pub use reparenting::{is_linked, plan_move, refusal};
+pub use room::{ending, has_room, most_to_lower, most_to_raise};
+pub use rounding::round_seen;
+pub use scripted::told_clocks;
+pub use seen::Seen;
+pub use settling::settle_below;
+pub use visits::{set_along, set_to};
+pub use window::Window;
+pub use work::{Made, Work, going_on, work_of};

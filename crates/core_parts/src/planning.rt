@@ -1,0 +1,204 @@
+//! What a request for a rate comes to, as its beginning finds it.
+
+ghost use Rattle.std.specs.Prelude.{◌≡◌, ◌+◌, true, false, length, nat_le, IfOk, IfSome};
+ghost use Rattle.std.specs.Option.{option_map};
+ghost use Rattle.change_walk.specs.Given.{OfPlan, HasFewNotifiers};
+ghost use Rattle.clk_model.specs.Begin.{most_credits};
+ghost use Rattle.clk_model.specs.Chain as chain;
+ghost use Rattle.clk_model.specs.Lists.{is_at};
+ghost use Rattle.clk_model.specs.Rate.{rate};
+ghost use Rattle.clk_model.specs.Round.{round, round_rate};
+ghost use Rattle.clk_model.specs.State.{State, registered};
+ghost use Rattle.counts_core.specs.Counted.{AreCounts, is_guarded, is_prepared};
+ghost use Rattle.rate_planner.specs.Kept.{wired};
+ghost use Rattle.rate_planner.specs.Rounded.{rounded_of, NamesRegistered};
+ghost use Rattle.rate_planner.specs.Walks.{AreThere, walked_rates};
+ghost use Rattle.core_parts.specs.Planned.{ArePlanned, Fits, IsAnswer, IsGiven};
+ghost use Rattle.core_parts.specs.Free.{free_seen, freed};
+ghost use Rattle.core_parts.specs.Tied.{AreTied};
+ghost use Rattle.core_parts.specs.Seen.{seen};
+
+use crate::decision::Decision;
+use crate::free::{FreeSeen, freed_above};
+use crate::seen::Seen;
+use crate::window::Window;
+use change_walk::script;
+use clk_base::{ClockId, Errno, MOST_CREDITS, ValidDesc};
+use clk_io::NoMemory;
+use clk_tree::{Plan, Tree};
+use notifiers::Notifiers;
+use rate_planner::{Rounded, first_rounding, plan_from, round_now};
+use reg_bank::Bank;
+use std::alloc::Global;
+
+/// Whether there is room for so many entries behind so many.
+pub fn fits(used: u64, weight: u64) -> bool
+    ensures { result ≡ nat_le (used + weight) most_credits }
+{
+    used.saturating_add(weight) <= u64::from(MOST_CREDITS)
+}
+
+// Whether a guarded clock would get the rate for a request that it has, if it were free.
+fn keeps_rate<B: Bank>(
+    desc: &ValidDesc,
+    window: &Window<B>,
+    tree: &Tree,
+    view: &Seen,
+    clock: ClockId,
+    wanted: u64,
+) -> bool
+    requires tied { AreTied desc.now window.now tree.now }
+    requires seen { length view.now.counts.now.links ≡ length tree.now.defs }
+    requires there { registered tree.now.clocks clock.0 ≡ true }
+    ensures stands { AreCounts view.now.counts.now }
+    ensures keeps { IfSome window.now.words (λ regs. result ≡ is_at (rate desc.now.defs regs tree.now.clocks clock.0)
+        (round_rate (wired desc.now.defs regs tree.now) (free_seen view.now.handles.now.handles view.now.counts.now (freed tree.now.clocks view.now.counts.now clock.0)) clock.0 wanted)) }
+{
+    let free = FreeSeen {
+        handles: view.handles,
+        counts: view.counts,
+        tree,
+        clock,
+        many: freed_above(tree, view.counts, clock),
+    };
+    match round_now(desc, tree, window.bank(), &free, clock, wanted) {
+        Some(rounded) => rounded == tree.rate(clock),
+        None => false,
+    }
+}
+
+// How a clock would be rounded for a request.
+fn first_seen<B: Bank>(
+    desc: &ValidDesc,
+    window: &Window<B>,
+    tree: &Tree,
+    view: &Seen,
+    clock: ClockId,
+    wanted: u64,
+) -> Option<Rounded>
+    requires tied { AreTied desc.now window.now tree.now }
+    requires seen { length view.now.counts.now.links ≡ length tree.now.defs }
+    requires there { registered tree.now.clocks clock.0 ≡ true }
+    ensures rounding { IfSome window.now.words (λ regs. option_map rounded_of result ≡ round (wired desc.now.defs regs tree.now) (seen view.now.handles.now.handles view.now.counts.now) clock.0 wanted) }
+    ensures names { NamesRegistered tree.now.clocks result }
+{
+    first_rounding(desc, tree, window.bank(), view, clock, wanted)
+}
+
+// Whether a clock that has a rate in Hz keeps it where it is rounded so.
+fn leaves_rate(rounding: Option<Rounded>, rate: u64) -> bool
+    ensures { result ≡ is_at rate (option_map (λ r. r.rate) rounding) }
+{
+    match rounding {
+        Some(rounded) => rounded.rate == rate,
+        None => false,
+    }
+}
+
+// The plan of a request for a rate, if there is one, where the clock would be rounded so.
+fn plan_seen<B: Bank>(
+    alloc: Global,
+    desc: &ValidDesc,
+    window: &Window<B>,
+    tree: &Tree,
+    view: &Seen,
+    clock: ClockId,
+    wanted: u64,
+    first: Option<Rounded>,
+) -> Result<Option<Plan>, NoMemory>
+    requires tied { AreTied desc.now window.now tree.now }
+    requires seen { length view.now.counts.now.links ≡ length tree.now.defs }
+    requires there { registered tree.now.clocks clock.0 ≡ true }
+    requires rounding { IfSome window.now.words (λ regs. option_map rounded_of first ≡ round (wired desc.now.defs regs tree.now) (seen view.now.handles.now.handles view.now.counts.now) clock.0 wanted) }
+    requires names { NamesRegistered tree.now.clocks first }
+    ensures chain { IfOk result (λ found. IfSome window.now.words (λ regs. option_map (λ plan. plan.chain) found ≡ chain.chain (wired desc.now.defs regs tree.now) (seen view.now.handles.now.handles view.now.counts.now) clock.0 wanted)) }
+    ensures rates { IfOk result (λ found. IfSome found (λ plan. IfSome window.now.words (λ regs. plan.rates ≡ walked_rates tree.now.order (wired desc.now.defs regs tree.now) plan.chain))) }
+    ensures set_parent { IfOk result (λ found. IfSome found (λ plan. plan.set_parent ≡ false)) }
+    ensures there { IfOk result (λ found. IfSome found (λ plan. AreThere tree.now.clocks plan.rates)) }
+{
+    plan_from(alloc, desc, tree, window.bank(), view, clock, wanted, first)
+}
+
+/// A plan goes on with its script, where there is room for the entries of its steps behind so many.
+pub fn go_on(
+    alloc: Global,
+    desc: &ValidDesc,
+    tree: &Tree,
+    view: &Seen,
+    notifiers: &Notifiers,
+    used: u64,
+    plan: Plan,
+) -> Result<Decision, NoMemory>
+    requires made { desc.now.defs ≡ tree.now.defs }
+    requires seen { length view.now.counts.now.links ≡ length tree.now.defs }
+    requires there { AreThere tree.now.clocks plan.rates }
+    ensures decides { IfOk result (λ decision. OfPlan tree.now (seen view.now.handles.now.handles view.now.counts.now).prepared notifiers.now plan (λ s. HasFewNotifiers s → Fits s used plan decision)) }
+    ensures there { IfOk result (λ decision. ArePlanned tree.now (is_prepared view.now.counts.now) notifiers.now used plan.set_parent decision) }
+{
+    let script = script(alloc, desc, tree, view, notifiers, &plan)?;
+    if fits(used, script.weight()) {
+        Ok(Decision::Change { plan, script })
+    } else {
+        Ok(Decision::Refused(Errno::ENOSPC))
+    }
+}
+
+// What a request for the rate of a clock comes to that isn't guarded. Its first rounding says whether
+// the clock keeps its rate, and else the plan begins with it.
+fn decide_unguarded<B: Bank>(
+    alloc: Global,
+    desc: &ValidDesc,
+    window: &Window<B>,
+    tree: &Tree,
+    view: &Seen,
+    notifiers: &Notifiers,
+    used: u64,
+    clock: ClockId,
+    wanted: u64,
+) -> Result<Decision, NoMemory>
+    requires tied { AreTied desc.now window.now tree.now }
+    requires seen { length view.now.counts.now.links ≡ length tree.now.defs }
+    requires there { registered tree.now.clocks clock.0 ≡ true }
+    requires stands { AreCounts view.now.counts.now }
+    requires free { is_guarded view.now.counts.now clock.0 ≡ false }
+    ensures decides { IfOk result (λ decision. (new lifted : State) → IsGiven desc.now window.now tree.now view.now.handles.now.handles view.now.counts.now notifiers.now used new lifted → IsAnswer new lifted clock.0 wanted decision) }
+    ensures there { IfOk result (λ decision. ArePlanned tree.now (is_prepared view.now.counts.now) notifiers.now used false decision) }
+{
+    let first = first_seen(desc, window, tree, view, clock, wanted);
+    if leaves_rate(first, tree.rate(clock)) {
+        return Ok(Decision::AtOnce);
+    }
+    match plan_seen(alloc, desc, window, tree, view, clock, wanted, first)? {
+        Some(plan) => go_on(alloc, desc, tree, view, notifiers, used, plan),
+        None => Ok(Decision::Refused(Errno::EINVAL)),
+    }
+}
+
+/// What a request for a rate comes to, which is planned over these handles and counts.
+pub fn decide_request<B: Bank>(
+    alloc: Global,
+    desc: &ValidDesc,
+    window: &Window<B>,
+    tree: &Tree,
+    view: &Seen,
+    notifiers: &Notifiers,
+    used: u64,
+    clock: ClockId,
+    wanted: u64,
+) -> Result<Decision, NoMemory>
+    requires tied { AreTied desc.now window.now tree.now }
+    requires seen { length view.now.counts.now.links ≡ length tree.now.defs }
+    requires there { registered tree.now.clocks clock.0 ≡ true }
+    ensures decides { IfOk result (λ decision. (new lifted : State) → IsGiven desc.now window.now tree.now view.now.handles.now.handles view.now.counts.now notifiers.now used new lifted → IsAnswer new lifted clock.0 wanted decision) }
+    ensures there { IfOk result (λ decision. ArePlanned tree.now (is_prepared view.now.counts.now) notifiers.now used false decision) }
+{
+    if view.counts.protected(clock) == 0 {
+        return decide_unguarded(
+            alloc, desc, window, tree, view, notifiers, used, clock, wanted,
+        );
+    }
+    if !keeps_rate(desc, window, tree, view, clock, wanted) {
+        return Ok(Decision::Refused(Errno::EBUSY));
+    }
+    Ok(Decision::AtOnce)
+}

@@ -1,0 +1,156 @@
+//! Whether a clock can get another parent, and the plan of its change of parent.
+
+ghost use Rattle.std.specs.Prelude.{◌≡◌, ◌≢◌, ◌<◌, ◌&&◌, true, false, length, slice_index, Some, IfOk, IfSome};
+ghost use Rattle.clk_base.specs.Description.{parents_of};
+ghost use Rattle.clk_base.specs.Flags as flags;
+ghost use Rattle.clk_base.specs.Places.{places};
+ghost use Rattle.clk_model.specs.Lists.{is_in, is_at};
+ghost use Rattle.clk_model.specs.State.{registered, link_in};
+ghost use Rattle.counts_core.specs.Counted.{HasLinks, is_guarded};
+ghost use Rattle.rate_planner.specs.Kept.{wired};
+ghost use Rattle.rate_planner.specs.Walks.{AreThere, parent_chain, walked_rates};
+ghost use Rattle.core_parts.specs.Planned.{less_protected};
+ghost use Rattle.core_parts.specs.Tied.{AreTied};
+ghost use Rattle.core_parts.specs.Reparenting.{is_bound, is_candidate, parent_refusal};
+
+use crate::window::Window;
+use bitflags::Flags;
+use clk_base::{ClkFlags, ClockId, Errno, Kind, ValidDesc};
+use clk_io::NoMemory;
+use clk_model::HandleRow;
+use clk_tree::{Plan, Tree};
+use counts_core::Counts;
+use rate_planner::plan_parent;
+use reg_bank::Bank;
+use std::alloc::Global;
+
+// Whether a clock is a mux that is only read, with two possible parents or more.
+fn is_bound(desc: &ValidDesc, clock: ClockId) -> bool
+    requires { clock.0 < length desc.now.defs }
+    ensures { result ≡ is_bound desc.now.defs clock.0 }
+{
+    let def = desc.def(clock);
+    match def.kind {
+        Kind::Mux { read_only, .. } => read_only && def.parents.as_slice().len() >= 2,
+        _ => false,
+    }
+}
+
+// Whether a prepared clock keeps its parent.
+fn keeps_parent(desc: &ValidDesc, clock: ClockId) -> bool
+    requires { clock.0 < length desc.now.defs }
+    ensures { result ≡ flags.sets_parent_gate desc.now.defs clock.0 }
+{
+    Flags::contains(&desc.def(clock).flags, ClkFlags::SET_PARENT_GATE)
+}
+
+// Whether a clock is among these.
+fn is_among(wanted: ClockId, clocks: &[ClockId]) -> bool
+    ensures { result ≡ is_in wanted.0 (places clocks.now) }
+{
+    for clock in clocks {
+        if *clock == wanted {
+            return true;
+        }
+    }
+    false
+}
+
+/// Whether a clock is a mux with this possible parent, which is rooted.
+pub(crate) fn is_candidate(desc: &ValidDesc, tree: &Tree, clock: ClockId, parent: ClockId) -> bool
+    requires place { clock.0 < length desc.now.defs }
+    requires made { desc.now.defs ≡ tree.now.defs }
+    ensures { result ≡ is_candidate desc.now.defs tree.now.clocks clock.0 parent.0 }
+{
+    let def = desc.def(clock);
+    matches!(def.kind, Kind::Mux { .. })
+        && is_among(parent, def.parents.as_slice())
+        && tree.rooted(parent)
+}
+
+// Whether the clock of a handle is guarded where one exclusive hold of the handle is lifted and put
+// back.
+fn is_guarded_lifted(tree: &Tree, counts: &mut Counts, row: HandleRow) -> bool
+    requires links { HasLinks tree.now.clocks counts.old.links }
+    requires clock { row.clock.0 < length counts.old.links }
+    requires place { row.clock.0 < length counts.old.exclusives }
+    requires held { 0 < row.exclusives → 0 < slice_index counts.old.exclusives row.clock.0 }
+    requires few { slice_index counts.old.exclusives row.clock.0 < 8388608 }
+    ensures guarded { result ≡ is_guarded (less_protected row counts.old) row.clock.0 }
+    ensures same { counts.new ≡ counts.old }
+{
+    if row.exclusives == 0 {
+        return counts.protected(row.clock) > 0;
+    }
+    counts.unprotect(tree, row.clock);
+    let guarded = counts.protected(row.clock) > 0;
+    counts.protect(tree, row.clock);
+    guarded
+}
+
+/// Why the clock of a handle doesn't get another parent, if it doesn't. One exclusive hold of the handle
+/// doesn't count.
+pub fn refusal(
+    desc: &ValidDesc,
+    tree: &Tree,
+    counts: &mut Counts,
+    row: HandleRow,
+    parent: ClockId,
+) -> Option<Errno>
+    requires made { desc.now.defs ≡ tree.now.defs }
+    requires lies { row.clock.0 < length desc.now.defs }
+    requires links { HasLinks tree.now.clocks counts.old.links }
+    requires clock { row.clock.0 < length counts.old.links }
+    requires place { row.clock.0 < length counts.old.exclusives }
+    requires held { 0 < row.exclusives → 0 < slice_index counts.old.exclusives row.clock.0 }
+    requires few { slice_index counts.old.exclusives row.clock.0 < 8388608 }
+    ensures cause { result ≡ parent_refusal desc.now.defs tree.now.clocks (less_protected row counts.old) row.clock.0 parent.0 }
+    ensures same { counts.new ≡ counts.old }
+{
+    if is_bound(desc, row.clock) {
+        return Some(Errno::EPERM);
+    }
+    if keeps_parent(desc, row.clock) && counts.prepared(row.clock) > 0 {
+        return Some(Errno::EBUSY);
+    }
+    if is_guarded_lifted(tree, counts, row) {
+        return Some(Errno::EBUSY);
+    }
+    if is_candidate(desc, tree, row.clock, parent) {
+        None
+    } else {
+        Some(Errno::EINVAL)
+    }
+}
+
+/// Whether a clock has this parent.
+pub fn is_linked(tree: &Tree, clock: ClockId, parent: ClockId) -> bool
+    ensures { result ≡ is_at parent.0 (link_in tree.now.clocks clock.0) }
+{
+    match tree.parent(clock) {
+        Some(link) => link == parent,
+        None => false,
+    }
+}
+
+/// The plan of a change of parent.
+pub fn plan_move<B: Bank>(
+    alloc: Global,
+    desc: &ValidDesc,
+    window: &Window<B>,
+    tree: &Tree,
+    clock: ClockId,
+    parent: ClockId,
+) -> Result<Plan, NoMemory>
+    requires tied { AreTied desc.now window.now tree.now }
+    requires clock { registered tree.now.clocks clock.0 ≡ true }
+    requires parent { registered tree.now.clocks parent.0 ≡ true }
+    requires possible { is_in parent.0 (parents_of desc.now.defs clock.0) ≡ true }
+    requires other { link_in tree.now.clocks clock.0 ≢ Some parent.0 }
+    ensures chain { IfOk result (λ plan. IfSome window.now.words (λ regs. plan.chain ≡ parent_chain (wired desc.now.defs regs tree.now) clock.0 parent.0)) }
+    ensures rates { IfOk result (λ plan. IfSome window.now.words (λ regs. plan.rates ≡ walked_rates tree.now.order (wired desc.now.defs regs tree.now) plan.chain)) }
+    ensures set_parent { IfOk result (λ plan. plan.set_parent ≡ true) }
+    ensures there { IfOk result (λ plan. AreThere tree.now.clocks plan.rates) }
+{
+    plan_parent(alloc, desc, tree, window.bank(), clock, parent)
+}

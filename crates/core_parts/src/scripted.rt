@@ -1,0 +1,64 @@
+//! The clocks that a change of rate or parent tells.
+
+ghost use Rattle.std.specs.Prelude.{◌≡◌, ◌++◌, ◌∷◌, [], ◌<◌, Some, length, slice_get, IfOk};
+ghost use Rattle.clk_tree.specs.Plans.{rates_of};
+ghost use Rattle.change_walk.specs.Changes.{AreThere};
+ghost use Rattle.core_parts.specs.Told.{told_clocks};
+ghost use Rattle.core_parts.specs.Course.{notifiers_at};
+
+use crate::course::Notified;
+use clk_io::NoMemory;
+use clk_tree::{Tree, WalkRate};
+use notifiers::Notifiers;
+use std::alloc::Global;
+
+// The clock of a walk at a place, which is one of the tree.
+fn rate_at(tree: &Tree, rates: &[WalkRate], place: usize) -> WalkRate
+    requires place { place < length rates.now }
+    requires there { AreThere tree.now.clocks (rates_of rates.now) }
+    ensures at { slice_get rates.now place ≡ Some result }
+    ensures inside { result.clock.0 < length tree.now.defs }
+{
+    let entry = rates[place];
+    let _there = tree.registered(entry.clock);
+    entry
+}
+
+// A clock of a walk, behind these, if it has notifiers.
+fn push_told(
+    told: &mut Vec<Notified>,
+    tree: &Tree,
+    notifiers: &Notifiers,
+    entry: WalkRate,
+) -> Result<(), NoMemory>
+    requires place { entry.clock.0 < length tree.now.defs }
+    ensures { IfOk result (λ done. told.new.items ≡ told.old.items ++ told_clocks (notifiers_at notifiers.now) tree.now.rates (rates_of (entry ∷ []))) }
+{
+    if notifiers.chain(entry.clock).is_empty() {
+        return Ok(());
+    }
+    told.push(Notified {
+        clock: entry.clock,
+        before: tree.rate(entry.clock),
+        after: entry.rate,
+    })?;
+    Ok(())
+}
+
+/// The clocks of a walk that have notifiers, each with its kept rate and its planned one.
+pub fn told_clocks(
+    alloc: Global,
+    tree: &Tree,
+    notifiers: &Notifiers,
+    rates: &[WalkRate],
+) -> Result<Vec<Notified>, NoMemory>
+    requires there { AreThere tree.now.clocks (rates_of rates.now) }
+    ensures { IfOk result (λ told. told.items ≡ told_clocks (notifiers_at notifiers.now) tree.now.rates (rates_of rates.now)) }
+{
+    let mut told = Vec::new(alloc);
+    for place in 0..rates.len() {
+        let entry = rate_at(tree, rates, place);
+        push_told(&mut told, tree, notifiers, entry)?;
+    }
+    Ok(told)
+}

@@ -1,0 +1,129 @@
+//! Visits of clocks in a change of rate.
+
+ghost use Rattle.std.specs.Prelude.{◌≡◌, ◌+◌, ◌<◌, ◌≤◌, ◌^◌, true, false, length, is_some, slice_index, IfSome, Some};
+ghost use Rattle.std.specs.Option.{option_map, option_map_or};
+ghost use Rattle.clk_base.specs.Description.{kind_of};
+ghost use Rattle.clk_base.specs.Fields.{field_of};
+ghost use Rattle.clk_model.specs.State.{registered, link_in};
+ghost use Rattle.clk_tree.specs.TreeState.{IsTree};
+ghost use Rattle.rate_planner.specs.Kept.{wired};
+ghost use Rattle.rate_planner.specs.Settings.{put_field};
+ghost use Rattle.core_parts.specs.Course.{set_along};
+ghost use Rattle.core_parts.specs.Tied.{AreKept};
+ghost use Rattle.core_parts.specs.Shape.{LinksLie};
+ghost use Rattle.core_parts.specs.Window.{AreTold};
+
+use crate::course::Course;
+use crate::window::Window;
+use clk_base::{ClockId, Kind, ValidDesc};
+use clk_tree::Tree;
+use rate_planner::setting;
+use reg_bank::Bank;
+
+// Puts a number into the field of a clock that selects, divides or multiplies. A clock of another
+// kind has none.
+fn put_setting<B: Bank>(kind: Kind, window: &mut Window<B>, value: u32)
+    requires { IfSome (field_of kind) (λ f. (f.word < window.old.size) × (f.shift + f.width ≤ 32) × (value < 2 ^ f.width)) }
+    ensures size { window.new.size ≡ window.old.size }
+    ensures words { window.new.words ≡ option_map (put_field kind (Some value)) window.old.words }
+    ensures behind { window.new.behind ≡ window.old.behind }
+{
+    match kind {
+        Kind::Mux {
+            word,
+            shift,
+            width,
+            ..
+        }
+        | Kind::Divider {
+            word,
+            shift,
+            width,
+            ..
+        }
+        | Kind::Pll {
+            word,
+            shift,
+            width,
+            ..
+        } => window.put_field(word, shift, width, value),
+        _ => {}
+    }
+}
+
+// The kept rate in Hz of the parent of a clock, 0 where it has none.
+fn rate_above(tree: &Tree, clock: ClockId) -> u64
+    requires links { LinksLie tree.now.defs tree.now.clocks }
+    ensures rate { result ≡ option_map_or (slice_index tree.now.rates) (link_in tree.now.clocks clock.0) 0 }
+    ensures stands { IsTree tree.now.defs tree.now.clocks tree.now.order tree.now.rates }
+{
+    match tree.parent(clock) {
+        Some(parent) => tree.rate(parent),
+        None => 0,
+    }
+}
+
+/// Writes what a clock gets for this rate over its parent's rate, and brings its kept rate and those of
+/// all clocks below it up to date.
+pub fn set_to<B: Bank>(
+    desc: &ValidDesc,
+    window: &mut Window<B>,
+    tree: &mut Tree,
+    clock: ClockId,
+    value: u32,
+)
+    requires place { clock.0 < length desc.now.defs }
+    requires words { window.old.size ≡ desc.now.words }
+    requires made { tree.old.defs ≡ desc.now.defs }
+    requires kept { AreKept desc.now.defs window.old.words tree.old.clocks tree.old.rates }
+    requires fits { IfSome (field_of (kind_of desc.now.defs clock.0)) (λ f. value < 2 ^ f.width) }
+    ensures size { window.new.size ≡ window.old.size }
+    ensures words { window.new.words ≡ option_map (put_field (kind_of desc.now.defs clock.0) (Some value)) window.old.words }
+    ensures behind { window.new.behind ≡ window.old.behind }
+    ensures told { AreTold window.new.size window.new.words }
+    ensures kept { AreKept desc.now.defs window.new.words tree.new.clocks tree.new.rates }
+    ensures rows { tree.new.clocks ≡ tree.old.clocks }
+    ensures order { tree.new.order ≡ tree.old.order }
+    ensures defs { tree.new.defs ≡ tree.old.defs }
+    ensures stands { IsTree tree.new.defs tree.new.clocks tree.new.order tree.new.rates }
+{
+    put_setting(desc.def(clock).kind, window, value);
+    tree.refresh(desc, window.bank(), clock);
+    let _size = window.len();
+}
+
+/// Writes the planned setting of a clock, if it is one of the chain, over the rate of its parent, and
+/// brings its kept rate and those of all clocks below it up to date.
+pub fn set_along<B: Bank>(
+    desc: &ValidDesc,
+    course: &Course,
+    window: &mut Window<B>,
+    tree: &mut Tree,
+    clock: ClockId,
+)
+    requires place { clock.0 < length desc.now.defs }
+    requires words { window.old.size ≡ desc.now.words }
+    requires made { tree.old.defs ≡ desc.now.defs }
+    requires links { LinksLie tree.old.defs tree.old.clocks }
+    requires kept { AreKept desc.now.defs window.old.words tree.old.clocks tree.old.rates }
+    ensures size { window.new.size ≡ window.old.size }
+    ensures words { IfSome window.old.words (λ regs. window.new.words ≡ Some (set_along course.now.chain (wired desc.now.defs regs tree.old) clock.0)) }
+    ensures told { is_some window.new.words ≡ is_some window.old.words }
+    ensures are { AreTold window.new.size window.new.words }
+    ensures behind { window.new.behind ≡ window.old.behind }
+    ensures kept { AreKept desc.now.defs window.new.words tree.new.clocks tree.new.rates }
+    ensures rows { tree.new.clocks ≡ tree.old.clocks }
+    ensures order { tree.new.order ≡ tree.old.order }
+    ensures defs { tree.new.defs ≡ tree.old.defs }
+    ensures stands { IsTree tree.new.defs tree.new.clocks tree.new.order tree.new.rates }
+{
+    let _size = window.len();
+    let parent = rate_above(tree, clock);
+    let Some(rate) = course.planned(clock) else {
+        return;
+    };
+    let Some(value) = setting(desc, clock, parent, rate) else {
+        return;
+    };
+    set_to(desc, window, tree, clock, value);
+}
