@@ -77,7 +77,7 @@ below_by_path defs clocks order rates c k tree =
           way.1 (few_steps (parents_of defs) (link_in clocks) depth way.0 k c tree.possible (tree.lines k) way.1)
 
 -- the parent of a clock isn't below it
-parent_apart : (defs : Description) (clocks : List ClockRow) (order rates : List ℕ) (c p : ℕ) → IsTree defs clocks order rates → link_in clocks c ≡ Some p → is_below clocks c p ≡ false
+pub parent_apart : (defs : Description) (clocks : List ClockRow) (order rates : List ℕ) (c p : ℕ) → IsTree defs clocks order rates → link_in clocks c ≡ Some p → is_below clocks c p ≡ false
 parent_apart defs clocks order rates c p tree at =
     false_from_ne_true (is_below clocks c p) (λ m.
     let way = path_rises (link_in clocks) depth p c m in

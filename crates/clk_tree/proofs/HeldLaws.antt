@@ -1,5 +1,5 @@
 -- Laws on the fields of a tree.
-use Rattle.std.proofs.Common.{◌≡◌, ℕ, suc, ◌+◌, ◌<◌, ◌≤◌, true, cond, List, [], Option, Some, None, refl, sym, ap, subst, ◌∙◌, arith, length, nat_lt, false, drop, replicate, ◌⊎◌, inl, inr}
+use Rattle.std.proofs.Common.{◌≡◌, ℕ, suc, ◌+◌, ◌<◌, ◌≤◌, Bool, true, cond, List, [], Option, Some, None, refl, sym, ap, subst, ◌∙◌, arith, length, nat_lt, false, drop, replicate, ◌⊎◌, inl, inr}
 use Rattle.std.specs.Prelude.{slice_get, slice_index, slice_set, IfSome, Result}
 use Rattle.std.specs.Option.{option_map}
 use Rattle.std.specs.Result.{MatchResult, result_ok}
@@ -19,10 +19,12 @@ use Rattle.clk_tree.specs.declared.group.Group.TheVariants.{ChildrenOf}
 use Rattle.clk_tree.specs.Groups.{is_member, members, group_of, IsGroup, end_of, AreListed}
 use Rattle.clk_tree.specs.Held.{IsHeld}
 use Rattle.clk_tree.specs.Rings.{Leads, ring_of}
+use Rattle.clk_tree.specs.Rooted.{TellsRooted}
 use Rattle.clk_tree.specs.TreeState.{IsTree, attached}
 use Rattle.clk_tree.proofs.Along.{AreBelow, ComesAt, leads_comes, comes_behind, clock_first, clock_at, get_drop, in_drop}
 use Rattle.clk_tree.proofs.GroupLaws.{Moves, order_below, members_below, none_beyond, end_out, end_beyond, end_within, listed_attached, listed_requested}
 use Rattle.clk_tree.proofs.RingLaws.{ring_is}
+use Rattle.clk_tree.proofs.RootedLaws.{UpdatesFlags, tells_attached, tells_none, tells_requested}
 use Rattle.clk_tree.proofs.Rows.{tree_made, tree_attached, tree_requested, order-few, link-requested}
 use Rattle.clk_model.proofs.StateLaws.{registered_lt}
 use Rattle.clk_model.proofs.PllLaws.{at_place as stands_in}
@@ -34,34 +36,34 @@ order_in defs turns = ring_of turns (length defs)
 -- ---- asked
 
 -- what holds of each list behind an end holds of a group's
-pub at_place : (defs : Description) (clocks : List ClockRow) (rates turns siblings : List ℕ) (most count end k : ℕ) (group : Group) (found : Result ClockId ℕ)
-    → IsHeld defs clocks rates turns siblings most → IsGroup (length defs) group → count ≡ length defs → end ≡ end_of count group
+pub at_place : (defs : Description) (clocks : List ClockRow) (rates turns siblings : List ℕ) (most : ℕ) (flags : List Bool) (count end k : ℕ) (group : Group) (found : Result ClockId ℕ)
+    → IsHeld defs clocks rates turns siblings most flags → IsGroup (length defs) group → count ≡ length defs → end ≡ end_of count group
     → ((xs : List ℕ) → AreBelow count xs → count ≤ end → Leads siblings end end xs → MatchResult found (λ c. slice_get xs k ≡ Some c.0) (λ left. k ≡ length xs + left))
     → MatchResult found (λ c. slice_get (members defs clocks (ring_of turns (length defs)) group) k ≡ Some c.0) (λ left. k ≡ length (members defs clocks (ring_of turns (length defs)) group) + left)
-at_place defs clocks rates turns siblings most count end k group found held is same at each =
+at_place defs clocks rates turns siblings most flags count end k group found held is same at each =
     let ends : end ≡ end_of (length defs) group = at ∙ ap (λ (n : ℕ). end_of n group) same in
     let far = end_beyond (length defs) group in
     let below = members_below defs clocks (order_in defs turns) rates group held.tree in
     each (members defs clocks (order_in defs turns) group) (λ x m. let less : x < length defs = below x m in omega arith) (omega arith)
     (subst (λ (e : ℕ). Leads siblings e e (members defs clocks (order_in defs turns) group)) (sym ends) (held.listed.each group is))
 
-pub child_is : (defs : Description) (clocks : List ClockRow) (rates turns siblings : List ℕ) (most count end k : ℕ) (p : ClockId) (found : Result ClockId ℕ)
-    → IsHeld defs clocks rates turns siblings most → p.0 < count → count ≡ length defs → end ≡ end_of count (ChildrenOf p)
+pub child_is : (defs : Description) (clocks : List ClockRow) (rates turns siblings : List ℕ) (most : ℕ) (flags : List Bool) (count end k : ℕ) (p : ClockId) (found : Result ClockId ℕ)
+    → IsHeld defs clocks rates turns siblings most flags → p.0 < count → count ≡ length defs → end ≡ end_of count (ChildrenOf p)
     → ((xs : List ℕ) → AreBelow count xs → count ≤ end → Leads siblings end end xs → MatchResult found (λ c. slice_get xs k ≡ Some c.0) (λ left. k ≡ length xs + left))
     → option_map (λ c. c.0) (result_ok found) ≡ slice_get (children (ring_of turns (length defs)) clocks p.0) k
-child_is defs clocks rates turns siblings most count end k p found held inside same at each =
+child_is defs clocks rates turns siblings most flags count end k p found held inside same at each =
     clock_at (members defs clocks (order_in defs turns) (ChildrenOf p)) k found
-    (at_place defs clocks rates turns siblings most count end k (ChildrenOf p) found held (omega arith) same at each)
+    (at_place defs clocks rates turns siblings most flags count end k (ChildrenOf p) found held (omega arith) same at each)
 
 pub no_child : (defs : Description) (clocks : List ClockRow) (order rates : List ℕ) (count p k : ℕ) → IsTree defs clocks order rates → count ≡ length defs → count ≤ p
     → None ≡ slice_get (children order clocks p) k
 no_child defs clocks order rates count p k tree same beyond = sym (ap (λ (xs : List ℕ). slice_get xs k) (none_beyond defs clocks order rates p tree (omega arith)))
 
-pub first_is : (defs : Description) (clocks : List ClockRow) (rates turns siblings : List ℕ) (most count end at : ℕ) (p : ClockId) (found : Option ClockId)
-    → IsHeld defs clocks rates turns siblings most → p.0 < count → count ≡ length defs → end ≡ end_of count (ChildrenOf p) → at ≡ slice_index siblings end
+pub first_is : (defs : Description) (clocks : List ClockRow) (rates turns siblings : List ℕ) (most : ℕ) (flags : List Bool) (count end at : ℕ) (p : ClockId) (found : Option ClockId)
+    → IsHeld defs clocks rates turns siblings most flags → p.0 < count → count ≡ length defs → end ≡ end_of count (ChildrenOf p) → at ≡ slice_index siblings end
     → found ≡ cond (nat_lt at count) (Some (let c : ClockId = record { 0 = at } in c)) None
     → option_map (λ c. c.0) found ≡ slice_get (children (ring_of turns (length defs)) clocks p.0) 0
-first_is defs clocks rates turns siblings most count end at p found held inside same ends is e =
+first_is defs clocks rates turns siblings most flags count end at p found held inside same ends is e =
     let kids : List ℕ = members defs clocks (order_in defs turns) (ChildrenOf p) in
     let place : p.0 < length defs = omega arith in
     let below = members_below defs clocks (order_in defs turns) rates (ChildrenOf p) held.tree in
@@ -71,12 +73,12 @@ first_is defs clocks rates turns siblings most count end at p found held inside 
     (leads_comes siblings end end kids (subst (λ (x : ℕ). Leads siblings x x kids) (sym end_is) (held.listed.each (ChildrenOf p) place)))) e
 
 -- what stands behind a clock of a group is the next of the group
-pub next_is : (defs : Description) (clocks : List ClockRow) (rates turns siblings : List ℕ) (most count at c k : ℕ) (group : Group) (found : Option ClockId)
-    → IsHeld defs clocks rates turns siblings most → IsGroup (length defs) group → count ≡ length defs → at ≡ slice_index siblings c
+pub next_is : (defs : Description) (clocks : List ClockRow) (rates turns siblings : List ℕ) (most : ℕ) (flags : List Bool) (count at c k : ℕ) (group : Group) (found : Option ClockId)
+    → IsHeld defs clocks rates turns siblings most flags → IsGroup (length defs) group → count ≡ length defs → at ≡ slice_index siblings c
     → found ≡ cond (nat_lt at count) (Some (let d : ClockId = record { 0 = at } in d)) None
     → slice_get (members defs clocks (ring_of turns (length defs)) group) k ≡ Some c
     → option_map (λ d. d.0) found ≡ slice_get (members defs clocks (ring_of turns (length defs)) group) (k + 1)
-next_is defs clocks rates turns siblings most count at c k group found held one same is e here =
+next_is defs clocks rates turns siblings most flags count at c k group found held one same is e here =
     let all : List ℕ = members defs clocks (order_in defs turns) group in
     let end : ℕ = end_of (length defs) group in
     let far = end_beyond (length defs) group in
@@ -100,16 +102,16 @@ not_among defs clocks order rates c k group tree gone here =
     let there : registered clocks c ≡ true = sym (tree.order_lists.listed c) ∙ is_in-filter (is_member defs clocks group) c order (stands_in (members defs clocks order group) k c here) in cc
 
 -- and has a place in the rings
-pub place_in_rings : (defs : Description) (clocks : List ClockRow) (rates turns siblings : List ℕ) (most c : ℕ) → IsHeld defs clocks rates turns siblings most → registered clocks c ≡ true → c < length siblings
-place_in_rings defs clocks rates turns siblings most c held there =
+pub place_in_rings : (defs : Description) (clocks : List ClockRow) (rates turns siblings : List ℕ) (most : ℕ) (flags : List Bool) (c : ℕ) → IsHeld defs clocks rates turns siblings most flags → registered clocks c ≡ true → c < length siblings
+place_in_rings defs clocks rates turns siblings most flags c held there =
     let lies : c < length clocks = registered_lt clocks c there in let rows = held.tree.rows in let size = held.listed.size in omega arith
 
 -- ---- made
 
-pub held_made : (words : ℕ) (defs : Description) (rates turns siblings : List ℕ) (most count : ℕ) → IsValid words defs → count ≡ length defs → length rates ≡ length defs
+pub held_made : (words : ℕ) (defs : Description) (rates turns siblings : List ℕ) (most : ℕ) (flags : List Bool) (count : ℕ) → IsValid words defs → count ≡ length defs → length rates ≡ length defs
     → length turns ≡ count + 1 → length siblings ≡ count + count + 2 → ((i : ℕ) → i < count + 1 → slice_index turns i ≡ i) → ((i : ℕ) → i < count + count + 2 → slice_index siblings i ≡ i)
-    → most ≡ plls defs → (ring_of turns (length defs) ≡ []) × IsHeld defs (replicate (length defs) unregistered_row) rates turns siblings most
-held_made words defs rates turns siblings most count valid same rated turn_size size turn_alone alone counted = (
+    → most ≡ plls defs → flags ≡ replicate (length defs) false → (ring_of turns (length defs) ≡ []) × IsHeld defs (replicate (length defs) unregistered_row) rates turns siblings most flags
+held_made words defs rates turns siblings most flags count valid same rated turn_size size turn_alone alone counted down = (
   none,
   record {
     tree = subst (λ (order : List ℕ). IsTree defs (replicate (length defs) unregistered_row) order rates) (sym none) (tree_made defs rates (lines_end words defs valid) rated);
@@ -120,6 +122,7 @@ held_made words defs rates turns siblings most count valid same rated turn_size 
       each = λ group is. alone (end_of (length defs) group) (end_within (length defs) (count + count + 2) group is (omega arith));
     });
     counted = counted;
+    rooted = tells_none defs flags down;
   },
 ) where
   none : ring_of turns (length defs) ≡ []
@@ -128,21 +131,22 @@ held_made words defs rates turns siblings most count valid same rated turn_size 
 -- ---- changed
 
 -- a tree in which a clock was attached, and its order
-pub held_attached : (words : ℕ) (defs : Description) (clocks found : List ClockRow) (rates turns siblings turns' siblings' : List ℕ) (most c : ℕ) (parent : Option ClockId) (row : ClockRow)
-    → IsValid words defs → IsHeld defs clocks rates turns siblings most → c < length defs
+pub held_attached : (words : ℕ) (defs : Description) (clocks found : List ClockRow) (rates turns siblings turns' siblings' : List ℕ) (most : ℕ) (flags flags' : List Bool) (c : ℕ) (parent : Option ClockId) (row : ClockRow)
+    → IsValid words defs → IsHeld defs clocks rates turns siblings most flags → c < length defs
     → IfSome parent (λ q. registered clocks q.0 ≡ true) → IfSome parent (λ q. is_in q.0 (parents_of defs c) ≡ true)
     → row ≡ row_of found c → found ≡ clocks
-    → Moves siblings siblings' (end_of (length defs) (group_of defs c parent)) c → Moves turns turns' (length defs) c
+    → Moves siblings siblings' (end_of (length defs) (group_of defs c parent)) c → Moves turns turns' (length defs) c → UpdatesFlags defs siblings' flags flags' c parent
     → (ring_of turns' (length defs) ≡ to_front c (ring_of turns (length defs)))
-    × IsHeld defs (slice_set clocks c (record row { registered = true; link = parent })) rates turns' siblings' most
-held_attached words defs clocks found rates turns siblings turns' siblings' most c parent row valid held place there can is same moved turned = (
+    × IsHeld defs (slice_set clocks c (record row { registered = true; link = parent })) rates turns' siblings' most flags'
+held_attached words defs clocks found rates turns siblings turns' siblings' most flags flags' c parent row valid held place there can is same moved turned sets = (
   order,
-  subst (λ (r : ClockRow). IsHeld defs (slice_set clocks c (record r { registered = true; link = parent })) rates turns' siblings' most)
+  subst (λ (r : ClockRow). IsHeld defs (slice_set clocks c (record r { registered = true; link = parent })) rates turns' siblings' most flags')
       (sym (is ∙ ap (λ (rows : List ClockRow). row_of rows c) same))
       (record {
         tree = subst (λ (xs : List ℕ). IsTree defs (attached clocks c parent) xs rates) (sym order) tree;
         listed = subst (λ (xs : List ℕ). AreListed defs (attached clocks c parent) xs turns' siblings') (sym order) listed;
         counted = held.counted;
+        rooted = flagged;
       }),
 ) where
   front : List ℕ
@@ -154,22 +158,28 @@ held_attached words defs clocks found rates turns siblings turns' siblings' most
   listed : AreListed defs (attached clocks c parent) front turns' siblings'
   listed = listed_attached words defs clocks (order_in defs turns) rates turns siblings turns' siblings' c parent valid held.tree held.listed place there can moved turned
 
+  flagged : TellsRooted defs (attached clocks c parent) flags'
+  flagged =
+      tells_attached words defs clocks (order_in defs turns) front rates turns' siblings' flags flags' c parent valid held.tree tree listed
+      (let rows = held.tree.rows in omega arith) held.rooted sets
+
   order : ring_of turns' (length defs) ≡ front
   order =
       ring_is turns' (length defs) front (order-few defs (attached clocks c parent) front rates tree)
       (end_out (length defs) (length defs) front (order_below defs (attached clocks c parent) front rates tree) (omega arith)) listed.turn
 
 -- and one with another last request
-pub held_requested : (defs : Description) (clocks found : List ClockRow) (rates turns siblings : List ℕ) (most c rate : ℕ) (row : ClockRow)
-    → IsHeld defs clocks rates turns siblings most → c < length defs → row ≡ row_of found c → found ≡ clocks
-    → IsHeld defs (slice_set clocks c (record row { last_request = rate })) rates turns siblings most
-held_requested defs clocks found rates turns siblings most c rate row held place is same =
-    subst (λ (r : ClockRow). IsHeld defs (slice_set clocks c (record r { last_request = rate })) rates turns siblings most)
+pub held_requested : (defs : Description) (clocks found : List ClockRow) (rates turns siblings : List ℕ) (most : ℕ) (flags : List Bool) (c rate : ℕ) (row : ClockRow)
+    → IsHeld defs clocks rates turns siblings most flags → c < length defs → row ≡ row_of found c → found ≡ clocks
+    → IsHeld defs (slice_set clocks c (record row { last_request = rate })) rates turns siblings most flags
+held_requested defs clocks found rates turns siblings most flags c rate row held place is same =
+    subst (λ (r : ClockRow). IsHeld defs (slice_set clocks c (record r { last_request = rate })) rates turns siblings most flags)
     (sym (is ∙ ap (λ (rows : List ClockRow). row_of rows c) same))
     (record {
       tree = tree_requested defs clocks (order_in defs turns) rates c rate held.tree place;
       listed = listed_requested defs clocks (requested clocks c rate) (order_in defs turns) turns siblings (λ d. link-requested clocks c rate d within) held.listed;
       counted = held.counted;
+      rooted = tells_requested defs clocks flags c rate within held.rooted;
     }) where
       within : c < length clocks
       within = let rows = held.tree.rows in omega arith

@@ -5,6 +5,9 @@ pub mod RingLaws
 pub mod Along
 pub mod GroupLaws
 pub mod HeldLaws
+pub mod KidRings
 pub mod Refreshing
+pub mod Flagging
+pub mod RootedLaws
 pub mod PllTables
 pub mod Freshness

@@ -1,5 +1,5 @@
 -- Laws on kept rates that are brought up to date from a clock down.
-use Rattle.std.proofs.Common.{◌≡◌, ℕ, zero, suc, ◌+◌, ◌<◌, ◌≤◌, true, false, List, [], ◌∷◌, Option, Some, None, refl, sym, ap, subst, ◌∙◌, ◌⊎◌, inl, inr, arith, drop, length}
+use Rattle.std.proofs.Common.{◌≡◌, ℕ, suc, ◌+◌, ◌<◌, ◌≤◌, true, false, List, Option, Some, None, refl, sym, ap, subst, ◌∙◌, ◌⊎◌, inl, inr, arith, drop, length}
 use Rattle.std.specs.Prelude.{IfSome, flat_map, slice_get, slice_index, slice_set}
 use Rattle.std.proofs.lemmas.Bool.{cases_Bool, both_ways}
 use Rattle.std.proofs.lemmas.List.{get_or-set_same, get_or-set_other}
@@ -9,10 +9,10 @@ use Rattle.reg_bank.specs.Registers.{Registers}
 use Rattle.clk_model.specs.Lists.{is_in}
 use Rattle.clk_model.specs.Rate.{rate_over}
 use Rattle.clk_model.specs.Walk.{below_within}
-use Rattle.clk_model.proofs.Members.{is_in_tail, is_in_cases}
-use Rattle.clk_model.proofs.OnceLaws.{in_append, flat_map_in}
+use Rattle.clk_model.proofs.Members.{is_in_cases}
 use Rattle.clk_tree.specs.Refreshed.{AreKidRings, AreOver}
-use Rattle.clk_tree.proofs.Along.{ComesAt, leads_comes, go_on, stops, none_left, drop_at}
+use Rattle.clk_tree.proofs.Along.{ComesAt, none_left}
+use Rattle.clk_tree.proofs.KidRings.{first_kid, next_kid, not_below_kid, below_left}
 use Rattle.clk_tree.proofs.RingLaws.{not_in_cons}
 use Rattle.clk_model.proofs.PllLaws.{at_place}
 
@@ -37,8 +37,7 @@ pub own_rate : (defs : Description) (told : Option Registers) (siblings old : Li
     → clock < length defs → clock < length old → at ≡ slice_index siblings (length defs + clock) → kind ≡ kind_of defs clock → IfSome told (λ regs. found ≡ rate_over kind regs parent)
     → Refreshing defs told siblings old (slice_set old clock found) levels clock parent at 0
 own_rate defs told siblings old levels clock parent at found kind place within first is own = record {
-  comes = λ kids are. subst (λ (a : ℕ). ComesAt siblings (length defs + clock) a (kids clock)) (sym first)
-      (leads_comes siblings (length defs + clock) (length defs + clock) (kids clock) (are.rings clock place));
+  comes = first_kid (length defs) siblings clock at place first;
   below = given told own;
   others = λ kids are k out. get_or-set_other old clock k found 0 (λ same. (not_in_cons k clock (flat_map (below_within kids levels) (kids clock)) out).0 (sym same));
 } where
@@ -65,22 +64,10 @@ one_child defs told siblings old mid new levels clock parent at next step found 
     subst (λ (n : ℕ). Refreshing defs told siblings old new levels clock parent next n) (let one : suc step ≡ step + 1 = omega arith in one) (record {
       comes = λ kids are. subst (λ (a : ℕ). ComesAt siblings (length defs + clock) a (drop (suc step) (kids clock))) (sym follows) (on kids are).1;
       below = given told own so_far.below child.below;
-      others = λ kids are k out. child.others kids are k (outside kids are k out) ∙ so_far.others kids are k out;
+      others = λ kids are k out. child.others kids are k (not_below_kid kids levels clock at k (at_place (kids clock) step at (on kids are).0) out) ∙ so_far.others kids are k out;
     }) where
       on : (kids : ℕ → List ℕ) → AreKidRings (length defs) siblings kids → (slice_get (kids clock) step ≡ Some at) × ComesAt siblings (length defs + clock) (slice_index siblings at) (drop (suc step) (kids clock))
-      on kids are = go_on siblings (length defs + clock) at (length defs) step (kids clock) (omega arith) less (so_far.comes kids are)
-
-      left : (kids : ℕ → List ℕ) → AreKidRings (length defs) siblings kids → drop step (kids clock) ≡ at ∷ drop (suc step) (kids clock)
-      left kids are = drop_at (kids clock) step at (on kids are).0
-
-      -- what isn't below the clock isn't below its child
-      outside : (kids : ℕ → List ℕ) → AreKidRings (length defs) siblings kids → (k : ℕ) → is_in k (below_within kids (suc levels) clock) ≡ false → is_in k (below_within kids levels at) ≡ false
-      outside kids are k out = elim (cases_Bool (is_in k (below_within kids levels at))) [
-        | inl there ↦ absurd (both_ways _ out
-            (is_in_tail k clock (flat_map (below_within kids levels) (kids clock))
-            (flat_map_in (below_within kids levels) k at (kids clock) (at_place (kids clock) step at (on kids are).0) there)))
-        | inr gone ↦ gone
-      ]
+      on = next_kid (length defs) siblings clock at step less so_far.comes
 
       given : (told' : Option Registers) → IfSome told' (λ regs. found ≡ rate_over kind regs parent)
           → IfSome told' (λ regs. (kids : ℕ → List ℕ) (rates : ℕ → ℕ) → AreKidRings (length defs) siblings kids → AreOver defs regs kids rates
@@ -100,11 +87,10 @@ one_child defs told siblings old mid new levels clock parent at next step found 
             | inl there ↦ inl (g kids rates are over child_rate k there)
             | inr gone ↦ elim (f kids rates are over top k m) [
               | inl right ↦ inl (child.others kids are k gone ∙ right)
-              | inr later ↦ elim (in_append k (below_within kids levels at) (flat_map (below_within kids levels) (drop (suc step) (kids clock)))
-                  (ap (λ (ys : List ℕ). is_in k (flat_map (below_within kids levels) ys)) (sym (left kids are)) ∙ later)) [
-                    | inl in_child ↦ absurd (both_ways _ gone in_child)
-                    | inr rest ↦ inr rest
-                  ]
+              | inr later ↦ elim (below_left kids levels clock at step k (on kids are).0 later) [
+                | inl in_child ↦ absurd (both_ways _ gone in_child)
+                | inr rest ↦ inr rest
+              ]
             ]
           ]
 
@@ -129,13 +115,6 @@ all_done defs told siblings old new deep levels clock parent at step is all so_f
       ] where
         nothing : false ≡ true → ⊥
         nothing e = cc
-
--- an end that comes says so
-pub ended : (defs : Description) (told : Option Registers) (siblings old new : List ℕ) (levels clock parent at step : ℕ)
-    → Refreshing defs told siblings old new levels clock parent at step → length defs ≤ at
-    → (kids : ℕ → List ℕ) → AreKidRings (length defs) siblings kids → length (kids clock) ≤ step
-ended defs told siblings old new levels clock parent at step so_far beyond kids are =
-    stops siblings (length defs + clock) at (length defs) step (kids clock) (λ x m. are.clocks clock x m) beyond (so_far.comes kids are)
 
 -- without a level nothing is below
 pub no_level : (defs : Description) (told : Option Registers) (siblings old : List ℕ) (levels clock parent : ℕ) → levels ≡ 0 → RefreshesBelow defs told siblings old old levels clock parent

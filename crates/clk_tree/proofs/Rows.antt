@@ -17,7 +17,7 @@ use Rattle.std.proofs.Math.Bool.{or-true}
 
 -- ---- a tree at its making
 
-row_of-blank : (n c : ℕ) → row_of (replicate n unregistered_row) c ≡ unregistered_row
+pub row_of-blank : (n c : ℕ) → row_of (replicate n unregistered_row) c ≡ unregistered_row
 row_of-blank zero c = refl
 row_of-blank (suc n) zero = refl
 row_of-blank (suc n) (suc c) = row_of-blank n c

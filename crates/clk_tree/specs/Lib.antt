@@ -1,6 +1,7 @@
 pub mod Rings
 pub mod TreeState
 pub mod Groups
+pub mod Rooted
 pub mod Held
 pub mod Refreshed
 pub mod PllCounts

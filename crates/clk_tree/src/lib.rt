@@ -8,11 +8,12 @@
 mod chain;
 mod group;
 mod kind;
-mod path;
 mod plan;
 mod plls;
 mod refresh;
 mod ring;
+mod rooting;
+mod row;
 mod tree;
 mod view;
 mod walk_rates;

@@ -10,10 +10,11 @@ ghost use Rattle.clk_model.specs.Script.{plls};
 ghost use Rattle.clk_tree.specs.Refreshed.{is_below, IsFresh};
 
 use crate::group::{Group, as_clock, count_of, end_of, group_of, nth_behind};
-use crate::path::{has_root, is_registered, link_of, row_of, unregistered};
 use crate::plls::most_plls;
 use crate::refresh::{rate_behind, refresh_below};
 use crate::ring::Ring;
+use crate::rooting::{flag_of, update_flags};
+use crate::row::{is_registered, link_of, row_of, unregistered};
 use clk_base::{ClockId, ValidDesc, depth};
 use clk_io::NoMemory;
 use clk_model::ClockRow;
@@ -38,6 +39,8 @@ pub struct Tree {
     siblings: Ring,
     // The greatest number of PLLs on a line of possible parents.
     plls: u32,
+    // For each clock, whether it is registered and its path ends in a fixed-rate clock.
+    rooted: Vec<bool>,
 }
 
 impl Model for Tree {
@@ -55,7 +58,7 @@ impl Model for Tree {
       rates = t.rates.items;
     } };
 
-    ghost invariant = { λ t. IsHeld t.desc.defs t.clocks.items t.rates.items t.turns t.siblings t.plls };
+    ghost invariant = { λ t. IsHeld t.desc.defs t.clocks.items t.rates.items t.turns t.siblings t.plls t.rooted.items };
 }
 
 impl Tree {
@@ -76,6 +79,7 @@ impl Tree {
         let turns = Ring::alone(alloc, count + 1)?;
         let siblings = Ring::alone(alloc, count + count + 2)?;
         let plls = most_plls(alloc, desc)?;
+        let rooted = vec![in alloc; false; desc.len()]?;
         Ok(Tree {
             desc: desc.copy(alloc)?,
             clocks,
@@ -83,6 +87,7 @@ impl Tree {
             turns,
             siblings,
             plls,
+            rooted,
         })
     }
 
@@ -111,12 +116,13 @@ impl Tree {
         is_registered(&self.clocks, c)
     }
 
-    /// Whether a clock is registered and its path ends in a fixed-rate clock.
+    /// Whether a clock is registered and its path ends in a fixed-rate clock. No search: a
+    /// flag of each clock is kept.
     pub fn rooted(&self, c: ClockId) -> bool
         ensures rooted { result ≡ rooted self.now.defs self.now.clocks c.0 }
         ensures stands { IsTree self.now.defs self.now.clocks self.now.order self.now.rates }
     {
-        is_registered(&self.clocks, c) && has_root(depth(), &self.desc, &self.clocks, c)
+        flag_of(&self.rooted, c)
     }
 
     /// The k-th child of a clock, from 0, the newest attached first.
@@ -196,7 +202,8 @@ impl Tree {
     }
 
     /// Attaches a clock to a parent, or to none, and registers it where it isn't. It is the newest
-    /// attached from now on.
+    /// attached from now on. Only where it is rooted then and wasn't, or the other way round, this
+    /// goes to the clocks below it.
     pub fn attach(&mut self, c: ClockId, p: Option<ClockId>)
         requires place { c.0 < length self.old.defs }
         requires there { IfSome p (λ q. registered self.old.clocks q.0 ≡ true) }
@@ -217,6 +224,7 @@ impl Tree {
         let end = end_of(count, group_of(&self.desc, c, p));
         self.siblings.move_behind(end, c.0);
         self.turns.move_behind(count, c.0);
+        update_flags(&self.desc, &self.siblings, c, p, &mut self.rooted);
     }
 
     /// Keeps a rate in Hz as the last requested one of a clock.

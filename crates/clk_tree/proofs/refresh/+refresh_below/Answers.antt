@@ -1,7 +1,8 @@
 -- The clock, then child by child all that is below it.
 use Rattle.std.proofs.Common.{◌≡◌, ℕ, suc, ◌+◌, ◌-◌, ◌<◌, ◌≤◌, length, ap, ◌∙◌, arith}
 use Rattle.std.specs.Prelude.{slice_index}
-use Rattle.clk_tree.proofs.Refreshing.{own_rate, one_child, all_done, ended}
+use Rattle.clk_tree.proofs.KidRings.{no_kid_left}
+use Rattle.clk_tree.proofs.Refreshing.{own_rate, one_child, all_done}
 use Rattle.clk_tree.proofs.refresh.+refresh_below.Goals as goal
 
 pub loop-step-init : goal.loop-step-init
@@ -35,7 +36,7 @@ returns-then-at-count-clause-below g t c =
     let beyond : length c.args.desc.now.defs ≤ c.loop-step.at = let past = c.if-at-count.true in omega arith in
     let deep : c.args.levels ≡ suc (c.args.levels - 1) = let some = c.if-levels-eq0.false in omega arith in
     (all_done c.args.desc.now.defs (g.B.Bank.contents c.args.bank.now) c.args.siblings.now c.args.rates.now c.loop-step.rates c.args.levels (c.args.levels - 1) c.args.clock.0 c.args.parent c.loop-step.at c.loop-step._step deep
-    (ended c.args.desc.now.defs (g.B.Bank.contents c.args.bank.now) c.args.siblings.now c.args.rates.now c.loop-step.rates (c.args.levels - 1) c.args.clock.0 c.args.parent c.loop-step.at c.loop-step._step c.loop-step.invariant.done beyond)
+    (no_kid_left (length c.args.desc.now.defs) c.args.siblings.now c.args.clock.0 c.loop-step.at c.loop-step._step beyond c.loop-step.invariant.done.comes)
     c.loop-step.invariant.done).below
 
 pub returns-then-at-count-clause-others : goal.returns-then-at-count-clause-others
@@ -44,7 +45,7 @@ returns-then-at-count-clause-others g t c =
     let beyond : length c.args.desc.now.defs ≤ c.loop-step.at = let past = c.if-at-count.true in omega arith in
     let deep : c.args.levels ≡ suc (c.args.levels - 1) = let some = c.if-levels-eq0.false in omega arith in
     (all_done c.args.desc.now.defs (g.B.Bank.contents c.args.bank.now) c.args.siblings.now c.args.rates.now c.loop-step.rates c.args.levels (c.args.levels - 1) c.args.clock.0 c.args.parent c.loop-step.at c.loop-step._step deep
-    (ended c.args.desc.now.defs (g.B.Bank.contents c.args.bank.now) c.args.siblings.now c.args.rates.now c.loop-step.rates (c.args.levels - 1) c.args.clock.0 c.args.parent c.loop-step.at c.loop-step._step c.loop-step.invariant.done beyond)
+    (no_kid_left (length c.args.desc.now.defs) c.args.siblings.now c.args.clock.0 c.loop-step.at c.loop-step._step beyond c.loop-step.invariant.done.comes)
     c.loop-step.invariant.done).others
 
 pub returns-clause-below : goal.returns-clause-below

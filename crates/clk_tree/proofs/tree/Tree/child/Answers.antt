@@ -18,5 +18,5 @@ returns-clause-child c =
     let m = c.self.inside in
     rw (← c.self.view_is)
     (ap (λ (o : Option ClockId). option_map (λ d. d.0) o) c.ok.ensures.value
-    ∙ child_is m.desc.defs m.clocks.items m.rates.items m.turns m.siblings m.plls c.count_of-count.result c.end_of-end.result c.args.k c.args.p c.nth_behind.result
+    ∙ child_is m.desc.defs m.clocks.items m.rates.items m.turns m.siblings m.plls m.rooted.items c.count_of-count.result c.end_of-end.result c.args.k c.args.p c.nth_behind.result
     c.self.invariant c.if-p-count.false c.count_of-count.ensures.count c.end_of-end.ensures c.nth_behind.ensures)

@@ -1,5 +1,5 @@
 -- The empty tree.
-use Rattle.std.proofs.Common.{rules, ◌≡◌, ◌∙◌, ap, subst, sym, List, ℕ, replicate, length, arith}
+use Rattle.std.proofs.Common.{rules, false, ◌≡◌, ◌∙◌, ap, subst, sym, List, ℕ, replicate, length, arith}
 use Rattle.clk_base.specs.Checked.{Checked}
 use Rattle.clk_model.specs.declared.row.ClockRow.{ClockRow}
 use Rattle.clk_model.specs.State.{unregistered_row}
@@ -17,19 +17,23 @@ invariant_of-result c =
     ∙ ap (λ (n : ℕ). replicate n unregistered_row) c.len.ensures.len in
     let rated : length c.in_ok-rates.rates.items ≡ length defs =
     let ok = c.in_ok-rates.rates.ok in let len = c.in_ok-rates.ensures.len in let is = c.len-2.ensures.len in omega arith in
-    subst (λ (d : Checked). IsHeld d.defs c.in_ok-clocks.clocks.items c.in_ok-rates.rates.items c.in_ok-turns.turns c.in_ok-siblings.siblings c.in_ok-plls.plls) (sym c.in_ok-copy.ensures)
-    (subst (λ (rs : List ClockRow). IsHeld defs rs c.in_ok-rates.rates.items c.in_ok-turns.turns c.in_ok-siblings.siblings c.in_ok-plls.plls) (sym rows)
-    (held_made c.args.desc.now.words defs c.in_ok-rates.rates.items c.in_ok-turns.turns c.in_ok-siblings.siblings c.in_ok-plls.plls c.count_of-count.result c.count_of-count.ensures.valid
-    c.count_of-count.ensures.count rated c.in_ok-turns.ensures.size c.in_ok-siblings.ensures.size c.in_ok-turns.ensures.alone c.in_ok-siblings.ensures.alone c.in_ok-plls.ensures).1)
+    let down : c.in_ok-rooted.rooted.items ≡ replicate (length defs) false =
+    c.in_ok-rooted.ensures.items_if_clones_equal (search rules) ∙ ap (λ (n : ℕ). replicate n false) c.len-3.ensures.len in
+    subst (λ (d : Checked). IsHeld d.defs c.in_ok-clocks.clocks.items c.in_ok-rates.rates.items c.in_ok-turns.turns c.in_ok-siblings.siblings c.in_ok-plls.plls c.in_ok-rooted.rooted.items) (sym c.in_ok-copy.ensures)
+    (subst (λ (rs : List ClockRow). IsHeld defs rs c.in_ok-rates.rates.items c.in_ok-turns.turns c.in_ok-siblings.siblings c.in_ok-plls.plls c.in_ok-rooted.rooted.items) (sym rows)
+    (held_made c.args.desc.now.words defs c.in_ok-rates.rates.items c.in_ok-turns.turns c.in_ok-siblings.siblings c.in_ok-plls.plls c.in_ok-rooted.rooted.items c.count_of-count.result c.count_of-count.ensures.valid
+    c.count_of-count.ensures.count rated c.in_ok-turns.ensures.size c.in_ok-siblings.ensures.size c.in_ok-turns.ensures.alone c.in_ok-siblings.ensures.alone c.in_ok-plls.ensures down).1)
 
 pub returns-clause-order : goal.returns-clause-order
 returns-clause-order c =
     let defs = c.args.desc.now.defs in
     let rated : length c.in_ok-rates.rates.items ≡ length defs =
     let ok = c.in_ok-rates.rates.ok in let len = c.in_ok-rates.ensures.len in let is = c.len-2.ensures.len in omega arith in
+    let down : c.in_ok-rooted.rooted.items ≡ replicate (length defs) false =
+    c.in_ok-rooted.ensures.items_if_clones_equal (search rules) ∙ ap (λ (n : ℕ). replicate n false) c.len-3.ensures.len in
     ap (λ (d : Checked). ring_of c.in_ok-turns.turns (length d.defs)) c.in_ok-copy.ensures
-    ∙ (held_made c.args.desc.now.words defs c.in_ok-rates.rates.items c.in_ok-turns.turns c.in_ok-siblings.siblings c.in_ok-plls.plls c.count_of-count.result c.count_of-count.ensures.valid
-    c.count_of-count.ensures.count rated c.in_ok-turns.ensures.size c.in_ok-siblings.ensures.size c.in_ok-turns.ensures.alone c.in_ok-siblings.ensures.alone c.in_ok-plls.ensures).0
+    ∙ (held_made c.args.desc.now.words defs c.in_ok-rates.rates.items c.in_ok-turns.turns c.in_ok-siblings.siblings c.in_ok-plls.plls c.in_ok-rooted.rooted.items c.count_of-count.result c.count_of-count.ensures.valid
+    c.count_of-count.ensures.count rated c.in_ok-turns.ensures.size c.in_ok-siblings.ensures.size c.in_ok-turns.ensures.alone c.in_ok-siblings.ensures.alone c.in_ok-plls.ensures down).0
 
 pub returns-clause-stands : goal.returns-clause-stands
 returns-clause-stands c = (invariant_of-result c).tree

@@ -14,5 +14,5 @@ pub returns-clause-first : goal.returns-clause-first
 returns-clause-first c =
     let m = c.self.inside in
     rw (← c.self.view_is)
-    (first_is m.desc.defs m.clocks.items m.rates.items m.turns m.siblings m.plls c.count_of-count.result c.end_of-end.result c.after.result c.args.p c.as_clock.result
+    (first_is m.desc.defs m.clocks.items m.rates.items m.turns m.siblings m.plls m.rooted.items c.count_of-count.result c.end_of-end.result c.after.result c.args.p c.as_clock.result
     c.self.invariant c.if-p-count.false c.count_of-count.ensures.count c.end_of-end.ensures c.after.ensures.next c.as_clock.ensures)

@@ -30,7 +30,7 @@ returns-then-not-is_registered-clause-orphan c = λ k at.
 pub after-requires : goal.after-requires
 after-requires c =
     let m = c.self.inside in
-    place_in_rings m.desc.defs m.clocks.items m.rates.items m.turns m.siblings m.plls c.args.c.0 c.self.invariant
+    place_in_rings m.desc.defs m.clocks.items m.rates.items m.turns m.siblings m.plls m.rooted.items c.args.c.0 c.self.invariant
     (ap (λ (rows : List ClockRow). registered rows c.args.c.0) (sym c.deref.ensures.value) ∙ sym c.is_registered.ensures ∙ c.if-not-is_registered.false)
 
 pub returns-clause-child : goal.returns-clause-child
@@ -39,7 +39,7 @@ returns-clause-child c = λ p k at.
     let parent : ClockId = record { 0 = p } in
     let here = rw (← c.self.view_is) at at in
     rw (← c.self.view_is)
-    (next_is m.desc.defs m.clocks.items m.rates.items m.turns m.siblings m.plls c.count_of.result c.after.result c.args.c.0 k (ChildrenOf parent) c.as_clock.result
+    (next_is m.desc.defs m.clocks.items m.rates.items m.turns m.siblings m.plls m.rooted.items c.count_of.result c.after.result c.args.c.0 k (ChildrenOf parent) c.as_clock.result
     c.self.invariant (parent_place m.desc.defs m.clocks.items (ring_of m.turns (length m.desc.defs)) m.rates.items c.args.c.0 p k c.self.invariant.tree here)
     c.count_of.ensures.count c.after.ensures.next c.as_clock.ensures here)
 
@@ -47,12 +47,12 @@ pub returns-clause-root : goal.returns-clause-root
 returns-clause-root c = λ k at.
     let m = c.self.inside in
     rw (← c.self.view_is)
-    (next_is m.desc.defs m.clocks.items m.rates.items m.turns m.siblings m.plls c.count_of.result c.after.result c.args.c.0 k Roots c.as_clock.result
+    (next_is m.desc.defs m.clocks.items m.rates.items m.turns m.siblings m.plls m.rooted.items c.count_of.result c.after.result c.args.c.0 k Roots c.as_clock.result
     c.self.invariant tt c.count_of.ensures.count c.after.ensures.next c.as_clock.ensures (rw (← c.self.view_is) at at))
 
 pub returns-clause-orphan : goal.returns-clause-orphan
 returns-clause-orphan c = λ k at.
     let m = c.self.inside in
     rw (← c.self.view_is)
-    (next_is m.desc.defs m.clocks.items m.rates.items m.turns m.siblings m.plls c.count_of.result c.after.result c.args.c.0 k Orphans c.as_clock.result
+    (next_is m.desc.defs m.clocks.items m.rates.items m.turns m.siblings m.plls m.rooted.items c.count_of.result c.after.result c.args.c.0 k Orphans c.as_clock.result
     c.self.invariant tt c.count_of.ensures.count c.after.ensures.next c.as_clock.ensures (rw (← c.self.view_is) at at))

@@ -7,7 +7,7 @@ pub invariant_of-self : goal.invariant_of-self
 invariant_of-self c =
     let m = c.self.inside in
     let place : c.args.c.0 < length m.desc.defs = rw (← c.self.view_is) at c.requires.place in
-    held_requested m.desc.defs m.clocks.items c.deref.result.now m.rates.items m.turns m.siblings m.plls
+    held_requested m.desc.defs m.clocks.items c.deref.result.now m.rates.items m.turns m.siblings m.plls m.rooted.items
     c.args.c.0 c.args.rate c.row_of.result c.self.invariant place c.row_of.ensures c.deref.ensures.value
 
 pub returns-clause-stands : goal.returns-clause-stands

@@ -15,7 +15,7 @@ returns-in-Ok-clause-top c =
     let order = ring_of m.turns (length m.desc.defs) in
     rw (← c.self.view_is)
     (sym (get_first (roots m.desc.defs order) (orphans m.desc.defs order m.clocks.items) c.args.k c.in-Ok.root.0
-    (at_place m.desc.defs m.clocks.items m.rates.items m.turns m.siblings m.plls c.count_of-count.result c.end_of-roots.result c.args.k Roots (Ok c.in-Ok.root)
+    (at_place m.desc.defs m.clocks.items m.rates.items m.turns m.siblings m.plls m.rooted.items c.count_of-count.result c.end_of-roots.result c.args.k Roots (Ok c.in-Ok.root)
     c.self.invariant tt c.count_of-count.ensures.count c.end_of-roots.ensures c.in-Ok.ensures)))
 
 pub returns-in-Err-clause-top : goal.returns-in-Err-clause-top
@@ -26,8 +26,8 @@ returns-in-Err-clause-top c =
     rw (← c.self.view_is)
     (ap (λ (o : Option ClockId). option_map (λ d. d.0) o) c.ok.ensures.value
     ∙ clock_at (orphans m.desc.defs order m.clocks.items) left c.nth_behind-in-Err.result
-    (at_place m.desc.defs m.clocks.items m.rates.items m.turns m.siblings m.plls c.count_of-count.result c.end_of-orphans.result left Orphans c.nth_behind-in-Err.result
+    (at_place m.desc.defs m.clocks.items m.rates.items m.turns m.siblings m.plls m.rooted.items c.count_of-count.result c.end_of-orphans.result left Orphans c.nth_behind-in-Err.result
     c.self.invariant tt c.count_of-count.ensures.count c.end_of-orphans.ensures c.nth_behind-in-Err.ensures)
     ∙ sym (get_second (roots m.desc.defs order) (orphans m.desc.defs order m.clocks.items) c.args.k left
-    (at_place m.desc.defs m.clocks.items m.rates.items m.turns m.siblings m.plls c.count_of-count.result c.end_of-roots.result c.args.k Roots (Err left)
+    (at_place m.desc.defs m.clocks.items m.rates.items m.turns m.siblings m.plls m.rooted.items c.count_of-count.result c.end_of-roots.result c.args.k Roots (Err left)
     c.self.invariant tt c.count_of-count.ensures.count c.end_of-roots.ensures c.in-Err.ensures)))

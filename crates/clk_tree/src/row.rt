@@ -1,15 +1,10 @@
-//! The row of a clock, and going up from a clock by its links.
+//! The row of a clock, with its registration and its link.
 
 ghost use Rattle.std.specs.Prelude.{◌≡◌, ◌<◌};
 ghost use Rattle.std.specs.Option.{option_map};
-ghost use Rattle.std.specs.List.{list_any};
-ghost use Rattle.clk_base.specs.Description.{kind_of};
-ghost use Rattle.clk_model.specs.Kinds.{is_fixed};
 ghost use Rattle.clk_model.specs.State.{row_of, registered, link_in, unregistered_row};
-ghost use Rattle.clk_model.specs.Tree.{path_within};
 
-use crate::kind::is_fixed;
-use clk_base::{ClockId, ValidDesc};
+use clk_base::ClockId;
 use clk_model::ClockRow;
 
 /// The row of a clock that was never registered.
@@ -45,20 +40,4 @@ pub(crate) fn link_of(clocks: &[ClockRow], clock: ClockId) -> Option<ClockId>
     ensures { option_map (λ p. p.0) result ≡ link_in clocks.now clock.0 }
 {
     row_of(clocks, clock).link
-}
-
-/// Whether a clock's path has a fixed-rate clock, within so many levels.
-pub(crate) fn has_root(levels: u32, desc: &ValidDesc, clocks: &[ClockRow], clock: ClockId) -> bool
-    ensures { result ≡ list_any (λ a. is_fixed (kind_of desc.now.defs a)) (path_within (link_in clocks.now) levels clock.0) }
-{
-    if levels == 0 {
-        return false;
-    }
-    if is_fixed(desc, clock) {
-        return true;
-    }
-    match link_of(clocks, clock) {
-        Some(parent) => has_root(levels - 1, desc, clocks, parent),
-        None => false,
-    }
 }
