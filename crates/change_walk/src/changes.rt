@@ -8,10 +8,9 @@ ghost use Rattle.clk_tree.specs.Plans.{chain_of, rates_of};
 ghost use Rattle.change_walk.specs.Changes.{AreThere, back_to, changed_along, changes_below, is_back, parent_after};
 
 use crate::places::{rate_at, step_at};
-use clk_base::ClockId;
+use clk_base::{ClockId, depth};
 use clk_io::NoMemory;
 use clk_tree::{ChainStep, Tree, WalkRate};
-use smallvec::SmallVec;
 use std::alloc::Global;
 
 /// A clock whose rate a plan changes.
@@ -24,46 +23,12 @@ pub struct Changed {
     pub after: u64,
 }
 
-/// What an unused place of [`ChangedList`] holds, which means nothing.
-impl Default for Changed {
-    fn default() -> Changed {
-        Changed {
-            clock: ClockId(0),
-            before: 0,
-            after: 0,
-        }
-    }
-}
-
-/// So many changed clocks take no memory: mostly one, or a clock with the few whose rates follow from
-/// its own.
-pub(crate) const FEW_CHANGED: usize = 4;
-
-/// The clocks whose rates a plan changes, as a list, which takes no memory while they are few.
-pub(crate) type ChangedList = SmallVec<Changed, FEW_CHANGED>;
-
 /// A clock below which the walk is, and whether its rate changes with those of all above it.
 #[derive(Clone, Copy, Debug, PartialEq, Eq)]
 pub(crate) struct Passed {
     pub clock: ClockId,
     pub changes: bool,
 }
-
-/// What an unused place of [`PassedList`] holds, which means nothing.
-impl Default for Passed {
-    fn default() -> Passed {
-        Passed {
-            clock: ClockId(0),
-            changes: false,
-        }
-    }
-}
-
-/// So many clocks above one take no memory, and few clocks have more.
-const FEW_ABOVE: usize = 8;
-
-/// The clocks below which the walk is, from its top down, which take no memory while they are few.
-type PassedList = SmallVec<Passed, FEW_ABOVE>;
 
 /// The parent that a clock will have.
 fn parent_after(tree: &Tree, chain: &[ChainStep], clock: ClockId) -> Option<ClockId>
@@ -99,7 +64,7 @@ fn is_back(passed: &[Passed], parent: Option<ClockId>) -> bool
 }
 
 // Leaves the clocks behind the last that is this parent.
-fn go_back_to(passed: &mut PassedList, parent: Option<ClockId>)
+fn go_back_to(passed: &mut Vec<Passed>, parent: Option<ClockId>)
     ensures { reverse passed.new.items ≡ back_to (option_map (λ p. p.0) parent) (reverse passed.old.items) }
 {
     while !is_back(passed, parent) {
@@ -125,7 +90,7 @@ fn changes_here(passed: &[Passed], before: u64, after: u64) -> bool
 }
 
 // Adds a clock where it changes.
-fn add_if(changed: &mut ChangedList, changes: bool, one: Changed) -> Result<(), NoMemory>
+fn add_if(changed: &mut Vec<Changed>, changes: bool, one: Changed) -> Result<(), NoMemory>
     ensures { IfOk result (λ done. changed.new.items ≡ changed.old.items ++ (if changes then one ∷ [] else [])) }
 {
     if changes {
@@ -141,12 +106,12 @@ pub(crate) fn changes(
     tree: &Tree,
     chain: &[ChainStep],
     rates: &[WalkRate],
-) -> Result<ChangedList, NoMemory>
+) -> Result<Vec<Changed>, NoMemory>
     requires there { AreThere tree.now.clocks (rates_of rates.now) }
     ensures { IfOk result (λ changed. changed.items ≡ changed_along (parent_after tree.now.clocks (chain_of chain.now)) (slice_index tree.now.rates) [] (rates_of rates.now)) }
 {
-    let mut passed = PassedList::new(alloc);
-    let mut changed = ChangedList::new(alloc);
+    let mut passed = Vec::with_capacity(alloc, depth() as usize)?;
+    let mut changed = Vec::new(alloc);
     for place in 0..rates.len() {
         let entry = rate_at(tree, rates, place);
         let clock = entry.clock;

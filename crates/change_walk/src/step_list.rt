@@ -2,7 +2,7 @@
 
 ghost use Rattle.std.specs.Prelude.{◌≡◌, length, slice_get};
 
-use crate::changes::{Changed, ChangedList};
+use crate::changes::Changed;
 use clk_base::Micro;
 use std::marker::Model;
 
@@ -11,7 +11,7 @@ use std::marker::Model;
 pub struct StepList {
     pub(crate) steps: Vec<Micro>,
     pub(crate) vetoed: bool,
-    pub(crate) changed: ChangedList,
+    pub(crate) changed: Vec<Changed>,
     pub(crate) extra: u64,
     pub(crate) weight: u64,
 }
@@ -35,7 +35,7 @@ impl StepList {
     pub(crate) fn new(
         steps: Vec<Micro>,
         vetoed: bool,
-        changed: ChangedList,
+        changed: Vec<Changed>,
         extra: u64,
         weight: u64,
     ) -> StepList

@@ -3,7 +3,6 @@
 ghost use Rattle.std.specs.Prelude.{◌≡◌};
 
 use clk_base::ClockId;
-use smallvec::SmallVec;
 use std::marker::Model;
 
 /// A clock of a planned chain.
@@ -16,29 +15,11 @@ pub struct ChainStep {
     pub parent: Option<ClockId>,
 }
 
-/// What an unused place of [`ChainSteps`] holds, which means nothing.
-impl Default for ChainStep {
-    fn default() -> ChainStep {
-        ChainStep {
-            clock: ClockId(0),
-            rate: 0,
-            parent: None,
-        }
-    }
-}
-
-/// So many steps of a chain take no memory. Most chains are of one clock, or of a few dividers and
-/// muxes up to the PLL that gives their rate.
-pub const FEW_STEPS: usize = 4;
-
-/// The steps of a chain as a list, which takes no memory while they are few.
-pub type ChainSteps = SmallVec<ChainStep, FEW_STEPS>;
-
 /// A planned chain from the clock of a request to the top, seen by contracts as the list of the
 /// definitions' steps.
 #[derive(Debug, Drop)]
 pub struct PlannedChain {
-    steps: ChainSteps,
+    steps: Vec<ChainStep>,
 }
 
 impl Model for PlannedChain {
@@ -55,7 +36,7 @@ impl PlannedChain {
     ghost use Rattle.clk_tree.specs.Plans.{chain_of};
 
     /// These steps as a chain. Takes no memory.
-    pub fn new(steps: ChainSteps) -> PlannedChain
+    pub fn new(steps: Vec<ChainStep>) -> PlannedChain
         ensures { result ≡ chain_of steps.items }
     {
         PlannedChain { steps }
@@ -66,5 +47,13 @@ impl PlannedChain {
         ensures { chain_of result.now ≡ self.now }
     {
         self.steps.as_slice()
+    }
+
+    /// The steps by themselves. Takes no memory.
+    pub fn into_steps(self) -> Vec<ChainStep>
+        ensures { chain_of result.items ≡ self }
+    {
+        let PlannedChain { steps } = self;
+        steps
     }
 }

@@ -18,8 +18,8 @@ mod tree;
 mod view;
 mod walk_rates;
 
-pub use chain::{ChainStep, ChainSteps, FEW_STEPS, PlannedChain};
+pub use chain::{ChainStep, PlannedChain};
 pub use plan::Plan;
 pub use tree::Tree;
 pub use view::View;
-pub use walk_rates::{RateList, WalkRate, WalkRates};
+pub use walk_rates::{WalkRate, WalkRates};

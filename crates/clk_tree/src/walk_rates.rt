@@ -3,7 +3,6 @@
 ghost use Rattle.std.specs.Prelude.{◌≡◌};
 
 use clk_base::ClockId;
-use smallvec::SmallVec;
 use std::marker::Model;
 
 /// A clock of a walk, and the rate in Hz that it will have.
@@ -13,26 +12,10 @@ pub struct WalkRate {
     pub rate: u64,
 }
 
-/// What an unused place of [`RateList`] holds, which means nothing.
-impl Default for WalkRate {
-    fn default() -> WalkRate {
-        WalkRate {
-            clock: ClockId(0),
-            rate: 0,
-        }
-    }
-}
-
-/// So many clocks of a walk take no memory. Most changes are of a clock that has few others below it.
-pub const FEW_RATES: usize = 8;
-
-/// The rates of a walk as a list, which takes no memory while they are few.
-pub type RateList = SmallVec<WalkRate, FEW_RATES>;
-
 /// The clocks of a walk in its order with their rates, seen by contracts as a list.
 #[derive(Debug, Drop)]
 pub struct WalkRates {
-    rates: RateList,
+    rates: Vec<WalkRate>,
 }
 
 impl Model for WalkRates {
@@ -48,7 +31,7 @@ impl WalkRates {
     ghost use Rattle.clk_tree.specs.Plans.{rates_of};
 
     /// These rates in the walk's order. Takes no memory.
-    pub fn new(rates: RateList) -> WalkRates
+    pub fn new(rates: Vec<WalkRate>) -> WalkRates
         ensures { result ≡ rates_of rates.items }
     {
         WalkRates { rates }
@@ -59,5 +42,13 @@ impl WalkRates {
         ensures { rates_of result.now ≡ self.now }
     {
         self.rates.as_slice()
+    }
+
+    /// The rates by themselves. Takes no memory.
+    pub fn into_rates(self) -> Vec<WalkRate>
+        ensures { rates_of result.items ≡ self }
+    {
+        let WalkRates { rates } = self;
+        rates
     }
 }

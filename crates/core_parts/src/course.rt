@@ -5,7 +5,7 @@ ghost use Rattle.clk_tree.specs.Plans.{chain_of};
 ghost use Rattle.core_parts.specs.Course.{planned_along, behind_first};
 
 use clk_base::ClockId;
-use clk_tree::{ChainStep, ChainSteps, PlannedChain};
+use clk_tree::{ChainStep, PlannedChain};
 use std::alloc::Global;
 use std::marker::Model;
 
@@ -68,7 +68,7 @@ impl Course {
         ensures notified { result.notified ≡ [] }
     {
         Course {
-            chain: PlannedChain::new(ChainSteps::new(alloc)),
+            chain: PlannedChain::new(Vec::new(alloc)),
             notified: Vec::new(alloc),
             at: 0,
         }

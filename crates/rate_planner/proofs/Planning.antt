@@ -1,11 +1,10 @@
 -- Laws on plans: the chain that was climbed, what comes out of it, and its walk.
 use Rattle.std.proofs.Common.{◌≡◌, ℕ, suc, ◌+◌, ◌-◌, ◌<◌, ◌≤◌, Bool, true, false, ◌&&◌, ◌||◌, cond, List, [], ◌∷◌, map, Option, Some, None, refl, sym, ap, subst, ◌∙◌, inl, inr, arith, length, get_or, nat_le, nat_eq, drop}
 use Rattle.std.specs.Prelude.{IfSome, option_and_then, slice_index, slice_set}
-use Rattle.std.specs.List.{All, AllByRecursion, list_all, refill}
+use Rattle.std.specs.List.{All, AllByRecursion, list_all}
 use Rattle.std.specs.Option.{option_map_or}
 use Rattle.std.proofs.lemmas.Bool.{cases_Bool}
-use Rattle.std.proofs.lemmas.List.{drop-set, length-set}
-use Rattle.smallvec.proofs.SmallVecLemmas.{items-with_items}
+use Rattle.std.proofs.lemmas.List.{drop-set}
 use Rattle.clk_base.specs.Description.{Description, kind_of}
 use Rattle.clk_base.specs.Levels.{depth}
 use Rattle.clk_base.specs.Valid.{IsValid}
@@ -62,12 +61,6 @@ outcome_step told defs t steps rates count done place d v above less counted siz
     ∙ sym (ap (λ n. out_rates w (drop n (chain_of steps))) to ∙ ap (out_rates w) (steps_left steps place d (omega arith)))) out left
 
 -- rates that are the same have the same first
--- a list with one place written as a slice
-pub written_at : (rates shown : List ℕ) (place v : ℕ) → shown ≡ rates → refill (length rates) rates (slice_set shown place v) ≡ slice_set rates place v
-written_at rates shown place v same =
-    ap (λ (xs : List ℕ). refill (length rates) rates (slice_set xs place v)) same
-    ∙ items-with_items (record { items = rates; capacity = 0 }) (slice_set rates place v) (length-set rates place v)
-
 pub first_same : (rs rs' : List ℕ) (place r : ℕ) → rs ≡ rs' → first_or (drop place rs) r ≡ first_or (drop place rs') r
 first_same rs rs' place r same = ap (λ (xs : List ℕ). first_or (drop place xs) r) same
 

@@ -17,7 +17,7 @@ use crate::rounded::Rounded;
 use crate::rounding::rounding;
 use clk_base::{ClockId, ValidDesc, depth};
 use clk_io::NoMemory;
-use clk_tree::{ChainSteps, Tree, View};
+use clk_tree::{ChainStep, Tree, View};
 use std::alloc::Global;
 
 /// The chain from a clock that is asked for a rate to the top, where the clock would be rounded so,
@@ -31,7 +31,7 @@ pub(crate) fn climb<V: View, W: Rest>(
     clock: ClockId,
     x: u64,
     first: Option<Rounded>,
-) -> Result<Option<ChainSteps>, NoMemory>
+) -> Result<Option<Vec<ChainStep>>, NoMemory>
     requires made { desc.now.defs ≡ tree.now.defs }
     requires seen { V.size view.now ≡ length tree.now.defs }
     requires there { registered tree.now.clocks clock.0 ≡ true }
@@ -41,7 +41,7 @@ pub(crate) fn climb<V: View, W: Rest>(
     ensures some { IfOk result (λ found. IfSome found (λ s. 0 < length s.items)) }
     ensures there { IfOk result (λ found. IfSome found (λ s. All (IsThere tree.now.clocks) s.items)) }
 {
-    let mut steps = ChainSteps::new(alloc);
+    let mut steps = Vec::new(alloc);
     let mut at = clock;
     let mut request = x;
     let mut rounded = first;

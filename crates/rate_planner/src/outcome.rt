@@ -14,13 +14,9 @@ use crate::next::moves;
 use crate::now::rate_now;
 use clk_base::{ClockId, ValidDesc};
 use clk_io::NoMemory;
-use clk_tree::{ChainStep, FEW_STEPS, Tree, View};
+use clk_tree::{ChainStep, Tree, View};
 use reg_bank::Bank;
-use smallvec::{SmallVec, smallvec};
 use std::alloc::Global;
-
-/// A rate for each step of a chain.
-pub(crate) type ChainRates = SmallVec<u64, FEW_STEPS>;
 
 // The rate that comes out for a clock of a chain over what comes out for its planned parent.
 fn out_rate<B: Bank>(desc: &ValidDesc, tree: &Tree, bank: &B, step: ChainStep, parent: u64) -> u64
@@ -67,7 +63,7 @@ pub(crate) fn outcome_rates<B: Bank>(
     tree: &Tree,
     bank: &B,
     steps: &[ChainStep],
-) -> Result<ChainRates, NoMemory>
+) -> Result<Vec<u64>, NoMemory>
     requires made { desc.now.defs ≡ tree.now.defs }
     requires bank { desc.now.words ≤ B.size bank.now }
     requires there { All (IsThere tree.now.clocks) steps.now }
@@ -75,7 +71,7 @@ pub(crate) fn outcome_rates<B: Bank>(
     ensures rates { IfOk result (λ rates. Told (B.contents bank.now) desc.now.defs tree.now (λ w. rates.items ≡ out_rates w (chain_of steps.now))) }
 {
     let count = steps.len();
-    let mut rates: ChainRates = smallvec![in alloc; 0; count]?;
+    let mut rates = vec![in alloc; 0u64; count]?;
     for done in 0..count {
         let place = count - 1 - done;
         let step = steps[place];

@@ -12,7 +12,7 @@ use crate::now::rate_now;
 use crate::walk::walk_rates;
 use clk_base::{ClockId, ValidDesc};
 use clk_io::NoMemory;
-use clk_tree::{ChainStep, ChainSteps, Plan, PlannedChain, Tree, WalkRates};
+use clk_tree::{ChainStep, Plan, PlannedChain, Tree, WalkRates};
 use reg_bank::Bank;
 use std::alloc::Global;
 
@@ -45,9 +45,11 @@ pub fn plan_parent<B: Bank>(
         rate,
         parent: Some(p),
     };
-    let mut steps = ChainSteps::new(alloc);
+    let mut steps = Vec::new(alloc);
     steps.push(step)?;
-    let walk = walk_rates(alloc, desc, tree, bank, steps.as_slice(), &[rate])?;
+    let mut rates = Vec::new(alloc);
+    rates.push(rate)?;
+    let walk = walk_rates(alloc, desc, tree, bank, steps.as_slice(), rates.as_slice())?;
     Ok(Plan {
         chain: PlannedChain::new(steps),
         rates: WalkRates::new(walk),

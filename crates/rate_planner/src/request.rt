@@ -21,7 +21,7 @@ use crate::rounding::rounding;
 use crate::walk::walk_rates;
 use clk_base::{ClockId, Pause, ValidDesc};
 use clk_io::NoMemory;
-use clk_tree::{ChainStep, Plan, PlannedChain, RateList, Tree, View, WalkRates};
+use clk_tree::{ChainStep, Plan, PlannedChain, Tree, View, WalkRate, WalkRates};
 use reg_bank::Bank;
 use std::alloc::Global;
 use std::sync::Wait;
@@ -35,7 +35,7 @@ fn walk_of<B: Bank, V: View>(
     bank: &B,
     view: &V,
     steps: &[ChainStep],
-) -> Result<Option<RateList>, NoMemory>
+) -> Result<Option<Vec<WalkRate>>, NoMemory>
     requires made { desc.now.defs ≡ tree.now.defs }
     requires bank { desc.now.words ≤ B.size bank.now }
     requires seen { V.size view.now ≡ length tree.now.defs }

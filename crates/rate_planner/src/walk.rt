@@ -17,7 +17,7 @@ use crate::kind::{kind_of, rate_over};
 use crate::next::moves;
 use clk_base::{ClockId, ValidDesc, depth};
 use clk_io::NoMemory;
-use clk_tree::{ChainStep, RateList, Tree, WalkRate};
+use clk_tree::{ChainStep, Tree, WalkRate};
 use reg_bank::Bank;
 use std::alloc::Global;
 
@@ -83,7 +83,7 @@ fn walk_below<B: Bank>(
     rates: &[u64],
     clock: ClockId,
     rate: u64,
-    into: &mut RateList,
+    into: &mut Vec<WalkRate>,
 ) -> Result<(), NoMemory>
     requires made { desc.now.defs ≡ tree.now.defs }
     requires bank { desc.now.words ≤ B.size bank.now }
@@ -133,7 +133,7 @@ fn stay_below<B: Bank>(
     rates: &[u64],
     clock: ClockId,
     rate: u64,
-    into: &mut RateList,
+    into: &mut Vec<WalkRate>,
 ) -> Result<(), NoMemory>
     requires made { desc.now.defs ≡ tree.now.defs }
     requires bank { desc.now.words ≤ B.size bank.now }
@@ -166,7 +166,7 @@ fn stay_one<B: Bank>(
     clock: ClockId,
     rate: u64,
     child: ClockId,
-    into: &mut RateList,
+    into: &mut Vec<WalkRate>,
 ) -> Result<(), NoMemory>
     requires made { desc.now.defs ≡ tree.now.defs }
     requires bank { desc.now.words ≤ B.size bank.now }
@@ -197,7 +197,7 @@ fn move_below<B: Bank>(
     rates: &[u64],
     clock: ClockId,
     rate: u64,
-    into: &mut RateList,
+    into: &mut Vec<WalkRate>,
 ) -> Result<(), NoMemory>
     requires made { desc.now.defs ≡ tree.now.defs }
     requires bank { desc.now.words ≤ B.size bank.now }
@@ -228,7 +228,7 @@ fn move_one<B: Bank>(
     clock: ClockId,
     rate: u64,
     place: usize,
-    into: &mut RateList,
+    into: &mut Vec<WalkRate>,
 ) -> Result<(), NoMemory>
     requires made { desc.now.defs ≡ tree.now.defs }
     requires bank { desc.now.words ≤ B.size bank.now }
@@ -259,7 +259,7 @@ pub(crate) fn walk_rates<B: Bank>(
     bank: &B,
     steps: &[ChainStep],
     rates: &[u64],
-) -> Result<RateList, NoMemory>
+) -> Result<Vec<WalkRate>, NoMemory>
     requires made { desc.now.defs ≡ tree.now.defs }
     requires bank { desc.now.words ≤ B.size bank.now }
     requires sizes { length rates.now ≡ length steps.now }
@@ -271,7 +271,7 @@ pub(crate) fn walk_rates<B: Bank>(
     let last = steps.len() - 1;
     let top = steps[last].clock;
     let rate = rates[rates.len() - 1];
-    let mut into = RateList::new(alloc);
+    let mut into = Vec::new(alloc);
     walk_below(
         depth(),
         desc,

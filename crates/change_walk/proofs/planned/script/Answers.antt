@@ -47,14 +47,14 @@ pub returns-clause-steps : goal.returns-clause-steps
 returns-clause-steps g c = λ s told plan.
     ap (λ (l : Script). l.steps) c.new.ensures
     ∙ c.in_ok-steps.ensures.steps
-    ∙ ap (λ (xs : List Changed). steps_for c.args.tree.now (g.V.View.means c.args.view.now).prepared c.args.notifiers.now c.args.plan.now xs) (c.deref.ensures ∙ changed_here g c s told plan)
+    ∙ ap (λ (xs : List Changed). steps_for c.args.tree.now (g.V.View.means c.args.view.now).prepared c.args.notifiers.now c.args.plan.now xs) (c.deref.ensures.value ∙ changed_here g c s told plan)
     ∙ steps_are c.args.desc.now.words s c.args.tree.now (g.V.View.means c.args.view.now).prepared c.args.notifiers.now c.args.plan.now (fitting g c s told plan)
 
 pub returns-clause-vetoed : goal.returns-clause-vetoed
 returns-clause-vetoed g c = λ s told plan.
     ap (λ (l : Script). l.vetoed) c.new.ensures
     ∙ c.in_ok-steps.ensures.vetoed
-    ∙ ap (λ (xs : List Changed). list_any is_veto (flat_map (λ x. tell_before x (notifiers_at c.args.notifiers.now x)) xs)) (c.deref.ensures ∙ changed_here g c s told plan)
+    ∙ ap (λ (xs : List Changed). list_any is_veto (flat_map (λ x. tell_before x (notifiers_at c.args.notifiers.now x)) xs)) (c.deref.ensures.value ∙ changed_here g c s told plan)
     ∙ vetoed_is c.args.desc.now.words s c.args.tree.now (g.V.View.means c.args.view.now).prepared c.args.notifiers.now c.args.plan.now (fitting g c s told plan)
 
 pub returns-clause-changed : goal.returns-clause-changed
@@ -71,7 +71,7 @@ extra_here g c s told plan few =
     let cut : List Micro → List Changed → ℕ = λ ms xs. cond (c.args.plan.now.set_parent && list_any is_raise ms) (min (sum_by (λ x. length (notifiers_at lists x)) xs) (2 ^ 64 - 1)) 0 in
     c.extra_of-extra.ensures
     ∙ ap (λ (ms : List Micro). cut ms c.deref-3.result.now) (c.deref-2.ensures.value ∙ sym (ap (λ (l : Script). l.steps) c.new.ensures) ∙ returns-clause-steps g c s told plan)
-    ∙ ap (cut (planned_by s c.args.plan.now).steps) (c.deref-3.ensures ∙ changed_here g c s told plan)
+    ∙ ap (cut (planned_by s c.args.plan.now).steps) (c.deref-3.ensures.value ∙ changed_here g c s told plan)
     ∙ extra_fits c.args.desc.now.words s c.args.tree.now held lists c.args.plan.now fits few
 
 pub returns-clause-extra : goal.returns-clause-extra
@@ -110,14 +110,14 @@ returns-clause-made g c =
     let changed = ap (λ (l : Script). l.changed) c.new.ensures in
     let extra = ap (λ (l : Script). l.extra) c.new.ensures in
     record {
-      steps = steps ∙ c.in_ok-steps.ensures.steps ∙ ap (λ (xs : List Changed). steps_for t held lists c.args.plan.now xs) (c.deref.ensures ∙ sym changed);
+      steps = steps ∙ c.in_ok-steps.ensures.steps ∙ ap (λ (xs : List Changed). steps_for t held lists c.args.plan.now xs) (c.deref.ensures.value ∙ sym changed);
       vetoed =
           ap (λ (l : Script). l.vetoed) c.new.ensures ∙ c.in_ok-steps.ensures.vetoed
-          ∙ ap (λ (xs : List Changed). list_any is_veto (flat_map (λ x. tell_before x (notifiers_at lists x)) xs)) (c.deref.ensures ∙ sym changed);
+          ∙ ap (λ (xs : List Changed). list_any is_veto (flat_map (λ x. tell_before x (notifiers_at lists x)) xs)) (c.deref.ensures.value ∙ sym changed);
       extra =
           extra ∙ c.extra_of-extra.ensures
           ∙ ap (λ (ms : List Micro). cond (c.args.plan.now.set_parent && list_any is_raise ms) (cut (told_by lists c.deref-3.result.now)) 0) (c.deref-2.ensures.value ∙ sym steps)
-          ∙ ap (λ (xs : List Changed). cond (c.args.plan.now.set_parent && list_any is_raise c.new.result.steps) (cut (told_by lists xs)) 0) (c.deref-3.ensures ∙ sym changed);
+          ∙ ap (λ (xs : List Changed). cond (c.args.plan.now.set_parent && list_any is_raise c.new.result.steps) (cut (told_by lists xs)) 0) (c.deref-3.ensures.value ∙ sym changed);
       weight =
           ap (λ (l : Script). l.weight) c.new.ensures
           ∙ c.saturating_add-weight.ensures

@@ -1,5 +1,5 @@
 -- The chain of one clock, and its walk.
-use Rattle.std.proofs.Common.{◌≡◌, ◌∷◌, [], Some, refl, ap, sym, ◌∙◌}
+use Rattle.std.proofs.Common.{◌≡◌, ◌∷◌, [], Some, ap, sym, ◌∙◌}
 use Rattle.clk_base.specs.Description.{kind_of}
 use Rattle.reg_bank.specs.Registers.{Registers}
 use Rattle.clk_model.specs.Rate.{rate_over}
@@ -14,7 +14,7 @@ use Rattle.rate_planner.proofs.parent.plan_parent.Goals as goal
 pub returns-clause-chain : goal.returns-clause-chain
 returns-clause-chain g c =
     let step : ChainStep = record { clock = c.args.c; rate = c.rate_over-rate.result; parent = Some c.args.p } in
-    let items : c.push.new.self.items ≡ step ∷ [] = pushed_one c.push.new.self.items c.new-steps.result.items step c.in_ok-push.ensures.ok c.new-steps.ensures.items in
+    let items : c.push.new.self.items ≡ step ∷ [] = pushed_one c.push.new.self.items c.new-steps.result.items step c.in_ok-push.ensures.items c.new-steps.ensures.items in
     told_on (g.B.Bank.contents c.args.bank.now)
     (λ (regs : Registers). KeepsRates c.args.desc.now.defs regs c.args.tree.now → to_parent c.args.c.0 c.rate_over-rate.result c.args.p.0 ∷ [] ≡ parent_chain (wired c.args.desc.now.defs regs c.args.tree.now) c.args.c.0 c.args.p.0)
     (λ (regs : Registers). KeepsRates c.args.desc.now.defs regs c.args.tree.now → c.new.result ≡ parent_chain (wired c.args.desc.now.defs regs c.args.tree.now) c.args.c.0 c.args.p.0)
@@ -29,7 +29,8 @@ returns-clause-chain g c =
 pub returns-clause-rates : goal.returns-clause-rates
 returns-clause-rates g c =
     let step : ChainStep = record { clock = c.args.c; rate = c.rate_over-rate.result; parent = Some c.args.p } in
-    let items : c.push.new.self.items ≡ step ∷ [] = pushed_one c.push.new.self.items c.new-steps.result.items step c.in_ok-push.ensures.ok c.new-steps.ensures.items in
+    let items : c.push.new.self.items ≡ step ∷ [] = pushed_one c.push.new.self.items c.new-steps.result.items step c.in_ok-push.ensures.items c.new-steps.ensures.items in
+    let rates : c.push-2.new.self.items ≡ c.rate_over-rate.result ∷ [] = pushed_one c.push-2.new.self.items c.new-rates.result.items c.rate_over-rate.result c.in_ok-push-2.ensures.items c.new-rates.ensures.items in
     told_on (g.B.Bank.contents c.args.bank.now)
     (λ (regs : Registers). KeepsRates c.args.desc.now.defs regs c.args.tree.now → rates_of c.in_ok-walk.walk.items
     ≡ walked_rates c.args.tree.now.order (wired c.args.desc.now.defs regs c.args.tree.now) (to_parent c.args.c.0 c.rate_over-rate.result c.args.p.0 ∷ []))
@@ -43,5 +44,5 @@ returns-clause-rates g c =
     (λ (regs : Registers). c.rate_over-rate.result ≡ rate_over (kind_of c.args.desc.now.defs c.args.c.0) regs c.rate_now.result)
     (λ regs is. is ∙ ap (λ kind. rate_over kind regs c.rate_now.result) c.kind_of.ensures.kind) c.rate_over-rate.ensures)
     c.rate_now.ensures.rate
-    (parent_walks (g.B.Bank.contents c.args.bank.now) c.args.desc.now.defs c.args.tree.now c.args.c.0 c.rate_over-rate.result c.args.p.0 (chain_of c.as_slice.result.now) (c.rate_over-rate.result ∷ []) (rates_of c.in_ok-walk.walk.items)
-    (ap chain_of (c.as_slice.ensures ∙ items)) refl c.in_ok-walk.ensures.walked))
+    (parent_walks (g.B.Bank.contents c.args.bank.now) c.args.desc.now.defs c.args.tree.now c.args.c.0 c.rate_over-rate.result c.args.p.0 (chain_of c.as_slice.result.now) c.as_slice-2.result.now (rates_of c.in_ok-walk.walk.items)
+    (ap chain_of (c.as_slice.ensures.value ∙ items)) (c.as_slice-2.ensures.value ∙ rates) c.in_ok-walk.ensures.walked))

@@ -72,5 +72,5 @@ pub walk_below-returns-clause-walked : goal.walk_below-returns-clause-walked
 walk_below-returns-clause-walked g t c =
     walks_all (g.B.Bank.contents c.args.bank.now) c.args.desc.now.defs c.args.tree.now (chain_of c.args.steps.now) c.args.rates.now c.args.levels c.args.clock.0 c.args.rate (rates_of c.args.into.now.items) (rates_of c.push.new.self.items) (rates_of c.stay_below.new.into.items) (rates_of c.move_below.new.into.items)
     (let some = c.if-levels-eq0.false in omega arith)
-    (walks_own (g.B.Bank.contents c.args.bank.now) c.args.desc.now.defs c.args.tree.now (chain_of c.args.steps.now) c.args.rates.now c.args.clock c.args.rate c.args.into.now.items c.push.new.self.items c.in_ok-push.ensures.ok)
+    (walks_own (g.B.Bank.contents c.args.bank.now) c.args.desc.now.defs c.args.tree.now (chain_of c.args.steps.now) c.args.rates.now c.args.clock c.args.rate c.args.into.now.items c.push.new.self.items c.in_ok-push.ensures.items)
     c.in_ok-stay_below.ensures.walked c.in_ok-move_below.ensures.walked
