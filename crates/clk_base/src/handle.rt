@@ -4,7 +4,8 @@
 #[derive(Clone, Copy, Debug, PartialEq, Eq)]
 pub struct Handle {
     pub number: u32,
-    /// Where the record probably lies: a hint, and no part of what the handle means.
+    /// Where the record lay when the handle was given. It is no part of what the handle means, and no
+    /// call reads it.
     pub slot: u32,
     pub driver: u32,
 }
