@@ -1,8 +1,10 @@
 //! The chain of a plan.
 
-ghost use Rattle.std.specs.Prelude.{◌≡◌};
+ghost use Rattle.std.specs.Prelude.{◌≡◌, ◌++◌, ◌∷◌, [], OnOk};
 
 use clk_base::ClockId;
+use clk_io::NoMemory;
+use std::alloc::Global;
 use std::marker::Model;
 
 /// A clock of a planned chain.
@@ -34,6 +36,30 @@ impl Model for PlannedChain {
 
 impl PlannedChain {
     ghost use Rattle.clk_tree.specs.Plans.{chain_of};
+
+    /// No step. Takes no memory.
+    pub fn none(alloc: Global) -> PlannedChain
+        ensures { result ≡ [] }
+    {
+        PlannedChain {
+            steps: Vec::new(alloc),
+        }
+    }
+
+    /// No step any more. The list keeps its memory.
+    pub fn clear(&mut self)
+        ensures { self.new ≡ [] }
+    {
+        self.steps.clear();
+    }
+
+    /// A step behind these.
+    pub fn push(&mut self, step: ChainStep) -> Result<(), NoMemory>
+        ensures { OnOk result (self.new ≡ self.old ++ chain_of (step ∷ [])) }
+    {
+        self.steps.push(step)?;
+        Ok(())
+    }
 
     /// These steps as a chain. Takes no memory.
     pub fn new(steps: Vec<ChainStep>) -> PlannedChain

@@ -1,8 +1,10 @@
 //! The rates that a plan gives the clocks of its walk.
 
-ghost use Rattle.std.specs.Prelude.{◌≡◌};
+ghost use Rattle.std.specs.Prelude.{◌≡◌, ◌++◌, ◌∷◌, [], OnOk};
 
 use clk_base::ClockId;
+use clk_io::NoMemory;
+use std::alloc::Global;
 use std::marker::Model;
 
 /// A clock of a walk, and the rate in Hz that it will have.
@@ -29,6 +31,30 @@ impl Model for WalkRates {
 
 impl WalkRates {
     ghost use Rattle.clk_tree.specs.Plans.{rates_of};
+
+    /// No clock. Takes no memory.
+    pub fn none(alloc: Global) -> WalkRates
+        ensures { result ≡ [] }
+    {
+        WalkRates {
+            rates: Vec::new(alloc),
+        }
+    }
+
+    /// No clock any more. The list keeps its memory.
+    pub fn clear(&mut self)
+        ensures { self.new ≡ [] }
+    {
+        self.rates.clear();
+    }
+
+    /// A clock with its rate behind these.
+    pub fn push(&mut self, rate: WalkRate) -> Result<(), NoMemory>
+        ensures { OnOk result (self.new ≡ self.old ++ rates_of (rate ∷ [])) }
+    {
+        self.rates.push(rate)?;
+        Ok(())
+    }
 
     /// These rates in the walk's order. Takes no memory.
     pub fn new(rates: Vec<WalkRate>) -> WalkRates

@@ -17,13 +17,12 @@ use crate::rounded::Rounded;
 use crate::rounding::rounding;
 use clk_base::{ClockId, ValidDesc, depth};
 use clk_io::NoMemory;
-use clk_tree::{ChainStep, Tree, View};
-use std::alloc::Global;
+use clk_tree::{PlannedChain, Tree, View};
 
 /// The chain from a clock that is asked for a rate to the top, where the clock would be rounded so,
-/// before boundaries are looked at.
+/// before boundaries are looked at. Answers whether there is one.
 pub(crate) fn climb<V: View, W: Rest>(
-    alloc: Global,
+    steps: &mut PlannedChain,
     desc: &ValidDesc,
     tree: &Tree,
     view: &V,
@@ -31,26 +30,26 @@ pub(crate) fn climb<V: View, W: Rest>(
     clock: ClockId,
     x: u64,
     first: Option<Rounded>,
-) -> Result<Option<Vec<ChainStep>>, NoMemory>
+) -> Result<bool, NoMemory>
     requires made { desc.now.defs ≡ tree.now.defs }
     requires seen { V.size view.now ≡ length tree.now.defs }
     requires there { registered tree.now.clocks clock.0 ≡ true }
     requires names { NamesRegistered tree.now.clocks first }
     ensures chain { IfOk result (λ found. Always desc.now.defs tree.now (λ w. option_map rounded_of first ≡ round w (V.means view.now) clock.0 x
-        → option_map (λ s. chain_of s.items) found ≡ chain_within depth w (V.means view.now) clock.0 x)) }
-    ensures some { IfOk result (λ found. IfSome found (λ s. 0 < length s.items)) }
-    ensures there { IfOk result (λ found. IfSome found (λ s. All (IsThere tree.now.clocks) s.items)) }
+        → (if found then Some steps.new else None) ≡ chain_within depth w (V.means view.now) clock.0 x)) }
+    ensures some { IfOk result (λ found. found ≡ true → 0 < length steps.new) }
+    ensures there { OnOk result (AllThere tree.now.clocks steps.new) }
 {
-    let mut steps = Vec::new(alloc);
+    steps.clear();
     let mut at = clock;
     let mut request = x;
     let mut rounded = first;
     for _level in 0..depth() {
         match next_step(desc, tree, view, at, request, rounded) {
-            Next::NoPlan => return Ok(None),
+            Next::NoPlan => return Ok(false),
             Next::Last(step) => {
                 steps.push(step)?;
-                return Ok(Some(steps));
+                return Ok(true);
             }
             Next::More(step, parent, wanted) => {
                 steps.push(step)?;
@@ -60,5 +59,5 @@ pub(crate) fn climb<V: View, W: Rest>(
             }
         }
     }
-    Ok(None)
+    Ok(false)
 }

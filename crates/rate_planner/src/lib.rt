@@ -12,6 +12,7 @@ mod next;
 mod now;
 mod outcome;
 mod parent;
+mod planning;
 mod request;
 mod rest;
 mod rounded;
@@ -20,6 +21,7 @@ mod settings;
 mod walk;
 
 pub use parent::plan_parent;
+pub use planning::Planning;
 pub use request::{plan, plan_from, plan_now};
 pub use rounded::Rounded;
 pub use rounding::{first_rounding, round, round_now};

@@ -16,7 +16,6 @@ use clk_base::{ClockId, ValidDesc};
 use clk_io::NoMemory;
 use clk_tree::{ChainStep, Tree, View};
 use reg_bank::Bank;
-use std::alloc::Global;
 
 // The rate that comes out for a clock of a chain over what comes out for its planned parent.
 fn out_rate<B: Bank>(desc: &ValidDesc, tree: &Tree, bank: &B, step: ChainStep, parent: u64) -> u64
@@ -56,30 +55,31 @@ fn rate_above(desc: &ValidDesc, tree: &Tree, step: ChainStep, rates: &[u64], pla
     }
 }
 
-/// The rates that come out for the clocks of a chain, from the top down.
+/// The rates that come out for the clocks of a chain, from the top down, in place of those that stand
+/// there.
 pub(crate) fn outcome_rates<B: Bank>(
-    alloc: Global,
+    rates: &mut Vec<u64>,
     desc: &ValidDesc,
     tree: &Tree,
     bank: &B,
     steps: &[ChainStep],
-) -> Result<Vec<u64>, NoMemory>
+) -> Result<(), NoMemory>
     requires made { desc.now.defs ≡ tree.now.defs }
     requires bank { desc.now.words ≤ B.size bank.now }
     requires there { All (IsThere tree.now.clocks) steps.now }
-    ensures size { IfOk result (λ rates. length rates.items ≡ length steps.now) }
-    ensures rates { IfOk result (λ rates. Told (B.contents bank.now) desc.now.defs tree.now (λ w. rates.items ≡ out_rates w (chain_of steps.now))) }
+    ensures size { OnOk result (length rates.new.items ≡ length steps.now) }
+    ensures rates { OnOk result (Told (B.contents bank.now) desc.now.defs tree.now (λ w. rates.new.items ≡ out_rates w (chain_of steps.now))) }
 {
     let count = steps.len();
-    let mut rates = vec![in alloc; 0u64; count]?;
+    rates.resize(count, 0)?;
     for done in 0..count {
         let place = count - 1 - done;
         let step = steps[place];
-        let above = rate_above(desc, tree, step, &rates, place + 1);
+        let above = rate_above(desc, tree, step, rates, place + 1);
         let rate = out_rate(desc, tree, bank, step, above);
         rates[place] = rate;
     }
-    Ok(rates)
+    Ok(())
 }
 
 // Whether a rate of a clock lies between its boundaries.

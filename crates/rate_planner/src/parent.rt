@@ -1,6 +1,6 @@
 //! Planning of a change of parent.
 
-ghost use Rattle.std.specs.Prelude.{◌≡◌, ◌≢◌, ◌≤◌, true, Some, IfOk};
+ghost use Rattle.std.specs.Prelude.{◌≡◌, ◌≢◌, ◌≤◌, true, Some, OnOk};
 ghost use Rattle.clk_base.specs.Description.{parents_of};
 ghost use Rattle.clk_model.specs.Lists.{is_in};
 ghost use Rattle.clk_model.specs.State.{registered, link_in};
@@ -9,32 +9,33 @@ ghost use Rattle.rate_planner.specs.Walks.{AreThere, parent_chain, walked_rates}
 
 use crate::kind::{kind_of, rate_over};
 use crate::now::rate_now;
+use crate::planning::Planning;
 use crate::walk::walk_rates;
 use clk_base::{ClockId, ValidDesc};
 use clk_io::NoMemory;
-use clk_tree::{ChainStep, Plan, PlannedChain, Tree, WalkRates};
+use clk_tree::{ChainStep, Tree};
 use reg_bank::Bank;
-use std::alloc::Global;
 
-/// The plan of a change of parent: the chain is the clock alone, with its rate over the new parent.
+/// Works out the plan of a change of parent: the chain is the clock alone, with its rate over the new
+/// parent.
 pub fn plan_parent<B: Bank>(
-    alloc: Global,
+    planning: &mut Planning,
     desc: &ValidDesc,
     tree: &Tree,
     bank: &B,
     c: ClockId,
     p: ClockId,
-) -> Result<Plan, NoMemory>
+) -> Result<(), NoMemory>
     requires made { desc.now.defs ≡ tree.now.defs }
     requires bank { desc.now.words ≤ B.size bank.now }
     requires clock { registered tree.now.clocks c.0 ≡ true }
     requires parent { registered tree.now.clocks p.0 ≡ true }
     requires possible { is_in p.0 (parents_of desc.now.defs c.0) ≡ true }
     requires other { link_in tree.now.clocks c.0 ≢ Some p.0 }
-    ensures chain { IfOk result (λ plan. Told (B.contents bank.now) desc.now.defs tree.now (λ w. plan.chain ≡ parent_chain w c.0 p.0)) }
-    ensures rates { IfOk result (λ plan. Told (B.contents bank.now) desc.now.defs tree.now (λ w. plan.rates ≡ walked_rates tree.now.order w plan.chain)) }
-    ensures set_parent { IfOk result (λ plan. plan.set_parent ≡ true) }
-    ensures there { IfOk result (λ plan. AreThere tree.now.clocks plan.rates) }
+    ensures chain { OnOk result (Told (B.contents bank.now) desc.now.defs tree.now (λ w. planning.new.plan.chain ≡ parent_chain w c.0 p.0)) }
+    ensures rates { OnOk result (Told (B.contents bank.now) desc.now.defs tree.now (λ w. planning.new.plan.rates ≡ walked_rates tree.now.order w planning.new.plan.chain)) }
+    ensures set_parent { OnOk result (planning.new.plan.set_parent ≡ true) }
+    ensures there { OnOk result (AreThere tree.now.clocks planning.new.plan.rates) }
 {
     // The clauses of these two calls say that the description is valid and that the tree stands.
     let _size = desc.len();
@@ -45,14 +46,12 @@ pub fn plan_parent<B: Bank>(
         rate,
         parent: Some(p),
     };
-    let mut steps = Vec::new(alloc);
-    steps.push(step)?;
-    let mut rates = Vec::new(alloc);
-    rates.push(rate)?;
-    let walk = walk_rates(alloc, desc, tree, bank, steps.as_slice(), rates.as_slice())?;
-    Ok(Plan {
-        chain: PlannedChain::new(steps),
-        rates: WalkRates::new(walk),
-        set_parent: true,
-    })
+    planning.plan.set_parent = true;
+    planning.plan.chain.clear();
+    planning.plan.chain.push(step)?;
+    planning.out.clear();
+    planning.out.push(rate)?;
+    let steps = planning.plan.chain.as_slice();
+    let rates = planning.out.as_slice();
+    walk_rates(&mut planning.plan.rates, desc, tree, bank, steps, rates)
 }

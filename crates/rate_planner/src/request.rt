@@ -15,53 +15,55 @@ ghost use Rattle.rate_planner.specs.Walks.{AreThere, walked_rates};
 
 use crate::climb::climb;
 use crate::outcome::{keep_boundaries, outcome_rates};
+use crate::planning::Planning;
 use crate::rest::{NoRest, Pausing, Rest};
 use crate::rounded::Rounded;
 use crate::rounding::rounding;
 use crate::walk::walk_rates;
 use clk_base::{ClockId, Pause, ValidDesc};
 use clk_io::NoMemory;
-use clk_tree::{ChainStep, Plan, PlannedChain, Tree, View, WalkRate, WalkRates};
+use clk_tree::{Tree, View};
 use reg_bank::Bank;
-use std::alloc::Global;
 use std::sync::Wait;
 
-// The rates of the walk of a chain that was climbed; none where a clock of it would leave its
-// boundaries.
-fn walk_of<B: Bank, V: View>(
-    alloc: Global,
+// The rates of the walk of a chain that was climbed. Answers whether all clocks of the chain keep their
+// boundaries; where one doesn't there is no plan.
+fn walk_within<B: Bank, V: View>(
+    planning: &mut Planning,
     desc: &ValidDesc,
     tree: &Tree,
     bank: &B,
     view: &V,
-    steps: &[ChainStep],
-) -> Result<Option<Vec<WalkRate>>, NoMemory>
+) -> Result<bool, NoMemory>
     requires made { desc.now.defs ≡ tree.now.defs }
     requires bank { desc.now.words ≤ B.size bank.now }
     requires seen { V.size view.now ≡ length tree.now.defs }
-    requires steps { All (IsThere tree.now.clocks) steps.now }
-    requires some { 0 < length steps.now }
-    ensures chain { IfOk result (λ found. Told (B.contents bank.now) desc.now.defs tree.now (λ w. (c x : ℕ) → Some (chain_of steps.now) ≡ chain_within depth w (V.means view.now) c x
-        → option_map (λ walk. chain_of steps.now) found ≡ chain.chain w (V.means view.now) c x)) }
-    ensures rates { IfOk result (λ found. IfSome found (λ walk. Told (B.contents bank.now) desc.now.defs tree.now (λ w. (c x : ℕ) → Some (chain_of steps.now) ≡ chain_within depth w (V.means view.now) c x
-        → rates_of walk.items ≡ walked_rates tree.now.order w (chain_of steps.now)))) }
-    ensures there { IfOk result (λ found. IfSome found (λ walk. AreThere tree.now.clocks (rates_of walk.items))) }
+    requires steps { AllThere tree.now.clocks planning.old.plan.chain }
+    requires some { 0 < length planning.old.plan.chain }
+    ensures chain { IfOk result (λ found. Told (B.contents bank.now) desc.now.defs tree.now (λ w. (c x : ℕ) → Some planning.old.plan.chain ≡ chain_within depth w (V.means view.now) c x
+        → (if found then Some planning.old.plan.chain else None) ≡ chain.chain w (V.means view.now) c x)) }
+    ensures rates { IfOk result (λ found. found ≡ true → Told (B.contents bank.now) desc.now.defs tree.now (λ w. (c x : ℕ) → Some planning.old.plan.chain ≡ chain_within depth w (V.means view.now) c x
+        → planning.new.plan.rates ≡ walked_rates tree.now.order w planning.old.plan.chain)) }
+    ensures kept { planning.new.plan.chain ≡ planning.old.plan.chain }
+    ensures set_parent { planning.new.plan.set_parent ≡ planning.old.plan.set_parent }
+    ensures there { IfOk result (λ found. found ≡ true → AreThere tree.now.clocks planning.new.plan.rates) }
 {
+    let steps = planning.plan.chain.as_slice();
     // The clauses of these two calls say that the description is valid and that the tree stands.
     let _size = desc.len();
     let _there = tree.registered(steps[0].clock);
-    let out = outcome_rates(alloc, desc, tree, bank, steps)?;
-    let rates = out.as_slice();
+    outcome_rates(&mut planning.out, desc, tree, bank, steps)?;
+    let rates = planning.out.as_slice();
     if !keep_boundaries(view, steps, rates) {
-        return Ok(None);
+        return Ok(false);
     }
-    let walk = walk_rates(alloc, desc, tree, bank, steps, rates)?;
-    Ok(Some(walk))
+    walk_rates(&mut planning.plan.rates, desc, tree, bank, steps, rates)?;
+    Ok(true)
 }
 
 // The plan of a request for a rate, where the clock would be rounded so.
 fn plan_rounded<B: Bank, V: View, W: Rest>(
-    alloc: Global,
+    planning: &mut Planning,
     desc: &ValidDesc,
     tree: &Tree,
     bank: &B,
@@ -70,35 +72,30 @@ fn plan_rounded<B: Bank, V: View, W: Rest>(
     c: ClockId,
     x: u64,
     first: Option<Rounded>,
-) -> Result<Option<Plan>, NoMemory>
+) -> Result<bool, NoMemory>
     requires made { desc.now.defs ≡ tree.now.defs }
     requires bank { desc.now.words ≤ B.size bank.now }
     requires seen { V.size view.now ≡ length tree.now.defs }
     requires there { registered tree.now.clocks c.0 ≡ true }
     requires names { NamesRegistered tree.now.clocks first }
     ensures chain { IfOk result (λ found. Told (B.contents bank.now) desc.now.defs tree.now (λ w. option_map rounded_of first ≡ round w (V.means view.now) c.0 x
-        → option_map (λ plan. plan.chain) found ≡ chain.chain w (V.means view.now) c.0 x)) }
-    ensures rates { IfOk result (λ found. IfSome found (λ plan. Told (B.contents bank.now) desc.now.defs tree.now (λ w. option_map rounded_of first ≡ round w (V.means view.now) c.0 x
-        → plan.rates ≡ walked_rates tree.now.order w plan.chain))) }
-    ensures set_parent { IfOk result (λ found. IfSome found (λ plan. plan.set_parent ≡ false)) }
-    ensures there { IfOk result (λ found. IfSome found (λ plan. AreThere tree.now.clocks plan.rates)) }
+        → (if found then Some planning.new.plan.chain else None) ≡ chain.chain w (V.means view.now) c.0 x)) }
+    ensures rates { IfOk result (λ found. found ≡ true → Told (B.contents bank.now) desc.now.defs tree.now (λ w. option_map rounded_of first ≡ round w (V.means view.now) c.0 x
+        → planning.new.plan.rates ≡ walked_rates tree.now.order w planning.new.plan.chain)) }
+    ensures set_parent { OnOk result (planning.new.plan.set_parent ≡ false) }
+    ensures there { IfOk result (λ found. found ≡ true → AreThere tree.now.clocks planning.new.plan.rates) }
 {
-    let Some(steps) = climb(alloc, desc, tree, view, rest, c, x, first)? else {
-        return Ok(None)
-    };
-    match walk_of(alloc, desc, tree, bank, view, steps.as_slice())? {
-        Some(walk) => Ok(Some(Plan {
-            chain: PlannedChain::new(steps),
-            rates: WalkRates::new(walk),
-            set_parent: false,
-        })),
-        None => Ok(None),
+    planning.plan.set_parent = false;
+    let chain = &mut planning.plan.chain;
+    if !climb(chain, desc, tree, view, rest, c, x, first)? {
+        return Ok(false);
     }
+    walk_within(planning, desc, tree, bank, view)
 }
 
 // The plan of a request for a rate.
 fn plan_resting<B: Bank, V: View, W: Rest>(
-    alloc: Global,
+    planning: &mut Planning,
     desc: &ValidDesc,
     tree: &Tree,
     bank: &B,
@@ -106,25 +103,25 @@ fn plan_resting<B: Bank, V: View, W: Rest>(
     rest: &W,
     c: ClockId,
     x: u64,
-) -> Result<Option<Plan>, NoMemory>
+) -> Result<bool, NoMemory>
     requires made { desc.now.defs ≡ tree.now.defs }
     requires bank { desc.now.words ≤ B.size bank.now }
     requires seen { V.size view.now ≡ length tree.now.defs }
     requires there { registered tree.now.clocks c.0 ≡ true }
-    ensures chain { IfOk result (λ found. Told (B.contents bank.now) desc.now.defs tree.now (λ w. option_map (λ plan. plan.chain) found ≡ chain.chain w (V.means view.now) c.0 x)) }
-    ensures rates { IfOk result (λ found. IfSome found (λ plan. Told (B.contents bank.now) desc.now.defs tree.now (λ w. plan.rates ≡ walked_rates tree.now.order w plan.chain))) }
-    ensures set_parent { IfOk result (λ found. IfSome found (λ plan. plan.set_parent ≡ false)) }
-    ensures there { IfOk result (λ found. IfSome found (λ plan. AreThere tree.now.clocks plan.rates)) }
+    ensures chain { IfOk result (λ found. Told (B.contents bank.now) desc.now.defs tree.now (λ w. (if found then Some planning.new.plan.chain else None) ≡ chain.chain w (V.means view.now) c.0 x)) }
+    ensures rates { IfOk result (λ found. found ≡ true → Told (B.contents bank.now) desc.now.defs tree.now (λ w. planning.new.plan.rates ≡ walked_rates tree.now.order w planning.new.plan.chain)) }
+    ensures set_parent { OnOk result (planning.new.plan.set_parent ≡ false) }
+    ensures there { IfOk result (λ found. found ≡ true → AreThere tree.now.clocks planning.new.plan.rates) }
 {
     let first = rounding(desc, tree, view, rest, c, x);
-    plan_rounded(alloc, desc, tree, bank, view, rest, c, x, first)
+    plan_rounded(planning, desc, tree, bank, view, rest, c, x, first)
 }
 
-/// The plan of a request for a rate; none where there is none. Pauses at `Place::Planning` once a
-/// candidate.
+/// Works out the plan of a request for a rate. Answers whether there is one; where there is none, what
+/// is left of it says nothing. Pauses at `Place::Planning` once a candidate.
 pub fn plan<R: Wait + Sync, B: Bank, V: View, Q: Pause>(
     rt: &R,
-    alloc: Global,
+    planning: &mut Planning,
     desc: &ValidDesc,
     tree: &Tree,
     bank: &B,
@@ -132,45 +129,45 @@ pub fn plan<R: Wait + Sync, B: Bank, V: View, Q: Pause>(
     c: ClockId,
     x: u64,
     pause: &Q,
-) -> Result<Option<Plan>, NoMemory>
+) -> Result<bool, NoMemory>
     requires made { desc.now.defs ≡ tree.now.defs }
     requires bank { desc.now.words ≤ B.size bank.now }
     requires seen { V.size view.now ≡ length tree.now.defs }
     requires there { registered tree.now.clocks c.0 ≡ true }
-    ensures chain { IfOk result (λ found. Told (B.contents bank.now) desc.now.defs tree.now (λ w. option_map (λ plan. plan.chain) found ≡ chain.chain w (V.means view.now) c.0 x)) }
-    ensures rates { IfOk result (λ found. IfSome found (λ plan. Told (B.contents bank.now) desc.now.defs tree.now (λ w. plan.rates ≡ walked_rates tree.now.order w plan.chain))) }
-    ensures set_parent { IfOk result (λ found. IfSome found (λ plan. plan.set_parent ≡ false)) }
-    ensures there { IfOk result (λ found. IfSome found (λ plan. AreThere tree.now.clocks plan.rates)) }
+    ensures chain { IfOk result (λ found. Told (B.contents bank.now) desc.now.defs tree.now (λ w. (if found then Some planning.new.plan.chain else None) ≡ chain.chain w (V.means view.now) c.0 x)) }
+    ensures rates { IfOk result (λ found. found ≡ true → Told (B.contents bank.now) desc.now.defs tree.now (λ w. planning.new.plan.rates ≡ walked_rates tree.now.order w planning.new.plan.chain)) }
+    ensures set_parent { OnOk result (planning.new.plan.set_parent ≡ false) }
+    ensures there { IfOk result (λ found. found ≡ true → AreThere tree.now.clocks planning.new.plan.rates) }
 {
-    plan_resting(alloc, desc, tree, bank, view, &Pausing { rt, pause }, c, x)
+    plan_resting(planning, desc, tree, bank, view, &Pausing { rt, pause }, c, x)
 }
 
 /// The same without a pause.
 pub fn plan_now<B: Bank, V: View>(
-    alloc: Global,
+    planning: &mut Planning,
     desc: &ValidDesc,
     tree: &Tree,
     bank: &B,
     view: &V,
     c: ClockId,
     x: u64,
-) -> Result<Option<Plan>, NoMemory>
+) -> Result<bool, NoMemory>
     requires made { desc.now.defs ≡ tree.now.defs }
     requires bank { desc.now.words ≤ B.size bank.now }
     requires seen { V.size view.now ≡ length tree.now.defs }
     requires there { registered tree.now.clocks c.0 ≡ true }
-    ensures chain { IfOk result (λ found. Told (B.contents bank.now) desc.now.defs tree.now (λ w. option_map (λ plan. plan.chain) found ≡ chain.chain w (V.means view.now) c.0 x)) }
-    ensures rates { IfOk result (λ found. IfSome found (λ plan. Told (B.contents bank.now) desc.now.defs tree.now (λ w. plan.rates ≡ walked_rates tree.now.order w plan.chain))) }
-    ensures set_parent { IfOk result (λ found. IfSome found (λ plan. plan.set_parent ≡ false)) }
-    ensures there { IfOk result (λ found. IfSome found (λ plan. AreThere tree.now.clocks plan.rates)) }
+    ensures chain { IfOk result (λ found. Told (B.contents bank.now) desc.now.defs tree.now (λ w. (if found then Some planning.new.plan.chain else None) ≡ chain.chain w (V.means view.now) c.0 x)) }
+    ensures rates { IfOk result (λ found. found ≡ true → Told (B.contents bank.now) desc.now.defs tree.now (λ w. planning.new.plan.rates ≡ walked_rates tree.now.order w planning.new.plan.chain)) }
+    ensures set_parent { OnOk result (planning.new.plan.set_parent ≡ false) }
+    ensures there { IfOk result (λ found. found ≡ true → AreThere tree.now.clocks planning.new.plan.rates) }
 {
-    plan_resting(alloc, desc, tree, bank, view, &NoRest, c, x)
+    plan_resting(planning, desc, tree, bank, view, &NoRest, c, x)
 }
 
 /// The same without a pause, where the clock would be rounded so for the request (`first_rounding`).
 /// Nothing is said of the plan over another rounding, but that its clocks are registered.
 pub fn plan_from<B: Bank, V: View>(
-    alloc: Global,
+    planning: &mut Planning,
     desc: &ValidDesc,
     tree: &Tree,
     bank: &B,
@@ -178,18 +175,18 @@ pub fn plan_from<B: Bank, V: View>(
     c: ClockId,
     x: u64,
     first: Option<Rounded>,
-) -> Result<Option<Plan>, NoMemory>
+) -> Result<bool, NoMemory>
     requires made { desc.now.defs ≡ tree.now.defs }
     requires bank { desc.now.words ≤ B.size bank.now }
     requires seen { V.size view.now ≡ length tree.now.defs }
     requires there { registered tree.now.clocks c.0 ≡ true }
     requires names { NamesRegistered tree.now.clocks first }
     ensures chain { IfOk result (λ found. Told (B.contents bank.now) desc.now.defs tree.now (λ w. option_map rounded_of first ≡ round w (V.means view.now) c.0 x
-        → option_map (λ plan. plan.chain) found ≡ chain.chain w (V.means view.now) c.0 x)) }
-    ensures rates { IfOk result (λ found. IfSome found (λ plan. Told (B.contents bank.now) desc.now.defs tree.now (λ w. option_map rounded_of first ≡ round w (V.means view.now) c.0 x
-        → plan.rates ≡ walked_rates tree.now.order w plan.chain))) }
-    ensures set_parent { IfOk result (λ found. IfSome found (λ plan. plan.set_parent ≡ false)) }
-    ensures there { IfOk result (λ found. IfSome found (λ plan. AreThere tree.now.clocks plan.rates)) }
+        → (if found then Some planning.new.plan.chain else None) ≡ chain.chain w (V.means view.now) c.0 x)) }
+    ensures rates { IfOk result (λ found. found ≡ true → Told (B.contents bank.now) desc.now.defs tree.now (λ w. option_map rounded_of first ≡ round w (V.means view.now) c.0 x
+        → planning.new.plan.rates ≡ walked_rates tree.now.order w planning.new.plan.chain)) }
+    ensures set_parent { OnOk result (planning.new.plan.set_parent ≡ false) }
+    ensures there { IfOk result (λ found. found ≡ true → AreThere tree.now.clocks planning.new.plan.rates) }
 {
-    plan_rounded(alloc, desc, tree, bank, view, &NoRest, c, x, first)
+    plan_rounded(planning, desc, tree, bank, view, &NoRest, c, x, first)
 }
