@@ -20,11 +20,10 @@ use Rattle.notifiers.specs.declared.notifier.Notifier.{Notifier}
 use Rattle.notifiers.specs.Chains as chains
 use Rattle.change_walk.specs.declared.changes.Changed.{Changed}
 
--- a script: its steps, whether a notice vetoes, the clocks whose rates change, the notices that a timeout may bring, and its weight
+-- a script: its steps, whether a notice vetoes, the notices that a timeout may bring, and its weight
 pub record Script : Type 0 where
   pub steps : List Micro
   pub vetoed : Bool
-  pub changed : List Changed
   pub extra : ℕ
   pub weight : ℕ
 

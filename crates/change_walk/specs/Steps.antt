@@ -47,9 +47,11 @@ steps_for t prepared notifiers plan changed =
 abbrev pub told_by : List (List Notifier) → List Changed → ℕ
 told_by notifiers changed = sum_by (λ x. length (notifiers_at notifiers x)) changed
 
--- a script is made of a plan, of which clocks are prepared, and of the notifiers; numbers are cut at the greatest of 64 bits
+-- a script is made of a plan, of which clocks are prepared, and of the notices to the notifiers of some clocks; numbers are cut at the
+-- greatest of 64 bits
 pub record IsMadeOf (t : TreeState) (prepared : ℕ → Bool) (notifiers : List (List Notifier)) (plan : Plan) (script : Script) : Type 0 where
-  pub steps : script.steps ≡ steps_for t prepared notifiers plan script.changed
-  pub vetoed : script.vetoed ≡ list_any is_veto (flat_map (λ x. tell_before x (notifiers_at notifiers x)) script.changed)
-  pub extra : script.extra ≡ (if plan.set_parent && list_any is_raise script.steps then min (told_by notifiers script.changed) (2 ^ 64 - 1) else 0)
+  pub changed : List Changed
+  pub steps : script.steps ≡ steps_for t prepared notifiers plan changed
+  pub vetoed : script.vetoed ≡ list_any is_veto (flat_map (λ x. tell_before x (notifiers_at notifiers x)) changed)
+  pub extra : script.extra ≡ (if plan.set_parent && list_any is_raise script.steps then min (told_by notifiers changed) (2 ^ 64 - 1) else 0)
   pub weight : script.weight ≡ min (sum_by (step_weight (plls t.defs) notifiers) script.steps + script.extra) (2 ^ 64 - 1)

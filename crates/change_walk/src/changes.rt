@@ -1,16 +1,18 @@
 //! The clocks whose rate a plan changes.
 
-ghost use Rattle.std.specs.Prelude.{◌≡◌, ◌<◌, ◌==◌, ◌&&◌, ◌++◌, not, true, if◌then◌else◌, [], ◌∷◌, Some, length, reverse, slice_get, slice_index, IfOk};
+ghost use Rattle.std.specs.Prelude.{◌≡◌, ℕ, ◌<◌, ◌==◌, ◌&&◌, ◌++◌, Bool, List, not, true, if◌then◌else◌, [], ◌∷◌, Some, All, length, map, reverse, slice_get, slice_index, IfOk, OnOk};
 ghost use Rattle.std.specs.Option.{option_map};
 ghost use Rattle.clk_model.specs.Lists.{is_at};
 ghost use Rattle.clk_model.specs.State.{registered};
 ghost use Rattle.clk_tree.specs.Plans.{chain_of, rates_of};
+ghost use Rattle.notifiers.specs.declared.notifier.Notifier.{Notifier};
+ghost use Rattle.change_walk.specs.Given.{OfPlan, changed_in, planned_by};
 ghost use Rattle.change_walk.specs.Changes.{AreThere, back_to, changed_along, changes_below, is_back, parent_after};
 
 use crate::places::{rate_at, step_at};
-use clk_base::{ClockId, depth};
+use clk_base::ClockId;
 use clk_io::NoMemory;
-use clk_tree::{ChainStep, Tree, WalkRate};
+use clk_tree::{ChainStep, Plan, Tree, WalkRate};
 use std::alloc::Global;
 
 /// A clock whose rate a plan changes.
@@ -99,28 +101,29 @@ fn add_if(changed: &mut Vec<Changed>, changes: bool, one: Changed) -> Result<(),
     Ok(())
 }
 
-/// The clocks whose rates change, in the walk's order: those that it reaches from its top over such
-/// clocks alone.
+/// The clocks whose rates change, in the walk's order, in place of those that stand there: those that it
+/// reaches from its top over such clocks alone.
 pub(crate) fn changes(
-    alloc: Global,
+    passed: &mut Vec<Passed>,
+    changed: &mut Vec<Changed>,
     tree: &Tree,
     chain: &[ChainStep],
     rates: &[WalkRate],
-) -> Result<Vec<Changed>, NoMemory>
+) -> Result<(), NoMemory>
     requires there { AreThere tree.now.clocks (rates_of rates.now) }
-    ensures { IfOk result (λ changed. changed.items ≡ changed_along (parent_after tree.now.clocks (chain_of chain.now)) (slice_index tree.now.rates) [] (rates_of rates.now)) }
+    ensures { OnOk result (changed.new.items ≡ changed_along (parent_after tree.now.clocks (chain_of chain.now)) (slice_index tree.now.rates) [] (rates_of rates.now)) }
 {
-    let mut passed = Vec::with_capacity(alloc, depth() as usize)?;
-    let mut changed = Vec::new(alloc);
+    passed.clear();
+    changed.clear();
     for place in 0..rates.len() {
         let entry = rate_at(tree, rates, place);
         let clock = entry.clock;
-        go_back_to(&mut passed, parent_after(tree, chain, clock));
+        go_back_to(passed, parent_after(tree, chain, clock));
         let before = tree.rate(clock);
         let after = entry.rate;
-        let changes = changes_here(&passed, before, after);
+        let changes = changes_here(passed, before, after);
         add_if(
-            &mut changed,
+            changed,
             changes,
             Changed {
                 clock,
@@ -130,5 +133,18 @@ pub(crate) fn changes(
         )?;
         passed.push(Passed { clock, changes })?;
     }
-    Ok(changed)
+    Ok(())
+}
+
+/// The clocks whose rates a plan changes, in its walk's order.
+pub fn changed_clocks(alloc: Global, tree: &Tree, plan: &Plan) -> Result<Vec<Changed>, NoMemory>
+    requires there { AreThere tree.now.clocks plan.now.rates }
+    ensures changed { IfOk result (λ clocks. (held : ℕ → Bool) (lists : List (List Notifier)) → OfPlan tree.now held lists plan.now (λ s. clocks.items ≡ map (changed_in s plan.now.chain) (planned_by s plan.now).changing)) }
+    ensures inside { IfOk result (λ clocks. All (λ x. x.clock.0 < length tree.now.defs) clocks.items) }
+{
+    let mut passed = Vec::new(alloc);
+    let mut clocks = Vec::new(alloc);
+    let chain = plan.chain.as_slice();
+    changes(&mut passed, &mut clocks, tree, chain, plan.rates.as_slice())?;
+    Ok(clocks)
 }

@@ -104,16 +104,17 @@ fn move_held(
 }
 
 // The move of a clock by a step of the chain, where the step is of this clock and moves it.
-fn move_by(
+fn move_by<V: View>(
     steps: &mut Vec<Micro>,
     desc: &ValidDesc,
     tree: &Tree,
+    view: &V,
     step: ChainStep,
-    held: bool,
     clock: ClockId,
 ) -> Result<(), NoMemory>
-    requires { clock.0 < length desc.now.defs }
-    ensures { IfOk result (λ done. steps.new.items ≡ steps.old.items ++ script.move_of desc.now.defs tree.now.clocks (λ c. held) (step_of step ∷ []) clock.0) }
+    requires place { clock.0 < length desc.now.defs }
+    requires seen { clock.0 < V.size view.now }
+    ensures { IfOk result (λ done. steps.new.items ≡ steps.old.items ++ script.move_of desc.now.defs tree.now.clocks (V.means view.now).prepared (step_of step ∷ []) clock.0) }
 {
     if step.clock.0 != clock.0 || !moves(tree, step) {
         return Ok(());
@@ -121,7 +122,7 @@ fn move_by(
     let Some(parent) = step.parent else {
         return Ok(())
     };
-    if held {
+    if view.prepared(clock) {
         move_held(steps, desc, tree, clock, parent)?;
     } else {
         relink(steps, desc, clock, parent)?;
@@ -130,19 +131,20 @@ fn move_by(
 }
 
 // The move of a clock, where the chain moves it.
-fn move_of(
+fn move_of<V: View>(
     steps: &mut Vec<Micro>,
     desc: &ValidDesc,
     tree: &Tree,
+    view: &V,
     chain: &[ChainStep],
-    held: bool,
     clock: ClockId,
 ) -> Result<(), NoMemory>
-    requires { clock.0 < length desc.now.defs }
-    ensures { IfOk result (λ done. steps.new.items ≡ steps.old.items ++ script.move_of desc.now.defs tree.now.clocks (λ c. held) (chain_of chain.now) clock.0) }
+    requires place { clock.0 < length desc.now.defs }
+    requires seen { clock.0 < V.size view.now }
+    ensures { IfOk result (λ done. steps.new.items ≡ steps.old.items ++ script.move_of desc.now.defs tree.now.clocks (V.means view.now).prepared (chain_of chain.now) clock.0) }
 {
     for place in 0..chain.len() {
-        move_by(steps, desc, tree, step_at(chain, place), held, clock)?;
+        move_by(steps, desc, tree, view, step_at(chain, place), clock)?;
     }
     Ok(())
 }
@@ -163,8 +165,7 @@ pub(crate) fn visit_all<V: View>(
 {
     for place in 0..rates.len() {
         let clock = rate_at(tree, rates, place).clock;
-        let held = view.prepared(clock);
-        move_of(steps, desc, tree, chain, held, clock)?;
+        move_of(steps, desc, tree, view, chain, clock)?;
         steps.push(Micro::Visit(clock))?;
     }
     Ok(())

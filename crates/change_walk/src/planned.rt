@@ -19,9 +19,8 @@ use crate::step_list::StepList;
 use crate::weight::{count_notifiers, raises, weigh};
 use clk_base::{Micro, ValidDesc};
 use clk_io::NoMemory;
-use clk_tree::{ChainStep, Plan, Tree, View};
+use clk_tree::{ChainStep, Plan, Tree, View, WalkRate};
 use notifiers::Notifiers;
-use std::alloc::Global;
 
 // The last steps of a change of parent settle its clock; another change has none.
 fn settle(steps: &mut Vec<Micro>, set_parent: bool, chain: &[ChainStep]) -> Result<(), NoMemory>
@@ -33,43 +32,43 @@ fn settle(steps: &mut Vec<Micro>, set_parent: bool, chain: &[ChainStep]) -> Resu
     Ok(())
 }
 
-// As many steps as the script of a plan has at most.
-fn room_for(notifiers: &Notifiers, plan: &Plan, changed: &[Changed]) -> usize {
-    let notices = count_notifiers(notifiers, changed) as usize;
-    let moves = plan.chain.as_slice().len().saturating_mul(10);
-    let visits = plan.rates.as_slice().len().saturating_add(moves);
-    notices
-        .saturating_add(notices.max(visits))
-        .saturating_add(2)
+// Whether a clock of a walk has a notifier.
+fn has_notifiers(notifiers: &Notifiers, rates: &[WalkRate]) -> bool
+    ensures { result ≡ list_any (λ r. not (is_empty (slice_index_or notifiers.now r.clock []))) (rates_of rates.now) }
+{
+    for place in 0..rates.len() {
+        if !notifiers.chain(rates[place].clock).is_empty() {
+            return true;
+        }
+    }
+    false
 }
 
-// The steps of a plan that changes these clocks, and whether a notice vetoes it.
-fn steps_for<V: View>(
-    alloc: Global,
-    desc: &ValidDesc,
+// Finds the clocks that a plan changes, where one of its walk has a notifier; else none is told.
+fn find_changed(
+    list: &mut StepList,
     tree: &Tree,
-    view: &V,
     notifiers: &Notifiers,
     plan: &Plan,
-    changed: &[Changed],
-) -> Result<(Vec<Micro>, bool), NoMemory>
-    requires made { desc.now.defs ≡ tree.now.defs }
-    requires seen { V.size view.now ≡ length tree.now.defs }
+) -> Result<(), NoMemory>
     requires there { AreThere tree.now.clocks plan.now.rates }
-    ensures steps { IfOk result (λ made. made.0.items ≡ steps_for tree.now (V.means view.now).prepared notifiers.now plan.now changed.now) }
-    ensures vetoed { IfOk result (λ made. made.1 ≡ list_any is_veto (flat_map (λ x. tell_before x (notifiers_at notifiers.now x)) changed.now)) }
 {
-    let mut steps = Vec::with_capacity(alloc, room_for(notifiers, plan, changed))?;
-    let vetoed = tell_all_before(&mut steps, notifiers, changed)?;
-    if vetoed {
-        tell_all_off(&mut steps, notifiers, changed)?;
-    } else {
+    let rates = plan.rates.as_slice();
+    if has_notifiers(notifiers, rates) {
         let chain = plan.chain.as_slice();
-        visit_all(&mut steps, desc, tree, view, chain, plan.rates.as_slice())?;
-        settle(&mut steps, plan.set_parent, chain)?;
+        return changes(&mut list.passed, &mut list.changed, tree, chain, rates);
     }
-    steps.push(Micro::End)?;
-    Ok((steps, vetoed))
+    list.changed.clear();
+    Ok(())
+}
+
+// The notices to the changed clocks, and where one vetoes those that it is called off.
+fn tell_all(list: &mut StepList, notifiers: &Notifiers) -> Result<(), NoMemory> {
+    list.vetoed = tell_all_before(&mut list.steps, notifiers, &list.changed)?;
+    if list.vetoed {
+        tell_all_off(&mut list.steps, notifiers, &list.changed)?;
+    }
+    Ok(())
 }
 
 // The notices that a timeout of these steps may bring.
@@ -83,37 +82,43 @@ fn extra_of(notifiers: &Notifiers, set_parent: bool, steps: &[Micro], changed: &
     }
 }
 
-/// The script of a plan: the notices before the change; where one vetoes those that it is called off,
-/// else each clock of the walk with its move and its visit; and the end.
+/// Makes the script of a plan, in place of the one that was made last: the notices before the change;
+/// where one vetoes those that it is called off, else each clock of the walk with its move and its visit;
+/// and the end.
 ///
-/// It costs what the walk and the notices cost; the list is made once. What it is made of is said of
-/// each plan; that it is the script of the definitions, of a plan from this tree, as planning gives it.
-/// What is said so of `extra` and `weight` is about clocks that have at most as many notifiers as
-/// `Notifiers` lets them have.
+/// It costs what the walk and the notices cost. Where memory runs out, what is left of the script says
+/// nothing. What it is made of is said of each plan; that it is the script of the definitions, of a plan
+/// from this tree, as planning gives it. What is said so of `extra` and `weight` is about clocks that
+/// have at most as many notifiers as `Notifiers` lets them have.
 pub fn script<V: View>(
-    alloc: Global,
+    list: &mut StepList,
     desc: &ValidDesc,
     tree: &Tree,
     view: &V,
     notifiers: &Notifiers,
     plan: &Plan,
-) -> Result<StepList, NoMemory>
+) -> Result<(), NoMemory>
     requires made { desc.now.defs ≡ tree.now.defs }
     requires seen { V.size view.now ≡ length tree.now.defs }
     requires there { AreThere tree.now.clocks plan.now.rates }
-    ensures steps { IfOk result (λ list. OfPlan tree.now (V.means view.now).prepared notifiers.now plan.now (λ s. list.steps ≡ (planned_by s plan.now).steps)) }
-    ensures vetoed { IfOk result (λ list. OfPlan tree.now (V.means view.now).prepared notifiers.now plan.now (λ s. list.vetoed ≡ (planned_by s plan.now).vetoed)) }
-    ensures changed { IfOk result (λ list. OfPlan tree.now (V.means view.now).prepared notifiers.now plan.now (λ s. list.changed ≡ map (changed_in s plan.now.chain) (planned_by s plan.now).changing)) }
-    ensures extra { IfOk result (λ list. OfPlan tree.now (V.means view.now).prepared notifiers.now plan.now (λ s. HasFewNotifiers s → list.extra ≡ extra_of s plan.now)) }
-    ensures weight { IfOk result (λ list. OfPlan tree.now (V.means view.now).prepared notifiers.now plan.now (λ s. HasFewNotifiers s → list.weight ≡ weight_of s plan.now)) }
-    ensures inside { IfOk result (λ list. All (λ x. x.clock.0 < length tree.now.defs) list.changed) }
-    ensures made { IfOk result (λ list. IsMadeOf tree.now (V.means view.now).prepared notifiers.now plan.now list) }
+    ensures steps { OnOk result (OfPlan tree.now (V.means view.now).prepared notifiers.now plan.now (λ s. list.new.steps ≡ (planned_by s plan.now).steps)) }
+    ensures vetoed { OnOk result (OfPlan tree.now (V.means view.now).prepared notifiers.now plan.now (λ s. list.new.vetoed ≡ (planned_by s plan.now).vetoed)) }
+    ensures extra { OnOk result (OfPlan tree.now (V.means view.now).prepared notifiers.now plan.now (λ s. HasFewNotifiers s → list.new.extra ≡ extra_of s plan.now)) }
+    ensures weight { OnOk result (OfPlan tree.now (V.means view.now).prepared notifiers.now plan.now (λ s. HasFewNotifiers s → list.new.weight ≡ weight_of s plan.now)) }
+    ensures made { OnOk result (IsMadeOf tree.now (V.means view.now).prepared notifiers.now plan.now list.new) }
 {
     let _size = desc.len();
-    let chain = plan.chain.as_slice();
-    let changed = changes(alloc, tree, chain, plan.rates.as_slice())?;
-    let (steps, vetoed) = steps_for(alloc, desc, tree, view, notifiers, plan, &changed)?;
-    let extra = extra_of(notifiers, plan.set_parent, &steps, &changed);
-    let weight = weigh(notifiers, tree.plls(), &steps).saturating_add(extra);
-    Ok(StepList::new(steps, vetoed, changed, extra, weight))
+    find_changed(list, tree, notifiers, plan)?;
+    list.steps.clear();
+    tell_all(list, notifiers)?;
+    if !list.vetoed {
+        let chain = plan.chain.as_slice();
+        let rates = plan.rates.as_slice();
+        visit_all(&mut list.steps, desc, tree, view, chain, rates)?;
+        settle(&mut list.steps, plan.set_parent, chain)?;
+    }
+    list.steps.push(Micro::End)?;
+    list.extra = extra_of(notifiers, plan.set_parent, &list.steps, &list.changed);
+    list.weight = weigh(notifiers, tree.plls(), &list.steps).saturating_add(list.extra);
+    Ok(())
 }

@@ -1,17 +1,23 @@
 //! A script that was made.
 
-ghost use Rattle.std.specs.Prelude.{◌≡◌, length, slice_get};
+ghost use Rattle.std.specs.Prelude.{◌≡◌, [], false, length, slice_get};
 
-use crate::changes::Changed;
+use crate::changes::{Changed, Passed};
 use clk_base::Micro;
+use std::alloc::Global;
 use std::marker::Model;
+use std::mem::replace;
 
-/// The script of a change, with what it weighs and what it tells whom.
+/// The script of a change, with what it weighs. Its lists keep their memory from script to script, so
+/// that one as long as an earlier one takes none.
 #[derive(Debug, Drop)]
 pub struct StepList {
     pub(crate) steps: Vec<Micro>,
     pub(crate) vetoed: bool,
+    /// The clocks whose rates change, where a clock of the walk has a notifier.
     pub(crate) changed: Vec<Changed>,
+    /// The clocks that the search for them has passed.
+    pub(crate) passed: Vec<Passed>,
     pub(crate) extra: u64,
     pub(crate) weight: u64,
 }
@@ -24,29 +30,23 @@ impl Model for StepList {
     ghost view = { λ l. record {
       steps = l.steps.items;
       vetoed = l.vetoed;
-      changed = l.changed.items;
       extra = l.extra;
       weight = l.weight;
     } };
 }
 
 impl StepList {
-    /// A script of these parts. Takes no memory.
-    pub(crate) fn new(
-        steps: Vec<Micro>,
-        vetoed: bool,
-        changed: Vec<Changed>,
-        extra: u64,
-        weight: u64,
-    ) -> StepList
-        ensures { result ≡ record { steps = steps.items; vetoed = vetoed; changed = changed.items; extra = extra; weight = weight } }
+    /// No step. Takes no memory.
+    pub fn none(alloc: Global) -> StepList
+        ensures { result ≡ record { steps = []; vetoed = false; extra = 0; weight = 0 } }
     {
         StepList {
-            steps,
-            vetoed,
-            changed,
-            extra,
-            weight,
+            steps: Vec::new(alloc),
+            vetoed: false,
+            changed: Vec::new(alloc),
+            passed: Vec::new(alloc),
+            extra: 0,
+            weight: 0,
         }
     }
 
@@ -68,18 +68,20 @@ impl StepList {
         }
     }
 
-    /// The steps by themselves. Takes no memory.
-    pub fn into_steps(self) -> Vec<Micro>
-        ensures { result.items ≡ self.steps }
+    /// Takes the steps out. Takes no memory.
+    pub fn take_steps(&mut self, alloc: Global) -> Vec<Micro>
+        ensures steps { result.items ≡ self.old.steps }
+        ensures rest { self.new ≡ record self.old { steps = [] } }
     {
-        let StepList {
-            steps,
-            vetoed: _,
-            changed: _,
-            extra: _,
-            weight: _,
-        } = self;
-        steps
+        replace(&mut self.steps, Vec::new(alloc))
+    }
+
+    /// Keeps the memory of this list for later scripts.
+    pub fn keep_memory(&mut self, steps: Vec<Micro>)
+        ensures steps { self.new ≡ record self.old { steps = [] } }
+    {
+        self.steps = steps;
+        self.steps.clear();
     }
 
     /// How many entries the steps may come to, each with what it may put in front of it, and with the
@@ -95,13 +97,6 @@ impl StepList {
         ensures { result ≡ self.now.vetoed }
     {
         self.vetoed
-    }
-
-    /// The clocks whose rates change, in the walk's order.
-    pub fn changed(&self) -> &[Changed]
-        ensures { result.now ≡ self.now.changed }
-    {
-        self.changed.as_slice()
     }
 
     /// How many notices a timeout may bring: of a change of parent that raises PLLs those to all
