@@ -111,8 +111,9 @@ impl Flight {
     }
 
     /// A call goes on, over a description whose lines of possible parents have at most so many PLLs.
-    /// All memory that its steps need is taken now.
-    pub fn begin(&mut self, start: Start, plls: u32) -> Result<(), NoMemory>
+    /// All memory that its steps need is taken now. The list of the steps before is given back, so that
+    /// its memory can be used again.
+    pub fn begin(&mut self, start: Start, plls: u32) -> Result<Vec<Micro>, NoMemory>
         ensures begun { OnOk result (self.new ≡ begun start plls) }
         ensures change { (notifiers : List NotifierRow) (k : Change) → StartsAs notifiers start k → OnOk result (IsChange notifiers self.new k) }
         ensures err { OnErr result (self.new ≡ self.old) }
@@ -121,10 +122,10 @@ impl Flight {
             return Err(NoMemory);
         };
         self.raised.start(room)?;
+        let before = self.script.begin(start.script);
         self.going = true;
         self.driver = start.driver;
         self.call = start.call;
-        self.script = Script::of(start.script);
         self.front = Front::Empty;
         self.again = 0;
         self.range = start.range;
@@ -132,7 +133,7 @@ impl Flight {
         self.vetoed = start.vetoed;
         self.timed_out = false;
         self.plls = plls;
-        Ok(())
+        Ok(before)
     }
 
     /// The step that comes next, while a change is in flight.

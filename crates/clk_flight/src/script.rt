@@ -8,6 +8,7 @@ use crate::cut::cut;
 use clk_base::{Micro, Sleeping};
 use std::alloc::Global;
 use std::marker::Model;
+use std::mem::replace;
 
 /// The steps of a call. To contracts it is the whole list, and what is left of it. No call takes
 /// memory.
@@ -55,12 +56,13 @@ impl Script {
         }
     }
 
-    /// These steps, of which none was made.
-    pub(crate) fn of(steps: Vec<Micro>) -> Script
-        ensures left { result.left ≡ steps.items }
-        ensures whole { result.whole ≡ steps.items }
+    /// From now on these steps, of which none was made. The list of those before is given back.
+    pub(crate) fn begin(&mut self, steps: Vec<Micro>) -> Vec<Micro>
+        ensures left { self.new.left ≡ steps.items }
+        ensures whole { self.new.whole ≡ steps.items }
     {
-        Script { steps, at: 0 }
+        self.at = 0;
+        replace(&mut self.steps, steps)
     }
 
     /// The step that comes next.

@@ -33,8 +33,8 @@ use Rattle.rate_planner.specs.Walks.{walked_rates}
 use Rattle.change_walk.specs.Given as given
 use Rattle.change_walk.specs.Given.{Script, HasFewNotifiers, IsTold, OfPlan}
 use Rattle.change_walk.proofs.Leading.{request_fits}
-use Rattle.core_parts.specs.declared.decision.Decision.{Decision}
-use Rattle.core_parts.specs.declared.decision.Decision.TheVariants as decided
+use Rattle.core_parts.specs.Decisions as decided
+use Rattle.core_parts.specs.Decisions.{Decision}
 use Rattle.core_parts.specs.Planned.{Fits, IsAnswer, IsGiven}
 use Rattle.core_parts.specs.Free.{freed, free_seen}
 use Rattle.core_parts.specs.Tied.{AreTied, AreKept}
@@ -187,7 +187,6 @@ module _ {desc : Checked} {window : Shown} {tree : TreeState} {handles : List (O
           steps = settled_steps d what range ∙ sym made.steps;
           vetoed = ap (λ (b : Bool). (planned new plan.chain (given.settles b plan.chain)).vetoed) (sym set_parent) ∙ sym made.vetoed;
           extra = ap (λ (b : Bool). cond (b && list_any is_raise (planned new plan.chain (given.settles b plan.chain)).steps) (notices_of new (planned new plan.chain (given.settles b plan.chain)).changing) 0) (sym set_parent) ∙ sym made.extra;
-          changed = made.changed ∙ ap (λ (b : Bool). map (given.changed_in new plan.chain) (planned new plan.chain (given.settles b plan.chain)).changing) set_parent;
           weight = made.weight ∙ weighs plan d what range set_parent;
           room = let spent = on.used_ in omega arith;
         },

@@ -22,8 +22,8 @@ use Rattle.rate_planner.specs.Walks.{AreThere, walked_rates}
 use Rattle.change_walk.specs.Given as given
 use Rattle.change_walk.specs.Given.{Script, HasFewNotifiers, changed_in, extra_of, planned_by}
 use Rattle.change_walk.specs.Steps.{IsMadeOf}
-use Rattle.core_parts.specs.declared.decision.Decision.{Decision}
-use Rattle.core_parts.specs.declared.decision.Decision.TheVariants as decided
+use Rattle.core_parts.specs.Decisions as decided
+use Rattle.core_parts.specs.Decisions.{Decision}
 use Rattle.core_parts.specs.Seen.{seen}
 use Rattle.core_parts.specs.Window.{Shown}
 
@@ -36,7 +36,6 @@ pub record IsPlanOf (n : State) (k : Change) (plan : Plan) (script : Script) : T
   pub steps : k.left ≡ script.steps
   pub vetoed : k.vetoed ≡ script.vetoed
   pub extra : k.extra ≡ script.extra
-  pub changed : script.changed ≡ map (changed_in n plan.chain) k.changing
   pub weight : script.weight ≡ weight_of n k
   pub room : n.credits + n.steps + script.weight ≤ most_credits
 
@@ -44,7 +43,6 @@ pub record IsPlanOf (n : State) (k : Change) (plan : Plan) (script : Script) : T
 pub record IsScriptOf (s : State) (plan : Plan) (script : Script) : Type 0 where
   pub steps : script.steps ≡ (planned_by s plan).steps
   pub vetoed : script.vetoed ≡ (planned_by s plan).vetoed
-  pub changed : script.changed ≡ map (changed_in s plan.chain) (planned_by s plan).changing
   pub extra : script.extra ≡ extra_of s plan
   pub weight : script.weight ≡ given.weight_of s plan
 

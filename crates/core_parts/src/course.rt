@@ -8,6 +8,7 @@ use clk_base::ClockId;
 use clk_tree::{ChainStep, PlannedChain};
 use std::alloc::Global;
 use std::marker::Model;
+use std::mem::swap;
 
 /// A clock with notifiers that a change visits.
 #[derive(Clone, Copy, Debug, PartialEq, Eq)]
@@ -68,22 +69,21 @@ impl Course {
         ensures notified { result.notified ≡ [] }
     {
         Course {
-            chain: PlannedChain::new(Vec::new(alloc)),
+            chain: PlannedChain::none(alloc),
             notified: Vec::new(alloc),
             at: 0,
         }
     }
 
-    /// This chain and these clocks, of which none was visited.
-    pub fn of(chain: PlannedChain, notified: Vec<Notified>) -> Course
-        ensures chain { result.chain ≡ chain }
-        ensures notified { result.notified ≡ notified.items }
+    /// From now on this chain and these clocks, of which none was visited. Their lists change places with
+    /// those before.
+    pub fn begin(&mut self, chain: &mut PlannedChain, notified: &mut Vec<Notified>)
+        ensures chain { self.new.chain ≡ chain.old }
+        ensures notified { self.new.notified ≡ notified.old.items }
     {
-        Course {
-            chain,
-            notified,
-            at: 0,
-        }
+        swap(&mut self.chain, chain);
+        swap(&mut self.notified, notified);
+        self.at = 0;
     }
 
     /// The planned rate in Hz of a clock, if it is one of the chain.

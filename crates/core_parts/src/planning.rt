@@ -1,6 +1,6 @@
 //! What a request for a rate comes to, as its beginning finds it.
 
-ghost use Rattle.std.specs.Prelude.{◌≡◌, ◌+◌, true, false, length, nat_le, IfOk, IfSome};
+ghost use Rattle.std.specs.Prelude.{◌≡◌, ◌+◌, true, false, Some, None, length, nat_le, if◌then◌else◌, IfOk, IfSome, OnOk};
 ghost use Rattle.std.specs.Option.{option_map};
 ghost use Rattle.change_walk.specs.Given.{OfPlan, HasFewNotifiers};
 ghost use Rattle.clk_model.specs.Begin.{most_credits};
@@ -13,23 +13,24 @@ ghost use Rattle.counts_core.specs.Counted.{AreCounts, is_guarded, is_prepared};
 ghost use Rattle.rate_planner.specs.Kept.{wired};
 ghost use Rattle.rate_planner.specs.Rounded.{rounded_of, NamesRegistered};
 ghost use Rattle.rate_planner.specs.Walks.{AreThere, walked_rates};
+ghost use Rattle.core_parts.specs.Decisions.{decision_of};
 ghost use Rattle.core_parts.specs.Planned.{ArePlanned, Fits, IsAnswer, IsGiven};
 ghost use Rattle.core_parts.specs.Free.{free_seen, freed};
 ghost use Rattle.core_parts.specs.Tied.{AreTied};
 ghost use Rattle.core_parts.specs.Seen.{seen};
 
-use crate::decision::Decision;
+use crate::decision::Verdict;
+use crate::draft::Draft;
 use crate::free::{FreeSeen, freed_above};
 use crate::seen::Seen;
 use crate::window::Window;
 use change_walk::script;
 use clk_base::{ClockId, Errno, MOST_CREDITS, ValidDesc};
 use clk_io::NoMemory;
-use clk_tree::{Plan, Tree};
+use clk_tree::Tree;
 use notifiers::Notifiers;
 use rate_planner::{Rounded, first_rounding, plan_from, round_now};
 use reg_bank::Bank;
-use std::alloc::Global;
 
 /// Whether there is room for so many entries behind so many.
 pub fn fits(used: u64, weight: u64) -> bool
@@ -95,9 +96,10 @@ fn leaves_rate(rounding: Option<Rounded>, rate: u64) -> bool
     }
 }
 
-// The plan of a request for a rate, if there is one, where the clock would be rounded so.
+// Works out the plan of a request for a rate, where the clock would be rounded so. Answers whether there
+// is one.
 fn plan_seen<B: Bank>(
-    alloc: Global,
+    draft: &mut Draft,
     desc: &ValidDesc,
     window: &Window<B>,
     tree: &Tree,
@@ -105,48 +107,50 @@ fn plan_seen<B: Bank>(
     clock: ClockId,
     wanted: u64,
     first: Option<Rounded>,
-) -> Result<Option<Plan>, NoMemory>
+) -> Result<bool, NoMemory>
     requires tied { AreTied desc.now window.now tree.now }
     requires seen { length view.now.counts.now.links ≡ length tree.now.defs }
     requires there { registered tree.now.clocks clock.0 ≡ true }
     requires rounding { IfSome window.now.words (λ regs. option_map rounded_of first ≡ round (wired desc.now.defs regs tree.now) (seen view.now.handles.now.handles view.now.counts.now) clock.0 wanted) }
     requires names { NamesRegistered tree.now.clocks first }
-    ensures chain { IfOk result (λ found. IfSome window.now.words (λ regs. option_map (λ plan. plan.chain) found ≡ chain.chain (wired desc.now.defs regs tree.now) (seen view.now.handles.now.handles view.now.counts.now) clock.0 wanted)) }
-    ensures rates { IfOk result (λ found. IfSome found (λ plan. IfSome window.now.words (λ regs. plan.rates ≡ walked_rates tree.now.order (wired desc.now.defs regs tree.now) plan.chain))) }
-    ensures set_parent { IfOk result (λ found. IfSome found (λ plan. plan.set_parent ≡ false)) }
-    ensures there { IfOk result (λ found. IfSome found (λ plan. AreThere tree.now.clocks plan.rates)) }
+    ensures chain { IfOk result (λ found. IfSome window.now.words (λ regs. (if found then Some draft.new.planning.plan.chain else None) ≡ chain.chain (wired desc.now.defs regs tree.now) (seen view.now.handles.now.handles view.now.counts.now) clock.0 wanted)) }
+    ensures rates { IfOk result (λ found. found ≡ true → IfSome window.now.words (λ regs. draft.new.planning.plan.rates ≡ walked_rates tree.now.order (wired desc.now.defs regs tree.now) draft.new.planning.plan.chain)) }
+    ensures set_parent { OnOk result (draft.new.planning.plan.set_parent ≡ false) }
+    ensures there { IfOk result (λ found. found ≡ true → AreThere tree.now.clocks draft.new.planning.plan.rates) }
 {
-    plan_from(alloc, desc, tree, window.bank(), view, clock, wanted, first)
+    let planning = &mut draft.planning;
+    plan_from(planning, desc, tree, window.bank(), view, clock, wanted, first)
 }
 
-/// A plan goes on with its script, where there is room for the entries of its steps behind so many.
+/// The plan of a draft goes on with its script, where there is room for the entries of its steps behind
+/// so many.
 pub fn go_on(
-    alloc: Global,
+    draft: &mut Draft,
     desc: &ValidDesc,
     tree: &Tree,
     view: &Seen,
     notifiers: &Notifiers,
     used: u64,
-    plan: Plan,
-) -> Result<Decision, NoMemory>
+) -> Result<Verdict, NoMemory>
     requires made { desc.now.defs ≡ tree.now.defs }
     requires seen { length view.now.counts.now.links ≡ length tree.now.defs }
-    requires there { AreThere tree.now.clocks plan.rates }
-    ensures decides { IfOk result (λ decision. OfPlan tree.now (seen view.now.handles.now.handles view.now.counts.now).prepared notifiers.now plan (λ s. HasFewNotifiers s → Fits s used plan decision)) }
-    ensures there { IfOk result (λ decision. ArePlanned tree.now (is_prepared view.now.counts.now) notifiers.now used plan.set_parent decision) }
+    requires there { AreThere tree.now.clocks draft.old.planning.plan.rates }
+    ensures decides { IfOk result (λ verdict. OfPlan tree.now (seen view.now.handles.now.handles view.now.counts.now).prepared notifiers.now draft.old.planning.plan (λ s. HasFewNotifiers s → Fits s used draft.old.planning.plan (decision_of draft.new verdict))) }
+    ensures there { IfOk result (λ verdict. ArePlanned tree.now (is_prepared view.now.counts.now) notifiers.now used draft.old.planning.plan.set_parent (decision_of draft.new verdict)) }
 {
-    let script = script(alloc, desc, tree, view, notifiers, &plan)?;
-    if fits(used, script.weight()) {
-        Ok(Decision::Change { plan, script })
+    let plan = &draft.planning.plan;
+    script(&mut draft.script, desc, tree, view, notifiers, plan)?;
+    if fits(used, draft.script.weight()) {
+        Ok(Verdict::Change)
     } else {
-        Ok(Decision::Refused(Errno::ENOSPC))
+        Ok(Verdict::Refused(Errno::ENOSPC))
     }
 }
 
-// What a request for the rate of a clock comes to that isn't guarded. Its first rounding says whether
+// What a request for a rate of a clock comes to that isn't guarded. Its first rounding says whether
 // the clock keeps its rate, and else the plan begins with it.
 fn decide_unguarded<B: Bank>(
-    alloc: Global,
+    draft: &mut Draft,
     desc: &ValidDesc,
     window: &Window<B>,
     tree: &Tree,
@@ -155,28 +159,29 @@ fn decide_unguarded<B: Bank>(
     used: u64,
     clock: ClockId,
     wanted: u64,
-) -> Result<Decision, NoMemory>
+) -> Result<Verdict, NoMemory>
     requires tied { AreTied desc.now window.now tree.now }
     requires seen { length view.now.counts.now.links ≡ length tree.now.defs }
     requires there { registered tree.now.clocks clock.0 ≡ true }
     requires stands { AreCounts view.now.counts.now }
     requires free { is_guarded view.now.counts.now clock.0 ≡ false }
-    ensures decides { IfOk result (λ decision. (new lifted : State) → IsGiven desc.now window.now tree.now view.now.handles.now.handles view.now.counts.now notifiers.now used new lifted → IsAnswer new lifted clock.0 wanted decision) }
-    ensures there { IfOk result (λ decision. ArePlanned tree.now (is_prepared view.now.counts.now) notifiers.now used false decision) }
+    ensures decides { IfOk result (λ verdict. (new lifted : State) → IsGiven desc.now window.now tree.now view.now.handles.now.handles view.now.counts.now notifiers.now used new lifted → IsAnswer new lifted clock.0 wanted (decision_of draft.new verdict)) }
+    ensures there { IfOk result (λ verdict. ArePlanned tree.now (is_prepared view.now.counts.now) notifiers.now used false (decision_of draft.new verdict)) }
 {
     let first = first_seen(desc, window, tree, view, clock, wanted);
     if leaves_rate(first, tree.rate(clock)) {
-        return Ok(Decision::AtOnce);
+        return Ok(Verdict::AtOnce);
     }
-    match plan_seen(alloc, desc, window, tree, view, clock, wanted, first)? {
-        Some(plan) => go_on(alloc, desc, tree, view, notifiers, used, plan),
-        None => Ok(Decision::Refused(Errno::EINVAL)),
+    if !plan_seen(draft, desc, window, tree, view, clock, wanted, first)? {
+        return Ok(Verdict::Refused(Errno::EINVAL));
     }
+    go_on(draft, desc, tree, view, notifiers, used)
 }
 
-/// What a request for a rate comes to, which is planned over these handles and counts.
+/// What a request for a rate comes to, which is planned over these handles and counts. Where it goes on,
+/// its plan and its script are in the draft.
 pub fn decide_request<B: Bank>(
-    alloc: Global,
+    draft: &mut Draft,
     desc: &ValidDesc,
     window: &Window<B>,
     tree: &Tree,
@@ -185,20 +190,20 @@ pub fn decide_request<B: Bank>(
     used: u64,
     clock: ClockId,
     wanted: u64,
-) -> Result<Decision, NoMemory>
+) -> Result<Verdict, NoMemory>
     requires tied { AreTied desc.now window.now tree.now }
     requires seen { length view.now.counts.now.links ≡ length tree.now.defs }
     requires there { registered tree.now.clocks clock.0 ≡ true }
-    ensures decides { IfOk result (λ decision. (new lifted : State) → IsGiven desc.now window.now tree.now view.now.handles.now.handles view.now.counts.now notifiers.now used new lifted → IsAnswer new lifted clock.0 wanted decision) }
-    ensures there { IfOk result (λ decision. ArePlanned tree.now (is_prepared view.now.counts.now) notifiers.now used false decision) }
+    ensures decides { IfOk result (λ verdict. (new lifted : State) → IsGiven desc.now window.now tree.now view.now.handles.now.handles view.now.counts.now notifiers.now used new lifted → IsAnswer new lifted clock.0 wanted (decision_of draft.new verdict)) }
+    ensures there { IfOk result (λ verdict. ArePlanned tree.now (is_prepared view.now.counts.now) notifiers.now used false (decision_of draft.new verdict)) }
 {
     if view.counts.protected(clock) == 0 {
         return decide_unguarded(
-            alloc, desc, window, tree, view, notifiers, used, clock, wanted,
+            draft, desc, window, tree, view, notifiers, used, clock, wanted,
         );
     }
     if !keeps_rate(desc, window, tree, view, clock, wanted) {
-        return Ok(Decision::Refused(Errno::EBUSY));
+        return Ok(Verdict::Refused(Errno::EBUSY));
     }
-    Ok(Decision::AtOnce)
+    Ok(Verdict::AtOnce)
 }

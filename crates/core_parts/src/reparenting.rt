@@ -1,6 +1,6 @@
 //! Whether a clock can get another parent, and the plan of its change of parent.
 
-ghost use Rattle.std.specs.Prelude.{◌≡◌, ◌≢◌, ◌<◌, ◌&&◌, true, false, length, slice_index, Some, IfOk, IfSome};
+ghost use Rattle.std.specs.Prelude.{◌≡◌, ◌≢◌, ◌<◌, ◌&&◌, true, false, length, slice_index, Some, IfSome, OnOk};
 ghost use Rattle.clk_base.specs.Description.{parents_of};
 ghost use Rattle.clk_base.specs.Flags as flags;
 ghost use Rattle.clk_base.specs.Places.{places};
@@ -13,16 +13,16 @@ ghost use Rattle.core_parts.specs.Planned.{less_protected};
 ghost use Rattle.core_parts.specs.Tied.{AreTied};
 ghost use Rattle.core_parts.specs.Reparenting.{is_bound, is_candidate, parent_refusal};
 
+use crate::draft::Draft;
 use crate::window::Window;
 use bitflags::Flags;
 use clk_base::{ClkFlags, ClockId, Errno, Kind, ValidDesc};
 use clk_io::NoMemory;
 use clk_model::HandleRow;
-use clk_tree::{Plan, Tree};
+use clk_tree::Tree;
 use counts_core::Counts;
 use rate_planner::plan_parent;
 use reg_bank::Bank;
-use std::alloc::Global;
 
 // Whether a clock is a mux that is only read, with two possible parents or more.
 fn is_bound(desc: &ValidDesc, clock: ClockId) -> bool
@@ -133,24 +133,24 @@ pub fn is_linked(tree: &Tree, clock: ClockId, parent: ClockId) -> bool
     }
 }
 
-/// The plan of a change of parent.
+/// Works out the plan of a change of parent.
 pub fn plan_move<B: Bank>(
-    alloc: Global,
+    draft: &mut Draft,
     desc: &ValidDesc,
     window: &Window<B>,
     tree: &Tree,
     clock: ClockId,
     parent: ClockId,
-) -> Result<Plan, NoMemory>
+) -> Result<(), NoMemory>
     requires tied { AreTied desc.now window.now tree.now }
     requires clock { registered tree.now.clocks clock.0 ≡ true }
     requires parent { registered tree.now.clocks parent.0 ≡ true }
     requires possible { is_in parent.0 (parents_of desc.now.defs clock.0) ≡ true }
     requires other { link_in tree.now.clocks clock.0 ≢ Some parent.0 }
-    ensures chain { IfOk result (λ plan. IfSome window.now.words (λ regs. plan.chain ≡ parent_chain (wired desc.now.defs regs tree.now) clock.0 parent.0)) }
-    ensures rates { IfOk result (λ plan. IfSome window.now.words (λ regs. plan.rates ≡ walked_rates tree.now.order (wired desc.now.defs regs tree.now) plan.chain)) }
-    ensures set_parent { IfOk result (λ plan. plan.set_parent ≡ true) }
-    ensures there { IfOk result (λ plan. AreThere tree.now.clocks plan.rates) }
+    ensures chain { OnOk result (IfSome window.now.words (λ regs. draft.new.planning.plan.chain ≡ parent_chain (wired desc.now.defs regs tree.now) clock.0 parent.0)) }
+    ensures rates { OnOk result (IfSome window.now.words (λ regs. draft.new.planning.plan.rates ≡ walked_rates tree.now.order (wired desc.now.defs regs tree.now) draft.new.planning.plan.chain)) }
+    ensures set_parent { OnOk result (draft.new.planning.plan.set_parent ≡ true) }
+    ensures there { OnOk result (AreThere tree.now.clocks draft.new.planning.plan.rates) }
 {
-    plan_parent(alloc, desc, tree, window.bank(), clock, parent)
+    plan_parent(&mut draft.planning, desc, tree, window.bank(), clock, parent)
 }

@@ -1,6 +1,6 @@
 //! The clocks that a change of rate or parent tells.
 
-ghost use Rattle.std.specs.Prelude.{◌≡◌, ◌++◌, ◌∷◌, [], ◌<◌, Some, length, slice_get, IfOk};
+ghost use Rattle.std.specs.Prelude.{◌≡◌, ◌++◌, ◌∷◌, [], ◌<◌, Some, length, slice_get, IfOk, OnOk};
 ghost use Rattle.clk_tree.specs.Plans.{rates_of};
 ghost use Rattle.change_walk.specs.Changes.{AreThere};
 ghost use Rattle.core_parts.specs.Told.{told_clocks};
@@ -10,7 +10,6 @@ use crate::course::Notified;
 use clk_io::NoMemory;
 use clk_tree::{Tree, WalkRate};
 use notifiers::Notifiers;
-use std::alloc::Global;
 
 // The clock of a walk at a place, which is one of the tree.
 fn rate_at(tree: &Tree, rates: &[WalkRate], place: usize) -> WalkRate
@@ -45,20 +44,21 @@ fn push_told(
     Ok(())
 }
 
-/// The clocks of a walk that have notifiers, each with its kept rate and its planned one.
+/// The clocks of a walk that have notifiers, each with its kept rate and its planned one, in place of
+/// those that stand there.
 pub fn told_clocks(
-    alloc: Global,
+    told: &mut Vec<Notified>,
     tree: &Tree,
     notifiers: &Notifiers,
     rates: &[WalkRate],
-) -> Result<Vec<Notified>, NoMemory>
+) -> Result<(), NoMemory>
     requires there { AreThere tree.now.clocks (rates_of rates.now) }
-    ensures { IfOk result (λ told. told.items ≡ told_clocks (notifiers_at notifiers.now) tree.now.rates (rates_of rates.now)) }
+    ensures { OnOk result (told.new.items ≡ told_clocks (notifiers_at notifiers.now) tree.now.rates (rates_of rates.now)) }
 {
-    let mut told = Vec::new(alloc);
+    told.clear();
     for place in 0..rates.len() {
         let entry = rate_at(tree, rates, place);
-        push_told(&mut told, tree, notifiers, entry)?;
+        push_told(told, tree, notifiers, entry)?;
     }
-    Ok(told)
+    Ok(())
 }
