@@ -2,7 +2,7 @@ ghost use Rattle.std.specs.Prelude.{◌≡◌, ◌<◌, ◌≤◌, ℕ};
 ghost use Rattle.kind_math.specs.Rates as rates;
 ghost use Rattle.kind_math.specs.Plls as choice;
 
-use crate::factors::capped;
+use crate::factors::scaled;
 
 /// The rate of a PLL: its parent's rate times `n`, divided by `m`.
 #[tactic(auto, unfolding(crate::specs::Rates::pll_rate))]
@@ -10,7 +10,7 @@ pub fn pll_rate(parent: u64, n: u32, m: u32) -> u64
     requires { 0 < m }
     ensures { result ≡ rates.pll_rate parent n m }
 {
-    capped(u128::from(parent) * u128::from(n) / u128::from(m))
+    scaled(parent, n, m)
 }
 
 /// The multiplier from `least` to `most` that a PLL takes for a wanted rate over this parent's rate.
