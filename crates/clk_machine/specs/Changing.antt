@@ -7,9 +7,14 @@ use Rattle.clk_flight.specs.declared.start.Start.{Start}
 use Rattle.clk_flight.specs.Begun.{StartsAs}
 use Rattle.clk_flight.specs.LeftOver.{step_weight}
 use Rattle.core_parts.specs.Course.{CourseState}
+use Rattle.core_parts.specs.declared.draft.Draft.{Draft}
 use Rattle.core_parts.specs.Listed.{rows_from}
 use Rattle.clk_machine.specs.Parts.{Parts, steps_left}
 use Rattle.clk_machine.specs.Stands.{Stands, Remains}
+
+-- the course that a draft has: the chain of its plan, and the clocks that it tells
+abbrev pub course_of : Draft → CourseState
+course_of draft = record { chain = draft.planning.plan.chain; notified = draft.told.items }
 
 -- a change begins as a flight takes it where these are the notifiers, along this course
 pub record BeginsAlong (notifiers : List NotifierRow) (start : Start) (course : CourseState) (k : Change) : Type 0 where

@@ -15,3 +15,4 @@ pub mod Lawful
 pub mod Row
 pub mod Deciding
 pub mod Readying
+pub mod Readied

@@ -16,11 +16,10 @@ use Rattle.clk_flight.specs.declared.start.Start.{Start}
 use Rattle.clk_tree.specs.declared.plan.Plan.{Plan}
 use Rattle.change_walk.specs.Given.{Script}
 use Rattle.change_walk.specs.Weights.{step_weight}
-use Rattle.clk_machine.specs.declared.readied.Readied.{Readied}
-use Rattle.clk_machine.specs.declared.readied.Readied.TheVariants as readied
-use Rattle.clk_machine.specs.declared.readied.Scripted.{Scripted}
+use Rattle.clk_machine.specs.Readied as readied
+use Rattle.clk_machine.specs.Readied.{Readied, Scripted}
 use Rattle.core_parts.specs.Told.{told_clocks}
-use Rattle.clk_machine.specs.Changing.{BeginsAlong}
+use Rattle.clk_machine.specs.Changing.{BeginsAlong, StartsChange}
 use Rattle.core_parts.specs.Course.{notifiers_at, tells_all}
 use Rattle.clk_machine.specs.Deciding.{EndsAtOnce, handle_of, made_in}
 use Rattle.core_parts.specs.InFlight.{is_script, can_link}
@@ -42,7 +41,7 @@ moves_well m plan = can_go_along plan.set_parent m.desc.defs m.tree.clocks plan.
 -- it is that of a plan whose moves can be made, and of its script: its steps, the chain, and the clocks that are told
 pub record IsScripted (m : Parts) (plan : Plan) (script : Script) (scripted : Scripted) : Type 0 where
   pub moves : moves_well m plan ≡ true
-  pub steps : scripted.steps.items ≡ script.steps
+  pub steps : scripted.steps ≡ script.steps
   pub chain : scripted.course.chain ≡ plan.chain
   pub notified : scripted.course.notified ≡ told_clocks (notifiers_at m.chains) m.tree.rates plan.rates
   pub extra : scripted.extra ≡ script.extra
@@ -59,11 +58,11 @@ Scripts m plan script (readied.Change scripted) = IsScripted m plan script scrip
 -- notifiers that it visits are told, its links can be made, a timeout calls off only a change of parent, and there is room
 pub record CanGoAlong (m : Parts) (d : ℕ) (what : Sleeping) (scripted : Scripted) : Type 0 where
   pub own : IsOwnCall m.table.handles d what
-  pub script : is_script what (registered m.tree.clocks) scripted.steps.items ≡ true
-  pub tells : tells_all (notifiers_at m.chains) scripted.steps.items scripted.course.notified ≡ true
-  pub links : list_all (can_link m.desc.defs m.tree.clocks) scripted.steps.items ≡ true
+  pub script : is_script what (registered m.tree.clocks) scripted.steps ≡ true
+  pub tells : tells_all (notifiers_at m.chains) scripted.steps scripted.course.notified ≡ true
+  pub links : list_all (can_link m.desc.defs m.tree.clocks) scripted.steps ≡ true
   pub lone : sets_parent what ≡ false → scripted.extra ≡ 0
-  pub weight : scripted.weight ≡ weight_along m scripted.steps.items + scripted.extra
+  pub weight : scripted.weight ≡ weight_along m scripted.steps + scripted.extra
   pub room : m.credits + m.steps + scripted.weight ≤ most_credits
 
 -- what holds of a call that was made ready, whatever the bank tells
@@ -85,15 +84,19 @@ range_before (call.SetRange h least most) row = Some (row.min, row.max)
 range_before _ row = None
 
 -- so a change begins that goes on with this, of a driver's call on a handle that had this range
-abbrev pub start_of : ℕ → Sleeping → Option (ℕ × ℕ) → Scripted → Start
-start_of d what range scripted = record {
-  driver = d;
-  call = what;
-  script = scripted.steps;
-  range = range;
-  extra = scripted.extra;
-  vetoed = scripted.vetoed;
-}
+pub record IsStartOf (d : ℕ) (what : Sleeping) (range : Option (ℕ × ℕ)) (scripted : Scripted) (start : Start) : Type 0 where
+  pub driver_ : start.driver ≡ d
+  pub call : start.call ≡ what
+  pub script : start.script.items ≡ scripted.steps
+  pub range_ : start.range ≡ range
+  pub extra : start.extra ≡ scripted.extra
+  pub vetoed : start.vetoed ≡ scripted.vetoed
+
+-- so it goes on from parts that stood for a state, and a credit is spent
+pub record StartsAlong (old : Parts) (d : ℕ) (what : Sleeping) (range : Option (ℕ × ℕ)) (scripted : Scripted) (new : Parts) : Type 0 where
+  pub start : Start
+  pub is : IsStartOf d what range scripted start
+  pub starts : StartsChange old start scripted.course new
 
 -- a call on a driver's own handle goes on with these steps, along this course
 pub record GoesOnAlong (s : State) (d number : ℕ) (what : Sleeping) (scripted : Scripted) : Type 0 where
@@ -101,7 +104,7 @@ pub record GoesOnAlong (s : State) (d number : ℕ) (what : Sleeping) (scripted 
   pub own : own_handle s d number ≡ Some row
   pub change : Change
   pub next_ : next s d (event.Begin what) ≡ paid s (record (made_in s what row) { change = Some change }, turn.Going)
-  pub begins : BeginsAlong s.notifiers (start_of d what (range_before what row) scripted) scripted.course change
+  pub begins : (start : Start) → IsStartOf d what (range_before what row) scripted start → BeginsAlong s.notifiers start scripted.course change
 
 -- a call on the handle of this number begins in a state as it was made ready
 abbrev pub BeginsSo : State → ℕ → ℕ → Sleeping → Readied → Type 0

@@ -14,6 +14,7 @@ use crate::row::Row;
 use clk_base::{ClockId, Entry, Event, Handle, Reply, Sleeping, Turn, ValidDesc};
 use clk_io::NoMemory;
 use clk_tree::Tree;
+use core_parts::Draft;
 use reg_bank::Bank;
 use std::alloc::Global;
 use std::marker::Model;
@@ -27,6 +28,8 @@ pub struct Core<B: Bank> {
     machine: Machine<B>,
     words: Vec<u32>,
     log: Log,
+    // What changes are worked out in before they begin.
+    draft: Draft,
 }
 
 // Whether the steps of a call are worked out before it begins.
@@ -98,6 +101,7 @@ impl<B: Bank> Core<B> {
             machine,
             words: kept,
             log,
+            draft: Draft::none(alloc),
         })
     }
 
@@ -199,7 +203,9 @@ impl<B: Bank> Core<B> {
         ensures ok { IfOk result (λ turn. Appends self.old driver (Begin what) turn self.new) }
         ensures err { OnErr result (self.new ≡ self.old) }
     {
-        let turn = self.machine.begin_worked_out(&mut self.log, driver, what)?;
+        let turn =
+            self.machine
+                .begin_worked_out(&mut self.draft, &mut self.log, driver, what)?;
         self.log.push(Entry {
             driver,
             event: Event::Begin(what),
@@ -349,6 +355,7 @@ impl<B: Bank> Core<B> {
             machine,
             words: _,
             log: _,
+            draft: _,
         } = self;
         machine.into_bank()
     }

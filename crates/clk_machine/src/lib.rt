@@ -5,7 +5,6 @@ mod framework;
 mod laws;
 mod log;
 mod machine;
-mod readied;
 mod row;
 
 pub use framework::Core;

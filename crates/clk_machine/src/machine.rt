@@ -37,7 +37,7 @@ use clk_flight::Flight;
 use clk_io::NoMemory;
 use clk_model::HandleRow;
 use clk_tree::Tree;
-use core_parts::{Course, Held, Window, no_holds, nobody};
+use core_parts::{Course, Draft, Held, Window, no_holds, nobody};
 use counts_core::Counts;
 use notifiers::Notifiers;
 use rate_requests::Requests;
@@ -183,6 +183,7 @@ impl<B: Bank> Machine<B> {
     /// Begins a call whose steps are worked out before, with room in the log for their entries.
     pub(crate) fn begin_worked_out(
         &mut self,
+        draft: &mut Draft,
         log: &mut Log,
         driver: u32,
         what: Sleeping,
@@ -201,7 +202,7 @@ impl<B: Bank> Machine<B> {
         match what {
             Sleeping::Sweep => self.begin_sweep(log, driver),
             Sleeping::Probe(clock) => self.begin_probe(log, driver, clock),
-            _ => self.begin_change(log, driver, what),
+            _ => self.begin_change(draft, log, driver, what),
         }
     }
 

@@ -8,30 +8,28 @@ ghost use Rattle.clk_base.specs.declared.event.Turn.TheVariants.{Done, Going};
 ghost use Rattle.clk_model.specs.Journal.{is_going};
 ghost use Rattle.clk_model.specs.State.{handle_at};
 ghost use Rattle.change_walk.specs.Changes.{AreThere};
-ghost use Rattle.clk_machine.specs.declared.readied.Readied.TheVariants.{AtOnce, Change};
+ghost use Rattle.clk_machine.specs.Readied.{AtOnce, Change, readied_of, scripted_of};
 ghost use Rattle.core_parts.specs.InFlight.{changes_rate, is_ranged};
 ghost use Rattle.clk_machine.specs.Parts.{own_in, IsOwnCall, IsWhole, steps_left};
-ghost use Rattle.clk_machine.specs.Readying.{CanBeginSo, CanGoAlong, IsReady, Scripts, moves_well, weight_of};
+ghost use Rattle.clk_machine.specs.Readying.{CanBeginSo, CanGoAlong, IsReady, Scripts, StartsAlong, moves_well, weight_of};
 ghost use Rattle.clk_machine.specs.Stands.{Enters};
 
 use super::Machine;
 use crate::log::Log;
-use crate::readied::{Readied, Scripted};
-use change_walk::StepList;
 use clk_base::{Errno, Handle, Reply, Sleeping, Turn};
 use clk_flight::Start;
 use clk_io::NoMemory;
 use clk_model::HandleRow;
 use clk_tree::Plan;
-use core_parts::{Course, Decision, can_go_along, told_clocks};
+use core_parts::{Draft, Verdict, can_go_along, told_clocks};
 use reg_bank::Bank;
 
 // How many entries a call that was made ready may come to besides its own.
-fn weight_of(readied: &Readied) -> u64
-    ensures { result ≡ weight_of readied.now }
+fn weight_of(draft: &Draft, verdict: Verdict) -> u64
+    ensures { result ≡ weight_of (readied_of draft.now verdict) }
 {
-    match readied {
-        Readied::Change(scripted) => scripted.weight,
+    match verdict {
+        Verdict::Change => draft.script.weight(),
         _ => 0,
     }
 }
@@ -46,47 +44,37 @@ impl<B: Bank> Machine<B> {
         can_go_along(&self.desc, &self.tree, plan.set_parent, chain)
     }
 
-    // A plan with its script is made ready to go on, where its moves can be made.
-    fn scripted(&self, plan: Plan, script: StepList) -> Result<Readied, NoMemory>
-        requires there { AreThere self.now.tree.clocks plan.rates }
-        ensures scripts { IfOk result (λ readied. Scripts self.now plan script readied) }
+    // A plan with its script goes on, where its moves can be made: the clocks that it tells are found.
+    fn tell_clocks(&self, draft: &mut Draft) -> Result<Verdict, NoMemory>
+        requires there { AreThere self.now.tree.clocks draft.old.planning.plan.rates }
+        ensures scripts { IfOk result (λ verdict. Scripts self.now draft.old.planning.plan draft.old.script (readied_of draft.new verdict)) }
         ensures whole { IsWhole self.now }
     {
-        if !self.can_move(&plan) {
-            return Ok(Readied::Refused(Errno::EINVAL));
+        if !self.can_move(&draft.planning.plan) {
+            return Ok(Verdict::Refused(Errno::EINVAL));
         }
-        let rates = plan.rates.as_slice();
-        let told = told_clocks(self.alloc, &self.tree, &self.notifiers, rates)?;
-        let extra = script.extra() as usize;
-        let vetoed = script.vetoed();
-        let weight = script.weight();
-        let Plan {
-            chain,
-            rates: _,
-            set_parent: _,
-        } = plan;
-        Ok(Readied::Change(Scripted {
-            steps: script.into_steps(),
-            course: Course::of(chain, told),
-            extra,
-            vetoed,
-            weight,
-        }))
+        let rates = draft.planning.plan.rates.as_slice();
+        told_clocks(&mut draft.told, &self.tree, &self.notifiers, rates)?;
+        Ok(Verdict::Change)
     }
 
-    // Makes a call ready that changes a rate or a parent. Nothing is changed.
-    fn ready(&mut self, driver: u32, what: Sleeping) -> Result<Readied, NoMemory>
+    // Makes a call ready that changes a rate or a parent. Nothing is changed but the draft.
+    fn ready(
+        &mut self,
+        draft: &mut Draft,
+        driver: u32,
+        what: Sleeping,
+    ) -> Result<Verdict, NoMemory>
         requires credit { self.old.spent < self.old.credits }
         requires quiet { self.old.flight.going ≡ false }
         requires changes { changes_rate what ≡ true }
-        ensures ready { IfOk result (λ readied. IsReady self.old driver what readied) }
-        ensures can { IfOk result (λ readied. CanBeginSo self.old driver what readied) }
+        ensures ready { IfOk result (λ verdict. IsReady self.old driver what (readied_of draft.new verdict)) }
+        ensures can { IfOk result (λ verdict. CanBeginSo self.old driver what (readied_of draft.new verdict)) }
         ensures same { self.new ≡ self.old }
     {
-        match self.decide(driver, what)? {
-            Decision::Refused(errno) => Ok(Readied::Refused(errno)),
-            Decision::AtOnce => Ok(Readied::AtOnce),
-            Decision::Change { plan, script } => self.scripted(plan, script),
+        match self.decide(draft, driver, what)? {
+            Verdict::Change => self.tell_clocks(draft),
+            verdict => Ok(verdict),
         }
     }
 
@@ -125,119 +113,108 @@ impl<B: Bank> Machine<B> {
         }
     }
 
-    // A change of rate or parent goes on that sets no range. All memory that it needs is taken.
-    fn go_along(&mut self, driver: u32, what: Sleeping, scripted: Scripted) -> Result<(), NoMemory>
+    // A change of rate or parent goes on, of a handle that had this range in Hz where the call sets one.
+    // All memory that it needs is taken.
+    fn go_along(
+        &mut self,
+        draft: &mut Draft,
+        driver: u32,
+        what: Sleeping,
+        range: Option<(u64, u64)>,
+    ) -> Result<(), NoMemory>
         requires credit { self.old.spent < self.old.credits }
         requires quiet { self.old.flight.going ≡ false }
         requires changes { changes_rate what ≡ true }
-        requires unranged { is_ranged what ≡ false }
-        requires can { CanGoAlong self.old driver what scripted }
-        requires ready { IsReady self.old driver what (Change scripted) }
-        ensures ok { OnOk result (Enters self.old driver (Begin what) Going self.new) }
-        ensures left { OnOk result (steps_left self.new ≡ scripted.weight) }
+        requires can { CanGoAlong self.old driver what (scripted_of draft.old) }
+        ensures ok { OnOk result (StartsAlong self.old driver what range (scripted_of draft.old) self.new) }
         ensures err { OnErr result (self.new ≡ self.old) }
     {
-        let Scripted {
-            steps,
-            course,
-            extra,
-            vetoed,
-            weight: _,
-        } = scripted;
         let start = Start {
             driver,
             call: what,
-            script: steps,
-            range: None,
-            extra,
-            vetoed,
+            script: draft.script.take_steps(self.alloc),
+            range,
+            extra: draft.script.extra() as usize,
+            vetoed: draft.script.vetoed(),
         };
-        self.start_change(start, course)
+        self.start_change(start, draft)
     }
 
     // A change of rate goes on that gives a handle another range in Hz. All memory that it needs is
     // taken.
     fn go_along_within(
         &mut self,
+        draft: &mut Draft,
         driver: u32,
         handle: Handle,
         least: u64,
         most: u64,
-        scripted: Scripted,
     ) -> Result<(), NoMemory>
         requires credit { self.old.spent < self.old.credits }
         requires quiet { self.old.flight.going ≡ false }
-        requires can { CanGoAlong self.old driver (SetRange handle least most) scripted }
-        requires ready { IsReady self.old driver (SetRange handle least most) (Change scripted) }
+        requires can { CanGoAlong self.old driver (SetRange handle least most) (scripted_of draft.old) }
+        requires ready { IsReady self.old driver (SetRange handle least most) (Change (scripted_of draft.old)) }
         ensures ok { OnOk result (Enters self.old driver (Begin (SetRange handle least most)) Going self.new) }
-        ensures left { OnOk result (steps_left self.new ≡ scripted.weight) }
+        ensures left { OnOk result (steps_left self.new ≡ (scripted_of draft.old).weight) }
         ensures err { OnErr result (self.new ≡ self.old) }
     {
         let row = self.known(driver, handle);
-        let Scripted {
-            steps,
-            course,
-            extra,
-            vetoed,
-            weight: _,
-        } = scripted;
-        let start = Start {
-            driver,
-            call: Sleeping::SetRange(handle, least, most),
-            script: steps,
-            range: Some((row.min, row.max)),
-            extra,
-            vetoed,
-        };
-        self.start_change(start, course)?;
+        let what = Sleeping::SetRange(handle, least, most);
+        self.go_along(draft, driver, what, Some((row.min, row.max)))?;
         self.write_range(handle, row, least, most);
         Ok(())
     }
 
     // A change of rate or parent goes on.
-    fn go_on(&mut self, driver: u32, what: Sleeping, scripted: Scripted) -> Result<(), NoMemory>
+    fn go_on(&mut self, draft: &mut Draft, driver: u32, what: Sleeping) -> Result<(), NoMemory>
         requires credit { self.old.spent < self.old.credits }
         requires quiet { self.old.flight.going ≡ false }
         requires changes { changes_rate what ≡ true }
-        requires can { CanGoAlong self.old driver what scripted }
-        requires ready { IsReady self.old driver what (Change scripted) }
+        requires can { CanGoAlong self.old driver what (scripted_of draft.old) }
+        requires ready { IsReady self.old driver what (Change (scripted_of draft.old)) }
         ensures ok { OnOk result (Enters self.old driver (Begin what) Going self.new) }
-        ensures left { OnOk result (steps_left self.new ≡ scripted.weight) }
+        ensures left { OnOk result (steps_left self.new ≡ (scripted_of draft.old).weight) }
         ensures err { OnErr result (self.new ≡ self.old) }
     {
         match what {
             Sleeping::SetRange(handle, least, most) => {
-                self.go_along_within(driver, handle, least, most, scripted)
+                self.go_along_within(draft, driver, handle, least, most)
             }
             Sleeping::SetRate(_, _)
             | Sleeping::SetRateExclusive(_, _)
-            | Sleeping::SetParent(_, _) => self.go_along(driver, what, scripted),
+            | Sleeping::SetParent(_, _) => self.go_along(draft, driver, what, None),
             _ => unreachable!(),
         }
     }
 
     // Begins a call that changes a rate or a parent as it was made ready.
-    fn begin_so(&mut self, driver: u32, what: Sleeping, readied: Readied) -> Result<Turn, NoMemory>
+    fn begin_so(
+        &mut self,
+        draft: &mut Draft,
+        driver: u32,
+        what: Sleeping,
+        verdict: Verdict,
+    ) -> Result<Turn, NoMemory>
         requires credit { self.old.spent < self.old.credits }
         requires quiet { self.old.flight.going ≡ false }
         requires changes { changes_rate what ≡ true }
-        requires can { CanBeginSo self.old driver what readied }
-        requires ready { IsReady self.old driver what readied }
+        requires can { CanBeginSo self.old driver what (readied_of draft.old verdict) }
+        requires ready { IsReady self.old driver what (readied_of draft.old verdict) }
         ensures ok { IfOk result (λ turn. Enters self.old driver (Begin what) turn self.new) }
-        ensures left { IfOk result (λ turn. is_going turn ≡ true → steps_left self.new ≡ weight_of readied) }
+        ensures left { IfOk result (λ turn. is_going turn ≡ true → steps_left self.new ≡ weight_of (readied_of draft.old verdict)) }
         ensures err { OnErr result (self.new ≡ self.old) }
     {
-        match readied {
-            Readied::Refused(errno) => {
+        match verdict {
+            Verdict::Refused(errno) => {
                 self.spend();
                 Ok(Turn::Done(Reply::Refused(errno)))
             }
-            Readied::AtOnce => {
+            Verdict::AtOnce => {
                 self.answer_at_once(driver, what);
                 Ok(Turn::Done(Reply::Fine))
             }
-            Readied::Change(scripted) => {
-                self.go_on(driver, what, scripted)?;
+            Verdict::Change => {
+                self.go_on(draft, driver, what)?;
                 Ok(Turn::Going)
             }
         }
@@ -246,6 +223,7 @@ impl<B: Bank> Machine<B> {
     /// Begins a call that changes a rate or a parent, with room in the log for the entries of its steps.
     pub(crate) fn begin_change(
         &mut self,
+        draft: &mut Draft,
         log: &mut Log,
         driver: u32,
         what: Sleeping,
@@ -260,8 +238,8 @@ impl<B: Bank> Machine<B> {
         ensures kept { log.old.room ≤ log.new.room }
         ensures err { OnErr result (self.new ≡ self.old) }
     {
-        let readied = self.ready(driver, what)?;
-        log.make_room(self.credits_left(), weight_of(&readied))?;
-        self.begin_so(driver, what, readied)
+        let verdict = self.ready(draft, driver, what)?;
+        log.make_room(self.credits_left(), weight_of(draft, verdict))?;
+        self.begin_so(draft, driver, what, verdict)
     }
 }

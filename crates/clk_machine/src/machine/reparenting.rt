@@ -2,41 +2,43 @@
 
 ghost use Rattle.std.specs.Prelude.{◌≡◌, ◌<◌, false, Some, IfOk};
 ghost use Rattle.clk_base.specs.declared.call.Sleeping.TheVariants.{SetParent};
+ghost use Rattle.core_parts.specs.Decisions.{decision_of};
 ghost use Rattle.clk_machine.specs.Deciding.{ArePlannedOver, Decided, IsOwned};
 
 use super::Machine;
 use clk_base::{ClockId, Errno, Handle};
 use clk_io::NoMemory;
-use core_parts::{Decision, Seen, go_on, is_linked, plan_move, refusal};
+use core_parts::{Draft, Seen, Verdict, go_on, is_linked, plan_move, refusal};
 use reg_bank::Bank;
 
 impl<B: Bank> Machine<B> {
     /// Decides how a change of parent begins. One exclusive hold of the handle itself doesn't count.
     pub(crate) fn decide_parent(
         &mut self,
+        draft: &mut Draft,
         driver: u32,
         handle: Handle,
         parent: ClockId,
-    ) -> Result<Decision, NoMemory>
+    ) -> Result<Verdict, NoMemory>
         requires credit { self.old.spent < self.old.credits }
         requires quiet { self.old.flight.going ≡ false }
-        ensures decides { IfOk result (λ decision. Decided self.old driver (SetParent handle parent) decision) }
-        ensures there { IfOk result (λ decision. ArePlannedOver self.old (SetParent handle parent) decision) }
-        ensures own { IfOk result (λ decision. IsOwned self.old.table.handles driver (SetParent handle parent) decision) }
+        ensures decides { IfOk result (λ verdict. Decided self.old driver (SetParent handle parent) (decision_of draft.new verdict)) }
+        ensures there { IfOk result (λ verdict. ArePlannedOver self.old (SetParent handle parent) (decision_of draft.new verdict)) }
+        ensures own { IfOk result (λ verdict. IsOwned self.old.table.handles driver (SetParent handle parent) (decision_of draft.new verdict)) }
         ensures same { self.new ≡ self.old }
     {
         let Some(row) = self.own(driver, handle) else {
-            return Ok(Decision::Refused(Errno::ENOENT));
+            return Ok(Verdict::Refused(Errno::ENOENT));
         };
         let used = self.used();
         if is_linked(&self.tree, row.clock, parent) {
-            return Ok(Decision::AtOnce);
+            return Ok(Verdict::AtOnce);
         }
         if let Some(errno) = refusal(&self.desc, &self.tree, &mut self.counts, row, parent) {
-            return Ok(Decision::Refused(errno));
+            return Ok(Verdict::Refused(errno));
         }
-        let plan = plan_move(
-            self.alloc,
+        plan_move(
+            draft,
             &self.desc,
             &self.window,
             &self.tree,
@@ -48,13 +50,12 @@ impl<B: Bank> Machine<B> {
             counts: &self.counts,
         };
         go_on(
-            self.alloc,
+            draft,
             &self.desc,
             &self.tree,
             &view,
             &self.notifiers,
             used,
-            plan,
         )
     }
 }
