@@ -1,5 +1,6 @@
 pub mod Rests
 pub mod Telling
+pub mod Alike
 pub mod Descending
 pub mod PlanWalks
 pub mod Whole

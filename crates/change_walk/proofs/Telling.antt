@@ -160,16 +160,15 @@ moved_on defs clocks held c chain k step old new whole at one all =
     ∙ all
 
 -- one clock of the walk was visited
-pub visited_on : (defs : Description) (clocks : List ClockRow) (prepared : ℕ → Bool) (ks : List state.ChainStep) (rates : List WalkRate) (k : ℕ) (r : WalkRate) (held : Bool) (old mid new whole : List Micro)
-    → slice_get rates k ≡ Some r → held ≡ prepared r.clock.0 → mid ≡ old ++ move_of defs clocks (λ c. held) ks r.clock.0 → new ≡ mid ++ micro.Visit r.clock ∷ []
+pub visited_on : (defs : Description) (clocks : List ClockRow) (prepared : ℕ → Bool) (ks : List state.ChainStep) (rates : List WalkRate) (k : ℕ) (r : WalkRate) (old mid new whole : List Micro)
+    → slice_get rates k ≡ Some r → mid ≡ old ++ move_of defs clocks prepared ks r.clock.0 → new ≡ mid ++ micro.Visit r.clock ∷ []
     → old ++ visits defs clocks prepared ks (drop k (rates_of rates)) ≡ whole → new ++ visits defs clocks prepared ks (drop (k + 1) (rates_of rates)) ≡ whole
-visited_on defs clocks prepared ks rates k r held old mid new whole at is first second all =
+visited_on defs clocks prepared ks rates k r old mid new whole at first second all =
     let rest : List ClockRate = drop (k + 1) (rates_of rates) in
-    let moved : List Micro = move_of defs clocks (λ c. held) ks r.clock.0 in
+    let moved : List Micro = move_of defs clocks prepared ks r.clock.0 in
     let end : List Micro = visits defs clocks prepared ks rest in
     ap (λ ms. ms ++ end) (second ∙ ap (λ ms. ms ++ micro.Visit r.clock ∷ []) first ∙ append_assoc old moved (micro.Visit r.clock ∷ []))
     ∙ append_assoc old (moved ++ micro.Visit r.clock ∷ []) end
-    ∙ ap (λ (t : Bool). old ++ ((move_of defs clocks (λ c. t) ks r.clock.0 ++ micro.Visit r.clock ∷ []) ++ end)) is
     ∙ ap (λ rs. old ++ visits defs clocks prepared ks rs) (sym (rest_of (λ (x : WalkRate). record { clock = x.clock.0; rate = x.rate }) rates k r at))
     ∙ all
 

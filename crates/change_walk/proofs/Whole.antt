@@ -16,7 +16,7 @@ use Rattle.clk_model.specs.Round.{Wiring, wiring, rate_in}
 use Rattle.clk_model.specs.Script.{move_of, planned}
 use Rattle.clk_model.specs.State.{State, NotifierRow, registered, link_in}
 use Rattle.clk_model.specs.Walk.{changing, rates_in, walk}
-use Rattle.clk_model.specs.Wired.{IsWired, IsOrder}
+use Rattle.clk_model.specs.Wired.{IsWired, IsOrder, LinesEnd, LinksArePossible}
 use Rattle.clk_model.proofs.Members.{is_in_cases, is_in_head, is_in_tail}
 use Rattle.clk_model.proofs.WalkLaws.{walks_list}
 use Rattle.clk_tree.specs.declared.plan.Plan.{Plan}
@@ -43,12 +43,16 @@ pub record Fits (words : ℕ) (s : State) (t : TreeState) (held : ℕ → Bool) 
 
 -- ---- the tree
 
+links_possible : (t : TreeState) (w : Wiring) → w.defs ≡ t.defs → w.clocks ≡ t.clocks → IsTree t.defs t.clocks t.order t.rates → LinksArePossible w.defs w.clocks
+links_possible t w d c stands = λ k p link.
+    subst (λ (ds : Description). is_in p (parents_of ds k) ≡ true) (sym d) (stands.possible k p (ap (λ (rows : List ClockRow). link_in rows k) (sym c) ∙ link))
+
 wired_from : (words : ℕ) (t : TreeState) (w : Wiring) → w.defs ≡ t.defs → w.clocks ≡ t.clocks → IsTree t.defs t.clocks t.order t.rates
     → IsValid words t.defs → IsWired words w
 wired_from words t w d c stands valid = record {
   valid = subst (IsValid words) (sym d) valid;
   rows = ap length c ∙ stands.rows ∙ ap length (sym d);
-  links = λ k p link. subst (λ (ds : Description). is_in p (parents_of ds k) ≡ true) (sym d) (stands.possible k p (ap (λ (rows : List ClockRow). link_in rows k) (sym c) ∙ link));
+  links = links_possible t w d c stands;
 }
 
 pub wired : (words : ℕ) (s : State) (t : TreeState) (held : ℕ → Bool) (lists : List (List Notifier)) (plan : Plan) → Fits words s t held lists plan → IsWired words (wiring s)
@@ -93,14 +97,22 @@ kept_all : (f g : ℕ → ℕ) (clocks : List ClockRow) (rates : List ClockRate)
 kept_all f g clocks [] same there = tt
 kept_all f g clocks (r ∷ rs) same there = (same r.clock there.0, kept_all f g clocks rs same there.1)
 
-pub changed_are : (words : ℕ) (s : State) (t : TreeState) (held : ℕ → Bool) (lists : List (List Notifier)) (plan : Plan) → Fits words s t held lists plan
+-- what is given of a tree and of a plan for its state
+pub record IsGiven (s : State) (t : TreeState) (held : ℕ → Bool) (lists : List (List Notifier)) (plan : Plan) : Type 0 where
+  pub told : IsTold s t held lists
+  pub planned : IsPlanFor s plan
+  pub stands : IsTree t.defs t.clocks t.order t.rates
+  pub there : AreThere t.clocks plan.rates
+
+pub changed_are : (s : State) (t : TreeState) (held : ℕ → Bool) (lists : List (List Notifier)) (plan : Plan) → IsGiven s t held lists plan
     → changed_along (parent_after t.clocks plan.chain) (slice_index t.rates) [] plan.rates ≡ map (changed_in s plan.chain) (changing s.order (wiring s) plan.chain)
-changed_are words s t held lists plan fits =
+changed_are s t held lists plan given =
     let w : Wiring = wiring s in
-    found_alike (parent_after t.clocks plan.chain) (slice_index t.rates) (rate_in w) [] plan.rates (kept_all (slice_index t.rates) (rate_in w) t.clocks plan.rates fits.told.kept fits.there)
-    ∙ ap (λ (rows : List ClockRow). changed_along (parent_after rows plan.chain) (rate_in w) [] plan.rates) (sym fits.told.clocks)
-    ∙ ap (λ (rs : List ClockRate). changed_along (parent_after s.clocks plan.chain) (rate_in w) [] rs) fits.planned.rates
-    ∙ changing_found words s.order w fits.planned.clock plan.chain (wired words s t held lists plan fits) (ordered words s t held lists plan fits) fits.planned.leads
+    found_alike (parent_after t.clocks plan.chain) (slice_index t.rates) (rate_in w) [] plan.rates (kept_all (slice_index t.rates) (rate_in w) t.clocks plan.rates given.told.kept given.there)
+    ∙ ap (λ (rows : List ClockRow). changed_along (parent_after rows plan.chain) (rate_in w) [] plan.rates) (sym given.told.clocks)
+    ∙ ap (λ (rs : List ClockRate). changed_along (parent_after s.clocks plan.chain) (rate_in w) [] rs) given.planned.rates
+    ∙ changing_found s.order w given.planned.clock plan.chain (subst LinesEnd (sym given.told.defs) given.stands.lines)
+    (links_possible t w given.told.defs given.told.clocks given.stands) (ap none_twice given.told.order ∙ given.stands.order_lists.once) given.planned.leads
 
 -- ---- notices
 

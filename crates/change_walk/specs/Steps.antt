@@ -47,6 +47,12 @@ steps_for t prepared notifiers plan changed =
 abbrev pub told_by : List (List Notifier) → List Changed → ℕ
 told_by notifiers changed = sum_by (λ x. length (notifiers_at notifiers x)) changed
 
+-- to these notifiers some changed clocks bring the notices of others, before a change and where it is called off, and as many
+pub record IsToldAs (notifiers : List (List Notifier)) (some others : List Changed) : Type 0 where
+  pub before : flat_map (λ x. tell_before x (notifiers_at notifiers x)) some ≡ flat_map (λ x. tell_before x (notifiers_at notifiers x)) others
+  pub off : flat_map (λ x. tell_off x (notifiers_at notifiers x)) some ≡ flat_map (λ x. tell_off x (notifiers_at notifiers x)) others
+  pub count : told_by notifiers some ≡ told_by notifiers others
+
 -- a script is made of a plan, of which clocks are prepared, and of the notices to the notifiers of some clocks; numbers are cut at the
 -- greatest of 64 bits
 pub record IsMadeOf (t : TreeState) (prepared : ℕ → Bool) (notifiers : List (List Notifier)) (plan : Plan) (script : Script) : Type 0 where

@@ -1,5 +1,5 @@
 -- The notices to the notifiers of a changed clock.
-use Rattle.std.specs.Prelude.{ℕ, List, [], ◌∷◌, if◌then◌else◌, map, slice_index_or}
+use Rattle.std.specs.Prelude.{ℕ, ◌==◌, List, [], ◌∷◌, Bool, not, if◌then◌else◌, map, length, slice_index_or}
 use Rattle.clk_base.specs.declared.call.Micro.{Micro}
 use Rattle.clk_base.specs.declared.call.Micro.TheVariants as micro
 use Rattle.clk_base.specs.declared.call.Notice.{Notice}
@@ -15,6 +15,10 @@ notify kind x id = micro.Notify kind x.clock id x.before x.after
 -- the notifiers of a changed clock
 abbrev pub notifiers_at : List (List Notifier) → Changed → List Notifier
 notifiers_at chains x = slice_index_or chains x.clock.0 []
+
+-- whether a clock has a notifier
+abbrev pub has_notifiers : List (List Notifier) → ℕ → Bool
+has_notifiers chains c = not (length (slice_index_or chains c []) == 0)
 
 -- the notices to the notifiers of one clock before a change, up to and with the first veto
 abbrev pub tell_before : Changed → List Notifier → List Micro

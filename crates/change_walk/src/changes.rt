@@ -142,6 +142,7 @@ pub fn changed_clocks(alloc: Global, tree: &Tree, plan: &Plan) -> Result<Vec<Cha
     ensures changed { IfOk result (λ clocks. (held : ℕ → Bool) (lists : List (List Notifier)) → OfPlan tree.now held lists plan.now (λ s. clocks.items ≡ map (changed_in s plan.now.chain) (planned_by s plan.now).changing)) }
     ensures inside { IfOk result (λ clocks. All (λ x. x.clock.0 < length tree.now.defs) clocks.items) }
 {
+    let _plls = tree.plls();
     let mut passed = Vec::new(alloc);
     let mut clocks = Vec::new(alloc);
     let chain = plan.chain.as_slice();

@@ -1,18 +1,18 @@
 //! The script of a plan.
 
-ghost use Rattle.std.specs.Prelude.{◌≡◌, ◌+◌, ◌^◌, ◌-◌, ◌<◌, ◌&&◌, ◌++◌, ◌∷◌, [], min, map, length, sum_by, if◌then◌else◌, flat_map, IfOk, All};
+ghost use Rattle.std.specs.Prelude.{◌≡◌, ◌+◌, ◌^◌, ◌-◌, ◌<◌, ◌&&◌, ◌++◌, ◌∷◌, [], min, length, slice_index, sum_by, if◌then◌else◌, flat_map, IfOk, OnOk};
 ghost use Rattle.std.specs.List.{list_any};
 ghost use Rattle.clk_base.specs.declared.call.Micro.TheVariants as micro;
 ghost use Rattle.clk_model.specs.Script.{is_raise};
 ghost use Rattle.clk_model.specs.Notices.{is_veto};
 ghost use Rattle.clk_tree.specs.Plans.{chain_of, rates_of};
 ghost use Rattle.change_walk.specs.Changes.{AreThere, changed_along, parent_after};
-ghost use Rattle.change_walk.specs.Given.{HasFewNotifiers, OfPlan, changed_in, extra_of, planned_by, settles, weight_of};
-ghost use Rattle.change_walk.specs.Steps.{IsMadeOf, steps_for};
-ghost use Rattle.change_walk.specs.Tellings.{notifiers_at, tell_before, tell_off};
+ghost use Rattle.change_walk.specs.Given.{HasFewNotifiers, OfPlan, extra_of, planned_by, settles, weight_of};
+ghost use Rattle.change_walk.specs.Steps.{IsMadeOf, IsToldAs, steps_for};
+ghost use Rattle.change_walk.specs.Tellings.{has_notifiers, notifiers_at, tell_before};
 ghost use Rattle.change_walk.specs.Weights.{step_weight};
 
-use crate::changes::{Changed, changes};
+use crate::changes::{Changed, Passed, changes};
 use crate::moves::visit_all;
 use crate::notices::{tell_all_before, tell_all_off};
 use crate::step_list::StepList;
@@ -34,41 +34,62 @@ fn settle(steps: &mut Vec<Micro>, set_parent: bool, chain: &[ChainStep]) -> Resu
 
 // Whether a clock of a walk has a notifier.
 fn has_notifiers(notifiers: &Notifiers, rates: &[WalkRate]) -> bool
-    ensures { result ≡ list_any (λ r. not (is_empty (slice_index_or notifiers.now r.clock []))) (rates_of rates.now) }
+    ensures { result ≡ list_any (λ r. has_notifiers notifiers.now r.clock.0) rates.now }
 {
-    for place in 0..rates.len() {
-        if !notifiers.chain(rates[place].clock).is_empty() {
-            return true;
-        }
-    }
-    false
+    rates
+        .iter()
+        .any(|entry| !notifiers.chain(entry.clock).is_empty())
 }
 
-// Finds the clocks that a plan changes, where one of its walk has a notifier; else none is told.
+// Finds the clocks that a plan changes, where a clock of its walk has a notifier; else it finds none,
+// since none is told.
 fn find_changed(
-    list: &mut StepList,
+    passed: &mut Vec<Passed>,
+    changed: &mut Vec<Changed>,
     tree: &Tree,
     notifiers: &Notifiers,
     plan: &Plan,
 ) -> Result<(), NoMemory>
     requires there { AreThere tree.now.clocks plan.now.rates }
+    ensures { OnOk result (IsToldAs notifiers.now changed.new.items (changed_along (parent_after tree.now.clocks plan.now.chain) (slice_index tree.now.rates) [] plan.now.rates)) }
 {
     let rates = plan.rates.as_slice();
     if has_notifiers(notifiers, rates) {
-        let chain = plan.chain.as_slice();
-        return changes(&mut list.passed, &mut list.changed, tree, chain, rates);
+        changes(passed, changed, tree, plan.chain.as_slice(), rates)?;
+    } else {
+        changed.clear();
     }
-    list.changed.clear();
     Ok(())
 }
 
-// The notices to the changed clocks, and where one vetoes those that it is called off.
-fn tell_all(list: &mut StepList, notifiers: &Notifiers) -> Result<(), NoMemory> {
-    list.vetoed = tell_all_before(&mut list.steps, notifiers, &list.changed)?;
-    if list.vetoed {
-        tell_all_off(&mut list.steps, notifiers, &list.changed)?;
+// Makes the steps of a plan that changes these clocks, in place of those that stand there. Answers
+// whether a notice vetoes it.
+fn make_steps<V: View>(
+    steps: &mut Vec<Micro>,
+    desc: &ValidDesc,
+    tree: &Tree,
+    view: &V,
+    notifiers: &Notifiers,
+    plan: &Plan,
+    changed: &[Changed],
+) -> Result<bool, NoMemory>
+    requires made { desc.now.defs ≡ tree.now.defs }
+    requires seen { V.size view.now ≡ length tree.now.defs }
+    requires there { AreThere tree.now.clocks plan.now.rates }
+    ensures steps { IfOk result (λ vetoed. steps.new.items ≡ steps_for tree.now (V.means view.now).prepared notifiers.now plan.now changed.now) }
+    ensures vetoed { IfOk result (λ vetoed. vetoed ≡ list_any is_veto (flat_map (λ x. tell_before x (notifiers_at notifiers.now x)) changed.now)) }
+{
+    steps.clear();
+    let vetoed = tell_all_before(steps, notifiers, changed)?;
+    if vetoed {
+        tell_all_off(steps, notifiers, changed)?;
+    } else {
+        let chain = plan.chain.as_slice();
+        visit_all(steps, desc, tree, view, chain, plan.rates.as_slice())?;
+        settle(steps, plan.set_parent, chain)?;
     }
-    Ok(())
+    steps.push(Micro::End)?;
+    Ok(vetoed)
 }
 
 // The notices that a timeout of these steps may bring.
@@ -108,16 +129,16 @@ pub fn script<V: View>(
     ensures made { OnOk result (IsMadeOf tree.now (V.means view.now).prepared notifiers.now plan.now list.new) }
 {
     let _size = desc.len();
-    find_changed(list, tree, notifiers, plan)?;
-    list.steps.clear();
-    tell_all(list, notifiers)?;
-    if !list.vetoed {
-        let chain = plan.chain.as_slice();
-        let rates = plan.rates.as_slice();
-        visit_all(&mut list.steps, desc, tree, view, chain, rates)?;
-        settle(&mut list.steps, plan.set_parent, chain)?;
-    }
-    list.steps.push(Micro::End)?;
+    find_changed(&mut list.passed, &mut list.changed, tree, notifiers, plan)?;
+    list.vetoed = make_steps(
+        &mut list.steps,
+        desc,
+        tree,
+        view,
+        notifiers,
+        plan,
+        &list.changed,
+    )?;
     list.extra = extra_of(notifiers, plan.set_parent, &list.steps, &list.changed);
     list.weight = weigh(notifiers, tree.plls(), &list.steps).saturating_add(list.extra);
     Ok(())

@@ -119,7 +119,8 @@ fn expect_script(
     requires seen { row.now.seen.clocks ≡ length tree.now.defs }
     requires there { AreThere tree.now.clocks plan.now.rates }
 {
-    let list = script(alloc, desc, tree, &row.seen, told, plan)?;
+    let mut list = StepList::none(alloc);
+    script(&mut list, desc, tree, &row.seen, told, plan)?;
     let (notices, steps, weight, extra) = wanted;
     assert!(rt; notices.len() < 100 && steps.len() < 100);
     assert!(rt;
