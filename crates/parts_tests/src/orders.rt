@@ -11,7 +11,7 @@ use clk_base::{ClockId, Micro, Notice, Policy, ValidDesc};
 use clk_tree::{Plan, Tree, View};
 use notifiers::Notifiers;
 use orphans::{adoptable, link_of};
-use rate_planner::{plan_now, plan_parent};
+use rate_planner::{Planning, plan_now, plan_parent};
 use reg_bank::Bank;
 use rows::ROWS;
 use std::alloc::Global;
@@ -150,14 +150,13 @@ fn expect_sets<B: Bank>(
     requires bank { desc.now.words ≤ B.size bank.now }
     requires seen { row.now.seen.clocks ≡ length tree.now.defs }
 {
+    let mut planning = Planning::none(alloc);
     for (clock, rate, wanted) in row.sets {
         let c = ClockId(*clock);
         assert!(rt; tree.registered(c));
-        let plan = plan_now(alloc, desc, tree, bank, &row.seen, c, *rate)?;
-        assert!(rt; plan.is_some(), "{}", row.name);
-        if let Some(plan) = plan {
-            expect_script(rt, alloc, desc, tree, told, row, &plan, *wanted)?;
-        }
+        let found = plan_now(&mut planning, desc, tree, bank, &row.seen, c, *rate)?;
+        assert!(rt; found, "{}", row.name);
+        expect_script(rt, alloc, desc, tree, told, row, &planning.plan, *wanted)?;
     }
     Ok(())
 }
@@ -176,13 +175,14 @@ fn expect_moves<B: Bank>(
     requires bank { desc.now.words ≤ B.size bank.now }
     requires seen { row.now.seen.clocks ≡ length tree.now.defs }
 {
+    let mut planning = Planning::none(alloc);
     for (clock, parent, wanted) in row.moves {
         let (c, p) = (ClockId(*clock), ClockId(*parent));
         assert!(rt; tree.registered(c) && tree.registered(p));
         assert!(rt; (*clock as usize) < desc.len());
         assert!(rt; is_possible(desc, c, p) && tree.parent(c) != Some(p));
-        let plan = plan_parent(alloc, desc, tree, bank, c, p)?;
-        expect_script(rt, alloc, desc, tree, told, row, &plan, *wanted)?;
+        plan_parent(&mut planning, desc, tree, bank, c, p)?;
+        expect_script(rt, alloc, desc, tree, told, row, &planning.plan, *wanted)?;
     }
     Ok(())
 }

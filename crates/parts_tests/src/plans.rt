@@ -7,7 +7,7 @@ mod rows;
 use crate::clocks::{attach_all, bank_of, described, is_possible};
 use clk_base::{ClockId, ValidDesc};
 use clk_tree::{ChainStep, Plan, Tree, View, WalkRate};
-use rate_planner::{plan_now, plan_parent, round_now};
+use rate_planner::{Planning, plan_now, plan_parent, round_now};
 use reg_bank::Bank;
 use rows::ROWS;
 use std::alloc::Global;
@@ -123,13 +123,14 @@ fn expect_plans<B: Bank>(
     requires bank { desc.now.words ≤ B.size bank.now }
     requires seen { row.now.seen.clocks ≡ length tree.now.defs }
 {
+    let mut planning = Planning::none(alloc);
     for (clock, rate, wanted) in row.plans {
         let c = ClockId(*clock);
         assert!(rt; tree.registered(c));
-        let plan = plan_now(alloc, desc, tree, bank, &row.seen, c, *rate)?;
-        assert!(rt; plan.is_some() == wanted.is_some());
-        if let (Some(plan), Some((steps, walked))) = (plan, wanted) {
-            expect_plan(rt, &plan, steps, walked);
+        let found = plan_now(&mut planning, desc, tree, bank, &row.seen, c, *rate)?;
+        assert!(rt; found == wanted.is_some());
+        if let Some((steps, walked)) = wanted {
+            expect_plan(rt, &planning.plan, steps, walked);
         }
     }
     Ok(())
@@ -147,13 +148,14 @@ fn expect_moves<B: Bank>(
     requires made { desc.now.defs ≡ tree.now.defs }
     requires bank { desc.now.words ≤ B.size bank.now }
 {
+    let mut planning = Planning::none(alloc);
     for (clock, parent, steps, walked) in row.moves {
         let (c, p) = (ClockId(*clock), ClockId(*parent));
         assert!(rt; tree.registered(c) && tree.registered(p));
         assert!(rt; (*clock as usize) < desc.len());
         assert!(rt; is_possible(desc, c, p) && tree.parent(c) != Some(p));
-        let plan = plan_parent(alloc, desc, tree, bank, c, p)?;
-        expect_plan(rt, &plan, steps, walked);
+        plan_parent(&mut planning, desc, tree, bank, c, p)?;
+        expect_plan(rt, &planning.plan, steps, walked);
     }
     Ok(())
 }

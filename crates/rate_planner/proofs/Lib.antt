@@ -6,5 +6,5 @@ pub mod OutcomeRates
 pub mod WholeOutcome
 pub mod ListSteps
 pub mod Walking
-pub mod Planning
+pub mod PlanLaws
 pub mod ParentPlans

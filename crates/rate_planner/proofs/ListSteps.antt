@@ -1,7 +1,7 @@
 -- Lists that are gone through place by place.
-use Rattle.std.proofs.Common.{◌≡◌, ℕ, zero, suc, ◌+◌, ◌<◌, ◌≤◌, Bool, true, false, ◌&&◌, ◌||◌, List, [], ◌∷◌, Option, Some, None, refl, sym, ap, ◌∙◌, arith, add-one, drop, length, get_or, nat_eq, nat_le, cond}
+use Rattle.std.proofs.Common.{◌≡◌, ℕ, zero, suc, ◌+◌, ◌-◌, ◌<◌, Bool, true, false, ◌&&◌, ◌||◌, List, [], ◌∷◌, Option, Some, None, refl, sym, ap, ◌∙◌, arith, add-one, drop, length, get_or, nat_eq, eq-eqb, nat_le, cond}
 use Rattle.std.specs.Prelude.{IfSome}
-use Rattle.std.proofs.lemmas.Bool.{cond-true, cond-false}
+use Rattle.std.proofs.lemmas.Bool.{cond-true, cond-false, ne_eqb}
 use Rattle.clk_base.specs.Description.{Description}
 use Rattle.reg_bank.specs.Registers.{Registers}
 use Rattle.clk_model.specs.declared.row.ClockRow.{ClockRow}
@@ -9,12 +9,12 @@ use Rattle.clk_model.specs.Chain.{moves}
 use Rattle.clk_model.specs.Round.{View}
 use Rattle.clk_model.specs.State as state
 use Rattle.clk_model.specs.Walk.{moves_away}
+use Rattle.clk_model.proofs.Members.{or_right}
 use Rattle.clk_tree.specs.declared.chain.ChainStep.{ChainStep}
 use Rattle.clk_tree.specs.Plans.{chain_of}
 use Rattle.rate_planner.specs.Chains.{step_of}
 use Rattle.rate_planner.specs.Outcomes.{rates_within}
 use Rattle.rate_planner.specs.Walks.{kid_rate}
-use Rattle.clk_tree.proofs.Along.{none_left}
 
 -- ---- what a bank tells
 
@@ -76,11 +76,6 @@ pub within_passes : (view : View) (steps : List ChainStep) (rates : List ℕ) (p
 within_passes view steps rates place d e t whole less sizes is passes left =
     sym (within_here view steps rates place d e t less sizes is ∙ ap (λ (b : Bool). b && rates_within view (drop (place + 1) (chain_of steps)) (drop (place + 1) rates)) passes) ∙ left
 
-pub within_ends : (view : View) (steps : List ChainStep) (rates : List ℕ) (place : ℕ) (whole : Bool) → length steps ≤ place
-    → rates_within view (drop place (chain_of steps)) (drop place rates) ≡ whole → true ≡ whole
-within_ends view steps rates place whole past left =
-    sym (ap (λ (ks : List state.ChainStep). rates_within view ks (drop place rates)) (none_left (chain_of steps) place (let size = length-chain steps in omega arith))) ∙ left
-
 -- ---- the rate of a child
 
 kid_here : (defs : Description) (regs : Registers) (steps : List ChainStep) (rates : List ℕ) (place c parent : ℕ) (d : ChainStep) (e : ℕ) → place < length steps → length rates ≡ length steps
@@ -90,40 +85,61 @@ kid_here defs regs steps rates place c parent d e less sizes =
     ap (λ (ks : List state.ChainStep). kid_rate defs regs ks (drop place rates) c parent) (steps_left steps place d less)
     ∙ ap (λ rs. kid_rate defs regs (step_of (get_or steps place d) ∷ drop (place + 1) (chain_of steps)) rs c parent) (numbers_left rates place e (omega arith))
 
-pub kid_found : (defs : Description) (regs : Registers) (steps : List ChainStep) (rates : List ℕ) (place c parent : ℕ) (d : ChainStep) (e whole : ℕ) → place < length steps → length rates ≡ length steps
-    → nat_eq (get_or steps place d).clock.0 c ≡ true → kid_rate defs regs (drop place (chain_of steps)) (drop place rates) c parent ≡ whole → get_or rates place e ≡ whole
-kid_found defs regs steps rates place c parent d e whole less sizes is left =
-    sym (kid_here defs regs steps rates place c parent d e less sizes ∙ cond-true _ _ _ is) ∙ left
+-- from the top down, the rate at a step of this clock
+pub kid_taken : (defs : Description) (regs : Registers) (steps : List ChainStep) (rates : List ℕ) (count done place c parent : ℕ) (d : ChainStep) (e own : ℕ) → done < count → count ≡ length steps → place ≡ count - 1 - done
+    → length rates ≡ length steps → (get_or steps place d).clock.0 ≡ c → own ≡ get_or rates place e → own ≡ kid_rate defs regs (drop (count - (done + 1)) (chain_of steps)) (drop (count - (done + 1)) rates) c parent
+kid_taken defs regs steps rates count done place c parent d e own less counted at sizes same is =
+    let to : place ≡ count - (done + 1) = omega arith in
+    is ∙ sym (kid_here defs regs steps rates place c parent d e (omega arith) sizes ∙ cond-true _ _ _ (eq-eqb (get_or steps place d).clock.0 c same))
+    ∙ ap (λ n. kid_rate defs regs (drop n (chain_of steps)) (drop n rates) c parent) to
 
-pub kid_passed : (defs : Description) (regs : Registers) (steps : List ChainStep) (rates : List ℕ) (place c parent : ℕ) (d : ChainStep) (whole : ℕ) → place < length steps → length rates ≡ length steps
-    → nat_eq (get_or steps place d).clock.0 c ≡ false → kid_rate defs regs (drop place (chain_of steps)) (drop place rates) c parent ≡ whole
-    → kid_rate defs regs (drop (place + 1) (chain_of steps)) (drop (place + 1) rates) c parent ≡ whole
-kid_passed defs regs steps rates place c parent d whole less sizes is left =
-    sym (kid_here defs regs steps rates place c parent d 0 less sizes ∙ cond-false _ _ _ is) ∙ left
-
-pub kid_ends : (defs : Description) (regs : Registers) (steps : List ChainStep) (rates : List ℕ) (place c parent whole : ℕ) → length steps ≤ place
-    → kid_rate defs regs (drop place (chain_of steps)) (drop place rates) c parent ≡ whole → kid_rate defs regs [] [] c parent ≡ whole
-kid_ends defs regs steps rates place c parent whole past left =
-    sym (ap (λ (ks : List state.ChainStep). kid_rate defs regs ks (drop place rates) c parent) (none_left (chain_of steps) place (let size = length-chain steps in omega arith))) ∙ left
+-- and behind a step of another clock
+pub kid_passed : (defs : Description) (regs : Registers) (steps : List ChainStep) (rates : List ℕ) (count done place c parent : ℕ) (d : ChainStep) (was own : ℕ) → done < count → count ≡ length steps → place ≡ count - 1 - done
+    → length rates ≡ length steps → ((get_or steps place d).clock.0 ≡ c → ⊥) → own ≡ was
+    → was ≡ kid_rate defs regs (drop (count - done) (chain_of steps)) (drop (count - done) rates) c parent → own ≡ kid_rate defs regs (drop (count - (done + 1)) (chain_of steps)) (drop (count - (done + 1)) rates) c parent
+kid_passed defs regs steps rates count done place c parent d was own less counted at sizes other is left =
+    let from : count - done ≡ place + 1 = omega arith in
+    let to : place ≡ count - (done + 1) = omega arith in
+    is ∙ left ∙ ap (λ n. kid_rate defs regs (drop n (chain_of steps)) (drop n rates) c parent) from
+    ∙ sym (kid_here defs regs steps rates place c parent d 0 (omega arith) sizes ∙ cond-false _ _ _ (ne_eqb (get_or steps place d).clock.0 c other))
+    ∙ ap (λ n. kid_rate defs regs (drop n (chain_of steps)) (drop n rates) c parent) to
 
 -- ---- moving away
 
-moves_here : (clocks : List ClockRow) (steps : List ChainStep) (place c : ℕ) (d : ChainStep) → place < length steps
-    → moves_away clocks (drop place (chain_of steps)) c
-    ≡ ((nat_eq (get_or steps place d).clock.0 c && moves clocks (step_of (get_or steps place d))) || moves_away clocks (drop (place + 1) (chain_of steps)) c)
-moves_here clocks steps place c d less = ap (λ (ks : List state.ChainStep). moves_away clocks ks c) (steps_left steps place d less)
+-- one step more from the top down
+moves_more : (clocks : List ClockRow) (steps : List ChainStep) (count done place c : ℕ) (d : ChainStep) (was away : Bool) → done < count → count ≡ length steps → place ≡ count - 1 - done
+    → away ≡ ((nat_eq (get_or steps place d).clock.0 c && moves clocks (step_of (get_or steps place d))) || was)
+    → was ≡ moves_away clocks (drop (count - done) (chain_of steps)) c → away ≡ moves_away clocks (drop (count - (done + 1)) (chain_of steps)) c
+moves_more clocks steps count done place c d was away less counted at is left =
+    let from : count - done ≡ place + 1 = omega arith in
+    let to : place ≡ count - (done + 1) = omega arith in
+    is ∙ ap (λ (t : Bool). (nat_eq (get_or steps place d).clock.0 c && moves clocks (step_of (get_or steps place d))) || t) (left ∙ ap (λ n. moves_away clocks (drop n (chain_of steps)) c) from)
+    ∙ sym (ap (λ (ks : List state.ChainStep). moves_away clocks ks c) (steps_left steps place d (omega arith)))
+    ∙ ap (λ n. moves_away clocks (drop n (chain_of steps)) c) to
 
-pub moves_found : (clocks : List ClockRow) (steps : List ChainStep) (place c : ℕ) (d : ChainStep) (whole : Bool) → place < length steps
-    → (nat_eq (get_or steps place d).clock.0 c && moves clocks (step_of (get_or steps place d))) ≡ true → moves_away clocks (drop place (chain_of steps)) c ≡ whole → true ≡ whole
-moves_found clocks steps place c d whole less is left =
-    sym (moves_here clocks steps place c d less ∙ ap (λ (t : Bool). t || moves_away clocks (drop (place + 1) (chain_of steps)) c) is) ∙ left
+-- where an upper step moves the clock
+pub moves_before : (clocks : List ClockRow) (steps : List ChainStep) (count done place c : ℕ) (d : ChainStep) (was away : Bool) → done < count → count ≡ length steps → place ≡ count - 1 - done
+    → was ≡ true → away ≡ was → was ≡ moves_away clocks (drop (count - done) (chain_of steps)) c → away ≡ moves_away clocks (drop (count - (done + 1)) (chain_of steps)) c
+moves_before clocks steps count done place c d was away less counted at moved is left =
+    moves_more clocks steps count done place c d was away less counted at
+    (is ∙ moved ∙ sym (or_right (nat_eq (get_or steps place d).clock.0 c && moves clocks (step_of (get_or steps place d))) was moved)) left
 
-pub moves_passed : (clocks : List ClockRow) (steps : List ChainStep) (place c : ℕ) (d : ChainStep) (whole : Bool) → place < length steps
-    → (nat_eq (get_or steps place d).clock.0 c && moves clocks (step_of (get_or steps place d))) ≡ false → moves_away clocks (drop place (chain_of steps)) c ≡ whole
-    → moves_away clocks (drop (place + 1) (chain_of steps)) c ≡ whole
-moves_passed clocks steps place c d whole less is left =
-    sym (moves_here clocks steps place c d less ∙ ap (λ (t : Bool). t || moves_away clocks (drop (place + 1) (chain_of steps)) c) is) ∙ left
+-- where this may be the first that does
+pub moves_here : (clocks : List ClockRow) (steps : List ChainStep) (count done place c : ℕ) (d : ChainStep) (was away : Bool) → done < count → count ≡ length steps → place ≡ count - 1 - done
+    → (get_or steps place d).clock.0 ≡ c → was ≡ false → away ≡ moves clocks (step_of (get_or steps place d))
+    → was ≡ moves_away clocks (drop (count - done) (chain_of steps)) c → away ≡ moves_away clocks (drop (count - (done + 1)) (chain_of steps)) c
+moves_here clocks steps count done place c d was away less counted at same still is left =
+    moves_more clocks steps count done place c d was away less counted at
+    (is ∙ sym (ap (λ (t : Bool). (t && moves clocks (step_of (get_or steps place d))) || was) (eq-eqb (get_or steps place d).clock.0 c same)
+    ∙ ap (λ (t : Bool). moves clocks (step_of (get_or steps place d)) || t) still ∙ no_more (moves clocks (step_of (get_or steps place d))))) left where
+      no_more : (t : Bool) → (t || false) ≡ t
+      no_more true = refl
+      no_more false = refl
 
-pub moves_ends : (clocks : List ClockRow) (steps : List ChainStep) (place c : ℕ) (whole : Bool) → length steps ≤ place → moves_away clocks (drop place (chain_of steps)) c ≡ whole → false ≡ whole
-moves_ends clocks steps place c whole past left =
-    sym (ap (λ (ks : List state.ChainStep). moves_away clocks ks c) (none_left (chain_of steps) place (let size = length-chain steps in omega arith))) ∙ left
+-- and where it is of another clock
+pub moves_past : (clocks : List ClockRow) (steps : List ChainStep) (count done place c : ℕ) (d : ChainStep) (was away : Bool) → done < count → count ≡ length steps → place ≡ count - 1 - done
+    → ((get_or steps place d).clock.0 ≡ c → ⊥) → away ≡ was → was ≡ moves_away clocks (drop (count - done) (chain_of steps)) c
+    → away ≡ moves_away clocks (drop (count - (done + 1)) (chain_of steps)) c
+moves_past clocks steps count done place c d was away less counted at other is left =
+    moves_more clocks steps count done place c d was away less counted at
+    (is ∙ sym (ap (λ (t : Bool). (t && moves clocks (step_of (get_or steps place d))) || was) (ne_eqb (get_or steps place d).clock.0 c other))) left

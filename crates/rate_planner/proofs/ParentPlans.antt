@@ -19,7 +19,7 @@ use Rattle.rate_planner.specs.Kept.{KeepsRates, wired, Always, Told}
 use Rattle.rate_planner.specs.Outcomes.{out_rates, set_rate}
 use Rattle.rate_planner.specs.Walks.{at_rate, AreWalked, Walks, walked_rates, parent_chain}
 use Rattle.rate_planner.proofs.WholeOutcome.{IsChain, rates_out}
-use Rattle.rate_planner.proofs.Planning.{walked_whole}
+use Rattle.rate_planner.proofs.PlanLaws.{walked_whole}
 use Rattle.rate_planner.proofs.ListSteps.{told_both}
 use Rattle.clk_model.proofs.StateLaws.{registered_lt}
 

@@ -25,7 +25,7 @@ use Rattle.clk_tree.specs.Plans.{ClockRate, chain_of, rates_of}
 use Rattle.clk_tree.specs.TreeState.{TreeState, IsTree}
 use Rattle.clk_tree.proofs.Rows.{order-few}
 use Rattle.rate_planner.specs.Chains.{step_of}
-use Rattle.rate_planner.specs.Walks.{at_rate, AreThere, AreWalked, Walks, kid_rate, stays}
+use Rattle.rate_planner.specs.Walks.{at_rate, AreWalked, Walks, kid_rate, stays}
 use Rattle.rate_planner.proofs.ListSteps.{told_both, told_always, steps_left}
 use Rattle.clk_model.proofs.PllLaws.{at_place}
 
@@ -50,21 +50,10 @@ walks_on told defs t ks rates c r old mid new xs ys zs both first second =
     ∙ ap (λ (b : List ClockRate). old ++ b) (sym (map-append (at_rate rated) xs ys) ∙ ap (map (at_rate rated)) (sym both))) first second
 
 -- the clock itself is added
-pub walks_own : (told : Option Registers) (defs : Description) (t : TreeState) (ks : List state.ChainStep) (rates : List ℕ) (c : ClockId) (r : ℕ) (old new : List WalkRate)
-    → new ≡ old ++ (let w : WalkRate = record { clock = c; rate = r } in w) ∷ [] → Walks told defs t ks rates c.0 r (rates_of old) (rates_of new) (c.0 ∷ [])
+pub walks_own : (told : Option Registers) (defs : Description) (t : TreeState) (ks : List state.ChainStep) (rates : List ℕ) (c : ClockId) (r : ℕ) (old new : List ClockRate)
+    → new ≡ old ++ rates_of ((let w : WalkRate = record { clock = c; rate = r } in w) ∷ []) → Walks told defs t ks rates c.0 r old new (c.0 ∷ [])
 walks_own told defs t ks rates c r old new pushed =
-    told_always told _ (λ regs rated are is.
-    ap rates_of pushed
-    ∙ map-append (λ (w : WalkRate). let q : ClockRate = record { clock = w.clock.0; rate = w.rate } in q) old ((let w : WalkRate = record { clock = c; rate = r } in w) ∷ [])
-    ∙ ap (λ (n : ℕ). rates_of old ++ (let q : ClockRate = record { clock = c.0; rate = n } in q) ∷ []) (sym is))
-
--- and is registered
-pub there_pushed : (clocks : List ClockRow) (c : ClockId) (r : ℕ) (old new : List WalkRate) → new ≡ old ++ (let w : WalkRate = record { clock = c; rate = r } in w) ∷ [] → registered clocks c.0 ≡ true
-    → AreThere clocks (rates_of old) → AreThere clocks (rates_of new)
-there_pushed clocks c r old new pushed there each = subst (λ (ws : List WalkRate). AreThere clocks (rates_of ws)) (sym pushed) (more old each) where
-  more : (ws : List WalkRate) → AreThere clocks (rates_of ws) → AreThere clocks (rates_of (ws ++ (let w : WalkRate = record { clock = c; rate = r } in w) ∷ []))
-  more [] each' = (there, tt)
-  more (w ∷ ws) each' = (each'.0, more ws each'.1)
+    told_always told _ (λ regs rated are is. pushed ∙ ap (λ (n : ℕ). old ++ (let q : ClockRate = record { clock = c.0; rate = n } in q) ∷ []) (sym is))
 
 -- a clock, its children that stay, and the clocks that move to it
 pub walks_all : (told : Option Registers) (defs : Description) (t : TreeState) (ks : List state.ChainStep) (rates : List ℕ) (levels c r : ℕ) (old own stay move : List ClockRate) → 0 < levels
@@ -123,12 +112,6 @@ stays_walks told defs t ks rates levels c r d own old new still child rated_ wal
     (is_in-append d (filter (stays t.clocks ks) (children t.order t.clocks c)) (movers_to t.clocks ks c)
     ∙ or_left (is_in d (filter (stays t.clocks ks) (children t.order t.clocks c))) (is_in d (movers_to t.clocks ks c)) (filter_keeps (stays t.clocks ks) d (children t.order t.clocks c) on_ child))
     (ap (λ (b : Bool). flat_map (below_within (kids_after t.order t.clocks ks) levels) (cond b (d ∷ []) [])) on_) rated_ walks
-
-pub stays_none : (told : Option Registers) (defs : Description) (t : TreeState) (ks : List state.ChainStep) (rates : List ℕ) (levels c r d : ℕ) (old : List ClockRate)
-    → moves_away t.clocks ks d ≡ true → Walks told defs t ks rates c r old old (flat_map (below_within (kids_after t.order t.clocks ks) levels) (filter (stays t.clocks ks) (d ∷ [])))
-stays_none told defs t ks rates levels c r d old away =
-    let off : stays t.clocks ks d ≡ false = ap not away in
-    walks_none told defs t ks rates c r old _ (ap (λ (b : Bool). flat_map (below_within (kids_after t.order t.clocks ks) levels) (cond b (d ∷ []) [])) off)
 
 -- what holds of each holds of the first that is left
 all_left : (P : state.ChainStep → Type 0) (ks : List state.ChainStep) (place : ℕ) (k : state.ChainStep) (rest : List state.ChainStep) → drop place ks ≡ k ∷ rest → AllByRecursion P ks → P k
@@ -204,9 +187,6 @@ stays_next f test cs k d at =
     ∙ ap (flat_map f) (filter-append test (take k cs) (d ∷ []))
     ∙ flat_map-append f (filter test (take k cs)) (filter test (d ∷ []))
 
-pub stays_past : (f : ℕ → List ℕ) (test : ℕ → Bool) (cs : List ℕ) (k : ℕ) → slice_get cs k ≡ None → flat_map f (filter test (take k cs)) ≡ flat_map f (filter test cs)
-stays_past f test cs k at = ap (λ (xs : List ℕ). flat_map f (filter test xs)) (take_past cs k at)
-
 pub stays_whole : (f : ℕ → List ℕ) (test : ℕ → Bool) (cs : List ℕ) (k : ℕ) → length cs ≤ k → flat_map f (filter test (take k cs)) ≡ flat_map f (filter test cs)
 stays_whole f test cs k few = ap (λ (xs : List ℕ). flat_map f (filter test xs)) (take_all cs k few)
 
@@ -218,9 +198,6 @@ movers_next f clocks ks k c =
     ∙ ap (λ (ls : List state.ChainStep). flat_map f (map (λ (l : state.ChainStep). l.clock) ls)) (filter-append (λ (l : state.ChainStep). is_at c l.parent && moves clocks l) (take k ks) (take 1 (drop k ks)))
     ∙ ap (flat_map f) (map-append (λ (l : state.ChainStep). l.clock) (filter (λ l. is_at c l.parent && moves clocks l) (take k ks)) (filter (λ l. is_at c l.parent && moves clocks l) (take 1 (drop k ks))))
     ∙ flat_map-append f (movers_to clocks (take k ks) c) (movers_to clocks (take 1 (drop k ks)) c)
-
-pub movers_whole : (f : ℕ → List ℕ) (clocks : List ClockRow) (ks : List state.ChainStep) (k c : ℕ) → length ks ≤ k → flat_map f (movers_to clocks (take k ks) c) ≡ flat_map f (movers_to clocks ks c)
-movers_whole f clocks ks k c few = ap (λ (ls : List state.ChainStep). flat_map f (movers_to clocks ls c)) (take_all ks k few)
 
 -- ---- children
 
@@ -254,14 +231,13 @@ last_step (s ∷ l ∷ steps) d some =
     ap (λ n. (get_or (s ∷ l ∷ steps) n d).clock.0) less ∙ last_step (l ∷ steps) d (omega arith)
 
 -- a walk from the last clock of a chain
-pub walks_top : (told : Option Registers) (defs : Description) (t : TreeState) (steps : List ChainStep) (rates : List ℕ) (levels r : ℕ) (d : ChainStep) (old new : List WalkRate) → 0 < length steps → old ≡ [] → levels ≡ depth
+pub walks_top : (told : Option Registers) (defs : Description) (t : TreeState) (steps : List ChainStep) (rates : List ℕ) (levels r : ℕ) (d : ChainStep) (old new : List ClockRate) → 0 < length steps → old ≡ [] → levels ≡ depth
     → r ≡ slice_index rates (length rates - 1)
-    → Walks told defs t (chain_of steps) rates (get_or steps (length steps - 1) d).clock.0 r (rates_of old) (rates_of new)
-    (below_within (kids_after t.order t.clocks (chain_of steps)) levels (get_or steps (length steps - 1) d).clock.0)
-    → Walks told defs t (chain_of steps) rates (top_of (chain_of steps)) (slice_index rates (length rates - 1)) [] (rates_of new)
+    → Walks told defs t (chain_of steps) rates (get_or steps (length steps - 1) d).clock.0 r old new (below_within (kids_after t.order t.clocks (chain_of steps)) levels (get_or steps (length steps - 1) d).clock.0)
+    → Walks told defs t (chain_of steps) rates (top_of (chain_of steps)) (slice_index rates (length rates - 1)) [] new
     (below_within (kids_after t.order t.clocks (chain_of steps)) depth (top_of (chain_of steps)))
 walks_top told defs t steps rates levels r d old new some none all is walks =
-    subst (λ (c : ℕ). Walks told defs t (chain_of steps) rates c (slice_index rates (length rates - 1)) [] (rates_of new) (below_within (kids_after t.order t.clocks (chain_of steps)) depth c)) (last_step steps d some)
-    (subst (λ (q : ℕ). Walks told defs t (chain_of steps) rates (get_or steps (length steps - 1) d).clock.0 q [] (rates_of new) (below_within (kids_after t.order t.clocks (chain_of steps)) depth (get_or steps (length steps - 1) d).clock.0)) is
-    (subst (λ (n : ℕ). Walks told defs t (chain_of steps) rates (get_or steps (length steps - 1) d).clock.0 r [] (rates_of new) (below_within (kids_after t.order t.clocks (chain_of steps)) n (get_or steps (length steps - 1) d).clock.0)) all
-    (subst (λ (os : List WalkRate). Walks told defs t (chain_of steps) rates (get_or steps (length steps - 1) d).clock.0 r (rates_of os) (rates_of new) (below_within (kids_after t.order t.clocks (chain_of steps)) levels (get_or steps (length steps - 1) d).clock.0)) none walks)))
+    subst (λ (c : ℕ). Walks told defs t (chain_of steps) rates c (slice_index rates (length rates - 1)) [] new (below_within (kids_after t.order t.clocks (chain_of steps)) depth c)) (last_step steps d some)
+    (subst (λ (q : ℕ). Walks told defs t (chain_of steps) rates (get_or steps (length steps - 1) d).clock.0 q [] new (below_within (kids_after t.order t.clocks (chain_of steps)) depth (get_or steps (length steps - 1) d).clock.0)) is
+    (subst (λ (n : ℕ). Walks told defs t (chain_of steps) rates (get_or steps (length steps - 1) d).clock.0 r [] new (below_within (kids_after t.order t.clocks (chain_of steps)) n (get_or steps (length steps - 1) d).clock.0)) all
+    (subst (λ (os : List ClockRate). Walks told defs t (chain_of steps) rates (get_or steps (length steps - 1) d).clock.0 r os new (below_within (kids_after t.order t.clocks (chain_of steps)) levels (get_or steps (length steps - 1) d).clock.0)) none walks)))

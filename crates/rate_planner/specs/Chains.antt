@@ -1,5 +1,6 @@
 -- The steps of a chain in code, and how a chain goes on.
 use Rattle.std.specs.Prelude.{◌≡◌, ℕ, true, false, ◌||◌, List, [], ◌∷◌, Option, Some, None, IfSome, option_map, option_and_then}
+use Rattle.std.specs.List.{AllByRecursion}
 use Rattle.clk_base.specs.Description.{kind_of}
 use Rattle.clk_model.specs.declared.row.ClockRow.{ClockRow}
 use Rattle.clk_model.specs.Kinds.{can_round}
@@ -39,3 +40,12 @@ abbrev pub NextIsThere : List ClockRow → Next → Type 0
 NextIsThere clocks NoPlan = Unit {0}
 NextIsThere clocks (Last step) = IsThere clocks step
 NextIsThere clocks (More step parent request) = IsThere clocks step × (registered clocks parent.0 ≡ true)
+
+-- the clock of a step of the definitions is registered, and so is its planned parent
+pub record StepIsThere (clocks : List ClockRow) (k : state.ChainStep) : Type 0 where
+  pub clock : registered clocks k.clock ≡ true
+  pub parent : IfSome k.parent (λ p. registered clocks p ≡ true)
+
+-- the clocks of these steps are registered, and so are their planned parents
+abbrev pub AllThere : List ClockRow → List state.ChainStep → Type 0
+AllThere clocks ks = AllByRecursion (StepIsThere clocks) ks

@@ -1,13 +1,11 @@
 //! The chain of a request.
 
-ghost use Rattle.std.specs.Prelude.{◌≡◌, ◌<◌, true, length, IfOk, IfSome, option_map};
-ghost use Rattle.std.specs.List.{All};
+ghost use Rattle.std.specs.Prelude.{◌≡◌, ◌<◌, true, Some, None, length, IfOk, OnOk, if◌then◌else◌, option_map};
 ghost use Rattle.clk_base.specs.Levels.{depth};
 ghost use Rattle.clk_model.specs.State.{registered};
 ghost use Rattle.clk_model.specs.Chain.{chain_within};
 ghost use Rattle.clk_model.specs.Round.{round};
-ghost use Rattle.clk_tree.specs.Plans.{chain_of};
-ghost use Rattle.rate_planner.specs.Chains.{IsThere};
+ghost use Rattle.rate_planner.specs.Chains.{AllThere};
 ghost use Rattle.rate_planner.specs.Kept.{Always};
 ghost use Rattle.rate_planner.specs.Rounded.{rounded_of, NamesRegistered};
 

@@ -53,5 +53,6 @@ pub fn plan_parent<B: Bank>(
     planning.out.push(rate)?;
     let steps = planning.plan.chain.as_slice();
     let rates = planning.out.as_slice();
-    walk_rates(&mut planning.plan.rates, desc, tree, bank, steps, rates)
+    walk_rates(&mut planning.plan.rates, desc, tree, bank, steps, rates)?;
+    Ok(())
 }

@@ -1,14 +1,12 @@
 //! Planning.
 
-ghost use Rattle.std.specs.Prelude.{◌≡◌, ℕ, ◌<◌, ◌≤◌, true, false, Some, length, option_map, IfOk, IfSome};
-ghost use Rattle.std.specs.List.{All};
+ghost use Rattle.std.specs.Prelude.{◌≡◌, ℕ, ◌<◌, ◌≤◌, true, false, Some, None, length, option_map, if◌then◌else◌, IfOk, OnOk};
 ghost use Rattle.clk_base.specs.Levels.{depth};
 ghost use Rattle.clk_model.specs.Chain as chain;
 ghost use Rattle.clk_model.specs.Chain.{chain_within};
 ghost use Rattle.clk_model.specs.Round.{round};
 ghost use Rattle.clk_model.specs.State.{registered};
-ghost use Rattle.clk_tree.specs.Plans.{chain_of, rates_of};
-ghost use Rattle.rate_planner.specs.Chains.{IsThere};
+ghost use Rattle.rate_planner.specs.Chains.{AllThere};
 ghost use Rattle.rate_planner.specs.Kept.{Told};
 ghost use Rattle.rate_planner.specs.Rounded.{rounded_of, NamesRegistered};
 ghost use Rattle.rate_planner.specs.Walks.{AreThere, walked_rates};
@@ -139,7 +137,16 @@ pub fn plan<R: Wait + Sync, B: Bank, V: View, Q: Pause>(
     ensures set_parent { OnOk result (planning.new.plan.set_parent ≡ false) }
     ensures there { IfOk result (λ found. found ≡ true → AreThere tree.now.clocks planning.new.plan.rates) }
 {
-    plan_resting(planning, desc, tree, bank, view, &Pausing { rt, pause }, c, x)
+    plan_resting(
+        planning,
+        desc,
+        tree,
+        bank,
+        view,
+        &Pausing { rt, pause },
+        c,
+        x,
+    )
 }
 
 /// The same without a pause.

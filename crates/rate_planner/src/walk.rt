@@ -1,15 +1,14 @@
 //! The walk of a plan, with the rates that come out.
 
-ghost use Rattle.std.specs.Prelude.{◌≡◌, ◌&&◌, ◌-◌, ◌<◌, ◌≤◌, true, [], ◌∷◌, drop, filter, flat_map, is_some, length, slice_index, take, IfSome, OnOk};
+ghost use Rattle.std.specs.Prelude.{◌≡◌, ◌&&◌, ◌-◌, ◌<◌, ◌≤◌, true, [], ◌∷◌, drop, filter, flat_map, length, slice_index, take, IfSome, OnOk};
 ghost use Rattle.std.specs.List.{All};
 ghost use Rattle.clk_base.specs.Levels.{depth};
 ghost use Rattle.clk_model.specs.Lists.{is_in, is_at};
 ghost use Rattle.clk_model.specs.State.{registered};
 ghost use Rattle.clk_model.specs.Tree.{children};
 ghost use Rattle.clk_model.specs.Chain as chain;
-ghost use Rattle.clk_model.specs.Walk as walk;
-ghost use Rattle.clk_model.specs.Walk.{below_within, kids_after, movers_to, top_of};
-ghost use Rattle.clk_tree.specs.Plans.{chain_of, rates_of};
+ghost use Rattle.clk_model.specs.Walk.{below_within, kids_after, movers_to, moves_away, top_of};
+ghost use Rattle.clk_tree.specs.Plans.{chain_of};
 ghost use Rattle.rate_planner.specs.Chains.{IsThere, step_of};
 ghost use Rattle.rate_planner.specs.Walks.{AreThere, Walks, kid_rate, stays};
 
@@ -30,24 +29,26 @@ struct Walker<'a, B: Bank> {
     rates: &'a [u64],
 }
 
-// The rate of a clock below a parent of this rate where it stays: of a clock of the chain the one that
-// comes out, of another that of its kind. None where the chain moves it.
-fn staying_rate<B: Bank>(walker: &Walker<B>, clock: ClockId, parent: u64) -> Option<u64>
+// The rate of a clock below a parent of this rate, and whether the chain moves the clock to another
+// parent. A clock of the chain has the rate that comes out, another that of its kind.
+fn kid_rate<B: Bank>(walker: &Walker<B>, clock: ClockId, parent: u64) -> (u64, bool)
     requires bank { walker.now.desc.now.words ≤ B.size walker.now.bank.now }
     requires sizes { length walker.now.rates.now ≡ length walker.now.steps.now }
-    ensures stays { is_some result ≡ stays walker.now.tree.now.clocks (chain_of walker.now.steps.now) clock.0 }
-    ensures rate { IfSome result (λ rate. IfSome (B.contents walker.now.bank.now) (λ regs. rate ≡ kid_rate walker.now.desc.now.defs regs (chain_of walker.now.steps.now) walker.now.rates.now clock.0 parent)) }
+    ensures rate { IfSome (B.contents walker.now.bank.now) (λ regs. result.0 ≡ kid_rate walker.now.desc.now.defs regs (chain_of walker.now.steps.now) walker.now.rates.now clock.0 parent) }
+    ensures moves { result.1 ≡ moves_away walker.now.tree.now.clocks (chain_of walker.now.steps.now) clock.0 }
 {
-    for place in 0..walker.steps.len() {
+    let count = walker.steps.len();
+    let mut own = rate_over(kind_of(walker.desc, clock), walker.bank, parent);
+    let mut away = false;
+    for done in 0..count {
+        let place = count - 1 - done;
         let step = walker.steps[place];
         if step.clock.0 == clock.0 {
-            if moves(walker.tree, step) {
-                return None;
-            }
-            return Some(walker.rates[place]);
+            own = walker.rates[place];
+            away = away || moves(walker.tree, step);
         }
     }
-    Some(rate_over(kind_of(walker.desc, clock), walker.bank, parent))
+    (own, away)
 }
 
 // Whether a step is of a clock that moves to this one.
@@ -131,10 +132,11 @@ fn stay_one<B: Bank>(
     ensures walked { OnOk result (Walks (B.contents walker.now.bank.now) walker.now.desc.now.defs walker.now.tree.now (chain_of walker.now.steps.now) walker.now.rates.now clock.0 rate into.old into.new (flat_map (below_within (kids_after walker.now.tree.now.order walker.now.tree.now.clocks (chain_of walker.now.steps.now)) levels) (filter (stays walker.now.tree.now.clocks (chain_of walker.now.steps.now)) (child.0 ∷ [])))) }
     ensures there { OnOk result (AreThere walker.now.tree.now.clocks into.old → AreThere walker.now.tree.now.clocks into.new) }
 {
-    match staying_rate(walker, child, rate) {
-        Some(own) => walk_below(levels, walker, child, own, into),
-        None => Ok(()),
+    let (own, away) = kid_rate(walker, child, rate);
+    if away {
+        return Ok(());
     }
+    walk_below(levels, walker, child, own, into)
 }
 
 // Adds the clocks that move to a clock of this rate, each with all that will be below it.
@@ -184,7 +186,8 @@ fn move_one<B: Bank>(
     if !moves_to(walker.tree, step, clock) {
         return Ok(());
     }
-    walk_below(levels, walker, step.clock, walker.rates[place], into)
+    let (own, _) = kid_rate(walker, step.clock, rate);
+    walk_below(levels, walker, step.clock, own, into)
 }
 
 /// The clocks of a plan's walk in its order with the rates that come out, where these come out for the

@@ -1,7 +1,7 @@
 -- The rate of one clock more comes out.
 use Rattle.std.proofs.Common.{◌+◌, ◌-◌, refl, ◌∙◌, length}
 use Rattle.std.proofs.lemmas.List.{length-set}
-use Rattle.rate_planner.proofs.Planning.{outcome_step, first_same}
+use Rattle.rate_planner.proofs.PlanLaws.{outcome_step, first_same}
 use Rattle.rate_planner.proofs.outcome.outcome_rates.Goals as goal
 
 pub loop-done-preserved : goal.loop-done-preserved

@@ -5,7 +5,7 @@ use Rattle.clk_model.specs.Lists.{is_in}
 use Rattle.clk_model.specs.State.{registered}
 use Rattle.clk_model.specs.Tree.{children}
 use Rattle.clk_model.specs.Walk.{below_within, kids_after, movers_to}
-use Rattle.clk_tree.specs.Plans.{chain_of, rates_of}
+use Rattle.clk_tree.specs.Plans.{chain_of}
 use Rattle.rate_planner.specs.Walks.{AreThere, Walks, stays}
 use Rattle.rate_planner.proofs.walk.+walking.Given as goal
 
@@ -26,16 +26,16 @@ decreases-move_one g l = 3 * l.levels + 1
 
 abbrev pub invariant-stay_below-loop-step : goal.invariant-stay_below-loop-step
 invariant-stay_below-loop-step g l = record {
-  at : option_map (λ c. c.0) l.at ≡ slice_get (children l.tree.order l.tree.clocks l.clock.0) l._step;
-  next : IfSome l.at (λ d. (is_in d.0 (children l.tree.order l.tree.clocks l.clock.0) ≡ true) × (registered l.tree.clocks d.0 ≡ true));
-  walked : Walks (g.B.Bank.contents l.bank) l.desc.defs l.tree (chain_of l.steps) l.rates l.clock.0 l.rate (rates_of l.fn.into.items) (rates_of l.into.items)
-      (flat_map (below_within (kids_after l.tree.order l.tree.clocks (chain_of l.steps)) l.levels) (filter (stays l.tree.clocks (chain_of l.steps)) (take l._step (children l.tree.order l.tree.clocks l.clock.0))));
-  there : AreThere l.tree.clocks (rates_of l.fn.into.items) → AreThere l.tree.clocks (rates_of l.into.items);
+  at : option_map (λ c. c.0) l.at ≡ slice_get (children l.walker.tree.now.order l.walker.tree.now.clocks l.clock.0) l._step;
+  next : IfSome l.at (λ d. (is_in d.0 (children l.walker.tree.now.order l.walker.tree.now.clocks l.clock.0) ≡ true) × (registered l.walker.tree.now.clocks d.0 ≡ true));
+  walked : Walks (g.B.Bank.contents l.walker.bank.now) l.walker.desc.now.defs l.walker.tree.now (chain_of l.walker.steps.now) l.walker.rates.now l.clock.0 l.rate l.fn.into l.into
+      (flat_map (below_within (kids_after l.walker.tree.now.order l.walker.tree.now.clocks (chain_of l.walker.steps.now)) l.levels) (filter (stays l.walker.tree.now.clocks (chain_of l.walker.steps.now)) (take l._step (children l.walker.tree.now.order l.walker.tree.now.clocks l.clock.0))));
+  there : AreThere l.walker.tree.now.clocks l.fn.into → AreThere l.walker.tree.now.clocks l.into;
 }
 
 abbrev pub invariant-move_below-loop-place : goal.invariant-move_below-loop-place
 invariant-move_below-loop-place g l = record {
-  walked : Walks (g.B.Bank.contents l.bank) l.desc.defs l.tree (chain_of l.steps) l.rates l.clock.0 l.rate (rates_of l.fn.into.items) (rates_of l.into.items)
-      (flat_map (below_within (kids_after l.tree.order l.tree.clocks (chain_of l.steps)) l.levels) (movers_to l.tree.clocks (take l.place (chain_of l.steps)) l.clock.0));
-  there : AreThere l.tree.clocks (rates_of l.fn.into.items) → AreThere l.tree.clocks (rates_of l.into.items);
+  walked : Walks (g.B.Bank.contents l.walker.bank.now) l.walker.desc.now.defs l.walker.tree.now (chain_of l.walker.steps.now) l.walker.rates.now l.clock.0 l.rate l.fn.into l.into
+      (flat_map (below_within (kids_after l.walker.tree.now.order l.walker.tree.now.clocks (chain_of l.walker.steps.now)) l.levels) (movers_to l.walker.tree.now.clocks (take l.place (chain_of l.walker.steps.now)) l.clock.0));
+  there : AreThere l.walker.tree.now.clocks l.fn.into → AreThere l.walker.tree.now.clocks l.into;
 }

@@ -1,10 +1,14 @@
--- The clock isn't among the steps so far.
-use Rattle.std.proofs.Common.{◌≡◌, drop}
-use Rattle.reg_bank.specs.Registers.{Registers}
+-- The rate over the upper steps, and whether one of them moves the clock.
+use Rattle.std.proofs.Common.{◌≡◌, ◌-◌, drop}
+use Rattle.std.specs.Prelude.{IfSome}
+use Rattle.clk_model.specs.Walk.{moves_away}
 use Rattle.clk_tree.specs.Plans.{chain_of}
 use Rattle.rate_planner.specs.Walks.{kid_rate}
 use Rattle.rate_planner.proofs.walk.kid_rate.Given as goal
 
-abbrev pub invariant-loop-place : goal.invariant-loop-place
-invariant-loop-place g l =
-    (regs : Registers) → kid_rate l.desc.defs regs (drop l.place (chain_of l.steps)) (drop l.place l.rates) l.clock.0 l.parent ≡ kid_rate l.desc.defs regs (chain_of l.steps) l.rates l.clock.0 l.parent
+abbrev pub invariant-loop-done : goal.invariant-loop-done
+invariant-loop-done g l = record {
+  own : IfSome (g.B.Bank.contents l.walker.bank.now) (λ regs.
+      l.own ≡ kid_rate l.walker.desc.now.defs regs (drop (l.count - l.done) (chain_of l.walker.steps.now)) (drop (l.count - l.done) l.walker.rates.now) l.clock.0 l.parent);
+  away : l.away ≡ moves_away l.walker.tree.now.clocks (drop (l.count - l.done) (chain_of l.walker.steps.now)) l.clock.0;
+}

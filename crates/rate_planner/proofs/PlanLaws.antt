@@ -10,6 +10,7 @@ use Rattle.clk_base.specs.Levels.{depth}
 use Rattle.clk_base.specs.Valid.{IsValid}
 use Rattle.clk_base.proofs.Valid.{lines_end}
 use Rattle.reg_bank.specs.Registers.{Registers}
+use Rattle.clk_model.specs.declared.row.ClockRow.{ClockRow}
 use Rattle.clk_model.specs.Lists.{is_in}
 use Rattle.clk_model.specs.State as state
 use Rattle.clk_model.specs.State.{registered, link_in}
@@ -24,12 +25,13 @@ use Rattle.clk_model.proofs.WalkLaws.{kids_are, links_after}
 use Rattle.clk_tree.specs.declared.chain.ChainStep.{ChainStep}
 use Rattle.clk_tree.specs.Plans.{ClockRate, chain_of}
 use Rattle.clk_tree.specs.TreeState.{TreeState, IsTree}
-use Rattle.rate_planner.specs.Chains.{step_of, IsThere}
+use Rattle.rate_planner.specs.Chains.{step_of, IsThere, AllThere}
 use Rattle.rate_planner.specs.Kept.{KeepsRates, wired, Always, Told}
 use Rattle.rate_planner.specs.Outcomes.{out_rate, out_rates, first_or, rates_within}
 use Rattle.rate_planner.specs.Walks.{at_rate, AreWalked, Walks, kid_rate, walked_rates}
 use Rattle.clk_model.proofs.PlanLaws.{Climbs, climbs_within}
 use Rattle.rate_planner.proofs.WholeOutcome.{IsChain, chain_differs, chain_planned, outside_chain, rates_out}
+use Rattle.rate_planner.proofs.ChainSteps.{chain_there}
 use Rattle.rate_planner.proofs.ListSteps.{told_both, steps_left, length-chain}
 use Rattle.clk_model.proofs.GateRateLaws.{scales_is_field}
 use Rattle.clk_model.proofs.StateLaws.{registered_lt}
@@ -177,12 +179,11 @@ walked_whole words defs regs t ks rates new is some out walks =
 
 -- ---- plans where the bank tells its words
 
--- a chain that was climbed is planned exactly where its rates keep the boundaries
-pub bounded_chain : (told : Option Registers) (words size : ℕ) (defs : Description) (t : TreeState) (view : View) (steps : List ChainStep) (rates : List ℕ) (keeps : Bool) → IsValid words defs → words ≤ size
+bounded_steps : (told : Option Registers) (words size : ℕ) (defs : Description) (t : TreeState) (view : View) (steps : List ChainStep) (rates : List ℕ) (keeps : Bool) → IsValid words defs → words ≤ size
     → IfSome told (λ regs. length regs ≡ size) → IsTree t.defs t.clocks t.order t.rates → defs ≡ t.defs → All (IsThere t.clocks) steps → keeps ≡ rates_within view (chain_of steps) rates
     → Told told defs t (λ w. rates ≡ out_rates w (chain_of steps))
     → Told told defs t (λ w. (c x : ℕ) → Some (chain_of steps) ≡ chain_within depth w view c x → cond keeps (Some (chain_of steps)) None ≡ chain w view c x)
-bounded_chain told words size defs t view steps rates keeps valid fits sized tree made there is out =
+bounded_steps told words size defs t view steps rates keeps valid fits sized tree made there is out =
     told_both told (λ regs. length regs ≡ size) (λ regs. KeepsRates defs regs t → rates ≡ out_rates (wired defs regs t) (chain_of steps))
     (λ regs. KeepsRates defs regs t → (c x : ℕ) → Some (chain_of steps) ≡ chain_within depth (wired defs regs t) view c x → cond keeps (Some (chain_of steps)) None ≡ chain (wired defs regs t) view c x)
     (λ regs sized_ out_ kept c x climbed.
@@ -190,13 +191,21 @@ bounded_chain told words size defs t view steps rates keeps valid fits sized tre
     chain_bounded (wired defs regs t) view c x (chain_of steps) keeps climbed
     (sym (boundaries_are words t.order (wired defs regs t) view (chain_of steps) ground) ∙ ap (rates_within view (chain_of steps)) (sym (out_ kept)) ∙ sym is)) sized out
 
--- and the rates of its walk are those of the outcome
-pub walked_chain : (told : Option Registers) (words size : ℕ) (defs : Description) (t : TreeState) (view : View) (steps : List ChainStep) (rates : List ℕ) (new : List ClockRate) → IsValid words defs → words ≤ size
+-- a chain that was climbed is planned exactly where its rates keep the boundaries
+pub bounded_chain : (told : Option Registers) (words size : ℕ) (defs : Description) (t : TreeState) (view : View) (steps : List ChainStep) (ks : List state.ChainStep) (rates : List ℕ) (keeps : Bool) → IsValid words defs → words ≤ size
+    → IfSome told (λ regs. length regs ≡ size) → IsTree t.defs t.clocks t.order t.rates → defs ≡ t.defs → chain_of steps ≡ ks → AllThere t.clocks ks → keeps ≡ rates_within view (chain_of steps) rates
+    → Told told defs t (λ w. rates ≡ out_rates w (chain_of steps))
+    → Told told defs t (λ w. (c x : ℕ) → Some ks ≡ chain_within depth w view c x → cond keeps (Some ks) None ≡ chain w view c x)
+bounded_chain told words size defs t view steps ks rates keeps valid fits sized tree made same there is out =
+    subst (λ (ls : List state.ChainStep). Told told defs t (λ w. (c x : ℕ) → Some ls ≡ chain_within depth w view c x → cond keeps (Some ls) None ≡ chain w view c x)) same
+    (bounded_steps told words size defs t view steps rates keeps valid fits sized tree made (chain_there t.clocks steps ks same there) is out)
+
+walked_steps : (told : Option Registers) (words size : ℕ) (defs : Description) (t : TreeState) (view : View) (steps : List ChainStep) (rates : List ℕ) (new : List ClockRate) → IsValid words defs → words ≤ size
     → IfSome told (λ regs. length regs ≡ size) → IsTree t.defs t.clocks t.order t.rates → defs ≡ t.defs → All (IsThere t.clocks) steps → 0 < length steps
     → Told told defs t (λ w. rates ≡ out_rates w (chain_of steps))
     → Walks told defs t (chain_of steps) rates (top_of (chain_of steps)) (slice_index rates (length rates - 1)) [] new (below_within (kids_after t.order t.clocks (chain_of steps)) depth (top_of (chain_of steps)))
     → Told told defs t (λ w. (c x : ℕ) → Some (chain_of steps) ≡ chain_within depth w view c x → new ≡ walked_rates t.order w (chain_of steps))
-walked_chain told words size defs t view steps rates new valid fits sized tree made there some out walks =
+walked_steps told words size defs t view steps rates new valid fits sized tree made there some out walks =
     told_both told (λ regs. length regs ≡ size) (λ regs. (KeepsRates defs regs t → rates ≡ out_rates (wired defs regs t) (chain_of steps))
     × ((rated : ℕ → ℕ) → AreWalked defs regs t (chain_of steps) rates rated → rated (top_of (chain_of steps)) ≡ slice_index rates (length rates - 1)
     → new ≡ map (at_rate rated) (below_within (kids_after t.order t.clocks (chain_of steps)) depth (top_of (chain_of steps)))))
@@ -205,3 +214,23 @@ walked_chain told words size defs t view steps rates new valid fits sized tree m
     let ground = chain_given words defs regs t view c x steps valid (omega arith) (subst (λ (ds : Description). IsTree ds t.clocks t.order t.rates) (sym made) tree) there climbed in
     walked_whole words defs regs t (chain_of steps) rates new ground (let size_ = length-chain steps in omega arith) (both.0 kept) both.1)
     sized (told_both told _ _ _ (λ regs o w. (o, w)) out walks)
+
+-- and the rates of its walk are those of the outcome
+pub walked_chain : (told : Option Registers) (words size : ℕ) (defs : Description) (t : TreeState) (view : View) (steps : List ChainStep) (ks : List state.ChainStep) (rates : List ℕ) (new : List ClockRate) → IsValid words defs
+    → words ≤ size → IfSome told (λ regs. length regs ≡ size) → IsTree t.defs t.clocks t.order t.rates → defs ≡ t.defs → chain_of steps ≡ ks → AllThere t.clocks ks → 0 < length ks
+    → Told told defs t (λ w. rates ≡ out_rates w (chain_of steps))
+    → Walks told defs t (chain_of steps) rates (top_of (chain_of steps)) (slice_index rates (length rates - 1)) [] new (below_within (kids_after t.order t.clocks (chain_of steps)) depth (top_of (chain_of steps)))
+    → Told told defs t (λ w. (c x : ℕ) → Some ks ≡ chain_within depth w view c x → new ≡ walked_rates t.order w ks)
+walked_chain told words size defs t view steps ks rates new valid fits sized tree made same there some out walks =
+    subst (λ (ls : List state.ChainStep). Told told defs t (λ w. (c x : ℕ) → Some ls ≡ chain_within depth w view c x → new ≡ walked_rates t.order w ls)) same
+    (walked_steps told words size defs t view steps rates new valid fits sized tree made (chain_there t.clocks steps ks same there)
+    (let size_ = length-chain steps in let sizes = ap length same in omega arith) out walks)
+
+-- the clocks of such a chain are those of a view
+pub steps_seen : (size : ℕ) (defs : Description) (clocks : List ClockRow) (order rates : List ℕ) (steps : List ChainStep) (ks : List state.ChainStep) → IsTree defs clocks order rates → size ≡ length defs
+    → chain_of steps ≡ ks → AllThere clocks ks → All (λ s. s.clock.0 < size) steps
+steps_seen size defs clocks order rates steps ks tree seen same there i d less =
+    let here : registered clocks (get_or steps i d).clock.0 ≡ true = (chain_there clocks steps ks same there i d less).clock in
+    let below : (get_or steps i d).clock.0 < length clocks = registered_lt clocks (get_or steps i d).clock.0 here in
+    let rows = tree.rows in
+    omega arith
