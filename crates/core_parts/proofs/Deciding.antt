@@ -1,5 +1,5 @@
 -- What a request for a rate comes to is what was decided, in each state that planning was given.
-use Rattle.std.proofs.Common.{◌≡◌, ℕ, ◌+◌, ◌<◌, ◌≤◌, ◌&&◌, Bool, true, false, cond, List, [], Option, Some, None, refl, sym, ap, subst, ◌∙◌, arith, map, nat_lt}
+use Rattle.std.proofs.Common.{◌≡◌, ℕ, ◌+◌, ◌<◌, ◌≤◌, ◌&&◌, Bool, true, false, cond, List, [], Option, Some, None, refl, sym, ap, subst, ◌∙◌, arith, nat_lt}
 use Rattle.std.specs.Prelude.{IfSome, sum_by}
 use Rattle.std.specs.Option.{option_map_or}
 use Rattle.std.specs.List.{list_any}
@@ -31,7 +31,7 @@ use Rattle.notifiers.specs.declared.notifier.Notifier.{Notifier}
 use Rattle.rate_planner.specs.Kept.{wired}
 use Rattle.rate_planner.specs.Walks.{walked_rates}
 use Rattle.change_walk.specs.Given as given
-use Rattle.change_walk.specs.Given.{Script, HasFewNotifiers, IsTold, OfPlan}
+use Rattle.change_walk.specs.Given.{HasFewNotifiers, IsTold, OfPlan}
 use Rattle.change_walk.proofs.Leading.{request_fits}
 use Rattle.core_parts.specs.Decisions as decided
 use Rattle.core_parts.specs.Decisions.{Decision}

@@ -1,5 +1,5 @@
 -- What a decision about a request for a rate says: what is planned, and how the request begins.
-use Rattle.std.specs.Prelude.{◌≡◌, ℕ, ◌+◌, ◌<◌, ◌≤◌, ◌-◌, ◌==◌, List, [], Bool, false, Option, Some, map, if◌then◌else◌, slice_index, slice_set}
+use Rattle.std.specs.Prelude.{◌≡◌, ℕ, ◌+◌, ◌<◌, ◌≤◌, ◌-◌, ◌==◌, List, [], Bool, false, Option, Some, if◌then◌else◌, slice_index, slice_set}
 use Rattle.clk_base.specs.Checked.{Checked}
 use Rattle.clk_base.specs.declared.call.Sleeping.{Sleeping}
 use Rattle.clk_base.specs.declared.event.Errno.TheVariants as errno
@@ -20,7 +20,7 @@ use Rattle.notifiers.specs.declared.notifier.Notifier.{Notifier}
 use Rattle.notifiers.specs.Chains.{Tells}
 use Rattle.rate_planner.specs.Walks.{AreThere, walked_rates}
 use Rattle.change_walk.specs.Given as given
-use Rattle.change_walk.specs.Given.{Script, HasFewNotifiers, changed_in, extra_of, planned_by}
+use Rattle.change_walk.specs.Given.{Script, HasFewNotifiers, extra_of, planned_by}
 use Rattle.change_walk.specs.Steps.{IsMadeOf}
 use Rattle.core_parts.specs.Decisions as decided
 use Rattle.core_parts.specs.Decisions.{Decision}

@@ -119,7 +119,16 @@ fn plan_seen<B: Bank>(
     ensures there { IfOk result (λ found. found ≡ true → AreThere tree.now.clocks draft.new.planning.plan.rates) }
 {
     let planning = &mut draft.planning;
-    plan_from(planning, desc, tree, window.bank(), view, clock, wanted, first)
+    plan_from(
+        planning,
+        desc,
+        tree,
+        window.bank(),
+        view,
+        clock,
+        wanted,
+        first,
+    )
 }
 
 /// The plan of a draft goes on with its script, where there is room for the entries of its steps behind

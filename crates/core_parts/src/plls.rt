@@ -184,15 +184,16 @@ fn lowerable_above<B: Bank>(
 }
 
 /// Whether a PLL of a clock's path is kept powered by no prepare. On the path of a prepared clock
-/// there is none, so that isn't walked.
+/// there is none, and where no line of possible parents has a PLL none on any, so that isn't walked.
 pub fn is_unprepared(desc: &ValidDesc, tree: &Tree, counts: &Counts, clock: ClockId) -> bool
+    requires made { desc.now.defs ≡ tree.now.defs }
     requires place { clock.0 < length desc.now.defs }
     requires links { LinksLie desc.now.defs tree.now.clocks }
     requires counted { length counts.now.links ≡ length desc.now.defs }
     requires same { HasLinks tree.now.clocks counts.now.links }
     ensures { result ≡ list_any (is_loose desc.now.defs counts.now) (path tree.now.clocks clock.0) }
 {
-    if counts.prepared(clock) > 0 {
+    if tree.plls() == 0 || counts.prepared(clock) > 0 {
         return false;
     }
     has_loose(depth(), desc, tree, counts, Some(clock))
@@ -253,7 +254,8 @@ pub fn next_to_raise_under(
 }
 
 /// The lowest PLL of a clock's path that is powered without a prepare. On the path of a prepared
-/// clock there is none, so that isn't walked.
+/// clock there is none, and where no line of possible parents has a PLL none on any, so that isn't
+/// walked.
 pub fn next_to_lower<B: Bank>(
     desc: &ValidDesc,
     tree: &Tree,
@@ -261,6 +263,7 @@ pub fn next_to_lower<B: Bank>(
     window: &Window<B>,
     clock: ClockId,
 ) -> Sought
+    requires made { desc.now.defs ≡ tree.now.defs }
     requires place { clock.0 < length desc.now.defs }
     requires links { LinksLie desc.now.defs tree.now.clocks }
     requires counted { length counts.now.links ≡ length desc.now.defs }
@@ -269,7 +272,7 @@ pub fn next_to_lower<B: Bank>(
     ensures found { IfSome window.now.words (λ regs. Finds result (lowerable desc.now.defs counts.now regs (path tree.now.clocks clock.0))) }
     ensures inside { IfSome result.pll (λ pll. pll.0 < length desc.now.defs) }
 {
-    if counts.prepared(clock) > 0 {
+    if tree.plls() == 0 || counts.prepared(clock) > 0 {
         return nothing();
     }
     lowerable_above(depth(), desc, tree, counts, window, Some(clock))

@@ -152,5 +152,12 @@ pub fn plan_move<B: Bank>(
     ensures set_parent { OnOk result (draft.new.planning.plan.set_parent ≡ true) }
     ensures there { OnOk result (AreThere tree.now.clocks draft.new.planning.plan.rates) }
 {
-    plan_parent(&mut draft.planning, desc, tree, window.bank(), clock, parent)
+    plan_parent(
+        &mut draft.planning,
+        desc,
+        tree,
+        window.bank(),
+        clock,
+        parent,
+    )
 }

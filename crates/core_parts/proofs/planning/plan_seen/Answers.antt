@@ -1,14 +1,13 @@
 use Rattle.std.proofs.Common.{◌≡◌, ◌∙◌, sym, ap, subst, take, List, Option, Some, None, ℕ}
 use Rattle.std.proofs.lemmas.Result.{IfOk-weaker}
-use Rattle.std.specs.Prelude.{IfSome}
+use Rattle.std.specs.Prelude.{IfSome, if◌then◌else◌}
 use Rattle.std.specs.Option.{option_map}
 use Rattle.clk_model.specs.Chain as chain
 use Rattle.clk_model.specs.Round.{Wiring, round}
-use Rattle.rate_planner.specs.Kept.{Told, wired}
+use Rattle.rate_planner.specs.Kept.{wired}
 use Rattle.rate_planner.specs.Rounded.{rounded_of}
 use Rattle.rate_planner.specs.Walks.{walked_rates}
 use Rattle.rate_planner.proofs.ListSteps.{told_both}
-use Rattle.clk_tree.specs.declared.plan.Plan.{Plan}
 use Rattle.core_parts.specs.Tied.{AreKept}
 use Rattle.core_parts.specs.Seen.{seen}
 use Rattle.core_parts.proofs.RoundedWords.{rounding_words}
@@ -20,6 +19,7 @@ returns-clause-chain g c =
     let desc = c.args.desc.now in
     let tree = c.args.tree.now in
     let view = seen c.args.view.now.handles.now.handles c.args.view.now.counts.now in
+    let plan = c.plan_from.new.planning.plan in
     let contents = g.B.Bank.contents c.bank.result.now in
     let words : option_map (take desc.words) contents ≡ c.args.window.now.words =
     ap (λ (n : ℕ). option_map (take n) contents) (sym c.requires.tied.words) ∙ c.bank.ensures.words in
@@ -27,9 +27,9 @@ returns-clause-chain g c =
     let IsFirst : Wiring → Type 0 = (λ w. option_map rounded_of c.args.first ≡ round w view c.args.clock.0 c.args.wanted) in
     IfOk-weaker c.plan_from.result _ _
     (λ found says. told_both c.args.window.now.words _ _ _ (λ regs is then_. then_ is) c.requires.rounding
-    (subst (λ (o : Option (List ℕ)). IfSome o (λ regs. IsFirst (wired desc.defs regs tree) → option_map (λ (plan : Plan). plan.chain) found ≡ chain.chain (wired desc.defs regs tree) view c.args.clock.0 c.args.wanted)) words
-    (told-take desc.words contents desc.defs tree (λ w. IsFirst w → option_map (λ (plan : Plan). plan.chain) found ≡ chain.chain w view c.args.clock.0 c.args.wanted)
-    (λ w. IsFirst w → option_map (λ (plan : Plan). plan.chain) found ≡ chain.chain w view c.args.clock.0 c.args.wanted) c.requires.tied.valid kept
+    (subst (λ (o : Option (List ℕ)). IfSome o (λ regs. IsFirst (wired desc.defs regs tree) → (if found then Some plan.chain else None) ≡ chain.chain (wired desc.defs regs tree) view c.args.clock.0 c.args.wanted)) words
+    (told-take desc.words contents desc.defs tree (λ w. IsFirst w → (if found then Some plan.chain else None) ≡ chain.chain w view c.args.clock.0 c.args.wanted)
+    (λ w. IsFirst w → (if found then Some plan.chain else None) ≡ chain.chain w view c.args.clock.0 c.args.wanted) c.requires.tied.valid kept
     (λ regs is first. is (first ∙ rounding_words desc.words desc.defs regs tree view c.args.clock.0 c.args.wanted c.requires.tied.valid)
     ∙ sym (chain-take desc.words (wired desc.defs regs tree) view c.args.clock.0 c.args.wanted c.requires.tied.valid)) says)))
     c.plan_from.ensures.chain
@@ -39,19 +39,16 @@ returns-clause-rates g c =
     let desc = c.args.desc.now in
     let tree = c.args.tree.now in
     let view = seen c.args.view.now.handles.now.handles c.args.view.now.counts.now in
+    let plan = c.plan_from.new.planning.plan in
     let contents = g.B.Bank.contents c.bank.result.now in
     let words : option_map (take desc.words) contents ≡ c.args.window.now.words =
     ap (λ (n : ℕ). option_map (take n) contents) (sym c.requires.tied.words) ∙ c.bank.ensures.words in
     let kept = subst (λ (o : Option (List ℕ)). AreKept desc.defs o tree.clocks tree.rates) (sym words) c.requires.tied.kept in
     let IsFirst : Wiring → Type 0 = (λ w. option_map rounded_of c.args.first ≡ round w view c.args.clock.0 c.args.wanted) in
-    let told : (plan : Plan) → Told contents desc.defs tree (λ w. IsFirst w → plan.rates ≡ walked_rates tree.order w plan.chain)
-    → IfSome c.args.window.now.words (λ regs. plan.rates ≡ walked_rates tree.order (wired desc.defs regs tree) plan.chain) =
-    (λ plan says. told_both c.args.window.now.words _ _ _ (λ regs is then_. then_ is) c.requires.rounding
+    IfOk-weaker c.plan_from.result _ _
+    (λ found says yes. told_both c.args.window.now.words _ _ _ (λ regs is then_. then_ is) c.requires.rounding
     (subst (λ (o : Option (List ℕ)). IfSome o (λ regs. IsFirst (wired desc.defs regs tree) → plan.rates ≡ walked_rates tree.order (wired desc.defs regs tree) plan.chain)) words
     (told-take desc.words contents desc.defs tree (λ w. IsFirst w → plan.rates ≡ walked_rates tree.order w plan.chain) (λ w. IsFirst w → plan.rates ≡ walked_rates tree.order w plan.chain) c.requires.tied.valid kept
     (λ regs is first. is (first ∙ rounding_words desc.words desc.defs regs tree view c.args.clock.0 c.args.wanted c.requires.tied.valid)
-    ∙ sym (walked-take desc.words tree.order (wired desc.defs regs tree) plan.chain c.requires.tied.valid)) says))) in
-    IfOk-weaker c.plan_from.result _ _ (λ found says. some_weaker found _ _ told says) c.plan_from.ensures.rates where
-      some_weaker : (o : Option Plan) (P Q : Plan → Type 0) → ((p : Plan) → P p → Q p) → IfSome o P → IfSome o Q
-      some_weaker None P Q turns says = tt
-      some_weaker (Some p) P Q turns says = turns p says
+    ∙ sym (walked-take desc.words tree.order (wired desc.defs regs tree) plan.chain c.requires.tied.valid)) (says yes))))
+    c.plan_from.ensures.rates

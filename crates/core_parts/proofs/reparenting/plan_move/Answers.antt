@@ -1,5 +1,5 @@
 use Rattle.std.proofs.Common.{◌≡◌, ◌∙◌, sym, ap, subst, take, List, Option, ℕ}
-use Rattle.std.proofs.lemmas.Result.{IfOk-weaker}
+use Rattle.std.proofs.lemmas.Result.{on_ok_weaker}
 use Rattle.std.specs.Prelude.{IfSome}
 use Rattle.std.specs.Option.{option_map}
 use Rattle.rate_planner.specs.Kept.{wired}
@@ -12,12 +12,13 @@ pub returns-clause-chain : goal.returns-clause-chain
 returns-clause-chain g c =
     let desc = c.args.desc.now in
     let tree = c.args.tree.now in
+    let plan = c.plan_parent.new.planning.plan in
     let contents = g.B.Bank.contents c.bank.result.now in
     let words : option_map (take desc.words) contents ≡ c.args.window.now.words =
     ap (λ (n : ℕ). option_map (take n) contents) (sym c.requires.tied.words) ∙ c.bank.ensures.words in
     let kept = subst (λ (o : Option (List ℕ)). AreKept desc.defs o tree.clocks tree.rates) (sym words) c.requires.tied.kept in
-    IfOk-weaker c.plan_parent.result _ _
-    (λ plan says. subst (λ (o : Option (List ℕ)). IfSome o (λ regs. plan.chain ≡ parent_chain (wired desc.defs regs tree) c.args.clock.0 c.args.parent.0)) words
+    on_ok_weaker c.plan_parent.result
+    (λ says. subst (λ (o : Option (List ℕ)). IfSome o (λ regs. plan.chain ≡ parent_chain (wired desc.defs regs tree) c.args.clock.0 c.args.parent.0)) words
     (told-take desc.words contents desc.defs tree (λ w. plan.chain ≡ parent_chain w c.args.clock.0 c.args.parent.0) (λ w. plan.chain ≡ parent_chain w c.args.clock.0 c.args.parent.0)
     c.requires.tied.valid kept (λ regs is. is ∙ sym (parent_chain-take desc.words (wired desc.defs regs tree) c.args.clock.0 c.args.parent.0 c.requires.tied.valid)) says))
     c.plan_parent.ensures.chain
@@ -26,12 +27,13 @@ pub returns-clause-rates : goal.returns-clause-rates
 returns-clause-rates g c =
     let desc = c.args.desc.now in
     let tree = c.args.tree.now in
+    let plan = c.plan_parent.new.planning.plan in
     let contents = g.B.Bank.contents c.bank.result.now in
     let words : option_map (take desc.words) contents ≡ c.args.window.now.words =
     ap (λ (n : ℕ). option_map (take n) contents) (sym c.requires.tied.words) ∙ c.bank.ensures.words in
     let kept = subst (λ (o : Option (List ℕ)). AreKept desc.defs o tree.clocks tree.rates) (sym words) c.requires.tied.kept in
-    IfOk-weaker c.plan_parent.result _ _
-    (λ plan says. subst (λ (o : Option (List ℕ)). IfSome o (λ regs. plan.rates ≡ walked_rates tree.order (wired desc.defs regs tree) plan.chain)) words
+    on_ok_weaker c.plan_parent.result
+    (λ says. subst (λ (o : Option (List ℕ)). IfSome o (λ regs. plan.rates ≡ walked_rates tree.order (wired desc.defs regs tree) plan.chain)) words
     (told-take desc.words contents desc.defs tree (λ w. plan.rates ≡ walked_rates tree.order w plan.chain) (λ w. plan.rates ≡ walked_rates tree.order w plan.chain)
     c.requires.tied.valid kept (λ regs is. is ∙ sym (walked-take desc.words tree.order (wired desc.defs regs tree) plan.chain c.requires.tied.valid)) says))
     c.plan_parent.ensures.rates
