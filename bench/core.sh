@@ -13,10 +13,10 @@
 # - the registration of 4,096 clocks, gates in a binary tree: one clock, and all in milliseconds.
 #
 # Each time is the best of five runs, of 10,000 pairs or, where there are more than 100 clocks, of 200. It stands
-# twice: as memory is given by default, in pages of 4 KiB, and where the allocator asks for huge pages (glibc's
-# `hugetlb`, which Linux grants where /sys/kernel/mm/transparent_hugepage/enabled isn't `never`). Each entry of a
-# journal is written to memory that wasn't touched before, so the first column has a page fault for each 51 entries;
-# the second is nearly the core's own work.
+# twice: over fresh memory, as a first core has it, and over memory that an earlier core in the same process has
+# written to, which the allocator is told to keep (glibc's `mmap_max` and `trim_threshold`). Each entry of a journal
+# is written to memory that wasn't touched before, so the first column has a page fault for each 51 entries; the
+# second is the core's own work.
 #
 # The program in bench/core is proved and built in a folder of its own, which is removed at the end. Its files end in
 # .txt, since it is no part of the gate.
@@ -73,10 +73,11 @@ if ! rt run -- holders <stdin >"$scratch/log" 2>&1; then
     exit 1
 fi
 
-# What one run prints, each line behind the word for its pages.
+# What one run prints, each line behind the word for its memory.
 run_once() {
-    ./out/core_bench "$1" <"$scratch/lines" | sed 's/^/small /'
-    GLIBC_TUNABLES=glibc.malloc.hugetlb=1 ./out/core_bench "$1" <"$scratch/lines" | sed 's/^/huge /'
+    ./out/core_bench "$1" <"$scratch/lines" | sed 's/^/fresh /'
+    GLIBC_TUNABLES=glibc.malloc.mmap_max=0:glibc.malloc.trim_threshold=4294967296 \
+        ./out/core_bench "$1" again <"$scratch/lines" | sed '1,/^again$/d; s/^/kept /'
 }
 
 # Measures by this word over the clock lines on standard input, and prints a line for each measure, with these words
@@ -88,16 +89,16 @@ measure() {
     done | awk -v over="$2" '
         $2 !~ /^[0-9]+$/ { print "core.sh: the program says: " $0; failed = 1; exit 1 }
         {
-            pages = $1
+            memory = $1
             taken = $2
             sub(/^[a-z]+ [0-9]+ /, "")
-            if (!(("small", $0) in best)) names[count++] = $0
-            if (!((pages, $0) in best) || taken < best[pages, $0]) best[pages, $0] = taken
+            if (!($0 in named)) { named[$0] = 1; names[count++] = $0 }
+            if (!((memory, $0) in best) || taken < best[memory, $0]) best[memory, $0] = taken
         }
-        END { if (!failed) for (i = 0; i < count; i++) printf "%-72s %12d %12d\n", names[i] ", " over, best["small", names[i]], best["huge", names[i]] }'
+        END { if (!failed) for (i = 0; i < count; i++) printf "%-72s %12d %12d\n", names[i] ", " over, best["fresh", names[i]], best["kept", names[i]] }'
 }
 
-printf '%-72s %12s %12s\n' 'calls, ns' '4 KiB pages' 'huge pages'
+printf '%-72s %12s %12s\n' 'calls, ns' 'fresh memory' 'kept memory'
 for count in 1 4 16 63; do
     chain "$count" | measure holders "$count gates in a row"
 done
