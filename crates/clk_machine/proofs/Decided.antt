@@ -19,8 +19,8 @@ use Rattle.counts_core.specs.Counted.{CountState, AreCounts, is_prepared}
 use Rattle.counts_core.specs.Standing.{StandsFor}
 use Rattle.counts_core.proofs.Standing.{tells_holds}
 use Rattle.rate_requests.specs.Handles.{low_in, high_in}
-use Rattle.core_parts.specs.declared.decision.Decision.{Decision}
-use Rattle.core_parts.specs.declared.decision.Decision.TheVariants as decided
+use Rattle.core_parts.specs.Decisions.{Decision}
+use Rattle.core_parts.specs.Decisions as decided
 use Rattle.core_parts.specs.Planned.{IsAnswer, IsGiven, answered, less_protected}
 use Rattle.clk_machine.specs.Deciding.{Decides}
 use Rattle.clk_machine.specs.Parts.{Parts, own_in, IsWhole}

@@ -1,5 +1,5 @@
 -- A change of parent begins as was decided, in each sound state that the parts of a core stand for.
-use Rattle.std.proofs.Common.{◌≡◌, ℕ, ◌+◌, ◌&&◌, ◌||◌, Bool, true, false, cond, List, [], ◌∷◌, Some, None, refl, sym, ap, subst, ◌∙◌, arith, map}
+use Rattle.std.proofs.Common.{◌≡◌, ℕ, ◌+◌, ◌&&◌, ◌||◌, Bool, true, false, cond, List, [], ◌∷◌, Some, None, refl, sym, ap, subst, ◌∙◌, arith}
 use Rattle.std.specs.Prelude.{IfSome, sum_by, is_some}
 use Rattle.std.specs.List.{list_any}
 use Rattle.clk_base.specs.declared.call.Micro.TheVariants as micro
@@ -34,8 +34,8 @@ use Rattle.rate_planner.specs.Walks.{parent_chain, walked_rates}
 use Rattle.change_walk.specs.Given as given
 use Rattle.change_walk.specs.Given.{Script, HasFewNotifiers, OfPlan}
 use Rattle.change_walk.proofs.Leading.{parent_fits}
-use Rattle.core_parts.specs.declared.decision.Decision.{Decision}
-use Rattle.core_parts.specs.declared.decision.Decision.TheVariants as decided
+use Rattle.core_parts.specs.Decisions.{Decision}
+use Rattle.core_parts.specs.Decisions as decided
 use Rattle.core_parts.specs.Planned.{IsPlanOf, Fits, IsGiven, less_protected}
 use Rattle.clk_machine.specs.Deciding.{Decides}
 use Rattle.clk_machine.specs.Parts.{Parts, own_in, IsWhole}
@@ -142,7 +142,6 @@ module _ (s : State) (d c p : ℕ) (h : Handle) (q : ClockId) (plan : Plan) (at 
     steps = sym (ap (λ (x : Planned). x.steps) planned_is) ∙ sym script_.steps;
     vetoed = sym (ap (λ (x : Planned). x.vetoed) planned_is) ∙ sym script_.vetoed;
     extra = sym extra_is ∙ sym script_.extra;
-    changed = script_.changed ∙ ap (λ (x : Planned). map (given.changed_in s plan.chain) x.changing) planned_is;
     weight = script_.weight ∙ parent_weighs;
     room = omega arith;
   }

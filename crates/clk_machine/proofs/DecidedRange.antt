@@ -17,8 +17,8 @@ use Rattle.clk_model.proofs.EventLaws.{pick-true, pick-false}
 use Rattle.clk_model.proofs.StateLaws.{handle_at-set_same, set-back}
 use Rattle.counts_core.specs.Standing.{StandsFor}
 use Rattle.rate_requests.specs.Handles.{HandleTable, misses_in, with_range_at}
-use Rattle.core_parts.specs.declared.decision.Decision.{Decision}
-use Rattle.core_parts.specs.declared.decision.Decision.TheVariants as decided
+use Rattle.core_parts.specs.Decisions.{Decision}
+use Rattle.core_parts.specs.Decisions as decided
 use Rattle.core_parts.specs.Planned.{IsAnswer, IsGiven, answered, less_protected}
 use Rattle.clk_machine.specs.Deciding.{Decides}
 use Rattle.clk_machine.specs.Holding.{ranged}

@@ -2,8 +2,8 @@
 use Rattle.std.proofs.Common.{ℕ, List, Option}
 use Rattle.clk_base.specs.declared.call.Sleeping.{Sleeping}
 use Rattle.clk_model.specs.declared.row.HandleRow.{HandleRow}
-use Rattle.core_parts.specs.declared.decision.Decision.{Decision}
-use Rattle.core_parts.specs.declared.decision.Decision.TheVariants as decided
+use Rattle.core_parts.specs.Decisions.{Decision}
+use Rattle.core_parts.specs.Decisions as decided
 use Rattle.clk_machine.specs.Deciding.{IsOwned}
 use Rattle.clk_machine.specs.Parts.{IsOwnCall}
 

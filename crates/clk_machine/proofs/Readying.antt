@@ -39,11 +39,9 @@ use Rattle.change_walk.specs.Steps.{steps_for, told_by}
 use Rattle.change_walk.specs.Weights.{step_weight}
 use Rattle.change_walk.proofs.Whole.{rate_at}
 use Rattle.core_parts.specs.declared.course.Notified.{Notified}
-use Rattle.core_parts.specs.declared.decision.Decision.TheVariants as decided
-use Rattle.clk_machine.specs.declared.readied.Readied.{Readied}
-use Rattle.clk_machine.specs.declared.readied.Readied.TheVariants as readied
-use Rattle.clk_machine.specs.declared.readied.Scripted.{Scripted}
-use Rattle.clk_machine.specs.Changing.{BeginsAlong, StartsChange}
+use Rattle.core_parts.specs.Decisions as decided
+use Rattle.clk_machine.specs.Readied.{Readied, Scripted}
+use Rattle.clk_machine.specs.Readied as readied
 use Rattle.core_parts.specs.Course.{notifiers_at, tells_all}
 use Rattle.core_parts.specs.Planned.{IsPlanned, IsPlanOf}
 use Rattle.clk_machine.specs.Deciding.{ArePlannedOver, Decided, GoesOn, change_by, handle_of, made_in}
@@ -53,7 +51,7 @@ use Rattle.core_parts.specs.Movable.{can_go_along}
 use Rattle.core_parts.specs.Listed.{rows_from}
 use Rattle.core_parts.specs.Tied.{AreKept}
 use Rattle.clk_machine.specs.Parts.{Parts, IsOwnCall, IsWhole, own_in, steps_left, with_range}
-use Rattle.clk_machine.specs.Readying.{CanBeginSo, CanGoAlong, GoesOnAlong, IsReady, IsScripted, Scripts, moves_well, range_before, start_of, weight_along}
+use Rattle.clk_machine.specs.Readying.{CanBeginSo, CanGoAlong, GoesOnAlong, IsReady, IsScripted, Scripts, moves_well, StartsAlong, IsStartOf, range_before, weight_along}
 use Rattle.clk_machine.specs.Sound.{IsSound}
 use Rattle.clk_machine.specs.Stands.{Stands, Enters, most_steps, joins}
 use Rattle.clk_machine.proofs.Entered.{own_stands}
@@ -119,7 +117,7 @@ linked_rows m whole c p at = whole.tied.stands.linked c p at
 -- a timeout calls off only a change of parent
 lone_extra : (m : Parts) (sets : Bool) (plan : Plan) (script : Script) → IsPlanned m.tree (is_prepared m.counts) m.chains (m.credits + m.steps) sets plan script → sets ≡ false → script.extra ≡ 0
 lone_extra m sets plan script planned_ unset =
-    planned_.made.extra ∙ ap (λ (b : Bool). if b && list_any is_raise script.steps then min (told_by m.chains script.changed) (2 ^ 64 - 1) else 0) (planned_.set_parent ∙ unset)
+    planned_.made.extra ∙ ap (λ (b : Bool). if b && list_any is_raise script.steps then min (told_by m.chains planned_.made.changed) (2 ^ 64 - 1) else 0) (planned_.set_parent ∙ unset)
 
 -- it weighs what its steps do, and the notices that a timeout may bring
 plain_weight : (m : Parts) (sets : Bool) (plan : Plan) (script : Script) → IsPlanned m.tree (is_prepared m.counts) m.chains (m.credits + m.steps) sets plan script → m.tree.defs ≡ m.desc.defs
@@ -231,16 +229,16 @@ module _ (m : Parts) (s : State) (d : ℕ) (what : Sleeping) (plan : Plan) (scri
     own = goes.own;
     change = k;
     next_ = goes.next_;
-    begins = record {
+    begins = λ start is. record {
       starts =
-          subst (λ (ns : List NotifierRow). StartsAs ns (start_of d what (range_before what goes.row) scripted) k) (settled_notifiers s (record n { change = Some k }) ∙ ap (λ (u : State). u.notifiers) beside)
-          (calls_start s t d what k (start_of d what (range_before what goes.row) scripted) begins_ (settled_change s (record n { change = Some k })) (record {
-            driver = plain.driver_;
-            call = plain.call_;
-            left = of_plan.steps ∙ sym made.steps;
-            range = plain.range_;
-            extra = of_plan.extra ∙ sym made.extra;
-            vetoed = of_plan.vetoed ∙ sym made.vetoed;
+          subst (λ (ns : List NotifierRow). StartsAs ns start k) (settled_notifiers s (record n { change = Some k }) ∙ ap (λ (u : State). u.notifiers) beside)
+          (calls_start s t d what k start begins_ (settled_change s (record n { change = Some k })) (record {
+            driver = plain.driver_ ∙ sym is.driver_;
+            call = plain.call_ ∙ sym is.call;
+            left = of_plan.steps ∙ sym made.steps ∙ sym is.script;
+            range = plain.range_ ∙ sym is.range_;
+            extra = of_plan.extra ∙ sym made.extra ∙ sym is.extra;
+            vetoed = of_plan.vetoed ∙ sym made.vetoed ∙ sym is.vetoed;
           }));
       chain = of_plan.chain ∙ sym made.chain;
       rates = subst (λ (ns : List Notified). AllByRecursion (λ x. (x.before ≡ slice_index k.before x.clock.0) × (x.after ≡ slice_index k.outcome x.clock.0)) ns) (sym made.notified)
@@ -265,22 +263,22 @@ can_scripted m d what plan script (readied.Refused e) whole changes planned_ own
 can_scripted m d what plan script readied.AtOnce whole changes planned_ own never = absurd never
 can_scripted m d what plan script (readied.Change scripted) whole changes planned_ own made = record {
   own = own;
-  script = ap (λ (ms : List Micro). is_script what (registered m.tree.clocks) ms) steps ∙ script_made m.tree (is_prepared m.counts) m.chains plan script.changed can planned_.there what changes (λ c p at. (whole.tied.stands.linked c p at, whole.tied.stands.links c p at));
+  script = ap (λ (ms : List Micro). is_script what (registered m.tree.clocks) ms) steps ∙ script_made m.tree (is_prepared m.counts) m.chains plan planned_.made.changed can planned_.there what changes (λ c p at. (whole.tied.stands.linked c p at, whole.tied.stands.links c p at));
   tells =
       ap (λ (ms : List Micro). tells_all (notifiers_at m.chains) ms scripted.course.notified) steps
-      ∙ ap (λ (ns : List Notified). tells_all (notifiers_at m.chains) (steps_for m.tree (is_prepared m.counts) m.chains plan script.changed) ns) made.notified
-      ∙ tells_made m.tree (is_prepared m.counts) m.chains plan script.changed can planned_.there (notifiers_at m.chains) m.tree.rates;
+      ∙ ap (λ (ns : List Notified). tells_all (notifiers_at m.chains) (steps_for m.tree (is_prepared m.counts) m.chains plan planned_.made.changed) ns) made.notified
+      ∙ tells_made m.tree (is_prepared m.counts) m.chains plan planned_.made.changed can planned_.there (notifiers_at m.chains) m.tree.rates;
   links =
-      ap (λ (ds : Description). list_all (can_link ds m.tree.clocks) scripted.steps.items) (sym whole.tied.defs) ∙ ap (λ (ms : List Micro). list_all (can_link m.tree.defs m.tree.clocks) ms) steps
-      ∙ links_made m.tree (is_prepared m.counts) m.chains plan script.changed can planned_.there;
+      ap (λ (ds : Description). list_all (can_link ds m.tree.clocks) scripted.steps) (sym whole.tied.defs) ∙ ap (λ (ms : List Micro). list_all (can_link m.tree.defs m.tree.clocks) ms) steps
+      ∙ links_made m.tree (is_prepared m.counts) m.chains plan planned_.made.changed can planned_.there;
   lone = λ unset. made.extra ∙ lone_extra m (sets_parent what) plan script planned_ unset;
-  weight = made.weight ∙ plain_weight m (sets_parent what) plan script planned_ whole.tied.defs ∙ ap (λ (ms : List Micro). weight_along m ms + script.extra) (sym made.steps) ∙ ap (λ (x : ℕ). weight_along m scripted.steps.items + x) (sym made.extra);
+  weight = made.weight ∙ plain_weight m (sets_parent what) plan script planned_ whole.tied.defs ∙ ap (λ (ms : List Micro). weight_along m ms + script.extra) (sym made.steps) ∙ ap (λ (x : ℕ). weight_along m scripted.steps + x) (sym made.extra);
   room = let same = made.weight in let room = planned_.room in omega arith;
 } where
   can : can_go_along plan.set_parent m.tree.defs m.tree.clocks plan.chain ≡ true
   can = ap (λ (ds : Description). can_go_along plan.set_parent ds m.tree.clocks plan.chain) whole.tied.defs ∙ made.moves
 
-  steps : scripted.steps.items ≡ steps_for m.tree (is_prepared m.counts) m.chains plan script.changed
+  steps : scripted.steps ≡ steps_for m.tree (is_prepared m.counts) m.chains plan planned_.made.changed
   steps = made.steps ∙ planned_.made.steps
 
 -- ---- going on
@@ -313,29 +311,32 @@ unranged_made s _ row e = refl
 
 -- what is left to come of a change that goes on so
 pub along_left : (old new : Parts) (d : ℕ) (what : Sleeping) (scripted : Scripted) (range : Option (ℕ × ℕ)) → CanGoAlong old d what scripted
-    → StartsChange old (start_of d what range scripted) scripted.course new → steps_left new ≡ scripted.weight
-along_left old new d what scripted range can starts_ =
-    starts_.left ∙ ap (λ (n : ℕ). n + scripted.extra) (weighs_rows old.chains (plls old.desc.defs) scripted.steps.items) ∙ sym can.weight
+    → StartsAlong old d what range scripted new → steps_left new ≡ scripted.weight
+along_left old new d what scripted range can along =
+    along.starts.left
+    ∙ ap (λ (ms : List Micro). sum_by (flights.step_weight (rows_from 0 old.chains) (plls old.desc.defs)) ms + along.start.extra) along.is.script
+    ∙ ap (λ (n : ℕ). sum_by (flights.step_weight (rows_from 0 old.chains) (plls old.desc.defs)) scripted.steps + n) along.is.extra
+    ∙ ap (λ (n : ℕ). n + scripted.extra) (weighs_rows old.chains (plls old.desc.defs) scripted.steps) ∙ sym can.weight
 
-pub room_to_start : (old : Parts) (d : ℕ) (what : Sleeping) (scripted : Scripted) → CanGoAlong old d what scripted
-    → old.credits + old.steps + sum_by (flights.step_weight (rows_from 0 old.chains) (plls old.desc.defs)) scripted.steps.items + scripted.extra ≤ most_credits
-room_to_start old d what scripted can =
-    let same = weighs_rows old.chains (plls old.desc.defs) scripted.steps.items in
+pub room_to_start : (old : Parts) (d : ℕ) (what : Sleeping) (scripted : Scripted) (steps : List Micro) (extra : ℕ) → CanGoAlong old d what scripted → steps ≡ scripted.steps → extra ≡ scripted.extra
+    → old.credits + old.steps + sum_by (flights.step_weight (rows_from 0 old.chains) (plls old.desc.defs)) steps + extra ≤ most_credits
+room_to_start old d what scripted steps extra can same more =
+    let weighs = ap (λ (ms : List Micro). sum_by (flights.step_weight (rows_from 0 old.chains) (plls old.desc.defs)) ms) same ∙ weighs_rows old.chains (plls old.desc.defs) scripted.steps in
     let weight_ = can.weight in
     let room = can.room in
     omega arith
 
 -- one that sets no range takes the parts on
 pub enters_along : (old new : Parts) (d : ℕ) (what : Sleeping) (scripted : Scripted) → old.spent < old.credits → changes_rate what ≡ true → is_ranged what ≡ false → CanGoAlong old d what scripted
-    → IsReady old d what (readied.Change scripted) → StartsChange old (start_of d what None scripted) scripted.course new → Enters old d (event.Begin what) turn.Going new
-enters_along old new d what scripted left changes unranged can ready starts_ = record {
-  remains = starts_.remains;
-  pays = starts_.spent;
-  rows = λ c. starts_.rows c ∙ sym (or-false (registered old.tree.clocks c)) ∙ ap (λ (b : Bool). registered old.tree.clocks c || b) (sym (no_more_rows what c changes));
-  going = starts_.going;
-  driver_ = λ still. starts_.driver_;
+    → IsReady old d what (readied.Change scripted) → StartsAlong old d what None scripted new → Enters old d (event.Begin what) turn.Going new
+enters_along old new d what scripted left changes unranged can ready along = record {
+  remains = along.starts.remains;
+  pays = along.starts.spent;
+  rows = λ c. along.starts.rows c ∙ sym (or-false (registered old.tree.clocks c)) ∙ ap (λ (b : Bool). registered old.tree.clocks c || b) (sym (no_more_rows what c changes));
+  going = along.starts.going;
+  driver_ = λ still. along.starts.driver_ ∙ along.is.driver_;
   fewer = λ free. absurd cc;
-  begun = λ paid goes. let left_ = along_left old new d what scripted None can starts_ in let most = most_room old.desc.defs what changes in let room = can.room in omega arith;
+  begun = λ paid goes. let left_ = along_left old new d what scripted None can along in let most = most_room old.desc.defs what changes in let room = can.room in omega arith;
   no_more = λ paid done. absurd cc;
   beside = λ tier. absurd cc;
   step = λ s stands sound.
@@ -346,31 +347,31 @@ enters_along old new d what scripted left changes unranged can ready starts_ = r
         next_ =
             goes.next_ ∙ ap (λ (u : State). paid s (record u { change = Some goes.change }, turn.Going)) (unranged_made s what goes.row unranged)
             ∙ paid-still s (record s { change = Some goes.change }) turn.Going spends (λ c. refl);
-        stands = starts_.stands s goes.change stands
-            (subst (λ (range : Option (ℕ × ℕ)). BeginsAlong s.notifiers (start_of d what range scripted) scripted.course goes.change) (unranged_range what goes.row unranged) goes.begins);
+        stands = along.starts.stands s goes.change stands
+            (goes.begins along.start (subst (λ (range : Option (ℕ × ℕ)). IsStartOf d what range scripted along.start) (sym (unranged_range what goes.row unranged)) along.is));
       };
 }
 
 -- and so does one that gives a handle another range
 pub enters_within : (old between new : Parts) (d : ℕ) (h : Handle) (least most : ℕ) (row : HandleRow) (scripted : Scripted) → old.spent < old.credits → own_in old.table.handles d h.number ≡ Some row
     → handle_at old.table.handles h.number ≡ Some row → CanGoAlong old d (call.SetRange h least most) scripted → IsReady old d (call.SetRange h least most) (readied.Change scripted)
-    → StartsChange old (start_of d (call.SetRange h least most) (Some (row.min, row.max)) scripted) scripted.course between → new ≡ with_range between h.number least most
+    → StartsAlong old d (call.SetRange h least most) (Some (row.min, row.max)) scripted between → new ≡ with_range between h.number least most
     → Enters old d (event.Begin (call.SetRange h least most)) turn.Going new
-enters_within old between new d h least most row scripted left own live can ready starts_ is = subst (λ (m : Parts). Enters old d (event.Begin what) turn.Going m) (sym is) (record {
+enters_within old between new d h least most row scripted left own live can ready along is = subst (λ (m : Parts). Enters old d (event.Begin what) turn.Going m) (sym is) (record {
   remains = record {
-    desc = starts_.remains.desc;
-    told = starts_.remains.told;
-    size = starts_.remains.size;
-    behind = starts_.remains.behind;
-    credits = starts_.remains.credits;
-    ignore_unused = starts_.remains.ignore_unused;
+    desc = along.starts.remains.desc;
+    told = along.starts.remains.told;
+    size = along.starts.remains.size;
+    behind = along.starts.remains.behind;
+    credits = along.starts.remains.credits;
+    ignore_unused = along.starts.remains.ignore_unused;
   };
-  pays = starts_.spent;
-  rows = λ c. starts_.rows c ∙ sym (or-false (registered old.tree.clocks c));
-  going = starts_.going;
-  driver_ = λ still. starts_.driver_;
+  pays = along.starts.spent;
+  rows = λ c. along.starts.rows c ∙ sym (or-false (registered old.tree.clocks c));
+  going = along.starts.going;
+  driver_ = λ still. along.starts.driver_ ∙ along.is.driver_;
   fewer = λ free. absurd cc;
-  begun = λ paid goes. let left_ = along_left old between d what scripted (Some (row.min, row.max)) can starts_ in let room = can.room in omega arith;
+  begun = λ paid goes. let left_ = along_left old between d what scripted (Some (row.min, row.max)) can along in let room = can.room in omega arith;
   no_more = λ paid done. absurd cc;
   beside = λ tier. absurd cc;
   step = λ s stands sound.
@@ -384,9 +385,9 @@ enters_within old between new d h least most row scripted left own live can read
             ∙ paid-still s (record (with_limits s h.number row least most) { change = Some goes.change }) turn.Going spends
             (λ c. active-put_same s h.number row (ranged row least most) c (live_in old s h.number row stands live) refl refl);
         stands = stands_ranged between (record s { change = Some goes.change; spent = s.spent + 1 }) h.number least most row
-            (starts_.stands s goes.change stands
-            (subst (λ (r : HandleRow). BeginsAlong s.notifiers (start_of d what (range_before what r) scripted) scripted.course goes.change) same goes.begins))
-            (ap (λ (t : HandleTable). handle_at t.handles h.number) starts_.table ∙ live);
+            (along.starts.stands s goes.change stands
+            (goes.begins along.start (subst (λ (r : HandleRow). IsStartOf d what (range_before what r) scripted along.start) (sym same) along.is)))
+            (ap (λ (t : HandleTable). handle_at t.handles h.number) along.starts.table ∙ live);
       };
 }) where
   what : Sleeping

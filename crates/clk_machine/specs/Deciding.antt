@@ -14,8 +14,8 @@ use Rattle.clk_model.specs.Step.{sets_parent}
 use Rattle.clk_tree.specs.declared.plan.Plan.{Plan}
 use Rattle.counts_core.specs.Counted.{is_prepared}
 use Rattle.change_walk.specs.Given.{Script}
-use Rattle.core_parts.specs.declared.decision.Decision.{Decision}
-use Rattle.core_parts.specs.declared.decision.Decision.TheVariants as decided
+use Rattle.core_parts.specs.Decisions.{Decision}
+use Rattle.core_parts.specs.Decisions as decided
 use Rattle.clk_machine.specs.Parts.{Parts, IsOwnCall}
 use Rattle.clk_machine.specs.Sound.{IsSound}
 use Rattle.clk_machine.specs.Stands.{Stands}

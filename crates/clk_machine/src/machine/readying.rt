@@ -113,9 +113,9 @@ impl<B: Bank> Machine<B> {
         }
     }
 
-    // A change of rate or parent goes on, of a handle that had this range in Hz where the call sets one.
-    // All memory that it needs is taken.
-    fn go_along(
+    // A change of rate or parent goes on with what the draft holds, of a handle that had this range in Hz
+    // where the call sets one. All memory that it needs is taken.
+    fn start_along(
         &mut self,
         draft: &mut Draft,
         driver: u32,
@@ -140,6 +140,26 @@ impl<B: Bank> Machine<B> {
         self.start_change(start, draft)
     }
 
+    // A change of rate or parent goes on that sets no range. All memory that it needs is taken.
+    fn go_along(
+        &mut self,
+        draft: &mut Draft,
+        driver: u32,
+        what: Sleeping,
+    ) -> Result<(), NoMemory>
+        requires credit { self.old.spent < self.old.credits }
+        requires quiet { self.old.flight.going ≡ false }
+        requires changes { changes_rate what ≡ true }
+        requires unranged { is_ranged what ≡ false }
+        requires can { CanGoAlong self.old driver what (scripted_of draft.old) }
+        requires ready { IsReady self.old driver what (Change (scripted_of draft.old)) }
+        ensures ok { OnOk result (Enters self.old driver (Begin what) Going self.new) }
+        ensures left { OnOk result (steps_left self.new ≡ (scripted_of draft.old).weight) }
+        ensures err { OnErr result (self.new ≡ self.old) }
+    {
+        self.start_along(draft, driver, what, None)
+    }
+
     // A change of rate goes on that gives a handle another range in Hz. All memory that it needs is
     // taken.
     fn go_along_within(
@@ -160,7 +180,7 @@ impl<B: Bank> Machine<B> {
     {
         let row = self.known(driver, handle);
         let what = Sleeping::SetRange(handle, least, most);
-        self.go_along(draft, driver, what, Some((row.min, row.max)))?;
+        self.start_along(draft, driver, what, Some((row.min, row.max)))?;
         self.write_range(handle, row, least, most);
         Ok(())
     }
@@ -182,7 +202,7 @@ impl<B: Bank> Machine<B> {
             }
             Sleeping::SetRate(_, _)
             | Sleeping::SetRateExclusive(_, _)
-            | Sleeping::SetParent(_, _) => self.go_along(draft, driver, what, None),
+            | Sleeping::SetParent(_, _) => self.go_along(draft, driver, what),
             _ => unreachable!(),
         }
     }

@@ -3,6 +3,7 @@ use Rattle.std.proofs.lemmas.Result.{IfOk-weaker}
 use Rattle.std.specs.Prelude.{is_some}
 use Rattle.clk_base.specs.declared.call.Sleeping.TheVariants.{SetRateExclusive}
 use Rattle.clk_model.specs.declared.row.HandleRow.{HandleRow}
+use Rattle.core_parts.specs.Decisions.{decision_of}
 use Rattle.clk_machine.specs.Parts.{Parts, parts_of, own_in}
 use Rattle.clk_machine.proofs.Decided.{exclusive_unknown, decides_exclusive}
 use Rattle.clk_machine.proofs.Entered.{own_stands}
@@ -24,10 +25,10 @@ returns-clause-decides g c =
     let quiet = subst (λ (q : Parts). q.flight.going ≡ false) (sym c.self.view_is) c.requires.quiet in
     rw (← c.self.view_is)
     (IfOk-weaker c.decide_request.result _ _
-    (λ decision answers s stands sound. decides_exclusive p s c.args.driver c.args.handle c.args.rate c.used-used.result row decision c.self.invariant quiet
+    (λ verdict answers s stands sound. decides_exclusive p s c.args.driver c.args.handle c.args.rate c.used-used.result row (decision_of c.decide_request.new.draft verdict) c.self.invariant quiet
     (c.used-used.ensures ∙ ap (λ (q : Parts). q.credits + q.steps) (sym c.self.view_is)) own answers stands sound) c.decide_request.ensures.decides)
 
 pub returns-clause-own : goal.returns-clause-own
 returns-clause-own g c =
     IfOk-weaker c.decide_request.result _ _
-    (λ decision there. owned_call c.args.self.now.table.handles c.args.driver (SetRateExclusive c.args.handle c.args.rate) decision (ap (λ (o : Option HandleRow). is_some o) (c.own.ensures.row ∙ c.in-Some.is))) c.decide_request.ensures.there
+    (λ verdict there. owned_call c.args.self.now.table.handles c.args.driver (SetRateExclusive c.args.handle c.args.rate) (decision_of c.decide_request.new.draft verdict) (ap (λ (o : Option HandleRow). is_some o) (c.own.ensures.row ∙ c.in-Some.is))) c.decide_request.ensures.there

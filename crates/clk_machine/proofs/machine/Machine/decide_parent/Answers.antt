@@ -2,6 +2,7 @@ use Rattle.std.proofs.Common.{◌≡◌, ◌+◌, ◌∙◌, sym, ap, subst, tru
 use Rattle.std.proofs.lemmas.Result.{IfOk-weaker}
 use Rattle.clk_model.specs.Lists.{is_at}
 use Rattle.clk_model.specs.State.{handle_at, link_in}
+use Rattle.core_parts.specs.Decisions.{decision_of}
 use Rattle.clk_machine.specs.Parts.{Parts, parts_of, own_in}
 use Rattle.clk_machine.proofs.DecidedParent.{parent_unknown, parent_linked, parent_refused, cause_told, link_told, decides_parent}
 use Rattle.clk_machine.proofs.Entered.{own_stands}
@@ -85,7 +86,7 @@ returns-clause-decides g c =
     let quiet = subst (λ (q : Parts). q.flight.going ≡ false) (sym c.self.view_is) c.requires.quiet in
     rw (← c.self.view_is)
     (IfOk-weaker c.go_on.result _ _
-    (λ decision fits s stands sound. decides_parent p s c.args.driver c.args.handle c.args.parent c.used-used.result row c.in_ok-plan.plan decision c.self.invariant quiet
+    (λ verdict fits s stands sound. decides_parent p s c.args.driver c.args.handle c.args.parent c.used-used.result row c.plan_move.new.draft.planning.plan (decision_of c.go_on.new.draft verdict) c.self.invariant quiet
     (c.used-used.ensures ∙ ap (λ (q : Parts). q.credits + q.steps) (sym c.self.view_is)) own live (sym c.if-is_linked.false ∙ c.is_linked.ensures)
-    (sym c.refusal.ensures.cause ∙ c.in_default-refusal.is) c.in_ok-plan.ensures.chain c.in_ok-plan.ensures.rates c.in_ok-plan.ensures.set_parent
+    (sym c.refusal.ensures.cause ∙ c.in_default-refusal.is) c.in_ok-plan_move.ensures.chain c.in_ok-plan_move.ensures.rates c.in_ok-plan_move.ensures.set_parent
     (rw c.refusal.ensures.same at fits) stands sound) c.go_on.ensures.decides)

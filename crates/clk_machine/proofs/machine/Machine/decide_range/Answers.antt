@@ -7,6 +7,7 @@ use Rattle.clk_model.specs.declared.row.HandleRow.{HandleRow}
 use Rattle.clk_model.specs.State.{handle_at}
 use Rattle.counts_core.specs.Counted.{CountState}
 use Rattle.rate_requests.specs.Handles.{HandleTable, misses_in}
+use Rattle.core_parts.specs.Decisions.{decision_of}
 use Rattle.clk_machine.specs.Parts.{Parts, parts_of, own_in, IsWhole}
 use Rattle.clk_machine.proofs.DecidedRange.{range_unknown, range_missed, decides_range, range_live, table_back, wanted_between}
 use Rattle.clk_machine.proofs.Entered.{own_stands}
@@ -98,7 +99,7 @@ returns-clause-decides g c =
     let free : misses_in m.handles.handles c.args.handle.number row.clock.0 c.args.least c.args.most ≡ false = not-true _ (sym fits ∙ c.if-not-fits.false) in
     rw (← c.self.view_is)
     (IfOk-weaker c.decide_lifted-decided.result _ _
-    (λ decision answers s stands sound. decides_range p s c.args.driver c.args.handle c.args.least c.args.most c.within-wanted.result c.used-used.result row c.set_range.new.self.handles decision c.self.invariant quiet
+    (λ verdict answers s stands sound. decides_range p s c.args.driver c.args.handle c.args.least c.args.most c.within-wanted.result c.used-used.result row c.set_range.new.self.handles (decision_of c.decide_lifted-decided.new.draft verdict) c.self.invariant quiet
     (c.used-used.ensures ∙ ap (λ (q : Parts). q.credits + q.steps) (sym c.self.view_is)) own live c.set_range.ensures.range free
     (wanted_between p s row.clock.0 c.args.least c.args.most c.within-wanted.result c.last_request.result stands c.last_request.ensures.request c.within-wanted.ensures) answers stands sound)
     c.decide_lifted-decided.ensures.decides)
@@ -106,4 +107,4 @@ returns-clause-decides g c =
 pub returns-clause-own : goal.returns-clause-own
 returns-clause-own g c =
     IfOk-weaker c.decide_lifted-decided.result _ _
-    (λ decision there. owned_call c.args.self.now.table.handles c.args.driver (SetRange c.args.handle c.args.least c.args.most) decision (ap (λ (o : Option HandleRow). is_some o) (c.own.ensures.row ∙ c.in-Some.is))) c.decide_lifted-decided.ensures.there
+    (λ verdict there. owned_call c.args.self.now.table.handles c.args.driver (SetRange c.args.handle c.args.least c.args.most) (decision_of c.decide_lifted-decided.new.draft verdict) (ap (λ (o : Option HandleRow). is_some o) (c.own.ensures.row ∙ c.in-Some.is))) c.decide_lifted-decided.ensures.there
