@@ -118,10 +118,11 @@ pub fn set_along<B: Bank>(
     ensures stands { IsTree tree.new.defs tree.new.clocks tree.new.order tree.new.rates }
 {
     let _size = window.len();
-    let parent = rate_above(tree, clock);
     let Some(rate) = course.planned(clock) else {
+        let _plls = tree.plls();
         return;
     };
+    let parent = rate_above(tree, clock);
     let Some(value) = setting(desc, clock, parent, rate) else {
         return;
     };
