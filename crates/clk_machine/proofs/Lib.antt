@@ -41,6 +41,7 @@ pub mod Ranging
 pub mod SweepScript
 pub mod Sweeping
 pub mod Lowering
+pub mod NoPlls
 pub mod Entered
 pub mod Opened
 pub mod Registering

@@ -25,7 +25,8 @@ use reg_bank::Bank;
 
 impl<B: Bank> Machine<B> {
     // Whether a PLL above a handle's clock would be powered without a prepare, were a prepare of the
-    // handle given up. The counts are as they were afterwards.
+    // handle given up. The counts are as they were afterwards. Where no line of possible parents has a
+    // PLL, there is none above, and no path is walked.
     fn frees_pll(&mut self, handle: Handle, row: HandleRow) -> bool
         requires live { handle_at self.old.table.handles handle.number ≡ Some row }
         requires some { 0 < row.prepares }
@@ -34,6 +35,9 @@ impl<B: Bank> Machine<B> {
         ensures same { self.new ≡ self.old }
         ensures whole { IsWhole self.old }
     {
+        if self.tree.plls() == 0 {
+            return false;
+        }
         self.counts.release(&self.tree, row.clock);
         let found = next_to_lower(
             &self.desc,

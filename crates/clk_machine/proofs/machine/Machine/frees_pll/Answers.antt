@@ -5,13 +5,20 @@ use Rattle.clk_model.specs.State.{handle_at}
 use Rattle.clk_model.specs.Tree.{path}
 use Rattle.counts_core.specs.Counted.{CountState, AreCounts}
 use Rattle.clk_machine.specs.Parts.{Parts, parts_of, IsWhole}
+use Rattle.clk_machine.specs.Starting.{released}
 use Rattle.core_parts.specs.Plls.{lowerable}
 use Rattle.clk_machine.proofs.Lowering.{held_again, found_some, small_again}
+use Rattle.clk_machine.proofs.NoPlls.{none_freed}
 use Rattle.core_parts.proofs.Moving.{links_within}
 use Rattle.clk_machine.proofs.Room.{prepare_held, prepare_room}
 use Rattle.clk_machine.proofs.Rows.{counted_place}
 use Rattle.clk_machine.proofs.Writing.{row_place}
 use Rattle.clk_machine.proofs.machine.Machine.frees_pll.Goals as goal
+
+pub returns-then-plls-eq0-clause-found : goal.returns-then-plls-eq0-clause-found
+returns-then-plls-eq0-clause-found g c =
+    let m = c.self.inside in
+    rw (← c.self.view_is) (none_freed m.window.words m.desc.defs (released m.counts c.args.row.clock.0) m.tree c.args.row.clock.0 c.plls.result c.self.invariant.tied.defs c.plls.ensures.stands c.plls.ensures.plls c.if-plls-eq0.true)
 
 pub release-requires-clause-place : goal.release-requires-clause-place
 release-requires-clause-place g c =
