@@ -1,9 +1,8 @@
 -- What a visit makes of the parts of a core.
-use Rattle.std.proofs.Common.{◌≡◌, ℕ, ◌+◌, ◌<◌, ◌≤◌, ◌&&◌, ◌||◌, not, Bool, true, false, List, [], ◌∷◌, Option, Some, None, refl, sym, ap, subst, ◌∙◌, arith, length, nat_eq, nat_lt}
+use Rattle.std.proofs.Common.{◌≡◌, ℕ, ◌+◌, ◌<◌, ◌≤◌, ◌&&◌, ◌||◌, Bool, true, false, List, [], ◌∷◌, Option, Some, None, refl, sym, ap, subst, ◌∙◌, arith, length, nat_eq}
 use Rattle.std.specs.Prelude.{is_some, IfSome, slice_get, slice_index, if◌then◌else◌}
 use Rattle.std.specs.List.{AllByRecursion, list_all}
 use Rattle.std.proofs.Math.Bool.{or-false}
-use Rattle.std.proofs.lemmas.Bool.Decides.{nat_tests}
 use Rattle.clk_base.specs.Description.{Description}
 use Rattle.clk_base.specs.declared.call.Micro.{Micro}
 use Rattle.clk_base.specs.declared.call.Micro.TheVariants as micro
@@ -12,7 +11,7 @@ use Rattle.clk_base.specs.declared.event.Event.TheVariants as event
 use Rattle.clk_base.specs.declared.event.Turn.TheVariants as turn
 use Rattle.reg_bank.specs.Registers.{Registers}
 use Rattle.clk_model.specs.declared.row.ClockRow.{ClockRow}
-use Rattle.clk_model.specs.State.{State, Change, ChainStep, registered}
+use Rattle.clk_model.specs.State.{State, Change, ChainStep, NotifierRow, registered}
 use Rattle.clk_model.specs.Rate.{rate}
 use Rattle.clk_model.specs.Notices.{notifiers_of}
 use Rattle.clk_model.specs.Step.{taken, visit, set_in_chain, rest_of}
@@ -20,11 +19,12 @@ use Rattle.clk_model.proofs.Members.{both_left, both_right, same_from_test}
 use Rattle.clk_flight.specs.declared.front.Front.{Front}
 use Rattle.clk_flight.specs.declared.front.Front.TheVariants.{Empty, Poll, Raise, Lower, Falls, Posts}
 use Rattle.clk_flight.specs.Flights.{FlightState, Flies, own_first, own_step}
-use Rattle.clk_flight.specs.Fronts.{script_behind}
+use Rattle.clk_flight.specs.Fronts.{front_behind, script_behind}
 use Rattle.clk_flight.specs.LeftOver.{left_over}
-use Rattle.clk_flight.specs.Moves.{visited}
+use Rattle.clk_flight.specs.Moves.{gone_on, visited}
 use Rattle.clk_flight.specs.Steps.{told_by_visit}
 use Rattle.clk_flight.proofs.DropLaws.{visited-change}
+use Rattle.clk_flight.proofs.LeftLaws.{visited-less}
 use Rattle.clk_tree.specs.TreeState.{TreeState, IsTree}
 use Rattle.rate_planner.specs.Kept.{wired}
 use Rattle.core_parts.specs.Window.{Shown, AreTold}
@@ -33,6 +33,7 @@ use Rattle.core_parts.specs.declared.posting.Posting.{Posting}
 use Rattle.core_parts.specs.InFlight.{changes_rate, is_front, IsUnderWay, can_link, cuts_front}
 use Rattle.core_parts.specs.Course.{CourseState, set_along, notifiers_at, begins_with, behind_first, behind_visit, tells_all, PostsFit, TellsAlong, GoesAlong}
 use Rattle.clk_machine.specs.Making.{ComesFirst}
+use Rattle.clk_machine.specs.Posted.{IsPosted}
 use Rattle.core_parts.specs.Listed.{rows_from}
 use Rattle.core_parts.specs.Tied.{AreKept}
 use Rattle.clk_machine.specs.Parts.{Parts, bare, IsFlown, IsWhole}
@@ -104,6 +105,37 @@ own_visit f there c own is = by f.front refl where
   by (Lower x) at = let no = sym (ap (own_first f) at) ∙ first in absurd cc
   by (Falls told left) at = let no = sym (ap (own_first f) at) ∙ first in absurd cc
   by (Posts d told left old new) at = let no = sym (ap (own_first f) at) ∙ first in absurd cc
+
+-- nothing stands in front of it
+visit_alone : (f : FlightState) (c : ClockId) → own_step f ≡ Some (micro.Visit c) → f.front ≡ Empty
+visit_alone f c own = by f.front refl where
+  by : (front : Front) → f.front ≡ front → f.front ≡ Empty
+  by Empty at = at
+  by (Poll y polls again) at = let no = sym (ap (own_first f) at) ∙ own_going f.going (own_first f f.front) (micro.Visit c) own in absurd cc
+  by (Raise x) at = let no = sym (ap (own_first f) at) ∙ own_going f.going (own_first f f.front) (micro.Visit c) own in absurd cc
+  by (Lower x) at = let no = sym (ap (own_first f) at) ∙ own_going f.going (own_first f f.front) (micro.Visit c) own in absurd cc
+  by (Falls told left) at = let no = sym (ap (own_first f) at) ∙ own_going f.going (own_first f f.front) (micro.Visit c) own in absurd cc
+  by (Posts d told left old new) at = let no = sym (ap (own_first f) at) ∙ own_going f.going (own_first f f.front) (micro.Visit c) own in absurd cc
+
+-- so a flight that only goes on has visited it and tells none
+pub visited_none : (f : FlightState) (c : ClockId) → own_step f ≡ Some (micro.Visit c) → gone_on f ≡ visited f c 0 0 0
+visited_none f c own = ap (λ (front : Front). let g : FlightState = record (gone_on f) { front = front_behind f.raised front } in g) (visit_alone f c own)
+
+-- as a clock without notifiers is visited
+pub posted_none : (course : CourseState) (c : ClockId) (count rate_ : ℕ) (f g : FlightState) → count ≡ 0 → own_step f ≡ Some (micro.Visit c) → g ≡ gone_on f → IsPosted course c count rate_ f g
+posted_none course c count rate_ f g none own is = record {
+  posts = record { count = 0; before = 0; after = 0 };
+  none_ = λ zero_. refl;
+  some_ = λ some n at. let no : true ≡ false = sym (ap (λ (k : ℕ). nat_eq k 0) none) ∙ some in absurd cc;
+  few = omega arith;
+  flight = is ∙ visited_none f c own;
+}
+
+-- less is left over
+pub posted_less : (course : CourseState) (c : ClockId) (count rate_ : ℕ) (f g : FlightState) (rows : List NotifierRow) → own_step f ≡ Some (micro.Visit c) → (is : IsPosted course c count rate_ f g)
+    → is.posts.count ≤ length (notifiers_of rows c.0) → left_over rows g < left_over rows f
+posted_less course c count rate_ f g rows own is few =
+    subst (λ (h : FlightState). left_over rows h < left_over rows f) (sym is.flight) (visited-less f c is.posts.count is.posts.before is.posts.after rows own few)
 
 -- the visited clock is a registered one
 pub visit_there : (f : FlightState) (there : ℕ → Bool) (c : ClockId) → own_step f ≡ Some (micro.Visit c) → IsUnderWay there f → there c.0 ≡ true
@@ -332,19 +364,3 @@ visit_enters old c window' tree' posts' flight' course' now = record {
   beside = λ tier. absurd cc;
   step = visit_leads old c window' tree' posts' flight' course' now;
 }
-
--- the clocks that are left behind a visit
-pub passes : (count : ℕ) (ns : List Notified) → (if nat_lt 0 count then behind_first ns else ns) ≡ behind_visit count ns
-passes count ns = turned (nat_lt 0 count) (nat_eq count 0) (grind (arith, nat_tests)) where
-  turned : (t u : Bool) → t ≡ not u → (if t then behind_first ns else ns) ≡ (if u then ns else behind_first ns)
-  turned true false e = refl
-  turned false true e = refl
-  turned true true e = absurd cc
-  turned false false e = absurd cc
-
--- what is told of the next clock, where the rate and the count are these
-pub posts_same : (rate_ fresh : ℕ) (n : Notified) (count many : ℕ) → rate_ ≡ fresh → count ≡ many
-    → (let p : Posting = record { count = if nat_eq rate_ n.before then 0 else count; before = n.before; after = n.after } in p) ≡ record { count = if nat_eq fresh n.before then 0 else many; before = n.before; after = n.after }
-posts_same rate_ fresh n count many rates counts =
-    ap (λ (x : ℕ). let p : Posting = record { count = if nat_eq x n.before then 0 else count; before = n.before; after = n.after } in p) rates
-    ∙ ap (λ (k : ℕ). let p : Posting = record { count = if nat_eq fresh n.before then 0 else k; before = n.before; after = n.after } in p) counts

@@ -1,6 +1,7 @@
 pub mod Parts
 pub mod Stands
 pub mod Making
+pub mod Posted
 pub mod Starting
 pub mod Sweeping
 pub mod Probing
