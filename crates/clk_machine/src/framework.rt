@@ -203,9 +203,9 @@ impl<B: Bank> Core<B> {
         ensures ok { IfOk result (λ turn. Appends self.old driver (Begin what) turn self.new) }
         ensures err { OnErr result (self.new ≡ self.old) }
     {
-        let turn =
-            self.machine
-                .begin_worked_out(&mut self.draft, &mut self.log, driver, what)?;
+        let turn = self
+            .machine
+            .begin_worked_out(&mut self.draft, &mut self.log, driver, what)?;
         self.log.push(Entry {
             driver,
             event: Event::Begin(what),

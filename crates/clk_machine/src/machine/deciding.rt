@@ -38,11 +38,15 @@ impl<B: Bank> Machine<B> {
     {
         match what {
             Sleeping::SetRate(handle, rate) => self.decide_rate(draft, driver, handle, rate),
-            Sleeping::SetRateExclusive(handle, rate) => self.decide_exclusive(draft, driver, handle, rate),
+            Sleeping::SetRateExclusive(handle, rate) => self.decide_exclusive(
+                draft, driver, handle, rate,
+            ),
             Sleeping::SetRange(handle, least, most) => {
                 self.decide_range(draft, driver, handle, least, most)
             }
-            Sleeping::SetParent(handle, parent) => self.decide_parent(draft, driver, handle, parent),
+            Sleeping::SetParent(handle, parent) => self.decide_parent(
+                draft, driver, handle, parent,
+            ),
             _ => unreachable!(),
         }
     }

@@ -59,12 +59,7 @@ impl<B: Bank> Machine<B> {
     }
 
     // Makes a call ready that changes a rate or a parent. Nothing is changed but the draft.
-    fn ready(
-        &mut self,
-        draft: &mut Draft,
-        driver: u32,
-        what: Sleeping,
-    ) -> Result<Verdict, NoMemory>
+    fn ready(&mut self, draft: &mut Draft, driver: u32, what: Sleeping) -> Result<Verdict, NoMemory>
         requires credit { self.old.spent < self.old.credits }
         requires quiet { self.old.flight.going ≡ false }
         requires changes { changes_rate what ≡ true }
@@ -141,12 +136,7 @@ impl<B: Bank> Machine<B> {
     }
 
     // A change of rate or parent goes on that sets no range. All memory that it needs is taken.
-    fn go_along(
-        &mut self,
-        draft: &mut Draft,
-        driver: u32,
-        what: Sleeping,
-    ) -> Result<(), NoMemory>
+    fn go_along(&mut self, draft: &mut Draft, driver: u32, what: Sleeping) -> Result<(), NoMemory>
         requires credit { self.old.spent < self.old.credits }
         requires quiet { self.old.flight.going ≡ false }
         requires changes { changes_rate what ≡ true }

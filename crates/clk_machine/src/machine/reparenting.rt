@@ -49,13 +49,6 @@ impl<B: Bank> Machine<B> {
             handles: &self.handles,
             counts: &self.counts,
         };
-        go_on(
-            draft,
-            &self.desc,
-            &self.tree,
-            &view,
-            &self.notifiers,
-            used,
-        )
+        go_on(draft, &self.desc, &self.tree, &view, &self.notifiers, used)
     }
 }

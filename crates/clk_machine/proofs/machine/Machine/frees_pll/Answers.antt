@@ -101,3 +101,6 @@ returns-clause-same g c =
     ap (λ (k : CountState). parts_of m.desc m.window m.tree m.handles k m.notifiers m.credits m.spent m.ignore_unused m.flight m.course m.prepare_holds m.enable_holds m.steps)
     (held_again m.counts c.release.new.self c.hold.new.self c.args.row.clock.0 c.self.invariant.counted.keeps (prepare_held p c.args.handle.number c.args.row c.self.invariant live c.requires.some) within c.release.ensures.holders c.hold.ensures.holders)
     ∙ c.self.view_is
+
+pub next_to_lower-found-requires-clause-made : goal.next_to_lower-found-requires-clause-made
+next_to_lower-found-requires-clause-made g c = sym c.self.invariant.tied.defs

@@ -20,3 +20,6 @@ is_unprepared-requires-clause-counted g c = c.self.invariant.counted.keeps.links
 
 pub is_unprepared-requires-clause-same : goal.is_unprepared-requires-clause-same
 is_unprepared-requires-clause-same g c = c.self.invariant.counted.stands.links
+
+pub is_unprepared-requires-clause-made : goal.is_unprepared-requires-clause-made
+is_unprepared-requires-clause-made g c = sym c.self.invariant.tied.defs

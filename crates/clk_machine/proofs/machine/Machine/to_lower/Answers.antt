@@ -20,3 +20,6 @@ next_to_lower-requires-clause-counted g c = c.self.invariant.counted.keeps.links
 
 pub next_to_lower-requires-clause-same : goal.next_to_lower-requires-clause-same
 next_to_lower-requires-clause-same g c = c.self.invariant.counted.stands.links
+
+pub next_to_lower-requires-clause-made : goal.next_to_lower-requires-clause-made
+next_to_lower-requires-clause-made g c = sym c.self.invariant.tied.defs
