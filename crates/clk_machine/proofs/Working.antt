@@ -18,13 +18,10 @@ use Rattle.clk_flight.specs.Flights.{IsChange, own_step, comes_next}
 use Rattle.clk_flight.specs.Steps.{is_fall}
 use Rattle.notifiers.specs.Chains.{Tells}
 use Rattle.core_parts.specs.declared.plls.Sought.{Sought}
-use Rattle.core_parts.specs.declared.work.Work.{Work}
-use Rattle.core_parts.specs.declared.work.Work.TheVariants as work
-use Rattle.core_parts.specs.Works.{work_of}
 use Rattle.clk_machine.specs.Making.{ComesFirst, ComesNext, FindsNothing}
 use Rattle.clk_machine.specs.Parts.{Parts, IsWhole}
 use Rattle.core_parts.specs.Plls.{raisable, lowerable, Finds}
-use Rattle.core_parts.proofs.Coming.{end_comes, work_raises, work_polls, work_falls, work_lowers, work_tells, work_visits, work_registers, work_relinks, work_selects, work_settles, work_closes, work_unpowers, work_holds_prepare, work_holds_enable, work_drops_enable, work_drops_prepare}
+use Rattle.core_parts.proofs.Coming.{some_comes}
 use Rattle.core_parts.proofs.InFlight.{raise_there, lower_there}
 use Rattle.core_parts.proofs.StepsInFlight.{fall_untold}
 use Rattle.core_parts.proofs.NotifierRows.{count_told}
@@ -50,63 +47,32 @@ posts_fit p rows whole going tells = by p.flight.front refl where
   by (Lower x) at = tt
   by (Falls told left) at = tt
 
-pub works : (p : Parts) (r : Option Micro) (w : Work) → IsWhole p → p.flight.going ≡ true → w ≡ work_of r
+pub works : (p : Parts) (r : Option Micro) → IsWhole p → p.flight.going ≡ true
     → ((rows : List NotifierRow) → Tells p.chains rows → r ≡ comes_next rows p.flight)
     → ((m : Micro) → r ≡ Some m → is_notice m ≡ false → is_fall m ≡ false → own_step p.flight ≡ Some m)
     → ((rows : List NotifierRow) (k : Change) → Tells p.chains rows → IsChange rows p.flight k → r ≡ slice_get (todo k) 0)
-    → ComesNext p w
-works p r (work.Raise x) whole going is step own first =
-    let at = work_raises r x (sym is) in
-    (own (micro.Raise x) at refl refl, λ rows k tells change. sym (first rows k tells change) ∙ at)
-works p r (work.Poll y) whole going is step own first =
-    let at = work_polls r y (sym is) in
-    (own (micro.Poll y) at refl refl, λ rows k tells change. sym (first rows k tells change) ∙ at)
-works p r (work.Fall y) whole going is step own first =
-    let at = work_falls r y (sym is) in
-    (fall_untold whole.listed.rows p.flight y (sym (step whole.listed.rows whole.listed.tells) ∙ at), λ rows k tells change. sym (first rows k tells change) ∙ at)
-works p r (work.Lower x) whole going is step own first =
-    let at = work_lowers r x (sym is) in
-    (own (micro.Lower x) at refl refl, λ rows k tells change. sym (first rows k tells change) ∙ at)
-works p r (work.Tell m) whole going is step own first =
-    let at = work_tells r m (sym is) in
-    (at.1, tells_next p m whole going (sym (step whole.listed.rows whole.listed.tells) ∙ at.0) at.1, λ rows k tells change. sym (first rows k tells change) ∙ at.0)
-works p r (work.Visit c) whole going is step own first =
-    let at = work_visits r c (sym is) in
-    (own (micro.Visit c) at refl refl, λ rows k tells change. sym (first rows k tells change) ∙ at)
-works p r (work.Register c) whole going is step own first =
-    let at = work_registers r c (sym is) in
-    (own (micro.Register c) at refl refl, λ rows k tells change. sym (first rows k tells change) ∙ at)
-works p r (work.HoldPrepare x) whole going is step own first =
-    let at = work_holds_prepare r x (sym is) in
-    (own (micro.HoldPrepare x) at refl refl, λ rows k tells change. sym (first rows k tells change) ∙ at)
-works p r (work.HoldEnable x) whole going is step own first =
-    let at = work_holds_enable r x (sym is) in
-    (own (micro.HoldEnable x) at refl refl, λ rows k tells change. sym (first rows k tells change) ∙ at)
-works p r (work.DropEnable x) whole going is step own first =
-    let at = work_drops_enable r x (sym is) in
-    (own (micro.DropEnable x) at refl refl, λ rows k tells change. sym (first rows k tells change) ∙ at)
-works p r (work.DropPrepare x) whole going is step own first =
-    let at = work_drops_prepare r x (sym is) in
-    (own (micro.DropPrepare x) at refl refl, λ rows k tells change. sym (first rows k tells change) ∙ at)
-works p r (work.Relink c q) whole going is step own first =
-    let at = work_relinks r c q (sym is) in
-    (own (micro.Relink c q) at refl refl, λ rows k tells change. sym (first rows k tells change) ∙ at)
-works p r (work.Select c n) whole going is step own first =
-    let at = work_selects r c n (sym is) in
-    (own (micro.WriteMux c n) at refl refl, λ rows k tells change. sym (first rows k tells change) ∙ at)
-works p r (work.Close c) whole going is step own first =
-    let at = work_closes r c (sym is) in
-    (own (micro.Close c) at refl refl, λ rows k tells change. sym (first rows k tells change) ∙ at)
-works p r (work.Unpower c) whole going is step own first =
-    let at = work_unpowers r c (sym is) in
-    (own (micro.Unpower c) at refl refl, λ rows k tells change. sym (first rows k tells change) ∙ at)
-works p r (work.Settle c) whole going is step own first =
-    let at = work_settles r c (sym is) in
-    (own (micro.Settle c) at refl refl, λ rows k tells change. sym (first rows k tells change) ∙ at)
-works p r work.End whole going is step own first = λ rows k tells change.
-    let way = (whole.flown going).way in
-    let same = step rows tells in
-    sym (first rows k tells change) ∙ same ∙ end_comes rows p.flight (registered p.tree.clocks) k going change (posts_fit p rows whole going tells) way (ap work_of (sym same) ∙ sym is)
+    → ComesNext p r
+works p (Some (micro.Notify kind c id old new)) whole going step own first =
+    (tells_next p (micro.Notify kind c id old new) whole going (sym (step whole.listed.rows whole.listed.tells)) refl, λ rows k tells change. sym (first rows k tells change))
+works p (Some (micro.Fall y)) whole going step own first =
+    (fall_untold whole.listed.rows p.flight y (sym (step whole.listed.rows whole.listed.tells)), λ rows k tells change. sym (first rows k tells change))
+works p (Some micro.End) whole going step own first = λ rows k tells change. sym (first rows k tells change)
+works p None whole going step own first = λ rows k tells change.
+    absurd (some_comes rows p.flight (registered p.tree.clocks) k going change (posts_fit p rows whole going tells) (whole.flown going).way (sym (step rows tells)))
+works p (Some (micro.Raise x)) whole going step own first = (own (micro.Raise x) refl refl refl, λ rows k tells change. sym (first rows k tells change))
+works p (Some (micro.Poll y)) whole going step own first = (own (micro.Poll y) refl refl refl, λ rows k tells change. sym (first rows k tells change))
+works p (Some (micro.Lower x)) whole going step own first = (own (micro.Lower x) refl refl refl, λ rows k tells change. sym (first rows k tells change))
+works p (Some (micro.HoldPrepare x)) whole going step own first = (own (micro.HoldPrepare x) refl refl refl, λ rows k tells change. sym (first rows k tells change))
+works p (Some (micro.HoldEnable x)) whole going step own first = (own (micro.HoldEnable x) refl refl refl, λ rows k tells change. sym (first rows k tells change))
+works p (Some (micro.DropEnable x)) whole going step own first = (own (micro.DropEnable x) refl refl refl, λ rows k tells change. sym (first rows k tells change))
+works p (Some (micro.DropPrepare x)) whole going step own first = (own (micro.DropPrepare x) refl refl refl, λ rows k tells change. sym (first rows k tells change))
+works p (Some (micro.Relink c q)) whole going step own first = (own (micro.Relink c q) refl refl refl, λ rows k tells change. sym (first rows k tells change))
+works p (Some (micro.WriteMux c n)) whole going step own first = (own (micro.WriteMux c n) refl refl refl, λ rows k tells change. sym (first rows k tells change))
+works p (Some (micro.Visit c)) whole going step own first = (own (micro.Visit c) refl refl refl, λ rows k tells change. sym (first rows k tells change))
+works p (Some (micro.Register c)) whole going step own first = (own (micro.Register c) refl refl refl, λ rows k tells change. sym (first rows k tells change))
+works p (Some (micro.Settle c)) whole going step own first = (own (micro.Settle c) refl refl refl, λ rows k tells change. sym (first rows k tells change))
+works p (Some (micro.Close c)) whole going step own first = (own (micro.Close c) refl refl refl, λ rows k tells change. sym (first rows k tells change))
+works p (Some (micro.Unpower c)) whole going step own first = (own (micro.Unpower c) refl refl refl, λ rows k tells change. sym (first rows k tells change))
 
 -- ---- a search
 

@@ -1,5 +1,5 @@
 -- What the step that comes next of a core's change in flight is to the change of the definitions.
-use Rattle.std.specs.Prelude.{◌≡◌, ◌+◌, true, List, [], Some, None, slice_get}
+use Rattle.std.specs.Prelude.{◌≡◌, ◌+◌, true, List, [], Option, Some, None, slice_get}
 use Rattle.clk_base.specs.declared.call.Micro.{Micro}
 use Rattle.clk_base.specs.declared.call.Micro.TheVariants as micro
 use Rattle.clk_base.specs.declared.event.Event.TheVariants as event
@@ -10,8 +10,6 @@ use Rattle.clk_model.specs.Machine.{next}
 use Rattle.clk_model.specs.Laws.Paced.{is_notice}
 use Rattle.clk_flight.specs.Flights.{IsChange, own_step, comes_next}
 use Rattle.notifiers.specs.Chains.{Tells}
-use Rattle.core_parts.specs.declared.work.Work.{Work}
-use Rattle.core_parts.specs.declared.work.Work.TheVariants as work
 use Rattle.core_parts.specs.InFlight.{may_seek}
 use Rattle.core_parts.specs.Listed.{rows_from}
 use Rattle.clk_machine.specs.Parts.{Parts}
@@ -34,22 +32,23 @@ pub record TellsNext (m : Parts) : Type 0 where
   pub next_ : comes_next (rows_from 0 m.chains) m.flight ≡ Some notice
   pub is : is_notice notice ≡ true
 
--- the work comes next
-abbrev pub ComesNext : Parts → Work → Type 0
-ComesNext m (work.Raise x) = (own_step m.flight ≡ Some (micro.Raise x)) × ComesFirst m (micro.Raise x)
-ComesNext m (work.Poll y) = (own_step m.flight ≡ Some (micro.Poll y)) × ComesFirst m (micro.Poll y)
-ComesNext m (work.Fall y) = (comes_next [] m.flight ≡ Some (micro.Fall y)) × ComesFirst m (micro.Fall y)
-ComesNext m (work.Lower x) = (own_step m.flight ≡ Some (micro.Lower x)) × ComesFirst m (micro.Lower x)
-ComesNext m (work.Tell step) = (is_notice step ≡ true) × TellsNext m × ComesFirst m step
-ComesNext m (work.HoldPrepare x) = (own_step m.flight ≡ Some (micro.HoldPrepare x)) × ComesFirst m (micro.HoldPrepare x)
-ComesNext m (work.HoldEnable x) = (own_step m.flight ≡ Some (micro.HoldEnable x)) × ComesFirst m (micro.HoldEnable x)
-ComesNext m (work.DropEnable x) = (own_step m.flight ≡ Some (micro.DropEnable x)) × ComesFirst m (micro.DropEnable x)
-ComesNext m (work.DropPrepare x) = (own_step m.flight ≡ Some (micro.DropPrepare x)) × ComesFirst m (micro.DropPrepare x)
-ComesNext m (work.Relink c p) = (own_step m.flight ≡ Some (micro.Relink c p)) × ComesFirst m (micro.Relink c p)
-ComesNext m (work.Select c place) = (own_step m.flight ≡ Some (micro.WriteMux c place)) × ComesFirst m (micro.WriteMux c place)
-ComesNext m (work.Settle c) = (own_step m.flight ≡ Some (micro.Settle c)) × ComesFirst m (micro.Settle c)
-ComesNext m (work.Close c) = (own_step m.flight ≡ Some (micro.Close c)) × ComesFirst m (micro.Close c)
-ComesNext m (work.Unpower c) = (own_step m.flight ≡ Some (micro.Unpower c)) × ComesFirst m (micro.Unpower c)
-ComesNext m (work.Visit c) = (own_step m.flight ≡ Some (micro.Visit c)) × ComesFirst m (micro.Visit c)
-ComesNext m (work.Register c) = (own_step m.flight ≡ Some (micro.Register c)) × ComesFirst m (micro.Register c)
-ComesNext m work.End = ComesFirst m micro.End
+-- the step comes next: where none would, the end, which then no change has left to do
+abbrev pub ComesNext : Parts → Option Micro → Type 0
+ComesNext m (Some (micro.Notify kind c id old new)) = TellsNext m × ComesFirst m (micro.Notify kind c id old new)
+ComesNext m (Some (micro.Fall y)) = (comes_next [] m.flight ≡ Some (micro.Fall y)) × ComesFirst m (micro.Fall y)
+ComesNext m (Some micro.End) = ComesFirst m micro.End
+ComesNext m None = ComesFirst m micro.End
+ComesNext m (Some (micro.Raise x)) = (own_step m.flight ≡ Some (micro.Raise x)) × ComesFirst m (micro.Raise x)
+ComesNext m (Some (micro.Poll y)) = (own_step m.flight ≡ Some (micro.Poll y)) × ComesFirst m (micro.Poll y)
+ComesNext m (Some (micro.Lower x)) = (own_step m.flight ≡ Some (micro.Lower x)) × ComesFirst m (micro.Lower x)
+ComesNext m (Some (micro.HoldPrepare x)) = (own_step m.flight ≡ Some (micro.HoldPrepare x)) × ComesFirst m (micro.HoldPrepare x)
+ComesNext m (Some (micro.HoldEnable x)) = (own_step m.flight ≡ Some (micro.HoldEnable x)) × ComesFirst m (micro.HoldEnable x)
+ComesNext m (Some (micro.DropEnable x)) = (own_step m.flight ≡ Some (micro.DropEnable x)) × ComesFirst m (micro.DropEnable x)
+ComesNext m (Some (micro.DropPrepare x)) = (own_step m.flight ≡ Some (micro.DropPrepare x)) × ComesFirst m (micro.DropPrepare x)
+ComesNext m (Some (micro.Relink c p)) = (own_step m.flight ≡ Some (micro.Relink c p)) × ComesFirst m (micro.Relink c p)
+ComesNext m (Some (micro.WriteMux c place)) = (own_step m.flight ≡ Some (micro.WriteMux c place)) × ComesFirst m (micro.WriteMux c place)
+ComesNext m (Some (micro.Visit c)) = (own_step m.flight ≡ Some (micro.Visit c)) × ComesFirst m (micro.Visit c)
+ComesNext m (Some (micro.Register c)) = (own_step m.flight ≡ Some (micro.Register c)) × ComesFirst m (micro.Register c)
+ComesNext m (Some (micro.Settle c)) = (own_step m.flight ≡ Some (micro.Settle c)) × ComesFirst m (micro.Settle c)
+ComesNext m (Some (micro.Close c)) = (own_step m.flight ≡ Some (micro.Close c)) × ComesFirst m (micro.Close c)
+ComesNext m (Some (micro.Unpower c)) = (own_step m.flight ≡ Some (micro.Unpower c)) × ComesFirst m (micro.Unpower c)

@@ -14,6 +14,5 @@ pub mod Tied
 pub mod Listed
 pub mod Planned
 pub mod Told
-pub mod Works
 pub mod Adoption
 pub mod Decisions

@@ -18,8 +18,8 @@ ghost use Rattle.clk_machine.specs.Stands.{Enters};
 use super::Machine;
 use clk_base::{ClockId, Micro, Turn};
 use core_parts::{
-    Made, Sought, Work, given_parent, going_on, next_to_lower, next_to_raise, next_to_raise_under,
-    set_power, work_of,
+    Made, Sought, given_parent, going_on, next_to_lower, next_to_raise, next_to_raise_under,
+    set_power,
 };
 use reg_bank::Bank;
 
@@ -156,13 +156,13 @@ impl<B: Bank> Machine<B> {
         self.steps += 1;
     }
 
-    // What comes next of the change in flight.
-    fn next_work(&self) -> Work
+    // The step that comes next of the change in flight.
+    fn next_step(&self) -> Option<Micro>
         requires { self.now.flight.going ≡ true }
         ensures next { ComesNext self.now result }
         ensures whole { IsWhole self.now }
     {
-        work_of(self.flight.next(&self.notifiers))
+        self.flight.next(&self.notifiers)
     }
 
     /// Makes the next step of the change in flight.
@@ -172,72 +172,87 @@ impl<B: Bank> Machine<B> {
         ensures links { links_well self.old.desc.defs self.old.tree.clocks result.step ≡ true }
         ensures locks { FollowsLocks self.old (Step result.step result.answer) self.new }
     {
-        match self.next_work() {
-            Work::Raise(clock) => {
+        match self.next_step() {
+            Some(Micro::Raise(clock)) => {
                 self.raise(clock);
                 going_on(Micro::Raise(clock), None)
             }
-            Work::Poll(pll) => {
+            Some(Micro::Poll(pll)) => {
                 let yes = self.poll(pll);
                 going_on(Micro::Poll(pll), Some(yes))
             }
-            Work::Fall(pll) => {
+            Some(Micro::Fall(pll)) => {
                 self.fall(pll);
                 going_on(Micro::Fall(pll), None)
             }
-            Work::Lower(clock) => {
+            Some(Micro::Lower(clock)) => {
                 self.lower(clock);
                 going_on(Micro::Lower(clock), None)
             }
-            Work::Tell(step) => {
+            Some(
+                Micro::Notify {
+                    kind,
+                    clock,
+                    id,
+                    old,
+                    new,
+                },
+            ) => {
+                let step = Micro::Notify {
+                    kind,
+                    clock,
+                    id,
+                    old,
+                    new,
+                };
                 self.tell(step);
                 going_on(step, None)
             }
-            Work::HoldPrepare(clock) => {
+            Some(Micro::HoldPrepare(clock)) => {
                 self.hold_prepare(clock);
                 going_on(Micro::HoldPrepare(clock), None)
             }
-            Work::HoldEnable(clock) => {
+            Some(Micro::HoldEnable(clock)) => {
                 self.hold_enable(clock);
                 going_on(Micro::HoldEnable(clock), None)
             }
-            Work::DropEnable(clock) => {
+            Some(Micro::DropEnable(clock)) => {
                 self.let_enable_go(clock);
                 going_on(Micro::DropEnable(clock), None)
             }
-            Work::DropPrepare(clock) => {
+            Some(Micro::DropPrepare(clock)) => {
                 self.let_prepare_go(clock);
                 going_on(Micro::DropPrepare(clock), None)
             }
-            Work::Relink(clock, parent) => {
+            Some(Micro::Relink(clock, parent)) => {
                 self.relink(clock, parent);
                 going_on(Micro::Relink(clock, parent), None)
             }
-            Work::Select(clock, place) => {
+            Some(Micro::WriteMux(clock, place)) => {
                 self.select(clock, place);
                 going_on(Micro::WriteMux(clock, place), None)
             }
-            Work::Settle(clock) => {
+            Some(Micro::Settle(clock)) => {
                 self.settle(clock);
                 going_on(Micro::Settle(clock), None)
             }
-            Work::Close(clock) => {
+            Some(Micro::Close(clock)) => {
                 self.close(clock);
                 going_on(Micro::Close(clock), None)
             }
-            Work::Unpower(clock) => {
+            Some(Micro::Unpower(clock)) => {
                 self.unpower(clock);
                 going_on(Micro::Unpower(clock), None)
             }
-            Work::Visit(clock) => {
+            Some(Micro::Visit(clock)) => {
                 self.visit(clock);
                 going_on(Micro::Visit(clock), None)
             }
-            Work::Register(clock) => {
+            Some(Micro::Register(clock)) => {
                 self.register_next(clock);
                 going_on(Micro::Register(clock), None)
             }
-            Work::End => {
+            Some(Micro::End) | None => {
                 let reply = self.end();
                 Made {
                     step: Micro::End,

@@ -1,5 +1,7 @@
-use Rattle.std.proofs.Common.{◌≡◌, ◌&&◌, ◌∙◌, Bool, true, false, refl, ap}
+use Rattle.std.proofs.Common.{◌≡◌, ◌&&◌, ◌∙◌, Bool, true, false, Some, refl, subst, ap}
+use Rattle.clk_base.specs.declared.call.Micro.{Micro}
 use Rattle.core_parts.specs.declared.work.Made.{Made}
+use Rattle.clk_machine.specs.Making.{ComesNext}
 use Rattle.clk_machine.specs.Sound.{links_well}
 use Rattle.clk_machine.proofs.Joining.{may_join}
 use Rattle.clk_machine.proofs.LinkSteps.{may_link}
@@ -12,32 +14,37 @@ use Rattle.clk_machine.proofs.machine.Machine.step.Goals as goal
 pub raise-requires-clause-near : goal.raise-requires-clause-near
 raise-requires-clause-near g c =
     let m = c.args.self.now in
-    both_right _ _ (raise_there m.flight (registered m.tree.clocks) c.in-Raise.clock c.in-Raise.ensures.next.0 (c.in-Raise.ensures.whole.flown c.requires).way)
+    let next = subst (λ (step : Micro). ComesNext m (Some step)) c.in-Some-Raise.field-0-is c.in-Some-Raise.ensures.next in
+    both_right _ _ (raise_there m.flight (registered m.tree.clocks) c.in-Some-Raise.clock next.0 (c.in-Some-Raise.ensures.whole.flown c.requires).way)
 
 pub lower-requires-clause-there : goal.lower-requires-clause-there
 lower-requires-clause-there g c =
     let m = c.args.self.now in
-    both_right _ _ (lower_there m.flight (registered m.tree.clocks) c.in-Lower.clock c.in-Lower.ensures.next.0 (c.in-Lower.ensures.whole.flown c.requires).way)
+    let next = subst (λ (step : Micro). ComesNext m (Some step)) c.in-Some-Lower.field-0-is c.in-Some-Lower.ensures.next in
+    both_right _ _ (lower_there m.flight (registered m.tree.clocks) c.in-Some-Lower.clock next.0 (c.in-Some-Lower.ensures.whole.flown c.requires).way)
 
 both : (a b : Bool) → a ≡ true → b ≡ true → (a && b) ≡ true
 both true true e f = refl
 both true false e f = absurd cc
 both false b e f = absurd cc
 
-pub returns-in-Relink-clause-links : goal.returns-in-Relink-clause-links
-returns-in-Relink-clause-links g c =
+pub returns-in-Some-Relink-clause-links : goal.returns-in-Some-Relink-clause-links
+returns-in-Some-Relink-clause-links g c =
     let m = c.args.self.now in
-    let may = may_link m c.in-Relink.clock c.in-Relink.parent c.in-Relink.ensures.whole c.requires c.in-Relink.ensures.next.0 in
-    ap (λ (made : Made). links_well m.desc.defs m.tree.clocks made.step) c.going_on-in-Relink.ensures ∙ both _ _ may.there may.possible
+    let next = subst (λ (step : Micro). ComesNext m (Some step)) c.in-Some-Relink.field-0-is c.in-Some-Relink.ensures.next in
+    let may = may_link m c.in-Some-Relink.clock c.in-Some-Relink.parent c.in-Some-Relink.ensures.whole c.requires next.0 in
+    ap (λ (made : Made). links_well m.desc.defs m.tree.clocks made.step) c.going_on-in-Some-Relink.ensures ∙ both _ _ may.there may.possible
 
-pub returns-in-Select-clause-links : goal.returns-in-Select-clause-links
-returns-in-Select-clause-links g c =
+pub returns-in-Some-WriteMux-clause-links : goal.returns-in-Some-WriteMux-clause-links
+returns-in-Some-WriteMux-clause-links g c =
     let m = c.args.self.now in
-    let may = may_select m c.in-Select.clock c.in-Select.place c.in-Select.ensures.whole c.requires c.in-Select.ensures.next.0 in
-    ap (λ (made : Made). links_well m.desc.defs m.tree.clocks made.step) c.going_on-in-Select.ensures ∙ both _ _ may.linked_ may.within
+    let next = subst (λ (step : Micro). ComesNext m (Some step)) c.in-Some-WriteMux.field-0-is c.in-Some-WriteMux.ensures.next in
+    let may = may_select m c.in-Some-WriteMux.clock c.in-Some-WriteMux.place c.in-Some-WriteMux.ensures.whole c.requires next.0 in
+    ap (λ (made : Made). links_well m.desc.defs m.tree.clocks made.step) c.going_on-in-Some-WriteMux.ensures ∙ both _ _ may.linked_ may.within
 
-pub returns-in-Register-clause-links : goal.returns-in-Register-clause-links
-returns-in-Register-clause-links g c =
+pub returns-in-Some-Register-clause-links : goal.returns-in-Some-Register-clause-links
+returns-in-Some-Register-clause-links g c =
     let m = c.args.self.now in
-    let may = may_join m c.in-Register.clock c.in-Register.ensures.whole c.requires c.in-Register.ensures.next.0 in
-    ap (λ (made : Made). links_well m.desc.defs m.tree.clocks made.step) c.going_on-in-Register.ensures ∙ may.well
+    let next = subst (λ (step : Micro). ComesNext m (Some step)) c.in-Some-Register.field-0-is c.in-Some-Register.ensures.next in
+    let may = may_join m c.in-Some-Register.clock c.in-Some-Register.ensures.whole c.requires next.0 in
+    ap (λ (made : Made). links_well m.desc.defs m.tree.clocks made.step) c.going_on-in-Some-Register.ensures ∙ may.well
