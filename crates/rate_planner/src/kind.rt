@@ -80,7 +80,15 @@ pub(crate) fn rate_over<B: Bank>(kind: Kind, bank: &B, parent: u64) -> u64
     requires { CanRead (B.size bank.now) kind }
     ensures { IfSome (B.contents bank.now) (λ regs. result ≡ rate_over kind regs parent) }
 {
-    match kind {
+    rate_by(&kind, bank, parent)
+}
+
+// The rate in Hz of a clock of this kind over its parent's rate, without a copy of the kind.
+fn rate_by<B: Bank>(kind: &Kind, bank: &B, parent: u64) -> u64
+    requires { CanRead (B.size bank.now) kind.now }
+    ensures { IfSome (B.contents bank.now) (λ regs. result ≡ rate_over kind.now regs parent) }
+{
+    match *kind {
         Kind::FixedRate { rate } => rate,
         Kind::Factor { mult, div } => factor_rate(parent, mult, div),
         Kind::Gate { .. } | Kind::Mux { .. } => parent,
@@ -101,6 +109,19 @@ pub(crate) fn rate_over<B: Bank>(kind: Kind, bank: &B, parent: u64) -> u64
             m,
             ..
         } => { pll_rate(parent, read_field(bank, word as usize, shift, width), m) }
+    }
+}
+
+/// The rate in Hz of a clock over this rate of its parent. A place outside of the description counts as
+/// a fixed clock of 0 Hz.
+pub(crate) fn rate_of<B: Bank>(desc: &ValidDesc, clock: ClockId, bank: &B, parent: u64) -> u64
+    requires { desc.now.words ≤ B.size bank.now }
+    ensures { IfSome (B.contents bank.now) (λ regs. result ≡ rate_over (kind_of desc.now.defs clock.0) regs parent) }
+{
+    if (clock.0 as usize) < desc.len() {
+        rate_by(&desc.def(clock).kind, bank, parent)
+    } else {
+        0
     }
 }
 

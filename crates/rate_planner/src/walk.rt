@@ -12,7 +12,7 @@ ghost use Rattle.clk_tree.specs.Plans.{chain_of};
 ghost use Rattle.rate_planner.specs.Chains.{IsThere, step_of};
 ghost use Rattle.rate_planner.specs.Walks.{AreThere, Walks, kid_rate, stays};
 
-use crate::kind::{kind_of, rate_over};
+use crate::kind::rate_of;
 use crate::next::moves;
 use clk_base::{ClockId, ValidDesc, depth};
 use clk_io::NoMemory;
@@ -38,17 +38,20 @@ fn kid_rate<B: Bank>(walker: &Walker<B>, clock: ClockId, parent: u64) -> (u64, b
     ensures moves { result.1 ≡ moves_away walker.now.tree.now.clocks (chain_of walker.now.steps.now) clock.0 }
 {
     let count = walker.steps.len();
-    let mut own = rate_over(kind_of(walker.desc, clock), walker.bank, parent);
+    let mut own: Option<u64> = None;
     let mut away = false;
     for done in 0..count {
         let place = count - 1 - done;
         let step = walker.steps[place];
         if step.clock.0 == clock.0 {
-            own = walker.rates[place];
+            own = Some(walker.rates[place]);
             away = away || moves(walker.tree, step);
         }
     }
-    (own, away)
+    match own {
+        Some(rate) => (rate, away),
+        None => (rate_of(walker.desc, clock, walker.bank, parent), away),
+    }
 }
 
 // Whether a step is of a clock that moves to this one.
