@@ -32,7 +32,6 @@ pub mod Ending
 pub mod Landings
 pub mod Working
 pub mod Starting
-pub mod Changing
 pub mod Staying
 pub mod Movable
 pub mod Requesting
