@@ -1,20 +1,22 @@
 //! The core: the machine with its journal.
 
-ghost use Rattle.std.specs.Prelude.{◌≡◌, ℕ, ◌+◌, ◌<◌, ◌≤◌, true, false, not, [], length, take, drop, is_some, slice_index, IfSome, IfOk, IsOk, OnErr};
+ghost use Rattle.std.specs.Prelude.{◌≡◌, ℕ, ◌+◌, ◌<◌, ◌≤◌, true, false, not, [], ◌∷◌, ◌++◌, length, take, drop, is_some, slice_index, IfSome, IfOk, IsOk, OnErr};
 ghost use Rattle.std.specs.Option.{option_map};
 ghost use Rattle.clk_model.specs.State.{is_quiet};
 ghost use Rattle.clk_model.specs.Journal.{opening, replay, Legal, Polled, cost};
 ghost use Rattle.clk_model.specs.Fed.{Fed};
 ghost use Rattle.clk_model.specs.Begin.{most_credits};
+ghost use Rattle.clk_base.specs.declared.event.Event.TheVariants.{Step};
 ghost use Rattle.core_parts.specs.InFlight.{is_worked_out};
+ghost use Rattle.core_parts.specs.MadeSteps.{step_of, answer_of, turn_of};
 
 use crate::log::Log;
 use crate::machine::Machine;
 use crate::row::Row;
-use clk_base::{ClockId, Entry, Event, Handle, Reply, Sleeping, Turn, ValidDesc};
+use clk_base::{ClockId, Entry, Event, Handle, Micro, Reply, Sleeping, Turn, ValidDesc};
 use clk_io::NoMemory;
 use clk_tree::Tree;
-use core_parts::Draft;
+use core_parts::{Draft, Made};
 use reg_bank::Bank;
 use std::alloc::Global;
 use std::marker::Model;
@@ -45,6 +47,33 @@ fn is_worked_out(what: &Sleeping) -> bool
             | Sleeping::Probe(_)
             | Sleeping::Sweep
     )
+}
+
+// Appends the entry of a step that was made. Answers its turn.
+fn push_made(log: &mut Log, driver: u32, made: Made) -> Turn
+    requires { 0 < log.old.room }
+    ensures entries { log.new.entries ≡ log.old.entries ++ record { driver = driver; event = Step (step_of made) (answer_of made); turn = turn_of made } ∷ [] }
+    ensures room { log.new.room + 1 ≡ log.old.room }
+    ensures turn { result ≡ turn_of made }
+{
+    match made {
+        Made::GoesOn(step, answer) => {
+            log.push(Entry {
+                driver,
+                event: Event::Step(step, answer),
+                turn: Turn::Going,
+            });
+            Turn::Going
+        }
+        Made::Ends(reply) => {
+            log.push(Entry {
+                driver,
+                event: Event::Step(Micro::End, None),
+                turn: Turn::Done(reply),
+            });
+            Turn::Done(reply)
+        }
+    }
 }
 
 impl<B: Bank> Model for Core<B> {
@@ -247,12 +276,7 @@ impl<B: Bank> Core<B> {
     {
         let driver = self.machine.driver();
         let made = self.machine.step();
-        self.log.push(Entry {
-            driver,
-            event: Event::Step(made.step, made.answer),
-            turn: made.turn,
-        });
-        made.turn
+        push_made(&mut self.log, driver, made)
     }
 
     /// The entries so far. After each prefix of them, the clocks that are active are fed.

@@ -16,3 +16,4 @@ pub mod Planned
 pub mod Told
 pub mod Adoption
 pub mod Decisions
+pub mod MadeSteps

@@ -65,4 +65,4 @@ pub use seen::Seen;
 pub use settling::settle_below;
 pub use visits::{set_along, set_to};
 pub use window::Window;
-pub use work::{Made, going_on};
+pub use work::Made;

@@ -1,27 +1,12 @@
-//! The steps that a core makes so far.
+//! A step that a core has made.
 
-ghost use Rattle.std.specs.Prelude.{◌≡◌};
-ghost use Rattle.clk_base.specs.declared.event.Turn.TheVariants.{Going};
-
-use clk_base::{Micro, Turn};
+use clk_base::{Micro, Reply};
 
 /// A step that was made.
 #[derive(Clone, Copy)]
-pub struct Made {
-    pub step: Micro,
-    /// What a poll was answered.
-    pub answer: Option<bool>,
-    /// Whether the call goes on, or how it ended.
-    pub turn: Turn,
-}
-
-/// A step after which the call goes on.
-pub fn going_on(step: Micro, answer: Option<bool>) -> Made
-    ensures { result ≡ record { step = step; answer = answer; turn = Going } }
-{
-    Made {
-        step,
-        answer,
-        turn: Turn::Going,
-    }
+pub enum Made {
+    /// This step, with what a poll was answered. The call goes on.
+    GoesOn(Micro, Option<bool>),
+    /// The end of the call, with its reply.
+    Ends(Reply),
 }

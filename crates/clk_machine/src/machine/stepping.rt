@@ -8,6 +8,7 @@ ghost use Rattle.clk_model.specs.State.{registered};
 ghost use Rattle.clk_model.specs.Tree.{path, path_to_be};
 ghost use Rattle.clk_flight.specs.Flights.{own_step, comes_next};
 ghost use Rattle.core_parts.specs.InFlight.{is_near};
+ghost use Rattle.core_parts.specs.MadeSteps.{step_of, answer_of, turn_of};
 ghost use Rattle.clk_machine.specs.Making.{ComesFirst, ComesNext, FindsNothing};
 ghost use Rattle.clk_machine.specs.Parts.{IsWhole};
 ghost use Rattle.clk_machine.specs.Polls.{FollowsLocks, PollsLock, StartsLock};
@@ -18,8 +19,7 @@ ghost use Rattle.clk_machine.specs.Stands.{Enters};
 use super::Machine;
 use clk_base::{ClockId, Micro, Turn};
 use core_parts::{
-    Made, Sought, given_parent, going_on, next_to_lower, next_to_raise, next_to_raise_under,
-    set_power,
+    Made, Sought, given_parent, next_to_lower, next_to_raise, next_to_raise_under, set_power,
 };
 use reg_bank::Bank;
 
@@ -168,26 +168,26 @@ impl<B: Bank> Machine<B> {
     /// Makes the next step of the change in flight.
     pub(crate) fn step(&mut self) -> Made
         requires { self.old.flight.going ≡ true }
-        ensures enters { Enters self.old self.old.flight.driver (Step result.step result.answer) result.turn self.new }
-        ensures links { links_well self.old.desc.defs self.old.tree.clocks result.step ≡ true }
-        ensures locks { FollowsLocks self.old (Step result.step result.answer) self.new }
+        ensures enters { Enters self.old self.old.flight.driver (Step (step_of result) (answer_of result)) (turn_of result) self.new }
+        ensures links { links_well self.old.desc.defs self.old.tree.clocks (step_of result) ≡ true }
+        ensures locks { FollowsLocks self.old (Step (step_of result) (answer_of result)) self.new }
     {
         match self.next_step() {
             Some(Micro::Raise(clock)) => {
                 self.raise(clock);
-                going_on(Micro::Raise(clock), None)
+                Made::GoesOn(Micro::Raise(clock), None)
             }
             Some(Micro::Poll(pll)) => {
                 let yes = self.poll(pll);
-                going_on(Micro::Poll(pll), Some(yes))
+                Made::GoesOn(Micro::Poll(pll), Some(yes))
             }
             Some(Micro::Fall(pll)) => {
                 self.fall(pll);
-                going_on(Micro::Fall(pll), None)
+                Made::GoesOn(Micro::Fall(pll), None)
             }
             Some(Micro::Lower(clock)) => {
                 self.lower(clock);
-                going_on(Micro::Lower(clock), None)
+                Made::GoesOn(Micro::Lower(clock), None)
             }
             Some(
                 Micro::Notify {
@@ -206,60 +206,53 @@ impl<B: Bank> Machine<B> {
                     new,
                 };
                 self.tell(step);
-                going_on(step, None)
+                Made::GoesOn(step, None)
             }
             Some(Micro::HoldPrepare(clock)) => {
                 self.hold_prepare(clock);
-                going_on(Micro::HoldPrepare(clock), None)
+                Made::GoesOn(Micro::HoldPrepare(clock), None)
             }
             Some(Micro::HoldEnable(clock)) => {
                 self.hold_enable(clock);
-                going_on(Micro::HoldEnable(clock), None)
+                Made::GoesOn(Micro::HoldEnable(clock), None)
             }
             Some(Micro::DropEnable(clock)) => {
                 self.let_enable_go(clock);
-                going_on(Micro::DropEnable(clock), None)
+                Made::GoesOn(Micro::DropEnable(clock), None)
             }
             Some(Micro::DropPrepare(clock)) => {
                 self.let_prepare_go(clock);
-                going_on(Micro::DropPrepare(clock), None)
+                Made::GoesOn(Micro::DropPrepare(clock), None)
             }
             Some(Micro::Relink(clock, parent)) => {
                 self.relink(clock, parent);
-                going_on(Micro::Relink(clock, parent), None)
+                Made::GoesOn(Micro::Relink(clock, parent), None)
             }
             Some(Micro::WriteMux(clock, place)) => {
                 self.select(clock, place);
-                going_on(Micro::WriteMux(clock, place), None)
+                Made::GoesOn(Micro::WriteMux(clock, place), None)
             }
             Some(Micro::Settle(clock)) => {
                 self.settle(clock);
-                going_on(Micro::Settle(clock), None)
+                Made::GoesOn(Micro::Settle(clock), None)
             }
             Some(Micro::Close(clock)) => {
                 self.close(clock);
-                going_on(Micro::Close(clock), None)
+                Made::GoesOn(Micro::Close(clock), None)
             }
             Some(Micro::Unpower(clock)) => {
                 self.unpower(clock);
-                going_on(Micro::Unpower(clock), None)
+                Made::GoesOn(Micro::Unpower(clock), None)
             }
             Some(Micro::Visit(clock)) => {
                 self.visit(clock);
-                going_on(Micro::Visit(clock), None)
+                Made::GoesOn(Micro::Visit(clock), None)
             }
             Some(Micro::Register(clock)) => {
                 self.register_next(clock);
-                going_on(Micro::Register(clock), None)
+                Made::GoesOn(Micro::Register(clock), None)
             }
-            Some(Micro::End) | None => {
-                let reply = self.end();
-                Made {
-                    step: Micro::End,
-                    answer: None,
-                    turn: Turn::Done(reply),
-                }
-            }
+            Some(Micro::End) | None => Made::Ends(self.end()),
         }
     }
 }

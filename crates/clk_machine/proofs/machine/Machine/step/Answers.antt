@@ -1,8 +1,6 @@
-use Rattle.std.proofs.Common.{◌≡◌, ◌&&◌, ◌∙◌, Bool, true, false, Some, refl, subst, ap}
+use Rattle.std.proofs.Common.{◌≡◌, ◌&&◌, Bool, true, false, Some, refl, subst}
 use Rattle.clk_base.specs.declared.call.Micro.{Micro}
-use Rattle.core_parts.specs.declared.work.Made.{Made}
 use Rattle.clk_machine.specs.Making.{ComesNext}
-use Rattle.clk_machine.specs.Sound.{links_well}
 use Rattle.clk_machine.proofs.Joining.{may_join}
 use Rattle.clk_machine.proofs.LinkSteps.{may_link}
 use Rattle.clk_machine.proofs.Selecting.{may_select}
@@ -33,18 +31,18 @@ returns-in-Some-Relink-clause-links g c =
     let m = c.args.self.now in
     let next = subst (λ (step : Micro). ComesNext m (Some step)) c.in-Some-Relink.field-0-is c.in-Some-Relink.ensures.next in
     let may = may_link m c.in-Some-Relink.clock c.in-Some-Relink.parent c.in-Some-Relink.ensures.whole c.requires next.0 in
-    ap (λ (made : Made). links_well m.desc.defs m.tree.clocks made.step) c.going_on-in-Some-Relink.ensures ∙ both _ _ may.there may.possible
+    both _ _ may.there may.possible
 
 pub returns-in-Some-WriteMux-clause-links : goal.returns-in-Some-WriteMux-clause-links
 returns-in-Some-WriteMux-clause-links g c =
     let m = c.args.self.now in
     let next = subst (λ (step : Micro). ComesNext m (Some step)) c.in-Some-WriteMux.field-0-is c.in-Some-WriteMux.ensures.next in
     let may = may_select m c.in-Some-WriteMux.clock c.in-Some-WriteMux.place c.in-Some-WriteMux.ensures.whole c.requires next.0 in
-    ap (λ (made : Made). links_well m.desc.defs m.tree.clocks made.step) c.going_on-in-Some-WriteMux.ensures ∙ both _ _ may.linked_ may.within
+    both _ _ may.linked_ may.within
 
 pub returns-in-Some-Register-clause-links : goal.returns-in-Some-Register-clause-links
 returns-in-Some-Register-clause-links g c =
     let m = c.args.self.now in
     let next = subst (λ (step : Micro). ComesNext m (Some step)) c.in-Some-Register.field-0-is c.in-Some-Register.ensures.next in
     let may = may_join m c.in-Some-Register.clock c.in-Some-Register.ensures.whole c.requires next.0 in
-    ap (λ (made : Made). links_well m.desc.defs m.tree.clocks made.step) c.going_on-in-Some-Register.ensures ∙ may.well
+    may.well
