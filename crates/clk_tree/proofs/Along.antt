@@ -1,5 +1,5 @@
 -- Going along a ring.
-use Rattle.std.proofs.Common.{◌≡◌, ℕ, zero, suc, ◌+◌, ◌<◌, ◌≤◌, true, false, cond, List, [], ◌∷◌, ◌++◌, Option, Some, None, refl, sym, ap, subst, ◌∙◌, arith, drop, length, nat_lt}
+use Rattle.std.proofs.Common.{◌≡◌, ◌≢◌, ℕ, zero, suc, ◌+◌, ◌<◌, ◌≤◌, true, false, cond, List, [], ◌∷◌, ◌++◌, Option, Some, None, refl, sym, ap, subst, ◌∙◌, arith, drop, length, nat_lt}
 use Rattle.std.specs.Prelude.{slice_get, slice_index}
 use Rattle.std.specs.Option.{option_map}
 use Rattle.std.specs.Result.{MatchResult, result_ok}
@@ -9,7 +9,6 @@ use Rattle.clk_base.specs.declared.clock.ClockId.{ClockId}
 use Rattle.clk_model.specs.Lists.{is_in}
 use Rattle.clk_model.proofs.Members.{is_in_head, is_in_tail}
 use Rattle.clk_tree.specs.Rings.{Leads}
-use Rattle.clk_model.proofs.PllLaws.{at_place}
 
 -- each of these numbers is below another
 abbrev pub AreBelow : ℕ → List ℕ → Type 0
@@ -91,6 +90,12 @@ pub comes_behind : (after : List ℕ) (end a k x : ℕ) (xs : List ℕ) → Lead
 comes_behind after end a k x [] is at = absurd cc
 comes_behind after end a zero x (y ∷ xs) is at = let same : y ≡ x = cc in subst (λ (z : ℕ). ComesAt after end (slice_index after z) xs) same (leads_comes after end y xs is.1)
 comes_behind after end a (suc k) x (y ∷ xs) is at = comes_behind after end y k x xs is.1 at
+
+-- who stands in a ring with an end isn't alone
+pub never_alone : (after : List ℕ) (end c : ℕ) (xs : List ℕ) → c ≢ end → ComesAt after end (slice_index after c) xs → slice_index after c ≢ c
+never_alone after end c [] two is same = two (sym same ∙ is)
+never_alone after end c (x ∷ xs) two is same =
+    never_alone after end c xs two (leads_comes after end c xs (subst (λ (y : ℕ). Leads after end y xs) (sym is.0 ∙ same) is.1)) same
 
 -- ---- answers
 

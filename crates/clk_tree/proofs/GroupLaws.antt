@@ -1,6 +1,6 @@
 -- Laws on the groups of clocks: who is in them, and their rings when a clock is attached.
 use Rattle.std.proofs.Common.{◌≡◌, ◌≢◌, ℕ, ◌+◌, ◌<◌, ◌≤◌, Bool, true, false, not, ◌&&◌, cond, List, [], ◌∷◌, Option, Some, None, refl, sym, ap, subst, ◌∙◌, ◌⊎◌, inl, inr, arith, length, nat_eq}
-use Rattle.std.specs.Prelude.{IfSome, is_none}
+use Rattle.std.specs.Prelude.{IfSome, is_none, slice_index}
 use Rattle.std.specs.Option.{option_map}
 use Rattle.std.proofs.lemmas.Bool.{true_from_ne_false, false_from_ne_true}
 use Rattle.clk_base.specs.declared.clock.ClockId.{ClockId}
@@ -132,6 +132,7 @@ pub record Moves (old new : List ℕ) (end c : ℕ) : Type 0 where
   pub size : length new ≡ length old
   pub front : (xs : List ℕ) → is_in end xs ≡ false → Leads old end end xs → Leads new end end (to_front c xs)
   pub others : (e : ℕ) (xs : List ℕ) → e ≢ end → e ≢ c → is_in end xs ≡ false → Leads old e e xs → Leads new e e (without (c ∷ []) xs)
+  pub stays : (k : ℕ) → k ≢ end → k ≢ c → slice_index old k ≡ k → slice_index new k ≡ k
 
 -- a parent is a clock of the description
 parent_within : (defs : Description) (clocks : List ClockRow) (order rates : List ℕ) (parent : Option ClockId) → IsTree defs clocks order rates

@@ -1,5 +1,5 @@
 -- Laws on the fields of a tree.
-use Rattle.std.proofs.Common.{◌≡◌, ℕ, suc, ◌+◌, ◌<◌, ◌≤◌, Bool, true, cond, List, [], Option, Some, None, refl, sym, ap, subst, ◌∙◌, arith, length, nat_lt, false, drop, replicate, ◌⊎◌, inl, inr}
+use Rattle.std.proofs.Common.{◌≡◌, ◌≢◌, ℕ, suc, ◌+◌, ◌<◌, ◌≤◌, Bool, true, cond, List, [], Option, Some, None, refl, sym, ap, subst, ◌∙◌, arith, length, nat_lt, false, drop, replicate, ◌⊎◌, inl, inr}
 use Rattle.std.specs.Prelude.{slice_get, slice_index, slice_set, IfSome, Result}
 use Rattle.std.specs.Option.{option_map}
 use Rattle.std.specs.Result.{MatchResult, result_ok}
@@ -10,23 +10,22 @@ use Rattle.clk_base.specs.Valid.{IsValid}
 use Rattle.clk_base.proofs.Valid.{lines_end}
 use Rattle.clk_model.specs.declared.row.ClockRow.{ClockRow}
 use Rattle.clk_model.specs.Lists.{is_in, to_front}
-use Rattle.clk_model.proofs.OnceLaws.{is_in-filter}
 use Rattle.clk_model.specs.Script.{plls}
 use Rattle.clk_model.specs.State.{row_of, registered, unregistered_row, requested}
 use Rattle.clk_model.specs.Tree.{children}
 use Rattle.clk_tree.specs.declared.group.Group.{Group}
 use Rattle.clk_tree.specs.declared.group.Group.TheVariants.{ChildrenOf}
-use Rattle.clk_tree.specs.Groups.{is_member, members, group_of, IsGroup, end_of, AreListed}
+use Rattle.clk_tree.specs.Groups.{members, group_of, IsGroup, end_of, AreListed}
 use Rattle.clk_tree.specs.Held.{IsHeld}
 use Rattle.clk_tree.specs.Rings.{Leads, ring_of}
 use Rattle.clk_tree.specs.Rooted.{TellsRooted}
 use Rattle.clk_tree.specs.TreeState.{IsTree, attached}
-use Rattle.clk_tree.proofs.Along.{AreBelow, ComesAt, leads_comes, comes_behind, clock_first, clock_at, get_drop, in_drop}
+use Rattle.clk_tree.proofs.Along.{AreBelow, ComesAt, leads_comes, comes_behind, never_alone, clock_first, clock_at, get_drop, in_drop}
 use Rattle.clk_tree.proofs.GroupLaws.{Moves, order_below, members_below, none_beyond, end_out, end_beyond, end_within, listed_attached, listed_requested}
 use Rattle.clk_tree.proofs.RingLaws.{ring_is}
 use Rattle.clk_tree.proofs.RootedLaws.{UpdatesFlags, tells_attached, tells_none, tells_requested}
-use Rattle.clk_tree.proofs.Rows.{tree_made, tree_attached, tree_requested, order-few, link-requested}
-use Rattle.clk_model.proofs.StateLaws.{registered_lt}
+use Rattle.clk_tree.proofs.Rows.{tree_made, tree_attached, tree_requested, order-few, link-requested, registered-requested}
+use Rattle.clk_model.proofs.StateLaws.{row_of-set_same, row_of-set_other}
 use Rattle.clk_model.proofs.PllLaws.{at_place as stands_in}
 
 -- the order that a ring of turns has
@@ -95,16 +94,22 @@ parent_place defs clocks order rates c p k tree here = inside (cases_lt p (lengt
   inside (inl lies) = lies
   inside (inr beyond) = let none : slice_get [] k ≡ Some c = ap (λ (xs : List ℕ). slice_get xs k) (sym (none_beyond defs clocks order rates p tree beyond)) ∙ here in absurd cc
 
--- who is in a group is registered
-pub not_among : (defs : Description) (clocks : List ClockRow) (order rates : List ℕ) (c k : ℕ) (group : Group) → IsTree defs clocks order rates → registered clocks c ≡ false
+-- who is in a group is a clock
+pub no_member : (defs : Description) (clocks : List ClockRow) (order rates : List ℕ) (count c k : ℕ) (group : Group) → IsTree defs clocks order rates → count ≡ length defs → count ≤ c
     → slice_get (members defs clocks order group) k ≡ Some c → ⊥
-not_among defs clocks order rates c k group tree gone here =
-    let there : registered clocks c ≡ true = sym (tree.order_lists.listed c) ∙ is_in-filter (is_member defs clocks group) c order (stands_in (members defs clocks order group) k c here) in cc
+no_member defs clocks order rates count c k group tree same beyond here =
+    let less : c < length defs = members_below defs clocks order rates group tree c (stands_in (members defs clocks order group) k c here) in absurd (omega arith)
 
--- and has a place in the rings
-pub place_in_rings : (defs : Description) (clocks : List ClockRow) (rates turns siblings : List ℕ) (most : ℕ) (flags : List Bool) (c : ℕ) → IsHeld defs clocks rates turns siblings most flags → registered clocks c ≡ true → c < length siblings
-place_in_rings defs clocks rates turns siblings most flags c held there =
-    let lies : c < length clocks = registered_lt clocks c there in let rows = held.tree.rows in let size = held.listed.size in omega arith
+-- and isn't alone in its ring
+pub not_alone : (defs : Description) (clocks : List ClockRow) (rates turns siblings : List ℕ) (most : ℕ) (flags : List Bool) (c k : ℕ) (group : Group)
+    → IsHeld defs clocks rates turns siblings most flags → IsGroup (length defs) group
+    → slice_get (members defs clocks (ring_of turns (length defs)) group) k ≡ Some c → slice_index siblings c ≡ c → ⊥
+not_alone defs clocks rates turns siblings most flags c k group held one here alone =
+    let all : List ℕ = members defs clocks (order_in defs turns) group in
+    let end : ℕ = end_of (length defs) group in
+    let far = end_beyond (length defs) group in
+    let less : c < length defs = members_below defs clocks (order_in defs turns) rates group held.tree c (stands_in all k c here) in
+    never_alone siblings end c (drop (suc k) all) (λ same. omega arith) (comes_behind siblings end end k c all (held.listed.each group one) here) alone
 
 -- ---- made
 
@@ -121,6 +126,7 @@ held_made words defs rates turns siblings most flags count valid same rated turn
       turn = turn_alone (length defs) (omega arith);
       each = λ group is. alone (end_of (length defs) group) (end_within (length defs) (count + count + 2) group is (omega arith));
     });
+    alone = λ c place gone. alone c (omega arith);
     counted = counted;
     rooted = tells_none defs flags down;
   },
@@ -145,6 +151,7 @@ held_attached words defs clocks found rates turns siblings turns' siblings' most
       (record {
         tree = subst (λ (xs : List ℕ). IsTree defs (attached clocks c parent) xs rates) (sym order) tree;
         listed = subst (λ (xs : List ℕ). AreListed defs (attached clocks c parent) xs turns' siblings') (sym order) listed;
+        alone = alone;
         counted = held.counted;
         rooted = flagged;
       }),
@@ -157,6 +164,16 @@ held_attached words defs clocks found rates turns siblings turns' siblings' most
 
   listed : AreListed defs (attached clocks c parent) front turns' siblings'
   listed = listed_attached words defs clocks (order_in defs turns) rates turns siblings turns' siblings' c parent valid held.tree held.listed place there can moved turned
+
+  alone : (d : ℕ) → d < length defs → registered (attached clocks c parent) d ≡ false → slice_index siblings' d ≡ d
+  alone d inside gone =
+      let far = end_beyond (length defs) (group_of defs c parent) in
+      let other : c ≢ d = (λ is_c. attached_there (ap (registered (attached clocks c parent)) is_c ∙ gone)) in
+      moved.stays d (λ is_end. omega arith) (λ is_c. other (sym is_c))
+      (held.alone d inside (ap (λ (r : ClockRow). r.registered) (sym (row_of-set_other clocks c _ d other)) ∙ gone)) where
+        attached_there : registered (attached clocks c parent) c ≡ false → ⊥
+        attached_there none =
+            let there : registered (attached clocks c parent) c ≡ true = ap (λ (r : ClockRow). r.registered) (row_of-set_same clocks c _ (let rows = held.tree.rows in omega arith)) in cc
 
   flagged : TellsRooted defs (attached clocks c parent) flags'
   flagged =
@@ -178,6 +195,7 @@ held_requested defs clocks found rates turns siblings most flags c rate row held
     (record {
       tree = tree_requested defs clocks (order_in defs turns) rates c rate held.tree place;
       listed = listed_requested defs clocks (requested clocks c rate) (order_in defs turns) turns siblings (λ d. link-requested clocks c rate d within) held.listed;
+      alone = λ d inside gone. held.alone d inside (sym (registered-requested clocks c rate d within) ∙ gone);
       counted = held.counted;
       rooted = tells_requested defs clocks flags c rate within held.rooted;
     }) where

@@ -1,13 +1,13 @@
 -- Laws on going through the children of a clock by their ring, and on what is below them.
-use Rattle.std.proofs.Common.{◌≡◌, ℕ, suc, ◌+◌, ◌<◌, ◌≤◌, true, false, List, Some, sym, ap, subst, ◌∙◌, ◌⊎◌, arith, drop, length}
+use Rattle.std.proofs.Common.{◌≡◌, ℕ, suc, ◌+◌, ◌<◌, ◌≤◌, true, false, List, [], ◌∷◌, Some, refl, sym, ap, subst, ◌∙◌, ◌⊎◌, arith, drop, length, nat_lt}
 use Rattle.std.specs.Prelude.{flat_map, slice_get, slice_index}
-use Rattle.std.proofs.lemmas.Bool.{both_ways, false_from_ne_true}
+use Rattle.std.proofs.lemmas.Bool.{both_ways, false_from_ne_true, ltb-true, ltb-false}
 use Rattle.clk_model.specs.Lists.{is_in}
 use Rattle.clk_model.specs.Walk.{below_within}
 use Rattle.clk_model.proofs.Members.{is_in_tail}
 use Rattle.clk_model.proofs.OnceLaws.{in_append, flat_map_in}
 use Rattle.clk_tree.specs.Refreshed.{AreKidRings}
-use Rattle.clk_tree.proofs.Along.{ComesAt, leads_comes, go_on, stops, drop_at}
+use Rattle.clk_tree.proofs.Along.{ComesAt, leads_comes, go_on, stops, none_left, drop_at}
 
 -- ---- the ring
 
@@ -27,6 +27,20 @@ pub no_kid_left : (n : ℕ) (siblings : List ℕ) (clock at step : ℕ) → n �
     → (kids : ℕ → List ℕ) → AreKidRings n siblings kids → length (kids clock) ≤ step
 no_kid_left n siblings clock at step beyond comes kids are = stops siblings (n + clock) at n step (kids clock) (λ x m. are.clocks clock x m) beyond (comes kids are)
 
+-- where a clock stands behind the end, there is a child
+pub some_kid : (n : ℕ) (siblings : List ℕ) (clock at : ℕ) → clock < n → at ≡ slice_index siblings (n + clock)
+    → (kids : ℕ → List ℕ) → AreKidRings n siblings kids → nat_lt at n ≡ true → 0 < length (kids clock)
+some_kid n siblings clock at place first kids are less = by_kids (kids clock) (first_kid n siblings clock at place first kids are) where
+  by_kids : (xs : List ℕ) → ComesAt siblings (n + clock) at (drop 0 xs) → 0 < length xs
+  by_kids [] is = let before : at < n = ltb-true at n less in let end : at ≡ n + clock = is in absurd (omega arith)
+  by_kids (x ∷ xs) is = omega arith
+
+-- and where an end stands there, there is none
+pub no_kid : (n : ℕ) (siblings : List ℕ) (clock at : ℕ) → clock < n → at ≡ slice_index siblings (n + clock)
+    → (kids : ℕ → List ℕ) → AreKidRings n siblings kids → nat_lt at n ≡ false → kids clock ≡ []
+no_kid n siblings clock at place first kids are most =
+    none_left (kids clock) 0 (no_kid_left n siblings clock at 0 (ltb-false at n most) (first_kid n siblings clock at place first) kids are)
+
 -- ---- what is below
 
 -- what isn't below a clock isn't below its child
@@ -41,3 +55,8 @@ pub below_left : (kids : ℕ → List ℕ) (levels clock kid step k : ℕ) → s
 below_left kids levels clock kid step k here later =
     in_append k (below_within kids levels kid) (flat_map (below_within kids levels) (drop (suc step) (kids clock)))
     (ap (λ (ys : List ℕ). is_in k (flat_map (below_within kids levels) ys)) (sym (drop_at (kids clock) step kid here)) ∙ later)
+
+-- without a level nothing is below any clock
+pub none_below : (kids : ℕ → List ℕ) (k : ℕ) (xs : List ℕ) → is_in k (flat_map (below_within kids 0) xs) ≡ false
+none_below kids k [] = refl
+none_below kids k (x ∷ xs) = none_below kids k xs

@@ -5,8 +5,8 @@ use Rattle.std.proofs.lemmas.List.{length-set, get_or-set_same, get_or-set_other
 use Rattle.std.proofs.lemmas.Bool.{cases_lt, false_from_ne_true}
 use Rattle.clk_model.specs.Lists.{is_in, without}
 use Rattle.clk_model.proofs.Members.{same_from_test, test_other}
-use Rattle.clk_model.proofs.OnceLaws.{is_in-filter, not_in-without}
-use Rattle.clk_model.proofs.SiblingLaws.{stays, taken_out}
+use Rattle.clk_model.proofs.OnceLaws.{is_in-filter}
+use Rattle.clk_model.proofs.SiblingLaws.{stays}
 use Rattle.clk_tree.specs.Rings.{LeadsBack, AreRings, Leads, behind, ring_of}
 
 -- ---- numbers in lists
@@ -254,6 +254,18 @@ leads_taken after before n a b end xs rings within ahead behind_ other is =
 
 pub taken_alone : (after : List ℕ) (n a b : ℕ) → n < length after → slice_index (written after b a n n) n ≡ n
 taken_alone after n a b within = read-last after b a n n within
+
+-- another number that is alone stays alone where one is taken out
+pub taken_stays : (after before : List ℕ) (n a b k : ℕ) → AreRings after before → n < length after → slice_index before n ≡ b
+    → k ≢ n → slice_index after k ≡ k → slice_index (written after b a n n) k ≡ k
+taken_stays after before n a b k rings within behind_ other alone =
+    read-elsewhere after b a n n k (λ same. other (sym alone ∙ ap (slice_index after) same ∙ ahead_of_it)) other ∙ alone where
+      ahead_of_it : slice_index after b ≡ n
+      ahead_of_it = ap (slice_index after) (sym behind_) ∙ (rings.back n (let sizes = rings.sizes in omega arith)).1
+
+-- and where one is put behind another
+pub put_stays : (after : List ℕ) (end n first k : ℕ) → k ≢ end → k ≢ n → slice_index after k ≡ k → slice_index (written after end n n first) k ≡ k
+put_stays after end n first k no_end no_n alone = read-elsewhere after end n n first k no_end no_n ∙ alone
 
 -- where a number is put behind another, what avoids both stands as before
 leads_same : (after : List ℕ) (e end n first x : ℕ) (xs : List ℕ) → x ≢ end → x ≢ n → is_in end xs ≡ false → is_in n xs ≡ false

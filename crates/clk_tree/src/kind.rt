@@ -1,6 +1,6 @@
 //! What a clock's kind says, and the rate that it makes of its parent's rate.
 
-ghost use Rattle.std.specs.Prelude.{◌≡◌, ℕ, ◌≤◌, IfSome};
+ghost use Rattle.std.specs.Prelude.{◌≡◌, ◌≤◌, IfSome};
 ghost use Rattle.clk_base.specs.Description.{kind_of};
 ghost use Rattle.clk_model.specs.Kinds.{is_fixed};
 ghost use Rattle.clk_model.specs.Rate.{style_of, rate_over};
@@ -12,8 +12,7 @@ use reg_bank::{Bank, read_field};
 
 /// The kind of a clock. A place outside of the description counts as a fixed clock of 0 Hz.
 pub(crate) fn kind_of(desc: &ValidDesc, clock: ClockId) -> Kind
-    ensures kind { result ≡ kind_of desc.now.defs clock.0 }
-    ensures reads { (words : ℕ) → desc.now.words ≤ words → CanRead words result }
+    ensures { result ≡ kind_of desc.now.defs clock.0 }
 {
     if (clock.0 as usize) < desc.len() {
         desc.def(clock).kind
@@ -42,12 +41,12 @@ fn style_of(one_based: bool, power_of_two: bool) -> DivStyle
     }
 }
 
-/// The rate in Hz of a clock of this kind over its parent's rate.
-pub(crate) fn rate_over<B: Bank>(kind: Kind, bank: &B, parent: u64) -> u64
-    requires { CanRead (B.size bank.now) kind }
-    ensures { IfSome (B.contents bank.now) (λ regs. result ≡ rate_over kind regs parent) }
+// The rate in Hz of a clock of this kind over its parent's rate, without a copy of the kind.
+fn rate_by<B: Bank>(kind: &Kind, bank: &B, parent: u64) -> u64
+    requires { CanRead (B.size bank.now) kind.now }
+    ensures { IfSome (B.contents bank.now) (λ regs. result ≡ rate_over kind.now regs parent) }
 {
-    match kind {
+    match *kind {
         Kind::FixedRate { rate } => rate,
         Kind::Factor { mult, div } => factor_rate(parent, mult, div),
         Kind::Gate { .. } | Kind::Mux { .. } => parent,
@@ -68,5 +67,19 @@ pub(crate) fn rate_over<B: Bank>(kind: Kind, bank: &B, parent: u64) -> u64
             m,
             ..
         } => pll_rate(parent, read_field(bank, word as usize, shift, width), m),
+    }
+}
+
+/// The rate in Hz of a clock over this rate of its parent. A place outside of the description counts as
+/// a fixed clock of 0 Hz.
+#[inline(always)]
+pub(crate) fn rate_of<B: Bank>(desc: &ValidDesc, clock: ClockId, bank: &B, parent: u64) -> u64
+    requires { desc.now.words ≤ B.size bank.now }
+    ensures { IfSome (B.contents bank.now) (λ regs. result ≡ rate_over (kind_of desc.now.defs clock.0) regs parent) }
+{
+    if (clock.0 as usize) < desc.len() {
+        rate_by(&desc.def(clock).kind, bank, parent)
+    } else {
+        0
     }
 }

@@ -65,6 +65,7 @@ impl Ring {
         ensures size { length self.new ≡ length self.old }
         ensures alone { slice_index self.new number ≡ number }
         ensures rings { (end : ℕ) (xs : List ℕ) → end ≢ number → Leads self.old end end xs → Leads self.new end end (without (number ∷ []) xs) }
+        ensures stays { (k : ℕ) → k ≢ number → slice_index self.old k ≡ k → slice_index self.new k ≡ k }
     {
         let after = self.after[number as usize];
         let before = self.before[number as usize];
@@ -83,6 +84,7 @@ impl Ring {
         ensures size { length self.new ≡ length self.old }
         ensures front { (xs : List ℕ) → is_in end xs ≡ false → is_in number xs ≡ false → Leads self.old end end xs → Leads self.new end end (number ∷ xs) }
         ensures others { (e : ℕ) (xs : List ℕ) → e ≢ end → e ≢ number → is_in end xs ≡ false → is_in number xs ≡ false → Leads self.old e e xs → Leads self.new e e xs }
+        ensures stays { (k : ℕ) → k ≢ end → k ≢ number → slice_index self.old k ≡ k → slice_index self.new k ≡ k }
     {
         let first = self.after[end as usize];
         self.after[end as usize] = number;
@@ -91,13 +93,15 @@ impl Ring {
         self.before[number as usize] = end;
     }
 
-    /// Puts a number behind another, and takes it from where it stood.
+    /// Puts a number behind another, and takes it from where it stood. Another number that is alone stays
+    /// so.
     pub(crate) fn move_behind(&mut self, end: u32, number: u32)
         requires end { end < length self.old }
         requires number { number < end }
         ensures size { length self.new ≡ length self.old }
         ensures front { (xs : List ℕ) → is_in end xs ≡ false → Leads self.old end end xs → Leads self.new end end (to_front number xs) }
         ensures others { (e : ℕ) (xs : List ℕ) → e ≢ end → e ≢ number → is_in end xs ≡ false → Leads self.old e e xs → Leads self.new e e (without (number ∷ []) xs) }
+        ensures stays { (k : ℕ) → k ≢ end → k ≢ number → slice_index self.old k ≡ k → slice_index self.new k ≡ k }
     {
         self.take_out(number);
         self.put_behind(end, number);

@@ -162,10 +162,15 @@ impl Tree {
         ensures inside { IfSome result (λ d. d.0 < length self.now.defs) }
         ensures stands { IsTree self.now.defs self.now.clocks self.now.order self.now.rates }
     {
-        if !is_registered(&self.clocks, c) {
+        let count = count_of(&self.desc);
+        if c.0 >= count {
             return None;
         }
-        as_clock(count_of(&self.desc), self.siblings.after(c.0))
+        let next = self.siblings.after(c.0);
+        if next == c.0 {
+            return None;
+        }
+        as_clock(count, next)
     }
 
     /// The k-th, from 0, of the roots and then the orphans, the newest attached first of each.

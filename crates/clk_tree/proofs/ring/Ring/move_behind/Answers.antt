@@ -15,3 +15,6 @@ pub returns-clause-others : goal.returns-clause-others
 returns-clause-others c = λ e xs apart other out is.
     let number = c.args.number in
     c.put_behind.ensures.others e (without (number ∷ []) xs) apart other (not_in_without c.args.end number xs out) (not_in-without number xs) (c.take_out.ensures.rings e xs other is)
+
+pub returns-clause-stays : goal.returns-clause-stays
+returns-clause-stays c = λ k apart other alone. c.put_behind.ensures.stays k apart other (c.take_out.ensures.stays k other alone)

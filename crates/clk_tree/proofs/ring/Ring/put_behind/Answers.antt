@@ -3,7 +3,7 @@ use Rattle.std.proofs.Common.{◌≡◌, ◌<◌, length, sym, ℕ, List, subst}
 use Rattle.std.specs.Prelude.{slice_index}
 use Rattle.std.proofs.lemmas.List.{get_or_read}
 use Rattle.clk_tree.specs.Rings.{Leads}
-use Rattle.clk_tree.proofs.RingLaws.{rings_put, leads_front, leads_apart}
+use Rattle.clk_tree.proofs.RingLaws.{rings_put, leads_front, leads_apart, put_stays}
 use Rattle.clk_tree.proofs.ring.Ring.put_behind.Goals as goal
 
 pub invariant_of-self : goal.invariant_of-self
@@ -28,3 +28,8 @@ pub returns-clause-others : goal.returns-clause-others
 returns-clause-others c = λ e xs other apart no_end no_number is.
     leads_apart c.self.inside.after.items e c.args.end c.args.number c.index-first.result.now xs other apart no_end no_number
     (subst (λ (ring : List ℕ). Leads ring e e xs) (sym c.self.view_is) is)
+
+pub returns-clause-stays : goal.returns-clause-stays
+returns-clause-stays c = λ k apart other alone.
+    put_stays c.self.inside.after.items c.args.end c.args.number c.index-first.result.now k apart other
+    (subst (λ (ring : List ℕ). slice_index ring k ≡ k) (sym c.self.view_is) alone)

@@ -35,9 +35,9 @@ after c =
     held_attached m.desc.words m.desc.defs m.clocks.items c.deref.result.now m.rates.items m.turns m.siblings c.move_behind-2.new.self c.move_behind.new.self m.plls m.rooted.items new c.args.c.0 c.args.p c.row_of.result
     c.count_of-count.ensures.valid c.self.invariant place there can c.row_of.ensures c.deref.ensures.value
     (subst (λ (e : ℕ). Moves m.siblings c.move_behind.new.self e c.args.c.0) ends
-    (record { size = c.move_behind.ensures.size; front = c.move_behind.ensures.front; others = c.move_behind.ensures.others }))
+    (record { size = c.move_behind.ensures.size; front = c.move_behind.ensures.front; others = c.move_behind.ensures.others; stays = c.move_behind.ensures.stays }))
     (subst (λ (e : ℕ). Moves m.turns c.move_behind-2.new.self e c.args.c.0) n
-    (record { size = c.move_behind-2.ensures.size; front = c.move_behind-2.ensures.front; others = c.move_behind-2.ensures.others }))
+    (record { size = c.move_behind-2.ensures.size; front = c.move_behind-2.ensures.front; others = c.move_behind-2.ensures.others; stays = c.move_behind-2.ensures.stays }))
     sets
 
 pub invariant_of-self : goal.invariant_of-self
