@@ -1,8 +1,10 @@
 -- Laws on a walk that is made clock by clock.
-use Rattle.std.proofs.Common.{◌≡◌, ℕ, zero, suc, ◌+◌, ◌-◌, ◌<◌, ◌≤◌, Bool, true, false, not, ◌&&◌, cond, List, [], ◌∷◌, ◌++◌, map, Option, Some, None, refl, sym, ap, subst, ◌∙◌, arith, add-one, append_assoc, append-nil, drop, take, length, get_or}
-use Rattle.std.specs.Prelude.{IfSome, filter, flat_map, option_map, slice_get, slice_index}
+use Rattle.std.proofs.Common.{◌≡◌, ℕ, zero, suc, ◌+◌, ◌-◌, ◌<◌, ◌≤◌, Bool, true, false, not, ◌&&◌, ◌||◌, cond, List, [], ◌∷◌, ◌++◌, map, Option, Some, None, refl, sym, ap, subst, ◌∙◌, arith, add-one, append_assoc, append-nil, drop, take, length, get_or}
+use Rattle.std.specs.Prelude.{IfSome, filter, flat_map, is_some, option_map, slice_get, slice_index}
 use Rattle.clk_base.specs.Levels.{depth}
 use Rattle.std.specs.List.{AllByRecursion}
+use Rattle.std.proofs.Math.Bool.{and-false}
+use Rattle.std.proofs.lemmas.Bool.{or_parts}
 use Rattle.std.proofs.lemmas.List.{map-append}
 use Rattle.std.proofs.lemmas.List.Elements.{filter-append}
 use Rattle.std.proofs.lemmas.Grind.{flat_map-append}
@@ -25,7 +27,7 @@ use Rattle.clk_tree.specs.Plans.{ClockRate, chain_of, rates_of}
 use Rattle.clk_tree.specs.TreeState.{TreeState, IsTree}
 use Rattle.clk_tree.proofs.Rows.{order-few}
 use Rattle.rate_planner.specs.Chains.{step_of}
-use Rattle.rate_planner.specs.Walks.{at_rate, AreWalked, Walks, kid_rate, stays}
+use Rattle.rate_planner.specs.Walks.{at_rate, AreWalked, Walks, below_after, has_moves, kid_rate, stays}
 use Rattle.rate_planner.proofs.ListSteps.{told_both, told_always, steps_left}
 use Rattle.clk_model.proofs.PllLaws.{at_place}
 
@@ -50,41 +52,108 @@ walks_on told defs t ks rates c r old mid new xs ys zs both first second =
     ∙ ap (λ (b : List ClockRate). old ++ b) (sym (map-append (at_rate rated) xs ys) ∙ ap (map (at_rate rated)) (sym both))) first second
 
 -- the clock itself is added
-pub walks_own : (told : Option Registers) (defs : Description) (t : TreeState) (ks : List state.ChainStep) (rates : List ℕ) (c : ClockId) (r : ℕ) (old new : List ClockRate)
+walks_own : (told : Option Registers) (defs : Description) (t : TreeState) (ks : List state.ChainStep) (rates : List ℕ) (c : ClockId) (r : ℕ) (old new : List ClockRate)
     → new ≡ old ++ rates_of ((let w : WalkRate = record { clock = c; rate = r } in w) ∷ []) → Walks told defs t ks rates c.0 r old new (c.0 ∷ [])
 walks_own told defs t ks rates c r old new pushed =
     told_always told _ (λ regs rated are is. pushed ∙ ap (λ (n : ℕ). old ++ (let q : ClockRate = record { clock = c.0; rate = n } in q) ∷ []) (sym is))
 
--- a clock, its children that stay, and the clocks that move to it
-pub walks_all : (told : Option Registers) (defs : Description) (t : TreeState) (ks : List state.ChainStep) (rates : List ℕ) (levels c r : ℕ) (old own stay move : List ClockRate) → 0 < levels
-    → Walks told defs t ks rates c r old own (c ∷ [])
-    → Walks told defs t ks rates c r own stay (flat_map (below_within (kids_after t.order t.clocks ks) (levels - 1)) (filter (stays t.clocks ks) (children t.order t.clocks c)))
-    → Walks told defs t ks rates c r stay move (flat_map (below_within (kids_after t.order t.clocks ks) (levels - 1)) (movers_to t.clocks ks c))
-    → Walks told defs t ks rates c r old move (below_within (kids_after t.order t.clocks ks) levels c)
-walks_all told defs t ks rates levels c r old own stay move some first second third =
-    walks_on told defs t ks rates c r old stay move (c ∷ flat_map below staying) (flat_map below moving) (below_within kids levels c) (whole levels some)
-    (walks_on told defs t ks rates c r old own stay (c ∷ []) (flat_map below staying) (c ∷ flat_map below staying) refl first second) third where
-      kids : ℕ → List ℕ
-      kids = kids_after t.order t.clocks ks
+-- ---- whether a chain moves a clock
 
-      below : ℕ → List ℕ
-      below = below_within (kids_after t.order t.clocks ks) (levels - 1)
+-- the first of the steps left moves its clock, or one behind it does
+moves_left : (clocks : List ClockRow) (steps : List ChainStep) (place : ℕ) (d : ChainStep) → place < length steps
+    → has_moves clocks (drop place (chain_of steps)) ≡ (moves clocks (step_of (get_or steps place d)) || has_moves clocks (drop (place + 1) (chain_of steps)))
+moves_left clocks steps place d less = ap (has_moves clocks) (steps_left steps place d less)
 
-      staying : List ℕ
-      staying = filter (stays t.clocks ks) (children t.order t.clocks c)
+pub one_moves : (clocks : List ClockRow) (steps : List ChainStep) (place : ℕ) (d : ChainStep) (whole : Bool) → place < length steps → moves clocks (step_of (get_or steps place d)) ≡ true
+    → has_moves clocks (drop place (chain_of steps)) ≡ whole → true ≡ whole
+one_moves clocks steps place d whole less moved left =
+    sym (moves_left clocks steps place d less ∙ ap (λ (b : Bool). b || has_moves clocks (drop (place + 1) (chain_of steps))) moved) ∙ left
 
-      moving : List ℕ
-      moving = movers_to t.clocks ks c
+pub none_moves : (clocks : List ClockRow) (steps : List ChainStep) (place : ℕ) (d : ChainStep) (whole : Bool) → place < length steps → moves clocks (step_of (get_or steps place d)) ≡ false
+    → has_moves clocks (drop place (chain_of steps)) ≡ whole → has_moves clocks (drop (place + 1) (chain_of steps)) ≡ whole
+none_moves clocks steps place d whole less still left =
+    sym (moves_left clocks steps place d less ∙ ap (λ (b : Bool). b || has_moves clocks (drop (place + 1) (chain_of steps))) still) ∙ left
 
-      whole : (n : ℕ) → 0 < n → below_within (kids_after t.order t.clocks ks) n c
-          ≡ (c ∷ flat_map (below_within (kids_after t.order t.clocks ks) (n - 1)) (filter (stays t.clocks ks) (children t.order t.clocks c)))
-          ++ flat_map (below_within (kids_after t.order t.clocks ks) (n - 1)) (movers_to t.clocks ks c)
+pub no_step_left : (clocks : List ClockRow) (steps : List ChainStep) (place : ℕ) (whole : Bool) → length steps ≤ place → has_moves clocks (drop place (chain_of steps)) ≡ whole → false ≡ whole
+no_step_left clocks steps place whole past left = sym (ap (has_moves clocks) (all_dropped steps place past)) ∙ left where
+  all_dropped : (steps : List ChainStep) (place : ℕ) → length steps ≤ place → drop place (chain_of steps) ≡ []
+  all_dropped [] zero past' = refl
+  all_dropped [] (suc place) past' = refl
+  all_dropped (s ∷ steps) zero past' = absurd (omega arith)
+  all_dropped (s ∷ steps) (suc place) past' = all_dropped steps place (omega arith)
+
+-- ---- what is below a clock
+
+-- within no levels there is nothing
+none_below : (kids : ℕ → List ℕ) (cs : List ℕ) → flat_map (below_within kids 0) cs ≡ []
+none_below kids [] = refl
+none_below kids (c ∷ cs) = none_below kids cs
+
+pub walks_no_level : (told : Option Registers) (defs : Description) (t : TreeState) (ks : List state.ChainStep) (rates : List ℕ) (levels c r : ℕ) (old : List ClockRate) → levels ≡ 0
+    → Walks told defs t ks rates c r old old (below_after t.order t.clocks ks levels c)
+walks_no_level told defs t ks rates levels c r old none =
+    walks_none told defs t ks rates c r old _
+    (ap (λ n. below_after t.order t.clocks ks n c) none ∙ none_below (kids_after t.order t.clocks ks) (kids_after t.order t.clocks ks c))
+
+-- the children that stay, and then the clocks that move here
+pub walks_below : (told : Option Registers) (defs : Description) (t : TreeState) (ks : List state.ChainStep) (rates : List ℕ) (levels c r : ℕ) (old stay move : List ClockRate)
+    → Walks told defs t ks rates c r old stay (flat_map (below_within (kids_after t.order t.clocks ks) levels) (filter (stays t.clocks ks) (children t.order t.clocks c)))
+    → Walks told defs t ks rates c r stay move (flat_map (below_within (kids_after t.order t.clocks ks) levels) (movers_to t.clocks ks c))
+    → Walks told defs t ks rates c r old move (below_after t.order t.clocks ks levels c)
+walks_below told defs t ks rates levels c r old stay move =
+    walks_on told defs t ks rates c r old stay move
+    (flat_map (below_within (kids_after t.order t.clocks ks) levels) (filter (stays t.clocks ks) (children t.order t.clocks c)))
+    (flat_map (below_within (kids_after t.order t.clocks ks) levels) (movers_to t.clocks ks c))
+    (below_after t.order t.clocks ks levels c)
+    (flat_map-append (below_within (kids_after t.order t.clocks ks) levels) (filter (stays t.clocks ks) (children t.order t.clocks c)) (movers_to t.clocks ks c))
+
+-- where no step moves its clock, no clock moves to another
+no_movers : (clocks : List ClockRow) (ks : List state.ChainStep) (c : ℕ) → has_moves clocks ks ≡ false → movers_to clocks ks c ≡ []
+no_movers clocks [] c still = refl
+no_movers clocks (k ∷ ks) c still =
+    let here : moves clocks k ≡ false = (or_parts (moves clocks k) (has_moves clocks ks) still).0 in
+    let rest : has_moves clocks ks ≡ false = (or_parts (moves clocks k) (has_moves clocks ks) still).1 in
+    ap (λ (b : Bool). map (λ (l : state.ChainStep). l.clock) (cond (is_at c k.parent && b) (k ∷ filter (λ l. is_at c l.parent && moves clocks l) ks) (filter (λ l. is_at c l.parent && moves clocks l) ks))) here
+    ∙ ap (λ (b : Bool). map (λ (l : state.ChainStep). l.clock) (cond b (k ∷ filter (λ l. is_at c l.parent && moves clocks l) ks) (filter (λ l. is_at c l.parent && moves clocks l) ks))) (and-false (is_at c k.parent))
+    ∙ no_movers clocks ks c rest
+
+-- so there the children that stay are all
+pub walks_still : (told : Option Registers) (defs : Description) (t : TreeState) (ks : List state.ChainStep) (rates : List ℕ) (levels c r : ℕ) (old stay : List ClockRate) → has_moves t.clocks ks ≡ false
+    → Walks told defs t ks rates c r old stay (flat_map (below_within (kids_after t.order t.clocks ks) levels) (filter (stays t.clocks ks) (children t.order t.clocks c)))
+    → Walks told defs t ks rates c r old stay (below_after t.order t.clocks ks levels c)
+walks_still told defs t ks rates levels c r old stay still first =
+    walks_below told defs t ks rates levels c r old stay stay first
+    (walks_none told defs t ks rates c r stay _ (ap (flat_map (below_within (kids_after t.order t.clocks ks) levels)) (no_movers t.clocks ks c still)))
+
+-- a clock without children has nothing below it where no clock moves
+pub none_after : (order : List ℕ) (clocks : List ClockRow) (ks : List state.ChainStep) (c : ℕ) (o : Option ClockId) → has_moves clocks ks ≡ false
+    → option_map (λ d. d.0) o ≡ slice_get (children order clocks c) 0 → is_some o ≡ false → kids_after order clocks ks c ≡ []
+none_after order clocks ks c None still first none =
+    ap (λ (cs : List ℕ). filter (stays clocks ks) cs ++ movers_to clocks ks c) (no_first (children order clocks c) (sym first)) ∙ no_movers clocks ks c still where
+      no_first : (cs : List ℕ) → slice_get cs 0 ≡ None → cs ≡ []
+      no_first [] at = refl
+      no_first (d ∷ cs) at = absurd cc
+none_after order clocks ks c (Some d) still first none = absurd cc
+
+-- a clock and all below it
+pub walks_whole : (told : Option Registers) (defs : Description) (t : TreeState) (ks : List state.ChainStep) (rates : List ℕ) (levels : ℕ) (c : ClockId) (r : ℕ) (old own new : List ClockRate) → 0 < levels
+    → own ≡ old ++ rates_of ((let w : WalkRate = record { clock = c; rate = r } in w) ∷ [])
+    → Walks told defs t ks rates c.0 r own new (below_after t.order t.clocks ks (levels - 1) c.0)
+    → Walks told defs t ks rates c.0 r old new (below_within (kids_after t.order t.clocks ks) levels c.0)
+walks_whole told defs t ks rates levels c r old own new some pushed below =
+    walks_on told defs t ks rates c.0 r old own new (c.0 ∷ []) (below_after t.order t.clocks ks (levels - 1) c.0) (below_within (kids_after t.order t.clocks ks) levels c.0) (whole levels some)
+    (walks_own told defs t ks rates c r old own pushed) below where
+      whole : (n : ℕ) → 0 < n → below_within (kids_after t.order t.clocks ks) n c.0 ≡ c.0 ∷ below_after t.order t.clocks ks (n - 1) c.0
       whole zero some' = absurd (omega arith)
-      whole (suc n) some' =
-          let less : n ≡ suc n - 1 = omega arith in
-          ap (λ m. c ∷ flat_map (below_within (kids_after t.order t.clocks ks) m) (kids_after t.order t.clocks ks c)) less
-          ∙ ap (λ (xs : List ℕ). c ∷ xs)
-          (flat_map-append (below_within (kids_after t.order t.clocks ks) (suc n - 1)) (filter (stays t.clocks ks) (children t.order t.clocks c)) (movers_to t.clocks ks c))
+      whole (suc n) some' = let less : n ≡ suc n - 1 = omega arith in ap (λ m. c.0 ∷ below_after t.order t.clocks ks m c.0) less
+
+-- and where nothing is below it
+pub walks_alone : (told : Option Registers) (defs : Description) (t : TreeState) (ks : List state.ChainStep) (rates : List ℕ) (levels : ℕ) (c : ClockId) (r : ℕ) (old own : List ClockRate) → 0 < levels
+    → own ≡ old ++ rates_of ((let w : WalkRate = record { clock = c; rate = r } in w) ∷ []) → kids_after t.order t.clocks ks c.0 ≡ []
+    → Walks told defs t ks rates c.0 r old own (below_within (kids_after t.order t.clocks ks) levels c.0)
+walks_alone told defs t ks rates levels c r old own some pushed none =
+    walks_whole told defs t ks rates levels c r old own own some pushed
+    (walks_none told defs t ks rates c.0 r own _ (ap (flat_map (below_within (kids_after t.order t.clocks ks) (levels - 1))) none))
 
 -- ---- one child, one mover
 

@@ -1,15 +1,15 @@
 -- The rates that a plan gives the clocks of its walk.
-use Rattle.std.specs.Prelude.{◌≡◌, ℕ, ◌==◌, ◌++◌, List, [], ◌∷◌, true, not, Bool, if◌then◌else◌, map, Option, Some, IfSome}
-use Rattle.std.specs.List.{AllByRecursion}
+use Rattle.std.specs.Prelude.{◌≡◌, ℕ, ◌==◌, ◌++◌, List, [], ◌∷◌, true, not, Bool, if◌then◌else◌, map, flat_map, Option, Some, IfSome}
+use Rattle.std.specs.List.{AllByRecursion, list_any}
 use Rattle.clk_base.specs.Description.{Description, kind_of}
 use Rattle.reg_bank.specs.Registers.{Registers}
 use Rattle.clk_model.specs.declared.row.ClockRow.{ClockRow}
 use Rattle.clk_model.specs.Lists.{is_in}
 use Rattle.clk_model.specs.Rate.{rate_over}
 use Rattle.clk_model.specs.Round.{Wiring, rate_in}
-use Rattle.clk_model.specs.Chain.{outcome}
+use Rattle.clk_model.specs.Chain.{moves, outcome}
 use Rattle.clk_model.specs.State.{ChainStep, registered}
-use Rattle.clk_model.specs.Walk.{kids_after, moves_away, walk}
+use Rattle.clk_model.specs.Walk.{below_within, kids_after, moves_away, walk}
 use Rattle.clk_tree.specs.Plans.{ClockRate}
 use Rattle.clk_tree.specs.TreeState.{TreeState}
 
@@ -24,6 +24,14 @@ walked_rates order w ks = map (at_rate (rate_in (outcome ks w))) (walk order w k
 -- the clocks of these rates are registered
 abbrev pub AreThere : List ClockRow → List ClockRate → Type 0
 AreThere clocks rates = AllByRecursion (λ r. registered clocks r.clock ≡ true) rates
+
+-- whether a chain moves some clock to another parent
+abbrev pub has_moves : List ClockRow → List ChainStep → Bool
+has_moves clocks ks = list_any (moves clocks) ks
+
+-- all that will be below a clock, within so many levels
+abbrev pub below_after : List ℕ → List ClockRow → List ChainStep → ℕ → ℕ → List ℕ
+below_after order clocks ks levels c = flat_map (below_within (kids_after order clocks ks) levels) (kids_after order clocks ks c)
 
 -- whether a child stays with its parent
 abbrev pub stays : List ClockRow → List ChainStep → ℕ → Bool

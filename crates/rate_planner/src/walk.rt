@@ -1,6 +1,6 @@
 //! The walk of a plan, with the rates that come out.
 
-ghost use Rattle.std.specs.Prelude.{◌≡◌, ◌&&◌, ◌-◌, ◌<◌, ◌≤◌, true, [], ◌∷◌, drop, filter, flat_map, length, slice_index, take, IfSome, OnOk};
+ghost use Rattle.std.specs.Prelude.{◌≡◌, ◌&&◌, ◌-◌, ◌<◌, ◌≤◌, ℕ, true, false, [], ◌∷◌, drop, filter, flat_map, length, slice_index, take, IfSome, OnOk};
 ghost use Rattle.std.specs.List.{All};
 ghost use Rattle.clk_base.specs.Levels.{depth};
 ghost use Rattle.clk_model.specs.Lists.{is_in, is_at};
@@ -10,7 +10,7 @@ ghost use Rattle.clk_model.specs.Chain as chain;
 ghost use Rattle.clk_model.specs.Walk.{below_within, kids_after, movers_to, moves_away, top_of};
 ghost use Rattle.clk_tree.specs.Plans.{chain_of};
 ghost use Rattle.rate_planner.specs.Chains.{IsThere, step_of};
-ghost use Rattle.rate_planner.specs.Walks.{AreThere, Walks, kid_rate, stays};
+ghost use Rattle.rate_planner.specs.Walks.{AreThere, Walks, below_after, has_moves, kid_rate, stays};
 
 use crate::kind::rate_of;
 use crate::next::moves;
@@ -27,6 +27,8 @@ struct Walker<'a, B: Bank> {
     bank: &'a B,
     steps: &'a [ChainStep],
     rates: &'a [u64],
+    // Whether a step of the chain moves its clock.
+    moving: bool,
 }
 
 // The rate of a clock below a parent of this rate, and whether the chain moves the clock to another
@@ -64,7 +66,27 @@ fn moves_to(tree: &Tree, step: ChainStep, clock: ClockId) -> bool
     }
 }
 
-// Adds a clock of this rate and all that will be below it, within so many levels.
+// Whether a step of a chain moves its clock.
+fn has_moves(tree: &Tree, steps: &[ChainStep]) -> bool
+    ensures { result ≡ has_moves tree.now.clocks (chain_of steps.now) }
+{
+    for place in 0..steps.len() {
+        if moves(tree, steps[place]) {
+            return true;
+        }
+    }
+    false
+}
+
+// Whether clocks may be below a clock after the plan: it has children, or some clock moves.
+fn may_go_on<B: Bank>(walker: &Walker<B>, clock: ClockId) -> bool
+    requires moving { walker.now.moving ≡ has_moves walker.now.tree.now.clocks (chain_of walker.now.steps.now) }
+    ensures { result ≡ false → kids_after walker.now.tree.now.order walker.now.tree.now.clocks (chain_of walker.now.steps.now) clock.0 ≡ [] }
+{
+    walker.moving || walker.tree.first_child(clock).is_some()
+}
+
+// Adds all that will be below a clock of this rate, within so many levels.
 #[cycle(walking)]
 fn walk_below<B: Bank>(
     levels: u32,
@@ -77,16 +99,19 @@ fn walk_below<B: Bank>(
     requires bank { walker.now.desc.now.words ≤ B.size walker.now.bank.now }
     requires sizes { length walker.now.rates.now ≡ length walker.now.steps.now }
     requires steps { All (IsThere walker.now.tree.now.clocks) walker.now.steps.now }
+    requires moving { walker.now.moving ≡ has_moves walker.now.tree.now.clocks (chain_of walker.now.steps.now) }
     requires there { registered walker.now.tree.now.clocks clock.0 ≡ true }
-    ensures walked { OnOk result (Walks (B.contents walker.now.bank.now) walker.now.desc.now.defs walker.now.tree.now (chain_of walker.now.steps.now) walker.now.rates.now clock.0 rate into.old into.new (below_within (kids_after walker.now.tree.now.order walker.now.tree.now.clocks (chain_of walker.now.steps.now)) levels clock.0)) }
+    ensures walked { OnOk result (Walks (B.contents walker.now.bank.now) walker.now.desc.now.defs walker.now.tree.now (chain_of walker.now.steps.now) walker.now.rates.now clock.0 rate into.old into.new (below_after walker.now.tree.now.order walker.now.tree.now.clocks (chain_of walker.now.steps.now) levels clock.0)) }
     ensures there { OnOk result (AreThere walker.now.tree.now.clocks into.old → AreThere walker.now.tree.now.clocks into.new) }
 {
     if levels == 0 {
         return Ok(());
     }
-    into.push(WalkRate { clock, rate })?;
-    stay_below(levels - 1, walker, clock, rate, into)?;
-    move_below(levels - 1, walker, clock, rate, into)
+    stay_below(levels, walker, clock, rate, into)?;
+    if !walker.moving {
+        return Ok(());
+    }
+    move_below(levels, walker, clock, rate, into)
 }
 
 // Adds the children that stay with a clock of this rate, each with all that will be below it.
@@ -98,10 +123,12 @@ fn stay_below<B: Bank>(
     rate: u64,
     into: &mut WalkRates,
 ) -> Result<(), NoMemory>
+    requires some { 0 < levels }
     requires made { walker.now.desc.now.defs ≡ walker.now.tree.now.defs }
     requires bank { walker.now.desc.now.words ≤ B.size walker.now.bank.now }
     requires sizes { length walker.now.rates.now ≡ length walker.now.steps.now }
     requires steps { All (IsThere walker.now.tree.now.clocks) walker.now.steps.now }
+    requires moving { walker.now.moving ≡ has_moves walker.now.tree.now.clocks (chain_of walker.now.steps.now) }
     requires there { registered walker.now.tree.now.clocks clock.0 ≡ true }
     ensures walked { OnOk result (Walks (B.contents walker.now.bank.now) walker.now.desc.now.defs walker.now.tree.now (chain_of walker.now.steps.now) walker.now.rates.now clock.0 rate into.old into.new (flat_map (below_within (kids_after walker.now.tree.now.order walker.now.tree.now.clocks (chain_of walker.now.steps.now)) levels) (filter (stays walker.now.tree.now.clocks (chain_of walker.now.steps.now)) (children walker.now.tree.now.order walker.now.tree.now.clocks clock.0)))) }
     ensures there { OnOk result (AreThere walker.now.tree.now.clocks into.old → AreThere walker.now.tree.now.clocks into.new) }
@@ -109,7 +136,7 @@ fn stay_below<B: Bank>(
     let mut at = walker.tree.first_child(clock);
     for _step in 0..walker.desc.len() {
         let Some(child) = at else { return Ok(()) };
-        stay_one(levels, walker, clock, rate, child, into)?;
+        stay_one(levels, walker, rate, child, into)?;
         at = walker.tree.next_sibling(child);
     }
     Ok(())
@@ -120,26 +147,32 @@ fn stay_below<B: Bank>(
 fn stay_one<B: Bank>(
     levels: u32,
     walker: &Walker<B>,
-    clock: ClockId,
     rate: u64,
     child: ClockId,
     into: &mut WalkRates,
 ) -> Result<(), NoMemory>
+    requires some { 0 < levels }
     requires made { walker.now.desc.now.defs ≡ walker.now.tree.now.defs }
     requires bank { walker.now.desc.now.words ≤ B.size walker.now.bank.now }
     requires sizes { length walker.now.rates.now ≡ length walker.now.steps.now }
     requires steps { All (IsThere walker.now.tree.now.clocks) walker.now.steps.now }
-    requires there { registered walker.now.tree.now.clocks clock.0 ≡ true }
-    requires child { is_in child.0 (children walker.now.tree.now.order walker.now.tree.now.clocks clock.0) ≡ true }
+    requires moving { walker.now.moving ≡ has_moves walker.now.tree.now.clocks (chain_of walker.now.steps.now) }
     requires registered { registered walker.now.tree.now.clocks child.0 ≡ true }
-    ensures walked { OnOk result (Walks (B.contents walker.now.bank.now) walker.now.desc.now.defs walker.now.tree.now (chain_of walker.now.steps.now) walker.now.rates.now clock.0 rate into.old into.new (flat_map (below_within (kids_after walker.now.tree.now.order walker.now.tree.now.clocks (chain_of walker.now.steps.now)) levels) (filter (stays walker.now.tree.now.clocks (chain_of walker.now.steps.now)) (child.0 ∷ [])))) }
+    ensures walked { OnOk result ((clock : ℕ) → is_in child.0 (children walker.now.tree.now.order walker.now.tree.now.clocks clock) ≡ true → Walks (B.contents walker.now.bank.now) walker.now.desc.now.defs walker.now.tree.now (chain_of walker.now.steps.now) walker.now.rates.now clock rate into.old into.new (flat_map (below_within (kids_after walker.now.tree.now.order walker.now.tree.now.clocks (chain_of walker.now.steps.now)) levels) (filter (stays walker.now.tree.now.clocks (chain_of walker.now.steps.now)) (child.0 ∷ [])))) }
     ensures there { OnOk result (AreThere walker.now.tree.now.clocks into.old → AreThere walker.now.tree.now.clocks into.new) }
 {
     let (own, away) = kid_rate(walker, child, rate);
     if away {
         return Ok(());
     }
-    walk_below(levels, walker, child, own, into)
+    into.push(WalkRate {
+        clock: child,
+        rate: own,
+    })?;
+    if may_go_on(walker, child) {
+        walk_below(levels - 1, walker, child, own, into)?;
+    }
+    Ok(())
 }
 
 // Adds the clocks that move to a clock of this rate, each with all that will be below it.
@@ -151,10 +184,12 @@ fn move_below<B: Bank>(
     rate: u64,
     into: &mut WalkRates,
 ) -> Result<(), NoMemory>
+    requires some { 0 < levels }
     requires made { walker.now.desc.now.defs ≡ walker.now.tree.now.defs }
     requires bank { walker.now.desc.now.words ≤ B.size walker.now.bank.now }
     requires sizes { length walker.now.rates.now ≡ length walker.now.steps.now }
     requires steps { All (IsThere walker.now.tree.now.clocks) walker.now.steps.now }
+    requires moving { walker.now.moving ≡ has_moves walker.now.tree.now.clocks (chain_of walker.now.steps.now) }
     requires there { registered walker.now.tree.now.clocks clock.0 ≡ true }
     ensures walked { OnOk result (Walks (B.contents walker.now.bank.now) walker.now.desc.now.defs walker.now.tree.now (chain_of walker.now.steps.now) walker.now.rates.now clock.0 rate into.old into.new (flat_map (below_within (kids_after walker.now.tree.now.order walker.now.tree.now.clocks (chain_of walker.now.steps.now)) levels) (movers_to walker.now.tree.now.clocks (chain_of walker.now.steps.now) clock.0))) }
     ensures there { OnOk result (AreThere walker.now.tree.now.clocks into.old → AreThere walker.now.tree.now.clocks into.new) }
@@ -176,10 +211,12 @@ fn move_one<B: Bank>(
     place: usize,
     into: &mut WalkRates,
 ) -> Result<(), NoMemory>
+    requires some { 0 < levels }
     requires made { walker.now.desc.now.defs ≡ walker.now.tree.now.defs }
     requires bank { walker.now.desc.now.words ≤ B.size walker.now.bank.now }
     requires sizes { length walker.now.rates.now ≡ length walker.now.steps.now }
     requires steps { All (IsThere walker.now.tree.now.clocks) walker.now.steps.now }
+    requires moving { walker.now.moving ≡ has_moves walker.now.tree.now.clocks (chain_of walker.now.steps.now) }
     requires there { registered walker.now.tree.now.clocks clock.0 ≡ true }
     requires place { place < length walker.now.steps.now }
     ensures walked { OnOk result (Walks (B.contents walker.now.bank.now) walker.now.desc.now.defs walker.now.tree.now (chain_of walker.now.steps.now) walker.now.rates.now clock.0 rate into.old into.new (flat_map (below_within (kids_after walker.now.tree.now.order walker.now.tree.now.clocks (chain_of walker.now.steps.now)) levels) (movers_to walker.now.tree.now.clocks (take 1 (drop place (chain_of walker.now.steps.now))) clock.0))) }
@@ -190,11 +227,19 @@ fn move_one<B: Bank>(
         return Ok(());
     }
     let (own, _) = kid_rate(walker, step.clock, rate);
-    walk_below(levels, walker, step.clock, own, into)
+    into.push(WalkRate {
+        clock: step.clock,
+        rate: own,
+    })?;
+    if may_go_on(walker, step.clock) {
+        walk_below(levels - 1, walker, step.clock, own, into)?;
+    }
+    Ok(())
 }
 
 /// The clocks of a plan's walk in its order with the rates that come out, where these come out for the
 /// clocks of the chain, in place of those that stand there.
+#[inline(always)]
 pub(crate) fn walk_rates<B: Bank>(
     into: &mut WalkRates,
     desc: &ValidDesc,
@@ -221,6 +266,11 @@ pub(crate) fn walk_rates<B: Bank>(
         bank,
         steps,
         rates,
+        moving: has_moves(tree, steps),
     };
-    walk_below(depth(), &walker, top, rate, into)
+    into.push(WalkRate { clock: top, rate })?;
+    if may_go_on(&walker, top) {
+        walk_below(depth() - 1, &walker, top, rate, into)?;
+    }
+    Ok(())
 }

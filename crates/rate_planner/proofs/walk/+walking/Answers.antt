@@ -7,7 +7,7 @@ use Rattle.clk_model.specs.Tree.{children}
 use Rattle.clk_model.specs.Walk.{below_within, kids_after, movers_to}
 use Rattle.clk_tree.specs.Plans.{chain_of}
 use Rattle.rate_planner.specs.Walks.{Walks, stays}
-use Rattle.rate_planner.proofs.Walking.{walks_none, walks_on, walks_own, walks_all, stays_walks, moves_walks, moves_none, stays_next, stays_whole, movers_next, child_told, children_few}
+use Rattle.rate_planner.proofs.Walking.{walks_none, walks_on, walks_no_level, walks_below, walks_still, walks_whole, walks_alone, stays_walks, moves_walks, moves_none, stays_next, stays_whole, movers_next, child_listed, child_told, children_few}
 use Rattle.rate_planner.proofs.walk.+walking.Goals as goal
 
 pub move_below-loop-place-preserved : goal.move_below-loop-place-preserved
@@ -47,7 +47,8 @@ stay_below-loop-step-preserved g t c =
           (flat_map (below_within (kids_after c.args.walker.now.tree.now.order c.args.walker.now.tree.now.clocks (chain_of c.args.walker.now.steps.now)) c.args.levels) (filter (stays c.args.walker.now.tree.now.clocks (chain_of c.args.walker.now.steps.now)) (c.in-Some.child.0 ∷ [])))
           (flat_map (below_within (kids_after c.args.walker.now.tree.now.order c.args.walker.now.tree.now.clocks (chain_of c.args.walker.now.steps.now)) c.args.levels) (filter (stays c.args.walker.now.tree.now.clocks (chain_of c.args.walker.now.steps.now)) (take (c.loop-step._step + 1) (children c.args.walker.now.tree.now.order c.args.walker.now.tree.now.clocks c.args.clock.0))))
           (stays_next (below_within (kids_after c.args.walker.now.tree.now.order c.args.walker.now.tree.now.clocks (chain_of c.args.walker.now.steps.now)) c.args.levels) (stays c.args.walker.now.tree.now.clocks (chain_of c.args.walker.now.steps.now)) (children c.args.walker.now.tree.now.order c.args.walker.now.tree.now.clocks c.args.clock.0) c.loop-step._step c.in-Some.child.0 here)
-          c.loop-step.invariant.walked c.in_ok-stay_one.ensures.walked;
+          c.loop-step.invariant.walked
+          (c.in_ok-stay_one.ensures.walked c.args.clock.0 (child_listed c.args.walker.now.tree.now.defs c.args.walker.now.tree.now.clocks c.args.walker.now.tree.now.order c.args.walker.now.tree.now.rates c.args.clock.0 c.loop-step._step c.in-Some.child.0 c.first_child-at.ensures.stands here).0);
       there = λ each. c.in_ok-stay_one.ensures.there (c.loop-step.invariant.there each);
     }
 
@@ -58,25 +59,54 @@ stay_below-returns-clause-walked g t c =
     (stays_whole (below_within (kids_after c.args.walker.now.tree.now.order c.args.walker.now.tree.now.clocks (chain_of c.args.walker.now.steps.now)) c.args.levels) (stays c.args.walker.now.tree.now.clocks (chain_of c.args.walker.now.steps.now)) (children c.args.walker.now.tree.now.order c.args.walker.now.tree.now.clocks c.args.clock.0) c.loop-step._step (let past = c.loop-step-test.false in let is = c.len-step-end.ensures.len in let made = ap length c.requires.made in omega arith))
     c.loop-step.invariant.walked
 
-pub move_one-returns-clause-walked : goal.move_one-returns-clause-walked
-move_one-returns-clause-walked g t c =
-    on_ok_weaker c.walk_below.result
-    (moves_walks (g.B.Bank.contents c.args.walker.now.bank.now) c.args.walker.now.desc.now.defs c.args.walker.now.tree.now c.args.walker.now.steps.now c.args.walker.now.rates.now c.args.levels c.args.clock.0 c.args.rate c.args.place c.kid_rate-own.result.0 _
+pub move_one-returns-in_ok-walk_below-clause-walked : goal.move_one-returns-in_ok-walk_below-clause-walked
+move_one-returns-in_ok-walk_below-clause-walked g t c =
+    moves_walks (g.B.Bank.contents c.args.walker.now.bank.now) c.args.walker.now.desc.now.defs c.args.walker.now.tree.now c.args.walker.now.steps.now c.args.walker.now.rates.now c.args.levels c.args.clock.0 c.args.rate c.args.place c.kid_rate-own.result.0 _
     c.args.into.now c.walk_below.new.into
-    c.requires.place (sym c.moves_to.ensures ∙ c.if-not-moves_to.false) c.kid_rate-own.ensures.rate) c.walk_below.ensures.walked
+    c.requires.place (sym c.moves_to.ensures ∙ c.if-not-moves_to.false) c.kid_rate-own.ensures.rate
+    (walks_whole (g.B.Bank.contents c.args.walker.now.bank.now) c.args.walker.now.desc.now.defs c.args.walker.now.tree.now (chain_of c.args.walker.now.steps.now) c.args.walker.now.rates.now c.args.levels _ c.kid_rate-own.result.0
+    c.args.into.now c.push.new.self c.walk_below.new.into
+    c.requires.some c.in_ok-push.ensures c.in_ok-walk_below.ensures.walked)
 
-pub stay_one-returns-clause-walked : goal.stay_one-returns-clause-walked
-stay_one-returns-clause-walked g t c =
-    on_ok_weaker c.walk_below.result
-    (stays_walks (g.B.Bank.contents c.args.walker.now.bank.now) c.args.walker.now.desc.now.defs c.args.walker.now.tree.now (chain_of c.args.walker.now.steps.now) c.args.walker.now.rates.now c.args.levels c.args.clock.0 c.args.rate c.args.child.0 c.kid_rate-own.result.0
+pub move_one-returns-else-may_go_on-clause-walked : goal.move_one-returns-else-may_go_on-clause-walked
+move_one-returns-else-may_go_on-clause-walked g t c =
+    moves_walks (g.B.Bank.contents c.args.walker.now.bank.now) c.args.walker.now.desc.now.defs c.args.walker.now.tree.now c.args.walker.now.steps.now c.args.walker.now.rates.now c.args.levels c.args.clock.0 c.args.rate c.args.place c.kid_rate-own.result.0 _
+    c.args.into.now c.push.new.self
+    c.requires.place (sym c.moves_to.ensures ∙ c.if-not-moves_to.false) c.kid_rate-own.ensures.rate
+    (walks_alone (g.B.Bank.contents c.args.walker.now.bank.now) c.args.walker.now.desc.now.defs c.args.walker.now.tree.now (chain_of c.args.walker.now.steps.now) c.args.walker.now.rates.now c.args.levels _ c.kid_rate-own.result.0
+    c.args.into.now c.push.new.self
+    c.requires.some c.in_ok-push.ensures (c.may_go_on.ensures c.if-may_go_on.false))
+
+pub stay_one-returns-in_ok-walk_below-clause-walked : goal.stay_one-returns-in_ok-walk_below-clause-walked
+stay_one-returns-in_ok-walk_below-clause-walked g t c = λ clock child.
+    stays_walks (g.B.Bank.contents c.args.walker.now.bank.now) c.args.walker.now.desc.now.defs c.args.walker.now.tree.now (chain_of c.args.walker.now.steps.now) c.args.walker.now.rates.now c.args.levels clock c.args.rate c.args.child.0 c.kid_rate-own.result.0
     c.args.into.now c.walk_below.new.into
-    (sym c.kid_rate-own.ensures.moves ∙ c.if-away.false) c.requires.child c.kid_rate-own.ensures.rate) c.walk_below.ensures.walked
+    (sym c.kid_rate-own.ensures.moves ∙ c.if-away.false) child c.kid_rate-own.ensures.rate
+    (walks_whole (g.B.Bank.contents c.args.walker.now.bank.now) c.args.walker.now.desc.now.defs c.args.walker.now.tree.now (chain_of c.args.walker.now.steps.now) c.args.walker.now.rates.now c.args.levels c.args.child c.kid_rate-own.result.0
+    c.args.into.now c.push.new.self c.walk_below.new.into
+    c.requires.some c.in_ok-push.ensures c.in_ok-walk_below.ensures.walked)
+
+pub stay_one-returns-else-may_go_on-clause-walked : goal.stay_one-returns-else-may_go_on-clause-walked
+stay_one-returns-else-may_go_on-clause-walked g t c = λ clock child.
+    stays_walks (g.B.Bank.contents c.args.walker.now.bank.now) c.args.walker.now.desc.now.defs c.args.walker.now.tree.now (chain_of c.args.walker.now.steps.now) c.args.walker.now.rates.now c.args.levels clock c.args.rate c.args.child.0 c.kid_rate-own.result.0
+    c.args.into.now c.push.new.self
+    (sym c.kid_rate-own.ensures.moves ∙ c.if-away.false) child c.kid_rate-own.ensures.rate
+    (walks_alone (g.B.Bank.contents c.args.walker.now.bank.now) c.args.walker.now.desc.now.defs c.args.walker.now.tree.now (chain_of c.args.walker.now.steps.now) c.args.walker.now.rates.now c.args.levels c.args.child c.kid_rate-own.result.0
+    c.args.into.now c.push.new.self
+    c.requires.some c.in_ok-push.ensures (c.may_go_on.ensures c.if-may_go_on.false))
+
+pub walk_below-returns-then-levels-eq0-clause-walked : goal.walk_below-returns-then-levels-eq0-clause-walked
+walk_below-returns-then-levels-eq0-clause-walked g t c =
+    walks_no_level (g.B.Bank.contents c.args.walker.now.bank.now) c.args.walker.now.desc.now.defs c.args.walker.now.tree.now (chain_of c.args.walker.now.steps.now) c.args.walker.now.rates.now c.args.levels c.args.clock.0 c.args.rate c.args.into.now c.if-levels-eq0.true
+
+pub walk_below-returns-then-not-walker-clause-walked : goal.walk_below-returns-then-not-walker-clause-walked
+walk_below-returns-then-not-walker-clause-walked g t c =
+    walks_still (g.B.Bank.contents c.args.walker.now.bank.now) c.args.walker.now.desc.now.defs c.args.walker.now.tree.now (chain_of c.args.walker.now.steps.now) c.args.walker.now.rates.now c.args.levels c.args.clock.0 c.args.rate
+    c.args.into.now c.stay_below.new.into (sym c.requires.moving ∙ c.if-not-walker.true) c.in_ok-stay_below.ensures.walked
 
 pub walk_below-returns-clause-walked : goal.walk_below-returns-clause-walked
 walk_below-returns-clause-walked g t c =
     on_ok_weaker c.move_below.result
-    (walks_all (g.B.Bank.contents c.args.walker.now.bank.now) c.args.walker.now.desc.now.defs c.args.walker.now.tree.now (chain_of c.args.walker.now.steps.now) c.args.walker.now.rates.now c.args.levels c.args.clock.0 c.args.rate
-    c.args.into.now c.push.new.self c.stay_below.new.into c.move_below.new.into
-    (let some = c.if-levels-eq0.false in omega arith)
-    (walks_own (g.B.Bank.contents c.args.walker.now.bank.now) c.args.walker.now.desc.now.defs c.args.walker.now.tree.now (chain_of c.args.walker.now.steps.now) c.args.walker.now.rates.now c.args.clock c.args.rate c.args.into.now c.push.new.self c.in_ok-push.ensures)
+    (walks_below (g.B.Bank.contents c.args.walker.now.bank.now) c.args.walker.now.desc.now.defs c.args.walker.now.tree.now (chain_of c.args.walker.now.steps.now) c.args.walker.now.rates.now c.args.levels c.args.clock.0 c.args.rate
+    c.args.into.now c.stay_below.new.into c.move_below.new.into
     c.in_ok-stay_below.ensures.walked) c.move_below.ensures.walked

@@ -1,11 +1,24 @@
 -- The walk begins at the top.
-use Rattle.std.proofs.Common.{refl}
-use Rattle.std.proofs.lemmas.Result.{on_ok_weaker}
-use Rattle.rate_planner.proofs.Walking.{walks_top}
+use Rattle.std.proofs.Common.{◌<◌, refl, sym, subst, arith}
+use Rattle.clk_base.specs.Levels.{depth}
+use Rattle.clk_model.proofs.PathLaws.{some_levels}
+use Rattle.clk_tree.specs.Plans.{chain_of}
+use Rattle.rate_planner.proofs.Walking.{walks_top, walks_whole, walks_alone}
 use Rattle.rate_planner.proofs.walk.walk_rates.Goals as goal
 
-pub returns-clause-walked : goal.returns-clause-walked
-returns-clause-walked g c =
-    on_ok_weaker c.walk_below.result
-    (walks_top (g.B.Bank.contents c.args.bank.now) c.args.desc.now.defs c.args.tree.now c.args.steps.now c.args.rates.now c.depth.result _ _ c.clear.new.self c.walk_below.new.into
-    c.requires.some c.clear.ensures c.depth.ensures refl) c.walk_below.ensures.walked
+pub overflow_sub-depth : goal.overflow_sub-depth
+overflow_sub-depth g c = let some = subst (λ n. 0 < n) (sym c.depth.ensures) some_levels in omega arith
+
+pub returns-in_ok-walk_below-clause-walked : goal.returns-in_ok-walk_below-clause-walked
+returns-in_ok-walk_below-clause-walked g c =
+    walks_top (g.B.Bank.contents c.args.bank.now) c.args.desc.now.defs c.args.tree.now c.args.steps.now c.args.rates.now c.depth.result _ _ c.clear.new.self c.walk_below.new.into
+    c.requires.some c.clear.ensures c.depth.ensures refl
+    (walks_whole (g.B.Bank.contents c.args.bank.now) c.args.desc.now.defs c.args.tree.now (chain_of c.args.steps.now) c.args.rates.now c.depth.result _ _ c.clear.new.self c.push.new.self c.walk_below.new.into
+    (subst (λ n. 0 < n) (sym c.depth.ensures) some_levels) c.in_ok-push.ensures c.in_ok-walk_below.ensures.walked)
+
+pub returns-else-may_go_on-clause-walked : goal.returns-else-may_go_on-clause-walked
+returns-else-may_go_on-clause-walked g c =
+    walks_top (g.B.Bank.contents c.args.bank.now) c.args.desc.now.defs c.args.tree.now c.args.steps.now c.args.rates.now depth _ _ c.clear.new.self c.push.new.self
+    c.requires.some c.clear.ensures refl refl
+    (walks_alone (g.B.Bank.contents c.args.bank.now) c.args.desc.now.defs c.args.tree.now (chain_of c.args.steps.now) c.args.rates.now depth _ _ c.clear.new.self c.push.new.self
+    some_levels c.in_ok-push.ensures (c.may_go_on.ensures c.if-may_go_on.false))
