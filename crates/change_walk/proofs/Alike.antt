@@ -3,6 +3,7 @@ use Rattle.std.proofs.Common.{◌≡◌, ℕ, Bool, true, false, not, cond, List
 use Rattle.std.specs.Prelude.{◌==◌, flat_map}
 use Rattle.std.specs.List.{list_any}
 use Rattle.std.proofs.lemmas.List.Concat.{length-flat_map}
+use Rattle.clk_base.proofs.Mapped.{list_any-map}
 use Rattle.clk_base.specs.declared.call.Micro.{Micro}
 use Rattle.clk_base.specs.declared.call.Micro.TheVariants as micro
 use Rattle.clk_model.specs.Notices.{is_veto}
@@ -22,7 +23,7 @@ use Rattle.change_walk.specs.Tellings.{has_notifiers, notifiers_at, tell_before,
 
 -- ---- where no clock of a walk has a notifier
 
-no_notifier : (ns : List Notifier) → not (length ns == 0) ≡ false → ns ≡ []
+pub no_notifier : (ns : List Notifier) → not (length ns == 0) ≡ false → ns ≡ []
 no_notifier [] none = refl
 no_notifier (n ∷ ns) none = let same : length (n ∷ ns) ≡ 0 = same_from_test (length (n ∷ ns)) 0 (not_false (length (n ∷ ns) == 0) none) in absurd (omega arith)
 
@@ -52,6 +53,10 @@ none_told lists up before rates out =
       off = sym (none_made tell_off (λ x. refl) lists up before [] rates out);
       count = sym (sym (length-flat_map (notifiers_at lists) xs) ∙ ap length (none_made (λ x ns. ns) (λ x. refl) lists up before [] rates out));
     }
+
+-- the clocks of a walk in code have a notifier where those of its plan have one
+pub walked_tell : (lists : List (List Notifier)) (rates : List WalkRate) → list_any (λ r. has_notifiers lists r.clock.0) rates ≡ list_any (λ r. has_notifiers lists r.clock) (rates_of rates)
+walked_tell lists rates = sym (list_any-map (λ (r : ClockRate). has_notifiers lists r.clock) (λ (w : WalkRate). record { clock = w.clock.0; rate = w.rate }) rates)
 
 -- ---- the steps
 

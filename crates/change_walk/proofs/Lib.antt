@@ -5,4 +5,5 @@ pub mod Descending
 pub mod PlanWalks
 pub mod Whole
 pub mod Weighing
+pub mod Plain
 pub mod Leading

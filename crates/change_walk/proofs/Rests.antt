@@ -41,6 +41,10 @@ pushed_on f xs k x old new whole at one all =
     ∙ ap (λ ys. old ++ map f ys) (sym (rest_at xs k x at))
     ∙ all
 
+-- an element was pushed, and then others were added
+pub pushed_then : {X : Type 0} (old mid new : List X) (x : X) (rest : List X) → mid ≡ old ++ x ∷ [] → new ≡ mid ++ rest → new ≡ old ++ x ∷ rest
+pushed_then old mid new x rest one more = more ∙ ap (λ ys. ys ++ rest) one ∙ append_assoc old (x ∷ []) rest
+
 -- ---- clocks that are there
 
 -- the clock at a place of a walk is registered

@@ -58,8 +58,8 @@ fn relink(
     requires { clock.0 < length desc.now.defs }
     ensures { IfOk result (λ done. steps.new.items ≡ steps.old.items ++ micro.Relink clock parent ∷ micro.WriteMux clock (chain.place_of desc.now.defs clock.0 parent.0) ∷ []) }
 {
-    let place = place_of(desc, clock, parent);
-    steps.extend_from_slice(&[Micro::Relink(clock, parent), Micro::WriteMux(clock, place)])?;
+    steps.push(Micro::Relink(clock, parent))?;
+    steps.push(Micro::WriteMux(clock, place_of(desc, clock, parent)))?;
     Ok(())
 }
 
@@ -70,11 +70,9 @@ fn drop_old(steps: &mut Vec<Micro>, tree: &Tree, clock: ClockId) -> Result<(), N
     let Some(old) = tree.parent(clock) else {
         return Ok(())
     };
-    steps.extend_from_slice(&[
-        Micro::DropEnable(old),
-        Micro::DropPrepare(old),
-        Micro::Lower(old),
-    ])?;
+    steps.push(Micro::DropEnable(old))?;
+    steps.push(Micro::DropPrepare(old))?;
+    steps.push(Micro::Lower(old))?;
     Ok(())
 }
 
@@ -90,15 +88,13 @@ fn move_held(
     ensures { IfOk result (λ done. steps.new.items ≡ steps.old.items ++ script.move desc.now.defs tree.now.clocks (λ c. true) clock.0 parent.0) }
 {
     let place = place_of(desc, clock, parent);
-    steps.extend_from_slice(&[
-        Micro::Raise(parent),
-        Micro::HoldPrepare(parent),
-        Micro::HoldEnable(parent),
-        Micro::HoldEnable(clock),
-        Micro::Relink(clock, parent),
-        Micro::WriteMux(clock, place),
-        Micro::DropEnable(clock),
-    ])?;
+    steps.push(Micro::Raise(parent))?;
+    steps.push(Micro::HoldPrepare(parent))?;
+    steps.push(Micro::HoldEnable(parent))?;
+    steps.push(Micro::HoldEnable(clock))?;
+    steps.push(Micro::Relink(clock, parent))?;
+    steps.push(Micro::WriteMux(clock, place))?;
+    steps.push(Micro::DropEnable(clock))?;
     drop_old(steps, tree, clock)?;
     Ok(())
 }

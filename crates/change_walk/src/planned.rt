@@ -1,6 +1,6 @@
 //! The script of a plan.
 
-ghost use Rattle.std.specs.Prelude.{◌≡◌, ◌+◌, ◌^◌, ◌-◌, ◌<◌, ◌&&◌, ◌++◌, ◌∷◌, [], min, length, slice_index, sum_by, if◌then◌else◌, flat_map, IfOk, OnOk};
+ghost use Rattle.std.specs.Prelude.{◌≡◌, ◌+◌, ◌^◌, ◌-◌, ◌<◌, ◌&&◌, ◌++◌, ◌∷◌, [], false, min, length, slice_index, sum_by, if◌then◌else◌, flat_map, IfOk, OnOk};
 ghost use Rattle.std.specs.List.{list_any};
 ghost use Rattle.clk_base.specs.declared.call.Micro.TheVariants as micro;
 ghost use Rattle.clk_model.specs.Script.{is_raise};
@@ -10,7 +10,7 @@ ghost use Rattle.change_walk.specs.Changes.{AreThere, changed_along, parent_afte
 ghost use Rattle.change_walk.specs.Given.{HasFewNotifiers, OfPlan, extra_of, planned_by, settles, weight_of};
 ghost use Rattle.change_walk.specs.Steps.{IsMadeOf, IsToldAs, steps_for};
 ghost use Rattle.change_walk.specs.Tellings.{has_notifiers, notifiers_at, tell_before};
-ghost use Rattle.change_walk.specs.Weights.{step_weight};
+ghost use Rattle.change_walk.specs.Weights.{brings_notices, step_weight};
 
 use crate::changes::{Changed, Passed, changes};
 use crate::moves::visit_all;
@@ -42,24 +42,27 @@ fn has_notifiers(notifiers: &Notifiers, rates: &[WalkRate]) -> bool
 }
 
 // Finds the clocks that a plan changes, where a clock of its walk has a notifier; else it finds none,
-// since none is told.
+// since none is told. Answers whether a clock has one.
 fn find_changed(
     passed: &mut Vec<Passed>,
     changed: &mut Vec<Changed>,
     tree: &Tree,
     notifiers: &Notifiers,
     plan: &Plan,
-) -> Result<(), NoMemory>
+) -> Result<bool, NoMemory>
     requires there { AreThere tree.now.clocks plan.now.rates }
-    ensures { OnOk result (IsToldAs notifiers.now changed.new.items (changed_along (parent_after tree.now.clocks plan.now.chain) (slice_index tree.now.rates) [] plan.now.rates)) }
+    ensures told { OnOk result (IsToldAs notifiers.now changed.new.items (changed_along (parent_after tree.now.clocks plan.now.chain) (slice_index tree.now.rates) [] plan.now.rates)) }
+    ensures tells { IfOk result (λ tells. tells ≡ list_any (λ r. has_notifiers notifiers.now r.clock) plan.now.rates) }
+    ensures untold { IfOk result (λ tells. tells ≡ false → changed.new.items ≡ []) }
 {
     let rates = plan.rates.as_slice();
     if has_notifiers(notifiers, rates) {
         changes(passed, changed, tree, plan.chain.as_slice(), rates)?;
+        Ok(true)
     } else {
         changed.clear();
+        Ok(false)
     }
-    Ok(())
 }
 
 // Makes the steps of a plan that changes these clocks, in place of those that stand there. Answers
@@ -103,6 +106,18 @@ fn extra_of(notifiers: &Notifiers, set_parent: bool, steps: &[Micro], changed: &
     }
 }
 
+// How many entries steps come to, where it is known whether one of them visits a clock with a notifier:
+// where none does and no line of possible parents has a PLL, each step is one entry.
+fn weigh_steps(notifiers: &Notifiers, plls: u32, steps: &[Micro], tells: bool) -> u64
+    requires { tells ≡ false → list_any (brings_notices notifiers.now) steps.now ≡ false }
+    ensures { result ≡ min (sum_by (step_weight plls notifiers.now) steps.now) (2 ^ 64 - 1) }
+{
+    if plls == 0 && !tells {
+        return steps.len() as u64;
+    }
+    weigh(notifiers, plls, steps)
+}
+
 /// Makes the script of a plan, in place of the one that was made last: the notices before the change;
 /// where one vetoes those that it is called off, else each clock of the walk with its move and its visit;
 /// and the end.
@@ -129,7 +144,7 @@ pub fn script<V: View>(
     ensures made { OnOk result (IsMadeOf tree.now (V.means view.now).prepared notifiers.now plan.now list.new) }
 {
     let _size = desc.len();
-    find_changed(&mut list.passed, &mut list.changed, tree, notifiers, plan)?;
+    let tells = find_changed(&mut list.passed, &mut list.changed, tree, notifiers, plan)?;
     list.vetoed = make_steps(
         &mut list.steps,
         desc,
@@ -140,6 +155,7 @@ pub fn script<V: View>(
         &list.changed,
     )?;
     list.extra = extra_of(notifiers, plan.set_parent, &list.steps, &list.changed);
-    list.weight = weigh(notifiers, tree.plls(), &list.steps).saturating_add(list.extra);
+    let weight = weigh_steps(notifiers, tree.plls(), &list.steps, tells);
+    list.weight = weight.saturating_add(list.extra);
     Ok(())
 }

@@ -15,6 +15,7 @@ use Rattle.change_walk.specs.Steps.{IsToldAs, steps_for, told_by}
 use Rattle.change_walk.specs.Tellings.{notifiers_at, tell_before}
 use Rattle.change_walk.specs.Weights.{step_weight}
 use Rattle.change_walk.proofs.Alike.{steps_alike}
+use Rattle.change_walk.proofs.Plain.{steps_plain}
 use Rattle.change_walk.proofs.Weighing.{extra_fits, weight_fits}
 use Rattle.change_walk.proofs.Whole.{Fits, changed_are, steps_are, vetoed_is}
 use Rattle.change_walk.proofs.planned.script.Given as given
@@ -39,7 +40,15 @@ told_here g c s told plan =
     subst (IsToldAs c.args.notifiers.now c.find_changed.new.changed.items)
     (changed_are s c.args.tree.now (g.V.View.means c.args.view.now).prepared c.args.notifiers.now c.args.plan.now
     (record { told = told; planned = plan; stands = c.plls.ensures.stands; there = c.requires.there }))
-    c.in_ok-find_changed.ensures
+    c.in_ok-tells.ensures.told
+
+-- where no notifier is told, no step visits a clock with one
+pub weigh_steps-weight-requires : goal.weigh_steps-weight-requires
+weigh_steps-weight-requires g c = λ none.
+    steps_plain c.args.notifiers.now c.args.tree.now (g.V.View.means c.args.view.now).prepared c.args.plan.now c.deref-4.result.now c.deref.result.now
+    (c.deref-4.ensures.value ∙ c.in_ok-list-inside.ensures.steps)
+    (c.deref.ensures.value ∙ c.in_ok-tells.ensures.untold none)
+    (sym c.in_ok-tells.ensures.tells ∙ none)
 
 pub returns-clause-steps : goal.returns-clause-steps
 returns-clause-steps g c = λ s told plan.
@@ -72,7 +81,7 @@ returns-clause-weight g c = λ s told plan few.
     let lists = c.args.notifiers.now in
     let k = c.plls.result in
     c.saturating_add-list-inside.ensures
-    ∙ ap (λ (n : ℕ). min (n + c.extra_of-list-inside.result) (2 ^ 64 - 1)) c.weigh.ensures
+    ∙ ap (λ (n : ℕ). min (n + c.extra_of-list-inside.result) (2 ^ 64 - 1)) c.weigh_steps-weight.ensures
     ∙ ap (λ (n : ℕ). min (min (sum_by (step_weight k lists) c.deref-4.result.now) (2 ^ 64 - 1) + n) (2 ^ 64 - 1)) (returns-clause-extra g c s told plan few)
     ∙ ap (λ (ms : List Micro). min (min (sum_by (step_weight k lists) ms) (2 ^ 64 - 1) + extra_of s c.args.plan.now) (2 ^ 64 - 1)) (c.deref-4.ensures.value ∙ returns-clause-steps g c s told plan)
     ∙ weight_fits c.args.desc.now.words s c.args.tree.now (g.V.View.means c.args.view.now).prepared lists c.args.plan.now (fitting g c s told plan) few k
