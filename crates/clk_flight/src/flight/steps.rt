@@ -103,8 +103,11 @@ impl Flight {
         ensures change { GoesOn self.old self.new }
         ensures less { LeavesLessAt is_taken self.old self.new }
     {
-        take_own(self.front, &mut self.script);
-        self.front = behind(self.front, self.raised.len());
+        if is_empty(self.front) {
+            self.script.take();
+        } else {
+            self.front = behind(self.front, self.raised.len());
+        }
     }
 
     /// A raise or a lower has found no PLL.
