@@ -23,6 +23,7 @@ use reg_bank::Bank;
 
 /// What a request for a rate comes to, where one exclusive hold of a handle on the clock is lifted and
 /// put back.
+#[inline(always)]
 pub fn decide_lifted<B: Bank>(
     draft: &mut Draft,
     desc: &ValidDesc,

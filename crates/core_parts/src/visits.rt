@@ -65,6 +65,7 @@ fn rate_above(tree: &Tree, clock: ClockId) -> u64
 
 /// Writes what a clock gets for this rate over its parent's rate, and brings its kept rate and those of
 /// all clocks below it up to date.
+#[inline(always)]
 pub fn set_to<B: Bank>(
     desc: &ValidDesc,
     window: &mut Window<B>,

@@ -22,6 +22,7 @@ use reg_bank::Bank;
 impl<B: Bank> Machine<B> {
     /// A change of a rate or a parent goes on with a script, along the course that the draft has. All
     /// memory that it needs is taken. The draft keeps the lists of the change before.
+    #[inline(always)]
     pub(super) fn start_change(&mut self, start: Start, draft: &mut Draft) -> Result<(), NoMemory>
         requires credit { self.old.spent < self.old.credits }
         requires quiet { self.old.flight.going ≡ false }

@@ -110,6 +110,7 @@ impl<B: Bank> Machine<B> {
 
     // A change of rate or parent goes on with what the draft holds, of a handle that had this range in Hz
     // where the call sets one. All memory that it needs is taken.
+    #[inline(always)]
     fn start_along(
         &mut self,
         draft: &mut Draft,
