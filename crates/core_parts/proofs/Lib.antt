@@ -7,6 +7,7 @@ pub mod InFlight
 pub mod StepsInFlight
 pub mod Coming
 pub mod Opening
+pub mod Gathering
 pub mod Closing
 pub mod Shapes
 pub mod SettledRows

@@ -1,10 +1,12 @@
 //! Gates, and what is on of a clock.
 
-ghost use Rattle.std.specs.Prelude.{◌≡◌, ◌<◌, true, false, length, reverse, IfSome};
+ghost use Rattle.std.specs.Prelude.{◌≡◌, ℕ, ◌-◌, ◌<◌, ◌≤◌, true, false, [], ◌++◌, length, map, take, reverse, IfSome};
 ghost use Rattle.std.specs.Option.{option_map, option_map_or};
+ghost use Rattle.clk_base.specs.Description.{Description};
 ghost use Rattle.clk_base.specs.Fields.{gate_of, power_of};
 ghost use Rattle.clk_model.specs.Kinds.{is_open};
 ghost use Rattle.clk_model.specs.Summary.{is_on};
+ghost use Rattle.clk_model.specs.Lists.{is_in};
 ghost use Rattle.clk_model.specs.State.{link_in};
 ghost use Rattle.clk_model.specs.Tree.{path_within};
 ghost use Rattle.clk_model.specs.Gates.{follow, gates_moved};
@@ -87,6 +89,60 @@ pub fn close_gate<B: Bank>(kind: Kind, window: &mut Window<B>)
     }
 }
 
+// How many clocks of a path are gathered before those above them are opened.
+const GATHERED: usize = 16;
+
+// How many clocks of a path were gathered, and the one above them where the path goes on.
+struct Gathered {
+    count: usize,
+    above: Option<ClockId>,
+}
+
+// Gathers the first so many clocks of a path, the clock itself first, as far as there is room.
+fn gather(levels: usize, tree: &Tree, clock: ClockId, path: &mut [ClockId; GATHERED]) -> Gathered
+    ensures path { path_within (link_in tree.now.clocks) levels clock.0 ≡ map (λ c. c.0) (take result.count path.new) ++ option_map_or (λ c. path_within (link_in tree.now.clocks) (levels - result.count) c.0) result.above [] }
+    ensures few { result.count ≤ 16 }
+    ensures full { IfSome result.above (λ _. (result.count ≡ 16) × (16 ≤ levels)) }
+    ensures inside { (defs : Description) → clock.0 < length defs → LinksLie defs tree.now.clocks → IfSome result.above (λ c. c.0 < length defs) }
+{
+    let mut at = clock;
+    for place in 0..GATHERED {
+        if place == levels {
+            return Gathered {
+                count: place,
+                above: None,
+            };
+        }
+        path[place] = at;
+        let Some(parent) = tree.parent(at) else {
+            return Gathered {
+                count: place + 1,
+                above: None,
+            };
+        };
+        at = parent;
+    }
+    Gathered {
+        count: GATHERED,
+        above: Some(at),
+    }
+}
+
+// Opens the gates of clocks that were gathered, the last of them first.
+fn open_gathered<B: Bank>(path: &[ClockId], desc: &ValidDesc, window: &mut Window<B>)
+    requires inside { (c : ℕ) → is_in c (map (λ c. c.0) path.now) ≡ true → c < length desc.now.defs }
+    requires words { window.old.size ≡ desc.now.words }
+    ensures size { window.new.size ≡ window.old.size }
+    ensures words { window.new.words ≡ option_map (gates_moved desc.now.defs (λ _. false) (λ _. true) (map (λ c. c.0) path.now)) window.old.words }
+    ensures behind { window.new.behind ≡ window.old.behind }
+    ensures locks { window.new.locks ≡ window.old.locks }
+{
+    for done in 0..path.len() {
+        let clock = path[path.len() - 1 - done];
+        open_gate(desc.def(clock).kind, window);
+    }
+}
+
 /// Opens the gates of the first so many clocks of a path, parents first.
 pub fn open_path<B: Bank>(
     levels: usize,
@@ -103,13 +159,12 @@ pub fn open_path<B: Bank>(
     ensures behind { window.new.behind ≡ window.old.behind }
     ensures locks { window.new.locks ≡ window.old.locks }
 {
-    if levels == 0 {
-        return;
+    let mut path = [clock; GATHERED];
+    let Gathered { count, above } = gather(levels, tree, clock, &mut path);
+    if let Some(parent) = above {
+        open_path(levels - count, desc, tree, window, parent);
     }
-    if let Some(parent) = tree.parent(clock) {
-        open_path(levels - 1, desc, tree, window, parent);
-    }
-    open_gate(desc.def(clock).kind, window);
+    open_gathered(&path[..count], desc, window);
 }
 
 /// Closes the gates of the first so many clocks of a path, the clock's own first.
