@@ -4,23 +4,24 @@ ghost use Rattle.kind_math.specs.Rates as rates;
 ghost use Rattle.kind_math.specs.Dividers as choice;
 
 use crate::div_style::DivStyle;
+use crate::division::quotient_up;
 
 /// The rate of a divider with this number in its field: its parent's rate divided, rounded up.
 pub fn div_rate(parent: u64, field: u32, style: DivStyle) -> u64
     ensures { result ≡ rates.div_rate parent field style }
 {
     match style {
-        DivStyle::Plain => parent.div_ceil(u64::from(field) + 1),
+        DivStyle::Plain => quotient_up(parent, u64::from(field) + 1),
         DivStyle::OneBased => {
             if field == 0 {
                 parent
             } else {
-                parent.div_ceil(u64::from(field))
+                quotient_up(parent, u64::from(field))
             }
         }
         DivStyle::PowerOfTwo => {
             if field < 64 {
-                parent.div_ceil(1u64 << field)
+                quotient_up(parent, 1u64 << field)
             } else {
                 parent.min(1)
             }

@@ -1,6 +1,8 @@
 ghost use Rattle.std.specs.Prelude.{◌≡◌, ◌*◌, ◌/◌, ◌<◌};
 ghost use Rattle.kind_math.specs.Rates as rates;
 
+use crate::division::quotient;
+
 /// The rate, or the greatest 64-bit number where it is above it.
 pub(crate) fn capped(rate: u128) -> u64
     ensures { result ≡ rates.capped rate }
@@ -13,7 +15,7 @@ fn within(product: u64, div: u32) -> u64
     requires { 0 < div }
     ensures { result ≡ rates.capped (product / div) }
 {
-    product / u64::from(div)
+    quotient(product, u64::from(div))
 }
 
 /// A rate multiplied and divided, with the fraction dropped. Only where the product has more than 64

@@ -7,10 +7,12 @@
 
 mod div_style;
 mod dividers;
+mod division;
 mod factors;
 mod plls;
 
 pub use div_style::DivStyle;
 pub use dividers::{div_rate, div_round, div_setting};
+pub use division::{quotient, quotient_up};
 pub use factors::factor_rate;
 pub use plls::{pll_rate, pll_round, pll_setting};

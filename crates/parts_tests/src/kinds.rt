@@ -6,9 +6,37 @@ ghost use Rattle.kind_math.specs.Dividers.{IsDividerWidth};
 
 use kind_math::{
     DivStyle, div_rate, div_round, div_setting, factor_rate, pll_rate, pll_round, pll_setting,
+    quotient, quotient_up,
 };
 
 const MOST: u64 = u64::MAX;
+
+#[test]
+fn quotients_of_powers_of_two_and_of_others(rt: HostRuntime) {
+    const HIGHEST: u64 = 9_223_372_036_854_775_808;
+    let rows: [(u64, u64, u64, u64); 12] = [
+        (0, 1, 0, 0),
+        (7, 1, 7, 7),
+        (7, 2, 3, 4),
+        (8, 2, 4, 4),
+        (10, 3, 3, 4),
+        (9, 3, 3, 3),
+        (MOST, 1, MOST, MOST),
+        (MOST, MOST, 1, 1),
+        (1, MOST, 0, 1),
+        (0, HIGHEST, 0, 0),
+        (HIGHEST, HIGHEST, 1, 1),
+        (MOST, HIGHEST, 1, 2),
+    ];
+    for (number, divisor, down, up) in rows {
+        assert!(rt; divisor > 0);
+        assert!(rt; quotient(number, divisor) == down, "{number} / {divisor}");
+        assert!(rt;
+            quotient_up(number, divisor) == up,
+            "{number} / {divisor}, up"
+        );
+    }
+}
 
 #[test]
 fn factor_drops_the_fraction_and_is_capped(rt: HostRuntime) {

@@ -18,7 +18,7 @@ use crate::rest::Rest;
 use crate::rounded::{Rounded, better, given, with_rate};
 use clk_base::{ClockId, Kind, ValidDesc};
 use clk_tree::{Tree, View};
-use kind_math::{DivStyle, div_round, factor_rate, pll_rate, pll_round};
+use kind_math::{DivStyle, div_round, factor_rate, pll_rate, pll_round, quotient, quotient_up};
 
 // The rate that a clock would get for a request, over at most so many levels of parents.
 #[cycle(asking)]
@@ -149,7 +149,7 @@ fn over_divisor<V: View, W: Rest>(
     ensures names { NamesRegistered tree.now.clocks result }
 {
     let given = over_link(levels, desc, tree, view, rest, clock, product)?;
-    Some(with_rate(given, given.rate.div_ceil(divisor)))
+    Some(with_rate(given, quotient_up(given.rate, divisor)))
 }
 
 // The best over what the parent of a divider gives for each divisor. A greater divisor has a greater
@@ -210,7 +210,7 @@ fn by_divisor<V: View, W: Rest>(
 {
     let parent = parent_rate_now(desc, tree, clock);
     match exact_fit(x, parent, width, style) {
-        Some(divisor) => Some(over_parent(desc, tree, clock, parent.div_ceil(divisor))),
+        Some(divisor) => Some(over_parent(desc, tree, clock, quotient_up(parent, divisor))),
         None => match best_divisor(levels, desc, tree, view, rest, clock, x, width, style) {
             Some(best) => Some(best),
             None => {
@@ -245,7 +245,7 @@ fn by_factor<V: View, W: Rest>(
     if !passes_on(desc, tree, clock) {
         return Some(over_parent(desc, tree, clock, rate_now(desc, tree, clock)));
     }
-    let wanted = (x / u64::from(mult)).saturating_mul(u64::from(div));
+    let wanted = quotient(x, u64::from(mult)).saturating_mul(u64::from(div));
     let given = over_link(levels, desc, tree, view, rest, clock, wanted)?;
     Some(with_rate(given, factor_rate(given.rate, mult, div)))
 }
@@ -285,7 +285,7 @@ fn by_divider<V: View, W: Rest>(
     }
     let parent = parent_rate_now(desc, tree, clock);
     let divisor = div_round(parent, x, width, style);
-    Some(over_parent(desc, tree, clock, parent.div_ceil(divisor)))
+    Some(over_parent(desc, tree, clock, quotient_up(parent, divisor)))
 }
 
 // A mux that keeps its parent, or one that may move.

@@ -7,9 +7,9 @@ use Rattle.kind_math.proofs.dividers.div_rate.Goals as goal
 
 pub returns-in-Plain : goal.returns-in-Plain
 returns-in-Plain c =
-    div_rate_by c.args.style c.args.parent c.args.field (c.args.field + 1) c.div_ceil.result
+    div_rate_by c.args.style c.args.parent c.args.field (c.args.field + 1) c.quotient_up.result
     (divisor_plain c.args.style c.args.field c.in-Plain.is) (omega arith)
-    (c.div_ceil.ensures ∙ ap (λ n. div_ceil c.args.parent (n + 1)) c.from.ensures)
+    (c.quotient_up.ensures ∙ ap (λ n. div_ceil c.args.parent (n + 1)) c.from.ensures)
 
 pub returns-then-field-eq0 : goal.returns-then-field-eq0
 returns-then-field-eq0 c =
@@ -18,15 +18,15 @@ returns-then-field-eq0 c =
 
 pub returns-else-field-eq0 : goal.returns-else-field-eq0
 returns-else-field-eq0 c =
-    div_rate_by c.args.style c.args.parent c.args.field c.args.field c.div_ceil-else-field-eq0.result
+    div_rate_by c.args.style c.args.parent c.args.field c.args.field c.quotient_up-else-field-eq0.result
     (divisor_one_based c.args.style c.args.field c.in-OneBased.is) (omega arith)
-    (c.div_ceil-else-field-eq0.ensures ∙ ap (div_ceil c.args.parent) c.from-else-field-eq0.ensures)
+    (c.quotient_up-else-field-eq0.ensures ∙ ap (div_ceil c.args.parent) c.from-else-field-eq0.ensures)
 
 pub returns-then-field-lt64 : goal.returns-then-field-lt64
 returns-then-field-lt64 c =
-    div_rate_by c.args.style c.args.parent c.args.field (2 ^ c.args.field) c.div_ceil-then-field-lt64.result
+    div_rate_by c.args.style c.args.parent c.args.field (2 ^ c.args.field) c.quotient_up-then-field-lt64.result
     (divisor_power c.args.style c.args.field c.in-PowerOfTwo.is) (pow_pos c.args.field)
-    (c.div_ceil-then-field-lt64.ensures ∙ ap (div_ceil c.args.parent) (one_shl c.args.field 64 c.if-field-lt64.true))
+    (c.quotient_up-then-field-lt64.ensures ∙ ap (div_ceil c.args.parent) (one_shl c.args.field 64 c.if-field-lt64.true))
 
 pub returns-else-field-lt64 : goal.returns-else-field-lt64
 returns-else-field-lt64 c =

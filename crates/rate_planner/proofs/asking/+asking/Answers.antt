@@ -53,8 +53,8 @@ by_candidate-loop-candidate-preserved g t c = record {
       c.loop-candidate-test.true refl (c.over_candidate-tried.ensures.rounding regs kept) c.better-best.ensures.choice (c.loop-candidate.invariant.left regs kept);
 }
 
-pub by_divider-div_ceil-requires : goal.by_divider-div_ceil-requires
-by_divider-div_ceil-requires g t c = subst (λ n. 0 < n) (sym c.div_round-divisor.ensures) (round_divides c.args.style c.parent_rate_now-parent.result c.args.x c.args.width c.requires.right)
+pub by_divider-quotient_up-requires : goal.by_divider-quotient_up-requires
+by_divider-quotient_up-requires g t c = subst (λ n. 0 < n) (sym c.div_round-divisor.ensures) (round_divides c.args.style c.parent_rate_now-parent.result c.args.x c.args.width c.requires.right)
 
 pub rate_for-returns-in-Some : goal.rate_for-returns-in-Some
 rate_for-returns-in-Some g t c = λ regs kept.
