@@ -28,8 +28,8 @@ pub(crate) fn is_fixed(desc: &ValidDesc, clock: ClockId) -> bool
     matches!(kind_of(desc, clock), Kind::FixedRate { .. })
 }
 
-// How the field of a divider gives its divisor.
-fn style_of(one_based: bool, power_of_two: bool) -> DivStyle
+/// How the field of a divider gives its divisor.
+pub fn style_of(one_based: bool, power_of_two: bool) -> DivStyle
     ensures { result ≡ style_of one_based power_of_two }
 {
     if power_of_two {
@@ -41,8 +41,8 @@ fn style_of(one_based: bool, power_of_two: bool) -> DivStyle
     }
 }
 
-// The rate in Hz of a clock of this kind over its parent's rate, without a copy of the kind.
-fn rate_by<B: Bank>(kind: &Kind, bank: &B, parent: u64) -> u64
+/// The rate in Hz of a clock of this kind over its parent's rate, by the registers.
+pub fn rate_by<B: Bank>(kind: &Kind, bank: &B, parent: u64) -> u64
     requires { CanRead (B.size bank.now) kind.now }
     ensures { IfSome (B.contents bank.now) (λ regs. result ≡ rate_over kind.now regs parent) }
 {
@@ -70,10 +70,10 @@ fn rate_by<B: Bank>(kind: &Kind, bank: &B, parent: u64) -> u64
     }
 }
 
-/// The rate in Hz of a clock over this rate of its parent. A place outside of the description counts as
-/// a fixed clock of 0 Hz.
+/// The rate in Hz of a clock over this rate of its parent, by the registers. A place outside of the
+/// description counts as a fixed clock of 0 Hz.
 #[inline(always)]
-pub(crate) fn rate_of<B: Bank>(desc: &ValidDesc, clock: ClockId, bank: &B, parent: u64) -> u64
+pub fn rate_of<B: Bank>(desc: &ValidDesc, clock: ClockId, bank: &B, parent: u64) -> u64
     requires { desc.now.words ≤ B.size bank.now }
     ensures { IfSome (B.contents bank.now) (λ regs. result ≡ rate_over (kind_of desc.now.defs clock.0) regs parent) }
 {

@@ -1,7 +1,8 @@
 //! The clock tree: which clocks are registered, which parent each is attached to, in which order
 //! they were attached, and the rate that is kept of each.
 //!
-//! [`Tree`] answers for the links and the kept rates. [`View`] is what planning asks of the clocks
+//! [`Tree`] answers for the links and the kept rates; [`rate_of`] is the rate of one clock over its
+//! parent's by the registers. [`View`] is what planning asks of the clocks
 //! beside them, and [`Plan`] what planning gives.
 #![tactic(auto)]
 
@@ -19,6 +20,7 @@ mod view;
 mod walk_rates;
 
 pub use chain::{ChainStep, PlannedChain};
+pub use kind::{rate_by, rate_of, style_of};
 pub use plan::Plan;
 pub use tree::Tree;
 pub use view::View;

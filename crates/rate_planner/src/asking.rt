@@ -12,12 +12,12 @@ ghost use Rattle.rate_planner.specs.Rounded.{rounded_of, NamesRegistered};
 ghost use Rattle.rate_planner.specs.Kept.{Always};
 
 use crate::divisors::{divisor_of, end_of_fields, exact_fit, first_field, greatest_divisor};
-use crate::kind::{can_round, keeps_parent, kind_of, sets_rate_parent, style_of};
+use crate::kind::{can_round, keeps_parent, kind_of, sets_rate_parent};
 use crate::now::{over_parent, parent_rate_now, passes_on, rate_now};
 use crate::rest::Rest;
 use crate::rounded::{Rounded, better, given, with_rate};
 use clk_base::{ClockId, Kind, ValidDesc};
-use clk_tree::{Tree, View};
+use clk_tree::{Tree, View, style_of};
 use kind_math::{DivStyle, div_round, factor_rate, pll_rate, pll_round, quotient, quotient_up};
 
 // The rate that a clock would get for a request, over at most so many levels of parents.

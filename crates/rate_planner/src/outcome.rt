@@ -9,12 +9,12 @@ ghost use Rattle.rate_planner.specs.Chains.{IsThere, step_of};
 ghost use Rattle.rate_planner.specs.Kept.{Always, Told, wired};
 ghost use Rattle.rate_planner.specs.Outcomes.{out_rate, out_rates, first_or, rates_within};
 
-use crate::kind::{kind_of, rate_over, set_rate};
+use crate::kind::{kind_of, set_rate};
 use crate::next::moves;
 use crate::now::rate_now;
 use clk_base::{ClockId, ValidDesc};
 use clk_io::NoMemory;
-use clk_tree::{ChainStep, Tree, View};
+use clk_tree::{ChainStep, Tree, View, rate_by};
 use reg_bank::Bank;
 
 // The rate that comes out for a clock of a chain over what comes out for its planned parent.
@@ -24,7 +24,7 @@ fn out_rate<B: Bank>(desc: &ValidDesc, tree: &Tree, bank: &B, step: ChainStep, p
 {
     let kind = kind_of(desc, step.clock);
     if moves(tree, step) {
-        rate_over(kind, bank, parent)
+        rate_by(&kind, bank, parent)
     } else {
         set_rate(kind, bank, parent, step.rate)
     }

@@ -7,13 +7,12 @@ ghost use Rattle.clk_model.specs.State.{registered, link_in};
 ghost use Rattle.rate_planner.specs.Kept.{Told};
 ghost use Rattle.rate_planner.specs.Walks.{AreThere, parent_chain, walked_rates};
 
-use crate::kind::{kind_of, rate_over};
 use crate::now::rate_now;
 use crate::planning::Planning;
 use crate::walk::walk_rates;
 use clk_base::{ClockId, ValidDesc};
 use clk_io::NoMemory;
-use clk_tree::{ChainStep, Tree};
+use clk_tree::{ChainStep, Tree, rate_of};
 use reg_bank::Bank;
 
 /// Works out the plan of a change of parent: the chain is the clock alone, with its rate over the new
@@ -40,7 +39,7 @@ pub fn plan_parent<B: Bank>(
     // The clauses of these two calls say that the description is valid and that the tree stands.
     let _size = desc.len();
     let _there = tree.registered(c);
-    let rate = rate_over(kind_of(desc, c), bank, rate_now(desc, tree, p));
+    let rate = rate_of(desc, c, bank, rate_now(desc, tree, p));
     let step = ChainStep {
         clock: c,
         rate,

@@ -7,8 +7,9 @@ ghost use Rattle.reg_bank.specs.Registers.{Registers};
 ghost use Rattle.clk_model.specs.Chain as chain;
 ghost use Rattle.rate_planner.specs.Settings.{field_for, put_field};
 
-use crate::kind::{kind_of, style_of};
+use crate::kind::kind_of;
 use clk_base::{ClockId, Kind, ValidDesc};
+use clk_tree::style_of;
 use kind_math::{div_setting, pll_setting};
 
 /// The number that a divider or a PLL gets in its field for a planned rate over the rate of its

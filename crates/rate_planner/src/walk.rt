@@ -12,11 +12,10 @@ ghost use Rattle.clk_tree.specs.Plans.{chain_of};
 ghost use Rattle.rate_planner.specs.Chains.{IsThere, step_of};
 ghost use Rattle.rate_planner.specs.Walks.{AreThere, Walks, below_after, has_moves, kid_rate, stays};
 
-use crate::kind::rate_of;
 use crate::next::moves;
 use clk_base::{ClockId, ValidDesc, depth};
 use clk_io::NoMemory;
-use clk_tree::{ChainStep, Tree, WalkRate, WalkRates};
+use clk_tree::{ChainStep, Tree, WalkRate, WalkRates, rate_of};
 use reg_bank::Bank;
 
 /// What a walk goes by: the steps of a chain, and the rates in Hz that come out for their clocks.
