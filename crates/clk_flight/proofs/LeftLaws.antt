@@ -38,7 +38,7 @@ posts_weigh plls again c told left old new = one (nat_eq left 0) refl where
   one false e = refl
 
 -- each step of a script weighs something
-some_weight : (notifiers : List NotifierRow) (plls : ℕ) (m : Micro) → 0 < step_weight notifiers plls m
+pub some_weight : (notifiers : List NotifierRow) (plls : ℕ) (m : Micro) → 0 < step_weight notifiers plls m
 some_weight notifiers plls (micro.Notify kind c id old new) = omega arith
 some_weight notifiers plls (micro.Raise x) = omega arith
 some_weight notifiers plls (micro.Poll x) = omega arith

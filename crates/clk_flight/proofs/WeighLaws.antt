@@ -40,7 +40,7 @@ same_weight s (micro.Close c) = refl
 same_weight s (micro.Unpower c) = refl
 same_weight s micro.End = refl
 
-same_sum : (f g : Micro → ℕ) (ms : List Micro) → ((m : Micro) → f m ≡ g m) → sum_by f ms ≡ sum_by g ms
+pub same_sum : (f g : Micro → ℕ) (ms : List Micro) → ((m : Micro) → f m ≡ g m) → sum_by f ms ≡ sum_by g ms
 same_sum f g [] same = refl
 same_sum f g (m ∷ ms) same =
     let one = sum_by-cons f m ms in let other = sum_by-cons g m ms in let here = same m in let rest = same_sum f g ms same in omega arith

@@ -26,16 +26,18 @@ use Rattle.clk_model.specs.Tree.{path, path_to_be, path_within, link_given, orph
 use Rattle.clk_model.specs.Wired.{LinesEnd, LinksArePossible}
 use Rattle.clk_model.proofs.ArriveLaws.{prepared_told, to_be_told}
 use Rattle.clk_model.proofs.BeginSafeLaws.{resting}
-use Rattle.clk_model.proofs.Members.{any_in, is_in_head, is_in_tail, is_in_cases, or_left, or_right, same_from_test}
+use Rattle.clk_model.proofs.Members.{any_in, is_in_head, is_in_cases, or_left, or_right, same_from_test}
 use Rattle.clk_model.proofs.OnceLaws.{filter_passes}
 use Rattle.clk_model.proofs.PathLaws.{path_all}
 use Rattle.clk_model.proofs.PlanGoLaws.{free_scene}
 use Rattle.clk_model.proofs.PllLaws.{link_given_possible}
-use Rattle.clk_model.proofs.ProbeGoLaws.{Resting, can_register, registered_prepares}
+use Rattle.clk_model.proofs.ProbeGoLaws.{Resting, can_register, registered_prepares, registered_scene}
 use Rattle.clk_model.proofs.RegisterGoLaws.{register_keeps}
 use Rattle.clk_model.proofs.SafeRunLaws as runs
-use Rattle.clk_model.proofs.SceneStepLaws.{register_scene}
-use Rattle.clk_model.proofs.Scenes.{Scene, scene, holding, prepared_in, after, to_be}
+use Rattle.clk_model.proofs.Scenes.{Scene, scene, holding, prepared_in, to_be}
+use Rattle.clk_model.proofs.WalkLaws.{either_way}
+use Rattle.clk_model.proofs.LinkBegins.{register_defs}
+use Rattle.clk_model.proofs.AdoptGoLaws.{left_was}
 use Rattle.clk_machine.specs.Adopting.{adopted}
 use Rattle.clk_machine.specs.Parts.{Parts, IsWhole}
 use Rattle.clk_machine.specs.Sound.{IsReached}
@@ -45,12 +47,6 @@ use Rattle.clk_machine.proofs.Unmoved.{run_of}
 
 -- ---- who is prepared
 
-both_ways : (a b : Bool) → (a ≡ true → b ≡ true) → (b ≡ true → a ≡ true) → a ≡ b
-both_ways true true f g = refl
-both_ways false false f g = refl
-both_ways true false f g = sym (f refl)
-both_ways false true f g = g refl
-
 -- a state of a run rests while no call is in flight
 resting_reached : (words : ℕ) (s : State) → IsReached words s → s.change ≡ None → Resting s
 resting_reached words s is quiet = by (run_of words s is).running_ where
@@ -58,21 +54,12 @@ resting_reached words s is quiet = by (run_of words s is).running_ where
   by (runs.quietly still rest) = resting s rest (run_of words s is).keeps
   by (runs.in_flight goes) = let no : None ≡ Some goes.change = sym quiet ∙ goes.at in absurd cc
 
-register_defs : (s : State) (c : ℕ) → (register s c).defs ≡ s.defs
-unfolding register
-register_defs s c = refl
-
--- the scene behind a registration
-registered_scene : (s : State) (c : ClockId) → Resting s → after s.defs (holding (scene None s) [] [] None) (micro.Register c) ≡ scene None (register s c.0)
-registered_scene s c rest =
-    ap (λ (a : Scene). after s.defs a (micro.Register c)) (sym (free_scene s rest.prepares rest.enables)) ∙ sym (register_scene s c None rest.fit.wired.rows)
-
 -- behind a registration who was prepared is, and the path that a critical clock was to have
 pub prepared_behind : (words : ℕ) (s : State) (c x : ℕ) → IsReached words s → s.change ≡ None → registered s.clocks c ≡ false
     → prepared (register s c) x ≡ (prepared s x || (is_critical s.defs c && is_in x (path_to_be s.defs s.regs s.clocks c)))
 prepared_behind words s c x is quiet free =
     prepared_told None None s (register s c) (scene None (register s c)) x (register_defs s c) refl
-    ∙ both_ways (prepared_in s.defs (scene None (register s c)) x) (prepared s x || (is_critical s.defs c && is_in x (path_to_be s.defs s.regs s.clocks c))) grows stays where
+    ∙ either_way (prepared_in s.defs (scene None (register s c)) x) (prepared s x || (is_critical s.defs c && is_in x (path_to_be s.defs s.regs s.clocks c))) grows stays where
       rest : Resting s
       rest = resting_reached words s is quiet
 
@@ -128,16 +115,6 @@ find_fails test (y ∷ ys) x none m = by (test y) refl none (is_in_cases x y ys 
   by true e none' has more = absurd cc
   by false e none' (inl same) more = ap test (sym same) ∙ e
   by false e none' (inr later) more = more none' later
-
-left_was : (x d : ℕ) (xs : List ℕ) → is_in d (without_one x xs) ≡ true → is_in d xs ≡ true
-left_was x d [] m = m
-left_was x d (y ∷ ys) m = by_test (nat_eq y x) m (λ n. left_was x d ys n) where
-  by_test : (t : Bool) → is_in d (cond t ys (y ∷ without_one x ys)) ≡ true → (is_in d (without_one x ys) ≡ true → is_in d ys ≡ true) → is_in d (y ∷ ys) ≡ true
-  by_test true k rest = is_in_tail d y ys k
-  by_test false k rest = elim (is_in_cases d y (without_one x ys) k) [
-    | inl same ↦ ap (λ (n : ℕ). is_in n (y ∷ ys)) (sym same) ∙ is_in_head y ys
-    | inr later ↦ is_in_tail d y ys (rest later)
-  ]
 
 -- each clock of a list has a parent to be given
 abbrev EachGiven : State → List ℕ → Type 0
@@ -219,7 +196,7 @@ same_adopted r all each =
     (ap (λ (test : ℕ → Bool). filter test (orphans r.defs r.order r.clocks)) (fun_ext (λ a. ap (λ (o : Option ℕ). option_map_or (λ p. true) o false) (each a))))
     ∙ same_order r all each (length (adoptable r)) (adoptable r)
 
-register_regs : (s : State) (c : ℕ) → (register s c).regs ≡ s.regs
+pub register_regs : (s : State) (c : ℕ) → (register s c).regs ≡ s.regs
 unfolding register
 register_regs s c = refl
 

@@ -16,6 +16,7 @@ use Rattle.clk_model.specs.Lists.{is_in}
 use Rattle.clk_model.specs.Script.{adoption, probe_script}
 use Rattle.clk_model.specs.State.{State, registered}
 use Rattle.clk_model.specs.Tree.{link_given}
+use Rattle.clk_model.proofs.LinkBegins.{register_defs}
 use Rattle.core_parts.specs.Adoption.{adoption_by, registration_of}
 use Rattle.clk_machine.specs.Adopting.{adopted, is_beside, AreAdoptions, none, one_more, Adopts, AreProbeSteps}
 use Rattle.clk_machine.specs.Parts.{Parts}
@@ -81,10 +82,6 @@ adopts_all m new orphans k before after past so_far = subst (λ (xs : List ℕ).
 
 -- ---- the whole script
 
-same_defs : (s : State) (c : ℕ) → (register s c).defs ≡ s.defs
-unfolding register
-same_defs s c = refl
-
 script_is : (r : State) (c : ClockId) → probe_script r c.0 ≡ (registration_of (is_critical r.defs c.0) c ++ flat_map (adoption r) (adopted r)) ++ micro.End ∷ []
 unfolding probe_script
 script_is r c = refl
@@ -99,7 +96,7 @@ probe_steps_are m new orphans critical none' first all steps empty is registers 
   told = λ s stands sound same.
       let r : State = register s new.0 in
       whole
-      ∙ ap (λ (t : Bool). (registration_of t new ++ adopts.added) ++ micro.End ∷ []) (ap (λ (ds : Description). is_critical ds new.0) (sym (same_defs s new.0 ∙ stands.defs)))
+      ∙ ap (λ (t : Bool). (registration_of t new ++ adopts.added) ++ micro.End ∷ []) (ap (λ (ds : Description). is_critical ds new.0) (sym (register_defs s new.0 ∙ stands.defs)))
       ∙ ap (λ (ms : List Micro). (registration_of (is_critical r.defs new.0) new ++ ms) ++ micro.End ∷ []) (adopts.told s stands sound ∙ ap (flat_map (adoption r)) same)
       ∙ sym (script_is r new);
 } where

@@ -1,35 +1,23 @@
 -- What the calls on exclusives, notifiers, roundings and registrations come to.
-use Rattle.std.proofs.Common.{◌≡◌, ℕ, ℤ, ◌+◌, ◌-◌, ◌<◌, ◌≤◌, ◌++◌, [], ◌∷◌, true, false, cond, Option, Some, None, ap, ◌∙◌, arith, nat_eq, length, nat_le}
+use Rattle.std.proofs.Common.{◌≡◌, ℕ, ℤ, ◌+◌, ◌-◌, ◌<◌, ◌≤◌, ◌++◌, [], ◌∷◌, true, false, Option, Some, None, ap, ◌∙◌, arith, nat_eq, length, nat_le}
 use Rattle.std.specs.Option.{option_map_or}
 use Rattle.std.proofs.lemmas.Bool.Decides.{nat_tests}
-use Rattle.clk_base.specs.declared.call.Sleeping.{Sleeping}
 use Rattle.clk_base.specs.declared.call.Sleeping.TheVariants as call
 use Rattle.clk_base.specs.declared.event.Errno.TheVariants as errno
 use Rattle.clk_base.specs.declared.event.Event.TheVariants as event
 use Rattle.clk_base.specs.declared.event.Reply.TheVariants as reply
-use Rattle.clk_base.specs.declared.event.Turn.{Turn}
 use Rattle.clk_base.specs.declared.event.Turn.TheVariants as turn
 use Rattle.clk_base.specs.declared.handle.Handle.{Handle}
 use Rattle.clk_base.specs.declared.handle.Policy.{Policy}
 use Rattle.clk_model.specs.declared.row.HandleRow.{HandleRow}
-use Rattle.clk_model.specs.State.{State, Change, is_quiet}
+use Rattle.clk_model.specs.State.{State}
 use Rattle.clk_model.specs.Notices.{notifiers_of}
 use Rattle.clk_model.specs.Round.{wiring, round_rate}
 use Rattle.clk_model.specs.Views.{view, lift}
-use Rattle.clk_model.specs.Begin.{done, refused, put_handle, own_handle, with_handle, held_once_more, exclusive_put, has_notifier, most_notifiers, notifier_added, notifier_removed, rounded, begun}
+use Rattle.clk_model.specs.Begin.{done, refused, put_handle, own_handle, held_once_more, exclusive_put, has_notifier, most_notifiers, notifier_added, notifier_removed, rounded, begun}
 use Rattle.clk_model.specs.Machine.{paid, next}
-use Rattle.clk_model.proofs.EventLaws.{pick-true, pick-false}
+use Rattle.clk_model.proofs.EventLaws.{pick-true, pick-false, begin_quiet, with-none, with-some}
 use Rattle.notifiers.specs.Chains.{without_notifier}
-
-pub begin_quiet : (s : State) (d : ℕ) (what : Sleeping) → s.change ≡ None → next s d (event.Begin what) ≡ paid s (begun s d what)
-unfolding next
-begin_quiet s d what quiet = ap (λ (o : Option Change). cond (is_quiet o) (paid s (begun s d what)) None) quiet
-
-pub with-none : (s : State) (d n : ℕ) (f : HandleRow → State × Turn) → own_handle s d n ≡ None → with_handle s d n f ≡ refused s errno.ENOENT
-with-none s d n f none = ap (λ (o : Option HandleRow). option_map_or f o (refused s errno.ENOENT)) none
-
-pub with-some : (s : State) (d n : ℕ) (f : HandleRow → State × Turn) (h : HandleRow) → own_handle s d n ≡ Some h → with_handle s d n f ≡ f h
-with-some s d n f h some = ap (λ (o : Option HandleRow). option_map_or f o (refused s errno.ENOENT)) some
 
 -- ---- exclusives
 

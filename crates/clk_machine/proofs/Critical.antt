@@ -29,10 +29,7 @@ use Rattle.clk_machine.proofs.Following.{opens_all, told_mapped, regs_told, regs
 use Rattle.core_parts.proofs.Moving.{path_within_desc, tied-moved}
 use Rattle.clk_machine.proofs.Registering.{Registered, with_registered, tied_registered, whole_attached, bare_attached, rows_stand, register_rest, state_attached, registered_stands, active_linked}
 use Rattle.clk_machine.proofs.Writing.{counts_stand}
-
-pub register_regs : (s : State) (c : ℕ) → (register s c).regs ≡ s.regs
-unfolding register
-register_regs s c = refl
+use Rattle.clk_machine.proofs.Adopting.{register_regs}
 
 -- a clock more was counted once among the prepare holders and once among the enable holders
 pub record IsHeld (counts' held : CountState) (c : ℕ) : Type 0 where

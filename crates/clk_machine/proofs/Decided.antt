@@ -15,6 +15,7 @@ use Rattle.clk_model.specs.Machine.{paid, next}
 use Rattle.clk_model.specs.Round.{View}
 use Rattle.clk_model.specs.State.{State, handle_at}
 use Rattle.clk_model.specs.Views.{lift, lifted_row}
+use Rattle.clk_model.proofs.EventLaws.{begin_quiet, with-none, with-some}
 use Rattle.counts_core.specs.Counted.{CountState, AreCounts, is_prepared}
 use Rattle.counts_core.specs.Standing.{StandsFor}
 use Rattle.counts_core.proofs.Standing.{tells_holds}
@@ -27,7 +28,6 @@ use Rattle.clk_machine.specs.Parts.{Parts, own_in, IsWhole}
 use Rattle.core_parts.specs.Seen.{seen}
 use Rattle.clk_machine.specs.Sound.{IsSound}
 use Rattle.clk_machine.specs.Stands.{Stands}
-use Rattle.clk_machine.proofs.CallEvents.{begin_quiet, with-none, with-some}
 use Rattle.clk_machine.proofs.Entered.{own_stands}
 use Rattle.clk_machine.proofs.FewNotifiers.{few_reached}
 use Rattle.clk_machine.proofs.Flying.{quiet_stands}

@@ -24,7 +24,7 @@ use Rattle.clk_model.specs.Script.{Planned, planned, weight, is_raise, notices_o
 use Rattle.clk_model.specs.State.{State, Change, ChainStep, link_in, handle_at, registered}
 use Rattle.clk_model.specs.Tree.{rooted}
 use Rattle.clk_model.specs.Views.{lift}
-use Rattle.clk_model.proofs.EventLaws.{pick-true, pick-false}
+use Rattle.clk_model.proofs.EventLaws.{pick-true, pick-false, begin_quiet, with-some}
 use Rattle.clk_model.proofs.Members.{both_left, both_right}
 use Rattle.clk_tree.specs.declared.plan.Plan.{Plan}
 use Rattle.counts_core.specs.Counted.{CountState, is_guarded, is_prepared}
@@ -42,7 +42,6 @@ use Rattle.clk_machine.specs.Parts.{Parts, own_in, IsWhole}
 use Rattle.core_parts.specs.Reparenting.{is_bound, is_candidate, first_cause, parent_refusal}
 use Rattle.clk_machine.specs.Sound.{IsSound}
 use Rattle.clk_machine.specs.Stands.{Stands}
-use Rattle.clk_machine.proofs.CallEvents.{begin_quiet, with-some}
 use Rattle.core_parts.proofs.LessProtected.{less_keeps}
 use Rattle.clk_machine.proofs.Decided.{decides_unknown, given_lifted, given_itself}
 use Rattle.core_parts.proofs.Deciding.{less_is, not_less, told_here, rates_told, script_told}

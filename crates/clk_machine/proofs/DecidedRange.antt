@@ -13,7 +13,7 @@ use Rattle.clk_model.specs.Laws.CallCauses.{with_limits}
 use Rattle.clk_model.specs.Machine.{paid, next}
 use Rattle.clk_model.specs.State.{State, handle_at, row_of, unregistered_row}
 use Rattle.clk_model.specs.Views.{lift}
-use Rattle.clk_model.proofs.EventLaws.{pick-true, pick-false}
+use Rattle.clk_model.proofs.EventLaws.{pick-true, pick-false, begin_quiet, with-some}
 use Rattle.clk_model.proofs.StateLaws.{handle_at-set_same, set-back}
 use Rattle.counts_core.specs.Standing.{StandsFor}
 use Rattle.rate_requests.specs.Handles.{HandleTable, misses_in, with_range_at}
@@ -25,7 +25,6 @@ use Rattle.clk_machine.specs.Holding.{ranged}
 use Rattle.clk_machine.specs.Parts.{Parts, own_in, IsWhole}
 use Rattle.clk_machine.specs.Sound.{IsSound}
 use Rattle.clk_machine.specs.Stands.{Stands}
-use Rattle.clk_machine.proofs.CallEvents.{begin_quiet, with-some}
 use Rattle.clk_machine.proofs.Decided.{decides_unknown, given_lifted, with_handles}
 use Rattle.clk_machine.proofs.Entered.{own_stands}
 use Rattle.clk_machine.proofs.Flying.{quiet_stands}

@@ -16,6 +16,7 @@ use Rattle.clk_model.specs.State.{State, registered, link_in}
 use Rattle.clk_model.specs.Step.{taken, hold_enable, drop_enable}
 use Rattle.clk_model.specs.Tree.{path_within}
 use Rattle.clk_model.proofs.Members.{is_in_tail, is_in-reverse}
+use Rattle.clk_model.proofs.AdoptGoLaws.{left_was}
 use Rattle.clk_flight.specs.Flights.{FlightState}
 use Rattle.counts_core.specs.Counted.{CountState, AreCounts, is_active}
 use Rattle.counts_core.specs.Sums.{up_in}
@@ -32,7 +33,7 @@ use Rattle.clk_machine.proofs.Relinking.{Relinked, with_relinked, falls_of, reli
 use Rattle.clk_machine.proofs.Room.{enable_owned}
 use Rattle.clk_machine.proofs.Stepping.{enables_one, disables_one}
 use Rattle.clk_machine.proofs.Writing.{counts_stand}
-use Rattle.clk_machine.proofs.HoldsMaking.{places, both_more, both_less, tells_more, tells_less, without_in, active_grows, held_there, stands_held, HasPlaces}
+use Rattle.clk_machine.proofs.HoldsMaking.{places, both_more, both_less, tells_more, tells_less, active_grows, held_there, stands_held, HasPlaces}
 
 -- ---- a clock is held enabled
 
@@ -199,7 +200,7 @@ module _ (old : Parts) (x : ClockId) (levels : ℕ) (window' : Shown) (counts' :
       closes_all s.defs (active s) (active (drop_enable s (taken k) x.0)) cs s.regs (regs_told old s now.whole stands).0 (regs_lie old s now.whole stands)
       (λ c m. subst (λ (d : Description). c < length d) (sym stands.defs) (path_within_desc old.desc old.window old.tree levels x.0 now.whole.tied dropped_there c m))
       (λ d. ap (is_in d) (sym same) ∙ to.stopped d ∙ lists_alike _ _ _ _ (tells_holds old.counts s now.whole.counted.keeps counted d).active (tells_holds counts' (drop_enable s (taken k) x.0) to.keeps then_ d).active)
-      (λ d is_. active_grows (drop_enable s (taken k) x.0) s.enable_holds d (λ h m. without_in x.0 h s.enable_holds m) is_) in
+      (λ d is_. active_grows (drop_enable s (taken k) x.0) s.enable_holds d (λ h m. left_was x.0 h s.enable_holds m) is_) in
       record {
         regs = gates_moved s.defs (λ _. true) (λ _. false) (reverse cs) s.regs;
         clocks = s.clocks;

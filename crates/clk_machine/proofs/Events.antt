@@ -1,5 +1,5 @@
 -- Each event that can come leaves a sound state sound.
-use Rattle.std.proofs.Common.{◌≡◌, ℕ, zero, suc, ◌+◌, ◌-◌, ◌<◌, ◌||◌, Bool, true, false, cond, List, [], ◌∷◌, Option, Some, None, refl, sym, ap, subst, ◌∙◌, arith, length, nat_lt, nat_le, filter, reverse}
+use Rattle.std.proofs.Common.{◌≡◌, ℕ, zero, suc, ◌+◌, ◌-◌, ◌<◌, ◌||◌, Bool, true, false, List, [], ◌∷◌, Option, Some, None, refl, sym, subst, ◌∙◌, arith, length, nat_lt, nat_le, filter, reverse}
 use Rattle.std.specs.Prelude.{is_none, slice_get, if◌then◌else◌}
 use Rattle.std.specs.Option.{option_map_or}
 use Rattle.std.proofs.lemmas.Bool.Decides.{nat_tests}
@@ -41,6 +41,7 @@ use Rattle.clk_machine.proofs.Stepping.{polled_change}
 use Rattle.clk_machine.proofs.Relinked.{IsNarrow-linked, IsNarrow-settle}
 use Rattle.clk_model.proofs.Members.{both_left, both_right}
 use Rattle.clk_model.specs.Walk.{below_within}
+use Rattle.clk_model.proofs.SupplyLaws.{paid_is}
 use Rattle.clk_base.specs.Levels.{depth}
 use Rattle.clk_machine.proofs.Attaching.{IsNarrow-register}
 use Rattle.core_parts.proofs.Closing.{closed_regs}
@@ -48,23 +49,10 @@ use Rattle.clk_machine.proofs.Kept.{IsNarrow-settled, IsNarrow-requested}
 
 -- ---- paid events
 
--- a paid event leaves what it leaves, with its gates and a credit spent
-paid_leaves : (s y t : State) (a b : Turn) → paid s (y, a) ≡ Some (t, b) → t ≡ record (settled s y) { spent = s.spent + 1 }
-paid_leaves s y t a b comes = by (nat_lt s.spent s.credits) comes where
-  after : State × Turn
-  after = (record (settled s y) { spent = s.spent + 1 }, a)
-
-  inside : {v w : State × Turn} → Some v ≡ Some w → v ≡ w
-  inside e = cc
-
-  by : (c : Bool) → cond c (Some after) None ≡ Some (t, b) → t ≡ record (settled s y) { spent = s.spent + 1 }
-  by true some = sym (ap (λ (v : State × Turn). v.0) (inside some))
-  by false none = absurd cc
-
 -- so an event that is known to come to a state that is sound once its gates are settled leaves it sound
 comes_to : (words : ℕ) (s y t : State) (d : ℕ) (e : Event) (a b : Turn) → IsNarrow words (settled s y) → next s d e ≡ paid s (y, a) → next s d e ≡ Some (t, b) → IsNarrow words t
 comes_to words s y t d e a b sound known comes =
-    subst (IsNarrow words) (sym (paid_leaves s y t a b (sym known ∙ comes))) sound
+    subst (IsNarrow words) (sym (paid_is s y t a b (sym known ∙ comes))) sound
 
 -- no gate moves where each clock is active as it was
 stills : (words : ℕ) (s y : State) → ((c : ℕ) → active s c ≡ active y c) → IsNarrow words y → IsNarrow words (settled s y)

@@ -2,7 +2,6 @@
 use Rattle.std.proofs.Common.{◌≡◌, ℕ, suc, ◌-◌, ◌<◌, ◌≤◌, ◌||◌, Bool, true, false, cond, List, [], ◌∷◌, ◌++◌, Option, Some, None, refl, sym, ap, subst, ◌∙◌, arith, length, nat_eq, nat_le}
 use Rattle.std.specs.Prelude.{filter, reverse, slice_get}
 use Rattle.std.specs.Option.{option_map_or}
-use Rattle.std.specs.Int.RustNames.{int_lt}
 use Rattle.std.proofs.lemmas.Bool.Decides.{nat_tests}
 use Rattle.clk_base.specs.declared.call.Micro.{Micro}
 use Rattle.clk_base.specs.declared.call.Micro.TheVariants as micro
@@ -19,7 +18,7 @@ use Rattle.clk_model.specs.Gates.{settled}
 use Rattle.clk_model.specs.Journal.{opening, replay}
 use Rattle.clk_model.specs.Laws.CallCauses.{with_limits}
 use Rattle.clk_model.specs.Machine.{paid, next, enabled, disabled, running}
-use Rattle.clk_model.specs.Notices.{by_priority, notifiers_of}
+use Rattle.clk_model.specs.Notices.{notifiers_of}
 use Rattle.clk_model.specs.Round.{wiring}
 use Rattle.clk_model.specs.Script.{probe_script, sweep_script}
 use Rattle.clk_model.specs.State.{State, Change, NotifierRow, handle_at}
@@ -30,6 +29,7 @@ use Rattle.clk_model.proofs.FlightLaws.{begin_is, step_is}
 use Rattle.clk_model.proofs.NotifierLaws.{notifiers_of-push, notifiers_of-push_other, notifiers_of-filter}
 use Rattle.clk_model.proofs.TierLaws.{pick_either, with_handle_either, paid_is}
 use Rattle.change_walk.specs.Given.{HasFewNotifiers}
+use Rattle.core_parts.proofs.NotifierRows.{length-by_priority}
 use Rattle.clk_machine.specs.Sound.{IsReached}
 
 -- ---- lists of notifiers
@@ -37,14 +37,6 @@ use Rattle.clk_machine.specs.Sound.{IsReached}
 -- no clock has more of these notifiers than it may have
 abbrev AreFew : List NotifierRow → Type 0
 AreFew ns = (c : ℕ) → length (notifiers_of ns c) ≤ most_notifiers
-
-length-by_priority : (n : NotifierRow) (ms : List NotifierRow) → length (by_priority n ms) ≡ suc (length ms)
-length-by_priority n [] = refl
-length-by_priority n (m ∷ ms) =
-    elim (int_lt m.priority n.priority) as (λ t. length (cond t (n ∷ m ∷ ms) (m ∷ by_priority n ms)) ≡ suc (length (m ∷ ms))) [
-      | true ↦ refl
-      | false ↦ ap suc (length-by_priority n ms)
-    ]
 
 few_added : (ns : List NotifierRow) (n : NotifierRow) → length (notifiers_of ns n.clock) < most_notifiers → AreFew ns → AreFew (ns ++ n ∷ [])
 few_added ns n room few c = by (nat_eq n.clock c) refl where
@@ -145,7 +137,7 @@ stepped_notifiers s k answer m = refl
 
 -- ---- events
 
-settled_notifiers : (s y : State) → (settled s y).notifiers ≡ y.notifiers
+pub settled_notifiers : (s y : State) → (settled s y).notifiers ≡ y.notifiers
 unfolding settled
 settled_notifiers s y = refl
 

@@ -1,5 +1,5 @@
 -- The gates that follow an enable more or less are those of the first clocks of its path.
-use Rattle.std.proofs.Common.{◌≡◌, ◌≢◌, ℕ, ◌+◌, ◌<◌, ◌&&◌, ◌||◌, Bool, true, false, not, List, Option, Some, None, refl, sym, ap, subst, ◌∙◌, arith, length, nat_lt}
+use Rattle.std.proofs.Common.{◌≡◌, ◌≢◌, ℕ, ◌+◌, ◌<◌, ◌&&◌, Bool, true, false, not, List, Option, Some, None, refl, sym, ap, subst, ◌∙◌, arith, length, nat_lt}
 use Rattle.std.proofs.Math.Path.{fun_ext}
 use Rattle.std.specs.Prelude.{is_some, reverse}
 use Rattle.std.specs.Option.{option_map}
@@ -15,7 +15,7 @@ use Rattle.clk_model.specs.Holders.{active}
 use Rattle.clk_model.specs.Gates.{gates_moved, settled}
 use Rattle.clk_model.specs.Begin.{put_handle}
 use Rattle.clk_model.proofs.HolderLaws.{is_under}
-use Rattle.clk_model.proofs.Members.{is_in-count_from, is_in-reverse, both_left}
+use Rattle.clk_model.proofs.Members.{is_in-count_from, is_in-reverse, both_left, or_left}
 use Rattle.clk_model.proofs.GateLaws.{GatesLie, gates_moved-lists, gates_moved-before, gates_moved-alike}
 use Rattle.clk_model.proofs.StateLaws.{active-put_more, active-put_less}
 use Rattle.counts_core.specs.Sums.{up_in}
@@ -106,10 +106,6 @@ path_clocks m s levels n row whole stands live c inside =
 
 -- ---- one enable more or less
 
-or_more : (a u : Bool) → a ≡ true → (a || u) ≡ true
-or_more true u e = refl
-or_more false u e = absurd cc
-
 positive : (k : ℕ) → nat_lt 0 (k + 1) ≡ true
 positive k = grind (arith, nat_tests)
 
@@ -164,7 +160,7 @@ module _ (old : Parts) (n levels : ℕ) (row new : HandleRow) (window' : Shown) 
       (λ d. ap (is_in d) (sym counted_cs) ∙ began d ∙ lists_alike _ _ _ _ (active_new s stands d) (active_old s stands d))
       (λ d was.
       active-put_more s n row new d (live_in old s n row stands written.live) written.clock (ap (λ (h : HandleRow). nat_lt 0 h.enables) more ∙ positive row.enables)
-      ∙ or_more (active s d) (is_under s.clocks row d) was))
+      ∙ or_left (active s d) (is_under s.clocks row d) was))
 
   pub becomes_closed : 0 < row.enables → ((d : ℕ) → is_in d (path_within (up_in old.counts.links) levels row.clock.0) ≡ (is_active old.counts d && not (is_active counts' d)))
       → window'.words ≡ option_map (gates_moved old.desc.defs (λ _. true) (λ _. false) (reverse cs)) old.window.words
@@ -177,7 +173,7 @@ module _ (old : Parts) (n levels : ℕ) (row new : HandleRow) (window' : Shown) 
       (λ d. ap (is_in d) (sym counted_cs) ∙ stopped d ∙ lists_alike _ _ _ _ (active_old s stands d) (active_new s stands d))
       (λ d is.
       active-put_less s n row new d (live_in old s n row stands written.live) written.clock (grind (arith, nat_tests))
-      ∙ or_more (active (put_handle s n (Some new)) d) (is_under s.clocks row d) is))
+      ∙ or_left (active (put_handle s n (Some new)) d) (is_under s.clocks row d) is))
 
 -- the words and the tree go on with each other
 pub tied_opened : (old : Parts) (n levels : ℕ) (row : HandleRow) (window' : Shown) → IsWhole old → handle_at old.table.handles n ≡ Some row → window'.size ≡ old.window.size

@@ -14,7 +14,7 @@ use Rattle.clk_model.specs.Lists.{is_in, without_one}
 use Rattle.clk_model.specs.State.{State, registered}
 use Rattle.clk_model.specs.Step.{taken, drop_enable}
 use Rattle.clk_model.specs.Tree.{path}
-use Rattle.clk_model.proofs.Members.{any_in, any_from_in, or_left, or_right, both_right, same_from_test, test_other, test_same, is_in_cases, is_in_tail}
+use Rattle.clk_model.proofs.Members.{any_in, any_from_in, or_left, or_right, both_right, same_from_test, test_other}
 use Rattle.clk_model.proofs.OnceLaws.{is_in-append, in_append}
 use Rattle.clk_flight.specs.Flights.{FlightState, own_step}
 use Rattle.counts_core.specs.Counted.{CountState}
@@ -124,16 +124,6 @@ without_none x (y ∷ ys) none = by (nat_eq y x) refl (λ rest. without_none x y
   by false e rest =
       let all = times_more x y ys in
       ap (λ (zs : List ℕ). y ∷ zs) (rest (omega arith))
-
-pub without_in : (x h : ℕ) (holds : List ℕ) → is_in h (without_one x holds) ≡ true → is_in h holds ≡ true
-without_in x h [] m = m
-without_in x h (y ∷ ys) m = by (nat_eq y x) m (λ rest. without_in x h ys rest) where
-  by : (t : Bool) → is_in h (cond t ys (y ∷ without_one x ys)) ≡ true → (is_in h (without_one x ys) ≡ true → is_in h ys ≡ true) → is_in h (y ∷ ys) ≡ true
-  by true m rest = is_in_tail h y ys m
-  by false m rest = elim (is_in_cases h y (without_one x ys) m) [
-    | inl same ↦ or_left (nat_eq y h) (is_in h ys) (ap (λ (z : ℕ). nat_eq z h) same ∙ test_same h)
-    | inr later ↦ is_in_tail h y ys (rest later)
-  ]
 
 -- ---- who is active
 

@@ -23,8 +23,9 @@ use Rattle.clk_model.specs.Lists.{is_in, to_front, without}
 use Rattle.clk_model.specs.State.{State, Change, registered, link_in}
 use Rattle.clk_model.specs.Step.{is_register, register_in, rest_of, taken}
 use Rattle.clk_model.specs.Tree.{path, path_to_be, path_within, link_given}
-use Rattle.clk_model.proofs.Members.{both_left, both_right}
+use Rattle.clk_model.proofs.Members.{both_left, both_right, not_either}
 use Rattle.clk_model.proofs.StateLaws.{settled-still}
+use Rattle.clk_model.proofs.WalkLaws.{turned_off}
 use Rattle.clk_flight.specs.declared.front.Front.{Front}
 use Rattle.clk_flight.specs.declared.front.Front.TheVariants.{Empty, Poll, Raise, Lower, Falls, Posts}
 use Rattle.clk_flight.specs.Flights.{FlightState, IsChange, first_step, own_first, own_step}
@@ -32,6 +33,7 @@ use Rattle.clk_flight.specs.Fronts.{front_behind, front_steps, script_behind}
 use Rattle.clk_flight.specs.LeftOver.{left_over}
 use Rattle.clk_flight.specs.Moves.{gone_on}
 use Rattle.clk_flight.specs.Steps.{GoesOn, LeavesLessAt, is_taken}
+use Rattle.clk_flight.proofs.KeptLaws.{going_step}
 use Rattle.clk_tree.specs.TreeState.{TreeState}
 use Rattle.counts_core.specs.Counted.{CountState, AreCounts, is_active}
 use Rattle.counts_core.specs.Standing.{StandsFor}
@@ -48,16 +50,17 @@ use Rattle.clk_machine.specs.Sound.{links_well}
 use Rattle.clk_machine.specs.Stands.{Stands, Enters}
 use Rattle.core_parts.specs.Window.{Shown}
 use Rattle.clk_machine.proofs.Attached.{IsAttached}
-use Rattle.clk_machine.proofs.Critical.{IsHeld, critical_regs, critical_words, held_stands, in_desc, register_regs}
+use Rattle.clk_machine.proofs.Critical.{IsHeld, critical_regs, critical_words, held_stands, in_desc}
 use Rattle.clk_machine.proofs.Following.{told_mapped}
 use Rattle.core_parts.proofs.HeldCounts.{held_on, held_still}
-use Rattle.core_parts.proofs.InFlight.{behind_seek, own_going}
+use Rattle.core_parts.proofs.InFlight.{behind_seek}
 use Rattle.core_parts.proofs.StepsInFlight.{changes_plain, no_probes}
 use Rattle.clk_machine.proofs.Making.{change_of, next_of, path_stands, path_under}
 use Rattle.core_parts.proofs.Moving.{tied-moved}
 use Rattle.clk_machine.proofs.Registering.{Registered, active_linked, plain_stands, rows_stand, state_attached, tied_registered}
 use Rattle.clk_machine.proofs.Stepping.{registers_one}
 use Rattle.clk_machine.proofs.Writing.{counts_stand}
+use Rattle.clk_machine.proofs.Adopting.{register_regs}
 
 -- ---- a registration that comes next
 
@@ -70,14 +73,10 @@ pub record OwnRegister (f : FlightState) (there : ℕ → Bool) (c : ClockId) : 
   pub script : is_script f.call (λ k. there k || nat_eq c.0 k) rest ≡ true
   pub none : list_any is_register rest ≡ false
 
-untrue : (b : Bool) → not b ≡ true → b ≡ false
-untrue true e = absurd cc
-untrue false e = refl
-
 pub own_register : (f : FlightState) (there : ℕ → Bool) (c : ClockId) → own_step f ≡ Some (micro.Register c) → IsUnderWay there f → OwnRegister f there c
 own_register f there c own way = by f.front refl where
   first : own_first f f.front ≡ Some (micro.Register c)
-  first = own_going f.going (own_first f f.front) (micro.Register c) own
+  first = going_step f.going (own_first f f.front) (micro.Register c) own
 
   from : (left : List Micro) → f.left ≡ left → slice_get left 0 ≡ Some (micro.Register c) → (rest : List Micro) × (f.left ≡ micro.Register c ∷ rest)
   from [] at e = absurd cc
@@ -88,7 +87,7 @@ own_register f there c own way = by f.front refl where
       let here : slice_get f.left 0 ≡ Some (micro.Register c) = sym (ap (own_first f) at) ∙ first in
       let left = from f.left refl here in
       let made = behind_seek f.call there (micro.Register c) left.0 refl (sym (ap (is_script f.call there) left.1) ∙ way.script) in
-      record { front = at; rest = left.0; left = left.1; probes_ = made.0; script = made.1; none = untrue (list_any is_register left.0) made.2 }
+      record { front = at; rest = left.0; left = left.1; probes_ = made.0; script = made.1; none = turned_off (list_any is_register left.0) made.2 }
   by (Poll y polls again) at = let no : Some (micro.Poll y) ≡ Some (micro.Register c) = sym (ap (own_first f) at) ∙ first in absurd cc
   by (Raise x) at = let no : Some (micro.Raise x) ≡ Some (micro.Register c) = sym (ap (own_first f) at) ∙ first in absurd cc
   by (Lower x) at = let no : Some (micro.Lower x) ≡ Some (micro.Register c) = sym (ap (own_first f) at) ∙ first in absurd cc
@@ -119,7 +118,7 @@ may_join old c whole going own_ =
       own = own;
       well = can;
       place = grind (arith, nat_tests);
-      free = untrue (registered old.tree.clocks c.0) (both_right (nat_lt c.0 (length old.desc.defs)) _ can);
+      free = turned_off (registered old.tree.clocks c.0) (both_right (nat_lt c.0 (length old.desc.defs)) _ can);
       rest = both_right (can_link old.desc.defs old.tree.clocks (micro.Register c)) _ all;
     }
 
@@ -141,17 +140,13 @@ can_more defs old new linked (micro.WriteMux c place) plain can =
 can_more defs old new linked (micro.Register c) plain can = absurd cc
 can_more defs old new linked _ plain can = can
 
-not_first : (a b : Bool) → (a || b) ≡ false → (a ≡ false) × (b ≡ false)
-not_first true b e = absurd cc
-not_first false b e = (refl, e)
-
 can_rest : (defs : Description) (old new : List ClockRow) → ((d : ℕ) → is_some (link_in old d) ≡ true → is_some (link_in new d) ≡ true)
     → (ms : List Micro) → list_any is_register ms ≡ false → list_all (can_link defs old) ms ≡ true → list_all (can_link defs new) ms ≡ true
 can_rest defs old new linked [] none all = refl
 can_rest defs old new linked (m ∷ ms) none all =
     more_both (can_link defs old m) (can_link defs new m) (list_all (can_link defs old) ms) (list_all (can_link defs new) ms)
-    (can_more defs old new linked m (not_first (is_register m) (list_any is_register ms) none).0)
-    (can_rest defs old new linked ms (not_first (is_register m) (list_any is_register ms) none).1) all
+    (can_more defs old new linked m (not_either (is_register m) (list_any is_register ms) none).0)
+    (can_rest defs old new linked ms (not_either (is_register m) (list_any is_register ms) none).1) all
 
 -- ---- the parts behind it
 

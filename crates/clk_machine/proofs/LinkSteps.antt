@@ -6,7 +6,7 @@ use Rattle.clk_base.specs.declared.call.Micro.TheVariants as micro
 use Rattle.clk_base.specs.declared.clock.ClockId.{ClockId}
 use Rattle.clk_base.specs.declared.event.Event.TheVariants as event
 use Rattle.clk_base.specs.declared.event.Turn.TheVariants as turn
-use Rattle.clk_base.specs.Description.{Description, parents_of}
+use Rattle.clk_base.specs.Description.{parents_of}
 use Rattle.clk_model.specs.declared.row.ClockRow.{ClockRow}
 use Rattle.clk_model.specs.Chain.{linked}
 use Rattle.clk_model.specs.Lists.{is_in, to_front}
@@ -30,11 +30,11 @@ use Rattle.clk_machine.specs.Stands.{Enters}
 use Rattle.core_parts.proofs.HeldCounts.{held_passed, listed_tells, tells_passed}
 use Rattle.core_parts.proofs.HoldsEnding.{tells_ended, held_ended}
 use Rattle.core_parts.proofs.Holdings.{StandsFor-linked, StandsFor-moved}
-use Rattle.core_parts.proofs.Moving.{clock_within}
 use Rattle.clk_machine.proofs.Relinked.{linked_there}
 use Rattle.clk_machine.proofs.Relinking.{relinks, Relinked, with_relinked, own_step_of, can_now, made_now, falls_of, relinked_enters}
 use Rattle.clk_machine.proofs.Stepping.{relinks_one}
 use Rattle.clk_machine.proofs.Unmoved.{relink_still}
+use Rattle.clk_machine.proofs.Landings.{clock_among}
 
 -- what is known of the flight where a step comes next and was made
 pub record Stepped (old : Parts) (m : Micro) (flight' : FlightState) : Type 0 where
@@ -147,13 +147,6 @@ tells_gone : (p : ℕ) (o : Option ℕ) (counts counts' holds : List ℕ) → Te
 tells_gone p None counts counts' holds tells go = tells_ended p counts counts' holds tells go
 tells_gone p (Some o) counts counts' holds tells go = tells_passed p o counts counts' holds tells go
 
-row_inside : (old : Parts) (c : ℕ) → IsWhole old → registered old.tree.clocks c ≡ true → c < length old.tree.clocks
-row_inside old c whole there =
-    let within = clock_within old.desc old.window old.tree c whole.tied there in
-    let rows = whole.tied.stands.rows in
-    let same : length old.tree.defs ≡ length old.desc.defs = ap (λ (ds : Description). length ds) whole.tied.defs in
-    omega arith
-
 -- the counts with the link stand for the tree with it
 pub stands_linked : (old : Parts) (c p : ClockId) (tree' : TreeState) (moved : CountState) → IsWhole old → LinksTo old c p tree' moved → StandsFor moved (bare (record old { tree = tree' }))
 stands_linked old c p tree' moved whole to =
@@ -213,7 +206,7 @@ relinked_of old c p tree' moved counts' prepares' enables' flight' now to go = r
   by : (d : ℕ) → is_some (link_in old.tree.clocks d) ≡ true → (c.0 ≡ d) ⊎ (c.0 ≡ d → ⊥) → is_some (link_in (linked old.tree.clocks c.0 p.0) d) ≡ true
   by d has (inl same) =
       ap (λ (x : ℕ). is_some (link_in (linked old.tree.clocks c.0 p.0) x)) (sym same)
-      ∙ ap (λ (o : Option ℕ). is_some o) (linked_same old.tree.clocks c.0 p.0 (row_inside old c.0 whole may.there))
+      ∙ ap (λ (o : Option ℕ). is_some o) (linked_same old.tree.clocks c.0 p.0 (clock_among old c.0 whole may.there))
   by d has (inr other) = ap (λ (o : Option ℕ). is_some o) (linked_other old.tree.clocks c.0 p.0 d other) ∙ has
 
 -- a change that a step leaves as it is goes along its course
@@ -226,7 +219,7 @@ relink_enters old c p tree' moved counts' prepares' enables' flight' now to go =
     relinked_enters old (micro.Relink c p) old.window tree' counts' prepares' enables' flight' (relinked_of old c p tree' moved counts' prepares' enables' flight' now to go) (λ s k stands sound next is.
     let may = may_link old c p now.whole now.going now.own in
     let own = own_step_of old (micro.Relink c p) now.whole now.going refl now.own in
-    let within : c.0 < length s.clocks = subst (λ (rs : List ClockRow). c.0 < length rs) (sym stands.clocks) (row_inside old c.0 now.whole may.there) in
+    let within : c.0 < length s.clocks = subst (λ (rs : List ClockRow). c.0 < length rs) (sym stands.clocks) (clock_among old c.0 now.whole may.there) in
     let link : link_in s.clocks c.0 ≡ link_in old.tree.clocks c.0 = ap (λ (rs : List ClockRow). link_in rs c.0) stands.clocks in
     record {
       regs = s.regs;

@@ -25,7 +25,7 @@ use Rattle.clk_model.specs.Tree.{path}
 use Rattle.clk_model.specs.Script.{plls, runs, weight, unprepared_plls}
 use Rattle.clk_model.specs.Begin.{most_credits, weight_of, change_of, put_handle, own_handle, keeps_prepare, unprepare, refused, begun}
 use Rattle.clk_model.specs.Machine.{paid, next}
-use Rattle.clk_model.proofs.EventLaws.{pick-true, pick-false, own_is_live, prepared_once_less}
+use Rattle.clk_model.proofs.EventLaws.{pick-true, pick-false, own_is_live, prepared_once_less, begin_quiet, with-some}
 use Rattle.clk_model.proofs.StateLaws.{paid-still, active-put_same}
 use Rattle.clk_flight.specs.Flights.{FlightState, IsChange}
 use Rattle.clk_flight.specs.LeftOver.{step_weight}
@@ -39,12 +39,12 @@ use Rattle.core_parts.specs.Plls.{lowerable, Finds}
 use Rattle.core_parts.specs.declared.plls.Sought.{Sought}
 use Rattle.clk_machine.specs.Stands.{Stands, Enters}
 use Rattle.clk_machine.specs.Starting.{StartsCall, released}
-use Rattle.clk_machine.proofs.CallEvents.{begin_quiet, with-some}
 use Rattle.clk_machine.proofs.Flying.{quiet_stands}
 use Rattle.clk_machine.proofs.Making.{to_lower_stands}
 use Rattle.clk_machine.proofs.Room.{prepare_held}
 use Rattle.core_parts.proofs.Shapes.{sum_by-set}
-use Rattle.clk_machine.proofs.Starting.{not_less, Started, started_left, started_way, flying, whole_flying, stands_flying}
+use Rattle.core_parts.proofs.Deciding.{not_less}
+use Rattle.clk_machine.proofs.Starting.{Started, started_left, started_way, flying, whole_flying, stands_flying}
 use Rattle.clk_machine.proofs.Writing.{Written, with_written, whole_written, stands_written, written_prepares}
 
 -- ---- in states

@@ -18,7 +18,7 @@ use Rattle.clk_model.specs.Tree.{path, path_to_be, link_given}
 use Rattle.clk_model.specs.Holders.{prepared}
 use Rattle.clk_model.specs.Script.{unprepared_plls, runs}
 use Rattle.clk_model.specs.Step.{todo, taken, to_raise, to_lower, is_register}
-use Rattle.clk_model.proofs.Members.{is_in-reverse, is_in_cases, or_cases}
+use Rattle.clk_model.proofs.Members.{is_in-reverse, is_in_cases, or_cases, or_left}
 use Rattle.clk_model.proofs.PllLaws.{at_place}
 use Rattle.clk_model.proofs.PowerLaws.{filter-agree}
 use Rattle.clk_model.proofs.OnceLaws.{is_in-filter}
@@ -214,10 +214,6 @@ found_told : (m : Parts) (x : ℕ) (found : Sought) (xs : List ℕ) (words : Opt
 found_told m x found xs None same finds = tt
 found_told m x found xs (Some regs) same finds = subst (λ (ys : List ℕ). Finds found (reverse (raisable m.desc.defs m.counts m.flight.raised ys))) same finds
 
-near_there : (t u : Bool) → t ≡ true → (t || u) ≡ true
-near_there true u e = refl
-near_there false u e = absurd cc
-
 pub found_on_path : (m : Parts) (x : ℕ) (found : Sought) → registered m.tree.clocks x ≡ true → Finds found (reverse (raisable m.desc.defs m.counts m.flight.raised (path m.tree.clocks x)))
     → IfSome m.window.words (λ regs. Finds found (reverse (raisable m.desc.defs m.counts m.flight.raised (path_to_be m.desc.defs regs m.tree.clocks x))))
 found_on_path m x found here finds = found_told m x found (path m.tree.clocks x) m.window.words (same m.window.words) finds where
@@ -227,7 +223,7 @@ found_on_path m x found here finds = found_told m x found (path m.tree.clocks x)
 
 pub near_on_path : (m : Parts) (x : ℕ) (found : Sought) → IsWhole m → registered m.tree.clocks x ≡ true → Finds found (reverse (raisable m.desc.defs m.counts m.flight.raised (path m.tree.clocks x)))
     → IfSome found.pll (λ pll. is_near m.flight.call (registered m.tree.clocks) pll.0 ≡ true)
-near_on_path m x found whole here finds = found_near m found (path m.tree.clocks x) finds (λ y inside. near_there (registered m.tree.clocks y) (probes m.flight.call y) (on_path m x y whole here inside).0)
+near_on_path m x found whole here finds = found_near m found (path m.tree.clocks x) finds (λ y inside. or_left (registered m.tree.clocks y) (probes m.flight.call y) (on_path m x y whole here inside).0)
 
 pub found_under : (m : Parts) (x : ℕ) (parent : Option ClockId) (found : Sought) → registered m.tree.clocks x ≡ false → IfSome m.window.words (λ regs. option_map (λ p. p.0) parent ≡ link_given m.desc.defs regs m.tree.clocks x)
     → Finds found (reverse (raisable m.desc.defs m.counts m.flight.raised (x ∷ option_map_or (λ p. path m.tree.clocks p.0) parent [])))
@@ -248,4 +244,4 @@ near_under m x parent found whole near there finds =
     ]) where
       by : (y : ℕ) (o : Option ClockId) → IfSome o (λ p. registered m.tree.clocks p.0 ≡ true) → is_in y (option_map_or (λ p. path m.tree.clocks p.0) o []) ≡ true → is_near m.flight.call (registered m.tree.clocks) y ≡ true
       by y None here inside = absurd cc
-      by y (Some p) here inside = near_there (registered m.tree.clocks y) (probes m.flight.call y) (on_path m p.0 y whole here inside).0
+      by y (Some p) here inside = or_left (registered m.tree.clocks y) (probes m.flight.call y) (on_path m p.0 y whole here inside).0

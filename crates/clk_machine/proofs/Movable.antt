@@ -23,12 +23,11 @@ use Rattle.clk_model.proofs.Members.{both_left, both_right, or_right}
 use Rattle.clk_model.proofs.PlanRootLaws.{IsRooted, rooted_linked}
 use Rattle.clk_model.proofs.RunsFedLaws.{run_of}
 use Rattle.clk_model.proofs.SafeRunLaws.{IsRunning, quietly, in_flight, IsRun}
-use Rattle.clk_model.proofs.EventLaws.{own_is_live}
+use Rattle.clk_model.proofs.EventLaws.{own_is_live, with-some}
 use Rattle.clk_model.proofs.TierLaws.{pick_either}
 use Rattle.core_parts.specs.Movable.{can_go}
 use Rattle.core_parts.specs.Reparenting.{is_candidate}
 use Rattle.clk_machine.specs.Sound.{IsReached, IsSound}
-use Rattle.clk_machine.proofs.CallEvents.{with-some}
 
 -- ---- the clock of a handle
 

@@ -1,5 +1,5 @@
 -- The parts of a core at its opening.
-use Rattle.std.proofs.Common.{◌≡◌, ℕ, zero, suc, ◌≤◌, ◌&&◌, Bool, true, false, cond, List, [], Option, Some, None, refl, sym, ap, subst, ◌∙◌, arith, length, replicate}
+use Rattle.std.proofs.Common.{◌≡◌, ℕ, ◌≤◌, ◌&&◌, Bool, true, false, cond, List, [], Option, Some, None, refl, sym, ap, subst, ◌∙◌, arith, length, replicate}
 use Rattle.std.specs.Prelude.{is_some, slice_index, sum_by}
 use Rattle.std.specs.Option.{option_map}
 use Rattle.clk_base.specs.Checked.{Checked}
@@ -8,11 +8,12 @@ use Rattle.clk_base.specs.Valid.{IsValid}
 use Rattle.clk_base.specs.declared.clock.ClockId.{ClockId}
 use Rattle.clk_model.specs.declared.row.ClockRow.{ClockRow}
 use Rattle.clk_model.specs.declared.row.HandleRow.{HandleRow}
-use Rattle.clk_model.specs.State.{unregistered_row, row_of, registered, handle_at}
+use Rattle.clk_model.specs.State.{unregistered_row, registered, handle_at}
 use Rattle.clk_model.specs.Lists.{present}
 use Rattle.clk_model.specs.Begin.{most_credits}
 use Rattle.clk_model.specs.Journal.{opening}
 use Rattle.clk_tree.specs.TreeState.{TreeState, IsTree}
+use Rattle.clk_tree.proofs.Rows.{row_of-blank}
 use Rattle.counts_core.specs.Counted.{CountState, AreCounts, HasLinks}
 use Rattle.counts_core.specs.Standing.{StandsFor}
 use Rattle.counts_core.proofs.Linking.{links_at_first}
@@ -27,22 +28,11 @@ use Rattle.clk_machine.specs.Parts.{parts_of, bare, held_in_all, IsWhole}
 use Rattle.clk_machine.specs.Stands.{Stands}
 use Rattle.clk_flight.specs.Flights.{FlightState}
 use Rattle.clk_machine.proofs.Flying.{never_flown, none_left}
-use Rattle.core_parts.proofs.HeldCounts.{listed_tells, tells_none, held_none}
+use Rattle.core_parts.proofs.HeldCounts.{listed_tells, tells_none, held_none, none_at}
 use Rattle.core_parts.proofs.Holdings.{StandsFor-held}
 
--- no clock is registered at first
-blank_row : (n c : ℕ) → row_of (replicate n unregistered_row) c ≡ unregistered_row
-blank_row zero c = refl
-blank_row (suc n) zero = refl
-blank_row (suc n) (suc c) = blank_row n c
-
 pub blank_registered : (clocks : List ClockRow) (n c : ℕ) → clocks ≡ replicate n unregistered_row → registered clocks c ≡ false
-blank_registered clocks n c is = ap (λ (rows : List ClockRow). registered rows c) is ∙ ap (λ (row : ClockRow). row.registered) (blank_row n c)
-
-no_holder : (n c : ℕ) → slice_index (replicate n 0) c ≡ 0
-no_holder zero c = refl
-no_holder (suc n) zero = refl
-no_holder (suc n) (suc c) = no_holder n c
+blank_registered clocks n c is = ap (λ (rows : List ClockRow). registered rows c) is ∙ ap (λ (row : ClockRow). row.registered) (row_of-blank n c)
 
 -- one for yes
 abbrev one_for : Bool → ℕ
@@ -60,7 +50,7 @@ counts_at_first desc counts words defs links enables prepares exclusives = recor
   exclusives = λ c. held_by_none counts.exclusives c exclusives;
 } where
   held_by_none : (own : List ℕ) (c : ℕ) → own ≡ replicate (length desc.defs) 0 → slice_index own c ≡ 0
-  held_by_none own c is = ap (λ (xs : List ℕ). slice_index xs c) is ∙ no_holder (length desc.defs) c
+  held_by_none own c is = ap (λ (xs : List ℕ). slice_index xs c) is ∙ none_at (length desc.defs) c
 
   and_none : (a b : Bool) → b ≡ false → (a && b) ≡ false
   and_none true b e = e

@@ -1,5 +1,5 @@
 -- The locks of PLLs follow the steps, so the polls of a journal are answered by their delays.
-use Rattle.std.proofs.Common.{◌≡◌, ℕ, ◌+◌, ◌-◌, ◌≤◌, ◌^◌, ◌&&◌, ◌||◌, not, Bool, true, false, cond, List, [], ◌∷◌, ◌++◌, Option, Some, None, refl, sym, ap, subst, ◌∙◌, ◌⊎◌, inl, inr, arith, nat_eq, nat_le, nat_lt, min, map, count_by, true≢false}
+use Rattle.std.proofs.Common.{◌≡◌, ℕ, ◌+◌, ◌-◌, ◌≤◌, ◌^◌, ◌&&◌, not, Bool, true, false, cond, List, [], ◌∷◌, ◌++◌, Option, Some, None, refl, sym, ap, subst, ◌∙◌, ◌⊎◌, inl, inr, arith, nat_eq, nat_le, nat_lt, min, map, count_by, true≢false}
 use Rattle.std.specs.Prelude.{IfSome, slice_index_or, if◌then◌else◌}
 use Rattle.std.specs.List.{list_any}
 use Rattle.std.specs.Option.{option_map, option_map_or}
@@ -29,9 +29,10 @@ use Rattle.clk_model.proofs.BeginLaws.{IsBegun, begun_going}
 use Rattle.clk_model.proofs.FlightLaws.{IsStep, step_is, begin_is, course_of, next_is}
 use Rattle.clk_model.proofs.InFlightLaws.{quiet_or_in_flight}
 use Rattle.clk_model.proofs.Members.{test_same}
-use Rattle.clk_model.proofs.NoneLaws.{none_append, none_front, none_map, none_rest}
+use Rattle.clk_model.proofs.NoneLaws.{none_append, none_map}
 use Rattle.clk_model.proofs.RaisedStepLaws.{taken_none}
 use Rattle.clk_model.proofs.StepLaws.{raises, step_after}
+use Rattle.clk_model.proofs.PolledLaws.{none_where, abort_calm, post_calm}
 use Rattle.clk_flight.specs.declared.front.Front.{Front}
 use Rattle.clk_flight.specs.declared.front.Front.TheVariants.{Empty, Poll, Raise, Lower, Falls, Posts}
 use Rattle.clk_flight.specs.Flights.{FlightState, IsChange, Flies}
@@ -105,25 +106,6 @@ polled_again f g y answer polls again front is =
           subst (λ (o : Front). IfPoll (front_polled o answer) P) (sym front) (behind answer (sym (ap (λ (o : Front). is_last_no o answer) front) ∙ e))
 
 -- ---- the steps of the definitions
-
-none_where : (p q : Micro → Bool) (ms : List Micro) → ((m : Micro) → p m ≡ false → q m ≡ false) → list_any p ms ≡ false → list_any q ms ≡ false
-none_where p q [] each none = refl
-none_where p q (m ∷ ms) each none = both (q m) (each m (none_front p m ms none)) (none_where p q ms each (none_rest p m ms none)) where
-  both : (t : Bool) → t ≡ false → list_any q ms ≡ false → (t || list_any q ms) ≡ false
-  both true e rest = absurd cc
-  both false e rest = rest
-
-abort_calm : (m : Micro) → is_no_abort m ≡ false → raises m ≡ false
-abort_calm (micro.Notify kind c id old new) e = refl
-abort_calm (micro.Raise x) e = absurd cc
-abort_calm (micro.Poll x) e = absurd cc
-abort_calm _ e = refl
-
-post_calm : (m : Micro) → is_no_post m ≡ false → raises m ≡ false
-post_calm (micro.Notify kind c id old new) e = refl
-post_calm (micro.Raise x) e = absurd cc
-post_calm (micro.Poll x) e = absurd cc
-post_calm _ e = refl
 
 -- what comes first is what stands in front
 first_is : (k : Change) (m n : Micro) (ms : List Micro) → comes_next m (todo k) ≡ true → k.front ≡ n ∷ ms → n ≡ m

@@ -29,7 +29,7 @@ use Rattle.clk_model.specs.Script.{adoptable, adoption_order, plls, probe_script
 use Rattle.clk_model.specs.State.{State, Change, NotifierRow, registered}
 use Rattle.clk_model.specs.Step.{is_end, is_register, is_settle, is_visit}
 use Rattle.clk_model.specs.Tree.{path, path_to_be, link_given}
-use Rattle.clk_model.proofs.EventLaws.{pick-true, pick-false}
+use Rattle.clk_model.proofs.EventLaws.{pick-true, pick-false, begin_quiet}
 use Rattle.clk_model.proofs.Members.{not_either, or_right, same_from_test, test_same}
 use Rattle.clk_model.proofs.StateLaws.{paid-still}
 use Rattle.clk_flight.specs.Flights.{FlightState, IsChange}
@@ -47,12 +47,12 @@ use Rattle.clk_machine.specs.Stands.{Stands, Enters}
 use Rattle.clk_machine.specs.Starting.{StartsCall}
 use Rattle.clk_machine.proofs.Adopting.{none_adopted}
 use Rattle.clk_machine.proofs.Attaching.{IsNarrow-register}
-use Rattle.clk_machine.proofs.CallEvents.{begin_quiet}
 use Rattle.clk_machine.proofs.Flying.{quiet_stands}
 use Rattle.clk_machine.proofs.Making.{loose_among, path_stands, path_under}
 use Rattle.clk_machine.proofs.Soundness.{links_possible}
 use Rattle.core_parts.proofs.Seeking.{none_or_any}
-use Rattle.clk_machine.proofs.Starting.{Started, flying, not_less, stands_flying, stands_spent, started_left, started_way, whole_flying, with_spent}
+use Rattle.core_parts.proofs.Deciding.{not_less}
+use Rattle.clk_machine.proofs.Starting.{Started, flying, stands_flying, stands_spent, started_left, started_way, whole_flying, with_spent}
 use Rattle.clk_machine.proofs.Writing.{whole_spent}
 
 -- ---- whether something has to be raised

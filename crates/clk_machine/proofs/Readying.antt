@@ -25,6 +25,8 @@ use Rattle.clk_model.specs.State.{State, Change, ChainStep, NotifierRow, registe
 use Rattle.clk_model.specs.Step.{sets_parent}
 use Rattle.clk_model.specs.Walk.{rates_in, walk}
 use Rattle.clk_model.proofs.StateLaws.{paid-still, paid-left, active-put_same}
+use Rattle.clk_model.proofs.ShapeLaws.{settled_change}
+use Rattle.clk_model.proofs.SameSettingLaws.{outcome_defs}
 use Rattle.clk_flight.specs.Begun.{StartsAs}
 use Rattle.clk_flight.specs.LeftOver as flights
 use Rattle.clk_flight.proofs.StartLaws.{calls_start}
@@ -60,8 +62,8 @@ use Rattle.clk_machine.proofs.Ranging.{stands_ranged}
 use Rattle.clk_machine.proofs.Movable.{parent_can}
 use Rattle.clk_machine.proofs.Requesting.{request_can}
 use Rattle.core_parts.proofs.Scripting.{links_made, script_made, tells_made, told_all, weighs_rows}
-use Rattle.core_parts.proofs.Taking.{outcome_defs}
 use Rattle.clk_machine.proofs.Writing.{live_in}
+use Rattle.clk_machine.proofs.FewNotifiers.{settled_notifiers}
 
 -- ---- the change of a call
 
@@ -93,14 +95,6 @@ begins_plain s d (call.SetParent h p) row plan e at = record {
   outcome_ = ap (λ (ks : List ChainStep). rates_in (outcome ks (wiring s))) at;
 }
 begins_plain s d _ row plan e at = absurd cc
-
-settled_change : (s y : State) → (settled s y).change ≡ y.change
-unfolding settled
-settled_change s y = refl
-
-settled_notifiers : (s y : State) → (settled s y).notifiers ≡ y.notifiers
-unfolding settled
-settled_notifiers s y = refl
 
 rated_all : (rates before will : List ℕ) (clocks : List ClockRow) (f : ℕ → ℕ) (cs : List ℕ)
     → ((c : ℕ) → registered clocks c ≡ true → (slice_index rates c ≡ slice_index before c) × (f c ≡ slice_index will c)) → AreThere clocks (map (at_rate f) cs)

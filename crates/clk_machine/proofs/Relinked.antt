@@ -18,7 +18,7 @@ use Rattle.clk_model.proofs.ApartLaws.{ranges_hold}
 use Rattle.clk_model.proofs.HoldSteps.{settled_links}
 use Rattle.clk_model.proofs.Members.{both_right, is_in_cases}
 use Rattle.clk_model.proofs.OnceLaws.{is_in-filter}
-use Rattle.clk_model.proofs.SceneStepLaws.{registered_set, parent_lt}
+use Rattle.clk_model.proofs.SceneStepLaws.{registered_set, parent_lt, settled_there}
 use Rattle.clk_model.proofs.ShapeLaws.{length-settle_all}
 use Rattle.clk_model.specs.Rate.{rate}
 use Rattle.clk_model.proofs.WholePathLaws.{same_or_not, linked_same, linked_other}
@@ -78,11 +78,6 @@ place_fits words defs c place valid few f at = by (kind_of defs c) at (ranges_ho
   by (Pll word shift width power_word power_bit least most m) e ranges = absurd cc
 
 -- ---- last requests
-
-pub settled_there : (s : State) (cs : List ℕ) (d : ℕ) → registered (settle_all s cs) d ≡ registered s.clocks d
-settled_there s [] d = refl
-settled_there s (c ∷ cs) d =
-    registered_set (settle_all s cs) c (record (row_of (settle_all s cs) c) { last_request = rate s.defs s.regs s.clocks c }) d refl ∙ settled_there s cs d
 
 pub IsNarrow-settle : (words : ℕ) (s : State) (cs : List ℕ) → IsNarrow words s → IsNarrow words (record s { clocks = settle_all s cs })
 IsNarrow-settle words s cs sound = IsNarrow-rows words s (settle_all s cs) (length-settle_all s cs) (settled_there s cs) (settled_links s cs) sound

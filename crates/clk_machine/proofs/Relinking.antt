@@ -27,6 +27,7 @@ use Rattle.clk_flight.specs.Fronts.{front_behind, script_behind}
 use Rattle.clk_flight.specs.LeftOver.{left_over}
 use Rattle.clk_flight.specs.Moves.{gone_on}
 use Rattle.clk_flight.specs.Steps.{LeavesLessAt, is_taken}
+use Rattle.clk_flight.proofs.KeptLaws.{going_step}
 use Rattle.clk_tree.specs.TreeState.{TreeState}
 use Rattle.counts_core.specs.Counted.{CountState, AreCounts}
 use Rattle.counts_core.specs.Standing.{StandsFor}
@@ -43,7 +44,7 @@ use Rattle.clk_machine.specs.Stands.{Stands, Enters}
 use Rattle.core_parts.specs.Window.{Shown}
 use Rattle.core_parts.proofs.HeldCounts.{held_still}
 use Rattle.core_parts.proofs.Holdings.{StandsFor-same}
-use Rattle.core_parts.proofs.InFlight.{own_going, script_rest, first_seeks, cut_behind}
+use Rattle.core_parts.proofs.InFlight.{script_rest, first_seeks, cut_behind}
 use Rattle.core_parts.proofs.StepsInFlight.{changes_links}
 use Rattle.clk_machine.proofs.Making.{change_of, next_of, no_registers}
 use Rattle.clk_machine.proofs.Stepping.{IsNext}
@@ -87,7 +88,7 @@ kind_is _ e = absurd cc
 pub own_of : (f : FlightState) (there : ℕ → Bool) (m : Micro) → relinks m ≡ true → own_step f ≡ Some m → IsUnderWay there f → OwnStep f m
 own_of f there m is own way = by f.front refl where
   first : own_first f f.front ≡ Some m
-  first = own_going f.going (own_first f f.front) m own
+  first = going_step f.going (own_first f f.front) m own
 
   from : (left : List Micro) → f.left ≡ left → slice_get left 0 ≡ Some m → (rest : List Micro) × (f.left ≡ m ∷ rest)
   from [] at e = absurd cc
@@ -137,7 +138,7 @@ front_gone old m flight' whole going is own gone =
 under_way-own : (f : FlightState) (there : ℕ → Bool) (m : Micro) (ys : List ℕ) → relinks m ≡ true → own_step f ≡ Some m → list_all (is_near f.call there) ys ≡ true → IsUnderWay there f → IsUnderWay there (raised_then f ys)
 under_way-own f there m ys is own all way = record {
   call_ = way.call_;
-  script = script_rest f there f.front m (own_going f.going (own_first f f.front) m own) (kind_is m is).no_end (kind_is m is).plain way.script;
+  script = script_rest f there f.front m (going_step f.going (own_first f f.front) m own) (kind_is m is).no_end (kind_is m is).plain way.script;
   front = ap (λ (front : Front). is_front f.call there (front_behind f.raised front)) (own_of f there m is own way).front;
   cut = cut_behind f.call f.raised f.left f.front way.cut;
   raised = all;

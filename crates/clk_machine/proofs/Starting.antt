@@ -20,7 +20,7 @@ use Rattle.clk_model.specs.Tree.{path}
 use Rattle.clk_model.specs.Script.{plls, weight, unprepared_plls}
 use Rattle.clk_model.specs.Begin.{most_credits, weight_of, change_of, own_handle, prepare, refused, begun}
 use Rattle.clk_model.specs.Machine.{paid, next}
-use Rattle.clk_model.proofs.EventLaws.{pick-true, pick-false}
+use Rattle.clk_model.proofs.EventLaws.{pick-true, pick-false, begin_quiet, with-some}
 use Rattle.clk_model.proofs.StateLaws.{paid-still}
 use Rattle.clk_model.specs.Laws.Paced.{is_notice}
 use Rattle.clk_model.specs.Notices.{abort_list}
@@ -41,12 +41,12 @@ use Rattle.core_parts.specs.InFlight.{may_go_on, changes_rate, cuts_front, is_ne
 use Rattle.core_parts.specs.Plls.{is_loose}
 use Rattle.clk_machine.specs.Stands.{Stands, Enters}
 use Rattle.clk_machine.specs.Starting.{StartsCall}
-use Rattle.clk_machine.proofs.CallEvents.{begin_quiet, with-some}
 use Rattle.clk_machine.proofs.Flying.{quiet_stands}
 use Rattle.core_parts.proofs.Holdings.{StandsFor-same}
 use Rattle.clk_machine.proofs.Writing.{whole_spent}
 use Rattle.clk_machine.proofs.Making.{unprepared_stand}
 use Rattle.core_parts.proofs.Seeking.{none_or_any}
+use Rattle.core_parts.proofs.Deciding.{not_less}
 
 -- ---- in states
 
@@ -59,9 +59,6 @@ raise_weighs s d what c =
     let one = sum_by-cons (weight s) (micro.Raise c) (micro.End ∷ []) in
     let two = sum_by-cons (weight s) micro.End [] in
     omega arith
-
-pub not_less : (a b : ℕ) → a ≤ b → nat_lt b a ≡ false
-not_less a b le = grind (arith, nat_tests)
 
 -- a prepare goes on where something is to be raised and there is room
 pub prepare_going : (s : State) (d : ℕ) (h : Handle) (row : HandleRow) → s.change ≡ None → own_handle s d h.number ≡ Some row

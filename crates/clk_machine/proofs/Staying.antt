@@ -1,21 +1,19 @@
 -- A request for a rate leaves a clock its parent that it may not move.
-use Rattle.std.proofs.Common.{◌≡◌, ℕ, ◌&&◌, not, Bool, true, false, List, Option, Some, None, refl, filter, nat_eq, nat_le, max}
-use Rattle.std.specs.Prelude.{◌*◌, ◌/◌, IfSome, is_some, find, option_map, option_and_then}
+use Rattle.std.proofs.Common.{◌≡◌, ℕ, ◌&&◌, not, Bool, true, false, Option, Some, None, refl, max}
+use Rattle.std.specs.Prelude.{◌*◌, ◌/◌, IfSome, is_some, option_map, option_and_then}
 use Rattle.std.specs.Int.{div_ceil}
-use Rattle.std.specs.List.{filter_map}
 use Rattle.clk_base.specs.declared.clock.Kind.{Kind}
 use Rattle.clk_base.specs.declared.clock.Kind.TheVariants.{FixedRate, Factor, Gate, Mux, Divider, Pll}
 use Rattle.clk_base.specs.Description.{def_of, kind_of}
 use Rattle.clk_base.specs.Flags.{keeps_parent}
 use Rattle.clk_base.specs.Levels.{depth}
-use Rattle.kind_math.specs.Choices.{greatest_of}
 use Rattle.kind_math.specs.Dividers.{valid_divisors, div_round}
 use Rattle.kind_math.specs.Rates.{capped, factor_rate}
 use Rattle.clk_model.specs.Kinds.{can_round, mux_field}
 use Rattle.clk_model.specs.Rate.{style_of}
-use Rattle.clk_model.specs.Round.{Wiring, View, Rounded, most_rate, rate_in, parent_rate_in, over_parent, passes_on, through, over_link, best_of, by_divisor, by_candidate, by_kind, clamped, rate_for, round_by, round}
+use Rattle.clk_model.specs.Round.{Wiring, View, Rounded, rate_in, parent_rate_in, over_parent, passes_on, through, over_link, by_divisor, by_candidate, by_kind, clamped, rate_for, round_by, round}
 use Rattle.clk_model.specs.State.{link_in}
-use Rattle.clk_model.proofs.RoundLaws.{round_fold, round_tries, round_or}
+use Rattle.clk_model.proofs.MuxLaws.{link_stays, divisor_stays}
 use Rattle.core_parts.specs.Movable.{may_move}
 
 -- ---- rounding
@@ -31,24 +29,6 @@ over_stays own (Some p) ask = by (ask p) where
 -- whether a rounding leaves a clock its parent
 abbrev pub Stays : Wiring → ℕ → Rounded → Type 0
 Stays w c r = r.parent ≡ link_in w.clocks c
-
-link_stays : (ask : ℕ → ℕ → Option ℕ) (w : Wiring) (c x : ℕ) (own : ℕ → ℕ) → IfSome (over_link ask w c x own) (Stays w c)
-link_stays ask w c x own = over_stays own (link_in w.clocks c) (λ p. ask p x)
-
-divisor_stays : (ask : ℕ → ℕ → Option ℕ) (w : Wiring) (c x : ℕ) (divisors : List ℕ) → IfSome (by_divisor ask w c x divisors) (Stays w c)
-divisor_stays ask w c x divisors = found (filter (λ i. nat_le (x * i) most_rate) divisors) (find (λ i. nat_eq (x * i) (parent_rate_in w c)) (filter (λ i. nat_le (x * i) most_rate) divisors)) where
-  found : (tried : List ℕ) (o : Option ℕ) → IfSome (elim o [
-    | Some i ↦ Some (over_parent w c (div_ceil (parent_rate_in w c) i))
-    | None ↦ elim (best_of x (filter_map (λ i. over_link ask w c (x * i) (λ r. div_ceil r i)) tried)) [
-      | Some r ↦ Some r
-      | None ↦ over_link ask w c 1 (λ r. div_ceil r (greatest_of divisors))
-    ]
-  ]) (Stays w c)
-  found tried (Some i) = refl
-  found tried None =
-      round_or (Stays w c) (best_of x (filter_map (λ i. over_link ask w c (x * i) (λ r. div_ceil r i)) tried)) (over_link ask w c 1 (λ r. div_ceil r (greatest_of divisors)))
-      (round_fold (Stays w c) x None _ tt (round_tries (Stays w c) (λ i. over_link ask w c (x * i) (λ r. div_ceil r i)) tried (λ i m. link_stays ask w c (x * i) (λ r. div_ceil r i))))
-      (link_stays ask w c 1 (λ r. div_ceil r (greatest_of divisors)))
 
 kind_stays : (ask : ℕ → ℕ → Option ℕ) (w : Wiring) (kind : Kind) (c x : ℕ) → (is_some (mux_field kind) && can_round kind && not (keeps_parent w.defs c)) ≡ false → can_round kind ≡ true → IfSome (by_kind ask w kind c x) (Stays w c)
 kind_stays ask w (FixedRate rate) c x stays can = refl

@@ -28,7 +28,7 @@ use Rattle.clk_model.specs.Prep.{is_sweep}
 use Rattle.clk_model.specs.Script.{plls, sweep_script, weight}
 use Rattle.clk_model.specs.State.{State, Change, registered}
 use Rattle.clk_model.specs.Step.{is_end, powered, close, rest_of, taken, todo, is_register}
-use Rattle.clk_model.proofs.EventLaws.{pick-true, pick-false}
+use Rattle.clk_model.proofs.EventLaws.{pick-true, pick-false, begin_quiet}
 use Rattle.clk_model.proofs.Members.{both_right, is_in_cases}
 use Rattle.clk_model.proofs.StateLaws.{paid-still}
 use Rattle.clk_flight.specs.declared.front.Front.{Front}
@@ -38,6 +38,7 @@ use Rattle.clk_flight.specs.Fronts.{front_behind, script_behind}
 use Rattle.clk_flight.specs.LeftOver.{step_weight, left_over}
 use Rattle.clk_flight.specs.Moves.{gone_on}
 use Rattle.clk_flight.specs.Steps.{GoesOn, LeavesLessAt, is_taken}
+use Rattle.clk_flight.proofs.KeptLaws.{going_step}
 use Rattle.core_parts.specs.Window.{Shown}
 use Rattle.core_parts.specs.Course.{TellsAlong, begins_with, behind_visit, tells_all, visited_by}
 use Rattle.clk_machine.specs.Holding.{stays}
@@ -49,17 +50,17 @@ use Rattle.clk_machine.specs.Parts.{Parts, IsOwnCall, IsWhole}
 use Rattle.clk_machine.specs.Stands.{Stands, Enters}
 use Rattle.clk_machine.specs.Starting.{StartsCall}
 use Rattle.clk_machine.specs.Sweeping.{are_light}
-use Rattle.clk_machine.proofs.CallEvents.{begin_quiet}
 use Rattle.core_parts.proofs.Closing.{closed_regs}
 use Rattle.clk_machine.proofs.Flying.{quiet_stands}
-use Rattle.core_parts.proofs.InFlight.{cut_behind, first_seeks, own_going, script_rest}
+use Rattle.core_parts.proofs.InFlight.{cut_behind, first_seeks, script_rest}
 use Rattle.core_parts.proofs.SameCall.{SameCall, KeepsAlong}
 use Rattle.clk_machine.proofs.Making.{with_step, enters_step, stands_stepped, whole_stepped, change_of as now_of}
 use Rattle.core_parts.proofs.Moving.{clock_within, tied-moved}
 use Rattle.core_parts.proofs.Opening.{gate_fits}
 use Rattle.clk_machine.proofs.Raising.{power_lies}
 use Rattle.core_parts.proofs.Powering.{powered_words, power_put}
-use Rattle.clk_machine.proofs.Starting.{Started, started_left, started_way, whole_flying, flying, with_spent, stands_flying, stands_spent, not_less}
+use Rattle.core_parts.proofs.Deciding.{not_less}
+use Rattle.clk_machine.proofs.Starting.{Started, started_left, started_way, whole_flying, flying, with_spent, stands_flying, stands_spent}
 use Rattle.clk_machine.proofs.Stepping.{closes_one, unpowers_one}
 use Rattle.clk_machine.proofs.Writing.{whole_spent}
 use Rattle.clk_machine.proofs.SweepScript.{light_sum, one_entry, one_step}
@@ -194,7 +195,7 @@ pub record OwnSwitch (f : FlightState) (there : ℕ → Bool) (m : Micro) : Type
 pub own_switch : (f : FlightState) (there : ℕ → Bool) (m : Micro) → sweeps m ≡ true → own_step f ≡ Some m → IsUnderWay there f → OwnSwitch f there m
 own_switch f there m is own way = by f.front refl where
   first : own_first f f.front ≡ Some m
-  first = own_going f.going (own_first f f.front) m own
+  first = going_step f.going (own_first f f.front) m own
 
   inside : {x y : Micro} → Some x ≡ Some y → x ≡ y
   inside e = cc
@@ -263,7 +264,7 @@ module _ (old : Parts) (m : Micro) (window' : Shown) (flight' : FlightState) (no
   way_on : IsUnderWay (registered old.tree.clocks) (gone_on old.flight)
   way_on = let way = (now.whole.flown now.going).way in record {
     call_ = way.call_;
-    script = script_rest old.flight (registered old.tree.clocks) old.flight.front m (own_going old.flight.going (own_first old.flight old.flight.front) m now.own) (switch_is m now.is).no_end (switch_is m now.is).plain way.script;
+    script = script_rest old.flight (registered old.tree.clocks) old.flight.front m (going_step old.flight.going (own_first old.flight old.flight.front) m now.own) (switch_is m now.is).no_end (switch_is m now.is).plain way.script;
     front = ap (λ (front : Front). is_front old.flight.call (registered old.tree.clocks) (front_behind old.flight.raised front)) here.front;
     raised = way.raised;
     cut = cut_behind old.flight.call old.flight.raised old.flight.left old.flight.front way.cut;

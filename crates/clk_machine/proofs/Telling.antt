@@ -17,6 +17,7 @@ use Rattle.clk_flight.specs.Flights.{FlightState, first_step, comes_next}
 use Rattle.clk_flight.specs.Fronts.{post_to}
 use Rattle.clk_flight.specs.Moves.{gone_on}
 use Rattle.clk_flight.specs.Steps.{GoesOn, LeavesLessAt, is_taken}
+use Rattle.clk_flight.proofs.KeptLaws.{going_step}
 use Rattle.core_parts.specs.InFlight.{changes_rate, is_front, can_link}
 use Rattle.core_parts.specs.Course.{notifiers_at, PostsFit}
 use Rattle.clk_machine.specs.Making.{ComesFirst, TellsNext}
@@ -25,7 +26,6 @@ use Rattle.clk_machine.specs.Parts.{Parts, IsFlown, IsWhole}
 use Rattle.clk_machine.specs.Stands.{Enters}
 use Rattle.core_parts.proofs.HeldCounts.{held_on}
 use Rattle.core_parts.proofs.Coming.{some_at}
-use Rattle.core_parts.proofs.InFlight.{own_going}
 use Rattle.clk_machine.proofs.Making.{with_step, enters_step, change_of, next_of}
 use Rattle.clk_machine.proofs.Stepping.{tells_one}
 use Rattle.core_parts.proofs.Noticed.{notice_taken, under_way-told, tells-told, links-told}
@@ -43,7 +43,7 @@ tells_next p m whole going comes notice = by p.flight.front refl where
   rows = whole.listed.rows
 
   first : first_step rows p.flight p.flight.front ≡ Some m
-  first = own_going p.flight.going (first_step rows p.flight p.flight.front) m comes
+  first = going_step p.flight.going (first_step rows p.flight p.flight.front) m comes
 
   as_told : (o : Option Micro) (n : Micro) → first_step (rows_from 0 p.chains) p.flight p.flight.front ≡ o → o ≡ Some n → comes_next (rows_from 0 p.chains) p.flight ≡ Some n
   as_told o n is at = ap (λ (t : Bool). if t then first_step (rows_from 0 p.chains) p.flight p.flight.front else None) going ∙ is ∙ at
@@ -110,7 +110,7 @@ whole_told old flight' whole going next is less =
         own = flown.own;
         paid = flown.paid;
         tells = λ changes. tells-told old.flight (notifiers_at old.chains) old.course.notified (rows_from 0 old.chains) next.notice next.next_ next.is (flown.tells changes);
-        links = λ changes. links-told old.flight (can_link old.desc.defs old.tree.clocks) (rows_from 0 old.chains) old.flight.front next.notice (own_going old.flight.going (first_step (rows_from 0 old.chains) old.flight old.flight.front) next.notice next.next_) (flown.links changes);
+        links = λ changes. links-told old.flight (can_link old.desc.defs old.tree.clocks) (rows_from 0 old.chains) old.flight.front next.notice (going_step old.flight.going (first_step (rows_from 0 old.chains) old.flight old.flight.front) next.notice next.next_) (flown.links changes);
         placed = flown.placed;
       });
       room = let room = whole.room in omega arith;

@@ -31,8 +31,9 @@ use Rattle.clk_model.proofs.SafeRunLaws as runs
 use Rattle.clk_model.proofs.Scenes.{scene, IsHeldToMove, GoesWell, InCall, calm, raising}
 use Rattle.clk_model.proofs.Scenes as scenes
 use Rattle.clk_model.proofs.WholePathLaws.{same_or_not, linked_same, linked_other}
+use Rattle.clk_model.proofs.SceneStepLaws.{settled_there}
 use Rattle.clk_machine.specs.Sound.{IsReached}
-use Rattle.clk_machine.proofs.Relinked.{linked_there, settled_there}
+use Rattle.clk_machine.proofs.Relinked.{linked_there}
 
 -- ---- a call in flight in a state of a run
 

@@ -25,6 +25,7 @@ use Rattle.clk_flight.specs.Moves.{gone_on, visited}
 use Rattle.clk_flight.specs.Steps.{told_by_visit}
 use Rattle.clk_flight.proofs.DropLaws.{visited-change}
 use Rattle.clk_flight.proofs.LeftLaws.{visited-less}
+use Rattle.clk_flight.proofs.KeptLaws.{going_step}
 use Rattle.clk_tree.specs.TreeState.{TreeState, IsTree}
 use Rattle.rate_planner.specs.Kept.{wired}
 use Rattle.core_parts.specs.Window.{Shown, AreTold}
@@ -41,7 +42,7 @@ use Rattle.clk_machine.specs.Sound.{IsSound}
 use Rattle.clk_machine.specs.Stands.{Stands, Leads, Enters}
 use Rattle.core_parts.proofs.HeldCounts.{held_on, held_still}
 use Rattle.core_parts.proofs.Holdings.{StandsFor-same}
-use Rattle.core_parts.proofs.InFlight.{own_going, first_seeks, script_rest}
+use Rattle.core_parts.proofs.InFlight.{first_seeks, script_rest}
 use Rattle.clk_machine.proofs.Making.{change_of, next_of}
 use Rattle.clk_machine.proofs.Stepping.{visits_one}
 use Rattle.core_parts.proofs.NotifierRows.{count_told, rows_count}
@@ -88,7 +89,7 @@ record OwnVisit (f : FlightState) (there : ℕ → Bool) (c : ClockId) : Type 0 
 own_visit : (f : FlightState) (there : ℕ → Bool) (c : ClockId) → own_step f ≡ Some (micro.Visit c) → IsUnderWay there f → OwnVisit f there c
 own_visit f there c own is = by f.front refl where
   first : own_first f f.front ≡ Some (micro.Visit c)
-  first = own_going f.going (own_first f f.front) (micro.Visit c) own
+  first = going_step f.going (own_first f f.front) (micro.Visit c) own
 
   from : (left : List Micro) → f.left ≡ left → slice_get left 0 ≡ Some (micro.Visit c) → (rest : List Micro) × (f.left ≡ micro.Visit c ∷ rest)
   from [] at e = absurd cc
@@ -111,11 +112,11 @@ visit_alone : (f : FlightState) (c : ClockId) → own_step f ≡ Some (micro.Vis
 visit_alone f c own = by f.front refl where
   by : (front : Front) → f.front ≡ front → f.front ≡ Empty
   by Empty at = at
-  by (Poll y polls again) at = let no = sym (ap (own_first f) at) ∙ own_going f.going (own_first f f.front) (micro.Visit c) own in absurd cc
-  by (Raise x) at = let no = sym (ap (own_first f) at) ∙ own_going f.going (own_first f f.front) (micro.Visit c) own in absurd cc
-  by (Lower x) at = let no = sym (ap (own_first f) at) ∙ own_going f.going (own_first f f.front) (micro.Visit c) own in absurd cc
-  by (Falls told left) at = let no = sym (ap (own_first f) at) ∙ own_going f.going (own_first f f.front) (micro.Visit c) own in absurd cc
-  by (Posts d told left old new) at = let no = sym (ap (own_first f) at) ∙ own_going f.going (own_first f f.front) (micro.Visit c) own in absurd cc
+  by (Poll y polls again) at = let no = sym (ap (own_first f) at) ∙ going_step f.going (own_first f f.front) (micro.Visit c) own in absurd cc
+  by (Raise x) at = let no = sym (ap (own_first f) at) ∙ going_step f.going (own_first f f.front) (micro.Visit c) own in absurd cc
+  by (Lower x) at = let no = sym (ap (own_first f) at) ∙ going_step f.going (own_first f f.front) (micro.Visit c) own in absurd cc
+  by (Falls told left) at = let no = sym (ap (own_first f) at) ∙ going_step f.going (own_first f f.front) (micro.Visit c) own in absurd cc
+  by (Posts d told left old new) at = let no = sym (ap (own_first f) at) ∙ going_step f.going (own_first f f.front) (micro.Visit c) own in absurd cc
 
 -- so a flight that only goes on has visited it and tells none
 pub visited_none : (f : FlightState) (c : ClockId) → own_step f ≡ Some (micro.Visit c) → gone_on f ≡ visited f c 0 0 0
@@ -144,7 +145,7 @@ visit_there f there c own is = (own_visit f there c own is).there_
 under_way-visited : (f : FlightState) (there : ℕ → Bool) (c : ClockId) (count before after : ℕ) → own_step f ≡ Some (micro.Visit c) → IsUnderWay there f → IsUnderWay there (visited f c count before after)
 under_way-visited f there c count before after own is = record {
   call_ = is.call_;
-  script = script_rest f there f.front (micro.Visit c) (own_going f.going (own_first f f.front) (micro.Visit c) own) refl refl is.script;
+  script = script_rest f there f.front (micro.Visit c) (going_step f.going (own_first f f.front) (micro.Visit c) own) refl refl is.script;
   front = by (nat_eq count 0);
   cut = still (nat_eq count 0);
   raised = is.raised;

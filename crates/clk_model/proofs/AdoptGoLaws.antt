@@ -153,7 +153,7 @@ found_in test (y ∷ ys) x e = by_test (test y) refl e (λ f. found_in test ys x
   by_test false fails f rest = let later = rest f in (is_in_tail x y ys later.0, later.1)
 
 -- what is left without one number was there, and is another where none stands twice
-left_was : (x d : ℕ) (xs : List ℕ) → is_in d (without_one x xs) ≡ true → is_in d xs ≡ true
+pub left_was : (x d : ℕ) (xs : List ℕ) → is_in d (without_one x xs) ≡ true → is_in d xs ≡ true
 left_was x d [] m = m
 left_was x d (y ∷ ys) m = by_test (nat_eq y x) m (λ n. left_was x d ys n) where
   by_test : (t : Bool) → is_in d (if t then ys else y ∷ without_one x ys) ≡ true → (is_in d (without_one x ys) ≡ true → is_in d ys ≡ true) → is_in d (y ∷ ys) ≡ true

@@ -44,7 +44,7 @@ no_more_after noes asked (event.Step (micro.Raise x) answer) more = λ y. omega 
 no_more_after noes asked (event.Step (micro.Poll x) answer) more = polls_more noes asked x.0 (is_yes answer) more
 no_more_after noes asked _ more = more
 
-three_true : (a b c : Bool) → (a && b && c) ≡ true → (a ≡ true) × (b ≡ true) × (c ≡ true)
+pub three_true : (a b c : Bool) → (a && b && c) ≡ true → (a ≡ true) × (b ≡ true) × (c ≡ true)
 three_true true true true e = (refl, refl, refl)
 three_true true true false e = absurd (true≢false (sym e))
 three_true true false c e = absurd (true≢false (sym e))

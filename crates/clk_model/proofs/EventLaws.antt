@@ -35,10 +35,10 @@ pick-false true f g e = absurd cc
 
 -- ---- handles
 
-with-none : (s : State) (d n : ℕ) (f : HandleRow → State × Turn) → own_handle s d n ≡ None → with_handle s d n f ≡ refused s errno.ENOENT
+pub with-none : (s : State) (d n : ℕ) (f : HandleRow → State × Turn) → own_handle s d n ≡ None → with_handle s d n f ≡ refused s errno.ENOENT
 with-none s d n f none = ap (λ (o : Option HandleRow). option_map_or f o (refused s errno.ENOENT)) none
 
-with-some : (s : State) (d n : ℕ) (f : HandleRow → State × Turn) (h : HandleRow) → own_handle s d n ≡ Some h → with_handle s d n f ≡ f h
+pub with-some : (s : State) (d n : ℕ) (f : HandleRow → State × Turn) (h : HandleRow) → own_handle s d n ≡ Some h → with_handle s d n f ≡ f h
 with-some s d n f h some = ap (λ (o : Option HandleRow). option_map_or f o (refused s errno.ENOENT)) some
 
 -- a driver's own handle is a live one
@@ -104,7 +104,7 @@ running-told s d n h own = ap (paid s) (with-some s d n (running s) h own)
 -- ---- calls
 
 -- a call begins where no change is in flight
-begin_quiet : (s : State) (d : ℕ) (what : Sleeping) → s.change ≡ None → next s d (event.Begin what) ≡ paid s (begun s d what)
+pub begin_quiet : (s : State) (d : ℕ) (what : Sleeping) → s.change ≡ None → next s d (event.Begin what) ≡ paid s (begun s d what)
 unfolding next
 begin_quiet s d what quiet = ap (λ (o : Option Change). cond (is_quiet o) (paid s (begun s d what)) None) quiet
 

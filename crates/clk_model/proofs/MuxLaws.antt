@@ -32,10 +32,10 @@ asked_stays own ask (Some p) = by (ask p) where
   by None = tt
   by (Some y) = refl
 
-link_stays : (ask : ℕ → ℕ → Option ℕ) (w : Wiring) (c x : ℕ) (own : ℕ → ℕ) → IfSome (over_link ask w c x own) (Stays w c)
+pub link_stays : (ask : ℕ → ℕ → Option ℕ) (w : Wiring) (c x : ℕ) (own : ℕ → ℕ) → IfSome (over_link ask w c x own) (Stays w c)
 link_stays ask w c x own = asked_stays own (λ p. ask p x) (link_in w.clocks c)
 
-divisor_stays : (ask : ℕ → ℕ → Option ℕ) (w : Wiring) (c x : ℕ) (divisors : List ℕ) → IfSome (by_divisor ask w c x divisors) (Stays w c)
+pub divisor_stays : (ask : ℕ → ℕ → Option ℕ) (w : Wiring) (c x : ℕ) (divisors : List ℕ) → IfSome (by_divisor ask w c x divisors) (Stays w c)
 divisor_stays ask w c x divisors = found (filter (λ i. nat_le (x * i) most_rate) divisors) (find (λ i. x * i == parent_rate_in w c) (filter (λ i. nat_le (x * i) most_rate) divisors)) where
   found : (tried : List ℕ) (o : Option ℕ) → IfSome (elim o [
     | Some i ↦ Some (over_parent w c (div_ceil (parent_rate_in w c) i))

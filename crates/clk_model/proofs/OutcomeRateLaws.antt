@@ -47,7 +47,8 @@ rates_alike defs old new before after d same =
 
 -- ---- one setting
 
-scale_lt : (words : ℕ) (defs : Description) (c : ℕ) (f : Field) → IsValid words defs → scales_by (kind_of defs c) ≡ Some f → f.word < words
+-- the field by which a clock divides or multiplies lies in the first words
+pub scale_lt : (words : ℕ) (defs : Description) (c : ℕ) (f : Field) → IsValid words defs → scales_by (kind_of defs c) ≡ Some f → f.word < words
 scale_lt words defs c f valid at =
     let own = field-field (kind_of defs c) f (scales_is_field (kind_of defs c) f at) in
     (fields-within words defs valid c 0 f (fielded_lt defs c 0 f own) own).0

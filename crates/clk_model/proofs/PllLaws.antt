@@ -92,6 +92,7 @@ lines_plls defs c =
 
 -- ---- the path that a registration would give
 
+-- what stands at a place of a list is in it
 pub at_place : (xs : List ℕ) (i p : ℕ) → slice_get xs i ≡ Some p → is_in p xs ≡ true
 at_place [] i p e = absurd cc
 at_place (x ∷ xs) zero p e = let same : x ≡ p = cc in ap (λ (z : ℕ). is_in p (z ∷ xs)) same ∙ is_in_head p xs

@@ -84,20 +84,20 @@ not_one_less n e = grind (arith, nat_tests)
 
 -- ---- what stands in front
 
-none_where : (p q : Micro → Bool) (ms : List Micro) → ((m : Micro) → p m ≡ false → q m ≡ false) → list_any p ms ≡ false → list_any q ms ≡ false
+pub none_where : (p q : Micro → Bool) (ms : List Micro) → ((m : Micro) → p m ≡ false → q m ≡ false) → list_any p ms ≡ false → list_any q ms ≡ false
 none_where p q [] each none = refl
 none_where p q (m ∷ ms) each none = both (q m) (each m (none_front p m ms none)) (none_where p q ms each (none_rest p m ms none)) where
   both : (t : Bool) → t ≡ false → list_any q ms ≡ false → (t || list_any q ms) ≡ false
   both true e rest = absurd cc
   both false e rest = rest
 
-abort_calm : (m : Micro) → is_no_abort m ≡ false → raises m ≡ false
+pub abort_calm : (m : Micro) → is_no_abort m ≡ false → raises m ≡ false
 abort_calm (micro.Notify kind c id old new) e = refl
 abort_calm (micro.Raise x) e = absurd cc
 abort_calm (micro.Poll x) e = absurd cc
 abort_calm _ e = refl
 
-post_calm : (m : Micro) → is_no_post m ≡ false → raises m ≡ false
+pub post_calm : (m : Micro) → is_no_post m ≡ false → raises m ≡ false
 post_calm (micro.Notify kind c id old new) e = refl
 post_calm (micro.Raise x) e = absurd cc
 post_calm (micro.Poll x) e = absurd cc

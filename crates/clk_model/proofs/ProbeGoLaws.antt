@@ -59,7 +59,7 @@ can_register s c rest free = record {
 }
 
 -- the scene behind it
-registered_scene : (s : State) (c : ClockId) → Resting s → after s.defs (holding (scene None s) [] [] None) (micro.Register c) ≡ scene None (register s c.0)
+pub registered_scene : (s : State) (c : ClockId) → Resting s → after s.defs (holding (scene None s) [] [] None) (micro.Register c) ≡ scene None (register s c.0)
 registered_scene s c rest =
     ap (λ (a : Scene). after s.defs a (micro.Register c)) (sym (free_scene s rest.prepares rest.enables)) ∙ sym (register_scene s c None rest.fit.wired.rows)
 

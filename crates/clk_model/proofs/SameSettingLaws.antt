@@ -163,7 +163,7 @@ set_same words v w k valid possible same =
     (subst (λ (clocks : List ClockRow). SameTree (set_one k (tree_over w.defs clocks v.regs)) (set_one k w)) (sym same.clocks)
     (set_over words w.defs w.clocks w.regs v.regs k valid possible same.regs))
 
-outcome_defs : (ks : List ChainStep) (w : Wiring) → (outcome ks w).defs ≡ w.defs
+pub outcome_defs : (ks : List ChainStep) (w : Wiring) → (outcome ks w).defs ≡ w.defs
 unfolding outcome
 outcome_defs [] w = refl
 outcome_defs (k ∷ ks) w = outcome_defs ks w
@@ -178,7 +178,7 @@ outcome_same words (k ∷ ks) v w valid possible same =
 
 -- ---- chains
 
-then_same : {X Y : Type 0} (o : Option X) (f g : X → Option Y) → ((x : X) → o ≡ Some x → f x ≡ g x) → option_and_then f o ≡ option_and_then g o
+pub then_same : {X Y : Type 0} (o : Option X) (f g : X → Option Y) → ((x : X) → o ≡ Some x → f x ≡ g x) → option_and_then f o ≡ option_and_then g o
 then_same None f g each = refl
 then_same (Some x) f g each = each x refl
 
@@ -186,6 +186,7 @@ then_same (Some x) f g each = each x refl
 abbrev SameChain : Option (List ChainStep) → Option (List ChainStep) → Type 0
 SameChain a b = a ≡ b
 
+-- a step of a chain reads the rates of the tree alone
 from_same : (more : ℕ → ℕ → Option (List ChainStep)) (defs : Description) (clocks : List ClockRow) (old new : Registers) (view : View) (c x : ℕ) (r : Rounded) → rate defs new clocks ≡ rate defs old clocks
     → chain_from more (tree_over defs clocks new) view c x r ≡ chain_from more (tree_over defs clocks old) view c x r
 from_same more defs clocks old new view c x r same =
@@ -197,7 +198,7 @@ from_same more defs clocks old new view c x r same =
       ]
     ]) same
 
-within_same : (levels : ℕ) (defs : Description) (clocks : List ClockRow) (old new : Registers) (view : View) → rate defs new clocks ≡ rate defs old clocks
+pub within_same : (levels : ℕ) (defs : Description) (clocks : List ClockRow) (old new : Registers) (view : View) → rate defs new clocks ≡ rate defs old clocks
     → chain_within levels (tree_over defs clocks new) view ≡ chain_within levels (tree_over defs clocks old) view
 within_same zero defs clocks old new view same = refl
 within_same (suc levels) defs clocks old new view same = fun_ext (λ c. fun_ext (λ x. by_rounding c x (within_same levels defs clocks old new view same) (can_round (kind_of defs c) || passes_on (tree_over defs clocks old) c))) where

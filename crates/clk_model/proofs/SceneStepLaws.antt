@@ -57,7 +57,7 @@ registered_set clocks c row d same = by_clock (same_or_not c d) where
         | inr past ↦ ap (λ (rs : List ClockRow). registered rs c) (set_past clocks c row past)
       ])
 
-settled_there : (s : State) (cs : List ℕ) (d : ℕ) → registered (settle_all s cs) d ≡ registered s.clocks d
+pub settled_there : (s : State) (cs : List ℕ) (d : ℕ) → registered (settle_all s cs) d ≡ registered s.clocks d
 settled_there s [] d = refl
 settled_there s (c ∷ cs) d =
     registered_set (settle_all s cs) c (record (row_of (settle_all s cs) c) { last_request = rate s.defs s.regs s.clocks c }) d refl ∙ settled_there s cs d

@@ -269,7 +269,7 @@ pub record IsPaid (s t : State) : Type 0 where
   pub steps : t.steps ≡ s.steps
   pub left : s.spent < s.credits
 
-settled_change : (s y : State) → (settled s y).change ≡ y.change
+pub settled_change : (s y : State) → (settled s y).change ≡ y.change
 unfolding settled
 settled_change s y = refl
 

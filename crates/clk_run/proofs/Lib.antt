@@ -8,3 +8,4 @@ pub mod Threaded
 pub mod SpelledBytes
 pub mod OkAnswers
 pub mod MeasuredRuns
+pub mod LocksPlaced

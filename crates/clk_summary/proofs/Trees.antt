@@ -1,5 +1,5 @@
 -- The trees of a core, one clock beside the other and one level below the other.
-use Rattle.std.proofs.Common.{◌≡◌, ℕ, zero, suc, ◌+◌, ◌-◌, ◌<◌, ◌≤◌, Bool, true, false, not, ◌&&◌, cond, List, [], ◌∷◌, ◌++◌, Option, Some, None, IfSome, is_none, refl, sym, ap, ◌∙◌, inl, inr, arith, drop, length}
+use Rattle.std.proofs.Common.{◌≡◌, ℕ, suc, ◌+◌, ◌-◌, ◌<◌, ◌≤◌, Bool, true, false, not, ◌&&◌, cond, List, [], ◌∷◌, ◌++◌, Option, Some, None, IfSome, is_none, refl, sym, ap, ◌∙◌, inl, inr, arith, drop, length}
 use Rattle.std.proofs.lemmas.List.{length-append}
 use Rattle.std.specs.Prelude.{slice_get, filter, flat_map}
 use Rattle.std.specs.Option.{option_map}
@@ -8,15 +8,15 @@ use Rattle.clk_base.specs.Levels.{depth}
 use Rattle.clk_base.specs.declared.clock.ClockId.{ClockId}
 use Rattle.clk_machine.specs.declared.row.Row.{Row}
 use Rattle.clk_machine.specs.Row.{IsTreeOf, Tells}
-use Rattle.clk_model.proofs.Members.{is_in_head, is_in_tail}
-use Rattle.clk_model.proofs.OnceLaws.{in_append, is_in-filter}
+use Rattle.clk_model.proofs.OnceLaws.{in_append, is_in-filter, length-filter-le}
 use Rattle.clk_model.proofs.StateLaws.{registered_lt}
 use Rattle.clk_model.specs.Kinds.{is_fixed}
-use Rattle.clk_model.specs.Lists.{is_in, is_at}
+use Rattle.clk_model.specs.Lists.{is_at}
 use Rattle.clk_model.specs.State.{State, registered, link_in}
 use Rattle.clk_model.specs.Summary.{lines_within, summary_line}
 use Rattle.clk_model.specs.Text.{Word}
 use Rattle.clk_model.specs.Tree.{children, roots, orphans, is_orphan}
+use Rattle.clk_model.proofs.PllLaws.{at_place}
 use Rattle.clk_tree.proofs.Along.{drop_at, few_at, get_first, get_second, none_left}
 use Rattle.clk_tree.proofs.Rows.{order-few}
 use Rattle.clk_tree.specs.TreeState.{TreeState, IsTree}
@@ -30,12 +30,6 @@ row_line s level c name row named told = rw (named, told.enable_, told.prepare_,
 
 -- ---- places
 
--- what stands at a place of a list is in it
-in_place : (xs : List ℕ) (k x : ℕ) → slice_get xs k ≡ Some x → is_in x xs ≡ true
-in_place [] k x at = absurd cc
-in_place (y ∷ xs) zero x at = let same : y ≡ x = cc in rw same (is_in_head x xs)
-in_place (y ∷ xs) (suc k) x at = is_in_tail x y xs (in_place xs k x at)
-
 -- where no two tests are passed at once, those that pass one or the other are at most all
 both_few : (p q : ℕ → Bool) (xs : List ℕ) → ((x : ℕ) → p x ≡ true → q x ≡ false) → length (filter p xs) + length (filter q xs) ≤ length xs
 both_few p q [] apart = omega arith
@@ -46,14 +40,6 @@ both_few p q (x ∷ xs) apart = one (p x) (q x) (apart x) (both_few p q xs apart
   one true false both rest = omega (arith, rest)
   one false true both rest = omega (arith, rest)
   one false false both rest = omega (arith, rest)
-
--- a filter leaves at most all
-filter_few : (p : ℕ → Bool) (xs : List ℕ) → length (filter p xs) ≤ length xs
-filter_few p [] = omega arith
-filter_few p (x ∷ xs) = one (p x) (filter_few p xs) where
-  one : (a : Bool) → length (filter p xs) ≤ length xs → length (cond a (x ∷ filter p xs) (filter p xs)) ≤ length (x ∷ xs)
-  one true rest = omega (arith, rest)
-  one false rest = omega (arith, rest)
 
 -- the texts of what stands from a place on are that of the one there, and those of the ones behind it
 pub texts_at : (text : ℕ → List ℕ) (xs : List ℕ) (k x : ℕ) → slice_get xs k ≡ Some x → flat_map text (drop k xs) ≡ text x ++ flat_map text (drop (k + 1) xs)
@@ -79,12 +65,12 @@ pub child_registered : (s : State) (t : TreeState) (p k c : ℕ) → IsTreeOf s 
 child_registered s t p k c of tree at =
     ap (λ rows. registered rows c) (sym of.clocks)
     ∙ sym (tree.order_lists.listed c)
-    ∙ is_in-filter (λ d. is_at p (link_in t.clocks d)) c t.order (in_place (children t.order t.clocks p) k c (ap (λ xs. slice_get xs k) (same_children s t p of) ∙ at))
+    ∙ is_in-filter (λ d. is_at p (link_in t.clocks d)) c t.order (at_place (children t.order t.clocks p) k c (ap (λ xs. slice_get xs k) (same_children s t p of) ∙ at))
 
 -- there are at most as many children as clocks
 pub children_few : (s : State) (t : TreeState) (p : ℕ) → IsTreeOf s t → IsTree t.defs t.clocks t.order t.rates → length (children s.order s.clocks p) ≤ length t.defs
 children_few s t p of tree =
-    let few = filter_few (λ d. is_at p (link_in t.clocks d)) t.order in
+    let few = length-filter-le (λ d. is_at p (link_in t.clocks d)) t.order in
     let all = order-few t.defs t.clocks t.order t.rates tree in
     let same = ap length (same_children s t p of) in
     omega (arith, few, all, same)
@@ -100,7 +86,7 @@ pub top_registered : (t : TreeState) (k c : ℕ) → IsTree t.defs t.clocks t.or
     → registered t.clocks c ≡ true
 top_registered t k c tree at =
     sym (tree.order_lists.listed c)
-    ∙ elim (in_append c (roots t.defs t.order) (orphans t.defs t.order t.clocks) (in_place (roots t.defs t.order ++ orphans t.defs t.order t.clocks) k c at)) [
+    ∙ elim (in_append c (roots t.defs t.order) (orphans t.defs t.order t.clocks) (at_place (roots t.defs t.order ++ orphans t.defs t.order t.clocks) k c at)) [
       | inl m ↦ is_in-filter (λ d. is_fixed (kind_of t.defs d)) c t.order m
       | inr m ↦ is_in-filter (is_orphan t.defs t.clocks) c t.order m
     ]

@@ -17,6 +17,7 @@ use Rattle.std.proofs.Math.Bool.{or-true}
 
 -- ---- a tree at its making
 
+-- no clock is registered at first
 pub row_of-blank : (n c : ℕ) → row_of (replicate n unregistered_row) c ≡ unregistered_row
 row_of-blank zero c = refl
 row_of-blank (suc n) zero = refl

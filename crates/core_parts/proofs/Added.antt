@@ -4,9 +4,10 @@ use Rattle.std.specs.Prelude.{slice_get, slice_index}
 use Rattle.clk_model.specs.Chain.{clock_id}
 use Rattle.clk_tree.specs.declared.walk_rates.WalkRate.{WalkRate}
 use Rattle.clk_tree.specs.Plans.{ClockRate, rates_of}
+use Rattle.clk_tree.proofs.Along.{none_left}
+use Rattle.change_walk.proofs.Rests.{rest_of}
 use Rattle.core_parts.specs.declared.course.Notified.{Notified}
 use Rattle.core_parts.specs.Told.{told_clocks}
-use Rattle.core_parts.proofs.Setting.{drop_mapped, drop_past}
 
 -- a clock of a walk with its rate
 abbrev rate_of : WalkRate → ClockRate
@@ -38,12 +39,12 @@ pub told_on : (count : ℕ → ℕ) (before : List ℕ) (rates : List WalkRate) 
 told_on count before rates k w items new whole at added all =
     ap (λ (ns : List Notified). ns ++ told_clocks count before (drop (k + 1) (rates_of rates))) added
     ∙ append_assoc items (told_clocks count before (rate_of w ∷ [])) (told_clocks count before (drop (k + 1) (rates_of rates)))
-    ∙ ap (λ (ns : List Notified). items ++ ns) (sym (ap (told_clocks count before) (drop_mapped rate_of rates k w at) ∙ told_first count before (rate_of w) (drop (k + 1) (rates_of rates)))) ∙ all
+    ∙ ap (λ (ns : List Notified). items ++ ns) (sym (ap (told_clocks count before) (rest_of rate_of rates k w at) ∙ told_first count before (rate_of w) (drop (k + 1) (rates_of rates)))) ∙ all
 
 pub told_end : (count : ℕ → ℕ) (before : List ℕ) (rates : List WalkRate) (k : ℕ) (items whole : List Notified) → length rates ≤ k → items ++ told_clocks count before (drop k (rates_of rates)) ≡ whole → items ≡ whole
 told_end count before rates k items whole past all =
     sym (append-nil items)
-    ∙ ap (λ (rs : List ClockRate). items ++ told_clocks count before rs) (sym (drop_past (rates_of rates) k (let same = length-rates rates in omega arith))) ∙ all
+    ∙ ap (λ (rs : List ClockRate). items ++ told_clocks count before rs) (sym (none_left (rates_of rates) k (let same = length-rates rates in omega arith))) ∙ all
 
 -- one clock, which has no notifier, or has some
 pub told_none : (count : ℕ → ℕ) (before : List ℕ) (w : WalkRate) (items : List Notified) → count w.clock.0 ≡ 0 → items ≡ items ++ told_clocks count before (rates_of (w ∷ []))

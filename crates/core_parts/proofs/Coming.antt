@@ -14,36 +14,18 @@ use Rattle.clk_flight.specs.Fronts.{HasSteps, is_empty, post_to}
 use Rattle.clk_flight.specs.Flights.{FlightState, IsChange, first_step, comes_next, fall_or_abort}
 use Rattle.clk_flight.specs.LeftOver.{step_weight, front_weight, left_over}
 use Rattle.clk_flight.proofs.ChangeLaws.{full, falls_first}
+use Rattle.clk_flight.proofs.LeftLaws.{some_weight}
 use Rattle.core_parts.specs.Course.{PostsFit}
 use Rattle.core_parts.specs.InFlight.{is_script, IsUnderWay}
 
 -- ---- what is left to come
-
-weight_some : (rows : List NotifierRow) (plls_ : ℕ) (m : Micro) → 0 < step_weight rows plls_ m
-weight_some rows p (micro.Raise x) = omega arith
-weight_some rows p (micro.Lower x) = omega arith
-weight_some rows p (micro.Visit x) = omega arith
-weight_some rows p micro.End = omega arith
-weight_some rows p (micro.Notify kind c id old new) = omega arith
-weight_some rows p (micro.Poll x) = omega arith
-weight_some rows p (micro.Fall x) = omega arith
-weight_some rows p (micro.HoldPrepare x) = omega arith
-weight_some rows p (micro.HoldEnable x) = omega arith
-weight_some rows p (micro.Relink c q) = omega arith
-weight_some rows p (micro.WriteMux c place) = omega arith
-weight_some rows p (micro.DropEnable x) = omega arith
-weight_some rows p (micro.DropPrepare x) = omega arith
-weight_some rows p (micro.Register c) = omega arith
-weight_some rows p (micro.Settle c) = omega arith
-weight_some rows p (micro.Close c) = omega arith
-weight_some rows p (micro.Unpower c) = omega arith
 
 -- a change in flight has a step to come
 pub some_left : (rows : List NotifierRow) (f : FlightState) (there : ℕ → Bool) → f.going ≡ true → IsUnderWay there f → 0 < left_over rows f
 some_left rows f there going is = by f.going going where
   some : (ms : List Micro) → is_script f.call there ms ≡ true → 0 < sum_by (step_weight rows f.plls) ms
   some [] e = absurd cc
-  some (m ∷ ms) e = let one = weight_some rows f.plls m in let sum = sum_by-cons (step_weight rows f.plls) m ms in omega arith
+  some (m ∷ ms) e = let one = some_weight rows f.plls m in let sum = sum_by-cons (step_weight rows f.plls) m ms in omega arith
 
   by : (t : Bool) → t ≡ true → 0 < (if t then front_weight f.plls f.again f.front + sum_by (step_weight rows f.plls) f.left + f.extra + length f.raised else 0)
   by true e = let few = some f.left is.script in omega arith

@@ -1,11 +1,10 @@
 -- What is seen of counts where a clock is free is what the definitions see of the state that the counts stand for.
-use Rattle.std.proofs.Common.{◌≡◌, ℕ, ◌+◌, ◌<◌, ◌≤◌, ◌&&◌, ◌||◌, Bool, true, false, not, cond, List, [], ◌∷◌, Option, Some, refl, sym, ap, ◌∙◌, ⊎_elim, arith, length, map, nat_eq, nat_lt}
+use Rattle.std.proofs.Common.{◌≡◌, ℕ, ◌+◌, ◌&&◌, ◌||◌, Bool, true, false, not, cond, List, [], ◌∷◌, Option, Some, refl, sym, ap, ◌∙◌, ⊎_elim, arith, length, map, nat_eq, nat_lt}
 use Rattle.std.proofs.Math.Path.{fun_ext}
 use Rattle.std.specs.Prelude.{sum_by, filter, slice_index}
-use Rattle.std.proofs.lemmas.Bool.{cases_lt, false≢true}
-use Rattle.std.proofs.lemmas.Bool.Decides.{nat_tests}
+use Rattle.std.proofs.lemmas.Bool.{false≢true}
 use Rattle.std.proofs.lemmas.List.Sums.{sum_by-cons}
-use Rattle.clk_base.specs.Description.{Description, parents_of}
+use Rattle.clk_base.specs.Description.{parents_of}
 use Rattle.clk_base.specs.Flags.{sets_rate_gate}
 use Rattle.clk_base.specs.Levels.{depth}
 use Rattle.clk_model.specs.declared.row.ClockRow.{ClockRow}
@@ -24,9 +23,8 @@ use Rattle.clk_model.proofs.WalkLaws.{either_way, is_at_same, at_same}
 use Rattle.counts_core.specs.Counted.{CountState, AreCounts, is_guarded, protect_sum}
 use Rattle.counts_core.specs.Standing.{StandsFor}
 use Rattle.counts_core.proofs.Definitions.{own_within}
-use Rattle.counts_core.proofs.Held.{past_flag}
 use Rattle.counts_core.proofs.Holding.{sum_held}
-use Rattle.counts_core.proofs.Standing.{tells_holds, tells_counts}
+use Rattle.counts_core.proofs.Standing.{tells_holds, tells_counts, positive_both, gate_within}
 use Rattle.core_parts.specs.Free.{sole_parent, freed, free_seen}
 use Rattle.core_parts.specs.Seen.{seen}
 use Rattle.core_parts.proofs.Freeing.{Counting, kept_but}
@@ -36,13 +34,6 @@ use Rattle.core_parts.proofs.Freeing.{Counting, kept_but}
 -- its handles' exclusive holds, and its prepares if being prepared protects it
 abbrev own_part : State → ℕ → ℕ
 own_part s c = sum_of_handles (λ h. h.exclusives) s c + cond (sets_rate_gate s.defs c) (prepare_count s c) 0
-
-some_of_both : (a b : ℕ) → nat_lt 0 (a + b) ≡ (nat_lt 0 a || nat_lt 0 b)
-some_of_both a b = by (nat_lt 0 a) (nat_lt 0 b) refl refl where
-  by : (s t : Bool) → nat_lt 0 a ≡ s → nat_lt 0 b ≡ t → nat_lt 0 (a + b) ≡ (s || t)
-  by true t e f = grind (arith, nat_tests)
-  by false true e f = grind (arith, nat_tests)
-  by false false e f = grind (arith, nat_tests)
 
 -- a clock has an exclusive hold exactly where it is one of the clocks that handles hold so
 exclusives_in : (c : ℕ) (hs : List HandleRow)
@@ -56,7 +47,7 @@ exclusives_in c (h ∷ hs) = by (nat_eq h.clock.0 c) (nat_lt 0 h.exclusives) (ex
   having = filter is_exclusive hs
 
   more : nat_lt 0 (sum_by (λ r. r.exclusives) (h ∷ mine)) ≡ (nat_lt 0 h.exclusives || nat_lt 0 (sum_by (λ r. r.exclusives) mine))
-  more = ap (nat_lt 0) (sum_by-cons (λ r. r.exclusives) h mine) ∙ some_of_both h.exclusives (sum_by (λ r. r.exclusives) mine)
+  more = ap (nat_lt 0) (sum_by-cons (λ r. r.exclusives) h mine) ∙ positive_both h.exclusives (sum_by (λ r. r.exclusives) mine)
 
   by : (e g : Bool) → nat_lt 0 (sum_by (λ r. r.exclusives) mine) ≡ is_in c (map (λ r. r.clock.0) having) → nat_eq h.clock.0 c ≡ e → nat_lt 0 h.exclusives ≡ g
       → nat_lt 0 (sum_by (λ r. r.exclusives) (cond e (h ∷ mine) mine)) ≡ is_in c (map (λ r. r.clock.0) (cond g (h ∷ having) having))
@@ -65,10 +56,6 @@ exclusives_in c (h ∷ hs) = by (nat_eq h.clock.0 c) (nat_lt 0 h.exclusives) (ex
   by true false rest e g = more ∙ ap (λ (t : Bool). t || nat_lt 0 (sum_by (λ r. r.exclusives) mine)) g ∙ rest
   by false true rest e g = rest ∙ sym (ap (λ (t : Bool). t || is_in c (map (λ r. r.clock.0) having)) e)
   by false false rest e g = rest
-
-gate_within : (defs : Description) (c : ℕ) → sets_rate_gate defs c ≡ true → c < length defs
-gate_within defs c e =
-    ⊎_elim (λ (within : c < length defs). within) (λ (past : length defs ≤ c). absurd (false≢true (sym (past_flag defs c past) ∙ e))) (cases_lt c (length defs))
 
 module _ (k : CountState) (s : State) (keeps : AreCounts k) (stands : StandsFor k s) (order : IsOrder s.order s.clocks) where
   prepares_some : (c : ℕ) → nat_lt 0 (prepare_count s c) ≡ prepared s c
@@ -92,7 +79,7 @@ module _ (k : CountState) (s : State) (keeps : AreCounts k) (stands : StandsFor 
 
   own_in : (c : ℕ) → nat_lt 0 (own_part s c) ≡ is_in c (protect_holders s)
   own_in c =
-      some_of_both (sum_of_handles (λ h. h.exclusives) s c) (cond (sets_rate_gate s.defs c) (prepare_count s c) 0)
+      positive_both (sum_of_handles (λ h. h.exclusives) s c) (cond (sets_rate_gate s.defs c) (prepare_count s c) 0)
       ∙ ap (λ (t : Bool). t || nat_lt 0 (cond (sets_rate_gate s.defs c) (prepare_count s c) 0)) (exclusives_in c (present s.handles))
       ∙ ap (λ (t : Bool). is_in c (clocks_of is_exclusive s.handles) || t) (gates_in c)
       ∙ sym (is_in-append c (clocks_of is_exclusive s.handles) (filter (λ d. sets_rate_gate s.defs d && prepared s d) (count_from 0 (length s.defs))))

@@ -15,19 +15,10 @@ use Rattle.clk_model.proofs.OnceLaws.{once_head}
 use Rattle.clk_model.proofs.WalkLaws.{either_way}
 use Rattle.clk_model.proofs.WholePathLaws.{same_or_not}
 use Rattle.counts_core.proofs.Listing.{tally, count_step}
+use Rattle.counts_core.proofs.Holding.{some_counted, last_link}
 use Rattle.core_parts.specs.Free.{sole_parent}
 
 -- ---- counting
-
--- one that passes is counted
-pub counts_one : (test : ℕ → Bool) (xs : List ℕ) (x : ℕ) → is_in x xs ≡ true → test x ≡ true → 0 < count_by test xs
-counts_one test [] x m pass = absurd cc
-counts_one test (y ∷ ys) x m pass =
-    let whole = count_step test y ys in
-    elim (is_in_cases x y ys m) [
-      | inl e ↦ let head : tally (test y) ≡ 1 = ap tally (ap test e ∙ pass) in omega arith
-      | inr r ↦ let rest = counts_one test ys x r pass in omega arith
-    ]
 
 -- two that pass are counted twice
 pub counts_two : (test : ℕ → Bool) (xs : List ℕ) (x y : ℕ) → is_in x xs ≡ true → is_in y xs ≡ true → (x ≡ y → ⊥) → test x ≡ true → test y ≡ true → 1 < count_by test xs
@@ -37,12 +28,12 @@ counts_two test (z ∷ zs) x y m n other a b =
     elim (is_in_cases x z zs m) [
       | inl e ↦
           let head : tally (test z) ≡ 1 = ap tally (ap test e ∙ a) in
-          let rest = counts_one test zs y (behind y (λ f. other (sym e ∙ f)) n) b in
+          let rest = some_counted test zs y (behind y (λ f. other (sym e ∙ f)) n) b in
           omega arith
       | inr r ↦ elim (is_in_cases y z zs n) [
         | inl e ↦
             let head : tally (test z) ≡ 1 = ap tally (ap test e ∙ b) in
-            let rest = counts_one test zs x r a in
+            let rest = some_counted test zs x r a in
             omega arith
         | inr q ↦ let rest = counts_two test zs x y r q other a b in omega arith
       ]
@@ -114,11 +105,6 @@ pub link_off : (up : ℕ → Option ℕ) (c d p : ℕ) → up d ≡ Some p → (
 link_off up c d p at other =
     ap (λ (o : Option ℕ). option_and_then (λ q. cond (nat_eq q c) None (Some q)) o) at
     ∙ ap (λ (t : Bool). cond t None (Some p)) (differs p c other)
-
--- the last link of a way
-last_link : (up : ℕ → Option ℕ) (n h a : ℕ) → Rises up (suc n) h a → (d : ℕ) × Rises up n h d × (up d ≡ Some a)
-last_link up zero h a way = (h, refl, way.1 ∙ ap (λ (x : ℕ). Some x) way.2)
-last_link up (suc n) h a way = let rest = last_link up n way.0 a way.2 in (rest.0, (way.0, way.1, rest.1), rest.2)
 
 -- such a way is a way
 way_of_off : (up : ℕ → Option ℕ) (c n h a : ℕ) → Rises (off up c) n h a → Rises up n h a
@@ -259,7 +245,7 @@ module _ {parents : ℕ → List ℕ} {up : ℕ → Option ℕ} {holders : List 
         let here : is_in p holders ≡ true = ap (λ (x : ℕ). is_in x holders) (sym way) ∙ but.1 in
         let some : nat_lt 0 (own p) ≡ true = known.holds p ∙ here in
         let mine : 0 < own p = grind (arith, nat_tests) in
-        let theirs = counts_one is_kept (kids p) q child (way_kept q kept) in
+        let theirs = some_counted is_kept (kids p) q child (way_kept q kept) in
         let whole = known.counts p in
         absurd (omega arith)
     by (suc n) way =

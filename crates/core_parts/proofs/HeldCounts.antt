@@ -57,7 +57,7 @@ listed_tells counts = record { each = λ c. listed_at counts 0 c c (omega arith)
 
 -- ---- at the opening
 
-none_at : (n c : ℕ) → slice_index (replicate n 0) c ≡ 0
+pub none_at : (n c : ℕ) → slice_index (replicate n 0) c ≡ 0
 none_at zero c = refl
 none_at (suc n) zero = refl
 none_at (suc n) (suc c) = none_at n c

@@ -1,12 +1,12 @@
 -- Holds of a clock that end one by one, and what counts tell behind them.
 use Rattle.std.proofs.Common.{◌≡◌, ◌≢◌, ℕ, ◌+◌, ◌-◌, ◌<◌, ◌≤◌, ◌||◌, not, Bool, true, false, cond, List, [], ◌∷◌, None, refl, sym, ap, subst, ◌∙◌, arith, nat_eq, length, set}
-use Rattle.std.proofs.lemmas.Bool.Decides.{nat_tests}
 use Rattle.std.proofs.lemmas.List.{length-set, get_or-set_same, get_or-set_other}
 use Rattle.std.proofs.lemmas.List.Sums.{sum_by-set}
 use Rattle.std.specs.Prelude.{slice_index}
 use Rattle.counts_core.specs.Counted.{CountState}
 use Rattle.clk_model.proofs.Members.{same_from_test, test_other}
 use Rattle.clk_model.specs.Step.{passed_over}
+use Rattle.clk_model.proofs.BalanceLaws.{other_way}
 use Rattle.core_parts.specs.Holds.{TellsHolds, AreHeld, passed_times, Ends}
 use Rattle.core_parts.proofs.HeldCounts.{times_in, times_more}
 
@@ -57,20 +57,17 @@ ends_all clock own own' held held' ends none d = by (nat_eq d clock) refl where
 
 -- ---- what counts tell
 
-turned : (a b : ℕ) → nat_eq a b ≡ false → nat_eq b a ≡ false
-turned a b e = grind (arith, nat_tests)
-
 -- a hold on the clock itself ends
 gone : (x p c n : ℕ) (t : Bool) → nat_eq c p ≡ t → nat_eq p x ≡ true → cond t 0 n ≡ cond t 0 (cond (nat_eq x c) 1 0 + n)
 gone x p c n true e same = refl
 gone x p c n false e same =
-    let none : nat_eq x c ≡ false = ap (λ (y : ℕ). nat_eq y c) (sym (same_from_test p x same)) ∙ turned c p e in
+    let none : nat_eq x c ≡ false = ap (λ (y : ℕ). nat_eq y c) (sym (same_from_test p x same)) ∙ other_way c p e in
     let first : n ≡ 0 + n = omega arith in
     first ∙ ap (λ (b : Bool). cond b 1 0 + n) (sym none)
 
 -- and one on another clock stays
 stays : (x p c n : ℕ) (t : Bool) → nat_eq c p ≡ t → nat_eq p x ≡ false → cond (nat_eq x c) 1 0 + cond t 0 n ≡ cond t 0 (cond (nat_eq x c) 1 0 + n)
-stays x p c n true e other = ap (λ (b : Bool). cond b 1 0 + 0) (ap (nat_eq x) (same_from_test c p e) ∙ turned p x other)
+stays x p c n true e other = ap (λ (b : Bool). cond b 1 0 + 0) (ap (nat_eq x) (same_from_test c p e) ∙ other_way p x other)
 stays x p c n false e other = refl
 
 no_times : (t : Bool) → ◌≡◌ {A = ℕ} 0 (cond t 0 0)

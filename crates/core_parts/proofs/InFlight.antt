@@ -11,6 +11,7 @@ use Rattle.clk_flight.specs.declared.front.Front.{Front}
 use Rattle.clk_flight.specs.declared.front.Front.TheVariants.{Empty, Poll, Raise, Lower, Falls, Posts}
 use Rattle.clk_flight.specs.Fronts.{falls, front_behind, script_behind}
 use Rattle.clk_flight.specs.Flights.{FlightState, own_first, own_step}
+use Rattle.clk_flight.proofs.KeptLaws.{going_step}
 use Rattle.core_parts.specs.InFlight.{is_near, may_raise, may_lower, may_make, can_cut, cuts_behind, cuts_front, there_behind, is_script, is_front, IsUnderWay}
 
 -- whoever passes the test does so behind a step that registers no clock
@@ -60,14 +61,10 @@ first_cuts f there m own no_end is = from f.left own is where
 
 -- ---- the clock of the step that comes next
 
-pub own_going : (going : Bool) (o : Option Micro) (m : Micro) → (if going then o else None) ≡ Some m → o ≡ Some m
-own_going true o m e = e
-own_going false o m e = absurd cc
-
 pub raise_there : (f : FlightState) (there : ℕ → Bool) (x : ClockId) → own_step f ≡ Some (micro.Raise x) → IsUnderWay there f → (may_raise f.call && is_near f.call there x.0) ≡ true
 raise_there f there x own is = from f.front refl where
   from : (front : Front) → f.front ≡ front → (may_raise f.call && is_near f.call there x.0) ≡ true
-  from front at = by front (ap (own_first f) (sym at) ∙ own_going f.going (own_first f f.front) (micro.Raise x) own) (ap (is_front f.call there) (sym at) ∙ is.front) where
+  from front at = by front (ap (own_first f) (sym at) ∙ going_step f.going (own_first f f.front) (micro.Raise x) own) (ap (is_front f.call there) (sym at) ∙ is.front) where
     by : (front : Front) → own_first f front ≡ Some (micro.Raise x) → is_front f.call there front ≡ true → (may_raise f.call && is_near f.call there x.0) ≡ true
     by Empty e h = first_seeks f there (micro.Raise x) e refl is.script
     by (Poll y polls again) e h = absurd cc
@@ -79,7 +76,7 @@ raise_there f there x own is = from f.front refl where
 pub lower_there : (f : FlightState) (there : ℕ → Bool) (x : ClockId) → own_step f ≡ Some (micro.Lower x) → IsUnderWay there f → (may_lower f.call && there x.0) ≡ true
 lower_there f there x own is = from f.front refl where
   from : (front : Front) → f.front ≡ front → (may_lower f.call && there x.0) ≡ true
-  from front at = by front (ap (own_first f) (sym at) ∙ own_going f.going (own_first f f.front) (micro.Lower x) own) (ap (is_front f.call there) (sym at) ∙ is.front) where
+  from front at = by front (ap (own_first f) (sym at) ∙ going_step f.going (own_first f f.front) (micro.Lower x) own) (ap (is_front f.call there) (sym at) ∙ is.front) where
     by : (front : Front) → own_first f front ≡ Some (micro.Lower x) → is_front f.call there front ≡ true → (may_lower f.call && there x.0) ≡ true
     by Empty e h = first_seeks f there (micro.Lower x) e refl is.script
     by (Poll y polls again) e h = absurd cc
@@ -97,7 +94,7 @@ pub record PollsInFront (f : FlightState) (y : ClockId) : Type 0 where
 pub poll_in_front : (f : FlightState) (there : ℕ → Bool) (y : ClockId) → own_step f ≡ Some (micro.Poll y) → IsUnderWay there f → PollsInFront f y
 poll_in_front f there y own is = from f.front refl where
   from : (front : Front) → f.front ≡ front → PollsInFront f y
-  from front at = by front at (ap (own_first f) (sym at) ∙ own_going f.going (own_first f f.front) (micro.Poll y) own) where
+  from front at = by front at (ap (own_first f) (sym at) ∙ going_step f.going (own_first f f.front) (micro.Poll y) own) where
     by : (front : Front) → f.front ≡ front → own_first f front ≡ Some (micro.Poll y) → PollsInFront f y
     by Empty at e = let never = first_seeks f there (micro.Poll y) e refl is.script in absurd cc
     by (Poll z polls again) at e = let same : z ≡ y = cc in record { polls = polls; again = again; front = at ∙ ap (λ (z : ClockId). let p : Front = Poll z polls again in p) same }

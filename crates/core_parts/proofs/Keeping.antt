@@ -15,10 +15,11 @@ use Rattle.clk_flight.specs.declared.front.Front.TheVariants.{Empty, Poll, Raise
 use Rattle.clk_flight.specs.Fronts.{falls, front_behind, script_behind}
 use Rattle.clk_flight.specs.Flights.{FlightState, own_first, own_step}
 use Rattle.clk_flight.specs.Moves.{others, found_none, comes_again, raised_once, raised_in, lowered_once, is_last_no, timed_out_in, polled_in, front_polled, fallen, front_fallen}
+use Rattle.clk_flight.proofs.KeptLaws.{going_step}
 use Rattle.core_parts.specs.declared.course.Notified.{Notified}
 use Rattle.core_parts.specs.Course.{PostsFit, tells_all, begins_with, behind_visit, visited_by}
 use Rattle.core_parts.specs.InFlight.{may_raise, may_seek, may_make, there_behind, is_front, is_script, IsUnderWay}
-use Rattle.core_parts.proofs.InFlight.{behind_seek, own_going, raise_there, poll_in_front, PollsInFront}
+use Rattle.core_parts.proofs.InFlight.{behind_seek, raise_there, poll_in_front, PollsInFront}
 use Rattle.core_parts.proofs.StepsInFlight.{end_alone, FallsInFront}
 use Rattle.core_parts.proofs.SameCall.{KeepsAlong}
 use Rattle.core_parts.proofs.Noticed.{behind_fits}
@@ -167,7 +168,7 @@ along-none f there m own seeks = record {
   call = refl;
   tells = λ count ns tells. record {
     front = behind_fits count f.raised f.front tells.front;
-    visits = tells_behind f count ns f.front m (own_going f.going (own_first f f.front) m own) (seek_unseen f.call there m seeks) tells.visits;
+    visits = tells_behind f count ns f.front m (going_step f.going (own_first f f.front) m own) (seek_unseen f.call there m seeks) tells.visits;
   };
   links = λ can all. links_behind can f.left f.front all;
 }
@@ -179,7 +180,7 @@ along-raised f there x y more own is = by (nat_lt f.again f.plls) where
     call = refl;
     tells = λ count ns tells. record {
       front = tt;
-      visits = tells_behind f count ns f.front (micro.Raise x) (own_going f.going (own_first f f.front) (micro.Raise x) own) refl tells.visits;
+      visits = tells_behind f count ns f.front (micro.Raise x) (going_step f.going (own_first f f.front) (micro.Raise x) own) refl tells.visits;
     };
     links = λ can all. links_behind can f.left f.front all;
   }
@@ -190,7 +191,7 @@ along-lowered f x more own = record {
   call = refl;
   tells = λ count ns tells. record {
     front = either count (behind_fits count f.raised f.front tells.front) (comes_again f more);
-    visits = tells_behind f count ns f.front (micro.Lower x) (own_going f.going (own_first f f.front) (micro.Lower x) own) refl tells.visits;
+    visits = tells_behind f count ns f.front (micro.Lower x) (going_step f.going (own_first f f.front) (micro.Lower x) own) refl tells.visits;
   };
   links = λ can all. links_behind can f.left f.front all;
 } where
@@ -230,7 +231,7 @@ along-polled f there y answer own is = by (is_last_no f.front answer) where
     call = refl;
     tells = λ count ns tells. record {
       front = subst (λ (front : Front). PostsFit count (front_polled front answer)) (sym in_front.front) (polled_fits count answer);
-      visits = tells_behind f count ns f.front (micro.Poll y) (own_going f.going (own_first f f.front) (micro.Poll y) own) refl tells.visits;
+      visits = tells_behind f count ns f.front (micro.Poll y) (going_step f.going (own_first f f.front) (micro.Poll y) own) refl tells.visits;
     };
     links = λ can all. links_behind can f.left f.front all;
   }

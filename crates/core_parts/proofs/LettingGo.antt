@@ -9,11 +9,8 @@ use Rattle.clk_flight.specs.Flights.{FlightState, IsChange}
 use Rattle.clk_flight.specs.LeftOver.{left_over}
 use Rattle.clk_flight.specs.Moves.{front_fallen, let_go_of}
 use Rattle.clk_flight.specs.Steps.{LetsGo}
+use Rattle.clk_flight.proofs.Listing.{without-none}
 use Rattle.core_parts.specs.Letting.{LetsGoAll}
-
-without_none : (xs : List ℕ) → without [] xs ≡ xs
-without_none [] = refl
-without_none (x ∷ xs) = ap (λ (ys : List ℕ). x ∷ ys) (without_none xs)
 
 without_more : (y : ℕ) (ys xs : List ℕ) → without ys (without (y ∷ []) xs) ≡ without (y ∷ ys) xs
 without_more y ys [] = refl
@@ -25,8 +22,8 @@ without_more y ys (x ∷ xs) = by (nat_eq y x) (without_more y ys xs) where
 
 pub lets_go_none : (f : FlightState) → LetsGoAll [] f f
 lets_go_none f = record {
-  flight = ap (λ (ys : List ℕ). let g : FlightState = record f { raised = ys } in g) (sym (without_none f.raised));
-  change = λ notifiers k is front. subst (λ (ys : List ℕ). IsChange notifiers f (record k { raised = ys })) (sym (without_none k.raised)) is;
+  flight = ap (λ (ys : List ℕ). let g : FlightState = record f { raised = ys } in g) (sym (without-none f.raised));
+  change = λ notifiers k is front. subst (λ (ys : List ℕ). IsChange notifiers f (record k { raised = ys })) (sym (without-none k.raised)) is;
   less = λ notifiers. omega arith;
 }
 

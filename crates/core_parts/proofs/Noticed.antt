@@ -15,10 +15,11 @@ use Rattle.clk_flight.specs.Flights.{FlightState, first_step, comes_next}
 use Rattle.clk_flight.specs.Fronts.{aborts_behind, front_behind, script_behind}
 use Rattle.clk_flight.specs.Moves.{gone_on}
 use Rattle.clk_flight.specs.Steps.{is_taken}
+use Rattle.clk_flight.proofs.KeptLaws.{going_step}
 use Rattle.core_parts.specs.declared.course.Notified.{Notified}
 use Rattle.core_parts.specs.InFlight.{may_raise, is_script, is_front, IsUnderWay, is_near}
 use Rattle.core_parts.specs.Course.{visited_by, behind_visit, begins_with, tells_all, PostsFit, TellsAlong}
-use Rattle.core_parts.proofs.InFlight.{own_going, script_rest, cut_behind}
+use Rattle.core_parts.proofs.InFlight.{script_rest, cut_behind}
 
 pub notice_taken : (m : Micro) → is_notice m ≡ true → (is_taken m ≡ true) × (is_end m ≡ false) × (visited_by m ≡ None) × (is_register m ≡ false)
 notice_taken (micro.Notify kind c id old new) e = (refl, refl, refl, refl)
@@ -74,7 +75,7 @@ behind_script f there rows (Posts c told left old new) m first notice is = is
 pub under_way-told : (f : FlightState) (there : ℕ → Bool) (rows : List NotifierRow) (m : Micro) → comes_next rows f ≡ Some m → is_notice m ≡ true → IsUnderWay there f → IsUnderWay there (gone_on f)
 under_way-told f there rows m comes notice is = record {
   call_ = is.call_;
-  script = behind_script f there rows f.front m (own_going f.going (first_step rows f f.front) m comes) notice is.script;
+  script = behind_script f there rows f.front m (going_step f.going (first_step rows f f.front) m comes) notice is.script;
   front = behind_front f there f.front is.front;
   cut = cut_behind f.call f.raised f.left f.front is.cut;
   raised = is.raised;
@@ -117,7 +118,7 @@ behind_visits f count ns rows (Posts c told left old new) m first notice is = is
 pub tells-told : (f : FlightState) (count : ℕ → ℕ) (ns : List Notified) (rows : List NotifierRow) (m : Micro) → comes_next rows f ≡ Some m → is_notice m ≡ true → TellsAlong count ns f → TellsAlong count ns (gone_on f)
 tells-told f count ns rows m comes notice is = record {
   front = behind_fits count f.raised f.front is.front;
-  visits = behind_visits f count ns rows f.front m (own_going f.going (first_step rows f f.front) m comes) notice is.visits;
+  visits = behind_visits f count ns rows f.front m (going_step f.going (first_step rows f f.front) m comes) notice is.visits;
 }
 
 -- what is left can be linked as before

@@ -4,7 +4,8 @@ use Rattle.std.specs.Prelude.{slice_index_or, if◌then◌else◌}
 use Rattle.std.specs.Int.RustNames.{int_lt}
 use Rattle.clk_model.specs.State.{NotifierRow}
 use Rattle.clk_model.specs.Notices.{notifiers_of, by_priority, sorted}
-use Rattle.clk_model.proofs.Members.{same_from_test, test_same}
+use Rattle.clk_model.proofs.Members.{test_same}
+use Rattle.clk_model.proofs.AboveLaws.{differs}
 use Rattle.notifiers.specs.declared.notifier.Notifier.{Notifier}
 use Rattle.notifiers.specs.Chains.{Tells, row_on}
 use Rattle.core_parts.specs.Course.{notifiers_at}
@@ -22,7 +23,7 @@ one_longer : (n m : NotifierRow) (ms longer : List NotifierRow) (t : Bool) → l
 one_longer n m ms longer true more = refl
 one_longer n m ms longer false more = ap (λ (k : ℕ). suc k) more
 
-length-by_priority : (n : NotifierRow) (ns : List NotifierRow) → length (by_priority n ns) ≡ suc (length ns)
+pub length-by_priority : (n : NotifierRow) (ns : List NotifierRow) → length (by_priority n ns) ≡ suc (length ns)
 length-by_priority n [] = refl
 length-by_priority n (m ∷ ms) = one_longer n m ms (by_priority n ms) (int_lt m.priority n.priority) (length-by_priority n ms)
 
@@ -47,16 +48,10 @@ own_chain d c (n ∷ chain) rest false e =
     let here = ap (λ (t : Bool). length (cond t (row_on d n ∷ filter (λ n. nat_eq n.clock c) (map (row_on d) chain ++ rest)) (filter (λ n. nat_eq n.clock c) (map (row_on d) chain ++ rest)))) e in
     omega arith
 
-apart_test : (a b : ℕ) → (a ≡ b → ⊥) → nat_eq a b ≡ false
-apart_test a b other = by (nat_eq a b) refl where
-  by : (t : Bool) → nat_eq a b ≡ t → nat_eq a b ≡ false
-  by true e = absurd (other (same_from_test a b e))
-  by false e = e
-
 own_none : (d c : ℕ) (chains : List (List Notifier)) → c < d → length (filter (λ n. nat_eq n.clock c) (rows_from d chains)) ≡ 0
 own_none d c [] lt = refl
 own_none d c (chain ∷ chains) lt =
-    let here = own_chain d c chain (rows_from (suc d) chains) false (apart_test d c (λ same. omega arith)) in
+    let here = own_chain d c chain (rows_from (suc d) chains) false (differs d c (λ same. omega arith)) in
     let rest = own_none (suc d) c chains (omega arith) in
     omega arith
 
@@ -68,7 +63,7 @@ own_rows d zero (chain ∷ chains) =
     let rest = own_none (suc d) (d + 0) chains (omega arith) in
     omega arith
 own_rows d (suc i) (chain ∷ chains) =
-    let here = own_chain d (d + suc i) chain (rows_from (suc d) chains) false (apart_test d (d + suc i) (λ same. omega arith)) in
+    let here = own_chain d (d + suc i) chain (rows_from (suc d) chains) false (differs d (d + suc i) (λ same. omega arith)) in
     let at : d + suc i ≡ suc d + i = omega arith in
     let rest : length (filter (λ n. nat_eq n.clock (d + suc i)) (rows_from (suc d) chains)) ≡ length (slice_index_or chains i []) =
     ap (λ (c : ℕ). length (filter (λ n. nat_eq n.clock c) (rows_from (suc d) chains))) at ∙ own_rows (suc d) i chains in

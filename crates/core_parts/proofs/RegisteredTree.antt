@@ -1,5 +1,5 @@
 -- A tree in which a clock was registered, and what the first words of a bank say of it.
-use Rattle.std.proofs.Common.{◌≡◌, ◌≢◌, ℕ, ◌<◌, ◌||◌, Bool, true, false, List, Option, Some, None, refl, sym, ap, ◌∙◌, inl, inr, arith, length, take, nat_eq}
+use Rattle.std.proofs.Common.{◌≡◌, ◌≢◌, ℕ, ◌<◌, ◌||◌, Bool, true, false, List, Option, Some, None, refl, sym, ap, subst, ◌∙◌, inl, inr, arith, length, take, nat_eq}
 use Rattle.std.specs.Prelude.{IfSome, option_and_then, slice_get, slice_index}
 use Rattle.std.specs.Option.{option_map}
 use Rattle.std.proofs.lemmas.Bool.{cases_lt}
@@ -19,12 +19,12 @@ use Rattle.clk_model.specs.Kinds.{mux_field}
 use Rattle.clk_model.specs.Tree.{if_registered, link_given}
 use Rattle.clk_model.specs.Rate.{rate}
 use Rattle.clk_model.specs.Begin.{registered_rows}
-use Rattle.clk_model.specs.Laws.Paths.{scales_by}
 use Rattle.clk_model.proofs.StateLaws.{row_of-set_other}
 use Rattle.clk_model.proofs.Members.{test_same}
 use Rattle.clk_model.proofs.RateLaws.{rate-links, writes_leave_rates}
 use Rattle.clk_model.proofs.SupplyLaws.{selected_same}
-use Rattle.clk_tree.specs.TreeState.{attached}
+use Rattle.clk_model.proofs.OutcomeRateLaws.{scale_lt}
+use Rattle.clk_tree.specs.TreeState.{TreeState, attached}
 use Rattle.clk_tree.specs.Refreshed.{is_below, IsFresh}
 use Rattle.clk_tree.proofs.Fitting.{attached-registered}
 use Rattle.clk_tree.proofs.Freshness.{fresh_attached}
@@ -34,27 +34,11 @@ use Rattle.core_parts.proofs.WindowLaws.{field-take}
 
 -- ---- the rates of the first words
 
--- the field by which a clock divides or multiplies lies in the first words
-scales_lies : (words : ℕ) (defs : Description) (c : ℕ) (f : Field) → IsValid words defs → scales_by (kind_of defs c) ≡ Some f → f.word < words
-scales_lies words defs c f valid e = elim (cases_lt c (length defs)) [
-  | inl inside ↦ by (kind_of defs c) e (λ at. (fields-within words defs valid c 0 f inside at).0)
-  | inr outside ↦
-      let none : scales_by (kind_of defs c) ≡ None = ap (λ (d : ClockDef). scales_by d.kind) (get_or_past defs c nobody (omega arith)) in
-      absurd cc
-] where
-  by : (kind : Kind) → scales_by kind ≡ Some f → (slice_get (fields_of kind) 0 ≡ Some f → f.word < words) → f.word < words
-  by (FixedRate rate) e lies = absurd cc
-  by (Factor mult div) e lies = absurd cc
-  by (Gate word bit set_to_disable) e lies = absurd cc
-  by (Mux word shift width read_only) e lies = absurd cc
-  by (Divider word shift width one_based power_of_two) e lies = lies e
-  by (Pll word shift width power_word power_bit least most m) e lies = lies e
-
 -- so the first words give the rates that all words give
 pub rate-take : (words : ℕ) (defs : Description) (regs : Registers) (clocks : List ClockRow) (c : ℕ) → IsValid words defs
     → rate defs (take words regs) clocks c ≡ rate defs regs clocks c
 rate-take words defs regs clocks c valid =
-    writes_leave_rates defs regs (take words regs) clocks c (λ a m f e. field-take words regs f.word f.shift f.width (scales_lies words defs a f valid e))
+    writes_leave_rates defs regs (take words regs) clocks c (λ a m f e. field-take words regs f.word f.shift f.width (scale_lt words defs a f valid e))
 
 -- ---- the parent that the first words give
 
@@ -110,6 +94,24 @@ pub fresh_registered : (n : ℕ) (told : Option (List ℕ)) (defs : Description)
 fresh_registered n None defs clocks old new c parent valid within kept refreshed = tt
 fresh_registered n (Some regs) defs clocks old new c parent valid within kept refreshed =
     refreshed (fresh_attached defs regs clocks old c parent within (λ k there. kept k there ∙ rate-take n defs regs clocks k valid))
+
+-- each kept rate is the one that the registers give
+abbrev pub Fresh : Description → Option (List ℕ) → List ClockRow → List ℕ → Type 0
+Fresh defs told clocks rates = IfSome told (λ regs. (k : ℕ) → registered clocks k ≡ true → slice_index rates k ≡ rate defs regs clocks k)
+
+-- what a refresh says of a tree with a clock attached
+pub refreshed : (n : ℕ) (told : Option (List ℕ)) (defs : Description) (tree : TreeState) (clocks : List ClockRow) (old new : List ℕ) (c : ℕ) (parent : Option ClockId)
+    → IsValid n defs → c < length clocks → tree.defs ≡ defs → tree.clocks ≡ attached clocks c parent → tree.rates ≡ old → AreKept defs (option_map (take n) told) clocks old
+    → IfSome told (λ regs. ((k : ℕ) → registered tree.clocks k ≡ true → is_below tree.clocks c k ≡ false → IsFresh tree.defs regs tree.clocks tree.rates k)
+    → (k : ℕ) → registered tree.clocks k ≡ true → IsFresh tree.defs regs tree.clocks new k)
+    → Fresh defs told (attached clocks c parent) new
+refreshed n told defs tree clocks old new c parent valid within made link rates kept says =
+    fresh_registered n told defs clocks old new c parent valid within kept
+    (subst (λ (ds : Description). Says ds (attached clocks c parent) old) made
+    (subst (λ (rs : List ClockRow). Says tree.defs rs old) link
+    (subst (λ (xs : List ℕ). Says tree.defs tree.clocks xs) rates says))) where
+      Says : Description → List ClockRow → List ℕ → Type 0
+      Says ds rs xs = IfSome told (λ regs. ((k : ℕ) → registered rs k ≡ true → is_below rs c k ≡ false → IsFresh ds regs rs xs k) → (k : ℕ) → registered rs k ≡ true → IsFresh ds regs rs new k)
 
 -- the rows are those of the registration
 pub rows_registered : (n : ℕ) (told : Option (List ℕ)) (defs : Description) (clocks : List ClockRow) (rates : List ℕ) (c : ℕ) (parent : Option ClockId)

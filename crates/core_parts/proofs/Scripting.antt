@@ -1,6 +1,5 @@
 -- What the script of a plan whose moves can be made says of a change that goes on with it.
 use Rattle.std.proofs.Common.{◌≡◌, ℕ, ◌+◌, ◌&&◌, ◌||◌, ◌++◌, not, Bool, true, false, cond, List, [], ◌∷◌, Option, Some, None, refl, sym, ap, ◌∙◌, map, filter, nat_eq, append_assoc}
-use Rattle.std.proofs.Math.Path.{fun_ext}
 use Rattle.std.specs.Prelude.{sum_by, slice_index, is_some, length, nat_lt}
 use Rattle.std.specs.List.{AllByRecursion, list_all, list_any}
 use Rattle.std.specs.Option.{option_map_or}
@@ -18,6 +17,7 @@ use Rattle.clk_model.specs.State.{ChainStep, registered, link_in}
 use Rattle.clk_model.specs.Tree.{rooted}
 use Rattle.clk_model.proofs.Members.{both_left, both_right, or_right}
 use Rattle.clk_flight.specs.LeftOver as flights
+use Rattle.clk_flight.proofs.WeighLaws.{same_sum}
 use Rattle.clk_tree.specs.declared.plan.Plan.{Plan}
 use Rattle.clk_tree.specs.Plans.{ClockRate}
 use Rattle.clk_tree.specs.TreeState.{TreeState}
@@ -204,12 +204,9 @@ told_all count before was will (r ∷ rates) all = by (nat_eq (count r.clock) 0)
   by true rest = rest
   by false rest = (all.0, rest)
 
-sum_same : (f g : Micro → ℕ) (ms : List Micro) → ((m : Micro) → f m ≡ g m) → sum_by f ms ≡ sum_by g ms
-sum_same f g ms same = ap (λ (h : Micro → ℕ). sum_by h ms) (fun_ext same)
-
 -- over the notifiers of chains, one behind the other
 pub weighs_rows : (chains : List (List Notifier)) (plls_ : ℕ) (ms : List Micro) → sum_by (flights.step_weight (rows_from 0 chains) plls_) ms ≡ sum_by (step_weight plls_ chains) ms
-weighs_rows chains plls_ ms = sum_same (flights.step_weight (rows_from 0 chains) plls_) (step_weight plls_ chains) ms same where
+weighs_rows chains plls_ ms = same_sum (flights.step_weight (rows_from 0 chains) plls_) (step_weight plls_ chains) ms same where
   same : (m : Micro) → flights.step_weight (rows_from 0 chains) plls_ m ≡ step_weight plls_ chains m
   same (micro.Visit c) = ap (λ (n : ℕ). 1 + n) (rows_count chains c.0)
   same _ = refl

@@ -1,8 +1,7 @@
 -- What a setting that is written makes of words and kept rates.
-use Rattle.std.proofs.Common.{◌≡◌, ℕ, zero, suc, ◌+◌, ◌<◌, ◌≤◌, ◌^◌, Bool, true, false, cond, List, [], ◌∷◌, Option, Some, None, refl, sym, ap, subst, ◌∙◌, arith, length, take, drop, map, nat_eq}
+use Rattle.std.proofs.Common.{◌≡◌, ℕ, zero, suc, ◌+◌, ◌<◌, ◌≤◌, ◌^◌, Bool, true, false, cond, List, [], ◌∷◌, Option, Some, None, refl, sym, ap, subst, ◌∙◌, arith, length, take, drop, nat_eq}
 use Rattle.std.specs.Prelude.{IfSome, slice_get, slice_index, option_map, find}
 use Rattle.std.specs.Option.{option_map_or}
-use Rattle.std.proofs.lemmas.Option.{slice_get-map}
 use Rattle.clk_base.specs.declared.clock.Kind.{Kind}
 use Rattle.clk_base.specs.Description.{Description, kind_of}
 use Rattle.clk_base.specs.Fields.{Field, field_of}
@@ -24,6 +23,7 @@ use Rattle.clk_tree.specs.Refreshed.{is_below, IsFresh}
 use Rattle.clk_tree.specs.TreeState.{TreeState, IsTree}
 use Rattle.rate_planner.specs.Kept.{wired}
 use Rattle.rate_planner.specs.Settings.{put_field}
+use Rattle.change_walk.proofs.Rests.{rest_of}
 use Rattle.core_parts.specs.declared.course.Notified.{Notified}
 use Rattle.core_parts.specs.Course.{planned_along, set_along, behind_first}
 use Rattle.core_parts.specs.Tied.{AreKept}
@@ -113,16 +113,6 @@ drop_at [] k x e = absurd cc
 drop_at (y ∷ xs) zero x e = let same : y ≡ x = cc in ap (λ z. z ∷ xs) same
 drop_at (y ∷ xs) (suc k) x e = drop_at xs k x e
 
-pub drop_mapped : {A B : Type 0} (f : A → B) (xs : List A) (k : ℕ) (x : A) → slice_get xs k ≡ Some x → drop k (map f xs) ≡ f x ∷ drop (k + 1) (map f xs)
-drop_mapped f xs k x e = drop_at (map f xs) k (f x) (slice_get-map f xs k ∙ ap (option_map f) e) ∙ ap (λ (n : ℕ). f x ∷ drop n (map f xs)) (let e : suc k ≡ k + 1 = omega arith in e)
-
--- nothing is behind the end
-pub drop_past : {A : Type 0} (xs : List A) (k : ℕ) → length xs ≤ k → drop k xs ≡ []
-drop_past [] zero past = refl
-drop_past [] (suc k) past = refl
-drop_past (x ∷ xs) zero past = absurd (omega arith)
-drop_past (x ∷ xs) (suc k) past = drop_past xs k (omega arith)
-
 -- a step as the definitions have it
 abbrev step_of : chain.ChainStep → ChainStep
 step_of s = record { clock = s.clock.0; rate = s.rate; parent = option_map (λ p. p.0) s.parent }
@@ -134,12 +124,12 @@ planned_first k ks c false e = ap (λ (t : Bool). option_map (λ (k : ChainStep)
 pub planned_found : (steps : List chain.ChainStep) (k : ℕ) (step : chain.ChainStep) (c : ℕ) (whole : Option ℕ) → slice_get steps k ≡ Some step → nat_eq step.clock.0 c ≡ true
     → planned_along (drop k (chain_of steps)) c ≡ whole → Some step.rate ≡ whole
 planned_found steps k step c whole at same all =
-    sym (planned_first (step_of step) (drop (k + 1) (chain_of steps)) c true same) ∙ ap (λ (ks : List ChainStep). planned_along ks c) (sym (drop_mapped step_of steps k step at)) ∙ all
+    sym (planned_first (step_of step) (drop (k + 1) (chain_of steps)) c true same) ∙ ap (λ (ks : List ChainStep). planned_along ks c) (sym (rest_of step_of steps k step at)) ∙ all
 
 pub planned_passed : (steps : List chain.ChainStep) (k : ℕ) (step : chain.ChainStep) (c : ℕ) (whole : Option ℕ) → slice_get steps k ≡ Some step → nat_eq step.clock.0 c ≡ false
     → planned_along (drop k (chain_of steps)) c ≡ whole → planned_along (drop (k + 1) (chain_of steps)) c ≡ whole
 planned_passed steps k step c whole at other all =
-    sym (planned_first (step_of step) (drop (k + 1) (chain_of steps)) c false other) ∙ ap (λ (ks : List ChainStep). planned_along ks c) (sym (drop_mapped step_of steps k step at)) ∙ all
+    sym (planned_first (step_of step) (drop (k + 1) (chain_of steps)) c false other) ∙ ap (λ (ks : List ChainStep). planned_along ks c) (sym (rest_of step_of steps k step at)) ∙ all
 
 -- the clocks behind the first
 pub drop_one : (k : ℕ) (xs : List Notified) → drop (k + 1) xs ≡ behind_first (drop k xs)

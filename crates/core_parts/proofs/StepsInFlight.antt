@@ -12,13 +12,15 @@ use Rattle.clk_model.specs.State.{NotifierRow}
 use Rattle.clk_model.specs.Notices.{notifiers_of}
 use Rattle.clk_model.specs.Step.{is_end, is_visit, is_register, is_settle, from_first, behind_first, cut_short, rest_of, sets_parent}
 use Rattle.clk_model.proofs.Members.{or_cases, or_right, not_either, both_left, both_right}
+use Rattle.clk_model.proofs.DelayLaws.{three_true}
 use Rattle.clk_flight.specs.declared.front.Front.{Front}
 use Rattle.clk_flight.specs.declared.front.Front.TheVariants.{Empty, Poll, Raise, Lower, Falls, Posts}
 use Rattle.clk_flight.specs.Fronts.{abort_of, post_to, falls, front_behind, script_behind}
 use Rattle.clk_flight.specs.Flights.{FlightState, own_first, own_step, first_step, comes_next, fall_or_abort}
 use Rattle.clk_flight.specs.Moves.{others, found_none, comes_again, raised_once, raised_in, lowered_once, is_last_no, timed_out_in, polled_in, front_polled, fallen, front_fallen}
+use Rattle.clk_flight.proofs.KeptLaws.{going_step}
 use Rattle.core_parts.specs.InFlight.{asks_rate, is_probe, probes, is_near, may_raise, may_lower, may_seek, may_make, can_cut, cuts_behind, cuts_front, there_behind, is_script, is_front, IsUnderWay, changes_rate, links_clocks}
-use Rattle.core_parts.proofs.InFlight.{there_still, behind_seek, script_rest, own_going, raise_there, lower_there, PollsInFront, poll_in_front, cut_behind, cut_falls, raise_cuts, first_seeks}
+use Rattle.core_parts.proofs.InFlight.{there_still, behind_seek, script_rest, raise_there, lower_there, PollsInFront, poll_in_front, cut_behind, cut_falls, raise_cuts, first_seeks}
 
 -- ---- each step leaves it so
 
@@ -56,7 +58,7 @@ seeks_plain what there _ e = absurd cc
 
 pub under_way-none : (f : FlightState) (there : ℕ → Bool) (m : Micro) → own_step f ≡ Some m → may_seek f.call there m ≡ true → IsUnderWay there f → IsUnderWay there (found_none f)
 under_way-none f there m own seeks is =
-    let first = own_going f.going (own_first f f.front) m own in
+    let first = going_step f.going (own_first f f.front) m own in
     record {
       call_ = is.call_;
       script = script_rest f there f.front m first (no_end f.call there m seeks) (seeks_plain f.call there m seeks) is.script;
@@ -79,7 +81,7 @@ under_way-raised f there x y more own at is = by (nat_lt f.again f.plls) where
   may = raise_there f there x own is
 
   first : own_first f f.front ≡ Some (micro.Raise x)
-  first = own_going f.going (own_first f f.front) (micro.Raise x) own
+  first = going_step f.going (own_first f f.front) (micro.Raise x) own
 
   by : (t : Bool) → IsUnderWay there (if t then raised_once f x y more else found_none f)
   by true = record {
@@ -107,7 +109,7 @@ under_way-lowered f there x more own is = record {
   at = lower_there f there x own is
 
   first : own_first f f.front ≡ Some (micro.Lower x)
-  first = own_going f.going (own_first f f.front) (micro.Lower x) own
+  first = going_step f.going (own_first f f.front) (micro.Lower x) own
 
   either : (t : Bool) → is_front f.call there (if t then Lower x else front_behind f.raised f.front) ≡ true
   either true = at
@@ -254,19 +256,13 @@ falls_front what there [] told left may = by (nat_eq left 0) where
   by true = refl
   by false = may
 
-split_three : (a b c : Bool) → (a && b && c) ≡ true → (a ≡ true) × (b ≡ true) × (c ≡ true)
-split_three true true true e = (refl, refl, refl)
-split_three true true false e = absurd cc
-split_three true false c e = absurd cc
-split_three false b c e = absurd cc
-
 pub under_way-polled : (f : FlightState) (there : ℕ → Bool) (y : ClockId) (answer : Bool) → own_step f ≡ Some (micro.Poll y) → IsUnderWay there f → IsUnderWay there (polled_in f answer)
 under_way-polled f there y answer own is = by (is_last_no f.front answer) where
   in_front : PollsInFront f y
   in_front = poll_in_front f there y own is
 
   parts : (may_raise f.call ≡ true) × (is_near f.call there y.0 ≡ true) × (option_map_or (λ x. is_near f.call there x.0) in_front.again true ≡ true)
-  parts = split_three _ _ _ (ap (is_front f.call there) (sym in_front.front) ∙ is.front)
+  parts = three_true _ _ _ (ap (is_front f.call there) (sym in_front.front) ∙ is.front)
 
   behind : (b : Bool) → is_front f.call there (front_polled (Poll y in_front.polls in_front.again) b) ≡ true
   behind true = again_in in_front.again parts.2 where
@@ -297,7 +293,7 @@ under_way-polled f there y answer own is = by (is_last_no f.front answer) where
   }
   by false = record {
     call_ = is.call_;
-    script = script_rest f there f.front (micro.Poll y) (own_going f.going (own_first f f.front) (micro.Poll y) own) refl refl is.script;
+    script = script_rest f there f.front (micro.Poll y) (going_step f.going (own_first f f.front) (micro.Poll y) own) refl refl is.script;
     front = ap (λ (front : Front). is_front f.call there (front_polled front answer)) in_front.front ∙ behind answer;
     cut = ap (λ (front : Front). cuts_front f.call (script_behind front f.left) (front_polled front answer)) in_front.front ∙ still answer;
     raised = is.raised;
@@ -308,7 +304,7 @@ under_way-polled f there y answer own is = by (is_last_no f.front answer) where
 pub poll_there : (f : FlightState) (there : ℕ → Bool) (y : ClockId) → own_step f ≡ Some (micro.Poll y) → IsUnderWay there f → is_near f.call there y.0 ≡ true
 poll_there f there y own is =
     let in_front = poll_in_front f there y own is in
-    (split_three _ _ _ (ap (is_front f.call there) (sym in_front.front) ∙ is.front)).1
+    (three_true _ _ _ (ap (is_front f.call there) (sym in_front.front) ∙ is.front)).1
 
 -- falls in front
 pub record FallsInFront (f : FlightState) : Type 0 where
@@ -348,7 +344,7 @@ post_no_fall c old new (Some n) y e = absurd cc
 pub fall_untold : (rows : List NotifierRow) (f : FlightState) (y : ClockId) → comes_next rows f ≡ Some (micro.Fall y) → comes_next [] f ≡ Some (micro.Fall y)
 fall_untold rows f y e = ap (λ (o : Option Micro). if f.going then o else None) (by f.front refl) ∙ e where
   first : first_step rows f f.front ≡ Some (micro.Fall y)
-  first = own_going f.going (first_step rows f f.front) (micro.Fall y) e
+  first = going_step f.going (first_step rows f f.front) (micro.Fall y) e
 
   by : (front : Front) → f.front ≡ front → first_step [] f f.front ≡ first_step rows f f.front
   by Empty at = ap (first_step [] f) at ∙ sym (ap (first_step rows f) at)
@@ -361,7 +357,7 @@ fall_untold rows f y e = ap (λ (o : Option Micro). if f.going then o else None)
 pub fall_told : (rows : List NotifierRow) (f : FlightState) (y : ClockId) → comes_next [] f ≡ Some (micro.Fall y) → comes_next rows f ≡ Some (micro.Fall y)
 fall_told rows f y e = ap (λ (o : Option Micro). if f.going then o else None) (by f.front refl) ∙ e where
   first : first_step [] f f.front ≡ Some (micro.Fall y)
-  first = own_going f.going (first_step [] f f.front) (micro.Fall y) e
+  first = going_step f.going (first_step [] f f.front) (micro.Fall y) e
 
   by : (front : Front) → f.front ≡ front → first_step rows f f.front ≡ first_step [] f f.front
   by Empty at = ap (first_step rows f) at ∙ sym (ap (first_step [] f) at)
@@ -373,7 +369,7 @@ fall_told rows f y e = ap (λ (o : Option Micro). if f.going then o else None) (
 
 -- a fall that comes next stands in front, and is that of a clock that passes the test
 pub fall_in_front : (f : FlightState) (there : ℕ → Bool) (y : ClockId) → comes_next [] f ≡ Some (micro.Fall y) → IsUnderWay there f → FallsInFront f × (is_near f.call there y.0 ≡ true)
-fall_in_front f there y comes is = by f.front refl (own_going f.going (first_step [] f f.front) (micro.Fall y) comes) is.front where
+fall_in_front f there y comes is = by f.front refl (going_step f.going (first_step [] f f.front) (micro.Fall y) comes) is.front where
   drop : (told left : ℕ) (raised : List ℕ) → list_all (is_near f.call there) raised ≡ true → f.front ≡ Falls told left → fall_or_abort f.script told raised ≡ Some (micro.Fall y)
       → FallsInFront f × (is_near f.call there y.0 ≡ true)
   drop told left [] all at e = absurd (abort_no_fall (slice_get f.script told) y e)

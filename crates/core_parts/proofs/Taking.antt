@@ -1,5 +1,5 @@
 -- Plans over the first words of a bank, as many as a description was checked for, are those over all its words.
-use Rattle.std.proofs.Common.{◌≡◌, ℕ, zero, suc, Bool, true, false, not, ◌&&◌, ◌||◌, cond, List, [], ◌∷◌, Option, Some, None, refl, sym, ap, subst, ◌∙◌, take, set, get_or, map, nat_eq}
+use Rattle.std.proofs.Common.{◌≡◌, ℕ, zero, suc, Bool, true, false, ◌&&◌, cond, List, [], ◌∷◌, Option, Some, None, refl, sym, ap, subst, ◌∙◌, take, set, get_or, map, nat_eq}
 use Rattle.std.proofs.Math.Path.{fun_ext}
 use Rattle.std.specs.Prelude.{IfSome, if◌then◌else◌, nat_le, option_and_then, slice_index}
 use Rattle.std.specs.List.{list_all}
@@ -8,7 +8,6 @@ use Rattle.clk_base.specs.declared.clock.Kind.{Kind}
 use Rattle.clk_base.specs.declared.clock.Kind.TheVariants.{FixedRate, Factor, Gate, Mux, Divider, Pll}
 use Rattle.clk_base.specs.Description.{Description, kind_of}
 use Rattle.clk_base.specs.Fields.{Field}
-use Rattle.clk_base.specs.Flags.{sets_parent_gate, sets_rate_parent}
 use Rattle.clk_base.specs.Levels.{depth}
 use Rattle.clk_base.specs.Valid.{IsValid}
 use Rattle.kind_math.specs.Dividers.{div_setting}
@@ -16,15 +15,14 @@ use Rattle.kind_math.specs.Plls.{pll_multiplier}
 use Rattle.reg_bank.specs.Registers.{Registers, put, with_bits}
 use Rattle.clk_model.specs.declared.row.ClockRow.{ClockRow}
 use Rattle.clk_model.specs.declared.row.HandleRow.{HandleRow}
-use Rattle.clk_model.specs.Chain.{moves, place_of, select, setting, set_one, outcome, chain_from, chain_within, keeps_boundaries, chain}
-use Rattle.clk_model.specs.Kinds.{can_round, mux_field}
+use Rattle.clk_model.specs.Chain.{moves, place_of, select, setting, set_one, outcome, chain_within, keeps_boundaries, chain}
+use Rattle.clk_model.specs.Kinds.{mux_field}
 use Rattle.clk_model.specs.Lists.{is_at}
 use Rattle.clk_model.specs.Rate.{rate, style_of}
-use Rattle.clk_model.specs.Round.{Wiring, View, Rounded, rate_in, parent_rate_in, passes_on, round, round_rate}
+use Rattle.clk_model.specs.Round.{Wiring, View, Rounded, rate_in, parent_rate_in, round, round_rate}
 use Rattle.clk_model.specs.State.{ChainStep, link_in, registered}
 use Rattle.clk_model.specs.Walk.{walk}
-use Rattle.clk_model.proofs.PlanLaws.{step_of}
-use Rattle.clk_model.proofs.SameRateLaws.{tree_over, round_same}
+use Rattle.clk_model.proofs.SameSettingLaws.{outcome_defs, then_same, within_same}
 use Rattle.clk_tree.specs.TreeState.{TreeState}
 use Rattle.counts_core.specs.Counted.{CountState, is_guarded}
 use Rattle.rate_planner.specs.declared.rounded.Rounded as code
@@ -89,11 +87,6 @@ set_one-take n w k valid = ap (λ (regs : Registers). let v : Wiring = record w 
       ap (λ (rates : ℕ → ℕ). setting (kind_of w.defs k.clock) (option_map_or rates (link_in w.clocks k.clock) 0) k.rate (take n w.regs)) (rates-take n w valid)
       ∙ setting-take n (kind_of w.defs k.clock) (parent_rate_in w k.clock) k.rate w.regs
 
-pub outcome_defs : (ks : List ChainStep) (w : Wiring) → (outcome ks w).defs ≡ w.defs
-unfolding outcome
-outcome_defs [] w = refl
-outcome_defs (k ∷ ks) w = outcome_defs ks w
-
 outcome-take : (n : ℕ) (ks : List ChainStep) (w : Wiring) → IsValid n w.defs → outcome ks (first_words n w) ≡ first_words n (outcome ks w)
 unfolding outcome
 outcome-take n [] w valid = refl
@@ -106,42 +99,6 @@ out-take n ks w valid = ap rate_in (outcome-take n ks w valid) ∙ rates-take n 
 
 -- ---- chains
 
-then_same : {X Y : Type 0} (o : Option X) (f g : X → Option Y) → ((x : X) → f x ≡ g x) → option_and_then f o ≡ option_and_then g o
-then_same None f g each = refl
-then_same (Some x) f g each = each x
-
--- a step of a chain reads the rates of the tree alone
-from_same : (more : ℕ → ℕ → Option (List ChainStep)) (defs : Description) (clocks : List ClockRow) (old new : Registers) (view : View) (c x : ℕ) (r : Rounded) → rate defs new clocks ≡ rate defs old clocks
-    → chain_from more (tree_over defs clocks new) view c x r ≡ chain_from more (tree_over defs clocks old) view c x r
-from_same more defs clocks old new view c x r same =
-    ap (λ (rates : ℕ → ℕ). elim (moves clocks (step_of c r) && sets_parent_gate defs c && view.prepared c) [
-      | true ↦ None
-      | false ↦ elim (sets_rate_parent defs c && not (is_at r.parent_rate (option_map rates r.parent))) [
-        | true ↦ option_map (λ ks. step_of c r ∷ ks) (option_and_then (λ p. more p (if can_round (kind_of defs c) then r.parent_rate else x)) r.parent)
-        | false ↦ Some (step_of c r ∷ [])
-      ]
-    ]) same
-
--- two chains are the same
-abbrev SameChain : Option (List ChainStep) → Option (List ChainStep) → Type 0
-SameChain a b = a ≡ b
-
-within_same : (levels : ℕ) (defs : Description) (clocks : List ClockRow) (old new : Registers) (view : View) → rate defs new clocks ≡ rate defs old clocks
-    → chain_within levels (tree_over defs clocks new) view ≡ chain_within levels (tree_over defs clocks old) view
-within_same zero defs clocks old new view same = refl
-within_same (suc levels) defs clocks old new view same = fun_ext (λ c. fun_ext (λ x. by_rounding c x (within_same levels defs clocks old new view same) (can_round (kind_of defs c) || passes_on (tree_over defs clocks old) c))) where
-  more : Registers → ℕ → ℕ → Option (List ChainStep)
-  more regs = chain_within levels (tree_over defs clocks regs) view
-
-  by_rounding : (c x : ℕ) → more new ≡ more old → (t : Bool) → SameChain
-      (elim t [ false ↦ None | true ↦ option_and_then (λ r. chain_from (more new) (tree_over defs clocks new) view c x r) (round (tree_over defs clocks new) view c x) ])
-      (elim t [ false ↦ None | true ↦ option_and_then (λ r. chain_from (more old) (tree_over defs clocks old) view c x r) (round (tree_over defs clocks old) view c x) ])
-  by_rounding c x rest false = refl
-  by_rounding c x rest true =
-      ap (λ (o : Option Rounded). option_and_then (λ r. chain_from (more new) (tree_over defs clocks new) view c x r) o) (round_same defs clocks old new view c x same)
-      ∙ then_same (round (tree_over defs clocks old) view c x) (chain_from (more new) (tree_over defs clocks new) view c x) (chain_from (more old) (tree_over defs clocks old) view c x)
-      (λ r. ap (λ (m : ℕ → ℕ → Option (List ChainStep)). chain_from m (tree_over defs clocks new) view c x r) rest ∙ from_same (more old) defs clocks old new view c x r same)
-
 -- so the plan over the first words is that over all
 pub chain-take : (n : ℕ) (w : Wiring) (view : View) (c x : ℕ) → IsValid n w.defs → chain (first_words n w) view c x ≡ chain w view c x
 unfolding chain
@@ -149,7 +106,7 @@ chain-take n w view c x valid =
     ap (λ (m : ℕ → ℕ → Option (List ChainStep)). option_and_then (λ ks. if keeps_boundaries (first_words n w) view ks then Some ks else None) (m c x))
     (within_same depth w.defs w.clocks w.regs (take n w.regs) view (rates-take n w valid))
     ∙ then_same (chain_within depth w view c x) (λ ks. if keeps_boundaries (first_words n w) view ks then Some ks else None) (λ ks. if keeps_boundaries w view ks then Some ks else None)
-    (λ ks. ap (λ (after : ℕ → ℕ). if list_all (λ k. let r = after k.clock in nat_le (view.low k.clock) r && nat_le r (view.high k.clock)) ks then Some ks else None) (out-take n ks w valid))
+    (λ ks some. ap (λ (after : ℕ → ℕ). if list_all (λ k. let r = after k.clock in nat_le (view.low k.clock) r && nat_le r (view.high k.clock)) ks then Some ks else None) (out-take n ks w valid))
 
 -- and so are the rates of its walk
 pub walked-take : (n : ℕ) (order : List ℕ) (w : Wiring) (ks : List ChainStep) → IsValid n w.defs → walked_rates order (first_words n w) ks ≡ walked_rates order w ks

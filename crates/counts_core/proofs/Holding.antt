@@ -26,7 +26,7 @@ use Rattle.clk_model.proofs.RootLaws.{both_from}
 -- ---- sums and holders
 
 -- the last link of a way
-last_link : (up : ℕ → Option ℕ) (n h c : ℕ) → Rises up (suc n) h c → (d : ℕ) × Rises up n h d × (up d ≡ Some c)
+pub last_link : (up : ℕ → Option ℕ) (n h c : ℕ) → Rises up (suc n) h c → (d : ℕ) × Rises up n h d × (up d ≡ Some c)
 last_link up zero h c way = (h, refl, way.1 ∙ ap (λ (x : ℕ). Some x) way.2)
 last_link up (suc n) h c way = let rest = last_link up n way.0 c way.2 in (rest.0, (way.0, way.1, rest.1), rest.2)
 
@@ -58,7 +58,8 @@ count_some t (x ∷ xs) some =
           count_some t xs (omega arith)
     ] refl
 
-some_counted : (t : ℕ → Bool) (xs : List ℕ) (x : ℕ) → is_in x xs ≡ true → t x ≡ true → 0 < count_by t xs
+-- one that passes is counted
+pub some_counted : (t : ℕ → Bool) (xs : List ℕ) (x : ℕ) → is_in x xs ≡ true → t x ≡ true → 0 < count_by t xs
 some_counted t [] x m pass = absurd cc
 some_counted t (y ∷ ys) x m pass =
     let whole = count_step t y ys in

@@ -28,7 +28,7 @@ use Rattle.clk_model.proofs.WalkLaws.{either_way}
 
 -- ---- parts that aren't 0
 
-positive_both : (a b : ℕ) → nat_lt 0 (a + b) ≡ (nat_lt 0 a || nat_lt 0 b)
+pub positive_both : (a b : ℕ) → nat_lt 0 (a + b) ≡ (nat_lt 0 a || nat_lt 0 b)
 positive_both a b = ⊎_elim
     (λ (some : 0 < a). counting (a + b) (omega arith) ∙ sym (ap (λ (t : Bool). t || nat_lt 0 b) (counting a some)))
     (λ (none : a ≤ 0). let zero_ : a ≡ 0 = omega arith in ap (λ (n : ℕ). nat_lt 0 (n + b)) zero_ ∙ ap (nat_lt 0) (unit b) ∙ sym (ap (λ (n : ℕ). nat_lt 0 n || nat_lt 0 b) zero_))
@@ -84,7 +84,7 @@ in_passing t c n within =
     either_way (is_in c (filter t (count_from 0 n))) (t c) (filter_passes t c (count_from 0 n))
     (λ e. let less = within e in filter_keeps t c (count_from 0 n) e (is_in-count_from c 0 n (omega arith) (omega arith)))
 
-gate_within : (defs : Description) (c : ℕ) → sets_rate_gate defs c ≡ true → c < length defs
+pub gate_within : (defs : Description) (c : ℕ) → sets_rate_gate defs c ≡ true → c < length defs
 gate_within defs c e =
     ⊎_elim (λ (within : c < length defs). within) (λ (past : length defs ≤ c). absurd (false≢true (sym (past_flag defs c past) ∙ e))) (cases_lt c (length defs))
 

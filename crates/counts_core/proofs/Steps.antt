@@ -1,9 +1,9 @@
 -- Laws on a walk: each step of it, up and down, and its end.
-use Rattle.std.proofs.Common.{◌≡◌, ℕ, zero, suc, ◌+◌, ◌<◌, ◌≤◌, ◌||◌, Bool, true, false, cond, List, Option, Some, None, refl, sym, ap, ◌∙◌, subst, ◌⊎◌, inl, inr, add-one, arith, length, set, get_or, nat_eq, nat_lt}
+use Rattle.std.proofs.Common.{◌≡◌, ℕ, zero, suc, ◌+◌, ◌-◌, ◌<◌, ◌≤◌, ◌||◌, Bool, true, false, cond, List, Option, Some, None, refl, sym, ap, ◌∙◌, subst, ◌⊎◌, inl, inr, add-one, arith, length, set, get_or, nat_eq, nat_lt}
 use Rattle.std.specs.Option.{option_map}
 use Rattle.std.proofs.lemmas.Bool.{false≢true}
 use Rattle.std.proofs.lemmas.Bool.Decides.{nat_tests}
-use Rattle.std.proofs.lemmas.List.{length-set}
+use Rattle.std.proofs.lemmas.List.{length-set, get_or-set_same}
 use Rattle.clk_base.specs.declared.clock.ClockId.{ClockId}
 use Rattle.clk_model.specs.Lists.{is_in}
 use Rattle.clk_model.specs.Tree.{path_within}
@@ -11,7 +11,7 @@ use Rattle.clk_model.proofs.Members.{or_cases, not_either, same_from_test, test_
 use Rattle.clk_model.proofs.PathLaws.{above}
 use Rattle.clk_model.proofs.BelowLaws.{Rises, rises_on}
 use Rattle.counts_core.specs.Sums.{up_in, leads, one, mark, kids, OneMore, Begins}
-use Rattle.counts_core.proofs.Walking.{kids-set, count-set, count-more, kids-begun, kids-more, mark-more, mark-none, mark-first}
+use Rattle.counts_core.proofs.Walking.{zeros, zeros-stopped, kids-set, count-set, count-more, kids-begun, kids-more, mark-more, mark-none, mark-first}
 use Rattle.counts_core.proofs.Definitions.{counts_true}
 
 -- ---- one count
@@ -66,6 +66,20 @@ steps_down links now a v size within is = record {
       let same = mark-more (leads d (get_or links a None)) v (omega arith) in
       let step = changed d in
       omega arith
+
+-- so a clock that has a count is left with one less
+pub steps_less : (links : List (Option ClockId)) (now : List ℕ) (at : ℕ) → length links ≡ length now → at < length now → 0 < get_or now at 0 → Steps links (set now at (get_or now at 0 - 1)) now at
+steps_less links now at size within some = steps_down links now at (get_or now at 0 - 1) size within (omega arith)
+
+-- the count that stands there then
+pub less_there : (now : List ℕ) (at v : ℕ) → at < length now → get_or (set now at v) at 0 ≡ v
+less_there now at v within = get_or-set_same now at v 0 within
+
+-- where it was the last, one clock more has none
+pub zeros_more : (now : List ℕ) (at : ℕ) → at < length now → 0 < get_or now at 0 → get_or now at 0 ≤ 1 → zeros (set now at (get_or now at 0 - 1)) ≡ zeros now + 1
+zeros_more now at within some few =
+    let none : get_or now at 0 - 1 ≡ 0 = omega arith in
+    ap (λ (v : ℕ). zeros (set now at v)) none ∙ zeros-stopped now at within (omega arith)
 
 -- ---- the clocks of the walk
 

@@ -16,6 +16,7 @@ use Rattle.clk_model.specs.Ordered.{Progress, at_start, unskipped, is_atomic, ca
 use Rattle.clk_model.specs.State.{State}
 use Rattle.clk_model.specs.Tier.{is_step}
 use Rattle.clk_model.proofs.Members.{test_same}
+use Rattle.clk_model.proofs.WalkLaws.{is_at_same}
 use Rattle.clk_machine.specs.Run.{Run}
 use Rattle.drv_scripts.specs.Placed.{IsScript}
 use Rattle.drv_scripts.specs.declared.bundle.Script.{Script}
@@ -175,10 +176,6 @@ some_at d (Some k) is = refl
 same_number : (d k : ℕ) → nat_eq k d ≡ true → k ≡ d
 same_number d k is = grind (arith, nat_tests)
 
-going_is : (d : ℕ) (going : Option ℕ) → is_at d going ≡ true → going ≡ Some d
-going_is d None is = absurd cc
-going_is d (Some k) is = ap (λ (n : ℕ). Some n) (same_number d k is)
-
 -- less is left to do behind an event, where the driver's call isn't in flight then
 pub effort_less : (old new : Run) (drivers : List Script) (xs xs' : List Standing) (going going' : Option ℕ) (d : ℕ) → 0 < d → MovesAt old drivers xs going d new xs' going'
     → effort drivers xs' going' + (if is_at d going' then 0 else 1) ≤ effort drivers xs going
@@ -195,7 +192,7 @@ effort_less old new drivers xs xs' going going' d some moves =
       none_at None was now others = refl
       none_at (Some k) was now others =
           let here : is_at k going ≡ true = sym (others k apart) ∙ test_same k in
-          let own_ : is_at k (Some d) ≡ true = ap (is_at k) (sym (going_is d going was)) ∙ here in
+          let own_ : is_at k (Some d) ≡ true = ap (is_at k) (sym (is_at_same d going was)) ∙ here in
           absurd (apart (sym (same_number k d own_))) where
             apart : k ≢ d
             apart same = let no : nat_eq k d ≡ true = ap (λ (n : ℕ). nat_eq n d) same ∙ test_same d in cc
@@ -240,7 +237,7 @@ pub next_on : (old new : Run) (drivers : List Script) (xs xs' : List Standing) (
 next_on old new drivers xs xs' going going' d next moves flies =
     let event = moves.event in
     let same : xs' ≡ xs = moves.others ∙ ap (slice_set xs (d - 1)) (event.same flies) ∙ set_same xs (d - 1) moves.before moves.before_is in
-    let now = going_is d going' flies in
+    let now = is_at_same d going' flies in
     subst (λ (ys : List Standing). IsNextAt going' drivers ys d) (sym same) (subst (λ (o : Option ℕ). IsNextAt o drivers xs d) (sym now) record {
       some = next.some;
       within = next.within;
@@ -251,7 +248,7 @@ next_on old new drivers xs xs' going going' d next moves flies =
       lower = λ k some less. by (is_at d going) refl k some less;
     }) where
       by : (b : Bool) → is_at d going ≡ b → (k : ℕ) → 0 < k → k < d → can_move_at (Some d) drivers xs k ≡ false
-      by true was k some less = ap (λ (o : Option ℕ). can_move_at o drivers xs k) (sym (going_is d going was)) ∙ next.lower k some less
+      by true was k some less = ap (λ (o : Option ℕ). can_move_at o drivers xs k) (sym (is_at_same d going was)) ∙ next.lower k some less
       by false was k some less =
           waits_at d k drivers xs (other_at d k less)
           (ap (λ (o : Option ℕ). can_move_at o drivers xs k) (sym (moves.event.waits flies was)) ∙ next.lower k some less)

@@ -1,5 +1,5 @@
 use Rattle.std.proofs.Math.Path.{fun_ext}
-use Rattle.std.proofs.Common.{◌≡◌, ◌∙◌, ap, ◌<◌, ◌≤◌, ℕ, List, [], ◌∷◌, Option, sym, subst, length, arith}
+use Rattle.std.proofs.Common.{◌≡◌, ◌∙◌, ap, ◌<◌, ℕ, List, [], Option, sym, subst, length}
 use Rattle.std.specs.Prelude.{is_some, IfOk, IfErr}
 use Rattle.std.specs.List.{AllByRecursion}
 use Rattle.clk_base.proofs.Valid.{length-valid}
@@ -8,12 +8,8 @@ use Rattle.reg_bank.specs.Locks.{most_plls}
 use Rattle.reg_bank.specs.declared.pll_lock.PllLock.{PllLock}
 use Rattle.clk_run.specs.Arming.{armed_by}
 use Rattle.clk_run.specs.Runs.{telling, Printed, LeftByFault}
+use Rattle.clk_run.proofs.LocksPlaced.{locks_few}
 use Rattle.clk_run.proofs.side_by_side.run_bundle.Goals as goal
-
--- the PLLs of a description are among those that a bank has
-locks_few : (n : ℕ) (locks : List LockLine) → n ≤ most_plls → AllByRecursion (λ l. l.clock.0 < n) locks → AllByRecursion (λ l. l.clock.0 < most_plls) locks
-locks_few n [] few all = tt
-locks_few n (l ∷ locks) few all = (let low = all.0 in omega (arith, low, few), locks_few n locks few all.1)
 
 pub arm_locks-requires : goal.arm_locks-requires
 arm_locks-requires g c =

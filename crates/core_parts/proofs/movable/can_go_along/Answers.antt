@@ -6,14 +6,14 @@ use Rattle.clk_model.specs.State as state
 use Rattle.clk_tree.specs.declared.chain.ChainStep.{ChainStep}
 use Rattle.clk_tree.specs.Plans.{chain_of}
 use Rattle.rate_planner.specs.Chains.{step_of}
+use Rattle.change_walk.proofs.Rests.{rest_of}
 use Rattle.core_parts.specs.Movable.{can_go}
-use Rattle.core_parts.proofs.Setting.{drop_mapped}
 use Rattle.core_parts.proofs.movable.can_go_along.Goals as goal
 
 -- whether those that are left pass is up to the first
 first_left : (test : state.ChainStep → Bool) (chain : List ChainStep) (k : ℕ) (s : ChainStep) → slice_get chain k ≡ Some s
     → list_all test (drop k (chain_of chain)) ≡ (test (step_of s) && list_all test (drop (k + 1) (chain_of chain)))
-first_left test chain k s at = ap (λ (ks : List state.ChainStep). list_all test ks) (drop_mapped step_of chain k s at)
+first_left test chain k s at = ap (λ (ks : List state.ChainStep). list_all test ks) (rest_of step_of chain k s at)
 
 pub returns-then-not-can_go : goal.returns-then-not-can_go
 returns-then-not-can_go c =

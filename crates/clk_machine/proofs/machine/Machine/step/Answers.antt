@@ -1,4 +1,4 @@
-use Rattle.std.proofs.Common.{◌≡◌, ◌&&◌, Bool, true, false, Some, refl, subst}
+use Rattle.std.proofs.Common.{Some, subst}
 use Rattle.clk_base.specs.declared.call.Micro.{Micro}
 use Rattle.clk_machine.specs.Making.{ComesNext}
 use Rattle.clk_machine.proofs.Joining.{may_join}
@@ -6,6 +6,7 @@ use Rattle.clk_machine.proofs.LinkSteps.{may_link}
 use Rattle.clk_machine.proofs.Selecting.{may_select}
 use Rattle.clk_model.specs.State.{registered}
 use Rattle.clk_model.proofs.Members.{both_right}
+use Rattle.clk_model.proofs.RootLaws.{both_from}
 use Rattle.core_parts.proofs.InFlight.{raise_there, lower_there}
 use Rattle.clk_machine.proofs.machine.Machine.step.Goals as goal
 
@@ -21,24 +22,19 @@ lower-requires-clause-there g c =
     let next = subst (λ (step : Micro). ComesNext m (Some step)) c.in-Some-Lower.field-0-is c.in-Some-Lower.ensures.next in
     both_right _ _ (lower_there m.flight (registered m.tree.clocks) c.in-Some-Lower.clock next.0 (c.in-Some-Lower.ensures.whole.flown c.requires).way)
 
-both : (a b : Bool) → a ≡ true → b ≡ true → (a && b) ≡ true
-both true true e f = refl
-both true false e f = absurd cc
-both false b e f = absurd cc
-
 pub returns-in-Some-Relink-clause-links : goal.returns-in-Some-Relink-clause-links
 returns-in-Some-Relink-clause-links g c =
     let m = c.args.self.now in
     let next = subst (λ (step : Micro). ComesNext m (Some step)) c.in-Some-Relink.field-0-is c.in-Some-Relink.ensures.next in
     let may = may_link m c.in-Some-Relink.clock c.in-Some-Relink.parent c.in-Some-Relink.ensures.whole c.requires next.0 in
-    both _ _ may.there may.possible
+    both_from _ _ may.there may.possible
 
 pub returns-in-Some-WriteMux-clause-links : goal.returns-in-Some-WriteMux-clause-links
 returns-in-Some-WriteMux-clause-links g c =
     let m = c.args.self.now in
     let next = subst (λ (step : Micro). ComesNext m (Some step)) c.in-Some-WriteMux.field-0-is c.in-Some-WriteMux.ensures.next in
     let may = may_select m c.in-Some-WriteMux.clock c.in-Some-WriteMux.place c.in-Some-WriteMux.ensures.whole c.requires next.0 in
-    both _ _ may.linked_ may.within
+    both_from _ _ may.linked_ may.within
 
 pub returns-in-Some-Register-clause-links : goal.returns-in-Some-Register-clause-links
 returns-in-Some-Register-clause-links g c =
