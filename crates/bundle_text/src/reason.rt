@@ -11,7 +11,7 @@ pub enum Reason {
     BadVersion,
     /// A line with words stands before the first header.
     StrayLine,
-    /// A header with another first word.
+    /// A header whose first word is that of no section.
     UnknownSection,
     /// Wrong words behind a header's first.
     BadHeader,
@@ -37,7 +37,7 @@ pub enum Reason {
     TooDeep,
     /// A reference to a label that isn't there.
     NoSuchLabel,
-    /// A provider without a known string.
+    /// A provider without a known string in its `compatible`.
     UnknownCompatible,
     /// A provider with a wrong number of cells.
     NoCells,

@@ -11,11 +11,11 @@ pub struct Cli {
 /// The command.
 #[derive(Clone, Copy, Debug, PartialEq, Eq)]
 pub enum Mode {
-    /// Registers the clocks. (Assigned clocks are read and then refused as not run yet.)
+    /// Boot alone: it registers the clocks that aren't late, and does what nodes assign.
     Check,
-    /// Then the drivers, on one thread.
+    /// Boot, and then the drivers, on one thread.
     Sim,
-    /// Then the drivers, each in a thread of its own.
+    /// Boot, and then the drivers, each in a thread of its own.
     Run,
     /// A generated bundle of so many drivers, each in a thread of its own.
     Bench(u32),

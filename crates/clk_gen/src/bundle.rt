@@ -50,7 +50,7 @@ fn words_line(alloc: Global, drivers: u32) -> Result<String, NoMemory>
     Ok(format!(in alloc; "%regs {words}\n")?)
 }
 
-/// The bundle of so many drivers, with 404 commands each.
+/// The text of the bundle of so many drivers, with 404 commands each, or `NoMemory`.
 #[tactic(auto, unfolding(crate::specs::Generated::generated))]
 pub fn generated(alloc: Global, drivers: u32) -> Result<String, NoMemory>
     // There are at most 64.

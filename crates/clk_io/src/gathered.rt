@@ -70,7 +70,7 @@ impl Gathered {
         Ok(written?)
     }
 
-    /// Writes what is gathered.
+    /// Writes what is gathered, or a front of it where a write fails.
     pub fn finish<K: Sink>(self, out: &mut K) -> Result<(), WriteFault>
         ensures prints { Prints (K.written out.old) (K.written out.new) self result }
         ensures tells { is_some (K.written out.new) ≡ is_some (K.written out.old) }

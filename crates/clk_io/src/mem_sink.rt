@@ -84,7 +84,8 @@ impl Sink for MemSink {
         ensures later { self.old.faults ≤ self.new.faults }
         ensures counts { CountsFault self.old.faults self.new.faults result }
 
-        // It fails exactly where that was arranged or no room is left, and else takes as much as it can.
+        // It fails exactly where that was arranged or no room is left, and else takes as much as it
+        // can.
         ensures fails { is_ok result ≡ not (is_listed self.old.fail_at (counted self.old.calls) || (self.old.room == 0)) }
         ensures most { IfOk result (λ n. n ≡ min (min (length bytes.now) self.old.most) self.old.room) }
         ensures after { MatchResult result (λ n. self.new ≡ taken_after self.old (take n bytes.now)) (λ _. self.new ≡ taken_failed self.old) }

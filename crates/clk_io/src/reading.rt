@@ -6,7 +6,7 @@ use crate::faults::ReadFault;
 use crate::sources::Source;
 use std::alloc::Global;
 
-/// The most bytes that `read_all` takes.
+/// The most bytes that `read_all` gives.
 pub const MOST_BYTES: usize = 16_777_216;
 
 /// How many bytes one read may give.

@@ -131,11 +131,12 @@ IsStep defs (micro.Close c) = c.0 < length defs
 IsStep defs (micro.Unpower c) = c.0 < length defs
 IsStep defs micro.End = Unit {0}
 
--- so does the event, and a poll has an answer
+-- a poll has an answer
 abbrev pub IsPolled : Micro → Option Bool → Type 0
 IsPolled (micro.Poll y) None = ⊥
 IsPolled m answer = Unit {0}
 
+-- so does the event, and a poll in it has an answer
 abbrev pub IsEvent : Description → Event → Type 0
 IsEvent defs (event.Enable number) = IsNumber number
 IsEvent defs (event.Disable number) = IsNumber number

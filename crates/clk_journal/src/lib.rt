@@ -3,6 +3,8 @@
 //!
 //! Each place where text is made has a type of its own whose `Display` states the bytes that it
 //! writes. A printer formats one line at a time and hands it to a `Gathered`, which writes pieces.
+//! It answers `Write` where the sink fails and `NoMemory` where memory runs out; a front of its text
+//! may have been written then.
 #![tactic(auto)]
 
 mod answers;

@@ -28,6 +28,7 @@ fn no_parents<'w, 'a>() -> &'w [&'a str]
     &[]
 }
 
+// What words say, or what is wrong with them.
 type Said<'w, 'a> = Result<LineClock<'w, 'a>, Reason>;
 
 // The clock of this name and with these parents, where its kind and its flags can be read.

@@ -42,7 +42,7 @@ impl DriverName {
     }
 }
 
-/// A PLL whose lock answers yes from this poll on.
+/// A PLL whose lock answers yes from this poll on after it was powered.
 #[derive(Clone, Copy, Debug, PartialEq, Eq)]
 pub struct LockLine {
     pub clock: ClockId,

@@ -24,6 +24,7 @@ pub(crate) enum CommandLine<'a> {
     Sweeps,
 }
 
+// What words say, or what is wrong with them.
 type Said<'a> = Result<CommandLine<'a>, Reason>;
 
 // The act of a command that is a first word and a variable.

@@ -1,9 +1,10 @@
 //! The bundle: what its bytes spell, or the first reason why they spell none.
 //!
 //! A bundle is a text of sections: the clocks, the words of the register bank, the delays of locks,
-//! late clocks, drivers with their commands, and the order of their turns. `read_bundle` reads it whole: clocks become a valid description, names of clocks
-//! places in it, and variables numbers. `specs/` says which bytes spell which bundle, by lines and
-//! their places in the whole text; `one_verdict` is the law that bytes have one verdict.
+//! late clocks, drivers with their commands, and the order of their turns. `read_bundle` reads it
+//! whole: clocks become a valid description, names of clocks places in it, and variables numbers.
+//! `specs/` says which bytes spell which bundle, by lines and their places in the whole text;
+//! `one_verdict` is the law that bytes have one verdict.
 #![tactic(auto)]
 
 mod bank_section;

@@ -23,7 +23,7 @@ row_named text =
     else (if bytes_eq text (codes "bank,pll-clock") then Some Pll
     else None))))))
 
--- the row that a string names
+-- the row that a value names
 abbrev pub row_in : SeenValue → Option Row
 row_in (SeenText text) = row_named text
 row_in other = None

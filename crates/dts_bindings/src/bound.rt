@@ -17,7 +17,7 @@ pub enum Wants {
 /// A clock of a provider.
 #[derive(Debug, Drop)]
 pub struct BoundClock {
-    /// Its name, which isn't judged yet.
+    /// Its name, which isn't judged here.
     pub name: String,
     /// The cell that means it in a specifier; 0 where specifiers have no cell.
     pub identifier: u32,

@@ -8,7 +8,7 @@ use clk_io::NoMemory;
 use std::error::Error;
 use std::fmt;
 
-/// Why a provider's node binds no clocks. The earlier one is told.
+/// Why a provider's node binds no clocks. Of several the first in this order is told.
 #[derive(Clone, Copy, Debug, PartialEq, Eq)]
 pub enum BindingFault {
     /// No string of `compatible` is in the table.

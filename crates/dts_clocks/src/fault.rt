@@ -14,7 +14,7 @@ use std::fmt;
 pub enum DtsFault {
     /// A provider without a known string in its `compatible`.
     UnknownCompatible(u32),
-    /// A provider whose `#clock-cells` isn't the one cell that its kind asks for.
+    /// A provider whose `#clock-cells` isn't one cell, or isn't the number that its kind asks for.
     NoCells(u32),
     /// A property that is missing or hasn't its form.
     MissingProperty(u32),
@@ -24,7 +24,8 @@ pub enum DtsFault {
     TwiceNamed(u32),
     /// A specifier that can't be read or names no clock, or a name without a specifier.
     BadSpecifier(u32),
-    /// A list that is longer than that of the assigned clocks, or too many entries in all.
+    /// A list of parents or rates without assigned clocks or longer than theirs, or too many entries
+    /// in all.
     BadAssigned(u32),
     /// Memory ran out.
     NoMemory,

@@ -37,7 +37,7 @@ pub struct Assigned {
     pub steps: Vec<AssignedStep>,
 }
 
-/// A new parent or rate of a clock.
+/// A new parent of a clock, or a new rate in Hz.
 #[derive(Clone, Copy, Debug, PartialEq, Eq)]
 pub enum AssignedStep {
     Parent { clock: ClockId, parent: ClockId },

@@ -26,7 +26,7 @@ use dts_bindings::{Binding, BoundClock};
 use dts_tree::DtsNode;
 use std::alloc::Global;
 
-/// The most clocks that have numbers.
+/// The greatest number of a clock; the first one is 0.
 const MOST_CLOCKS: usize = 4_294_967_294;
 
 // A clock more, with a name that no clock has.

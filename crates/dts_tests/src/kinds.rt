@@ -13,6 +13,7 @@ struct Case {
     needed: bool,
 }
 
+// A property that has to be there.
 const fn needed(good: &'static str, bad: &'static str) -> Case {
     Case {
         good,
@@ -21,6 +22,7 @@ const fn needed(good: &'static str, bad: &'static str) -> Case {
     }
 }
 
+// A property that may be left out.
 const fn optional(good: &'static str, bad: &'static str) -> Case {
     Case {
         good,

@@ -58,18 +58,21 @@ fn sign_mark(byte: u8) -> Mark
     }
 }
 
+// Each character is one of labels.
 fn all_of_label(word: &[u8]) -> bool
     ensures { result ≡ list_all is_label_character word.now }
 {
     word.iter().all(|byte| is_label_character(*byte))
 }
 
+// Each character is one of names.
 fn all_of_name(word: &[u8]) -> bool
     ensures { result ≡ list_all is_name_character word.now }
 {
     word.iter().all(|byte| is_name_character(*byte))
 }
 
+// Each character is a hexadecimal digit, of either case.
 fn all_hexadecimal(word: &[u8]) -> bool
     ensures { result ≡ list_all is_ascii_hexdigit word.now }
 {
