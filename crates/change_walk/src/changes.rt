@@ -136,7 +136,7 @@ pub(crate) fn changes(
     Ok(())
 }
 
-/// The clocks whose rates a plan changes, in its walk's order.
+/// The clocks whose rates a plan changes, in its walk's order. Want of memory is its one refusal.
 pub fn changed_clocks(alloc: Global, tree: &Tree, plan: &Plan) -> Result<Vec<Changed>, NoMemory>
     requires there { AreThere tree.now.clocks plan.now.rates }
     ensures changed { IfOk result (λ clocks. (held : ℕ → Bool) (lists : List (List Notifier)) → OfPlan tree.now held lists plan.now (λ s. clocks.items ≡ map (changed_in s plan.now.chain) (planned_by s plan.now).changing)) }

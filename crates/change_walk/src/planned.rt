@@ -119,8 +119,8 @@ fn weigh_steps(notifiers: &Notifiers, plls: u32, steps: &[Micro], tells: bool) -
 }
 
 /// Makes the script of a plan, in place of the one that was made last: the notices before the change;
-/// where one vetoes those that it is called off, else each clock of the walk with its move and its visit;
-/// and the end.
+/// where one vetoes those that it is called off, else each clock of the walk with its move and its
+/// visit, and of a change of parent the settling of its clock; and the end.
 ///
 /// It costs what the walk and the notices cost. Where memory runs out, what is left of the script says
 /// nothing. What it is made of is said of each plan; that it is the script of the definitions, of a plan

@@ -11,6 +11,7 @@ use Rattle.clk_base.specs.declared.clock.Kind.{Kind}
 use Rattle.clk_base.specs.declared.clock.Kind.TheVariants.{FixedRate}
 use Rattle.clk_base.specs.declared.flags.ClkFlags.{ClkFlags}
 
+-- the records of the clocks
 abbrev pub Description : Type 0
 Description = List ClockDef
 
@@ -22,6 +23,7 @@ nobody = record { name = []; kind = FixedRate 0; flags = record { 0 = 0 }; paren
 abbrev pub def_of : Description → ℕ → ClockDef
 def_of defs c = slice_index_or defs c nobody
 
+-- the name, the kind and the flags of a clock
 abbrev pub name_of : Description → ℕ → List ℕ
 name_of defs c = (def_of defs c).name
 

@@ -16,6 +16,7 @@ clock name kind parents = record { name = name; kind = kind; flags = record { 0 
 abbrev pub passing : List ℕ → Kind → List ℕ → ClockDef
 passing name kind parents = record { name = name; kind = kind; flags = record { 0 = 4 }; parents = parents }
 
+-- all rules, in their order
 abbrev pub rules : List Rule
 rules = counts ∷ ranges ∷ bank ∷ apart ∷ acyclic ∷ levels ∷ bounded ∷ []
 
@@ -23,6 +24,7 @@ rules = counts ∷ ranges ∷ bank ∷ apart ∷ acyclic ∷ levels ∷ bounded 
 abbrev pub kept : ℕ → Description → ℕ → List Bool
 kept words defs c = map (λ rule. keeps rule words defs c) rules
 
+-- what a clock that keeps every rule gives
 abbrev pub all_kept : List Bool
 all_kept = true ∷ true ∷ true ∷ true ∷ true ∷ true ∷ true ∷ []
 

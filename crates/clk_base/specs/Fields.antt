@@ -25,6 +25,7 @@ pub record PowerBit : Type 0 where
 abbrev pub bit_field : ℕ → ℕ → Field
 bit_field word bit = record { word = word; shift = bit; width = 1 }
 
+-- the bit of a gate; none of another kind
 abbrev pub gate_of : Kind → Option GateBit
 gate_of (FixedRate rate) = None
 gate_of (Factor mult div) = None
@@ -33,6 +34,7 @@ gate_of (Mux word shift width read_only) = None
 gate_of (Divider word shift width one_based power_of_two) = None
 gate_of (Pll word shift width power_word power_bit least most m) = None
 
+-- the power bit of a PLL; none of another kind
 abbrev pub power_of : Kind → Option PowerBit
 power_of (FixedRate rate) = None
 power_of (Factor mult div) = None

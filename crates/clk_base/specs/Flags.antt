@@ -1,4 +1,4 @@
--- The flags of a clock, each as a test. The bits are Linux's flags in the order of `ClkFlags`.
+-- The flags of a clock, each as a test. They are Linux's flags, one bit each in the order of `ClkFlags`.
 use Rattle.std.specs.Prelude.{ℕ, Bool, ◌==◌}
 use Rattle.std.specs.Int.RustNames.{bit_and}
 use Rattle.clk_base.specs.declared.flags.ClkFlags.{ClkFlags}

@@ -30,5 +30,6 @@ work_within defs (suc levels) c =
     work_of (kind_of defs c) (sets_rate_parent defs c) (length (parents_of defs c))
     (sum_by (work_within defs levels) (parents_of defs c))
 
+-- the work of a clock, whose lines of possible parents are cut where the longest valid one ends
 abbrev pub work : Description → ℕ → ℕ
 work defs c = work_within defs depth c

@@ -23,15 +23,18 @@ impl Desc {
     }
 
     /// The description as a valid one for a register bank of so many words, or the first clock that
-    /// breaks the first of the rules that is broken. After a refusal the description is gone.
+    /// breaks the first of the rules that is broken. After a refusal the description is gone. Want
+    /// of memory may come at any description.
     pub fn check(self, alloc: Global, words: u32) -> Result<ValidDesc, DescFault>
-        // Each clock has as many possible parents as its kind can have, and each is a clock of the description.
+        // Each clock has as many possible parents as its kind can have, and each is a clock of the
+        // description.
         requires { EachClock self (has_its_parents self) }
         // What is made is the description, checked for so many words.
         ensures ok { IfOk result (λ desc. desc ≡ record { defs = self; words = words }) }
         // It is valid for so many words.
         ensures valid { OnOk result (IsValid words self) }
-        // A fault names the first clock that breaks the first rule that a clock breaks; want of memory says nothing.
+        // A fault names the first clock that breaks the first rule that a clock breaks; want of
+        // memory says nothing.
         ensures err { IfErr result (IsFault words self) }
     {
         refuse_broken(alloc, self.as_slice(), words)?;

@@ -39,7 +39,8 @@ pub enum Kind {
         width: u32,
         read_only: bool,
     },
-    /// The parent's rate over a divisor: the field and 1, the field, or 2 to the field.
+    /// The parent's rate over a divisor: the field plus 1, with `one_based` the field itself, with
+    /// `power_of_two` 2 to the power of the field.
     Divider {
         word: u32,
         shift: u32,
@@ -72,7 +73,7 @@ pub struct ClockDef {
 }
 
 impl ClockDef {
-    /// An equal record.
+    /// An equal record. Want of memory is its one refusal.
     pub fn copy(&self, alloc: Global) -> Result<ClockDef, NoMemory>
         ensures { IfOk result (λ def. def ≡ self.now) }
     {

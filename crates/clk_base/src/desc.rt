@@ -69,7 +69,8 @@ impl Desc {
         &self.defs[c.0 as usize]
     }
 
-    /// Adds a clock at the end. Its possible parents may be places that a later call fills.
+    /// Adds a clock at the end. Its possible parents may be places that a later call fills. Refused
+    /// where a clock has the name, and for want of memory.
     pub fn add(&mut self, def: ClockDef) -> Result<ClockId, AddFault>
         requires { length self.old < 4294967295 }
         ensures ok { IfOk result (λ c. (c.0 ≡ length self.old) × (self.new ≡ self.old ++ def ∷ [])) }
@@ -104,7 +105,7 @@ impl Desc {
         self.defs.as_slice()
     }
 
-    /// An equal description.
+    /// An equal description. Want of memory is its one refusal.
     pub fn copy(&self, alloc: Global) -> Result<Desc, NoMemory>
         ensures { IfOk result (λ desc. desc ≡ self.now) }
     {

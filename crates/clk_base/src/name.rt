@@ -41,7 +41,7 @@ impl ClockName {
         text
     }
 
-    /// An equal name.
+    /// An equal name. Want of memory is its one refusal.
     pub fn copy(&self, alloc: Global) -> Result<ClockName, NoMemory>
         ensures { IfOk result (λ name. name ≡ self.now) }
     {

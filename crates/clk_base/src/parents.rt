@@ -39,7 +39,7 @@ impl Parents {
         self.clocks.as_slice()
     }
 
-    /// An equal list.
+    /// An equal list. Want of memory is its one refusal.
     pub fn copy(&self, alloc: Global) -> Result<Parents, NoMemory>
         ensures { IfOk result (λ parents. parents ≡ self.now) }
     {

@@ -81,7 +81,7 @@ impl ValidDesc {
         self.desc.find(name)
     }
 
-    /// An equal description.
+    /// An equal description. Want of memory is its one refusal.
     pub fn copy(&self, alloc: Global) -> Result<ValidDesc, NoMemory>
         ensures { IfOk result (λ desc. desc ≡ self.now) }
     {

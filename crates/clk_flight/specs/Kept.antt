@@ -18,8 +18,8 @@ front_room plls again (Poll pll polls behind) = option_map_or (λ x. plls - agai
 front_room plls again (Raise x) = plls - again
 front_room plls again _ = 0
 
--- what a flight keeps with room for so many raised PLLs: what stands in front has a step and is counted by machine numbers, nothing has come again more often than a
--- line has PLLs, and there is room for all PLLs that are still to be raised
+-- what a flight keeps with room for so many raised PLLs: what stands in front has a step and is counted by machine numbers, nothing has
+-- come again more often than a line has PLLs, and there is room for all PLLs that are still to be raised
 pub record IsKept (f : FlightState) (capacity : ℕ) : Type 0 where
   pub steps : HasSteps (length f.raised) f.front
   pub counted : IsCounted f.front

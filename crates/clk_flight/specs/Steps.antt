@@ -75,7 +75,7 @@ LeavesLess f g = (notifiers : List NotifierRow) → left_over notifiers g < left
 abbrev pub LeavesLessAt : (Micro → Bool) → FlightState → FlightState → Type 0
 LeavesLessAt test f g = (notifiers : List NotifierRow) (m : Micro) → comes_next notifiers f ≡ Some m → test m ≡ true → left_over notifiers g < left_over notifiers f
 
--- whether a step is a fall, or any
+-- whether a step is a fall; and what each step passes
 abbrev pub is_fall : Micro → Bool
 is_fall (micro.Fall y) = true
 is_fall _ = false

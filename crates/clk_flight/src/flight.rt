@@ -112,7 +112,7 @@ impl Flight {
 
     /// A call goes on, over a description whose lines of possible parents have at most so many PLLs.
     /// All memory that its steps need is taken now. The list of the steps before is given back, so that
-    /// its memory can be used again.
+    /// its memory can be used again. Want of memory is its one refusal.
     #[inline(always)]
     pub fn begin(&mut self, start: Start, plls: u32) -> Result<Vec<Micro>, NoMemory>
         ensures begun { OnOk result (self.new ≡ begun start plls) }

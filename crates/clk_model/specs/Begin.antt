@@ -265,7 +265,7 @@ registered_rows defs regs clocks c =
       last_request = rate defs regs (slice_set clocks c (registered_row defs regs clocks c)) c;
     })
 
--- the state with the clock registered and the newest attach number
+-- the state with the clock registered, and first in the order of attaching
 unfoldable pub register : State → ℕ → State
 register s c = record s { clocks = registered_rows s.defs s.regs s.clocks c; order = to_front c s.order }
 

@@ -107,12 +107,12 @@ asked_after asked (event.Step (micro.Raise x) answer) = []
 asked_after asked (event.Step (micro.Poll y) answer) = y.0 ∷ asked
 asked_after asked _ = asked
 
--- a poll answers yes exactly where it asks at least for the time that the PLL's delay says
+-- a poll answers yes exactly where its PLL has been polled, with this poll, at least as often as its delay says
 abbrev pub AnswersByDelay : (ℕ → ℕ) → List ℕ → Event → Type 0
 AnswersByDelay delay asked (event.Step (micro.Poll y) (Some locked)) = locked ≡ nat_le (delay y.0) (count_by (λ z. z == y.0) asked + 1)
 AnswersByDelay delay asked _ = Unit {0}
 
--- each poll among these entries asks for its PLL's delay, where these PLLs were polled since the last raise before them
+-- each poll among these entries answers by its PLL's delay, where these PLLs were polled since the last raise before them
 abbrev pub PolledFrom : (ℕ → ℕ) → List ℕ → List Entry → Type 0
 PolledFrom delay asked [] = Unit {0}
 PolledFrom delay asked (e ∷ es) = AnswersByDelay delay asked e.event × PolledFrom delay (asked_after asked e.event) es

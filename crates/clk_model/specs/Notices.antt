@@ -47,7 +47,7 @@ until_veto rates c (n ∷ ns) =
 abbrev pub pre_list : Rates → List NotifierRow → List ℕ → List Micro
 pre_list rates notifiers changing = flat_map (λ c. until_veto rates c (notifiers_of notifiers c)) changing
 
--- whether any of these notices is a veto
+-- whether a step is a notice that is answered by a veto
 abbrev pub is_veto : Micro → Bool
 is_veto (micro.Notify (notice.Pre veto) c id old new) = veto
 is_veto _ = false

@@ -182,7 +182,7 @@ abbrev pub passed_over : ℕ → Option ℕ → List ℕ → List ℕ
 passed_over p None holds = without (p ∷ []) holds
 passed_over p (Some o) holds = map (λ h. if h == p then o else h) holds
 
--- Relink: a new link with the newest attach number; the holds on the new parent become holds on the old one
+-- Relink: a new link, with the clock first in the order of attaching; the holds on the new parent become holds on the old one
 abbrev pub relink : State → Change → ℕ → ℕ → State
 relink s k c p =
     on (record s {

@@ -34,6 +34,7 @@ moved = with 4 (Some (clock_id 0)) (with 5 (Some (clock_id 4)) grown)
 abbrev pub words : Registers
 words = 200 ∷ 5 ∷ []
 
+-- the rates of the six clocks over these words
 abbrev pub rates_of : TreeState → List ℕ
 rates_of t = map (rate t.defs words t.clocks) (0 ∷ 1 ∷ 2 ∷ 3 ∷ 4 ∷ 5 ∷ [])
 

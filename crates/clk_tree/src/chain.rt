@@ -53,7 +53,7 @@ impl PlannedChain {
         self.steps.clear();
     }
 
-    /// A step behind these.
+    /// A step behind these. Want of memory is its one refusal.
     pub fn push(&mut self, step: ChainStep) -> Result<(), NoMemory>
         ensures { OnOk result (self.new ≡ self.old ++ chain_of (step ∷ [])) }
     {

@@ -93,8 +93,8 @@ impl Ring {
         self.before[number as usize] = end;
     }
 
-    /// Puts a number behind another, and takes it from where it stood. Another number that is alone stays
-    /// so.
+    /// Puts a number behind another, and takes it from where it stood. Another number that is alone
+    /// stays so.
     pub(crate) fn move_behind(&mut self, end: u32, number: u32)
         requires end { end < length self.old }
         requires number { number < end }

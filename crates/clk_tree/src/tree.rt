@@ -65,7 +65,8 @@ impl Tree {
     ghost use Rattle.clk_tree.specs.TreeState.{IsTree, attached};
     ghost use Rattle.clk_model.specs.State.{requested};
 
-    /// A tree in which no clock is registered and every kept rate is 0.
+    /// A tree in which no clock is registered and every kept rate is 0. Want of memory is its one
+    /// refusal.
     pub fn create(alloc: Global, desc: &ValidDesc) -> Result<Tree, NoMemory>
         ensures defs { IfOk result (λ tree. tree.defs ≡ desc.now.defs) }
         ensures rows { IfOk result (λ tree. tree.clocks ≡ replicate (length desc.now.defs) unregistered_row) }

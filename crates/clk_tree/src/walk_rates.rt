@@ -48,7 +48,7 @@ impl WalkRates {
         self.rates.clear();
     }
 
-    /// A clock with its rate behind these.
+    /// A clock with its rate behind these. Want of memory is its one refusal.
     pub fn push(&mut self, rate: WalkRate) -> Result<(), NoMemory>
         ensures { OnOk result (self.new ≡ self.old ++ rates_of (rate ∷ [])) }
     {

@@ -166,8 +166,8 @@ pub record IsUnderWay (there : ℕ → Bool) (f : FlightState) : Type 0 where
 abbrev pub is_called_off : FlightState → Bool
 is_called_off f = f.vetoed || f.timed_out
 
--- whether the end of the call changes nothing but that none is in flight: it is called off, and has no range to put back, or is an unprepare, a change of a parent, the sweep or
--- a probe
+-- whether the end of the call changes nothing but that none is in flight: it is called off, and has no range to put back, or is an
+-- unprepare, a change of a parent, the sweep or a probe
 abbrev pub ends_bare : FlightState → Bool
 ends_bare f = if is_called_off f then not (is_ranged f.call && is_some f.range) else (is_unprepare f.call || sets_parent f.call || is_sweep f.call || is_probe f.call)
 

@@ -52,7 +52,8 @@ Fits s used plan (decided.Refused e) = (e ≡ errno.ENOSPC) × (most_credits < u
 Fits s used plan decided.AtOnce = ⊥
 Fits s used plan (decided.Change same script) = (same ≡ plan) × IsScriptOf s plan script × (used + script.weight ≤ most_credits)
 
--- the plan sets a parent or doesn't, the clocks whose rates it tells are registered, its script is made of it, and there is room for the entries of its steps behind so many
+-- the plan sets a parent or doesn't, the clocks whose rates it tells are registered, its script is made of it, and there is room for the
+-- entries of its steps behind so many
 pub record IsPlanned (tree : TreeState) (prepared : ℕ → Bool) (chains : List (List Notifier)) (used : ℕ) (sets : Bool) (plan : Plan) (script : Script) : Type 0 where
   pub set_parent : plan.set_parent ≡ sets
   pub there : AreThere tree.clocks plan.rates

@@ -8,7 +8,8 @@ ghost use Rattle.core_parts.specs.Adoption.{adoption_by, registration_of};
 use clk_base::{ClockId, Micro};
 use clk_io::NoMemory;
 
-/// The steps by which a parent adopts an orphan that is prepared or isn't, behind these.
+/// The steps by which a parent adopts an orphan that is prepared or isn't, behind these. Want of
+/// memory is its one refusal.
 pub fn push_adoption_by(
     steps: &mut Vec<Micro>,
     orphan: ClockId,
@@ -33,7 +34,8 @@ pub fn push_adoption_by(
     Ok(())
 }
 
-/// The steps that register a clock that is critical or isn't, behind these.
+/// The steps that register a clock that is critical or isn't, behind these. Want of memory is its
+/// one refusal.
 pub fn push_registration(
     steps: &mut Vec<Micro>,
     clock: ClockId,

@@ -12,7 +12,8 @@ use notifiers::Notifiers;
 use rate_requests::Requests;
 use std::alloc::Global;
 
-/// No handle, no holder and no notifier of the clocks of a description.
+/// No handle, no holder and no notifier of the clocks of a description. Want of memory is its one
+/// refusal.
 pub fn nobody(alloc: Global, desc: &ValidDesc) -> Result<(Requests, Counts, Notifiers), NoMemory>
     ensures clocks { IfOk result (λ made. made.0.clocks ≡ length desc.now.defs) }
     ensures handles { IfOk result (λ made. made.0.handles ≡ []) }
@@ -31,7 +32,8 @@ pub fn nobody(alloc: Global, desc: &ValidDesc) -> Result<(Requests, Counts, Noti
     Ok((handles, counts, notifiers))
 }
 
-/// No hold of so many clocks for a change: of prepares, and of enables.
+/// No hold of so many clocks for a change: of prepares, and of enables. Want of memory is its one
+/// refusal.
 pub fn no_holds(alloc: Global, clocks: usize) -> Result<(Held, Held), NoMemory>
     ensures prepares { IfOk result (λ made. made.0 ≡ replicate clocks 0) }
     ensures enables { IfOk result (λ made. made.1 ≡ replicate clocks 0) }

@@ -75,8 +75,8 @@ impl Course {
         }
     }
 
-    /// From now on this chain and these clocks, of which none was visited. Their lists change places with
-    /// those before.
+    /// From now on this chain and these clocks, of which none was visited. Their lists change places
+    /// with those before.
     pub fn begin(&mut self, chain: &mut PlannedChain, notified: &mut Vec<Notified>)
         ensures chain { self.new.chain ≡ chain.old }
         ensures notified { self.new.notified ≡ notified.old.items }

@@ -22,7 +22,7 @@ use rate_requests::Requests;
 use reg_bank::Bank;
 
 /// What a request for a rate comes to, where one exclusive hold of a handle on the clock is lifted and
-/// put back.
+/// put back. Want of memory is its one error.
 #[inline(always)]
 pub fn decide_lifted<B: Bank>(
     draft: &mut Draft,

@@ -132,7 +132,7 @@ fn plan_seen<B: Bank>(
 }
 
 /// The plan of a draft goes on with its script, where there is room for the entries of its steps behind
-/// so many.
+/// so many. Want of memory is its one error.
 #[inline(always)]
 pub fn go_on(
     draft: &mut Draft,
@@ -189,7 +189,7 @@ fn decide_unguarded<B: Bank>(
 }
 
 /// What a request for a rate comes to, which is planned over these handles and counts. Where it goes on,
-/// its plan and its script are in the draft.
+/// its plan and its script are in the draft. Want of memory is its one error.
 #[inline(always)]
 pub fn decide_request<B: Bank>(
     draft: &mut Draft,

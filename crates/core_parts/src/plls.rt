@@ -233,7 +233,8 @@ pub fn is_unprepared_under(
     is_loose(desc, counts, clock) || has_loose(depth(), desc, tree, counts, parent)
 }
 
-/// The highest of them that the change in flight doesn't keep powered either.
+/// The highest PLL, of a clock that isn't registered yet and the path of the parent that it is to
+/// get, that neither a prepare nor the change in flight keeps powered.
 pub fn next_to_raise_under(
     desc: &ValidDesc,
     tree: &Tree,

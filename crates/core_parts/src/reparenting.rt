@@ -133,7 +133,7 @@ pub fn is_linked(tree: &Tree, clock: ClockId, parent: ClockId) -> bool
     }
 }
 
-/// Works out the plan of a change of parent.
+/// Works out the plan of a change of parent. Want of memory is its one refusal.
 pub fn plan_move<B: Bank>(
     draft: &mut Draft,
     desc: &ValidDesc,

@@ -8,7 +8,7 @@ use clk_base::{MOST_CREDITS, Micro};
 use clk_io::NoMemory;
 use std::alloc::Global;
 
-/// A script of this step and the end.
+/// A script of this step and the end. Want of memory is its one refusal.
 pub fn ending(alloc: Global, first: Micro) -> Result<Vec<Micro>, NoMemory>
     ensures { IfOk result (λ steps. steps.items ≡ first ∷ End ∷ []) }
 {

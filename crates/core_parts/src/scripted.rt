@@ -45,7 +45,7 @@ fn push_told(
 }
 
 /// The clocks of a walk that have notifiers, each with its kept rate and its planned one, in place of
-/// those that stand there.
+/// those that stand there. Want of memory is its one refusal.
 pub fn told_clocks(
     told: &mut Vec<Notified>,
     tree: &Tree,

@@ -11,8 +11,8 @@ use Rattle.counts_core.specs.Sums.{up_in, AreSums, gated_part}
 abbrev pub AreFew : List ℕ → Type 0
 AreFew own = (d : ℕ) → slice_index own d ≤ 8388608
 
--- lines of possible parents end; links lead to possible parents, which are clocks of the description; each gated clock is flagged; the counts are sums; and a
--- flagged clock is protected as often as it is prepared, beside its exclusive holders
+-- lines of possible parents end; links lead to possible parents, which are clocks of the description; each gated clock is flagged; the
+-- counts are sums; and a flagged clock is protected as often as it is prepared, beside its exclusive holders
 pub record IsCounted (defs : Description) (links : List (Option ClockId)) (gated : List Bool) (enables prepares exclusives enabled prepared protects protected : List ℕ) : Type 0 where
   pub size : length links ≡ length defs
   pub most : length links ≤ 4096

@@ -32,6 +32,7 @@ pub record HoldsAsIn (k : CountState) (s : State) (c : ℕ) : Type 0 where
   pub prepared : is_prepared k c ≡ prepared s c
   pub guarded : is_guarded k c ≡ guarded s c
 
+-- so it is in all counts that stand for a state
 abbrev pub TellsHolds : Type 0
 TellsHolds = (k : CountState) (s : State) → AreCounts k → StandsFor k s → (c : ℕ) → HoldsAsIn k s c
 

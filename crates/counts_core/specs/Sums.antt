@@ -44,7 +44,8 @@ pub record OneMore (links : List (Option ClockId)) (less more : List ℕ) (c : �
   pub size : length more ≡ length less
   pub sums : (d : ℕ) → slice_index more d + kids links less d ≡ slice_index less d + kids links more d + one c d
 
--- the path has so many clocks, and its first so many are those that count in the longer list and not in the shorter; all others count in both or in none
+-- the path has so many clocks, and its first so many are those that count in the longer list and not in the shorter; all others count in
+-- both or in none
 pub record Begins (links : List (Option ClockId)) (less more : List ℕ) (c k : ℕ) : Type 0 where
   pub many : length (path_within (up_in links) k c) ≡ k
   pub off : (d : ℕ) → is_in d (path_within (up_in links) k c) ≡ true → slice_index less d ≡ 0

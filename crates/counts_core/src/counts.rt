@@ -50,7 +50,7 @@ impl Counts {
     ghost use Rattle.counts_core.specs.Sums.{up_in};
     ghost use Rattle.counts_core.specs.Counted.{CountState, AreCounts, HasLinks, HasOtherLinks, is_active, is_prepared, is_guarded, enable_sum, prepare_sum, protect_sum};
 
-    /// Nobody holds a clock, and no clock has a link.
+    /// Nobody holds a clock, and no clock has a link. Want of memory is its one refusal.
     pub fn create(alloc: Global, desc: &ValidDesc) -> Result<Counts, NoMemory>
         ensures defs { IfOk result (λ made. made.defs ≡ desc.now.defs) }
         ensures links { IfOk result (λ made. made.links ≡ replicate (length desc.now.defs) None) }

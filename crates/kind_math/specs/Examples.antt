@@ -21,6 +21,7 @@ pub zero_divides_by_nothing : div_rate 100 0 OneBased ≡ 100
 unfolding div_rate divisor
 zero_divides_by_nothing = refl
 
+-- a field of two bits divides by the powers of two up to 8
 pub powers_to_eight : valid_divisors PowerOfTwo 2 ≡ 1 ∷ 2 ∷ 4 ∷ 8 ∷ []
 unfolding valid_divisors valid_fields divisor
 powers_to_eight = refl

@@ -1,5 +1,5 @@
 //! The arithmetic of the kinds of clock: the rate that a kind makes of its parent's rate, and which
-//! divisor or multiplier a wanted rate takes.
+//! divisor or multiplier a wanted rate takes. Rates are in Hz.
 //!
 //! No function goes over divisors or multipliers, of which a divider or a PLL may have 65,536. The
 //! definitions in `specs/` do, and say which one is chosen.

@@ -33,7 +33,7 @@ impl Model for Notifiers {
 impl Notifiers {
     ghost use Rattle.notifiers.specs.Chains.{row_on, chain_of, Tells, has_id, CanAdd, WhyNot, without_notifier};
 
-    /// No clock of the description has a notifier.
+    /// No clock of the description has a notifier. Want of memory is its one refusal.
     pub fn create(alloc: Global, desc: &ValidDesc) -> Result<Notifiers, NoMemory>
         ensures chains { IfOk result (λ made. made ≡ replicate (length desc.now.defs) []) }
         ensures told { IfOk result (λ made. Tells made []) }
@@ -43,7 +43,8 @@ impl Notifiers {
         })
     }
 
-    /// Adds a notifier to a clock.
+    /// Adds a notifier to a clock. Refused where the clock has the id or 256 notifiers, and for
+    /// want of memory.
     pub fn add(
         &mut self,
         c: ClockId,

@@ -15,7 +15,8 @@ use reg_bank::Bank;
 use std::alloc::Global;
 
 /// The orphans that are adopted when a new clock is registered, in the order of their adoption: the
-/// next is always the newest attached of those left above whose new parent none of the others stands.
+/// next is always the newest attached of those left above whose new parent none of the others
+/// stands. Want of memory is its one refusal.
 pub fn adoptable<B: Bank>(
     alloc: Global,
     desc: &ValidDesc,

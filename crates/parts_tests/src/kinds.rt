@@ -1,5 +1,6 @@
-//! The formulas of each kind, at ordinary numbers and at the ends of their ranges. 18446744073709551615 is 2^64 - 1, and this is
-//! 65535 * 281479271743489 and 4294967295 * 4294967297.
+//! The formulas of each kind, at ordinary numbers and at the ends of their ranges.
+//! 18446744073709551615 is 2^64 - 1, and this is 65535 * 281479271743489 and
+//! 4294967295 * 4294967297.
 
 ghost use Rattle.std.specs.Prelude.{◌≡◌, true};
 ghost use Rattle.kind_math.specs.Dividers.{IsDividerWidth};

@@ -43,7 +43,7 @@ fn priorities_fall_and_equals_keep_their_order(rt: HostRuntime) -> Result<(), Fa
     expect_order(&rt, &mut chains)
 }
 
-// The slot of a handle is a hint, and any other finds the same record.
+// The handle with another slot, which no call reads.
 fn with_other_slot(handle: Handle) -> Handle
     ensures number { result.number ≡ handle.number }
 {

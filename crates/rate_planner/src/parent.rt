@@ -16,7 +16,7 @@ use clk_tree::{ChainStep, Tree, rate_of};
 use reg_bank::Bank;
 
 /// Works out the plan of a change of parent: the chain is the clock alone, with its rate over the new
-/// parent.
+/// parent. Want of memory is its one refusal.
 pub fn plan_parent<B: Bank>(
     planning: &mut Planning,
     desc: &ValidDesc,

@@ -116,7 +116,8 @@ fn plan_resting<B: Bank, V: View, W: Rest>(
 }
 
 /// Works out the plan of a request for a rate. Answers whether there is one; where there is none, what
-/// is left of it says nothing. Pauses at `Place::Planning` once a candidate.
+/// is left of it says nothing. Pauses at `Place::Planning` once a candidate. Want of memory is its
+/// one refusal.
 pub fn plan<R: Wait + Sync, B: Bank, V: View, Q: Pause>(
     rt: &R,
     planning: &mut Planning,
@@ -149,7 +150,8 @@ pub fn plan<R: Wait + Sync, B: Bank, V: View, Q: Pause>(
     )
 }
 
-/// The same without a pause.
+/// Works out the plan of a request for a rate as `plan` does, without a pause. Want of memory is
+/// its one refusal.
 pub fn plan_now<B: Bank, V: View>(
     planning: &mut Planning,
     desc: &ValidDesc,
@@ -171,8 +173,9 @@ pub fn plan_now<B: Bank, V: View>(
     plan_resting(planning, desc, tree, bank, view, &NoRest, c, x)
 }
 
-/// The same without a pause, where the clock would be rounded so for the request (`first_rounding`).
-/// Nothing is said of the plan over another rounding, but that its clocks are registered.
+/// Works out the plan of a request for a rate as `plan` does, without a pause, where the clock would
+/// be rounded so for the request (`first_rounding`). Nothing is said of the plan over another
+/// rounding, but that its clocks are registered. Want of memory is its one refusal.
 pub fn plan_from<B: Bank, V: View>(
     planning: &mut Planning,
     desc: &ValidDesc,

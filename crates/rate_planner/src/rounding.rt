@@ -73,7 +73,8 @@ pub fn round<R: Wait + Sync, B: Bank, V: View, Q: Pause>(
     round_resting(desc, tree, view, &Pausing { rt, pause }, c, x)
 }
 
-/// The same without a pause.
+/// The rate in Hz that a clock would get for a request, as `round` tells it, without a pause. Takes
+/// no memory.
 pub fn round_now<B: Bank, V: View>(
     desc: &ValidDesc,
     tree: &Tree,

@@ -46,7 +46,7 @@ impl Model for Requests {
 impl Requests {
     ghost use Rattle.rate_requests.specs.Handles.{HandleTable, new_row, has_handle, low_in, high_in, misses_in, with_range_at, with_counts_at};
 
-    /// No handle of any clock of the description.
+    /// No handle of any clock of the description. Want of memory is its one refusal.
     pub fn create(alloc: Global, desc: &ValidDesc) -> Result<Requests, NoMemory>
         ensures clocks { IfOk result (λ made. made.clocks ≡ length desc.now.defs) }
         ensures handles { IfOk result (λ made. made.handles ≡ []) }
@@ -58,7 +58,8 @@ impl Requests {
         })
     }
 
-    /// A new handle of a driver on a clock, which allows every rate. It has the next number.
+    /// A new handle of a driver on a clock, which allows every rate. It has the next number. Want
+    /// of memory is its one refusal.
     pub fn add(&mut self, driver: u32, clock: ClockId) -> Result<Handle, NoMemory>
         requires place { clock.0 < self.old.clocks }
         requires numbers { length self.old.handles < 4294967295 }

@@ -38,7 +38,8 @@ impl Model for MemBank {
 impl MemBank {
     ghost use Rattle.reg_bank.specs.Memory.{Memory};
 
-    /// A bank of [`MEM_BANK_WORDS`] words of 0 with no lock armed.
+    /// A bank of [`MEM_BANK_WORDS`] words of 0 with no lock armed. Want of memory is its one
+    /// refusal.
     pub fn new(alloc: Global) -> Result<MemBank, NoMemory>
         ensures words { IfOk result (λ bank. length bank.words ≡ MEM_BANK_WORDS) }
         ensures zero { IfOk result (λ bank. All (λ value. value ≡ 0) bank.words) }

@@ -24,7 +24,7 @@ impl Model for TakenBits {
 }
 
 impl TakenBits {
-    /// None of the bits of so many words is taken.
+    /// None of the bits of so many words is taken. Want of memory is its one refusal.
     pub fn create(alloc: Global, words: u32) -> Result<TakenBits, NoMemory>
         ensures words { IfOk result (λ taken. length taken ≡ words) }
         ensures free { IfOk result (λ taken. (word bit : ℕ) → is_set taken word bit ≡ false) }

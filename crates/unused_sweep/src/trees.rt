@@ -11,7 +11,8 @@ use clk_io::NoMemory;
 use clk_tree::Tree;
 use std::alloc::Global;
 
-/// The trees of the roots and then of the orphans, children before their parent.
+/// The trees of the roots and then of the orphans, children before their parent. Want of memory is
+/// its one refusal.
 pub fn sweep_order(alloc: Global, tree: &Tree) -> Result<Vec<ClockId>, NoMemory>
     ensures { (s : State) → s.defs ≡ tree.now.defs → s.clocks ≡ tree.now.clocks → s.order ≡ tree.now.order → IfOk result (λ order. map (λ c. c.0) order.items ≡ sweep_order s) }
 {

@@ -37,7 +37,7 @@ g = clock_id 5
 abbrev pub migration_start : State
 migration_start = opening migration (0 ∷ 0 ∷ []) false 100
 
--- the handles of the mover on m, and of the other driver on g
+-- the handle of the mover on m, and the enables and disables that the other driver makes on g
 abbrev h : Handle
 h = handle 0 1
 

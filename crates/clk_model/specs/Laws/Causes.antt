@@ -1,4 +1,4 @@
--- Why each call has its reply: each reply comes exactly where its cause holds.
+-- Why each event of the enable tier, and seven calls that are answered at once, have their reply: it comes exactly where its cause holds.
 use Rattle.std.specs.Prelude.{◌≡◌, ◌⊎◌, ◌<◌, ℕ, ◌+◌, Bool, true, false, Option, Some, None, option_map, length}
 use Rattle.clk_base.specs.declared.call.Sleeping.{Sleeping}
 use Rattle.clk_base.specs.declared.call.Sleeping.TheVariants as call
@@ -100,12 +100,12 @@ pub record GetParentCauses (s : State) (driver number : ℕ) (r : Reply) : Type 
   pub unknown : Exactly (reply.Refused errno.ENOENT) r (Lacks s driver number)
   pub told : (h : HandleRow) → own_handle s driver number ≡ Some h → r ≡ reply.Clock (option_map clock_id (link_in s.clocks h.clock.0))
 
--- Probe, where nothing else has to be done: the clock isn't registered yet
+-- Probe, where nothing else has to be done: the clock isn't registered
 pub record ProbeCauses (s : State) (c : ClockId) (r : Reply) : Type 0 where
   pub known : Exactly (reply.Refused errno.EEXIST) r (registered s.clocks c.0 ≡ true)
   pub fine : Exactly reply.Fine r (registered s.clocks c.0 ≡ false)
 
--- the cause of each call's reply, where the call is one of those that are answered at once
+-- the cause of the reply of each of these calls; of another call nothing is said
 abbrev pub BeginCauses : State → ℕ → Sleeping → Reply → Type 0
 BeginCauses s driver (call.Get found) r = GetCauses s driver found r
 BeginCauses s driver (call.Put h) r = PutCauses s driver h.number r
@@ -116,7 +116,7 @@ BeginCauses s driver (call.GetParent h) r = GetParentCauses s driver h.number r
 BeginCauses s driver (call.Probe c) r = ProbeCauses s c r
 BeginCauses s driver what r = Unit {0}
 
--- an answer at once has its cause
+-- an answer at once of one of them has its cause
 abbrev pub TurnHasCause : State → ℕ → Sleeping → Turn → Type 0
 TurnHasCause s driver what turn.Going = Unit {0}
 TurnHasCause s driver what (turn.Done r) = BeginCauses s driver what r

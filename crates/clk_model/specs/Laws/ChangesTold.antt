@@ -26,8 +26,8 @@ abbrev pub is_post_of : ℕ → Micro → Bool
 is_post_of c (micro.Notify notice.Post d id old new) = d.0 == c
 is_post_of c _ = false
 
--- at the end of a change of rates or of a parent that went well, without veto and timeout, each clock that the notices before the change were for has been told
--- of it once: over all its notifiers, in their order, with the rates of those notices
+-- at the end of a change of rates or of a parent that went well, without veto and timeout, each clock that the notices before the change
+-- were for has been told of it once: over all its notifiers, in their order, with the rates of those notices
 abbrev pub ChangesAreTold : Type 0
 ChangesAreTold = (defs : Description) (regs : Registers) (ignore_unused : Bool) (credits : ℕ) (before : List Entry) (q s t : State) (d : ℕ) (what : Sleeping) (made : List Micro)
     (m : Micro) (answer : Option Bool) → IsValid (length regs) defs → plans what ≡ true → replay (opening defs regs ignore_unused credits) before ≡ q

@@ -71,8 +71,8 @@ pub data Front (s : State) (k : Change) : Type 0 where
   raises : (x : ClockId) → k.front ≡ micro.Raise x ∷ [] → StillToRaise s k x → Front s k
   lowers : (x : ClockId) → k.front ≡ micro.Lower x ∷ [] → StillToLower s k x → Front s k
 
--- what a change keeps: what stands in front is so, the script has no poll and no fall, and nothing behind its end, and while a step may time out there is
--- weight for the notices that a timeout brings
+-- what a change keeps: what stands in front is so, the script has no poll and no fall, and nothing behind its end, and while a step may
+-- time out there is weight for the notices that a timeout brings
 pub record IsPaced (s : State) (k : Change) : Type 0 where
   pub front : Front s k
   pub script : list_all is_scripted k.left ≡ true

@@ -50,9 +50,10 @@ pub fn veto_leaves_nothing()
         IsTrue (list_any is_veto made) }
 {}
 
-/// A call that isn't a registration leaves no hold behind its end, where there was none before it: also
-/// one that is called off, and one of which a PLL doesn't lock. And behind each journal that begins at an
-/// opening with a valid description nothing is held while no call is in flight, registrations included.
+/// A call that isn't a registration leaves no hold behind its end, where there was none before it:
+/// also one that is called off, and one of which a PLL doesn't lock. And behind each journal that
+/// begins at an opening with a valid description nothing is held while no call is in flight,
+/// registrations included.
 pub fn calls_leave_no_hold()
     ensures calls { CallsLeaveNoHold }
     ensures runs { RunsLeaveNoHold }

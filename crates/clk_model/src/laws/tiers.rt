@@ -34,11 +34,12 @@ pub fn prep_tells()
     ensures law { PrepTells }
 {}
 
-/// Planning reads the prepare tier's part of a state alone. Where that part is the same in two states, over a
-/// wired tree, a rate, a rounding or a parent that is asked for is answered alike; and a change of a rate, of
-/// a range or of a parent is answered alike, or goes on with the same plan and the same script, room for its
-/// steps aside. So a call can be planned over that part itself; and so it is with the states behind any two
-/// journals of one opening with a valid description.
+/// Planning reads the prepare tier's part of a state alone. Where that part is the same in two
+/// states, over a wired tree, a rate, a rounding or a parent that is asked for is answered alike;
+/// and a change of a rate, of a range or of a parent is answered alike, or goes on with the same
+/// plan and the same script, room for its steps aside. So a call can be planned over that part
+/// itself; and so it is with the states behind any two journals of one opening with a valid
+/// description.
 pub fn planning_reads_prep()
     ensures answers { AnswersReadPrep }
     ensures plans { PlansReadPrep }
