@@ -2,12 +2,12 @@
 # Lets each allocation of a run fail in turn, and sees that the program keeps its word: the status is
 # that of the whole run, or 3, and what was written is a front of what the whole run writes.
 #
-# The program is built as ever. A small library, compiled here by `cc`, stands before the C library's
-# allocation calls and lets the one of a given number fail; `LD_PRELOAD` puts it there. The runs are
-# of the examples on one thread, with and without the journal, and of a bundle that is refused. Each
-# line tells how many allocations a whole run makes, how many runs with one that fails ended in status
-# 3, and how many as the whole run does. Of runs with a thread a driver and of `bench`, whose journals
-# come in any order, the status alone is looked at.
+# The program is the one that `./prove` builds. A small library, compiled here by `cc`, stands before
+# the C library's allocation calls and lets the one of a given number fail; `LD_PRELOAD` puts it there.
+# The runs are of the examples on one thread, with and without the journal, and of a bundle that is
+# refused. Each line tells how many allocations a whole run makes, how many runs with one that fails
+# ended in status 3, and how many as the whole run does. Of runs with a thread a driver and of `bench`,
+# whose journals come in any order, the status alone is looked at.
 set -eu
 
 root=$(dirname -- "$(dirname -- "$(readlink -f -- "$0")")")
@@ -15,7 +15,7 @@ program=$root/crates/clkbench/out/clkbench
 scratch=$(mktemp -d)
 trap 'rm -rf "$scratch"' EXIT
 
-# This builds the program where it has to be built.
+# An example has to run. This builds nothing: the program is there once `./prove` has built it.
 "$root/clkbench" check <"$root/examples/uart.bundle" >/dev/null
 
 cat >"$scratch/fail.c" <<'LIBRARY'

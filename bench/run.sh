@@ -67,7 +67,7 @@ measure() {
         $((journal / commands)) $((reading / commands)) $(((one_thread - reading) / commands))
 }
 
-# Builds the program where it isn't built.
+# An example has to run. This builds nothing: the program is there once `./prove` has built it.
 "$root/clkbench" sim <"$root/examples/uart.bundle" >/dev/null || exit 1
 
 printf '%8s %10s %12s %14s %12s %12s\n' drivers commands a-command with-journal reading one-thread

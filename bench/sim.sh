@@ -51,7 +51,7 @@ measure() {
     printf '%8d %8d %10d %12d %12d %12d\n' "$1" "$3" "$2" $((taken / all)) $((journaled / all)) $((taken / ($1 + all)))
 }
 
-# Builds the program where it isn't built.
+# An example has to run. This builds nothing: the program is there once `./prove` has built it.
 "$root/clkbench" sim <"$root/examples/uart.bundle" >/dev/null || exit 1
 
 echo "In nanoseconds. Boot registers each clock by a command of its own: the last column counts these commands too."

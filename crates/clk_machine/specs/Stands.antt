@@ -87,7 +87,7 @@ joins (event.Step m answer) t c = step_registers m c
 joins _ t c = false
 
 -- how many steps a call may come to where it goes on: the raise of the PLLs of a path or the lower of them, and the end; of a change of rate or
--- parent, of a sweep and of a probe as many as its script weighs, for which there is room
+-- parent, of a sweep and of a probe as many as the most credits, since there is room for what its script weighs
 abbrev pub most_steps : Description → Event → ℕ
 most_steps defs (event.Begin (call.Prepare h)) = 34 * plls defs + 2
 most_steps defs (event.Begin (call.Unprepare h)) = plls defs + 2

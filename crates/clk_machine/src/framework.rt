@@ -99,7 +99,7 @@ impl<B: Bank> Core<B> {
     ghost use Rattle.core_parts.specs.Window.{behind_of, HasDelays};
 
     /// A core at its opening: the words are written to the bank, nothing is registered, and the
-    /// journal is empty with room for all credits.
+    /// journal is empty with room for all credits. The one error is want of memory.
     pub fn create(
         alloc: Global,
         desc: ValidDesc,
@@ -197,8 +197,8 @@ impl<B: Bank> Core<B> {
     /// Begins a call of a driver. It is answered at once, or goes on by steps.
     ///
     /// After `NoMemory` the core is as it was, without an entry. It comes at a get, where a notifier
-    /// is added, and at a prepare, an unprepare, a change of rate or parent, a probe and the sweep, which
-    /// take the room for the entries of their steps before they begin.
+    /// is added, and at a prepare, an unprepare, a change of rate or parent, a probe and the sweep,
+    /// which take the room for the entries of their steps before they begin.
     pub fn begin(&mut self, driver: u32, what: &Sleeping) -> Result<Turn, NoMemory>
         // A credit is left.
         requires credit { cost self.old.journal < self.old.start.credits }

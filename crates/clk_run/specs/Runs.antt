@@ -87,8 +87,9 @@ InOrder Sim scripts order journal = Ordered scripts order journal
 InOrder mode.Run scripts order journal = boot_first journal ≡ true
 InOrder (Bench n) scripts order journal = boot_first journal ≡ true
 
--- a run of a bundle, as the words ask for it: its journal, where the bank tells its words, is a legal run of the machine; where the bank tells its locks too, each poll is
--- answered by the delay of its PLL; after each entry the active clocks are fed, it keeps the laws of journals, and at its end no change is in flight; boot and each driver, and nobody else, have their calls once, in their order, one after the other, answered so; and the
+-- a run of a bundle, as the words ask for it: its journal, where the bank tells its words, is a legal run of the machine; where the bank tells its
+-- locks too, each poll is answered by the delay of its PLL; after each entry the active clocks are fed, it keeps the laws of journals, and at its end
+-- no change is in flight; boot and each driver, and nobody else, have their calls once, in their order, one after the other, answered so; and the
 -- entries stand in the order of the command
 pub record IsRunOf (b : Bundle) (cli : Cli) (bank : Telling) (journal : List Entry) (answers : List (List Answer)) : Type 0 where
   pub legal : bank.told ≡ true → Legal (opening_of b cli.ignore_unused) journal

@@ -49,7 +49,7 @@ fn is_ok_answer(answer: Answer) -> bool
     }
 }
 
-// How many answers of a driver are.
+// How many answers of a driver are such.
 fn own_ok_count(answers: &[Answer]) -> usize
     ensures { result ≡ count_by is_ok_answer answers.now }
 {
@@ -59,7 +59,7 @@ fn own_ok_count(answers: &[Answer]) -> usize
         .count()
 }
 
-// How many answers of all drivers are.
+// How many answers of all drivers are such.
 fn ok_count(answers: &[Listed<Answer>]) -> usize
     requires { ok_count answers.now ≤ most_credits }
     ensures { result ≡ ok_count answers.now }

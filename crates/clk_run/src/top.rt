@@ -36,8 +36,8 @@ fn has_threads(mode: Mode) -> bool
 /// - 5: a write failed, and a front of the text was printed.
 ///
 /// Under `check` boot alone runs, and under `sim` the drivers run on this thread, which pauses nowhere.
-/// Under `run` and `bench` each driver has a thread of its own, and pauses where `pause` is called;
-/// `bench` reads nothing and generates its bundle.
+/// Under `run` and `bench` each driver has a thread of its own, and `pause` is called between two
+/// turns of a sleeping call; `bench` reads nothing and generates its bundle.
 pub fn clkbench<
     'w,
     R: AllocGlobal + Threads + Wait + Sync,

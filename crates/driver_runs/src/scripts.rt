@@ -46,7 +46,7 @@ fn gather(
 /// Runs the commands of boot, and then makes the events of the drivers, one after another: each number
 /// of the order gives its driver an event, if it can make one; behind the order the lowest numbered
 /// driver that can make one does, until all have answered all their commands. The answers are those
-/// of boot and then those of each driver.
+/// of boot and then those of each driver. The one error is want of memory.
 pub fn run_scripts<B: Bank>(
     alloc: Global,
     core: &mut Core<B>,
@@ -60,9 +60,9 @@ pub fn run_scripts<B: Bank>(
     requires credits { length boot.now + sum_by (λ s. length s.commands) drivers.now ≤ core.old.start.credits }
     // The commands of boot name clocks of the description.
     requires boot { NamePlaces (length core.old.start.defs) boot.now }
-    // There are at most so many drivers.
+    // There are at most 65,536 drivers.
     requires few { length drivers.now ≤ 65536 }
-    // So do those of each driver.
+    // The commands of each driver do so too.
     requires placed { AllByRecursion (IsScript (length core.old.start.defs)) drivers.now }
     // Drivers are numbered from 1.
     requires turns { AllByRecursion (λ d. 0 < d) order.now }

@@ -13,7 +13,7 @@ use crate::plays::End;
 use crate::rule::{SeatOf, SharedOf, TableOf};
 use clk_io::NoMemory;
 
-/// What `close` gives back where it doesn't close.
+/// The refusal in the type of `close`, which always closes: all that it was handed, and why.
 pub type Unclosed<T> = (Lock<T>, Vec<Pass<T>>, Baton<T>, NoMemory);
 
 // The baton's seat takes in what each pass knew, and its room.
@@ -51,7 +51,7 @@ fn value_of<T: Kept>(table: TableOf<T>, keeper: SeatOf<T>) -> T
 }
 
 impl<T: Kept> Lock<T> {
-    /// Ends all passes and the baton, and gives the value. So far this takes no memory.
+    /// Ends all passes and the baton, and gives the value. Takes no memory.
     pub fn close(self, passes: Vec<Pass<T>>, baton: Baton<T>) -> Result<T, Unclosed<T>>
         // The baton is of this lock.
         requires baton { baton.table ≡ self.table }

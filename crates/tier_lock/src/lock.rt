@@ -31,7 +31,8 @@ impl<T: Kept> Model for Lock<T> {
 }
 
 impl<T: Kept> Lock<T> {
-    /// Locks a value that has no entry yet. The pass has number 0 and all of the room.
+    /// Locks a value that has no entry. The pass has number 0 and all of the room. The one error is
+    /// want of memory.
     pub fn create(alloc: Global, value: T) -> Result<(Lock<T>, Pass<T>, Baton<T>), NoMemory>
         // The value has no entry.
         requires { T.entries value ≡ [] }

@@ -1,4 +1,4 @@
-//! The steps that hold clocks for a change of parent, and let them go.
+//! The steps that hold clocks while a clock gets another parent, and let them go.
 
 ghost use Rattle.std.specs.Prelude.{◌≡◌, ◌<◌, true, Some, None, slice_index};
 ghost use Rattle.clk_base.specs.declared.call.Micro.TheVariants as micro;

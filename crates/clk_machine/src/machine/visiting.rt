@@ -1,4 +1,4 @@
-//! The steps of a change of rate: its notices, and the visits of its clocks.
+//! The steps of a change of rate or parent: its notices, and the visits of its clocks.
 
 ghost use Rattle.std.specs.Prelude.{◌≡◌, ◌<◌, true, Some, None, length, slice_index};
 ghost use Rattle.clk_base.specs.declared.call.Micro.TheVariants as micro;
