@@ -1,8 +1,7 @@
 -- The first element of a list that passes a test.
-use Rattle.std.proofs.Common.{◌≡◌, ℕ, ◌+◌, ◌<◌, Bool, true, false, cond, not, ◌||◌, List, [], ◌∷◌, ◌++◌, length, Some, None, refl, sym, ◌∙◌, inl, inr, arith}
+use Rattle.std.proofs.Common.{◌≡◌, ℕ, ◌+◌, ◌<◌, Bool, true, false, cond, not, ◌||◌, List, [], ◌∷◌, ◌++◌, length, Some, None, refl, sym, arith}
 use Rattle.std.specs.List.{list_any, position, position_or_len, AllByRecursion}
-use Rattle.std.proofs.lemmas.Bool.{false≢true, cases_Bool, lt-ltb, le-ltb, cond-true, cond-false}
-use Rattle.std.proofs.lemmas.Option.{none-some}
+use Rattle.std.proofs.lemmas.Bool.{false≢true, lt-ltb, le-ltb, cond-true, cond-false}
 
 -- where an element passes, the first that does is one of them
 pub any_within : {X : Type 0} (p : X → Bool) (xs : List X) → list_any p xs ≡ true → position_or_len p xs < length xs
@@ -23,15 +22,6 @@ position-found p xs h = cond-true _ _ _ (lt-ltb (position_or_len p xs) (length x
 
 pub position-missing : {X : Type 0} (p : X → Bool) (xs : List X) → list_any p xs ≡ false → position p xs ≡ None
 position-missing p xs h = cond-false _ _ _ (le-ltb (position_or_len p xs) (length xs) (omega (arith, none_within p xs h)))
-
--- an element passes exactly where there is a first that does
-pub list_any-None : {X : Type 0} (p : X → Bool) (xs : List X) → position p xs ≡ None → list_any p xs ≡ false
-list_any-None p xs h =
-    elim (cases_Bool (list_any p xs)) [ inl some ↦ absurd (none-some _ (sym h ∙ position-found p xs some)) | inr none ↦ none ]
-
-pub list_any-Some : {X : Type 0} (p : X → Bool) (xs : List X) (n : ℕ) → position p xs ≡ Some n → list_any p xs ≡ true
-list_any-Some p xs n h =
-    elim (cases_Bool (list_any p xs)) [ inl some ↦ some | inr none ↦ absurd (none-some n (sym (position-missing p xs none) ∙ h)) ]
 
 -- one element more of which it holds
 pub all_more : {X : Type 0} (P : X → Type 0) (xs : List X) (x : X) → AllByRecursion P xs → P x → AllByRecursion P (xs ++ x ∷ [])

@@ -1,5 +1,5 @@
 -- Lists that are gone through place by place: what is done with what is left makes the whole.
-use Rattle.std.proofs.Common.{◌≡◌, ℕ, zero, suc, ◌+◌, ◌<◌, ◌≤◌, ◌++◌, true, List, [], ◌∷◌, Some, refl, sym, ap, ◌∙◌, arith, length, drop, map, append_assoc, append-nil, get_or}
+use Rattle.std.proofs.Common.{◌≡◌, ℕ, zero, suc, ◌+◌, ◌<◌, ◌++◌, true, List, [], ◌∷◌, Some, refl, sym, ap, ◌∙◌, arith, length, drop, map, append_assoc, get_or}
 use Rattle.std.specs.Prelude.{flat_map, option_map, slice_get}
 use Rattle.std.proofs.lemmas.Option.{slice_get-map}
 use Rattle.clk_model.specs.declared.row.ClockRow.{ClockRow}
@@ -8,7 +8,6 @@ use Rattle.clk_tree.specs.declared.walk_rates.WalkRate.{WalkRate}
 use Rattle.clk_tree.specs.Plans.{rates_of}
 use Rattle.change_walk.specs.Changes.{AreThere}
 use Rattle.clk_model.proofs.StateLaws.{registered_lt}
-use Rattle.clk_tree.proofs.Along.{none_left}
 
 pub drop_none : {X : Type 0} (xs : List X) → drop 0 xs ≡ xs
 drop_none [] = refl
@@ -28,9 +27,6 @@ added_on f xs k x old new whole at one all =
     ∙ append_assoc old (f x) (flat_map f (drop (k + 1) xs))
     ∙ ap (λ ys. old ++ flat_map f ys) (sym (rest_at xs k x at))
     ∙ all
-
-pub added_all : {X Y : Type 0} (f : X → List Y) (xs : List X) (k : ℕ) (old whole : List Y) → length xs ≤ k → old ++ flat_map f (drop k xs) ≡ whole → old ≡ whole
-added_all f xs k old whole few all = sym (append-nil old) ∙ ap (λ ys. old ++ flat_map f ys) (sym (none_left xs k few)) ∙ all
 
 -- one more element was pushed
 pub pushed_on : {X Y : Type 0} (f : X → Y) (xs : List X) (k : ℕ) (x : X) (old new whole : List Y) → slice_get xs k ≡ Some x → new ≡ old ++ f x ∷ []

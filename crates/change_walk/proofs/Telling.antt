@@ -1,7 +1,7 @@
 -- Laws on the steps of a script that are added one by one.
-use Rattle.std.proofs.Common.{◌≡◌, ℕ, zero, suc, ◌+◌, ◌<◌, ◌≤◌, min, ◌++◌, ◌||◌, ◌&&◌, not, Bool, true, false, cond, List, [], ◌∷◌, Option, Some, refl, sym, ap, ◌∙◌, arith, length, drop, append_assoc, append-nil, nat_eq}
+use Rattle.std.proofs.Common.{◌≡◌, ℕ, ◌+◌, ◌≤◌, min, ◌++◌, ◌||◌, ◌&&◌, not, Bool, true, false, cond, List, [], ◌∷◌, Option, Some, refl, sym, ap, ◌∙◌, arith, length, drop, append_assoc, append-nil, nat_eq}
 use Rattle.std.specs.Prelude.{◌==◌, filter, flat_map, slice_get, sum_by}
-use Rattle.std.specs.List.{All, AllByRecursion, list_any, position_or_len}
+use Rattle.std.specs.List.{list_any, position_or_len}
 use Rattle.std.specs.Option.{option_map_or}
 use Rattle.std.proofs.lemmas.List.Folds.{list_any-append}
 use Rattle.std.proofs.lemmas.List.Recursion.{is_position_or_len}
@@ -13,7 +13,7 @@ use Rattle.clk_base.specs.declared.clock.ClockId.{ClockId}
 use Rattle.clk_base.specs.Description.{Description}
 use Rattle.clk_base.specs.Places.{places}
 use Rattle.clk_model.specs.declared.row.ClockRow.{ClockRow}
-use Rattle.clk_model.specs.Chain.{clock_id, moves}
+use Rattle.clk_model.specs.Chain.{moves}
 use Rattle.clk_model.specs.Notices.{is_veto, vetoes}
 use Rattle.clk_model.specs.Script.{move, move_of}
 use Rattle.clk_model.specs.State as state
@@ -23,10 +23,10 @@ use Rattle.clk_tree.specs.Plans.{ClockRate, chain_of, rates_of}
 use Rattle.notifiers.specs.declared.notifier.Notifier.{Notifier}
 use Rattle.change_walk.specs.declared.changes.Changed.{Changed}
 use Rattle.change_walk.specs.declared.changes.Passed.{Passed}
-use Rattle.change_walk.specs.Changes.{AreThere, back_to, changes, changed_to, changed_along, changes_below, parent_after}
+use Rattle.change_walk.specs.Changes.{back_to, changes, changed_along, changes_below, parent_after}
 use Rattle.change_walk.specs.Steps.{step_of, visits}
 use Rattle.change_walk.specs.Tellings.{notify, tell_before}
-use Rattle.change_walk.proofs.Rests.{rest_at, rest_of, registered_inside}
+use Rattle.change_walk.proofs.Rests.{rest_at, rest_of}
 use Rattle.clk_tree.proofs.Along.{none_left}
 
 -- ---- parents after the plan
@@ -68,26 +68,6 @@ changed_on up before rates k r passed above here old new whole at back is one al
     ∙ ap (λ (ps : List Passed). old ++ on_ (changes_below ps && not (r.rate == before r.clock.0)) ps) back
     ∙ ap (λ (rs : List ClockRate). old ++ changed_along up before passed rs) (sym (rest_of (λ (x : WalkRate). record { clock = x.clock.0; rate = x.rate }) rates k r at))
     ∙ all
-
-all_at : (P : Changed → Type 0) (xs : List Changed) → AllByRecursion P xs → All P xs
-all_at P [] each k d less = absurd (omega arith)
-all_at P (x ∷ xs) each zero d less = each.0
-all_at P (x ∷ xs) each (suc k) d less = all_at P xs each.1 k d (omega arith)
-
-each_inside : (up : ℕ → Option ℕ) (before : ℕ → ℕ) (passed : List Passed) (rates : List ClockRate) (clocks : List ClockRow) (n : ℕ) → length clocks ≡ n → AreThere clocks rates
-    → AllByRecursion (λ x. x.clock.0 < n) (changed_along up before passed rates)
-each_inside up before passed [] clocks n rows there = tt
-each_inside up before passed (r ∷ rs) clocks n rows there =
-    let above : List Passed = back_to (up r.clock) passed in
-    one (changes before above r) _ (registered_inside clocks n r.clock rows there.0) (each_inside up before (record { clock = clock_id r.clock; changes = changes before above r } ∷ above) rs clocks n rows there.1) where
-      one : (t : Bool) (more : List Changed) → r.clock < n → AllByRecursion (λ x. x.clock.0 < n) more → AllByRecursion (λ x. x.clock.0 < n) (cond t (changed_to before r ∷ []) [] ++ more)
-      one true more here rest = (here, rest)
-      one false more here rest = rest
-
--- the changed clocks are clocks of the description
-pub changed_inside : (up : ℕ → Option ℕ) (before : ℕ → ℕ) (passed : List Passed) (rates : List ClockRate) (clocks : List ClockRow) (n : ℕ) → length clocks ≡ n → AreThere clocks rates
-    → All (λ x. x.clock.0 < n) (changed_along up before passed rates)
-changed_inside up before passed rates clocks n rows there = all_at (λ x. x.clock.0 < n) (changed_along up before passed rates) (each_inside up before passed rates clocks n rows there)
 
 -- ---- notices
 

@@ -222,7 +222,3 @@ pub vetoed_is : (words : ℕ) (s : State) (t : TreeState) (held : ℕ → Bool) 
     → list_any is_veto (flat_map (λ x. tell_before x (notifiers_at lists x)) (map (changed_in s plan.chain) (changing s.order (wiring s) plan.chain))) ≡ (planned_by s plan).vetoed
 unfolding planned
 vetoed_is words s t held lists plan fits = ap (list_any is_veto) (pre_is words s t held lists plan fits)
-
-pub changing_is : (s : State) (plan : Plan) → (planned_by s plan).changing ≡ changing s.order (wiring s) plan.chain
-unfolding planned
-changing_is s plan = refl

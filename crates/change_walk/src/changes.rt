@@ -1,19 +1,15 @@
 //! The clocks whose rate a plan changes.
 
-ghost use Rattle.std.specs.Prelude.{◌≡◌, ℕ, ◌<◌, ◌==◌, ◌&&◌, ◌++◌, Bool, List, not, true, if◌then◌else◌, [], ◌∷◌, Some, All, length, map, reverse, slice_get, slice_index, IfOk, OnOk};
+ghost use Rattle.std.specs.Prelude.{◌≡◌, ◌<◌, ◌==◌, ◌&&◌, ◌++◌, not, true, if◌then◌else◌, [], ◌∷◌, Some, reverse, slice_index, IfOk, OnOk};
 ghost use Rattle.std.specs.Option.{option_map};
 ghost use Rattle.clk_model.specs.Lists.{is_at};
-ghost use Rattle.clk_model.specs.State.{registered};
 ghost use Rattle.clk_tree.specs.Plans.{chain_of, rates_of};
-ghost use Rattle.notifiers.specs.declared.notifier.Notifier.{Notifier};
-ghost use Rattle.change_walk.specs.Given.{OfPlan, changed_in, planned_by};
 ghost use Rattle.change_walk.specs.Changes.{AreThere, back_to, changed_along, changes_below, is_back, parent_after};
 
 use crate::places::{rate_at, step_at};
 use clk_base::ClockId;
 use clk_io::NoMemory;
-use clk_tree::{ChainStep, Plan, Tree, WalkRate};
-use std::alloc::Global;
+use clk_tree::{ChainStep, Tree, WalkRate};
 
 /// A clock whose rate a plan changes.
 #[derive(Clone, Copy, Debug, PartialEq, Eq)]
@@ -134,18 +130,4 @@ pub(crate) fn changes(
         passed.push(Passed { clock, changes })?;
     }
     Ok(())
-}
-
-/// The clocks whose rates a plan changes, in its walk's order. Want of memory is its one refusal.
-pub fn changed_clocks(alloc: Global, tree: &Tree, plan: &Plan) -> Result<Vec<Changed>, NoMemory>
-    requires there { AreThere tree.now.clocks plan.now.rates }
-    ensures changed { IfOk result (λ clocks. (held : ℕ → Bool) (lists : List (List Notifier)) → OfPlan tree.now held lists plan.now (λ s. clocks.items ≡ map (changed_in s plan.now.chain) (planned_by s plan.now).changing)) }
-    ensures inside { IfOk result (λ clocks. All (λ x. x.clock.0 < length tree.now.defs) clocks.items) }
-{
-    let _plls = tree.plls();
-    let mut passed = Vec::new(alloc);
-    let mut clocks = Vec::new(alloc);
-    let chain = plan.chain.as_slice();
-    changes(&mut passed, &mut clocks, tree, chain, plan.rates.as_slice())?;
-    Ok(clocks)
 }

@@ -12,7 +12,7 @@ mod planned;
 mod step_list;
 mod weight;
 
-pub use changes::{Changed, changed_clocks};
+pub use changes::Changed;
 pub use planned::script;
 pub use step_list::StepList;
 pub use weight::weigh;

@@ -1,6 +1,6 @@
 -- The flight stays the change of the definitions through a fall, a hold and a visit.
 use Rattle.std.proofs.Common.{◌≡◌, ℕ, suc, ◌+◌, ◌||◌, Bool, true, false, cond, List, [], ◌∷◌, ◌++◌, Some, refl, sym, ap, ◌∙◌, subst, arith, length, map, take, drop, nat_eq}
-use Rattle.std.specs.Prelude.{slice_get, slice_index, is_none, if◌then◌else◌}
+use Rattle.std.specs.Prelude.{slice_get, slice_index, if◌then◌else◌}
 use Rattle.std.specs.List.{list_any, list_all}
 use Rattle.std.specs.Option.{option_map}
 use Rattle.std.proofs.lemmas.Bool.Decides.{nat_tests}
@@ -10,8 +10,8 @@ use Rattle.std.proofs.lemmas.Option.{slice_get-map}
 use Rattle.clk_base.specs.declared.clock.ClockId.{ClockId}
 use Rattle.clk_base.specs.declared.call.Micro.{Micro}
 use Rattle.clk_base.specs.declared.call.Micro.TheVariants as micro
-use Rattle.clk_model.specs.Lists.{without, without_one}
-use Rattle.clk_model.specs.State.{State, NotifierRow, Change}
+use Rattle.clk_model.specs.Lists.{without_one}
+use Rattle.clk_model.specs.State.{State, Change}
 use Rattle.clk_model.specs.Chain.{clock_id}
 use Rattle.clk_model.specs.Notices.{notifiers_of, post_list}
 use Rattle.clk_model.specs.Rate.{rate}
@@ -22,10 +22,10 @@ use Rattle.clk_flight.specs.declared.front.Front.{Front}
 use Rattle.clk_flight.specs.declared.front.Front.TheVariants.{Empty, Poll, Raise, Lower, Falls, Posts}
 use Rattle.clk_flight.specs.Fronts.{is_empty, called_off, post_to, front_steps, falls}
 use Rattle.clk_flight.specs.Flights.{FlightState, IsChange, Flies, own_first, own_step}
-use Rattle.clk_flight.specs.Moves.{fallen, let_go_of, visited}
-use Rattle.clk_flight.specs.Steps.{Drops, LetsGo, Visits, told_by_visit}
+use Rattle.clk_flight.specs.Moves.{fallen, visited}
+use Rattle.clk_flight.specs.Steps.{Drops, Visits, told_by_visit}
 use Rattle.clk_flight.proofs.KeptLaws.{going_step, falls_steps, posts_steps}
-use Rattle.clk_flight.proofs.ChangeLaws.{full, first_in_front, first_of_part, aborts_noticed, first_noticed, posted, in_front, script_first, left_taken, times_out_before, length-rest, falls_polls, posts_polls, posts_count, posts_steps_are, posts_aborts, none_of}
+use Rattle.clk_flight.proofs.ChangeLaws.{first_in_front, first_of_part, aborts_noticed, first_noticed, posted, in_front, script_first, left_taken, times_out_before, length-rest, falls_polls, posts_polls, posts_count, posts_steps_are, posts_aborts, none_of}
 use Rattle.clk_flight.proofs.PollLaws.{not_of_script, falls_are, falls_aborts, falls_count_is, drop_none}
 use Rattle.clk_model.proofs.PacedLaws.{notices_calm}
 
@@ -117,36 +117,6 @@ empty_is (Raise x) e = absurd cc
 empty_is (Lower x) e = absurd cc
 empty_is (Falls told left) e = absurd cc
 empty_is (Posts c told left old new) e = absurd cc
-
-let_go_still : (f : FlightState) (notifiers : List NotifierRow) (k : Change) (y : ClockId) → k.front ≡ [] → IsChange notifiers (record f { front = Empty }) k
-    → IsChange notifiers (record f { front = Empty; raised = without (y.0 ∷ []) f.raised }) (record k { raised = without (y.0 ∷ []) k.raised })
-let_go_still f notifiers k y nil is = record {
-  going = is.going;
-  driver = is.driver;
-  call = is.call;
-  front = nil;
-  count = is.count;
-  steps = tt;
-  notices = refl;
-  left = is.left;
-  polls = is.polls;
-  again = is.again;
-  raised = ap (without (y.0 ∷ [])) is.raised;
-  range = is.range;
-  extra = is.extra;
-  fits = is.fits;
-  calls_off = is.calls_off;
-  vetoed = is.vetoed;
-  timed_out = is.timed_out;
-  aborts = is.aborts;
-}
-
-pub let_go-change : (f : FlightState) (y : ClockId) → LetsGo y f (let_go_of f y)
-let_go-change f y notifiers k is nil =
-    let at : f.front ≡ Empty = empty_is f.front (sym (full notifiers f k is) ∙ ap (λ (ms : List Micro). is_none (slice_get ms 0)) nil) in
-    let whole : f ≡ record f { front = Empty } = ap (λ (fr : Front). record f { front = fr }) at in
-    subst (λ (g : FlightState). IsChange notifiers (let_go_of g y) (record k { raised = without (y.0 ∷ []) k.raised })) (sym whole)
-    (let_go_still f notifiers k y nil (subst (λ (g : FlightState). IsChange notifiers g k) whole is))
 
 -- ---- visits
 

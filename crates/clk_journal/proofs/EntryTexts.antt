@@ -1,11 +1,9 @@
 -- The words of an entry, apart and as a line, and the lines of a journal from a place on.
-use Rattle.std.proofs.Common.{◌≡◌, ℕ, ◌+◌, ◌<◌, List, [], ◌∷◌, ◌++◌, length, drop, drop-cons, get_or, Option, Bool, true, false, sym, ap, ◌∙◌, append_assoc, add-one, codes}
+use Rattle.std.proofs.Common.{◌≡◌, ℕ, ◌+◌, ◌<◌, List, [], ◌∷◌, ◌++◌, length, drop, drop-cons, get_or, sym, ap, ◌∙◌, append_assoc, add-one, codes}
 use Rattle.std.specs.Fmt.{decimal}
 use Rattle.clk_base.specs.Description.{Description}
-use Rattle.clk_base.specs.declared.call.Micro.{Micro}
 use Rattle.clk_base.specs.declared.call.Micro.TheVariants as micro
 use Rattle.clk_base.specs.declared.call.Notice.TheVariants as notice
-use Rattle.clk_base.specs.declared.call.Sleeping.{Sleeping}
 use Rattle.clk_base.specs.declared.call.Sleeping.TheVariants as call
 use Rattle.clk_base.specs.declared.event.Entry.{Entry}
 use Rattle.clk_base.specs.declared.event.Event.{Event}
@@ -14,9 +12,8 @@ use Rattle.clk_base.specs.declared.event.Reply.{Reply}
 use Rattle.clk_base.specs.declared.event.Reply.TheVariants as reply
 use Rattle.clk_base.specs.declared.event.Turn.{Turn}
 use Rattle.clk_base.specs.declared.event.Turn.TheVariants as turn
-use Rattle.clk_base.specs.declared.handle.Policy.{Policy}
 use Rattle.clk_base.specs.declared.handle.Policy.TheVariants as policy
-use Rattle.clk_model.specs.Text.{Word, spaced, policy_words, call_words, step_words, event_words, turn_words, reply_words, entry_text, entries_from}
+use Rattle.clk_model.specs.Text.{Word, spaced, event_words, turn_words, reply_words, entry_text, entries_from}
 
 -- there is a word
 abbrev HasWords : List Word → Type 0
@@ -35,53 +32,6 @@ spaced_both (u ∷ w ∷ us) (v ∷ vs) some more =
 -- a word in front of others
 spaced_behind : (w : Word) (vs : List Word) → HasWords vs → spaced (w ∷ vs) ≡ w ++ (codes " " ++ spaced vs)
 spaced_behind w vs more = spaced_both (w ∷ []) vs tt more
-
-policy_has : (p : Policy) → HasWords (policy_words p)
-policy_has policy.Accept = tt
-policy_has (policy.VetoAbove r) = tt
-policy_has (policy.VetoBelow r) = tt
-policy_has policy.VetoAll = tt
-
-call_has : (defs : Description) (what : Sleeping) → HasWords (call_words defs what)
-call_has defs (call.Get found) = tt
-call_has defs (call.Put h) = tt
-call_has defs (call.Prepare h) = tt
-call_has defs (call.Unprepare h) = tt
-call_has defs (call.GetRate h) = tt
-call_has defs (call.RoundRate h x) = tt
-call_has defs (call.SetRate h x) = tt
-call_has defs (call.SetRateExclusive h x) = tt
-call_has defs (call.SetRange h least most) = tt
-call_has defs (call.SetParent h p) = tt
-call_has defs (call.GetParent h) = tt
-call_has defs (call.ExclusiveGet h) = tt
-call_has defs (call.ExclusivePut h) = tt
-call_has defs (call.NotifierAdd h id priority policy) = tt
-call_has defs (call.NotifierRemove h id) = tt
-call_has defs (call.Probe c) = tt
-call_has defs call.Sweep = tt
-
-step_has : (defs : Description) (m : Micro) (locked : Option Bool) → HasWords (step_words defs m locked)
-step_has defs (micro.Notify (notice.Pre true) c id old new) locked = tt
-step_has defs (micro.Notify (notice.Pre false) c id old new) locked = tt
-step_has defs (micro.Notify notice.Abort c id old new) locked = tt
-step_has defs (micro.Notify notice.Post c id old new) locked = tt
-step_has defs (micro.Raise x) locked = tt
-step_has defs (micro.Poll y) locked = tt
-step_has defs (micro.Fall y) locked = tt
-step_has defs (micro.HoldPrepare x) locked = tt
-step_has defs (micro.HoldEnable x) locked = tt
-step_has defs (micro.Relink c p) locked = tt
-step_has defs (micro.WriteMux c place) locked = tt
-step_has defs (micro.DropEnable x) locked = tt
-step_has defs (micro.DropPrepare x) locked = tt
-step_has defs (micro.Lower x) locked = tt
-step_has defs (micro.Visit c) locked = tt
-step_has defs (micro.Register c) locked = tt
-step_has defs (micro.Settle c) locked = tt
-step_has defs (micro.Close c) locked = tt
-step_has defs (micro.Unpower c) locked = tt
-step_has defs micro.End locked = tt
 
 event_has : (defs : Description) (e : Event) → HasWords (event_words defs e)
 event_has defs (event.Enable number) = tt
@@ -103,16 +53,6 @@ reply_has defs (reply.Refused e) = tt
 turn_has : (defs : Description) (t : Turn) → HasWords (turn_words defs t)
 turn_has defs turn.Going = tt
 turn_has defs (turn.Done r) = reply_has defs r
-
--- the text of a call behind its first word, of a step behind its own, and of a policy behind what it is for
-pub begin_text : (defs : Description) (what : Sleeping) → spaced (event_words defs (event.Begin what)) ≡ codes "begin" ++ (codes " " ++ spaced (call_words defs what))
-begin_text defs what = spaced_behind (codes "begin") (call_words defs what) (call_has defs what)
-
-pub step_text : (defs : Description) (m : Micro) (locked : Option Bool) → spaced (event_words defs (event.Step m locked)) ≡ codes "step" ++ (codes " " ++ spaced (step_words defs m locked))
-step_text defs m locked = spaced_behind (codes "step") (step_words defs m locked) (step_has defs m locked)
-
-pub policy_text : (w : Word) (p : Policy) → spaced (w ∷ policy_words p) ≡ w ++ (codes " " ++ spaced (policy_words p))
-policy_text w p = spaced_behind w (policy_words p) (policy_has p)
 
 -- an entry's line, from the pieces of its format
 pub entry_text-pieces : (defs : Description) (names : List Word) (number : ℕ) (e : Entry) (driver : Word) → driver ≡ get_or names e.driver []

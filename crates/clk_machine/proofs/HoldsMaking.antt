@@ -153,9 +153,6 @@ stands_held old k' prepares' enables' s t stands made links exclusives defs cloc
     StandsFor-moved old.counts k' s t stands made links exclusives defs clocks handles
     (λ c. let both = enables c in let was = was_e.each c in let is = is_e.each c in omega arith) (λ c. let both = prepares c in let was = was_p.each c in let is = is_p.each c in omega arith)
 
-same_held : (xs ys : List ℕ) (c : ℕ) → slice_index xs c + slice_index ys c ≡ slice_index xs c + slice_index ys c
-same_held xs ys c = refl
-
 -- the places of a registered clock
 pub record HasPlaces (old : Parts) (x : ℕ) : Type 0 where
   pub desc : x < length old.desc.defs

@@ -271,12 +271,6 @@ sorted (micro.Raise x) = inr (inl (x, refl))
 sorted (micro.Poll y) = inr (inr (y, refl))
 sorted _ = inl refl
 
--- one that does neither leaves what was asked, and answers no poll
-calm_asks : (asked : List ℕ) (m : Micro) (answer : Option Bool) → raises m ≡ false → asked_after asked (event.Step m answer) ≡ asked
-calm_asks asked (micro.Raise x) answer e = absurd cc
-calm_asks asked (micro.Poll y) answer e = absurd cc
-calm_asks asked _ answer e = refl
-
 calm_answers : (delay : ℕ → ℕ) (asked : List ℕ) (m : Micro) (answer : Option Bool) → raises m ≡ false → AnswersByDelay delay asked (event.Step m answer)
 calm_answers delay asked (micro.Raise x) answer e = tt
 calm_answers delay asked (micro.Poll y) answer e = absurd cc

@@ -15,7 +15,6 @@ use Rattle.clk_base.specs.Fields.{power_of}
 use Rattle.clk_base.proofs.Valid.{length-valid}
 use Rattle.reg_bank.specs.Locks.{most_plls}
 use Rattle.clk_model.specs.Kinds.{with_power}
-use Rattle.clk_model.proofs.Members.{both_right}
 use Rattle.clk_base.specs.Valid.{IsValid}
 use Rattle.clk_model.specs.Chain.{clock_id}
 use Rattle.clk_model.specs.State.{State, Change, registered}
@@ -31,14 +30,13 @@ use Rattle.clk_flight.proofs.SeekLaws.{paced_seek_few}
 use Rattle.core_parts.specs.Window.{Shown}
 use Rattle.clk_flight.specs.LeftOver.{left_over}
 use Rattle.core_parts.specs.Course.{CourseState, IsAlong}
-use Rattle.core_parts.specs.InFlight.{is_near, may_seek}
+use Rattle.core_parts.specs.InFlight.{may_seek}
 use Rattle.clk_machine.specs.Making.{ComesFirst, FindsNothing}
 use Rattle.core_parts.specs.Listed.{rows_from}
 use Rattle.clk_machine.specs.Parts.{Parts, IsWhole}
 use Rattle.core_parts.specs.Plls.{raisable, lowerable, Finds}
 use Rattle.clk_machine.specs.Sound.{IsSound}
 use Rattle.clk_machine.specs.Stands.{Stands, Leads, Enters}
-use Rattle.core_parts.proofs.InFlight.{raise_there}
 use Rattle.core_parts.proofs.StepsInFlight.{fall_in_front, fall_told, poll_there, seeks_plain}
 use Rattle.core_parts.proofs.SameCall.{same_raised, same_polled}
 use Rattle.clk_machine.proofs.Making.{with_step, stands_stepped, enters_step, change_of, next_of, to_raise_stands, to_lower_stands, near_within}
@@ -237,10 +235,6 @@ fall_enters old pll window' flight' going next comes size words behind is change
     })
 
 -- ---- what the steps need
-
--- the clock of a raise that comes next is registered, or is the one that its call registers
-pub raised_near : (m : Parts) (x : ClockId) → IsWhole m → m.flight.going ≡ true → own_step m.flight ≡ Some (micro.Raise x) → is_near m.flight.call (registered m.tree.clocks) x.0 ≡ true
-raised_near m x whole going own = both_right _ _ (raise_there m.flight (registered m.tree.clocks) x own (whole.flown going).way)
 
 -- the PLL that is polled next, or falls, is a clock of the description
 pub polled_place : (m : Parts) (y : ClockId) → IsWhole m → m.flight.going ≡ true → own_step m.flight ≡ Some (micro.Poll y) → y.0 < length m.desc.defs

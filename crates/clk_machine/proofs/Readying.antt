@@ -102,10 +102,6 @@ rated_all : (rates before will : List ℕ) (clocks : List ClockRow) (f : ℕ →
 rated_all rates before will clocks f [] each there = tt
 rated_all rates before will clocks f (c ∷ cs) each there = (each c there.0, rated_all rates before will clocks f cs each there.1)
 
--- the rows of a tree with a link are registered
-linked_rows : (m : Parts) → IsWhole m → (c p : ℕ) → link_in m.tree.clocks c ≡ Some p → registered m.tree.clocks c ≡ true
-linked_rows m whole c p at = whole.tied.stands.linked c p at
-
 -- ---- what its script comes to
 
 -- a timeout calls off only a change of parent

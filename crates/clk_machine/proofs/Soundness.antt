@@ -1,25 +1,24 @@
 -- What holds of a state that a journal leads to, and what the rows of one say so far.
-use Rattle.std.proofs.Common.{◌≡◌, ℕ, Bool, true, false, List, [], ◌∷◌, ◌++◌, Some, None, refl, sym, ap, subst, ◌∙◌, ◌≤◌, length}
+use Rattle.std.proofs.Common.{◌≡◌, ℕ, Bool, List, [], ◌∷◌, ◌++◌, Some, refl, sym, ap, subst, ◌∙◌, ◌≤◌, length}
 use Rattle.std.proofs.lemmas.List.{length-replicate}
 use Rattle.clk_base.specs.declared.event.Entry.{Entry}
 use Rattle.clk_base.specs.declared.event.Event.{Event}
 use Rattle.clk_base.specs.declared.event.Turn.{Turn}
 use Rattle.clk_base.specs.Description.{Description}
 use Rattle.clk_base.specs.Valid.{IsValid}
-use Rattle.clk_model.specs.State.{State, registered, link_in}
+use Rattle.clk_model.specs.State.{State}
 use Rattle.clk_model.specs.Fed.{Fed}
 use Rattle.clk_model.specs.Begin.{most_credits}
 use Rattle.clk_model.specs.Machine.{next}
 use Rattle.clk_model.specs.Journal.{opening, replay}
 use Rattle.clk_model.specs.Wired.{LinksArePossible}
 use Rattle.clk_model.specs.Laws.LinksKept.{KeepsLinks, IsWiredOver}
-use Rattle.clk_model.specs.Laws.RunsFed.{IsSettled}
 use Rattle.clk_model.specs.Laws.RunsEnd.{HasRoom}
 use Rattle.clk_model.proofs.GatesFollowLaws.{blank_link}
 use Rattle.clk_model.proofs.JournalLaws.{replay-append}
 use Rattle.clk_model.proofs.LinkLaws.{runs_keep_links, runs_are_wired}
 use Rattle.clk_model.proofs.RoomLaws.{runs_have_room}
-use Rattle.clk_model.proofs.RunsFedLaws.{runs_are_fed, quiet_runs_are_settled}
+use Rattle.clk_model.proofs.RunsFedLaws.{runs_are_fed}
 use Rattle.clk_machine.specs.Sound.{IsReached, IsNarrow, IsSound}
 
 -- ---- a state that a journal leads to
@@ -48,12 +47,6 @@ pub fed_reached : (words : ℕ) (s : State) → IsReached words s → Fed s
 fed_reached words s is =
     subst (λ (t : State). Fed t) (sym is.leads) (runs_are_fed is.defs is.regs is.ignore_unused is.credits is.journal is.valid)
 
--- while no call is in flight it is settled
-pub settled_reached : (words : ℕ) (s : State) → IsReached words s → s.change ≡ None → IsSettled s
-settled_reached words s is quiet =
-    subst (λ (t : State). IsSettled t) (sym is.leads)
-    (quiet_runs_are_settled is.defs is.regs is.ignore_unused is.credits is.journal is.valid (sym (ap (λ (t : State). t.change) is.leads) ∙ quiet))
-
 -- an event leads on
 pub reached_next : (words : ℕ) (s t : State) (d : ℕ) (e : Event) (x : Turn) → IsReached words s → next s d e ≡ Some (t, x) → IsReached words t
 reached_next words s t d e x is step =
@@ -71,13 +64,6 @@ reached_next words s t d e x is step =
     }
 
 -- ---- links
-
--- a clock with a link is registered
-pub linked_is_registered : (words : ℕ) (s : State) → IsNarrow words s → (c p : ℕ) → link_in s.clocks c ≡ Some p → registered s.clocks c ≡ true
-linked_is_registered words s sound c p at = by_row (registered s.clocks c) refl where
-  by_row : (t : Bool) → registered s.clocks c ≡ t → t ≡ true
-  by_row true there = refl
-  by_row false free = let none = sound.unlinked c free in absurd cc
 
 -- its link is a possible parent
 pub links_possible : (words : ℕ) (s : State) → IsNarrow words s → LinksArePossible s.defs s.clocks

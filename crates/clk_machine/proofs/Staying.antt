@@ -1,6 +1,6 @@
 -- A request for a rate leaves a clock its parent that it may not move.
-use Rattle.std.proofs.Common.{◌≡◌, ℕ, ◌&&◌, not, Bool, true, false, Option, Some, None, refl, max}
-use Rattle.std.specs.Prelude.{◌*◌, ◌/◌, IfSome, is_some, option_map, option_and_then}
+use Rattle.std.proofs.Common.{◌≡◌, ℕ, ◌&&◌, not, Bool, true, false, Option, Some, refl, max}
+use Rattle.std.specs.Prelude.{◌*◌, ◌/◌, IfSome, is_some}
 use Rattle.std.specs.Int.{div_ceil}
 use Rattle.clk_base.specs.declared.clock.Kind.{Kind}
 use Rattle.clk_base.specs.declared.clock.Kind.TheVariants.{FixedRate, Factor, Gate, Mux, Divider, Pll}
@@ -11,20 +11,12 @@ use Rattle.kind_math.specs.Dividers.{valid_divisors, div_round}
 use Rattle.kind_math.specs.Rates.{capped, factor_rate}
 use Rattle.clk_model.specs.Kinds.{can_round, mux_field}
 use Rattle.clk_model.specs.Rate.{style_of}
-use Rattle.clk_model.specs.Round.{Wiring, View, Rounded, rate_in, parent_rate_in, over_parent, passes_on, through, over_link, by_divisor, by_candidate, by_kind, clamped, rate_for, round_by, round}
+use Rattle.clk_model.specs.Round.{Wiring, View, Rounded, rate_in, parent_rate_in, over_parent, passes_on, over_link, by_divisor, by_candidate, by_kind, clamped, rate_for, round_by, round}
 use Rattle.clk_model.specs.State.{link_in}
 use Rattle.clk_model.proofs.MuxLaws.{link_stays, divisor_stays}
 use Rattle.core_parts.specs.Movable.{may_move}
 
 -- ---- rounding
-
--- what the link gives has the link as its parent
-over_stays : (own : ℕ → ℕ) (link : Option ℕ) (ask : ℕ → Option ℕ) → IfSome (option_and_then (λ p. option_map (through own p) (ask p)) link) (λ r. r.parent ≡ link)
-over_stays own None ask = tt
-over_stays own (Some p) ask = by (ask p) where
-  by : (o : Option ℕ) → IfSome (option_map (through own p) o) (λ r. r.parent ≡ Some p)
-  by None = tt
-  by (Some r) = refl
 
 -- whether a rounding leaves a clock its parent
 abbrev pub Stays : Wiring → ℕ → Rounded → Type 0

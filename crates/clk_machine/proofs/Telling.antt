@@ -33,9 +33,6 @@ use Rattle.core_parts.proofs.NotifierRows.{count_told, rows_count}
 
 -- ---- which notice comes next
 
-post_notice : (c : ClockId) (old new : ℕ) (n : NotifierRow) → is_notice (post_to c old new n) ≡ true
-post_notice c old new n = refl
-
 -- a notice comes next, whoever its notifier is
 pub tells_next : (p : Parts) (m : Micro) (whole : IsWhole p) → p.flight.going ≡ true → comes_next whole.listed.rows p.flight ≡ Some m → is_notice m ≡ true → TellsNext p
 tells_next p m whole going comes notice = by p.flight.front refl where

@@ -187,9 +187,6 @@ holder_before defs up c p a holders may off holder =
 pub holder_clock : (up : ℕ → Option ℕ) (c p : ℕ) (holders : List ℕ) → Holder up holders c → Holder (put_at c (Some p) up) holders c
 holder_clock up c p holders holder = (holder.0, holder.1, above_clock up c p holder.0 holder.2)
 
-pub clock_held_before : (defs : Description) (up : ℕ → Option ℕ) (c p : ℕ) (holders : List ℕ) → MayLink defs up c p → Holder (put_at c (Some p) up) holders c → Holder up holders c
-clock_held_before defs up c p holders may holder = (holder.0, holder.1, clock_before defs up c p holder.0 may holder.2)
-
 -- what is held after a new link was held, or is above the new parent, and the clock was held
 pub held_before : (defs : Description) (up : ℕ → Option ℕ) (c p a : ℕ) (holders : List ℕ) → MayLink defs up c p → Holder (put_at c (Some p) up) holders a
     → Holder up holders a ⊎ (Holder up holders c × Above up p a)

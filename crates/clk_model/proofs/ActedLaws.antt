@@ -125,11 +125,6 @@ written_same words w new c place valid same fits = by (mux_field (kind_of w.defs
   by None at fit = same
   by (Some f) at fit = put_same words w.defs w.regs new c f place valid (mux_is_field (kind_of w.defs c) f at) (grind (arith, nat_tests)) same
 
--- the same registers, over the same description and links
-with_regs : (defs : Description) (v w : Wiring) (old new : Registers) → v.defs ≡ w.defs → length v.clocks ≡ length w.clocks → ((c : ℕ) → link_in v.clocks c ≡ link_in w.clocks c) → SameFields w.defs old new
-    → SameSettings (record v { regs = new }) (record w { regs = old })
-with_regs defs v w old new same rows links fields = record { defs = same; rows = rows; words = fields.words; links = links; fields = fields.fields }
-
 act_over : (words : ℕ) (ks : List ChainStep) (m : Micro) (w : Wiring) (clocks : List ClockRow) (new : Registers) → IsValid words w.defs → writes_fit w.defs m ≡ true
     → SameSettings (record w { clocks = clocks; regs = new }) w → SameSettings (act ks m (record w { clocks = clocks; regs = new })) (act ks m w)
 act_over words ks (micro.Relink c p) w clocks new valid fits same = record {

@@ -1,19 +1,15 @@
 -- Laws on the counts where handles alone hold clocks.
-use Rattle.std.proofs.Common.{◌≡◌, ℕ, suc, ◌+◌, ◌<◌, ◌≤◌, ◌&&◌, ◌||◌, Bool, true, false, cond, List, [], ◌∷◌, ◌++◌, Option, Some, None, refl, sym, ap, ◌∙◌, arith, length, map, nat_eq, nat_lt}
+use Rattle.std.proofs.Common.{◌≡◌, ℕ, suc, ◌+◌, ◌≤◌, ◌||◌, Bool, true, false, cond, List, [], ◌∷◌, ◌++◌, Option, Some, None, refl, sym, ap, ◌∙◌, arith, map, nat_lt}
 use Rattle.std.specs.Prelude.{filter, sum_by, count_by}
 use Rattle.std.proofs.lemmas.List.Sums.{sum_by-cons}
 use Rattle.std.proofs.lemmas.List.Folds.{list_any-append}
-use Rattle.clk_base.specs.Flags.{is_critical, sets_rate_gate}
 use Rattle.clk_model.specs.declared.row.ClockRow.{ClockRow}
 use Rattle.clk_model.specs.declared.row.HandleRow.{HandleRow}
-use Rattle.clk_model.specs.Lists.{is_in, present, count_from}
-use Rattle.clk_model.specs.State.{State, registered, handle_at}
+use Rattle.clk_model.specs.Lists.{is_in, present}
+use Rattle.clk_model.specs.State.{State, handle_at}
 use Rattle.clk_model.specs.Tree.{path, children}
-use Rattle.clk_model.specs.Holders.{clocks_of, is_enabled, is_prepared, is_exclusive, critical_clocks, is_held, active, prepared, protect_holders, guarded}
-use Rattle.clk_model.specs.Counts.{critical_part, enable_count, prepare_count, protect_count}
-use Rattle.clk_model.proofs.Members.{count_from-below}
+use Rattle.clk_model.specs.Holders.{clocks_of, is_prepared, is_exclusive, critical_clocks, is_held, prepared}
 use Rattle.clk_model.proofs.HolderLaws.{held_by}
-use Rattle.clk_model.proofs.StateLaws.{active_by_handles, filter_none}
 
 -- ---- counting
 
@@ -64,22 +60,6 @@ prepared_by_handles s c none holds = held_alone s.clocks (clocks_of is_prepared 
 parts : (sum critical held held' children children' : ℕ) → critical ≡ 0 → held ≡ held' → held' ≡ 0 → children ≡ children' → sum + critical + held + children ≡ sum + children'
 parts sum critical held held' children children' a b d e = omega arith
 
-pub enable_count-handles : (s : State) (c : ℕ) → critical_clocks s ≡ [] → is_critical s.defs c ≡ false → s.enable_holds ≡ []
-    → enable_count s c ≡ sum_by (λ h. h.enables) (filter (λ h. nat_eq h.clock.0 c) (present s.handles)) + count_by (held_by s.clocks is_enabled s.handles) (children s.order s.clocks c)
-enable_count-handles s c none plain holds =
-    parts (sum_by (λ h. h.enables) (filter (λ h. nat_eq h.clock.0 c) (present s.handles))) (critical_part s c) _ _ _ _
-    (ap (λ (b : Bool). cond (b && registered s.clocks c) 1 0) plain)
-    (ap (count_by (λ h. nat_eq h c)) holds) refl
-    (count_by-agree (active s) (held_by s.clocks is_enabled s.handles) (children s.order s.clocks c) (λ x. active_by_handles s x none holds))
-
-pub prepare_count-handles : (s : State) (c : ℕ) → critical_clocks s ≡ [] → is_critical s.defs c ≡ false → s.prepare_holds ≡ []
-    → prepare_count s c ≡ sum_by (λ h. h.prepares) (filter (λ h. nat_eq h.clock.0 c) (present s.handles)) + count_by (held_by s.clocks is_prepared s.handles) (children s.order s.clocks c)
-prepare_count-handles s c none plain holds =
-    parts (sum_by (λ h. h.prepares) (filter (λ h. nat_eq h.clock.0 c) (present s.handles))) (critical_part s c) _ _ _ _
-    (ap (λ (b : Bool). cond (b && registered s.clocks c) 1 0) plain)
-    (ap (count_by (λ h. nat_eq h c)) holds) refl
-    (count_by-agree (prepared s) (held_by s.clocks is_prepared s.handles) (children s.order s.clocks c) (λ x. prepared_by_handles s x none holds))
-
 -- ---- nobody holds a rate
 
 sum_none : (count : HandleRow → ℕ) (p : HandleRow → Bool) (handles : List (Option HandleRow)) → ((n : ℕ) (h : HandleRow) → handle_at handles n ≡ Some h → count h ≡ 0)
@@ -102,20 +82,3 @@ clocks_none (Some g ∷ handles) none =
     ∙ clocks_none handles (λ n h at. none (suc n) h at) where
       map_clocks : List HandleRow → List ℕ
       map_clocks hs = map (λ h. h.clock.0) hs
-
--- without an exclusive hold, and without a clock that protects its rate, no count protects one
-pub protect_count-none : (s : State) (c : ℕ) → ((n : ℕ) (h : HandleRow) → handle_at s.handles n ≡ Some h → h.exclusives ≡ 0)
-    → ((d : ℕ) → d < length s.defs → sets_rate_gate s.defs d ≡ false) → c < length s.defs → protect_count s c ≡ 0
-protect_count-none s c none plain within =
-    let sum = sum_none (λ h. h.exclusives) (λ h. nat_eq h.clock.0 c) s.handles none in
-    let own : cond (sets_rate_gate s.defs c) (prepare_count s c) 0 ≡ 0 = ap (λ (b : Bool). cond b (prepare_count s c) 0) (plain c within) in
-    let children_ = count_by-none (guarded s) (children s.order s.clocks c) unguarded in
-    omega arith where
-      no_holder : protect_holders s ≡ []
-      no_holder =
-          ap (λ (hs : List ℕ). hs ++ filter (λ d. sets_rate_gate s.defs d && prepared s d) (count_from 0 (length s.defs))) (clocks_none s.handles none)
-          ∙ filter_none (λ d. sets_rate_gate s.defs d && prepared s d) (count_from 0 (length s.defs))
-          (λ d m. let below : d < 0 + length s.defs = count_from-below d 0 (length s.defs) m in ap (λ (t : Bool). t && prepared s d) (plain d (omega arith)))
-
-      unguarded : (x : ℕ) → guarded s x ≡ false
-      unguarded x = ap (λ (hs : List ℕ). is_held s.clocks hs x) no_holder

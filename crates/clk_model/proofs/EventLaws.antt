@@ -1,6 +1,6 @@
 -- What each event comes to, case by case.
-use Rattle.std.proofs.Common.{◌≡◌, ℕ, ◌+◌, ◌-◌, ◌<◌, ◌&&◌, ◌||◌, Bool, true, false, not, cond, List, [], Option, Some, None, refl, ap, ◌∙◌, arith, nat_eq}
-use Rattle.std.specs.Prelude.{slice_get, is_none, filter, if◌then◌else◌, option_map}
+use Rattle.std.proofs.Common.{◌≡◌, ℕ, ◌+◌, ◌-◌, ◌<◌, Bool, true, false, cond, List, [], Option, Some, None, refl, ap, ◌∙◌, arith, nat_eq}
+use Rattle.std.specs.Prelude.{slice_get, is_none, if◌then◌else◌, option_map}
 use Rattle.std.specs.Option.{option_map_or}
 use Rattle.std.proofs.lemmas.Bool.Decides.{nat_tests}
 use Rattle.clk_base.specs.declared.clock.ClockId.{ClockId}
@@ -12,15 +12,14 @@ use Rattle.clk_base.specs.declared.event.Reply.TheVariants as reply
 use Rattle.clk_base.specs.declared.event.Turn.{Turn}
 use Rattle.clk_base.specs.declared.event.Turn.TheVariants as turn
 use Rattle.clk_base.specs.declared.handle.Handle.{Handle}
-use Rattle.clk_base.specs.Flags.{is_critical}
 use Rattle.clk_model.specs.declared.row.HandleRow.{HandleRow}
 use Rattle.clk_model.specs.State.{State, Change, is_quiet, registered, link_in, handle_at}
 use Rattle.clk_model.specs.Tree.{rooted, path}
 use Rattle.clk_model.specs.Holders.{active}
 use Rattle.clk_model.specs.Rate.{rate}
 use Rattle.clk_model.specs.Chain.{clock_id}
-use Rattle.clk_model.specs.Script.{unprepared_plls, runs, adoptable}
-use Rattle.clk_model.specs.Begin.{done, refused, pick, put_handle, own_handle, with_handle, given, put_back, prepare, prepared_once_more, unprepare, register, begun, holds_something, keeps_prepare}
+use Rattle.clk_model.specs.Script.{unprepared_plls}
+use Rattle.clk_model.specs.Begin.{done, refused, pick, put_handle, own_handle, with_handle, given, put_back, prepare, prepared_once_more, unprepare, begun, holds_something, keeps_prepare}
 use Rattle.clk_model.specs.Machine.{enabled, disabled, running, paid, next}
 
 pub pick-true : (b : Bool) (f g : Unit {0} → State × Turn) → b ≡ true → pick b f g ≡ f tt
@@ -179,18 +178,6 @@ unprepare-warned s d h row quiet own keeps =
 abbrev pub prepared_once_less : State → ℕ → HandleRow → State
 prepared_once_less s number h = put_handle s number (Some (record h { prepares = h.prepares - 1 }))
 
--- an unprepare is done at once where no PLL above is unprepared then
-pub unprepare-fine : (s : State) (d : ℕ) (h : Handle) (row : HandleRow) → s.change ≡ None → own_handle s d h.number ≡ Some row → keeps_prepare row ≡ false
-    → unprepared_plls (prepared_once_less s h.number row) (path s.clocks row.clock.0) ≡ []
-    → next s d (event.Begin (call.Unprepare h)) ≡ paid s (prepared_once_less s h.number row, turn.Done reply.Fine)
-unfolding begun
-unprepare-fine s d h row quiet own keeps none =
-    begin_quiet s d (call.Unprepare h) quiet
-    ∙ ap (paid s) (with-some s d h.number (unprepare s d (call.Unprepare h) h.number) row own
-    ∙ pick-false (keeps_prepare row) _ _ keeps
-    ∙ pick-true (is_none (slice_get (filter (runs s.defs s.regs) (unprepared_plls (prepared_once_less s h.number row) (path s.clocks row.clock.0))) 0)) _ _
-    (ap (λ (cs : List ℕ). is_none (slice_get (filter (runs s.defs s.regs) cs) 0)) none))
-
 pub rate-unknown : (s : State) (d : ℕ) (h : Handle) → s.change ≡ None → own_handle s d h.number ≡ None
     → next s d (event.Begin (call.GetRate h)) ≡ paid s (refused s errno.ENOENT)
 unfolding begun
@@ -222,15 +209,3 @@ pub probe-twice : (s : State) (d : ℕ) (c : ClockId) → s.change ≡ None → 
 unfolding begun
 probe-twice s d c quiet there =
     begin_quiet s d (call.Probe c) quiet ∙ ap (paid s) (pick-true (registered s.clocks c.0) _ _ there)
-
--- a clock is registered at once where no orphan is adopted and it isn't critical
-pub probe-fine : (s : State) (d : ℕ) (c : ClockId) → s.change ≡ None → registered s.clocks c.0 ≡ false
-    → adoptable (register s c.0) ≡ [] → is_critical s.defs c.0 ≡ false
-    → next s d (event.Begin (call.Probe c)) ≡ paid s (register s c.0, turn.Done reply.Fine)
-unfolding begun
-probe-fine s d c quiet free none plain =
-    begin_quiet s d (call.Probe c) quiet
-    ∙ ap (paid s) (pick-false (registered s.clocks c.0) _ _ free
-    ∙ pick-true _ _ _ (both _ _ _ (ap (λ (cs : List ℕ). is_none (slice_get cs 0)) none) (ap not plain))) where
-      both : (a b e : Bool) → a ≡ true → b ≡ true → (a && (b || e)) ≡ true
-      both a b e p q = rw (p, q) refl

@@ -8,20 +8,12 @@ use Rattle.clk_base.specs.Valid.{IsValid}
 use Rattle.clk_base.proofs.Valid.{gate-field, field-field}
 use Rattle.reg_bank.specs.Registers.{Registers}
 use Rattle.clk_model.specs.declared.row.ClockRow.{ClockRow}
-use Rattle.clk_model.specs.Tree.{selected}
 use Rattle.clk_model.specs.Rate.{rate}
 use Rattle.clk_model.specs.Gates.{gates_moved}
 use Rattle.clk_model.specs.Laws.Paths.{scales_by}
 use Rattle.clk_model.proofs.ApartLaws.{fields_apart, gate_or_field}
 use Rattle.clk_model.proofs.RateLaws.{writes_leave_rates}
-use Rattle.clk_model.proofs.SupplyLaws.{LiesOffGates, field-gates_moved, mux_off_gates, selected_same}
-
--- gates that move leave the parent that the registers select
-pub selected-moved : (words : ℕ) (defs : Description) (before after : ℕ → Bool) (cs : List ℕ) (regs : Registers) (c : ℕ) → IsValid words defs
-    → selected defs (gates_moved defs before after cs regs) c ≡ selected defs regs c
-selected-moved words defs before after cs regs c valid =
-    selected_same defs regs (gates_moved defs before after cs regs) c
-    (λ f at. field-gates_moved defs before after cs regs f (mux_off_gates words defs cs c f valid at))
+use Rattle.clk_model.proofs.SupplyLaws.{LiesOffGates, field-gates_moved}
 
 -- the field by which a clock divides or multiplies is its field
 pub scales_is_field : (kind : Kind) (f : Field) → scales_by kind ≡ Some f → field_of kind ≡ Some f

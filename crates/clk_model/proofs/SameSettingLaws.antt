@@ -131,10 +131,6 @@ pub record SameTree (v w : Wiring) : Type 0 where
   pub clocks : v.clocks ≡ w.clocks
   pub regs : SameFields w.defs w.regs v.regs
 
--- a tree is the same as itself
-pub same_tree : (w : Wiring) → SameTree w w
-same_tree w = record { defs = refl; clocks = refl; regs = record { words = refl; fields = λ c f at. refl } }
-
 -- so are its rates
 pub tree_rates : (v w : Wiring) → SameTree v w → rate_in v ≡ rate_in w
 tree_rates v w same =

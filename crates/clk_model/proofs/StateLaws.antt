@@ -1,25 +1,21 @@
 -- Laws on whole states: when the gates stay, and what an event leaves.
-use Rattle.std.proofs.Common.{◌≡◌, ◌≢◌, ℕ, zero, suc, ◌+◌, ◌<◌, ◌&&◌, ◌||◌, Bool, true, false, cond, List, [], ◌∷◌, ◌++◌, Option, Some, None, refl, sym, ap, ◌∙◌, inl, inr, arith, length, set, nat_lt, map}
-use Rattle.std.specs.Prelude.{slice_set, filter, reverse}
-use Rattle.std.specs.Option.{option_map}
+use Rattle.std.proofs.Common.{◌≡◌, ℕ, zero, suc, ◌+◌, ◌<◌, ◌||◌, Bool, true, false, cond, List, [], ◌∷◌, ◌++◌, Option, Some, None, refl, sym, ap, ◌∙◌, inl, inr, arith, length, set, nat_lt, map}
+use Rattle.std.specs.Prelude.{slice_set, filter}
 use Rattle.std.proofs.lemmas.Bool.Decides.{nat_tests}
 use Rattle.clk_base.specs.declared.event.Turn.{Turn}
-use Rattle.clk_base.specs.Flags.{is_critical}
-use Rattle.clk_base.specs.Levels.{depth}
-use Rattle.reg_bank.specs.Registers.{Registers, AreWords}
+use Rattle.reg_bank.specs.Registers.{Registers}
 use Rattle.clk_model.specs.declared.row.ClockRow.{ClockRow}
 use Rattle.clk_model.specs.declared.row.HandleRow.{HandleRow}
 use Rattle.clk_model.specs.Lists.{is_in, count_from, present}
-use Rattle.clk_model.specs.State.{State, row_of, registered, link_in, handle_at}
+use Rattle.clk_model.specs.State.{State, row_of, registered, handle_at}
 use Rattle.clk_model.specs.Tree.{path}
 use Rattle.clk_model.specs.Holders.{clocks_of, is_held, is_enabled, critical_clocks, active}
-use Rattle.clk_model.specs.Gates.{gates_moved, settled}
+use Rattle.clk_model.specs.Gates.{settled}
 use Rattle.clk_model.specs.Begin.{put_handle}
 use Rattle.clk_model.specs.Machine.{paid}
-use Rattle.clk_model.proofs.Members.{is_in_head, is_in_tail, is_in_cases, is_in-count_from, count_from-below, is_in-reverse}
-use Rattle.clk_model.proofs.PathLaws.{path_all, path_agree}
+use Rattle.clk_model.proofs.Members.{is_in_head, is_in_tail, is_in_cases}
 use Rattle.clk_model.proofs.HolderLaws.{is_under, held_by, held_by-append, held_by-set_none, held_by-set_same, held_by-set_more, active_parts}
-use Rattle.clk_model.proofs.GateLaws.{GatesLie, gates_moved-still, gates_moved-alike, gates_moved-before, gates_moved-lists}
+use Rattle.clk_model.proofs.GateLaws.{gates_moved-still}
 
 -- ---- when the gates stay
 
@@ -85,32 +81,6 @@ active-put_more s n old new c at clock enabled =
     ∙ or_swap (held_by s.clocks is_enabled s.handles c) (is_held s.clocks (critical_clocks s) c) (is_held s.clocks s.enable_holds c) (is_under s.clocks old c)
     ∙ ap (λ (t : Bool). t || is_under s.clocks old c) (sym (active_parts s c))
 
--- ---- opening gates
-
-either_more : (a u : Bool) → a ≢ (a || u) → u ≡ true
-either_more true u other = absurd (other refl)
-either_more false true other = refl
-either_more false false other = absurd (other refl)
-
--- the gates that an enable opens are those of the path of its clock that nothing keeps active
-pub settled-put_more : (s : State) (n : ℕ) (old new : HandleRow) → handle_at s.handles n ≡ Some old → new.clock ≡ old.clock → is_enabled new ≡ true
-    → AreWords s.regs → GatesLie s.defs (count_from 0 (length s.defs)) (length s.regs)
-    → ((c : ℕ) → is_in c (path s.clocks old.clock.0) ≡ true → c < length s.defs)
-    → settled s (put_handle s n (Some new)) ≡ record (put_handle s n (Some new)) { regs = gates_moved s.defs (active s) (λ _. true) (path s.clocks old.clock.0) s.regs }
-unfolding settled
-settled-put_more s n old new at clock enabled words lie within =
-    let after : ℕ → Bool = active (put_handle s n (Some new)) in
-    let more = (λ (c : ℕ). active-put_more s n old new c at clock enabled) in
-    ap (λ (regs : Registers). let t : State = record (put_handle s n (Some new)) { regs = regs } in t)
-    (gates_moved-lists s.defs (active s) after (count_from 0 (length s.defs)) (path s.clocks old.clock.0) s.regs words lie
-    (λ c m. is_in-count_from c 0 (length s.defs) (omega arith) (let below : c < length s.defs = within c m in omega arith))
-    (λ c m other. either_more (active s c) (is_under s.clocks old c) (λ same. other (same ∙ sym (more c))))
-    ∙ gates_moved-alike s.defs (active s) after (λ _. true) (path s.clocks old.clock.0) s.regs
-    (λ c m. more c ∙ ap (λ (u : Bool). active s c || u) m ∙ or_true (active s c))) where
-      or_true : (a : Bool) → (a || true) ≡ true
-      or_true true = refl
-      or_true false = refl
-
 -- ---- closing gates
 
 -- a handle that was put is there
@@ -133,28 +103,6 @@ active-put_less s n old new c at clock enabled =
     ∙ active-put_more (put_handle s n (Some new)) n new old c (handle_at-set_same s.handles n old new at) (sym clock) enabled
     ∙ ap (λ (k : _). active (put_handle s n (Some new)) c || is_in c (path s.clocks k.0)) clock
 
--- the gates that the end of an enable closes are those of the path of its clock that nothing else keeps active, the clock's own first
-pub settled-put_less : (s : State) (n : ℕ) (old new : HandleRow) → handle_at s.handles n ≡ Some old → new.clock ≡ old.clock → is_enabled old ≡ true
-    → AreWords s.regs → GatesLie s.defs (count_from 0 (length s.defs)) (length s.regs)
-    → ((c : ℕ) → is_in c (path s.clocks old.clock.0) ≡ true → c < length s.defs)
-    → settled s (put_handle s n (Some new))
-    ≡ record (put_handle s n (Some new)) { regs = gates_moved s.defs (λ _. true) (active (put_handle s n (Some new))) (reverse (path s.clocks old.clock.0)) s.regs }
-unfolding settled
-settled-put_less s n old new at clock enabled words lie within =
-    let after : ℕ → Bool = active (put_handle s n (Some new)) in
-    let less = (λ (c : ℕ). active-put_less s n old new c at clock enabled) in
-    let down : List ℕ = reverse (path s.clocks old.clock.0) in
-    let there : (c : ℕ) → is_in c down ≡ true → is_in c (path s.clocks old.clock.0) ≡ true = (λ c m. sym (is_in-reverse c (path s.clocks old.clock.0)) ∙ m) in
-    ap (λ (regs : Registers). let t : State = record (put_handle s n (Some new)) { regs = regs } in t)
-    (gates_moved-lists s.defs (active s) after (count_from 0 (length s.defs)) down s.regs words lie
-    (λ c m. is_in-count_from c 0 (length s.defs) (omega arith) (let below : c < length s.defs = within c (there c m) in omega arith))
-    (λ c m other. is_in-reverse c (path s.clocks old.clock.0) ∙ either_more (after c) (is_under s.clocks old c) (λ same. other (less c ∙ sym same)))
-    ∙ gates_moved-before s.defs (active s) (λ _. true) after down s.regs
-    (λ c m. less c ∙ ap (λ (u : Bool). after c || u) (there c m) ∙ or_true (after c))) where
-      or_true : (a : Bool) → (a || true) ≡ true
-      or_true true = refl
-      or_true false = refl
-
 -- ---- registering a clock
 
 pub row_of-set_same : (clocks : List ClockRow) (c : ℕ) (row : ClockRow) → c < length clocks → row_of (slice_set clocks c row) c ≡ row
@@ -168,19 +116,6 @@ row_of-set_other (r ∷ clocks) zero row zero other = absurd (other refl)
 row_of-set_other (r ∷ clocks) zero row (suc d) other = refl
 row_of-set_other (r ∷ clocks) (suc c) row zero other = refl
 row_of-set_other (r ∷ clocks) (suc c) row (suc d) other = row_of-set_other clocks c row d (λ same. other (ap (λ (n : ℕ). suc n) same))
-
--- the path of a registered clock stays where a clock that isn't registered gets a row, as links lead to registered clocks
-pub path-set_unregistered : (clocks : List ClockRow) (c : ℕ) (row : ClockRow) (h : ℕ)
-    → ((d p : ℕ) → link_in clocks d ≡ Some p → registered clocks p ≡ true) → registered clocks c ≡ false → registered clocks h ≡ true
-    → path (slice_set clocks c row) h ≡ path clocks h
-path-set_unregistered clocks c row h links free here =
-    path_agree (link_in clocks) (link_in (slice_set clocks c row)) depth h
-    (λ a m.
-    let there : registered clocks a ≡ true = path_all (λ b. registered clocks b ≡ true) (link_in clocks) depth h a (λ d p _ e. links d p e) here m in
-    ap (λ (r : ClockRow). option_map (λ p. p.0) r.link) (row_of-set_other clocks c row a (λ same. distinct same there)))
-  where
-    distinct : {a : ℕ} → c ≡ a → registered clocks a ≡ true → ⊥
-    distinct {a = a} same there = let gone : registered clocks a ≡ false = ap (registered clocks) (sym same) ∙ free in cc
 
 -- what holders hold depends on their paths alone
 is_held-agree : (clocks clocks' : List ClockRow) (holders : List ℕ) (c : ℕ) → ((h : ℕ) → is_in h holders ≡ true → path clocks' h ≡ path clocks h)
@@ -204,16 +139,6 @@ in_clocks_of test (Some h ∷ handles) c m =
       | false ↦ λ m'. let found = in_clocks_of test handles c m' in (suc found.0, found.1, found.2, found.3)
     ] m
 
--- the path of each handle's clock stays so too, and with it what handles hold
-pub held_by-set_unregistered : (clocks : List ClockRow) (c : ℕ) (row : ClockRow) (test : HandleRow → Bool) (handles : List (Option HandleRow)) (x : ℕ)
-    → ((d p : ℕ) → link_in clocks d ≡ Some p → registered clocks p ≡ true) → registered clocks c ≡ false
-    → ((n : ℕ) (h : HandleRow) → handle_at handles n ≡ Some h → registered clocks h.clock.0 ≡ true)
-    → held_by (slice_set clocks c row) test handles x ≡ held_by clocks test handles x
-held_by-set_unregistered clocks c row test handles x links free handled =
-    is_held-agree clocks (slice_set clocks c row) (clocks_of test handles) x
-    (λ h m. let found = in_clocks_of test handles h m in
-    path-set_unregistered clocks c row h links free (ap (registered clocks) (sym found.3) ∙ handled found.0 found.1 found.2))
-
 -- a registered clock has a row
 pub registered_lt : (clocks : List ClockRow) (c : ℕ) → registered clocks c ≡ true → c < length clocks
 registered_lt [] c e = absurd cc
@@ -224,13 +149,6 @@ pub filter_none : (p : ℕ → Bool) (xs : List ℕ) → ((x : ℕ) → is_in x 
 filter_none p [] fails = refl
 filter_none p (x ∷ xs) fails =
     ap (λ (t : Bool). cond t (x ∷ filter p xs) (filter p xs)) (fails x (is_in_head x xs)) ∙ filter_none p xs (λ y m. fails y (is_in_tail y x xs m))
-
--- without critical clocks none holds itself
-pub critical_clocks-none : (s : State) → ((c : ℕ) → c < length s.defs → is_critical s.defs c ≡ false) → critical_clocks s ≡ []
-critical_clocks-none s none =
-    filter_none (λ c. is_critical s.defs c && registered s.clocks c) (count_from 0 (length s.defs))
-    (λ c m. let below : c < 0 + length s.defs = count_from-below c 0 (length s.defs) m in
-    ap (λ (t : Bool). t && registered s.clocks c) (none c (omega arith)))
 
 -- then only handles keep a clock active
 pub active_by_handles : (s : State) (c : ℕ) → critical_clocks s ≡ [] → s.enable_holds ≡ [] → active s c ≡ held_by s.clocks is_enabled s.handles c

@@ -3,30 +3,22 @@ use Rattle.std.proofs.Common.{◌≡◌, ℕ, suc, ◌+◌, ◌-◌, ◌<◌, �
 use Rattle.std.proofs.lemmas.List.{length-append}
 use Rattle.std.specs.Prelude.{slice_get, filter, flat_map}
 use Rattle.std.specs.Option.{option_map}
-use Rattle.clk_base.specs.Description.{kind_of, name_of}
+use Rattle.clk_base.specs.Description.{kind_of}
 use Rattle.clk_base.specs.Levels.{depth}
 use Rattle.clk_base.specs.declared.clock.ClockId.{ClockId}
-use Rattle.clk_machine.specs.declared.row.Row.{Row}
-use Rattle.clk_machine.specs.Row.{IsTreeOf, Tells}
+use Rattle.clk_machine.specs.Row.{IsTreeOf}
 use Rattle.clk_model.proofs.OnceLaws.{in_append, is_in-filter, length-filter-le}
 use Rattle.clk_model.proofs.StateLaws.{registered_lt}
 use Rattle.clk_model.specs.Kinds.{is_fixed}
 use Rattle.clk_model.specs.Lists.{is_at}
 use Rattle.clk_model.specs.State.{State, registered, link_in}
 use Rattle.clk_model.specs.Summary.{lines_within, summary_line}
-use Rattle.clk_model.specs.Text.{Word}
 use Rattle.clk_model.specs.Tree.{children, roots, orphans, is_orphan}
 use Rattle.clk_model.proofs.PllLaws.{at_place}
 use Rattle.clk_tree.proofs.Along.{drop_at, few_at, get_first, get_second, none_left}
 use Rattle.clk_tree.proofs.Rows.{order-few}
 use Rattle.clk_tree.specs.TreeState.{TreeState, IsTree}
-use Rattle.clk_summary.specs.Rows.{columns_of, tops}
-
--- ---- one line
-
--- a row that tells of a clock, under the clock's name, is its line
-pub row_line : (s : State) (level c : ℕ) (name : Word) (row : Row) → name ≡ name_of s.defs c → Tells s c row → columns_of level name row ≡ summary_line s level c
-row_line s level c name row named told = rw (named, told.enable_, told.prepare_, told.protect_, told.rate_, told.on_) refl
+use Rattle.clk_summary.specs.Rows.{tops}
 
 -- ---- places
 

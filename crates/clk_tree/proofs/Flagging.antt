@@ -1,17 +1,14 @@
 -- Laws on flags that are set from a clock down.
 use Rattle.std.proofs.Common.{◌≡◌, ℕ, suc, ◌+◌, ◌<◌, ◌≤◌, Bool, true, false, List, sym, ap, subst, ◌∙◌, ◌⊎◌, inl, inr, arith, drop, length}
-use Rattle.std.specs.Prelude.{flat_map, slice_get, slice_index, slice_set, Some}
+use Rattle.std.specs.Prelude.{flat_map, slice_get, slice_index, Some}
 use Rattle.std.proofs.lemmas.Bool.{cases_Bool, both_ways}
-use Rattle.std.proofs.lemmas.List.{get_or-set_same, get_or-set_other}
 use Rattle.clk_base.specs.Tables.{flag_at}
 use Rattle.clk_model.specs.Lists.{is_in}
 use Rattle.clk_model.specs.Walk.{below_within}
-use Rattle.clk_model.proofs.Members.{is_in_cases}
 use Rattle.clk_model.proofs.PllLaws.{at_place}
 use Rattle.clk_tree.specs.Refreshed.{AreKidRings}
 use Rattle.clk_tree.proofs.Along.{ComesAt, none_left}
-use Rattle.clk_tree.proofs.KidRings.{first_kid, next_kid, not_below_kid, below_left}
-use Rattle.clk_tree.proofs.RingLaws.{not_in_cons}
+use Rattle.clk_tree.proofs.KidRings.{next_kid, not_below_kid, below_left}
 
 -- so many of a clock's children are done: what is below the clock has the flag or is below a child that is left, and the rest is as before
 pub record Flagging (n : ℕ) (siblings : List ℕ) (old new : List Bool) (levels clock : ℕ) (flag : Bool) (at step : ℕ) : Type 0 where
@@ -24,18 +21,6 @@ pub record Flagging (n : ℕ) (siblings : List ℕ) (old new : List Bool) (level
 pub record SetsBelow (n : ℕ) (siblings : List ℕ) (old new : List Bool) (levels clock : ℕ) (flag : Bool) : Type 0 where
   pub below : (kids : ℕ → List ℕ) → AreKidRings n siblings kids → (k : ℕ) → is_in k (below_within kids levels clock) ≡ true → flag_at new k ≡ flag
   pub others : (kids : ℕ → List ℕ) → AreKidRings n siblings kids → (k : ℕ) → is_in k (below_within kids levels clock) ≡ false → flag_at new k ≡ flag_at old k
-
--- the clock's own flag
-pub own_flag : (n : ℕ) (siblings : List ℕ) (old : List Bool) (levels clock : ℕ) (flag : Bool) (at : ℕ) → clock < n → clock < length old → at ≡ slice_index siblings (n + clock)
-    → Flagging n siblings old (slice_set old clock flag) levels clock flag at 0
-own_flag n siblings old levels clock flag at place within first = record {
-  comes = first_kid n siblings clock at place first;
-  below = λ kids are k m. elim (is_in_cases k clock (flat_map (below_within kids levels) (kids clock)) m) [
-    | inl same ↦ inl (ap (flag_at (slice_set old clock flag)) (sym same) ∙ get_or-set_same old clock flag false within)
-    | inr later ↦ inr later
-  ];
-  others = λ kids are k out. get_or-set_other old clock k flag false (λ same. (not_in_cons k clock (flat_map (below_within kids levels) (kids clock)) out).0 (sym same));
-}
 
 -- one child more
 pub kid_set : (n : ℕ) (siblings : List ℕ) (old mid new : List Bool) (levels clock : ℕ) (flag : Bool) (at next step : ℕ) → at < n → next ≡ slice_index siblings at

@@ -149,13 +149,6 @@ no_parent words defs c (Some q) valid place can fixed =
     let none : parents_of defs c ≡ [] = fixed-parents words defs valid c kind.0 place kind.1 in
     let m : is_in q.0 [] ≡ true = ap (is_in q.0) (sym none) ∙ can in absurd cc
 
-end_of_group : (n c : ℕ) (defs : Description) (parent : Option ClockId) → IfSome parent (λ p. p.0 < n) → IsGroup n (group_of defs c parent)
-end_of_group n c defs (Some p) within = within
-end_of_group n c defs None within = either (is_fixed (kind_of defs c)) where
-  either : (t : Bool) → IsGroup n (cond t Roots Orphans)
-  either true = tt
-  either false = tt
-
 -- the rings of a tree in which a clock was attached
 pub listed_attached : (words : ℕ) (defs : Description) (clocks : List ClockRow) (order rates turns siblings turns' siblings' : List ℕ) (c : ℕ) (parent : Option ClockId)
     → IsValid words defs → IsTree defs clocks order rates → AreListed defs clocks order turns siblings → c < length defs

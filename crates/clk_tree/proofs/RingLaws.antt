@@ -252,9 +252,6 @@ pub leads_taken : (after before : List ℕ) (n a b end : ℕ) (xs : List ℕ) �
 leads_taken after before n a b end xs rings within ahead behind_ other is =
     (on_without after before end n a b xs rings within ahead behind_ other).0 end (end_inside after before end n end xs rings within is) other is
 
-pub taken_alone : (after : List ℕ) (n a b : ℕ) → n < length after → slice_index (written after b a n n) n ≡ n
-taken_alone after n a b within = read-last after b a n n within
-
 -- another number that is alone stays alone where one is taken out
 pub taken_stays : (after before : List ℕ) (n a b k : ℕ) → AreRings after before → n < length after → slice_index before n ≡ b
     → k ≢ n → slice_index after k ≡ k → slice_index (written after b a n n) k ≡ k

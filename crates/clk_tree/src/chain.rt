@@ -74,12 +74,4 @@ impl PlannedChain {
     {
         self.steps.as_slice()
     }
-
-    /// The steps by themselves. Takes no memory.
-    pub fn into_steps(self) -> Vec<ChainStep>
-        ensures { chain_of result.items ≡ self }
-    {
-        let PlannedChain { steps } = self;
-        steps
-    }
 }

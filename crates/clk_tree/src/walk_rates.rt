@@ -69,12 +69,4 @@ impl WalkRates {
     {
         self.rates.as_slice()
     }
-
-    /// The rates by themselves. Takes no memory.
-    pub fn into_rates(self) -> Vec<WalkRate>
-        ensures { rates_of result.items ≡ self }
-    {
-        let WalkRates { rates } = self;
-        rates
-    }
 }

@@ -45,16 +45,3 @@ pub told_end : (count : ℕ → ℕ) (before : List ℕ) (rates : List WalkRate)
 told_end count before rates k items whole past all =
     sym (append-nil items)
     ∙ ap (λ (rs : List ClockRate). items ++ told_clocks count before rs) (sym (none_left (rates_of rates) k (let same = length-rates rates in omega arith))) ∙ all
-
--- one clock, which has no notifier, or has some
-pub told_none : (count : ℕ → ℕ) (before : List ℕ) (w : WalkRate) (items : List Notified) → count w.clock.0 ≡ 0 → items ≡ items ++ told_clocks count before (rates_of (w ∷ []))
-told_none count before w items none =
-    sym (append-nil items)
-    ∙ ap (λ (n : ℕ). items ++ map (λ (r : ClockRate). let n : Notified = record { clock = clock_id r.clock; before = slice_index before r.clock; after = r.rate } in n) (cond (not (nat_eq n 0)) (rate_of w ∷ []) [])) (sym none)
-
-pub told_some : (count : ℕ → ℕ) (before : List ℕ) (w : WalkRate) (items new : List Notified) (rate : ℕ) → nat_eq (count w.clock.0) 0 ≡ false → rate ≡ slice_index before w.clock.0
-    → new ≡ items ++ record { clock = w.clock; before = rate; after = w.rate } ∷ [] → new ≡ items ++ told_clocks count before (rates_of (w ∷ []))
-told_some count before w items new rate some is added =
-    added
-    ∙ ap (λ (x : ℕ). items ++ (let n : Notified = record { clock = w.clock; before = x; after = w.rate } in n) ∷ []) is
-    ∙ ap (λ (t : Bool). items ++ map (λ (r : ClockRate). let n : Notified = record { clock = clock_id r.clock; before = slice_index before r.clock; after = r.rate } in n) (cond (not t) (rate_of w ∷ []) [])) (sym some)

@@ -203,27 +203,6 @@ passes_one from to own held apart in_from in_to size some_own some_held = record
       let two = at_rest held d (test_other from d e) (test_other to d f) in
       omega arith
 
--- where none is left the holds have passed
-pub passes_all : (from to : ℕ) (own own' held held' : List ℕ) → from ≢ to → Passes from to own own' held held' → slice_index held' from ≡ 0 → (d : ℕ) → slice_index held' d ≡ passed_times from (Some to) (slice_index held) d
-passes_all from to own own' held held' apart passes none d = by (nat_eq d from) refl (nat_eq d to) refl where
-  by : (t : Bool) → nat_eq d from ≡ t → (u : Bool) → nat_eq d to ≡ u → slice_index held' d ≡ cond t 0 (slice_index held d) + cond u (slice_index held from) 0
-  by true e true f = absurd (apart (sym (same_from_test d from e) ∙ same_from_test d to f))
-  by true e false f = let at = ap (slice_index held') (same_from_test d from e) in omega arith
-  by false e true f =
-      let at = ap (slice_index held') (same_from_test d to f) in
-      let was = ap (slice_index held) (same_from_test d to f) in
-      let both = passes.both in
-      omega arith
-  by false e false f = let same = passes.others d (test_other d from e) (test_other d to f) in omega arith
-
-pub passes_itself : (from to : ℕ) (held : List ℕ) → from ≡ to → (d : ℕ) → slice_index held d ≡ passed_times from (Some to) (slice_index held) d
-passes_itself from to held same d = by (nat_eq d from) refl (nat_eq d to) refl where
-  by : (t : Bool) → nat_eq d from ≡ t → (u : Bool) → nat_eq d to ≡ u → slice_index held d ≡ cond t 0 (slice_index held d) + cond u (slice_index held from) 0
-  by true e true f = let at = ap (slice_index held) (same_from_test d from e) in omega arith
-  by true e false f = absurd (test_other d to f (same_from_test d from e ∙ same))
-  by false e true f = absurd (test_other d from e (same_from_test d to f ∙ sym same))
-  by false e false f = omega arith
-
 -- the counts behind it tell the holds that are passed over
 turn_ : (a b : ℕ) (t : Bool) → nat_eq a b ≡ t → nat_eq b a ≡ t
 turn_ a b true e = grind (arith, nat_tests)

@@ -48,13 +48,6 @@ ends_one clock own held within size some_own some_held = record {
       let two = at_rest held d other in
       omega arith
 
--- where none is left they have ended
-pub ends_all : (clock : ℕ) (own own' held held' : List ℕ) → Ends clock own own' held held' → slice_index held' clock ≡ 0 → (d : ℕ) → slice_index held' d ≡ passed_times clock None (slice_index held) d
-ends_all clock own own' held held' ends none d = by (nat_eq d clock) refl where
-  by : (t : Bool) → nat_eq d clock ≡ t → slice_index held' d ≡ cond t 0 (slice_index held d)
-  by true e = ap (slice_index held') (same_from_test d clock e) ∙ none
-  by false e = ends.others d (test_other d clock e)
-
 -- ---- what counts tell
 
 -- a hold on the clock itself ends

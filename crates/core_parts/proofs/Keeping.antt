@@ -73,10 +73,6 @@ tells_visit count ns (m ∷ ms) all = by (is_visit m) refl (λ rest. tells_visit
   by true at more = all
   by false at more = more (sym (tells_unseen count ns m ms (no_visit m at)) ∙ all)
 
-end_unseen : (m : Micro) → is_end m ≡ true → visited_by m ≡ None
-end_unseen micro.End e = refl
-end_unseen _ e = absurd cc
-
 -- up to its end
 tells_end : (count : ℕ → ℕ) (ns : List Notified) (what : Sleeping) (there : ℕ → Bool) (ms : List Micro) → is_script what there ms ≡ true → tells_all count (from_first is_end ms) ns ≡ true
 tells_end count ns what there [] is = refl

@@ -1,6 +1,5 @@
 -- Laws on lists of locks.
 use Rattle.std.proofs.Common.{◌≡◌, ℕ, zero, suc, ◌+◌, ◌<◌, ◌≤◌, List, [], ◌∷◌, Option, Some, None, Bool, true, false, refl, sym, ap, subst, ◌∙◌, arith, nat_lt, nat_eq, map}
-use Rattle.std.proofs.Math.Path.{fun_ext}
 use Rattle.std.proofs.lemmas.Bool.Decides.{nat_tests}
 use Rattle.std.specs.Prelude.{drop, slice_index_or}
 use Rattle.std.specs.Option.{option_map}
@@ -32,10 +31,6 @@ lock_of lock p within =
     let few : p < lock_count = let n = counted_locks in omega arith in
     let same : 0 + p ≡ p = omega arith in
     at_count lock 0 lock_count p few ∙ ap lock same
-
--- locks that are the same are so in the list
-pub locks_same : (old new : ℕ → Option PllLock) → ((p : ℕ) → new p ≡ old p) → locks_of new ≡ locks_of old
-locks_same old new same = ap locks_of (fun_ext same)
 
 pub others_same : (old new : ℕ → Option PllLock) (y : ℕ) → ((p : ℕ) → (p ≡ y → ⊥) → new p ≡ old p) → (p : ℕ) → (p ≡ y → ⊥) → lock_in (locks_of new) p ≡ lock_in (locks_of old) p
 others_same old new y same p other = elim (nat_lt p lock_count) as (λ b. nat_lt p lock_count ≡ b → lock_in (locks_of new) p ≡ lock_in (locks_of old) p) [

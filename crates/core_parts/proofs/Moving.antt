@@ -1,11 +1,9 @@
 -- The parts of a core where the gates of some clocks move.
-use Rattle.std.proofs.Common.{◌≡◌, ℕ, ◌<◌, Bool, true, List, [], Option, Some, None, refl, sym, subst, ◌∙◌, arith, length}
-use Rattle.std.specs.Prelude.{is_some, unwrap_or}
+use Rattle.std.proofs.Common.{◌≡◌, ℕ, ◌<◌, Bool, true, List, [], Option, Some, None, sym, subst, ◌∙◌, arith, length}
 use Rattle.std.specs.Option.{option_map}
 use Rattle.clk_base.specs.Checked.{Checked}
 use Rattle.clk_base.specs.Description.{Description}
 use Rattle.clk_base.specs.Valid.{IsValid}
-use Rattle.reg_bank.specs.Registers.{AreWords}
 use Rattle.clk_model.specs.declared.row.ClockRow.{ClockRow}
 use Rattle.clk_model.specs.Lists.{is_in, count_from}
 use Rattle.clk_model.specs.State.{registered, link_in}
@@ -39,14 +37,6 @@ path_within_desc desc window tree levels clock tied here c m =
 pub clock_within : (desc : Checked) (window : Shown) (tree : TreeState) (c : ℕ) → AreTied desc window tree → registered tree.clocks c ≡ true → c < length desc.defs
 clock_within desc window tree c tied here =
     subst (λ (d : Description). c < length d) tied.defs (registered_lies tree.defs tree.clocks tree.order tree.rates c tied.stands here)
-
-pub words_told : (n : ℕ) (told : Option (List ℕ)) → AreTold n told → is_some told ≡ true → AreWords (unwrap_or told []) × (length (unwrap_or told []) ≡ n)
-words_told n None are h = absurd cc
-words_told n (Some ws) are h = are
-
-pub moved_words : (told : Option (List ℕ)) (f : List ℕ → List ℕ) → is_some told ≡ true → unwrap_or (option_map f told) [] ≡ f (unwrap_or told [])
-moved_words None f h = absurd cc
-moved_words (Some ws) f h = refl
 
 -- the gates of some clocks, where those of all lie in the bank
 some_lie : (words : ℕ) (defs : Description) (cs : List ℕ) → IsValid words defs → ((c : ℕ) → is_in c cs ≡ true → c < length defs) → GatesLie defs cs words

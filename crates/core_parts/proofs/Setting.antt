@@ -1,17 +1,15 @@
 -- What a setting that is written makes of words and kept rates.
 use Rattle.std.proofs.Common.{◌≡◌, ℕ, zero, suc, ◌+◌, ◌<◌, ◌≤◌, ◌^◌, Bool, true, false, cond, List, [], ◌∷◌, Option, Some, None, refl, sym, ap, subst, ◌∙◌, arith, length, take, drop, nat_eq}
-use Rattle.std.specs.Prelude.{IfSome, slice_get, slice_index, option_map, find}
+use Rattle.std.specs.Prelude.{IfSome, slice_get, option_map, find}
 use Rattle.std.specs.Option.{option_map_or}
-use Rattle.clk_base.specs.declared.clock.Kind.{Kind}
 use Rattle.clk_base.specs.Description.{Description, kind_of}
 use Rattle.clk_base.specs.Fields.{Field, field_of}
 use Rattle.clk_base.specs.Valid.{IsValid}
 use Rattle.clk_base.proofs.Valid.{field-field, fields-within}
 use Rattle.reg_bank.specs.Registers.{Registers, field, put}
 use Rattle.clk_model.specs.declared.row.ClockRow.{ClockRow}
-use Rattle.clk_model.specs.State.{ChainStep, registered, link_in}
+use Rattle.clk_model.specs.State.{ChainStep, registered}
 use Rattle.clk_model.specs.Rate.{rate}
-use Rattle.clk_model.specs.Round.{parent_rate_in}
 use Rattle.clk_model.specs.Chain.{setting}
 use Rattle.clk_model.proofs.ApartLaws.{fields_apart}
 use Rattle.clk_model.proofs.GateRateLaws.{scales_is_field}
@@ -20,12 +18,10 @@ use Rattle.clk_model.proofs.RateLaws.{writes_leave_rates}
 use Rattle.clk_tree.specs.declared.chain.ChainStep as chain
 use Rattle.clk_tree.specs.Plans.{chain_of}
 use Rattle.clk_tree.specs.Refreshed.{is_below, IsFresh}
-use Rattle.clk_tree.specs.TreeState.{TreeState, IsTree}
-use Rattle.rate_planner.specs.Kept.{wired}
 use Rattle.rate_planner.specs.Settings.{put_field}
 use Rattle.change_walk.proofs.Rests.{rest_of}
 use Rattle.core_parts.specs.declared.course.Notified.{Notified}
-use Rattle.core_parts.specs.Course.{planned_along, set_along, behind_first}
+use Rattle.core_parts.specs.Course.{planned_along, behind_first}
 use Rattle.core_parts.specs.Tied.{AreKept}
 use Rattle.core_parts.proofs.RegisteredTree.{rate-take}
 
@@ -73,38 +69,6 @@ kept_set n (Some regs) (Some ws) defs clocks old new c value valid is few kept s
     ∙ sym (rate-take n defs regs clocks k valid) where
       inside : {x y : List ℕ} → Some x ≡ Some y → x ≡ y
       inside e = cc
-
--- ---- along a chain
-
--- the kept rate of a parent is the one that the registers give
-parent_kept : (defs : Description) (regs : Registers) (t : TreeState) (c : ℕ) → IsTree t.defs t.clocks t.order t.rates
-    → ((k : ℕ) → registered t.clocks k ≡ true → slice_index t.rates k ≡ rate defs regs t.clocks k)
-    → option_map_or (slice_index t.rates) (link_in t.clocks c) 0 ≡ parent_rate_in (wired defs regs t) c
-parent_kept defs regs t c tree kept = by (link_in t.clocks c) refl where
-  by : (o : Option ℕ) → link_in t.clocks c ≡ o → option_map_or (slice_index t.rates) o 0 ≡ option_map_or (rate defs regs t.clocks) o 0
-  by None at = refl
-  by (Some p) at = kept p (tree.links c p at)
-
--- a clock that isn't of the chain
-pub along_none : (told : Option (List ℕ)) (ks : List ChainStep) (defs : Description) (t : TreeState) (c : ℕ) → planned_along ks c ≡ None → IfSome told (λ regs. told ≡ Some (set_along ks (wired defs regs t) c))
-along_none None ks defs t c none = tt
-along_none (Some regs) ks defs t c none = ap (λ (o : Option ℕ). Some (option_map_or (λ planned. setting (kind_of defs c) (parent_rate_in (wired defs regs t) c) planned regs) o regs)) (sym none)
-
--- one that is, over the kept rate of its parent
-pub along_some : (told new : Option (List ℕ)) (ks : List ChainStep) (defs : Description) (t : TreeState) (c parent planned : ℕ) (value : Option ℕ) → IsTree t.defs t.clocks t.order t.rates
-    → AreKept defs told t.clocks t.rates → planned_along ks c ≡ Some planned → parent ≡ option_map_or (slice_index t.rates) (link_in t.clocks c) 0
-    → ((regs : Registers) → put_field (kind_of defs c) value regs ≡ setting (kind_of defs c) parent planned regs) → new ≡ option_map (put_field (kind_of defs c) value) told
-    → IfSome told (λ regs. new ≡ Some (set_along ks (wired defs regs t) c))
-along_some None new ks defs t c parent planned value tree kept some above puts is = tt
-along_some (Some regs) new ks defs t c parent planned value tree kept some above puts is =
-    is ∙ ap (λ (ws : Registers). Some ws) (puts regs)
-    ∙ ap (λ (x : ℕ). Some (setting (kind_of defs c) x planned regs)) (above ∙ parent_kept defs regs t c tree kept)
-    ∙ ap (λ (o : Option ℕ). Some (option_map_or (λ planned. setting (kind_of defs c) (parent_rate_in (wired defs regs t) c) planned regs) o regs)) (sym some)
-
--- nothing is put where there is nothing to put
-pub put_none : (told : Option (List ℕ)) (kind : Kind) → told ≡ option_map (put_field kind None) told
-put_none None kind = refl
-put_none (Some regs) kind = refl
 
 -- ---- the planned rate, step by step
 

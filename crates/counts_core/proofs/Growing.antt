@@ -1,5 +1,5 @@
 -- Laws on the coupling: what one prepare more or less does to the protection of gated clocks.
-use Rattle.std.proofs.Common.{◌≡◌, ℕ, ◌+◌, ◌<◌, ◌≤◌, Bool, true, false, cond, List, Option, refl, sym, ap, ◌∙◌, arith, get_or, nat_eq}
+use Rattle.std.proofs.Common.{◌≡◌, ℕ, ◌+◌, ◌≤◌, Bool, true, false, cond, List, Option, refl, sym, ap, ◌∙◌, arith, get_or, nat_eq}
 use Rattle.clk_base.specs.declared.clock.ClockId.{ClockId}
 use Rattle.clk_model.proofs.Members.{same_from_test}
 use Rattle.counts_core.specs.Sums.{one, gated_part}
@@ -57,17 +57,3 @@ grows_both gated own0 prep0 own1 prep1 own2 prep2 first second d = let before = 
 -- protections stay small
 pub part-le : (gated : List Bool) (prep : List ℕ) (d : ℕ) → gated_part gated prep d ≤ get_or prep d 0
 part-le gated prep d = elim (get_or gated d false) as (λ t. cond t (get_or prep d 0) 0 ≤ get_or prep d 0) [ true ↦ omega arith | false ↦ omega arith ]
-
-pub grown_small : (gated : List Bool) (own0 prep0 own prep : List ℕ) (d most : ℕ) → Grows gated own0 prep0 own prep → get_or own0 d 0 ≤ most → get_or prep d 0 ≤ most → get_or own d 0 ≤ most + most
-grown_small gated own0 prep0 own prep d most grown small few =
-    let here = grown d in
-    let part = part-le gated prep d in
-    omega arith
-
--- a gated clock that is prepared is protected
-pub grown_held : (gated : List Bool) (own0 prep0 own prep : List ℕ) (a : ℕ) → Grows gated own0 prep0 own prep → gated_part gated prep0 a ≤ get_or own0 a 0 → get_or gated a false ≡ true
-    → 0 < get_or prep a 0 → 0 < get_or own a 0
-grown_held gated own0 prep0 own prep a grown had flag some =
-    let here = grown a in
-    let part : gated_part gated prep a ≡ get_or prep a 0 = ap (λ (t : Bool). cond t (get_or prep a 0) 0) flag in
-    omega arith

@@ -1,13 +1,10 @@
 -- Laws on the links of a tree: what the calls of a tree leave of those that the sums are over.
-use Rattle.std.proofs.Common.{◌≡◌, ℕ, zero, suc, List, Option, None, refl, sym, ap, ◌∙◌}
+use Rattle.std.proofs.Common.{◌≡◌, ℕ, zero, suc, None, refl, sym, ap, ◌∙◌}
 use Rattle.std.specs.Prelude.{replicate}
 use Rattle.std.specs.Option.{option_map}
 use Rattle.clk_base.specs.declared.clock.ClockId.{ClockId}
-use Rattle.clk_model.specs.declared.row.ClockRow.{ClockRow}
 use Rattle.clk_model.specs.State.{link_in, unregistered_row}
-use Rattle.clk_model.proofs.StateLaws.{row_of-set_other}
-use Rattle.clk_tree.specs.TreeState.{attached}
-use Rattle.counts_core.specs.Counted.{HasLinks, HasOtherLinks}
+use Rattle.counts_core.specs.Counted.{HasLinks}
 use Rattle.counts_core.proofs.Held.{none_link, nowhere}
 
 -- without a registered clock there is no link
@@ -17,8 +14,3 @@ links_at_first n m c = unlinked n c ∙ sym (ap (option_map (λ (p : ClockId). p
   unlinked zero d = refl
   unlinked (suc k) zero = refl
   unlinked (suc k) (suc d) = unlinked k d
-
--- a clock that is attached leaves the links of all others
-pub links_attached : (clocks : List ClockRow) (links : List (Option ClockId)) (c : ℕ) (parent : Option ClockId) → HasLinks clocks links → HasOtherLinks (attached clocks c parent) links c
-links_attached clocks links c parent has d other =
-    ap (λ (r : ClockRow). option_map (λ (p : ClockId). p.0) r.link) (row_of-set_other clocks c _ d (λ same. other (sym same))) ∙ has d

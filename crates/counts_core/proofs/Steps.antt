@@ -121,14 +121,6 @@ pub record Raising (links : List (Option ClockId)) (old now : List ℕ) (c at k 
   pub begins : Begins links old now c k
   pub rises : Rises (up_in links) k c at
 
-pub raise_starts : (links : List (Option ClockId)) (old : List ℕ) (c : ℕ) → Raising links old old c c 0
-raise_starts links old c = record {
-  size = refl;
-  sums = λ d. omega arith;
-  begins = record { many = refl; off = λ d e. absurd (false≢true e); on = λ d e. absurd (false≢true e); others = λ d e. refl };
-  rises = refl;
-}
-
 -- a clock whose count was 0 isn't among those that begin
 first_count : (links : List (Option ClockId)) (old now : List ℕ) (c at k : ℕ) → Begins links old now c k → get_or now at 0 ≡ 0 → is_in at (path_within (up_in links) k c) ≡ false
 first_count links old now c at k begins none =
@@ -248,14 +240,6 @@ pub record Lowering (links : List (Option ClockId)) (old now : List ℕ) (c at k
   pub sums : (d : ℕ) → get_or old d 0 + kids links now d + one at d ≡ get_or now d 0 + kids links old d + one c d
   pub begins : Begins links now old c k
   pub rises : Rises (up_in links) k c at
-
-pub lower_starts : (links : List (Option ClockId)) (old : List ℕ) (c : ℕ) → Lowering links old old c c 0
-lower_starts links old c = record {
-  size = refl;
-  sums = λ d. omega arith;
-  begins = record { many = refl; off = λ d e. absurd (false≢true e); on = λ d e. absurd (false≢true e); others = λ d e. refl };
-  rises = refl;
-}
 
 -- where each clock has what its children need, the walk finds a count
 pub lower_finds : (links : List (Option ClockId)) (old now : List ℕ) (c at k : ℕ) → Lowering links old now c at k → ((d : ℕ) → kids links old d + one c d ≤ get_or old d 0) → 0 < get_or now at 0

@@ -1,9 +1,8 @@
 -- Laws on sums: one holder more or less of a clock.
-use Rattle.std.proofs.Common.{◌≡◌, ℕ, ◌+◌, ◌-◌, ◌<◌, ◌≤◌, true, false, cond, List, Option, refl, sym, ap, ◌∙◌, arith, length, set, get_or, nat_eq}
+use Rattle.std.proofs.Common.{ℕ, ◌+◌, ◌-◌, ◌<◌, ◌≤◌, List, Option, sym, ◌∙◌, arith, length, set, get_or}
 use Rattle.std.proofs.lemmas.List.{length-set}
 use Rattle.clk_base.specs.declared.clock.ClockId.{ClockId}
-use Rattle.clk_model.proofs.Members.{same_from_test}
-use Rattle.counts_core.specs.Sums.{one, kids, AreSums, OneMore}
+use Rattle.counts_core.specs.Sums.{one, AreSums, OneMore}
 use Rattle.counts_core.proofs.Walking.{count-more, kids-le}
 use Rattle.counts_core.proofs.Steps.{steps_down}
 
@@ -27,17 +26,6 @@ sums_added links own old new c sums more within = record {
       let added = count-more own c d (omega arith) in
       omega arith;
 }
-
--- one of a clock's own is one of its count
-pub sums_held : (links : List (Option ClockId)) (own counts : List ℕ) (c d : ℕ) → AreSums links own counts → 0 < get_or own c 0 → kids links counts d + one c d ≤ get_or counts d 0
-sums_held links own counts c d sums held =
-    let here = sums.sums d in
-    let mine : one c d ≤ get_or own d 0 =
-    elim (nat_eq c d) as (λ t. nat_eq c d ≡ t → cond t 1 0 ≤ get_or own d 0) [
-      | true ↦ λ e. let same : get_or own c 0 ≡ get_or own d 0 = ap (λ (x : ℕ). get_or own x 0) (same_from_test c d e) in omega arith
-      | false ↦ λ e. omega arith
-    ] refl in
-    omega arith
 
 -- one holder less
 pub sums_taken : (links : List (Option ClockId)) (own old new : List ℕ) (c : ℕ) → AreSums links own old → OneMore links new old c → c < length links → 0 < get_or own c 0

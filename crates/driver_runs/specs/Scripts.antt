@@ -1,7 +1,6 @@
 -- What a core has gone through when it has run the commands of a driver.
 use Rattle.std.specs.Prelude.{◌≡◌, ℕ, ◌+◌, ◌≤◌, ◌==◌, ◌&&◌, List, [], ◌∷◌, ◌++◌, Bool, true, false, not, Option, Some, None, length, if◌then◌else◌}
 use Rattle.clk_base.specs.declared.command.Act.{Act}
-use Rattle.clk_base.specs.declared.command.Act.TheVariants as act
 use Rattle.clk_base.specs.declared.command.Answer.{Answer}
 use Rattle.clk_base.specs.declared.command.Command.{Command}
 use Rattle.clk_base.specs.declared.event.Entry.{Entry}
@@ -12,11 +11,6 @@ use Rattle.clk_model.specs.Journal.{Answered, is_going, calls_of, cost, Legal}
 use Rattle.clk_model.specs.Tier.{is_step}
 use Rattle.clk_model.specs.Follows.{Variables, call_of, FollowsFrom}
 use Rattle.clk_machine.specs.Run.{Run}
-
--- the call that a command makes where its variable lets it: a get with no handle, and another with this one
-abbrev pub made_by : Handle → Act → Option Event
-made_by h (act.Get found) = call_of None (act.Get found)
-made_by h a = call_of (Some h) a
 
 -- whether entries are whole calls of this driver, where one of its calls goes on before them or none does: while one goes on the next entry
 -- is a step of it, and else it begins one, and none goes on behind them

@@ -4,7 +4,6 @@ ghost use Rattle.std.specs.Prelude.{◌≡◌};
 ghost use Rattle.std.specs.Option.{option_map};
 ghost use Rattle.clk_model.specs.Follows.{call_of, call_on};
 ghost use Rattle.driver_runs.specs.Called.{event_of};
-ghost use Rattle.driver_runs.specs.Scripts.{made_by};
 
 use clk_base::{Act, Handle, Sleeping};
 
@@ -60,17 +59,5 @@ pub fn call_of(held: Option<Handle>, act: Act) -> Option<Called>
             Some(_) => None,
         },
         _ => call_on(held?, act),
-    }
-}
-
-/// The call that a command makes where its variable lets it: a get with no handle, and another with
-/// this one.
-pub fn made_by(handle: Handle, act: Act) -> Option<Called>
-    // As an event it is the call of a get with no handle, and of another command with this one.
-    ensures { option_map event_of result ≡ made_by handle act }
-{
-    match act {
-        Act::Get(_) => call_of(None, act),
-        _ => call_of(Some(handle), act),
     }
 }

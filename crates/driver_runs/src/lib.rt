@@ -17,6 +17,6 @@ mod standing;
 mod turns;
 mod variables;
 
-pub use called::{Called, call_of, made_by};
+pub use called::{Called, call_of};
 pub use scripts::run_scripts;
 pub use variables::{handle_of, keep_reply, variable_count};

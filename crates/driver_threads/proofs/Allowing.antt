@@ -11,7 +11,7 @@ use Rattle.clk_machine.specs.Sound.{IsPlaced}
 use Rattle.clk_base.specs.declared.call.Sleeping.{Sleeping}
 use Rattle.drv_scripts.specs.Placed.{NamesPlace}
 use Rattle.driver_runs.proofs.Going.{element}
-use Rattle.driver_threads.specs.Going.{MayBegin, MayCall, MayRun, IsSame, GoesThrough}
+use Rattle.driver_threads.specs.Going.{MayBegin, MayCall, MayRun, GoesThrough}
 use Rattle.driver_threads.proofs.Going.{same_ready, goes_same}
 
 -- what the framework asks of a call, in its own words
@@ -38,13 +38,3 @@ module _ (table : TableId) (old now : DriverView) (held held' : Variables) (comm
     knows = fixed ∙ may.knows;
     place = element (λ (command : Command). NamesPlace (length may.opened.defs) command.act) commands i x may.places within;
   }
-
--- a driver whose commands are run may run what is left: none
-pub may_rest : (table : TableId) (old new : DriverView) (commands : List Command) → IsSame old new → MayRun table old commands → MayRun table new []
-may_rest table old new commands same may = record {
-  ready = same_ready table old new same may.ready;
-  credits = omega arith;
-  opened = may.opened;
-  knows = ap (λ (d : DriverView). d.fixed) same ∙ may.knows;
-  places = tt;
-}

@@ -18,9 +18,6 @@ use Rattle.driver_threads.specs.Going.{IsSame, AnswersCall, GoesThrough}
 
 -- ---- the same driver
 
-pub same_trans : (a b c : DriverView) → IsSame a b → IsSame b c → IsSame a c
-same_trans a b c ab bc = bc ∙ ap (λ (d : DriverView). let e : DriverView = record d { seen = c.seen; mine = c.mine; room = c.room } in e) ab
-
 pub same_ready : (table : TableId) (a b : DriverView) → IsSame a b → IsReady table a → IsReady table b
 same_ready table a b same ready = record {
   table_is = ap (λ (d : DriverView). d.table) same ∙ ready.table_is;

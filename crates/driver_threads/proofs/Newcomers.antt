@@ -29,9 +29,6 @@ commands_more scripts i s within is =
 
 -- ---- driver 0
 
-pub made_none : (d : DriverView) → HasMade d 0 d
-made_none d = ap (λ (n : ℕ). let e : DriverView = record d { made = n } in e) (sym (add-zero d.made))
-
 pub made_more : (old mid new : DriverView) (i n : ℕ) → HasMade old i mid → new ≡ parted n mid → HasMade old (i + 1) new
 made_more old mid new i n made parts =
     let before = ap (λ (d : DriverView). d.made) made in

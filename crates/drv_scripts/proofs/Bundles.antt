@@ -175,10 +175,6 @@ boot_few absent n assigned few steps =
     let more = assigned_few assigned in
     omega (arith, length-append (said_from (probe_unless absent) 0 n) (assigned_commands assigned))
 
-pub assigned_lines_of : (ls : List (List ℕ)) (parts : Parts) (said : SaidClocks) → (bundle_of ls parts said).assigned_lines ≡ map (λ a. a.line) said.assigned
-unfolding bundle_of
-assigned_lines_of ls parts said = refl
-
 pub desc_of : (ls : List (List ℕ)) (parts : Parts) (said : SaidClocks) → (bundle_of ls parts said).desc ≡ record { defs = said.defs; words = parts.bank.words }
 unfolding bundle_of
 desc_of ls parts said = refl

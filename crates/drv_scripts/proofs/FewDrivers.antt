@@ -140,7 +140,3 @@ names_few ls parts some accepts =
     let few = few_at ls (length ls) some (λ k lt. accepts.placed k (omega arith)) in
     let all : drivers_among (in_order parts) ≤ 64 = subst (λ xs. drivers_among xs ≤ 64) accepts.sections few in
     omega (arith, length-names parts.others, among_others parts)
-
--- and each driver has one
-pub names_drivers : (a : Around) (sections : List SaidSection) → length (driver_names sections) ≡ length (flat_map (scripts_in a) sections)
-names_drivers a sections = length-names sections ∙ sym (length-scripts a sections)

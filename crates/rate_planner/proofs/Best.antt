@@ -10,11 +10,11 @@ use Rattle.kind_math.specs.declared.div_style.DivStyle.{DivStyle}
 use Rattle.kind_math.specs.Dividers.{valid_divisors}
 use Rattle.kind_math.specs.Rates.{divisor}
 use Rattle.clk_model.specs.Tree.{rooted}
-use Rattle.clk_model.specs.Round.{Wiring, Rounded, better, over_link, over_candidate, most_rate, round_by, rate_for, round, round_rate, View}
+use Rattle.clk_model.specs.Round.{Wiring, Rounded, better, over_link, over_candidate, most_rate, round_by, rate_for, round, View}
 use Rattle.clk_base.specs.Levels.{depth}
 use Rattle.rate_planner.specs.Given.{after_try, after_divisors, over_rooted, after_candidates}
 use Rattle.rate_planner.specs.Divisors.{first_field, divisors_from}
-use Rattle.rate_planner.proofs.DivisorChoice.{divisors_all, divisors_more, divisors_none, none_product}
+use Rattle.rate_planner.proofs.DivisorChoice.{divisors_all, divisors_more, none_product}
 
 -- one try more
 try_one : (x : ℕ) (best : Option Rounded) (o : Option Rounded) (tries : List Rounded) → fold (better x) best (cons_option o tries) ≡ fold (better x) (after_try x best o) tries
@@ -64,10 +64,6 @@ divisors_above ask w c x best all style field end d is above left =
     let over : most_rate < x * divisor style field = subst (λ n. most_rate < x * n) is above in
     sym (ap (λ ds. fold (better x) best (filter_map (λ i. over_link ask w c (x * i) (λ r. div_ceil r i)) ds)) (none_product style x field end over)) ∙ left
 
-pub divisors_end : (ask : ℕ → ℕ → Option ℕ) (w : Wiring) (c x : ℕ) (best all : Option Rounded) (style : DivStyle) (field end : ℕ)
-    → end ≤ field → after_divisors ask w c x best (divisors_from style field end) ≡ all → best ≡ all
-divisors_end ask w c x best all style field end past left = sym (ap (λ ds. after_divisors ask w c x best ds) (divisors_none style field end past)) ∙ left
-
 -- ---- candidates
 
 -- the place of a listed clock, and the places behind it
@@ -102,7 +98,3 @@ rate_level (suc levels) w view c x o some is =
 pub round_whole : (w : Wiring) (view : View) (c x : ℕ) (o : Option Rounded) (levels : ℕ) → levels ≡ depth → o ≡ round_by (rate_for levels w view) w view c x → o ≡ round w view c x
 unfolding round
 round_whole w view c x o levels all is = is ∙ ap (λ n. round_by (rate_for n w view) w view c x) all
-
-pub rate_whole : (w : Wiring) (view : View) (c x : ℕ) (o : Option Rounded) (levels : ℕ) → levels ≡ depth → o ≡ round_by (rate_for levels w view) w view c x
-    → option_map (λ r. r.rate) o ≡ round_rate w view c x
-rate_whole w view c x o levels all is = ap (option_map (λ (r : Rounded). r.rate)) (round_whole w view c x o levels all is)
