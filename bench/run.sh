@@ -67,8 +67,8 @@ measure() {
         $((journal / commands)) $((reading / commands)) $(((one_thread - reading) / commands))
 }
 
-# An example has to run. This builds nothing: the program is there once `./prove` has built it.
-"$root/clkbench" sim <"$root/examples/uart.bundle" >/dev/null || exit 1
+# The proved program is measured, so it is proved and built first.
+"$root/prove" >&2 || exit 1
 
 printf '%8s %10s %12s %14s %12s %12s\n' drivers commands a-command with-journal reading one-thread
 for drivers in 1 2 4 8 16 32 64; do

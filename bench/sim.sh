@@ -51,8 +51,8 @@ measure() {
     printf '%8d %8d %10d %12d %12d %12d\n' "$1" "$3" "$2" $((taken / all)) $((journaled / all)) $((taken / ($1 + all)))
 }
 
-# An example has to run. This builds nothing: the program is there once `./prove` has built it.
-"$root/clkbench" sim <"$root/examples/uart.bundle" >/dev/null || exit 1
+# The proved program is measured, so it is proved and built first.
+"$root/prove" >&2 || exit 1
 
 echo "In nanoseconds. Boot registers each clock by a command of its own: the last column counts these commands too."
 printf '%8s %8s %10s %12s %12s %12s\n' clocks drivers commands a-command with-journal of-all

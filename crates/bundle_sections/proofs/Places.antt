@@ -1,12 +1,11 @@
 -- Steps from header to header.
 use Rattle.std.proofs.Common.{◌≡◌, ℕ, zero, suc, ◌+◌, ◌-◌, ◌<◌, ◌≤◌, ◌||◌, Bool, true, false, List, [], ◌∷◌, ◌++◌, Option, Some, None, Ok, length, drop, map, refl, ap, subst, sym, ◌∙◌, inl, inr, arith, length-drop}
 use Rattle.std.specs.List.{list_any}
-use Rattle.std.specs.Str.{IsUtf8, is_utf8}
-use Rattle.std.proofs.lemmas.Bool.{cases_Bool, cases_lt}
+use Rattle.std.specs.Str.{is_utf8}
+use Rattle.std.proofs.lemmas.Bool.{cases_lt}
 use Rattle.std.proofs.lemmas.Bool.Decides.{nat_tests}
 use Rattle.std.proofs.lemmas.List.{get_or-drop}
 use Rattle.std.proofs.lemmas.List.Sums.{fails_before_first, passes_at_first}
-use Rattle.std.proofs.lemmas.Str.{IsUtf8-from_is_utf8}
 use Rattle.bundle_text.specs.Firsts.{KeepsBelow, onto, said_from}
 use Rattle.bundle_text.specs.Lines.{line_at, is_header, header_from}
 use Rattle.bundle_text.specs.Words.{blank_words}
@@ -49,10 +48,6 @@ pub version_some : (ls : List (List ℕ)) → has_version ls ≡ true → 0 < le
 unfolding has_version
 version_some [] h = absurd (cc)
 version_some (x ∷ xs) h = omega arith
-
--- bytes that aren't UTF-8 don't pass the test
-pub is_utf8-other : (bytes : List ℕ) → ¬ (IsUtf8 bytes) → is_utf8 bytes ≡ false
-is_utf8-other bytes h = elim (cases_Bool (is_utf8 bytes)) [ inl e ↦ absurd (h (IsUtf8-from_is_utf8 bytes e)) | inr e ↦ e ]
 
 -- the first fault of a test stops the reading
 pub stopped : (test : ℕ → Option Reason) (n place : ℕ) (reason : Reason) (fault : BundleFault) → fault ≡ Refused (place + 1) reason → place < n → KeepsBelow test place → test place ≡ Some reason → Stops test n fault

@@ -9,7 +9,7 @@ pub as_word-utf8 : (part : List ℕ) → (length part == 0) ≡ false → IsUtf8
 unfolding as_word
 as_word-utf8 part some h = rw some (rw (is_utf8-from_IsUtf8 part h) refl)
 
-other-utf8 : (part : List ℕ) → ¬ (IsUtf8 part) → is_utf8 part ≡ false
+pub other-utf8 : (part : List ℕ) → ¬ (IsUtf8 part) → is_utf8 part ≡ false
 other-utf8 part h =
     elim (is_utf8 part) as (λ b. is_utf8 part ≡ b → b ≡ false)
     [ true ↦ λ e. absurd (h (IsUtf8-from_is_utf8 part e)) | false ↦ λ e. refl ] refl

@@ -8,10 +8,10 @@ use Rattle.std.proofs.lemmas.Str.Parse.{IsDigitsTest, IsNumeralModel, numerals_b
 use Rattle.std.proofs.lemmas.Bool.Decides.{nat_tests}
 use Rattle.bundle_text.specs.Numbers.{number_up_to}
 
-tells : IsDigitsTest (λ ds. list_all is_ascii_digit ds ≡ true)
+pub tells : IsDigitsTest (λ ds. list_all is_ascii_digit ds ≡ true)
 tells = search rules
 
-own : IsNumeralModel (λ ds. list_all is_ascii_digit ds ≡ true) (digits_value 10)
+pub own : IsNumeralModel (λ ds. list_all is_ascii_digit ds ≡ true) (digits_value 10)
 own = numerals_by_value _ tells
 
 -- a word of digits is parsed exactly where it isn't empty and its number fits 64 bits

@@ -47,7 +47,7 @@ next words defs rule below go =
       | inr first ↦ inr (rule, first.0, broken-next words defs rule first.0 below first.1)
     ]
 
-is_one_of : (r : Rule) → IsTrue (nat_lt (number r) 8)
+pub is_one_of : (r : Rule) → IsTrue (nat_lt (number r) 8)
 is_one_of counts = refl
 is_one_of ranges = refl
 is_one_of bank = refl

@@ -80,7 +80,7 @@ place_below n [] all k lt = absurd (omega arith)
 place_below n (p ∷ places) all zero lt = ltb-true p n (and_parts _ _ all).0
 place_below n (p ∷ places) all (suc k) lt = place_below n places (and_parts _ _ all).1 k (omega arith)
 
-list_all-append : (test : ℕ → Bool) (xs ys : List ℕ) → list_all test xs ≡ true → list_all test ys ≡ true → list_all test (xs ++ ys) ≡ true
+pub list_all-append : (test : ℕ → Bool) (xs ys : List ℕ) → list_all test xs ≡ true → list_all test ys ≡ true → list_all test (xs ++ ys) ≡ true
 list_all-append test [] ys first second = second
 list_all-append test (x ∷ xs) ys first second = (let parts = and_parts _ _ first in and_from _ _ parts.0 (list_all-append test xs ys parts.1 second))
 

@@ -10,6 +10,7 @@ use Rattle.clk_base.specs.declared.clock.ClockId.{ClockId}
 use Rattle.clk_base.specs.Description.{Description}
 use Rattle.clk_base.specs.Levels.{depth}
 use Rattle.clk_base.specs.Places.{places}
+use Rattle.clk_base.proofs.Walked.{list_all-append}
 use Rattle.clk_model.specs.Lists.{is_in}
 use Rattle.clk_model.specs.Script.{sweep_order, sweep_script, tree_within, weight}
 use Rattle.clk_model.specs.State.{State, NotifierRow, registered}
@@ -22,13 +23,6 @@ use Rattle.clk_machine.specs.Stands.{Stands}
 use Rattle.clk_machine.specs.Sweeping.{Adds, closes, unpowers, close_step, unpower_step, is_light, are_light}
 
 -- ---- steps that are added
-
-none_all : (p : ℕ → Bool) (xs ys : List ℕ) → list_all p xs ≡ true → list_all p ys ≡ true → list_all p (xs ++ ys) ≡ true
-none_all p [] ys e f = f
-none_all p (x ∷ xs) ys e f = both (p x) (both_left (p x) _ e) (none_all p xs ys (both_right (p x) _ e) f) where
-  both : (t : Bool) → t ≡ true → list_all p (xs ++ ys) ≡ true → (t && list_all p (xs ++ ys)) ≡ true
-  both true e rest = rest
-  both false e rest = absurd cc
 
 mapped_append : (f : ℕ → Micro) (xs ys : List ℕ) → map f (xs ++ ys) ≡ map f xs ++ map f ys
 mapped_append f [] ys = refl
@@ -68,7 +62,7 @@ adds_more m step test xs ys before mid after one two = record {
   clocks = one.clocks ++ two.clocks;
   steps = two.steps ∙ ap (λ (ms : List Micro). ms ++ map step two.clocks) one.steps ∙ append_assoc before (map step one.clocks) (map step two.clocks)
       ∙ ap (λ (ms : List Micro). before ++ ms) (sym (mapped_append step one.clocks two.clocks));
-  there = none_all (registered m.tree.clocks) one.clocks two.clocks one.there two.there;
+  there = list_all-append (registered m.tree.clocks) one.clocks two.clocks one.there two.there;
   told = λ s stands.
       ap (λ (cs : List ℕ). cs ++ two.clocks) (one.told s stands) ∙ ap (λ (cs : List ℕ). filter (test s) xs ++ cs) (two.told s stands) ∙ sym (filtered_append (test s) xs ys);
 }
@@ -112,12 +106,12 @@ all_filtered p q (x ∷ xs) all = by (q x) (all_filtered p q xs (both_right (p x
 
 all_flat : (p : ℕ → Bool) (f : ℕ → List ℕ) (xs : List ℕ) → ((x : ℕ) → p x ≡ true → list_all p (f x) ≡ true) → list_all p xs ≡ true → list_all p (flat_map f xs) ≡ true
 all_flat p f [] each all = refl
-all_flat p f (x ∷ xs) each all = none_all p (f x) (flat_map f xs) (each x (both_left (p x) _ all)) (all_flat p f xs each (both_right (p x) _ all))
+all_flat p f (x ∷ xs) each all = list_all-append p (f x) (flat_map f xs) (each x (both_left (p x) _ all)) (all_flat p f xs each (both_right (p x) _ all))
 
 all_trees : (p : ℕ → Bool) (kids : ℕ → List ℕ) (levels c : ℕ) → ((x : ℕ) → list_all p (kids x) ≡ true) → p c ≡ true → list_all p (tree_within kids levels c) ≡ true
 all_trees p kids zero c each here = refl
 all_trees p kids (suc levels) c each here =
-    none_all p (flat_map (tree_within kids levels) (kids c)) (c ∷ []) (all_flat p (tree_within kids levels) (kids c) (λ x at. all_trees p kids levels x each at) (each c)) (ap (λ (b : Bool). b && true) here)
+    list_all-append p (flat_map (tree_within kids levels) (kids c)) (c ∷ []) (all_flat p (tree_within kids levels) (kids c) (λ x at. all_trees p kids levels x each at) (each c)) (ap (λ (b : Bool). b && true) here)
 
 all_listed : (p : ℕ → Bool) (xs : List ℕ) → ((c : ℕ) → is_in c xs ≡ true → p c ≡ true) → list_all p xs ≡ true
 all_listed p [] each = refl
@@ -130,7 +124,7 @@ unfolding sweep_order
 order_there m whole =
     all_flat there (tree_within (children m.tree.order m.tree.clocks) depth) (roots m.desc.defs m.tree.order ++ orphans m.desc.defs m.tree.order m.tree.clocks)
     (λ x here. all_trees there (children m.tree.order m.tree.clocks) depth x (λ p. all_filtered there _ m.tree.order listed) here)
-    (none_all there (roots m.desc.defs m.tree.order) (orphans m.desc.defs m.tree.order m.tree.clocks) (all_filtered there _ m.tree.order listed) (all_filtered there _ m.tree.order listed)) where
+    (list_all-append there (roots m.desc.defs m.tree.order) (orphans m.desc.defs m.tree.order m.tree.clocks) (all_filtered there _ m.tree.order listed) (all_filtered there _ m.tree.order listed)) where
       there : ℕ → Bool
       there = registered m.tree.clocks
 

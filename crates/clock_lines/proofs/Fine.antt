@@ -12,6 +12,7 @@ use Rattle.clk_base.specs.Valid.{can_have_parents}
 use Rattle.bundle_text.specs.Names.{is_clock_name}
 use Rattle.bundle_text.specs.Numbers.{number_within, written_up_to}
 use Rattle.bundle_text.specs.declared.reason.Reason.TheVariants.{UnknownKind, BadWords, BadName, TwiceNamed, BadNumber, BadFlag}
+use Rattle.bundle_text.proofs.Results.{ok_same}
 use Rattle.clock_lines.specs.declared.field.Field.{Field}
 use Rattle.clock_lines.specs.Said.{SaidClock}
 use Rattle.clock_lines.specs.FlagWords.{are_flags, flags_of_words}
@@ -23,9 +24,6 @@ pub record IsFine (taken : Bool) (name : List ℕ) (said : SaidClock) : Type 0 w
   pub fresh : taken ≡ false
   pub name_is : said.name ≡ name
   pub parents : can_have_parents said.kind (length said.parents) ≡ true
-
-same_Ok : {T E : Type 0} (a b : T) (r : Result T E) → r ≡ Ok a → r ≡ Ok b → a ≡ b
-same_Ok a b r h k = cc
 
 err_ok : {T E : Type 0} (e : E) (c : T) (r : Result T E) → r ≡ Err e → r ≡ Ok c → ⊥
 err_ok e c r h k = cc
@@ -110,7 +108,7 @@ unfolding with_flags
 with_flags-fine taken name None parents flags c fresh h each = absurd (err_ok BadNumber c _ refl h)
 with_flags-fine taken name (Some k) parents flags c fresh h each =
     let made : SaidClock = record { name = name; kind = k; flags = flags_of_words flags; parents = parents } in
-    let same : made ≡ c = same_Ok made c _ refl (if_ok (are_flags k flags) BadFlag (Ok made) c h) in
+    let same : made ≡ c = ok_same made c _ refl (if_ok (are_flags k flags) BadFlag (Ok made) c h) in
     record {
       fresh = fresh;
       name_is = ap (λ (x : SaidClock). x.name) (sym same);

@@ -12,12 +12,13 @@ use Rattle.bundle_text.specs.Words.{is_comment}
 use Rattle.clk_base.specs.declared.command.Act.{Act}
 use Rattle.clk_base.specs.declared.command.Act.TheVariants.{Put, Prepare, Unprepare, Enable, Disable, Running, SetRate}
 use Rattle.clk_gen.specs.Generated.{first_word, second_word}
+use Rattle.drv_scripts.proofs.ListPlaced.{all_append}
 use Rattle.gen_laws.specs.Rows.{is_plain, are_plain, row_text}
 use Rattle.gen_laws.specs.Clocks.{parts_of, all_parts}
 use Rattle.gen_laws.specs.Script.{turn_acts, turns_acts, acts_held}
 use Rattle.gen_laws.proofs.BundleRows.{Row, part_row, word_row, driver_row, act_row, command_rows, driver_rows, bank_row, clock_rows, word_rows, bundle_rows}
 use Rattle.gen_laws.proofs.Decimals.{all_digits, seen-decimal, plain-decimal}
-use Rattle.gen_laws.proofs.Listed.{each-append, each-up_to, each-map, each-weaker}
+use Rattle.gen_laws.proofs.Listed.{each-up_to, each-map, each-weaker}
 
 -- plain words that begin no section and no comment
 pub record IsBody (row : Row) : Type 0 where
@@ -103,7 +104,7 @@ held-turns = each-up_to IsHeld turn_acts 100 (λ k low. held-turn (suc k))
 
 pub held-acts : AllByRecursion IsHeld acts_held
 unfolding IsHeld acts_held
-held-acts = (tt, each-append IsHeld turns_acts (Unprepare ∷ Put ∷ []) held-turns (tt, (tt, tt)))
+held-acts = (tt, all_append IsHeld turns_acts (Unprepare ∷ Put ∷ []) held-turns (tt, (tt, tt)))
 
 pub body-act : (a : Act) → IsHeld a → IsBody (act_row a)
 unfolding IsHeld
@@ -148,7 +149,7 @@ plain-bundle n few =
     let clocks = plain-body (clock_rows n) (each-map IsBody part_row (all_parts n) (body-parts n few)) in
     let words = plain-body (word_rows n) (body-words n few) in
     let drivers = each-up_to IsPlain driver_rows n (λ k low. plain-driver k (omega arith)) in
-    (refl, (refl, each-append IsPlain (clock_rows n) _ clocks ((head-bank n few).plain, each-append IsPlain (word_rows n) _ words drivers)))
+    (refl, (refl, all_append IsPlain (clock_rows n) _ clocks ((head-bank n few).plain, all_append IsPlain (word_rows n) _ words drivers)))
 
 pub all_plain : (rows : List Row) → AllByRecursion IsPlain rows → list_all are_plain rows ≡ true
 all_plain [] h = refl

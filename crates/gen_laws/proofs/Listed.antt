@@ -1,9 +1,10 @@
 -- Lists of the numbers from 1 to one, one behind the other.
-use Rattle.std.proofs.Common.{◌≡◌, ℕ, zero, suc, ◌+◌, ◌-◌, ◌<◌, ◌≤◌, Bool, true, false, List, [], ◌∷◌, ◌++◌, length, map, get_or, refl, sym, ap, subst, ◌∙◌, inl, inr, arith}
+use Rattle.std.proofs.Common.{◌≡◌, ℕ, zero, suc, ◌+◌, ◌-◌, ◌<◌, ◌≤◌, Bool, true, false, List, [], ◌∷◌, length, map, get_or, refl, sym, ap, subst, ◌∙◌, inl, inr, arith}
 use Rattle.std.specs.List.{list_all, list_any, AllByRecursion}
 use Rattle.std.proofs.lemmas.Bool.{cases_lt, and_from, or_from}
 use Rattle.std.proofs.lemmas.List.{length-append, get_or_append_left, get_or-append_right}
 use Rattle.std.proofs.lemmas.List.Folds.{list_all-append, list_any-append}
+use Rattle.drv_scripts.proofs.ListPlaced.{all_append}
 use Rattle.gen_laws.specs.Clocks.{up_to}
 
 -- where the list of each number begins: behind those before it
@@ -53,14 +54,9 @@ any-up_to p list zero h = refl
 any-up_to p list (suc n) h =
     list_any-append p (up_to list n) (list (suc n)) ∙ or_from _ _ (any-up_to p list n (λ k low. h k (omega arith))) (h n (omega arith))
 
--- what holds of each element of two lists
-pub each-append : {X : Type 0} (P : X → Type 0) (xs ys : List X) → AllByRecursion P xs → AllByRecursion P ys → AllByRecursion P (xs ++ ys)
-each-append P [] ys h hs = hs
-each-append P (x ∷ xs) ys h hs = (h.0, each-append P xs ys h.1 hs)
-
 pub each-up_to : {X : Type 0} (P : X → Type 0) (list : ℕ → List X) (n : ℕ) → ((k : ℕ) → k < n → AllByRecursion P (list (suc k))) → AllByRecursion P (up_to list n)
 each-up_to P list zero h = tt
-each-up_to P list (suc n) h = each-append P (up_to list n) (list (suc n)) (each-up_to P list n (λ k low. h k (omega arith))) (h n (omega arith))
+each-up_to P list (suc n) h = all_append P (up_to list n) (list (suc n)) (each-up_to P list n (λ k low. h k (omega arith))) (h n (omega arith))
 
 pub each-map : {X Y : Type 0} (P : Y → Type 0) (f : X → Y) (xs : List X) → AllByRecursion (λ x. P (f x)) xs → AllByRecursion P (map f xs)
 each-map P f [] h = tt

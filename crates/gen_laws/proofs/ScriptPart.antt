@@ -145,7 +145,7 @@ tiles-drivers : (n i : ℕ) → Tiles (driver_place n 0) (driver_parts n i) (dri
 tiles-drivers n zero = refl
 tiles-drivers n (suc i) = tiles-more (driver_place n 0) (driver_place n i) (driver_parts n i) (driver_part n i) (tiles-drivers n i) refl (omega arith)
 
-length-driver_parts : (n i : ℕ) → length (driver_parts n i) ≡ i
+pub length-driver_parts : (n i : ℕ) → length (driver_parts n i) ≡ i
 length-driver_parts n i = length-up_to (one_driver n) (λ k. k) (record { first = refl; next = λ k. omega arith }) i
 
 pub drivers-fine : (n : ℕ) (a : Around) (k : ℕ) → n ≤ 64 → IsAround n a → 4 * n + 4 ≤ k → fault_among a 0 (driver_parts n n) k ≡ None

@@ -32,9 +32,10 @@ use Rattle.gen_laws.specs.Script.{driver_name}
 use Rattle.gen_laws.proofs.BundleRows.{Row, driver_row, command_rows, bank_row, clock_rows, word_rows, bundle_rows, part_row}
 use Rattle.gen_laws.proofs.BodyRows.{IsBody, IsHead, body-parts, body-words, body-commands, head-driver, head-bank, IsPlain, plain-bundle}
 use Rattle.gen_laws.proofs.Decimals.{all_digits, number-decimal, same_decimal}
-use Rattle.gen_laws.proofs.Listed.{any-up_to, each-map, length-up_to}
+use Rattle.gen_laws.proofs.Listed.{any-up_to, each-map}
 use Rattle.gen_laws.proofs.PlainRows.{row-words, row-utf8}
 use Rattle.gen_laws.proofs.RowPlaces.{row_at, line-row, length-bundle, length-clocks, length-words, length-commands, clock-at, bank-at, word-at, driver-at}
+use Rattle.gen_laws.proofs.ScriptPart.{length-driver_parts}
 
 -- the lines of the bundle
 abbrev pub bundle_lines : ℕ → List (List ℕ)
@@ -167,9 +168,6 @@ names-apart i k order few =
     let equal : k ≡ i = same_decimal k i (omega arith) (omega arith) numbers in
     omega arith)
 
-length-parts : (n i : ℕ) → length (driver_parts n i) ≡ i
-length-parts n i = length-up_to (one_driver n) (λ k. k) (record { first = refl; next = λ k. omega arith }) i
-
 driver-ordered : (n i : ℕ) → i < 64 → order_fault (map (λ s. s.says) (sections_to n i)) (driver (driver_name (suc i)) None) ≡ None
 unfolding order_fault cannot_follow
 driver-ordered n i few =
@@ -181,7 +179,7 @@ driver-ordered n i few =
     list_any-map (same_driver said) says more ∙ any-up_to (λ s. same_driver said s.says) (one_driver n) i (λ k low. or_from _ false (names-apart (suc k) (suc i) (omega arith) (omega arith)) refl) in
     let weight : Said → ℕ = λ s. cond (is_driver s) 1 0 in
     let count : nat_le 64 (count_by is_driver (clocks ∷ (bank (2 * n) ∷ map says more))) ≡ false =
-    lt-leb 64 _ (omega (arith, sum_by-cons weight clocks (bank (2 * n) ∷ map says more), sum_by-cons weight (bank (2 * n)) (map says more), count_by-le-length is_driver (map says more), length-map more says, length-parts n i)) in
+    lt-leb 64 _ (omega (arith, sum_by-cons weight clocks (bank (2 * n) ∷ map says more), sum_by-cons weight (bank (2 * n)) (map says more), count_by-le-length is_driver (map says more), length-map more says, length-driver_parts n i)) in
     rw follows (rw other (rw count refl))
 
 -- ---- from header to header

@@ -8,12 +8,13 @@ use Rattle.clk_base.specs.declared.command.Act.{Act}
 use Rattle.clk_base.specs.declared.command.Act.TheVariants.{Put, Prepare, Unprepare, Enable, Disable, Running, SetRate}
 use Rattle.clk_gen.specs.Generated.{first_word, second_word}
 use Rattle.clk_io.specs.declared.reading.TheConstants.{MOST_BYTES}
+use Rattle.drv_scripts.proofs.ListPlaced.{all_append}
 use Rattle.gen_laws.specs.Rows.{behind_spaces, row_before, rows_text}
 use Rattle.gen_laws.specs.Clocks.{Part, root, pll, divider, gate, all_parts}
 use Rattle.gen_laws.specs.Script.{acts_held}
 use Rattle.gen_laws.proofs.BundleRows.{Row, part_row, word_row, get_row, act_row, driver_rows, bank_row, clock_rows, word_rows, bundle_rows}
 use Rattle.gen_laws.proofs.BodyRows.{IsHeld, held-acts}
-use Rattle.gen_laws.proofs.Listed.{each-append, each-up_to, each-map, each-weaker}
+use Rattle.gen_laws.proofs.Listed.{each-up_to, each-map, each-weaker}
 use Rattle.gen_laws.proofs.Parts.{IsFew, few-parts}
 use Rattle.gen_laws.proofs.RowPlaces.{length-bundle}
 
@@ -101,7 +102,7 @@ short-bundle n few =
     let bank : IsShort (bank_row n) = two (codes "%regs") (omega arith) (decimal (2 * n)) (omega arith) in
     let header : IsShort (codes "%clocks" ∷ []) = record { few = omega arith; short = (omega arith, tt) } in (
       two (codes "%bundle") (omega arith) (codes "1") (omega arith),
-      (header, each-append IsShort (clock_rows n) _ clocks (bank, each-append IsShort (word_rows n) _ words drivers)),
+      (header, all_append IsShort (clock_rows n) _ clocks (bank, all_append IsShort (word_rows n) _ words drivers)),
     )
 
 -- the text is as short as a bundle's

@@ -1,10 +1,10 @@
 use Rattle.std.proofs.Common.{sym}
 use Rattle.std.proofs.lemmas.Str.{is_utf8-from_IsUtf8}
-use Rattle.bundle_sections.proofs.Places.{is_utf8-other}
+use Rattle.bundle_text.proofs.BlankWords.{other-utf8}
 use Rattle.bundle_sections.proofs.reading.is_text.Goals as goal
 
 pub returns-in-Ok : goal.returns-in-Ok
 returns-in-Ok c = sym (is_utf8-from_IsUtf8 _ c.in-Ok.ensures.cases.1)
 
 pub returns-in-Err : goal.returns-in-Err
-returns-in-Err c = sym (is_utf8-other _ c.in-Err.ensures.cases.0)
+returns-in-Err c = sym (other-utf8 _ c.in-Err.ensures.cases.0)
