@@ -1,10 +1,10 @@
 -- Each clock keeps every rule, or there is a first rule that a clock breaks.
 use Rattle.std.proofs.Common.{◌≡◌, ◌⊎◌, Bool, true, false, ℕ, zero, suc, ◌+◌, ◌<◌, length, refl, ap, ◌∙◌, inl, inr, arith}
-use Rattle.std.specs.Prelude.{nat_lt, IsTrue}
+use Rattle.std.specs.Prelude.{IsTrue}
 use Rattle.std.proofs.lemmas.Bool.{cases_lt}
 use Rattle.clk_base.specs.Description.{Description, EachClock, IsFirstFailing}
 use Rattle.clk_base.specs.Valid.{Rule, counts, ranges, bank, apart, acyclic, levels, bounded, keeps, number, IsFirstBroken}
-use Rattle.clk_base.proofs.Kept.{KeepsBelow, keeps_none, keeps_next, broken-next}
+use Rattle.clk_base.proofs.Kept.{KeepsBelow, keeps_none, keeps_next, broken-next, last_number}
 
 -- ## One test
 
@@ -47,16 +47,7 @@ next words defs rule below go =
       | inr first ↦ inr (rule, first.0, broken-next words defs rule first.0 below first.1)
     ]
 
-pub is_one_of : (r : Rule) → IsTrue (nat_lt (number r) 8)
-is_one_of counts = refl
-is_one_of ranges = refl
-is_one_of bank = refl
-is_one_of apart = refl
-is_one_of acyclic = refl
-is_one_of levels = refl
-is_one_of bounded = refl
-
 pub rules_decided : (words : ℕ) (defs : Description) → ((rule : Rule) → EachClock defs (keeps rule words defs)) ⊎ ((rule : Rule) × (c : ℕ) × IsFirstBroken words defs rule c)
 rules_decided words defs =
     next words defs counts (keeps_none words defs) (λ few. next words defs ranges few (λ right. next words defs bank right (λ inside. next words defs apart inside
-    (λ own. next words defs acyclic own (λ none. next words defs levels none (λ short. next words defs bounded short (λ all. inl (λ r. all r (is_one_of r)))))))))
+    (λ own. next words defs acyclic own (λ none. next words defs levels none (λ short. next words defs bounded short (λ all. inl (λ r. all r (last_number r)))))))))

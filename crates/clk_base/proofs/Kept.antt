@@ -5,7 +5,6 @@ use Rattle.std.specs.Prelude.{◌==◌, nat_lt, IsTrue, if◌then◌else◌}
 use Rattle.std.proofs.lemmas.Bool.{false≢true, cases_lt, ltb-true, lt-ltb}
 use Rattle.clk_base.specs.Description.{Description, EachClock, HasDistinctNames, IsFirstFailing}
 use Rattle.clk_base.specs.Valid.{Rule, counts, ranges, bank, apart, acyclic, levels, bounded, keeps, number, has_its_parents, IsValid, IsFirstBroken}
-use Rattle.clk_base.proofs.Decided.{is_one_of}
 
 -- each clock keeps the rules whose numbers are below this one
 abbrev pub KeepsBelow : ℕ → Description → ℕ → Type 0
@@ -73,12 +72,22 @@ below_levels words defs below none = keeps_next words defs acyclic below none
 pub below_bounded : (words : ℕ) (defs : Description) → KeepsBelow words defs 6 → EachClock defs (keeps levels words defs) → KeepsBelow words defs 7
 below_bounded words defs below short = keeps_next words defs levels below short
 
+-- each rule has a number below 8
+pub last_number : (r : Rule) → IsTrue (nat_lt (number r) 8)
+last_number counts = refl
+last_number ranges = refl
+last_number bank = refl
+last_number apart = refl
+last_number acyclic = refl
+last_number levels = refl
+last_number bounded = refl
+
 -- where all rules are kept the description is valid
 pub valid-kept : (words : ℕ) (defs : Description) → EachClock defs (has_its_parents defs) → HasDistinctNames defs → KeepsBelow words defs 8 → IsValid words defs
 valid-kept words defs parents names all = record {
   parents = parents;
   names = names;
-  rules = λ r. all r (is_one_of r);
+  rules = λ r. all r (last_number r);
 }
 
 -- the first clock that fails the next rule breaks it first

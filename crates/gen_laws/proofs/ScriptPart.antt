@@ -31,11 +31,11 @@ use Rattle.gen_laws.proofs.BodyRows.{IsBody, body-commands}
 use Rattle.gen_laws.proofs.ClockPart.{name_at, apart, same_name}
 use Rattle.gen_laws.proofs.CommandPart.{Stands, acts_over, commands-kept, commands-are}
 use Rattle.gen_laws.proofs.KeptRules.{length-clocks}
-use Rattle.gen_laws.proofs.Listed.{each-up_to, length-up_to}
+use Rattle.gen_laws.proofs.Listed.{each-up_to}
 use Rattle.gen_laws.proofs.Parts.{part_at, gate-at}
 use Rattle.gen_laws.proofs.PlainRows.{row-said}
 use Rattle.gen_laws.proofs.RowPlaces.{row_at, line-row, length-parts, length-acts, length-commands}
-use Rattle.gen_laws.proofs.Sectioned.{bundle_lines, driver_place, driver_part, one_driver, driver_parts, among, command-at}
+use Rattle.gen_laws.proofs.Sectioned.{bundle_lines, driver_place, driver_part, one_driver, driver_parts, among, command-at, length-driver_parts}
 
 -- what the lines of the drivers are judged by
 pub record IsAround (n : ℕ) (a : Around) : Type 0 where
@@ -144,9 +144,6 @@ among-fine a (s ∷ more) before from to k kept tiled low few =
 tiles-drivers : (n i : ℕ) → Tiles (driver_place n 0) (driver_parts n i) (driver_place n i)
 tiles-drivers n zero = refl
 tiles-drivers n (suc i) = tiles-more (driver_place n 0) (driver_place n i) (driver_parts n i) (driver_part n i) (tiles-drivers n i) refl (omega arith)
-
-pub length-driver_parts : (n i : ℕ) → length (driver_parts n i) ≡ i
-length-driver_parts n i = length-up_to (one_driver n) (λ k. k) (record { first = refl; next = λ k. omega arith }) i
 
 pub drivers-fine : (n : ℕ) (a : Around) (k : ℕ) → n ≤ 64 → IsAround n a → 4 * n + 4 ≤ k → fault_among a 0 (driver_parts n n) k ≡ None
 drivers-fine n a k few around low =

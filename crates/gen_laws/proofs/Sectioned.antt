@@ -32,10 +32,9 @@ use Rattle.gen_laws.specs.Script.{driver_name}
 use Rattle.gen_laws.proofs.BundleRows.{Row, driver_row, command_rows, bank_row, clock_rows, word_rows, bundle_rows, part_row}
 use Rattle.gen_laws.proofs.BodyRows.{IsBody, IsHead, body-parts, body-words, body-commands, head-driver, head-bank, IsPlain, plain-bundle}
 use Rattle.gen_laws.proofs.Decimals.{all_digits, number-decimal, same_decimal}
-use Rattle.gen_laws.proofs.Listed.{any-up_to, each-map}
+use Rattle.gen_laws.proofs.Listed.{any-up_to, each-map, length-up_to}
 use Rattle.gen_laws.proofs.PlainRows.{row-words, row-utf8}
 use Rattle.gen_laws.proofs.RowPlaces.{row_at, line-row, length-bundle, length-clocks, length-words, length-commands, clock-at, bank-at, word-at, driver-at}
-use Rattle.gen_laws.proofs.ScriptPart.{length-driver_parts}
 
 -- the lines of the bundle
 abbrev pub bundle_lines : ℕ → List (List ℕ)
@@ -167,6 +166,9 @@ names-apart i k order few =
     let numbers : decimal k ≡ decimal i = cc in
     let equal : k ≡ i = same_decimal k i (omega arith) (omega arith) numbers in
     omega arith)
+
+pub length-driver_parts : (n i : ℕ) → length (driver_parts n i) ≡ i
+length-driver_parts n i = length-up_to (one_driver n) (λ k. k) (record { first = refl; next = λ k. omega arith }) i
 
 driver-ordered : (n i : ℕ) → i < 64 → order_fault (map (λ s. s.says) (sections_to n i)) (driver (driver_name (suc i)) None) ≡ None
 unfolding order_fault cannot_follow
