@@ -13,7 +13,6 @@ use Rattle.bundle_sections.specs.Verdict as section_verdict
 use Rattle.bundle_sections.proofs.Verdicts as section_laws
 use Rattle.clk_base.specs.Description.{Description, IsFirstFailing}
 use Rattle.clk_base.specs.Valid.{Rule, keeps, number, IsFirstBroken, counts, ranges, bank, apart, acyclic, levels, bounded}
-use Rattle.clk_base.proofs.Kept.{rule_of-number}
 use Rattle.clk_io.specs.declared.reading.TheConstants.{MOST_BYTES}
 use Rattle.drv_scripts.specs.declared.bundle.Bundle.{Bundle}
 use Rattle.bundle_text.specs.declared.reason.Reason.{Reason}
@@ -44,13 +43,23 @@ broken_later words defs rule other c d x y lt =
 rule_of : ℕ → Rule
 rule_of n = if n == 1 then counts else (if n == 2 then ranges else (if n == 3 then bank else (if n == 4 then apart else (if n == 5 then acyclic else (if n == 6 then levels else bounded)))))
 
+rule_numbered : (r : Rule) → rule_of (number r) ≡ r
+unfolding rule_of
+rule_numbered counts = refl
+rule_numbered ranges = refl
+rule_numbered bank = refl
+rule_numbered apart = refl
+rule_numbered acyclic = refl
+rule_numbered levels = refl
+rule_numbered bounded = refl
+
 same_rule : (words : ℕ) (defs : Description) (rule other : Rule) (c d : ℕ) → IsFirstBroken words defs rule c → IsFirstBroken words defs other d → rule ≡ other
 same_rule words defs rule other c d x y =
     elim (cases_lt (number other) (number rule)) [
       | inl below ↦ absurd (broken_later words defs rule other c d x y below)
       | inr above ↦ elim (cases_lt (number rule) (number other)) [
         | inl below ↦ absurd (broken_later words defs other rule d c y x below)
-        | inr least ↦ (let same : number rule ≡ number other = omega arith in sym (rule_of-number rule) ∙ (ap rule_of same ∙ rule_of-number other))
+        | inr least ↦ (let same : number rule ≡ number other = omega arith in sym (rule_numbered rule) ∙ (ap rule_of same ∙ rule_numbered other))
       ]
     ]
 
