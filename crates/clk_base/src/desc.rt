@@ -11,12 +11,23 @@ use std::marker::Model;
 
 /// A list of clocks with distinct names, in registration order, seen by contracts as the list of
 /// their records.
-#[derive(Debug, Drop)]
+#[derive(Debug)]
 pub struct Desc {
     alloc: Global,
     defs: Vec<ClockDef>,
     /// The names of the clocks, in their order.
     names: IndexSet<String>,
+}
+
+// A description is let go here, and not in each crate that drops one.
+impl Drop for Desc {
+    fn drop(self) {
+        let Desc {
+            alloc: _,
+            defs: _,
+            names: _,
+        } = self;
+    }
 }
 
 impl Model for Desc {

@@ -25,13 +25,24 @@ use std::marker::Model;
 ///
 /// Contracts see a core as its opening and its journal. Its state is the journal's replay from the
 /// opening, by the definitions of `clk_model`, wherever the bank tells its words.
-#[derive(Drop)]
 pub struct Core<B: Bank> {
     machine: Machine<B>,
     words: Vec<u32>,
     log: Log,
     // What changes are worked out in before they begin.
     draft: Draft,
+}
+
+// A core is let go here, and not in each crate that drops one.
+impl<B: Bank> Drop for Core<B> {
+    fn drop(self) {
+        let Core {
+            machine: _,
+            words: _,
+            log: _,
+            draft: _,
+        } = self;
+    }
 }
 
 // Whether the steps of a call are worked out before it begins.
