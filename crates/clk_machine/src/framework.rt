@@ -107,7 +107,7 @@ impl<B: Bank> Core<B> {
     ghost use Rattle.clk_machine.specs.Run.{Run, now_of, was_registered, in_flight, Appends, StepsOn, StepTurns};
     ghost use Rattle.clk_machine.specs.Row.{IsRowOf, IsTreeOf};
     ghost use Rattle.clk_machine.specs.Lawful.{KeepsLaws};
-    ghost use Rattle.core_parts.specs.Window.{behind_of, HasDelays};
+    ghost use Rattle.core_parts.specs.Window.{behind_of, delays_in, locks_of, HasDelays};
 
     /// A core at its opening: the words are written to the bank, nothing is registered, and the
     /// journal is empty with room for all credits. The one error is want of memory.
@@ -385,6 +385,8 @@ impl<B: Bank> Core<B> {
         ensures words { IfSome (B.contents result) (λ words. take (length self.start.regs) words ≡ (now_of self).regs) }
         // Those behind them are as they were.
         ensures behind { option_map (drop (length self.start.regs)) (B.contents result) ≡ self.behind.words }
+        // So are the delays of its locks, where it tells them.
+        ensures delays { delays_in (locks_of (B.lock result)) ≡ self.behind.delays }
     {
         let Core {
             machine,

@@ -27,6 +27,7 @@ fn put_setting<B: Bank>(kind: Kind, window: &mut Window<B>, value: u32)
     ensures size { window.new.size ≡ window.old.size }
     ensures words { window.new.words ≡ option_map (put_field kind (Some value)) window.old.words }
     ensures behind { window.new.behind ≡ window.old.behind }
+    ensures locks { window.new.locks ≡ window.old.locks }
 {
     match kind {
         Kind::Mux {
@@ -81,6 +82,7 @@ pub fn set_to<B: Bank>(
     ensures size { window.new.size ≡ window.old.size }
     ensures words { window.new.words ≡ option_map (put_field (kind_of desc.now.defs clock.0) (Some value)) window.old.words }
     ensures behind { window.new.behind ≡ window.old.behind }
+    ensures locks { window.new.locks ≡ window.old.locks }
     ensures told { AreTold window.new.size window.new.words }
     ensures kept { AreKept desc.now.defs window.new.words tree.new.clocks tree.new.rates }
     ensures rows { tree.new.clocks ≡ tree.old.clocks }
@@ -112,6 +114,7 @@ pub fn set_along<B: Bank>(
     ensures told { is_some window.new.words ≡ is_some window.old.words }
     ensures are { AreTold window.new.size window.new.words }
     ensures behind { window.new.behind ≡ window.old.behind }
+    ensures locks { window.new.locks ≡ window.old.locks }
     ensures kept { AreKept desc.now.defs window.new.words tree.new.clocks tree.new.rates }
     ensures rows { tree.new.clocks ≡ tree.old.clocks }
     ensures order { tree.new.order ≡ tree.old.order }

@@ -146,6 +146,8 @@ impl<B: Bank> Window<B> {
     pub fn into_bank(self) -> B
         ensures words { option_map (take self.size) (B.contents result) ≡ self.words }
         ensures behind { option_map (drop self.size) (B.contents result) ≡ self.behind.words }
+        ensures delays { delays_in (locks_of (B.lock result)) ≡ self.behind.delays }
+        ensures locks { locks_of (B.lock result) ≡ self.locks }
     {
         let Window { bank, size: _ } = self;
         bank

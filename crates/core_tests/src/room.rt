@@ -4,10 +4,9 @@
 ghost use Rattle.std.specs.Prelude.{◌≡◌, ◌<◌, true, length, IfOk};
 ghost use Rattle.clk_machine.specs.Sound.{IsPlaced};
 
-use crate::clocks::clock;
+use crate::clocks::{Given, described};
 use clk_base::{
-    ClockId, Desc, Errno, Handle, Kind, MOST_CREDITS, Parents, Policy, Reply, Sleeping, Turn,
-    ValidDesc,
+    ClockId, Errno, Handle, Kind, MOST_CREDITS, Policy, Reply, Sleeping, Turn, ValidDesc,
 };
 use clk_io::NoMemory;
 use clk_machine::Core;
@@ -30,15 +29,6 @@ const FIRST: Handle = Handle {
     slot: 0,
     driver: 1,
 };
-
-// Parents of a clock, at these places.
-fn over(alloc: Global, places: &[u32]) -> Result<Parents, NoMemory> {
-    let mut parents = Vec::new(alloc);
-    for place in places {
-        parents.push(ClockId(*place))?;
-    }
-    Ok(Parents::new(parents))
-}
 
 // 24 MHz, a PLL over it, a gate below that, and a mux of the two, each with a word of its own.
 fn pll_and_mux(rt: &impl Abort, alloc: Global) -> Result<ValidDesc, Fail>
@@ -65,15 +55,13 @@ fn pll_and_mux(rt: &impl Abort, alloc: Global) -> Result<ValidDesc, Fail>
         width: 1,
         read_only: false,
     };
-    let mut desc = Desc::new(alloc);
-    let osc = Kind::FixedRate { rate: 24_000_000 };
-    desc.add(clock(alloc, "osc", osc, over(alloc, &[])?)?)?;
-    desc.add(clock(alloc, "p", pll, over(alloc, &[0])?)?)?;
-    desc.add(clock(alloc, "g", gate, over(alloc, &[1])?)?)?;
-    desc.add(clock(alloc, "m", mux, over(alloc, &[0, 1])?)?)?;
-    let complete = desc.has_all_parents();
-    assert!(rt; complete);
-    Ok(desc.check(alloc, 3)?)
+    let clocks = [
+        Given("osc", Kind::FixedRate { rate: 24_000_000 }, &[]),
+        Given("p", pll, &[0]),
+        Given("g", gate, &[1]),
+        Given("m", mux, &[0, 1]),
+    ];
+    described(rt, alloc, &clocks, 3)
 }
 
 // Whether a call names clocks of the description alone.
@@ -96,7 +84,7 @@ fn begin(rt: &impl Abort, core: &mut Core<MemBank>, what: &Sleeping) -> Result<T
 }
 
 /// A call behind others that are answered at once, and the most credits with which it goes on.
-#[derive(Drop)]
+#[derive(Clone, Copy)]
 struct Row<'a> {
     before: &'a [Sleeping],
     what: Sleeping,

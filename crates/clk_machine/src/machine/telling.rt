@@ -5,6 +5,7 @@ ghost use Rattle.std.specs.Option.{option_map};
 ghost use Rattle.clk_model.specs.State.{State, is_quiet};
 ghost use Rattle.clk_base.specs.declared.event.Event.TheVariants.{Begin};
 ghost use Rattle.core_parts.specs.InFlight.{is_worked_out};
+ghost use Rattle.core_parts.specs.Window.{delays_in, locks_of};
 ghost use Rattle.clk_machine.specs.Row.{IsTreeOf};
 ghost use Rattle.clk_machine.specs.Sound.{takes_memory};
 ghost use Rattle.clk_machine.specs.Stands.{Stands, is_told, most_steps};
@@ -88,6 +89,7 @@ impl<B: Bank> Machine<B> {
     pub(crate) fn into_bank(self) -> B
         ensures words { option_map (take self.window.size) (B.contents result) ≡ self.window.words }
         ensures behind { option_map (drop self.window.size) (B.contents result) ≡ self.window.behind.words }
+        ensures delays { delays_in (locks_of (B.lock result)) ≡ self.window.behind.delays }
     {
         let Machine {
             desc: _,
