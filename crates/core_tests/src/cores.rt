@@ -148,10 +148,15 @@ fn leave_last(rt: &impl Abort, core: &mut Core<Noting>) -> Result<(), NoMemory> 
     Ok(())
 }
 
+// A core over these clocks with 100 credits.
+fn opened(rt: &impl Abort, alloc: Global) -> Result<Core<Noting>, Fail> {
+    let desc = three_gates(rt, alloc)?;
+    Ok(Core::create(alloc, desc, Noting::new(), &[0], false, 100)?)
+}
+
 #[test]
 fn a_gate_is_used_and_left(rt: HostRuntime) -> Result<(), Fail> {
-    let desc = three_gates(&rt, rt.alloc())?;
-    let mut core = Core::create(rt.alloc(), desc, Noting::new(), &[0], false, 100)?;
+    let mut core = opened(&rt, rt.alloc())?;
     prepare_last(&rt, &mut core)?;
     run_last(&rt, &mut core);
     leave_last(&rt, &mut core)?;

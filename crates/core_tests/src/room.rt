@@ -91,16 +91,27 @@ struct Row<'a> {
     most: u32,
 }
 
-// The turn of a row's call where the core has so many credits, and whether a change is in flight then.
-fn turn_of(rt: &impl Abort, alloc: Global, row: &Row, credits: u32) -> Result<(Turn, bool), Fail> {
+// A core over these clocks with so many credits.
+fn opened(rt: &impl Abort, alloc: Global, credits: u32) -> Result<Core<MemBank>, Fail> {
     let desc = pll_and_mux(rt, alloc)?;
-    assert!(rt; credits <= MOST_CREDITS);
     let bank = MemBank::new(alloc)?;
-    let mut core = Core::create(alloc, desc, bank, &[100, 0, 0], false, credits)?;
-    for what in row.before {
-        let turn = begin(rt, &mut core, what)?;
+    assert!(rt; credits <= MOST_CREDITS);
+    Ok(Core::create(alloc, desc, bank, &[100, 0, 0], false, credits)?)
+}
+
+// Calls that are answered at once.
+fn make_all(rt: &impl Abort, core: &mut Core<MemBank>, calls: &[Sleeping]) -> Result<(), NoMemory> {
+    for what in calls {
+        let turn = begin(rt, core, what)?;
         assert!(rt; turn != Turn::Going);
     }
+    Ok(())
+}
+
+// The turn of a row's call where the core has so many credits, and whether a change is in flight then.
+fn turn_of(rt: &impl Abort, alloc: Global, row: &Row, credits: u32) -> Result<(Turn, bool), Fail> {
+    let mut core = opened(rt, alloc, credits)?;
+    make_all(rt, &mut core, row.before)?;
     let turn = begin(rt, &mut core, &row.what)?;
     Ok((turn, !core.quiet()))
 }
