@@ -1,5 +1,6 @@
 pub mod WholeCalls
 pub mod Going
+mod GoneOn
 pub mod Following
 mod Passing
 mod Entered

@@ -1,5 +1,5 @@
 -- What a core has gone through when it has run the commands of a driver.
-use Rattle.std.specs.Prelude.{◌≡◌, ℕ, ◌+◌, ◌≤◌, ◌==◌, ◌&&◌, List, [], ◌∷◌, ◌++◌, Bool, true, false, not, Option, Some, None, length, if◌then◌else◌}
+use Rattle.std.specs.Prelude.{◌≡◌, ℕ, ◌≤◌, ◌==◌, ◌&&◌, List, [], ◌∷◌, ◌++◌, Bool, true, false, not, Option, Some, None, length, if◌then◌else◌}
 use Rattle.clk_base.specs.declared.command.Act.{Act}
 use Rattle.clk_base.specs.declared.command.Answer.{Answer}
 use Rattle.clk_base.specs.declared.command.Command.{Command}
@@ -29,6 +29,14 @@ pub record Answers (old : Run) (d : ℕ) (made : Event) (answer : Reply) (new : 
   pub paid : cost entries ≡ 1
   pub calls : calls_of entries ≡ record { call = made; reply = answer } ∷ []
   pub legal : old.told ≡ true → Legal old.start old.journal → Legal new.start new.journal
+
+-- a core has gone on from the same opening, over the same bank: entries were appended, or none
+pub record HasGoneOn (old new : Run) : Type 0 where
+  pub entries : List Entry
+  pub start : new.start ≡ old.start
+  pub told : new.told ≡ old.told
+  pub behind : new.behind ≡ old.behind
+  pub journal : new.journal ≡ old.journal ++ entries
 
 -- what the call of a command has done: none was made, or the next call was made and answered
 abbrev pub MakesCall : Run → ℕ → Option Handle → Act → Option Reply → Run → Type 0

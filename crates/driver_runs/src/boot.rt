@@ -4,7 +4,7 @@ ghost use Rattle.std.specs.Prelude.{◌≡◌, ◌+◌, ◌≤◌, false, length
 ghost use Rattle.clk_model.specs.Journal.{cost};
 ghost use Rattle.clk_model.specs.Follows.{Variables, no_handles};
 ghost use Rattle.drv_scripts.specs.Placed.{NamePlaces};
-ghost use Rattle.driver_runs.specs.Scripts.{GoesThrough};
+ghost use Rattle.driver_runs.specs.Scripts.{GoesThrough, HasGoneOn};
 ghost use Rattle.clk_machine.specs.Run.{in_flight};
 
 use crate::command::run_command;
@@ -25,7 +25,8 @@ pub(crate) fn run_boot<B: Bank>(
     requires credits { cost core.old.journal + length commands.now ≤ core.old.start.credits }
     requires quiet { in_flight core.old.journal ≡ false }
     requires placed { NamePlaces (length core.old.start.defs) commands.now }
-    ensures { IfOk result (λ answers. (held : Variables) × GoesThrough core.old 0 (no_handles commands.now) commands.now answers.items held core.new) }
+    ensures ok { IfOk result (λ answers. (held : Variables) × GoesThrough core.old 0 (no_handles commands.now) commands.now answers.items held core.new) }
+    ensures on { HasGoneOn core.old core.new }
 {
     let mut variables = vec![in alloc; None; variable_count(commands)]?;
     let held = variables.as_mut_slice();

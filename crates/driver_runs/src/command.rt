@@ -50,7 +50,8 @@ pub(crate) fn run_command<B: Bank>(
     requires credit { cost core.old.journal < core.old.start.credits }
     requires quiet { in_flight core.old.journal ≡ false }
     requires place { NamesPlace (length core.old.start.defs) command.now.act }
-    ensures { IfOk result (λ answer. GoesThrough core.old driver held.old (command.now ∷ []) (answer ∷ []) held.new core.new) }
+    ensures ok { IfOk result (λ answer. GoesThrough core.old driver held.old (command.now ∷ []) (answer ∷ []) held.new core.new) }
+    ensures err { OnErr result (core.new ≡ core.old) }
 {
     let before = handle_of(held, command);
     match make_call(core, driver, before, command.act)? {

@@ -1,9 +1,10 @@
 //! An event of a driver: a step of its call in flight, or its next command.
 
-ghost use Rattle.std.specs.Prelude.{◌≡◌, ◌||◌, None, if◌then◌else◌, IfOk};
+ghost use Rattle.std.specs.Prelude.{◌≡◌, ◌||◌, None, if◌then◌else◌, IfOk, OnErr};
 ghost use Rattle.clk_model.specs.Lists.{is_at};
 ghost use Rattle.clk_model.specs.Ordered.{is_atomic, can_take};
 ghost use Rattle.driver_runs.specs.Standing.{left_of};
+ghost use Rattle.driver_runs.specs.Scripts.{HasGoneOn};
 ghost use Rattle.driver_runs.specs.Events.{MayEnter, Enters, MayMove, MakesEvent};
 
 use crate::called::{Called, call_of};
@@ -53,7 +54,8 @@ fn enter<B: Bank>(
     act: Act,
 ) -> Result<Turn, NoMemory>
     requires { MayEnter core.old steps held act }
-    ensures { IfOk result (λ turn. Enters core.old driver steps held act turn core.new) }
+    ensures ok { IfOk result (λ turn. Enters core.old driver steps held act turn core.new) }
+    ensures err { OnErr result (core.new ≡ core.old) }
 {
     if steps {
         return Ok(core.step());
@@ -86,7 +88,8 @@ pub(crate) fn make_event<B: Bank>(
     going: Option<u32>,
 ) -> Result<Option<u32>, NoMemory>
     requires { MayMove core.old driver commands.now standing.old going }
-    ensures { IfOk result (λ after. MakesEvent core.old driver commands.now standing.old going core.new standing.new after) }
+    ensures ok { IfOk result (λ after. MakesEvent core.old driver commands.now standing.old going core.new standing.new after) }
+    ensures on { HasGoneOn core.old core.new }
 {
     let Some(command) = standing.next(commands) else {
         unreachable!()

@@ -2,6 +2,7 @@
 
 ghost use Rattle.std.specs.Prelude.{◌≡◌, ℕ, ◌<◌, ◌≤◌, true, false, length, IfOk, IfSome, IfNone};
 ghost use Rattle.driver_runs.specs.Moves.{can_move_at, MayMoveAt, MovesAt};
+ghost use Rattle.driver_runs.specs.Scripts.{HasGoneOn};
 
 use crate::event::{can_move, make_event};
 use crate::standing::Standing;
@@ -63,7 +64,8 @@ pub(crate) fn move_driver<B: Bank>(
     requires within { driver ≤ length drivers.now }
     requires many { length standings.old ≡ length drivers.now }
     requires may { MayMoveAt core.old drivers.now standings.old going driver }
-    ensures { IfOk result (λ after. MovesAt core.old drivers.now standings.old going driver core.new standings.new after) }
+    ensures ok { IfOk result (λ after. MovesAt core.old drivers.now standings.old going driver core.new standings.new after) }
+    ensures on { HasGoneOn core.old core.new }
 {
     let place = driver as usize - 1;
     let commands = drivers[place].commands.as_slice();

@@ -1,9 +1,10 @@
 //! Running boot, and then the drivers.
 
-ghost use Rattle.std.specs.Prelude.{◌≡◌, ◌≤◌, ◌<◌, ◌+◌, ◌∷◌, [], length, map, sum_by, IfOk};
+ghost use Rattle.std.specs.Prelude.{◌≡◌, ◌≤◌, ◌<◌, ◌+◌, ◌∷◌, [], length, map, sum_by, IfOk, OnErr};
 ghost use Rattle.std.specs.List.{AllByRecursion};
 ghost use Rattle.drv_scripts.specs.Placed.{IsScript, NamePlaces};
 ghost use Rattle.driver_runs.specs.Moves.{AreNew};
+ghost use Rattle.driver_runs.specs.Scripts.{HasGoneOn};
 ghost use Rattle.driver_runs.specs.Turns.{HasRun};
 
 use crate::boot::run_boot;
@@ -68,7 +69,9 @@ pub fn run_scripts<B: Bank>(
     requires turns { AllByRecursion (λ d. 0 < d) order.now }
     // Boot and each driver, and nobody else, have their calls once, in their order, one after the other, answered so; boot's entries come first, and behind them
     // each is of the driver that the commands and the order name. The journal is legal where the bank tells its words, and no call is in flight behind it.
-    ensures { IfOk result (λ answers. HasRun boot.now drivers.now order.now answers.items core.old core.new) }
+    ensures ok { IfOk result (λ answers. HasRun boot.now drivers.now order.now answers.items core.old core.new) }
+    // Where memory runs out, the core has gone on from its opening: there are entries of some of the calls, or none, and nothing else of it changed.
+    ensures err { OnErr result (HasGoneOn core.old core.new) }
 {
     let first = run_boot(alloc, core, boot)?;
     let mut standings = begin_all(alloc, drivers)?;

@@ -3,6 +3,7 @@
 ghost use Rattle.std.specs.Prelude.{◌<◌, ◌≤◌, [], length, IfOk};
 ghost use Rattle.std.specs.List.{AllByRecursion};
 ghost use Rattle.driver_runs.specs.Courses.{ArePlaced, BeginsCourse, Course, IsUnderWay, IsNextAt, HasEnded, KeepsCourse};
+ghost use Rattle.driver_runs.specs.Scripts.{HasGoneOn};
 
 use crate::moving::{can_move_at, first_to_move, move_driver};
 use crate::standing::Standing;
@@ -22,7 +23,8 @@ pub(crate) fn follow_order<B: Bank>(
     requires placed { ArePlaced core.old.start.defs drivers.now }
     requires begins { BeginsCourse core.old drivers.now standings.old }
     requires turns { AllByRecursion (λ d. 0 < d) order.now }
-    ensures { IfOk result (λ going. Course core.old drivers.now order.now standings.new going [] core.new) }
+    ensures ok { IfOk result (λ going. Course core.old drivers.now order.now standings.new going [] core.new) }
+    ensures on { HasGoneOn core.old core.new }
 {
     let mut going = None;
     for driver in order {
@@ -44,7 +46,8 @@ fn run_on<B: Bank>(
     requires placed { ArePlaced core.old.start.defs drivers.now }
     requires way { IsUnderWay drivers.now standings.old going core.old }
     requires next { IsNextAt going drivers.now standings.old driver }
-    ensures { IfOk result (λ after. KeepsCourse drivers.now standings.old going core.old standings.new after core.new) }
+    ensures ok { IfOk result (λ after. KeepsCourse drivers.now standings.old going core.old standings.new after core.new) }
+    ensures on { HasGoneOn core.old core.new }
 {
     let mut flying = move_driver(core, drivers, standings, going, driver)?;
     'steps: while flying == Some(driver) {
@@ -64,7 +67,8 @@ pub(crate) fn run_rest<B: Bank>(
     requires few { length drivers.now ≤ 65536 }
     requires placed { ArePlaced core.old.start.defs drivers.now }
     requires way { IsUnderWay drivers.now standings.old going core.old }
-    ensures { IfOk result (λ _. HasEnded drivers.now standings.old going core.old standings.new core.new) }
+    ensures ok { IfOk result (λ _. HasEnded drivers.now standings.old going core.old standings.new core.new) }
+    ensures on { HasGoneOn core.old core.new }
 {
     let mut flying = going;
     'events: while let Some(driver) = first_to_move(flying, drivers, standings) {

@@ -57,7 +57,7 @@ print_core-requires g c =
     let cli = c.args.cli.now in
     let core = c.run_scripts.new.core in
     let answers = c.in_ok-answers.answers.items in
-    let ran = ran_of b _ (drivers_in cli.mode b) _ _ answers c.args.core.now core c.as_slice-boot.ensures c.drivers_in-drivers.ensures c.as_slice-order.ensures c.in_ok-answers.ensures in
+    let ran = ran_of b _ (drivers_in cli.mode b) _ _ answers c.args.core.now core c.as_slice-boot.ensures c.drivers_in-drivers.ensures c.as_slice-order.ensures c.in_ok-answers.ensures.ok in
     record {
       calls = subst (λ (as_ : List (List Answer)). HasCalls b cli as_ core) (sym c.as_slice.ensures.value)
           (calls_of_run b cli c.args.core.now core answers c.requires.start ran);
@@ -66,12 +66,12 @@ print_core-requires g c =
 
 pub returns-clause-done : goal.returns-clause-done
 returns-clause-done g c =
-    let ran = c.in_ok-answers.ensures in
+    let ran = c.in_ok-answers.ensures.ok in
     printed_whole c.args.bundle.now c.args.cli.now c.args.core.now c.run_scripts.new.core _ _ c.print_core.result ran.start ran.told ran.behind c.print_core.ensures.prints
 
 pub returns-clause-fault : goal.returns-clause-fault
 returns-clause-fault g c =
-    printed_front c.args.bundle.now c.args.cli.now (told_by c.args.core.now) c.run_scripts.new.core _ _ c.print_core.result (same_telling c.run_scripts.new.core c.args.core.now c.in_ok-answers.ensures.told c.in_ok-answers.ensures.behind) c.print_core.ensures.prints
+    printed_front c.args.bundle.now c.args.cli.now (told_by c.args.core.now) c.run_scripts.new.core _ _ c.print_core.result (same_telling c.run_scripts.new.core c.args.core.now c.in_ok-answers.ensures.ok.told c.in_ok-answers.ensures.ok.behind) c.print_core.ensures.prints
 
 pub returns-in_err-answers-clause-fault : goal.returns-in_err-answers-clause-fault
 returns-in_err-answers-clause-fault g c =

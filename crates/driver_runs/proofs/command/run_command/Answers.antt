@@ -6,8 +6,8 @@ use Rattle.driver_runs.specs.Scripts.{MakesCall}
 use Rattle.driver_runs.proofs.Going.{goes_skipped}
 use Rattle.driver_runs.proofs.command.run_command.Goals as goal
 
-pub returns-in-None : goal.returns-in-None
-returns-in-None g c =
+pub returns-in-None-clause-ok : goal.returns-in-None-clause-ok
+returns-in-None-clause-ok g c =
     let old = c.args.core.now in
     let new = c.make_call.new.core in
     let command = c.args.command.now in

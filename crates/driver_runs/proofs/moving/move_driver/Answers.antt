@@ -18,8 +18,8 @@ make_event-requires g c =
     subst (λ (cs : List Command). MayMove c.args.core.now c.args.driver cs standing c.args.going) (sym c.as_slice-commands.ensures)
     (c.requires.may script standing (slice_get-get_or c.args.drivers.now i s (omega arith)) (slice_get-get_or c.args.standings.now i x (omega arith)))
 
-pub returns : goal.returns
-returns g c =
+pub returns-clause-ok : goal.returns-clause-ok
+returns-clause-ok g c =
     let i = c.args.driver - 1 in
     let within = c.requires.within in
     let some = c.requires.first in
@@ -38,4 +38,4 @@ returns g c =
       others = refl;
       event = subst (λ (cs : List Command). MakesEvent c.args.core.now c.args.driver cs standing c.args.going c.make_event.new.core c.make_event.new.standing after) c.as_slice-commands.ensures made;
     })
-    c.make_event.ensures
+    c.make_event.ensures.ok

@@ -17,16 +17,16 @@ use Rattle.driver_runs.proofs.scripts.run_scripts.Goals as goal
 
 pub follow_order-requires-clause-placed : goal.follow_order-requires-clause-placed
 follow_order-requires-clause-placed g c =
-    subst (λ (s : State). ArePlaced s.defs c.args.drivers.now) (sym c.in_ok-first.ensures.1.start) c.requires.placed
+    subst (λ (s : State). ArePlaced s.defs c.args.drivers.now) (sym c.in_ok-first.ensures.ok.1.start) c.requires.placed
 
 pub follow_order-requires-clause-begins : goal.follow_order-requires-clause-begins
 follow_order-requires-clause-begins g c =
     let old = c.args.core.now in
     let first = c.run_boot.new.core in
     let drivers = c.args.drivers.now in
-    let goes = c.in_ok-first.ensures.1 in
-    let idle = goes_idle old first 0 (no_handles c.args.boot.now) c.in_ok-first.ensures.0 c.args.boot.now c.in_ok-first.first.items goes (ap in_flight c.requires.begins) in
-    let spent = goes_cost old first 0 (no_handles c.args.boot.now) c.in_ok-first.ensures.0 c.args.boot.now c.in_ok-first.first.items goes in
+    let goes = c.in_ok-first.ensures.ok.1 in
+    let idle = goes_idle old first 0 (no_handles c.args.boot.now) c.in_ok-first.ensures.ok.0 c.args.boot.now c.in_ok-first.first.items goes (ap in_flight c.requires.begins) in
+    let spent = goes_cost old first 0 (no_handles c.args.boot.now) c.in_ok-first.ensures.ok.0 c.args.boot.now c.in_ok-first.first.items goes in
     let nothing = ap cost c.requires.begins in
     let paid = c.requires.credits in
     let same = ap (λ (s : State). s.credits) goes.start in
@@ -38,10 +38,10 @@ follow_order-requires-clause-begins g c =
 
 pub run_rest-requires-clause-placed : goal.run_rest-requires-clause-placed
 run_rest-requires-clause-placed g c =
-    subst (λ (s : State). ArePlaced s.defs c.args.drivers.now) (sym (c.in_ok-going.ensures.start ∙ c.in_ok-first.ensures.1.start)) c.requires.placed
+    subst (λ (s : State). ArePlaced s.defs c.args.drivers.now) (sym (c.in_ok-going.ensures.ok.start ∙ c.in_ok-first.ensures.ok.1.start)) c.requires.placed
 
-pub returns : goal.returns
-returns g c =
+pub returns-clause-ok : goal.returns-clause-ok
+returns-clause-ok g c =
     let old = c.args.core.now in
     let boot = c.args.boot.now in
     let drivers = c.args.drivers.now in
@@ -54,8 +54,8 @@ returns g c =
     let w = with_items v c.follow_order.new.standings in
     let kept = c.follow_order.auto.standings ∙ c.as_mut_slice.ensures.len in
     let these = with_items_is w xs (c.run_rest.auto.standings ∙ c.as_mut_slice-2.ensures.len) in
-    let ended = c.in_ok-run_rest.ensures in
-    let before = subst (λ (ys : List Standing). Course first drivers order ys c.in_ok-going.going [] c.follow_order.new.core) (sym (c.as_mut_slice-2.ensures.value ∙ with_items_is v c.follow_order.new.standings kept)) c.in_ok-going.ensures in
-    let ran = has_run old first core boot c.in_ok-first.ensures.0 answers drivers order xs c.requires.begins c.in_ok-first.ensures.1 (ended.keeps first order before) ended.done in
+    let ended = c.in_ok-run_rest.ensures.ok in
+    let before = subst (λ (ys : List Standing). Course first drivers order ys c.in_ok-going.going [] c.follow_order.new.core) (sym (c.as_mut_slice-2.ensures.value ∙ with_items_is v c.follow_order.new.standings kept)) c.in_ok-going.ensures.ok in
+    let ran = has_run old first core boot c.in_ok-first.ensures.ok.0 answers drivers order xs c.requires.begins c.in_ok-first.ensures.ok.1 (ended.keeps first order before) ended.done in
     let those = ap (λ (ys : List Standing). answers ∷ map (λ (x : Standing). x.answers.items) ys) these in
     IfOk-weaker c.gather.result _ _ (λ all is. subst (λ (as_ : List (List Answer)). HasRun boot drivers order as_ old core) (sym (is ∙ those)) ran) c.gather.ensures

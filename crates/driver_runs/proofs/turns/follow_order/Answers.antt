@@ -38,7 +38,7 @@ loop-driver-preserved g c =
       | then-can_move_at+in_ok-going w ↦
           (let can = sym c.can_move_at.ensures ∙ w.if-can_move_at.true in
           let moved = course_listed first c.loop-driver.core w.move_driver.new.core drivers order rest c.loop-driver.standings w.move_driver.new.standings c.loop-driver.going w.in_ok-going.going d was some
-          (moves_within c.loop-driver.going drivers c.loop-driver.standings d some can) can w.in_ok-going.ensures in
+          (moves_within c.loop-driver.going drivers c.loop-driver.standings d some can) can w.in_ok-going.ensures.ok in
           rw (w.core-is, w.standings-is, w.going-is) moved)
       | else-can_move_at w ↦
           (let passed = course_passes first c.loop-driver.core drivers order rest c.loop-driver.standings c.loop-driver.going d was some (sym c.can_move_at.ensures ∙ w.if-can_move_at.false) in

@@ -4,6 +4,7 @@ use Rattle.clk_model.specs.State.{State}
 use Rattle.driver_runs.specs.Courses.{ArePlaced}
 use Rattle.driver_runs.proofs.Making.{steps_is}
 use Rattle.driver_runs.proofs.Coursing.{course_found, course_many, may_move, effort_less, next_on, effort_on}
+use Rattle.driver_runs.proofs.GoneOn.{gone_further}
 use Rattle.driver_runs.proofs.turns.run_on.Goals as goal
 
 pub move_driver-requires-clause-many : goal.move_driver-requires-clause-many
@@ -25,9 +26,10 @@ steps-init g c =
     let xs' = c.move_driver.new.standings in
     let after = c.in_ok-flying.flying in
     record {
-      keeps = λ first order course. course_found first old new drivers order xs xs' c.args.going after c.args.driver course c.requires.next c.in_ok-flying.ensures;
-      less = effort_less old new drivers xs xs' c.args.going after c.args.driver c.requires.next.some c.in_ok-flying.ensures;
-      next = λ flies. next_on old new drivers xs xs' c.args.going after c.args.driver c.requires.next c.in_ok-flying.ensures flies;
+      keeps = λ first order course. course_found first old new drivers order xs xs' c.args.going after c.args.driver course c.requires.next c.in_ok-flying.ensures.ok;
+      less = effort_less old new drivers xs xs' c.args.going after c.args.driver c.requires.next.some c.in_ok-flying.ensures.ok;
+      next = λ flies. next_on old new drivers xs xs' c.args.going after c.args.driver c.requires.next c.in_ok-flying.ensures.ok flies;
+      on = c.move_driver.ensures.on;
     }
 
 pub move_driver-requires-in-steps-clause-many : goal.move_driver-requires-in-steps-clause-many
@@ -55,9 +57,10 @@ steps-preserved g c =
     let after = c.in_ok-flying-2.flying in
     let flies : is_at c.args.driver before ≡ true = sym (steps_is before c.args.driver) ∙ sym c.steps-test.ensures in
     let next = c.steps.invariant.next flies in
-    let moves = c.in_ok-flying-2.ensures in
+    let moves = c.in_ok-flying-2.ensures.ok in
     record {
       keeps = λ first order course. course_found first old new drivers order xs xs' before after c.args.driver (c.steps.invariant.keeps first order course) next moves;
       less = effort_on old new drivers c.args.standings.now xs xs' c.args.going before after c.args.driver next.some flies moves c.steps.invariant.less;
       next = λ still. next_on old new drivers xs xs' before after c.args.driver next moves still;
+      on = gone_further c.args.core.now old new c.steps.invariant.on c.move_driver-in-steps.ensures.on;
     }
