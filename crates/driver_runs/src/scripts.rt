@@ -70,7 +70,7 @@ pub fn run_scripts<B: Bank>(
     // Boot and each driver, and nobody else, have their calls once, in their order, one after the other, answered so; boot's entries come first, and behind them
     // each is of the driver that the commands and the order name. The journal is legal where the bank tells its words, and no call is in flight behind it.
     ensures ok { IfOk result (λ answers. HasRun boot.now drivers.now order.now answers.items core.old core.new) }
-    // Where memory runs out, the core has gone on from its opening: there are entries of some of the calls, or none, and nothing else of it changed.
+    // Where memory runs out, the core has gone on from its opening, over the same bank: entries were appended, or none.
     ensures err { OnErr result (HasGoneOn core.old core.new) }
 {
     let first = run_boot(alloc, core, boot)?;
