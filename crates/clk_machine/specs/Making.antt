@@ -1,5 +1,5 @@
 -- What the step that comes next of a core's change in flight is to the change of the definitions.
-use Rattle.std.specs.Prelude.{◌≡◌, ◌+◌, true, List, [], Option, Some, None, slice_get}
+use Rattle.std.specs.Prelude.{◌≡◌, ◌+◌, Bool, true, false, List, [], Option, Some, None, slice_get}
 use Rattle.clk_base.specs.declared.call.Micro.{Micro}
 use Rattle.clk_base.specs.declared.call.Micro.TheVariants as micro
 use Rattle.clk_base.specs.declared.event.Event.TheVariants as event
@@ -14,6 +14,12 @@ use Rattle.core_parts.specs.InFlight.{may_seek}
 use Rattle.core_parts.specs.Listed.{rows_from}
 use Rattle.clk_machine.specs.Parts.{Parts}
 use Rattle.clk_machine.specs.Stands.{Stands}
+
+-- whether a step is neither a poll, which the bank answers, nor the end of the call
+abbrev pub only_goes_on : Micro → Bool
+only_goes_on (micro.Poll y) = false
+only_goes_on micro.End = false
+only_goes_on _ = true
 
 -- the step is the first that the change has left to do
 abbrev pub ComesFirst : Parts → Micro → Type 0

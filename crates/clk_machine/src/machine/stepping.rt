@@ -9,7 +9,7 @@ ghost use Rattle.clk_model.specs.Tree.{path, path_to_be};
 ghost use Rattle.clk_flight.specs.Flights.{own_step, comes_next};
 ghost use Rattle.core_parts.specs.InFlight.{is_near};
 ghost use Rattle.core_parts.specs.MadeSteps.{step_of, answer_of, turn_of};
-ghost use Rattle.clk_machine.specs.Making.{ComesFirst, ComesNext, FindsNothing};
+ghost use Rattle.clk_machine.specs.Making.{ComesFirst, ComesNext, FindsNothing, only_goes_on};
 ghost use Rattle.clk_machine.specs.Parts.{IsWhole};
 ghost use Rattle.clk_machine.specs.Polls.{FollowsLocks, PollsLock, StartsLock};
 ghost use Rattle.core_parts.specs.Plls.{raisable, lowerable, Finds};
@@ -165,6 +165,36 @@ impl<B: Bank> Machine<B> {
         self.flight.next(&self.notifiers)
     }
 
+    // Makes the step that comes next, which is neither a poll nor the end of the call.
+    fn make(&mut self, step: Micro)
+        requires going { self.old.flight.going ≡ true }
+        requires next { ComesNext self.old (Some step) }
+        requires on { only_goes_on step ≡ true }
+        requires whole { IsWhole self.old }
+        ensures enters { Enters self.old self.old.flight.driver (Step step None) Going self.new }
+        ensures links { links_well self.old.desc.defs self.old.tree.clocks step ≡ true }
+        ensures locks { FollowsLocks self.old (Step step None) self.new }
+    {
+        match step {
+            Micro::Raise(clock) => self.raise(clock),
+            Micro::Fall(pll) => self.fall(pll),
+            Micro::Lower(clock) => self.lower(clock),
+            Micro::Notify { .. } => self.tell(step),
+            Micro::HoldPrepare(clock) => self.hold_prepare(clock),
+            Micro::HoldEnable(clock) => self.hold_enable(clock),
+            Micro::DropEnable(clock) => self.let_enable_go(clock),
+            Micro::DropPrepare(clock) => self.let_prepare_go(clock),
+            Micro::Relink(clock, parent) => self.relink(clock, parent),
+            Micro::WriteMux(clock, place) => self.select(clock, place),
+            Micro::Settle(clock) => self.settle(clock),
+            Micro::Close(clock) => self.close(clock),
+            Micro::Unpower(clock) => self.unpower(clock),
+            Micro::Visit(clock) => self.visit(clock),
+            Micro::Register(clock) => self.register_next(clock),
+            Micro::Poll(_) | Micro::End => unreachable!(),
+        }
+    }
+
     /// Makes the next step of the change in flight.
     pub(crate) fn step(&mut self) -> Made
         requires { self.old.flight.going ≡ true }
@@ -173,86 +203,15 @@ impl<B: Bank> Machine<B> {
         ensures locks { FollowsLocks self.old (Step (step_of result) (answer_of result)) self.new }
     {
         match self.next_step() {
-            Some(Micro::Raise(clock)) => {
-                self.raise(clock);
-                Made::GoesOn(Micro::Raise(clock), None)
-            }
             Some(Micro::Poll(pll)) => {
                 let yes = self.poll(pll);
                 Made::GoesOn(Micro::Poll(pll), Some(yes))
             }
-            Some(Micro::Fall(pll)) => {
-                self.fall(pll);
-                Made::GoesOn(Micro::Fall(pll), None)
-            }
-            Some(Micro::Lower(clock)) => {
-                self.lower(clock);
-                Made::GoesOn(Micro::Lower(clock), None)
-            }
-            Some(
-                Micro::Notify {
-                    kind,
-                    clock,
-                    id,
-                    old,
-                    new,
-                },
-            ) => {
-                let step = Micro::Notify {
-                    kind,
-                    clock,
-                    id,
-                    old,
-                    new,
-                };
-                self.tell(step);
+            Some(Micro::End) | None => Made::Ends(self.end()),
+            Some(step) => {
+                self.make(step);
                 Made::GoesOn(step, None)
             }
-            Some(Micro::HoldPrepare(clock)) => {
-                self.hold_prepare(clock);
-                Made::GoesOn(Micro::HoldPrepare(clock), None)
-            }
-            Some(Micro::HoldEnable(clock)) => {
-                self.hold_enable(clock);
-                Made::GoesOn(Micro::HoldEnable(clock), None)
-            }
-            Some(Micro::DropEnable(clock)) => {
-                self.let_enable_go(clock);
-                Made::GoesOn(Micro::DropEnable(clock), None)
-            }
-            Some(Micro::DropPrepare(clock)) => {
-                self.let_prepare_go(clock);
-                Made::GoesOn(Micro::DropPrepare(clock), None)
-            }
-            Some(Micro::Relink(clock, parent)) => {
-                self.relink(clock, parent);
-                Made::GoesOn(Micro::Relink(clock, parent), None)
-            }
-            Some(Micro::WriteMux(clock, place)) => {
-                self.select(clock, place);
-                Made::GoesOn(Micro::WriteMux(clock, place), None)
-            }
-            Some(Micro::Settle(clock)) => {
-                self.settle(clock);
-                Made::GoesOn(Micro::Settle(clock), None)
-            }
-            Some(Micro::Close(clock)) => {
-                self.close(clock);
-                Made::GoesOn(Micro::Close(clock), None)
-            }
-            Some(Micro::Unpower(clock)) => {
-                self.unpower(clock);
-                Made::GoesOn(Micro::Unpower(clock), None)
-            }
-            Some(Micro::Visit(clock)) => {
-                self.visit(clock);
-                Made::GoesOn(Micro::Visit(clock), None)
-            }
-            Some(Micro::Register(clock)) => {
-                self.register_next(clock);
-                Made::GoesOn(Micro::Register(clock), None)
-            }
-            Some(Micro::End) | None => Made::Ends(self.end()),
         }
     }
 }
