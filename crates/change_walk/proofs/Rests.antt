@@ -2,12 +2,6 @@
 use Rattle.std.proofs.Common.{◌≡◌, ℕ, zero, suc, ◌+◌, ◌<◌, ◌++◌, true, List, [], ◌∷◌, Some, refl, sym, ap, ◌∙◌, arith, length, drop, map, append_assoc, get_or}
 use Rattle.std.specs.Prelude.{flat_map, option_map, slice_get}
 use Rattle.std.proofs.lemmas.Option.{slice_get-map}
-use Rattle.clk_model.specs.declared.row.ClockRow.{ClockRow}
-use Rattle.clk_model.specs.State.{registered}
-use Rattle.clk_tree.specs.declared.walk_rates.WalkRate.{WalkRate}
-use Rattle.clk_tree.specs.Plans.{rates_of}
-use Rattle.change_walk.specs.Changes.{AreThere}
-use Rattle.clk_model.proofs.StateLaws.{registered_lt}
 
 pub drop_none : {X : Type 0} (xs : List X) → drop 0 xs ≡ xs
 drop_none [] = refl
@@ -40,18 +34,6 @@ pushed_on f xs k x old new whole at one all =
 -- an element was pushed, and then others were added
 pub pushed_then : {X : Type 0} (old mid new : List X) (x : X) (rest : List X) → mid ≡ old ++ x ∷ [] → new ≡ mid ++ rest → new ≡ old ++ x ∷ rest
 pushed_then old mid new x rest one more = more ∙ ap (λ ys. ys ++ rest) one ∙ append_assoc old (x ∷ []) rest
-
--- ---- clocks that are there
-
--- the clock at a place of a walk is registered
-pub there_at : (clocks : List ClockRow) (rates : List WalkRate) (k : ℕ) (d : WalkRate) → k < length rates → AreThere clocks (rates_of rates) → registered clocks (get_or rates k d).clock.0 ≡ true
-there_at clocks [] k d less there = absurd (omega arith)
-there_at clocks (r ∷ rates) zero d less there = there.0
-there_at clocks (r ∷ rates) (suc k) d less there = there_at clocks rates k d (omega arith) there.1
-
--- a registered clock is one of the description
-pub registered_inside : (clocks : List ClockRow) (n c : ℕ) → length clocks ≡ n → registered clocks c ≡ true → c < n
-registered_inside clocks n c rows on = let less = registered_lt clocks c on in omega arith
 
 -- and so of what they are made into
 pub rest_of : {X Y : Type 0} (f : X → Y) (xs : List X) (k : ℕ) (x : X) → slice_get xs k ≡ Some x → drop k (map f xs) ≡ f x ∷ drop (k + 1) (map f xs)

@@ -19,12 +19,12 @@ use Rattle.clk_model.specs.Script.{move, move_of}
 use Rattle.clk_model.specs.State as state
 use Rattle.clk_tree.specs.declared.chain.ChainStep.{ChainStep}
 use Rattle.clk_tree.specs.declared.walk_rates.WalkRate.{WalkRate}
-use Rattle.clk_tree.specs.Plans.{ClockRate, chain_of, rates_of}
+use Rattle.clk_tree.specs.Plans.{ClockRate, chain_of, rates_of, step_of}
 use Rattle.notifiers.specs.declared.notifier.Notifier.{Notifier}
 use Rattle.change_walk.specs.declared.changes.Changed.{Changed}
 use Rattle.change_walk.specs.declared.changes.Passed.{Passed}
 use Rattle.change_walk.specs.Changes.{back_to, changes, changed_along, changes_below, parent_after}
-use Rattle.change_walk.specs.Steps.{step_of, visits}
+use Rattle.change_walk.specs.Steps.{visits}
 use Rattle.change_walk.specs.Tellings.{notify, tell_before}
 use Rattle.change_walk.proofs.Rests.{rest_at, rest_of}
 use Rattle.clk_tree.proofs.Along.{none_left}

@@ -20,12 +20,12 @@ use Rattle.clk_model.specs.Wired.{IsWired, IsOrder, LinesEnd, LinksArePossible}
 use Rattle.clk_model.proofs.Members.{is_in_cases, is_in_head, is_in_tail}
 use Rattle.clk_model.proofs.WalkLaws.{walks_list}
 use Rattle.clk_tree.specs.declared.plan.Plan.{Plan}
-use Rattle.clk_tree.specs.Plans.{ClockRate}
+use Rattle.clk_tree.specs.Plans.{AreThere, ClockRate}
 use Rattle.clk_tree.specs.TreeState.{TreeState, IsTree}
 use Rattle.notifiers.specs.declared.notifier.Notifier.{Notifier}
 use Rattle.notifiers.specs.Chains.{row_on}
 use Rattle.change_walk.specs.declared.changes.Changed.{Changed}
-use Rattle.change_walk.specs.Changes.{AreThere, changed_along, parent_after}
+use Rattle.change_walk.specs.Changes.{changed_along, parent_after}
 use Rattle.change_walk.specs.Given.{IsTold, IsPlanFor, changed_in, planned_by, settles}
 use Rattle.change_walk.specs.Steps.{steps_for, visits}
 use Rattle.change_walk.specs.Tellings.{notifiers_at, tell_before, tell_off}

@@ -9,10 +9,6 @@ use Rattle.clk_tree.specs.Plans.{ClockRate}
 use Rattle.change_walk.specs.declared.changes.Changed.{Changed}
 use Rattle.change_walk.specs.declared.changes.Passed.{Passed}
 
--- the clocks of these rates are registered
-abbrev pub AreThere : List ClockRow → List ClockRate → Type 0
-AreThere clocks rates = AllByRecursion (λ r. registered clocks r.clock ≡ true) rates
-
 -- the parent that a clock will have: the planned one, or its link where the chain hasn't the clock
 abbrev pub parent_after : List ClockRow → List ChainStep → ℕ → Option ℕ
 parent_after clocks [] c = link_in clocks c

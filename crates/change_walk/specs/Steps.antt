@@ -21,10 +21,6 @@ use Rattle.change_walk.specs.Given.{Script, settles}
 use Rattle.change_walk.specs.Tellings.{notifiers_at, tell_before, tell_off}
 use Rattle.change_walk.specs.Weights.{step_weight}
 
--- a step of a chain as the definitions have it
-abbrev pub step_of : ChainStep → state.ChainStep
-step_of s = record { clock = s.clock.0; rate = s.rate; parent = option_map (λ p. p.0) s.parent }
-
 -- what a prepared clock lets go of when it has moved
 abbrev pub drops : List ClockRow → ℕ → List Micro
 drops clocks c = option_map_or (λ o. micro.DropEnable (clock_id o) ∷ micro.DropPrepare (clock_id o) ∷ micro.Lower (clock_id o) ∷ []) (link_in clocks c) []

@@ -3,13 +3,12 @@
 ghost use Rattle.std.specs.Prelude.{◌≡◌, ◌<◌, ◌==◌, ◌&&◌, ◌++◌, not, true, if◌then◌else◌, [], ◌∷◌, Some, reverse, slice_index, IfOk, OnOk};
 ghost use Rattle.std.specs.Option.{option_map};
 ghost use Rattle.clk_model.specs.Lists.{is_at};
-ghost use Rattle.clk_tree.specs.Plans.{chain_of, rates_of};
-ghost use Rattle.change_walk.specs.Changes.{AreThere, back_to, changed_along, changes_below, is_back, parent_after};
+ghost use Rattle.clk_tree.specs.Plans.{AreThere, chain_of, rates_of};
+ghost use Rattle.change_walk.specs.Changes.{back_to, changed_along, changes_below, is_back, parent_after};
 
-use crate::places::{rate_at, step_at};
 use clk_base::ClockId;
 use clk_io::NoMemory;
-use clk_tree::{ChainStep, Tree, WalkRate};
+use clk_tree::{ChainStep, Tree, WalkRate, rate_at, step_at};
 
 /// A clock whose rate a plan changes.
 #[derive(Clone, Copy, Debug, PartialEq, Eq)]

@@ -6,14 +6,12 @@ ghost use Rattle.std.specs.Option.{option_map_or};
 ghost use Rattle.clk_base.specs.declared.call.Micro.TheVariants as micro;
 ghost use Rattle.clk_model.specs.Chain as chain;
 ghost use Rattle.clk_model.specs.Script as script;
-ghost use Rattle.clk_tree.specs.Plans.{chain_of, rates_of};
-ghost use Rattle.change_walk.specs.Changes.{AreThere};
-ghost use Rattle.change_walk.specs.Steps.{drops, step_of, visits};
+ghost use Rattle.clk_tree.specs.Plans.{AreThere, chain_of, rates_of, step_of};
+ghost use Rattle.change_walk.specs.Steps.{drops, visits};
 
-use crate::places::{rate_at, step_at};
 use clk_base::{ClockId, Micro, ValidDesc};
 use clk_io::NoMemory;
-use clk_tree::{ChainStep, Tree, View, WalkRate};
+use clk_tree::{ChainStep, Tree, View, WalkRate, rate_at, step_at};
 
 // The first place of a parent in a list, or behind its end.
 fn place_in(parents: &[ClockId], parent: ClockId) -> usize
@@ -35,17 +33,6 @@ fn place_of(desc: &ValidDesc, clock: ClockId, parent: ClockId) -> u32
 {
     let place = place_in(desc.def(clock).parents.as_slice(), parent);
     place as u32
-}
-
-// Whether the planned parent of a clock is another than the one it has.
-fn moves(tree: &Tree, step: ChainStep) -> bool
-    ensures { result ≡ chain.moves tree.now.clocks (step_of step) }
-{
-    match (step.parent, tree.parent(step.clock)) {
-        (Some(planned), Some(parent)) => planned.0 != parent.0,
-        (None, None) => false,
-        _ => true,
-    }
 }
 
 // Moves a clock that isn't prepared to a parent.
@@ -112,7 +99,7 @@ fn move_by<V: View>(
     requires seen { clock.0 < V.size view.now }
     ensures { IfOk result (λ done. steps.new.items ≡ steps.old.items ++ script.move_of desc.now.defs tree.now.clocks (V.means view.now).prepared (step_of step ∷ []) clock.0) }
 {
-    if step.clock.0 != clock.0 || !moves(tree, step) {
+    if step.clock.0 != clock.0 || !tree.moves(step) {
         return Ok(());
     }
     let Some(parent) = step.parent else {

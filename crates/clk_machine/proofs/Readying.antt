@@ -31,11 +31,10 @@ use Rattle.clk_flight.specs.Begun.{StartsAs}
 use Rattle.clk_flight.specs.LeftOver as flights
 use Rattle.clk_flight.proofs.StartLaws.{calls_start}
 use Rattle.clk_tree.specs.declared.plan.Plan.{Plan}
-use Rattle.clk_tree.specs.Plans.{ClockRate}
+use Rattle.clk_tree.specs.Plans.{AreThere, ClockRate}
 use Rattle.counts_core.specs.Counted.{is_prepared}
 use Rattle.rate_planner.specs.Walks.{at_rate}
 use Rattle.rate_requests.specs.Handles.{HandleTable}
-use Rattle.change_walk.specs.Changes.{AreThere}
 use Rattle.change_walk.specs.Given.{Script}
 use Rattle.change_walk.specs.Steps.{steps_for, told_by}
 use Rattle.change_walk.specs.Weights.{step_weight}

@@ -1,6 +1,6 @@
 //! The chain of a plan.
 
-ghost use Rattle.std.specs.Prelude.{◌≡◌, ◌++◌, ◌∷◌, [], OnOk};
+ghost use Rattle.std.specs.Prelude.{◌≡◌, ◌<◌, ◌++◌, ◌∷◌, [], Some, length, slice_get, OnOk};
 
 use clk_base::ClockId;
 use clk_io::NoMemory;
@@ -15,6 +15,14 @@ pub struct ChainStep {
     pub rate: u64,
     /// The parent that the clock will have.
     pub parent: Option<ClockId>,
+}
+
+/// The step of a chain at a place.
+pub fn step_at(chain: &[ChainStep], place: usize) -> ChainStep
+    requires { place < length chain.now }
+    ensures { slice_get chain.now place ≡ Some result }
+{
+    chain[place]
 }
 
 /// A planned chain from the clock of a request to the top, seen by contracts as the list of the

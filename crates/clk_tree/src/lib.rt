@@ -19,9 +19,9 @@ mod tree;
 mod view;
 mod walk_rates;
 
-pub use chain::{ChainStep, PlannedChain};
+pub use chain::{ChainStep, PlannedChain, step_at};
 pub use kind::{rate_by, rate_of, style_of};
 pub use plan::Plan;
 pub use tree::Tree;
 pub use view::View;
-pub use walk_rates::{WalkRate, WalkRates};
+pub use walk_rates::{WalkRate, WalkRates, rate_at};

@@ -3,12 +3,15 @@
 ghost use Rattle.std.specs.Prelude.{◌≡◌, ◌<◌, ◌≤◌, ℕ, ◌+◌, true, false, [], ◌++◌, length, replicate, slice_get, slice_index, IfSome, IfOk};
 ghost use Rattle.std.specs.Option.{option_map};
 ghost use Rattle.clk_base.specs.Description.{parents_of};
+ghost use Rattle.clk_model.specs.Chain.{moves};
 ghost use Rattle.clk_model.specs.Lists.{is_in, to_front};
 ghost use Rattle.clk_model.specs.State.{row_of, registered, link_in, unregistered_row};
 ghost use Rattle.clk_model.specs.Tree.{rooted, children, roots, orphans};
 ghost use Rattle.clk_model.specs.Script.{plls};
+ghost use Rattle.clk_tree.specs.Plans.{step_of};
 ghost use Rattle.clk_tree.specs.Refreshed.{is_below, IsFresh};
 
+use crate::chain::ChainStep;
 use crate::group::{Group, as_clock, count_of, end_of, group_of, nth_behind};
 use crate::plls::most_plls;
 use crate::refresh::{rate_behind, refresh_below};
@@ -107,6 +110,17 @@ impl Tree {
         ensures stands { IsTree self.now.defs self.now.clocks self.now.order self.now.rates }
     {
         link_of(&self.clocks, c)
+    }
+
+    /// Whether the planned parent of a clock is another than the one it has.
+    pub fn moves(&self, step: ChainStep) -> bool
+        ensures { result ≡ moves self.now.clocks (step_of step) }
+    {
+        match (step.parent, self.parent(step.clock)) {
+            (Some(planned), Some(parent)) => planned.0 != parent.0,
+            (None, None) => false,
+            _ => true,
+        }
     }
 
     /// Whether a clock is registered.

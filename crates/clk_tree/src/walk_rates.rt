@@ -1,7 +1,10 @@
 //! The rates that a plan gives the clocks of its walk.
 
-ghost use Rattle.std.specs.Prelude.{◌≡◌, ◌++◌, ◌∷◌, [], OnOk};
+ghost use Rattle.std.specs.Prelude.{◌≡◌, ◌<◌, ◌++◌, ◌∷◌, [], true, Some, length, slice_get, OnOk};
+ghost use Rattle.clk_model.specs.State.{registered};
+ghost use Rattle.clk_tree.specs.Plans.{AreThere, rates_of};
 
+use crate::tree::Tree;
 use clk_base::ClockId;
 use clk_io::NoMemory;
 use std::alloc::Global;
@@ -12,6 +15,20 @@ use std::marker::Model;
 pub struct WalkRate {
     pub clock: ClockId,
     pub rate: u64,
+}
+
+/// The clock of a walk at a place with its rate. It is one of the tree.
+pub fn rate_at(tree: &Tree, rates: &[WalkRate], place: usize) -> WalkRate
+    requires place { place < length rates.now }
+    requires there { AreThere tree.now.clocks (rates_of rates.now) }
+    ensures at { slice_get rates.now place ≡ Some result }
+    ensures there { registered tree.now.clocks result.clock.0 ≡ true }
+    ensures inside { result.clock.0 < length tree.now.defs }
+    ensures rated { result.clock.0 < length tree.now.rates }
+{
+    let entry = rates[place];
+    let _there = tree.registered(entry.clock);
+    entry
 }
 
 /// The clocks of a walk in its order with their rates, seen by contracts as a list.
@@ -30,8 +47,6 @@ impl Model for WalkRates {
 }
 
 impl WalkRates {
-    ghost use Rattle.clk_tree.specs.Plans.{rates_of};
-
     /// No clock. Takes no memory.
     pub fn none(alloc: Global) -> WalkRates
         ensures { result ≡ [] }

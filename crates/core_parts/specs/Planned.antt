@@ -18,7 +18,8 @@ use Rattle.counts_core.specs.Counted.{CountState}
 use Rattle.counts_core.specs.Standing.{StandsFor}
 use Rattle.notifiers.specs.declared.notifier.Notifier.{Notifier}
 use Rattle.notifiers.specs.Chains.{Tells}
-use Rattle.rate_planner.specs.Walks.{AreThere, walked_rates}
+use Rattle.clk_tree.specs.Plans.{AreThere}
+use Rattle.rate_planner.specs.Walks.{walked_rates}
 use Rattle.change_walk.specs.Given as given
 use Rattle.change_walk.specs.Given.{Script, HasFewNotifiers, extra_of, planned_by}
 use Rattle.change_walk.specs.Steps.{IsMadeOf}

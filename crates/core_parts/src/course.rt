@@ -5,7 +5,7 @@ ghost use Rattle.clk_tree.specs.Plans.{chain_of};
 ghost use Rattle.core_parts.specs.Course.{planned_along, behind_first};
 
 use clk_base::ClockId;
-use clk_tree::{ChainStep, PlannedChain};
+use clk_tree::{ChainStep, PlannedChain, step_at};
 use std::alloc::Global;
 use std::marker::Model;
 use std::mem::swap;
@@ -39,14 +39,6 @@ impl Model for Course {
     ghost view = { λ c. record { chain = c.chain; notified = drop c.at c.notified.items } };
 
     ghost invariant = { λ c. c.at ≤ length c.notified.items };
-}
-
-// The step of a chain at a place.
-fn step_at(steps: &[ChainStep], place: usize) -> ChainStep
-    requires { place < length steps.now }
-    ensures { slice_get steps.now place ≡ Some result }
-{
-    steps[place]
 }
 
 // The planned rate in Hz of a clock of a chain.

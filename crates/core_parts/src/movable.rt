@@ -1,13 +1,12 @@
 //! Whether the moves of a planned chain can be made.
 
 ghost use Rattle.std.specs.Prelude.{◌≡◌, ◌<◌, Some, length, slice_get};
-ghost use Rattle.clk_tree.specs.Plans.{chain_of};
-ghost use Rattle.rate_planner.specs.Chains.{step_of};
+ghost use Rattle.clk_tree.specs.Plans.{chain_of, step_of};
 ghost use Rattle.core_parts.specs.Movable.{can_get, can_go, can_go_along};
 
 use crate::reparenting::is_candidate;
 use clk_base::{ClockId, ValidDesc};
-use clk_tree::{ChainStep, Tree};
+use clk_tree::{ChainStep, Tree, step_at};
 
 // Whether a clock can get a parent: it has a link, and the parent is that one, or a candidate.
 fn can_get(desc: &ValidDesc, tree: &Tree, clock: ClockId, parent: ClockId) -> bool
@@ -29,14 +28,6 @@ fn can_go(desc: &ValidDesc, tree: &Tree, sets_parent: bool, step: ChainStep) -> 
         Some(parent) => can_get(desc, tree, step.clock, parent),
         None => !sets_parent,
     }
-}
-
-// The step of a chain at a place.
-fn step_at(chain: &[ChainStep], place: usize) -> ChainStep
-    requires { place < length chain.now }
-    ensures { slice_get chain.now place ≡ Some result }
-{
-    chain[place]
 }
 
 /// Whether each step of a planned chain can be made. Of a planned chain that the registers' rates

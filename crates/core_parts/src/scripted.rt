@@ -1,27 +1,14 @@
 //! The clocks that a change of rate or parent tells.
 
 ghost use Rattle.std.specs.Prelude.{◌≡◌, ◌++◌, ◌∷◌, [], ◌<◌, Some, length, slice_get, IfOk, OnOk};
-ghost use Rattle.clk_tree.specs.Plans.{rates_of};
-ghost use Rattle.change_walk.specs.Changes.{AreThere};
+ghost use Rattle.clk_tree.specs.Plans.{AreThere, rates_of};
 ghost use Rattle.core_parts.specs.Told.{told_clocks};
 ghost use Rattle.core_parts.specs.Course.{notifiers_at};
 
 use crate::course::Notified;
 use clk_io::NoMemory;
-use clk_tree::{Tree, WalkRate};
+use clk_tree::{Tree, WalkRate, rate_at};
 use notifiers::Notifiers;
-
-// The clock of a walk at a place, which is one of the tree.
-fn rate_at(tree: &Tree, rates: &[WalkRate], place: usize) -> WalkRate
-    requires place { place < length rates.now }
-    requires there { AreThere tree.now.clocks (rates_of rates.now) }
-    ensures at { slice_get rates.now place ≡ Some result }
-    ensures inside { result.clock.0 < length tree.now.defs }
-{
-    let entry = rates[place];
-    let _there = tree.registered(entry.clock);
-    entry
-}
 
 // A clock of a walk, behind these, if it has notifiers.
 fn push_told(

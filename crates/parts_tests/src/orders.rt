@@ -1,7 +1,7 @@
 //! Scripts of changes, the order of adoptions and that of the sweep, worked out by hand.
 
 ghost use Rattle.std.specs.Prelude.{◌≡◌, ◌≤◌, length, false, IfOk};
-ghost use Rattle.change_walk.specs.Changes.{AreThere};
+ghost use Rattle.clk_tree.specs.Plans.{AreThere};
 
 mod rows;
 

@@ -11,10 +11,10 @@ use Rattle.clk_model.specs.declared.row.ClockRow.{ClockRow}
 use Rattle.clk_model.specs.State as state
 use Rattle.clk_model.specs.State.{registered}
 use Rattle.clk_tree.specs.declared.chain.ChainStep.{ChainStep}
-use Rattle.clk_tree.specs.Plans.{chain_of}
+use Rattle.clk_tree.specs.Plans.{chain_of, step_of}
 use Rattle.rate_planner.specs.declared.next.Next.{Next}
 use Rattle.rate_planner.specs.declared.next.Next.TheVariants.{NoPlan, Last, More}
-use Rattle.rate_planner.specs.Chains.{step_of, continued, chain_here, IsThere, StepIsThere, AllThere}
+use Rattle.rate_planner.specs.Chains.{continued, chain_here, IsThere, StepIsThere, AllThere}
 
 -- a clock that takes requests goes on by its rounding, and another has no chain
 pub chain_taken : (more : ℕ → ℕ → Option (List state.ChainStep)) (w : Wiring) (view : View) (c x : ℕ) (o : Option Rounded) → (can_round (kind_of w.defs c) || passes_on w c) ≡ true

@@ -11,8 +11,7 @@ use Rattle.clk_model.specs.State as state
 use Rattle.clk_model.specs.Walk.{moves_away}
 use Rattle.clk_model.proofs.Members.{or_right}
 use Rattle.clk_tree.specs.declared.chain.ChainStep.{ChainStep}
-use Rattle.clk_tree.specs.Plans.{chain_of}
-use Rattle.rate_planner.specs.Chains.{step_of}
+use Rattle.clk_tree.specs.Plans.{chain_of, step_of}
 use Rattle.rate_planner.specs.Outcomes.{rates_within}
 use Rattle.rate_planner.specs.Walks.{kid_rate}
 

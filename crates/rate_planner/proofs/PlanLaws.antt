@@ -23,9 +23,9 @@ use Rattle.clk_model.proofs.Members.{same_from_test}
 use Rattle.clk_model.proofs.RateLaws.{over_same, rates_are_over_links}
 use Rattle.clk_model.proofs.WalkLaws.{kids_are, links_after}
 use Rattle.clk_tree.specs.declared.chain.ChainStep.{ChainStep}
-use Rattle.clk_tree.specs.Plans.{ClockRate, chain_of}
+use Rattle.clk_tree.specs.Plans.{ClockRate, chain_of, step_of}
 use Rattle.clk_tree.specs.TreeState.{TreeState, IsTree}
-use Rattle.rate_planner.specs.Chains.{step_of, IsThere, AllThere}
+use Rattle.rate_planner.specs.Chains.{IsThere, AllThere}
 use Rattle.rate_planner.specs.Kept.{KeepsRates, wired, Always, Told}
 use Rattle.rate_planner.specs.Outcomes.{out_rate, out_rates, first_or, rates_within}
 use Rattle.rate_planner.specs.Walks.{at_rate, AreWalked, Walks, kid_rate, walked_rates}

@@ -23,10 +23,9 @@ use Rattle.clk_model.proofs.OnceLaws.{is_in-append, filter_keeps, is_in-filter, 
 use Rattle.clk_model.proofs.ChainStepLaws.{steps_that, passing_in}
 use Rattle.clk_tree.specs.declared.chain.ChainStep.{ChainStep}
 use Rattle.clk_tree.specs.declared.walk_rates.WalkRate.{WalkRate}
-use Rattle.clk_tree.specs.Plans.{ClockRate, chain_of, rates_of}
+use Rattle.clk_tree.specs.Plans.{ClockRate, chain_of, rates_of, step_of}
 use Rattle.clk_tree.specs.TreeState.{TreeState, IsTree}
 use Rattle.clk_tree.proofs.Rows.{order-few}
-use Rattle.rate_planner.specs.Chains.{step_of}
 use Rattle.rate_planner.specs.Walks.{at_rate, AreWalked, Walks, below_after, has_moves, kid_rate, stays}
 use Rattle.rate_planner.proofs.ListSteps.{told_both, told_always, steps_left}
 use Rattle.clk_model.proofs.PllLaws.{at_place}

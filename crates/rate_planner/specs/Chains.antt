@@ -9,12 +9,9 @@ use Rattle.clk_model.specs.Chain.{chain_from}
 use Rattle.clk_model.specs.State as state
 use Rattle.clk_model.specs.State.{registered}
 use Rattle.clk_tree.specs.declared.chain.ChainStep.{ChainStep}
+use Rattle.clk_tree.specs.Plans.{step_of}
 use Rattle.rate_planner.specs.declared.next.Next.{Next}
 use Rattle.rate_planner.specs.declared.next.Next.TheVariants.{NoPlan, Last, More}
-
--- a step as the definitions have it
-abbrev pub step_of : ChainStep → state.ChainStep
-step_of s = record { clock = s.clock.0; rate = s.rate; parent = option_map (λ p. p.0) s.parent }
 
 -- the chain of a step and what follows it, where more is the chain of a parent
 abbrev pub continued : (ℕ → ℕ → Option (List state.ChainStep)) → Next → Option (List state.ChainStep)

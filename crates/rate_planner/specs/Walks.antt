@@ -21,10 +21,6 @@ at_rate rated c = record { clock = c; rate = rated c }
 abbrev pub walked_rates : List ℕ → Wiring → List ChainStep → List ClockRate
 walked_rates order w ks = map (at_rate (rate_in (outcome ks w))) (walk order w ks)
 
--- the clocks of these rates are registered
-abbrev pub AreThere : List ClockRow → List ClockRate → Type 0
-AreThere clocks rates = AllByRecursion (λ r. registered clocks r.clock ≡ true) rates
-
 -- whether a chain moves some clock to another parent
 abbrev pub has_moves : List ClockRow → List ChainStep → Bool
 has_moves clocks ks = list_any (moves clocks) ks

@@ -7,7 +7,8 @@ ghost use Rattle.clk_model.specs.Round.{passes_on, round};
 ghost use Rattle.clk_model.specs.State as state;
 ghost use Rattle.clk_model.specs.State.{registered};
 ghost use Rattle.clk_model.specs.Chain as chain;
-ghost use Rattle.rate_planner.specs.Chains.{step_of, continued, chain_here, NextIsThere};
+ghost use Rattle.clk_tree.specs.Plans.{step_of};
+ghost use Rattle.rate_planner.specs.Chains.{continued, chain_here, NextIsThere};
 ghost use Rattle.rate_planner.specs.Rounded.{rounded_of, NamesRegistered};
 ghost use Rattle.rate_planner.specs.Kept.{Always};
 
@@ -26,17 +27,6 @@ pub(crate) enum Next {
     Last(ChainStep),
     /// Behind this step comes that of the parent, asked for this rate in Hz.
     More(ChainStep, ClockId, u64),
-}
-
-/// Whether the planned parent of a clock is another than the one it has.
-pub(crate) fn moves(tree: &Tree, step: ChainStep) -> bool
-    ensures { result ≡ chain.moves tree.now.clocks (step_of step) }
-{
-    match (step.parent, tree.parent(step.clock)) {
-        (Some(planned), Some(parent)) => planned.0 != parent.0,
-        (None, None) => false,
-        _ => true,
-    }
 }
 
 // How a chain goes on from a clock that is rounded so.
@@ -62,7 +52,7 @@ fn continue_from<V: View>(
     };
     // Its clause says that the clock is one of the description.
     let _place = rate_now(desc, tree, clock);
-    if moves(tree, step) && sets_parent_gate(desc, clock) && view.prepared(clock) {
+    if tree.moves(step) && sets_parent_gate(desc, clock) && view.prepared(clock) {
         return Next::NoPlan;
     }
     if !sets_rate_parent(desc, clock) {

@@ -4,13 +4,12 @@ ghost use Rattle.std.specs.Prelude.{◌≡◌, ◌<◌, ◌≤◌, ◌&&◌, nat
 ghost use Rattle.std.specs.List.{All};
 ghost use Rattle.std.specs.Option.{option_map_or};
 ghost use Rattle.clk_model.specs.Round.{rate_in};
-ghost use Rattle.clk_tree.specs.Plans.{chain_of};
-ghost use Rattle.rate_planner.specs.Chains.{IsThere, step_of};
+ghost use Rattle.clk_tree.specs.Plans.{chain_of, step_of};
+ghost use Rattle.rate_planner.specs.Chains.{IsThere};
 ghost use Rattle.rate_planner.specs.Kept.{Always, Told, wired};
 ghost use Rattle.rate_planner.specs.Outcomes.{out_rate, out_rates, first_or, rates_within};
 
 use crate::kind::{kind_of, set_rate};
-use crate::next::moves;
 use crate::now::rate_now;
 use clk_base::{ClockId, ValidDesc};
 use clk_io::NoMemory;
@@ -23,7 +22,7 @@ fn out_rate<B: Bank>(desc: &ValidDesc, tree: &Tree, bank: &B, step: ChainStep, p
     ensures { IfSome (B.contents bank.now) (λ regs. result ≡ out_rate (wired desc.now.defs regs tree.now) (step_of step) parent) }
 {
     let kind = kind_of(desc, step.clock);
-    if moves(tree, step) {
+    if tree.moves(step) {
         rate_by(&kind, bank, parent)
     } else {
         set_rate(kind, bank, parent, step.rate)

@@ -5,7 +5,8 @@ ghost use Rattle.clk_base.specs.Description.{parents_of};
 ghost use Rattle.clk_model.specs.Lists.{is_in};
 ghost use Rattle.clk_model.specs.State.{registered, link_in};
 ghost use Rattle.rate_planner.specs.Kept.{Told};
-ghost use Rattle.rate_planner.specs.Walks.{AreThere, parent_chain, walked_rates};
+ghost use Rattle.clk_tree.specs.Plans.{AreThere};
+ghost use Rattle.rate_planner.specs.Walks.{parent_chain, walked_rates};
 
 use crate::now::rate_now;
 use crate::planning::Planning;

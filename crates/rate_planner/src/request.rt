@@ -9,7 +9,8 @@ ghost use Rattle.clk_model.specs.State.{registered};
 ghost use Rattle.rate_planner.specs.Chains.{AllThere};
 ghost use Rattle.rate_planner.specs.Kept.{Told};
 ghost use Rattle.rate_planner.specs.Rounded.{rounded_of, NamesRegistered};
-ghost use Rattle.rate_planner.specs.Walks.{AreThere, walked_rates};
+ghost use Rattle.clk_tree.specs.Plans.{AreThere};
+ghost use Rattle.rate_planner.specs.Walks.{walked_rates};
 
 use crate::climb::climb;
 use crate::outcome::{keep_boundaries, outcome_rates};

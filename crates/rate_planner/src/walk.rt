@@ -8,11 +8,10 @@ ghost use Rattle.clk_model.specs.State.{registered};
 ghost use Rattle.clk_model.specs.Tree.{children};
 ghost use Rattle.clk_model.specs.Chain as chain;
 ghost use Rattle.clk_model.specs.Walk.{below_within, kids_after, movers_to, moves_away, top_of};
-ghost use Rattle.clk_tree.specs.Plans.{chain_of};
-ghost use Rattle.rate_planner.specs.Chains.{IsThere, step_of};
-ghost use Rattle.rate_planner.specs.Walks.{AreThere, Walks, below_after, has_moves, kid_rate, stays};
+ghost use Rattle.clk_tree.specs.Plans.{AreThere, chain_of, step_of};
+ghost use Rattle.rate_planner.specs.Chains.{IsThere};
+ghost use Rattle.rate_planner.specs.Walks.{Walks, below_after, has_moves, kid_rate, stays};
 
-use crate::next::moves;
 use clk_base::{ClockId, ValidDesc, depth};
 use clk_io::NoMemory;
 use clk_tree::{ChainStep, Tree, WalkRate, WalkRates, rate_of};
@@ -46,7 +45,7 @@ fn kid_rate<B: Bank>(walker: &Walker<B>, clock: ClockId, parent: u64) -> (u64, b
         let step = walker.steps[place];
         if step.clock.0 == clock.0 {
             own = Some(walker.rates[place]);
-            away = away || moves(walker.tree, step);
+            away = away || walker.tree.moves(step);
         }
     }
     match own {
@@ -60,7 +59,7 @@ fn moves_to(tree: &Tree, step: ChainStep, clock: ClockId) -> bool
     ensures { result ≡ (is_at clock.0 (step_of step).parent && chain.moves tree.now.clocks (step_of step)) }
 {
     match step.parent {
-        Some(parent) => parent.0 == clock.0 && moves(tree, step),
+        Some(parent) => parent.0 == clock.0 && tree.moves(step),
         None => false,
     }
 }
@@ -70,7 +69,7 @@ fn has_moves(tree: &Tree, steps: &[ChainStep]) -> bool
     ensures { result ≡ has_moves tree.now.clocks (chain_of steps.now) }
 {
     for place in 0..steps.len() {
-        if moves(tree, steps[place]) {
+        if tree.moves(steps[place]) {
             return true;
         }
     }

@@ -16,19 +16,12 @@ ghost use Rattle.clk_machine.specs.Sound.{IsSound};
 ghost use Rattle.clk_machine.specs.Stands.{Stands};
 
 use super::Machine;
+use super::sweeping::clock_at;
 use clk_base::{ClockId, Micro, depth};
 use clk_io::NoMemory;
 use core_parts::{is_among, is_held, push_adoption_by, push_registration};
 use orphans::{adoptable, link_beside, link_of};
 use reg_bank::Bank;
-
-// The clock of an order at a place.
-fn clock_at(order: &[ClockId], place: usize) -> ClockId
-    requires { place < length order.now }
-    ensures { slice_get order.now place ≡ Some result }
-{
-    order[place]
-}
 
 impl<B: Bank> Machine<B> {
     /// The orphans that are adopted behind the registration of a clock, in their order.

@@ -7,7 +7,7 @@ ghost use Rattle.clk_base.specs.declared.event.Reply.TheVariants.{Fine};
 ghost use Rattle.clk_base.specs.declared.event.Turn.TheVariants.{Done, Going};
 ghost use Rattle.clk_model.specs.Journal.{is_going};
 ghost use Rattle.clk_model.specs.State.{handle_at};
-ghost use Rattle.change_walk.specs.Changes.{AreThere};
+ghost use Rattle.clk_tree.specs.Plans.{AreThere};
 ghost use Rattle.clk_machine.specs.Readied.{AtOnce, Change, readied_of, scripted_of};
 ghost use Rattle.core_parts.specs.InFlight.{changes_rate, is_ranged};
 ghost use Rattle.clk_machine.specs.Parts.{own_in, IsOwnCall, IsWhole, steps_left};

@@ -54,8 +54,8 @@ fn close_unless<B: Bank>(active: bool, kind: Kind, window: &mut Window<B>)
     }
 }
 
-// The clock of an order at a place.
-fn clock_at(order: &[ClockId], place: usize) -> ClockId
+/// The clock of an order at a place.
+pub(super) fn clock_at(order: &[ClockId], place: usize) -> ClockId
     requires { place < length order.now }
     ensures { slice_get order.now place ≡ Some result }
 {

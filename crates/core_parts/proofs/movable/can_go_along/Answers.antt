@@ -4,8 +4,7 @@ use Rattle.std.specs.Prelude.{slice_get}
 use Rattle.std.specs.List.{list_all}
 use Rattle.clk_model.specs.State as state
 use Rattle.clk_tree.specs.declared.chain.ChainStep.{ChainStep}
-use Rattle.clk_tree.specs.Plans.{chain_of}
-use Rattle.rate_planner.specs.Chains.{step_of}
+use Rattle.clk_tree.specs.Plans.{chain_of, step_of}
 use Rattle.change_walk.proofs.Rests.{rest_of}
 use Rattle.core_parts.specs.Movable.{can_go}
 use Rattle.core_parts.proofs.movable.can_go_along.Goals as goal

@@ -5,8 +5,8 @@ use Rattle.clk_model.specs.Lists.{is_in}
 use Rattle.clk_model.specs.State.{registered}
 use Rattle.clk_model.specs.Tree.{children}
 use Rattle.clk_model.specs.Walk.{below_within, kids_after, movers_to}
-use Rattle.clk_tree.specs.Plans.{chain_of}
-use Rattle.rate_planner.specs.Walks.{AreThere, Walks, stays}
+use Rattle.clk_tree.specs.Plans.{AreThere, chain_of}
+use Rattle.rate_planner.specs.Walks.{Walks, stays}
 use Rattle.rate_planner.proofs.walk.+walking.Given as goal
 
 abbrev pub decreases-walk_below : goal.decreases-walk_below
