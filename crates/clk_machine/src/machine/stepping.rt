@@ -166,6 +166,7 @@ impl<B: Bank> Machine<B> {
     }
 
     // Makes the step that comes next, which is neither a poll nor the end of the call.
+    #[inline(always)]
     fn make(&mut self, step: Micro)
         requires going { self.old.flight.going ≡ true }
         requires next { ComesNext self.old (Some step) }
