@@ -26,7 +26,7 @@ tree_stands m s whole stands = record {
   defs = whole.tied.defs ∙ sym stands.defs;
   clocks = sym stands.clocks;
   order = sym stands.order;
-  rates = λ quiet c there. rates_stand m s c whole stands (sym (ap (λ (rs : List ClockRow). registered rs c) stands.clocks) ∙ there);
+  rates = λ c there. rates_stand m s c whole stands (sym (ap (λ (rs : List ClockRow). registered rs c) stands.clocks) ∙ there);
 }
 
 -- each clock is active, prepared and guarded in the counts where it is so in the state

@@ -1,7 +1,7 @@
 -- What a core tells of its clocks: the row of one, and the tree of all.
 use Rattle.std.specs.Prelude.{◌≡◌, ℕ, true, false, Option, Some, None, slice_index}
 use Rattle.clk_base.specs.Description.{kind_of}
-use Rattle.clk_model.specs.State.{State, is_quiet, registered}
+use Rattle.clk_model.specs.State.{State, registered}
 use Rattle.clk_model.specs.Rate.{rate}
 use Rattle.clk_model.specs.Counts.{enable_count, prepare_count, protect_count}
 use Rattle.clk_model.specs.Summary.{is_on}
@@ -21,10 +21,9 @@ abbrev pub IsRowOf : State → ℕ → Option Row → Type 0
 IsRowOf s c None = registered s.clocks c ≡ false
 IsRowOf s c (Some row) = (registered s.clocks c ≡ true) × Tells s c row
 
--- the tree has the clocks, links and attachments of the state, and where no change is in flight each kept rate of a registered clock is the
--- one that the registers give
+-- the tree has the clocks, links and attachments of the state, and each kept rate of a registered clock is the one that the registers give
 pub record IsTreeOf (s : State) (t : TreeState) : Type 0 where
   pub defs : t.defs ≡ s.defs
   pub clocks : t.clocks ≡ s.clocks
   pub order : t.order ≡ s.order
-  pub rates : is_quiet s.change ≡ true → (c : ℕ) → registered s.clocks c ≡ true → slice_index t.rates c ≡ rate s.defs s.regs s.clocks c
+  pub rates : (c : ℕ) → registered s.clocks c ≡ true → slice_index t.rates c ≡ rate s.defs s.regs s.clocks c

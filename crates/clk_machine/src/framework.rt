@@ -133,6 +133,8 @@ impl<B: Bank> Core<B> {
         ensures told { IfOk result (λ core. core.told ≡ is_some (B.contents bank)) }
         // What lies behind the given words are the further words of the bank, and the delays of its locks.
         ensures behind { IfOk result (λ core. core.behind ≡ behind_of (length words.now) (B.contents bank) (B.lock bank)) }
+        // No step is to come.
+        ensures left { IfOk result (λ core. core.left ≡ 0) }
     {
         let log = Log::create(alloc, credits)?;
         let kept = Vec::from_slice(alloc, words)?;
@@ -284,6 +286,8 @@ impl<B: Bank> Core<B> {
         ensures made { StepsOn self.old result self.new }
         // Where the bank tells its words, the turn comes exactly where its cause holds.
         ensures turns { self.old.told ≡ true → StepTurns self.old self.new result }
+        // Where it tells its words and its locks, a poll is answered by the delay of its PLL, as all polls of the journal are.
+        ensures polled { self.new.told ≡ true → (delay : ℕ → ℕ) → HasDelays self.new.behind.delays delay → Polled delay self.new.journal }
     {
         let driver = self.machine.driver();
         let made = self.machine.step();
@@ -318,7 +322,7 @@ impl<B: Bank> Core<B> {
     pub fn tree(&self) -> &Tree
         // It is a tree over the description.
         ensures made { result.now.defs ≡ self.now.start.defs }
-        // Where the bank tells its words, its clocks, its order and its rates are those of the state.
+        // Where the bank tells its words, its clocks, its order and its rates are those of the state, also in the middle of a change.
         ensures tree { self.now.told ≡ true → IsTreeOf (now_of self.now) result.now }
     {
         self.machine.tree()
@@ -332,6 +336,8 @@ impl<B: Bank> Core<B> {
         ensures tells { self.now.told ≡ true → result ≡ is_quiet (now_of self.now).change }
         // Where none is, no step is to come.
         ensures none { result ≡ true → self.now.left ≡ 0 }
+        // And never more than a run may have entries, besides its credits.
+        ensures few { self.now.start.credits + self.now.left ≤ most_credits }
     {
         self.machine.is_quiet()
     }

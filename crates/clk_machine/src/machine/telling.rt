@@ -6,6 +6,7 @@ ghost use Rattle.clk_model.specs.State.{State, is_quiet};
 ghost use Rattle.clk_base.specs.declared.event.Event.TheVariants.{Begin};
 ghost use Rattle.core_parts.specs.InFlight.{is_worked_out};
 ghost use Rattle.core_parts.specs.Window.{delays_in, locks_of};
+ghost use Rattle.clk_machine.specs.Parts.{IsWhole};
 ghost use Rattle.clk_machine.specs.Row.{IsTreeOf};
 ghost use Rattle.clk_machine.specs.Sound.{takes_memory};
 ghost use Rattle.clk_machine.specs.Stands.{Stands, is_told, most_steps};
@@ -36,6 +37,7 @@ impl<B: Bank> Machine<B> {
     pub(crate) fn is_quiet(&self) -> bool
         ensures tells { (s : State) → Stands self.now s → result ≡ is_quiet s.change }
         ensures going { result ≡ not self.now.flight.going }
+        ensures whole { IsWhole self.now }
     {
         !self.flight.going()
     }

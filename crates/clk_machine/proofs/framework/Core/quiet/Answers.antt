@@ -1,4 +1,4 @@
-use Rattle.std.proofs.Common.{◌∙◌, sym, ap}
+use Rattle.std.proofs.Common.{◌∙◌, sym, ap, arith}
 use Rattle.std.specs.Prelude.{not}
 use Rattle.clk_machine.proofs.Entering.{idle_left}
 use Rattle.clk_machine.proofs.framework.Core.quiet.Goals as goal
@@ -8,3 +8,6 @@ returns-clause-quiet g c = rw (← c.self.view_is) (c.is_quiet.ensures.going ∙
 
 pub returns-clause-none : goal.returns-clause-none
 returns-clause-none g c = rw (← c.self.view_is) (λ quiet. idle_left c.self.inside.machine (sym c.is_quiet.ensures.going ∙ quiet))
+
+pub returns-clause-few : goal.returns-clause-few
+returns-clause-few g c = let room = c.is_quiet.ensures.whole.room in rw (← c.self.view_is) (omega arith)

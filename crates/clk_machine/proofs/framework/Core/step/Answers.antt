@@ -53,3 +53,14 @@ returns-clause-turns g c =
     stepped m.machine c.step-made.new.self m.words.items m.log c.push_made.new.log c.driver-driver.result (step_of made) (answer_of made) (turn_of made) c.self.invariant enters c.step-made.ensures.links c.step-made.ensures.locks c.push_made.ensures.entries c.push_made.ensures.room in
     let on = steps_on m.machine c.step-made.new.self m.words.items m.log c.push_made.new.log c.driver-driver.result (step_of made) (answer_of made) (turn_of made) is (c.driver-driver.ensures.driver ∙ c.self.invariant.driver_ (c.self.invariant.going ∙ flies)) in
     rw (← c.self.view_is) (rw c.push_made.ensures.turn (λ told. step_turns _ _ (turn_of made) on refl told))
+
+pub returns-clause-polled : goal.returns-clause-polled
+returns-clause-polled g c =
+    let m = c.self.inside in
+    let made = c.step-made.result in
+    let flies : in_flight m.log.entries ≡ true = rw (← c.self.view_is) at c.requires in
+    let enters : Enters m.machine c.driver-driver.result (Step (step_of made) (answer_of made)) (turn_of made) c.step-made.new.self =
+    subst (λ (d : ℕ). Enters m.machine d (Step (step_of made) (answer_of made)) (turn_of made) c.step-made.new.self) (sym c.driver-driver.ensures.driver) c.step-made.ensures.enters in
+    let is : IsEntered m.machine c.step-made.new.self m.words.items m.log c.push_made.new.log c.driver-driver.result (Step (step_of made) (answer_of made)) (turn_of made) =
+    stepped m.machine c.step-made.new.self m.words.items m.log c.push_made.new.log c.driver-driver.result (step_of made) (answer_of made) (turn_of made) c.self.invariant enters c.step-made.ensures.links c.step-made.ensures.locks c.push_made.ensures.entries c.push_made.ensures.room in
+    (entered m.machine c.step-made.new.self m.words.items m.log c.push_made.new.log c.driver-driver.result (Step (step_of made) (answer_of made)) (turn_of made) is).polled
