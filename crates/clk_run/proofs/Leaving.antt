@@ -23,6 +23,7 @@ use Rattle.reg_bank.specs.declared.pll_lock.PllLock.{PllLock}
 use Rattle.clk_run.specs.Runs.{Telling, drivers_in, scripts_of, opening_of, telling, armed_telling, told_by, IsTextOf, PrintedFront, LeftByFault}
 use Rattle.clk_run.specs.Texts.{run_text}
 use Rattle.driver_runs.specs.Turns.{HasRun}
+use Rattle.clk_run.proofs.SpelledBytes.{takes_some}
 use Rattle.clk_run.proofs.Telling.{same_telling}
 use Rattle.clk_run.proofs.Threaded.{in_order}
 
@@ -54,6 +55,7 @@ text_of b cli core answers table words has legal polled fed laws quiet sums mean
     fed = λ tells n. subst (λ (s : State). Fed (replay s (take n core.journal))) has.start (fed tells n);
     laws = λ tells. subst (λ (s : State). KeepsLaws s core.journal) has.start (laws tells);
     quiet = λ tells. ap (λ (s : State). is_quiet (replay s core.journal).change) (sym has.start) ∙ quiet tells;
+    ended = has.quiet;
     follow = has.follow;
     among = has.among;
     ordered = has.ordered;
@@ -130,5 +132,5 @@ front_by b cli told old new print_fault.NoMemory status left is five = absurd (o
 pub short_by : (b : Bundle) (cli : Cli) (before : Option (List ℕ)) (lock : ℕ → Option PllLock) (left left' old new : Option (List ℕ)) (fault : PrintFault) (status : ℕ) → GivesBundle (generates cli.mode) left left' b
     → LeftByFault b cli (armed_telling b before lock) old new fault → status ≡ status_of fault → status ≡ 3 → Short cli before lock left left' old new
 short_by b cli before lock left left' old new print_fault.Write status gives by is three = absurd (omega (arith, is, three))
-short_by b cli before lock left left' old new print_fault.NoMemory status gives (inl same) is three = inl same
+short_by b cli before lock left left' old new print_fault.NoMemory status gives (inl same) is three = inl (takes_some (generates cli.mode) left left' b gives, same)
 short_by b cli before lock left left' old new print_fault.NoMemory status gives (inr front) is three = inr (inl (b, gives, front))

@@ -1,11 +1,11 @@
 pub mod RunTexts
 pub mod Readiness
 pub mod Deciding
+pub mod SpelledBytes
 pub mod Leaving
 pub mod PrintedParts
 pub mod Telling
 pub mod Threaded
-pub mod SpelledBytes
 pub mod OkAnswers
 pub mod MeasuredRuns
 pub mod LocksPlaced

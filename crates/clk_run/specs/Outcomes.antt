@@ -7,7 +7,7 @@ use Rattle.clk_cli.specs.declared.cli.Mode.TheVariants.{Check, Sim, Run, Bench}
 use Rattle.clk_cli.specs.Usage.{usage_line}
 use Rattle.clk_gen.specs.Generated.{generated}
 use Rattle.clk_io.specs.Counts.{Rose, counted}
-use Rattle.clk_io.specs.Streams.{TakesAll, TakesMore, AppendsFront}
+use Rattle.clk_io.specs.Streams.{TakesAll, TakesMore, TakesSome, AppendsFront}
 use Rattle.clk_io.specs.declared.faults.PrintFault.{PrintFault}
 use Rattle.clk_io.specs.declared.faults.PrintFault.TheVariants as print_fault
 use Rattle.reg_bank.specs.declared.pll_lock.PllLock.{PllLock}
@@ -18,6 +18,7 @@ use Rattle.clk_io.specs.declared.reading.TheConstants.{MOST_BYTES}
 use Rattle.drv_scripts.specs.Verdict.{Accepts, Refuses}
 use Rattle.clk_run.specs.declared.taking.Stop.{Stop}
 use Rattle.clk_run.specs.declared.taking.Stop.TheVariants as stop
+use Rattle.core_parts.specs.Window.{delays_in, locks_of}
 use Rattle.clk_run.specs.Refusals.{refusal_text}
 use Rattle.clk_run.specs.Runs.{Printed, PrintedFront, armed_telling}
 
@@ -60,11 +61,12 @@ StopsSpelling bytes (stop.Refused line reason) = Refuses bytes line reason
 StopsSpelling bytes stop.Read = ⊥
 StopsSpelling bytes stop.NoMemory = Unit {0}
 
--- why a command has no bundle: its bytes are refused, or a read failed where it reads any, or memory ran out
+-- why a command has no bundle: its bytes are refused, or a read failed where it reads any, or memory ran out; then no more was taken than a
+-- bundle may have
 abbrev pub StopsReading : Option ℕ → Option (List ℕ) → Option (List ℕ) → Stop → Type 0
 StopsReading made old new (stop.Refused line reason) = RefusesInput made old new line reason
-StopsReading made old new stop.Read = made ≡ None
-StopsReading made old new stop.NoMemory = Unit {0}
+StopsReading made old new stop.Read = (made ≡ None) × TakesSome MOST_BYTES old new
+StopsReading made old new stop.NoMemory = TakesSome MOST_BYTES old new
 
 -- a source's count of faults rises where a read failed, and stands where its bytes are refused or memory ran out
 abbrev pub RisesAtStop : ℕ → ℕ → Stop → Type 0
@@ -91,11 +93,21 @@ IsRunStatus status = (status ≡ 0) ⊎ ((status ≡ 2) ⊎ ((status ≡ 3) ⊎ 
 abbrev pub count_behind : ℕ → ℕ → ℕ → ℕ
 count_behind fault status before = if status == fault then counted before else before
 
+-- a bank by what it tells: its words, and how many polls the lock of each PLL asks for
+pub record Told : Type 0 where
+  pub words : Option (List ℕ)
+  pub delays : List (Option ℕ)
+
+-- a bank with these words and these locks
+abbrev pub told_of : Option (List ℕ) → (ℕ → Option PllLock) → Told
+told_of contents lock = record { words = contents; delays = delays_in (locks_of lock) }
+
 -- status 0: the command's bytes spell a bundle, the text of a run of it was printed, and the bank came back with the registers
--- that the run leaves, and no other word of it changed, where it tells its words
-abbrev pub Done : Cli → Option (List ℕ) → (ℕ → Option PllLock) → Option (List ℕ) → Option (List ℕ) → Option (List ℕ) → Option (List ℕ) → Option (Option (List ℕ)) → Type 0
+-- that the run leaves, and no other word of it changed, where it tells its words; the delays of its locks are those that the bundle armed
+abbrev pub Done : Cli → Option (List ℕ) → (ℕ → Option PllLock) → Option (List ℕ) → Option (List ℕ) → Option (List ℕ) → Option (List ℕ) → Option Told → Type 0
 Done cli before lock left left' written written' back =
-    (b : Bundle) × GivesBundle (generates cli.mode) left left' b × (contents : Option (List ℕ)) × (back ≡ Some contents) × Printed b cli (armed_telling b before lock) before written written' contents
+    (b : Bundle) × GivesBundle (generates cli.mode) left left' b × (told : Told) × (back ≡ Some told) × (told.delays ≡ (armed_telling b before lock).delays)
+    × Printed b cli (armed_telling b before lock) before written written' told.words
 
 -- status 2: the command's bytes are refused, and the line was printed that says where and why
 abbrev pub Refused : Cli → Option (List ℕ) → Option (List ℕ) → Option (List ℕ) → Option (List ℕ) → Type 0
@@ -108,13 +120,13 @@ Unwritten cli before lock left left' written written' =
     ((b : Bundle) × GivesBundle (generates cli.mode) left left' b × PrintedFront b cli (armed_telling b before lock) written written')
     ⊎ ((line : ℕ) × (reason : Reason) × RefusesInput (generates cli.mode) left left' line reason × AppendsFront written written' (refusal_text line reason))
 
--- status 4: the command reads a source, and nothing was printed
-abbrev pub Unread : Cli → Option (List ℕ) → Option (List ℕ) → Type 0
-Unread cli written written' = (generates cli.mode ≡ None) × (written' ≡ written)
+-- status 4: the command reads a source, no more of it was taken than a bundle may have, and the sink is as it was
+abbrev pub Unread : {K : Type 0} → Cli → Option (List ℕ) → Option (List ℕ) → K → K → Type 0
+Unread cli left left' out out' = (generates cli.mode ≡ None) × TakesSome MOST_BYTES left left' × (out' ≡ out)
 
--- status 3: nothing was printed, or a front of what would have been
+-- status 3: nothing was printed, and no more was taken of the source than a bundle may have, or a front of what would have been printed
 abbrev pub Short : Cli → Option (List ℕ) → (ℕ → Option PllLock) → Option (List ℕ) → Option (List ℕ) → Option (List ℕ) → Option (List ℕ) → Type 0
-Short cli before lock left left' written written' = (written' ≡ written) ⊎ Unwritten cli before lock left left' written written'
+Short cli before lock left left' written written' = (TakesSome MOST_BYTES left left' × (written' ≡ written)) ⊎ Unwritten cli before lock left left' written written'
 
 -- ---- completeness
 
@@ -140,7 +152,7 @@ abbrev pub MeansNothing : Option Cli → Option (List ℕ) → Option (List ℕ)
 MeansNothing meant left left' written written' = (meant ≡ None) × (left' ≡ left) × Appends written written' usage_line
 
 -- status 0: the words ask for a run, and it was done
-abbrev pub MeansDone : Option Cli → Option (List ℕ) → (ℕ → Option PllLock) → Option (List ℕ) → Option (List ℕ) → Option (List ℕ) → Option (List ℕ) → Option (Option (List ℕ)) → Type 0
+abbrev pub MeansDone : Option Cli → Option (List ℕ) → (ℕ → Option PllLock) → Option (List ℕ) → Option (List ℕ) → Option (List ℕ) → Option (List ℕ) → Option Told → Type 0
 MeansDone meant before lock left left' written written' back = (cli : Cli) × (meant ≡ Some cli) × Done cli before lock left left' written written' back
 
 -- status 2: the words ask for a run, and its bundle is refused
@@ -148,8 +160,8 @@ abbrev pub MeansRefused : Option Cli → Option (List ℕ) → Option (List ℕ)
 MeansRefused meant left left' written written' = (cli : Cli) × (meant ≡ Some cli) × Refused cli left left' written written'
 
 -- status 4: the words ask for a run that reads a source, and nothing was printed
-abbrev pub MeansUnread : Option Cli → Option (List ℕ) → Option (List ℕ) → Type 0
-MeansUnread meant written written' = (cli : Cli) × (meant ≡ Some cli) × Unread cli written written'
+abbrev pub MeansUnread : {K : Type 0} → Option Cli → Option (List ℕ) → Option (List ℕ) → K → K → Type 0
+MeansUnread meant left left' out out' = (cli : Cli) × (meant ≡ Some cli) × Unread cli left left' out out'
 
 -- status 5: a front was printed of the line that says how the program is called, or of what a run prints
 abbrev pub MeansUnwritten : Option Cli → Option (List ℕ) → (ℕ → Option PllLock) → Option (List ℕ) → Option (List ℕ) → Option (List ℕ) → Option (List ℕ) → Type 0
@@ -157,9 +169,9 @@ MeansUnwritten meant before lock left left' written written' =
     ((meant ≡ None) × AppendsFront written written' usage_line)
     ⊎ ((cli : Cli) × (meant ≡ Some cli) × Unwritten cli before lock left left' written written')
 
--- status 3: nothing was printed, or a front of what would have been
+-- status 3: nothing was printed, and no more was taken of the source than a bundle may have, or a front of what would have been printed
 abbrev pub MeansShort : Option Cli → Option (List ℕ) → (ℕ → Option PllLock) → Option (List ℕ) → Option (List ℕ) → Option (List ℕ) → Option (List ℕ) → Type 0
-MeansShort meant before lock left left' written written' = (written' ≡ written) ⊎ MeansUnwritten meant before lock left left' written written'
+MeansShort meant before lock left left' written written' = (TakesSome MOST_BYTES left left' × (written' ≡ written)) ⊎ MeansUnwritten meant before lock left left' written written'
 
 -- words that mean nothing end in status 1, and for the others the bytes decide
 abbrev pub MeansDecided : Option Cli → Option (List ℕ) → ℕ → Type 0

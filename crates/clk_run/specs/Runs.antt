@@ -23,7 +23,7 @@ use Rattle.clk_cli.specs.declared.cli.Mode.{Mode}
 use Rattle.clk_cli.specs.declared.cli.Mode.TheVariants.{Check, Sim, Bench}
 use Rattle.clk_cli.specs.declared.cli.Mode.TheVariants as mode
 use Rattle.clk_machine.specs.Lawful.{KeepsLaws}
-use Rattle.clk_machine.specs.Run.{Run}
+use Rattle.clk_machine.specs.Run.{Run, in_flight}
 use Rattle.core_parts.specs.Window.{HasDelays, delays_in, locks_of}
 use Rattle.driver_runs.specs.Drivers.{FollowAll, are_among, boot_first}
 use Rattle.driver_runs.specs.Turns.{scripts_with}
@@ -89,14 +89,15 @@ InOrder (Bench n) scripts order journal = boot_first journal ≡ true
 
 -- a run of a bundle, as the words ask for it: its journal, where the bank tells its words, is a legal run of the machine; where the bank tells its
 -- locks too, each poll is answered by the delay of its PLL; after each entry the active clocks are fed, it keeps the laws of journals, and at its end
--- no change is in flight; boot and each driver, and nobody else, have their calls once, in their order, one after the other, answered so; and the
--- entries stand in the order of the command
+-- no change is in flight; whatever the bank tells, no call is left in flight; boot and each driver, and nobody else, have their calls once, in their
+-- order, one after the other, answered so; and the entries stand in the order of the command
 pub record IsRunOf (b : Bundle) (cli : Cli) (bank : Telling) (journal : List Entry) (answers : List (List Answer)) : Type 0 where
   pub legal : bank.told ≡ true → Legal (opening_of b cli.ignore_unused) journal
   pub polled : bank.told ≡ true → (delay : ℕ → ℕ) → HasDelays bank.delays delay → Polled delay journal
   pub fed : bank.told ≡ true → (n : ℕ) → Fed (replay (opening_of b cli.ignore_unused) (take n journal))
   pub laws : bank.told ≡ true → KeepsLaws (opening_of b cli.ignore_unused) journal
   pub quiet : bank.told ≡ true → is_quiet (replay (opening_of b cli.ignore_unused) journal).change ≡ true
+  pub ended : in_flight journal ≡ false
   pub follow : FollowAll 0 (scripts_of cli.mode b) answers journal
   pub among : are_among (length (scripts_of cli.mode b)) journal ≡ true
   pub ordered : InOrder cli.mode (scripts_of cli.mode b) b.order journal

@@ -4,7 +4,7 @@ ghost use Rattle.std.specs.Prelude.{◌≡◌, ◌≤◌, [], length, drop, is_s
 ghost use Rattle.std.specs.Option.{option_map};
 ghost use Rattle.clk_io.specs.Counts.{CountsPrintFault};
 ghost use Rattle.clk_model.specs.Begin.{most_credits};
-ghost use Rattle.core_parts.specs.Window.{behind_of};
+ghost use Rattle.core_parts.specs.Window.{behind_of, delays_in, locks_of};
 ghost use Rattle.drv_scripts.specs.Placed.{IsSound};
 ghost use Rattle.clk_run.specs.Runs.{armed_telling, credits_of, opening_of, telling, Printed, LeftByFault};
 
@@ -59,6 +59,7 @@ fn run_armed<K: Sink, B: Bank>(
     requires room { 65536 ≤ B.size bank }
     ensures done { IfOk result (λ left. Printed bundle.now cli.now (telling (B.contents bank) (B.lock bank)) (B.contents bank) (K.written out.old) (K.written out.new) (B.contents left)) }
     ensures told { IfOk result (λ left. is_some (B.contents left) ≡ is_some (B.contents bank)) }
+    ensures delays { IfOk result (λ left. delays_in (locks_of (B.lock left)) ≡ (telling (B.contents bank) (B.lock bank)).delays) }
     ensures fault { IfErr result (LeftByFault bundle.now cli.now (telling (B.contents bank) (B.lock bank)) (K.written out.old) (K.written out.new)) }
     ensures tells { is_some (K.written out.new) ≡ is_some (K.written out.old) }
     ensures later { K.faults out.old ≤ K.faults out.new }
@@ -81,6 +82,7 @@ pub(crate) fn run_bundle<K: Sink, B: Bank>(
     requires room { 65536 ≤ B.size bank }
     ensures done { IfOk result (λ left. Printed bundle.now cli.now (armed_telling bundle.now (B.contents bank) (B.lock bank)) (B.contents bank) (K.written out.old) (K.written out.new) (B.contents left)) }
     ensures told { IfOk result (λ left. is_some (B.contents left) ≡ is_some (B.contents bank)) }
+    ensures delays { IfOk result (λ left. delays_in (locks_of (B.lock left)) ≡ (armed_telling bundle.now (B.contents bank) (B.lock bank)).delays) }
     ensures fault { IfErr result (LeftByFault bundle.now cli.now (armed_telling bundle.now (B.contents bank) (B.lock bank)) (K.written out.old) (K.written out.new)) }
     ensures tells { is_some (K.written out.new) ≡ is_some (K.written out.old) }
     ensures later { K.faults out.old ≤ K.faults out.new }

@@ -1,10 +1,10 @@
 //! The program, as a call.
 
-ghost use Rattle.std.specs.Prelude.{◌≡◌, ◌≤◌, ◌==◌, ℕ, Some, is_some};
+ghost use Rattle.std.specs.Prelude.{◌≡◌, ◌≤◌, ◌==◌, ℕ, None, Some, is_some};
 ghost use Rattle.std.specs.Option.{option_map};
 ghost use Rattle.clk_cli.specs.Meaning.{texts, meaning};
 ghost use Rattle.clk_cli.specs.declared.cli.Cli.{Cli};
-ghost use Rattle.clk_run.specs.Outcomes.{generates, IsStatus, MeansNothing, MeansDone, MeansRefused, MeansUnread, MeansUnwritten, MeansShort, MeansDecided, count_behind};
+ghost use Rattle.clk_run.specs.Outcomes.{generates, told_of, IsStatus, MeansNothing, MeansDone, MeansRefused, MeansUnread, MeansUnwritten, MeansShort, MeansDecided, count_behind};
 ghost use Rattle.clk_run.specs.Runs.{has_threads};
 
 use crate::side_by_side::run_side_by_side;
@@ -52,23 +52,25 @@ pub fn clkbench<
     ensures known { IsStatus result.0 }
     // 1: the words mean nothing, nothing was read, and the line was written that says how the program is called.
     ensures usage { result.0 ≡ 1 → MeansNothing (meaning (texts words.now)) (S.left input.old) (S.left input.new) (K.written out.old) (K.written out.new) }
-    // 0: the words ask for a run; all that was left of the source, or under `bench` the generated text, spells a bundle; the text of one of its runs was written; the bank has the registers that this run leaves, and every other word as it was.
-    ensures done { result.0 ≡ 0 → MeansDone (meaning (texts words.now)) (B.contents bank) (B.lock bank) (S.left input.old) (S.left input.new) (K.written out.old) (K.written out.new) (option_map B.contents result.1) }
+    // 0: the words ask for a run; all that was left of the source, or under `bench` the generated text, spells a bundle; the text of one of its runs was written; the bank has the registers that this run leaves, every other word as it was, and the delays of locks that the bundle states.
+    ensures done { result.0 ≡ 0 → MeansDone (meaning (texts words.now)) (B.contents bank) (B.lock bank) (S.left input.old) (S.left input.new) (K.written out.old) (K.written out.new) (option_map (λ left. told_of (B.contents left) (B.lock left)) result.1) }
     // The bank comes back exactly with 0.
     ensures back { is_some result.1 ≡ (result.0 == 0) }
     // 2: the words ask for a run that reads a source, its bytes are refused, and the line that says where and why was written.
     ensures refused { result.0 ≡ 2 → MeansRefused (meaning (texts words.now)) (S.left input.old) (S.left input.new) (K.written out.old) (K.written out.new) }
     // The source's count of faults rises by one at 4, and stands at every other status.
     ensures reads { S.faults input.new ≡ count_behind 4 result.0 (S.faults input.old) }
-    // 4: the words ask for a run that reads a source, and nothing was written.
-    ensures unread { result.0 ≡ 4 → MeansUnread (meaning (texts words.now)) (K.written out.old) (K.written out.new) }
+    // 4: the words ask for a run that reads a source, no more of it was taken than a bundle may have, and the sink is as it was.
+    ensures unread { result.0 ≡ 4 → MeansUnread (meaning (texts words.now)) (S.left input.old) (S.left input.new) out.old out.new }
+    // Where the words mean nothing, nothing is read.
+    ensures unmeant { meaning (texts words.now) ≡ None → input.new ≡ input.old }
     // Under `bench` nothing is read.
     ensures unasked { (cli : Cli) → (drivers : ℕ) → meaning (texts words.now) ≡ Some cli → generates cli.mode ≡ Some drivers → input.new ≡ input.old }
     // The sink's count of faults rises by one at 5, and stands at every other status.
     ensures writes { K.faults out.new ≡ count_behind 5 result.0 (K.faults out.old) }
     // 5: a front of the text of a run was written, of a refusal's line or of the usage line.
     ensures unwritten { result.0 ≡ 5 → MeansUnwritten (meaning (texts words.now)) (B.contents bank) (B.lock bank) (S.left input.old) (S.left input.new) (K.written out.old) (K.written out.new) }
-    // 3: nothing was written, or such a front.
+    // 3: nothing was written, and no more was taken of the source than a bundle may have, or such a front was.
     ensures short { result.0 ≡ 3 → MeansShort (meaning (texts words.now)) (B.contents bank) (B.lock bank) (S.left input.old) (S.left input.new) (K.written out.old) (K.written out.new) }
     // Words that mean nothing end in 1, and for the others what the source has left decides between 0 and 2, and a generated bundle ends in 0, unless the status is 3, 4 or 5.
     ensures decided { MeansDecided (meaning (texts words.now)) (S.left input.old) result.0 }

@@ -28,6 +28,9 @@ returns-clause-done g c =
           (ap (λ (k : Behind). k.words) (printed.behind ∙ opened.behind)) size refl;
     }
 
+pub returns-clause-delays : goal.returns-clause-delays
+returns-clause-delays g c = c.into_bank.ensures.delays ∙ ap (λ (k : Behind). k.delays) (c.in_ok-run_core.ensures.done.behind ∙ c.in_ok-core.ensures.behind)
+
 -- what a fault leaves is known of a core as of its bank
 same_told : (b : Bundle) (cli : Cli) (told tells : Telling) (old new : Option (List ℕ)) (fault : PrintFault) → told ≡ tells → LeftByFault b cli told old new fault → LeftByFault b cli tells old new fault
 same_told b cli told tells old new fault same left = subst (λ (t : Telling). LeftByFault b cli t old new fault) same left

@@ -41,6 +41,11 @@ returns-clause-told g c =
     c.into_bank.ensures.told
     ∙ threads_told c.args.bundle.now c.args.cli.now.ignore_unused (g.B.Bank.contents c.args.bank) (g.B.Bank.lock c.args.bank) c.in_ok-core.answers.items c.in_ok-core.core c.in_ok-core.ensures
 
+pub returns-clause-delays : goal.returns-clause-delays
+returns-clause-delays g c =
+    c.into_bank.ensures.delays
+    ∙ ap (λ (k : Behind). k.delays) (threads_behind c.args.bundle.now c.args.cli.now.ignore_unused (g.B.Bank.contents c.args.bank) (g.B.Bank.lock c.args.bank) c.in_ok-core.answers.items c.in_ok-core.core c.in_ok-core.ensures)
+
 pub returns-in_err-print_core-clause-fault : goal.returns-in_err-print_core-clause-fault
 returns-in_err-print_core-clause-fault g c =
     let b = c.args.bundle.now in

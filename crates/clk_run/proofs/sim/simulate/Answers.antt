@@ -3,7 +3,7 @@ use Rattle.clk_run.specs.Runs.{armed_telling}
 use Rattle.clk_run.specs.Outcomes.{generates, StopsReading}
 use Rattle.std.specs.Prelude.{is_some}
 use Rattle.clk_run.proofs.Deciding.{gives_decides, refuses_decides}
-use Rattle.clk_run.proofs.Leaving.{front_by}
+use Rattle.clk_run.proofs.Leaving.{front_by, short_by}
 use Rattle.clk_run.proofs.sim.simulate.Goals as goal
 
 pub returns-in-Ok-run_bundle-clause-decided : goal.returns-in-Ok-run_bundle-clause-decided
@@ -17,6 +17,12 @@ returns-in-Ok-clause-unwritten g c = λ five.
       front_by c.in-Ok.bundle c.args.cli.now (armed_telling c.in-Ok.bundle (g.B.Bank.contents c.args.bank) (g.B.Bank.lock c.args.bank)) (g.K.Sink.written c.args.out.now) (g.K.Sink.written c.run_bundle.new.out)
           c.in-Err.fault c.status_of.result c.in-Err.ensures.fault c.status_of.ensures five,
     )
+
+pub returns-in-Ok-clause-short : goal.returns-in-Ok-clause-short
+returns-in-Ok-clause-short g c = λ three.
+    short_by c.in-Ok.bundle c.args.cli.now (g.B.Bank.contents c.args.bank) (g.B.Bank.lock c.args.bank) (g.S.Source.left c.args.input.now) (g.S.Source.left c.take_bundle.new.input)
+    (g.K.Sink.written c.args.out.now) (g.K.Sink.written c.run_bundle.new.out) c.in-Err.fault c.status_of.result c.in-Ok.ensures.gives c.in-Err.ensures.fault
+    c.status_of.ensures three
 
 pub returns-in-Ok-print_refusal-clause-decided : goal.returns-in-Ok-print_refusal-clause-decided
 returns-in-Ok-print_refusal-clause-decided g c =
