@@ -130,3 +130,7 @@ pub mod UnmovedLaws
 pub mod CopyLaws
 pub mod AdoptOnceLaws
 pub mod DroppedMoveLaws
+pub mod MaskedPutLaws
+pub mod AlikeLaws
+pub mod PrepStepLaws
+pub mod PrepEndLaws

@@ -21,3 +21,4 @@ pub mod PlansRead
 pub mod CallCauses
 pub mod EndCauses
 pub mod Outcomes
+pub mod PrepSteps

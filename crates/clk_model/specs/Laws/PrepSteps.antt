@@ -1,0 +1,43 @@
+-- That the prepare tier's part of a state goes on by itself: what a step makes of it depends on it and the step alone.
+use Rattle.std.specs.Prelude.{◌≡◌, ℕ, ◌^◌, Bool, true, false, Option, Some, nat_lt, length}
+use Rattle.std.specs.Option.{option_map_or}
+use Rattle.clk_base.specs.declared.call.Micro.{Micro}
+use Rattle.clk_base.specs.declared.call.Micro.TheVariants as micro
+use Rattle.clk_base.specs.declared.event.Event.TheVariants as event
+use Rattle.clk_base.specs.declared.event.Turn.{Turn}
+use Rattle.clk_base.specs.Description.{Description, kind_of}
+use Rattle.clk_model.specs.Kinds.{mux_field}
+use Rattle.clk_model.specs.State.{State, Change}
+use Rattle.clk_model.specs.Round.{wiring}
+use Rattle.clk_model.specs.Step.{stepped}
+use Rattle.clk_model.specs.Machine.{next}
+use Rattle.clk_model.specs.Prep.{is_sweep, prep}
+use Rattle.clk_model.specs.Wired.{IsWired}
+
+-- whether what a step writes in the field of a mux fits it
+abbrev pub fits_mux : Description → Micro → Bool
+fits_mux defs (micro.WriteMux c place) = option_map_or (λ f. nat_lt place (2 ^ f.width)) (mux_field (kind_of defs c.0)) true
+fits_mux defs _ = true
+
+-- a step that is made in one state is made in another, is answered alike there, and leaves the same part of the prepare tier
+pub record StepsAlike (t : State) (d : ℕ) (m : Micro) (answer : Option Bool) (u : State) (x : Turn) : Type 0 where
+  pub after : State
+  pub made : next t d (event.Step m answer) ≡ Some (after, x)
+  pub same : prep after ≡ prep u
+
+-- where the prepare tier's part of two states is the same, over a wired tree, so it is with each step of a call that isn't the sweep
+abbrev pub StepsReadPrep : Type 0
+StepsReadPrep = (s t u : State) (k : Change) (d : ℕ) (m : Micro) (answer : Option Bool) (x : Turn) → IsWired (length s.regs) (wiring s) → prep t ≡ prep s
+    → s.change ≡ Some k → is_sweep k.call ≡ false → fits_mux s.defs m ≡ true → next s d (event.Step m answer) ≡ Some (u, x) → StepsAlike t d m answer u x
+
+-- whether a step closes a gate of its own
+abbrev pub closes_gate : Micro → Bool
+closes_gate (micro.Close c) = true
+closes_gate _ = false
+
+-- what a step of a sweep does there, by whatever is left of the sweep in the one and in the other state
+pub record SweepsAlike (t : State) (l : Change) (m : Micro) (answer : Option Bool) (s u : State) : Type 0 where
+  -- it leaves the same part in the other, also if another step comes next in it
+  pub same : prep (stepped t l answer m).0 ≡ prep u
+  -- and a gate that is closed leaves all of that part
+  pub closes : closes_gate m ≡ true → prep u ≡ prep s
