@@ -134,3 +134,4 @@ pub mod MaskedPutLaws
 pub mod AlikeLaws
 pub mod PrepStepLaws
 pub mod PrepEndLaws
+pub mod PrepSweepLaws

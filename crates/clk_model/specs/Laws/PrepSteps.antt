@@ -41,3 +41,8 @@ pub record SweepsAlike (t : State) (l : Change) (m : Micro) (answer : Option Boo
   pub same : prep (stepped t l answer m).0 ≡ prep u
   -- and a gate that is closed leaves all of that part
   pub closes : closes_gate m ≡ true → prep u ≡ prep s
+
+-- so it is with each step of a sweep, where that part of two states is the same, over a wired tree
+abbrev pub SweepsReadPrep : Type 0
+SweepsReadPrep = (s t u : State) (k l : Change) (d : ℕ) (m : Micro) (answer : Option Bool) (x : Turn) → IsWired (length s.regs) (wiring s) → prep t ≡ prep s
+    → s.change ≡ Some k → t.change ≡ Some l → is_sweep k.call ≡ true → fits_mux s.defs m ≡ true → next s d (event.Step m answer) ≡ Some (u, x) → SweepsAlike t l m answer s u
