@@ -1,5 +1,5 @@
 -- Laws on states that are alike: the prepare tier's part of both is the same.
-use Rattle.std.proofs.Common.{◌≡◌, ℕ, ◌&&◌, Bool, true, false, List, [], ◌∷◌, Option, Some, None, refl, sym, ap, ◌∙◌, arith, length, nat_eq}
+use Rattle.std.proofs.Common.{◌≡◌, ℕ, ◌&&◌, Bool, true, false, List, [], ◌∷◌, Option, Some, None, refl, sym, ap, ◌∙◌, arith, length, nat_eq, set}
 use Rattle.std.specs.Prelude.{if◌then◌else◌, option_map}
 use Rattle.std.specs.List.{list_any}
 use Rattle.std.specs.Option.{option_map_or}
@@ -17,11 +17,12 @@ use Rattle.clk_model.specs.Kinds.{with_gate}
 use Rattle.clk_model.specs.State.{State, NotifierRow, Change}
 use Rattle.clk_model.specs.Gates.{gates_moved}
 use Rattle.clk_model.specs.Script.{runs}
-use Rattle.clk_model.specs.Prep.{masked, is_sweep, change_prep, prep}
+use Rattle.clk_model.specs.Begin.{put_handle}
+use Rattle.clk_model.specs.Prep.{masked, without_enables, is_sweep, change_prep, prep}
 use Rattle.clk_model.proofs.Members.{is_in-count_from, none_in}
 use Rattle.clk_model.proofs.GateLaws.{length-gates_moved, is_set-gates_moved_other, test_at}
 use Rattle.clk_model.proofs.ApartLaws.{fielded_lt}
-use Rattle.clk_model.proofs.BareHandleLaws.{bare}
+use Rattle.clk_model.proofs.BareHandleLaws.{bare, set_bare}
 use Rattle.clk_model.proofs.PlannedSameLaws.{Rest, beside}
 use Rattle.clk_model.proofs.PrepLaws.{is_gate_at, masked_same}
 use Rattle.clk_model.proofs.PrepToldLaws.{same_field, same_words, off_gates}
@@ -163,3 +164,31 @@ same_change s t k same at other = by t.change (same_changes s t same ∙ ap (λ 
       let one : change_prep l ≡ change_prep k = inside_change e in
       let no_l : is_sweep l.call ≡ false = ap (λ (j : Change). is_sweep j.call) one ∙ other in
       ap (λ (j : Change). Some j) (sym (whole l no_l) ∙ one ∙ whole k other)
+
+-- ---- states that become alike again
+
+-- handles that are the same without enables, in states with the same part
+pub prep_handles : (s t : State) (hs hs' : List (Option HandleRow)) → prep t ≡ prep s → bare hs' ≡ bare hs → (let u : State = record t { handles = hs' } in prep u) ≡ (let u : State = record s { handles = hs } in prep u)
+unfolding prep
+prep_handles s t hs hs' same handles =
+    ap (λ (u : State). let v : State = record u { handles = bare hs' } in v) same ∙ ap (λ (ks : List (Option HandleRow)). let v : State = record (prep s) { handles = ks } in v) handles
+
+-- one handle
+pub prep_put : (s t : State) (n : ℕ) (o o' : Option HandleRow) → prep t ≡ prep s → bare t.handles ≡ bare s.handles → option_map without_enables o' ≡ option_map without_enables o
+    → prep (put_handle t n o') ≡ prep (put_handle s n o)
+prep_put s t n o o' same handles one = prep_handles s t (set s.handles n o) (set t.handles n o') same (set_bare s.handles t.handles n o o' handles one)
+
+-- notifiers
+pub prep_notifiers : (s t : State) (ns : List NotifierRow) → prep t ≡ prep s → (let u : State = record t { notifiers = ns } in prep u) ≡ (let u : State = record s { notifiers = ns } in prep u)
+unfolding prep
+prep_notifiers s t ns same = ap (λ (u : State). let v : State = record u { notifiers = ns } in v) same
+
+-- links with an order
+pub prep_rows : (s t : State) (cs : List ClockRow) (order : List ℕ) → prep t ≡ prep s → (let u : State = record t { clocks = cs; order = order } in prep u) ≡ (let u : State = record s { clocks = cs; order = order } in prep u)
+unfolding prep
+prep_rows s t cs order same = ap (λ (u : State). let v : State = record u { clocks = cs; order = order } in v) same
+
+-- a change in flight
+pub prep_change : (s t : State) (k l : Change) → prep t ≡ prep s → change_prep l ≡ change_prep k → (let u : State = record t { change = Some l } in prep u) ≡ (let u : State = record s { change = Some k } in prep u)
+unfolding prep
+prep_change s t k l same one = ap (λ (u : State). let v : State = record u { change = Some (change_prep l) } in v) same ∙ ap (λ (j : Change). let v : State = record (prep s) { change = Some j } in v) one

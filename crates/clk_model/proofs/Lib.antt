@@ -135,3 +135,4 @@ pub mod AlikeLaws
 pub mod PrepStepLaws
 pub mod PrepEndLaws
 pub mod PrepSweepLaws
+pub mod PlanBeginLaws

@@ -22,3 +22,4 @@ pub mod CallCauses
 pub mod EndCauses
 pub mod Outcomes
 pub mod PrepSteps
+pub mod PrepBegins
