@@ -136,3 +136,4 @@ pub mod PrepStepLaws
 pub mod PrepEndLaws
 pub mod PrepSweepLaws
 pub mod PlanBeginLaws
+pub mod PrepBeginLaws

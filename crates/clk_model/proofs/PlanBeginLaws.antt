@@ -166,7 +166,7 @@ reparenting_same s old new before after lifted lifted' x y d what c p here lifts
 
 -- ---- calls
 
-clock_same : (row row' : HandleRow) → without_enables row' ≡ without_enables row → row'.clock.0 ≡ row.clock.0
+pub clock_same : (row row' : HandleRow) → without_enables row' ≡ without_enables row → row'.clock.0 ≡ row.clock.0
 clock_same row row' alike = ap (λ (h : HandleRow). h.clock.0) alike
 
 -- handles in which the one of a number gets this range
