@@ -137,3 +137,4 @@ pub mod PrepEndLaws
 pub mod PrepSweepLaws
 pub mod PlanBeginLaws
 pub mod PrepBeginLaws
+pub mod PrepEventLaws

@@ -1,5 +1,5 @@
 -- Laws on how calls begin: what a beginning makes of the prepare tier's part of a state depends on that part alone.
-use Rattle.std.proofs.Common.{◌≡◌, ℕ, zero, suc, ◌+◌, ◌-◌, Bool, true, false, not, ◌&&◌, ◌||◌, List, [], ◌∷◌, ◌++◌, Option, Some, None, refl, sym, ap, subst, ◌∙◌, length, nat_lt, nat_eq, map, set}
+use Rattle.std.proofs.Common.{◌≡◌, ℕ, zero, suc, ◌+◌, ◌-◌, Bool, true, false, not, ◌&&◌, ◌||◌, List, [], ◌∷◌, ◌++◌, Option, Some, None, refl, sym, ap, subst, ◌∙◌, ◌⊎◌, inl, inr, length, nat_lt, nat_eq, map, set}
 use mathlib.Core.Path.{fun_ext}
 use Rattle.std.specs.Prelude.{ℤ, filter, find, flat_map, option_map, is_none, slice_get, if◌then◌else◌}
 use Rattle.std.specs.List.{list_any}
@@ -30,7 +30,7 @@ use Rattle.clk_model.specs.Script.{unprepared_plls, runs, adoptable, is_next, ad
 use Rattle.clk_model.specs.Begin.{done, refused, pick, starts, change_of, put_handle, own_handle, with_handle, got, put_back, prepared_once_more, prepare, keeps_prepare, unprepare, exclusive_put, notifier_added, notifier_removed, registered_rows, register, probed, begun}
 use Rattle.clk_model.specs.Prep.{without_enables, is_sweep, prep}
 use Rattle.clk_model.specs.Laws.PlansRead.{asks, plans}
-use Rattle.clk_model.specs.Laws.PrepBegins.{ComesAlike, answered, sets_out, finds_enable}
+use Rattle.clk_model.specs.Laws.PrepBegins.{ComesAlike, answered, sets_out, finds_enable, IsKeptBack}
 use Rattle.clk_model.proofs.BareHandleLaws.{bare, set_bare, SameOwn, neither, both_have, own_same}
 use Rattle.clk_model.proofs.EventLaws.{own_is_live}
 use Rattle.clk_model.proofs.PlannedSameLaws.{Rest, beside}
@@ -156,14 +156,16 @@ module _ (words : ℕ) (s : State) (new : Registers) (after : List (Option Handl
       (λ e. sets_out s u (change_of s d what (micro.Raise row.clock ∷ micro.End ∷ [])) refl
       (ap (λ (k : Change). starts u u k) (change_same words s new after x look d what (micro.Raise row.clock ∷ micro.End ∷ []))) refl refl same))
 
-  unprepare_same : (what : Sleeping) (n : ℕ) (row row' : HandleRow) → without_enables row' ≡ without_enables row → is_enabled row' ≡ is_enabled row → ComesAlike s u (unprepare s d what n row) (unprepare u d what n row')
-  unprepare_same what n row row' alike enables =
+  keeps_same : (row row' : HandleRow) → without_enables row' ≡ without_enables row → is_enabled row' ≡ is_enabled row → keeps_prepare row' ≡ keeps_prepare row
+  keeps_same row row' alike enables =
+      ap (λ (h : HandleRow). nat_eq h.prepares 0 || (nat_eq h.prepares 1 && is_enabled row')) alike ∙ ap (λ (b : Bool). nat_eq row.prepares 0 || (nat_eq row.prepares 1 && b)) enables
+
+  unprepare_same : (what : Sleeping) (n : ℕ) (row row' : HandleRow) → without_enables row' ≡ without_enables row → keeps_prepare row' ≡ keeps_prepare row → ComesAlike s u (unprepare s d what n row) (unprepare u d what n row')
+  unprepare_same what n row row' alike keeps =
       subst (λ c. ComesAlike s u (unprepare s d what n row) (pick (keeps_prepare row') (λ v. done u reply.Warn)
       (λ v. pick (is_none (slice_get (filter (runs s.defs new) (unprepared_plls less' (path s.clocks c.0))) 0)) (λ v. done less' reply.Fine)
       (λ v. starts u less' (change_of u d what (micro.Lower c ∷ micro.End ∷ [])))))) (sym (ap (λ (h : HandleRow). h.clock) alike))
-      (picks s u _ _ _ _ _ _
-      (ap (λ (h : HandleRow). nat_eq h.prepares 0 || (nat_eq h.prepares 1 && is_enabled row')) alike ∙ ap (λ (b : Bool). nat_eq row.prepares 0 || (nat_eq row.prepares 1 && b)) enables)
-      (λ e. stays reply.Warn)
+      (picks s u _ _ _ _ _ _ keeps (λ e. stays reply.Warn)
       (λ e. picks s u _ _ _ _ _ _ (ap (λ (ps : List ℕ). is_none (slice_get ps 0)) (lower_same words less new (set after n (Some (fewer row'))) x still row.clock.0))
       (λ f. answered_put n reply.Fine (Some (fewer row)) (Some (fewer row')) one)
       (λ f. sets_out less less' (change_of s d what (micro.Lower row.clock ∷ micro.End ∷ [])) refl
@@ -242,7 +244,8 @@ module _ (words : ℕ) (s : State) (new : Registers) (after : List (Option Handl
   begin_same (call.Get found) other enables = got_same (option_map (λ c. c.0) found)
   begin_same (call.Put h) other enables = on_own h.number _ _ enables (put_same h.number)
   begin_same (call.Prepare h) other enables = on_rows s u d h.number _ _ same look.handles (prepare_same (call.Prepare h) h.number)
-  begin_same (call.Unprepare h) other enables = on_own h.number _ _ enables (unprepare_same (call.Unprepare h) h.number)
+  begin_same (call.Unprepare h) other enables = on_own h.number _ _ enables
+      (λ row row' alike on. unprepare_same (call.Unprepare h) h.number row row' alike (keeps_same row row' alike on))
   begin_same (call.ExclusiveGet h) other enables = on_rows s u d h.number _ _ same look.handles
       (λ row row' alike. answered_put h.number reply.Fine (Some (record row { exclusives = row.exclusives + 1 })) (Some (record row' { exclusives = row'.exclusives + 1 }))
       (ap (λ (a : HandleRow). let b : HandleRow = record a { exclusives = a.exclusives + 1 } in Some b) alike))
@@ -254,3 +257,54 @@ module _ (words : ℕ) (s : State) (new : Registers) (after : List (Option Handl
       (λ row row' alike. subst (λ (c : ℕ). ComesAlike s u (notifier_removed s row.clock.0 id) (notifier_removed u c id)) (sym (clock_same row row' alike)) (removed_same row.clock.0 id))
   begin_same (call.Probe c) other enables = probed_same (call.Probe c) c.0
   begin_same _ other enables = absurd cc
+
+  -- ---- a handle that has no enable in the second state
+
+  -- what gives back is kept from it in the first state, or comes to the same
+  abbrev KeptOrSame : State × Turn → State × Turn → Type 0
+  KeptOrSame y z = IsKeptBack s y ⊎ ComesAlike s u y z
+
+  on_bare : (n : ℕ) (f f' : HandleRow → State × Turn) → option_map_or is_enabled (handle_at after n) false ≡ false
+      → ((row row' : HandleRow) → without_enables row' ≡ without_enables row → is_enabled row' ≡ false → KeptOrSame (f row) (f' row')) → KeptOrSame (with_handle s d n f) (with_handle u d n f')
+  on_bare n f f' none each = by _ _ refl (own_same s u d n look.handles) where
+    by : (o o' : Option HandleRow) → own_handle u d n ≡ o' → SameOwn o o' → KeptOrSame (option_map_or f o (refused s errno.ENOENT)) (option_map_or f' o' (refused u errno.ENOENT))
+    by _ _ own' neither = inr (refused_both s u errno.ENOENT same)
+    by _ _ own' (both_have row row' alike) = each row row' alike (sym (ap (λ (o : Option HandleRow). option_map_or is_enabled o false) (own_is_live u d n row' own')) ∙ none)
+
+  bare_put : (n : ℕ) (row row' : HandleRow) → without_enables row' ≡ without_enables row → is_enabled row' ≡ false → KeptOrSame (put_back s n row) (put_back u n row')
+  unfolding pick
+  bare_put n row row' alike off = by (is_enabled row) refl where
+    holds : (a c : Bool) → (a || true || c) ≡ true
+    holds true c = refl
+    holds false c = refl
+
+    by : (b : Bool) → is_enabled row ≡ b → KeptOrSame (put_back s n row) (put_back u n row')
+    by false is = inr (put_same n row row' alike (off ∙ sym is))
+    by true is = inl (inl (ap (λ (e : Bool). pick e (λ v. refused s errno.EBUSY) (λ v. done (put_handle s n None) reply.Fine))
+        (ap (λ (e : Bool). nat_lt 0 row.prepares || e || nat_lt 0 row.exclusives) is ∙ holds (nat_lt 0 row.prepares) (nat_lt 0 row.exclusives))))
+
+  bare_unprepare : (what : Sleeping) (n : ℕ) (row row' : HandleRow) → without_enables row' ≡ without_enables row → is_enabled row' ≡ false → KeptOrSame (unprepare s d what n row) (unprepare u d what n row')
+  unfolding pick
+  bare_unprepare what n row row' alike off = by (keeps_prepare row) refl where
+    less : State
+    less = put_handle s n (Some (record row { prepares = row.prepares - 1 }))
+
+    neither_keeps : (a b e : Bool) → (a || (b && e)) ≡ false → (a || (b && false)) ≡ false
+    neither_keeps true b e is = absurd cc
+    neither_keeps false true e is = refl
+    neither_keeps false false e is = refl
+
+    by : (b : Bool) → keeps_prepare row ≡ b → KeptOrSame (unprepare s d what n row) (unprepare u d what n row')
+    by true is = inl (inr (ap (λ (e : Bool). pick e (λ v. done s reply.Warn)
+        (λ v. pick (is_none (slice_get (filter (runs s.defs s.regs) (unprepared_plls less (path s.clocks row.clock.0))) 0)) (λ v. done less reply.Fine)
+        (λ v. starts s less (change_of s d what (micro.Lower row.clock ∷ micro.End ∷ []))))) is))
+    by false is = inr (unprepare_same what n row row' alike
+        (ap (λ (h : HandleRow). nat_eq h.prepares 0 || (nat_eq h.prepares 1 && is_enabled row')) alike
+        ∙ ap (λ (e : Bool). nat_eq row.prepares 0 || (nat_eq row.prepares 1 && e)) off
+        ∙ neither_keeps (nat_eq row.prepares 0) (nat_eq row.prepares 1) (is_enabled row) is ∙ sym is))
+
+  pub bare_begin : (what : Sleeping) → finds_enable s what ≡ true → finds_enable u what ≡ false → KeptOrSame (begun s d what) (begun u d what)
+  unfolding begun
+  bare_begin (call.Put h) found none = on_bare h.number _ _ none (bare_put h.number)
+  bare_begin (call.Unprepare h) found none = on_bare h.number _ _ none (bare_unprepare (call.Unprepare h) h.number)
+  bare_begin _ found none = absurd cc
