@@ -138,3 +138,4 @@ pub mod PrepSweepLaws
 pub mod PlanBeginLaws
 pub mod PrepBeginLaws
 pub mod PrepEventLaws
+pub mod PrepRunLaws

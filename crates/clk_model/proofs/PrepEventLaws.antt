@@ -25,9 +25,10 @@ use Rattle.clk_model.specs.Machine.{paid, next}
 use Rattle.clk_model.specs.Prep.{is_sweep, change_prep, prep}
 use Rattle.clk_model.specs.Wired.{IsWired}
 use Rattle.clk_model.specs.Laws.PlansRead.{asks, plans}
-use Rattle.clk_model.specs.Laws.PrepBegins.{ComesAlike, answered, sets_out, finds_enable, BeginsReadPrep, IsKeptBack, BareBeginsReadPrep, BeginsAlike, alike, first_lacks_room, second_lacks_room, EventsReadPrep, SweepComes, switched_off, lacks_room, goes_on, SweepsBeginByPrep}
+use Rattle.clk_model.specs.Laws.PrepBegins.{ComesAlike, answered, sets_out, finds_enable, BeginsReadPrep, DecisionsReadPrep, IsKeptBack, BareBeginsReadPrep, BeginsAlike, alike, first_lacks_room, second_lacks_room, EventsReadPrep, SweepComes, switched_off, lacks_room, goes_on, SweepsBeginByPrep}
 use Rattle.clk_model.proofs.FlightLaws.{begin_is}
 use Rattle.clk_model.proofs.PrepLaws.{prep-settled, prep-spent}
+use Rattle.clk_model.proofs.CopyLaws.{prep_twice}
 use Rattle.clk_model.proofs.AlikeLaws.{rest_of, is_beside, looks_alike, prep_change}
 use Rattle.clk_model.proofs.PlansReadLaws.{answers_read_prep, plans_come, weighs_alike, prep_credits, still_quiet}
 use Rattle.clk_model.proofs.PrepBeginLaws.{change_same, begin_same, bare_begin}
@@ -71,6 +72,13 @@ begins_read_prep s t d what wired same other enables = by (asks what) (plans wha
       subst (λ (u : State). ComesAlike s u (begun s d what) (begun u d what)) (sym (is_beside s t same))
       (begin_same (length s.regs) s t.regs t.handles (rest_of t) (looks_alike (length s.regs) s t wired.valid same) (subst (λ (u : State). prep u ≡ prep s) (is_beside s t same) same) d what
       (ap (λ (e : Bool). e || plans what || is_sweep what) none ∙ ap (λ (e : Bool). e || is_sweep what) none' ∙ other) enables)
+
+-- over the part itself
+pub decisions_read_prep : DecisionsReadPrep
+decisions_read_prep s d what wired is = by (asks what) refl is where
+  by : (b : Bool) → asks what ≡ b → (b || plans what) ≡ true → ComesAlike s (prep s) (begun s d what) (begun (prep s) d what)
+  by true asks_ either = asked_comes s (prep s) d what wired (prep_twice s) asks_
+  by false none plans_ = plans_come s (prep s) d what wired (prep_twice s) plans_
 
 pub bare_begins_read_prep : BareBeginsReadPrep
 bare_begins_read_prep s t d what wired same other none = by (finds_enable s what) refl where

@@ -1,5 +1,5 @@
 -- That a call begins by the prepare tier's part of a state: what its beginning makes of that part, and what it is answered.
-use Rattle.std.specs.Prelude.{◌≡◌, ℕ, ◌<◌, List, Bool, false, Some, length, ◌⊎◌}
+use Rattle.std.specs.Prelude.{◌≡◌, ℕ, ◌<◌, ◌||◌, List, Bool, true, false, Some, length, ◌⊎◌}
 use Rattle.std.specs.Option.{option_map_or}
 use Rattle.clk_base.specs.declared.call.Micro.{Micro}
 use Rattle.clk_base.specs.declared.call.Sleeping.{Sleeping}
@@ -17,7 +17,7 @@ use Rattle.clk_model.specs.Begin.{starts, change_of, begun}
 use Rattle.clk_model.specs.Machine.{next}
 use Rattle.clk_model.specs.Prep.{is_sweep, prep}
 use Rattle.clk_model.specs.Wired.{IsWired}
-use Rattle.clk_model.specs.Laws.PlansRead.{no_room}
+use Rattle.clk_model.specs.Laws.PlansRead.{asks, plans, no_room}
 
 -- a call comes to the same in two states, in the first to x and in the second to y: it is answered alike and leaves the same part of
 -- the prepare tier; or it goes on with the same change, where there is room for it, in states that have the same part until then
@@ -37,6 +37,16 @@ finds_enable s _ = false
 abbrev pub BeginsReadPrep : Type 0
 BeginsReadPrep = (s t : State) (d : ℕ) (what : Sleeping) → IsWired (length s.regs) (wiring s) → prep t ≡ prep s → is_sweep what ≡ false
     → finds_enable t what ≡ finds_enable s what → ComesAlike s t (begun s d what) (begun t d what)
+
+-- whether a call is decided by the prepare tier's part alone: it asks for a rate or a parent, or changes one by a plan
+abbrev pub is_decided : Sleeping → Bool
+is_decided what = asks what || plans what
+
+-- what is decided of such a call in a state is what is decided of it over that part itself: the same answer, or the same change with its
+-- plan and its script, where there is room for it
+abbrev pub DecisionsReadPrep : Type 0
+DecisionsReadPrep = (s : State) (d : ℕ) (what : Sleeping) → IsWired (length s.regs) (wiring s) → is_decided what ≡ true
+    → ComesAlike s (prep s) (begun s d what) (begun (prep s) d what)
 
 -- a call that finds an enable is kept from giving back what it names: nothing changes
 abbrev pub IsKeptBack : State → State × Turn → Type 0

@@ -1,18 +1,25 @@
 -- That the prepare tier's part of a state goes on by itself: what a step makes of it depends on it and the step alone.
-use Rattle.std.specs.Prelude.{◌≡◌, ℕ, ◌^◌, Bool, true, false, Option, Some, nat_lt, length}
+use Rattle.std.specs.Prelude.{◌≡◌, ℕ, ◌^◌, List, Bool, true, false, Option, Some, nat_lt, length}
 use Rattle.std.specs.Option.{option_map_or}
 use Rattle.clk_base.specs.declared.call.Micro.{Micro}
 use Rattle.clk_base.specs.declared.call.Micro.TheVariants as micro
+use Rattle.clk_base.specs.declared.event.Entry.{Entry}
+use Rattle.clk_base.specs.Valid.{IsValid}
+use Rattle.clk_model.specs.Journal.{replay, opening}
 use Rattle.clk_base.specs.declared.event.Event.TheVariants as event
+use Rattle.clk_base.specs.declared.event.Reply.TheVariants as reply
 use Rattle.clk_base.specs.declared.event.Turn.{Turn}
+use Rattle.clk_base.specs.declared.event.Turn.TheVariants as turn
 use Rattle.clk_base.specs.Description.{Description, kind_of}
+use Rattle.reg_bank.specs.Registers.{Registers}
 use Rattle.clk_model.specs.Kinds.{mux_field}
 use Rattle.clk_model.specs.State.{State, Change}
 use Rattle.clk_model.specs.Round.{wiring}
-use Rattle.clk_model.specs.Step.{stepped}
+use Rattle.clk_model.specs.Step.{is_end, stepped}
 use Rattle.clk_model.specs.Machine.{next}
 use Rattle.clk_model.specs.Prep.{is_sweep, prep}
 use Rattle.clk_model.specs.Wired.{IsWired}
+use Rattle.clk_model.specs.Laws.Flight.{IsInFlight}
 
 -- whether what a step writes in the field of a mux fits it
 abbrev pub fits_mux : Description → Micro → Bool
@@ -46,3 +53,34 @@ pub record SweepsAlike (t : State) (l : Change) (m : Micro) (answer : Option Boo
 abbrev pub SweepsReadPrep : Type 0
 SweepsReadPrep = (s t u : State) (k l : Change) (d : ℕ) (m : Micro) (answer : Option Bool) (x : Turn) → IsWired (length s.regs) (wiring s) → prep t ≡ prep s
     → s.change ≡ Some k → t.change ≡ Some l → is_sweep k.call ≡ true → fits_mux s.defs m ≡ true → next s d (event.Step m answer) ≡ Some (u, x) → SweepsAlike t l m answer s u
+
+-- ---- runs
+
+-- so each step of a call in flight, behind a journal that begins at an opening with a valid description, is made alike in each
+-- state with the same part, if the call isn't the sweep
+abbrev pub RunsStepByPrep : Type 0
+RunsStepByPrep = (defs : Description) (regs : Registers) (ignore_unused : Bool) (credits : ℕ) (journal : List Entry) (t u : State) (m : Micro) (answer : Option Bool) (x : Turn)
+    → IsValid (length regs) defs → (call : IsInFlight (opening defs regs ignore_unused credits) journal) → prep t ≡ prep (replay (opening defs regs ignore_unused credits) journal)
+    → is_sweep call.what ≡ false → next (replay (opening defs regs ignore_unused credits) journal) call.first.driver (event.Step m answer) ≡ Some (u, x)
+    → StepsAlike t call.first.driver m answer u x
+
+-- whether a step is one of a sweep
+abbrev pub is_of_sweep : Micro → Bool
+is_of_sweep (micro.Close c) = true
+is_of_sweep (micro.Unpower c) = true
+is_of_sweep micro.End = true
+is_of_sweep _ = false
+
+-- a step of a sweep closes a gate, takes the power of a PLL or ends it, and a sweep ends well
+pub record SweepsOn (t : State) (l : Change) (m : Micro) (answer : Option Bool) (s u : State) (x : Turn) : Type 0 where
+  pub alike : SweepsAlike t l m answer s u
+  pub step : is_of_sweep m ≡ true
+  pub goes_on : is_end m ≡ false → x ≡ turn.Going
+  pub ends : is_end m ≡ true → x ≡ turn.Done reply.Fine
+
+-- so is each step of a sweep behind such a journal, and so it comes to the same in each state with the same part
+abbrev pub RunsSweepByPrep : Type 0
+RunsSweepByPrep = (defs : Description) (regs : Registers) (ignore_unused : Bool) (credits : ℕ) (journal : List Entry) (t u : State) (l : Change) (m : Micro) (answer : Option Bool)
+    (x : Turn) → IsValid (length regs) defs → (call : IsInFlight (opening defs regs ignore_unused credits) journal) → prep t ≡ prep (replay (opening defs regs ignore_unused credits) journal)
+    → t.change ≡ Some l → is_sweep call.what ≡ true → next (replay (opening defs regs ignore_unused credits) journal) call.first.driver (event.Step m answer) ≡ Some (u, x)
+    → SweepsOn t l m answer (replay (opening defs regs ignore_unused credits) journal) u x

@@ -1,0 +1,36 @@
+//! The prepare tier goes on by itself: what its events make of its part of a state, and what they
+//! answer, depends on that part and the event.
+
+ghost use Rattle.clk_model.specs.Laws.PrepSteps.{StepsReadPrep, SweepsReadPrep, RunsStepByPrep, RunsSweepByPrep};
+ghost use Rattle.clk_model.specs.Laws.PrepBegins.{BeginsReadPrep, BareBeginsReadPrep, EventsReadPrep, SweepsBeginByPrep, DecisionsReadPrep};
+
+/// What a step makes of the prepare tier's part of a state depends on that part and the step. Where
+/// that part is the same in two states, over a wired tree, a step of a call in the one is made in the
+/// other, is answered alike and leaves the same part. A step of the sweep leaves the same part in the
+/// other too, whatever is left of the sweep there; and a gate that the sweep closes is no part of it.
+/// So it is with the steps of each call in flight, over a valid description.
+pub fn steps_read_prep()
+    ensures calls { StepsReadPrep }
+    ensures sweeps { SweepsReadPrep }
+    ensures runs { RunsStepByPrep }
+    ensures sweeping { RunsSweepByPrep }
+{}
+
+/// How a call begins depends on the prepare tier's part of a state, and on two things more: a put and an
+/// unprepare look at the enables of their handle, and a call that goes on needs room, of which a state
+/// with more steps made has less. A sweep looks at enables and gates for its script alone, and what is
+/// left of that is no part of the prepare tier.
+pub fn calls_read_prep()
+    ensures begins { BeginsReadPrep }
+    ensures bare { BareBeginsReadPrep }
+    ensures events { EventsReadPrep }
+    ensures sweep { SweepsBeginByPrep }
+{}
+
+/// What is decided of a call that asks or plans is a function of the prepare tier's part of a state and
+/// the call: the answers of a rate, a rounding and a parent that are asked for, and the plans and the
+/// scripts of changes of a rate, of a range and of a parent. It is what the definitions say over that
+/// part itself.
+pub fn decisions_read_prep()
+    ensures law { DecisionsReadPrep }
+{}
