@@ -139,3 +139,4 @@ pub mod PlanBeginLaws
 pub mod PrepBeginLaws
 pub mod PrepEventLaws
 pub mod PrepRunLaws
+pub mod HeldCountLaws
