@@ -140,3 +140,4 @@ pub mod PrepBeginLaws
 pub mod PrepEventLaws
 pub mod PrepRunLaws
 pub mod HeldCountLaws
+pub mod LiftLaws

@@ -23,3 +23,4 @@ pub mod EndCauses
 pub mod Outcomes
 pub mod PrepSteps
 pub mod PrepBegins
+pub mod Lifting

@@ -3,6 +3,7 @@
 
 ghost use Rattle.clk_model.specs.Laws.PrepSteps.{StepsReadPrep, SweepsReadPrep, RunsStepByPrep, RunsSweepByPrep};
 ghost use Rattle.clk_model.specs.Laws.PrepBegins.{BeginsReadPrep, BareBeginsReadPrep, EventsReadPrep, SweepsBeginByPrep, DecisionsReadPrep};
+ghost use Rattle.clk_model.specs.Laws.Lifting.{LiftingSees};
 
 /// What a step makes of the prepare tier's part of a state depends on that part and the step. Where
 /// that part is the same in two states, over a wired tree, a step of a call in the one is made in the
@@ -33,4 +34,11 @@ pub fn calls_read_prep()
 /// part itself.
 pub fn decisions_read_prep()
     ensures law { DecisionsReadPrep }
+{}
+
+/// What planning sees with one exclusive of a handle less. If that exclusive alone protects the clock of
+/// the handle, so that the clock's protect count is 1, planning sees it as free; else it sees what it saw
+/// before, since no guarded clock changes.
+pub fn lifting_frees_or_keeps()
+    ensures law { LiftingSees }
 {}
