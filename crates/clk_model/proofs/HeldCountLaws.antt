@@ -1,22 +1,21 @@
 -- Laws on counts and holders: a count isn't 0 exactly where the clock is held, by itself or by a child.
-use Rattle.std.proofs.Common.{◌≡◌, ℕ, zero, suc, ◌+◌, ◌<◌, ◌≤◌, ◌&&◌, ◌||◌, Bool, true, false, cond, List, [], ◌∷◌, ◌++◌, Option, Some, None, refl, sym, ap, subst, ◌∙◌, ◌⊎◌, inl, inr, arith, length, map, nat_lt, nat_eq}
+use Rattle.std.proofs.Common.{◌≡◌, ℕ, zero, suc, ◌+◌, ◌<◌, ◌≤◌, ◌&&◌, ◌||◌, Bool, true, false, cond, List, [], ◌∷◌, ◌++◌, Option, Some, refl, sym, ap, subst, ◌∙◌, ◌⊎◌, inl, inr, arith, length, map, nat_lt, nat_eq}
 use Rattle.std.specs.Prelude.{filter, sum_by, count_by}
 use Rattle.std.proofs.lemmas.Bool.{cases_lt}
 use Rattle.std.proofs.lemmas.Bool.Decides.{nat_tests}
 use Rattle.std.proofs.lemmas.List.{get_or_past}
 use Rattle.std.proofs.lemmas.List.Sums.{sum_by-cons}
 use Rattle.clk_base.specs.declared.clock.ClockDef.{ClockDef}
-use Rattle.clk_base.specs.Description.{Description, nobody, parents_of}
+use Rattle.clk_base.specs.Description.{Description, nobody}
 use Rattle.clk_base.specs.Flags.{has_flag, is_critical, sets_rate_gate}
-use Rattle.clk_base.specs.Levels.{depth}
 use Rattle.clk_model.specs.declared.row.HandleRow.{HandleRow}
 use Rattle.clk_model.specs.Counts.{sum_of_handles, critical_part, prepare_count}
 use Rattle.clk_model.specs.Holders.{clocks_of, is_prepared, critical_clocks, prepare_holders, is_held, prepared}
 use Rattle.clk_model.specs.Lists.{is_in, is_at, count_from, present}
 use Rattle.clk_model.specs.State.{State, registered, link_in}
-use Rattle.clk_model.specs.Tree.{path, children}
+use Rattle.clk_model.specs.Tree.{children}
 use Rattle.clk_model.specs.Wired.{LinesEnd, LinksArePossible, IsOrder}
-use Rattle.clk_model.proofs.AboveLaws.{Above, above_link, Holder, holder_of, held_from, holder_above}
+use Rattle.clk_model.proofs.AboveLaws.{above_link, Holder, holder_of, held_from, holder_above}
 use Rattle.clk_model.proofs.BelowLaws.{Rises}
 use Rattle.clk_model.proofs.Members.{is_in_cases, is_in_head, is_in_tail, is_in-count_from, both_left}
 use Rattle.clk_model.proofs.OnceLaws.{in_append, is_in-append, filter_passes, filter_keeps}
@@ -133,7 +132,6 @@ pub record Hangs (s : State) : Type 0 where
   pub order : IsOrder s.order s.clocks
 
 module _ (s : State) (hangs : Hangs s) where
-
   -- a child that is held is counted, and what is counted is one
   pub kid_counted : (holders : List ℕ) (c d : ℕ) → link_in s.clocks d ≡ Some c → Holder (link_in s.clocks) holders d → 0 < count_by (is_held s.clocks holders) (children s.order s.clocks c)
   kid_counted holders c d at holder =

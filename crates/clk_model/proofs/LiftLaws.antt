@@ -1,11 +1,10 @@
 -- Laws on one exclusive less: the clock of the handle is free then, or all that is guarded stays so.
 use Rattle.std.proofs.Common.{◌≡◌, ◌≢◌, ℕ, zero, suc, ◌+◌, ◌-◌, ◌<◌, ◌≤◌, ◌&&◌, ◌||◌, Bool, true, false, not, cond, List, [], ◌∷◌, ◌++◌, Option, Some, None, refl, sym, ap, subst, ◌∙◌, ◌⊎◌, inl, inr, arith, length, map, nat_lt, nat_eq, set}
 use mathlib.Core.Path.{fun_ext}
-use Rattle.std.specs.Prelude.{filter, sum_by, count_by, fold, min, max, option_map, take}
-use Rattle.std.specs.List.{list_any, prefix_len}
+use Rattle.std.specs.Prelude.{filter, sum_by, fold, min, max, option_map, take}
+use Rattle.std.specs.List.{prefix_len}
 use Rattle.std.proofs.lemmas.Bool.{cases_eq, cases_lt}
 use Rattle.std.proofs.lemmas.List.Sums.{sum_by-cons}
-use Rattle.clk_base.specs.Description.{parents_of}
 use Rattle.clk_base.specs.Flags.{sets_rate_gate}
 use Rattle.clk_base.specs.Levels.{depth}
 use Rattle.clk_base.proofs.Valid.{lines_end}
@@ -13,15 +12,15 @@ use Rattle.clk_model.specs.declared.row.HandleRow.{HandleRow}
 use Rattle.clk_model.specs.Counts.{sum_of_handles, prepare_count, protect_count}
 use Rattle.clk_model.specs.Holders.{clocks_of, is_prepared, is_exclusive, critical_clocks, prepare_holders, is_held, prepared, protect_holders, guarded}
 use Rattle.clk_model.specs.Lists.{is_in, count_from, present}
-use Rattle.clk_model.specs.Round.{View, wiring, most_rate}
+use Rattle.clk_model.specs.Round.{View, most_rate}
 use Rattle.clk_model.specs.State.{State, link_in, handle_at}
-use Rattle.clk_model.specs.Tree.{path, path_within, children}
-use Rattle.clk_model.specs.Views.{view, free_view, guarded_but, cut_at, lift, lifted_row}
+use Rattle.clk_model.specs.Tree.{path, path_within}
+use Rattle.clk_model.specs.Views.{view, guarded_but, cut_at, lift, lifted_row}
 use Rattle.clk_model.specs.Laws.Lifting.{LiftedSees, LiftingSees}
-use Rattle.clk_model.proofs.AboveLaws.{Above, above_link, above_path, path_above, not_above_link, Holder, holder_of, held_from, holder_above}
+use Rattle.clk_model.proofs.AboveLaws.{Above, above_link, path_above, not_above_link, Holder, holder_of, held_from, holder_above}
 use Rattle.clk_model.proofs.HeldCountLaws.{positive, counts, handles_in, gate_within, holder_child, Hangs, kid_counted, counted_kid, prepared_counts, counts_prepared}
 use Rattle.clk_model.proofs.Members.{any_in, or_cases, any_from_in, is_in_cases, is_in_head, is_in_tail, is_in-count_from, or_left, or_right, both_left, both_right, same_from_test, test_same}
-use Rattle.clk_model.proofs.OnceLaws.{in_append, is_in-append, filter_passes, filter_keeps}
+use Rattle.clk_model.proofs.OnceLaws.{is_in-append, filter_passes, filter_keeps}
 use Rattle.clk_model.proofs.PathLaws.{some_levels, above, path_cons}
 use Rattle.clk_model.proofs.WalkLaws.{either_way}
 
@@ -124,7 +123,6 @@ cut_self up c =
 -- ---- a state with one exclusive less
 
 module _ (s : State) (number : ℕ) (row : HandleRow) (hangs : Hangs s) (at : handle_at s.handles number ≡ Some row) where
-
   abbrev c : ℕ
   c = row.clock.0
 
@@ -222,7 +220,6 @@ module _ (s : State) (number : ℕ) (row : HandleRow) (hangs : Hangs s) (at : ha
   with_guards test same = ap (λ (f : ℕ → Bool). let v : View = record (view t) { guarded = f } in v) (fun_ext same) ∙ sees test
 
   module _ (some : 0 < row.exclusives) where
-
     fewer : sum_of_handles (λ h. h.exclusives) t c + 1 ≡ sum_of_handles (λ h. h.exclusives) s c
     fewer =
         ap (λ (hs : List (Option HandleRow)). sum_by (λ h. h.exclusives) (filter (λ h. nat_eq h.clock.0 c) (present hs)) + 1) handles_are
@@ -250,7 +247,6 @@ module _ (s : State) (number : ℕ) (row : HandleRow) (hangs : Hangs s) (at : ha
     -- ---- that exclusive alone protects the clock
 
     module _ (alone : protect_count s c ≡ 1) where
-
       nobody : Holder up (protect_holders t) c → ⊥
       nobody holder = by (holder_child up (protect_holders t) c holder) where
         by : (is_in c (protect_holders t) ≡ true) ⊎ ((d : ℕ) × (up d ≡ Some c) × Holder up (protect_holders t) d) → ⊥
@@ -283,7 +279,6 @@ module _ (s : State) (number : ℕ) (row : HandleRow) (hangs : Hangs s) (at : ha
     -- ---- something else protects it too
 
     module _ (more : protect_count s c ≢ 1) where
-
       still_held : Holder up (protect_holders t) c
       still_held = by (cases_lt 0 (sum_of_handles (λ h. h.exclusives) t c)) (cases_lt 0 (cond (sets_rate_gate s.defs c) (prepare_count s c) 0)) where
         by : (0 < sum_of_handles (λ h. h.exclusives) t c) ⊎ (sum_of_handles (λ h. h.exclusives) t c ≤ 0)

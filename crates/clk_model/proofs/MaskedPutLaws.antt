@@ -62,19 +62,19 @@ pub masked_put : (defs : Description) (xs ys : Registers) (word shift width valu
 masked_put defs xs ys word shift width value fits same = masked_same defs (put xs word shift width value) (put ys word shift width value)
     (length-put xs word shift width value ∙ long ∙ sym (length-put ys word shift width value))
     (λ other bit none. at other bit (bit_same defs xs ys other bit same none) (where_is word shift width other bit)) where
-  long : length xs ≡ length ys
-  long = same_words defs xs ys same
+      long : length xs ≡ length ys
+      long = same_words defs xs ys same
 
-  at : (other bit : ℕ) → is_set xs other bit ≡ is_set ys other bit → ((other ≢ word) ⊎ ((bit < shift) ⊎ (shift + width ≤ bit))) ⊎ ((other ≡ word) × (shift ≤ bit) × (bit < shift + width))
-      → is_set (put xs word shift width value) other bit ≡ is_set (put ys word shift width value) other bit
-  at other bit one (inl apart) = set_beside xs word shift width value other bit fits apart ∙ one ∙ sym (set_beside ys word shift width value other bit fits apart)
-  at other bit one (inr (here, from, inside)) =
-      elim (cases_lt word (length xs)) [
-        | inl within ↦ subst (λ (w : ℕ). is_set (put xs word shift width value) w bit ≡ is_set (put ys word shift width value) w bit) (sym here)
-            (set_inside xs word shift width value bit within fits from inside ∙ sym (set_inside ys word shift width value bit (let longer = long in omega arith) fits from inside))
-        | inr past ↦ ap (λ (zs : Registers). is_set zs other bit) (put_nowhere xs word shift width value past) ∙ one
-            ∙ sym (ap (λ (zs : Registers). is_set zs other bit) (put_nowhere ys word shift width value (let longer = long in omega arith)))
-      ]
+      at : (other bit : ℕ) → is_set xs other bit ≡ is_set ys other bit → ((other ≢ word) ⊎ ((bit < shift) ⊎ (shift + width ≤ bit))) ⊎ ((other ≡ word) × (shift ≤ bit) × (bit < shift + width))
+          → is_set (put xs word shift width value) other bit ≡ is_set (put ys word shift width value) other bit
+      at other bit one (inl apart) = set_beside xs word shift width value other bit fits apart ∙ one ∙ sym (set_beside ys word shift width value other bit fits apart)
+      at other bit one (inr (here, from, inside)) =
+          elim (cases_lt word (length xs)) [
+            | inl within ↦ subst (λ (w : ℕ). is_set (put xs word shift width value) w bit ≡ is_set (put ys word shift width value) w bit) (sym here)
+                (set_inside xs word shift width value bit within fits from inside ∙ sym (set_inside ys word shift width value bit (let longer = long in omega arith) fits from inside))
+            | inr past ↦ ap (λ (zs : Registers). is_set zs other bit) (put_nowhere xs word shift width value past) ∙ one
+                ∙ sym (ap (λ (zs : Registers). is_set zs other bit) (put_nowhere ys word shift width value (let longer = long in omega arith)))
+          ]
 
 -- and so does a bit
 pub masked_bit : (defs : Description) (xs ys : Registers) (word bit : ℕ) (value : Bool) → masked defs xs ≡ masked defs ys → masked defs (put_bit xs word bit value) ≡ masked defs (put_bit ys word bit value)

@@ -188,7 +188,6 @@ misses_same q new after y n row row' least most same alike =
 
 module _ (s : State) (new : Registers) (after : List (Option HandleRow)) (y : Rest) (d : ℕ) (here : SameHere s s.regs new s.handles after) (links : LinksArePossible s.defs s.clocks)
     (same : prep (beside s new after y) ≡ prep s) where
-
   abbrev t : State
   t = beside s new after y
 

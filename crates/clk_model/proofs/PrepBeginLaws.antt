@@ -51,7 +51,6 @@ bare-length (h ∷ a) = ap (λ (n : ℕ). suc n) (bare-length a)
 -- ---- what is read of two states that look alike
 
 module _ (words : ℕ) (s : State) (new : Registers) (after : List (Option HandleRow)) (x : Rest) (look : LooksAlike words s new after) where
-
   abbrev t : State
   t = beside s new after x
 
@@ -108,7 +107,6 @@ module _ (words : ℕ) (s : State) (new : Registers) (after : List (Option Handl
 -- ---- how each call begins in two states that look alike and have the same part
 
 module _ (words : ℕ) (s : State) (new : Registers) (after : List (Option HandleRow)) (x : Rest) (look : LooksAlike words s new after) (same : prep (beside s new after x) ≡ prep s) (d : ℕ) where
-
   abbrev u : State
   u = beside s new after x
 

@@ -27,9 +27,9 @@ use Rattle.clk_model.proofs.PrepStepLaws.{on_alike, raise_alike, poll_alike, pow
 use Rattle.clk_model.proofs.PrepLaws.{prep-settled, prep-steps}
 
 module _ (words : ℕ) (s : State) (new : Registers) (after : List (Option HandleRow)) (x : Rest) (look : LooksAlike words s new after) where
-
   abbrev t : State
   t = beside s new after x
+
   -- ---- the end
 
   with_handles : (hs hs' : List (Option HandleRow)) (cs : List ClockRow) → bare hs' ≡ bare hs

@@ -1,5 +1,5 @@
 -- Laws on runs: what a call in flight writes in the field of a mux fits it, a sweep takes its own steps alone; so steps of runs come to the same by the prepare tier's part.
-use Rattle.std.proofs.Common.{◌≡◌, ℕ, ◌+◌, ◌&&◌, ◌||◌, Bool, true, false, not, cond, List, [], ◌∷◌, ◌++◌, Option, Some, None, refl, sym, ap, subst, ◌∙◌, inl, inr, length, nat_lt, flat_map}
+use Rattle.std.proofs.Common.{◌≡◌, ℕ, ◌+◌, ◌||◌, Bool, true, false, not, cond, List, [], ◌∷◌, ◌++◌, Option, Some, None, refl, sym, ap, subst, ◌∙◌, length, nat_lt, flat_map}
 use Rattle.std.specs.List.{list_any, list_all}
 use Rattle.std.specs.Option.{option_map_or}
 use Rattle.clk_base.specs.declared.call.Micro.{Micro}
@@ -13,29 +13,27 @@ use Rattle.clk_base.specs.declared.event.Turn.{Turn}
 use Rattle.clk_base.specs.declared.event.Turn.TheVariants as turn
 use Rattle.clk_base.specs.Description.{Description}
 use Rattle.clk_base.specs.Flags.{is_critical}
-use Rattle.clk_base.specs.Valid.{IsValid}
 use Rattle.clk_model.specs.State.{State, Change}
 use Rattle.clk_model.specs.Tree.{link_given}
 use Rattle.clk_model.specs.Holders.{prepared}
 use Rattle.clk_model.specs.Round.{Wiring, wiring}
 use Rattle.clk_model.specs.Chain.{clock_id}
 use Rattle.clk_model.specs.Gates.{settled}
-use Rattle.clk_model.specs.Notices.{is_veto}
 use Rattle.clk_model.specs.Script.{planned, adoptable, adoption_order, adoption, probe_script, sweep_script}
-use Rattle.clk_model.specs.Begin.{done, refused, pick, most_credits, weight_of, starts, change_of, register, begun}
-use Rattle.clk_model.specs.Step.{rest_of, left_behind, taken, todo, is_end, stepped}
+use Rattle.clk_model.specs.Begin.{done, refused, pick, most_credits, weight_of, change_of, register, begun}
+use Rattle.clk_model.specs.Step.{rest_of, taken, todo, is_end, stepped}
 use Rattle.clk_model.specs.Machine.{comes_next, next}
 use Rattle.clk_model.specs.Journal.{replay, opening}
-use Rattle.clk_model.specs.Prep.{is_sweep, prep}
+use Rattle.clk_model.specs.Prep.{is_sweep}
 use Rattle.clk_model.specs.Wired.{IsWired}
-use Rattle.clk_model.specs.Laws.Flight.{Flight, begins, goes_on, beside, may_be_put, script, steps_of, IsInFlight}
+use Rattle.clk_model.specs.Laws.Flight.{Flight, begins, goes_on, beside, may_be_put, script, steps_of}
 use Rattle.clk_model.specs.Laws.PlansRead.{plans}
 use Rattle.clk_model.specs.Laws.PrepSteps.{fits_mux, is_of_sweep, RunsStepByPrep, RunsSweepByPrep}
 use Rattle.clk_model.proofs.ActedLaws.{writes_fit}
 use Rattle.clk_model.proofs.BalanceLaws.{began}
 use Rattle.clk_model.proofs.BeginLaws.{HasScript, raised_alone, lowered_alone, by_rate, by_parent, by_registration, by_sweep, sweep_has_no, begun_going}
 use Rattle.clk_model.proofs.BeginLaws as begin
-use Rattle.clk_model.proofs.FlightLaws.{IsStep, step_is, begin_is, IsEnd, left_is_end, first_put, front_put, next_is, taken_none, first_none, course_of}
+use Rattle.clk_model.proofs.FlightLaws.{step_is, begin_is, left_is_end, first_put, front_put, next_is, taken_none, first_none, course_of}
 use Rattle.clk_model.proofs.LinkLaws.{runs_are_wired}
 use Rattle.clk_model.proofs.Members.{both_left, both_right}
 use Rattle.clk_model.proofs.NoneLaws.{none_append, none_flat_map, none_if, none_behind}
@@ -146,7 +144,6 @@ flight_fits q s t d what made m answer x wired defs flight step =
       same_Some a b e = cc
 
 -- ---- runs
-
 
 pub runs_step_by_prep : RunsStepByPrep
 runs_step_by_prep defs regs ignore_unused credits journal t u m answer x valid call same other step =

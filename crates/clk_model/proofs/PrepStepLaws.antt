@@ -47,7 +47,6 @@ shut s c = by (active s c) where
 -- ---- the steps over two states that look alike
 
 module _ (words : ℕ) (s : State) (new : Registers) (after : List (Option HandleRow)) (x : Rest) (look : LooksAlike words s new after) where
-
   abbrev t : State
   t = beside s new after x
 
