@@ -141,3 +141,4 @@ pub mod PrepEventLaws
 pub mod PrepRunLaws
 pub mod HeldCountLaws
 pub mod LiftLaws
+pub mod TwinLaws

@@ -127,11 +127,11 @@ paid_alike s t u v a b x y (alike turns after) one is other is' = alike (sym is'
 paid_alike s t u v a b x y (first_lacks_room fewer full left going) one is other is' = first_lacks_room fewer (sym is ∙ full) (one ∙ left) (sym is' ∙ going)
 paid_alike s t u v a b x y (second_lacks_room more going full left) one is other is' = second_lacks_room more (sym is ∙ going) (sym is' ∙ full) (other ∙ left)
 
-prep_paid : (s : State) (x : State × Turn) → (let u : State = record (settled s x.0) { spent = s.spent + 1 } in prep u) ≡ prep x.0
+pub prep_paid : (s : State) (x : State × Turn) → (let u : State = record (settled s x.0) { spent = s.spent + 1 } in prep u) ≡ prep x.0
 prep_paid s x = prep-spent (settled s x.0) (s.spent + 1) ∙ prep-settled s x.0
 
 -- a call begins where no call is in flight and a credit is left
-begins_paid : (t : State) (d : ℕ) (what : Sleeping) → t.change ≡ None → t.spent < t.credits
+pub begins_paid : (t : State) (d : ℕ) (what : Sleeping) → t.change ≡ None → t.spent < t.credits
     → next t d (event.Begin what) ≡ Some (record (settled t (begun t d what).0) { spent = t.spent + 1 }, (begun t d what).1)
 unfolding next
 begins_paid t d what quiet left =

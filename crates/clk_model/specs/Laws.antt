@@ -24,3 +24,4 @@ pub mod Outcomes
 pub mod PrepSteps
 pub mod PrepBegins
 pub mod Lifting
+pub mod Twins
