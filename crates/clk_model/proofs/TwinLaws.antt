@@ -1,5 +1,5 @@
 -- Laws on twins: a state without enables goes along with each event of another.
-use Rattle.std.proofs.Common.{◌≡◌, ℕ, zero, suc, ◌+◌, ◌-◌, ◌≤◌, ◌||◌, Bool, true, false, cond, List, [], ◌∷◌, ◌++◌, Option, Some, None, refl, sym, ap, subst, ◌∙◌, ◌⊎◌, inl, inr, arith, length, map, nat_le, nat_lt, set}
+use Rattle.std.proofs.Common.{◌≡◌, ℕ, zero, suc, ◌+◌, ◌-◌, ◌<◌, ◌≤◌, ◌||◌, Bool, true, false, cond, List, [], ◌∷◌, ◌++◌, Option, Some, None, refl, sym, ap, subst, ◌∙◌, ◌⊎◌, inl, inr, arith, length, map, nat_le, nat_lt, set}
 use Rattle.std.specs.Prelude.{option_map, slice_get, reverse, if◌then◌else◌}
 use Rattle.std.specs.Option.{option_map_or}
 use Rattle.clk_base.specs.declared.call.Micro.{Micro}
@@ -9,6 +9,7 @@ use Rattle.clk_base.specs.declared.call.Sleeping.TheVariants as call
 use Rattle.clk_base.specs.declared.event.Errno.TheVariants as errno
 use Rattle.clk_base.specs.declared.event.Event.{Event}
 use Rattle.clk_base.specs.declared.event.Event.TheVariants as event
+use Rattle.clk_base.specs.declared.event.Reply.{Reply}
 use Rattle.clk_base.specs.declared.event.Reply.TheVariants as reply
 use Rattle.clk_base.specs.declared.event.Turn.{Turn}
 use Rattle.clk_base.specs.declared.event.Turn.TheVariants as turn
@@ -36,9 +37,9 @@ use Rattle.clk_model.proofs.HoldLaws.{end_holds}
 use Rattle.clk_model.proofs.HoldSteps.{holds_of, held_after_step, step_holds}
 use Rattle.clk_model.proofs.PrepLaws.{prep-settled, prep-spent}
 use Rattle.clk_model.proofs.PrepToldLaws.{handle_masked}
-use Rattle.clk_model.proofs.ShapeLaws.{taken_step, begun_paid, enable_paid}
+use Rattle.clk_model.proofs.ShapeLaws.{IsPaid, taken_step, begun_paid, enable_paid}
 use Rattle.clk_model.proofs.TierLaws.{enable_tier_leaves_prep, beside_clocks}
-use Rattle.clk_model.proofs.VetoLaws.{of_change, end_state}
+use Rattle.clk_model.proofs.VetoLaws.{of_change, end_state, not_done}
 use Rattle.clk_model.proofs.AlikeLaws.{same_change}
 use Rattle.clk_model.proofs.PlansReadLaws.{prep_credits, still_quiet}
 use Rattle.clk_model.proofs.PrepEndLaws.{steps_read_prep}
@@ -248,3 +249,72 @@ finds_none t (call.Put h) none = no_enable t.handles h.number none
 finds_none t (call.Unprepare h) none = no_enable t.handles h.number none
 finds_none t _ none = refl
 
+
+pub twins_begin : TwinsBegin
+unfolding settled
+twins_begin s t u d what x wired twin other step = by (bare_begins_read_prep s t d what wired twin.same other (finds_none t what twin.bare)) where
+  is : (s.change ≡ None) × (record (settled s (begun s d what).0) { spent = s.spent + 1 } ≡ u) × ((begun s d what).1 ≡ x)
+  is = begin_is s u d what x step
+
+  paid : IsPaid s u
+  paid = (begun_paid s u d what x step).0
+
+  own : prep u ≡ prep (begun s d what).0
+  own = ap prep (sym is.1) ∙ prep_paid s (begun s d what)
+
+  holds : u.enable_holds ≡ s.enable_holds
+  holds = ap (λ (v : State). v.enable_holds) (sym is.1) ∙ (begun_kept s d what (begun s d what) (begins_so s d what)).holds
+
+  left : t.spent < t.credits
+  left =
+      let least = twin.spent in
+      let more = paid.left in
+      let credits = prep_credits s t twin.same in
+      omega arith
+
+  stays : prep u ≡ prep s → IsTwin t u
+  stays same = record {
+    bare = twin.bare;
+    holds = twin.holds ∙ sym holds;
+    spent = let least = twin.spent in let spent = paid.spent in omega arith;
+    steps = let few = twin.steps in let steps = paid.steps in omega arith;
+    same = twin.same ∙ sym same;
+  }
+
+  v : State
+  v = record (settled t (begun t d what).0) { spent = t.spent + 1 }
+
+  made : next t d (event.Begin what) ≡ Some (v, (begun t d what).1)
+  made = begins_paid t d what (still_quiet s t is.0 twin.same) left
+
+  goes : (begun t d what).1 ≡ x → prep (begun t d what).0 ≡ prep (begun s d what).0 → TwinMakes t d (event.Begin what) u x
+  goes turns after =
+      let paid' = (begun_paid t v d what (begun t d what).1 made).0 in
+      let kept = begun_kept t d what (begun t d what) (begins_so t d what) in
+      record {
+        after = v;
+        made = made ∙ ap (λ (y : Turn). let z : State × Turn = (v, y) in Some z) turns;
+        twin = record {
+          bare = kept.bare_ twin.bare;
+          holds = kept.holds ∙ twin.holds ∙ sym holds;
+          spent = let least = twin.spent in let spent = paid.spent in let spent' = paid'.spent in omega arith;
+          steps = let few = twin.steps in let steps = paid.steps in let steps' = paid'.steps in omega arith;
+          same = prep_paid t (begun t d what) ∙ after ∙ sym own;
+        };
+      }
+
+  answered_not : (r : Reply) → (begun s d what).1 ≡ turn.Done r → x ≡ turn.Going → ⊥
+  answered_not r turns going = not_done r (sym turns ∙ is.2 ∙ going)
+
+  by_room : BeginsAlike s t (begun s d what) (begun t d what) → TwinMakes t d (event.Begin what) u x ⊎ ((x ≡ turn.Going → ⊥) × IsTwin t u)
+  by_room (alike turns after) = inl (goes (turns ∙ is.2) after)
+  by_room (first_lacks_room fewer full same going) = inr (answered_not (reply.Refused errno.ENOSPC) full, stays (own ∙ same))
+  by_room (second_lacks_room more going full same) = absurd (let few = twin.steps in omega arith)
+
+  kept_back : IsKeptBack s (begun s d what) → (x ≡ turn.Going → ⊥) × IsTwin t u
+  kept_back (inl busy) = (answered_not (reply.Refused errno.EBUSY) (ap (λ (y : State × Turn). y.1) busy), stays (own ∙ ap (λ (y : State × Turn). prep y.0) busy))
+  kept_back (inr warned) = (answered_not reply.Warn (ap (λ (y : State × Turn). y.1) warned), stays (own ∙ ap (λ (y : State × Turn). prep y.0) warned))
+
+  by : IsKeptBack s (begun s d what) ⊎ ComesAlike s t (begun s d what) (begun t d what) → TwinMakes t d (event.Begin what) u x ⊎ ((x ≡ turn.Going → ⊥) × IsTwin t u)
+  by (inl kept) = inr (kept_back kept)
+  by (inr come) = by_room (room_alike s t (begun s d what) (begun t d what) twin.same come)
