@@ -4,6 +4,7 @@
 ghost use Rattle.clk_model.specs.Laws.PrepSteps.{StepsReadPrep, SweepsReadPrep, RunsStepByPrep, RunsSweepByPrep};
 ghost use Rattle.clk_model.specs.Laws.PrepBegins.{BeginsReadPrep, BareBeginsReadPrep, EventsReadPrep, SweepsBeginByPrep, DecisionsReadPrep};
 ghost use Rattle.clk_model.specs.Laws.Lifting.{LiftingSees};
+ghost use Rattle.clk_model.specs.Laws.Twins.{TwinsStay, TwinsStep, TwinsBegin, TwinsSweep, TwinsStepSweeps};
 
 /// What a step makes of the prepare tier's part of a state depends on that part and the step. Where
 /// that part is the same in two states, over a wired tree, a step of a call in the one is made in the
@@ -41,4 +42,17 @@ pub fn decisions_read_prep()
 /// before, since no guarded clock changes.
 pub fn lifting_frees_or_keeps()
     ensures law { LiftingSees }
+{}
+
+/// A state without enables that has the same part of the prepare tier as another, its enable holds, and no
+/// more credits spent and steps made, goes along with each event of the other, and stays such a twin. It
+/// makes each beginning and each step of a call too; but where a call is refused or warned of in the
+/// other, it may stay as it is. A sweep it has with any script: it makes the steps that take the power of a
+/// PLL or end the sweep, whatever comes next in it, and may pass over those that close a gate.
+pub fn twins_go_along()
+    ensures beside { TwinsStay }
+    ensures steps { TwinsStep }
+    ensures begins { TwinsBegin }
+    ensures sweep { TwinsSweep }
+    ensures sweeping { TwinsStepSweeps }
 {}
