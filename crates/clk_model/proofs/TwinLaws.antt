@@ -1,13 +1,12 @@
 -- Laws on twins: a state without enables goes along with each event of another.
-use Rattle.std.proofs.Common.{◌≡◌, ℕ, zero, suc, ◌+◌, ◌-◌, ◌<◌, ◌≤◌, ◌||◌, Bool, true, false, cond, List, [], ◌∷◌, ◌++◌, Option, Some, None, refl, sym, ap, subst, ◌∙◌, ◌⊎◌, inl, inr, arith, length, map, nat_le, nat_lt, set}
-use Rattle.std.specs.Prelude.{option_map, slice_get, reverse, if◌then◌else◌}
+use Rattle.std.proofs.Common.{◌≡◌, ℕ, ◌+◌, ◌-◌, ◌<◌, ◌||◌, Bool, true, false, cond, List, [], ◌∷◌, ◌++◌, Option, Some, None, refl, sym, ap, subst, ◌∙◌, ◌⊎◌, inl, inr, arith, nat_le, nat_lt, set}
+use Rattle.std.specs.Prelude.{option_map, slice_get, reverse}
 use Rattle.std.specs.Option.{option_map_or}
 use Rattle.clk_base.specs.declared.call.Micro.{Micro}
 use Rattle.clk_base.specs.declared.call.Micro.TheVariants as micro
 use Rattle.clk_base.specs.declared.call.Sleeping.{Sleeping}
 use Rattle.clk_base.specs.declared.call.Sleeping.TheVariants as call
 use Rattle.clk_base.specs.declared.event.Errno.TheVariants as errno
-use Rattle.clk_base.specs.declared.event.Event.{Event}
 use Rattle.clk_base.specs.declared.event.Event.TheVariants as event
 use Rattle.clk_base.specs.declared.event.Reply.{Reply}
 use Rattle.clk_base.specs.declared.event.Reply.TheVariants as reply
@@ -18,27 +17,23 @@ use Rattle.clk_model.specs.declared.row.ClockRow.{ClockRow}
 use Rattle.clk_model.specs.declared.row.HandleRow.{HandleRow}
 use Rattle.clk_model.specs.State.{State, Change, handle_at, link_in, requested}
 use Rattle.clk_model.specs.Holders.{is_enabled}
-use Rattle.clk_model.specs.Round.{wiring, most_rate}
+use Rattle.clk_model.specs.Round.{most_rate}
 use Rattle.clk_model.specs.Chain.{clock_id}
 use Rattle.clk_model.specs.Gates.{settled}
-use Rattle.clk_model.specs.Begin.{change_of, put_handle, given, register, prepared_once_more, held_once_more, request_between, begun}
-use Rattle.clk_model.specs.Step.{taken, on, to_raise, raise_one, raise, timed_out, poll, is_yes, to_lower, lower_one, lower, ended_well, with_range, range_back, unranged, end_of, stepped}
+use Rattle.clk_model.specs.Begin.{change_of, put_handle, register, prepared_once_more, held_once_more, request_between, begun}
+use Rattle.clk_model.specs.Step.{taken, on, to_raise, raise_one, timed_out, poll, is_yes, to_lower, lower_one, ended_well, with_range, range_back, unranged, end_of, stepped}
 use Rattle.clk_model.specs.Machine.{next}
-use Rattle.clk_model.specs.Prep.{without_enables, is_sweep, prep}
-use Rattle.clk_model.specs.Tier.{is_enable_tier}
-use Rattle.clk_model.specs.Wired.{IsWired}
-use Rattle.clk_model.specs.Laws.PlansRead.{no_room}
+use Rattle.clk_model.specs.Prep.{without_enables, prep}
 use Rattle.clk_model.specs.Laws.PrepBegins as prep_begins
 use Rattle.clk_model.specs.Laws.PrepBegins.{ComesAlike, finds_enable, IsKeptBack, BeginsAlike, alike, first_lacks_room, second_lacks_room, SweepComes, switched_off, lacks_room}
 use Rattle.clk_model.specs.Laws.PrepSteps.{fits_mux, is_of_sweep}
 use Rattle.clk_model.specs.Laws.Twins.{IsTwin, TwinsStay, TwinMakes, TwinsStep, TwinsBegin, TwinSweeps, TwinsSweep, TwinsStepSweeps}
 use Rattle.clk_model.proofs.BareHandleLaws.{bare, bare_set}
-use Rattle.clk_model.proofs.BeginsLaws.{Adjusts, IsPlannedOver, over_itself, over_range, Starts, raising_handle, lowering_handle, planning, reparents, probing, sweeping, Begins, answers, gives, takes, adjusts, prepares, unprepares, notes, registers, goes_on, begins_so}
+use Rattle.clk_model.proofs.BeginsLaws.{Adjusts, over_itself, over_range, Starts, raising_handle, lowering_handle, planning, reparents, probing, sweeping, Begins, answers, gives, takes, adjusts, prepares, unprepares, notes, registers, goes_on, begins_so}
 use Rattle.clk_model.proofs.Cases.{by_option, by_test}
-use Rattle.clk_model.proofs.FlightLaws.{IsStep, begin_is}
+use Rattle.clk_model.proofs.FlightLaws.{begin_is}
 use Rattle.clk_model.proofs.HoldLaws.{end_holds}
 use Rattle.clk_model.proofs.HoldSteps.{holds_of, held_after_step, step_holds}
-use Rattle.clk_model.proofs.PrepLaws.{prep-settled, prep-spent}
 use Rattle.clk_model.proofs.PrepToldLaws.{handle_masked}
 use Rattle.clk_model.proofs.ShapeLaws.{IsPaid, step_shape, taken_step, begun_paid, enable_paid}
 use Rattle.clk_model.proofs.TierLaws.{enable_tier_leaves_prep, beside_clocks}
@@ -138,7 +133,6 @@ step_bare s k answer _ none = none
 same_clocks : (s t : State) → prep t ≡ prep s → (t.clocks ≡ s.clocks) × (t.prepare_holds ≡ s.prepare_holds)
 unfolding prep
 same_clocks s t same = (ap (λ (u : State). u.clocks) same, ap (λ (u : State). u.prepare_holds) same)
-
 
 -- a step is the end, or the call goes on
 end_or_going : (m : Micro) → (m ≡ micro.End) ⊎ ((s : State) (k : Change) (answer : Option Bool) → (stepped s k answer m).1 ≡ turn.Going)
@@ -252,7 +246,6 @@ finds_none : (t : State) (what : Sleeping) → IsBare t → finds_enable t what 
 finds_none t (call.Put h) none = no_enable t.handles h.number none
 finds_none t (call.Unprepare h) none = no_enable t.handles h.number none
 finds_none t _ none = refl
-
 
 pub twins_begin : TwinsBegin
 unfolding settled

@@ -1,6 +1,6 @@
 -- States with the same part of the prepare tier, in which other handles have enables: in the middle of a move, before an unprepare and
 -- in the middle of a sweep; and an exclusive that alone protects its clock, or doesn't.
-use Rattle.std.specs.Prelude.{◌≡◌, ℕ, List, [], ◌∷◌, ◌++◌, Bool, true, false, Some, map, option_map, length, take, refl}
+use Rattle.std.specs.Prelude.{◌≡◌, ℕ, List, [], ◌∷◌, ◌++◌, true, false, Some, map, option_map, length, take, refl}
 use Rattle.clk_base.specs.declared.call.Micro.TheVariants as micro
 use Rattle.clk_base.specs.declared.call.Sleeping.TheVariants as call
 use Rattle.clk_base.specs.declared.event.Entry.{Entry}
