@@ -27,7 +27,7 @@ use Rattle.clk_model.specs.Prep.{without_enables, prep}
 use Rattle.clk_model.specs.Laws.PrepBegins as prep_begins
 use Rattle.clk_model.specs.Laws.PrepBegins.{ComesAlike, finds_enable, IsKeptBack, BeginsAlike, alike, first_lacks_room, second_lacks_room, SweepComes, switched_off, lacks_room}
 use Rattle.clk_model.specs.Laws.PrepSteps.{fits_mux, is_of_sweep}
-use Rattle.clk_model.specs.Laws.Twins.{IsTwin, TwinsStay, TwinMakes, TwinsStep, TwinsBegin, TwinSweeps, TwinsSweep, TwinsStepSweeps}
+use Rattle.clk_model.specs.Laws.Twins.{IsTwin, IsLeftOut, TwinsStay, TwinMakes, TwinsStep, TwinsBegin, TwinSweeps, TwinsSweep, TwinsStepSweeps}
 use Rattle.clk_model.proofs.BareHandleLaws.{bare, bare_set}
 use Rattle.clk_model.proofs.BeginsLaws.{Adjusts, over_itself, over_range, Starts, raising_handle, lowering_handle, planning, reparents, probing, sweeping, Begins, answers, gives, takes, adjusts, prepares, unprepares, notes, registers, goes_on, begins_so}
 use Rattle.clk_model.proofs.Cases.{by_option, by_test}
@@ -300,19 +300,16 @@ twins_begin s t u d what x wired twin other step = by (bare_begins_read_prep s t
         };
       }
 
-  answered_not : (r : Reply) → (begun s d what).1 ≡ turn.Done r → x ≡ turn.Going → ⊥
-  answered_not r turns going = not_done r (sym turns ∙ is.2 ∙ going)
-
-  by_room : BeginsAlike s t (begun s d what) (begun t d what) → TwinMakes t d (event.Begin what) u x ⊎ ((x ≡ turn.Going → ⊥) × IsTwin t u)
+  by_room : BeginsAlike s t (begun s d what) (begun t d what) → TwinMakes t d (event.Begin what) u x ⊎ (IsLeftOut x × IsTwin t u)
   by_room (alike turns after) = inl (goes (turns ∙ is.2) after)
-  by_room (first_lacks_room fewer full same going) = inr (answered_not (reply.Refused errno.ENOSPC) full, stays (own ∙ same))
+  by_room (first_lacks_room fewer full same going) = inr (inl (sym is.2 ∙ full), stays (own ∙ same))
   by_room (second_lacks_room more going full same) = absurd (let few = twin.steps in omega arith)
 
-  kept_back : IsKeptBack s (begun s d what) → (x ≡ turn.Going → ⊥) × IsTwin t u
-  kept_back (inl busy) = (answered_not (reply.Refused errno.EBUSY) (ap (λ (y : State × Turn). y.1) busy), stays (own ∙ ap (λ (y : State × Turn). prep y.0) busy))
-  kept_back (inr warned) = (answered_not reply.Warn (ap (λ (y : State × Turn). y.1) warned), stays (own ∙ ap (λ (y : State × Turn). prep y.0) warned))
+  kept_back : IsKeptBack s (begun s d what) → IsLeftOut x × IsTwin t u
+  kept_back (inl busy) = (inr (inl (sym is.2 ∙ ap (λ (y : State × Turn). y.1) busy)), stays (own ∙ ap (λ (y : State × Turn). prep y.0) busy))
+  kept_back (inr warned) = (inr (inr (sym is.2 ∙ ap (λ (y : State × Turn). y.1) warned)), stays (own ∙ ap (λ (y : State × Turn). prep y.0) warned))
 
-  by : IsKeptBack s (begun s d what) ⊎ ComesAlike s t (begun s d what) (begun t d what) → TwinMakes t d (event.Begin what) u x ⊎ ((x ≡ turn.Going → ⊥) × IsTwin t u)
+  by : IsKeptBack s (begun s d what) ⊎ ComesAlike s t (begun s d what) (begun t d what) → TwinMakes t d (event.Begin what) u x ⊎ (IsLeftOut x × IsTwin t u)
   by (inl kept) = inr (kept_back kept)
   by (inr come) = by_room (room_alike s t (begun s d what) (begun t d what) twin.same come)
 

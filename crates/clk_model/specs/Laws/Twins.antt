@@ -5,6 +5,8 @@ use Rattle.clk_base.specs.declared.call.Sleeping.{Sleeping}
 use Rattle.clk_base.specs.declared.call.Sleeping.TheVariants as call
 use Rattle.clk_base.specs.declared.event.Event.{Event}
 use Rattle.clk_base.specs.declared.event.Event.TheVariants as event
+use Rattle.clk_base.specs.declared.event.Errno.TheVariants as errno
+use Rattle.clk_base.specs.declared.event.Reply.TheVariants as reply
 use Rattle.clk_base.specs.declared.event.Turn.{Turn}
 use Rattle.clk_base.specs.declared.event.Turn.TheVariants as turn
 use Rattle.clk_model.specs.State.{State, Change}
@@ -15,6 +17,7 @@ use Rattle.clk_model.specs.Machine.{next}
 use Rattle.clk_model.specs.Prep.{without_enables, is_sweep, prep}
 use Rattle.clk_model.specs.Tier.{is_enable_tier}
 use Rattle.clk_model.specs.Wired.{IsWired}
+use Rattle.clk_model.specs.Laws.PlansRead.{no_room}
 use Rattle.clk_model.specs.Laws.PrepSteps.{fits_mux, closes_gate, is_of_sweep}
 
 -- a state is a twin of another: no handle of it has an enable; it has the same part of the prepare tier and the same enable holds; and no
@@ -41,10 +44,15 @@ abbrev pub TwinsStep : Type 0
 TwinsStep = (s t u : State) (k : Change) (d : ℕ) (m : Micro) (answer : Option Bool) (x : Turn) → IsWired (length s.regs) (wiring s) → IsTwin t s
     → s.change ≡ Some k → is_sweep k.call ≡ false → fits_mux s.defs m ≡ true → next s d (event.Step m answer) ≡ Some (u, x) → TwinMakes t d (event.Step m answer) u x
 
--- and with each beginning of such a call; or the call is refused or warned of in the other state, and the twin stays one as it is
+-- a call that changes nothing in a state, though it may in one with more room or with fewer enables: it lacks room, or its handle has an
+-- enable and so keeps what is to be given back
+abbrev pub IsLeftOut : Turn → Type 0
+IsLeftOut x = (x ≡ no_room) ⊎ ((x ≡ turn.Done (reply.Refused errno.EBUSY)) ⊎ (x ≡ turn.Done reply.Warn))
+
+-- and with each beginning of such a call; or that call is left out, and the twin stays one as it is
 abbrev pub TwinsBegin : Type 0
 TwinsBegin = (s t u : State) (d : ℕ) (what : Sleeping) (x : Turn) → IsWired (length s.regs) (wiring s) → IsTwin t s → is_sweep what ≡ false
-    → next s d (event.Begin what) ≡ Some (u, x) → TwinMakes t d (event.Begin what) u x ⊎ ((x ≡ turn.Going → ⊥) × IsTwin t u)
+    → next s d (event.Begin what) ≡ Some (u, x) → TwinMakes t d (event.Begin what) u x ⊎ (IsLeftOut x × IsTwin t u)
 
 -- ---- the sweep
 

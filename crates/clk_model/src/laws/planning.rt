@@ -46,8 +46,8 @@ pub fn lifting_frees_or_keeps()
 
 /// A state without enables that has the same part of the prepare tier as another, its enable holds, and no
 /// more credits spent and steps made, goes along with each event of the other, and stays such a twin. It
-/// makes each beginning and each step of a call too; but where a call is refused or warned of in the
-/// other, it may stay as it is. A sweep it has with any script: it makes the steps that take the power of a
+/// makes each beginning and each step of a call too; but where a call lacks room in the other, or is kept
+/// there by an enable from giving back, it may stay as it is. A sweep it has with any script: it makes the steps that take the power of a
 /// PLL or end the sweep, whatever comes next in it, and may pass over those that close a gate.
 pub fn twins_go_along()
     ensures beside { TwinsStay }
