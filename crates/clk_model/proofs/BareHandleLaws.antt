@@ -49,7 +49,7 @@ any_same value p test old new read tests same =
 
 -- ---- one handle
 
-bare_set : (handles : List (Option HandleRow)) (n : ℕ) (o : Option HandleRow) → bare (set handles n o) ≡ set (bare handles) n (option_map without_enables o)
+pub bare_set : (handles : List (Option HandleRow)) (n : ℕ) (o : Option HandleRow) → bare (set handles n o) ≡ set (bare handles) n (option_map without_enables o)
 bare_set [] n o = refl
 bare_set (h ∷ handles) zero o = refl
 bare_set (h ∷ handles) (suc n) o = ap (λ (hs : List (Option HandleRow)). option_map without_enables h ∷ hs) (bare_set handles n o)

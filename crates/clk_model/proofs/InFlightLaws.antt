@@ -46,8 +46,8 @@ abbrev pub in_flight : State → InFlight
 in_flight s = (s.change, s.prepare_holds, s.enable_holds)
 
 -- the answer is that the call goes on, or the change in flight and what it holds are these
-record GoesOrHas (c : InFlight) (y : State × Turn) : Type 0 where
-  is : (y.1 ≡ turn.Going) ⊎ (in_flight y.0 ≡ c)
+pub record GoesOrHas (c : InFlight) (y : State × Turn) : Type 0 where
+  pub is : (y.1 ≡ turn.Going) ⊎ (in_flight y.0 ≡ c)
 
 has : (y : State × Turn) → GoesOrHas (in_flight y.0) y
 has y = record { is = inr refl }
@@ -75,7 +75,7 @@ unfolding register
 registered_change s c = refl
 
 -- a call goes on, or it leaves the change in flight and what it holds as they were
-begun_or : (q : State) (d : ℕ) (what : Sleeping) → GoesOrHas (in_flight q) (begun q d what)
+pub begun_or : (q : State) (d : ℕ) (what : Sleeping) → GoesOrHas (in_flight q) (begun q d what)
 unfolding begun
 begun_or q d (call.Get found) = got_or q d _
 begun_or q d (call.Put h) = on_handle q d h.number _ (λ row. pick_either (GoesOrHas (in_flight q)) _ _ _ (λ e. has (refused q errno.EBUSY)) (λ e. has (done (put_handle q h.number None) reply.Fine)))

@@ -130,3 +130,15 @@ pub mod UnmovedLaws
 pub mod CopyLaws
 pub mod AdoptOnceLaws
 pub mod DroppedMoveLaws
+pub mod MaskedPutLaws
+pub mod AlikeLaws
+pub mod PrepStepLaws
+pub mod PrepEndLaws
+pub mod PrepSweepLaws
+pub mod PlanBeginLaws
+pub mod PrepBeginLaws
+pub mod PrepEventLaws
+pub mod PrepRunLaws
+pub mod HeldCountLaws
+pub mod LiftLaws
+pub mod TwinLaws

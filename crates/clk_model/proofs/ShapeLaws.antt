@@ -228,7 +228,7 @@ unranged_shape s k = record { defs = refl; rows = refl; words = refl; credits = 
 changed_shape : (s y : State) (k : Change) → IsSame s y → IsSame s (on y k)
 changed_shape s y k shape = record { defs = shape.defs; rows = shape.rows; words = shape.words; credits = shape.credits; spent = shape.spent; steps = shape.steps }
 
-step_shape : (s : State) (k : Change) (answer : Option Bool) (m : Micro) → IsSame s (stepped s k answer m).0
+pub step_shape : (s : State) (k : Change) (answer : Option Bool) (m : Micro) → IsSame s (stepped s k answer m).0
 unfolding stepped
 step_shape s k answer (micro.Notify kind c id old new) = on_shape s k
 step_shape s k answer (micro.Raise x) = by_option (IsSame s) (slice_get (reverse (to_raise s k x.0)) 0) (raise_one s k x.0) _ (on_shape s _) (λ y. powered_shape s y true _)

@@ -26,3 +26,4 @@ pub mod Descriptions
 pub mod Weights
 pub mod Defined
 pub mod Feeds
+pub mod SameParts

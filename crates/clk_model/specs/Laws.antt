@@ -21,3 +21,7 @@ pub mod PlansRead
 pub mod CallCauses
 pub mod EndCauses
 pub mod Outcomes
+pub mod PrepSteps
+pub mod PrepBegins
+pub mod Lifting
+pub mod Twins

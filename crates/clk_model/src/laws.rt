@@ -9,6 +9,7 @@ pub mod links;
 pub mod notices;
 pub mod outcomes;
 pub mod paths;
+pub mod planning;
 pub mod plans;
 pub mod refusals;
 pub mod siblings;
