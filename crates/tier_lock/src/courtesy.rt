@@ -38,14 +38,14 @@ impl Courtesy {
         self.turns = 1;
     }
 
-    /// The lock was left to another, and taken. The next time comes after few turns again.
-    pub(crate) fn was_used(&mut self) {
-        self.bound = FEWEST;
-    }
-
-    /// The lock was left in vain: who waits has no processor. The next time comes later.
-    pub(crate) fn was_unused(&mut self) {
+    /// The lock was left to those that wait. Where one of them has taken it, it is left after few turns
+    /// again; else who waits has no processor, and the next time comes later.
+    pub(crate) fn was_left(&mut self, taken: bool) {
         self.turns = 0;
-        self.bound = self.bound.saturating_mul(2).min(MOST);
+        self.bound = if taken {
+            FEWEST
+        } else {
+            self.bound.saturating_mul(2).min(MOST)
+        };
     }
 }

@@ -72,18 +72,21 @@ fn has_moved<T: Kept>(shared: &SharedOf<T>, last: u64) -> bool
 }
 
 // After its turns in a row a pass leaves the lock to those that wait, until one of them has taken it,
-// but not for long: they may have no processor.
-fn leave<T: Kept>(shared: &SharedOf<T>, waiters: &Waiters, courtesy: &mut Courtesy, last: u64)
+// but not for long: they may have no processor. Whether one has taken it.
+fn gives_way<T: Kept>(
+    shared: &SharedOf<T>,
+    waiters: &Waiters,
+    courtesy: &mut Courtesy,
+    last: u64,
+) -> bool
     requires { shared.now.table_id.words ≡ 1 }
 {
     if !courtesy.is_due() || waiters.is_empty() {
-        return;
+        return false;
     }
-    if has_moved(shared, last) {
-        courtesy.was_used();
-    } else {
-        courtesy.was_unused();
-    }
+    let moved = has_moved(shared, last);
+    courtesy.was_left(moved);
+    moved
 }
 
 impl<T: Kept> Lock<T> {
@@ -109,11 +112,13 @@ impl<T: Kept> Lock<T> {
         ensures baton { pass.old.baton ≡ true → AddsEnablesOnly T.prep pass.old.seen (T.entries result.value) }
     {
         let shared = &self.table.shared;
-        leave(shared, &self.waiters, &mut pass.courtesy, pass.last);
+        let moved = gives_way(shared, &self.waiters, &mut pass.courtesy, pass.last);
         // Where nobody has had a turn since this pass's own, the lock's word is as it was.
-        if let Some(value) = try_take(shared, &mut pass.seat, pass.last) {
-            pass.courtesy.goes_on();
-            return Guard { value };
+        if !moved {
+            if let Some(value) = try_take(shared, &mut pass.seat, pass.last) {
+                pass.courtesy.goes_on();
+                return Guard { value };
+            }
         }
         self.waiters.join();
         let value = wait_for_value(rt, shared, &mut pass.seat);
