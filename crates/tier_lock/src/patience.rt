@@ -1,8 +1,8 @@
 //! How a pass waits.
 use std::{hint, thread};
 
-// After so many tries, some 50 microseconds, it lets other threads run between two.
-const SHORT_RESTS: u32 = 200;
+// After so many tries it lets other threads run between two.
+const SHORT_RESTS: u32 = 1_000;
 
 // The most pauses of the processor between two tries.
 const MOST_PAUSES: u32 = 5;
