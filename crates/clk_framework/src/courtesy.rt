@@ -22,6 +22,7 @@ const MOST_TRYING: u32 = 3;
 
 // How often they try, and how many pauses of the processor they rest between two tries.
 const TRIES: u32 = 200;
+
 const PAUSES: u32 = 20;
 
 /// How many drivers wait for the prepare lock, who had it last, how many calls it has made in a row,
