@@ -1,6 +1,8 @@
 #!/bin/sh
 # How many nanoseconds a turn of the counted lock takes, beside a mutex that does the same, with 1, 2, 4 and 8 threads.
-# Each thread makes a million turns and does nothing between them, so the threads meet throughout. One run is noisy: a
+# Each thread makes a million turns and does nothing between them, so the threads meet throughout. A pass leaves the lock
+# to those that wait after eight turns in a row, so with more than one thread a turn has its part of a move of the lock
+# to another processor; bench/wait.sh shows what that is for. One run is noisy: a
 # mutex whose other thread sleeps through it looks like one that nobody else wants. So the program runs twenty times,
 # and a line has the least and the mean of each, and in how many runs a turn of the lock took at most as long as one of
 # the mutex. The program in bench/lock is proved and built in a folder of its own, which is removed at the end. Its

@@ -9,6 +9,7 @@
 
 mod calling;
 mod closing;
+mod courtesy;
 mod desk;
 mod enabling;
 mod framework;

@@ -31,6 +31,7 @@ fn end_all<T: Kept>(shared: &SharedOf<T>, keeper: &mut SeatOf<T>, passes: Vec<Pa
             room: _,
             made: _,
             last: _,
+            courtesy: _,
         } = pass;
         shared.join_seat::<End>(keeper, seat);
     }
@@ -78,7 +79,7 @@ impl<T: Kept> Lock<T> {
         // All rooms that are left and all costs fit into the total.
         ensures room { IfOk result (λ value. sum_by (λ p. p.room) passes.items + sum_by T.cost (T.entries value) ≤ T.most (T.fixed value)) }
     {
-        let Lock { table } = self;
+        let Lock { table, waiters: _ } = self;
         let Baton { seat: mut keeper } = baton;
         end_all(&table.shared, &mut keeper, passes);
         Ok(value_of(table, keeper))

@@ -9,6 +9,7 @@
 
 mod baton;
 mod closing;
+mod courtesy;
 mod giving;
 mod guard;
 mod kept;
@@ -17,10 +18,12 @@ mod lock;
 mod named;
 mod parting;
 mod pass;
+mod patience;
 mod plays;
 mod rule;
 mod taking;
 mod view;
+mod waiters;
 
 pub use baton::Baton;
 pub use closing::Unclosed;

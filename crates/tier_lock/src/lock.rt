@@ -3,10 +3,12 @@ ghost use Rattle.std.specs.Prelude.{◌≡◌, [], IfOk, Some};
 ghost use Rattle.tier_lock.specs.Known.{first_known};
 
 use crate::baton::Baton;
+use crate::courtesy::Courtesy;
 use crate::kept::Kept;
 use crate::pass::Pass;
 use crate::plays::HandBack;
 use crate::rule::TableOf;
+use crate::waiters::Waiters;
 use atomic_table::Table;
 use clk_io::NoMemory;
 use std::alloc::Global;
@@ -17,6 +19,7 @@ use std::snapshot::Snapshot;
 #[derive(Drop)]
 pub struct Lock<T: Kept> {
     pub(crate) table: TableOf<T>,
+    pub(crate) waiters: Waiters,
 }
 
 impl<T: Kept> Model for Lock<T> {
@@ -59,7 +62,9 @@ impl<T: Kept> Lock<T> {
             room,
             made: 1,
             last: 0,
+            courtesy: Courtesy::new(),
         };
-        Ok((Lock { table }, pass, baton))
+        let waiters = Waiters::none();
+        Ok((Lock { table, waiters }, pass, baton))
     }
 }

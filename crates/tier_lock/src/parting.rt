@@ -3,6 +3,7 @@ ghost use Rattle.std.specs.Prelude.{◌≡◌, ◌<◌, ◌≤◌, false};
 ghost use Rattle.tier_lock.specs.Entries.{own};
 ghost use Rattle.tier_lock.specs.Known.{parted, next_pass};
 
+use crate::courtesy::Courtesy;
 use crate::kept::Kept;
 use crate::lock::Lock;
 use crate::pass::Pass;
@@ -33,6 +34,7 @@ fn split_off<T: Kept, N: Amount>(lock: &Lock<T>, pass: &mut Pass<T>, room: u32) 
         room,
         made: 0,
         last,
+        courtesy: Courtesy::new(),
     }
 }
 

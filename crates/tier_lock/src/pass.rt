@@ -2,6 +2,7 @@
 ghost use Rattle.std.specs.Prelude.{◌≡◌};
 ghost use Rattle.tier_lock.specs.Entries.{own};
 
+use crate::courtesy::Courtesy;
 use crate::kept::Kept;
 use crate::rule::SeatOf;
 use std::marker::Model;
@@ -16,6 +17,7 @@ pub struct Pass<T: Kept> {
     // The lock's word as this pass saw it last: where nobody else has had a turn since, it still is so,
     // and the next turn begins without a look at it.
     pub(crate) last: u64,
+    pub(crate) courtesy: Courtesy,
 }
 
 impl<T: Kept> Model for Pass<T> {

@@ -3,21 +3,19 @@ ghost use Rattle.std.specs.Prelude.{◌≡◌, ◌+◌, ◌≤◌, true, false, 
 ghost use Rattle.tier_lock.specs.Entries.{reading, own, IsPrefix, AddsEnablesOnly, AreBelow};
 ghost use Rattle.tier_lock.specs.Sits.{IsOf, IsFree, Took};
 
+use crate::courtesy::Courtesy;
 use crate::guard::Guard;
 use crate::kept::Kept;
 use crate::lock::Lock;
 use crate::pass::Pass;
+use crate::patience::{Patience, pause};
 use crate::plays::Win;
 use crate::rule::{SeatOf, SharedOf};
-use crossbeam_utils::Backoff;
+use crate::waiters::Waiters;
 use std::sync::Wait;
 
-// `Backoff` is at its end after so many: seven times it spins, up to 64 pauses of the processor, and
-// from then on it yields.
-const SNOOZES: u32 = 11;
-
-// The most rounds between two tries, some 20 microseconds.
-const MOST_ROUNDS: u32 = 6;
+// How often a pass that leaves the lock looks whether another has taken it.
+const LOOKS: u32 = 100;
 
 // One try, where the lock has this word. It fails where the lock is taken, or where it has another word by now.
 fn try_take<T: Kept>(shared: &SharedOf<T>, seat: &mut SeatOf<T>, word: u64) -> Option<T>
@@ -40,53 +38,55 @@ fn try_take<T: Kept>(shared: &SharedOf<T>, seat: &mut SeatOf<T>, word: u64) -> O
     Some(value)
 }
 
-// One round of waiting: it spins longer and longer, and then lets other threads run.
-fn rest_once() {
-    let backoff = Backoff::new();
-    for _ in 0..SNOOZES {
-        backoff.snooze();
-    }
-}
-
-// So many rounds of waiting, but few.
-fn rest(rounds: u32) {
-    for _ in 0..rounds.min(MOST_ROUNDS) {
-        rest_once();
-    }
-}
-
 // Until this seat is the one that wins. A turn is short, and to sleep and be woken costs calls of the
-// system; but each try takes the lock's word from the processor that is in its turn. So between two
-// tries it rests, the longer the more tries have failed.
+// system; but each try takes the lock's word from the processor that is in its turn. So it rests
+// between two tries.
 fn wait_for_value<T: Kept, R: Wait>(rt: &R, shared: &SharedOf<T>, seat: &mut SeatOf<T>) -> T
     requires table { IsOf shared.now.table_id seat.old.table_id }
     requires free { IsFree seat.old.me }
     ensures same { (seat.new.table_id ≡ seat.old.table_id) × (seat.new.id ≡ seat.old.id) }
     ensures taken { Took (reading T.entries T.fixed T.by T.prep T.cost T.most) result seat.old.me seat.new.me }
 {
-    let mut failed = 0u32;
+    let mut patience = Patience::new();
     for _ in rt.forever() {
         let word = shared.peek(0);
         if let Some(value) = try_take(shared, seat, word) {
             return value;
         }
-        failed = failed.saturating_add(1);
-        rest(failed);
+        patience.rest();
     }
     unreachable!()
 }
 
-// Takes the value: at once where nobody has had a turn since the lock's word was this, and else as soon as the lock is free.
-fn take_value<T: Kept, R: Wait>(rt: &R, shared: &SharedOf<T>, seat: &mut SeatOf<T>, last: u64) -> T
-    requires table { IsOf shared.now.table_id seat.old.table_id }
-    requires free { IsFree seat.old.me }
-    ensures same { (seat.new.table_id ≡ seat.old.table_id) × (seat.new.id ≡ seat.old.id) }
-    ensures taken { Took (reading T.entries T.fixed T.by T.prep T.cost T.most) result seat.old.me seat.new.me }
+// Looks for a while whether the lock's word is another than this. Whether it is.
+fn has_moved<T: Kept>(shared: &SharedOf<T>, last: u64) -> bool
+    requires { shared.now.table_id.words ≡ 1 }
 {
-    if let Some(value) = try_take(shared, seat, last) {
-        return value;
+    for _ in 0..LOOKS {
+        if shared.peek(0) != last {
+            return true;
+        }
+        pause(1);
     }
-    wait_for_value(rt, shared, seat)
+    false
+}
+
+// After its turns in a row a pass leaves the lock to those that wait, until one of them has taken it,
+// but not for long: they may have no processor. Whether one has taken it.
+fn gives_way<T: Kept>(
+    shared: &SharedOf<T>,
+    waiters: &Waiters,
+    courtesy: &mut Courtesy,
+    last: u64,
+) -> bool
+    requires { shared.now.table_id.words ≡ 1 }
+{
+    if !courtesy.is_due() || waiters.is_empty() {
+        return false;
+    }
+    let moved = has_moved(shared, last);
+    courtesy.was_left(moved);
+    moved
 }
 
 impl<T: Kept> Lock<T> {
@@ -111,7 +111,19 @@ impl<T: Kept> Lock<T> {
         // Where the pass has the baton, nobody else has added an entry of the prepare tier.
         ensures baton { pass.old.baton ≡ true → AddsEnablesOnly T.prep pass.old.seen (T.entries result.value) }
     {
-        let value = take_value(rt, &self.table.shared, &mut pass.seat, pass.last);
+        let shared = &self.table.shared;
+        let moved = gives_way(shared, &self.waiters, &mut pass.courtesy, pass.last);
+        // Where nobody has had a turn since this pass's own, the lock's word is as it was.
+        if !moved {
+            if let Some(value) = try_take(shared, &mut pass.seat, pass.last) {
+                pass.courtesy.goes_on();
+                return Guard { value };
+            }
+        }
+        self.waiters.join();
+        let value = wait_for_value(rt, shared, &mut pass.seat);
+        self.waiters.leave();
+        pass.courtesy.begins();
         Guard { value }
     }
 }
