@@ -8,7 +8,7 @@ use crate::reads::most_reads;
 use crate::recording::{Record, Recording};
 use crate::script::Player;
 use anyhow::Context;
-use clk_base::{Handle, Reply, Sleeping, Turn};
+use clk_base::{Sleeping, Turn};
 use clk_io::NoMemory;
 use clk_machine::Core;
 use driver_runs::Called;
@@ -21,6 +21,9 @@ const CREDITS: u32 = 1_000;
 
 /// How many events a bundle may come to.
 const MOST_EVENTS: usize = 10_000;
+
+/// How many make events: boot and at most 64 drivers.
+const MOST_PLAYERS: u32 = 65;
 
 /// How many locks a bank has.
 const LOCKS: u32 = 4_096;
@@ -36,7 +39,7 @@ struct Play<'p> {
     // How many words each entry may read.
     reads: &'p str,
     // Whose call is in flight.
-    going: Option<usize>,
+    going: Option<u32>,
 }
 
 // Gives the locks of a bank their delays.
@@ -98,11 +101,11 @@ fn is_placed(core: &Core<Recording>, what: &Sleeping) -> bool
 
 impl<'p> Play<'p> {
     // Begins a call that may sleep.
-    fn begin(&mut self, driver: usize, what: &Sleeping) -> anyhow::Result<Turn> {
+    fn begin(&mut self, driver: u32, what: &Sleeping) -> anyhow::Result<Turn> {
         let core = &mut self.core;
         let may = core.credits_left() > 0 && core.quiet() && is_placed(core, what);
         anyhow::ensure!(may, "a call can't begin");
-        Ok(core.begin(driver as u32, what)?)
+        Ok(core.begin(driver, what)?)
     }
 
     // Makes a step of the call in flight.
@@ -112,24 +115,23 @@ impl<'p> Play<'p> {
     }
 
     // Makes a call of a driver.
-    fn make(&mut self, driver: usize, called: Called) -> anyhow::Result<Turn> {
+    fn make(&mut self, driver: u32, called: Called) -> anyhow::Result<Turn> {
         let core = &mut self.core;
         anyhow::ensure!(core.credits_left() > 0, "no credit is left");
-        let driver_ = driver as u32;
         match called {
             Called::Sleeping(what) => self.begin(driver, &what),
-            Called::Enable(handle) => Ok(Turn::Done(core.enable(driver_, handle))),
-            Called::Disable(handle) => Ok(Turn::Done(core.disable(driver_, handle))),
-            Called::Running(handle) => Ok(Turn::Done(core.running(driver_, handle))),
+            Called::Enable(handle) => Ok(Turn::Done(core.enable(driver, handle))),
+            Called::Disable(handle) => Ok(Turn::Done(core.disable(driver, handle))),
+            Called::Running(handle) => Ok(Turn::Done(core.running(driver, handle))),
         }
     }
 
     // The turn of a driver's next event, if it can make one.
-    fn turn(&mut self, driver: usize) -> anyhow::Result<Option<Turn>> {
+    fn turn(&mut self, driver: u32) -> anyhow::Result<Option<Turn>> {
         if self.going == Some(driver) {
             return Ok(Some(self.step()?));
         }
-        let Some(player) = self.players.get_mut(driver) else {
+        let Some(player) = self.players.get_mut(driver as usize) else {
             return Ok(None);
         };
         match player.call() {
@@ -140,14 +142,14 @@ impl<'p> Play<'p> {
     }
 
     // A driver's call goes on, or is answered.
-    fn follow(&mut self, driver: usize, turn: Turn) {
+    fn follow(&mut self, driver: u32, turn: Turn) {
         match turn {
             Turn::Going => self.going = Some(driver),
             Turn::Done(reply) => {
                 if self.going == Some(driver) {
                     self.going = None;
                 }
-                if let Some(player) = self.players.get_mut(driver) {
+                if let Some(player) = self.players.get_mut(driver as usize) {
                     player.answer(reply);
                 }
             }
@@ -155,7 +157,7 @@ impl<'p> Play<'p> {
     }
 
     // Makes a driver's next event, if it can make one, and prints it. Tells whether it made one.
-    fn make_event(&mut self, page: &mut Page, driver: usize) -> anyhow::Result<bool> {
+    fn make_event(&mut self, page: &mut Page, driver: u32) -> anyhow::Result<bool> {
         let Some(turn) = self.turn(driver)? else {
             return Ok(false);
         };
@@ -170,7 +172,7 @@ impl<'p> Play<'p> {
     }
 
     // The first of so many players that can make an event makes its next one.
-    fn make_first(&mut self, page: &mut Page, players: usize) -> anyhow::Result<bool> {
+    fn make_first(&mut self, page: &mut Page, players: u32) -> anyhow::Result<bool> {
         for driver in 0..players {
             if self.make_event(page, driver)? {
                 return Ok(true);
@@ -180,7 +182,7 @@ impl<'p> Play<'p> {
     }
 
     // So many players make their events, until none of them can make one.
-    fn run(&mut self, page: &mut Page, players: usize) -> anyhow::Result<()> {
+    fn run(&mut self, page: &mut Page, players: u32) -> anyhow::Result<()> {
         for _ in 0..MOST_EVENTS {
             if !self.make_first(page, players)? {
                 return Ok(());
@@ -208,7 +210,7 @@ pub(crate) fn play_bundle(page: &mut Page, bundle: &Bundle, reads: &str) -> anyh
     page.print_record(&bundle.desc, &record, 0)?;
     play.run(page, 1)?;
     for driver in bundle.order.as_slice() {
-        play.make_event(page, *driver as usize)?;
+        play.make_event(page, *driver)?;
     }
-    play.run(page, bundle.drivers.as_slice().len() + 1)
+    play.run(page, MOST_PLAYERS)
 }
