@@ -16,8 +16,8 @@ const ROOM: usize = 1_048_576;
 /// How often a run is tried: on a busy machine a driver may have ended before the last one begins.
 const TRIES: u32 = 5;
 
-/// How often a driver opens and closes its gate.
-const ENABLES: u32 = 25;
+/// How often a driver opens and closes its gate and asks for its rate.
+const TURNS: u32 = 60;
 
 // Runs the program over a bank that takes its time, and gives the status and the text.
 fn run_slowly<R: AllocGlobal + Threads + Wait + Clock + Sync>(
@@ -91,7 +91,8 @@ fn come_together<R: AllocGlobal + Threads + Wait + Clock + Sync>(
     Ok(false)
 }
 
-// A bundle of so many drivers, each of which opens and closes a gate of its own again and again.
+// A bundle of so many drivers, each of which opens and closes a gate of its own again and again. It asks
+// for the gate's rate in between, which lets another driver come first that waits for the prepare lock.
 fn with_gates<R: AllocGlobal>(rt: &R, drivers: u32) -> Result<String, Fail> {
     let alloc = rt.alloc();
     let mut text = String::from_str(alloc, "%bundle 1\n%clocks\nfixed osc 24000000\n")?;
@@ -101,8 +102,8 @@ fn with_gates<R: AllocGlobal>(rt: &R, drivers: u32) -> Result<String, Fail> {
     text.push_str("%regs 1\n")?;
     for driver in 1..=drivers {
         text.push_str(format!(in alloc; "%driver w{driver}\nget x g{driver}\nprepare x\n")?.as_str())?;
-        for _ in 0..ENABLES {
-            text.push_str("enable x\ndisable x\n")?;
+        for _ in 0..TURNS {
+            text.push_str("enable x\ndisable x\nrate x\n")?;
         }
     }
     Ok(text)
