@@ -97,11 +97,13 @@ fn with_gates<R: AllocGlobal>(rt: &R, drivers: u32) -> Result<String, Fail> {
     let alloc = rt.alloc();
     let mut text = String::from_str(alloc, "%bundle 1\n%clocks\nfixed osc 24000000\n")?;
     for driver in 1..=drivers {
-        text.push_str(format!(in alloc; "gate g{driver} osc 0 {driver}\n")?.as_str())?;
+        let gate = format!(in alloc; "gate g{driver} osc 0 {driver}\n")?;
+        text.push_str(gate.as_str())?;
     }
     text.push_str("%regs 1\n")?;
     for driver in 1..=drivers {
-        text.push_str(format!(in alloc; "%driver w{driver}\nget x g{driver}\nprepare x\n")?.as_str())?;
+        let head = format!(in alloc; "%driver w{driver}\nget x g{driver}\nprepare x\n")?;
+        text.push_str(head.as_str())?;
         for _ in 0..TURNS {
             text.push_str("enable x\ndisable x\nrate x\n")?;
         }
