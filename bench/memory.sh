@@ -8,11 +8,16 @@
 # refused. Each line tells how many allocations a whole run makes, how many runs with one that fails
 # ended in status 3, and how many as the whole run does. Of runs with a thread a driver and of `bench`,
 # whose journals come in any order, the status alone is looked at.
+#
+# Then the allocation of each number fails with all that come after it, so that trying again is of no
+# use. Such a run must end as well, in status 3 or as the whole run does, within so many seconds; the last
+# column says how many ended in status 3.
 set -eu
 
 root=$(dirname -- "$(dirname -- "$(readlink -f -- "$0")")")
 program=$root/crates/clkbench/out/clkbench
 scratch=$(mktemp -d)
+seconds=20
 trap 'rm -rf "$scratch"' EXIT
 
 # The proved program is measured, so it is proved and built first.
@@ -30,6 +35,7 @@ cat >"$scratch/fail.c" <<'LIBRARY'
 #include <unistd.h>
 
 static unsigned long made, failing;
+static int for_good;
 static void *(*next_malloc)(size_t);
 static void *(*next_calloc)(size_t, size_t);
 static void *(*next_realloc)(void *, size_t);
@@ -46,11 +52,13 @@ static void set_up(void) {
     next_posix = dlsym(RTLD_NEXT, "posix_memalign");
     const char *number = getenv("FAIL_AT");
     failing = number ? strtoul(number, NULL, 10) : 0;
+    for_good = getenv("FAIL_FOR_GOOD") != NULL;
 }
 
 static int fails(void) {
     set_up();
-    return ++made == failing;
+    made++;
+    return made == failing || (for_good && failing && made > failing);
 }
 
 void *malloc(size_t size) {
@@ -122,6 +130,13 @@ run_failing() {
         "$program" $1 <"$2" >"$scratch/written" || status=$?
 }
 
+# The same with all later allocations failing too. The status is 124 where it doesn't end in time.
+run_without() {
+    status=0
+    timeout "$seconds" env LD_PRELOAD="$scratch/fail.so" FAIL_AT="$3" FAIL_FOR_GOOD=1 \
+        "$program" $1 <"$2" >"$scratch/written" || status=$?
+}
+
 # Whether what was written is a front of the whole text.
 is_front() {
     head -c "$(wc -c <"$scratch/written")" "$scratch/whole" | cmp -s - "$scratch/written"
@@ -146,6 +161,7 @@ measure() {
     most=$(cat "$scratch/count")
     short=0
     same=0
+    without=0
     at=1
     while [ "$at" -le "$most" ]; do
         run_failing "$2" "$3" "$at"
@@ -157,12 +173,19 @@ measure() {
             echo "memory.sh: $1: with allocation $at failing the status is $status" >&2
             exit 1
         fi
+        run_without "$2" "$3" "$at"
+        if is_short; then
+            without=$((without + 1))
+        elif ! is_whole; then
+            echo "memory.sh: $1: without memory from allocation $at on the status is $status" >&2
+            exit 1
+        fi
         at=$((at + 1))
     done
-    printf '%-24s %6d %8d %8d %8d\n' "$1" "$wanted" "$most" "$short" "$same"
+    printf '%-24s %6d %8d %8d %8d %8d\n' "$1" "$wanted" "$most" "$short" "$same" "$without"
 }
 
-printf '%-24s %6s %8s %8s %8s\n' run status made short same
+printf '%-24s %6s %8s %8s %8s %8s\n' run status made short same without
 for example in uart kinds holders exclusive board; do
     measure "$example-sim" sim "$root/examples/$example.bundle" fixed
 done
