@@ -1,5 +1,5 @@
 -- What an event of a driver makes of the handles and of the change in flight.
-use Rattle.std.proofs.Common.{◌≡◌, ◌⊎◌, inl, inr, ℕ, ◌+◌, ◌-◌, ◌<◌, Bool, true, false, cond, nat_eq, nat_lt, ◌||◌, ◌&&◌, List, [], ◌∷◌, Option, Some, None, set, refl, sym, ap, subst, ◌∙◌, arith, reverse}
+use Rattle.std.proofs.Common.{◌≡◌, inl, inr, ℕ, ◌+◌, ◌-◌, ◌<◌, Bool, true, false, cond, nat_eq, nat_lt, ◌||◌, ◌&&◌, List, [], ◌∷◌, Option, Some, None, set, refl, sym, ap, subst, ◌∙◌, arith, reverse}
 use Rattle.std.specs.Prelude.{option_map, slice_get, nat_le}
 use Rattle.std.specs.Option.{option_map_or}
 use Rattle.std.proofs.lemmas.Bool.Decides.{nat_tests}
@@ -22,12 +22,12 @@ use Rattle.clk_model.specs.Chain.{chain, clock_id}
 use Rattle.clk_model.specs.Views.{view, lift}
 use Rattle.clk_model.specs.Script.{probe_script, sweep_script}
 use Rattle.clk_model.specs.Gates.{settled}
-use Rattle.clk_model.specs.Begin.{refused, done, pick, own_handle, with_handle, starts, change_of, change_along, put_handle, given, got, put_back, prepare, unprepare, keeps_prepare, request, range_set, parent_set, held_once_more, exclusive_put, notifier_added, notifier_removed, probed, swept, reparenting, register, rounded, request_between, prepared_once_more, begun}
+use Rattle.clk_model.specs.Begin.{refused, done, own_handle, with_handle, starts, change_of, change_along, put_handle, given, got, put_back, prepare, unprepare, keeps_prepare, request, range_set, parent_set, held_once_more, exclusive_put, reparenting, register, rounded, request_between, prepared_once_more, begun}
 use Rattle.clk_model.specs.Step.{taken, stepped, raise_one, to_raise, on, timed_out, poll, is_yes, lower_one, to_lower, register_in, end_of, range_back, with_range, ended_well, unranged}
 use Rattle.clk_model.specs.Machine.{enabled, disabled, running, paid, next}
 use Rattle.clk_model.proofs.TierLaws.{pick_either, with_handle_either, paid_is}
 use Rattle.clk_model.proofs.FlightLaws.{IsStep, step_is, begin_is}
-use Rattle.clk_model.proofs.StepLaws.{IsAfter, step_after}
+use Rattle.clk_model.proofs.StepLaws.{step_after}
 use Rattle.clk_phase.proofs.OwnRows.{own_is, Backed, AllBacked, Touches, nothing, adds, takes, puts, at_same, backed_still, row_set}
 
 -- the handle that the end of a call may change
@@ -150,9 +150,9 @@ module _ (s : State) (d : ℕ) where
           pick_either (P s d) _ _ _ (λ e. now)
           (λ e. pick_either (P s d) _ _ _ (λ f. refuses errno.EBUSY)
           (λ f. by_plan (chain (wiring u) (view lifted) c x))) where
-          by_plan : (o : Option (List ChainStep)) → P s d (option_map_or (λ ks. starts s u (change_along u d what ks [] range)) o (refused s errno.EINVAL))
-          by_plan None = refuses errno.EINVAL
-          by_plan (Some ks) = starting u (change_along u d what ks [] range) touch refl own
+            by_plan : (o : Option (List ChainStep)) → P s d (option_map_or (λ ks. starts s u (change_along u d what ks [] range)) o (refused s errno.EINVAL))
+            by_plan None = refuses errno.EINVAL
+            by_plan (Some ks) = starting u (change_along u d what ks [] range) touch refl own
 
       ranged : (h : Handle) (least most : ℕ) (r : HandleRow) → own_handle s d h.number ≡ Some r → P s d (range_set s d (call.SetRange h least most) h.number r least most)
       ranged h least most r own =
@@ -230,8 +230,8 @@ module _ (s : State) (d : ℕ) where
       begun_lands (call.Probe c) =
           pick_either (P s d) _ _ _ (λ e. refuses errno.EEXIST)
           (λ e. pick_either (P s d) _ _ _ (λ f. registered_lands) (λ f. starting s (change_of s d (call.Probe c) (probe_script (register s c.0) c.0)) nothing refl (none_owned s.handles))) where
-        registered_lands : P s d (done (register s c.0) reply.Fine)
-        registered_lands = once s reply.Fine nothing refl
+            registered_lands : P s d (done (register s c.0) reply.Fine)
+            registered_lands = once s reply.Fine nothing refl
       begun_lands call.Sweep = pick_either (P s d) _ _ _ (λ e. once s reply.Fine nothing refl) (λ e. starting s (change_of s d call.Sweep (sweep_script s)) nothing refl (none_owned s.handles))
 
 -- ---- steps
@@ -247,6 +247,7 @@ going_handles s k answer (micro.Poll y) going = by_answer (is_yes answer) (nat_l
   by_late : (b : Bool) → (cond b (timed_out s (record k { polls = 0 })) (on s (record k { polls = k.polls - 1; front = micro.Poll (clock_id y.0) ∷ k.front }))).handles ≡ s.handles
   by_late true = refl
   by_late false = refl
+
   by_answer : (a b : Bool) → (poll s k y.0 a).handles ≡ s.handles
   by_answer true b = refl
   by_answer false b = by_late (nat_le k.polls 1)
@@ -321,11 +322,14 @@ module _ (s t : State) (d : ℕ) (kept : IsKept s.handles s.change) where
         owned = λ j at. absurd (let no : None ≡ Some j = sym none ∙ at in cc);
         other = λ j at apart. absurd (other_gone j at apart);
       }
+
       own : Owns (ends_on k.call) d s.handles
       own = subst (λ (x : ℕ). Owns (ends_on k.call) x s.handles) is.driver (kept.owned k is.at)
+
       ending : (b : Bool) → Touches d s.handles (record (cond b (unranged s (taken k)) (ended_well s k.driver k.call)) { change = None }).handles
       ending true = back_touches d s.handles k.call k.range kept.backed own
       ending false = subst (λ (x : ℕ). Touches d s.handles (ended_well s x k.call).handles) (sym is.driver) (ended_touches s d k.call kept.backed own)
+
       ended : (m : Micro) → (stepped s (taken k) answer m).1 ≡ turn.Done r → Lands s d (settled s (stepped s (taken k) answer m).0).handles (settled s (stepped s (taken k) answer m).0).change
       ended micro.End e = finished (end_of s (taken k)).0 (ending (k.vetoed || k.timed_out)) refl
       ended m e = absurd cc

@@ -1,8 +1,7 @@
 -- The loop over a command's calls.
-use Rattle.std.proofs.Common.{◌≡◌, ℕ, ◌+◌, ◌-◌, ◌*◌, ◌≤◌, ◌<◌, Bool, true, false, cond, ◌&&◌, List, [], ◌∷◌, ◌++◌, All, Option, Some, None, is_some, is_none, map, reverse, length, refl, sym, ap, subst, ◌∙◌, arith, if◌then◌else◌}
+use Rattle.std.proofs.Common.{◌≡◌, ℕ, ◌+◌, ◌-◌, ◌*◌, ◌≤◌, ◌<◌, Bool, true, false, cond, ◌&&◌, List, [], ◌∷◌, ◌++◌, All, Option, Some, None, map, reverse, length, refl, sym, ap, subst, ◌∙◌, arith}
 use Rattle.std.proofs.lemmas.List.{length-map, length-reverse, reverse-append}
 use Rattle.std.proofs.lemmas.List.Elements.{All-head, All-tail, All-cons, All-nil, All-append}
-use Rattle.clk_base.specs.declared.call.Sleeping.{Sleeping}
 use Rattle.clk_base.specs.declared.call.Sleeping.TheVariants as call
 use Rattle.clk_base.specs.declared.event.Reply.{Reply}
 use Rattle.clk_base.specs.declared.event.Reply.TheVariants as reply
@@ -11,7 +10,7 @@ use Rattle.clk_phase.specs.declared.bulk_call.BulkKind.{BulkKind}
 use Rattle.clk_phase.specs.declared.bulk_call.BulkItem.{BulkItem}
 use Rattle.clk_phase.specs.declared.bulk_call.BulkStep.{BulkStep}
 use Rattle.clk_phase.specs.declared.bulk_call.BulkStep.TheVariants as step
-use Rattle.clk_phase.specs.Bulk.{Made, IsBulk, is_good, is_forward, undo_of, step_of, handle_in, credits_for}
+use Rattle.clk_phase.specs.Bulk.{Made, is_good, is_forward, undo_of, step_of, handle_in, credits_for}
 use Rattle.clk_phase.specs.Running.{handles_at, Run, next_of, made_of, begun, Runs, first_fail, most_left}
 use Rattle.clk_phase.specs.Going.{Goes, IsPlacedStep}
 use Rattle.clk_phase.specs.Doing.{Does, IsUnderWay, ArePlaced}

@@ -1,5 +1,5 @@
 -- What a whole call of a driver makes of the row of one of its handles, whatever the others do meanwhile.
-use Rattle.std.proofs.Common.{◌≡◌, ◌≢◌, ◌⊎◌, inl, inr, ℕ, zero, suc, ◌+◌, ◌-◌, ◌<◌, Bool, true, false, cond, nat_eq, nat_lt, ◌||◌, ◌&&◌, List, [], ◌∷◌, ◌++◌, Option, Some, None, set, length, refl, sym, ap, subst, ◌∙◌, arith}
+use Rattle.std.proofs.Common.{◌≡◌, ◌≢◌, ◌⊎◌, inl, inr, ℕ, zero, suc, ◌+◌, ◌-◌, Bool, true, false, cond, nat_eq, ◌||◌, List, [], ◌∷◌, ◌++◌, Option, Some, None, set, length, refl, sym, ap, subst, ◌∙◌, arith}
 use Rattle.std.specs.Prelude.{option_map}
 use Rattle.std.specs.Option.{option_map_or}
 use Rattle.std.proofs.lemmas.Bool.{cases_eq}
@@ -23,11 +23,11 @@ use Rattle.clk_model.specs.declared.row.HandleRow.{HandleRow}
 use Rattle.clk_model.specs.State.{State, Change, handle_at}
 use Rattle.clk_model.specs.Tree.{rooted}
 use Rattle.clk_model.specs.Gates.{settled}
-use Rattle.clk_model.specs.Begin.{refused, done, pick, own_handle, with_handle, starts, change_of, put_handle, given, got, holds_something, put_back, prepared_once_more, prepare, unprepare, keeps_prepare, begun}
+use Rattle.clk_model.specs.Begin.{refused, own_handle, with_handle, given, got, holds_something, put_back, prepared_once_more, prepare, unprepare, keeps_prepare, begun}
 use Rattle.clk_model.specs.Step.{taken, stepped, end_of, range_back, ended_well, unranged}
 use Rattle.clk_model.specs.Machine.{enabled, disabled, paid, next}
 use Rattle.clk_model.specs.Journal.{slotless, replay, Legal, own}
-use Rattle.clk_model.proofs.TierLaws.{pick_either, with_handle_either, paid_is}
+use Rattle.clk_model.proofs.TierLaws.{pick_either, paid_is}
 use Rattle.clk_model.proofs.FlightLaws.{IsStep, step_is, begin_is}
 use Rattle.clk_model.proofs.StepLaws.{step_after}
 use Rattle.clk_phase.specs.declared.bulk_call.BulkStep.{BulkStep}
@@ -36,7 +36,7 @@ use Rattle.clk_phase.specs.Bulk.{is_good}
 use Rattle.clk_phase.specs.Undone.{event_of, AreSteps, AreWholeCall}
 use Rattle.clk_phase.proofs.OwnRows.{own_of, own_in, own_row, own_is, at_same, at_other, others_stay}
 use Rattle.clk_model.specs.Tier.{is_step}
-use Rattle.clk_phase.proofs.Events.{ends_on, new_handle, IsKept, Lands, lands, lands_kept, going_handles}
+use Rattle.clk_phase.proofs.Events.{new_handle, IsKept, lands, lands_kept, going_handles}
 
 -- ---- what a call makes of the row of number n, from x to y
 
@@ -132,17 +132,30 @@ module _ (s : State) (d n : ℕ) where
   enable_once h = by_own (Once (step.Enable h)) h.number (enabled s h.number)
       (λ none. (reply.Refused errno.ENOENT, refl, ((λ bad. refl), (λ differs. refl), (λ is good. absurd cc))))
       (λ r own_. pick_either (Once (step.Enable h)) (nat_eq r.prepares 0) _ _
-        (λ e. (reply.Refused errno.ESHUTDOWN, refl, ((λ bad. refl), (λ differs. refl), (λ is good. absurd cc))))
-        (λ e. (reply.Fine, refl, ((λ bad. absurd cc), (λ differs. away h.number (Some (with_enables r (r.enables + 1))) differs),
-            (λ is good. (r, ap (λ (i : ℕ). own_in s.handles d i) (sym is) ∙ own_, here h.number r (with_enables r (r.enables + 1)) own_ refl is))))))
+      (λ e. (reply.Refused errno.ESHUTDOWN, refl, ((λ bad. refl), (λ differs. refl), (λ is good. absurd cc))))
+      (λ e. (
+        reply.Fine,
+        refl,
+        (
+          (λ bad. absurd cc),
+          (λ differs. away h.number (Some (with_enables r (r.enables + 1))) differs),
+          (λ is good. (r, ap (λ (i : ℕ). own_in s.handles d i) (sym is) ∙ own_, here h.number r (with_enables r (r.enables + 1)) own_ refl is)),
+        ),
+      )))
 
   disable_once : (h : Handle) → Once (step.Disable h) (with_handle s d h.number (disabled s h.number))
   disable_once h = by_own (Once (step.Disable h)) h.number (disabled s h.number)
       (λ none. (reply.Refused errno.ENOENT, refl, ((λ differs. refl), (λ is row at some. absurd (no_row h.number row none is at)))))
       (λ r own_. pick_either (Once (step.Disable h)) (nat_eq r.enables 0) _ _
-        (λ e. (reply.Warn, refl, ((λ differs. refl), (λ is row at some. absurd (some (sym (ap (λ (q : HandleRow). q.enables) (is_row h.number r row own_ is at)) ∙ no_enables r.enables e))))))
-        (λ e. (reply.Fine, refl, ((λ differs. away h.number (Some (with_enables r (r.enables - 1))) differs),
-            (λ is row at some. here h.number r (with_enables r (r.enables - 1)) own_ refl is ∙ ap (λ (q : HandleRow). let o : Option HandleRow = Some (with_enables q (q.enables - 1)) in o) (is_row h.number r row own_ is at))))))
+      (λ e. (reply.Warn, refl, ((λ differs. refl), (λ is row at some. absurd (some (sym (ap (λ (q : HandleRow). q.enables) (is_row h.number r row own_ is at)) ∙ no_enables r.enables e))))))
+      (λ e. (
+        reply.Fine,
+        refl,
+        (
+          (λ differs. away h.number (Some (with_enables r (r.enables - 1))) differs),
+          (λ is row at some. here h.number r (with_enables r (r.enables - 1)) own_ refl is ∙ ap (λ (q : HandleRow). let o : Option HandleRow = Some (with_enables q (q.enables - 1)) in o) (is_row h.number r row own_ is at)),
+        ),
+      )))
 
   -- ---- beginnings
 
@@ -169,20 +182,23 @@ module _ (s : State) (d n : ℕ) where
   put_begun h = by_own (Begun (call.Put h)) h.number (put_back s h.number)
       (λ none. ((λ differs. refl), (λ is row at free. absurd (no_row h.number row none is at))))
       (λ r own_. pick_either (Begun (call.Put h)) (holds_something r) _ _
-        (λ e. ((λ differs. refl), (λ is row at free. absurd (let no : true ≡ false = sym e ∙ ap holds_something (is_row h.number r row own_ is at) ∙ free in cc))))
-        (λ e. ((λ differs. away h.number None differs), (λ is row at free. taken_here h.number r own_ is))))
+      (λ e. ((λ differs. refl), (λ is row at free. absurd (let no : true ≡ false = sym e ∙ ap holds_something (is_row h.number r row own_ is at) ∙ free in cc))))
+      (λ e. ((λ differs. away h.number None differs), (λ is row at free. taken_here h.number r own_ is))))
 
   prepare_begun : (h : Handle) → Begun (call.Prepare h) (with_handle s d h.number (prepare s d (call.Prepare h) h.number))
   prepare_begun h = by_own (Begun (call.Prepare h)) h.number (prepare s d (call.Prepare h) h.number)
       (λ none. ((λ bad. refl), (λ differs. refl), (λ is good. absurd cc)))
       (λ r own_. pick_either (Begun (call.Prepare h)) _ _ _
-        (λ e. ((λ bad. absurd cc), (λ differs. away h.number (Some (with_prepares r (r.prepares + 1))) differs),
-            (λ is good. (r, ap (λ (i : ℕ). own_in s.handles d i) (sym is) ∙ own_, here h.number r (with_prepares r (r.prepares + 1)) own_ refl is))))
-        (λ e. pick_either (Begun (call.Prepare h)) _ _ _ (λ f. ((λ bad. refl), (λ differs. refl), (λ is good. absurd cc))) (λ f. ((_, refl, refl, refl), refl, r, own_))))
+      (λ e. (
+        (λ bad. absurd cc),
+        (λ differs. away h.number (Some (with_prepares r (r.prepares + 1))) differs),
+        (λ is good. (r, ap (λ (i : ℕ). own_in s.handles d i) (sym is) ∙ own_, here h.number r (with_prepares r (r.prepares + 1)) own_ refl is)),
+      ))
+      (λ e. pick_either (Begun (call.Prepare h)) _ _ _ (λ f. ((λ bad. refl), (λ differs. refl), (λ is good. absurd cc))) (λ f. ((_, refl, refl, refl), refl, r, own_))))
 
   less_row : (h : Handle) (r : HandleRow) → own_handle s d h.number ≡ Some r
       → At n h.number before (own_in (set s.handles h.number (Some (with_prepares r (r.prepares - 1)))) d n) ((row : HandleRow) → before ≡ Some row → keeps_prepare row ≡ false
-        → own_in (set s.handles h.number (Some (with_prepares r (r.prepares - 1)))) d n ≡ Some (with_prepares row (row.prepares - 1)))
+      → own_in (set s.handles h.number (Some (with_prepares r (r.prepares - 1)))) d n ≡ Some (with_prepares row (row.prepares - 1)))
   less_row h r own_ = (
     (λ differs. away h.number (Some (with_prepares r (r.prepares - 1))) differs),
     (λ is row at gives. here h.number r (with_prepares r (r.prepares - 1)) own_ refl is ∙ ap (λ (q : HandleRow). let o : Option HandleRow = Some (with_prepares q (q.prepares - 1)) in o) (is_row h.number r row own_ is at)),
@@ -192,10 +208,10 @@ module _ (s : State) (d n : ℕ) where
   unprepare_begun h = by_own (Begun (call.Unprepare h)) h.number (unprepare s d (call.Unprepare h) h.number)
       (λ none. ((λ differs. refl), (λ is row at gives. absurd (no_row h.number row none is at))))
       (λ r own_. pick_either (Begun (call.Unprepare h)) (keeps_prepare r) _ _
-        (λ e. ((λ differs. refl), (λ is row at gives. absurd (let no : true ≡ false = sym e ∙ ap keeps_prepare (is_row h.number r row own_ is at) ∙ gives in cc))))
-        (λ e. pick_either (Begun (call.Unprepare h)) _ _ _
-          (λ f. let less = less_row h r own_ in (less.0, (λ is row at gives. inr (less.1 is row at gives))))
-          (λ f. pick_either (Begun (call.Unprepare h)) _ _ _ (λ g. ((λ differs. refl), (λ is row at gives. inl refl))) (λ g. ((_, refl, refl, refl), less_row h r own_)))))
+      (λ e. ((λ differs. refl), (λ is row at gives. absurd (let no : true ≡ false = sym e ∙ ap keeps_prepare (is_row h.number r row own_ is at) ∙ gives in cc))))
+      (λ e. pick_either (Begun (call.Unprepare h)) _ _ _
+      (λ f. let less = less_row h r own_ in (less.0, (λ is row at gives. inr (less.1 is row at gives))))
+      (λ f. pick_either (Begun (call.Unprepare h)) _ _ _ (λ g. ((λ differs. refl), (λ is row at gives. inl refl))) (λ g. ((_, refl, refl, refl), less_row h r own_)))))
 
   past : (hs : List (Option HandleRow)) (q : HandleRow) (m : ℕ) → length hs ≢ m → own_in (hs ++ Some q ∷ []) d m ≡ own_in hs d m
   past [] q zero differs = absurd (differs refl)
@@ -210,12 +226,15 @@ module _ (s : State) (d n : ℕ) where
   get_begun : (name : Option ClockId) (found : Option ℕ) → Begun (call.Get name) (got s d found)
   get_begun name None = refl
   get_begun name (Some c) = pick_either (Begun (call.Get name)) (rooted s.defs s.clocks c) _ _
-      (λ e. ((λ differs. past s.handles (new_handle d c) n differs), (λ is. (
-        ap (λ (i : ℕ). own_in s.handles d i) (sym is) ∙ ap (own_of d) (last s.handles (new_handle d c)).0,
-        new_handle d c,
-        own_row d (handle_at (given s d c).0.handles n) (new_handle d c) (ap (handle_at (given s d c).0.handles) (sym is) ∙ (last s.handles (new_handle d c)).1) refl,
-        refl,
-      ))))
+      (λ e. (
+        (λ differs. past s.handles (new_handle d c) n differs),
+        (λ is. (
+          ap (λ (i : ℕ). own_in s.handles d i) (sym is) ∙ ap (own_of d) (last s.handles (new_handle d c)).0,
+          new_handle d c,
+          own_row d (handle_at (given s d c).0.handles n) (new_handle d c) (ap (handle_at (given s d c).0.handles) (sym is) ∙ (last s.handles (new_handle d c)).1) refl,
+          refl,
+        )),
+      ))
       (λ e. refl)
 
   begun_effect : (what : Sleeping) → is_ours what ≡ true → Begun what (begun s d what)
@@ -250,6 +269,7 @@ module _ (s : State) (d n : ℕ) where
       going (call.Get found) b = absurd b
       going (call.Put h) b = absurd b
       going _ b = tt
+
     by_turn : (z : Turn) → z ≡ x → ByTurn what y.0 z → Outcome (step.Call what) u x
     by_turn z same b = subst (λ (v : State). Outcome (step.Call what) v x) is (subst (λ (w : Turn). Outcome (step.Call what) (record (settled s y.0) { spent = s.spent + 1 }) w) same (moved z b))
 
@@ -266,10 +286,13 @@ slot_effect n (step.Disable g) h x y ours e = e
 slot_effect n (step.Call (call.Get found)) h x y ours e = e
 slot_effect n (step.Call (call.Put g)) h x y ours e = e
 slot_effect n (step.Call (call.Prepare g)) h x y ours e = e
-slot_effect n (step.Call (call.Unprepare g)) h x y ours e = (e.0, (λ is row at gives. elim (e.1 is row at gives) [
-  | inl full ↦ absurd (let never : reply.Handle (record h { slot = 0 }) ≡ reply.Refused errno.ENOSPC = full in cc)
-  | inr less ↦ inr less
-]))
+slot_effect n (step.Call (call.Unprepare g)) h x y ours e = (
+  e.0,
+  (λ is row at gives. elim (e.1 is row at gives) [
+    | inl full ↦ absurd (let never : reply.Handle (record h { slot = 0 }) ≡ reply.Refused errno.ENOSPC = full in cc)
+    | inr less ↦ inr less
+  ]),
+)
 slot_effect n (step.Call _) h x y ours e = absurd cc
 
 own_done : (s u : State) (d n : ℕ) (what : BulkStep) (r : Reply) → is_our_step what ≡ true → next s d (event_of what) ≡ Some (u, slotless (turn.Done r)) → Effect n what r (own_in s.handles d n) (own_in u.handles d n)
@@ -290,6 +313,7 @@ mine_or_not d e es = elim (cases_eq e.driver d) [
 ] where
   yes_ : (a b : ℕ) → a ≡ b → nat_eq a b ≡ true
   yes_ a b same = grind (arith, nat_tests)
+
   no_ : (a b : ℕ) → (a ≡ b → ⊥) → nat_eq a b ≡ false
   no_ a b differs = grind (arith, nat_tests)
 
@@ -369,12 +393,16 @@ module _ (d n : ℕ) where
       let at = own_is d (handle_at s.handles h.number) p own_ in
       let put : HandleRow = with_prepares p (p.prepares + 1) in
       let hs : List (Option HandleRow) = set s.handles h.number (Some put) in
-      let left : (ended_well s x (call.Prepare h)).handles ≡ hs = ap (λ (o : Option HandleRow). (option_map_or (prepared_once_more s h.number) o s).handles) at.0 in
-      ((λ bad. absurd (both_ways (is_good r) good bad)),
+      let left : (ended_well s x (call.Prepare h)).handles ≡ hs = ap (λ (o : Option HandleRow). (option_map_or (prepared_once_more s h.number) o s).handles) at.0 in (
+        (λ bad. absurd (both_ways (is_good r) good bad)),
         (λ differs. ap (λ (l : List (Option HandleRow)). own_in l d n) left ∙ ap (own_of d) (at_other s.handles h.number n (Some put) differs)),
-        (λ same good_. (p, ap (λ (m : ℕ). own_in s.handles d m) (sym same) ∙ own_,
+        (λ same good_. (
+          p,
+          ap (λ (m : ℕ). own_in s.handles d m) (sym same) ∙ own_,
           ap (λ (l : List (Option HandleRow)). own_in l d n) left
-          ∙ own_row d (handle_at hs n) put (ap (handle_at hs) (sym same) ∙ at_same s.handles h.number (Some put) p at.0) at.1)))
+              ∙ own_row d (handle_at hs n) put (ap (handle_at hs) (sym same) ∙ at_same s.handles h.number (Some put) p at.0) at.1,
+        )),
+      )
 
   -- at its end
   end_effect : (s : State) (k : Change) (what : Sleeping) (r : Reply) → is_ours what ≡ true → k.call ≡ what → Live what s → slotless (turn.Done r) ≡ (end_of s (taken k)).1
@@ -382,8 +410,10 @@ module _ (d n : ℕ) where
   end_effect s k what r ours is_call live answered = by_veto k.vetoed k.timed_out what is_call ours live answered where
     left : Bool → Bool → State
     left v late = record (cond (v || late) (unranged s (taken k)) (ended_well s k.driver k.call)) { change = None }
+
     told : Bool → Bool → Turn
     told v late = turn.Done (cond v (reply.Refused errno.EBUSY) (cond late (reply.Refused errno.ETIMEDOUT) reply.Fine))
+
     same_back : (what : Sleeping) → is_ours what ≡ true → k.call ≡ what → (range_back k.call k.range s.handles) ≡ s.handles
     same_back what ours is = ap (λ (w : Sleeping). range_back w k.range s.handles) is ∙ back what ours where
       back : (w : Sleeping) → is_ours w ≡ true → range_back w k.range s.handles ≡ s.handles
@@ -392,6 +422,7 @@ module _ (d n : ℕ) where
       back (call.Prepare h) ours = refl
       back (call.Unprepare h) ours = refl
       back _ ours = absurd cc
+
     refused_end : (v late : Bool) (e : Errno) (what : Sleeping) → is_ours what ≡ true → k.call ≡ what → (v || late) ≡ true → slotless (turn.Done r) ≡ turn.Done (reply.Refused e) → Ends what r (row s) (own_in (left v late).handles d n)
     refused_end v late e what ours is_call undone answered =
         by_call what ours (ap (λ (b : Bool). own_in (cond b (unranged s (taken k)) (ended_well s k.driver k.call)).handles d n) undone ∙ ap (λ (l : List (Option HandleRow)). own_in l d n) (same_back what ours is_call)) where
@@ -399,6 +430,7 @@ module _ (d n : ℕ) where
           by_call (call.Prepare h) ours same = ((λ bad. same), (λ differs. same), (λ is good. absurd (both_ways (is_good r) good (bad_refused r e answered))))
           by_call (call.Unprepare h) ours same = same
           by_call _ ours same = tt
+
     by_veto : (v late : Bool) (what : Sleeping) → k.call ≡ what → is_ours what ≡ true → Live what s → slotless (turn.Done r) ≡ told v late → Ends what r (row s) (own_in (left v late).handles d n)
     by_veto true late what is_call ours live answered = refused_end true late errno.EBUSY what ours is_call refl answered
     by_veto false true what is_call ours live answered = refused_end false true errno.ETIMEDOUT what ours is_call refl answered
@@ -443,8 +475,10 @@ module _ (d n : ℕ) where
   ] where
     u : State
     u = legal.0
+
     after_leads : replay u es ≡ t
     after_leads = replays s u t e es legal.1 leads
+
     by_other : (e.driver ≡ d → ⊥) → AreSteps turn.Going (own es d) r → Ends what r (row s) (row t) × Keeps t
     by_other other steps =
         let b = beside s u e kept other legal.1 in
@@ -453,9 +487,11 @@ module _ (d n : ℕ) where
         (subst (λ (x : Option HandleRow). Ends what r x (row t)) b.0 rest.0, rest.1) where
           stays_in_flight : InFlight u d n what u × Live what u
           stays_in_flight =
-              let l = lands s u e.driver kept e.event (slotless e.turn) legal.1 in
-              ((flight.0, l.other flight.0 flight.1 (λ same. other (sym same ∙ flight.2)), flight.2, flight.3),
-                live_same what s u (λ m. others_stay e.driver d s.handles u.handles m other l.touches) live)
+              let l = lands s u e.driver kept e.event (slotless e.turn) legal.1 in (
+                (flight.0, l.other flight.0 flight.1 (λ same. other (sym same ∙ flight.2)), flight.2, flight.3),
+                live_same what s u (λ m. others_stay e.driver d s.handles u.handles m other l.touches) live,
+              )
+
     by_own : e.driver ≡ d → AreSteps turn.Going (e ∷ own es d) r → Ends what r (row s) (row t) × Keeps t
     by_own mine steps =
         let at = step_of_entry e.event steps.1 in
@@ -465,17 +501,21 @@ module _ (d n : ℕ) where
         by_turn e.turn refl (subst (λ (k : Change). IsStep s u e.driver at.0 at.1 (slotless e.turn) k) same is.1) steps.2 where
           some_is : {a b : Change} → Some a ≡ Some b → a ≡ b
           some_is e = cc
+
           going_on : (k : Change) (m : Micro) (answer : Option Bool) → k.driver ≡ d → k.call ≡ what → IsStep s u e.driver m answer turn.Going k → InFlight u d n what u × (u.handles ≡ s.handles)
           going_on k m answer driver is_call is =
-              let after_ = step_after s (taken k) answer m is.answered in
-              ((after_.0, sym (ap (λ (v : State). v.change) is.state) ∙ after_.1, after_.2.driver ∙ driver, after_.2.call ∙ is_call),
-                sym (ap (λ (v : State). v.handles) is.state) ∙ going_handles s (taken k) answer m is.answered)
+              let after_ = step_after s (taken k) answer m is.answered in (
+                (after_.0, sym (ap (λ (v : State). v.change) is.state) ∙ after_.1, after_.2.driver ∙ driver, after_.2.call ∙ is_call),
+                sym (ap (λ (v : State). v.handles) is.state) ∙ going_handles s (taken k) answer m is.answered,
+              )
+
           ends_at : (k : Change) (m : Micro) (answer : Option Bool) (q : Reply) → k.call ≡ what → IsStep s u e.driver m answer (slotless (turn.Done q)) k → Ends what q (row s) (row u)
           ends_at k m answer q is_call is =
               let whole = only_end s (taken k) answer m q is.answered in
               subst (λ (v : State). Ends what q (row s) (own_in v.handles d n)) is.state
               (subst (λ (y : State × Turn). Ends what q (row s) (own_in (settled s y.0).handles d n)) (sym whole)
               (end_effect s k what q ours is_call live (sym is.answered ∙ ap (λ (y : State × Turn). y.1) whole)))
+
           by_turn : (x : Turn) → e.turn ≡ x → {m : Micro} {answer : Option Bool} → IsStep s u e.driver m answer (slotless e.turn) flight.0 → AreSteps e.turn (own es d) r → Ends what r (row s) (row t) × Keeps t
           by_turn turn.Going is {m = m} {answer = answer} step_ rest =
               let on_ = going_on flight.0 m answer flight.2 flight.3 (subst (λ (x : Turn). IsStep s u e.driver m answer (slotless x) flight.0) is step_) in
@@ -508,6 +548,7 @@ module _ (d n : ℕ) where
   ] where
     u : State
     u = legal.0
+
     by_own : e.driver ≡ d → AreWholeCall (event_of what) (e ∷ own es d) r → Effect n what r (row s) (row t) × Keeps t
     by_own mine whole =
         let step_ : next s d (event_of what) ≡ Some (u, slotless e.turn) =

@@ -1,9 +1,8 @@
 -- A core with one entry more.
-use Rattle.std.proofs.Common.{◌≡◌, ℕ, ◌+◌, ◌≤◌, ◌<◌, Bool, true, false, cond, List, [], ◌∷◌, ◌++◌, All, Option, Some, None, length, slice_index, slice_set, nat_eq, refl, sym, ap, subst, ◌∙◌, arith}
+use Rattle.std.proofs.Common.{◌≡◌, ℕ, ◌<◌, Bool, true, false, cond, List, [], ◌∷◌, ◌++◌, All, Option, Some, None, length, slice_index, slice_set, nat_eq, refl, sym, ap, subst, ◌∙◌, arith}
 use Rattle.std.proofs.lemmas.List.{length-append, length-set}
 use Rattle.std.proofs.Math.IntN.{ℤ}
 use Rattle.clk_phase.specs.declared.phase_call.PhaseEntry.{PhaseEntry}
-use Rattle.clk_phase.specs.declared.phase_call.PhaseReply.{PhaseReply}
 use Rattle.clk_phase.specs.Phases.{best, wanted, settings_after, reply_of, at_first, after_entry, settings_of, LegalFrom}
 use Rattle.clk_phase.specs.PhaseLogs.{IsPhaseRun}
 

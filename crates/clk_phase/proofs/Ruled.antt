@@ -1,5 +1,5 @@
 -- A command under way makes its calls.
-use Rattle.std.proofs.Common.{◌≡◌, ℕ, ◌+◌, ◌-◌, ◌≤◌, ◌<◌, Bool, true, false, cond, ◌&&◌, List, [], ◌∷◌, ◌++◌, Option, Some, None, is_some, is_none, map, reverse, length, refl, sym, ap, subst, ◌∙◌, append_assoc, arith, if◌then◌else◌}
+use Rattle.std.proofs.Common.{◌≡◌, ℕ, ◌+◌, ◌-◌, Bool, true, false, cond, ◌&&◌, List, [], ◌∷◌, ◌++◌, Option, Some, None, is_none, map, reverse, length, refl, sym, ap, subst, ◌∙◌, append_assoc}
 use Rattle.std.proofs.lemmas.List.{append-nil}
 use Rattle.clk_base.specs.declared.event.Reply.{Reply}
 use Rattle.clk_base.specs.declared.handle.Handle.{Handle}
@@ -7,7 +7,7 @@ use Rattle.clk_phase.specs.declared.bulk_call.BulkKind.{BulkKind}
 use Rattle.clk_phase.specs.declared.bulk_call.BulkItem.{BulkItem}
 use Rattle.clk_phase.specs.declared.bulk_call.BulkStep.{BulkStep}
 use Rattle.clk_phase.specs.Bulk.{Made, is_forward, is_good, step_of, undo_of, handle_in, handles_of, steps_made, Forward, GoesOn, fail_up, fail_down, IsBulk, IsBulkBy}
-use Rattle.clk_phase.specs.Running.{Run, handles_at, next_of, made_of, begun, Runs, first_fail}
+use Rattle.clk_phase.specs.Running.{Run, handles_at, next_of, begun, Runs, first_fail}
 
 abbrev pub run : Bool → List BulkStep → List BulkStep → Option (ℕ × Reply) → ℕ → List Handle → Run
 run forward left undo fail place handles = record { forward = forward; left = left; undo = undo; fail = fail; place = place; handles = handles }
@@ -83,12 +83,15 @@ back (s ∷ left) undo fail place handles [] r' runs none = absurd (ended (run f
 back (s ∷ left) undo fail place handles (m ∷ made) r' runs none = by_case (λ u f p h rest. back left u f p h made r' rest none) (is_good m.reply) runs.1 refl where
   head_is : (rest : steps_made made ≡ left) → steps_made (m ∷ made) ≡ s ∷ left
   head_is rest = ap (λ (x : BulkStep). x ∷ steps_made made) (sym (same_some s m.step runs.0)) ∙ ap (λ (ss : List BulkStep). s ∷ ss) rest
+
   good : (f : Option (ℕ × Reply)) → is_good m.reply ≡ true → fail_after f (place - 1) made ≡ fail_after f place (m ∷ made)
   good None is = ap (λ (b : Bool). cond b (fail_down (place - 1) made) (Some (place, m.reply))) (sym is)
   good (Some f) is = refl
+
   bad : (f : Option (ℕ × Reply)) → is_good m.reply ≡ false → fail_after (first_fail f place m.reply) (place - 1) made ≡ fail_after f place (m ∷ made)
   bad None is = ap (λ (b : Bool). cond b (fail_down (place - 1) made) (Some (place, m.reply))) (sym is)
   bad (Some f) is = refl
+
   by_case : ((u : List BulkStep) (f : Option (ℕ × Reply)) (p : ℕ) (h : List Handle) → Runs (run false left u f p h) made r' → (steps_made made ≡ left) × (r'.fail ≡ fail_after f p made) × (r'.forward ≡ false)) → (b : Bool)
       → Runs (cond b (run false left (undo_of m.step m.reply ∷ undo) fail (place - 1) (handles ++ handle_in m.reply)) (run false left undo (first_fail fail place m.reply) (place - 1) handles)) made r' → is_good m.reply ≡ b
       → (steps_made (m ∷ made) ≡ s ∷ left) × (r'.fail ≡ fail_after fail place (m ∷ made)) × (r'.forward ≡ false)

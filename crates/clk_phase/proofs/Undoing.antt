@@ -1,19 +1,17 @@
 -- A forward command that fails leaves the row of each of the driver's handles.
-use Rattle.std.proofs.Common.{◌≡◌, ◌≢◌, ◌⊎◌, inl, inr, ℕ, ◌+◌, ◌-◌, ◌<◌, Bool, true, false, cond, nat_eq, nat_lt, ◌||◌, ◌&&◌, List, [], ◌∷◌, ◌++◌, Option, Some, None, map, length, refl, sym, ap, subst, ◌∙◌, arith}
+use Rattle.std.proofs.Common.{◌≡◌, ◌⊎◌, inl, inr, ℕ, ◌+◌, ◌-◌, ◌<◌, Bool, true, false, cond, nat_eq, nat_lt, ◌||◌, ◌&&◌, List, [], ◌∷◌, Option, Some, None, map, length, refl, sym, ap, subst, ◌∙◌, arith}
 use Rattle.std.specs.List.{list_any}
 use Rattle.std.specs.Option.{option_map_or}
 use Rattle.std.proofs.lemmas.Bool.{cases_eq}
 use Rattle.std.proofs.lemmas.Bool.Decides.{nat_tests}
 use Rattle.clk_base.specs.declared.call.Sleeping.TheVariants as call
 use Rattle.clk_base.specs.declared.event.Entry.{Entry}
-use Rattle.clk_base.specs.declared.event.Errno.TheVariants as errno
 use Rattle.clk_base.specs.declared.event.Reply.{Reply}
 use Rattle.clk_base.specs.declared.event.Reply.TheVariants as reply
-use Rattle.clk_base.specs.declared.handle.Handle.{Handle}
 use Rattle.clk_base.specs.Description.{Description}
 use Rattle.reg_bank.specs.Registers.{Registers}
 use Rattle.clk_model.specs.declared.row.HandleRow.{HandleRow}
-use Rattle.clk_model.specs.State.{State, Change, handle_at}
+use Rattle.clk_model.specs.State.{State, handle_at}
 use Rattle.clk_model.specs.Begin.{holds_something, keeps_prepare}
 use Rattle.clk_model.specs.Machine.{next}
 use Rattle.clk_model.specs.Journal.{replay, opening}
@@ -24,10 +22,10 @@ use Rattle.clk_phase.specs.declared.bulk_call.BulkKind.{BulkKind}
 use Rattle.clk_phase.specs.declared.bulk_call.BulkKind.TheVariants as kind
 use Rattle.clk_phase.specs.declared.bulk_call.BulkStep.{BulkStep}
 use Rattle.clk_phase.specs.declared.bulk_call.BulkStep.TheVariants as step
-use Rattle.clk_phase.specs.Bulk.{Made, is_forward, is_good, step_of, undo_of, steps_made, Forward, GoesOn, fail_up, IsBulk, IsBulkBy}
+use Rattle.clk_phase.specs.Bulk.{Made, is_forward, is_good, step_of, undo_of, steps_made, Forward, GoesOn, fail_up, IsBulkBy}
 use Rattle.clk_phase.specs.Going.{Goes}
 use Rattle.clk_phase.specs.Undone.{MakesCall, lacks_room, FailedLeaveHandles}
-use Rattle.clk_phase.proofs.OwnRows.{own_in, own_is, Backed, AllBacked}
+use Rattle.clk_phase.proofs.OwnRows.{own_in, own_is, Backed}
 use Rattle.clk_phase.proofs.Events.{IsKept, lands, lands_kept}
 use Rattle.clk_phase.proofs.OwnCalls.{At, Effect, with_enables, with_prepares, is_our_step, Keeps, whole_call}
 
@@ -84,14 +82,18 @@ gives_more p fine = numbers p.prepares p.enables fine where
   numbers a e fine = by_test (nat_eq (a + 1) 0) (nat_eq (a + 1) 1) (nat_lt 0 e) refl refl refl where
     first : nat_eq (a + 1) 0 ≡ true → ⊥
     first is = grind (arith, nat_tests)
+
     both : nat_eq (a + 1) 1 ≡ true → nat_lt 0 e ≡ true → ⊥
     both one on = none (fine (some on)) (zero_ one) where
       some : nat_lt 0 e ≡ true → 0 < e
       some on = grind (arith, nat_tests)
+
       zero_ : nat_eq (a + 1) 1 ≡ true → a ≡ 0
       zero_ one = grind (arith, nat_tests)
+
       none : 0 < a → a ≡ 0 → ⊥
       none some zero = omega (arith, some, zero)
+
     by_test : (x y z : Bool) → nat_eq (a + 1) 0 ≡ x → nat_eq (a + 1) 1 ≡ y → nat_lt 0 e ≡ z → (x || (y && z)) ≡ false
     by_test true y z is one on = absurd (first is)
     by_test false true true is one on = absurd (both one on)

@@ -1,8 +1,7 @@
 -- The definitions computed on small journals.
-use Rattle.std.specs.Prelude.{◌≡◌, ℕ, List, [], ◌∷◌, Some, None, refl, pos, negsuc}
-use Rattle.clk_base.specs.declared.clock.ClockId.{ClockId}
+use Rattle.std.specs.Prelude.{◌≡◌, ℕ, List, [], ◌∷◌, Some, refl, pos, negsuc}
 use Rattle.clk_base.specs.declared.event.Reply.TheVariants as answer
-use Rattle.clk_base.specs.declared.event.Errno.TheVariants.{ESHUTDOWN, ETIMEDOUT}
+use Rattle.clk_base.specs.declared.event.Errno.TheVariants.{ETIMEDOUT}
 use Rattle.clk_base.specs.declared.handle.Handle.{Handle}
 use Rattle.clk_base.specs.declared.call.Sleeping.TheVariants as call
 use Rattle.clk_phase.specs.declared.bulk_call.BulkKind.TheVariants as kind

@@ -1,5 +1,5 @@
 -- A command under way.
-use Rattle.std.specs.Prelude.{◌≡◌, ℕ, ◌+◌, ◌-◌, List, [], ◌∷◌, ◌++◌, ◌&&◌, Bool, true, false, if◌then◌else◌, Option, Some, None, is_some, is_none, map, reverse, length}
+use Rattle.std.specs.Prelude.{◌≡◌, ℕ, ◌+◌, ◌-◌, List, [], ◌∷◌, ◌++◌, ◌&&◌, Bool, if◌then◌else◌, Option, Some, None, is_some, is_none, map, reverse, length}
 use Rattle.clk_base.specs.declared.event.Reply.{Reply}
 use Rattle.clk_base.specs.declared.handle.Handle.{Handle}
 use Rattle.clk_phase.specs.declared.bulk_call.BulkKind.{BulkKind}

@@ -4,7 +4,9 @@ ghost use Rattle.std.specs.Prelude.{◌≡◌, IsSome, IfOk, IfSome, None, if◌
 ghost use Rattle.clk_phase.specs.Bulk.{is_forward, step_of};
 ghost use Rattle.clk_phase.specs.Running.{begun, undoes, next_of, made_of, handles_at};
 
-use crate::bulk_call::{BulkCall, BulkItem, BulkKind, BulkReply, BulkStep, is_forward, is_good, step_of, undo_of};
+use crate::bulk_call::{
+    BulkCall, BulkItem, BulkKind, BulkReply, BulkStep, is_forward, is_good, step_of, undo_of,
+};
 use clk_base::{Handle, Reply};
 use clk_io::NoMemory;
 use std::alloc::Global;

@@ -83,13 +83,7 @@ impl Phases {
     }
 
     /// Sets the phase of a clock as `PhaseCore::set` does, in one turn of the lock. Takes no memory.
-    pub fn set<R: Wait>(
-        &self,
-        rt: &R,
-        seat: &mut PhaseSeat,
-        c: ClockId,
-        degrees: i32,
-    ) -> PhaseReply
+    pub fn set<R: Wait>(&self, rt: &R, seat: &mut PhaseSeat, c: ClockId, degrees: i32) -> PhaseReply
         // The seat is one of these phases, between two calls.
         requires ready { IsReady self.now.table seat.old }
         // It has room.

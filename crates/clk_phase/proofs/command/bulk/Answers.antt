@@ -1,4 +1,4 @@
-use Rattle.std.proofs.Common.{rules, ◌≡◌, ◌<◌, ◌≤◌, ◌∙◌, sym, Some, None, IfSome, Option, refl, ap, subst, List, not, ◌&&◌, cond, Bool}
+use Rattle.std.proofs.Common.{rules, ◌≡◌, ◌<◌, ◌∙◌, sym, Some, None, IfSome, Option, subst, List}
 use Rattle.clk_base.specs.declared.handle.Handle.{Handle}
 use Rattle.clk_phase.specs.declared.bulk_call.BulkStep.{BulkStep}
 use Rattle.clk_phase.specs.Doing.{Does}
@@ -27,7 +27,7 @@ loop-step-preserved g c =
     let is : c.answered.new.self ≡ made_of c.loop-step.run c.in-Some.step c.in_ok-reply.reply = subst (λ (o : Option BulkStep). IfSome o (λ s. c.answered.new.self ≡ made_of c.loop-step.run s c.in_ok-reply.reply)) next c.answered.ensures in
     subst (λ (r : Run). Looped g.C.Consumer.makes g.C.Consumer.credits g.C.Consumer.clocks c.args.who.now c.args.what.now.kind c.args.what.now.items.items r c.make.new.who) (sym is)
     (looped g.C.Consumer.makes g.C.Consumer.credits g.C.Consumer.clocks c.args.who.now c.args.what.now.kind c.args.what.now.items.items c.loop-step.run c.loop-step.who c.make.new.who c.in-Some.step c.in_ok-reply.reply c.loop-step.invariant next
-      c.in_ok-reply.ensures.makes c.in_ok-reply.ensures.credits c.in_ok-reply.ensures.clocks)
+    c.in_ok-reply.ensures.makes c.in_ok-reply.ensures.credits c.in_ok-reply.ensures.clocks)
 
 pub returns-clause-does : goal.returns-clause-does
 returns-clause-does g c =
