@@ -70,7 +70,7 @@ fn steps_to_make(
 }
 
 impl BulkRun {
-    /// The command with no call made. Want of memory is the one error.
+    /// The command with no call made. The one error is that memory runs out.
     pub fn create(alloc: Global, what: &BulkCall) -> Result<BulkRun, NoMemory>
         // Each place is a number of 32 bits.
         requires { length what.now.items.items < 4294967295 }

@@ -33,8 +33,8 @@ fn make<C: Consumer, R: Wait + Sync>(
     }
 }
 
-/// Runs one command on several handles. Want of memory is the one error; room for the handles is taken
-/// before the first call.
+/// Runs one command on several handles. The one error is that memory runs out: room for the handles is
+/// taken before the first call.
 pub fn bulk<C: Consumer, R: Wait + Sync>(
     rt: &R,
     alloc: Global,

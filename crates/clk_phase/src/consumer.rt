@@ -34,7 +34,7 @@ pub trait Consumer {
         ensures credits { credits self.old ≤ credits self.new + 1 }
         ensures clocks { clocks self.new ≡ clocks self.old };
 
-    /// Want of memory is the one error.
+    /// The one error is that memory runs out.
     fn call<R: Wait + Sync>(&mut self, rt: &R, what: &Sleeping) -> Result<Reply, NoMemory>
         // A method of a trait doesn't hand on the bound Sync.
         requires sync { IsSync R.row }

@@ -56,8 +56,8 @@ impl Model for PhaseCore {
 }
 
 impl PhaseCore {
-    /// The clocks of a description at phase 0, and memory for so many entries. Want of memory is the one
-    /// error.
+    /// The clocks of a description at phase 0, and memory for so many entries. The one error
+    /// is that memory runs out.
     pub fn create(
         alloc: Global,
         desc: &ValidDesc,

@@ -40,8 +40,8 @@ impl Model for Phases {
 }
 
 impl Phases {
-    /// Shares the clocks of a description at phase 0, with memory for so many entries. Want of memory is
-    /// the one error.
+    /// Shares the clocks of a description at phase 0, with memory for so many entries. The one
+    /// error is that memory runs out.
     pub fn create(
         alloc: Global,
         desc: &ValidDesc,

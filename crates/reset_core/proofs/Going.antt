@@ -1,5 +1,5 @@
 -- A journal with one entry more, and what a call adds to the handles at most.
-use Rattle.std.proofs.Common.{◌≡◌, ℕ, ◌+◌, ◌-◌, ◌^◌, ◌<◌, ◌≤◌, Bool, true, false, cond, nat_lt, nat_eq, not, ◌==◌, if◌then◌else◌, List, [], ◌∷◌, ◌++◌, Option, Some, None, length, replicate, slice_set, sum_by, refl, sym, ap, subst, ◌∙◌, arith, rules}
+use Rattle.std.proofs.Common.{◌≡◌, ℕ, ◌+◌, ◌-◌, ◌^◌, ◌<◌, ◌≤◌, Bool, true, false, cond, nat_lt, nat_eq, not, ◌==◌, if◌then◌else◌, List, [], ◌∷◌, ◌++◌, Option, Some, None, length, replicate, slice_set, refl, sym, ap, subst, ◌∙◌, arith}
 use Rattle.std.proofs.lemmas.Bool.Decides.{nat_tests}
 use Rattle.std.proofs.lemmas.List.{length-set, length-append, length-replicate}
 use Rattle.std.proofs.lemmas.List.Sums.{sum_by-set, sum_by-append, sum_by-cons}
@@ -16,7 +16,7 @@ use Rattle.reset_core.specs.declared.call.ResetKind.{ResetKind}
 use Rattle.reset_core.specs.declared.call.ResetLine.{ResetLine}
 use Rattle.reset_core.specs.declared.record.HandleRecord.{HandleRecord}
 use Rattle.reset_core.specs.Lines.{State, line_at, row_at, is_shared, on_line, deassert_weight, deasserts_on, acquired_on}
-use Rattle.reset_core.specs.Turns.{Turn, turn, replay, Legal, stays, with_row, with_line, is_busy, new_row, gets, puts, deasserts, asserts, asserted_if_free, pulses, asks, acquires, releases, with_deasserts, with_acquired, own_row, on_handle}
+use Rattle.reset_core.specs.Turns.{Turn, turn, replay, Legal, stays, with_row, with_line, is_busy, new_row, puts, deasserts, asserts, asserted_if_free, pulses, asks, acquires, releases, with_deasserts, with_acquired, on_handle}
 use Rattle.reset_core.specs.Standing.{Standing, HasRoom, Makes, ArePlaced, at_start, all_asserted}
 use Rattle.reset_core.specs.Sound.{AreApart}
 use Rattle.reset_core.specs.Logs.{IsRun}
@@ -46,6 +46,7 @@ module _ (P : State → Type 0) where
     owned : (r : HandleRecord) → row_at s.handles n ≡ Some r → (b : Bool) → P (option_map_or (act s n) (cond b (Some r) None) (stays s (reply.Refused ENOENT))).state
     owned r is true = each r is
     owned r is false = none
+
     at : (x : Option HandleRecord) → row_at s.handles n ≡ x → P (option_map_or (act s n) (option_map_or (λ (r : HandleRecord). if r.driver == d then Some r else None) x None) (stays s (reply.Refused ENOENT))).state
     at None is = none
     at (Some r) is = owned r is (r.driver == d)
@@ -74,7 +75,7 @@ module _ (P : State → Type 0) where
   keeps s k d (call.Deassert n) = on_each s d n deasserts k.same (λ r is.
       either (is_shared r) (record { state = with_line (with_row s n (Some (with_deasserts r (r.deasserts + 1)))) r.line false; reply = reply.Fine }) (cond r.acquired (record { state = with_line s r.line false; reply = reply.Fine }) (stays s (reply.Refused EPERM)))
       (λ shared. k.takes n r is shared) (λ other.
-          either r.acquired (record { state = with_line s r.line false; reply = reply.Fine }) (stays s (reply.Refused EPERM)) (λ holds. k.clears n r is other holds) (λ fails. k.same)))
+      either r.acquired (record { state = with_line s r.line false; reply = reply.Fine }) (stays s (reply.Refused EPERM)) (λ holds. k.clears n r is other holds) (λ fails. k.same)))
   keeps s k d (call.Assert n) = on_each s d n asserts k.same (λ r is.
       either (is_shared r) (cond (nat_lt 0 r.deasserts) (record { state = asserted_if_free (with_row s n (Some (with_deasserts r (r.deasserts - 1)))) r.line; reply = reply.Fine }) (stays s reply.Warn)) (cond r.acquired (record { state = with_line s r.line true; reply = reply.Fine }) (stays s (reply.Refused EPERM)))
       (λ shared. either (nat_lt 0 r.deasserts) (record { state = asserted_if_free (with_row s n (Some (with_deasserts r (r.deasserts - 1)))) r.line; reply = reply.Fine }) (stays s reply.Warn) (λ holds. k.gives n r is shared holds) (λ fails. k.same))
@@ -88,8 +89,8 @@ module _ (P : State → Type 0) where
       either (is_shared r) (stays s (reply.Refused EINVAL)) (cond r.acquired (stays s reply.Fine) (cond (nat_lt 0 (acquired_on r.line s.handles)) (stays s (reply.Refused EBUSY)) (record { state = with_row s n (Some (with_acquired r true)); reply = reply.Fine })))
       (λ shared. k.same)
       (λ other. either r.acquired (stays s reply.Fine) (cond (nat_lt 0 (acquired_on r.line s.handles)) (stays s (reply.Refused EBUSY)) (record { state = with_row s n (Some (with_acquired r true)); reply = reply.Fine }))
-          (λ holds. k.same)
-          (λ fails. either (nat_lt 0 (acquired_on r.line s.handles)) (stays s (reply.Refused EBUSY)) (record { state = with_row s n (Some (with_acquired r true)); reply = reply.Fine }) (λ held. k.same) (λ free. k.acquires_ n r is other fails free))))
+      (λ holds. k.same)
+      (λ fails. either (nat_lt 0 (acquired_on r.line s.handles)) (stays s (reply.Refused EBUSY)) (record { state = with_row s n (Some (with_acquired r true)); reply = reply.Fine }) (λ held. k.same) (λ free. k.acquires_ n r is other fails free))))
   keeps s k d (call.Release n) = on_each s d n releases k.same (λ r is.
       either (is_shared r) (stays s (reply.Refused EINVAL)) (cond r.acquired (record { state = with_row s n (Some (with_acquired r false)); reply = reply.Fine }) (stays s reply.Warn))
       (λ shared. k.same)
@@ -179,20 +180,22 @@ module _ (words room capacity : ℕ) (c : Standing) (journal : List ResetEntry) 
       let lines : c'.state.lines ≡ c.state.lines = ap (λ (s : State). s.lines) makes.state ∙ g.lines in
       let first : at_start words c'.state.lines ≡ at_start words c.state.lines = ap (at_start words) lines in
       let longer : length journal' ≡ length journal + 1 = ap length more ∙ length-append journal (e ∷ []) in
-      let is : c.state ≡ replay (at_start words c.state.lines) journal = run.stands in
-      (record {
-        stands = makes.state ∙ ap (λ (s : State). (turn s d what).state) is ∙ sym (replay_more (at_start words c.state.lines) journal e) ∙ ap (replay (at_start words c.state.lines)) (sym more) ∙ ap (λ (s : State). replay s journal') (sym first);
-        legal_ = subst (λ (s : State). Legal s journal') (sym first) (subst (λ (es : List ResetEntry). Legal (at_start words c.state.lines) es) (sym more)
-            (legal_more (at_start words c.state.lines) journal e run.legal_ (ap (λ (s : State). (turn s d what).reply) (sym is) ∙ sym makes.reply)));
-        size = ap (λ (s : State). length s.regs) makes.state ∙ g.size ∙ run.size;
-        placed = subst (λ (ls : List ResetLine). ArePlaced words ls) (sym lines) run.placed;
-        apart = subst (λ (ls : List ResetLine). AreApart ls) (sym lines) run.apart;
-        within = omega (arith, longer, space);
-        entries = omega (arith, same, run.entries);
-        handles = omega (arith, makes.capacity, run.handles);
-        few = omega (arith, longer, ap (λ (s : State). length s.handles) makes.state, g.handles, run.few);
-        sums = λ l. omega (arith, longer, ap (λ (s : State). deasserts_on l s.handles) makes.state, g.sums l, run.sums l);
-      }, lines)
+      let is : c.state ≡ replay (at_start words c.state.lines) journal = run.stands in (
+        record {
+          stands = makes.state ∙ ap (λ (s : State). (turn s d what).state) is ∙ sym (replay_more (at_start words c.state.lines) journal e) ∙ ap (replay (at_start words c.state.lines)) (sym more) ∙ ap (λ (s : State). replay s journal') (sym first);
+          legal_ = subst (λ (s : State). Legal s journal') (sym first) (subst (λ (es : List ResetEntry). Legal (at_start words c.state.lines) es) (sym more)
+              (legal_more (at_start words c.state.lines) journal e run.legal_ (ap (λ (s : State). (turn s d what).reply) (sym is) ∙ sym makes.reply)));
+          size = ap (λ (s : State). length s.regs) makes.state ∙ g.size ∙ run.size;
+          placed = subst (λ (ls : List ResetLine). ArePlaced words ls) (sym lines) run.placed;
+          apart = subst (λ (ls : List ResetLine). AreApart ls) (sym lines) run.apart;
+          within = omega (arith, longer, space);
+          entries = omega (arith, same, run.entries);
+          handles = omega (arith, makes.capacity, run.handles);
+          few = omega (arith, longer, ap (λ (s : State). length s.handles) makes.state, g.handles, run.few);
+          sums = λ l. omega (arith, longer, ap (λ (s : State). deasserts_on l s.handles) makes.state, g.sums l, run.sums l);
+        },
+        lines,
+      )
 
 pub length-asserted : (words : Registers) (lines : List ResetLine) → length (all_asserted words lines) ≡ length words
 length-asserted words [] = refl
@@ -202,16 +205,18 @@ length-asserted words (l ∷ lines) = length-asserted (put_bit words l.word l.bi
 pub begins_run : (words room : ℕ) (lines : List ResetLine) (c : Standing) (capacity : ℕ) (journal : List ResetEntry) → ArePlaced words lines → AreApart lines → c.state ≡ at_start words lines → room ≤ c.capacity → room ≤ capacity → journal ≡ []
     → (IsRun words room c capacity journal × (c.state.lines ≡ lines))
 begins_run words room lines c capacity journal placed apart is handles entries empty =
-    let same : c.state.lines ≡ lines = ap (λ (s : State). s.lines) is in
-    (record {
-      stands = is ∙ ap (at_start words) (sym same) ∙ ap (replay (at_start words c.state.lines)) (sym empty);
-      legal_ = subst (λ (es : List ResetEntry). Legal (at_start words c.state.lines) es) (sym empty) tt;
-      placed = subst (λ (ls : List ResetLine). ArePlaced words ls) (sym same) placed;
-      apart = subst (λ (ls : List ResetLine). AreApart ls) (sym same) apart;
-      size = ap (λ (s : State). length s.regs) is ∙ length-asserted (replicate words 0) lines ∙ length-replicate words 0;
-      within = omega (arith, ap length empty);
-      entries = entries;
-      handles = handles;
-      few = omega (arith, ap (λ (s : State). length s.handles) is);
-      sums = λ l. omega (arith, ap (λ (s : State). deasserts_on l s.handles) is);
-    }, same)
+    let same : c.state.lines ≡ lines = ap (λ (s : State). s.lines) is in (
+      record {
+        stands = is ∙ ap (at_start words) (sym same) ∙ ap (replay (at_start words c.state.lines)) (sym empty);
+        legal_ = subst (λ (es : List ResetEntry). Legal (at_start words c.state.lines) es) (sym empty) tt;
+        placed = subst (λ (ls : List ResetLine). ArePlaced words ls) (sym same) placed;
+        apart = subst (λ (ls : List ResetLine). AreApart ls) (sym same) apart;
+        size = ap (λ (s : State). length s.regs) is ∙ length-asserted (replicate words 0) lines ∙ length-replicate words 0;
+        within = omega (arith, ap length empty);
+        entries = entries;
+        handles = handles;
+        few = omega (arith, ap (λ (s : State). length s.handles) is);
+        sums = λ l. omega (arith, ap (λ (s : State). deasserts_on l s.handles) is);
+      },
+      same,
+    )

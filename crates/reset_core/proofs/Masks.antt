@@ -1,7 +1,6 @@
 -- What the masks of the code do to one bit of a word.
 use Rattle.std.proofs.Common.{◌≡◌, ◌≢◌, ℕ, ◌+◌, ◌-◌, ◌*◌, ◌/◌, ◌%◌, ◌^◌, ◌<◌, ◌≤◌, sym, ◌∙◌, ap, subst, arith, ◌⊎◌, inl, inr, bit_and, bit_or, nat_eq, w32}
-use Rattle.std.proofs.lemmas.Nat.{or_lt, and_le_l, one_shl, pow_below, pow_pos, and_mask, or_shifted, shl_whole, shr_le, mod_below}
-use Rattle.std.proofs.Math.Nat.{le-mul_of_pos_right}
+use Rattle.std.proofs.lemmas.Nat.{or_lt, and_le_l, one_shl, pow_below}
 use Rattle.std.proofs.lemmas.Nat.Bits.{same_from_bits_below, shr_and_one, bit_at_set_same, bit_at_set_other, bit_at_clear_same, bit_at_clear_other}
 use Rattle.std.proofs.lemmas.Bool.{cases_eq}
 use Rattle.std.specs.Int.{bit_at, bit_not}

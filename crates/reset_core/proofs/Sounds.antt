@@ -1,28 +1,22 @@
 -- Each call keeps what sound states keep.
-use Rattle.std.proofs.Common.{◌≡◌, ◌≢◌, ◌⊎◌, inl, inr, ℕ, zero, suc, ◌+◌, ◌-◌, ◌<◌, ◌≤◌, Bool, true, false, not, cond, nat_lt, nat_eq, List, [], ◌∷◌, ◌++◌, Option, Some, None, IfSome, replicate, length, ◌==◌, if◌then◌else◌, slice_set, slice_index_or, sum_by, refl, sym, ap, subst, ◌∙◌, arith, rules}
+use Rattle.std.proofs.Common.{◌≡◌, ◌≢◌, ◌⊎◌, inl, inr, ℕ, zero, suc, ◌+◌, ◌-◌, ◌<◌, ◌≤◌, Bool, true, false, not, cond, nat_lt, nat_eq, List, [], ◌∷◌, ◌++◌, Option, Some, None, IfSome, replicate, length, slice_set, slice_index_or, refl, sym, ap, subst, ◌∙◌, arith}
 use Rattle.std.proofs.lemmas.Bool.{cases_eq, cases_lt}
 use Rattle.std.proofs.lemmas.Bool.Decides.{nat_tests}
 use Rattle.std.proofs.lemmas.List.{get_or-set_same, get_or-set_other, length-replicate}
-use Rattle.std.proofs.lemmas.List.Sums.{sum_by-set, sum_by-append, sum_by-cons, sum_by-le-sum_by}
+use Rattle.std.proofs.lemmas.List.Sums.{sum_by-set, sum_by-append, sum_by-cons}
 use Rattle.std.proofs.Math.ListN.{get_or-append}
 use Rattle.std.proofs.Math.Seq.{get_or-append_right}
-use Rattle.reg_bank.specs.Registers.{put_bit, is_set}
 use Rattle.reg_bank.proofs.BitLaws.{length-put_bit, is_set-put_bit_same, is_set-put_bit_other}
-use Rattle.std.specs.Option.{option_map_or}
-use Rattle.clk_base.specs.declared.event.Reply.{Reply}
-use Rattle.clk_base.specs.declared.event.Reply.TheVariants as reply
-use Rattle.clk_base.specs.declared.event.Errno.TheVariants.{EPERM, ENOENT, EBUSY, EINVAL}
 use Rattle.reset_core.specs.declared.call.ResetCall.{ResetCall}
-use Rattle.reset_core.specs.declared.call.ResetCall.TheVariants as call
 use Rattle.reset_core.specs.declared.call.ResetEntry.{ResetEntry}
 use Rattle.reset_core.specs.declared.call.ResetLine.{ResetLine}
 use Rattle.reset_core.specs.declared.call.ResetKind.{ResetKind}
 use Rattle.reset_core.specs.declared.call.ResetKind.TheVariants as kind
 use Rattle.reset_core.specs.declared.record.HandleRecord.{HandleRecord}
 use Rattle.reset_core.specs.Lines.{State, one, line_at, row_at, is_asserted, is_shared, on_line, sum_on, shared_weight, other_weight, acquired_weight, deassert_weight, shared_on, others_on, acquired_on, deasserts_on}
-use Rattle.reset_core.specs.Turns.{Turn, turn, stays, puts, asks, deasserts, asserts, pulses, acquires, releases, own_row, on_handle, replay, with_row, with_line, is_busy, new_row, is_exclusive, asserted_if_free, with_deasserts, with_acquired}
+use Rattle.reset_core.specs.Turns.{turn, replay, with_row, with_line, is_busy, new_row, asserted_if_free, with_deasserts, with_acquired}
 use Rattle.reset_core.specs.Standing.{ArePlaced, at_start}
-use Rattle.reset_core.specs.Sound.{AreApart, IsSound, Writes, line_call}
+use Rattle.reset_core.specs.Sound.{AreApart, IsSound}
 use Rattle.reset_core.proofs.Sums.{has_place, weight, here, away}
 use Rattle.reset_core.proofs.Going.{keeps, length-asserted}
 
@@ -59,6 +53,7 @@ acquired_few l (x ∷ hs) = omega (arith, sum_by-cons (on_line acquired_weight l
   by_case true true false = omega arith
   by_case true false s = omega arith
   by_case false a s = omega arith
+
   of_one : (x : Option HandleRecord) → on_line acquired_weight l x ≤ on_line shared_weight l x + on_line other_weight l x
   of_one None = omega arith
   of_one (Some r) = by_case (nat_eq r.line l) r.acquired (is_shared r)
@@ -72,6 +67,7 @@ none_shared l (x ∷ hs) bare none =
       by_case r is true true shared none = absurd (omega (arith, none))
       by_case r is true false shared none = bare 0 r (sym is) shared
       by_case r is false s shared none = refl
+
       of_one : (y : Option HandleRecord) → y ≡ x → on_line shared_weight l y ≡ 0 → on_line deassert_weight l y ≡ 0
       of_one None is none = refl
       of_one (Some r) is none = by_case r is (nat_eq r.line l) (is_shared r) refl none
@@ -85,7 +81,7 @@ module _ (s : State) (placed : ArePlaced (length s.regs) s.lines) (apart : AreAp
   pub bit_other : (m : ℕ) → m < length s.lines → l ≢ m → is_asserted (with_line s l b) m ≡ is_asserted s m
   bit_other m place' other = is_set-put_bit_other s.regs (line_at s.lines l).word (line_at s.lines l).bit b (line_at s.lines m).word (line_at s.lines m).bit (apart l m place place' other)
 
--- with other bits a state is sound where its cleared lines are
+-- with other bits a state is sound if its cleared lines are still so
 with_bits : (s : State) (l : ℕ) (b : Bool) → IsSound s → ((m : ℕ) → m < length s.lines → 0 < deasserts_on m s.handles → is_asserted (with_line s l b) m ≡ false) → IsSound (with_line s l b)
 with_bits s l b sound cleared = record {
   placed = subst (λ (k : ℕ). ArePlaced k s.lines) (sym (length-put_bit s.regs (line_at s.lines l).word (line_at s.lines l).bit b)) sound.placed;
@@ -150,6 +146,7 @@ module _ (s : State) (sound : IsSound s) (n : ℕ) (r : HandleRecord) (is : row_
     line_of : (x : Option HandleRecord) (q : HandleRecord) → x ≡ Some q → IfSome x (λ q. q.line ≡ r.line) → q.line ≡ r.line
     line_of None q is on = absurd cc
     line_of (Some p) q is on = let same : p ≡ q = cc in ap (λ (r : HandleRecord). r.line) (sym same) ∙ on
+
     bare_of : (x : Option HandleRecord) (q : HandleRecord) → x ≡ Some q → IfSome x (λ q. is_shared q ≡ false → q.deasserts ≡ 0) → is_shared q ≡ false → q.deasserts ≡ 0
     bare_of None q is bare other = absurd cc
     bare_of (Some p) q is bare other = subst (λ (p : HandleRecord). is_shared p ≡ false → p.deasserts ≡ 0) (let same : p ≡ q = cc in same) bare other
@@ -195,6 +192,7 @@ module _ (s : State) (sound : IsSound s) (n : ℕ) (r : HandleRecord) (is : row_
   gives shared = by_case (nat_lt 0 (deasserts_on r.line (slice_set s.handles n (Some (with_deasserts r (r.deasserts - 1)))))) refl where
     sound_t : IsSound (with_row s n (Some (with_deasserts r (r.deasserts - 1))))
     sound_t = replaced s sound n r is (Some (with_deasserts r (r.deasserts - 1))) (shared_fits s sound is (r.deasserts - 1) shared) (still_cleared (Some (with_deasserts r (r.deasserts - 1))) refl (omega arith))
+
     by_case : (b : Bool) → nat_lt 0 (deasserts_on r.line (slice_set s.handles n (Some (with_deasserts r (r.deasserts - 1))))) ≡ b
         → IsSound (cond b (with_row s n (Some (with_deasserts r (r.deasserts - 1)))) (with_line (with_row s n (Some (with_deasserts r (r.deasserts - 1)))) r.line true))
     by_case true some = sound_t

@@ -1,5 +1,5 @@
 -- Sums over the handles of a line, after one of them changed.
-use Rattle.std.proofs.Common.{◌≡◌, ◌≢◌, ℕ, ◌+◌, ◌-◌, ◌^◌, ◌<◌, ◌≤◌, ◌⊎◌, inl, inr, Bool, true, false, cond, List, [], ◌∷◌, ◌++◌, Option, Some, None, IfSome, length, nat_eq, slice_index_or, slice_set, sum_by, zero, suc, refl, sym, ap, subst, ◌∙◌, arith, rules, not}
+use Rattle.std.proofs.Common.{◌≡◌, ◌≢◌, ℕ, ◌+◌, ◌-◌, ◌^◌, ◌<◌, ◌≤◌, ◌⊎◌, inl, inr, Bool, true, false, cond, List, [], ◌∷◌, ◌++◌, Option, Some, None, IfSome, length, nat_eq, slice_index_or, slice_set, zero, suc, refl, sym, ap, subst, ◌∙◌, arith, not}
 use Rattle.std.proofs.lemmas.Bool.{cases_eq, cases_lt}
 use Rattle.std.proofs.lemmas.Bool.Decides.{nat_tests}
 use Rattle.std.proofs.lemmas.List.{get_or-set_same, get_or-set_other, get_or_past, length-set, length-append}
@@ -103,6 +103,7 @@ change_add line hs r on few = record {
 } where
   longer : length (hs ++ Some r ∷ []) < 2 ^ 32
   longer = subst (λ (k : ℕ). k < 2 ^ 32) (sym (length-append hs (Some r ∷ []))) few
+
   last : (k : ℕ) (q : HandleRecord) → slice_index_or (Some r ∷ []) k None ≡ Some q → q.line ≡ line
   last zero q is = let same : r ≡ q = cc in ap (λ (r : HandleRecord). r.line) (sym same) ∙ on
   last (suc k) q is = absurd cc
@@ -154,7 +155,7 @@ module _ (line : ℕ) (hs hs' : List (Option HandleRecord)) (old new : Option Ha
     };
   }
 
-  -- the count behind it
+  -- the count after it
   gives : (w : HandleRecord → ℕ) (t t' a b : ℕ) → t ≡ sum_on w line hs → weight w old ≡ a → weight w new ≡ b → t' + a ≡ t + b → t' ≡ sum_on w line hs'
   gives w t t' a b is is_a is_b swap = omega (arith, is, is_a, is_b, swap, c.sums w line, here w line old c.old_line, here w line new c.new_line)
 

@@ -1,29 +1,19 @@
 -- Which call may change a line's bit.
-use Rattle.std.proofs.Common.{◌≡◌, ◌≢◌, ◌⊎◌, inl, inr, ℕ, zero, suc, ◌+◌, ◌-◌, ◌<◌, ◌≤◌, Bool, true, false, not, cond, nat_lt, nat_eq, List, [], ◌∷◌, ◌++◌, Option, Some, None, IfSome, replicate, length, ◌==◌, if◌then◌else◌, slice_set, slice_index_or, sum_by, refl, sym, ap, subst, ◌∙◌, arith, rules}
-use Rattle.std.proofs.lemmas.Bool.{cases_eq, cases_lt}
-use Rattle.std.proofs.lemmas.Bool.Decides.{nat_tests}
-use Rattle.std.proofs.lemmas.List.{get_or-set_same, get_or-set_other, length-replicate}
-use Rattle.std.proofs.lemmas.List.Sums.{sum_by-set, sum_by-append, sum_by-cons, sum_by-le-sum_by}
-use Rattle.std.proofs.Math.ListN.{get_or-append}
-use Rattle.std.proofs.Math.Seq.{get_or-append_right}
-use Rattle.reg_bank.specs.Registers.{put_bit, is_set}
-use Rattle.reg_bank.proofs.BitLaws.{length-put_bit, is_set-put_bit_same, is_set-put_bit_other}
+use Rattle.std.proofs.Common.{◌≡◌, ◌≢◌, inl, inr, ℕ, ◌+◌, ◌-◌, ◌<◌, Bool, true, false, not, cond, nat_lt, nat_eq, List, [], ◌∷◌, ◌++◌, Option, Some, None, length, slice_set, refl, sym, ap, subst, ◌∙◌}
+use Rattle.std.proofs.lemmas.Bool.{cases_eq}
+use Rattle.reg_bank.proofs.BitLaws.{length-put_bit}
 use Rattle.std.specs.Option.{option_map_or}
-use Rattle.clk_base.specs.declared.event.Reply.{Reply}
 use Rattle.clk_base.specs.declared.event.Reply.TheVariants as reply
 use Rattle.clk_base.specs.declared.event.Errno.TheVariants.{EPERM, ENOENT, EBUSY, EINVAL}
 use Rattle.reset_core.specs.declared.call.ResetCall.{ResetCall}
 use Rattle.reset_core.specs.declared.call.ResetCall.TheVariants as call
 use Rattle.reset_core.specs.declared.call.ResetEntry.{ResetEntry}
 use Rattle.reset_core.specs.declared.call.ResetLine.{ResetLine}
-use Rattle.reset_core.specs.declared.call.ResetKind.{ResetKind}
-use Rattle.reset_core.specs.declared.call.ResetKind.TheVariants as kind
 use Rattle.reset_core.specs.declared.record.HandleRecord.{HandleRecord}
-use Rattle.reset_core.specs.Lines.{State, one, line_at, row_at, is_asserted, is_shared, on_line, sum_on, shared_weight, other_weight, acquired_weight, deassert_weight, shared_on, others_on, acquired_on, deasserts_on}
-use Rattle.reset_core.specs.Turns.{Legal, Turn, turn, stays, puts, asks, deasserts, asserts, pulses, acquires, releases, own_row, on_handle, replay, with_row, with_line, is_busy, new_row, is_exclusive, asserted_if_free, with_deasserts, with_acquired}
+use Rattle.reset_core.specs.Lines.{State, line_at, row_at, is_asserted, is_shared, acquired_on, deasserts_on}
+use Rattle.reset_core.specs.Turns.{Legal, Turn, turn, stays, puts, asks, deasserts, asserts, pulses, acquires, releases, own_row, on_handle, replay, with_row, with_line, is_busy, new_row, asserted_if_free, with_deasserts, with_acquired}
 use Rattle.reset_core.specs.Standing.{ArePlaced, at_start}
 use Rattle.reset_core.specs.Sound.{AreApart, IsSound, Writes, line_call}
-use Rattle.reset_core.proofs.Sums.{has_place, weight, here, away}
 use Rattle.reset_core.specs.Logs.{state_of, WritesOwnLines}
 use Rattle.reset_core.specs.declared.start.ResetStart.{ResetStart}
 use Rattle.reset_core.proofs.Going.{grows, replay_more}
@@ -36,6 +26,7 @@ owned s d n r is = at (row_at s.handles n) refl is where
   by_case q false at_ same = absurd (let no_ : not_one ≡ Some r = same in cc) where
     not_one : Option HandleRecord
     not_one = None
+
   at : (x : Option HandleRecord) → row_at s.handles n ≡ x → option_map_or (λ (q : HandleRecord). cond (nat_eq q.driver d) (Some q) None) x None ≡ Some r → row_at s.handles n ≡ Some r
   at None at_ same = absurd cc
   at (Some q) at_ same = by_case q (nat_eq q.driver d) at_ same
@@ -94,16 +85,16 @@ module _ (s : State) (sound : IsSound s) (d m : ℕ) (within_ : m < length s.lin
   writes (call.Assert n) = on_own (call.Assert n) n asserts (λ r own.
       choose (call.Assert n) (is_shared r) (cond (nat_lt 0 r.deasserts) (record { state = asserted_if_free (with_row s n (Some (with_deasserts r (r.deasserts - 1)))) r.line; reply = reply.Fine }) (stays s reply.Warn)) (cond r.acquired (record { state = with_line s r.line true; reply = reply.Fine }) (stays s (reply.Refused EPERM)))
       (choose (call.Assert n) (nat_lt 0 r.deasserts) (record { state = asserted_if_free (with_row s n (Some (with_deasserts r (r.deasserts - 1)))) r.line; reply = reply.Fine }) (stays s reply.Warn)
-          (lined (call.Assert n) n r (record { state = asserted_if_free (with_row s n (Some (with_deasserts r (r.deasserts - 1)))) r.line; reply = reply.Fine }) refl own refl (λ place away_. freed n r place away_ (nat_lt 0 (deasserts_on r.line (slice_set s.handles n (Some (with_deasserts r (r.deasserts - 1))))))))
-          (λ differs. absurd (differs refl)))
+      (lined (call.Assert n) n r (record { state = asserted_if_free (with_row s n (Some (with_deasserts r (r.deasserts - 1)))) r.line; reply = reply.Fine }) refl own refl (λ place away_. freed n r place away_ (nat_lt 0 (deasserts_on r.line (slice_set s.handles n (Some (with_deasserts r (r.deasserts - 1))))))))
+      (λ differs. absurd (differs refl)))
       (choose (call.Assert n) r.acquired (record { state = with_line s r.line true; reply = reply.Fine }) (stays s (reply.Refused EPERM)) (lined (call.Assert n) n r (record { state = with_line s r.line true; reply = reply.Fine }) refl own refl (other_bit r.line true)) (λ differs. absurd (differs refl))))
   writes (call.Pulse n) = on_own (call.Pulse n) n pulses (λ r own.
       choose (call.Pulse n) (is_shared r) (stays s (reply.Refused EINVAL)) (cond r.acquired (record { state = with_line (with_line s r.line true) r.line false; reply = reply.Fine }) (stays s (reply.Refused EPERM))) (λ differs. absurd (differs refl))
       (choose (call.Pulse n) r.acquired (record { state = with_line (with_line s r.line true) r.line false; reply = reply.Fine }) (stays s (reply.Refused EPERM))
-          (lined (call.Pulse n) n r (record { state = with_line (with_line s r.line true) r.line false; reply = reply.Fine }) refl own refl (λ place away_.
-              bit_other (with_line s r.line true) (subst (λ (k : ℕ). ArePlaced k s.lines) (sym (length-put_bit s.regs (line_at s.lines r.line).word (line_at s.lines r.line).bit true)) sound.placed) sound.apart r.line false place m within_ away_
-              ∙ other_bit r.line true place away_))
-          (λ differs. absurd (differs refl))))
+      (lined (call.Pulse n) n r (record { state = with_line (with_line s r.line true) r.line false; reply = reply.Fine }) refl own refl (λ place away_.
+      bit_other (with_line s r.line true) (subst (λ (k : ℕ). ArePlaced k s.lines) (sym (length-put_bit s.regs (line_at s.lines r.line).word (line_at s.lines r.line).bit true)) sound.placed) sound.apart r.line false place m within_ away_
+      ∙ other_bit r.line true place away_))
+      (λ differs. absurd (differs refl))))
 
 lines_replay : (s : State) (es : List ResetEntry) → (replay s es).lines ≡ s.lines
 lines_replay s [] = refl

@@ -1,10 +1,7 @@
 -- What contracts see of a controller.
-use Rattle.std.specs.Prelude.{◌≡◌, ℕ, ◌+◌, ◌^◌, ◌<◌, ◌≤◌, true, List, [], ◌∷◌, IfSome, replicate, length}
-use Rattle.std.specs.List.{All}
+use Rattle.std.specs.Prelude.{◌≡◌, ℕ, ◌+◌, ◌^◌, ◌<◌, true, List, [], ◌∷◌, replicate, length}
 use Rattle.clk_base.specs.declared.event.Reply.{Reply}
 use Rattle.reg_bank.specs.Registers.{Registers, put_bit}
-use Rattle.reset_core.specs.declared.call.ResetCall.{ResetCall}
-use Rattle.reset_core.specs.declared.call.ResetCall.TheVariants as call
 use Rattle.reset_core.specs.declared.call.ResetLine.{ResetLine}
 use Rattle.reset_core.specs.Lines.{State, line_at, deasserts_on}
 use Rattle.reset_core.specs.Turns.{Turn}

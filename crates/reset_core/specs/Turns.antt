@@ -1,7 +1,7 @@
 -- What each call makes of the state, and its reply.
-use Rattle.std.specs.Prelude.{◌≡◌, ℕ, ◌+◌, ◌-◌, ◌<◌, List, [], ◌∷◌, ◌++◌, Option, Some, None, Bool, true, false, not, ◌==◌, ◌&&◌, if◌then◌else◌, nat_lt, slice_set, length}
+use Rattle.std.specs.Prelude.{◌≡◌, ℕ, ◌+◌, ◌-◌, List, [], ◌∷◌, ◌++◌, Option, Some, None, Bool, true, false, not, ◌==◌, if◌then◌else◌, nat_lt, slice_set, length}
 use Rattle.std.specs.Option.{option_map_or}
-use Rattle.reg_bank.specs.Registers.{Registers, put_bit}
+use Rattle.reg_bank.specs.Registers.{put_bit}
 use Rattle.clk_base.specs.declared.event.Reply.{Reply}
 use Rattle.clk_base.specs.declared.event.Reply.TheVariants as reply
 use Rattle.clk_base.specs.declared.event.Errno.TheVariants.{EPERM, ENOENT, EBUSY, EINVAL}
@@ -10,7 +10,6 @@ use Rattle.reset_core.specs.declared.call.ResetCall.TheVariants as call
 use Rattle.reset_core.specs.declared.call.ResetEntry.{ResetEntry}
 use Rattle.reset_core.specs.declared.call.ResetKind.{ResetKind}
 use Rattle.reset_core.specs.declared.call.ResetKind.TheVariants as kind
-use Rattle.reset_core.specs.declared.call.ResetLine.{ResetLine}
 use Rattle.reset_core.specs.declared.record.HandleRecord.{HandleRecord}
 use Rattle.reset_core.specs.Lines.{State, line_at, is_asserted, is_shared, row_at, shared_on, others_on, acquired_on, deasserts_on}
 
@@ -79,7 +78,7 @@ asserted_if_free s l = if nat_lt 0 (deasserts_on l s.handles) then s else with_l
 abbrev pub asserts : State → ℕ → HandleRecord → Turn
 asserts s n r =
     if is_shared r then
-      (if nat_lt 0 r.deasserts then record { state = asserted_if_free (with_row s n (Some (with_deasserts r (r.deasserts - 1)))) r.line; reply = reply.Fine } else stays s reply.Warn)
+    (if nat_lt 0 r.deasserts then record { state = asserted_if_free (with_row s n (Some (with_deasserts r (r.deasserts - 1)))) r.line; reply = reply.Fine } else stays s reply.Warn)
     else if r.acquired then record { state = with_line s r.line true; reply = reply.Fine }
     else stays s (reply.Refused EPERM)
 

@@ -256,7 +256,7 @@ impl Controller {
         }
     }
 
-    /// All lines asserted, no handle, and memory for so many. Want of memory is the one error.
+    /// All lines asserted, no handle, and memory for so many. The one error is that memory runs out.
     pub fn create(
         alloc: Global,
         words: usize,

@@ -86,7 +86,7 @@ impl Model for Handles {
 }
 
 impl Handles {
-    /// No handle, and memory for so many. Want of memory is the one error.
+    /// No handle, and memory for so many. The one error is that memory runs out.
     pub fn create(alloc: Global, lines: usize, room: usize) -> Result<Handles, NoMemory>
         ensures rows { IfOk result (λ h. h.rows ≡ []) }
         ensures lines { IfOk result (λ h. h.lines ≡ lines) }

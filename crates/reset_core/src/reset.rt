@@ -38,8 +38,8 @@ impl Model for ResetCore {
 }
 
 impl ResetCore {
-    /// Lines that are all asserted, without a handle, and memory for so many entries. Want of memory is
-    /// the one error.
+    /// Lines that are all asserted, without a handle, and memory for so many entries. The one error is
+    /// that memory runs out.
     pub fn create(
         alloc: Global,
         words: u32,

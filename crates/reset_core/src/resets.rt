@@ -43,8 +43,8 @@ impl Model for Resets {
 }
 
 impl Resets {
-    /// Shares lines that are all asserted, without a handle, with memory for so many entries. Want of
-    /// memory is the one error.
+    /// Shares lines that are all asserted, without a handle, with memory for so many entries. The one
+    /// error is that memory runs out.
     pub fn create(
         alloc: Global,
         words: u32,

@@ -39,7 +39,7 @@ impl Model for Words {
 }
 
 impl Words {
-    /// So many words, all 0. The one error is want of memory.
+    /// So many words, all 0. The one error is that memory runs out.
     pub fn create(alloc: Global, count: usize) -> Result<Words, NoMemory>
         ensures { IfOk result (λ words. words ≡ replicate count 0) }
     {

@@ -51,7 +51,7 @@ fn turn<T: Journaled, R: Wait>(
 }
 
 impl<T: Journaled> Shared<T> {
-    /// Shares a core. The one error is want of memory.
+    /// Shares a core. The one error is that memory runs out.
     pub fn create(alloc: Global, core: T) -> Result<(Shared<T>, Pass<T>), NoMemory>
         // The core has no entry.
         requires { T.entries core ≡ [] }

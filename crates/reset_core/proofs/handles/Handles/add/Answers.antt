@@ -1,4 +1,4 @@
-use Rattle.std.proofs.Common.{Option, Some, None, List, ◌∷◌, [], ◌++◌, ◌≡◌, ◌+◌, ◌-◌, ◌^◌, ℕ, ◌<◌, length, slice_set, refl, sym, ap, subst, ◌∙◌, rules, arith}
+use Rattle.std.proofs.Common.{Option, Some, None, List, ◌∷◌, [], ◌++◌, ◌≡◌, ◌+◌, ◌^◌, ◌<◌, length, slice_set, refl, sym, subst, ◌∙◌, arith}
 use Rattle.std.proofs.lemmas.List.{get_or_read}
 use Rattle.reset_core.specs.declared.record.HandleRecord.{HandleRecord}
 use Rattle.reset_core.specs.Lines.{deasserts_on}

@@ -1,8 +1,7 @@
-use Rattle.std.proofs.Common.{Option, Some, None, List, ◌∷◌, [], ◌++◌, ◌≡◌, ◌+◌, ◌-◌, ◌^◌, ℕ, ◌<◌, length, slice_set, refl, sym, ap, subst, ◌∙◌, rules, arith}
+use Rattle.std.proofs.Common.{Some, ◌≡◌, ◌+◌, ◌-◌, ◌^◌, ◌<◌, length, slice_set, refl, sym, subst, ◌∙◌}
 use Rattle.std.proofs.lemmas.List.{get_or_read}
-use Rattle.reset_core.specs.declared.record.HandleRecord.{HandleRecord}
 use Rattle.reset_core.specs.Lines.{row_at, deasserts_on}
-use Rattle.reset_core.specs.Kept.{Held, tally_of, no_tally, weights_of, IsTallied}
+use Rattle.reset_core.specs.Kept.{Held, tally_of, no_tally, weights_of}
 use Rattle.reset_core.proofs.Sums.{change_set, may_swap, tallied}
 use Rattle.reset_core.proofs.handles.Handles.set.Goals as goal
 

@@ -1,5 +1,4 @@
 use Rattle.std.specs.Vec.{vec_capacity}
-use Rattle.std.proofs.Common.{rules}
 use Rattle.reset_core.proofs.Going.{begins_run}
 use Rattle.reset_core.proofs.reset.ResetCore.create.Goals as goal
 
