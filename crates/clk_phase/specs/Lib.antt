@@ -7,3 +7,4 @@ pub mod Undone
 pub mod Phases
 pub mod PhaseLogs
 pub mod Examples
+pub mod UndoneExample

@@ -1,8 +1,6 @@
 //! Bulk commands, made by a driver whose calls are answered from a list.
 
-ghost use Rattle.std.specs.Prelude.{◌≤◌, ◌*◌, ◌<◌, All, length, map};
-ghost use Rattle.clk_phase.specs.Bulk.{step_of};
-ghost use Rattle.clk_phase.specs.Going.{IsPlacedStep};
+ghost use Rattle.std.specs.Prelude.{◌≤◌, ◌+◌};
 
 use clk_base::{ClockId, Errno, Handle, Reply, Sleeping};
 use clk_io::NoMemory;
@@ -23,7 +21,9 @@ pub struct Scripted {
 
 impl Scripted {
     // Any other call is refused, and doesn't count.
-    fn answer(&mut self, step: BulkStep) -> Reply {
+    fn answer(&mut self, step: BulkStep) -> Reply
+        ensures { self.old.credits ≤ self.new.credits + 1 }
+    {
         self.credits = self.credits.saturating_sub(1);
         match self.script.get(self.at) {
             Some((wanted, reply)) if *wanted == step => {
@@ -62,12 +62,15 @@ const ONE: Handle = Handle {
     slot: 0,
     driver: 1,
 };
+
 const TWO: Handle = Handle {
     number: 2,
     slot: 0,
     driver: 1,
 };
+
 const LATE: Reply = Reply::Refused(Errno::ETIMEDOUT);
+
 const UNPREPARED: Reply = Reply::Refused(Errno::ESHUTDOWN);
 
 // Runs a command on handles 1 and 2 whose calls are to be these, and checks that they are and what it answers.
@@ -112,7 +115,13 @@ fn a_failed_prepare_is_undone(rt: HostRuntime) -> Result<(), Fail> {
 #[test]
 fn a_failed_first_call_undoes_nothing(rt: HostRuntime) -> Result<(), Fail> {
     let script = [(BulkStep::Enable(ONE), UNPREPARED)];
-    check_command(&rt, rt.alloc(), BulkKind::Enable, &script, Some((1, UNPREPARED)))
+    check_command(
+        &rt,
+        rt.alloc(),
+        BulkKind::Enable,
+        &script,
+        Some((1, UNPREPARED)),
+    )
 }
 
 #[test]
@@ -121,17 +130,25 @@ fn a_command_backward_makes_all_calls(rt: HostRuntime) -> Result<(), Fail> {
         (BulkStep::Disable(TWO), Reply::Warn),
         (BulkStep::Disable(ONE), Reply::Fine),
     ];
-    check_command(&rt, rt.alloc(), BulkKind::Disable, &script, Some((2, Reply::Warn)))?;
+    check_command(
+        &rt,
+        rt.alloc(),
+        BulkKind::Disable,
+        &script,
+        Some((2, Reply::Warn)),
+    )?;
     let script = [(unprepare(TWO), Reply::Fine), (unprepare(ONE), Reply::Warn)];
-    check_command(&rt, rt.alloc(), BulkKind::Unprepare, &script, Some((1, Reply::Warn)))
+    check_command(
+        &rt,
+        rt.alloc(),
+        BulkKind::Unprepare,
+        &script,
+        Some((1, Reply::Warn)),
+    )
 }
 
 // Takes the replies of a command's calls one by one.
-fn run_on(
-    rt: &impl Abort,
-    mut run: BulkRun,
-    script: &[(BulkStep, Reply)],
-) -> Option<BulkReply> {
+fn run_on(rt: &impl Abort, mut run: BulkRun, script: &[(BulkStep, Reply)]) -> Option<BulkReply> {
     for (step, reply) in script {
         let next = run.next();
         assert!(rt; next == Some(*step));
@@ -145,7 +162,10 @@ fn run_on(
 
 #[test]
 fn a_get_gives_its_handles(rt: HostRuntime) -> Result<(), Fail> {
-    let items = [BulkItem::Clock(Some(ClockId(0))), BulkItem::Clock(Some(ClockId(1)))];
+    let items = [
+        BulkItem::Clock(Some(ClockId(0))),
+        BulkItem::Clock(Some(ClockId(1))),
+    ];
     let call = BulkCall {
         kind: BulkKind::Get,
         items: Vec::from_slice(rt.alloc(), &items)?,
@@ -158,7 +178,11 @@ fn a_get_gives_its_handles(rt: HostRuntime) -> Result<(), Fail> {
     assert_eq!(rt; reply.handles.as_slice(), [ONE, TWO].as_slice());
     let deferred = Reply::Refused(Errno::EPROBE_DEFER);
     let put = BulkStep::Call(Sleeping::Put(ONE));
-    let undone = [(first, Reply::Handle(ONE)), (second, deferred), (put, Reply::Fine)];
+    let undone = [
+        (first, Reply::Handle(ONE)),
+        (second, deferred),
+        (put, Reply::Fine),
+    ];
     let reply = run_on(&rt, BulkRun::create(rt.alloc(), &call)?, &undone).ok_or("a call is left")?;
     assert_eq!(rt; reply.fail, Some((2, deferred)));
     assert!(rt; reply.handles.is_empty());

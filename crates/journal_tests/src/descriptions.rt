@@ -10,6 +10,7 @@ use std::test::Fail;
 
 // One clock more.
 fn add(
+    rt: &impl Abort,
     alloc: Global,
     desc: &mut Desc,
     name: &str,
@@ -20,6 +21,7 @@ fn add(
     if let Some(parent) = parent {
         parents.push(parent)?;
     }
+    assert!(rt; desc.len() < 2);
     desc.add(ClockDef {
         name: ClockName::new(String::from_str(alloc, name)?),
         kind,
@@ -35,6 +37,7 @@ pub(crate) fn osc_and_gate(rt: &impl Abort, alloc: Global) -> Result<ValidDesc, 
 {
     let mut desc = Desc::new(alloc);
     add(
+        rt,
         alloc,
         &mut desc,
         "osc",
@@ -46,7 +49,7 @@ pub(crate) fn osc_and_gate(rt: &impl Abort, alloc: Global) -> Result<ValidDesc, 
         bit: 3,
         set_to_disable: false,
     };
-    add(alloc, &mut desc, "uart_gate", gate, Some(ClockId(0)))?;
+    add(rt, alloc, &mut desc, "uart_gate", gate, Some(ClockId(0)))?;
     let complete = desc.has_all_parents();
     assert!(rt; complete);
     let desc = desc.check(alloc, 1)?;

@@ -103,7 +103,6 @@ fn drivers_share_a_line_side_by_side(rt: HostRuntime) -> Result<(), Fail> {
     let (resets, mut boot) = two_lines(rt.alloc(), 11)?;
     let (answered, asserted) = drive::<Brand, HostRuntime>(&rt, rt.alloc(), &resets, &mut boot)?;
     assert!(rt; answered);
-    assert!(rt; asserted == Reply::No || asserted == Reply::Yes);
     assert_eq!(rt; asserted, Reply::Yes);
     Ok(())
 }
@@ -114,7 +113,8 @@ fn close_resets(alloc: Global, resets: Resets, seat: ResetSeat) -> Result<ResetC
     requires alone { (seat.number ≡ 0) × (seat.made ≡ 1) }
     ensures { IfOk result (λ core. core.start ≡ resets.fixed) }
 {
-    let seats = Vec::from_array(alloc, [seat])?;
+    let mut seats = Vec::with_capacity(alloc, 1)?;
+    seats.push(seat)?;
     match resets.close(seats) {
         Ok(core) => Ok(core),
         Err((_, _, no_memory)) => Err(no_memory.into()),
@@ -126,7 +126,8 @@ fn close_phases(alloc: Global, phases: Phases, seat: PhaseSeat) -> Result<PhaseC
     requires ready { IsReady phases.table seat }
     requires alone { (seat.number ≡ 0) × (seat.made ≡ 1) }
 {
-    let seats = Vec::from_array(alloc, [seat])?;
+    let mut seats = Vec::with_capacity(alloc, 1)?;
+    seats.push(seat)?;
     match phases.close(seats) {
         Ok(core) => Ok(core),
         Err((_, _, no_memory)) => Err(no_memory.into()),
