@@ -7,4 +7,3 @@ pub mod Undone
 pub mod Phases
 pub mod PhaseLogs
 pub mod Examples
-pub mod UndoneExample
