@@ -62,6 +62,23 @@ fn make_worker<N: Named>(seat: ResetSeat) -> Worker<N>
     }
 }
 
+// All drivers work in threads of their own.
+fn work_all<N: Named + Send + Sync, R: Threads + Wait + Sync>(
+    rt: &R,
+    resets: &Resets,
+    workers: &mut [Worker<N>],
+)
+    requires named { resets.now.table ≡ N.table }
+    requires some { 0 < length workers.old }
+{
+    thread::for_each_mut(
+        rt,
+        workers,
+        3,
+        &|_, worker: &mut Worker<N>| worker.work(rt, resets),
+    );
+}
+
 // Three drivers work side by side, and then number 0 asks whether the line is asserted.
 fn drive<N: Named + Send + Sync, R: Threads + Wait + Sync>(
     rt: &R,
@@ -78,12 +95,7 @@ fn drive<N: Named + Send + Sync, R: Threads + Wait + Sync>(
     workers.push(make_worker::<N>(resets.seat(boot, 3)))?;
     workers.push(make_worker::<N>(resets.seat(boot, 3)))?;
     workers.push(make_worker::<N>(resets.seat(boot, 3)))?;
-    thread::for_each_mut(
-        rt,
-        workers.as_mut_slice(),
-        3,
-        &|_, worker: &mut Worker<N>| worker.work(rt, resets),
-    );
+    work_all(rt, resets, workers.as_mut_slice());
     let answered = workers.iter().all(|worker| worker.answered);
     resets.call(rt, boot, &ResetCall::Get(USB, ResetKind::Shared));
     Ok((answered, resets.call(rt, boot, &ResetCall::Asserted(3))))
