@@ -1,0 +1,9 @@
+mod Ruled
+mod Looping
+mod Steps
+mod Phasing
+mod OwnRows
+mod Events
+mod OwnCalls
+mod Undoing
+mod Getting

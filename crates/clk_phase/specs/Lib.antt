@@ -1,0 +1,9 @@
+pub mod Bulk
+pub mod Running
+pub mod Going
+pub mod Kept
+pub mod Doing
+pub mod Undone
+pub mod Phases
+pub mod PhaseLogs
+pub mod Examples

@@ -1,0 +1,5 @@
+mod Masks
+mod Sums
+mod Going
+mod Sounds
+mod Writing

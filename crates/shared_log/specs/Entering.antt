@@ -1,0 +1,30 @@
+-- What a call makes of what a pass knows.
+use Rattle.std.specs.Prelude.{◌≡◌, ℕ, ◌-◌, List, [], ◌∷◌, ◌++◌, Some, false}
+use Rattle.atomic_table.specs.Seated.{TableId}
+use Rattle.tier_lock.specs.Entries.{own, IsPrefix}
+use Rattle.tier_lock.specs.Known.{KnownPass}
+
+-- a pass of the lock, between two calls: it has no turn and no baton
+pub record IsReady {E F : Type 0} (table : TableId) (p : KnownPass E F) : Type 0 where
+  pub table_is : p.table ≡ table
+  pub turn : p.turn ≡ false
+  pub baton : p.baton ≡ false
+
+module _ {E F : Type 0} (legal : F → List E → Type 0) (by : E → ℕ) where
+  -- what a pass has seen is legal from the fixed part that it knows, and has its own entries; number 0, while it alone was made, has
+  -- seen its own entries alone
+  pub record SeesRun (p : KnownPass E F) : Type 0 where
+    pub start : F
+    pub knows : p.fixed ≡ Some start
+    pub is_legal : legal start p.seen
+    pub own_ : own by p.number p.seen ≡ p.mine
+    pub alone : p.number ≡ 0 → p.made ≡ 1 → p.seen ≡ p.mine
+
+  -- an entry stands at the end of what the pass has seen and of its own, and is paid
+  pub record Enters (old : KnownPass E F) (e : E) (new : KnownPass E F) : Type 0 where
+    pub pass : new ≡ record old { seen = new.seen; mine = old.mine ++ e ∷ []; room = old.room - 1 }
+    -- what stands before it continues what the pass had seen
+    pub before : List E
+    pub continues : IsPrefix old.seen before
+    pub seen : new.seen ≡ before ++ e ∷ []
+    pub run : SeesRun new
