@@ -1,17 +1,13 @@
 //! How a pass waits.
-use std::{hint, thread};
+use crossbeam_utils::Backoff;
+use std::thread;
 
 // After so many tries it lets other threads run between two.
 const SHORT_RESTS: u32 = 1_000;
 
-// The most pauses of the processor between two tries.
-const MOST_PAUSES: u32 = 5;
-
-/// Waits for so many pauses of the processor.
-pub(crate) fn pause(times: u32) {
-    for _ in 0..times {
-        hint::spin_loop();
-    }
+/// Waits for one pause of the processor.
+pub(crate) fn pause() {
+    Backoff::new().spin();
 }
 
 /// How often a pass has tried in vain. It is a hint: no clause rests on it.
@@ -26,13 +22,16 @@ impl Patience {
         Patience { failed: 0 }
     }
 
-    /// Rests after a try in vain: briefly, and after many tries so that other threads run.
+    /// Rests after a try in vain: for three pauses of the processor, and after many tries so that
+    /// other threads run.
     pub(crate) fn rest(&mut self) {
         if self.failed < SHORT_RESTS {
             self.failed += 1;
         } else {
             thread::yield_now();
         }
-        pause(self.failed.min(MOST_PAUSES));
+        let backoff = Backoff::new();
+        backoff.spin();
+        backoff.spin();
     }
 }

@@ -66,7 +66,7 @@ fn has_moved<T: Kept>(shared: &SharedOf<T>, last: u64) -> bool
         if shared.peek(0) != last {
             return true;
         }
-        pause(1);
+        pause();
     }
     false
 }
