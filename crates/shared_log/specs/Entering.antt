@@ -1,14 +1,23 @@
 -- What a call makes of what a pass knows.
-use Rattle.std.specs.Prelude.{◌≡◌, ℕ, ◌-◌, List, [], ◌∷◌, ◌++◌, Some, false}
+use Rattle.std.specs.Prelude.{◌≡◌, ℕ, ◌-◌, ◌<◌, List, [], ◌∷◌, ◌++◌, Some, true, false}
 use Rattle.atomic_table.specs.Seated.{TableId}
 use Rattle.tier_lock.specs.Entries.{own, IsPrefix}
-use Rattle.tier_lock.specs.Known.{KnownPass}
+use Rattle.tier_lock.specs.Known.{KnownPass, first_known}
 
--- a pass of the lock, between two calls: it has no turn and no baton
+-- the first pass, which has all room and the baton
+abbrev pub first_seat : {E F : Type 0} → TableId → F → ℕ → KnownPass E F
+first_seat table fixed room = record (first_known table fixed room) { baton = true }
+
+-- all that a pass shows, but for the baton
+abbrev pub without_baton : {E F : Type 0} → KnownPass E F → KnownPass E F
+without_baton p = record p { baton = false }
+
+-- a pass of the lock, between two calls: it has no turn, and number 0, which counts itself among those made, has the baton
 pub record IsReady {E F : Type 0} (table : TableId) (p : KnownPass E F) : Type 0 where
   pub table_is : p.table ≡ table
   pub turn : p.turn ≡ false
-  pub baton : p.baton ≡ false
+  pub baton : p.number ≡ 0 → p.baton ≡ true
+  pub counts : p.number ≡ 0 → 0 < p.made
 
 module _ {E F : Type 0} (legal : F → List E → Type 0) (by : E → ℕ) where
   -- what a pass has seen is legal from the fixed part that it knows, and has its own entries; number 0, while it alone was made, has

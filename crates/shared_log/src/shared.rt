@@ -1,9 +1,9 @@
 //! A core behind the lock.
 
-ghost use Rattle.std.specs.Prelude.{◌≡◌, ◌<◌, ◌≤◌, ◌+◌, [], All, IfOk, IfSome, Some, sum_by};
+ghost use Rattle.std.specs.Prelude.{◌≡◌, ◌<◌, ◌≤◌, ◌+◌, ◌==◌, [], All, IfOk, IfSome, Some, map, position, sum_by};
 ghost use Rattle.tier_lock.specs.Entries.{own, IsPrefix, AreBelow};
-ghost use Rattle.tier_lock.specs.Known.{first_known, parted, next_pass, AreAll};
-ghost use Rattle.shared_log.specs.Entering.{IsReady, Enters};
+ghost use Rattle.tier_lock.specs.Known.{parted, next_pass, AreAll};
+ghost use Rattle.shared_log.specs.Entering.{first_seat, without_baton, IsReady, Enters};
 
 use crate::journaled::Journaled;
 use clk_io::NoMemory;
@@ -12,23 +12,19 @@ use std::marker::Model;
 use std::sync::Wait;
 use tier_lock::{Baton, Lock, Pass};
 
-/// A core that drivers share. Contracts see it as a `KnownLock`. No pass ever has the baton, since no
-/// entry needs it.
+/// A core that drivers share, also from threads. Contracts see it as a `KnownLock`. The pass of
+/// number 0 has the baton for good, since no entry needs it.
 #[derive(Drop)]
 pub struct Shared<T: Journaled> {
     lock: Lock<T>,
-    baton: Baton<T>,
 }
 
 impl<T: Journaled> Model for Shared<T> {
-    ghost use Rattle.std.specs.Prelude.{◌≡◌};
     ghost use Rattle.tier_lock.specs.Known.{KnownLock};
 
     ghost Value = { KnownLock T.Fixed };
 
     ghost view = { λ s. s.lock };
-
-    ghost invariant = { λ s. s.baton.table ≡ s.lock.table };
 }
 
 // A call of a driver, in one turn of the lock.
@@ -50,6 +46,26 @@ fn turn<T: Journaled, R: Wait>(
     reply
 }
 
+// The place of number 0.
+fn first_place<T: Journaled>(passes: &[Pass<T>]) -> Option<usize>
+    ensures { result ≡ position (λ p. p.number == 0) passes.now }
+{
+    passes.iter().position(|pass| pass.number() == 0)
+}
+
+// Takes the baton from number 0, which is among the passes.
+fn take_baton<T: Journaled>(lock: &Lock<T>, passes: &mut Vec<Pass<T>>) -> Baton<T>
+    requires ready { All (λ p. IsReady lock.now.table p) passes.old.items }
+    requires all { AreAll passes.old.items }
+    ensures baton { result.table ≡ lock.now.table }
+    ensures same { map without_baton passes.new.items ≡ map without_baton passes.old.items }
+{
+    let Some(place) = first_place(passes) else {
+        unreachable!()
+    };
+    lock.hand_back(&mut passes[place])
+}
+
 impl<T: Journaled> Shared<T> {
     /// Shares a core. The one error is that memory runs out.
     pub fn create(alloc: Global, core: T) -> Result<(Shared<T>, Pass<T>), NoMemory>
@@ -57,11 +73,12 @@ impl<T: Journaled> Shared<T> {
         requires { T.entries core ≡ [] }
         // The lock knows the fixed part of the core.
         ensures lock { IfOk result (λ r. r.0.fixed ≡ T.fixed core) }
-        // The pass has number 0 and all room, and has seen no entry.
-        ensures pass { IfOk result (λ r. r.1 ≡ first_known r.0.table (T.fixed core) (T.most (T.fixed core))) }
+        // The pass has number 0, all room and the baton, and has seen no entry.
+        ensures pass { IfOk result (λ r. r.1 ≡ first_seat r.0.table (T.fixed core) (T.most (T.fixed core))) }
     {
-        let (lock, pass, baton) = Lock::create(alloc, core)?;
-        Ok((Shared { lock, baton }, pass))
+        let (lock, mut pass, baton) = Lock::create(alloc, core)?;
+        lock.lend(&mut pass, baton);
+        Ok((Shared { lock }, pass))
     }
 
     /// A pass of the next number, with some of the room of number 0. Takes no memory.
@@ -78,6 +95,8 @@ impl<T: Journaled> Shared<T> {
         ensures old { boot.new ≡ parted room boot.old }
         // The new pass has the next number and this room, has seen as much, and has no entry.
         ensures new { result ≡ next_pass room boot.old }
+        // It is one of this lock, between two calls.
+        ensures ready { IsReady self.now.table result }
         // No entry of its number stands in what it has seen.
         ensures own_ { own T.by result.number result.seen ≡ result.mine }
     {
@@ -117,7 +136,9 @@ impl<T: Journaled> Shared<T> {
         // The rooms that are left and the costs of all entries fit into the total.
         ensures room { sum_by (λ p. p.room) passes.items + sum_by T.cost (T.entries result) ≤ T.most (T.fixed result) }
     {
-        let Shared { lock, baton } = self;
+        let Shared { lock } = self;
+        let mut passes = passes;
+        let baton = take_baton(&lock, &mut passes);
         match lock.close(passes, baton) {
             Ok(core) => core,
             Err(_) => unreachable!(),
