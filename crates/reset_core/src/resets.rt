@@ -2,8 +2,8 @@
 
 ghost use Rattle.std.specs.Prelude.{◌≡◌, ◌<◌, ◌≤◌, ◌+◌, All, IfOk, IsOk, Some, length, sum_by};
 ghost use Rattle.tier_lock.specs.Entries.{own, IsPrefix, AreBelow};
-ghost use Rattle.tier_lock.specs.Known.{first_known, parted, next_pass, AreAll};
-ghost use Rattle.shared_log.specs.Entering.{IsReady};
+ghost use Rattle.tier_lock.specs.Known.{parted, next_pass, AreAll};
+ghost use Rattle.shared_log.specs.Entering.{first_seat, IsReady};
 ghost use Rattle.reset_core.specs.Standing.{ArePlaced};
 ghost use Rattle.reset_core.specs.Sound.{AreApart};
 ghost use Rattle.reset_core.specs.Logs.{begins};
@@ -57,8 +57,8 @@ impl Resets {
         requires apart { AreApart lines.now }
         // They begin with these.
         ensures resets { IfOk result (λ r. r.0.fixed ≡ (begins words lines.now room).start) }
-        // The seat has number 0 and all room, and has seen no entry.
-        ensures seat { IfOk result (λ r. r.1 ≡ first_known r.0.table (begins words lines.now room).start room) }
+        // The seat has number 0, all room and the baton, and has seen no entry.
+        ensures seat { IfOk result (λ r. r.1 ≡ first_seat r.0.table (begins words lines.now room).start room) }
     {
         let core = ResetCore::create(alloc, words, lines, room)?;
         let (shared, seat) = Shared::create(alloc, Box::new(alloc, core)?)?;
@@ -79,6 +79,8 @@ impl Resets {
         ensures old { boot.new ≡ parted room boot.old }
         // The new seat has the next number and this room, has seen as much, and has no entry.
         ensures new { result ≡ next_pass room boot.old }
+        // It is one of these resets, between two calls.
+        ensures ready { IsReady self.now.table result }
         // No entry of its number stands in what it has seen.
         ensures own_ { own (λ e. e.driver) result.number result.seen ≡ result.mine }
     {
