@@ -2,8 +2,8 @@
 
 ghost use Rattle.std.specs.Prelude.{◌≡◌, ◌<◌, ◌≤◌, ◌+◌, All, IfOk, IfSome, IsOk, Some, None, length, sum_by};
 ghost use Rattle.tier_lock.specs.Entries.{own, IsPrefix, AreBelow};
-ghost use Rattle.tier_lock.specs.Known.{first_known, parted, next_pass, AreAll};
-ghost use Rattle.shared_log.specs.Entering.{IsReady};
+ghost use Rattle.tier_lock.specs.Known.{parted, next_pass, AreAll};
+ghost use Rattle.shared_log.specs.Entering.{first_seat, IsReady};
 ghost use Rattle.clk_phase.specs.PhaseLogs.{phase_begins, EntersPhase};
 
 use crate::phase::PhaseCore;
@@ -54,8 +54,8 @@ impl Phases {
         requires few { All (λ n. n ≤ 360) steps.now }
         // They begin with these.
         ensures phases { IfOk result (λ r. r.0.fixed ≡ (phase_begins steps.now room).start) }
-        // The seat has number 0 and all room, and has seen no entry.
-        ensures seat { IfOk result (λ r. r.1 ≡ first_known r.0.table (phase_begins steps.now room).start room) }
+        // The seat has number 0, all room and the baton, and has seen no entry.
+        ensures seat { IfOk result (λ r. r.1 ≡ first_seat r.0.table (phase_begins steps.now room).start room) }
     {
         let core = PhaseCore::create(alloc, desc, steps, room)?;
         let (shared, seat) = Shared::create(alloc, Box::new(alloc, core)?)?;
@@ -76,6 +76,8 @@ impl Phases {
         ensures old { boot.new ≡ parted room boot.old }
         // The new seat has the next number and this room, has seen as much, and has no entry.
         ensures new { result ≡ next_pass room boot.old }
+        // It is one of these phases, between two calls.
+        ensures ready { IsReady self.now.table result }
         // No entry of its number stands in what it has seen.
         ensures own_ { own (λ e. e.driver) result.number result.seen ≡ result.mine }
     {
