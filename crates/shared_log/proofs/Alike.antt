@@ -1,5 +1,5 @@
 -- Passes that differ in who has the baton alone.
-use Rattle.std.proofs.Common.{◌≡◌, ℕ, zero, suc, ◌<◌, ◌+◌, Bool, true, false, not, cond, nat_eq, List, [], ◌∷◌, length, map, sum_by, get_or, slice_index_or, All, Some, position, refl, sym, ap, subst, ◌∙◌, arith}
+use Rattle.std.proofs.Common.{◌≡◌, ℕ, zero, suc, ◌<◌, ◌+◌, Bool, true, false, not, cond, nat_eq, List, [], ◌∷◌, length, map, sum_by, get_or, All, Some, position, refl, sym, ap, subst, ◌∙◌, arith}
 use Rattle.std.specs.List.{Contains, position_or_len}
 use Rattle.std.proofs.lemmas.Bool.{lt-ltb, cond-true}
 use Rattle.std.proofs.lemmas.List.{length-map, get_or-map, get_or_default}
