@@ -7,11 +7,11 @@
 #![tactic(auto)]
 
 #[cfg(test)]
-mod between;
-#[cfg(test)]
 mod bytes;
 #[cfg(test)]
 mod faults;
+#[cfg(test)]
+mod pauses;
 #[cfg(test)]
 mod pieces;
 #[cfg(test)]
