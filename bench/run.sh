@@ -8,12 +8,18 @@
 # is `check` on the same text, which reads it and runs no driver, and `one-thread` is `sim` on it less
 # that: the calls themselves with their entries, and the printing of their answers. Each is the best
 # of five runs.
+#
+# The last line says how long an enable has to wait for planning: under `run` one driver asks over and
+# over what a rate would round to, of a divider with 65,536 divisors, and another one has 20,000 enables
+# meanwhile. It counts the roundings that stand in the journal between the first enable and the last; if
+# the enables last longer than the roundings, those are nearly all.
 
 root=$(dirname -- "$(dirname -- "$(readlink -f -- "$0")")") || exit 1
 program=$root/crates/clkbench/out/clkbench
 . "$root/bench/best_of_five.sh"
 text=$(mktemp) || exit 1
-trap 'rm -f "$text"' EXIT
+journal=$(mktemp) || exit 1
+trap 'rm -f "$text" "$journal"' EXIT
 
 # The text of the bundle that the program makes for so many drivers.
 generated() {
@@ -67,6 +73,31 @@ measure() {
         $((journal / commands)) $((reading / commands)) $(((one_thread - reading) / commands))
 }
 
+# The bundle of so many roundings of one driver and so many enables of another.
+rounding_beside_enables() {
+    awk -v roundings="$1" -v enables="$2" 'BEGIN {
+        print "%bundle 1\n%clocks\nfixed osc 24000000\ndivider d osc 0 0 16 set-rate-parent\ngate g osc 1 0\n%regs 2"
+        print "%driver A\nget x d"
+        while (roundings-- > 0) print "round x 1000000"
+        print "%driver B\nget x g\nprepare x"
+        while (enables-- > 0) print "enable x\ndisable x"
+    }'
+}
+
+# Prints how many roundings stand between the first and the last of the enables.
+count_roundings() {
+    rounding_beside_enables 2000 20000 >"$text"
+    if ! "$program" run <"$text" >"$journal"; then
+        echo "run.sh: the program failed on roundings beside enables" >&2
+        exit 1
+    fi
+    awk '
+        $2 == "B" && $3 == "enable" { if (!enables++) first = roundings; last = roundings }
+        $2 == "A" && $4 == "round" { roundings++ }
+        END { printf "%d of %d roundings of a driver stand between the first and the last of %d enables of another\n", last - first, roundings, enables }
+    ' "$journal"
+}
+
 # The proved program is measured, so it is proved and built first.
 "$root/prove" >&2 || exit 1
 
@@ -74,3 +105,6 @@ printf '%8s %10s %12s %14s %12s %12s\n' drivers commands a-command with-journal 
 for drivers in 1 2 4 8 16 32 64; do
     measure "$drivers"
 done
+
+echo
+count_roundings
