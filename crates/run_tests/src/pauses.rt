@@ -15,7 +15,7 @@ use std::thread::Threads;
 use std::time::{Clock, Duration};
 
 /// The clocks. Driver A sets the rate of `d`, which moves it from one parent to the other, and driver B
-/// opens and closes `g`, a gate in the watched word. Nothing stands above it that takes its time.
+/// opens and closes `g`, a gate in the watched word without a PLL above it.
 const CLOCKS: &str = "%bundle 1
 %clocks
 fixed slow 12000000
@@ -34,8 +34,8 @@ const ENABLES: u32 = 20_000;
 /// How often a wait looks whether the count has risen, once a millisecond.
 const LOOKS: u32 = 2_000;
 
-/// How often a run is made in which no wait takes place: on a busy machine one driver may have ended
-/// before the other one begins.
+/// How many runs are made until a wait takes place: on a busy machine one driver may have ended before
+/// the other one begins.
 const RUNS: u32 = 20;
 
 /// What came of a wait.
