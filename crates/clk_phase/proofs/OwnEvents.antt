@@ -1,19 +1,12 @@
 -- What one event of a driver makes of the row of one of its handles: the effects of calls, and their beginnings.
-use Rattle.std.proofs.Common.{◌≡◌, ◌≢◌, ◌⊎◌, inl, inr, ℕ, zero, suc, ◌+◌, ◌-◌, Bool, true, false, cond, nat_eq, ◌||◌, List, [], ◌∷◌, ◌++◌, Option, Some, None, set, length, refl, sym, ap, subst, ◌∙◌, arith}
+use Rattle.std.proofs.Common.{◌≡◌, ◌≢◌, ◌⊎◌, inl, inr, ℕ, zero, suc, ◌+◌, ◌-◌, Bool, true, false, nat_eq, List, [], ◌∷◌, ◌++◌, Option, Some, None, set, length, refl, sym, ap, subst, ◌∙◌, arith}
 use Rattle.std.specs.Prelude.{option_map}
 use Rattle.std.specs.Option.{option_map_or}
-use Rattle.std.proofs.lemmas.Bool.{cases_eq}
 use Rattle.std.proofs.lemmas.Bool.Decides.{nat_tests}
-use Rattle.clk_base.specs.declared.call.Micro.{Micro}
-use Rattle.clk_base.specs.declared.call.Micro.TheVariants as micro
 use Rattle.clk_base.specs.declared.call.Sleeping.{Sleeping}
 use Rattle.clk_base.specs.declared.call.Sleeping.TheVariants as call
 use Rattle.clk_base.specs.declared.clock.ClockId.{ClockId}
-use Rattle.clk_base.specs.declared.event.Entry.{Entry}
-use Rattle.clk_base.specs.declared.event.Errno.{Errno}
 use Rattle.clk_base.specs.declared.event.Errno.TheVariants as errno
-use Rattle.clk_base.specs.declared.event.Event.{Event}
-use Rattle.clk_base.specs.declared.event.Event.TheVariants as event
 use Rattle.clk_base.specs.declared.event.Reply.{Reply}
 use Rattle.clk_base.specs.declared.event.Reply.TheVariants as reply
 use Rattle.clk_base.specs.declared.event.Turn.{Turn}
@@ -23,20 +16,17 @@ use Rattle.clk_model.specs.declared.row.HandleRow.{HandleRow}
 use Rattle.clk_model.specs.State.{State, Change, handle_at}
 use Rattle.clk_model.specs.Tree.{rooted}
 use Rattle.clk_model.specs.Gates.{settled}
-use Rattle.clk_model.specs.Begin.{refused, own_handle, with_handle, given, got, holds_something, put_back, prepared_once_more, prepare, unprepare, keeps_prepare, begun}
-use Rattle.clk_model.specs.Step.{taken, stepped, end_of, range_back, ended_well, unranged}
+use Rattle.clk_model.specs.Begin.{refused, own_handle, with_handle, given, got, holds_something, put_back, prepare, unprepare, keeps_prepare, begun}
 use Rattle.clk_model.specs.Machine.{enabled, disabled, paid, next}
-use Rattle.clk_model.specs.Journal.{slotless, replay, Legal, own}
+use Rattle.clk_model.specs.Journal.{slotless}
 use Rattle.clk_model.proofs.TierLaws.{pick_either, paid_is}
-use Rattle.clk_model.proofs.FlightLaws.{IsStep, step_is, begin_is}
-use Rattle.clk_model.proofs.StepLaws.{step_after}
+use Rattle.clk_model.proofs.FlightLaws.{begin_is}
 use Rattle.clk_phase.specs.declared.bulk_call.BulkStep.{BulkStep}
 use Rattle.clk_phase.specs.declared.bulk_call.BulkStep.TheVariants as step
 use Rattle.clk_phase.specs.Bulk.{is_good}
-use Rattle.clk_phase.specs.Undone.{event_of, AreSteps, AreWholeCall}
-use Rattle.clk_phase.proofs.OwnRows.{own_of, own_in, own_row, own_is, at_same, at_other, others_stay}
-use Rattle.clk_model.specs.Tier.{is_step}
-use Rattle.clk_phase.proofs.Events.{new_handle, IsKept, lands, lands_kept, going_handles}
+use Rattle.clk_phase.specs.Undone.{event_of}
+use Rattle.clk_phase.proofs.OwnRows.{own_of, own_in, own_row, own_is, at_same, at_other}
+use Rattle.clk_phase.proofs.Events.{new_handle}
 
 -- ---- what a call makes of the row of number n, from x to y
 
