@@ -20,7 +20,8 @@ use Rattle.clk_phase.specs.Bulk.{Made, is_good, step_of, undo_of, steps_made, Fo
 use Rattle.clk_phase.specs.Going.{Goes}
 use Rattle.clk_phase.specs.Undone.{MakesCall, lacks_room, FailedGetsLeaveNone}
 use Rattle.clk_phase.proofs.OwnRows.{own_in}
-use Rattle.clk_phase.proofs.OwnCalls.{Effect, is_our_step, Keeps}
+use Rattle.clk_phase.proofs.OwnEvents.{Effect, is_our_step}
+use Rattle.clk_phase.proofs.OwnCalls.{Keeps}
 use Rattle.clk_phase.proofs.Undoing.{heads, empty, called, kept_from_opening, failed_leave_handles}
 
 -- the calls of a get, and those that undo it

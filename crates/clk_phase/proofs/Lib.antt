@@ -4,6 +4,7 @@ mod Steps
 mod Phasing
 mod OwnRows
 mod Events
+mod OwnEvents
 mod OwnCalls
 mod Undoing
 mod Getting

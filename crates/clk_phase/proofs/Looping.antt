@@ -97,6 +97,8 @@ module _ {S : Type 0} (makes : S → BulkStep → Reply → S → Type 0) (credi
   pub record Looped (r : Run) (now : S) : Type 0 where
     pub under : IsUnderWay makes old kind items r now
     pub credits_ : most_left r ≤ credits now
+    -- what was spent and what may still be spent are the command's credits at most
+    pub spent : credits old + most_left r ≤ credits now + credits_for kind (length items)
     pub clocks_ : clocks now ≡ clocks old
     pub placed : ArePlaced (clocks old) r
 
@@ -119,6 +121,7 @@ module _ {S : Type 0} (makes : S → BulkStep → Reply → S → Type 0) (credi
           runs = runs_more (begun kind items) l.under.made r s t l.under.runs next;
         };
         credits_ = omega (arith, pays, l.credits_, a.less);
+        spent = omega (arith, pays, l.spent, a.less);
         clocks_ = same ∙ l.clocks_;
         placed = a.placed;
       }
@@ -145,6 +148,7 @@ module _ {S : Type 0} (makes : S → BulkStep → Reply → S → Type 0) (credi
   starts r is pays all = record {
     under = record { made = []; goes = refl; runs = sym is };
     credits_ = omega (arith, ap most_left is, most_start kind items, pays);
+    spent = omega (arith, ap most_left is, most_start kind items);
     clocks_ = refl;
     placed = subst (λ (x : Run). ArePlaced (clocks old) x) (sym is) record { left = start_placed (clocks old) kind (map (step_of kind) items) (is_forward kind) all; undo = All-nil (IsPlacedStep (clocks old)) };
   }

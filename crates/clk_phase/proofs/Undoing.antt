@@ -27,7 +27,8 @@ use Rattle.clk_phase.specs.Going.{Goes}
 use Rattle.clk_phase.specs.Undone.{MakesCall, lacks_room, FailedLeaveHandles}
 use Rattle.clk_phase.proofs.OwnRows.{own_in, own_is, Backed}
 use Rattle.clk_phase.proofs.Events.{IsKept, lands, lands_kept}
-use Rattle.clk_phase.proofs.OwnCalls.{At, Effect, with_enables, with_prepares, is_our_step, Keeps, whole_call}
+use Rattle.clk_phase.proofs.OwnEvents.{At, Effect, with_enables, with_prepares, is_our_step}
+use Rattle.clk_phase.proofs.OwnCalls.{Keeps, whole_call}
 
 -- ---- a call that undoes
 

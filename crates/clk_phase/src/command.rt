@@ -51,6 +51,8 @@ pub fn bulk<C: Consumer, R: Wait + Sync>(
     ensures does { IfOk result (λ reply. Does C.makes who.old what.now.kind what.now.items.items reply.fail reply.handles.items who.new) }
     // No call was made, or memory ran out in a sleeping call: the command ends there.
     ensures err { OnErr result ((who.new ≡ who.old) ⊎ Stops C.makes C.fails who.old what.now.kind what.now.items.items who.new) }
+    // No more credits than those are spent.
+    ensures credits { C.credits who.old ≤ C.credits who.new + credits_for what.now.kind (length what.now.items.items) }
     ensures clocks { C.clocks who.new ≡ C.clocks who.old }
 {
     let mut run = BulkRun::create(alloc, what)?;

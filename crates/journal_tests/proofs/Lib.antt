@@ -1,1 +1,1 @@
-mod OneSeat
+mod Seats

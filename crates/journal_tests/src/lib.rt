@@ -8,8 +8,12 @@ mod bulks;
 #[cfg(test)]
 mod descriptions;
 #[cfg(test)]
+mod phase_seats;
+#[cfg(test)]
 mod phases;
+#[cfg(test)]
+mod reset_seats;
 #[cfg(test)]
 mod resets;
 #[cfg(test)]
-mod seats;
+mod sizes;

@@ -1,13 +1,11 @@
-//! Resets and phases behind the lock.
+//! Resets behind the lock.
 
 ghost use Rattle.std.specs.Prelude.{◌≡◌, ◌≤◌, ◌<◌, ◌+◌, Some, IfOk, IfSome, length};
 ghost use Rattle.shared_log.specs.Entering.{IsReady};
 
-use crate::descriptions::osc_and_gate;
 use crate::resets::{USB, handle};
-use clk_base::{ClockId, Reply};
-use clk_phase::{PhaseCore, PhaseReply, PhaseSeat, Phases};
-use reset_core::{ResetCall, ResetCore, ResetKind, ResetLine, ResetSeat, Resets};
+use clk_base::{Errno, Reply};
+use reset_core::{ResetCall, ResetCore, ResetEntry, ResetKind, ResetLine, ResetSeat, Resets};
 use std::alloc::Global;
 use std::marker::{Brand, PhantomData};
 use std::process::Abort;
@@ -119,28 +117,35 @@ fn drivers_share_a_line_side_by_side(rt: HostRuntime) -> Result<(), Fail> {
     Ok(())
 }
 
-// Ends resets of which one seat was made.
-fn close_resets(alloc: Global, resets: Resets, seat: ResetSeat) -> Result<ResetCore, Fail>
-    requires ready { IsReady resets.table seat }
-    requires alone { (seat.number ≡ 0) × (seat.made ≡ 1) }
-    ensures { IfOk result (λ core. core.start ≡ resets.fixed) }
-{
-    let mut seats = Vec::with_capacity(alloc, 1)?;
-    seats.push(seat)?;
-    match resets.close(seats) {
-        Ok(core) => Ok(core),
-        Err((_, _, no_memory)) => Err(no_memory.into()),
-    }
+// Each seat has the next number and the room that it was given, and number 0 has what is left.
+#[test]
+fn seats_have_their_numbers_and_rooms(rt: HostRuntime) -> Result<(), Fail> {
+    let (resets, mut boot) = two_lines(rt.alloc(), 5)?;
+    assert_eq!(rt; (boot.number(), boot.room()), (0, 5));
+    let first = resets.seat(&mut boot, 0);
+    assert_eq!(rt; (first.number(), first.room()), (1, 0));
+    let second = resets.seat(&mut boot, 5);
+    assert_eq!(rt; (second.number(), second.room()), (2, 5));
+    assert_eq!(rt; (boot.number(), boot.room()), (0, 0));
+    Ok(())
 }
 
-// Ends phases of which one seat was made.
-fn close_phases(alloc: Global, phases: Phases, seat: PhaseSeat) -> Result<PhaseCore, Fail>
-    requires ready { IsReady phases.table seat }
-    requires alone { (seat.number ≡ 0) × (seat.made ≡ 1) }
+// Ends resets of which two seats were made.
+fn close_resets(
+    alloc: Global,
+    resets: Resets,
+    first: ResetSeat,
+    second: ResetSeat,
+) -> Result<ResetCore, Fail>
+    requires ready { IsReady resets.table first × IsReady resets.table second }
+    requires first { (first.number ≡ 0) × (first.made ≡ 2) }
+    requires second { second.number ≡ 1 }
+    ensures { IfOk result (λ core. core.start ≡ resets.fixed) }
 {
-    let mut seats = Vec::with_capacity(alloc, 1)?;
-    seats.push(seat)?;
-    match phases.close(seats) {
+    let mut seats = Vec::with_capacity(alloc, 2)?;
+    seats.push(first)?;
+    seats.push(second)?;
+    match resets.close(seats) {
         Ok(core) => Ok(core),
         Err((_, _, no_memory)) => Err(no_memory.into()),
     }
@@ -148,23 +153,25 @@ fn close_phases(alloc: Global, phases: Phases, seat: PhaseSeat) -> Result<PhaseC
 
 #[test]
 fn closed_resets_have_all_entries(rt: HostRuntime) -> Result<(), Fail> {
-    let (resets, mut boot) = two_lines(rt.alloc(), 1)?;
-    let reply = resets.call(&rt, &mut boot, &ResetCall::Get(USB, ResetKind::Exclusive));
-    assert_eq!(rt; reply, handle(0, 0));
-    let core = close_resets(rt.alloc(), resets, boot)?;
-    assert_eq!(rt; core.journal().len(), 1);
-    Ok(())
-}
-
-#[test]
-fn closed_phases_have_all_entries(rt: HostRuntime) -> Result<(), Fail> {
-    let desc = osc_and_gate(&rt, rt.alloc())?;
-    let (phases, mut boot) = Phases::create(rt.alloc(), &desc, &[8, 7], 2)?;
-    let reply = phases.set(&rt, &mut boot, ClockId(1), 102);
-    assert_eq!(rt; reply, PhaseReply::Fine);
-    let reply = phases.get(&rt, &mut boot, ClockId(1));
-    assert_eq!(rt; reply, PhaseReply::Phase(102));
-    let core = close_phases(rt.alloc(), phases, boot)?;
-    assert_eq!(rt; core.journal().len(), 2);
+    let (resets, mut boot) = two_lines(rt.alloc(), 2)?;
+    let mut seat = resets.seat(&mut boot, 1);
+    let get = ResetCall::Get(USB, ResetKind::Exclusive);
+    assert_eq!(rt; resets.call(&rt, &mut seat, &get), handle(0, 1));
+    let refused = Reply::Refused(Errno::EBUSY);
+    assert_eq!(rt; resets.call(&rt, &mut boot, &get), refused);
+    let core = close_resets(rt.alloc(), resets, boot, seat)?;
+    let entries = [
+        ResetEntry {
+            driver: 1,
+            what: get,
+            reply: handle(0, 1),
+        },
+        ResetEntry {
+            driver: 0,
+            what: get,
+            reply: refused,
+        },
+    ];
+    assert_eq!(rt; core.journal(), entries.as_slice());
     Ok(())
 }
