@@ -25,7 +25,6 @@ use Rattle.clk_model.specs.State.{State, registered, link_in}
 use Rattle.clk_model.specs.Tree.{path, path_to_be, path_within, link_given, orphans}
 use Rattle.clk_model.specs.Wired.{LinesEnd, LinksArePossible}
 use Rattle.clk_model.proofs.ArriveLaws.{prepared_told, to_be_told}
-use Rattle.clk_model.proofs.BeginSafeLaws.{resting}
 use Rattle.clk_model.proofs.Members.{any_in, is_in_head, is_in_cases, or_left, or_right, same_from_test}
 use Rattle.clk_model.proofs.OnceLaws.{filter_passes}
 use Rattle.clk_model.proofs.PathLaws.{path_all}
@@ -33,35 +32,27 @@ use Rattle.clk_model.proofs.PlanGoLaws.{free_scene}
 use Rattle.clk_model.proofs.PllLaws.{link_given_possible}
 use Rattle.clk_model.proofs.ProbeGoLaws.{Resting, can_register, registered_prepares, registered_scene}
 use Rattle.clk_model.proofs.RegisterGoLaws.{register_keeps}
-use Rattle.clk_model.proofs.SafeRunLaws as runs
 use Rattle.clk_model.proofs.Scenes.{Scene, scene, holding, prepared_in, to_be}
 use Rattle.clk_model.proofs.WalkLaws.{either_way}
 use Rattle.clk_model.proofs.LinkBegins.{register_defs}
 use Rattle.clk_model.proofs.AdoptGoLaws.{left_was}
 use Rattle.clk_machine.specs.Adopting.{adopted}
 use Rattle.clk_machine.specs.Parts.{Parts, IsWhole}
-use Rattle.clk_machine.specs.Sound.{IsReached}
+use Rattle.clk_machine.specs.Sound.{IsLike}
 use Rattle.clk_machine.specs.Stands.{Stands}
 use Rattle.core_parts.proofs.RegisteredTree.{link_given-take, rate-take}
-use Rattle.clk_machine.proofs.Unmoved.{run_of}
+use Rattle.clk_machine.proofs.Unmoved.{resting_like}
 
 -- ---- who is prepared
 
--- a state of a run rests while no call is in flight
-resting_reached : (words : ℕ) (s : State) → IsReached words s → s.change ≡ None → Resting s
-resting_reached words s is quiet = by (run_of words s is).running_ where
-  by : runs.IsRunning s → Resting s
-  by (runs.quietly still rest) = resting s rest (run_of words s is).keeps
-  by (runs.in_flight goes) = let no : None ≡ Some goes.change = sym quiet ∙ goes.at in absurd cc
-
 -- behind a registration who was prepared is, and the path that a critical clock was to have
-pub prepared_behind : (words : ℕ) (s : State) (c x : ℕ) → IsReached words s → s.change ≡ None → registered s.clocks c ≡ false
+pub prepared_behind : (words : ℕ) (s : State) (c x : ℕ) → IsLike words s → s.change ≡ None → registered s.clocks c ≡ false
     → prepared (register s c) x ≡ (prepared s x || (is_critical s.defs c && is_in x (path_to_be s.defs s.regs s.clocks c)))
 prepared_behind words s c x is quiet free =
     prepared_told None None s (register s c) (scene None (register s c)) x (register_defs s c) refl
     ∙ either_way (prepared_in s.defs (scene None (register s c)) x) (prepared s x || (is_critical s.defs c && is_in x (path_to_be s.defs s.regs s.clocks c))) grows stays where
       rest : Resting s
-      rest = resting_reached words s is quiet
+      rest = resting_like words s is quiet
 
       told : prepared s x ≡ prepared_in s.defs (scene None s) x
       told = prepared_told None None s s (scene None s) x refl refl

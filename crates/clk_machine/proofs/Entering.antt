@@ -23,22 +23,23 @@ use Rattle.clk_model.proofs.EndCauseLaws.{going_leaves_changes}
 use Rattle.clk_model.proofs.JournalCauseLaws.{journals_have_causes}
 use Rattle.clk_model.proofs.JournalLaws.{replay-append, Legal-append}
 use Rattle.core_parts.specs.InFlight.{is_worked_out}
-use Rattle.clk_machine.specs.Sound.{IsSound, IsPlaced, takes_memory, links_well, CanTake}
+use Rattle.clk_machine.specs.Sound.{IsReached, IsNarrow, IsSound, IsPlaced, takes_memory, links_well, CanTake}
 use Rattle.core_parts.specs.Listed.{rows_from}
 use Rattle.clk_machine.specs.Parts.{Parts, steps_left}
 use Rattle.clk_machine.proofs.Flying.{never_flown, none_left}
 use Rattle.std.specs.Prelude.{if◌then◌else◌}
 use Rattle.clk_model.specs.Tier.{is_enable_tier}
-use Rattle.clk_machine.specs.Stands.{Stands, is_told, Remains, Leads, Enters, joins, most_steps, price}
+use Rattle.clk_machine.specs.Stands.{Stands, is_told, Remains, Leads, Enters, Proceeds, joins, most_steps, price}
 use Rattle.core_parts.specs.declared.behind.Behind.{Behind}
 use Rattle.clk_machine.specs.Polls.{FollowsLocks, IfPoll, IsAsked, asked_by}
 use Rattle.core_parts.specs.Window.{HasDelays}
 use Rattle.clk_machine.proofs.Polling.{Takes, answers_on, asked_append, front_behind_journal, polled_append, polling_on}
 use Rattle.clk_base.specs.Valid.{IsValid}
 use Rattle.clk_model.specs.Fed.{Fed}
-use Rattle.clk_machine.proofs.Soundness.{fed_reached, sound_opening}
+use Rattle.clk_machine.proofs.Likeness.{sound_reached}
+use Rattle.clk_machine.proofs.Soundness.{fed_reached, reached_next, reached_opening, narrow_opening}
 use Rattle.clk_model.specs.Begin.{most_credits}
-use Rattle.clk_machine.proofs.Events.{sound_next}
+use Rattle.clk_machine.proofs.Events.{narrow_next}
 use Rattle.clk_machine.specs.Run.{Run, now_of, was_registered, going_after, in_flight, driver_after, driver_in_flight, Logged, start_of, state_of, run_of, IsRun, Appends, StepsOn, StepTurns}
 use Rattle.std.proofs.Math.Bool.{or-false}
 
@@ -89,26 +90,49 @@ driver_append d (f ∷ entries) e = driver_append (if is_enable_tier f.event the
 -- an event that is taken and entered
 pub record IsEntered (old new : Parts) (words : List ℕ) (log log' : Logged) (d : ℕ) (e : Event) (t : Turn) : Type 0 where
   pub run : IsRun old words log
-  pub enters : Enters old d e t new
+  pub proceeds : Proceeds old d e t new
+  pub leads_ : is_told old ≡ true → Leads (state_of old words log) d e t new
   pub can : is_told old ≡ true → CanTake (state_of old words log) e
   pub entries : log'.entries ≡ log.entries ++ entry_of d e t ∷ []
   pub room : new.credits + steps_left new ≤ new.spent + log'.room
   pub locks : FollowsLocks old e new
 
+-- what an event does to the parts, and where it leads from the state of a run
+proceeds_of : (old new : Parts) (d : ℕ) (e : Event) (t : Turn) → Enters old d e t new → Proceeds old d e t new
+proceeds_of old new d e t enters = record {
+  remains = enters.remains;
+  pays = enters.pays;
+  going = enters.going;
+  driver_ = enters.driver_;
+  fewer = enters.fewer;
+  begun = enters.begun;
+  no_more = enters.no_more;
+  beside = enters.beside;
+  rows = enters.rows;
+}
+
+-- the state of a run is sound for its parts
+pub sound_of : (m : Parts) (words : List ℕ) (log : Logged) → IsRun m words log → is_told m ≡ true → IsSound m.window.size (state_of m words log)
+sound_of m words log run told = subst (λ (n : ℕ). IsSound n (state_of m words log)) (sym run.size) (sound_reached (length words) (state_of m words log) (run.reached told) (run.narrow told))
+
+leads_at : (old new : Parts) (words : List ℕ) (log : Logged) (d : ℕ) (e : Event) (t : Turn) → IsRun old words log → Enters old d e t new → is_told old ≡ true → Leads (state_of old words log) d e t new
+leads_at old new words log d e t run enters told = enters.step (state_of old words log) (run.stands told) (sound_of old words log run told)
+
 -- one that is paid and answered at once leaves room for the entries to come
-pub answered : (old new : Parts) (words : List ℕ) (log log' : Logged) (d : ℕ) (e : Event) (t : Turn) → IsRun old words log → Enters old d e t new
+pub answered_from : (old new : Parts) (words : List ℕ) (log log' : Logged) (d : ℕ) (e : Event) (t : Turn) → IsRun old words log → Proceeds old d e t new → (is_told old ≡ true → Leads (state_of old words log) d e t new)
     → (is_told old ≡ true → CanTake (state_of old words log) e) → is_paid e ≡ true → is_going t ≡ false → log'.entries ≡ log.entries ++ entry_of d e t ∷ [] → log'.room + 1 ≡ log.room
     → IsEntered old new words log log' d e t
-answered old new words log log' d e t run enters can paid done entries taken = record {
+answered_from old new words log log' d e t run proceeds leads can paid done entries taken = record {
   run = run;
-  enters = enters;
+  proceeds = proceeds;
+  leads_ = leads;
   can = can;
   entries = entries;
   room =
       let before = run.room in
-      let pays : new.spent ≡ old.spent + 1 = enters.pays ∙ ap (λ (b : Bool). old.spent + cond b 1 0) paid in
-      let credits = enters.remains.credits in
-      let less = enters.no_more paid done in
+      let pays : new.spent ≡ old.spent + 1 = proceeds.pays ∙ ap (λ (b : Bool). old.spent + cond b 1 0) paid in
+      let credits = proceeds.remains.credits in
+      let less = proceeds.no_more paid done in
       omega arith;
   locks = paid_follows e paid;
 } where
@@ -116,38 +140,21 @@ answered old new words log log' d e t run enters can paid done entries taken = r
   paid_follows (event.Step m answer) e = absurd cc
   paid_follows _ e = tt
 
--- so does a call that begins, where there was room for the steps that it may come to
-pub begun : (old new : Parts) (words : List ℕ) (log log' : Logged) (d : ℕ) (what : Sleeping) (t : Turn) → IsRun old words log → Enters old d (event.Begin what) t new
-    → (is_told old ≡ true → CanTake (state_of old words log) (event.Begin what)) → old.credits + most_steps old.desc.defs (event.Begin what) ≤ old.spent + log.room
-    → log'.entries ≡ log.entries ++ entry_of d (event.Begin what) t ∷ [] → log'.room + 1 ≡ log.room → IsEntered old new words log log' d (event.Begin what) t
-begun old new words log log' d what t run enters can most entries taken = record {
-  run = run;
-  enters = enters;
-  can = can;
-  entries = entries;
-  room = by (is_going t) refl;
-  locks = tt;
-} where
-  by : (b : Bool) → is_going t ≡ b → new.credits + steps_left new ≤ new.spent + log'.room
-  by true goes =
-      let pays = enters.pays in
-      let credits = enters.remains.credits in
-      let few = enters.begun refl goes in
-      omega arith
-  by false done =
-      let before = run.room in
-      let pays = enters.pays in
-      let credits = enters.remains.credits in
-      let less = enters.no_more refl done in
-      omega arith
+pub answered : (old new : Parts) (words : List ℕ) (log log' : Logged) (d : ℕ) (e : Event) (t : Turn) → IsRun old words log → Enters old d e t new
+    → (is_told old ≡ true → CanTake (state_of old words log) e) → is_paid e ≡ true → is_going t ≡ false → log'.entries ≡ log.entries ++ entry_of d e t ∷ [] → log'.room + 1 ≡ log.room
+    → IsEntered old new words log log' d e t
+answered old new words log log' d e t run enters can paid done entries taken =
+    answered_from old new words log log' d e t run (proceeds_of old new d e t enters) (leads_at old new words log d e t run enters) can paid done entries taken
 
--- and one that changes a rate, where room was made for the steps of its script
-pub begun_along : (old new : Parts) (words : List ℕ) (log log' : Logged) (d : ℕ) (what : Sleeping) (t : Turn) → IsRun old words log → Enters old d (event.Begin what) t new
+-- so does a call that begins, where room was made for the steps that it comes to
+pub begun_from : (old new : Parts) (words : List ℕ) (log log' : Logged) (d : ℕ) (what : Sleeping) (t : Turn) → IsRun old words log → Proceeds old d (event.Begin what) t new
+    → (is_told old ≡ true → Leads (state_of old words log) d (event.Begin what) t new)
     → (is_told old ≡ true → CanTake (state_of old words log) (event.Begin what)) → (is_going t ≡ true → old.credits + steps_left new ≤ old.spent + log.room)
     → log'.entries ≡ log.entries ++ entry_of d (event.Begin what) t ∷ [] → log'.room + 1 ≡ log.room → IsEntered old new words log log' d (event.Begin what) t
-begun_along old new words log log' d what t run enters can most entries taken = record {
+begun_from old new words log log' d what t run proceeds leads can most entries taken = record {
   run = run;
-  enters = enters;
+  proceeds = proceeds;
+  leads_ = leads;
   can = can;
   entries = entries;
   room = by (is_going t) refl;
@@ -155,16 +162,30 @@ begun_along old new words log log' d what t run enters can most entries taken = 
 } where
   by : (b : Bool) → is_going t ≡ b → new.credits + steps_left new ≤ new.spent + log'.room
   by true goes =
-      let pays = enters.pays in
-      let credits = enters.remains.credits in
+      let pays = proceeds.pays in
+      let credits = proceeds.remains.credits in
       let few = most goes in
       omega arith
   by false done =
       let before = run.room in
-      let pays = enters.pays in
-      let credits = enters.remains.credits in
-      let less = enters.no_more refl done in
+      let pays = proceeds.pays in
+      let credits = proceeds.remains.credits in
+      let less = proceeds.no_more refl done in
       omega arith
+
+-- and one of which is known how many it may come to
+pub begun : (old new : Parts) (words : List ℕ) (log log' : Logged) (d : ℕ) (what : Sleeping) (t : Turn) → IsRun old words log → Enters old d (event.Begin what) t new
+    → (is_told old ≡ true → CanTake (state_of old words log) (event.Begin what)) → old.credits + most_steps old.desc.defs (event.Begin what) ≤ old.spent + log.room
+    → log'.entries ≡ log.entries ++ entry_of d (event.Begin what) t ∷ [] → log'.room + 1 ≡ log.room → IsEntered old new words log log' d (event.Begin what) t
+begun old new words log log' d what t run enters can most entries taken =
+    begun_from old new words log log' d what t run (proceeds_of old new d (event.Begin what) t enters) (leads_at old new words log d (event.Begin what) t run enters) can
+    (λ goes. let few = enters.begun refl goes in omega arith) entries taken
+
+pub begun_along : (old new : Parts) (words : List ℕ) (log log' : Logged) (d : ℕ) (what : Sleeping) (t : Turn) → IsRun old words log → Enters old d (event.Begin what) t new
+    → (is_told old ≡ true → CanTake (state_of old words log) (event.Begin what)) → (is_going t ≡ true → old.credits + steps_left new ≤ old.spent + log.room)
+    → log'.entries ≡ log.entries ++ entry_of d (event.Begin what) t ∷ [] → log'.room + 1 ≡ log.room → IsEntered old new words log log' d (event.Begin what) t
+begun_along old new words log log' d what t run enters can most entries taken =
+    begun_from old new words log log' d what t run (proceeds_of old new d (event.Begin what) t enters) (leads_at old new words log d (event.Begin what) t run enters) can most entries taken
 
 -- and a step
 pub stepped : (old new : Parts) (words : List ℕ) (log log' : Logged) (d : ℕ) (m : Micro) (answer : Option Bool) (t : Turn) → IsRun old words log
@@ -172,7 +193,8 @@ pub stepped : (old new : Parts) (words : List ℕ) (log log' : Logged) (d : ℕ)
     → IsEntered old new words log log' d (event.Step m answer) t
 stepped old new words log log' d m answer t run enters leaves locks entries taken = record {
   run = run;
-  enters = enters;
+  proceeds = proceeds_of old new d (event.Step m answer) t enters;
+  leads_ = leads_at old new words log d (event.Step m answer) t run enters;
   can = λ told.
       let s : State = state_of old words log in
       let stands = run.stands told in
@@ -192,7 +214,8 @@ pub roomier : (m : Parts) (words : List ℕ) (log log' : Logged) → IsRun m wor
 roomier m words log log' run same more = record {
   stands = λ told. subst (λ (j : List Entry). Stands m (replay (start_of m words) j)) (sym same) (run.stands told);
   legal = λ told. subst (λ (j : List Entry). Legal (start_of m words) j) (sym same) (run.legal told);
-  sound = λ told. subst (λ (j : List Entry). IsSound (length words) (replay (start_of m words) j)) (sym same) (run.sound told);
+  reached = λ told. subst (λ (j : List Entry). IsReached (length words) (replay (start_of m words) j)) (sym same) (run.reached told);
+  narrow = λ told. subst (λ (j : List Entry). IsNarrow (length words) (replay (start_of m words) j)) (sym same) (run.narrow told);
   fed = λ told. subst (λ (j : List Entry). (n : ℕ) → Fed (replay (start_of m words) (take n j))) (sym same) (run.fed told);
   spent = ap cost same ∙ run.spent;
   room = let before = run.room in omega arith;
@@ -219,13 +242,13 @@ module _ (old new : Parts) (words : List ℕ) (log log' : Logged) (d : ℕ) (e :
   now = state_of old words log
 
   same : start_of new words ≡ start_of old words
-  same = start_remains old new words is.enters.remains
+  same = start_remains old new words is.proceeds.remains
 
   leads : is_told old ≡ true → Leads now d e t new
-  leads told = is.enters.step now (is.run.stands told) (subst (λ (n : ℕ). IsSound n now) (sym is.run.size) (is.run.sound told))
+  leads told = is.leads_ told
 
   was : is_told new ≡ true → is_told old ≡ true
-  was told = sym is.enters.remains.told ∙ told
+  was told = sym is.proceeds.remains.told ∙ told
 
   -- the state after it is the one that the machine comes to
   comes : (told : is_told old ≡ true) → state_of new words log' ≡ (leads told).to
@@ -233,8 +256,8 @@ module _ (old new : Parts) (words : List ℕ) (log log' : Logged) (d : ℕ) (e :
       ap (λ (s : State). replay s log'.entries) same ∙ ap (replay (start_of old words)) is.entries
       ∙ replay-append (start_of old words) (leads told).to (slotless t) log.entries (entry_of d e t) (leads told).next_
 
-  sound_after : (told : is_told old ≡ true) → IsSound (length words) (leads told).to
-  sound_after told = sound_next (length words) now (leads told).to d e (slotless t) (is.run.sound told) (is.can told) (leads told).next_
+  reached_after : (told : is_told old ≡ true) → IsReached (length words) (leads told).to
+  reached_after told = reached_next (length words) now (leads told).to d e (slotless t) (is.run.reached told) (leads told).next_
 
   legal_after : is_told old ≡ true → Legal (start_of new words) log'.entries
   legal_after told =
@@ -254,8 +277,8 @@ module _ (old new : Parts) (words : List ℕ) (log log' : Logged) (d : ℕ) (e :
     before = (is.run.stands told).change;
     after = (leads told).stands.change;
     front = front_behind_journal (start_of old words) log.entries refl (is.run.legal told);
-    going = is.enters.going;
-    beside = is.enters.beside;
+    going = is.proceeds.going;
+    beside = is.proceeds.beside;
     locks = is.locks;
   }
 
@@ -264,27 +287,30 @@ module _ (old new : Parts) (words : List ℕ) (log log' : Logged) (d : ℕ) (e :
   entered = record {
     stands = λ told. subst (λ (s : State). Stands new s) (sym (comes (was told))) (leads (was told)).stands;
     legal = λ told. legal_after (was told);
-    sound = λ told. subst (λ (s : State). IsSound (length words) s) (sym (comes (was told))) (sound_after (was told));
+    reached = λ told. subst (λ (s : State). IsReached (length words) s) (sym (comes (was told))) (reached_after (was told));
+    narrow = λ told.
+        subst (λ (s : State). IsNarrow (length words) s) (sym (comes (was told)))
+        (narrow_next (length words) now (leads (was told)).to d e (slotless t) (is.run.narrow (was told)) (is.can (was told)) (leads (was told)).next_);
     fed = λ told n.
         subst (λ (s : State). Fed (replay s (take n log'.entries))) (sym same)
         (fed-append (start_of old words) (leads (was told)).to (slotless t) log.entries log'.entries (entry_of d e t) is.entries (leads (was told)).next_
-        (is.run.fed (was told)) (fed_reached (length words) (leads (was told)).to (sound_after (was told)).reached) n);
-    spent = ap cost is.entries ∙ cost-append log.entries (entry_of d e t) ∙ ap (λ (n : ℕ). n + price e) is.run.spent ∙ sym is.enters.pays;
+        (is.run.fed (was told)) (fed_reached (length words) (leads (was told)).to (reached_after (was told))) n);
+    spent = ap cost is.entries ∙ cost-append log.entries (entry_of d e t) ∙ ap (λ (n : ℕ). n + price e) is.run.spent ∙ sym is.proceeds.pays;
     room = is.room;
-    going = is.enters.going ∙ ap (λ (b : Bool). if is_enable_tier e then b else is_going t) is.run.going ∙ sym (ap in_flight is.entries ∙ going_append false log.entries (entry_of d e t));
+    going = is.proceeds.going ∙ ap (λ (b : Bool). if is_enable_tier e then b else is_going t) is.run.going ∙ sym (ap in_flight is.entries ∙ going_append false log.entries (entry_of d e t));
     driver_ = λ still.
-        is.enters.driver_ still ∙ whose (is_enable_tier e) is.enters.going still ∙ sym (ap driver_in_flight is.entries ∙ driver_append 0 log.entries (entry_of d e t));
+        is.proceeds.driver_ still ∙ whose (is_enable_tier e) is.proceeds.going still ∙ sym (ap driver_in_flight is.entries ∙ driver_append 0 log.entries (entry_of d e t));
     polling = λ told goes.
         subst (λ (asked : List ℕ). IfPoll new.flight.front (IsAsked new.window.locks asked)) (sym (ap (asked_by []) is.entries ∙ asked_append [] log.entries (entry_of d e t)))
         (polling_on old new now (leads (was told)).to d e t (asked_by [] log.entries) (takes (was told)) (is.run.polling (was told)) goes);
     polled = λ told delay delays.
-        let kept : HasDelays old.window.behind.delays delay = subst (λ (b : Behind). HasDelays b.delays delay) is.enters.remains.behind delays in
+        let kept : HasDelays old.window.behind.delays delay = subst (λ (b : Behind). HasDelays b.delays delay) is.proceeds.remains.behind delays in
         subst (λ (j : List Entry). Polled delay j) (sym is.entries)
         (polled_append delay [] log.entries (entry_of d e t) (is.run.polled (was told) delay kept)
         (answers_on old new now (leads (was told)).to d e t (asked_by [] log.entries) delay (takes (was told)) (is.run.polling (was told)) delays));
-    size = is.enters.remains.size ∙ is.run.size;
+    size = is.proceeds.remains.size ∙ is.run.size;
     probed = λ c.
-        is.enters.rows c ∙ ap (λ (b : Bool). b || joins e t c) (is.run.probed c)
+        is.proceeds.rows c ∙ ap (λ (b : Bool). b || joins e t c) (is.run.probed c)
         ∙ ap (λ (b : Bool). was_registered log.entries c || b) (sym (or-false (joins e t c)))
         ∙ sym (ap (λ (j : List Entry). was_registered j c) is.entries ∙ list_any-append (λ f. joins f.event f.turn c) log.entries (entry_of d e t ∷ []));
   }
@@ -293,12 +319,12 @@ module _ (old new : Parts) (words : List ℕ) (log log' : Logged) (d : ℕ) (e :
   pub appended : Appends (run_of old words log) d e t (run_of new words log')
   appended = record {
     start = same;
-    told = is.enters.remains.told;
-    behind = is.enters.remains.behind;
+    told = is.proceeds.remains.told;
+    behind = is.proceeds.remains.behind;
     entry = is.entries;
     step = λ told. (leads told).next_ ∙ ap (λ (s : State). let x : State × Turn = (s, slotless t) in Some x) (sym (comes told));
     legal = legal_after;
-    no_more = λ paid done. is.enters.no_more paid done;
+    no_more = λ paid done. is.proceeds.no_more paid done;
   }
 
 -- ---- steps
@@ -317,7 +343,7 @@ steps_on old new words log log' d m answer t is same = record {
   made = m;
   answer = answer;
   entry = subst (λ (n : ℕ). Appends (run_of old words log) n (event.Step m answer) t (run_of new words log')) same (appended old new words log log' d (event.Step m answer) t is);
-  fewer = is.enters.fewer refl;
+  fewer = is.proceeds.fewer refl;
 }
 
 -- two lists with one entry more each, of the same entries, have the same last one
@@ -382,16 +408,19 @@ begins m words given log desc ignore_unused credits same empty room stands at cr
     ∙ ap (λ (b : Bool). opening desc.defs given b m.credits) unused
     ∙ ap (λ (n : ℕ). opening desc.defs given ignore_unused n) credit in
     let now : state_of m words log ≡ opening desc.defs given ignore_unused credits = ap (replay (start_of m words)) empty ∙ start in
-    let sound : IsSound (length given) (opening desc.defs given ignore_unused credits) = sound_opening given desc.defs ignore_unused credits valid few in
+    let reached : IsReached (length given) (opening desc.defs given ignore_unused credits) = reached_opening given desc.defs ignore_unused credits valid few in
     record {
       stands = λ told. subst (λ (s : State). Stands m s) (sym now) (stands told);
       legal = λ told. subst (λ (j : List Entry). Legal (start_of m words) j) (sym empty) tt;
-      sound = λ told.
-          subst (λ (ws : List ℕ). IsSound (length ws) (state_of m words log)) (sym same) (subst (λ (s : State). IsSound (length given) s) (sym now) sound);
+      reached = λ told.
+          subst (λ (ws : List ℕ). IsReached (length ws) (state_of m words log)) (sym same) (subst (λ (s : State). IsReached (length given) s) (sym now) reached);
+      narrow = λ told.
+          subst (λ (ws : List ℕ). IsNarrow (length ws) (state_of m words log)) (sym same)
+          (subst (λ (s : State). IsNarrow (length given) s) (sym now) (narrow_opening given desc.defs ignore_unused credits valid));
       fed = λ told n.
           subst (λ (j : List Entry). Fed (replay (start_of m words) (take n j))) (sym empty)
           (subst (λ (j : List Entry). Fed (replay (start_of m words) j)) (sym (take_all n [] (omega arith)))
-          (subst (λ (s : State). Fed s) (sym start) (fed_reached (length given) (opening desc.defs given ignore_unused credits) sound.reached)));
+          (subst (λ (s : State). Fed s) (sym start) (fed_reached (length given) (opening desc.defs given ignore_unused credits) reached)));
       spent = ap cost empty ∙ sym spent;
       room = let nothing_left = none_left (rows_from 0 m.chains) m.flight quiet in omega arith;
       going = quiet ∙ sym (ap in_flight empty);

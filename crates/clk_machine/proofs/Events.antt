@@ -33,10 +33,9 @@ use Rattle.clk_model.specs.Round.{wiring, round_rate}
 use Rattle.clk_model.specs.Views.{view, lift}
 use Rattle.clk_machine.specs.Holding.{notified, unnotified}
 use Rattle.clk_machine.proofs.CallEvents.{exclusive_get-unknown, exclusive_get-fine, exclusive_put-unknown, exclusive_put-warned, exclusive_put-fine, notifier_add-unknown, notifier_add-known, notifier_add-full, notifier_add-fine, notifier_remove-unknown, notifier_remove-lacking, notifier_remove-fine, round-unknown, round-told, round-none}
-use Rattle.clk_machine.specs.Sound.{IsNarrow, IsSound, links_well, CanTake}
+use Rattle.clk_machine.specs.Sound.{IsNarrow, links_well, CanTake}
 use Rattle.clk_model.proofs.FlightLaws.{begin_is, step_is}
 use Rattle.clk_model.proofs.TierLaws.{pick_either, with_handle_either}
-use Rattle.clk_machine.proofs.Soundness.{reached_next}
 use Rattle.clk_machine.proofs.Stepping.{polled_change}
 use Rattle.clk_machine.proofs.Relinked.{IsNarrow-linked, IsNarrow-settle}
 use Rattle.clk_model.proofs.Members.{both_left, both_right}
@@ -197,17 +196,17 @@ leaves_sound words s t d what x sound stays comes =
 
 -- ---- calls
 
-begin_sound : (words : ℕ) (s t : State) (d : ℕ) (what : Sleeping) (x : Turn) → IsSound words s → s.change ≡ None → IsNarrow words s → CanTake s (event.Begin what) → next s d (event.Begin what) ≡ Some (t, x) → IsNarrow words t
-begin_sound words s t d (call.Get None) x whole quiet sound can comes =
+begin_sound : (words : ℕ) (s t : State) (d : ℕ) (what : Sleeping) (x : Turn) → s.change ≡ None → IsNarrow words s → CanTake s (event.Begin what) → next s d (event.Begin what) ≡ Some (t, x) → IsNarrow words t
+begin_sound words s t d (call.Get None) x quiet sound can comes =
     same_sound words s t d (event.Begin (call.Get None)) _ x sound (get-not_found s d quiet) comes
-begin_sound words s t d (call.Get (Some c)) x whole quiet sound can comes = by (rooted s.defs s.clocks c.0) refl where
+begin_sound words s t d (call.Get (Some c)) x quiet sound can comes = by (rooted s.defs s.clocks c.0) refl where
   by : (b : Bool) → rooted s.defs s.clocks c.0 ≡ b → IsNarrow words t
   by true fast =
       comes_to words s (given s d c.0).0 t d (event.Begin (call.Get (Some c))) _ x
       (stills words s (given s d c.0).0 (λ k. active-append s _ k refl) sound)
       (get-given s d c quiet fast) comes
   by false loose = same_sound words s t d (event.Begin (call.Get (Some c))) _ x sound (get-deferred s d c quiet loose) comes
-begin_sound words s t d (call.Put h) x whole quiet sound can comes = by (own_handle s d h.number) refl where
+begin_sound words s t d (call.Put h) x quiet sound can comes = by (own_handle s d h.number) refl where
   held : (row : HandleRow) (b : Bool) → own_handle s d h.number ≡ Some row → holds_something row ≡ b → IsNarrow words t
   held row true own holds = same_sound words s t d (event.Begin (call.Put h)) _ x sound (put-busy s d h row quiet own holds) comes
   held row false own free =
@@ -216,22 +215,22 @@ begin_sound words s t d (call.Put h) x whole quiet sound can comes = by (own_han
   by : (o : Option HandleRow) → own_handle s d h.number ≡ o → IsNarrow words t
   by None lacks = same_sound words s t d (event.Begin (call.Put h)) _ x sound (put-unknown s d h quiet lacks) comes
   by (Some row) own = held row (holds_something row) own refl
-begin_sound words s t d (call.Prepare h) x whole quiet sound can comes = leaves_sound words s t d (call.Prepare h) x sound (prepare_stays words s d h sound) comes
-begin_sound words s t d (call.Unprepare h) x whole quiet sound can comes = leaves_sound words s t d (call.Unprepare h) x sound (unprepare_stays words s d h sound) comes
-begin_sound words s t d (call.GetRate h) x whole quiet sound can comes = by (own_handle s d h.number) refl where
+begin_sound words s t d (call.Prepare h) x quiet sound can comes = leaves_sound words s t d (call.Prepare h) x sound (prepare_stays words s d h sound) comes
+begin_sound words s t d (call.Unprepare h) x quiet sound can comes = leaves_sound words s t d (call.Unprepare h) x sound (unprepare_stays words s d h sound) comes
+begin_sound words s t d (call.GetRate h) x quiet sound can comes = by (own_handle s d h.number) refl where
   by : (o : Option HandleRow) → own_handle s d h.number ≡ o → IsNarrow words t
   by None lacks = same_sound words s t d (event.Begin (call.GetRate h)) _ x sound (rate-unknown s d h quiet lacks) comes
   by (Some row) own = same_sound words s t d (event.Begin (call.GetRate h)) _ x sound (rate-told s d h row quiet own) comes
-begin_sound words s t d (call.GetParent h) x whole quiet sound can comes = by (own_handle s d h.number) refl where
+begin_sound words s t d (call.GetParent h) x quiet sound can comes = by (own_handle s d h.number) refl where
   by : (o : Option HandleRow) → own_handle s d h.number ≡ o → IsNarrow words t
   by None lacks = same_sound words s t d (event.Begin (call.GetParent h)) _ x sound (parent-unknown s d h quiet lacks) comes
   by (Some row) own = same_sound words s t d (event.Begin (call.GetParent h)) _ x sound (parent-told s d h row quiet own) comes
-begin_sound words s t d (call.ExclusiveGet h) x whole quiet sound can comes = by (own_handle s d h.number) refl where
+begin_sound words s t d (call.ExclusiveGet h) x quiet sound can comes = by (own_handle s d h.number) refl where
   by : (o : Option HandleRow) → own_handle s d h.number ≡ o → IsNarrow words t
   by None lacks = same_sound words s t d (event.Begin (call.ExclusiveGet h)) _ x sound (exclusive_get-unknown s d h quiet lacks) comes
   by (Some row) own =
       put_sound words s t h.number d (event.Begin (call.ExclusiveGet h)) _ x (Some (record row { exclusives = row.exclusives + 1 })) sound (exclusive_get-fine s d h row quiet own) comes
-begin_sound words s t d (call.ExclusivePut h) x whole quiet sound can comes = by (own_handle s d h.number) refl where
+begin_sound words s t d (call.ExclusivePut h) x quiet sound can comes = by (own_handle s d h.number) refl where
   held : (row : HandleRow) (k : ℕ) → own_handle s d h.number ≡ Some row → row.exclusives ≡ k → IsNarrow words t
   held row zero own none = same_sound words s t d (event.Begin (call.ExclusivePut h)) _ x sound (exclusive_put-warned s d h row quiet own none) comes
   held row (suc k) own some =
@@ -240,7 +239,7 @@ begin_sound words s t d (call.ExclusivePut h) x whole quiet sound can comes = by
   by : (o : Option HandleRow) → own_handle s d h.number ≡ o → IsNarrow words t
   by None lacks = same_sound words s t d (event.Begin (call.ExclusivePut h)) _ x sound (exclusive_put-unknown s d h quiet lacks) comes
   by (Some row) own = held row row.exclusives own refl
-begin_sound words s t d (call.NotifierAdd h id priority policy) x whole quiet sound can comes = by (own_handle s d h.number) refl where
+begin_sound words s t d (call.NotifierAdd h id priority policy) x quiet sound can comes = by (own_handle s d h.number) refl where
   fits : (row : HandleRow) (b : Bool) → own_handle s d h.number ≡ Some row → has_notifier s row.clock.0 id ≡ false
       → nat_le most_notifiers (length (notifiers_of s.notifiers row.clock.0)) ≡ b → IsNarrow words t
   fits row true own new full =
@@ -259,7 +258,7 @@ begin_sound words s t d (call.NotifierAdd h id priority policy) x whole quiet so
   by : (o : Option HandleRow) → own_handle s d h.number ≡ o → IsNarrow words t
   by None lacks = same_sound words s t d (event.Begin (call.NotifierAdd h id priority policy)) _ x sound (notifier_add-unknown s d h id priority policy quiet lacks) comes
   by (Some row) own = known row (has_notifier s row.clock.0 id) own refl
-begin_sound words s t d (call.NotifierRemove h id) x whole quiet sound can comes = by (own_handle s d h.number) refl where
+begin_sound words s t d (call.NotifierRemove h id) x quiet sound can comes = by (own_handle s d h.number) refl where
   known : (row : HandleRow) (b : Bool) → own_handle s d h.number ≡ Some row → has_notifier s row.clock.0 id ≡ b → IsNarrow words t
   known row true own has =
       comes_to words s (unnotified row.clock.0 id s) t d (event.Begin (call.NotifierRemove h id)) _ x
@@ -270,8 +269,8 @@ begin_sound words s t d (call.NotifierRemove h id) x whole quiet sound can comes
   by : (o : Option HandleRow) → own_handle s d h.number ≡ o → IsNarrow words t
   by None lacks = same_sound words s t d (event.Begin (call.NotifierRemove h id)) _ x sound (notifier_remove-unknown s d h id quiet lacks) comes
   by (Some row) own = known row (has_notifier s row.clock.0 id) own refl
-begin_sound words s t d (call.Probe c) x whole quiet sound can comes = leaves_sound words s t d (call.Probe c) x sound (probe_stays words s d c sound can) comes
-begin_sound words s t d (call.RoundRate h r) x whole quiet sound can comes = by (own_handle s d h.number) refl where
+begin_sound words s t d (call.Probe c) x quiet sound can comes = leaves_sound words s t d (call.Probe c) x sound (probe_stays words s d c sound can) comes
+begin_sound words s t d (call.RoundRate h r) x quiet sound can comes = by (own_handle s d h.number) refl where
   given_rate : (row : HandleRow) (o : Option ℕ) → own_handle s d h.number ≡ Some row → round_rate (wiring s) (view (lift s h.number)) row.clock.0 r ≡ o → IsNarrow words t
   given_rate row None own none = same_sound words s t d (event.Begin (call.RoundRate h r)) _ x sound (round-none s d h r row quiet own none) comes
   given_rate row (Some rate) own gives = same_sound words s t d (event.Begin (call.RoundRate h r)) _ x sound (round-told s d h r row rate quiet own gives) comes
@@ -279,11 +278,11 @@ begin_sound words s t d (call.RoundRate h r) x whole quiet sound can comes = by 
   by : (o : Option HandleRow) → own_handle s d h.number ≡ o → IsNarrow words t
   by None lacks = same_sound words s t d (event.Begin (call.RoundRate h r)) _ x sound (round-unknown s d h r quiet lacks) comes
   by (Some row) own = given_rate row (round_rate (wiring s) (view (lift s h.number)) row.clock.0 r) own refl
-begin_sound words s t d (call.SetRate h r) x whole quiet sound can comes = leaves_sound words s t d (call.SetRate h r) x sound (rate_stays words s d h r sound) comes
-begin_sound words s t d (call.SetRateExclusive h r) x whole quiet sound can comes = leaves_sound words s t d (call.SetRateExclusive h r) x sound (exclusive_stays words s d h r sound) comes
-begin_sound words s t d (call.SetRange h least most) x whole quiet sound can comes = leaves_sound words s t d (call.SetRange h least most) x sound (range_stays words s d h least most sound) comes
-begin_sound words s t d (call.SetParent h p) x whole quiet sound can comes = leaves_sound words s t d (call.SetParent h p) x sound (parent_stays words s d h p sound) comes
-begin_sound words s t d call.Sweep x whole quiet sound can comes = leaves_sound words s t d call.Sweep x sound (sweep_stays words s d sound) comes
+begin_sound words s t d (call.SetRate h r) x quiet sound can comes = leaves_sound words s t d (call.SetRate h r) x sound (rate_stays words s d h r sound) comes
+begin_sound words s t d (call.SetRateExclusive h r) x quiet sound can comes = leaves_sound words s t d (call.SetRateExclusive h r) x sound (exclusive_stays words s d h r sound) comes
+begin_sound words s t d (call.SetRange h least most) x quiet sound can comes = leaves_sound words s t d (call.SetRange h least most) x sound (range_stays words s d h least most sound) comes
+begin_sound words s t d (call.SetParent h p) x quiet sound can comes = leaves_sound words s t d (call.SetParent h p) x sound (parent_stays words s d h p sound) comes
+begin_sound words s t d call.Sweep x quiet sound can comes = leaves_sound words s t d call.Sweep x sound (sweep_stays words s d sound) comes
 
 -- ---- steps
 
@@ -353,12 +352,9 @@ step_sound words s t d m answer x sound leaves comes =
 
 -- ---- each event
 
-narrow_next : (words : ℕ) (s t : State) (d : ℕ) (e : Event) (x : Turn) → IsSound words s → CanTake s e → next s d e ≡ Some (t, x) → IsNarrow words t
-narrow_next words s t d (event.Enable n) x sound can comes = enable_sound words s t d n x sound.narrow comes
-narrow_next words s t d (event.Disable n) x sound can comes = disable_sound words s t d n x sound.narrow comes
-narrow_next words s t d (event.Running n) x sound can comes = running_sound words s t d n x sound.narrow comes
-narrow_next words s t d (event.Begin what) x sound can comes = begin_sound words s t d what x sound (begin_is s t d what x comes).0 sound.narrow can comes
-narrow_next words s t d (event.Step m answer) x sound can comes = step_sound words s t d m answer x sound.narrow can comes
-
-pub sound_next : (words : ℕ) (s t : State) (d : ℕ) (e : Event) (x : Turn) → IsSound words s → CanTake s e → next s d e ≡ Some (t, x) → IsSound words t
-sound_next words s t d e x sound can comes = record { reached = reached_next words s t d e x sound.reached comes; narrow = narrow_next words s t d e x sound can comes }
+pub narrow_next : (words : ℕ) (s t : State) (d : ℕ) (e : Event) (x : Turn) → IsNarrow words s → CanTake s e → next s d e ≡ Some (t, x) → IsNarrow words t
+narrow_next words s t d (event.Enable n) x sound can comes = enable_sound words s t d n x sound comes
+narrow_next words s t d (event.Disable n) x sound can comes = disable_sound words s t d n x sound comes
+narrow_next words s t d (event.Running n) x sound can comes = running_sound words s t d n x sound comes
+narrow_next words s t d (event.Begin what) x sound can comes = begin_sound words s t d what x (begin_is s t d what x comes).0 sound can comes
+narrow_next words s t d (event.Step m answer) x sound can comes = step_sound words s t d m answer x sound can comes

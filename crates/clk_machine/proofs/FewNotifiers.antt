@@ -149,15 +149,15 @@ few_paid s t d number x f o few step each is =
     subst AreFew (sym (settled_notifiers s y.0) ∙ ap (λ (u : State). u.notifiers) (paid_is s t y x (sym is ∙ step)).0)
     (with_handle_either Few s d number f few (λ h own. each h))
 
-enable_paid : (s : State) (d number : ℕ) → next s d (event.Enable number) ≡ paid s (with_handle s d number (enabled s number))
+pub enable_paid : (s : State) (d number : ℕ) → next s d (event.Enable number) ≡ paid s (with_handle s d number (enabled s number))
 unfolding next
 enable_paid s d number = refl
 
-disable_paid : (s : State) (d number : ℕ) → next s d (event.Disable number) ≡ paid s (with_handle s d number (disabled s number))
+pub disable_paid : (s : State) (d number : ℕ) → next s d (event.Disable number) ≡ paid s (with_handle s d number (disabled s number))
 unfolding next
 disable_paid s d number = refl
 
-running_paid : (s : State) (d number : ℕ) → next s d (event.Running number) ≡ paid s (with_handle s d number (running s))
+pub running_paid : (s : State) (d number : ℕ) → next s d (event.Running number) ≡ paid s (with_handle s d number (running s))
 unfolding next
 running_paid s d number = refl
 

@@ -111,4 +111,4 @@ keeps_laws defs regs ignore_unused credits journal valid legal =
 -- the journal of a core
 pub lawful : (m : Parts) (words : List ℕ) (log : Logged) → IsRun m words log → is_told m ≡ true → KeepsLaws (start_of m words) log.entries
 lawful m words log run told =
-    keeps_laws m.desc.defs words m.ignore_unused m.credits log.entries (subst (λ (defs : Description). IsValid (length words) defs) (run.stands told).defs (run.sound told).narrow.valid) (run.legal told)
+    keeps_laws m.desc.defs words m.ignore_unused m.credits log.entries (subst (λ (defs : Description). IsValid (length words) defs) (run.stands told).defs (run.narrow told).valid) (run.legal told)

@@ -17,29 +17,22 @@ use Rattle.clk_model.specs.Machine.{next}
 use Rattle.clk_model.specs.State.{State, ChainStep, handle_at, link_in}
 use Rattle.clk_model.specs.Tree.{rooted}
 use Rattle.clk_model.specs.Views.{lift}
-use Rattle.clk_model.proofs.BeginSafeLaws.{resting, handle_rooted}
+use Rattle.clk_model.proofs.BeginSafeLaws.{handle_rooted}
 use Rattle.clk_model.proofs.FlightLaws.{begin_is}
 use Rattle.clk_model.proofs.Members.{both_left, both_right, or_right}
 use Rattle.clk_model.proofs.PlanRootLaws.{IsRooted, rooted_linked}
-use Rattle.clk_model.proofs.RunsFedLaws.{run_of}
-use Rattle.clk_model.proofs.SafeRunLaws.{IsRunning, quietly, in_flight, IsRun}
 use Rattle.clk_model.proofs.EventLaws.{own_is_live, with-some}
 use Rattle.clk_model.proofs.TierLaws.{pick_either}
 use Rattle.core_parts.specs.Movable.{can_go}
 use Rattle.core_parts.specs.Reparenting.{is_candidate}
-use Rattle.clk_machine.specs.Sound.{IsReached, IsSound}
+use Rattle.clk_machine.specs.Sound.{IsLike, IsSound}
+use Rattle.clk_machine.proofs.Unmoved.{resting_like}
 
 -- ---- the clock of a handle
 
 -- it is rooted while no change is in flight
-pub handle_has_root : (words : ℕ) (s : State) (number : ℕ) (row : HandleRow) → IsReached words s → s.change ≡ None → handle_at s.handles number ≡ Some row → IsRooted s.defs s.clocks row.clock.0
-handle_has_root words s number row reached quiet at = by run.running_ where
-  run : IsRun s
-  run = subst (λ (u : State). IsRun u) (sym reached.leads) (run_of reached.defs reached.regs reached.ignore_unused reached.credits reached.journal reached.valid)
-
-  by : IsRunning s → IsRooted s.defs s.clocks row.clock.0
-  by (quietly e rest) = handle_rooted s number row (resting s rest run.keeps).fit at
-  by (in_flight goes) = let no : Some goes.change ≡ None = sym goes.at ∙ quiet in absurd cc
+pub handle_has_root : (words : ℕ) (s : State) (number : ℕ) (row : HandleRow) → IsLike words s → s.change ≡ None → handle_at s.handles number ≡ Some row → IsRooted s.defs s.clocks row.clock.0
+handle_has_root words s number row like quiet at = handle_rooted s number row (resting_like words s like quiet).fit at
 
 -- ---- a change of parent
 
@@ -78,7 +71,7 @@ parent_can words s t d h p row k sound own comes clock parent =
       first = both_left (is_some (mux_field (kind_of s.defs c)) && is_in p.0 (parents_of s.defs c)) (rooted s.defs s.clocks p.0) candidate
 
       root : IsRooted s.defs s.clocks c
-      root = handle_has_root words s h.number row sound.reached (begin_is s t d (call.SetParent h p) turn.Going comes).0 (own_is_live s d h.number row own)
+      root = handle_has_root words s h.number row sound.like (begin_is s t d (call.SetParent h p) turn.Going comes).0 (own_is_live s d h.number row own)
 
       link : (o : ℕ) × (link_in s.clocks c ≡ Some o)
       link = rooted_linked words s.defs s.clocks c p.0 sound.narrow.valid root.root (both_right (is_some (mux_field (kind_of s.defs c))) (is_in p.0 (parents_of s.defs c)) first)

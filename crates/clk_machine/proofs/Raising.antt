@@ -42,7 +42,7 @@ use Rattle.core_parts.proofs.SameCall.{same_raised, same_polled}
 use Rattle.clk_machine.proofs.Making.{with_step, stands_stepped, enters_step, change_of, next_of, to_raise_stands, to_lower_stands, near_within}
 use Rattle.core_parts.proofs.Opening.{power_fits}
 use Rattle.core_parts.proofs.Powering.{power_put, powered_words, told_put}
-use Rattle.clk_machine.proofs.Soundness.{wired_reached, links_reached, room_reached}
+use Rattle.clk_machine.proofs.Likeness.{wired_like, links_like, room_like}
 use Rattle.clk_machine.proofs.Stepping.{raises_one, lowers_one, polls_one, falls_one}
 
 -- ---- what is known of the change
@@ -55,9 +55,9 @@ pub record IsSteady (s : State) (k : Change) : Type 0 where
 
 pub steady : (words : ℕ) (s : State) (k : Change) → IsSound words s → s.change ≡ Some k → IsSteady s k
 steady words s k sound at = record {
-  valid = subst (λ (n : ℕ). IsValid n s.defs) (sym (wired_reached words s sound.reached).size) sound.narrow.valid;
-  links = (links_reached words s sound.reached).links;
-  paced = ((room_reached words s sound.reached).change k at).paced;
+  valid = subst (λ (n : ℕ). IsValid n s.defs) (sym (wired_like words s sound.like).size) sound.narrow.valid;
+  links = (links_like words s sound.like).links;
+  paced = ((room_like words s sound.like).change k at).paced;
 }
 
 -- ---- a raise

@@ -1,19 +1,27 @@
 -- A call that changes a rate or a parent begins as it was made ready, in each sound state that the parts of a core stand for.
 use Rattle.std.proofs.Common.{◌≡◌, ℕ, ◌+◌, ◌-◌, ◌^◌, ◌<◌, ◌≤◌, ◌&&◌, ◌||◌, Bool, true, false, List, [], ◌∷◌, Option, Some, None, refl, sym, ap, subst, ◌∙◌, arith, length, map, min}
 use Rattle.std.proofs.Math.Bool.{or-false}
-use Rattle.std.specs.Prelude.{sum_by, slice_index, if◌then◌else◌}
+use Rattle.std.specs.Prelude.{sum_by, slice_index, if◌then◌else◌, nat_le, Result, Ok, Err, IfOk}
+use Rattle.std.proofs.lemmas.Bool.Decides.{nat_tests}
 use Rattle.std.specs.List.{list_any, AllByRecursion, list_all}
 use Rattle.clk_base.specs.Description.{Description}
 use Rattle.clk_base.specs.declared.call.Micro.{Micro}
 use Rattle.clk_base.specs.declared.call.Sleeping.{Sleeping}
 use Rattle.clk_base.specs.declared.call.Sleeping.TheVariants as call
+use Rattle.clk_base.specs.declared.event.Errno.{Errno}
+use Rattle.clk_base.specs.declared.event.Errno.TheVariants as errno
+use Rattle.clk_base.specs.declared.event.Event.{Event}
 use Rattle.clk_base.specs.declared.event.Event.TheVariants as event
+use Rattle.clk_base.specs.declared.event.Reply.{Reply}
+use Rattle.clk_base.specs.declared.event.Reply.TheVariants as reply
+use Rattle.clk_base.specs.declared.event.Turn.{Turn}
 use Rattle.clk_base.specs.declared.event.Turn.TheVariants as turn
 use Rattle.clk_base.specs.declared.clock.ClockId.{ClockId}
 use Rattle.clk_base.specs.declared.handle.Handle.{Handle}
 use Rattle.clk_model.specs.declared.row.ClockRow.{ClockRow}
 use Rattle.clk_model.specs.declared.row.HandleRow.{HandleRow}
-use Rattle.clk_model.specs.Begin.{most_credits, own_handle}
+use Rattle.clk_model.specs.Begin.{begun, done, most_credits, own_handle, refused, weight_of}
+use Rattle.clk_model.specs.Journal.{slotless}
 use Rattle.clk_model.specs.Chain.{outcome}
 use Rattle.clk_model.specs.Gates.{settled}
 use Rattle.clk_model.specs.Laws.CallCauses.{with_limits}
@@ -24,6 +32,7 @@ use Rattle.clk_model.specs.Script.{is_raise, plls, planned}
 use Rattle.clk_model.specs.State.{State, Change, ChainStep, NotifierRow, registered, handle_at, link_in}
 use Rattle.clk_model.specs.Step.{sets_parent}
 use Rattle.clk_model.specs.Walk.{rates_in, walk}
+use Rattle.clk_model.proofs.EventLaws.{begin_quiet, pick-true, pick-false}
 use Rattle.clk_model.proofs.StateLaws.{paid-still, paid-left, active-put_same}
 use Rattle.clk_model.proofs.ShapeLaws.{settled_change}
 use Rattle.clk_model.proofs.SameSettingLaws.{outcome_defs}
@@ -45,17 +54,20 @@ use Rattle.clk_machine.specs.Readied.{Readied, Scripted}
 use Rattle.clk_machine.specs.Readied as readied
 use Rattle.core_parts.specs.Course.{notifiers_at, tells_all}
 use Rattle.core_parts.specs.Planned.{IsPlanned, IsPlanOf}
-use Rattle.clk_machine.specs.Deciding.{ArePlannedOver, Decided, GoesOn, change_by, handle_of, made_in}
-use Rattle.clk_machine.specs.Holding.{ranged}
+use Rattle.clk_machine.specs.Deciding.{ArePlannedOver, Decided, GoesOn, change_by, handle_of, left_at_once, made_in}
+use Rattle.clk_machine.specs.Holding.{ranged, stays}
 use Rattle.core_parts.specs.InFlight.{asks_rate, can_link, changes_rate, is_ranged, is_script}
 use Rattle.core_parts.specs.Movable.{can_go_along}
 use Rattle.core_parts.specs.Listed.{rows_from}
 use Rattle.core_parts.specs.Tied.{AreKept}
 use Rattle.clk_machine.specs.Parts.{Parts, IsOwnCall, IsWhole, own_in, steps_left, with_range}
-use Rattle.clk_machine.specs.Readying.{CanBeginSo, CanGoAlong, GoesOnAlong, IsReady, IsScripted, Scripts, moves_well, StartsAlong, IsStartOf, range_before, weight_along}
+use Rattle.clk_machine.specs.Readying.{BeginsSo, CanBeginSo, CanGoAlong, GoesOnAlong, Hinders, lacks_room, moves_badly, IsReady, IsScripted, LeadsSo, Scripts, has_room, moves_well, StartsAlong, IsStartOf, range_before, weight_along}
 use Rattle.clk_machine.specs.Sound.{IsSound}
-use Rattle.clk_machine.specs.Stands.{Stands, Enters, most_steps, joins}
+use Rattle.clk_machine.specs.Stands.{Stands, Becomes, Enters, Leads, Proceeds, most_steps, joins, nothing}
+use Rattle.clk_flight.specs.Flights.{FlightState}
+use Rattle.core_parts.proofs.Deciding.{less_is, not_less}
 use Rattle.clk_machine.proofs.Entered.{own_stands}
+use Rattle.clk_machine.proofs.Flying.{quiet_stands}
 use Rattle.core_parts.proofs.Moving.{clock_within}
 use Rattle.clk_machine.proofs.Ranging.{stands_ranged}
 use Rattle.clk_machine.proofs.Movable.{parent_can}
@@ -103,16 +115,28 @@ rated_all rates before will clocks f (c ∷ cs) each there = (each c there.0, ra
 
 -- ---- what its script comes to
 
+-- there is room if the test says so
+room_is : (m : Parts) (script : Script) → has_room m script ≡ true → m.credits + m.steps + script.weight ≤ most_credits
+room_is m script e = by (m.credits + m.steps + script.weight) e where
+  by : (n : ℕ) → nat_le n most_credits ≡ true → n ≤ most_credits
+  by n e = grind (arith, nat_tests)
+
+-- and none if it says that there is none
+no_room_is : (m : Parts) (script : Script) → has_room m script ≡ false → most_credits < m.credits + m.steps + script.weight
+no_room_is m script e = by (m.credits + m.steps + script.weight) e where
+  by : (n : ℕ) → nat_le n most_credits ≡ false → most_credits < n
+  by n e = grind (arith, nat_tests)
+
 -- a timeout calls off only a change of parent
-lone_extra : (m : Parts) (sets : Bool) (plan : Plan) (script : Script) → IsPlanned m.tree (is_prepared m.counts) m.chains (m.credits + m.steps) sets plan script → sets ≡ false → script.extra ≡ 0
+lone_extra : (m : Parts) (sets : Bool) (plan : Plan) (script : Script) → IsPlanned m.tree (is_prepared m.counts) m.chains sets plan script → sets ≡ false → script.extra ≡ 0
 lone_extra m sets plan script planned_ unset =
     planned_.made.extra ∙ ap (λ (b : Bool). if b && list_any is_raise script.steps then min (told_by m.chains planned_.made.changed) (2 ^ 64 - 1) else 0) (planned_.set_parent ∙ unset)
 
 -- it weighs what its steps do, and the notices that a timeout may bring
-plain_weight : (m : Parts) (sets : Bool) (plan : Plan) (script : Script) → IsPlanned m.tree (is_prepared m.counts) m.chains (m.credits + m.steps) sets plan script → m.tree.defs ≡ m.desc.defs
+plain_weight : (m : Parts) (sets : Bool) (plan : Plan) (script : Script) → IsPlanned m.tree (is_prepared m.counts) m.chains sets plan script → has_room m script ≡ true → m.tree.defs ≡ m.desc.defs
     → script.weight ≡ weight_along m script.steps + script.extra
-plain_weight m sets plan script planned_ same =
-    uncut script.weight (sum_by (step_weight (plls m.tree.defs) m.chains) script.steps) script.extra (m.credits + m.steps) planned_.made.weight planned_.room
+plain_weight m sets plan script planned_ room same =
+    uncut script.weight (sum_by (step_weight (plls m.tree.defs) m.chains) script.steps) script.extra (m.credits + m.steps) planned_.made.weight (room_is m script room)
     ∙ ap (λ (ds : Description). sum_by (step_weight (plls ds) m.chains) script.steps + script.extra) same where
       uncut : (w a b used : ℕ) → w ≡ min (a + b) (2 ^ 64 - 1) → used + w ≤ most_credits → w ≡ a + b
       uncut w a b used cut room = omega arith
@@ -160,7 +184,7 @@ moves_can m s t d number what plan script k whole stands sound changes is goes c
   by _ e is' goes' comes' = absurd cc
 
 module _ (m : Parts) (s : State) (d : ℕ) (what : Sleeping) (plan : Plan) (script : Script) (whole : IsWhole m) (stands : Stands m s) (sound : IsSound m.window.size s) (changes : changes_rate what ≡ true)
-    (left : m.spent < m.credits) (made_ : IsPlanned m.tree (is_prepared m.counts) m.chains (m.credits + m.steps) (sets_parent what) plan script)
+    (left : m.spent < m.credits) (quiet : s.change ≡ None) (made_ : IsPlanned m.tree (is_prepared m.counts) m.chains (sets_parent what) plan script)
     (goes : GoesOn s d (handle_of what) what plan script) where
   abbrev n : State
   n = made_in s what goes.row
@@ -177,74 +201,108 @@ module _ (m : Parts) (s : State) (d : ℕ) (what : Sleeping) (plan : Plan) (scri
   beside : n ≡ record s { handles = n.handles }
   beside = made_is s what goes.row
 
-  -- the state behind its beginning
-  abbrev t : State
-  t = record (settled s (record n { change = Some k })) { spent = s.spent + 1 }
+  -- the entries that it may come to
+  used_is : n.credits + n.steps + weight_of n k ≡ m.credits + m.steps + script.weight
+  used_is =
+      let one : n.credits ≡ m.credits = ap (λ (u : State). u.credits) beside ∙ stands.credits in
+      let two : n.steps ≡ m.steps = ap (λ (u : State). u.steps) beside ∙ stands.steps in
+      let three = of_plan.weight in
+      omega arith
 
-  begins_ : next s d (event.Begin what) ≡ Some (t, turn.Going)
-  begins_ = goes.next_ ∙ paid-left s (record n { change = Some k }) turn.Going (let one = stands.spent in let two = stands.credits in omega arith)
+  -- without room it is refused
+  pub refused_full : has_room m script ≡ false → next s d (event.Begin what) ≡ paid s (refused s errno.ENOSPC)
+  refused_full full =
+      begin_quiet s d what quiet
+      ∙ ap (paid s) (goes.begins ∙ pick-true _ _ _ (less_is most_credits (n.credits + n.steps + weight_of n k) (let same = used_is in let over = no_room_is m script full in omega arith)))
 
-  pub can_move : moves_well m plan ≡ true
-  can_move =
-      moves_stand m s (sets_parent what) plan whole stands goes.set_parent
-      (moves_can m s t d (handle_of what) what plan script k whole stands sound changes refl goes begins_ (settled_change s (record n { change = Some k })) of_plan.chain)
+  module _ (room : has_room m script ≡ true) where
+    goes_next : next s d (event.Begin what) ≡ paid s (record n { change = Some k }, turn.Going)
+    goes_next =
+        begin_quiet s d what quiet
+        ∙ ap (paid s) (goes.begins ∙ pick-false _ _ _ (not_less (n.credits + n.steps + weight_of n k) most_credits (let same = used_is in let within_ = room_is m script room in omega arith)))
 
-  within : (c : ℕ) → registered m.tree.clocks c ≡ true → c < length n.defs
-  within c here = subst (λ (ds : Description). c < length ds) (sym (ap (λ (u : State). u.defs) beside ∙ stands.defs)) (clock_within m.desc m.window m.tree c whole.tied here)
+    -- the state after its beginning
+    abbrev t : State
+    t = record (settled s (record n { change = Some k })) { spent = s.spent + 1 }
 
-  before_ : (c : ℕ) → registered m.tree.clocks c ≡ true → slice_index m.tree.rates c ≡ slice_index k.before c
-  before_ c here =
-      (subst (λ (o : Option (List ℕ)). AreKept m.desc.defs o m.tree.clocks m.tree.rates) stands.regs whole.tied.kept) c here
-      ∙ ap (λ (ds : Description). rate ds s.regs m.tree.clocks c) (sym stands.defs)
-      ∙ ap (λ (rows : List ClockRow). rate s.defs s.regs rows c) (sym stands.clocks)
-      ∙ ap (λ (u : State). rate_in (wiring u) c) (sym beside)
-      ∙ sym (rate_at (wiring n) c (within c here))
-      ∙ ap (λ (rs : List ℕ). slice_index rs c) (sym plain.before)
+    begins_ : next s d (event.Begin what) ≡ Some (t, turn.Going)
+    begins_ = goes_next ∙ paid-left s (record n { change = Some k }) turn.Going (let one = stands.spent in let two = stands.credits in omega arith)
 
-  after_ : (c : ℕ) → registered m.tree.clocks c ≡ true → rate_in (outcome plan.chain (wiring n)) c ≡ slice_index k.outcome c
-  after_ c here =
-      sym (rate_at (outcome plan.chain (wiring n)) c (subst (λ (ds : Description). c < length ds) (sym (outcome_defs plan.chain (wiring n))) (within c here)))
-      ∙ ap (λ (rs : List ℕ). slice_index rs c) (sym plain.outcome_)
+    pub can_move : moves_well m plan ≡ true
+    can_move =
+        moves_stand m s (sets_parent what) plan whole stands goes.set_parent
+        (moves_can m s t d (handle_of what) what plan script k whole stands sound changes refl goes begins_ (settled_change s (record n { change = Some k })) of_plan.chain)
 
-  rates_all : AllByRecursion (λ r. (slice_index m.tree.rates r.clock ≡ slice_index k.before r.clock) × (r.rate ≡ slice_index k.outcome r.clock)) plan.rates
-  rates_all =
-      subst (λ (rs : List ClockRate). AllByRecursion (λ r. (slice_index m.tree.rates r.clock ≡ slice_index k.before r.clock) × (r.rate ≡ slice_index k.outcome r.clock)) rs) (sym of_plan.rates)
-      (rated_all m.tree.rates k.before k.outcome m.tree.clocks (rate_in (outcome plan.chain (wiring n))) (walk n.order (wiring n) plan.chain) (λ c here. (before_ c here, after_ c here))
-      (subst (λ (rs : List ClockRate). AreThere m.tree.clocks rs) of_plan.rates made_.there))
+    within : (c : ℕ) → registered m.tree.clocks c ≡ true → c < length n.defs
+    within c here = subst (λ (ds : Description). c < length ds) (sym (ap (λ (u : State). u.defs) beside ∙ stands.defs)) (clock_within m.desc m.window m.tree c whole.tied here)
 
-  pub goes_along : (scripted : Scripted) → IsScripted m plan script scripted → GoesOnAlong s d (handle_of what) what scripted
-  goes_along scripted made = record {
-    row = goes.row;
-    own = goes.own;
-    change = k;
-    next_ = goes.next_;
-    begins = λ start is. record {
-      starts =
-          subst (λ (ns : List NotifierRow). StartsAs ns start k) (settled_notifiers s (record n { change = Some k }) ∙ ap (λ (u : State). u.notifiers) beside)
-          (calls_start s t d what k start begins_ (settled_change s (record n { change = Some k })) (record {
-            driver = plain.driver_ ∙ sym is.driver_;
-            call = plain.call_ ∙ sym is.call;
-            left = of_plan.steps ∙ sym made.steps ∙ sym is.script;
-            range = plain.range_ ∙ sym is.range_;
-            extra = of_plan.extra ∙ sym made.extra ∙ sym is.extra;
-            vetoed = of_plan.vetoed ∙ sym made.vetoed ∙ sym is.vetoed;
-          }));
-      chain = of_plan.chain ∙ sym made.chain;
-      rates = subst (λ (ns : List Notified). AllByRecursion (λ x. (x.before ≡ slice_index k.before x.clock.0) × (x.after ≡ slice_index k.outcome x.clock.0)) ns) (sym made.notified)
-          (told_all (notifiers_at m.chains) m.tree.rates k.before k.outcome plan.rates rates_all);
-    };
-  }
+    before_ : (c : ℕ) → registered m.tree.clocks c ≡ true → slice_index m.tree.rates c ≡ slice_index k.before c
+    before_ c here =
+        (subst (λ (o : Option (List ℕ)). AreKept m.desc.defs o m.tree.clocks m.tree.rates) stands.regs whole.tied.kept) c here
+        ∙ ap (λ (ds : Description). rate ds s.regs m.tree.clocks c) (sym stands.defs)
+        ∙ ap (λ (rows : List ClockRow). rate s.defs s.regs rows c) (sym stands.clocks)
+        ∙ ap (λ (u : State). rate_in (wiring u) c) (sym beside)
+        ∙ sym (rate_at (wiring n) c (within c here))
+        ∙ ap (λ (rs : List ℕ). slice_index rs c) (sym plain.before)
+
+    after_ : (c : ℕ) → registered m.tree.clocks c ≡ true → rate_in (outcome plan.chain (wiring n)) c ≡ slice_index k.outcome c
+    after_ c here =
+        sym (rate_at (outcome plan.chain (wiring n)) c (subst (λ (ds : Description). c < length ds) (sym (outcome_defs plan.chain (wiring n))) (within c here)))
+        ∙ ap (λ (rs : List ℕ). slice_index rs c) (sym plain.outcome_)
+
+    rates_all : AllByRecursion (λ r. (slice_index m.tree.rates r.clock ≡ slice_index k.before r.clock) × (r.rate ≡ slice_index k.outcome r.clock)) plan.rates
+    rates_all =
+        subst (λ (rs : List ClockRate). AllByRecursion (λ r. (slice_index m.tree.rates r.clock ≡ slice_index k.before r.clock) × (r.rate ≡ slice_index k.outcome r.clock)) rs) (sym of_plan.rates)
+        (rated_all m.tree.rates k.before k.outcome m.tree.clocks (rate_in (outcome plan.chain (wiring n))) (walk n.order (wiring n) plan.chain) (λ c here. (before_ c here, after_ c here))
+        (subst (λ (rs : List ClockRate). AreThere m.tree.clocks rs) of_plan.rates made_.there))
+
+    pub goes_along : (scripted : Scripted) → IsScripted m plan script scripted → GoesOnAlong s d (handle_of what) what scripted
+    goes_along scripted made = record {
+      row = goes.row;
+      own = goes.own;
+      change = k;
+      next_ = goes_next;
+      begins = λ start is. record {
+        starts =
+            subst (λ (ns : List NotifierRow). StartsAs ns start k) (settled_notifiers s (record n { change = Some k }) ∙ ap (λ (u : State). u.notifiers) beside)
+            (calls_start s t d what k start begins_ (settled_change s (record n { change = Some k })) (record {
+              driver = plain.driver_ ∙ sym is.driver_;
+              call = plain.call_ ∙ sym is.call;
+              left = of_plan.steps ∙ sym made.steps ∙ sym is.script;
+              range = plain.range_ ∙ sym is.range_;
+              extra = of_plan.extra ∙ sym made.extra ∙ sym is.extra;
+              vetoed = of_plan.vetoed ∙ sym made.vetoed ∙ sym is.vetoed;
+            }));
+        chain = of_plan.chain ∙ sym made.chain;
+        rates = subst (λ (ns : List Notified). AllByRecursion (λ x. (x.before ≡ slice_index k.before x.clock.0) × (x.after ≡ slice_index k.outcome x.clock.0)) ns) (sym made.notified)
+            (told_all (notifiers_at m.chains) m.tree.rates k.before k.outcome plan.rates rates_all);
+      };
+    }
 
 -- ---- made ready
 
--- a plan and its script make the call ready for which they were decided
-pub ready_scripted : (m : Parts) (d : ℕ) (what : Sleeping) (plan : Plan) (script : Script) (made : Readied) → IsWhole m → changes_rate what ≡ true
+-- a plan and its script make the call ready for which they were decided in a state
+pub ready_at : (m : Parts) (s : State) (d : ℕ) (what : Sleeping) (plan : Plan) (script : Script) (made : Readied) → IsWhole m → Stands m s → IsSound m.window.size s → changes_rate what ≡ true
+    → m.spent < m.credits → s.change ≡ None → ArePlannedOver m what (decided.Change plan script) → GoesOn s d (handle_of what) what plan script → Scripts m plan script made
+    → BeginsSo s d (handle_of what) what made
+ready_at m s d what plan script (readied.Refused e) whole stands sound changes left quiet planned_ goes hinders = by e hinders where
+  by : (e : Errno) → Hinders m plan script e → next s d (event.Begin what) ≡ paid s (refused s e)
+  by _ (lacks_room full) = refused_full m s d what plan script whole stands sound changes left quiet planned_ goes full
+  by _ (moves_badly e room stuck) =
+      let no : true ≡ false = sym (can_move m s d what plan script whole stands sound changes left quiet planned_ goes room) ∙ stuck in absurd cc
+ready_at m s d what plan script readied.AtOnce whole stands sound changes left quiet planned_ goes never = absurd never
+ready_at m s d what plan script (readied.Change scripted) whole stands sound changes left quiet planned_ goes made =
+    goes_along m s d what plan script whole stands sound changes left quiet planned_ goes made.room scripted made
+
+-- so they do in each state
+pub ready_scripted : (m : Parts) (d : ℕ) (what : Sleeping) (plan : Plan) (script : Script) (made : Readied) → IsWhole m → m.flight.going ≡ false → changes_rate what ≡ true
     → m.spent < m.credits → ArePlannedOver m what (decided.Change plan script) → Decided m d what (decided.Change plan script) → Scripts m plan script made → IsReady m d what made
-ready_scripted m d what plan script (readied.Refused e) whole changes left planned_ goes stuck = λ s stands sound.
-    let no : true ≡ false = sym (can_move m s d what plan script whole stands sound changes left planned_ (goes s stands sound)) ∙ stuck in absurd cc
-ready_scripted m d what plan script readied.AtOnce whole changes left planned_ goes never = absurd never
-ready_scripted m d what plan script (readied.Change scripted) whole changes left planned_ goes made = λ s stands sound.
-    goes_along m s d what plan script whole stands sound changes left planned_ (goes s stands sound) scripted made
+ready_scripted m d what plan script made whole quiet changes left planned_ goes scripts = λ s stands sound.
+    ready_at m s d what plan script made whole stands sound changes left (quiet_stands m s stands quiet) planned_ (goes s stands sound) scripts
+
+-- what was decided without a plan is ready
+pub ready_refused : (m : Parts) (d : ℕ) (what : Sleeping) (e : Errno) → m.flight.going ≡ false → Decided m d what (decided.Refused e) → IsReady m d what (readied.Refused e)
+ready_refused m d what e quiet decides = λ s stands sound. begin_quiet s d what (quiet_stands m s stands quiet) ∙ ap (paid s) (decides s stands sound).1
 
 pub can_scripted : (m : Parts) (d : ℕ) (what : Sleeping) (plan : Plan) (script : Script) (made : Readied) → IsWhole m → changes_rate what ≡ true → ArePlannedOver m what (decided.Change plan script)
     → IsOwnCall m.table.handles d what → Scripts m plan script made → CanBeginSo m d what made
@@ -261,8 +319,8 @@ can_scripted m d what plan script (readied.Change scripted) whole changes planne
       ap (λ (ds : Description). list_all (can_link ds m.tree.clocks) scripted.steps) (sym whole.tied.defs) ∙ ap (λ (ms : List Micro). list_all (can_link m.tree.defs m.tree.clocks) ms) steps
       ∙ links_made m.tree (is_prepared m.counts) m.chains plan planned_.made.changed can planned_.there;
   lone = λ unset. made.extra ∙ lone_extra m (sets_parent what) plan script planned_ unset;
-  weight = made.weight ∙ plain_weight m (sets_parent what) plan script planned_ whole.tied.defs ∙ ap (λ (ms : List Micro). weight_along m ms + script.extra) (sym made.steps) ∙ ap (λ (x : ℕ). weight_along m scripted.steps + x) (sym made.extra);
-  room = let same = made.weight in let room = planned_.room in omega arith;
+  weight = made.weight ∙ plain_weight m (sets_parent what) plan script planned_ made.room whole.tied.defs ∙ ap (λ (ms : List Micro). weight_along m ms + script.extra) (sym made.steps) ∙ ap (λ (x : ℕ). weight_along m scripted.steps + x) (sym made.extra);
+  room = let same = made.weight in let room = room_is m script made.room in omega arith;
 } where
   can : can_go_along plan.set_parent m.tree.defs m.tree.clocks plan.chain ≡ true
   can = ap (λ (ds : Description). can_go_along plan.set_parent ds m.tree.clocks plan.chain) whole.tied.defs ∙ made.moves
@@ -273,7 +331,7 @@ can_scripted m d what plan script (readied.Change scripted) whole changes planne
 -- ---- going on
 
 -- a handle of a driver has one row
-same_row : (s : State) (d n : ℕ) (a b : HandleRow) → own_handle s d n ≡ Some a → own_handle s d n ≡ Some b → a ≡ b
+pub same_row : (s : State) (d n : ℕ) (a b : HandleRow) → own_handle s d n ≡ Some a → own_handle s d n ≡ Some b → a ≡ b
 same_row s d n a b one two = inside (sym one ∙ two) where
   inside : {x y : HandleRow} → Some x ≡ Some y → x ≡ y
   inside e = cc
@@ -316,9 +374,9 @@ room_to_start old d what scripted steps extra can same more =
     omega arith
 
 -- one that sets no range takes the parts on
-pub enters_along : (old new : Parts) (d : ℕ) (what : Sleeping) (scripted : Scripted) → old.spent < old.credits → changes_rate what ≡ true → is_ranged what ≡ false → CanGoAlong old d what scripted
-    → IsReady old d what (readied.Change scripted) → StartsAlong old d what None scripted new → Enters old d (event.Begin what) turn.Going new
-enters_along old new d what scripted left changes unranged can ready along = record {
+pub proceeds_along : (old new : Parts) (d : ℕ) (what : Sleeping) (scripted : Scripted) → changes_rate what ≡ true → CanGoAlong old d what scripted
+    → StartsAlong old d what None scripted new → Proceeds old d (event.Begin what) turn.Going new
+proceeds_along old new d what scripted changes can along = record {
   remains = along.starts.remains;
   pays = along.starts.spent;
   rows = λ c. along.starts.rows c ∙ sym (or-false (registered old.tree.clocks c)) ∙ ap (λ (b : Bool). registered old.tree.clocks c || b) (sym (no_more_rows what c changes));
@@ -328,25 +386,26 @@ enters_along old new d what scripted left changes unranged can ready along = rec
   begun = λ paid goes. let left_ = along_left old new d what scripted None can along in let most = most_room old.desc.defs what changes in let room = can.room in omega arith;
   no_more = λ paid done. absurd cc;
   beside = λ tier. absurd cc;
-  step = λ s stands sound.
-      let spends : s.spent < s.credits = let one = stands.spent in let two = stands.credits in omega arith in
-      let goes = ready s stands sound in
-      record {
-        to = record s { change = Some goes.change; spent = s.spent + 1 };
-        next_ =
-            goes.next_ ∙ ap (λ (u : State). paid s (record u { change = Some goes.change }, turn.Going)) (unranged_made s what goes.row unranged)
-            ∙ paid-still s (record s { change = Some goes.change }) turn.Going spends (λ c. refl);
-        stands = along.starts.stands s goes.change stands
-            (goes.begins along.start (subst (λ (range : Option (ℕ × ℕ)). IsStartOf d what range scripted along.start) (sym (unranged_range what goes.row unranged)) along.is));
-      };
 }
 
+pub leads_along : (old new : Parts) (d : ℕ) (what : Sleeping) (scripted : Scripted) → old.spent < old.credits → is_ranged what ≡ false
+    → StartsAlong old d what None scripted new → LeadsSo old d what (readied.Change scripted) turn.Going new
+leads_along old new d what scripted left unranged along = λ s stands sound goes.
+    let spends : s.spent < s.credits = let one = stands.spent in let two = stands.credits in omega arith in
+    record {
+      to = record s { change = Some goes.change; spent = s.spent + 1 };
+      next_ =
+          goes.next_ ∙ ap (λ (u : State). paid s (record u { change = Some goes.change }, turn.Going)) (unranged_made s what goes.row unranged)
+          ∙ paid-still s (record s { change = Some goes.change }) turn.Going spends (λ c. refl);
+      stands = along.starts.stands s goes.change stands
+          (goes.begins along.start (subst (λ (range : Option (ℕ × ℕ)). IsStartOf d what range scripted along.start) (sym (unranged_range what goes.row unranged)) along.is));
+    }
+
 -- and so does one that gives a handle another range
-pub enters_within : (old between new : Parts) (d : ℕ) (h : Handle) (least most : ℕ) (row : HandleRow) (scripted : Scripted) → old.spent < old.credits → own_in old.table.handles d h.number ≡ Some row
-    → handle_at old.table.handles h.number ≡ Some row → CanGoAlong old d (call.SetRange h least most) scripted → IsReady old d (call.SetRange h least most) (readied.Change scripted)
+pub proceeds_within : (old between new : Parts) (d : ℕ) (h : Handle) (least most : ℕ) (row : HandleRow) (scripted : Scripted) → CanGoAlong old d (call.SetRange h least most) scripted
     → StartsAlong old d (call.SetRange h least most) (Some (row.min, row.max)) scripted between → new ≡ with_range between h.number least most
-    → Enters old d (event.Begin (call.SetRange h least most)) turn.Going new
-enters_within old between new d h least most row scripted left own live can ready along is = subst (λ (m : Parts). Enters old d (event.Begin what) turn.Going m) (sym is) (record {
+    → Proceeds old d (event.Begin (call.SetRange h least most)) turn.Going new
+proceeds_within old between new d h least most row scripted can along is = subst (λ (m : Parts). Proceeds old d (event.Begin (call.SetRange h least most)) turn.Going m) (sym is) (record {
   remains = record {
     desc = along.starts.remains.desc;
     told = along.starts.remains.told;
@@ -360,24 +419,93 @@ enters_within old between new d h least most row scripted left own live can read
   going = along.starts.going;
   driver_ = λ still. along.starts.driver_ ∙ along.is.driver_;
   fewer = λ free. absurd cc;
-  begun = λ paid goes. let left_ = along_left old between d what scripted (Some (row.min, row.max)) can along in let room = can.room in omega arith;
+  begun = λ paid goes. let left_ = along_left old between d (call.SetRange h least most) scripted (Some (row.min, row.max)) can along in let room = can.room in omega arith;
   no_more = λ paid done. absurd cc;
   beside = λ tier. absurd cc;
-  step = λ s stands sound.
-      let spends : s.spent < s.credits = let one = stands.spent in let two = stands.credits in omega arith in
-      let goes = ready s stands sound in
-      let same : goes.row ≡ row = same_row s d h.number goes.row row goes.own (own_stands old s d h.number (Some row) stands own) in
-      record {
-        to = record (with_limits s h.number row least most) { change = Some goes.change; spent = s.spent + 1 };
-        next_ =
-            goes.next_ ∙ ap (λ (r : HandleRow). paid s (record (with_limits s h.number r least most) { change = Some goes.change }, turn.Going)) same
-            ∙ paid-still s (record (with_limits s h.number row least most) { change = Some goes.change }) turn.Going spends
-            (λ c. active-put_same s h.number row (ranged row least most) c (live_in old s h.number row stands live) refl refl);
-        stands = stands_ranged between (record s { change = Some goes.change; spent = s.spent + 1 }) h.number least most row
-            (along.starts.stands s goes.change stands
-            (goes.begins along.start (subst (λ (r : HandleRow). IsStartOf d what (range_before what r) scripted along.start) (sym same) along.is)))
-            (ap (λ (t : HandleTable). handle_at t.handles h.number) along.starts.table ∙ live);
-      };
-}) where
-  what : Sleeping
-  what = call.SetRange h least most
+})
+
+pub leads_within : (old between new : Parts) (d : ℕ) (h : Handle) (least most : ℕ) (row : HandleRow) (scripted : Scripted) → old.spent < old.credits → own_in old.table.handles d h.number ≡ Some row
+    → handle_at old.table.handles h.number ≡ Some row → StartsAlong old d (call.SetRange h least most) (Some (row.min, row.max)) scripted between → new ≡ with_range between h.number least most
+    → LeadsSo old d (call.SetRange h least most) (readied.Change scripted) turn.Going new
+leads_within old between new d h least most row scripted left own live along is = λ s stands sound goes.
+    let what : Sleeping = call.SetRange h least most in
+    let spends : s.spent < s.credits = let one = stands.spent in let two = stands.credits in omega arith in
+    let same : goes.row ≡ row = same_row s d h.number goes.row row goes.own (own_stands old s d h.number (Some row) stands own) in
+    subst (λ (m : Parts). Leads s d (event.Begin what) turn.Going m) (sym is) (record {
+      to = record (with_limits s h.number row least most) { change = Some goes.change; spent = s.spent + 1 };
+      next_ =
+          goes.next_ ∙ ap (λ (r : HandleRow). paid s (record (with_limits s h.number r least most) { change = Some goes.change }, turn.Going)) same
+          ∙ paid-still s (record (with_limits s h.number row least most) { change = Some goes.change }) turn.Going spends
+          (λ c. active-put_same s h.number row (ranged row least most) c (live_in old s h.number row stands live) refl refl);
+      stands = stands_ranged between (record s { change = Some goes.change; spent = s.spent + 1 }) h.number least most row
+          (along.starts.stands s goes.change stands
+          (goes.begins along.start (subst (λ (r : HandleRow). IsStartOf d what (range_before what r) scripted along.start) (sym same) along.is)))
+          (ap (λ (t : HandleTable). handle_at t.handles h.number) along.starts.table ∙ live);
+    })
+
+-- ---- answers
+
+-- a call that changes a rate or a parent and is answered registers no clock
+no_rows_answered : (what : Sleeping) (r : Reply) (c : ℕ) → changes_rate what ≡ true → joins (event.Begin what) (turn.Done r) c ≡ false
+no_rows_answered (call.Probe k) r c e = absurd cc
+no_rows_answered _ r c e = refl
+
+-- what an answer does to the parts
+pub proceeds_answered : (old new : Parts) (d : ℕ) (what : Sleeping) (r : Reply) (does : State → State) → ((c : ℕ) → joins (event.Begin what) (turn.Done r) c ≡ false) → old.flight.going ≡ false
+    → Becomes old nothing does new → Proceeds old d (event.Begin what) (turn.Done r) new
+proceeds_answered old new d what r does none quiet becomes = record {
+  remains = becomes.remains;
+  pays = becomes.spent;
+  rows = λ c. becomes.rows c ∙ ap (λ (b : Bool). registered old.tree.clocks c || b) (sym (none c));
+  going = ap (λ (f : FlightState). f.going) becomes.flight ∙ quiet;
+  driver_ = λ still. let no : true ≡ false = sym still ∙ ap (λ (f : FlightState). f.going) becomes.flight ∙ quiet in absurd cc;
+  fewer = λ free. absurd cc;
+  begun = λ pays goes. absurd cc;
+  no_more = λ pays done. let same = becomes.left in omega arith;
+  beside = λ tier. absurd cc;
+}
+
+pub proceeds_at_once : (old new : Parts) (d : ℕ) (what : Sleeping) (r : Reply) (does : State → State) → changes_rate what ≡ true → old.flight.going ≡ false
+    → Becomes old nothing does new → Proceeds old d (event.Begin what) (turn.Done r) new
+proceeds_at_once old new d what r does changes quiet becomes = proceeds_answered old new d what r does (λ c. no_rows_answered what r c changes) quiet becomes
+
+-- if a call begins with an answer and what is done to the state, the machine comes to that
+pub leads_answered : (old new : Parts) (s : State) (d : ℕ) (what : Sleeping) (r : Reply) (does : State → State) → old.spent < old.credits → old.flight.going ≡ false → Becomes old nothing does new
+    → Stands old s → IsSound old.window.size s → begun s d what ≡ (does s, slotless (turn.Done r)) → Leads s d (event.Begin what) (turn.Done r) new
+leads_answered old new s d what r does left quiet becomes stands sound is =
+    let spends : s.spent < s.credits = let one = stands.spent in let two = stands.credits in omega arith in
+    record {
+      to = record (settled s (does s)) { spent = s.spent + 1 };
+      next_ = begin_quiet s d what (quiet_stands old s stands quiet) ∙ ap (paid s) is ∙ paid-left s (does s) (slotless (turn.Done r)) spends;
+      stands = becomes.stands s stands sound;
+    }
+
+pub leads_at_once : (old new : Parts) (d : ℕ) (what : Sleeping) (does : State → State) → old.spent < old.credits → old.flight.going ≡ false → Becomes old nothing does new
+    → ((s : State) (row : HandleRow) → Stands old s → own_handle s d (handle_of what) ≡ Some row → left_at_once s what row ≡ does s) → LeadsSo old d what readied.AtOnce (turn.Done reply.Fine) new
+leads_at_once old new d what does left quiet becomes leaves = λ s stands sound ends.
+    leads_answered old new s d what reply.Fine does left quiet becomes stands sound (ends.begins ∙ ap (λ (u : State). done u reply.Fine) (leaves s ends.row stands ends.own))
+
+-- what is so of what was found, by two things that are
+pub ok_both : {T E : Type 0} (r : Result T E) (P Q R : T → Type 0) → ((x : T) → P x → Q x → R x) → IfOk r P → IfOk r Q → IfOk r R
+ok_both (Ok x) P Q R f p q = f x p q
+ok_both (Err e) P Q R f p q = tt
+
+-- what proceeds, and leads from each sound state, takes the parts on
+pub enters_by : (old new : Parts) (d : ℕ) (e : Event) (t : Turn) → Proceeds old d e t new → ((s : State) → Stands old s → IsSound old.window.size s → Leads s d e t new) → Enters old d e t new
+enters_by old new d e t proceeds leads = record {
+  remains = proceeds.remains;
+  pays = proceeds.pays;
+  going = proceeds.going;
+  driver_ = proceeds.driver_;
+  fewer = proceeds.fewer;
+  begun = proceeds.begun;
+  no_more = proceeds.no_more;
+  beside = proceeds.beside;
+  rows = proceeds.rows;
+  step = leads;
+}
+
+-- a call that was made ready takes them on
+pub enters_readied : (old new : Parts) (d : ℕ) (what : Sleeping) (made : Readied) (t : Turn) → IsReady old d what made → Proceeds old d (event.Begin what) t new → LeadsSo old d what made t new
+    → Enters old d (event.Begin what) t new
+enters_readied old new d what made t ready proceeds leads = enters_by old new d (event.Begin what) t proceeds (λ s stands sound. leads s stands sound (ready s stands sound))

@@ -201,7 +201,7 @@ unfolding settled
 request_can words s t d what k sound there asks comes at =
     steps_can words (wiring s) k.chain sound.narrow.valid
     (plan_rooted words (wiring s) asked.seen asked.row.clock.0 asked.rate k.chain sound.narrow.valid sound.narrow.possible there
-    (handle_has_root words s asked.number asked.row sound.reached start.0 asked.live) asked.found)
+    (handle_has_root words s asked.number asked.row sound.like start.0 asked.live) asked.found)
     (leads_chain (wiring s) asked.seen asked.row.clock.0 asked.rate k.chain sound.narrow.possible asked.found) where
       start : (s.change ≡ None) × (record (settled s (begun s d what).0) { spent = s.spent + 1 } ≡ t) × ((begun s d what).1 ≡ turn.Going)
       start = begin_is s t d what turn.Going comes

@@ -19,7 +19,7 @@ use Rattle.clk_model.proofs.JournalLaws.{replay-append}
 use Rattle.clk_model.proofs.LinkLaws.{runs_keep_links, runs_are_wired}
 use Rattle.clk_model.proofs.RoomLaws.{runs_have_room}
 use Rattle.clk_model.proofs.RunsFedLaws.{runs_are_fed}
-use Rattle.clk_machine.specs.Sound.{IsReached, IsNarrow, IsSound}
+use Rattle.clk_machine.specs.Sound.{IsReached, IsNarrow}
 
 -- ---- a state that a journal leads to
 
@@ -71,25 +71,25 @@ links_possible words s sound c p at = sound.possible c p at
 
 -- ---- the opening
 
-pub sound_opening : (words : List ℕ) (defs : Description) (ignore_unused : Bool) (credits : ℕ) → IsValid (length words) defs → credits ≤ most_credits
-    → IsSound (length words) (opening defs words ignore_unused credits)
-sound_opening words defs ignore_unused credits valid few = record {
-  reached = record {
-    defs = defs;
-    regs = words;
-    ignore_unused = ignore_unused;
-    credits = credits;
-    journal = [];
-    valid = valid;
-    size = refl;
-    few = few;
-    leads = refl;
-  };
-  narrow = record {
-    valid = valid;
-    rows = length-replicate (length defs) _;
-    attached = λ c m. absurd cc;
-    unlinked = λ c free. blank_link (length defs) c;
-    possible = λ c p at. let none = blank_link (length defs) c in absurd cc;
-  };
+pub reached_opening : (words : List ℕ) (defs : Description) (ignore_unused : Bool) (credits : ℕ) → IsValid (length words) defs → credits ≤ most_credits
+    → IsReached (length words) (opening defs words ignore_unused credits)
+reached_opening words defs ignore_unused credits valid few = record {
+  defs = defs;
+  regs = words;
+  ignore_unused = ignore_unused;
+  credits = credits;
+  journal = [];
+  valid = valid;
+  size = refl;
+  few = few;
+  leads = refl;
+}
+
+pub narrow_opening : (words : List ℕ) (defs : Description) (ignore_unused : Bool) (credits : ℕ) → IsValid (length words) defs → IsNarrow (length words) (opening defs words ignore_unused credits)
+narrow_opening words defs ignore_unused credits valid = record {
+  valid = valid;
+  rows = length-replicate (length defs) _;
+  attached = λ c m. absurd cc;
+  unlinked = λ c free. blank_link (length defs) c;
+  possible = λ c p at. let none = blank_link (length defs) c in absurd cc;
 }

@@ -22,22 +22,25 @@ use Rattle.clk_model.proofs.AboveLaws.{held_up, put_at, put_same, put_other, dif
 use Rattle.clk_model.proofs.BelowLaws.{no_round, rises_on}
 use Rattle.clk_model.proofs.OnceLaws.{is_in-append, in_append, is_in-filter, filter_keeps}
 use Rattle.clk_base.proofs.Valid.{lines_end}
-use Rattle.clk_model.proofs.ArriveLaws.{safe_supplied, prepared_told}
+use Rattle.clk_model.proofs.ArriveLaws.{IsFit, supplies_of, fit_of, prepared_told}
+use Rattle.clk_model.proofs.BeginSafeLaws.{resting}
 use Rattle.clk_model.proofs.FlightSafeLaws.{FirstGoes, first_raises, first_makes, first_ends, first_goes, goes_sound}
 use Rattle.clk_model.proofs.Members.{none_in, is_in_head, is_in_tail, is_in_cases, or_left, or_right, test_same}
 use Rattle.clk_model.proofs.PathLaws.{path_agree}
+use Rattle.clk_model.proofs.ProbeGoLaws.{Resting}
 use Rattle.clk_model.proofs.RunsFedLaws as fed
 use Rattle.clk_model.proofs.SafeRunLaws as runs
 use Rattle.clk_model.proofs.Scenes.{scene, IsHeldToMove, GoesWell, InCall, calm, raising}
 use Rattle.clk_model.proofs.Scenes as scenes
 use Rattle.clk_model.proofs.WholePathLaws.{same_or_not, linked_same, linked_other}
 use Rattle.clk_model.proofs.SceneStepLaws.{settled_there}
-use Rattle.clk_machine.specs.Sound.{IsReached}
+use Rattle.clk_machine.specs.Sound.{IsReached, IsLike}
+use Rattle.clk_machine.proofs.Likeness.{defs_like, links_like, scene_like, fit_like}
 use Rattle.clk_machine.proofs.Relinked.{linked_there}
 
 -- ---- a call in flight in a state of a run
 
-pub run_of : (words : ℕ) (s : State) (is : IsReached words s) → runs.IsRun s
+run_of : (words : ℕ) (s : State) (is : IsReached words s) → runs.IsRun s
 run_of words s is = subst (λ (t : State). runs.IsRun t) (sym is.leads) (fed.run_of is.defs is.regs is.ignore_unused is.credits is.journal is.valid)
 
 in_call : (words : ℕ) (s : State) (k : Change) → IsReached words s → s.change ≡ Some k → InCall s k
@@ -48,6 +51,26 @@ in_call words s k is at = by (run_of words s is).running_ where
       let same : Some goes.change ≡ Some k = sym goes.at ∙ at in
       let one : goes.change ≡ k = cc in
       subst (λ (l : Change). InCall s l) one goes.in_call
+
+-- ---- a state at rest
+
+resting_reached : (words : ℕ) (s : State) → IsReached words s → s.change ≡ None → Resting s
+resting_reached words s is quiet = by (run_of words s is).running_ where
+  by : runs.IsRunning s → Resting s
+  by (runs.quietly still rest) = resting s rest (run_of words s is).keeps
+  by (runs.in_flight goes) = let no : None ≡ Some goes.change = sym quiet ∙ goes.at in absurd cc
+
+-- a state that is like one of a run rests while no call is in flight
+pub resting_like : (words : ℕ) (s : State) → IsLike words s → s.change ≡ None → Resting s
+resting_like words s like quiet =
+    let rest = resting_reached words like.other like.reached (sym like.change ∙ quiet) in
+    let same = scene_like words s None like in
+    record {
+      fit = fit_like words s None like rest.fit;
+      prepares = ap (λ (a : scenes.Scene). a.prepare_holds) same ∙ rest.prepares;
+      enables = ap (λ (a : scenes.Scene). a.enable_holds) same ∙ rest.enables;
+      keeps = links_like words s like;
+    }
 
 -- ---- what stands before a new link
 
@@ -76,6 +99,18 @@ links_in s k c p ms is at = by is.stands where
   by : scenes.Stands s k is.late → Links s is.late c p
   by (calm rest front still idle goes) = links_well_in s k.call k.timed_out is.late c p ms k.left goes at
   by (raising x well front goes cut) = never_raising s k.call k.timed_out x is.late c p ms k.left goes at
+
+-- the same scene has such a link too
+links_too : (s t : State) (late : Option ℕ) (c p : ClockId) → t.defs ≡ s.defs → scene late t ≡ scene late s → Links s late c p → Links t late c p
+links_too s t late c p defs same links = record {
+  sound =
+      subst (λ (ds : Description). scenes.IsSound ds (scene late t)) (sym defs)
+      (subst (λ (a : scenes.Scene). scenes.IsSound s.defs a) (sym same) links.sound);
+  possible = subst (λ (ds : Description). is_in p.0 (parents_of ds c.0) ≡ true) (sym defs) links.possible;
+  held =
+      subst (λ (ds : Description). IsHeldToMove ds (scene late t) c.0 p.0) (sym defs)
+      (subst (λ (a : scenes.Scene). IsHeldToMove s.defs a c.0 p.0) (sym same) links.held);
+}
 
 -- ---- holds that are passed over
 
@@ -236,14 +271,17 @@ active_linked s c p d within =
       by a (inr other) = linked_other s.clocks c p a other ∙ sym (put_other c a (Some p) (link_in s.clocks) other)
 
 -- a new link moves no gate
-pub relink_still : (words : ℕ) (s : State) (k : Change) (c p : ClockId) (ms : List Micro) → IsReached words s → s.change ≡ Some k → k.left ≡ micro.Relink c p ∷ ms
+pub relink_still : (words : ℕ) (s : State) (k : Change) (c p : ClockId) (ms : List Micro) → IsLike words s → s.change ≡ Some k → k.left ≡ micro.Relink c p ∷ ms
     → c.0 < length s.clocks → (d : ℕ) → active s d ≡ active (linked_state s c.0 p.0) d
-relink_still words s k c p ms is at left within d = by links.held where
-  call_ : InCall s k
-  call_ = in_call words s k is at
+relink_still words s k c p ms like at left within d = by links.held where
+  call_ : InCall like.other k
+  call_ = in_call words like.other k like.reached (sym like.change ∙ at)
+
+  fit : IsFit call_.late s
+  fit = fit_like words s call_.late like (fit_of call_.late like.other call_.safe)
 
   links : Links s call_.late c p
-  links = links_in s k c p ms call_ left
+  links = links_too like.other s call_.late c p (defs_like words s like) (scene_like words s call_.late like) (links_in like.other k c p ms call_ left)
 
   unless : (t : Bool) → (t ≡ true → ⊥) → t ≡ false
   unless true never = absurd (never refl)
@@ -252,7 +290,7 @@ relink_still words s k c p ms is at left within d = by links.held where
   idle_still : prepared s c.0 ≡ false → s.enable_holds ≡ [] → active s d ≡ active (linked_state s c.0 p.0) d
   idle_still idle free = active_still s c.0 p.0 free (λ h m. path_agree (link_in s.clocks) (link_in (linked s.clocks c.0 p.0)) depth h (λ a on. one h a m on (same_or_not c.0 a))) d where
     still : active s c.0 ≡ false
-    still = unless (active s c.0) (λ on. let no : true ≡ false = sym ((safe_supplied call_.late s call_.safe).supplies.prepared_ c.0 on) ∙ idle in absurd cc)
+    still = unless (active s c.0) (λ on. let no : true ≡ false = sym ((supplies_of call_.late s fit).prepared_ c.0 on) ∙ idle in absurd cc)
 
     one : (h a : ℕ) → is_in h (enable_holders s) ≡ true → is_in a (path s.clocks h) ≡ true → (c.0 ≡ a) ⊎ (c.0 ≡ a → ⊥) → link_in (linked s.clocks c.0 p.0) a ≡ link_in s.clocks a
     one h a m on (inl here) =
@@ -261,7 +299,7 @@ relink_still words s k c p ms is at left within d = by links.held where
     one h a m on (inr other) = linked_other s.clocks c.0 p.0 a other
 
   may : MayLink s.defs (link_in s.clocks) c.0 p.0
-  may = record { ends = lines_end (length s.regs) s.defs call_.safe.wired.valid; is = links.sound.tree.possible; parent = links.possible }
+  may = record { ends = lines_end (length s.regs) s.defs fit.wired.valid; is = links.sound.tree.possible; parent = links.possible }
 
   by : IsHeldToMove s.defs (scene call_.late s) c.0 p.0 → active s d ≡ active (linked_state s c.0 p.0) d
   by (inr none) = idle_still (prepared_told call_.late call_.late s s (scene call_.late s) c.0 refl refl ∙ none.0) none.1

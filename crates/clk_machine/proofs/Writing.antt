@@ -324,7 +324,7 @@ pub record Row (old : Parts) (n : ℕ) (row new : HandleRow) (table' : HandleTab
 pub row_place : (m : Parts) (n : ℕ) (row : HandleRow) → IsWhole m → handle_at m.table.handles n ≡ Some row → row.clock.0 < length m.desc.defs
 row_place m n row whole live = clock_within m.desc m.window m.tree row.clock.0 whole.tied (whole.handled n row live)
 
-pub place_among : (m : Parts) (c : ℕ) (own : List ℕ) → IsWhole m → c < length m.desc.defs → length own ≡ length m.counts.defs → c < length own
+place_among : (m : Parts) (c : ℕ) (own : List ℕ) → IsWhole m → c < length m.desc.defs → length own ≡ length m.counts.defs → c < length own
 place_among m c own whole within size =
     subst (λ (n : ℕ). c < n) (sym (size ∙ ap (λ (d : Description). length d) whole.counted.stands.defs)) within
 

@@ -1,16 +1,18 @@
--- What a decision about a call that changes a rate or a parent says: how the call begins.
-use Rattle.std.specs.Prelude.{◌≡◌, ℕ, ◌+◌, List, [], Option, Some, None}
+-- What a decision about a call that changes a rate or a parent says: how the call begins, if there is room for what it goes on with.
+use Rattle.std.specs.Prelude.{◌≡◌, ◌≢◌, ℕ, List, [], Option, Some, None}
 use Rattle.clk_base.specs.declared.call.Sleeping.{Sleeping}
 use Rattle.clk_base.specs.declared.call.Sleeping.TheVariants as call
-use Rattle.clk_base.specs.declared.event.Event.TheVariants as event
+use Rattle.clk_base.specs.declared.event.Errno.TheVariants as errno
 use Rattle.clk_base.specs.declared.event.Reply.TheVariants as reply
-use Rattle.clk_base.specs.declared.event.Turn.TheVariants as turn
 use Rattle.clk_model.specs.declared.row.HandleRow.{HandleRow}
-use Rattle.clk_model.specs.Begin.{done, refused, own_handle, change_along, held_once_more, reparenting}
+use Rattle.clk_model.specs.Begin.{begun, done, refused, starts, own_handle, change_along, held_once_more, reparenting, request_between}
+use Rattle.clk_model.specs.Chain.{chain}
 use Rattle.clk_model.specs.Laws.CallCauses.{with_limits}
-use Rattle.clk_model.specs.Machine.{paid, next}
-use Rattle.clk_model.specs.State.{State, Change}
+use Rattle.clk_model.specs.Round.{wiring}
+use Rattle.clk_model.specs.State.{State, Change, ChainStep}
 use Rattle.clk_model.specs.Step.{sets_parent}
+use Rattle.clk_model.specs.Views.{view, lift}
+use Rattle.rate_planner.specs.Walks.{parent_chain}
 use Rattle.clk_tree.specs.declared.plan.Plan.{Plan}
 use Rattle.counts_core.specs.Counted.{is_prepared}
 use Rattle.change_walk.specs.Given.{Script}
@@ -25,7 +27,7 @@ use Rattle.core_parts.specs.Planned.{IsPlanOf, ArePlanned}
 
 -- what holds of a change that was decided, over the parts of a core
 abbrev pub ArePlannedOver : Parts → Sleeping → Decision → Type 0
-ArePlannedOver m what decision = ArePlanned m.tree (is_prepared m.counts) m.chains (m.credits + m.steps) (sets_parent what) decision
+ArePlannedOver m what decision = ArePlanned m.tree (is_prepared m.counts) m.chains (sets_parent what) decision
 
 -- a call that isn't refused is on a handle of its driver, whatever the bank tells
 abbrev pub IsOwned : List (Option HandleRow) → ℕ → Sleeping → Decision → Type 0
@@ -60,23 +62,33 @@ change_by s d (call.SetRange h least most) row plan =
 change_by s d (call.SetParent h p) row plan = reparenting s d (call.SetParent h p) row.clock.0 p.0
 change_by s d what row plan = change_along s d what plan.chain [] None
 
+-- the chain that a call plans, if it plans one: with one exclusive of its handle lifted unless it takes one itself
+abbrev pub chain_of : State → Sleeping → HandleRow → Option (List ChainStep)
+chain_of s (call.SetRate h x) row = chain (wiring s) (view (lift s h.number)) row.clock.0 x
+chain_of s (call.SetRateExclusive h x) row = chain (wiring s) (view s) row.clock.0 x
+chain_of s (call.SetRange h least most) row =
+    chain (wiring s) (view (lift (with_limits s h.number row least most) h.number)) row.clock.0 (request_between s.clocks row.clock.0 least most)
+chain_of s (call.SetParent h p) row = Some (parent_chain (wiring s) row.clock.0 p.0)
+chain_of s _ row = None
+
 -- a call on a driver's own handle is answered at once
 pub record EndsAtOnce (s : State) (d number : ℕ) (what : Sleeping) : Type 0 where
   pub row : HandleRow
   pub own : own_handle s d number ≡ Some row
-  pub next_ : next s d (event.Begin what) ≡ paid s (done (left_at_once s what row) reply.Fine)
+  pub begins : begun s d what ≡ done (left_at_once s what row) reply.Fine
 
--- a call on a driver's own handle goes on with a plan and its script
+-- a call on a driver's own handle goes on with a plan and its script, if there is room
 pub record GoesOn (s : State) (d number : ℕ) (what : Sleeping) (plan : Plan) (script : Script) : Type 0 where
   pub row : HandleRow
   pub own : own_handle s d number ≡ Some row
-  pub next_ : next s d (event.Begin what) ≡ paid s (record (made_in s what row) { change = Some (change_by s d what row plan) }, turn.Going)
+  pub begins : begun s d what ≡ starts s (made_in s what row) (change_by s d what row plan)
+  pub along : chain_of s what row ≡ Some plan.chain
   pub planned : IsPlanOf (made_in s what row) (change_by s d what row plan) plan script
   pub set_parent : plan.set_parent ≡ sets_parent what
 
--- a call of a driver on the handle of this number begins in a state as was decided
+-- a call of a driver on the handle of this number begins in a state as was decided; it isn't decided that there is no room
 abbrev pub Decides : State → ℕ → ℕ → Sleeping → Decision → Type 0
-Decides s d number what (decided.Refused e) = next s d (event.Begin what) ≡ paid s (refused s e)
+Decides s d number what (decided.Refused e) = (e ≢ errno.ENOSPC) × (begun s d what ≡ refused s e)
 Decides s d number what decided.AtOnce = EndsAtOnce s d number what
 Decides s d number what (decided.Change plan script) = GoesOn s d number what plan script
 

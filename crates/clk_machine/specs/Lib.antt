@@ -14,6 +14,13 @@ pub mod Polls
 pub mod Run
 pub mod Lawful
 pub mod Row
+pub mod Asking
 pub mod Deciding
 pub mod Readying
 pub mod Readied
+pub mod Along
+pub mod SettingOut
+pub mod ChangingAlong
+pub mod Ready
+pub mod Copied
+pub mod Beginning

@@ -1,10 +1,13 @@
 -- A call that changes a rate or a parent, ready to begin: what it goes on with, and that it begins so.
 use Rattle.std.specs.List.{list_all}
-use Rattle.std.specs.Prelude.{◌≡◌, ℕ, ◌+◌, ◌≤◌, List, Bool, true, false, Option, Some, None, sum_by}
+use Rattle.std.specs.Prelude.{◌≡◌, ℕ, ◌+◌, ◌≤◌, List, Bool, true, false, Option, Some, None, nat_le, sum_by}
 use Rattle.clk_base.specs.declared.call.Micro.{Micro}
 use Rattle.clk_base.specs.declared.call.Sleeping.{Sleeping}
 use Rattle.clk_base.specs.declared.call.Sleeping.TheVariants as call
+use Rattle.clk_base.specs.declared.event.Errno.{Errno}
+use Rattle.clk_base.specs.declared.event.Errno.TheVariants as errno
 use Rattle.clk_base.specs.declared.event.Event.TheVariants as event
+use Rattle.clk_base.specs.declared.event.Turn.{Turn}
 use Rattle.clk_base.specs.declared.event.Turn.TheVariants as turn
 use Rattle.clk_model.specs.declared.row.HandleRow.{HandleRow}
 use Rattle.clk_model.specs.Begin.{most_credits, own_handle, refused}
@@ -26,7 +29,7 @@ use Rattle.core_parts.specs.InFlight.{is_script, can_link}
 use Rattle.core_parts.specs.Movable.{can_go_along}
 use Rattle.clk_machine.specs.Parts.{Parts, IsOwnCall}
 use Rattle.clk_machine.specs.Sound.{IsSound}
-use Rattle.clk_machine.specs.Stands.{Stands}
+use Rattle.clk_machine.specs.Stands.{Stands, Leads}
 
 -- what steps weigh over the notifiers and PLLs of these parts
 abbrev pub weight_along : Parts → List Micro → ℕ
@@ -38,8 +41,13 @@ weight_along m steps = sum_by (step_weight (plls m.desc.defs) m.chains) steps
 abbrev pub moves_well : Parts → Plan → Bool
 moves_well m plan = can_go_along plan.set_parent m.desc.defs m.tree.clocks plan.chain
 
--- it is that of a plan whose moves can be made, and of its script: its steps, the chain, and the clocks that are told
+-- whether there is room for the entries that the steps of a script may come to
+abbrev pub has_room : Parts → Script → Bool
+has_room m script = nat_le (m.credits + m.steps + script.weight) most_credits
+
+-- it is that of a plan whose moves can be made, and of its script, for which there is room: its steps, the chain, and the clocks that are told
 pub record IsScripted (m : Parts) (plan : Plan) (script : Script) (scripted : Scripted) : Type 0 where
+  pub room : has_room m script ≡ true
   pub moves : moves_well m plan ≡ true
   pub steps : scripted.steps ≡ script.steps
   pub chain : scripted.course.chain ≡ plan.chain
@@ -48,9 +56,14 @@ pub record IsScripted (m : Parts) (plan : Plan) (script : Script) (scripted : Sc
   pub vetoed : scripted.vetoed ≡ script.vetoed
   pub weight : scripted.weight ≡ script.weight
 
--- a plan with its script is made ready where its moves can be made, and else refused
+-- why a plan with its script isn't gone along: there is no room for it, or else its moves can't be made
+pub data Hinders (m : Parts) (plan : Plan) (script : Script) : Errno → Type 0 where
+  lacks_room : has_room m script ≡ false → Hinders m plan script errno.ENOSPC
+  moves_badly : (e : Errno) → has_room m script ≡ true → moves_well m plan ≡ false → Hinders m plan script e
+
+-- a plan with its script is made ready if there is room for it and its moves can be made, and else refused
 abbrev pub Scripts : Parts → Plan → Script → Readied → Type 0
-Scripts m plan script (readied.Refused e) = moves_well m plan ≡ false
+Scripts m plan script (readied.Refused e) = Hinders m plan script e
 Scripts m plan script readied.AtOnce = ⊥
 Scripts m plan script (readied.Change scripted) = IsScripted m plan script scripted
 
@@ -111,6 +124,11 @@ abbrev pub BeginsSo : State → ℕ → ℕ → Sleeping → Readied → Type 0
 BeginsSo s d number what (readied.Refused e) = next s d (event.Begin what) ≡ paid s (refused s e)
 BeginsSo s d number what readied.AtOnce = EndsAtOnce s d number what
 BeginsSo s d number what (readied.Change scripted) = GoesOnAlong s d number what scripted
+
+-- if it begins so, the machine answers this turn and comes to a state that the new parts stand for
+abbrev pub LeadsSo : Parts → ℕ → Sleeping → Readied → Turn → Parts → Type 0
+LeadsSo old d what made t new =
+    (s : State) → Stands old s → IsSound old.window.size s → BeginsSo s d (handle_of what) what made → Leads s d (event.Begin what) t new
 
 -- so it does in each sound state that parts stand for
 abbrev pub IsReady : Parts → ℕ → Sleeping → Readied → Type 0

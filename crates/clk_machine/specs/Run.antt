@@ -18,7 +18,7 @@ use Rattle.core_parts.specs.declared.behind.Behind.{Behind}
 use Rattle.clk_machine.specs.Parts.{Parts, steps_left}
 use Rattle.clk_machine.specs.Polls.{IfPoll, IsAsked, asked_by}
 use Rattle.clk_machine.specs.Stands.{Stands, is_told, joins}
-use Rattle.clk_machine.specs.Sound.{IsSound}
+use Rattle.clk_machine.specs.Sound.{IsReached, IsNarrow}
 use Rattle.core_parts.specs.Window.{HasDelays}
 
 -- a core as its opening and its journal, and what it knows of its bank
@@ -103,7 +103,9 @@ run_of m words log = record { start = start_of m words; journal = log.entries; t
 pub record IsRun (m : Parts) (words : List ℕ) (log : Logged) : Type 0 where
   pub stands : is_told m ≡ true → Stands m (state_of m words log)
   pub legal : is_told m ≡ true → Legal (start_of m words) log.entries
-  pub sound : is_told m ≡ true → IsSound (length words) (state_of m words log)
+  -- the journal leads to the state, and it is kept narrow
+  pub reached : is_told m ≡ true → IsReached (length words) (state_of m words log)
+  pub narrow : is_told m ≡ true → IsNarrow (length words) (state_of m words log)
   -- after every prefix the active clocks are fed
   pub fed : is_told m ≡ true → (n : ℕ) → Fed (replay (start_of m words) (take n log.entries))
   pub spent : cost log.entries ≡ m.spent

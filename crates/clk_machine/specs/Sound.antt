@@ -1,5 +1,5 @@
 -- What every state of a core keeps.
-use Rattle.std.specs.Prelude.{◌≡◌, ℕ, ◌<◌, ◌≤◌, ◌&&◌, List, Bool, true, false, not, Some, None, is_some, length, nat_lt}
+use Rattle.std.specs.Prelude.{◌≡◌, ◌⊎◌, ℕ, ◌<◌, ◌≤◌, ◌&&◌, List, Bool, true, false, not, Some, None, is_some, map, option_map, length, nat_lt}
 use Rattle.clk_base.specs.declared.call.Micro.{Micro}
 use Rattle.clk_base.specs.declared.call.Micro.TheVariants as micro
 use Rattle.clk_base.specs.declared.call.Sleeping.{Sleeping}
@@ -14,6 +14,7 @@ use Rattle.clk_model.specs.Lists.{is_in}
 use Rattle.clk_model.specs.declared.row.ClockRow.{ClockRow}
 use Rattle.clk_model.specs.State.{State, registered, link_in}
 use Rattle.clk_model.specs.Begin.{most_credits}
+use Rattle.clk_model.specs.Prep.{without_enables, prep}
 use Rattle.clk_model.specs.Journal.{opening, replay}
 
 -- a journal leads to the state, from the opening of a valid description with so many words and as many credits as there may be
@@ -43,9 +44,21 @@ pub record KeepsRows (words : ℕ) (defs : Description) (clocks : List ClockRow)
 abbrev pub IsNarrow : ℕ → State → Type 0
 IsNarrow words s = KeepsRows words s.defs s.clocks s.order
 
--- what every state of a core keeps: all that holds behind a journal, and what is kept besides
+-- a state is like one that a journal leads to: the prepare tier's part of both is the same, and so is what is held for the change in flight, and
+-- that change; its handles are the other's or have no enables; and no more credits were spent and no more steps made in it
+pub record IsLike (words : ℕ) (s : State) : Type 0 where
+  pub other : State
+  pub reached : IsReached words other
+  pub same : prep s ≡ prep other
+  pub handles : (s.handles ≡ other.handles) ⊎ (s.handles ≡ map (option_map without_enables) s.handles)
+  pub holds : s.enable_holds ≡ other.enable_holds
+  pub change : s.change ≡ other.change
+  pub spent : s.spent ≤ other.spent
+  pub steps : s.steps ≤ other.steps
+
+-- what every state of a core and of a copy keeps: all that holds of a state like a reached one, and what is kept besides
 pub record IsSound (words : ℕ) (s : State) : Type 0 where
-  pub reached : IsReached words s
+  pub like : IsLike words s
   pub narrow : IsNarrow words s
 
 -- the clocks that a call names are clocks of the description

@@ -119,3 +119,15 @@ pub record Enters (old : Parts) (driver : ℕ) (event : Event) (turn : Turn) (ne
   pub beside : is_enable_tier event ≡ true → (new.window.locks ≡ old.window.locks) × (new.flight ≡ old.flight)
   pub rows : (c : ℕ) → registered new.tree.clocks c ≡ (registered old.tree.clocks c || joins event turn c)
   pub step : (s : State) → Stands old s → IsSound old.window.size s → Leads s driver event turn new
+
+-- what an event of a driver with its turn does to the parts, whatever the bank tells: all of Enters but for states
+pub record Proceeds (old : Parts) (driver : ℕ) (event : Event) (turn : Turn) (new : Parts) : Type 0 where
+  pub remains : Remains old new
+  pub pays : new.spent ≡ old.spent + price event
+  pub going : new.flight.going ≡ (if is_enable_tier event then old.flight.going else is_going turn)
+  pub driver_ : new.flight.going ≡ true → new.flight.driver ≡ (if is_enable_tier event then old.flight.driver else driver)
+  pub fewer : is_paid event ≡ false → steps_left new < steps_left old
+  pub begun : is_paid event ≡ true → is_going turn ≡ true → steps_left new ≤ most_steps old.desc.defs event
+  pub no_more : is_paid event ≡ true → is_going turn ≡ false → steps_left new ≤ steps_left old
+  pub beside : is_enable_tier event ≡ true → (new.window.locks ≡ old.window.locks) × (new.flight ≡ old.flight)
+  pub rows : (c : ℕ) → registered new.tree.clocks c ≡ (registered old.tree.clocks c || joins event turn c)

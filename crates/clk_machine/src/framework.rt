@@ -10,6 +10,9 @@ ghost use Rattle.clk_base.specs.declared.event.Event.TheVariants.{Step};
 ghost use Rattle.core_parts.specs.InFlight.{is_worked_out};
 ghost use Rattle.core_parts.specs.MadeSteps.{step_of, answer_of, turn_of};
 
+mod beginning;
+
+use crate::decision::Decision;
 use crate::log::Log;
 use crate::machine::Machine;
 use crate::row::Row;
@@ -104,6 +107,7 @@ impl<B: Bank> Core<B> {
     ghost use Rattle.clk_model.specs.Journal.{slotless};
     ghost use Rattle.clk_model.specs.Laws.CallCauses.{CallTurns};
     ghost use Rattle.clk_model.specs.Laws.Causes.{EnableCauses, DisableCauses, RunningCauses, LeavesRefused};
+    ghost use Rattle.clk_machine.specs.Copied.{IsDecided};
     ghost use Rattle.clk_machine.specs.Run.{Run, now_of, was_registered, in_flight, Appends, StepsOn, StepTurns};
     ghost use Rattle.clk_machine.specs.Row.{IsRowOf, IsTreeOf};
     ghost use Rattle.clk_machine.specs.Lawful.{KeepsLaws};
@@ -234,6 +238,43 @@ impl<B: Bank> Core<B> {
             return self.begin_worked_out(driver, *what);
         }
         self.begin_other(driver, *what)
+    }
+
+    /// Begins a call of a driver as it was decided over a copy of the prepare tier. Nothing is rounded
+    /// or planned here, unless the call is decided inside its turn.
+    ///
+    /// After `NoMemory` the core is as it was, without an entry. It comes at the calls at which it
+    /// comes from `begin`.
+    pub fn begin_as(
+        &mut self,
+        driver: u32,
+        what: &Sleeping,
+        decision: Decision,
+    ) -> Result<Turn, NoMemory>
+        // A credit is left.
+        requires credit { cost self.old.journal < self.old.start.credits }
+        // No call is in flight.
+        requires quiet { in_flight self.old.journal ≡ false }
+        // The clocks that the call names are clocks of the description.
+        requires place { IsPlaced self.old.start.defs what.now }
+        // Where the bank tells its words, it was decided so over the prepare tier's part of the core's state.
+        requires decided { self.old.told ≡ true → IsDecided (now_of self.old) driver what.now decision }
+        // The machine takes the event, answers so, and its entry is appended.
+        ensures ok { IfOk result (λ turn. Appends self.old driver (Begin what.now) turn self.new) }
+        // Where the bank tells its words, the turn of each call comes exactly where its cause in the state before holds.
+        ensures turns { self.old.told ≡ true → IfOk result (λ turn. CallTurns (now_of self.old) driver what.now (slotless turn)) }
+        // Where the bank tells its words, a refusal spends a credit and changes nothing else.
+        ensures refused { self.old.told ≡ true → IfOk result (λ turn. LeavesRefused turn (now_of self.old) (now_of self.new)) }
+        // Where memory runs out, the core is as it was.
+        ensures err { OnErr result (self.new ≡ self.old) }
+        // That can be only where the call takes memory.
+        ensures memory { takes_memory what.now ≡ false → IsOk result }
+    {
+        match decision {
+            Decision::Reply(reply) => self.begin_replied(driver, what, reply),
+            Decision::Script { plan, steps } => self.begin_scripted(driver, what, plan, steps),
+            Decision::Inside => self.begin(driver, what),
+        }
     }
 
     // Begins a call whose steps are worked out before, with room for their entries.

@@ -7,11 +7,15 @@ ghost use Rattle.clk_model.specs.Journal.{is_going, opening};
 ghost use Rattle.clk_model.specs.Begin.{most_credits};
 
 mod adopting;
+mod asking;
+mod beginning;
 mod calls;
 mod changing;
+mod changing_along;
 mod deciding;
 mod enabling;
 mod exclusives;
+mod going_along;
 mod holding;
 mod holds;
 mod landing;
@@ -23,15 +27,17 @@ mod ranging;
 mod readying;
 mod registering;
 mod reparenting;
-mod rounding;
 mod rows;
+mod setting_out;
 mod starting;
 mod stepping;
 mod sweeping;
+mod sweeping_along;
 mod telling;
 mod visiting;
 
 use crate::log::Log;
+pub(crate) use beginning::{is_asking, is_planning};
 use clk_base::{Handle, Reply, Sleeping, Turn, ValidDesc};
 use clk_flight::Flight;
 use clk_io::NoMemory;
@@ -142,7 +148,7 @@ impl<B: Bank> Machine<B> {
     }
 
     // The row of a driver's own live handle.
-    fn own(&self, driver: u32, handle: Handle) -> Option<HandleRow>
+    pub(super) fn own(&self, driver: u32, handle: Handle) -> Option<HandleRow>
         ensures row { own_in self.now.table.handles driver handle.number ≡ result }
         ensures live { IfSome result (λ row. handle_at self.now.table.handles handle.number ≡ Some row) }
         ensures whole { IsWhole self.now }
@@ -167,9 +173,9 @@ impl<B: Bank> Machine<B> {
         match what {
             Sleeping::Get(found) => self.get(driver, found),
             Sleeping::Put(handle) => Ok(self.put(driver, handle)),
-            Sleeping::GetRate(handle) => Ok(self.rate(driver, handle)),
-            Sleeping::RoundRate(handle, rate) => Ok(self.round(driver, handle, rate)),
-            Sleeping::GetParent(handle) => Ok(self.parent(driver, handle)),
+            Sleeping::GetRate(_) => Ok(self.asked(driver, what)),
+            Sleeping::RoundRate(_, _) => Ok(self.asked(driver, what)),
+            Sleeping::GetParent(_) => Ok(self.asked(driver, what)),
             Sleeping::ExclusiveGet(handle) => Ok(self.exclusive_get(driver, handle)),
             Sleeping::ExclusivePut(handle) => Ok(self.exclusive_put(driver, handle)),
             Sleeping::NotifierAdd(handle, id, priority, policy) => {

@@ -37,8 +37,8 @@ fn has_threads(mode: Mode) -> bool
 ///
 /// Under `check` boot alone runs, and under `sim` the drivers run on this thread, which pauses nowhere.
 /// Under `run` and `bench` each driver has a thread of its own, and `pause` is called between two
-/// turns of a sleeping call, and once a candidate while one is planned. Both are tested, and no clause
-/// says them. `bench` reads nothing and generates its bundle.
+/// turns of a sleeping call. Both are tested, and no clause says them. `bench` reads nothing and
+/// generates its bundle.
 pub fn clkbench<
     'w,
     R: AllocGlobal + Threads + Wait + Sync,

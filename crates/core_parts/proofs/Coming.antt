@@ -4,7 +4,6 @@ use Rattle.std.specs.Prelude.{sum_by, is_none, slice_get, if◌then◌else◌}
 use Rattle.std.specs.Option.{option_map}
 use Rattle.std.proofs.lemmas.List.Sums.{sum_by-cons}
 use Rattle.clk_base.specs.declared.call.Micro.{Micro}
-use Rattle.clk_base.specs.declared.call.Micro.TheVariants as micro
 use Rattle.clk_base.specs.declared.clock.ClockId.{ClockId}
 use Rattle.clk_model.specs.State.{Change, NotifierRow}
 use Rattle.clk_model.specs.Notices.{notifiers_of}

@@ -28,7 +28,6 @@ pub mod Scripting
 pub mod Added
 pub mod RegisteredTree
 pub mod RoundedWords
-pub mod LessProtected
 pub mod NotifierRows
 pub mod Noticed
 pub mod SameCall

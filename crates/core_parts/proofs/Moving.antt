@@ -1,5 +1,5 @@
 -- The parts of a core where the gates of some clocks move.
-use Rattle.std.proofs.Common.{◌≡◌, ℕ, ◌<◌, Bool, true, List, [], Option, Some, None, sym, subst, ◌∙◌, arith, length}
+use Rattle.std.proofs.Common.{◌≡◌, ℕ, ◌<◌, Bool, true, List, Option, Some, None, sym, subst, ◌∙◌, arith, length}
 use Rattle.std.specs.Option.{option_map}
 use Rattle.clk_base.specs.Checked.{Checked}
 use Rattle.clk_base.specs.Description.{Description}

@@ -10,7 +10,6 @@ use Rattle.reg_bank.specs.Registers.{Registers, field, put}
 use Rattle.clk_model.specs.declared.row.ClockRow.{ClockRow}
 use Rattle.clk_model.specs.State.{ChainStep, registered}
 use Rattle.clk_model.specs.Rate.{rate}
-use Rattle.clk_model.specs.Chain.{setting}
 use Rattle.clk_model.proofs.ApartLaws.{fields_apart}
 use Rattle.clk_model.proofs.GateRateLaws.{scales_is_field}
 use Rattle.clk_model.proofs.OutcomeLaws.{field-put_outside}

@@ -14,7 +14,6 @@ use Rattle.kind_math.specs.Dividers.{div_setting}
 use Rattle.kind_math.specs.Plls.{pll_multiplier}
 use Rattle.reg_bank.specs.Registers.{Registers, put, with_bits}
 use Rattle.clk_model.specs.declared.row.ClockRow.{ClockRow}
-use Rattle.clk_model.specs.declared.row.HandleRow.{HandleRow}
 use Rattle.clk_model.specs.Chain.{moves, place_of, select, setting, set_one, outcome, chain_within, keeps_boundaries, chain}
 use Rattle.clk_model.specs.Kinds.{mux_field}
 use Rattle.clk_model.specs.Lists.{is_at}
@@ -24,15 +23,11 @@ use Rattle.clk_model.specs.State.{ChainStep, link_in, registered}
 use Rattle.clk_model.specs.Walk.{walk}
 use Rattle.clk_model.proofs.SameSettingLaws.{outcome_defs, then_same, within_same}
 use Rattle.clk_tree.specs.TreeState.{TreeState}
-use Rattle.counts_core.specs.Counted.{CountState, is_guarded}
 use Rattle.rate_planner.specs.declared.rounded.Rounded as code
 use Rattle.rate_planner.specs.Kept.{Told, wired}
 use Rattle.rate_planner.specs.Rounded.{rounded_of}
 use Rattle.rate_planner.specs.Walks.{at_rate, parent_chain, walked_rates}
-use Rattle.core_parts.specs.Free.{freed, free_seen}
 use Rattle.core_parts.specs.Tied.{AreKept}
-use Rattle.core_parts.specs.Seen.{seen}
-use Rattle.core_parts.proofs.FreeView.{free_unguarded}
 use Rattle.core_parts.proofs.RegisteredTree.{rate-take}
 use Rattle.core_parts.proofs.WindowLaws.{take_set}
 
@@ -135,16 +130,15 @@ none_given None defs t v c x says = tt
 none_given (Some regs) defs t v c x says = ap (λ (o : Option ℕ). is_at (rate defs regs t.clocks c) o) says
 
 -- and so it is of a clock that isn't guarded, by its rounding alone
-pub unguarded_given : (told : Option Registers) (defs : Description) (t : TreeState) (handles : List (Option HandleRow)) (k : CountState) (c x kept : ℕ) (first : Option code.Rounded) (same : Bool)
-    → is_guarded k c ≡ false → registered t.clocks c ≡ true → kept ≡ slice_index t.rates c → AreKept defs told t.clocks t.rates → same ≡ is_at kept (option_map (λ (r : code.Rounded). r.rate) first)
-    → IfSome told (λ regs. option_map rounded_of first ≡ round (wired defs regs t) (seen handles k) c x)
-    → IfSome told (λ regs. same ≡ is_at (rate defs regs t.clocks c) (round_rate (wired defs regs t) (free_seen handles k (freed t.clocks k c)) c x))
-unguarded_given None defs t handles k c x kept first same free there is rates tests says = tt
-unguarded_given (Some regs) defs t handles k c x kept first same free there is rates tests says =
+pub first_given : (told : Option Registers) (defs : Description) (t : TreeState) (v : View) (c x kept : ℕ) (first : Option code.Rounded) (same : Bool)
+    → registered t.clocks c ≡ true → kept ≡ slice_index t.rates c → AreKept defs told t.clocks t.rates → same ≡ is_at kept (option_map (λ (r : code.Rounded). r.rate) first)
+    → IfSome told (λ regs. option_map rounded_of first ≡ round (wired defs regs t) v c x)
+    → IfSome told (λ regs. same ≡ is_at (rate defs regs t.clocks c) (round_rate (wired defs regs t) v c x))
+first_given None defs t v c x kept first same there is rates tests says = tt
+first_given (Some regs) defs t v c x kept first same there is rates tests says =
     tests
     ∙ ap (λ (n : ℕ). is_at n (option_map (λ (r : code.Rounded). r.rate) first)) (is ∙ rates c there)
-    ∙ ap (λ (o : Option ℕ). is_at (rate defs regs t.clocks c) o) (by first ∙ ap (λ (o : Option Rounded). option_map (λ r. r.rate) o) says)
-    ∙ ap (λ (v : View). is_at (rate defs regs t.clocks c) (round_rate (wired defs regs t) v c x)) (sym (free_unguarded handles k t.clocks c free)) where
+    ∙ ap (λ (o : Option ℕ). is_at (rate defs regs t.clocks c) o) (by first ∙ ap (λ (o : Option Rounded). option_map (λ r. r.rate) o) says) where
       by : (o : Option code.Rounded) → option_map (λ (r : code.Rounded). r.rate) o ≡ option_map (λ (r : Rounded). r.rate) (option_map rounded_of o)
       by None = refl
       by (Some r) = refl

@@ -1,5 +1,5 @@
 -- What planning sees where one clock is free of what protects it.
-use Rattle.std.specs.Prelude.{ℕ, ◌==◌, ◌&&◌, List, [], not, Option, Some, None, if◌then◌else◌, option_and_then}
+use Rattle.std.specs.Prelude.{ℕ, ◌==◌, ◌&&◌, List, [], Bool, not, nat_lt, Option, Some, None, if◌then◌else◌, option_and_then}
 use Rattle.clk_base.specs.Levels.{depth}
 use Rattle.clk_model.specs.declared.row.ClockRow.{ClockRow}
 use Rattle.clk_model.specs.declared.row.HandleRow.{HandleRow}
@@ -22,3 +22,7 @@ freed clocks k c = if is_guarded k c then path_within (sole_parent (link_in cloc
 -- the boundaries that these handles set, and the clocks that these counts say are guarded, but for those that are free, and prepared
 abbrev pub free_seen : List (Option HandleRow) → CountState → List ℕ → View
 free_seen handles k free = record (seen handles k) { guarded = λ c. is_guarded k c && not (is_in c free) }
+
+-- whether an exclusive of a handle alone protects its clock, by these counts
+abbrev pub is_sole : HandleRow → CountState → Bool
+is_sole row k = nat_lt 0 row.exclusives && (protect_sum k row.clock.0 == 1)

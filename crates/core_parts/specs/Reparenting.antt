@@ -1,14 +1,16 @@
 -- Why a change of parent is refused, as the parts of a core tell it.
-use Rattle.std.specs.Prelude.{ℕ, ◌&&◌, ◌||◌, List, Bool, Option, Some, None, nat_le, is_some, length, if◌then◌else◌}
+use Rattle.std.specs.Prelude.{ℕ, ◌&&◌, ◌||◌, List, Bool, not, Option, Some, None, nat_le, is_some, length, if◌then◌else◌}
 use Rattle.clk_base.specs.declared.event.Errno.{Errno}
 use Rattle.clk_base.specs.declared.event.Errno.TheVariants as errno
 use Rattle.clk_base.specs.Description.{Description, kind_of, parents_of}
 use Rattle.clk_base.specs.Flags.{sets_parent_gate}
 use Rattle.clk_model.specs.declared.row.ClockRow.{ClockRow}
+use Rattle.clk_model.specs.declared.row.HandleRow.{HandleRow}
 use Rattle.clk_model.specs.Kinds.{mux_field, is_read_only}
 use Rattle.clk_model.specs.Lists.{is_in}
 use Rattle.clk_model.specs.Tree.{rooted}
 use Rattle.counts_core.specs.Counted.{CountState, is_guarded, is_prepared}
+use Rattle.core_parts.specs.Free.{is_sole}
 
 -- a mux that is only read, with two possible parents or more
 abbrev pub is_bound : Description → ℕ → Bool
@@ -23,7 +25,8 @@ abbrev pub first_cause : Bool → Bool → Bool → Option Errno
 first_cause bound busy candidate =
     if bound then Some errno.EPERM else (if busy then Some errno.EBUSY else (if candidate then None else Some errno.EINVAL))
 
--- why a clock doesn't get another parent, by these counts, if it doesn't
-abbrev pub parent_refusal : Description → List ClockRow → CountState → ℕ → ℕ → Option Errno
-parent_refusal defs clocks k c p =
-    first_cause (is_bound defs c) ((sets_parent_gate defs c && is_prepared k c) || is_guarded k c) (is_candidate defs clocks c p)
+-- why the clock of a handle doesn't get another parent, by these counts, if it doesn't; one exclusive of the handle doesn't count
+abbrev pub parent_refusal : Description → List ClockRow → CountState → HandleRow → ℕ → Option Errno
+parent_refusal defs clocks k row p =
+    first_cause (is_bound defs row.clock.0) ((sets_parent_gate defs row.clock.0 && is_prepared k row.clock.0) || (is_guarded k row.clock.0 && not (is_sole row k)))
+    (is_candidate defs clocks row.clock.0 p)

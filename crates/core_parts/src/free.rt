@@ -5,10 +5,13 @@ ghost use Rattle.clk_model.specs.Lists.{is_in};
 ghost use Rattle.clk_model.specs.State.{link_in};
 ghost use Rattle.clk_model.specs.Tree.{path_within};
 ghost use Rattle.counts_core.specs.Counted.{AreCounts, protect_sum};
-ghost use Rattle.core_parts.specs.Free.{sole_parent, freed, free_seen};
+ghost use Rattle.core_parts.specs.Free.{sole_parent, freed, free_seen, is_sole};
+ghost use Rattle.core_parts.specs.Seen.{handles_seen};
 ghost use Rattle.core_parts.specs.Shape.{LinksLie};
 
+use crate::seen::{OtherRange, bounds_seen};
 use clk_base::{ClockId, depth};
+use clk_model::HandleRow;
 use clk_tree::{Tree, View};
 use counts_core::Counts;
 use rate_requests::Requests;
@@ -18,6 +21,7 @@ use rate_requests::Requests;
 #[derive(Drop)]
 pub(crate) struct FreeSeen<'a> {
     pub handles: &'a Requests,
+    pub ranged: Option<OtherRange>,
     pub counts: &'a Counts,
     pub tree: &'a Tree,
     pub clock: ClockId,
@@ -28,10 +32,10 @@ pub(crate) struct FreeSeen<'a> {
 impl<'a> View for FreeSeen<'a> {
     ghost size = { λ v. length v.counts.now.links };
 
-    ghost means = { λ v. free_seen v.handles.now.handles v.counts.now (path_within (link_in v.tree.now.clocks) v.many v.clock.0) };
+    ghost means = { λ v. free_seen (handles_seen v.ranged v.handles.now.handles) v.counts.now (path_within (link_in v.tree.now.clocks) v.many v.clock.0) };
 
     fn bounds(&self, c: ClockId) -> (u64, u64) {
-        self.handles.boundaries(c)
+        bounds_seen(self.handles, self.ranged, c)
     }
 
     fn guarded(&self, c: ClockId) -> bool {
@@ -91,4 +95,13 @@ pub(crate) fn freed_above(tree: &Tree, counts: &Counts, clock: ClockId) -> u32
         return 0;
     }
     sole_above(depth(), tree, counts, clock)
+}
+
+/// Whether an exclusive of a handle alone protects its clock.
+pub(crate) fn is_sole(counts: &Counts, row: HandleRow) -> bool
+    requires place { row.clock.0 < length counts.now.links }
+    ensures sole { result ≡ is_sole row counts.now }
+    ensures stands { AreCounts counts.now }
+{
+    counts.protected(row.clock) == 1 && row.exclusives > 0
 }

@@ -50,7 +50,7 @@ pub use lifting::decide_lifted;
 pub use linking::link_to;
 pub use movable::can_go_along;
 pub use passing::{pass_enables, pass_prepares};
-pub use planning::{decide_request, fits, go_on};
+pub use planning::{decide_request, fits, write_script};
 pub use plls::{
     Sought, is_unprepared, is_unprepared_under, next_to_lower, next_to_raise, next_to_raise_under,
 };
@@ -59,9 +59,9 @@ pub use power::{is_running, set_power};
 pub use register::{given_parent, register_clock};
 pub use reparenting::{is_linked, plan_move, refusal};
 pub use room::{ending, has_room, most_to_lower, most_to_raise};
-pub use rounding::round_seen;
+pub use rounding::round_lifted;
 pub use scripted::told_clocks;
-pub use seen::Seen;
+pub use seen::{OtherRange, Seen};
 pub use settling::settle_below;
 pub use visits::{set_along, set_to};
 pub use window::Window;

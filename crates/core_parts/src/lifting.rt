@@ -1,64 +1,66 @@
-//! A request for a rate where one exclusive hold of its own handle doesn't count.
+//! A request for a rate of which one exclusive of its own handle doesn't count.
 
-ghost use Rattle.std.specs.Prelude.{◌≡◌, ◌<◌, true, false, length, slice_index, IfOk};
+ghost use Rattle.std.specs.Prelude.{◌≡◌, ℕ, true, false, length, IfOk};
+ghost use Rattle.clk_model.specs.Laws.Lifting.{LiftedSees};
 ghost use Rattle.clk_model.specs.State.{State, registered};
-ghost use Rattle.counts_core.specs.Counted.{HasLinks, is_prepared};
+ghost use Rattle.clk_model.specs.Views.{lift};
+ghost use Rattle.counts_core.specs.Counted.{is_prepared};
 ghost use Rattle.core_parts.specs.Decisions.{decision_of};
-ghost use Rattle.core_parts.specs.Planned.{ArePlanned, IsAnswer, IsGiven, less_protected};
+ghost use Rattle.core_parts.specs.Planned.{AreItsNotifiers, ArePlanned, IsAnswer, IsGiven};
+ghost use Rattle.core_parts.specs.Seen.{handles_seen};
 ghost use Rattle.core_parts.specs.Tied.{AreTied};
 
 use crate::decision::Verdict;
 use crate::draft::Draft;
-use crate::planning::decide_request;
+use crate::free::{FreeSeen, freed_above, is_sole};
+use crate::planning::{decide_request, decide_unguarded};
 use crate::seen::Seen;
 use crate::window::Window;
 use clk_base::ValidDesc;
 use clk_io::NoMemory;
 use clk_model::HandleRow;
 use clk_tree::Tree;
-use counts_core::Counts;
 use notifiers::Notifiers;
-use rate_requests::Requests;
+use rate_planner::Rest;
 use reg_bank::Bank;
 
-/// What a request for a rate comes to, where one exclusive hold of a handle on the clock is lifted and
-/// put back. Want of memory is its one error.
+/// What a request for a rate comes to, if one exclusive of a handle on the clock doesn't count. If that
+/// exclusive alone protects the clock, the clock is free, and else all is as it is. Rests once a candidate.
+/// Want of memory is its one error.
 #[inline(always)]
-pub fn decide_lifted<B: Bank>(
+pub fn decide_lifted<B: Bank, W: Rest>(
     draft: &mut Draft,
     desc: &ValidDesc,
     window: &Window<B>,
     tree: &Tree,
-    handles: &Requests,
-    counts: &mut Counts,
+    view: &Seen,
+    rest: &W,
     notifiers: &Notifiers,
-    used: u64,
     row: HandleRow,
     wanted: u64,
 ) -> Result<Verdict, NoMemory>
     requires tied { AreTied desc.now window.now tree.now }
-    requires seen { length counts.old.links ≡ length tree.now.defs }
-    requires links { HasLinks tree.now.clocks counts.old.links }
+    requires seen { length view.now.counts.now.links ≡ length tree.now.defs }
     requires there { registered tree.now.clocks row.clock.0 ≡ true }
-    requires place { row.clock.0 < length counts.old.exclusives }
-    requires held { 0 < row.exclusives → 0 < slice_index counts.old.exclusives row.clock.0 }
-    requires few { slice_index counts.old.exclusives row.clock.0 < 8388608 }
-    ensures decides { IfOk result (λ verdict. (new lifted : State) → IsGiven desc.now window.now tree.now handles.now.handles (less_protected row counts.old) notifiers.now used new lifted → IsAnswer new lifted row.clock.0 wanted (decision_of draft.new verdict)) }
-    ensures there { IfOk result (λ verdict. ArePlanned tree.now (is_prepared counts.old) notifiers.now used false (decision_of draft.new verdict)) }
-    ensures same { counts.new ≡ counts.old }
+    ensures decides { IfOk result (λ verdict. (s : State) (number : ℕ) → IsGiven desc.now window.now tree.now (handles_seen view.now.ranged view.now.handles.now.handles) view.now.counts.now s → AreItsNotifiers notifiers.now s
+        → LiftedSees s number row → IsAnswer s (lift s number) row.clock.0 wanted (decision_of draft.new verdict)) }
+    ensures there { IfOk result (λ verdict. ArePlanned tree.now (is_prepared view.now.counts.now) notifiers.now false (decision_of draft.new verdict)) }
 {
     let clock = row.clock;
-    if row.exclusives == 0 {
-        let view = Seen { handles, counts };
+    if !is_sole(view.counts, row) {
         return decide_request(
-            draft, desc, window, tree, &view, notifiers, used, clock, wanted,
+            draft, desc, window, tree, view, rest, notifiers, clock, wanted,
         );
     }
-    counts.unprotect(tree, clock);
-    let view = Seen { handles, counts };
-    let decided = decide_request(
-        draft, desc, window, tree, &view, notifiers, used, clock, wanted,
-    );
-    counts.protect(tree, clock);
-    decided
+    let free = FreeSeen {
+        handles: view.handles,
+        ranged: view.ranged,
+        counts: view.counts,
+        tree,
+        clock,
+        many: freed_above(tree, view.counts, clock),
+    };
+    decide_unguarded(
+        draft, desc, window, tree, &free, rest, notifiers, clock, wanted,
+    )
 }

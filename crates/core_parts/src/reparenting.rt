@@ -1,20 +1,19 @@
 //! Whether a clock can get another parent, and the plan of its change of parent.
 
-ghost use Rattle.std.specs.Prelude.{◌≡◌, ◌≢◌, ◌<◌, ◌&&◌, true, false, length, slice_index, Some, IfSome, OnOk};
+ghost use Rattle.std.specs.Prelude.{◌≡◌, ◌≢◌, ◌<◌, true, false, length, Some, IfSome, OnOk};
 ghost use Rattle.clk_base.specs.Description.{parents_of};
 ghost use Rattle.clk_base.specs.Flags as flags;
 ghost use Rattle.clk_base.specs.Places.{places};
 ghost use Rattle.clk_model.specs.Lists.{is_in, is_at};
 ghost use Rattle.clk_model.specs.State.{registered, link_in};
-ghost use Rattle.counts_core.specs.Counted.{HasLinks, is_guarded};
 ghost use Rattle.rate_planner.specs.Kept.{wired};
 ghost use Rattle.clk_tree.specs.Plans.{AreThere};
 ghost use Rattle.rate_planner.specs.Walks.{parent_chain, walked_rates};
-ghost use Rattle.core_parts.specs.Planned.{less_protected};
 ghost use Rattle.core_parts.specs.Tied.{AreTied};
 ghost use Rattle.core_parts.specs.Reparenting.{is_bound, is_candidate, parent_refusal};
 
 use crate::draft::Draft;
+use crate::free::is_sole;
 use crate::window::Window;
 use bitflags::Flags;
 use clk_base::{ClkFlags, ClockId, Errno, Kind, ValidDesc};
@@ -69,44 +68,19 @@ pub(crate) fn is_candidate(desc: &ValidDesc, tree: &Tree, clock: ClockId, parent
         && tree.rooted(parent)
 }
 
-// Whether the clock of a handle is guarded where one exclusive hold of the handle is lifted and put
-// back.
-fn is_guarded_lifted(tree: &Tree, counts: &mut Counts, row: HandleRow) -> bool
-    requires links { HasLinks tree.now.clocks counts.old.links }
-    requires clock { row.clock.0 < length counts.old.links }
-    requires place { row.clock.0 < length counts.old.exclusives }
-    requires held { 0 < row.exclusives → 0 < slice_index counts.old.exclusives row.clock.0 }
-    requires few { slice_index counts.old.exclusives row.clock.0 < 8388608 }
-    ensures guarded { result ≡ is_guarded (less_protected row counts.old) row.clock.0 }
-    ensures same { counts.new ≡ counts.old }
-{
-    if row.exclusives == 0 {
-        return counts.protected(row.clock) > 0;
-    }
-    counts.unprotect(tree, row.clock);
-    let guarded = counts.protected(row.clock) > 0;
-    counts.protect(tree, row.clock);
-    guarded
-}
-
-/// Why the clock of a handle doesn't get another parent, if it doesn't. One exclusive hold of the handle
+/// Why the clock of a handle doesn't get another parent, if it doesn't. One exclusive of the handle
 /// doesn't count.
 pub fn refusal(
     desc: &ValidDesc,
     tree: &Tree,
-    counts: &mut Counts,
+    counts: &Counts,
     row: HandleRow,
     parent: ClockId,
 ) -> Option<Errno>
     requires made { desc.now.defs ≡ tree.now.defs }
     requires lies { row.clock.0 < length desc.now.defs }
-    requires links { HasLinks tree.now.clocks counts.old.links }
-    requires clock { row.clock.0 < length counts.old.links }
-    requires place { row.clock.0 < length counts.old.exclusives }
-    requires held { 0 < row.exclusives → 0 < slice_index counts.old.exclusives row.clock.0 }
-    requires few { slice_index counts.old.exclusives row.clock.0 < 8388608 }
-    ensures cause { result ≡ parent_refusal desc.now.defs tree.now.clocks (less_protected row counts.old) row.clock.0 parent.0 }
-    ensures same { counts.new ≡ counts.old }
+    requires clock { row.clock.0 < length counts.now.links }
+    ensures cause { result ≡ parent_refusal desc.now.defs tree.now.clocks counts.now row parent.0 }
 {
     if is_bound(desc, row.clock) {
         return Some(Errno::EPERM);
@@ -114,7 +88,7 @@ pub fn refusal(
     if keeps_parent(desc, row.clock) && counts.prepared(row.clock) > 0 {
         return Some(Errno::EBUSY);
     }
-    if is_guarded_lifted(tree, counts, row) {
+    if counts.protected(row.clock) > 0 && !is_sole(counts, row) {
         return Some(Errno::EBUSY);
     }
     if is_candidate(desc, tree, row.clock, parent) {

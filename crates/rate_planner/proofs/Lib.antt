@@ -8,3 +8,4 @@ pub mod ListSteps
 pub mod Walking
 pub mod PlanLaws
 pub mod ParentPlans
+pub mod Gates

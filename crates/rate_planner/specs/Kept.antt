@@ -2,6 +2,7 @@
 use Rattle.std.specs.Prelude.{◌≡◌, ℕ, true, Option, IfSome, slice_index}
 use Rattle.clk_base.specs.Description.{Description}
 use Rattle.reg_bank.specs.Registers.{Registers}
+use Rattle.clk_model.specs.Prep.{masked}
 use Rattle.clk_model.specs.Rate.{rate}
 use Rattle.clk_model.specs.Round.{Wiring}
 use Rattle.clk_model.specs.State.{registered}
@@ -22,3 +23,7 @@ Always defs t P = (regs : Registers) → KeepsRates defs regs t → P (wired def
 -- what holds of the tree with the registers that a bank tells, where it keeps their rates
 abbrev pub Told : Option Registers → Description → TreeState → (Wiring → Type 0) → Type 0
 Told told defs t P = IfSome told (λ regs. KeepsRates defs regs t → P (wired defs regs t))
+
+-- and with any others that differ from those in the bits of gates alone
+abbrev pub ToldButGates : Option Registers → Description → TreeState → (Wiring → Type 0) → Type 0
+ToldButGates told defs t P = IfSome told (λ regs. KeepsRates defs regs t → (other : Registers) → masked defs other ≡ masked defs regs → P (wired defs other t))

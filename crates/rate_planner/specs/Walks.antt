@@ -1,6 +1,6 @@
 -- The rates that a plan gives the clocks of its walk.
 use Rattle.std.specs.Prelude.{◌≡◌, ℕ, ◌==◌, ◌++◌, List, [], ◌∷◌, true, not, Bool, if◌then◌else◌, map, flat_map, Option, Some, IfSome}
-use Rattle.std.specs.List.{AllByRecursion, list_any}
+use Rattle.std.specs.List.{list_any}
 use Rattle.clk_base.specs.Description.{Description, kind_of}
 use Rattle.reg_bank.specs.Registers.{Registers}
 use Rattle.clk_model.specs.declared.row.ClockRow.{ClockRow}
@@ -8,7 +8,7 @@ use Rattle.clk_model.specs.Lists.{is_in}
 use Rattle.clk_model.specs.Rate.{rate_over}
 use Rattle.clk_model.specs.Round.{Wiring, rate_in}
 use Rattle.clk_model.specs.Chain.{moves, outcome}
-use Rattle.clk_model.specs.State.{ChainStep, registered}
+use Rattle.clk_model.specs.State.{ChainStep}
 use Rattle.clk_model.specs.Walk.{below_within, kids_after, moves_away, walk}
 use Rattle.clk_tree.specs.Plans.{ClockRate}
 use Rattle.clk_tree.specs.TreeState.{TreeState}

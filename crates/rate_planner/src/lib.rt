@@ -23,6 +23,7 @@ mod walk;
 pub use parent::plan_parent;
 pub use planning::Planning;
 pub use request::{plan, plan_from, plan_now};
+pub use rest::{NoRest, Pausing, Rest};
 pub use rounded::Rounded;
-pub use rounding::{first_rounding, round, round_now};
+pub use rounding::{first_rounding, round, round_now, round_resting};
 pub use settings::setting;

@@ -7,7 +7,7 @@ ghost use Rattle.clk_model.specs.Chain.{chain_within};
 ghost use Rattle.clk_model.specs.Round.{round};
 ghost use Rattle.clk_model.specs.State.{registered};
 ghost use Rattle.rate_planner.specs.Chains.{AllThere};
-ghost use Rattle.rate_planner.specs.Kept.{Told};
+ghost use Rattle.rate_planner.specs.Kept.{Told, ToldButGates};
 ghost use Rattle.rate_planner.specs.Rounded.{rounded_of, NamesRegistered};
 ghost use Rattle.clk_tree.specs.Plans.{AreThere};
 ghost use Rattle.rate_planner.specs.Walks.{walked_rates};
@@ -93,7 +93,7 @@ fn plan_rounded<B: Bank, V: View, W: Rest>(
 }
 
 // The plan of a request for a rate.
-fn plan_resting<B: Bank, V: View, W: Rest>(
+fn plan_told<B: Bank, V: View, W: Rest>(
     planning: &mut Planning,
     desc: &ValidDesc,
     tree: &Tree,
@@ -116,6 +116,34 @@ fn plan_resting<B: Bank, V: View, W: Rest>(
     plan_rounded(planning, desc, tree, bank, view, rest, c, x, first)
 }
 
+// The plan of a request for a rate. The bits of gates make no difference to it.
+fn plan_resting<B: Bank, V: View, W: Rest>(
+    planning: &mut Planning,
+    desc: &ValidDesc,
+    tree: &Tree,
+    bank: &B,
+    view: &V,
+    rest: &W,
+    c: ClockId,
+    x: u64,
+) -> Result<bool, NoMemory>
+    requires made { desc.now.defs ≡ tree.now.defs }
+    requires bank { desc.now.words ≤ B.size bank.now }
+    requires seen { V.size view.now ≡ length tree.now.defs }
+    requires there { registered tree.now.clocks c.0 ≡ true }
+    ensures chain { IfOk result (λ found. Told (B.contents bank.now) desc.now.defs tree.now (λ w. (if found then Some planning.new.plan.chain else None) ≡ chain.chain w (V.means view.now) c.0 x)) }
+    ensures rates { IfOk result (λ found. found ≡ true → Told (B.contents bank.now) desc.now.defs tree.now (λ w. planning.new.plan.rates ≡ walked_rates tree.now.order w planning.new.plan.chain)) }
+    ensures gates { IfOk result (λ found. ToldButGates (B.contents bank.now) desc.now.defs tree.now (λ w. (if found then Some planning.new.plan.chain else None) ≡ chain.chain w (V.means view.now) c.0 x)) }
+    ensures rates_but_gates { IfOk result (λ found. found ≡ true → ToldButGates (B.contents bank.now) desc.now.defs tree.now (λ w. planning.new.plan.rates ≡ walked_rates tree.now.order w planning.new.plan.chain)) }
+    ensures set_parent { OnOk result (planning.new.plan.set_parent ≡ false) }
+    ensures there { IfOk result (λ found. found ≡ true → AreThere tree.now.clocks planning.new.plan.rates) }
+{
+    // The clauses of these two calls say that the description is valid and that the tree stands.
+    let _size = desc.len();
+    let _there = tree.registered(c);
+    plan_told(planning, desc, tree, bank, view, rest, c, x)
+}
+
 /// Works out the plan of a request for a rate. Answers whether there is one; where there is none, what
 /// is left of it says nothing. Pauses at `Place::Planning` once a candidate. Want of memory is its
 /// one refusal.
@@ -136,6 +164,8 @@ pub fn plan<R: Wait + Sync, B: Bank, V: View, Q: Pause>(
     requires there { registered tree.now.clocks c.0 ≡ true }
     ensures chain { IfOk result (λ found. Told (B.contents bank.now) desc.now.defs tree.now (λ w. (if found then Some planning.new.plan.chain else None) ≡ chain.chain w (V.means view.now) c.0 x)) }
     ensures rates { IfOk result (λ found. found ≡ true → Told (B.contents bank.now) desc.now.defs tree.now (λ w. planning.new.plan.rates ≡ walked_rates tree.now.order w planning.new.plan.chain)) }
+    ensures gates { IfOk result (λ found. ToldButGates (B.contents bank.now) desc.now.defs tree.now (λ w. (if found then Some planning.new.plan.chain else None) ≡ chain.chain w (V.means view.now) c.0 x)) }
+    ensures rates_but_gates { IfOk result (λ found. found ≡ true → ToldButGates (B.contents bank.now) desc.now.defs tree.now (λ w. planning.new.plan.rates ≡ walked_rates tree.now.order w planning.new.plan.chain)) }
     ensures set_parent { OnOk result (planning.new.plan.set_parent ≡ false) }
     ensures there { IfOk result (λ found. found ≡ true → AreThere tree.now.clocks planning.new.plan.rates) }
 {
@@ -168,21 +198,24 @@ pub fn plan_now<B: Bank, V: View>(
     requires there { registered tree.now.clocks c.0 ≡ true }
     ensures chain { IfOk result (λ found. Told (B.contents bank.now) desc.now.defs tree.now (λ w. (if found then Some planning.new.plan.chain else None) ≡ chain.chain w (V.means view.now) c.0 x)) }
     ensures rates { IfOk result (λ found. found ≡ true → Told (B.contents bank.now) desc.now.defs tree.now (λ w. planning.new.plan.rates ≡ walked_rates tree.now.order w planning.new.plan.chain)) }
+    ensures gates { IfOk result (λ found. ToldButGates (B.contents bank.now) desc.now.defs tree.now (λ w. (if found then Some planning.new.plan.chain else None) ≡ chain.chain w (V.means view.now) c.0 x)) }
+    ensures rates_but_gates { IfOk result (λ found. found ≡ true → ToldButGates (B.contents bank.now) desc.now.defs tree.now (λ w. planning.new.plan.rates ≡ walked_rates tree.now.order w planning.new.plan.chain)) }
     ensures set_parent { OnOk result (planning.new.plan.set_parent ≡ false) }
     ensures there { IfOk result (λ found. found ≡ true → AreThere tree.now.clocks planning.new.plan.rates) }
 {
     plan_resting(planning, desc, tree, bank, view, &NoRest, c, x)
 }
 
-/// Works out the plan of a request for a rate as `plan` does, without a pause, where the clock would
-/// be rounded so for the request (`first_rounding`). Nothing is said of the plan over another
-/// rounding, but that its clocks are registered. Want of memory is its one refusal.
-pub fn plan_from<B: Bank, V: View>(
+/// Works out the plan of a request for a rate as `plan` does, where the clock would be rounded so for
+/// the request (`first_rounding`). Nothing is said of the plan over another rounding, but that its
+/// clocks are registered. Rests once a candidate. Want of memory is its one refusal.
+pub fn plan_from<B: Bank, V: View, W: Rest>(
     planning: &mut Planning,
     desc: &ValidDesc,
     tree: &Tree,
     bank: &B,
     view: &V,
+    rest: &W,
     c: ClockId,
     x: u64,
     first: Option<Rounded>,
@@ -199,5 +232,5 @@ pub fn plan_from<B: Bank, V: View>(
     ensures set_parent { OnOk result (planning.new.plan.set_parent ≡ false) }
     ensures there { IfOk result (λ found. found ≡ true → AreThere tree.now.clocks planning.new.plan.rates) }
 {
-    plan_rounded(planning, desc, tree, bank, view, &NoRest, c, x, first)
+    plan_rounded(planning, desc, tree, bank, view, rest, c, x, first)
 }

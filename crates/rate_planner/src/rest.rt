@@ -1,16 +1,16 @@
-//! Pausing between candidates.
+//! What is done between the candidates of a rounding.
 
 use clk_base::{Pause, Place};
 use std::sync::Wait;
 
-/// What planning does once a candidate. It promises nothing.
-pub(crate) trait Rest {
+/// What rounding and planning do once a candidate. It promises nothing.
+pub trait Rest {
     fn rest(&self);
 }
 
 /// Goes on at once.
 #[derive(Drop)]
-pub(crate) struct NoRest;
+pub struct NoRest;
 
 impl Rest for NoRest {
     fn rest(&self) {}
@@ -18,9 +18,9 @@ impl Rest for NoRest {
 
 /// Pauses at `Place::Planning`.
 #[derive(Drop)]
-pub(crate) struct Pausing<'a, R, Q> {
-    pub(crate) rt: &'a R,
-    pub(crate) pause: &'a Q,
+pub struct Pausing<'a, R, Q> {
+    pub rt: &'a R,
+    pub pause: &'a Q,
 }
 
 impl<'a, R: Wait + Sync, Q: Pause> Rest for Pausing<'a, R, Q> {

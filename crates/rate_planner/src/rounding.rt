@@ -34,7 +34,7 @@ pub(crate) fn rounding<V: View, W: Rest>(
 }
 
 // The rate that a clock would get for a request.
-fn round_resting<V: View, W: Rest>(
+fn round_told<V: View, W: Rest>(
     desc: &ValidDesc,
     tree: &Tree,
     view: &V,
@@ -53,6 +53,26 @@ fn round_resting<V: View, W: Rest>(
     }
 }
 
+/// The rate in Hz that a clock would get for a request; none where it can't be given one. Rests once a
+/// candidate. Takes no memory.
+pub fn round_resting<B: Bank, V: View, W: Rest>(
+    desc: &ValidDesc,
+    tree: &Tree,
+    _bank: &B,
+    view: &V,
+    rest: &W,
+    c: ClockId,
+    x: u64,
+) -> Option<u64>
+    requires made { desc.now.defs ≡ tree.now.defs }
+    requires seen { V.size view.now ≡ length tree.now.defs }
+    requires there { registered tree.now.clocks c.0 ≡ true }
+    ensures rate { Told (B.contents _bank.now) desc.now.defs tree.now (λ w. result ≡ model.round_rate w (V.means view.now) c.0 x) }
+    ensures reads { Always desc.now.defs tree.now (λ w. result ≡ model.round_rate w (V.means view.now) c.0 x) }
+{
+    round_told(desc, tree, view, rest, c, x)
+}
+
 /// The rate in Hz that a clock would get for a request; none where it can't be given one. Pauses at
 /// `Place::Planning` once a candidate. Takes no memory.
 pub fn round<R: Wait + Sync, B: Bank, V: View, Q: Pause>(
@@ -69,8 +89,9 @@ pub fn round<R: Wait + Sync, B: Bank, V: View, Q: Pause>(
     requires seen { V.size view.now ≡ length tree.now.defs }
     requires there { registered tree.now.clocks c.0 ≡ true }
     ensures rate { Told (B.contents _bank.now) desc.now.defs tree.now (λ w. result ≡ model.round_rate w (V.means view.now) c.0 x) }
+    ensures reads { Always desc.now.defs tree.now (λ w. result ≡ model.round_rate w (V.means view.now) c.0 x) }
 {
-    round_resting(desc, tree, view, &Pausing { rt, pause }, c, x)
+    round_resting(desc, tree, _bank, view, &Pausing { rt, pause }, c, x)
 }
 
 /// The rate in Hz that a clock would get for a request, as `round` tells it, without a pause. Takes
@@ -87,17 +108,20 @@ pub fn round_now<B: Bank, V: View>(
     requires seen { V.size view.now ≡ length tree.now.defs }
     requires there { registered tree.now.clocks c.0 ≡ true }
     ensures rate { Told (B.contents _bank.now) desc.now.defs tree.now (λ w. result ≡ model.round_rate w (V.means view.now) c.0 x) }
+    ensures reads { Always desc.now.defs tree.now (λ w. result ≡ model.round_rate w (V.means view.now) c.0 x) }
 {
-    round_resting(desc, tree, view, &NoRest, c, x)
+    round_resting(desc, tree, _bank, view, &NoRest, c, x)
 }
 
-/// How a clock would be rounded for a request, without a pause: the rate that `round_now` tells, with
-/// the parent that gives it. A plan for the request begins with it (`plan_from`). Takes no memory.
-pub fn first_rounding<B: Bank, V: View>(
+/// How a clock would be rounded for a request: the rate that `round_resting` tells, with the parent that
+/// gives it. A plan for the request begins with it (`plan_from`). Rests once a candidate. Takes no
+/// memory.
+pub fn first_rounding<B: Bank, V: View, W: Rest>(
     desc: &ValidDesc,
     tree: &Tree,
     _bank: &B,
     view: &V,
+    rest: &W,
     c: ClockId,
     x: u64,
 ) -> Option<Rounded>
@@ -105,7 +129,8 @@ pub fn first_rounding<B: Bank, V: View>(
     requires seen { V.size view.now ≡ length tree.now.defs }
     requires there { registered tree.now.clocks c.0 ≡ true }
     ensures rounding { Told (B.contents _bank.now) desc.now.defs tree.now (λ w. option_map rounded_of result ≡ model.round w (V.means view.now) c.0 x) }
+    ensures reads { Always desc.now.defs tree.now (λ w. option_map rounded_of result ≡ model.round w (V.means view.now) c.0 x) }
     ensures names { NamesRegistered tree.now.clocks result }
 {
-    rounding(desc, tree, view, &NoRest, c, x)
+    rounding(desc, tree, view, rest, c, x)
 }

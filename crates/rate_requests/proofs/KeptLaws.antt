@@ -8,10 +8,10 @@ use Rattle.clk_model.specs.declared.row.HandleRow.{HandleRow}
 use Rattle.clk_model.specs.State.{handle_at}
 use Rattle.clk_model.specs.Round.{most_rate}
 use Rattle.rate_requests.specs.declared.span.Span.{Span}
-use Rattle.rate_requests.specs.Handles.{low_in, high_in, misses_in}
-use Rattle.rate_requests.specs.Spans.{has_number, misses_span, span_of, spans_from}
+use Rattle.rate_requests.specs.Handles.{low_in, high_in, misses_in, with_range_at}
+use Rattle.rate_requests.specs.Spans.{has_number, misses_span, span_of, spans_from, with_range}
 use Rattle.rate_requests.specs.Kept.{IsKept}
-use Rattle.rate_requests.proofs.Spanned.{swapped, spans_from-set, spans_from-kept, spans_from-push, replaced_at, map-spans_from, any-spans_from, any-swapped}
+use Rattle.rate_requests.proofs.Spanned.{swapped, spans_from-set, spans_from-kept, spans_from-push, spans_from-ranged, replaced_at, map-spans_from, any-spans_from, any-swapped}
 use Rattle.clk_model.proofs.Members.{test_same}
 use Rattle.clk_model.proofs.AboveLaws.{differs}
 
@@ -61,6 +61,21 @@ pub high_kept : (handles : List (Option HandleRow)) (spans : List (List Span)) (
 high_kept handles spans c kept =
     ap (λ (ss : List Span). fold min most_rate (map (λ s. s.max) ss)) (kept c)
     ∙ ap (fold min most_rate) (map-spans_from (λ s. s.max) (λ h. h.max) (λ k h. refl) c 0 handles)
+
+-- so they are, if a handle had another range
+pub low_ranged : (handles : List (Option HandleRow)) (spans : List (List Span)) (c n least most : ℕ) → IsKept handles spans
+    → fold max 0 (map (λ s. s.min) (map (with_range n least most) (get_or spans c []))) ≡ low_in (with_range_at handles n least most) c
+low_ranged handles spans c n least most kept =
+    ap (λ (ss : List Span). fold max 0 (map (λ s. s.min) (map (with_range n least most) ss))) (kept c)
+    ∙ ap (λ (ss : List Span). fold max 0 (map (λ s. s.min) ss)) (spans_from-ranged c 0 n n least most handles (omega arith))
+    ∙ ap (fold max 0) (map-spans_from (λ s. s.min) (λ h. h.min) (λ k h. refl) c 0 (with_range_at handles n least most))
+
+pub high_ranged : (handles : List (Option HandleRow)) (spans : List (List Span)) (c n least most : ℕ) → IsKept handles spans
+    → fold min most_rate (map (λ s. s.max) (map (with_range n least most) (get_or spans c []))) ≡ high_in (with_range_at handles n least most) c
+high_ranged handles spans c n least most kept =
+    ap (λ (ss : List Span). fold min most_rate (map (λ s. s.max) (map (with_range n least most) ss))) (kept c)
+    ∙ ap (λ (ss : List Span). fold min most_rate (map (λ s. s.max) ss)) (spans_from-ranged c 0 n n least most handles (omega arith))
+    ∙ ap (fold min most_rate) (map-spans_from (λ s. s.max) (λ h. h.max) (λ k h. refl) c 0 (with_range_at handles n least most))
 
 -- and a range misses another handle's where it misses another range of the clock
 pub misses_kept : (handles : List (Option HandleRow)) (spans : List (List Span)) (n least most : ℕ) (h : HandleRow) → IsKept handles spans → handle_at handles n ≡ Some h

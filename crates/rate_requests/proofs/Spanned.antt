@@ -6,12 +6,18 @@ use Rattle.std.specs.List.{list_any}
 use Rattle.std.proofs.lemmas.Bool.{cases_lt}
 use Rattle.std.proofs.lemmas.Bool.Decides.{nat_tests}
 use Rattle.std.proofs.lemmas.List.{append_assoc, append-nil, get_or-map, map-set, get_or-set_same, get_or_past, length-set}
+use Rattle.std.specs.Option.{option_map}
+use Rattle.clk_model.specs.State.{handle_at}
 use Rattle.clk_model.specs.declared.row.HandleRow.{HandleRow}
 use Rattle.rate_requests.specs.declared.span.Span.{Span}
 use Rattle.rate_requests.specs.Handles.{rows_on}
 use Rattle.rate_requests.specs.Spans.{lists, has_number, with_range, span_of, spans_from}
 use Rattle.clk_model.proofs.Members.{test_same}
 use Rattle.clk_model.proofs.AboveLaws.{differs}
+
+-- a row with another range
+abbrev pub with_limits : ℕ → ℕ → HandleRow → HandleRow
+with_limits least most h = record h { min = least; max = most }
 
 -- ---- one handle changes
 
@@ -91,6 +97,30 @@ filter-has_number m (s ∷ ss) =
       | true ↦ filter-has_number m ss
       | false ↦ ap (λ (xs : List Span). s ∷ xs) (filter-has_number m ss)
     ]
+
+-- a handle with another range replaces it among the ranges of its clock
+pub spans_from-ranged : (c k n m least most : ℕ) (hs : List (Option HandleRow)) → m ≡ k + n
+    → map (with_range m least most) (spans_from c k hs) ≡ spans_from c k (set hs n (option_map (with_limits least most) (handle_at hs n)))
+spans_from-ranged c k n m least most hs is = map-with_range m least most (spans_from c k hs) ∙ by k n hs is where
+  new : List Span
+  new = record { number = m; min = least; max = most } ∷ []
+
+  by : (k n : ℕ) (hs : List (Option HandleRow)) → m ≡ k + n → swapped m new (spans_from c k hs) ≡ spans_from c k (set hs n (option_map (with_limits least most) (handle_at hs n)))
+  by k n [] is = refl
+  by k zero (None ∷ hs) is = swapped-later m new c (suc k) hs (omega arith)
+  by k zero (Some h ∷ hs) is =
+      let same : m ≡ k = omega arith in
+      elim (nat_eq h.clock.0 c) as (λ t. swapped m new (cond t (record { number = k; min = h.min; max = h.max } ∷ []) [] ++ spans_from c (suc k) hs)
+      ≡ cond t (record { number = k; min = least; max = most } ∷ []) [] ++ spans_from c (suc k) hs) [
+        | true ↦
+            ap (λ (t : Bool). cond t (new ++ swapped m new (spans_from c (suc k) hs)) (record { number = k; min = h.min; max = h.max } ∷ swapped m new (spans_from c (suc k) hs))) (ap (nat_eq k) same ∙ test_same k)
+            ∙ ap (λ (ss : List Span). new ++ ss) (swapped-later m new c (suc k) hs (omega arith))
+            ∙ ap (λ (x : ℕ). let y : Span = record { number = x; min = least; max = most } in y ∷ spans_from c (suc k) hs) same
+        | false ↦ swapped-later m new c (suc k) hs (omega arith)
+      ]
+  by k (suc n) (g ∷ hs) is =
+      swapped-other m new (spans_from c (suc k) hs) c k g (λ e. absurd (omega arith))
+      ∙ ap (λ (ss : List Span). span_of c k g ++ ss) (by (suc k) n hs (omega arith))
 
 -- ---- what the ranges tell
 

@@ -5,7 +5,7 @@ ghost use Rattle.clk_model.specs.State.{handle_at};
 
 use crate::held::{Held, row_of, take_row, write_row};
 use crate::span::{
-    Span, bounds_of, drop_span, fits_beside, no_spans, push_span, set_span, spans_on,
+    Span, bounds_of, bounds_with, drop_span, fits_beside, no_spans, push_span, set_span, spans_on,
 };
 use clk_base::{ClockId, Handle, ValidDesc};
 use clk_io::NoMemory;
@@ -124,6 +124,15 @@ impl Requests {
         ensures high { result.1 ≡ high_in self.now.handles c.0 }
     {
         bounds_of(spans_on(&self.spans, c))
+    }
+
+    /// The greatest minimum and the least maximum in Hz over the handles of a clock, if a live handle had
+    /// another range.
+    pub fn boundaries_with(&self, c: ClockId, h: Handle, least: u64, most: u64) -> (u64, u64)
+        ensures low { result.0 ≡ low_in (with_range_at self.now.handles h.number least most) c.0 }
+        ensures high { result.1 ≡ high_in (with_range_at self.now.handles h.number least most) c.0 }
+    {
+        bounds_with(spans_on(&self.spans, c), h.number, least, most)
     }
 
     /// Whether a range in Hz isn't empty and misses that of no other live handle of the clock.

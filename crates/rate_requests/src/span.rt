@@ -100,6 +100,22 @@ fn with_range(span: Span, number: u32, min: u64, max: u64) -> Span
     }
 }
 
+/// The greatest minimum and the least maximum of these ranges in Hz, if the handle of this number had
+/// another range.
+pub(crate) fn bounds_with(spans: &[Span], number: u32, least: u64, most: u64) -> (u64, u64)
+    ensures low { result.0 ≡ fold max 0 (map (λ s. s.min) (map (with_range number least most) spans.now)) }
+    ensures high { result.1 ≡ fold min most_rate (map (λ s. s.max) (map (with_range number least most) spans.now)) }
+{
+    let mut low = 0;
+    let mut high = u64::MAX;
+    for span in spans {
+        let ranged = with_range(*span, number, least, most);
+        low = low.max(ranged.min);
+        high = high.min(ranged.max);
+    }
+    (low, high)
+}
+
 // Gives the handle of this number another range.
 fn set_range(spans: &mut [Span], number: u32, min: u64, max: u64)
     ensures { spans.new ≡ map (with_range number min max) spans.old }

@@ -115,7 +115,7 @@ impl<B: Bank> Machine<B> {
     }
 
     // No steps.
-    fn no_steps(&self) -> Vec<Micro>
+    pub(super) fn no_steps(&self) -> Vec<Micro>
         ensures { result.items ≡ [] }
     {
         Vec::new(self.alloc)

@@ -1,11 +1,10 @@
-//! The calls that are answered at once: getting a handle and putting it back, and what is told of its
-//! clock.
+//! Getting a handle and putting it back, which are answered at once, and what is told of a clock.
 
 ghost use Rattle.std.specs.Prelude.{◌≡◌, ◌<◌, true, false, length, IfOk, OnErr};
 ghost use Rattle.std.specs.Option.{ForSome, option_map};
 ghost use Rattle.clk_base.specs.declared.event.Event.TheVariants.{Begin};
 ghost use Rattle.clk_base.specs.declared.event.Turn.TheVariants.{Done};
-ghost use Rattle.clk_base.specs.declared.call.Sleeping.TheVariants.{Get, Put, GetRate, GetParent};
+ghost use Rattle.clk_base.specs.declared.call.Sleeping.TheVariants.{Get, Put};
 ghost use Rattle.clk_model.specs.State.{State, registered, link_in};
 ghost use Rattle.clk_model.specs.Tree.{rooted};
 ghost use Rattle.clk_model.specs.Rate.{rate};
@@ -74,40 +73,10 @@ impl<B: Bank> Machine<B> {
         self.tree.rate(clock)
     }
 
-    /// Tells the rate of a handle's clock in Hz.
-    pub(crate) fn rate(&mut self, driver: u32, handle: Handle) -> Reply
-        requires credit { self.old.spent < self.old.credits }
-        requires quiet { self.old.flight.going ≡ false }
-        ensures { Enters self.old driver (Begin (GetRate handle)) (Done result) self.new }
-    {
-        let Some(row) = self.own(driver, handle) else {
-            self.spend();
-            return Reply::Refused(Errno::ENOENT);
-        };
-        let rate = self.rate_of(row.clock);
-        self.spend();
-        Reply::Rate(rate)
-    }
-
-    // The parent that a clock is attached to.
-    fn parent_of(&self, clock: ClockId) -> Option<ClockId>
+    /// The parent that a clock is attached to.
+    pub(super) fn parent_of(&self, clock: ClockId) -> Option<ClockId>
         ensures { result ≡ option_map clock_id (link_in self.now.tree.clocks clock.0) }
     {
         self.tree.parent(clock)
-    }
-
-    /// Tells the parent that a handle's clock is attached to.
-    pub(crate) fn parent(&mut self, driver: u32, handle: Handle) -> Reply
-        requires credit { self.old.spent < self.old.credits }
-        requires quiet { self.old.flight.going ≡ false }
-        ensures { Enters self.old driver (Begin (GetParent handle)) (Done result) self.new }
-    {
-        let Some(row) = self.own(driver, handle) else {
-            self.spend();
-            return Reply::Refused(Errno::ENOENT);
-        };
-        let parent = self.parent_of(row.clock);
-        self.spend();
-        Reply::Clock(parent)
     }
 }

@@ -1,16 +1,25 @@
-//! How the calls that change a rate or a parent begin. Nothing is changed by the decision.
+//! How the calls that change a rate or a parent begin, if there is room for what they go on with. Nothing
+//! is changed by the decision.
 
-ghost use Rattle.std.specs.Prelude.{◌≡◌, ◌+◌, ◌<◌, true, false, max, min, IfOk};
+ghost use Rattle.std.specs.Prelude.{◌≡◌, true, false, max, min, IfOk};
 ghost use Rattle.clk_base.specs.declared.call.Sleeping.TheVariants.{SetRate, SetRateExclusive, SetRange};
 ghost use Rattle.clk_model.specs.Laws.PlansRead.{plans};
 ghost use Rattle.core_parts.specs.Decisions.{decision_of};
+ghost use Rattle.clk_machine.specs.Copied.{AreDecided, told_of};
 ghost use Rattle.clk_machine.specs.Deciding.{ArePlannedOver, Decided, IsOwned};
+ghost use Rattle.clk_machine.specs.Parts.{IsWhole};
 
 use super::Machine;
-use clk_base::{Errno, Handle, Sleeping};
+use crate::decision::Decision;
+use change_walk::StepList;
+use clk_base::{Errno, Handle, Reply, Sleeping};
 use clk_io::NoMemory;
-use core_parts::{Draft, Seen, Verdict, decide_lifted, decide_request};
+use clk_tree::Plan;
+use core_parts::{Draft, OtherRange, Seen, Verdict, decide_lifted, decide_request};
+use rate_planner::Rest;
 use reg_bank::Bank;
+use std::alloc::Global;
+use std::mem::replace;
 
 // A rate between two others.
 fn within(rate: u64, least: u64, most: u64) -> u64
@@ -19,30 +28,62 @@ fn within(rate: u64, least: u64, most: u64) -> u64
     rate.max(least).min(most)
 }
 
+// The decision that a verdict and a draft tell together. What the draft has goes over to it.
+fn taken_from(draft: &mut Draft, alloc: Global, verdict: Verdict) -> Decision
+    ensures { result ≡ told_of (decision_of draft.old verdict) }
+{
+    match verdict {
+        Verdict::Refused(errno) => Decision::Reply(Reply::Refused(errno)),
+        Verdict::AtOnce => Decision::Reply(Reply::Fine),
+        Verdict::Change => Decision::Script {
+            plan: replace(&mut draft.planning.plan, Plan::none(alloc)),
+            steps: replace(&mut draft.script, StepList::none(alloc)),
+        },
+    }
+}
+
 impl<B: Bank> Machine<B> {
+    /// Decides how a call begins that changes a rate or a parent, if there is room for what it goes on
+    /// with. Rests once a candidate. The one error is want of memory.
+    pub(crate) fn planned<W: Rest>(
+        &self,
+        rest: &W,
+        driver: u32,
+        what: Sleeping,
+    ) -> Result<Decision, NoMemory>
+        requires quiet { self.now.flight.going ≡ false }
+        requires plans { plans what ≡ true }
+        ensures decides { IfOk result (λ decision. AreDecided self.now driver what decision) }
+        ensures whole { IsWhole self.now }
+    {
+        let mut draft = Draft::none(self.alloc);
+        let verdict = self.decide(&mut draft, rest, driver, what)?;
+        Ok(taken_from(&mut draft, self.alloc, verdict))
+    }
+
     /// Decides how a call begins that changes a rate or a parent: it is refused, answered by Ok at once,
-    /// or goes on with a plan and its script, which are in the draft then.
-    pub(crate) fn decide(
-        &mut self,
+    /// or goes on with a plan and its script, which are in the draft then, if there is room. Rests once a
+    /// candidate.
+    pub(crate) fn decide<W: Rest>(
+        &self,
         draft: &mut Draft,
+        rest: &W,
         driver: u32,
         what: Sleeping,
     ) -> Result<Verdict, NoMemory>
-        requires credit { self.old.spent < self.old.credits }
-        requires quiet { self.old.flight.going ≡ false }
+        requires quiet { self.now.flight.going ≡ false }
         requires plans { plans what ≡ true }
-        ensures decides { IfOk result (λ verdict. Decided self.old driver what (decision_of draft.new verdict)) }
-        ensures there { IfOk result (λ verdict. ArePlannedOver self.old what (decision_of draft.new verdict)) }
-        ensures own { IfOk result (λ verdict. IsOwned self.old.table.handles driver what (decision_of draft.new verdict)) }
-        ensures same { self.new ≡ self.old }
+        ensures decides { IfOk result (λ verdict. Decided self.now driver what (decision_of draft.new verdict)) }
+        ensures there { IfOk result (λ verdict. ArePlannedOver self.now what (decision_of draft.new verdict)) }
+        ensures own { IfOk result (λ verdict. IsOwned self.now.table.handles driver what (decision_of draft.new verdict)) }
     {
         match what {
-            Sleeping::SetRate(handle, rate) => self.decide_rate(draft, driver, handle, rate),
+            Sleeping::SetRate(handle, rate) => self.decide_rate(draft, rest, driver, handle, rate),
             Sleeping::SetRateExclusive(handle, rate) => self.decide_exclusive(
-                draft, driver, handle, rate,
+                draft, rest, driver, handle, rate,
             ),
             Sleeping::SetRange(handle, least, most) => {
-                self.decide_range(draft, driver, handle, least, most)
+                self.decide_range(draft, rest, driver, handle, least, most)
             }
             Sleeping::SetParent(handle, parent) => self.decide_parent(
                 draft, driver, handle, parent,
@@ -51,55 +92,50 @@ impl<B: Bank> Machine<B> {
         }
     }
 
-    // The credits and the steps that were made.
-    pub(super) fn used(&self) -> u64
-        ensures { result ≡ self.now.credits + self.now.steps }
-    {
-        u64::from(self.credits) + u64::from(self.steps)
-    }
-
-    /// Decides how a request for a rate begins. One exclusive hold of the handle itself doesn't count.
-    pub(crate) fn decide_rate(
-        &mut self,
+    /// Decides how a request for a rate begins. One exclusive of the handle itself doesn't count.
+    fn decide_rate<W: Rest>(
+        &self,
         draft: &mut Draft,
+        rest: &W,
         driver: u32,
         handle: Handle,
         rate: u64,
     ) -> Result<Verdict, NoMemory>
-        requires credit { self.old.spent < self.old.credits }
-        requires quiet { self.old.flight.going ≡ false }
-        ensures decides { IfOk result (λ verdict. Decided self.old driver (SetRate handle rate) (decision_of draft.new verdict)) }
-        ensures there { IfOk result (λ verdict. ArePlannedOver self.old (SetRate handle rate) (decision_of draft.new verdict)) }
-        ensures own { IfOk result (λ verdict. IsOwned self.old.table.handles driver (SetRate handle rate) (decision_of draft.new verdict)) }
-        ensures same { self.new ≡ self.old }
+        requires quiet { self.now.flight.going ≡ false }
+        ensures decides { IfOk result (λ verdict. Decided self.now driver (SetRate handle rate) (decision_of draft.new verdict)) }
+        ensures there { IfOk result (λ verdict. ArePlannedOver self.now (SetRate handle rate) (decision_of draft.new verdict)) }
+        ensures own { IfOk result (λ verdict. IsOwned self.now.table.handles driver (SetRate handle rate) (decision_of draft.new verdict)) }
     {
         let Some(row) = self.own(driver, handle) else {
             return Ok(Verdict::Refused(Errno::ENOENT));
         };
-        let used = self.used();
+        let view = Seen {
+            handles: &self.handles,
+            ranged: None,
+            counts: &self.counts,
+        };
         decide_lifted(
             draft,
             &self.desc,
             &self.window,
             &self.tree,
-            &self.handles,
-            &mut self.counts,
+            &view,
+            rest,
             &self.notifiers,
-            used,
             row,
             rate,
         )
     }
 
-    /// Decides how a request for a rate begins that takes an exclusive hold of the handle.
-    pub(crate) fn decide_exclusive(
+    /// Decides how a request for a rate begins that takes an exclusive of the handle.
+    fn decide_exclusive<W: Rest>(
         &self,
         draft: &mut Draft,
+        rest: &W,
         driver: u32,
         handle: Handle,
         rate: u64,
     ) -> Result<Verdict, NoMemory>
-        requires credit { self.now.spent < self.now.credits }
         requires quiet { self.now.flight.going ≡ false }
         ensures decides { IfOk result (λ verdict. Decided self.now driver (SetRateExclusive handle rate) (decision_of draft.new verdict)) }
         ensures there { IfOk result (λ verdict. ArePlannedOver self.now (SetRateExclusive handle rate) (decision_of draft.new verdict)) }
@@ -108,9 +144,9 @@ impl<B: Bank> Machine<B> {
         let Some(row) = self.own(driver, handle) else {
             return Ok(Verdict::Refused(Errno::ENOENT));
         };
-        let used = self.used();
         let view = Seen {
             handles: &self.handles,
+            ranged: None,
             counts: &self.counts,
         };
         decide_request(
@@ -119,29 +155,28 @@ impl<B: Bank> Machine<B> {
             &self.window,
             &self.tree,
             &view,
+            rest,
             &self.notifiers,
-            used,
             row.clock,
             rate,
         )
     }
 
-    /// Decides how a request for a range begins: the last request is made anew within it. One exclusive
-    /// hold of the handle itself doesn't count.
-    pub(crate) fn decide_range(
-        &mut self,
+    /// Decides how a request for a range begins: the last request is made anew within it. One exclusive of
+    /// the handle itself doesn't count.
+    fn decide_range<W: Rest>(
+        &self,
         draft: &mut Draft,
+        rest: &W,
         driver: u32,
         handle: Handle,
         least: u64,
         most: u64,
     ) -> Result<Verdict, NoMemory>
-        requires credit { self.old.spent < self.old.credits }
-        requires quiet { self.old.flight.going ≡ false }
-        ensures decides { IfOk result (λ verdict. Decided self.old driver (SetRange handle least most) (decision_of draft.new verdict)) }
-        ensures there { IfOk result (λ verdict. ArePlannedOver self.old (SetRange handle least most) (decision_of draft.new verdict)) }
-        ensures own { IfOk result (λ verdict. IsOwned self.old.table.handles driver (SetRange handle least most) (decision_of draft.new verdict)) }
-        ensures same { self.new ≡ self.old }
+        requires quiet { self.now.flight.going ≡ false }
+        ensures decides { IfOk result (λ verdict. Decided self.now driver (SetRange handle least most) (decision_of draft.new verdict)) }
+        ensures there { IfOk result (λ verdict. ArePlannedOver self.now (SetRange handle least most) (decision_of draft.new verdict)) }
+        ensures own { IfOk result (λ verdict. IsOwned self.now.table.handles driver (SetRange handle least most) (decision_of draft.new verdict)) }
     {
         let Some(row) = self.own(driver, handle) else {
             return Ok(Verdict::Refused(Errno::ENOENT));
@@ -149,22 +184,26 @@ impl<B: Bank> Machine<B> {
         if !self.handles.fits(handle, least, most) {
             return Ok(Verdict::Refused(Errno::EINVAL));
         }
-        let used = self.used();
         let wanted = within(self.tree.last_request(row.clock), least, most);
-        self.handles.set_range(handle, least, most);
-        let decided = decide_lifted(
+        let view = Seen {
+            handles: &self.handles,
+            ranged: Some(OtherRange {
+                handle,
+                least,
+                most,
+            }),
+            counts: &self.counts,
+        };
+        decide_lifted(
             draft,
             &self.desc,
             &self.window,
             &self.tree,
-            &self.handles,
-            &mut self.counts,
+            &view,
+            rest,
             &self.notifiers,
-            used,
             row,
             wanted,
-        );
-        self.handles.set_range(handle, row.min, row.max);
-        decided
+        )
     }
 }

@@ -27,7 +27,7 @@ impl<B: Bank> Machine<B> {
     // Whether a PLL above a handle's clock would be powered without a prepare, were a prepare of the
     // handle given up. The counts are as they were afterwards. Where no line of possible parents has a
     // PLL, there is none above, and no path is walked.
-    fn frees_pll(&mut self, handle: Handle, row: HandleRow) -> bool
+    pub(super) fn frees_pll(&mut self, handle: Handle, row: HandleRow) -> bool
         requires live { handle_at self.old.table.handles handle.number ≡ Some row }
         requires some { 0 < row.prepares }
         ensures found { IfSome self.old.window.words (λ regs. result ≡ is_some (slice_get (lowerable self.old.desc.defs (released self.old.counts row.clock.0) regs (path self.old.tree.clocks row.clock.0)) 0)) }
@@ -51,7 +51,7 @@ impl<B: Bank> Machine<B> {
     }
 
     // Whether there is room for the entries of a lower and the end.
-    fn can_lower(&self) -> bool
+    pub(super) fn can_lower(&self) -> bool
         ensures { result ≡ nat_le (self.now.credits + self.now.steps + (plls self.now.desc.defs + 2)) most_credits }
     {
         let most = most_to_lower(self.tree.plls());

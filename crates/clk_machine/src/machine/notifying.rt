@@ -37,7 +37,7 @@ impl<B: Bank> Machine<B> {
     }
 
     // The notifier of this id less, if the clock has one, and whether it had.
-    fn remove_notifier(&mut self, clock: ClockId, id: u32) -> bool
+    pub(super) fn remove_notifier(&mut self, clock: ClockId, id: u32) -> bool
         requires credit { self.old.spent < self.old.credits }
         requires quiet { self.old.flight.going ≡ false }
         ensures had { result ≡ has_id id (chain_of self.old.chains clock.0) }

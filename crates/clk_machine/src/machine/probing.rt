@@ -62,7 +62,7 @@ impl<B: Bank> Machine<B> {
     }
 
     // Whether the registration of a clock goes on behind which these orphans are adopted.
-    fn goes_on(&self, clock: ClockId, orphans: &[ClockId]) -> bool
+    pub(super) fn goes_on(&self, clock: ClockId, orphans: &[ClockId]) -> bool
         requires place { clock.0 < length self.now.desc.defs }
         requires free { registered self.now.tree.clocks clock.0 ≡ false }
         ensures told { (s : State) → Stands self.now s → IsSound self.now.window.size s → places orphans.now ≡ adopted (register s clock.0) → result ≡ goes_on s clock.0 }
@@ -73,7 +73,7 @@ impl<B: Bank> Machine<B> {
     }
 
     // How many entries the steps of a registration may come to, and 2^64 - 1 where it is more.
-    fn weigh(&self, steps: &[Micro]) -> u64
+    pub(super) fn weigh(&self, steps: &[Micro]) -> u64
         ensures { result ≡ min (sum_by (step_weight (rows_from 0 self.now.chains) (plls self.now.desc.defs)) steps.now) (2 ^ 64 - 1) }
     {
         weigh(&self.notifiers, self.tree.plls(), steps)

@@ -23,7 +23,7 @@ impl<B: Bank> Machine<B> {
     }
 
     /// A live handle gets another range in Hz, and nothing else changes.
-    pub(super) fn write_range(&mut self, handle: Handle, row: HandleRow, least: u64, most: u64)
+    pub(crate) fn write_range(&mut self, handle: Handle, row: HandleRow, least: u64, most: u64)
         requires { handle_at self.old.table.handles handle.number ≡ Some row }
         ensures { self.new ≡ with_range self.old handle.number least most }
     {

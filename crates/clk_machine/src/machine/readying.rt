@@ -11,8 +11,8 @@ ghost use Rattle.clk_tree.specs.Plans.{AreThere};
 ghost use Rattle.clk_machine.specs.Readied.{AtOnce, Change, readied_of, scripted_of};
 ghost use Rattle.core_parts.specs.InFlight.{changes_rate, is_ranged};
 ghost use Rattle.clk_machine.specs.Parts.{own_in, IsOwnCall, IsWhole, steps_left};
-ghost use Rattle.clk_machine.specs.Readying.{CanBeginSo, CanGoAlong, IsReady, Scripts, StartsAlong, moves_well, weight_of};
-ghost use Rattle.clk_machine.specs.Stands.{Enters};
+ghost use Rattle.clk_machine.specs.Readying.{CanBeginSo, CanGoAlong, IsReady, LeadsSo, Scripts, StartsAlong, moves_well, weight_of};
+ghost use Rattle.clk_machine.specs.Stands.{Enters, Proceeds};
 
 use super::Machine;
 use crate::log::Log;
@@ -21,7 +21,8 @@ use clk_flight::Start;
 use clk_io::NoMemory;
 use clk_model::HandleRow;
 use clk_tree::Plan;
-use core_parts::{Draft, Verdict, can_go_along, told_clocks};
+use core_parts::{Draft, Verdict, can_go_along, fits, told_clocks};
+use rate_planner::NoRest;
 use reg_bank::Bank;
 
 // How many entries a call that was made ready may come to besides its own.
@@ -35,6 +36,13 @@ fn weight_of(draft: &Draft, verdict: Verdict) -> u64
 }
 
 impl<B: Bank> Machine<B> {
+    // How many credits and steps the entries so far may come to.
+    pub(super) fn used(&self) -> u64
+        ensures { result ≡ self.now.credits + self.now.steps }
+    {
+        u64::from(self.credits) + u64::from(self.steps)
+    }
+
     // Whether the moves of a plan can be made.
     fn can_move(&self, plan: &Plan) -> bool
         ensures moves { result ≡ moves_well self.now plan.now }
@@ -44,13 +52,20 @@ impl<B: Bank> Machine<B> {
         can_go_along(&self.desc, &self.tree, plan.set_parent, chain)
     }
 
-    // A plan with its script goes on, where its moves can be made: the clocks that it tells are found.
-    fn tell_clocks(&self, draft: &mut Draft) -> Result<Verdict, NoMemory>
+    // A plan with its script goes on, if there is room for the entries of its steps and its moves can be
+    // made: the clocks that it tells are found.
+    pub(super) fn tell_clocks(&self, draft: &mut Draft) -> Result<Verdict, NoMemory>
         requires there { AreThere self.now.tree.clocks draft.old.planning.plan.rates }
         ensures scripts { IfOk result (λ verdict. Scripts self.now draft.old.planning.plan draft.old.script (readied_of draft.new verdict)) }
         ensures whole { IsWhole self.now }
     {
-        if !self.can_move(&draft.planning.plan) {
+        let used = self.used();
+        let weight = draft.script.weight();
+        let moves = self.can_move(&draft.planning.plan);
+        if !fits(used, weight) {
+            return Ok(Verdict::Refused(Errno::ENOSPC));
+        }
+        if !moves {
             return Ok(Verdict::Refused(Errno::EINVAL));
         }
         let rates = draft.planning.plan.rates.as_slice();
@@ -59,22 +74,28 @@ impl<B: Bank> Machine<B> {
     }
 
     // Makes a call ready that changes a rate or a parent. Nothing is changed but the draft.
-    fn ready(&mut self, draft: &mut Draft, driver: u32, what: Sleeping) -> Result<Verdict, NoMemory>
-        requires credit { self.old.spent < self.old.credits }
-        requires quiet { self.old.flight.going ≡ false }
+    pub(super) fn ready(
+        &self,
+        draft: &mut Draft,
+        driver: u32,
+        what: Sleeping,
+    ) -> Result<Verdict, NoMemory>
+        requires credit { self.now.spent < self.now.credits }
+        requires quiet { self.now.flight.going ≡ false }
         requires changes { changes_rate what ≡ true }
-        ensures ready { IfOk result (λ verdict. IsReady self.old driver what (readied_of draft.new verdict)) }
-        ensures can { IfOk result (λ verdict. CanBeginSo self.old driver what (readied_of draft.new verdict)) }
-        ensures same { self.new ≡ self.old }
+        ensures ready { IfOk result (λ verdict. IsReady self.now driver what (readied_of draft.new verdict)) }
+        ensures can { IfOk result (λ verdict. CanBeginSo self.now driver what (readied_of draft.new verdict)) }
     {
-        match self.decide(draft, driver, what)? {
+        let verdict = self.decide(draft, &NoRest, driver, what)?;
+        match verdict {
+            Verdict::Refused(errno) => Ok(Verdict::Refused(errno)),
+            Verdict::AtOnce => Ok(Verdict::AtOnce),
             Verdict::Change => self.tell_clocks(draft),
-            verdict => Ok(verdict),
         }
     }
 
     // The row of a handle that is the driver's own.
-    fn known(&self, driver: u32, handle: Handle) -> HandleRow
+    pub(crate) fn known(&self, driver: u32, handle: Handle) -> HandleRow
         requires { is_some (own_in self.now.table.handles driver handle.number) ≡ true }
         ensures own { own_in self.now.table.handles driver handle.number ≡ Some result }
         ensures live { handle_at self.now.table.handles handle.number ≡ Some result }
@@ -86,16 +107,17 @@ impl<B: Bank> Machine<B> {
     }
 
     // Answers a call by Ok that changes a rate or a parent and has nothing to do.
-    fn answer_at_once(&mut self, driver: u32, what: Sleeping)
+    pub(super) fn answer_at_once(&mut self, driver: u32, what: Sleeping)
         requires credit { self.old.spent < self.old.credits }
         requires quiet { self.old.flight.going ≡ false }
         requires changes { changes_rate what ≡ true }
         requires own { IsOwnCall self.old.table.handles driver what }
-        requires ready { IsReady self.old driver what AtOnce }
-        ensures { Enters self.old driver (Begin what) (Done Fine) self.new }
+        ensures proceeds { Proceeds self.old driver (Begin what) (Done Fine) self.new }
+        ensures leads { LeadsSo self.old driver what AtOnce (Done Fine) self.new }
     {
         match what {
-            Sleeping::SetRate(_, _) | Sleeping::SetParent(_, _) => self.spend(),
+            Sleeping::SetRate(_, _) => self.spend(),
+            Sleeping::SetParent(_, _) => self.spend(),
             Sleeping::SetRateExclusive(handle, _) => {
                 let row = self.known(driver, handle);
                 self.add_exclusive(handle, row);
@@ -143,8 +165,8 @@ impl<B: Bank> Machine<B> {
         requires changes { changes_rate what ≡ true }
         requires unranged { is_ranged what ≡ false }
         requires can { CanGoAlong self.old driver what (scripted_of draft.old) }
-        requires ready { IsReady self.old driver what (Change (scripted_of draft.old)) }
-        ensures ok { OnOk result (Enters self.old driver (Begin what) Going self.new) }
+        ensures proceeds { OnOk result (Proceeds self.old driver (Begin what) Going self.new) }
+        ensures leads { OnOk result (LeadsSo self.old driver what (Change (scripted_of draft.old)) Going self.new) }
         ensures left { OnOk result (steps_left self.new ≡ (scripted_of draft.old).weight) }
         ensures err { OnErr result (self.new ≡ self.old) }
     {
@@ -164,8 +186,8 @@ impl<B: Bank> Machine<B> {
         requires credit { self.old.spent < self.old.credits }
         requires quiet { self.old.flight.going ≡ false }
         requires can { CanGoAlong self.old driver (SetRange handle least most) (scripted_of draft.old) }
-        requires ready { IsReady self.old driver (SetRange handle least most) (Change (scripted_of draft.old)) }
-        ensures ok { OnOk result (Enters self.old driver (Begin (SetRange handle least most)) Going self.new) }
+        ensures proceeds { OnOk result (Proceeds self.old driver (Begin (SetRange handle least most)) Going self.new) }
+        ensures leads { OnOk result (LeadsSo self.old driver (SetRange handle least most) (Change (scripted_of draft.old)) Going self.new) }
         ensures left { OnOk result (steps_left self.new ≡ (scripted_of draft.old).weight) }
         ensures err { OnErr result (self.new ≡ self.old) }
     {
@@ -182,8 +204,8 @@ impl<B: Bank> Machine<B> {
         requires quiet { self.old.flight.going ≡ false }
         requires changes { changes_rate what ≡ true }
         requires can { CanGoAlong self.old driver what (scripted_of draft.old) }
-        requires ready { IsReady self.old driver what (Change (scripted_of draft.old)) }
-        ensures ok { OnOk result (Enters self.old driver (Begin what) Going self.new) }
+        ensures proceeds { OnOk result (Proceeds self.old driver (Begin what) Going self.new) }
+        ensures leads { OnOk result (LeadsSo self.old driver what (Change (scripted_of draft.old)) Going self.new) }
         ensures left { OnOk result (steps_left self.new ≡ (scripted_of draft.old).weight) }
         ensures err { OnErr result (self.new ≡ self.old) }
     {
@@ -210,8 +232,8 @@ impl<B: Bank> Machine<B> {
         requires quiet { self.old.flight.going ≡ false }
         requires changes { changes_rate what ≡ true }
         requires can { CanBeginSo self.old driver what (readied_of draft.old verdict) }
-        requires ready { IsReady self.old driver what (readied_of draft.old verdict) }
-        ensures ok { IfOk result (λ turn. Enters self.old driver (Begin what) turn self.new) }
+        ensures proceeds { IfOk result (λ turn. Proceeds self.old driver (Begin what) turn self.new) }
+        ensures leads { IfOk result (λ turn. LeadsSo self.old driver what (readied_of draft.old verdict) turn self.new) }
         ensures left { IfOk result (λ turn. is_going turn ≡ true → steps_left self.new ≡ weight_of (readied_of draft.old verdict)) }
         ensures err { OnErr result (self.new ≡ self.old) }
     {
@@ -229,6 +251,32 @@ impl<B: Bank> Machine<B> {
                 Ok(Turn::Going)
             }
         }
+    }
+
+    // Begins a call that changes a rate or a parent as it was made ready, with room in the log for the
+    // entries of its steps.
+    pub(super) fn begin_readied(
+        &mut self,
+        draft: &mut Draft,
+        log: &mut Log,
+        driver: u32,
+        what: Sleeping,
+        verdict: Verdict,
+    ) -> Result<Turn, NoMemory>
+        requires credit { self.old.spent < self.old.credits }
+        requires quiet { self.old.flight.going ≡ false }
+        requires changes { changes_rate what ≡ true }
+        requires can { CanBeginSo self.old driver what (readied_of draft.old verdict) }
+        requires paid { self.old.credits ≤ self.old.spent + log.old.room }
+        ensures proceeds { IfOk result (λ turn. Proceeds self.old driver (Begin what) turn self.new) }
+        ensures leads { IfOk result (λ turn. LeadsSo self.old driver what (readied_of draft.old verdict) turn self.new) }
+        ensures room { IfOk result (λ turn. is_going turn ≡ true → self.old.credits + steps_left self.new ≤ self.old.spent + log.new.room) }
+        ensures entries { log.new.entries ≡ log.old.entries }
+        ensures kept { log.old.room ≤ log.new.room }
+        ensures err { OnErr result (self.new ≡ self.old) }
+    {
+        log.make_room(self.credits_left(), weight_of(draft, verdict))?;
+        self.begin_so(draft, driver, what, verdict)
     }
 
     /// Begins a call that changes a rate or a parent, with room in the log for the entries of its steps.
@@ -250,7 +298,6 @@ impl<B: Bank> Machine<B> {
         ensures err { OnErr result (self.new ≡ self.old) }
     {
         let verdict = self.ready(draft, driver, what)?;
-        log.make_room(self.credits_left(), weight_of(draft, verdict))?;
-        self.begin_so(draft, driver, what, verdict)
+        self.begin_readied(draft, log, driver, what, verdict)
     }
 }

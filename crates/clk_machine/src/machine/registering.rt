@@ -27,7 +27,7 @@ impl<B: Bank> Machine<B> {
     }
 
     // Registers a clock that isn't critical, and spends a credit.
-    fn register(&mut self, clock: ClockId)
+    pub(super) fn register(&mut self, clock: ClockId)
         requires credit { self.old.spent < self.old.credits }
         requires quiet { self.old.flight.going ≡ false }
         requires place { clock.0 < length self.old.desc.defs }
@@ -41,7 +41,7 @@ impl<B: Bank> Machine<B> {
     }
 
     // The same of a critical clock: it is prepared and enabled from now on.
-    fn register_critical(&mut self, clock: ClockId)
+    pub(super) fn register_critical(&mut self, clock: ClockId)
         requires credit { self.old.spent < self.old.credits }
         requires quiet { self.old.flight.going ≡ false }
         requires place { clock.0 < length self.old.desc.defs }

@@ -1,6 +1,7 @@
-//! How a change of parent begins. Nothing is changed by the decision.
+//! How a change of parent begins, if there is room for what it goes on with. Nothing is changed by the
+//! decision.
 
-ghost use Rattle.std.specs.Prelude.{◌≡◌, ◌<◌, false, Some, IfOk};
+ghost use Rattle.std.specs.Prelude.{◌≡◌, false, IfOk};
 ghost use Rattle.clk_base.specs.declared.call.Sleeping.TheVariants.{SetParent};
 ghost use Rattle.core_parts.specs.Decisions.{decision_of};
 ghost use Rattle.clk_machine.specs.Deciding.{ArePlannedOver, Decided, IsOwned};
@@ -8,33 +9,30 @@ ghost use Rattle.clk_machine.specs.Deciding.{ArePlannedOver, Decided, IsOwned};
 use super::Machine;
 use clk_base::{ClockId, Errno, Handle};
 use clk_io::NoMemory;
-use core_parts::{Draft, Seen, Verdict, go_on, is_linked, plan_move, refusal};
+use core_parts::{Draft, Seen, Verdict, is_linked, plan_move, refusal, write_script};
 use reg_bank::Bank;
 
 impl<B: Bank> Machine<B> {
-    /// Decides how a change of parent begins. One exclusive hold of the handle itself doesn't count.
-    pub(crate) fn decide_parent(
-        &mut self,
+    /// Decides how a change of parent begins. One exclusive of the handle itself doesn't count.
+    pub(super) fn decide_parent(
+        &self,
         draft: &mut Draft,
         driver: u32,
         handle: Handle,
         parent: ClockId,
     ) -> Result<Verdict, NoMemory>
-        requires credit { self.old.spent < self.old.credits }
-        requires quiet { self.old.flight.going ≡ false }
-        ensures decides { IfOk result (λ verdict. Decided self.old driver (SetParent handle parent) (decision_of draft.new verdict)) }
-        ensures there { IfOk result (λ verdict. ArePlannedOver self.old (SetParent handle parent) (decision_of draft.new verdict)) }
-        ensures own { IfOk result (λ verdict. IsOwned self.old.table.handles driver (SetParent handle parent) (decision_of draft.new verdict)) }
-        ensures same { self.new ≡ self.old }
+        requires quiet { self.now.flight.going ≡ false }
+        ensures decides { IfOk result (λ verdict. Decided self.now driver (SetParent handle parent) (decision_of draft.new verdict)) }
+        ensures there { IfOk result (λ verdict. ArePlannedOver self.now (SetParent handle parent) (decision_of draft.new verdict)) }
+        ensures own { IfOk result (λ verdict. IsOwned self.now.table.handles driver (SetParent handle parent) (decision_of draft.new verdict)) }
     {
         let Some(row) = self.own(driver, handle) else {
             return Ok(Verdict::Refused(Errno::ENOENT));
         };
-        let used = self.used();
         if is_linked(&self.tree, row.clock, parent) {
             return Ok(Verdict::AtOnce);
         }
-        if let Some(errno) = refusal(&self.desc, &self.tree, &mut self.counts, row, parent) {
+        if let Some(errno) = refusal(&self.desc, &self.tree, &self.counts, row, parent) {
             return Ok(Verdict::Refused(errno));
         }
         plan_move(
@@ -47,8 +45,10 @@ impl<B: Bank> Machine<B> {
         )?;
         let view = Seen {
             handles: &self.handles,
+            ranged: None,
             counts: &self.counts,
         };
-        go_on(draft, &self.desc, &self.tree, &view, &self.notifiers, used)
+        write_script(draft, &self.desc, &self.tree, &view, &self.notifiers)?;
+        Ok(Verdict::Change)
     }
 }

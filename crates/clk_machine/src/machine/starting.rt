@@ -25,7 +25,7 @@ use reg_bank::Bank;
 
 impl<B: Bank> Machine<B> {
     // Whether a PLL above a clock is kept powered by no prepare.
-    fn is_unprepared(&self, clock: ClockId) -> bool
+    pub(super) fn is_unprepared(&self, clock: ClockId) -> bool
         requires { registered self.now.tree.clocks clock.0 ≡ true }
         ensures unprepared { result ≡ list_any (is_loose self.now.desc.defs self.now.counts) (path self.now.tree.clocks clock.0) }
         ensures whole { IsWhole self.now }
@@ -34,7 +34,7 @@ impl<B: Bank> Machine<B> {
     }
 
     // Whether there is room for the entries of a raise and the end.
-    fn can_raise(&self) -> bool
+    pub(super) fn can_raise(&self) -> bool
         ensures { result ≡ nat_le (self.now.credits + self.now.steps + (34 * plls self.now.desc.defs + 2)) most_credits }
     {
         let most = most_to_raise(self.tree.plls());

@@ -157,7 +157,7 @@ impl<B: Bank> Machine<B> {
     }
 
     // The step that comes next of the change in flight.
-    fn next_step(&self) -> Option<Micro>
+    pub(super) fn next_step(&self) -> Option<Micro>
         requires { self.now.flight.going ≡ true }
         ensures next { ComesNext self.now result }
         ensures whole { IsWhole self.now }
@@ -167,7 +167,7 @@ impl<B: Bank> Machine<B> {
 
     // Makes the step that comes next, which is neither a poll nor the end of the call.
     #[inline(always)]
-    fn make(&mut self, step: Micro)
+    pub(super) fn make(&mut self, step: Micro)
         requires going { self.old.flight.going ≡ true }
         requires next { ComesNext self.old (Some step) }
         requires on { only_goes_on step ≡ true }

@@ -1,18 +1,35 @@
-use Rattle.std.proofs.Common.{arith, subst, false}
-use Rattle.std.proofs.lemmas.Bool.Decides.{nat_tests}
-use Rattle.std.specs.Prelude.{IfOk}
-use Rattle.counts_core.specs.Counted.{CountState, is_prepared}
+use Rattle.std.proofs.Common.{◌<◌, ◌∙◌, sym, subst, ℕ}
+use Rattle.std.proofs.lemmas.Result.{IfOk-weaker}
 use Rattle.core_parts.specs.Decisions.{decision_of}
-use Rattle.core_parts.specs.Planned.{ArePlanned}
-use Rattle.core_parts.proofs.LessProtected.{counts_back}
+use Rattle.core_parts.proofs.Deciding.{answer_lifted, sees_lifted, sees_same}
+use Rattle.core_parts.proofs.Shapes.{link_lies, registered_lies}
 use Rattle.core_parts.proofs.lifting.decide_lifted.Goals as goal
 
-pub returns-clause-same : goal.returns-clause-same
-returns-clause-same g c =
-    counts_back c.args.counts.now c.unprotect.new.self c.protect.new.self c.args.row.clock.0 c.unprotect.ensures.holders c.protect.ensures.holders c.requires.place
-    (c.requires.held (let some = c.if-row-eq0.false in grind (arith, nat_tests)))
+pub is_sole-requires : goal.is_sole-requires
+is_sole-requires g c =
+    let tree = c.args.tree.now in
+    record { place = subst (λ (n : ℕ). c.args.row.clock.0 < n) (sym c.requires.seen) (registered_lies tree.defs tree.clocks tree.order tree.rates c.args.row.clock.0 c.requires.tied.stands c.requires.there) }
 
--- an exclusive hold more or less leaves what is prepared
-pub returns-clause-there : goal.returns-clause-there
-returns-clause-there g c =
-    subst (λ (k : CountState). IfOk c.decide_request-decided.result (λ verdict. ArePlanned c.args.tree.now (is_prepared k) c.args.notifiers.now c.args.used false (decision_of c.decide_request-decided.new.draft verdict))) c.unprotect.ensures.holders c.decide_request-decided.ensures.there
+pub freed_above-requires-clause-place : goal.freed_above-requires-clause-place
+freed_above-requires-clause-place g c =
+    let tree = c.args.tree.now in
+    registered_lies tree.defs tree.clocks tree.order tree.rates c.args.row.clock.0 c.requires.tied.stands c.requires.there
+
+pub freed_above-requires-clause-links : goal.freed_above-requires-clause-links
+freed_above-requires-clause-links g c =
+    let tree = c.args.tree.now in
+    record { lie = λ a p at. link_lies tree.defs tree.clocks tree.order tree.rates a p c.requires.tied.stands at }
+
+pub returns-then-not-is_sole-clause-decides : goal.returns-then-not-is_sole-clause-decides
+returns-then-not-is_sole-clause-decides g c =
+    IfOk-weaker c.decide_request.result _ _
+    (λ verdict answers s number given its lifts. answer_lifted s _ c.args.row.clock.0 c.args.wanted (decision_of c.decide_request.new.draft verdict) (answers s given its)
+    (sees_same given c.requires.tied c.is_sole.ensures.stands number c.args.row lifts (sym c.is_sole.ensures.sole ∙ c.if-not-is_sole.true)) lifts.free)
+    c.decide_request.ensures.decides
+
+pub returns-clause-decides : goal.returns-clause-decides
+returns-clause-decides g c =
+    IfOk-weaker c.decide_unguarded.result _ _
+    (λ verdict answers s number given its lifts. answers s _ given.over its
+    (sees_lifted given c.requires.tied c.is_sole.ensures.stands number c.args.row _ lifts (sym c.is_sole.ensures.sole ∙ c.if-not-is_sole.false) c.freed_above.ensures.freed))
+    c.decide_unguarded.ensures.decides

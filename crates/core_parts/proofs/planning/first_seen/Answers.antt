@@ -5,7 +5,6 @@ use Rattle.clk_model.specs.Round.{round}
 use Rattle.rate_planner.specs.Kept.{wired}
 use Rattle.rate_planner.specs.Rounded.{rounded_of}
 use Rattle.core_parts.specs.Tied.{AreKept}
-use Rattle.core_parts.specs.Seen.{seen}
 use Rattle.core_parts.proofs.RoundedWords.{rounding-take}
 use Rattle.core_parts.proofs.planning.first_seen.Goals as goal
 
@@ -13,7 +12,7 @@ pub returns-clause-rounding : goal.returns-clause-rounding
 returns-clause-rounding g c =
     let desc = c.args.desc.now in
     let tree = c.args.tree.now in
-    let view = seen c.args.view.now.handles.now.handles c.args.view.now.counts.now in
+    let view = g.V.View.means c.args.view.now in
     let contents = g.B.Bank.contents c.bank.result.now in
     let words : option_map (take desc.words) contents ≡ c.args.window.now.words =
     ap (λ (n : ℕ). option_map (take n) contents) (sym c.requires.tied.words) ∙ c.bank.ensures.words in

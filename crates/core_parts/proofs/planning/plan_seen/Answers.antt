@@ -9,7 +9,6 @@ use Rattle.rate_planner.specs.Rounded.{rounded_of}
 use Rattle.rate_planner.specs.Walks.{walked_rates}
 use Rattle.rate_planner.proofs.ListSteps.{told_both}
 use Rattle.core_parts.specs.Tied.{AreKept}
-use Rattle.core_parts.specs.Seen.{seen}
 use Rattle.core_parts.proofs.RoundedWords.{rounding_words}
 use Rattle.core_parts.proofs.Taking.{told-take, chain-take, walked-take}
 use Rattle.core_parts.proofs.planning.plan_seen.Goals as goal
@@ -18,7 +17,7 @@ pub returns-clause-chain : goal.returns-clause-chain
 returns-clause-chain g c =
     let desc = c.args.desc.now in
     let tree = c.args.tree.now in
-    let view = seen c.args.view.now.handles.now.handles c.args.view.now.counts.now in
+    let view = g.V.View.means c.args.view.now in
     let plan = c.plan_from.new.planning.plan in
     let contents = g.B.Bank.contents c.bank.result.now in
     let words : option_map (take desc.words) contents ≡ c.args.window.now.words =
@@ -38,7 +37,7 @@ pub returns-clause-rates : goal.returns-clause-rates
 returns-clause-rates g c =
     let desc = c.args.desc.now in
     let tree = c.args.tree.now in
-    let view = seen c.args.view.now.handles.now.handles c.args.view.now.counts.now in
+    let view = g.V.View.means c.args.view.now in
     let plan = c.plan_from.new.planning.plan in
     let contents = g.B.Bank.contents c.bank.result.now in
     let words : option_map (take desc.words) contents ≡ c.args.window.now.words =

@@ -4,7 +4,6 @@ use Rattle.std.specs.Option.{option_map}
 use Rattle.clk_base.specs.Description.{Description}
 use Rattle.clk_model.specs.declared.row.ClockRow.{ClockRow}
 use Rattle.clk_model.specs.State.{registered, link_in, requested}
-use Rattle.clk_model.specs.Rate.{rate}
 use Rattle.clk_model.specs.Tree.{link_given}
 use Rattle.clk_model.specs.Begin.{registered_rows}
 use Rattle.clk_tree.specs.TreeState.{attached}

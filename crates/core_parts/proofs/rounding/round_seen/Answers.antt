@@ -4,7 +4,6 @@ use Rattle.std.specs.Option.{option_map}
 use Rattle.clk_model.specs.Round.{round_rate}
 use Rattle.rate_planner.specs.Kept.{wired}
 use Rattle.core_parts.specs.Tied.{AreKept}
-use Rattle.core_parts.specs.Seen.{seen}
 use Rattle.core_parts.proofs.RoundedWords.{round-take}
 use Rattle.core_parts.proofs.rounding.round_seen.Goals as goal
 
@@ -12,10 +11,10 @@ pub returns : goal.returns
 returns g c =
     let desc = c.args.desc.now in
     let tree = c.args.tree.now in
-    let view = seen c.args.view.now.handles.now.handles c.args.view.now.counts.now in
+    let view = g.V.View.means c.args.view.now in
     let contents = g.B.Bank.contents c.bank.result.now in
     let words : option_map (take desc.words) contents ≡ c.args.window.now.words =
-    ap (λ (n : ℕ). option_map (take n) contents) (sym c.requires.words) ∙ c.bank.ensures.words in
-    subst (λ (o : Option (List ℕ)). IfSome o (λ regs. c.round_now.result ≡ round_rate (wired desc.defs regs tree) view c.args.clock.0 c.args.rate)) words
-    (round-take desc.words contents desc.defs tree view c.args.clock.0 c.args.rate c.round_now.result c.requires.valid
-    (subst (λ (o : Option (List ℕ)). AreKept desc.defs o tree.clocks tree.rates) (sym words) c.requires.kept) c.round_now.ensures.rate)
+    ap (λ (n : ℕ). option_map (take n) contents) (sym c.requires.tied.words) ∙ c.bank.ensures.words in
+    subst (λ (o : Option (List ℕ)). IfSome o (λ regs. c.round_resting.result ≡ round_rate (wired desc.defs regs tree) view c.args.clock.0 c.args.rate)) words
+    (round-take desc.words contents desc.defs tree view c.args.clock.0 c.args.rate c.round_resting.result c.requires.tied.valid
+    (subst (λ (o : Option (List ℕ)). AreKept desc.defs o tree.clocks tree.rates) (sym words) c.requires.tied.kept) c.round_resting.ensures.rate)

@@ -1,4 +1,4 @@
-use Rattle.std.proofs.Common.{◌≡◌, ◌+◌, ◌∙◌, sym, ap, subst, false, Option, Some, None}
+use Rattle.std.proofs.Common.{◌≡◌, ◌∙◌, sym, ap, subst, Option, Some, None}
 use Rattle.std.proofs.lemmas.Result.{IfOk-weaker}
 use Rattle.std.specs.Prelude.{is_some}
 use Rattle.clk_base.specs.declared.call.Sleeping.TheVariants.{SetRateExclusive}
@@ -7,14 +7,12 @@ use Rattle.core_parts.specs.Decisions.{decision_of}
 use Rattle.clk_machine.specs.Parts.{Parts, parts_of, own_in}
 use Rattle.clk_machine.proofs.Decided.{exclusive_unknown, decides_exclusive}
 use Rattle.clk_machine.proofs.Entered.{own_stands}
-use Rattle.clk_machine.proofs.Flying.{quiet_stands}
 use Rattle.clk_machine.proofs.Owned.{owned_call}
 use Rattle.clk_machine.proofs.machine.Machine.decide_exclusive.Goals as goal
 
 pub returns-in_default-clause-decides : goal.returns-in_default-clause-decides
 returns-in_default-clause-decides g c = λ s stands sound.
-    exclusive_unknown s c.args.driver c.args.handle c.args.rate (quiet_stands c.args.self.now s stands c.requires.quiet)
-    (own_stands c.args.self.now s c.args.driver c.args.handle.number None stands (c.own.ensures.row ∙ c.in_default.is))
+    exclusive_unknown s c.args.driver c.args.handle c.args.rate (own_stands c.args.self.now s c.args.driver c.args.handle.number None stands (c.own.ensures.row ∙ c.in_default.is))
 
 pub returns-clause-decides : goal.returns-clause-decides
 returns-clause-decides g c =
@@ -22,11 +20,10 @@ returns-clause-decides g c =
     let p : Parts = parts_of m.desc m.window m.tree m.handles m.counts m.notifiers m.credits m.spent m.ignore_unused m.flight m.course m.prepare_holds m.enable_holds m.steps in
     let row = c.in-Some.row in
     let own = subst (λ (q : Parts). own_in q.table.handles c.args.driver c.args.handle.number ≡ Some row) (sym c.self.view_is) (c.own.ensures.row ∙ c.in-Some.is) in
-    let quiet = subst (λ (q : Parts). q.flight.going ≡ false) (sym c.self.view_is) c.requires.quiet in
     rw (← c.self.view_is)
     (IfOk-weaker c.decide_request.result _ _
-    (λ verdict answers s stands sound. decides_exclusive p s c.args.driver c.args.handle c.args.rate c.used-used.result row (decision_of c.decide_request.new.draft verdict) c.self.invariant quiet
-    (c.used-used.ensures ∙ ap (λ (q : Parts). q.credits + q.steps) (sym c.self.view_is)) own answers stands sound) c.decide_request.ensures.decides)
+    (λ verdict answers s stands sound. decides_exclusive p s c.args.driver c.args.handle c.args.rate row (decision_of c.decide_request.new.draft verdict) c.self.invariant own answers stands sound)
+    c.decide_request.ensures.decides)
 
 pub returns-clause-own : goal.returns-clause-own
 returns-clause-own g c =

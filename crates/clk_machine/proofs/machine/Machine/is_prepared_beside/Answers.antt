@@ -18,4 +18,4 @@ returns g c = λ s stands sound.
     ∙ ap (λ (t : Bool). t || (c.is_critical-critical.result && c.is_above-above.result)) (c.is_prepared-prepared.ensures s stands)
     ∙ ap (λ (t : Bool). prepared s a || (t && c.is_above-above.result)) (c.is_critical-critical.ensures.critical ∙ sym (ap (λ (ds : Description). is_critical ds new) stands.defs))
     ∙ ap (λ (t : Bool). prepared s a || (is_critical s.defs new && t)) (c.is_above-above.ensures s stands)
-    ∙ sym (prepared_behind m.window.size s new a sound.reached (quiet_stands m s stands c.requires.quiet) free)
+    ∙ sym (prepared_behind m.window.size s new a sound.like (quiet_stands m s stands c.requires.quiet) free)

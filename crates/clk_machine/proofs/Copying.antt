@@ -1,0 +1,264 @@
+-- A copy goes along with the entries of a core, from the twin that its parts stand for.
+use Rattle.std.proofs.Common.{◌≡◌, ℕ, ◌+◌, ◌≤◌, ◌⊎◌, inl, inr, not, Bool, true, false, List, Option, Some, None, refl, sym, ap, subst, ◌∙◌, arith, length, [], ◌∷◌}
+use Rattle.std.specs.Prelude.{option_map}
+use Rattle.std.specs.Option.{option_map_or}
+use Rattle.clk_base.specs.declared.call.Micro.{Micro}
+use Rattle.clk_base.specs.declared.call.Micro.TheVariants as micro
+use Rattle.clk_base.specs.declared.call.Sleeping.{Sleeping}
+use Rattle.clk_base.specs.declared.call.Sleeping.TheVariants as call
+use Rattle.clk_base.specs.declared.event.Event.{Event}
+use Rattle.clk_base.specs.declared.event.Event.TheVariants as event
+use Rattle.clk_base.specs.declared.event.Reply.{Reply}
+use Rattle.clk_base.specs.declared.event.Reply.TheVariants as reply
+use Rattle.clk_base.specs.declared.event.Turn.{Turn}
+use Rattle.clk_base.specs.declared.event.Turn.TheVariants as turn
+use Rattle.clk_base.specs.Description.{Description, parents_of}
+use Rattle.clk_base.specs.Valid.{IsValid}
+use Rattle.clk_model.specs.declared.row.ClockRow.{ClockRow}
+use Rattle.clk_model.specs.declared.row.HandleRow.{HandleRow}
+use Rattle.clk_model.specs.Begin.{change_of, begun}
+use Rattle.clk_model.specs.Gates.{settled}
+use Rattle.clk_model.specs.Journal.{slotless}
+use Rattle.clk_model.specs.Laws.PrepSteps.{closes_gate}
+use Rattle.clk_model.specs.Laws.Twins.{IsTwin, IsLeftOut, TwinMakes}
+use Rattle.clk_model.specs.Lists.{is_in}
+use Rattle.clk_model.specs.Machine.{next}
+use Rattle.clk_model.specs.Prep.{is_sweep, change_prep, prep}
+use Rattle.clk_model.specs.State.{State, Change, registered, link_in}
+use Rattle.clk_model.specs.Step.{stepped}
+use Rattle.clk_model.proofs.AlikeLaws.{inside_change, same_changes}
+use Rattle.clk_model.proofs.FlightLaws.{IsStep, begin_is, step_is}
+use Rattle.clk_model.proofs.PrepEventLaws.{prep_paid}
+use Rattle.clk_model.proofs.PrepLaws.{prep-spent}
+use Rattle.clk_model.proofs.ShapeLaws.{begun_paid}
+use Rattle.clk_tree.specs.TreeState.{IsTree}
+use Rattle.core_parts.specs.Tied.{AreTied}
+use Rattle.clk_machine.specs.Along.{GoesAlong, SweepsAlong, FollowsEvent, tells_only, is_still}
+use Rattle.clk_machine.specs.Copied.{Copy, Copies, IsCopyOf}
+use Rattle.clk_machine.specs.Parts.{Parts, IsWhole}
+use Rattle.clk_machine.specs.SettingOut.{NeverGoes, sweep_end}
+use Rattle.clk_machine.specs.Sound.{IsNarrow, IsSound}
+use Rattle.clk_machine.specs.Stands.{Stands}
+use Rattle.clk_machine.proofs.Flying.{quiet_stands}
+use Rattle.clk_machine.proofs.Likeness.{twin_like, twin_change, twin_quiet}
+use Rattle.clk_machine.proofs.Making.{HasChange}
+use Rattle.clk_machine.proofs.Making as making
+use Rattle.clk_machine.proofs.Still.{tells_still, fine_still}
+use Rattle.clk_machine.proofs.Twinned.{TwinGoes, twin_steps, twin_begins, twin_sweeps, twin_goes}
+
+-- ---- the twin is sound
+
+-- parts that keep what they have to stand for narrow states
+pub narrow_stands : (m : Parts) (s : State) → IsWhole m → Stands m s → IsNarrow m.window.size s
+narrow_stands m s whole stands = record {
+  valid = subst (λ (n : ℕ). IsValid n s.defs) (sym tied.words) (subst (λ (ds : Description). IsValid m.desc.words ds) (sym stands.defs) tied.valid);
+  rows = ap (λ (rs : List ClockRow). length rs) stands.clocks ∙ tree.rows ∙ ap (λ (ds : Description). length ds) (tied.defs ∙ sym stands.defs);
+  attached = λ c m. ap (λ (rs : List ClockRow). registered rs c) stands.clocks ∙ sym (tree.order_lists.listed c) ∙ ap (is_in c) (sym stands.order) ∙ m;
+  unlinked = λ c free. subst (λ (rs : List ClockRow). link_in rs c ≡ None) (sym stands.clocks) (free_unlinked c (ap (λ (rs : List ClockRow). registered rs c) (sym stands.clocks) ∙ free));
+  possible = λ c p at. ap (λ (ds : Description). is_in p (parents_of ds c)) (stands.defs ∙ sym tied.defs) ∙ tree.possible c p (ap (λ (rs : List ClockRow). link_in rs c) (sym stands.clocks) ∙ at);
+} where
+  tied : AreTied m.desc m.window m.tree
+  tied = whole.tied
+
+  tree : IsTree m.tree.defs m.tree.clocks m.tree.order m.tree.rates
+  tree = whole.tied.stands
+
+  free_unlinked : (c : ℕ) → registered m.tree.clocks c ≡ false → link_in m.tree.clocks c ≡ None
+  free_unlinked c free = by (link_in m.tree.clocks c) refl where
+    by : (o : Option ℕ) → link_in m.tree.clocks c ≡ o → o ≡ None
+    by None at = refl
+    by (Some p) at = let no : true ≡ false = sym (whole.tied.stands.linked c p at) ∙ free in absurd cc
+
+pub sound_copy : (copy : Copy) (s : State) → IsWhole copy.parts → (of : IsCopyOf copy s) → of.copies.twin.change ≡ s.change → IsSound copy.parts.window.size of.copies.twin
+sound_copy copy s whole of change = record {
+  like = twin_like copy.parts.window.size s of.copies.twin of.reached of.copies.is change;
+  narrow = narrow_stands copy.parts of.copies.twin whole of.copies.stands;
+}
+
+-- what it goes along with it is of then
+copies_made : (old new : Copy) (s t : State) (d : ℕ) (e : Event) (x : Turn) → IsWhole old.parts → (of : IsCopyOf old s) → of.copies.twin.change ≡ s.change → GoesAlong old.parts d e x new.parts
+    → TwinMakes of.copies.twin d e t (slotless x) → Copies new t
+copies_made old new s t d e x whole of change along makes =
+    record { twin = makes.after; stands = along of.copies.twin makes.after of.copies.stands (sound_copy old s whole of change) makes.made; is = makes.twin }
+
+-- ---- steps
+
+-- the call in flight is the copy's
+same_call : (copy : Copy) (s : State) (k : Change) (of : IsCopyOf copy s) → copy.parts.flight.going ≡ true → s.change ≡ Some k → k.call ≡ copy.parts.flight.call
+same_call copy s k of going at =
+    let has = making.change_of copy.parts of.copies.twin of.copies.stands going in
+    let one : change_prep has.k ≡ change_prep k =
+    inside_change (ap (λ (o : Option Change). option_map change_prep o) (sym has.change) ∙ same_changes s of.copies.twin of.copies.is.same ∙ ap (λ (o : Option Change). option_map change_prep o) at) in
+    sym (ap (λ (j : Change). j.call) one) ∙ has.is.call
+
+-- a step of a call that isn't the sweep
+pub copies_step : (old new : Copy) (s t : State) (d : ℕ) (m : Micro) (a : Option Bool) (x : Turn) → IsWhole old.parts → IsCopyOf old s → old.parts.flight.going ≡ true → is_sweep old.parts.flight.call ≡ false
+    → GoesAlong old.parts d (event.Step m a) x new.parts → next s d (event.Step m a) ≡ Some (t, slotless x) → Copies new t
+copies_step old new s t d m a x whole of going other along step =
+    let found = step_is s t d m a (slotless x) step in
+    let not_sweep : is_sweep found.0.call ≡ false = ap is_sweep (same_call old s found.0 of going found.1.at) ∙ other in
+    copies_made old new s t d (event.Step m a) x whole of (twin_change s of.copies.twin found.0 of.copies.is found.1.at not_sweep) along
+    (twin_steps old.parts.window.size s of.copies.twin t found.0 d m a (slotless x) of.reached of.copies.is found.1.at not_sweep step)
+
+-- no step comes where no call is in flight
+pub no_step : (copy : Copy) (s t : State) (d : ℕ) (m : Micro) (a : Option Bool) (x : Turn) → IsCopyOf copy s → copy.parts.flight.going ≡ false → next s d (event.Step m a) ≡ Some (t, x) → ⊥
+no_step copy s t d m a x of quiet step =
+    let found = step_is s t d m a x step in
+    let none = quiet_stands copy.parts of.copies.twin of.copies.stands quiet in
+    let no : None ≡ Some (change_prep found.0) =
+    ap (λ (o : Option Change). option_map change_prep o) (sym none) ∙ same_changes s of.copies.twin of.copies.is.same ∙ ap (λ (o : Option Change). option_map change_prep o) found.1.at in
+    cc
+
+-- ---- beginnings
+
+-- of a call that isn't the sweep, if it isn't one that may be left out
+pub copies_begin : (old new : Copy) (s t : State) (d : ℕ) (what : Sleeping) (x : Turn) → IsWhole old.parts → IsCopyOf old s → is_sweep what ≡ false → (IsLeftOut (slotless x) → ⊥)
+    → GoesAlong old.parts d (event.Begin what) x new.parts → next s d (event.Begin what) ≡ Some (t, slotless x) → Copies new t
+copies_begin old new s t d what x whole of other never along step =
+    by (twin_begins old.parts.window.size s of.copies.twin t d what (slotless x) of.reached of.copies.is other step) where
+      change : of.copies.twin.change ≡ s.change
+      change = twin_quiet s of.copies.twin of.copies.is (begin_is s t d what (slotless x) step).0
+
+      by : TwinMakes of.copies.twin d (event.Begin what) t (slotless x) ⊎ (IsLeftOut (slotless x) × IsTwin of.copies.twin t) → Copies new t
+      by (inl makes) = copies_made old new s t d (event.Begin what) x whole of change along makes
+      by (inr left) = absurd (never left.0)
+
+-- a call that leaves the state as it is leaves the copy one of it
+copies_still : (copy : Copy) (s t : State) (d : ℕ) (what : Sleeping) (x : Turn) → IsCopyOf copy s → next s d (event.Begin what) ≡ Some (t, x) → (begun s d what).0 ≡ s → Copies copy t
+unfolding settled
+copies_still copy s t d what x of step still =
+    let is = begin_is s t d what x step in
+    let twin = of.copies.is in
+    let to : t ≡ record (settled s s) { spent = s.spent + 1 } =
+    sym is.1 ∙ ap (λ (y : State). let u : State = record (settled s y) { spent = s.spent + 1 } in u) still in
+    let spent : t.spent ≡ s.spent + 1 = ap (λ (u : State). u.spent) to in
+    let steps : t.steps ≡ s.steps = ap (λ (u : State). u.steps) to in
+    let holds : t.enable_holds ≡ s.enable_holds = ap (λ (u : State). u.enable_holds) to in
+    let least = twin.spent in
+    let few = twin.steps in
+    record {
+      twin = of.copies.twin;
+      stands = of.copies.stands;
+      is = record {
+        bare = twin.bare;
+        holds = twin.holds ∙ sym holds;
+        spent = omega arith;
+        steps = omega arith;
+        same = twin.same ∙ sym (ap prep (sym is.1) ∙ prep_paid s (begun s d what) ∙ ap prep still);
+      };
+    }
+
+-- so does an answer that tells or refuses
+pub copies_told : (copy : Copy) (s t : State) (d : ℕ) (what : Sleeping) (r : Reply) → IsCopyOf copy s → tells_only r ≡ true → next s d (event.Begin what) ≡ Some (t, slotless (turn.Done r)) → Copies copy t
+copies_told copy s t d what r of only step =
+    copies_still copy s t d what (slotless (turn.Done r)) of step (tells_still s d what r ((begin_is s t d what (slotless (turn.Done r)) step).2 ∙ plain r only) only) where
+      plain : (q : Reply) → tells_only q ≡ true → slotless (turn.Done q) ≡ turn.Done q
+      plain (reply.Handle h) e = absurd cc
+      plain q e = refl
+
+-- and a call that has nothing to do
+pub copies_fine : (copy : Copy) (s t : State) (d : ℕ) (what : Sleeping) → IsCopyOf copy s → is_still what ≡ true → next s d (event.Begin what) ≡ Some (t, turn.Done reply.Fine) → Copies copy t
+copies_fine copy s t d what of still step = copies_still copy s t d what (turn.Done reply.Fine) of step (fine_still s d what still (begin_is s t d what (turn.Done reply.Fine) step).2)
+
+-- Ok is no answer of a call that may be left out
+pub fine_kept : IsLeftOut (turn.Done reply.Fine) → ⊥
+fine_kept (inl is) = cc
+fine_kept (inr (inl is)) = cc
+fine_kept (inr (inr is)) = cc
+
+-- nor does it go on
+pub going_kept : IsLeftOut turn.Going → ⊥
+going_kept (inl is) = cc
+going_kept (inr (inl is)) = cc
+going_kept (inr (inr is)) = cc
+
+-- ---- a sweep
+
+pub copies_sweep : (old new : Copy) (s t : State) (d : ℕ) (m : Micro) (a : Option Bool) (x : Turn) → IsCopyOf old s → old.parts.flight.going ≡ true → is_sweep old.parts.flight.call ≡ true
+    → SweepsAlong old.parts m new.parts → next s d (event.Step m a) ≡ Some (t, slotless x) → Copies new t
+copies_sweep old new s t d m a x of going sweeping along step = by (closes_gate m) refl where
+  found : (k : Change) × IsStep s t d m a (slotless x) k
+  found = step_is s t d m a (slotless x) step
+
+  has : HasChange old.parts of.copies.twin
+  has = making.change_of old.parts of.copies.twin of.copies.stands going
+
+  sweeps : is_sweep found.0.call ≡ true
+  sweeps = ap is_sweep (same_call old s found.0 of going found.1.at) ∙ sweeping
+
+  goes : TwinGoes of.copies.twin has.k m a t (slotless x)
+  goes = twin_goes old.parts.window.size s of.copies.twin t found.0 has.k d m a (slotless x) of.reached of.copies.is found.1.at has.change sweeps step
+
+  by : (b : Bool) → closes_gate m ≡ b → Copies new t
+  by true closes = record { twin = of.copies.twin; stands = subst (λ (p : Parts). Stands p of.copies.twin) (sym (along.closes closes)) of.copies.stands; is = goes.steps.closes closes }
+  by false plain = record {
+    twin = (stepped of.copies.twin has.k a m).0;
+    stands = along.others goes.own plain of.copies.twin has.k a of.copies.stands has.change (ap is_sweep has.is.call ∙ sweeping);
+    is = goes.steps.stepped_;
+  }
+
+-- a call that is answered by Ok at once and isn't the sweep
+pub copies_done : (old new : Copy) (d : ℕ) (what : Sleeping) → IsWhole old.parts → is_sweep what ≡ false → GoesAlong old.parts d (event.Begin what) (turn.Done reply.Fine) new.parts
+    → FollowsEvent old d (event.Begin what) (turn.Done reply.Fine) new
+copies_done old new d what whole other along s t of step = copies_begin old new s t d what (turn.Done reply.Fine) whole of other fine_kept along step
+
+-- ---- what is told of a change in flight
+
+pub quiet_told : (going quiet : Bool) → quiet ≡ not going → quiet ≡ true → going ≡ false
+quiet_told true quiet is so = let none : true ≡ false = sym so ∙ is in absurd cc
+quiet_told false quiet is so = refl
+
+pub going_told : (going quiet : Bool) → quiet ≡ not going → quiet ≡ false → going ≡ true
+going_told true quiet is so = refl
+going_told false quiet is so = let none : false ≡ true = sym so ∙ is in absurd cc
+
+-- no call begins while one is in flight
+pub no_begin : (copy : Copy) (s t : State) (d : ℕ) (what : Sleeping) (x : Turn) → IsCopyOf copy s → copy.parts.flight.going ≡ true → next s d (event.Begin what) ≡ Some (t, x) → ⊥
+no_begin copy s t d what x of going step =
+    let has = making.change_of copy.parts of.copies.twin of.copies.stands going in
+    let none = twin_quiet s of.copies.twin of.copies.is (begin_is s t d what x step).0 ∙ (begin_is s t d what x step).0 in
+    let so : Some has.k ≡ None = sym has.change ∙ none in
+    cc
+
+-- a row is what was found
+pub same_row : (a b : HandleRow) → (let o : Option HandleRow = Some a in o) ≡ Some b → a ≡ b
+same_row a b e = ap (λ (o : Option HandleRow). option_map_or (λ r. r) o a) e
+
+-- ---- a call that goes on
+
+-- it begins in the copy too, unless it is the sweep
+pub copies_going : (old new : Copy) (d : ℕ) (what : Sleeping) → IsWhole old.parts → is_sweep what ≡ false → GoesAlong old.parts d (event.Begin what) turn.Going new.parts
+    → FollowsEvent old d (event.Begin what) turn.Going new
+copies_going old new d what whole other along s t of step = copies_begin old new s t d what turn.Going whole of other going_kept along step
+
+-- so it goes on in no state of which a copy is that goes on in none
+pub never_copied : (copy : Copy) (s t : State) (d : ℕ) (what : Sleeping) → IsWhole copy.parts → IsCopyOf copy s → is_sweep what ≡ false → NeverGoes copy.parts d what
+    → next s d (event.Begin what) ≡ Some (t, turn.Going) → ⊥
+never_copied copy s t d what whole of other never step =
+    by (twin_begins copy.parts.window.size s of.copies.twin t d what turn.Going of.reached of.copies.is other step) where
+      change : of.copies.twin.change ≡ s.change
+      change = twin_quiet s of.copies.twin of.copies.is (begin_is s t d what turn.Going step).0
+
+      by : TwinMakes of.copies.twin d (event.Begin what) t turn.Going ⊎ (IsLeftOut turn.Going × IsTwin of.copies.twin t) → ⊥
+      by (inl makes) = never of.copies.twin makes.after of.copies.stands (sound_copy copy s whole of change) makes.made
+      by (inr left) = going_kept left.0
+
+-- a sweep has its end alone left in the copy
+pub copies_swept : (old new : Copy) (d : ℕ) → ((s : State) → Stands old.parts s → Stands new.parts (sweep_end s d)) → FollowsEvent old d (event.Begin call.Sweep) turn.Going new
+copies_swept old new d stands s t of step =
+    let tw = of.copies.twin in
+    let swept = (twin_sweeps old.parts.window.size s tw t d turn.Going of.reached of.copies.is step).goes_on refl (micro.End ∷ []) in
+    let paid = (begun_paid s t d call.Sweep turn.Going step).0 in
+    let spent = paid.spent in
+    let least = of.copies.is.spent in
+    record {
+      twin = sweep_end tw d;
+      stands = stands tw of.copies.stands;
+      is = record {
+        bare = swept.bare;
+        holds = swept.holds;
+        spent = omega arith;
+        steps = swept.steps;
+        same = prep-spent (record tw { change = Some (change_of tw d call.Sweep (micro.End ∷ [])) }) (tw.spent + 1) ∙ swept.same;
+      };
+    }

@@ -1,0 +1,98 @@
+//! What a change of rate or parent goes on with, made before it begins. Beginning with it takes no memory.
+
+ghost use Rattle.std.specs.Prelude.{◌≡◌, ◌<◌, true, false, Some, OnOk, OnErr};
+ghost use Rattle.clk_machine.specs.Changing.{course_of};
+ghost use Rattle.clk_machine.specs.ChangingAlong.{Changes, SetsAlong, range_of, set_along};
+ghost use Rattle.clk_machine.specs.Parts.{IsOwnCall, IsWhole};
+ghost use Rattle.clk_machine.specs.Readied.{scripted_of};
+ghost use Rattle.clk_machine.specs.SettingOut.{NeverGoes};
+ghost use Rattle.core_parts.specs.InFlight.{changes_rate};
+
+use super::Machine;
+use clk_base::Sleeping;
+use clk_flight::{Flight, Start};
+use clk_io::NoMemory;
+use core_parts::{Draft, Verdict};
+use reg_bank::Bank;
+use std::mem::swap;
+
+impl<B: Bank> Machine<B> {
+    // The range in Hz that a handle has before a call that sets one.
+    fn range_of(&self, driver: u32, what: Sleeping) -> Option<(u64, u64)>
+        requires { IsOwnCall self.now.table.handles driver what }
+        ensures { result ≡ range_of self.now driver what }
+    {
+        match what {
+            Sleeping::SetRange(handle, _, _) => {
+                let row = self.known(driver, handle);
+                Some((row.min, row.max))
+            }
+            _ => None,
+        }
+    }
+
+    // Has the flight of a change begin with the script that the draft has.
+    fn fly_along(
+        &self,
+        flight: &mut Flight,
+        draft: &mut Draft,
+        driver: u32,
+        what: Sleeping,
+    ) -> Result<(), NoMemory>
+        requires { IsOwnCall self.now.table.handles driver what }
+        ensures ok { OnOk result (SetsAlong self.now driver what (scripted_of draft.old) flight.new) }
+        ensures course { course_of draft.new ≡ course_of draft.old }
+        ensures err { OnErr result (flight.new ≡ flight.old) }
+        ensures whole { IsWhole self.now }
+    {
+        let start = Start {
+            driver,
+            call: what,
+            script: draft.script.take_steps(self.alloc),
+            range: self.range_of(driver, what),
+            extra: draft.script.extra() as usize,
+            vetoed: draft.script.vetoed(),
+        };
+        let before = flight.begin(start, self.tree.plls())?;
+        draft.script.keep_memory(before);
+        Ok(())
+    }
+
+    /// What a change of rate or parent goes on with, if it does: its flight, and its course in the draft.
+    pub(crate) fn ready_change(
+        &self,
+        flight: &mut Flight,
+        draft: &mut Draft,
+        driver: u32,
+        what: Sleeping,
+    ) -> Result<(), NoMemory>
+        requires machine { self.now.flight.going ≡ false }
+        requires quiet { flight.old.going ≡ false }
+        requires changes { changes_rate what ≡ true }
+        ensures ready { OnOk result (flight.new.going ≡ true → Changes self.now driver what flight.new (course_of draft.new)) }
+        ensures never { OnOk result (flight.new.going ≡ false → NeverGoes self.now driver what) }
+        ensures err { OnErr result (flight.new ≡ flight.old) }
+    {
+        if self.credits_left() == 0 {
+            return Ok(());
+        }
+        let verdict = self.ready(draft, driver, what)?;
+        match verdict {
+            Verdict::Refused(_) => Ok(()),
+            Verdict::AtOnce => Ok(()),
+            Verdict::Change => self.fly_along(flight, draft, driver, what),
+        }
+    }
+
+    /// A change of rate or parent begins with what was made for it.
+    pub(crate) fn set_along(&mut self, flight: &mut Flight, draft: &mut Draft)
+        requires { IsWhole (set_along self.old flight.old (course_of draft.old)) }
+        ensures parts { self.new ≡ set_along self.old flight.old (course_of draft.old) }
+        ensures before { flight.new ≡ self.old.flight }
+    {
+        swap(&mut self.flight, flight);
+        self.course
+            .begin(&mut draft.planning.plan.chain, &mut draft.told);
+        self.spent += 1;
+    }
+}

@@ -1,0 +1,120 @@
+//! A copy of the prepare tier of a core, over which calls are decided.
+
+ghost use Rattle.std.specs.Prelude.{◌≡◌, false, Some, IfOk, IsOk, OnErr, OnOk};
+ghost use Rattle.clk_model.specs.State.{State};
+ghost use Rattle.clk_machine.specs.Copied.{IsCopyOf, IsDecided, StaysCopy};
+ghost use Rattle.clk_machine.specs.Sound.{IsPlaced, takes_memory};
+
+mod following;
+mod ready;
+
+use self::ready::{Ready, make_ready};
+use crate::decision::Decision;
+use crate::machine::{Machine, is_asking, is_planning};
+use clk_base::{Pause, Sleeping};
+use clk_io::NoMemory;
+use rate_planner::Pausing;
+use reg_bank::MemBank;
+use std::marker::Model;
+use std::mem::swap;
+use std::sync::Wait;
+
+/// A copy of the prepare tier of a core: its tree, its handles without their enables, its notifiers, and
+/// its words, in which the bits of gates mean nothing.
+pub struct Prep {
+    machine: Machine<MemBank>,
+    // Whose call there is room for.
+    room: Option<(u32, Sleeping)>,
+    // What that call goes on with, and what the next one is made in.
+    ready: Ready,
+    spare: Ready,
+}
+
+// A copy is let go here, and not in each crate that drops one.
+impl Drop for Prep {
+    fn drop(self) {
+        let Prep {
+            machine: _,
+            room: _,
+            ready: _,
+            spare: _,
+        } = self;
+    }
+}
+
+impl Model for Prep {
+    ghost use Rattle.clk_machine.specs.Copied.{Copy};
+
+    ghost Value = { Copy };
+
+    ghost view = { λ p. record { parts = p.machine; room = p.room } };
+
+    ghost use Rattle.clk_machine.specs.Changing.{course_of};
+    ghost use Rattle.clk_machine.specs.Ready.{IsReserved};
+
+    ghost invariant = { λ p. IsReserved p.machine p.room p.ready.flight (course_of p.ready.draft) };
+}
+
+impl Prep {
+    /// Decides how a call begins that asks or plans. Pauses at `Place::Planning` once a candidate of a
+    /// rounding. The one error is want of memory.
+    pub fn decide<R: Wait + Sync, Q: Pause>(
+        &self,
+        rt: &R,
+        driver: u32,
+        what: &Sleeping,
+        pause: &Q,
+    ) -> Result<Decision, NoMemory>
+        // No call is in flight in the copy.
+        requires quiet { self.now.parts.flight.going ≡ false }
+        // The clocks that the call names are clocks of the description.
+        requires place { IsPlaced self.now.parts.desc.defs what.now }
+        // It is decided so over the prepare tier's part of each state that the copy is of.
+        ensures decides { IfOk result (λ decision. (s : State) → IsCopyOf self.now s → IsDecided s driver what.now decision) }
+        // Memory can run out only if the call takes memory.
+        ensures memory { takes_memory what.now ≡ false → IsOk result }
+    {
+        if is_asking(what) {
+            let reply = self
+                .machine
+                .asked_reply(&Pausing { rt, pause }, driver, *what);
+            return Ok(Decision::Reply(reply));
+        }
+        if is_planning(what) {
+            return self.machine.planned(&Pausing { rt, pause }, driver, *what);
+        }
+        Ok(Decision::Inside)
+    }
+
+    /// Makes what a call goes on with in the copy, before it begins. The one error is want of memory,
+    /// and leaves the copy as it was.
+    pub fn reserve(
+        &mut self,
+        driver: u32,
+        what: &Sleeping,
+        decision: &Decision,
+    ) -> Result<(), NoMemory>
+        // No call is in flight in the copy.
+        requires quiet { self.old.parts.flight.going ≡ false }
+        // The clocks that the call names are clocks of the description.
+        requires place { IsPlaced self.old.parts.desc.defs what.now }
+        // The copy is of what it was of.
+        ensures stays { StaysCopy self.old self.new }
+        // Still no call is in flight in it.
+        ensures quiet { self.new.parts.flight.going ≡ false }
+        // Its description and the number of its words stay.
+        ensures same { (self.new.parts.desc ≡ self.old.parts.desc) × (self.new.parts.window.size ≡ self.old.parts.window.size) }
+        // There is room for this call.
+        ensures room { OnOk result (self.new.room ≡ Some (driver, what.now)) }
+        // Where memory runs out, the copy is as it was.
+        ensures err { OnErr result (self.new ≡ self.old) }
+        // That can be only if the call takes memory.
+        ensures memory { takes_memory what.now ≡ false → IsOk result }
+    {
+        self.spare.flight.end();
+        make_ready(&mut self.machine, &mut self.spare, driver, *what)?;
+        swap(&mut self.ready, &mut self.spare);
+        self.room = Some((driver, *what));
+        Ok(())
+    }
+}
