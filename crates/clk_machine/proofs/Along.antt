@@ -1,5 +1,6 @@
 -- That parts go along with an event, from what was done to them.
 use Rattle.std.proofs.Common.{◌≡◌, ℕ, ◌+◌, ◌<◌, ◌≤◌, ◌⊎◌, inl, inr, Bool, true, false, List, [], ◌∷◌, Option, Some, None, refl, sym, ap, subst, ◌∙◌, arith, nat_eq}
+use Rattle.std.specs.Prelude.{slice_get}
 use Rattle.std.specs.Option.{IfNone}
 use Rattle.clk_base.specs.declared.call.Micro.{Micro}
 use Rattle.clk_base.specs.declared.call.Micro.TheVariants as micro
@@ -18,16 +19,18 @@ use Rattle.clk_model.specs.Gates.{settled}
 use Rattle.clk_model.specs.Journal.{slotless}
 use Rattle.clk_model.specs.Machine.{comes_next, is_poll, next}
 use Rattle.clk_model.specs.State.{State, Change, registered}
-use Rattle.clk_model.specs.Step.{is_yes, poll, todo, taken, stepped}
+use Rattle.clk_model.specs.Step.{is_end, is_yes, poll, todo, taken, stepped}
 use Rattle.clk_model.proofs.AlikeLaws.{inside_change}
 use Rattle.clk_model.proofs.FlightLaws.{begin_is, step_is, next_is}
 use Rattle.clk_model.proofs.ShapeLaws.{begun_paid}
+use Rattle.clk_model.proofs.VetoLaws.{ends_it}
 use Rattle.clk_machine.specs.Along.{GoesAlong}
-use Rattle.clk_machine.specs.Making.{only_goes_on}
+use Rattle.clk_machine.specs.Making.{ComesFirst, ComesNext, only_goes_on}
 use Rattle.clk_machine.specs.Parts.{Parts, own_in}
 use Rattle.clk_machine.specs.Stands.{Stands, Becomes, Enters}
 use Rattle.clk_machine.proofs.Answered.{HasDone, FineDoes, probe_does}
 use Rattle.clk_machine.proofs.Entered.{own_stands}
+use Rattle.clk_machine.proofs.Making.{change_of}
 
 -- ---- steps
 
@@ -57,6 +60,59 @@ along_step old new n b y enters d m a x same s t stands sound step =
     let to : leads.to ≡ t =
     sym two.1.state ∙ ap (λ (z : State × Turn). let u : State = record (settled s z.0) { steps = s.steps + 1 } in u) (sym alike) ∙ one.1.state in
     subst (λ (u : State). Stands new u) to leads.stands
+
+-- ---- the end of a call
+
+-- the step that an entry tells is the one that comes first
+own_first : (old : Parts) (s t : State) (n : Micro) (d : ℕ) (m : Micro) (a : Option Bool) (x : Turn) → Stands old s → old.flight.going ≡ true → ComesFirst old n → next s d (event.Step m a) ≡ Some (t, x) → m ≡ n
+own_first old s t n d m a x stands going first step =
+    let has = change_of old s stands going in
+    let one = step_is s t d m a x step in
+    first_is n m (todo has.k) (first s.notifiers has.k stands.notifiers has.is)
+    (ap (λ (k : Change). comes_next m (todo k)) (inside_change (sym has.change ∙ one.1.at)) ∙ one.1.first) where
+      first_is : (n m : Micro) (ms : List Micro) → slice_get ms 0 ≡ Some n → comes_next m ms ≡ true → m ≡ n
+      first_is n m [] none next = absurd cc
+      first_is n m (y ∷ ys) at next = let same : y ≡ n = cc in sym (next_is m y ys next) ∙ same
+
+end_stops : (s : State) (k : Change) (a : Option Bool) (m : Micro) → m ≡ micro.End → (stepped s k a m).1 ≡ turn.Going → ⊥
+unfolding stepped
+end_stops s k a m is going = let e : (stepped s k a micro.End).1 ≡ turn.Going = ap (λ (n : Micro). (stepped s k a n).1) (sym is) ∙ going in cc
+
+-- after a step that goes on its call is in flight: that step isn't the end
+pub going_on : (s t : State) (d : ℕ) (m : Micro) (a : Option Bool) → next s d (event.Step m a) ≡ Some (t, turn.Going) → m ≡ micro.End → ⊥
+going_on s t d m a step is =
+    let one = step_is s t d m a turn.Going step in
+    end_stops s (taken one.0) a m is one.1.answered
+
+-- a step at which a call ends is the end
+pub ends_with : (s t : State) (d : ℕ) (m : Micro) (a : Option Bool) (r : Reply) → next s d (event.Step m a) ≡ Some (t, turn.Done r) → m ≡ micro.End
+ends_with s t d m a r step =
+    let one = step_is s t d m a (turn.Done r) step in
+    ends_it s (taken one.0) a m r one.1.answered
+
+-- so where the end comes first no step goes on
+pub along_last : (old new : Parts) (d : ℕ) (m : Micro) (a : Option Bool) → old.flight.going ≡ true → ComesFirst old micro.End → GoesAlong old d (event.Step m a) turn.Going new
+along_last old new d m a going first s t stands sound step = absurd (going_on s t d m a step (own_first old s t micro.End d m a turn.Going stands going first step))
+
+-- an answer is an answer also without the slot of its handle
+pub slotless_done : (r : Reply) → (q : Reply) × (slotless (turn.Done r) ≡ turn.Done q)
+slotless_done (reply.Handle h) = (reply.Handle (record h { slot = 0 }), refl)
+slotless_done r = (r, refl)
+
+-- the step that comes next comes first, also if it is a notice or a fall
+pub comes_first : (m : Parts) (n : Micro) → ComesNext m (Some n) → ComesFirst m n
+comes_first m micro.End first = first
+comes_first m n next = next.1
+
+-- and where another step does, no call ends
+pub along_unended : (old new : Parts) (n : Micro) (d : ℕ) (m : Micro) (a : Option Bool) (r : Reply) → old.flight.going ≡ true → ComesFirst old n → is_end n ≡ false
+    → GoesAlong old d (event.Step m a) (turn.Done r) new
+along_unended old new n d m a r going first other s t stands sound step =
+    let done = slotless_done r in
+    let end : m ≡ micro.End = ends_with s t d m a done.0 (step ∙ ap (λ (x : Turn). Some (t, x)) done.1) in
+    let is : m ≡ n = own_first old s t n d m a (slotless (turn.Done r)) stands going first step in
+    let no : true ≡ false = sym (ap is_end end) ∙ ap is_end is ∙ other in
+    absurd cc
 
 -- ---- calls that were answered at once
 

@@ -1,11 +1,12 @@
 -- A copy goes along with the entries of a core, from the twin that its parts stand for.
-use Rattle.std.proofs.Common.{◌≡◌, ℕ, ◌+◌, ◌≤◌, ◌⊎◌, inl, inr, not, Bool, true, false, List, Option, Some, None, refl, sym, ap, subst, ◌∙◌, arith, length, [], ◌∷◌}
+use Rattle.std.proofs.Common.{◌≡◌, ℕ, ◌+◌, ◌≤◌, ◌<◌, ◌⊎◌, inl, inr, ⊎_elim, not, Bool, true, false, List, Option, Some, None, refl, sym, ap, subst, ◌∙◌, arith, length, [], ◌∷◌}
 use Rattle.std.specs.Prelude.{option_map}
 use Rattle.std.specs.Option.{option_map_or}
 use Rattle.clk_base.specs.declared.call.Micro.{Micro}
 use Rattle.clk_base.specs.declared.call.Micro.TheVariants as micro
 use Rattle.clk_base.specs.declared.call.Sleeping.{Sleeping}
 use Rattle.clk_base.specs.declared.call.Sleeping.TheVariants as call
+use Rattle.clk_base.specs.declared.event.Entry.{Entry}
 use Rattle.clk_base.specs.declared.event.Event.{Event}
 use Rattle.clk_base.specs.declared.event.Event.TheVariants as event
 use Rattle.clk_base.specs.declared.event.Reply.{Reply}
@@ -16,7 +17,7 @@ use Rattle.clk_base.specs.Description.{Description, parents_of}
 use Rattle.clk_base.specs.Valid.{IsValid}
 use Rattle.clk_model.specs.declared.row.ClockRow.{ClockRow}
 use Rattle.clk_model.specs.declared.row.HandleRow.{HandleRow}
-use Rattle.clk_model.specs.Begin.{change_of, begun}
+use Rattle.clk_model.specs.Begin.{change_of, begun, most_credits}
 use Rattle.clk_model.specs.Gates.{settled}
 use Rattle.clk_model.specs.Journal.{slotless}
 use Rattle.clk_model.specs.Laws.PrepSteps.{closes_gate}
@@ -26,6 +27,7 @@ use Rattle.clk_model.specs.Machine.{next}
 use Rattle.clk_model.specs.Prep.{is_sweep, change_prep, prep}
 use Rattle.clk_model.specs.State.{State, Change, registered, link_in}
 use Rattle.clk_model.specs.Step.{stepped}
+use Rattle.clk_model.specs.Tier.{is_step}
 use Rattle.clk_model.proofs.AlikeLaws.{inside_change, same_changes}
 use Rattle.clk_model.proofs.FlightLaws.{IsStep, begin_is, step_is}
 use Rattle.clk_model.proofs.PrepEventLaws.{prep_paid}
@@ -33,17 +35,21 @@ use Rattle.clk_model.proofs.PrepLaws.{prep-spent}
 use Rattle.clk_model.proofs.ShapeLaws.{begun_paid}
 use Rattle.clk_tree.specs.TreeState.{IsTree}
 use Rattle.core_parts.specs.Tied.{AreTied}
-use Rattle.clk_machine.specs.Along.{GoesAlong, SweepsAlong, FollowsEvent, tells_only, is_still}
-use Rattle.clk_machine.specs.Copied.{Copy, Copies, IsCopyOf}
+use Rattle.clk_machine.specs.Along.{GoesAlong, IsEventOf, PartsFollow, SweepsAlong, FollowsEvent, tells_only, is_still}
+use Rattle.clk_machine.specs.Copied.{Copy, Copies, Follows, IsCopyOf}
 use Rattle.clk_machine.specs.Parts.{Parts, IsWhole}
+use Rattle.clk_machine.specs.Ready.{GoesOut, NeverGo}
 use Rattle.clk_machine.specs.SettingOut.{NeverGoes, sweep_end}
 use Rattle.clk_machine.specs.Sound.{IsNarrow, IsSound}
 use Rattle.clk_machine.specs.Stands.{Stands}
+use Rattle.clk_machine.proofs.Along.{ends_with, slotless_done}
+use Rattle.clk_machine.proofs.Answering.{never_going, sweep_has}
 use Rattle.clk_machine.proofs.Flying.{quiet_stands}
 use Rattle.clk_machine.proofs.Likeness.{twin_like, twin_change, twin_quiet}
 use Rattle.clk_machine.proofs.Making.{HasChange}
 use Rattle.clk_machine.proofs.Making as making
 use Rattle.clk_machine.proofs.Still.{tells_still, fine_still}
+use Rattle.clk_machine.proofs.SweptAlong.{halted}
 use Rattle.clk_machine.proofs.Twinned.{TwinGoes, twin_steps, twin_begins, twin_sweeps, twin_goes}
 
 -- ---- the twin is sound
@@ -197,6 +203,14 @@ copies_sweep old new s t d m a x of going sweeping along step = by (closes_gate 
     is = goes.steps.stepped_;
   }
 
+-- at its end none is in flight in the copy
+pub copies_halted : (old new : Copy) (d : ℕ) (m : Micro) (a : Option Bool) (r : Reply) → old.parts.flight.going ≡ true → is_sweep old.parts.flight.call ≡ true
+    → ((s : State) → Stands old.parts s → Stands new.parts (record s { change = None })) → FollowsEvent old d (event.Step m a) (turn.Done r) new
+copies_halted old new d m a r going sweeping stands s t of step =
+    let done = slotless_done r in
+    let last : m ≡ micro.End = ends_with s t d m a done.0 (step ∙ ap (λ (x : Turn). Some (t, x)) done.1) in
+    copies_sweep old new s t d m a (turn.Done r) of going sweeping (subst (λ (i : Micro). SweepsAlong old.parts i new.parts) (sym last) (halted old.parts new.parts stands)) step
+
 -- a call that is answered by Ok at once and isn't the sweep
 pub copies_done : (old new : Copy) (d : ℕ) (what : Sleeping) → IsWhole old.parts → is_sweep what ≡ false → GoesAlong old.parts d (event.Begin what) (turn.Done reply.Fine) new.parts
     → FollowsEvent old d (event.Begin what) (turn.Done reply.Fine) new
@@ -262,3 +276,75 @@ copies_swept old new d stands s t of step =
         same = prep-spent (record tw { change = Some (change_of tw d call.Sweep (micro.End ∷ [])) }) (tw.spent + 1) ∙ swept.same;
       };
     }
+
+-- ---- an entry
+
+-- a copy is one by its parts, whatever it has room for
+by_parts : (copy : Copy) (s : State) → IsCopyOf copy s → IsCopyOf (record { parts = copy.parts; room = None }) s
+by_parts copy s of = record { reached = of.reached; copies = record { twin = of.copies.twin; stands = of.copies.stands; is = of.copies.is } }
+
+-- it follows an entry of the call that it has room for, if its parts go along with the event
+pub follows_parts : (old new : Copy) (e : Entry) (d : ℕ) (what : Sleeping) → old.room ≡ Some (d, what) → (IsEventOf what e.event → PartsFollow old.parts d e.event e.turn new.parts) → Follows old e new
+follows_parts old new e d what room along s t of call step =
+    let same : (d, what) ≡ (e.driver, call.what) = inside_call (sym room ∙ call.room_) in
+    let driver : e.driver ≡ d = sym (ap (λ (r : ℕ × Sleeping). r.0) same) in
+    let one : IsEventOf what e.event = λ isnt. call.begins isnt ∙ ap event.Begin (sym (ap (λ (r : ℕ × Sleeping). r.1) same)) in
+    let copies = along one s t (by_parts old s of) (ap (λ (n : ℕ). next s n e.event) (sym driver) ∙ step) in
+    record { twin = copies.twin; stands = copies.stands; is = copies.is } where
+      inside_call : {a b : ℕ × Sleeping} → Some a ≡ Some b → a ≡ b
+      inside_call is = cc
+
+-- an event of a call that begins one begins it
+pub begin_of : (e : Event) (begun what : Sleeping) → e ≡ event.Begin begun → IsEventOf what e → e ≡ event.Begin what
+begin_of e begun what is of = of (ap is_step is)
+
+-- without room there is no entry to follow
+pub follows_none : (old new : Copy) (e : Entry) → old.room ≡ None → Follows old e new
+follows_none old new e none s t of call step = let no : None ≡ Some (e.driver, call.what) = sym none ∙ call.room_ in absurd cc
+
+-- ---- a beginning
+
+-- a call that goes on nowhere goes on in no state that the copy is of
+no_go : (old : Copy) (s t : State) (d : ℕ) (what : Sleeping) → IsWhole old.parts → IsCopyOf old s → is_sweep what ≡ false → NeverGo old.parts d what → next s d (event.Begin what) ≡ Some (t, turn.Going) → ⊥
+no_go old s t d (call.Prepare h) whole of other never step = never_copied old s t d (call.Prepare h) whole of other never step
+no_go old s t d (call.Unprepare h) whole of other never step = never_copied old s t d (call.Unprepare h) whole of other never step
+no_go old s t d (call.SetRate h x) whole of other never step = never_copied old s t d (call.SetRate h x) whole of other never step
+no_go old s t d (call.SetRateExclusive h x) whole of other never step = never_copied old s t d (call.SetRateExclusive h x) whole of other never step
+no_go old s t d (call.SetRange h least most) whole of other never step = never_copied old s t d (call.SetRange h least most) whole of other never step
+no_go old s t d (call.SetParent h p) whole of other never step = never_copied old s t d (call.SetParent h p) whole of other never step
+no_go old s t d (call.Probe c) whole of other never step = never_copied old s t d (call.Probe c) whole of other never step
+no_go old s t d call.Sweep whole of other never step = absurd cc
+no_go old s t d what whole of other never step = never_going s t d what never step
+
+-- nor does a sweep for which no credit or no room is left
+no_sweep : (old : Copy) (s t : State) (d : ℕ) → IsCopyOf old s → NeverGo old.parts d call.Sweep → next s d (event.Begin call.Sweep) ≡ Some (t, turn.Going) → ⊥
+unfolding prep
+no_sweep old s t d of never step =
+    let has = sweep_has s t d step in
+    let left = has.0 in
+    let room = has.1 in
+    let credits : s.credits ≡ old.parts.credits = sym (ap (λ (u : State). u.credits) of.copies.is.same) ∙ of.copies.stands.credits in
+    let spent = of.copies.stands.spent in
+    let least = of.copies.is.spent in
+    let steps = of.copies.stands.steps in
+    let few = of.copies.is.steps in
+    ⊎_elim (λ (poor : old.parts.credits ≤ old.parts.spent). let no : ⊥ = omega arith in no) (λ (full : most_credits < old.parts.credits + old.parts.steps + 1). let no : ⊥ = omega arith in no) never
+
+-- how a call that isn't the sweep goes out
+goes_or_never : (old new : Parts) (d : ℕ) (what : Sleeping) → is_sweep what ≡ false → GoesOut old d what new → GoesAlong old d (event.Begin what) turn.Going new ⊎ NeverGo old d what
+goes_or_never old new d call.Sweep other goes = absurd cc
+goes_or_never old new d what other goes = goes
+
+swept_out : (old new : Copy) (d : ℕ) → ((s : State) → Stands old.parts s → Stands new.parts (sweep_end s d)) ⊎ NeverGo old.parts d call.Sweep → FollowsEvent old d (event.Begin call.Sweep) turn.Going new
+swept_out old new d (inl stands) = copies_swept old new d stands
+swept_out old new d (inr never) = λ s t of step. absurd (no_sweep old s t d of never step)
+
+gone_out : (old new : Copy) (d : ℕ) (what : Sleeping) → IsWhole old.parts → is_sweep what ≡ false → GoesAlong old.parts d (event.Begin what) turn.Going new.parts ⊎ NeverGo old.parts d what
+    → FollowsEvent old d (event.Begin what) turn.Going new
+gone_out old new d what whole other (inl along) = copies_going old new d what whole other along
+gone_out old new d what whole other (inr never) = λ s t of step. absurd (no_go old s t d what whole of other never step)
+
+-- a call that goes on begins in the copy with what was made for it
+pub copies_out : (old new : Parts) (d : ℕ) (what : Sleeping) → IsWhole old → GoesOut old d what new → PartsFollow old d (event.Begin what) turn.Going new
+copies_out old new d call.Sweep whole goes = swept_out (record { parts = old; room = None }) (record { parts = new; room = None }) d goes
+copies_out old new d what whole goes = gone_out (record { parts = old; room = None }) (record { parts = new; room = None }) d what whole refl (goes_or_never old new d what refl goes)

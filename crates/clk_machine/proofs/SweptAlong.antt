@@ -15,7 +15,7 @@ use Rattle.clk_base.proofs.Valid.{power-field}
 use Rattle.clk_model.specs.Kinds.{with_power}
 use Rattle.clk_model.specs.Prep.{is_sweep}
 use Rattle.clk_model.specs.State.{State, Change}
-use Rattle.clk_model.specs.Step.{powered, on, range_back, unranged, ended_well, stepped}
+use Rattle.clk_model.specs.Step.{is_end, powered, on, range_back, unranged, ended_well, stepped}
 use Rattle.clk_model.proofs.ApartLaws.{fielded_lt}
 use Rattle.clk_flight.specs.Flights.{FlightState}
 use Rattle.core_parts.proofs.Powering.{power_put, powered_words}
@@ -138,3 +138,14 @@ halted old new stands = record {
   closes = λ is. absurd cc;
   others = λ own plain s l answer is at sweeps. subst (λ (u : State). Stands new (record u { change = None })) (sym (swept s l (l.vetoed || l.timed_out) sweeps)) (stands s is);
 }
+
+-- any other step but the end closes a gate, or isn't one of a sweep
+pub swept_only : (old : Parts) (m : Micro) → is_end m ≡ false → ((c : ClockId) → m ≡ micro.Unpower c → ⊥) → SweepsAlong old m old
+swept_only old (micro.Unpower c) other never = absurd (never c refl)
+swept_only old micro.End other never = absurd cc
+swept_only old m other never = record { closes = λ is. refl; others = λ own plain. absurd cc }
+
+-- a step that isn't the end is told apart from it
+pub not_last : (m : Micro) → (m ≡ micro.End → ⊥) → is_end m ≡ false
+not_last micro.End other = absurd (other refl)
+not_last m other = refl

@@ -1,9 +1,10 @@
 -- How parts go along with an event that a machine took elsewhere.
-use Rattle.std.specs.Prelude.{◌≡◌, ℕ, Option, Some, Bool, true, false}
+use Rattle.std.specs.Prelude.{◌≡◌, ℕ, Option, Some, None, Bool, true, false}
 use Rattle.clk_base.specs.declared.call.Micro.{Micro}
 use Rattle.clk_base.specs.declared.call.Sleeping.{Sleeping}
 use Rattle.clk_base.specs.declared.call.Sleeping.TheVariants as call
 use Rattle.clk_base.specs.declared.event.Event.{Event}
+use Rattle.clk_base.specs.declared.event.Event.TheVariants as event
 use Rattle.clk_base.specs.declared.event.Reply.{Reply}
 use Rattle.clk_base.specs.declared.event.Reply.TheVariants as reply
 use Rattle.clk_base.specs.declared.event.Turn.{Turn}
@@ -13,6 +14,7 @@ use Rattle.clk_model.specs.Laws.PrepSteps.{closes_gate, is_of_sweep}
 use Rattle.clk_model.specs.Prep.{is_sweep}
 use Rattle.clk_model.specs.State.{State, Change}
 use Rattle.clk_model.specs.Step.{stepped}
+use Rattle.clk_model.specs.Tier.{is_step}
 use Rattle.clk_machine.specs.Copied.{Copy, Copies, IsCopyOf}
 use Rattle.clk_machine.specs.Parts.{Parts}
 use Rattle.clk_machine.specs.Sound.{IsSound}
@@ -59,3 +61,13 @@ FollowsEvent old d e x new = (s t : State) → IsCopyOf old s → next s d e ≡
 abbrev pub adds_notifier : Sleeping → Bool
 adds_notifier (call.NotifierAdd h id priority policy) = true
 adds_notifier _ = false
+
+-- parts of a copy go along with an event
+abbrev pub PartsFollow : Parts → ℕ → Event → Turn → Parts → Type 0
+PartsFollow old d e x new = FollowsEvent (copy_of old) d e x (copy_of new) where
+  copy_of : Parts → Copy
+  copy_of m = record { parts = m; room = None }
+
+-- an event is one of a call: its beginning, or a step
+abbrev pub IsEventOf : Sleeping → Event → Type 0
+IsEventOf what e = is_step e ≡ false → e ≡ event.Begin what

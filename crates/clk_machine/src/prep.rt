@@ -1,17 +1,22 @@
 //! A copy of the prepare tier of a core, over which calls are decided.
 
-ghost use Rattle.std.specs.Prelude.{◌≡◌, false, Some, IfOk, IsOk, OnErr, OnOk};
+ghost use Rattle.std.specs.Prelude.{◌≡◌, false, None, Some, IfOk, IsOk, OnErr, OnOk};
+ghost use Rattle.clk_model.specs.Journal.{is_going};
 ghost use Rattle.clk_model.specs.State.{State};
-ghost use Rattle.clk_machine.specs.Copied.{IsCopyOf, IsDecided, StaysCopy};
+ghost use Rattle.clk_machine.specs.Along.{KeepsShape};
+ghost use Rattle.clk_machine.specs.Copied.{Follows, IsCopyOf, IsDecided, StaysCopy, room_after};
 ghost use Rattle.clk_machine.specs.Sound.{IsPlaced, takes_memory};
 
+mod ending;
 mod following;
 mod ready;
 
+use self::ending::end_with;
+use self::following::go_on;
 use self::ready::{Ready, make_ready};
 use crate::decision::Decision;
 use crate::machine::{Machine, is_asking, is_planning};
-use clk_base::{Pause, Sleeping};
+use clk_base::{Entry, Pause, Sleeping, Turn};
 use clk_io::NoMemory;
 use rate_planner::Pausing;
 use reg_bank::MemBank;
@@ -116,5 +121,44 @@ impl Prep {
         swap(&mut self.ready, &mut self.spare);
         self.room = Some((driver, *what));
         Ok(())
+    }
+
+    /// Goes along with an entry of the core. Takes no memory.
+    pub fn follow(&mut self, entry: &Entry)
+        // The copy goes along with an entry of the call that there is room for.
+        ensures follows { Follows self.old entry.now self.new }
+        // There is room for that call as long as it goes on.
+        ensures room { self.new.room ≡ room_after entry.now.turn self.old.room }
+        // After an entry at which a call ends, no call is in flight in the copy.
+        ensures quiet { is_going entry.now.turn ≡ false → self.new.parts.flight.going ≡ false }
+        // Its description and the number of its words stay.
+        ensures same { (self.new.parts.desc ≡ self.old.parts.desc) × (self.new.parts.window.size ≡ self.old.parts.window.size) }
+    {
+        let Some((driver, what)) = self.room else {
+            self.pass(entry.turn);
+            return;
+        };
+        match entry.turn {
+            Turn::Going => {
+                go_on(&mut self.machine, &mut self.ready, driver, what, entry.event)
+            }
+            Turn::Done(reply) => {
+                self.room = None;
+                end_with(&mut self.machine, driver, what, entry.event, reply)
+            }
+        }
+    }
+
+    // Passes an entry that there is no room for.
+    fn pass(&mut self, turn: Turn)
+        requires { self.old.room ≡ None }
+        ensures room { self.new.room ≡ None }
+        ensures quiet { is_going turn ≡ false → self.new.parts.flight.going ≡ false }
+        ensures same { KeepsShape self.old.parts self.new.parts }
+    {
+        match turn {
+            Turn::Going => {}
+            Turn::Done(_) => self.machine.halt(),
+        }
     }
 }

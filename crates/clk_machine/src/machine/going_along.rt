@@ -6,6 +6,7 @@ ghost use Rattle.clk_base.specs.declared.call.Micro.{Micro};
 ghost use Rattle.clk_base.specs.declared.call.Micro.TheVariants as micro;
 ghost use Rattle.clk_base.specs.declared.call.Sleeping.TheVariants as call;
 ghost use Rattle.clk_base.specs.declared.event.Event.TheVariants.{Begin, Step};
+ghost use Rattle.clk_base.specs.declared.event.Reply.{Reply};
 ghost use Rattle.clk_base.specs.declared.event.Reply.TheVariants.{Fine};
 ghost use Rattle.clk_base.specs.declared.event.Turn.{Turn};
 ghost use Rattle.clk_base.specs.declared.event.Turn.TheVariants.{Done, Going};
@@ -47,10 +48,20 @@ impl<B: Bank> Machine<B> {
         self.steps += 1;
     }
 
-    /// Makes the step that comes next of the change in flight. A poll is answered so.
-    pub(crate) fn step_as(&mut self, answer: Option<bool>)
+    // Nothing goes on where the end comes next.
+    fn stay(&self)
+        requires going { self.now.flight.going ≡ true }
+        requires first { ComesFirst self.now micro.End }
+        ensures { (d : ℕ) (m : Micro) (a : Option Bool) → GoesAlong self.now d (Step m a) Going self.now }
+    {
+    }
+
+    /// Makes the step that comes next of the change in flight, unless that is the end. A poll is answered
+    /// so.
+    pub(crate) fn step_on(&mut self, answer: Option<bool>)
         requires { self.old.flight.going ≡ true }
-        ensures along { (d : ℕ) (m : Micro) (x : Turn) → GoesAlong self.old d (Step m answer) x self.new }
+        ensures along { (d : ℕ) (m : Micro) → GoesAlong self.old d (Step m answer) Going self.new }
+        ensures going { self.new.flight.going ≡ true }
         ensures same { KeepsShape self.old self.new }
     {
         match self.next_step() {
@@ -58,10 +69,23 @@ impl<B: Bank> Machine<B> {
                 let yes = is_yes(answer);
                 self.poll_as(pll, yes);
             }
+            Some(Micro::End) | None => self.stay(),
+            Some(step) => self.make(step),
+        }
+    }
+
+    /// The change in flight ends, as its end does it if that comes next.
+    pub(crate) fn step_out(&mut self)
+        requires { self.old.flight.going ≡ true }
+        ensures along { (d : ℕ) (m : Micro) (a : Option Bool) (r : Reply) → GoesAlong self.old d (Step m a) (Done r) self.new }
+        ensures quiet { self.new.flight.going ≡ false }
+        ensures same { KeepsShape self.old self.new }
+    {
+        match self.next_step() {
             Some(Micro::End) | None => {
                 let _reply = self.end();
             }
-            Some(step) => self.make(step),
+            Some(_step) => self.halt(),
         }
     }
 

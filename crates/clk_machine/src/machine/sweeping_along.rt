@@ -4,7 +4,7 @@
 ghost use Rattle.std.specs.Prelude.{◌≡◌, ◌<◌, false, None, length, nat_lt};
 ghost use Rattle.clk_model.specs.Prep.{is_sweep};
 ghost use Rattle.clk_model.specs.State.{State};
-ghost use Rattle.clk_model.specs.Step.{powered};
+ghost use Rattle.clk_model.specs.Step.{is_end, powered};
 ghost use Rattle.clk_machine.specs.Along.{KeepsShape, SweepsAlong};
 ghost use Rattle.clk_machine.specs.Stands.{Stands};
 
@@ -34,6 +34,7 @@ impl<B: Bank> Machine<B> {
     fn unpower_along(&mut self, clock: ClockId)
         requires { clock.0 < length self.old.desc.defs }
         ensures stands { (s : State) → Stands self.old s → Stands self.new (powered s clock.0 false) }
+        ensures flight { self.new.flight ≡ self.old.flight }
         ensures same { KeepsShape self.old self.new }
     {
         set_power(self.desc.def(clock).kind, &mut self.window, false);
@@ -46,19 +47,16 @@ impl<B: Bank> Machine<B> {
         (clock.0 as usize) < self.desc.len()
     }
 
-    /// Goes along with a step of a sweep.
-    pub(crate) fn sweep_as(&mut self, step: Micro)
-        ensures along { SweepsAlong self.old step self.new }
+    /// Goes along with a step of a sweep, unless that is the end.
+    pub(crate) fn sweep_on(&mut self, step: Micro)
+        ensures along { is_end step ≡ false → SweepsAlong self.old step self.new }
+        ensures flight { self.new.flight ≡ self.old.flight }
         ensures same { KeepsShape self.old self.new }
     {
-        match step {
-            Micro::Unpower(clock) => {
-                if self.has_clock(clock) {
-                    self.unpower_along(clock);
-                }
+        if let Micro::Unpower(clock) = step {
+            if self.has_clock(clock) {
+                self.unpower_along(clock);
             }
-            Micro::End => self.halt(),
-            _ => {}
         }
     }
 }

@@ -1,81 +1,67 @@
-//! How a copy goes along with the entries of a core.
+//! How a copy goes along with an event after which its call goes on.
 
-ghost use Rattle.std.specs.Prelude.{◌≡◌, ℕ, true, false, None};
-ghost use Rattle.clk_base.specs.declared.call.Sleeping.TheVariants as call;
+ghost use Rattle.std.specs.Prelude.{◌≡◌, ℕ, Bool, Option, false};
 ghost use Rattle.clk_base.specs.declared.event.Event.TheVariants.{Begin, Step};
-ghost use Rattle.clk_base.specs.declared.event.Reply.TheVariants.{Fine};
-ghost use Rattle.clk_base.specs.declared.event.Turn.{Turn};
-ghost use Rattle.clk_base.specs.declared.event.Turn.TheVariants.{Done};
-ghost use Rattle.clk_machine.specs.Along.{FollowsEvent, KeepsShape, adds_notifier, is_still};
-ghost use Rattle.clk_machine.specs.Sound.{IsPlaced};
+ghost use Rattle.clk_base.specs.declared.event.Turn.TheVariants.{Going};
+ghost use Rattle.clk_machine.specs.Along.{IsEventOf, KeepsShape, PartsFollow};
+ghost use Rattle.clk_machine.specs.Changing.{course_of};
+ghost use Rattle.clk_machine.specs.Ready.{IsReadyFor};
 
-use super::Prep;
-use clk_base::{Micro, Sleeping};
+use super::ready::{Ready, set_out};
+use crate::machine::Machine;
+use clk_base::{Event, Micro, Sleeping};
+use reg_bank::MemBank;
 
-// Whether a call that is answered by Ok at once leaves all as it is.
-fn is_still(what: Sleeping) -> bool
-    ensures { result ≡ is_still what }
+// Begins the call that was made ready, unless one is in flight.
+fn begin_along(
+    machine: &mut Machine<MemBank>,
+    ready: &mut Ready,
+    driver: u32,
+    what: Sleeping,
+)
+    requires ready { machine.old.flight.going ≡ false → IsReadyFor machine.old driver what ready.old.flight (course_of ready.old.draft) }
+    ensures follows { PartsFollow machine.old driver (Begin what) Going machine.new }
+    ensures ready { machine.new.flight.going ≡ false → IsReadyFor machine.new driver what ready.new.flight (course_of ready.new.draft) }
+    ensures same { KeepsShape machine.old machine.new }
 {
-    matches!(
-        what,
-        Sleeping::Get(_)
-            | Sleeping::GetRate(_)
-            | Sleeping::RoundRate(_, _)
-            | Sleeping::SetRate(_, _)
-            | Sleeping::SetParent(_, _)
-            | Sleeping::GetParent(_)
-            | Sleeping::Sweep
-    )
+    if !machine.is_quiet() {
+        return;
+    }
+    set_out(machine, ready, driver, what);
 }
 
-impl Prep {
-    // Goes along with a step of the call in flight.
-    fn follow_step(&mut self, step: Micro, answer: Option<bool>)
-        requires { self.old.room ≡ None }
-        ensures follows { (d : ℕ) (x : Turn) → FollowsEvent self.old d (Step step answer) x self.new }
-        ensures room { self.new.room ≡ self.old.room }
-        ensures same { KeepsShape self.old.parts self.new.parts }
-    {
-        if self.machine.is_quiet() {
-            return;
-        }
-        if self.machine.sweeps() {
-            self.machine.sweep_as(step);
-            return;
-        }
-        self.machine.step_as(answer);
+// Goes along with a step of the call in flight.
+fn step_along(machine: &mut Machine<MemBank>, step: Micro, answer: Option<bool>)
+    ensures follows { (d : ℕ) → PartsFollow machine.old d (Step step answer) Going machine.new }
+    ensures kept { machine.new.flight.going ≡ false → machine.new ≡ machine.old }
+    ensures same { KeepsShape machine.old machine.new }
+{
+    if machine.is_quiet() {
+        return;
     }
+    if machine.sweeps() {
+        machine.sweep_on(step);
+        return;
+    }
+    machine.step_on(answer);
+}
 
-    // Goes along with a call that was answered by Ok at once and does something.
-    fn do_along(&mut self, driver: u32, what: Sleeping)
-        requires room { self.old.room ≡ None }
-        requires place { IsPlaced self.old.parts.desc.defs what }
-        requires moves { is_still what ≡ false }
-        requires known { adds_notifier what ≡ false }
-        ensures follows { FollowsEvent self.old driver (Begin what) (Done Fine) self.new }
-        ensures room { self.new.room ≡ self.old.room }
-        ensures same { KeepsShape self.old.parts self.new.parts }
-    {
-        if !self.machine.is_quiet() {
-            return;
-        }
-        match what {
-            Sleeping::Put(handle) => self.machine.put_along(driver, handle),
-            Sleeping::Prepare(handle) => self.machine.prepare_along(driver, handle),
-            Sleeping::Unprepare(handle) => self.machine.unprepare_along(driver, handle),
-            Sleeping::SetRateExclusive(handle, _) => {
-                self.machine.exclusive_get_along(driver, handle)
-            }
-            Sleeping::SetRange(handle, least, most) => {
-                self.machine.range_along(driver, handle, least, most)
-            }
-            Sleeping::ExclusiveGet(handle) => self.machine.exclusive_get_along(driver, handle),
-            Sleeping::ExclusivePut(handle) => self.machine.exclusive_put_along(driver, handle),
-            Sleeping::NotifierRemove(handle, id) => {
-                self.machine.notifier_remove_along(driver, handle, id)
-            }
-            Sleeping::Probe(clock) => self.machine.probe_along(driver, clock),
-            _ => unreachable!(),
-        }
+/// Goes along with an event of a call that goes on after it, with what was made ready for the call.
+pub(super) fn go_on(
+    machine: &mut Machine<MemBank>,
+    ready: &mut Ready,
+    driver: u32,
+    what: Sleeping,
+    event: Event,
+)
+    requires ready { machine.old.flight.going ≡ false → IsReadyFor machine.old driver what ready.old.flight (course_of ready.old.draft) }
+    ensures follows { IsEventOf what event → PartsFollow machine.old driver event Going machine.new }
+    ensures ready { machine.new.flight.going ≡ false → IsReadyFor machine.new driver what ready.new.flight (course_of ready.new.draft) }
+    ensures same { KeepsShape machine.old machine.new }
+{
+    match event {
+        Event::Begin(_) => begin_along(machine, ready, driver, what),
+        Event::Step(step, answer) => step_along(machine, step, answer),
+        _ => {}
     }
 }

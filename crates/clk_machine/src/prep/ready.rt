@@ -76,6 +76,7 @@ pub(super) fn set_out(
 )
     requires ready { IsReadyFor machine.old driver what ready.old.flight (course_of ready.old.draft) }
     ensures goes { GoesOut machine.old driver what machine.new }
+    ensures ready { machine.new.flight.going ≡ false → IsReadyFor machine.new driver what ready.new.flight (course_of ready.new.draft) }
     ensures same { KeepsShape machine.old machine.new }
 {
     if !ready.flight.going() {

@@ -1,0 +1,157 @@
+//! How a copy goes along with an event at which its call ends.
+
+ghost use Rattle.std.specs.Prelude.{◌≡◌, ℕ, Bool, Option, true, false};
+ghost use Rattle.clk_base.specs.declared.call.Micro.{Micro};
+ghost use Rattle.clk_base.specs.declared.call.Sleeping.TheVariants as call;
+ghost use Rattle.clk_base.specs.declared.event.Event.TheVariants.{Begin, Step};
+ghost use Rattle.clk_base.specs.declared.event.Reply.{Reply};
+ghost use Rattle.clk_base.specs.declared.handle.Handle.{Handle};
+ghost use Rattle.clk_base.specs.declared.event.Reply.TheVariants.{Fine};
+ghost use Rattle.clk_base.specs.declared.event.Reply.TheVariants as reply;
+ghost use Rattle.clk_base.specs.declared.event.Turn.TheVariants.{Done};
+ghost use Rattle.clk_machine.specs.Along.{IsEventOf, KeepsShape, PartsFollow, adds_notifier, is_still};
+ghost use Rattle.clk_machine.specs.Parts.{IsWhole};
+ghost use Rattle.clk_machine.specs.Sound.{IsPlaced};
+
+use crate::machine::Machine;
+use clk_base::{Event, Reply, Sleeping};
+use reg_bank::MemBank;
+
+// Whether a call that is answered by Ok at once leaves all as it is.
+fn is_still(what: Sleeping) -> bool
+    ensures { result ≡ is_still what }
+{
+    matches!(
+        what,
+        Sleeping::Get(_)
+            | Sleeping::GetRate(_)
+            | Sleeping::RoundRate(_, _)
+            | Sleeping::SetRate(_, _)
+            | Sleeping::SetParent(_, _)
+            | Sleeping::GetParent(_)
+            | Sleeping::Sweep
+    )
+}
+
+// Goes along with a call that was answered by Ok at once and does something.
+fn do_along(machine: &mut Machine<MemBank>, driver: u32, what: Sleeping)
+    requires quiet { machine.old.flight.going ≡ false }
+    requires place { IsPlaced machine.old.desc.defs what }
+    requires moves { is_still what ≡ false }
+    requires known { adds_notifier what ≡ false }
+    requires whole { IsWhole machine.old }
+    ensures follows { PartsFollow machine.old driver (Begin what) (Done Fine) machine.new }
+    ensures quiet { machine.new.flight.going ≡ false }
+    ensures same { KeepsShape machine.old machine.new }
+{
+    match what {
+        Sleeping::Put(handle) => machine.put_along(driver, handle),
+        Sleeping::Prepare(handle) => machine.prepare_along(driver, handle),
+        Sleeping::Unprepare(handle) => machine.unprepare_along(driver, handle),
+        Sleeping::SetRateExclusive(handle, _) => machine.exclusive_get_along(driver, handle),
+        Sleeping::SetRange(handle, least, most) => {
+            machine.range_along(driver, handle, least, most)
+        }
+        Sleeping::ExclusiveGet(handle) => machine.exclusive_get_along(driver, handle),
+        Sleeping::ExclusivePut(handle) => machine.exclusive_put_along(driver, handle),
+        Sleeping::NotifierRemove(handle, id) => {
+            machine.notifier_remove_along(driver, handle, id)
+        }
+        Sleeping::Probe(clock) => machine.probe_along(driver, clock),
+        _ => unreachable!(),
+    }
+}
+
+// Goes along with the step at which the call in flight ends.
+fn end_along(machine: &mut Machine<MemBank>)
+    ensures follows { (d : ℕ) (m : Micro) (a : Option Bool) (r : Reply) → PartsFollow machine.old d (Step m a) (Done r) machine.new }
+    ensures quiet { machine.new.flight.going ≡ false }
+    ensures same { KeepsShape machine.old machine.new }
+{
+    if machine.is_quiet() {
+        return;
+    }
+    if machine.sweeps() {
+        machine.halt();
+        return;
+    }
+    machine.step_out();
+}
+
+// Goes along with a call that was answered by Ok at once.
+fn fine_along(
+    machine: &mut Machine<MemBank>,
+    driver: u32,
+    what: Sleeping,
+)
+    requires quiet { machine.old.flight.going ≡ false }
+    requires place { IsPlaced machine.old.desc.defs what }
+    requires whole { IsWhole machine.old }
+    requires stub { false ≡ true }
+    ensures follows { PartsFollow machine.old driver (Begin what) (Done Fine) machine.new }
+    ensures quiet { machine.new.flight.going ≡ false }
+    ensures same { KeepsShape machine.old machine.new }
+{
+    if is_still(what) {
+        return;
+    }
+    do_along(machine, driver, what);
+}
+
+// Goes along with a call that was answered by a handle.
+fn given_along(
+    machine: &mut Machine<MemBank>,
+    driver: u32,
+    what: Sleeping,
+)
+    requires quiet { machine.old.flight.going ≡ false }
+    requires place { IsPlaced machine.old.desc.defs what }
+    requires stub { false ≡ true }
+    ensures follows { (h : Handle) → PartsFollow machine.old driver (Begin what) (Done (reply.Handle h)) machine.new }
+    ensures quiet { machine.new.flight.going ≡ false }
+    ensures same { KeepsShape machine.old machine.new }
+{
+    machine.halt();
+}
+
+// Goes along with a call that was answered at once.
+fn answer_along(
+    machine: &mut Machine<MemBank>,
+    driver: u32,
+    what: Sleeping,
+    reply: Reply,
+)
+    requires place { IsPlaced machine.old.desc.defs what }
+    ensures follows { PartsFollow machine.old driver (Begin what) (Done reply) machine.new }
+    ensures quiet { machine.new.flight.going ≡ false }
+    ensures same { KeepsShape machine.old machine.new }
+{
+    if !machine.is_quiet() {
+        machine.halt();
+        return;
+    }
+    match reply {
+        Reply::Fine => fine_along(machine, driver, what),
+        Reply::Handle(_) => given_along(machine, driver, what),
+        _ => {}
+    }
+}
+
+/// Goes along with an event at which a call ends.
+pub(super) fn end_with(
+    machine: &mut Machine<MemBank>,
+    driver: u32,
+    what: Sleeping,
+    event: Event,
+    reply: Reply,
+)
+    requires place { IsPlaced machine.old.desc.defs what }
+    ensures follows { IsEventOf what event → PartsFollow machine.old driver event (Done reply) machine.new }
+    ensures quiet { machine.new.flight.going ≡ false }
+    ensures same { KeepsShape machine.old machine.new }
+{
+    match event {
+        Event::Begin(_) => answer_along(machine, driver, what, reply),
+        _ => end_along(machine),
+    }
+}
