@@ -89,19 +89,12 @@ impl Notifiers {
         &self,
         alloc: Global,
         c: ClockId,
-        id: u32,
-        priority: i32,
-        policy: Policy,
+        notifier: Notifier,
     ) -> Result<Chain, ChainFault>
-        ensures made { IfOk result (IsWith self.now (record { clock = c.0; id = id; priority = priority; policy = policy })) }
-        ensures can { OnOk result (CanAdd id (chain_of self.now c.0)) }
-        ensures why { IfErr result (WhyNot id (chain_of self.now c.0)) }
+        ensures made { IfOk result (IsWith self.now (row_on c.0 notifier)) }
+        ensures can { OnOk result (CanAdd notifier.id (chain_of self.now c.0)) }
+        ensures why { IfErr result (WhyNot notifier.id (chain_of self.now c.0)) }
     {
-        let notifier = Notifier {
-            id,
-            priority,
-            policy,
-        };
         Ok(Chain {
             notifiers: with(alloc, self.chain(c), notifier)?,
         })
