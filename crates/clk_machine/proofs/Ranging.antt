@@ -19,11 +19,12 @@ use Rattle.core_parts.proofs.Holdings.{moves_none, StandsFor-same, StandsFor-put
 use Rattle.core_parts.proofs.Shapes.{handle_at-put, sum_by-set}
 use Rattle.clk_machine.proofs.Writing.{Written}
 
--- a table with these clocks and handles
-pub table_is : (table' : HandleTable) (clocks : ℕ) (handles : List (Option HandleRow)) → table'.clocks ≡ clocks → table'.handles ≡ handles → table' ≡ record { clocks = clocks; handles = handles }
-table_is table' clocks handles many same =
-    ap (λ (k : ℕ). let t : HandleTable = record { clocks = k; handles = table'.handles } in t) many
-    ∙ ap (λ (hs : List (Option HandleRow)). let t : HandleTable = record { clocks = clocks; handles = hs } in t) same
+-- a table whose handles alone are others
+pub table_is : (table table' : HandleTable) (handles : List (Option HandleRow)) → table'.clocks ≡ table.clocks → table'.place ≡ table.place → table'.handles ≡ handles → table' ≡ record table { handles = handles }
+table_is table table' handles many place same =
+    ap (λ (k : ℕ). let t : HandleTable = record table' { clocks = k } in t) many
+    ∙ ap (λ (o : Option ℕ). let t : HandleTable = record { clocks = table.clocks; handles = table'.handles; place = o } in t) place
+    ∙ ap (λ (hs : List (Option HandleRow)). let t : HandleTable = record table { handles = hs } in t) same
 
 -- a range is written
 pub written_range : (old : Parts) (n least most : ℕ) (row : HandleRow) (table' : HandleTable) → IsWhole old → handle_at old.table.handles n ≡ Some row → table'.handles ≡ with_range_at old.table.handles n least most

@@ -129,13 +129,13 @@ can_lower m d h row f quiet is own free freed_ room sets =
     }
 
 -- the parts behind it
-pub lower_parts : (m : Parts) (n : ℕ) (row : HandleRow) (f f' : FlightState) (table' : HandleTable) (counts' : CountState) → f' ≡ f → table'.clocks ≡ m.table.clocks
+pub lower_parts : (m : Parts) (n : ℕ) (row : HandleRow) (f f' : FlightState) (table' : HandleTable) (counts' : CountState) → f' ≡ f → table'.clocks ≡ m.table.clocks → table'.place ≡ m.table.place
     → table'.handles ≡ set m.table.handles n (Some (prepared_less row)) → counts' ≡ released m.counts row.clock.0
     → record m { flight = f'; spent = m.spent + 1; table = table'; counts = counts' } ≡ set_lower m n row f
-lower_parts m n row f f' table' counts' flight clocks handles counts =
+lower_parts m n row f f' table' counts' flight clocks place handles counts =
     ap (λ (g : FlightState). let p : Parts = record m { flight = g; spent = m.spent + 1; table = table'; counts = counts' } in p) flight
     ∙ ap (λ (t : HandleTable). let p : Parts = record m { flight = f; spent = m.spent + 1; table = t; counts = counts' } in p)
-    (table_is table' m.table.clocks (set m.table.handles n (Some (prepared_less row))) clocks handles)
+    (table_is m.table table' (set m.table.handles n (Some (prepared_less row))) clocks place handles)
     ∙ ap (λ (k : CountState). let p : Parts = record m { flight = f; spent = m.spent + 1; table = record m.table { handles = set m.table.handles n (Some (prepared_less row)) }; counts = k } in p) counts
 
 -- ---- a sweep

@@ -122,7 +122,7 @@ steps_left m = left_over (rows_from 0 m.chains) m.flight
 
 -- the parts with another range of a handle
 abbrev pub with_range : Parts → ℕ → ℕ → ℕ → Parts
-with_range m number least most = record m { table = record { clocks = m.table.clocks; handles = with_range_at m.table.handles number least most } }
+with_range m number least most = record m { table = record m.table { handles = with_range_at m.table.handles number least most } }
 
 -- what the parts of a core keep
 pub record IsWhole (m : Parts) : Type 0 where

@@ -1,7 +1,8 @@
 -- Laws on chains: what a chain that changed in its place tells, with one notifier more or without one.
-use Rattle.std.proofs.Common.{◌≡◌, ◌≢◌, ℕ, suc, ◌+◌, ◌<◌, ◌≤◌, ◌&&◌, ◌||◌, Bool, true, false, not, cond, List, [], ◌∷◌, ◌++◌, Some, None, Result, Ok, Err, OnOk, refl, sym, ap, ◌∙◌, subst, ⊎_elim, arith, length, map, set, get_or, nat_eq, nat_lt}
+use Rattle.std.proofs.Common.{◌≡◌, ◌≢◌, ℕ, suc, ◌+◌, ◌<◌, ◌≤◌, ◌&&◌, ◌||◌, Bool, true, false, not, cond, List, [], ◌∷◌, ◌++◌, Some, None, Result, Ok, Err, OnOk, IfErr, refl, sym, ap, ◌∙◌, subst, ⊎_elim, arith, length, map, set, get_or, nat_eq, nat_lt}
 use Rattle.std.specs.Prelude.{filter, insert, unwrap_or, position}
 use Rattle.std.specs.List.{list_any, position_or_len}
+use Rattle.std.specs.Result.{IsErrAnd}
 use Rattle.std.specs.Int.RustNames.{int_lt}
 use Rattle.std.proofs.lemmas.Bool.{cases_eq, cases_lt}
 use Rattle.std.proofs.lemmas.Bool.Decides.{nat_tests}
@@ -152,3 +153,8 @@ has_id-chain id c (m ∷ ms) = ap (λ (t : Bool). nat_eq m.id id || t) (has_id-c
 pub on_ok_always : {T E P : Type 0} (r : Result T E) → P → OnOk r P
 on_ok_always (Ok x) p = p
 on_ok_always (Err e) p = tt
+
+-- what the error of a call is told by that which it was made of
+pub told_of_error : {T E : Type 0} (r : Result T E) (Q P : E → Type 0) → IsErrAnd r Q → ((e : E) → Q e → P e) → IfErr r P
+told_of_error (Ok x) Q P is all = tt
+told_of_error (Err e) Q P is all = all e is

@@ -2,7 +2,7 @@
 use Rattle.std.specs.Prelude.{◌≡◌, ℕ, ◌<◌, ◌≤◌, ◌==◌, ◌&&◌, Bool, true, false, not, List, [], filter, map, length, slice_index_or}
 use Rattle.std.specs.List.{list_any}
 use Rattle.clk_model.specs.State.{NotifierRow}
-use Rattle.clk_model.specs.Notices.{notifiers_of}
+use Rattle.clk_model.specs.Notices.{by_priority, notifiers_of}
 use Rattle.clk_model.specs.Begin.{most_notifiers}
 use Rattle.notifiers.specs.declared.notifier.Notifier.{Notifier}
 use Rattle.notifiers.specs.declared.fault.ChainFault.{ChainFault}
@@ -20,6 +20,10 @@ chain_of chains c = map (row_on c) (slice_index_or chains c [])
 -- equals in the order of adding
 abbrev pub Tells : List (List Notifier) → List NotifierRow → Type 0
 Tells chains notifiers = (c : ℕ) → chain_of chains c ≡ notifiers_of notifiers c
+
+-- a chain is that of a notifier's clock with the notifier in its place: by falling priority, after its equals
+abbrev pub IsWith : List (List Notifier) → NotifierRow → List Notifier → Type 0
+IsWith chains n chain = map (row_on n.clock) chain ≡ by_priority n (chain_of chains n.clock)
 
 -- whether a chain has a notifier of this id
 abbrev pub has_id : ℕ → List NotifierRow → Bool

@@ -52,6 +52,20 @@ fn insert(chain: &mut Vec<Notifier>, notifier: Notifier) -> Result<(), ChainFaul
     Ok(())
 }
 
+// Refuses an id that is there, and any in a chain that is full.
+fn check(chain: &[Notifier], id: u32) -> Result<(), ChainFault>
+    ensures can { (c : ℕ) → OnOk result (CanAdd id (map (row_on c) chain.now)) }
+    ensures why { (c : ℕ) → IfErr result (WhyNot id (map (row_on c) chain.now)) }
+{
+    if has_id(chain, id) {
+        return Err(ChainFault::Exists);
+    }
+    if chain.len() >= MOST {
+        return Err(ChainFault::Full);
+    }
+    Ok(())
+}
+
 /// Adds a notifier to the chain, unless its id is there or the chain is full.
 pub(crate) fn add(chain: &mut Vec<Notifier>, notifier: Notifier) -> Result<(), ChainFault>
     ensures ok { (c : ℕ) → OnOk result (map (row_on c) chain.new.items ≡ by_priority (row_on c notifier) (map (row_on c) chain.old.items)) }
@@ -59,13 +73,24 @@ pub(crate) fn add(chain: &mut Vec<Notifier>, notifier: Notifier) -> Result<(), C
     ensures why { (c : ℕ) → IfErr result (WhyNot notifier.id (map (row_on c) chain.old.items)) }
     ensures err { OnErr result (chain.new.items ≡ chain.old.items) }
 {
-    if has_id(chain, notifier.id) {
-        return Err(ChainFault::Exists);
-    }
-    if chain.len() >= MOST {
-        return Err(ChainFault::Full);
-    }
+    check(chain, notifier.id)?;
     insert(chain, notifier)
+}
+
+/// A copy of the chain with a notifier more, unless its id is there or the chain is full.
+pub(crate) fn with(
+    alloc: Global,
+    chain: &[Notifier],
+    notifier: Notifier,
+) -> Result<Vec<Notifier>, ChainFault>
+    ensures made { (c : ℕ) → IfOk result (λ made. map (row_on c) made.items ≡ by_priority (row_on c notifier) (map (row_on c) chain.now)) }
+    ensures can { (c : ℕ) → OnOk result (CanAdd notifier.id (map (row_on c) chain.now)) }
+    ensures why { (c : ℕ) → IfErr result (WhyNot notifier.id (map (row_on c) chain.now)) }
+{
+    check(chain, notifier.id)?;
+    let mut made = Vec::from_slice(alloc, chain)?;
+    insert(&mut made, notifier)?;
+    Ok(made)
 }
 
 /// Takes the notifier of this id out of the chain.

@@ -9,4 +9,4 @@ mod notifiers;
 
 pub use fault::ChainFault;
 pub use notifier::Notifier;
-pub use notifiers::Notifiers;
+pub use notifiers::{Chain, Notifiers};

@@ -1,16 +1,18 @@
 //! The notifiers of all clocks.
 
-ghost use Rattle.std.specs.Prelude.{◌≡◌, ℕ, ◌<◌, [], ◌∷◌, ◌++◌, map, replicate, length, slice_index_or, List, IfOk, IfErr, OnOk, OnErr};
+ghost use Rattle.std.specs.Prelude.{◌≡◌, ℕ, ◌<◌, [], ◌∷◌, ◌++◌, map, replicate, length, slice_index_or, slice_set, List, IfOk, IfErr, OnOk, OnErr};
 ghost use Rattle.clk_model.specs.State.{NotifierRow};
 ghost use Rattle.clk_model.specs.Notices.{notifiers_of};
+ghost use Rattle.notifiers.specs.declared.notifier.Notifier.{Notifier};
 
-use crate::chain::{add, empty_chains, has_id, remove};
+use crate::chain::{add, empty_chains, has_id, remove, with};
 use crate::fault::ChainFault;
 use crate::notifier::Notifier;
 use clk_base::{ClockId, Policy, ValidDesc};
 use clk_io::NoMemory;
 use std::alloc::Global;
 use std::marker::Model;
+use std::mem::swap;
 
 /// The notifiers of the clocks of a description.
 ///
@@ -30,8 +32,23 @@ impl Model for Notifiers {
     ghost view = { λ n. map (λ chain. chain.items) n.chains.items };
 }
 
+/// A chain that was made for a clock. To contracts it is the list of its notifiers.
+#[derive(Drop)]
+pub struct Chain {
+    notifiers: Vec<Notifier>,
+}
+
+impl Model for Chain {
+    ghost use Rattle.std.specs.Prelude.{List};
+    ghost use Rattle.notifiers.specs.declared.notifier.Notifier.{Notifier};
+
+    ghost Value = { List Notifier };
+
+    ghost view = { λ chain. chain.notifiers.items };
+}
+
 impl Notifiers {
-    ghost use Rattle.notifiers.specs.Chains.{row_on, chain_of, Tells, has_id, CanAdd, WhyNot, without_notifier};
+    ghost use Rattle.notifiers.specs.Chains.{row_on, chain_of, IsWith, Tells, has_id, CanAdd, WhyNot, without_notifier};
 
     /// No clock of the description has a notifier. Want of memory is its one refusal.
     pub fn create(alloc: Global, desc: &ValidDesc) -> Result<Notifiers, NoMemory>
@@ -65,6 +82,32 @@ impl Notifiers {
             policy,
         };
         add(&mut self.chains[c.0 as usize], notifier)
+    }
+
+    /// The chain of a clock with a notifier more, in its place. Refused as `add` refuses.
+    pub fn chain_with(
+        &self,
+        alloc: Global,
+        c: ClockId,
+        notifier: Notifier,
+    ) -> Result<Chain, ChainFault>
+        ensures made { IfOk result (IsWith self.now (row_on c.0 notifier)) }
+        ensures can { OnOk result (CanAdd notifier.id (chain_of self.now c.0)) }
+        ensures why { IfErr result (WhyNot notifier.id (chain_of self.now c.0)) }
+    {
+        Ok(Chain {
+            notifiers: with(alloc, self.chain(c), notifier)?,
+        })
+    }
+
+    /// The chain of a clock and another one change places.
+    pub fn put_chain(&mut self, c: ClockId, chain: &mut Chain)
+        requires { c.0 < length self.old }
+        ensures put { self.new ≡ slice_set self.old c.0 chain.old }
+        ensures before { chain.new ≡ slice_index_or self.old c.0 [] }
+        ensures told { (notifiers : List NotifierRow) (n : Notifier) → IsWith self.old (row_on c.0 n) chain.old → Tells self.old notifiers → Tells self.new (notifiers ++ row_on c.0 n ∷ []) }
+    {
+        swap(&mut self.chains[c.0 as usize], &mut chain.notifiers);
     }
 
     /// Takes the notifier of this id from a clock, and answers whether there was one.

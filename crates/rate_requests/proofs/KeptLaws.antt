@@ -1,16 +1,22 @@
 -- Laws on the ranges of each clock: what a changed or a new handle does to them, and what they tell of the handles.
 use Rattle.std.proofs.Common.{◌≡◌, ℕ, zero, suc, ◌+◌, ◌<◌, ◌&&◌, ◌||◌, Bool, false, not, cond, List, [], ◌∷◌, ◌++◌, Option, Some, refl, sym, ap, ◌∙◌, subst, ⊎_elim, arith, length, map, set, get_or, nat_eq, nat_lt}
-use Rattle.std.specs.Prelude.{fold, max, min, None}
+use Rattle.std.specs.Prelude.{fold, max, min, None, Vec}
+use Rattle.std.specs.Option.{option_map}
+use Rattle.std.specs.declared.alloc.Global.{Global}
 use Rattle.std.specs.List.{list_any}
 use Rattle.std.proofs.lemmas.Bool.{cases_eq}
 use Rattle.std.proofs.lemmas.List.{append-nil, get_or-set_same, get_or-set_other}
+use Rattle.slab.specs.Slab.{Slab}
+use Rattle.clk_base.specs.declared.clock.ClockId.{ClockId}
 use Rattle.clk_model.specs.declared.row.HandleRow.{HandleRow}
 use Rattle.clk_model.specs.State.{handle_at}
 use Rattle.clk_model.specs.Round.{most_rate}
+use Rattle.rate_requests.specs.declared.held.Held.{Held}
 use Rattle.rate_requests.specs.declared.span.Span.{Span}
 use Rattle.rate_requests.specs.Handles.{low_in, high_in, misses_in, with_range_at}
-use Rattle.rate_requests.specs.Spans.{has_number, misses_span, span_of, spans_from, with_range}
-use Rattle.rate_requests.specs.Kept.{IsKept}
+use Rattle.rate_requests.specs.Spans.{lists, has_number, misses_span, span_of, spans_from, with_range}
+use Rattle.rate_requests.specs.Records.{handles_of}
+use Rattle.rate_requests.specs.Kept.{IsKept, HasPlace, AreKept}
 use Rattle.rate_requests.proofs.Spanned.{swapped, spans_from-set, spans_from-kept, spans_from-push, spans_from-ranged, replaced_at, map-spans_from, any-spans_from, any-swapped}
 use Rattle.clk_model.proofs.Members.{test_same}
 use Rattle.clk_model.proofs.AboveLaws.{differs}
@@ -113,3 +119,22 @@ kept_added handles spans row kept within k =
       behind c =
           let number : 0 + length handles ≡ length handles = omega arith in
           spans_from-push c 0 handles (Some row) ∙ ap (λ (x : ℕ). spans_from c 0 handles ++ span_of c x (Some row)) number
+
+-- ---- the place that was made
+
+-- it is there for the clock for which it was made
+pub place_at : {places : Vec ℕ Global} {records : Slab Held} {spans : List (Vec Span Global)} {place : Option ClockId} {c : ℕ} → AreKept places records spans place
+    → option_map (λ (k : ClockId). k.0) place ≡ Some c → HasPlace places records spans c
+place_at {place = None} are is = absurd (none_is_some is) where
+  none_is_some : {x : ℕ} → None ≡ Some x → ⊥
+  none_is_some e = cc
+place_at {places} {records} {spans} {place = Some k} {c} are is = subst (HasPlace places records spans) (same k.0 c is) are.placed where
+  same : (x y : ℕ) → Some x ≡ Some y → x ≡ y
+  same x y e = cc
+
+-- fields in which no place is lost keep the one that was made
+pub still_placed : (places places' : Vec ℕ Global) (records records' : Slab Held) (spans spans' : List (Vec Span Global)) (place : Option ClockId)
+    → ((c : ℕ) → HasPlace places records spans c → HasPlace places' records' spans' c) → IsKept (handles_of records'.slots places'.items) (lists spans')
+    → AreKept places records spans place → AreKept places' records' spans' place
+still_placed places places' records records' spans spans' None more kept are = record { kept = kept; placed = tt }
+still_placed places places' records records' spans spans' (Some k) more kept are = record { kept = kept; placed = more k.0 are.placed }

@@ -1,17 +1,17 @@
 -- Laws on the ranges of a clock's handles: what a changed or a new handle does to them, and what they tell of the handles.
-use Rattle.std.proofs.Common.{◌≡◌, ℕ, zero, suc, ◌+◌, ◌<◌, ◌≤◌, ◌&&◌, ◌||◌, Bool, true, false, not, cond, List, [], ◌∷◌, ◌++◌, Option, Some, None, Result, Ok, Err, OnErr, refl, sym, ap, ◌∙◌, ⊎_elim, arith, length, map, set, get_or, nat_eq}
-use Rattle.std.specs.Prelude.{filter, Vec}
+use Rattle.std.proofs.Common.{◌≡◌, ℕ, zero, suc, ◌+◌, ◌-◌, ◌<◌, ◌≤◌, ◌≢◌, ◌&&◌, ◌||◌, Bool, true, false, not, cond, List, [], ◌∷◌, ◌++◌, Option, Some, None, Result, Ok, Err, OnErr, refl, sym, ap, ◌∙◌, subst, ⊎_elim, arith, length, map, set, get_or, nat_eq}
+use Rattle.std.specs.Prelude.{filter, Vec, vec_len, vec_capacity}
 use Rattle.std.specs.declared.alloc.Global.{Global}
 use Rattle.std.specs.List.{list_any}
-use Rattle.std.proofs.lemmas.Bool.{cases_lt}
+use Rattle.std.proofs.lemmas.Bool.{cases_eq, cases_lt}
 use Rattle.std.proofs.lemmas.Bool.Decides.{nat_tests}
-use Rattle.std.proofs.lemmas.List.{append_assoc, append-nil, get_or-map, map-set, get_or-set_same, get_or_past, length-set}
+use Rattle.std.proofs.lemmas.List.{append_assoc, append-nil, get_or-map, map-set, get_or-set_same, get_or-set_other, get_or_past, length-map, length-set}
 use Rattle.std.specs.Option.{option_map}
 use Rattle.clk_model.specs.State.{handle_at}
 use Rattle.clk_model.specs.declared.row.HandleRow.{HandleRow}
 use Rattle.rate_requests.specs.declared.span.Span.{Span}
 use Rattle.rate_requests.specs.Handles.{rows_on}
-use Rattle.rate_requests.specs.Spans.{lists, has_number, with_range, span_of, spans_from}
+use Rattle.rate_requests.specs.Spans.{lists, rooms, HasRoom, KeepsRoom, has_number, with_range, span_of, spans_from}
 use Rattle.clk_model.proofs.Members.{test_same}
 use Rattle.clk_model.proofs.AboveLaws.{differs}
 
@@ -177,6 +177,46 @@ replaced_at spans c f none =
     ∙ sym none
     ∙ ap f (sym (get_or_past spans c [] past)))
     (cases_lt c (length spans))
+
+-- ---- room for a range more
+
+-- how many ranges more there is room for
+abbrev spare : Vec Span Global → ℕ
+spare v = vec_capacity v - vec_len v
+
+-- a clock that has room has ranges
+pub room_within : (vs : List (Vec Span Global)) (c : ℕ) → HasRoom vs c → c < length vs
+room_within vs c room =
+    ⊎_elim
+    (λ (within : c < length vs). within)
+    (λ (past : length vs ≤ c).
+    let none = get_or_past (rooms vs) c 0 (omega (arith, length-map vs spare)) in
+    absurd (omega (arith, room, none)))
+    (cases_lt c (length vs))
+
+-- it has it where they lie
+pub room_read : (vs : List (Vec Span Global)) (c : ℕ) (v : Vec Span Global) → c < length vs → v ≡ get_or vs c v → get_or (rooms vs) c 0 ≡ vec_capacity v - vec_len v
+room_read vs c v within here = get_or-map spare vs c v 0 within ∙ ap spare (sym here)
+
+-- it has it where what was written has more capacity than length
+pub room_of : (vs : List (Vec Span Global)) (k : ℕ) (w : Vec Span Global) → k < length vs → vec_len w < vec_capacity w → HasRoom (set vs k w) k
+room_of vs k w within more =
+    let now : get_or (rooms (set vs k w)) k 0 ≡ spare w =
+    ap (λ (xs : List ℕ). get_or xs k 0) (map-set spare vs k w) ∙ get_or-set_same (rooms vs) k (spare w) 0 (omega (arith, length-map vs spare)) in
+    omega arith
+
+-- where those of a clock that were written have no less room, each clock keeps its own
+pub room_written : (vs : List (Vec Span Global)) (k : ℕ) (v w : Vec Span Global) → k < length vs → v ≡ get_or vs k v → vec_capacity v ≤ vec_capacity w → vec_len w ≤ vec_len v
+    → KeepsRoom vs (set vs k w)
+room_written vs k v w within here more less c room =
+    ⊎_elim
+    (λ (e : c ≡ k).
+    let had : get_or (rooms vs) k 0 ≡ spare v = room_read vs k v within here in
+    let was : 0 < get_or (rooms vs) k 0 = subst (λ (x : ℕ). 0 < get_or (rooms vs) x 0) e room in
+    subst (λ (x : ℕ). HasRoom (set vs k w) x) (sym e) (room_of vs k w within (omega arith)))
+    (λ (other : c ≢ k).
+    subst (λ (x : ℕ). 0 < x) (sym (ap (λ (xs : List ℕ). get_or xs c 0) (map-set spare vs k w) ∙ get_or-set_other (rooms vs) k c (spare w) 0 other)) room)
+    (cases_eq c k)
 
 -- ---- answers
 

@@ -8,10 +8,12 @@ use Rattle.clk_model.specs.Lists.{present}
 use Rattle.clk_model.specs.State.{handle_at}
 use Rattle.clk_model.specs.Round.{most_rate}
 
--- the handles by number, with nothing where one was put back, and the number of the clocks that they may be of
+-- the handles by number, with nothing where one was put back, the number of the clocks that they may be of, and the
+-- clock for a handle of which a place is made
 pub record HandleTable : Type 0 where
   pub clocks : ℕ
   pub handles : List (Option HandleRow)
+  pub place : Option ℕ
 
 -- a new handle of a driver on a clock, which allows every rate
 abbrev pub new_row : ℕ → ClockId → HandleRow

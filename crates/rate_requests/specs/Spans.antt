@@ -1,6 +1,6 @@
 -- The ranges of the live handles of a clock, by rising number.
-use Rattle.std.specs.Prelude.{ℕ, suc, ◌==◌, ◌||◌, List, [], ◌∷◌, ◌++◌, Bool, Option, Some, None, nat_lt, map, if◌then◌else◌}
-use Rattle.std.specs.Prelude.{Vec}
+use Rattle.std.specs.Prelude.{ℕ, suc, ◌-◌, ◌<◌, ◌==◌, ◌||◌, List, [], ◌∷◌, ◌++◌, Bool, Option, Some, None, nat_lt, map, if◌then◌else◌}
+use Rattle.std.specs.Prelude.{Vec, vec_len, vec_capacity, slice_index_or}
 use Rattle.std.specs.declared.alloc.Global.{Global}
 use Rattle.clk_model.specs.declared.row.HandleRow.{HandleRow}
 use Rattle.rate_requests.specs.declared.span.Span.{Span}
@@ -8,6 +8,18 @@ use Rattle.rate_requests.specs.declared.span.Span.{Span}
 -- the ranges of each clock as a list
 abbrev pub lists : List (Vec Span Global) → List (List Span)
 lists spans = map (λ (v : Vec Span Global). v.items) spans
+
+-- how many ranges more each clock has room for
+abbrev pub rooms : List (Vec Span Global) → List ℕ
+rooms spans = map (λ (v : Vec Span Global). vec_capacity v - vec_len v) spans
+
+-- a clock has room for a range more
+abbrev pub HasRoom : List (Vec Span Global) → ℕ → Type 0
+HasRoom spans c = 0 < slice_index_or (rooms spans) c 0
+
+-- each clock that had room for a range more still has it
+abbrev pub KeepsRoom : List (Vec Span Global) → List (Vec Span Global) → Type 0
+KeepsRoom old new = (c : ℕ) → HasRoom old c → HasRoom new c
 
 -- whether it is the range of the handle of this number
 abbrev pub has_number : ℕ → Span → Bool

@@ -1,7 +1,7 @@
 //! The records of live handles.
 
 ghost use Rattle.std.specs.Prelude.{◌≡◌, Some, None, IsSome, slice_set};
-ghost use Rattle.slab.specs.Slab.{get};
+ghost use Rattle.slab.specs.Slab.{get, HasRoomFor};
 ghost use Rattle.clk_model.specs.State.{handle_at};
 ghost use Rattle.rate_requests.specs.Records.{row_in, handles_of};
 
@@ -38,7 +38,8 @@ pub(crate) fn row_of(places: &[usize], records: &Slab<Held>, number: u32) -> Opt
 /// Gives a live handle another row.
 pub(crate) fn write_row(places: &[usize], records: &mut Slab<Held>, number: u32, row: HandleRow)
     requires { IsSome (handle_at (handles_of records.old.slots places.now) number) }
-    ensures { handles_of records.new.slots places.now ≡ slice_set (handles_of records.old.slots places.now) number (Some row) }
+    ensures row { handles_of records.new.slots places.now ≡ slice_set (handles_of records.old.slots places.now) number (Some row) }
+    ensures room { HasRoomFor records.old 1 → HasRoomFor records.new 1 }
 {
     records[places[number as usize]] = Held { number, row };
 }
@@ -46,7 +47,8 @@ pub(crate) fn write_row(places: &[usize], records: &mut Slab<Held>, number: u32,
 /// Takes out the record of a live handle.
 pub(crate) fn take_row(places: &[usize], records: &mut Slab<Held>, number: u32)
     requires { IsSome (handle_at (handles_of records.old.slots places.now) number) }
-    ensures { handles_of records.new.slots places.now ≡ slice_set (handles_of records.old.slots places.now) number None }
+    ensures gone { handles_of records.new.slots places.now ≡ slice_set (handles_of records.old.slots places.now) number None }
+    ensures room { HasRoomFor records.new 1 }
 {
     records.remove(places[number as usize]);
 }

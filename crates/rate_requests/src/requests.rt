@@ -5,7 +5,8 @@ ghost use Rattle.clk_model.specs.State.{handle_at};
 
 use crate::held::{Held, row_of, take_row, write_row};
 use crate::span::{
-    Span, bounds_of, bounds_with, drop_span, fits_beside, no_spans, push_span, set_span, spans_on,
+    Span, bounds_of, bounds_with, drop_span, fits_beside, no_spans, push_span, reserve_span,
+    set_span, spans_on,
 };
 use clk_base::{ClockId, Handle, ValidDesc};
 use clk_io::NoMemory;
@@ -17,7 +18,8 @@ use std::marker::Model;
 /// The handles of the clocks of a description.
 ///
 /// To contracts they are a `HandleTable`: a list by number, with nothing where a handle was put
-/// back, and the number of clocks. No call but `create` and `add` takes memory.
+/// back, the number of clocks, and the clock for a handle of which a place is made. No call but
+/// `create`, `make_place` and `add` takes memory.
 #[derive(Drop)]
 pub struct Requests {
     /// By number, the slot where the record of each handle was put. Once a handle was put back, its
@@ -26,21 +28,23 @@ pub struct Requests {
     records: Slab<Held>,
     /// For each clock the ranges of its live handles, by rising number.
     spans: Vec<Vec<Span>>,
+    /// The clock for a handle of which there is a place.
+    place: Option<ClockId>,
 }
 
 impl Model for Requests {
     ghost use Rattle.std.specs.Prelude.{length};
+    ghost use Rattle.std.specs.Option.{option_map};
     ghost use Rattle.rate_requests.specs.Handles.{HandleTable};
 
     ghost Value = { HandleTable };
 
     ghost use Rattle.rate_requests.specs.Records.{handles_of};
-    ghost use Rattle.rate_requests.specs.Spans.{lists};
-    ghost use Rattle.rate_requests.specs.Kept.{IsKept};
+    ghost use Rattle.rate_requests.specs.Kept.{AreKept};
 
-    ghost view = { λ r. record { clocks = length r.spans.items; handles = handles_of r.records.slots r.places.items } };
+    ghost view = { λ r. record { clocks = length r.spans.items; handles = handles_of r.records.slots r.places.items; place = option_map (λ c. c.0) r.place } };
 
-    ghost invariant = { λ r. IsKept (handles_of r.records.slots r.places.items) (lists r.spans.items) };
+    ghost invariant = { λ r. AreKept r.places r.records r.spans.items r.place };
 }
 
 impl Requests {
@@ -50,11 +54,13 @@ impl Requests {
     pub fn create(alloc: Global, desc: &ValidDesc) -> Result<Requests, NoMemory>
         ensures clocks { IfOk result (λ made. made.clocks ≡ length desc.now.defs) }
         ensures handles { IfOk result (λ made. made.handles ≡ []) }
+        ensures place { IfOk result (λ made. made.place ≡ None) }
     {
         Ok(Requests {
             places: Vec::new(alloc),
             records: Slab::new(alloc),
             spans: no_spans(alloc, desc.len())?,
+            place: None,
         })
     }
 
@@ -66,8 +72,37 @@ impl Requests {
         ensures number { IfOk result (λ h. h.number ≡ length self.old.handles) }
         ensures driver { IfOk result (λ h. h.driver ≡ driver) }
         ensures handles { OnOk result (self.new.handles ≡ self.old.handles ++ Some (new_row driver clock) ∷ []) }
-        ensures err { OnErr result (self.new.handles ≡ self.old.handles) }
+        ensures err { OnErr result (self.new ≡ self.old) }
         ensures clocks { self.new.clocks ≡ self.old.clocks }
+    {
+        self.make_place(clock)?;
+        Ok(self.add_placed(driver, clock))
+    }
+
+    /// Makes a place for a handle of a clock more, in the stead of one for a handle of another clock.
+    /// Want of memory is its one refusal.
+    pub fn make_place(&mut self, clock: ClockId) -> Result<(), NoMemory>
+        requires { clock.0 < self.old.clocks }
+        ensures ok { OnOk result (self.new ≡ record self.old { place = Some clock.0 }) }
+        ensures err { OnErr result (self.new ≡ self.old) }
+    {
+        self.places.reserve(1)?;
+        self.records.reserve(1)?;
+        reserve_span(&mut self.spans, clock)?;
+        self.place = Some(clock);
+        Ok(())
+    }
+
+    /// A new handle of a driver on the clock for which there is a place, as `add` makes it. It takes no
+    /// memory.
+    pub fn add_placed(&mut self, driver: u32, clock: ClockId) -> Handle
+        requires place { self.old.place ≡ Some clock.0 }
+        requires numbers { length self.old.handles < 4294967295 }
+        ensures number { result.number ≡ length self.old.handles }
+        ensures driver { result.driver ≡ driver }
+        ensures handles { self.new.handles ≡ self.old.handles ++ Some (new_row driver clock) ∷ [] }
+        ensures clocks { self.new.clocks ≡ self.old.clocks }
+        ensures used { self.new.place ≡ None }
     {
         let number = self.places.len() as u32;
         let row = HandleRow {
@@ -84,16 +119,15 @@ impl Requests {
             min: 0,
             max: u64::MAX,
         };
-        self.places.reserve(1)?;
-        self.records.reserve(1)?;
-        push_span(&mut self.spans, clock, span)?;
+        self.place = None;
+        push_span(&mut self.spans, clock, span);
         let slot = self.records.insert_reserved(Held { number, row });
         self.places.push_reserved(slot);
-        Ok(Handle {
+        Handle {
             number,
             slot: slot.min(u32::MAX as usize) as u32,
             driver,
-        })
+        }
     }
 
     /// Whether a handle is a live one of this driver.
@@ -149,6 +183,7 @@ impl Requests {
         requires { IsSome (handle_at self.old.handles h.number) }
         ensures range { self.new.handles ≡ with_range_at self.old.handles h.number min max }
         ensures clocks { self.new.clocks ≡ self.old.clocks }
+        ensures place { self.new.place ≡ self.old.place }
     {
         let row = HandleRow {
             min,
@@ -164,6 +199,7 @@ impl Requests {
         requires { IsSome (handle_at self.old.handles h.number) }
         ensures counts { self.new.handles ≡ with_counts_at self.old.handles h.number prepares enables exclusives }
         ensures clocks { self.new.clocks ≡ self.old.clocks }
+        ensures place { self.new.place ≡ self.old.place }
     {
         let row = HandleRow {
             prepares,
@@ -179,6 +215,7 @@ impl Requests {
         requires { IsSome (handle_at self.old.handles h.number) }
         ensures handles { self.new.handles ≡ slice_set self.old.handles h.number None }
         ensures clocks { self.new.clocks ≡ self.old.clocks }
+        ensures place { self.new.place ≡ self.old.place }
     {
         let clock = self.of(h).clock;
         take_row(&self.places, &mut self.records, h.number);

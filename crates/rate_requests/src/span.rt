@@ -3,7 +3,7 @@
 ghost use Rattle.std.specs.Prelude.{◌≡◌, ◌<◌, ◌==◌, ◌&&◌, ◌||◌, [], ◌∷◌, ◌++◌, not, max, min, fold, map, filter, length, nat_lt, replicate, slice_index_or, slice_set, IfOk, OnOk, OnErr};
 ghost use Rattle.std.specs.List.{list_any};
 ghost use Rattle.clk_model.specs.Round.{most_rate};
-ghost use Rattle.rate_requests.specs.Spans.{lists, misses_span, with_range, has_number};
+ghost use Rattle.rate_requests.specs.Spans.{lists, misses_span, with_range, has_number, HasRoom, KeepsRoom};
 
 use clk_base::ClockId;
 use clk_io::NoMemory;
@@ -75,18 +75,23 @@ pub(crate) fn fits_beside(spans: &[Span], number: u32, min: u64, max: u64) -> bo
     min <= max && !misses_any(spans, number, min, max)
 }
 
-/// Adds a range to those of a clock.
-pub(crate) fn push_span(
-    spans: &mut Vec<Vec<Span>>,
-    clock: ClockId,
-    span: Span,
-) -> Result<(), NoMemory>
+/// Makes room for a range more of a clock.
+pub(crate) fn reserve_span(spans: &mut Vec<Vec<Span>>, clock: ClockId) -> Result<(), NoMemory>
     requires { clock.0 < length spans.old.items }
-    ensures ok { OnOk result (lists spans.new.items ≡ slice_set (lists spans.old.items) clock.0 (slice_index_or (lists spans.old.items) clock.0 [] ++ span ∷ [])) }
-    ensures err { OnErr result (lists spans.new.items ≡ lists spans.old.items) }
+    ensures same { lists spans.new.items ≡ lists spans.old.items }
+    ensures room { OnOk result (HasRoom spans.new.items clock.0) }
+    ensures keeps { KeepsRoom spans.old.items spans.new.items }
 {
-    spans[clock.0 as usize].push(span)?;
+    spans[clock.0 as usize].reserve(1)?;
     Ok(())
+}
+
+/// Adds a range to those of a clock, which has room for it.
+pub(crate) fn push_span(spans: &mut Vec<Vec<Span>>, clock: ClockId, span: Span)
+    requires { HasRoom spans.old.items clock.0 }
+    ensures { lists spans.new.items ≡ slice_set (lists spans.old.items) clock.0 (slice_index_or (lists spans.old.items) clock.0 [] ++ span ∷ []) }
+{
+    spans[clock.0 as usize].push_reserved(span);
 }
 
 // The range, or another one if it is that of the handle of this number.
@@ -127,7 +132,8 @@ fn set_range(spans: &mut [Span], number: u32, min: u64, max: u64)
 
 /// Gives a handle of a clock another range.
 pub(crate) fn set_span(spans: &mut Vec<Vec<Span>>, clock: ClockId, number: u32, min: u64, max: u64)
-    ensures { lists spans.new.items ≡ slice_set (lists spans.old.items) clock.0 (map (with_range number min max) (slice_index_or (lists spans.old.items) clock.0 [])) }
+    ensures range { lists spans.new.items ≡ slice_set (lists spans.old.items) clock.0 (map (with_range number min max) (slice_index_or (lists spans.old.items) clock.0 [])) }
+    ensures keeps { KeepsRoom spans.old.items spans.new.items }
 {
     if (clock.0 as usize) < spans.len() {
         set_range(&mut spans[clock.0 as usize], number, min, max);
@@ -136,7 +142,8 @@ pub(crate) fn set_span(spans: &mut Vec<Vec<Span>>, clock: ClockId, number: u32, 
 
 /// Takes the range of a handle from those of its clock.
 pub(crate) fn drop_span(spans: &mut Vec<Vec<Span>>, clock: ClockId, number: u32)
-    ensures { lists spans.new.items ≡ slice_set (lists spans.old.items) clock.0 (filter (λ s. not (has_number number s)) (slice_index_or (lists spans.old.items) clock.0 [])) }
+    ensures left { lists spans.new.items ≡ slice_set (lists spans.old.items) clock.0 (filter (λ s. not (has_number number s)) (slice_index_or (lists spans.old.items) clock.0 [])) }
+    ensures keeps { KeepsRoom spans.old.items spans.new.items }
 {
     if (clock.0 as usize) < spans.len() {
         spans[clock.0 as usize].retain(|span| span.number != number);

@@ -12,8 +12,8 @@ remove-requires c =
     let live = live_placed c.args.number c.args.records.now.slots c.args.places.now c.requires in
     subst (λ (o : Option Held). IsSome o) (sym live.lies) refl
 
-pub returns : goal.returns
-returns c =
+pub returns-clause-gone : goal.returns-clause-gone
+returns-clause-gone c =
     placed_set c.args.records.now.slots c.remove.new.self.slots c.args.number c.args.places.now None
     (live_placed c.args.number c.args.records.now.slots c.args.places.now c.requires)
     c.remove.ensures.updates.changed c.remove.ensures.updates.others

@@ -13,8 +13,8 @@ index_mut-requires c =
     let live = live_placed c.args.number c.args.records.now.slots c.args.places.now c.requires in
     subst (λ (o : Option Held). IsSome o) (sym live.lies) refl
 
-pub returns : goal.returns
-returns c =
+pub returns-clause-row : goal.returns-clause-row
+returns-clause-row c =
     let old = c.args.records.now.slots in
     let n = c.args.number in
     let live = live_placed n old c.args.places.now c.requires in

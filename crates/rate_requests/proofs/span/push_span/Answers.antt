@@ -1,27 +1,29 @@
-use Rattle.std.proofs.Common.{◌≡◌, List, [], ◌∷◌, ◌++◌, ap, ◌∙◌, sym, arith, length, set}
-use Rattle.std.proofs.lemmas.List.{set-get_or, length-map}
+-- The range comes last among those of its clock, for which there was room.
+use Rattle.std.proofs.Common.{◌<◌, List, [], ◌∷◌, ◌++◌, ap, ◌∙◌, sym, arith, set, get_or}
 use Rattle.rate_requests.specs.declared.span.Span.{Span}
-use Rattle.rate_requests.specs.Spans.{lists}
-use Rattle.rate_requests.proofs.Spanned.{list_read, list_written, on_err_always}
+use Rattle.rate_requests.specs.Spans.{lists, rooms}
+use Rattle.rate_requests.proofs.Spanned.{list_read, list_written, room_read, room_within}
 use Rattle.rate_requests.proofs.span.push_span.Goals as goal
 
-pub returns-in_err-push-clause-err : goal.returns-in_err-push-clause-err
-returns-in_err-push-clause-err c =
-    let vs = c.args.spans.now.items in
+pub index_mut-requires : goal.index_mut-requires
+index_mut-requires c =
+    let within = room_within c.args.spans.now.items c.args.clock.0 c.requires in
     let len = c.args.spans.now.ok.0 in
-    let same : length (lists vs) ≡ length vs = length-map vs _ in
-    on_err_always c.from_residual.result
-    (list_written vs c.args.clock.0 c.push.new.self
-    ∙ ap (set (lists vs) c.args.clock.0)
-    (c.in_err-push.ensures.items ∙ sym (list_read vs c.args.clock.0 c.index_mut.result.now (omega arith) c.index_mut.ensures.value))
-    ∙ set-get_or (lists vs) c.args.clock.0 [])
+    omega arith
 
-pub returns-clause-ok : goal.returns-clause-ok
-returns-clause-ok c =
+pub push_reserved-requires : goal.push_reserved-requires
+push_reserved-requires c =
     let vs = c.args.spans.now.items in
-    let len = c.args.spans.now.ok.0 in
-    let same : length (lists vs) ≡ length vs = length-map vs _ in
-    list_written vs c.args.clock.0 c.push.new.self
+    let within = room_within vs c.args.clock.0 c.requires in
+    let read = room_read vs c.args.clock.0 c.index_mut.result.now within c.index_mut.ensures.value in
+    let room : 0 < get_or (rooms vs) c.args.clock.0 0 = c.requires in
+    omega arith
+
+pub returns : goal.returns
+returns c =
+    let vs = c.args.spans.now.items in
+    let within = room_within vs c.args.clock.0 c.requires in
+    list_written vs c.args.clock.0 c.push_reserved.new.self
     ∙ ap (set (lists vs) c.args.clock.0)
-    (c.in_ok-push.ensures.items
-    ∙ ap (λ (ss : List Span). ss ++ c.args.span ∷ []) (sym (list_read vs c.args.clock.0 c.index_mut.result.now (omega arith) c.index_mut.ensures.value)))
+    (c.push_reserved.ensures.items
+    ∙ ap (λ (ss : List Span). ss ++ c.args.span ∷ []) (sym (list_read vs c.args.clock.0 c.index_mut.result.now within c.index_mut.ensures.value)))

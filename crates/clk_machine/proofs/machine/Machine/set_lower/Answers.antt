@@ -29,7 +29,7 @@ invariant_of-self g c =
     let live : handle_at p.table.handles c.args.handle.number ≡ Some c.args.row = subst (λ (q : Parts). handle_at q.table.handles c.args.handle.number ≡ Some c.args.row) (sym c.self.view_is) c.requires.live in
     let whole : IsWhole (set_lower p c.args.handle.number c.args.row c.args.flight.now) = subst (λ (q : Parts). IsWhole (set_lower q c.args.handle.number c.args.row c.args.flight.now)) (sym c.self.view_is) c.requires.whole in
     subst IsWhole
-    (sym (lower_parts p c.args.handle.number c.args.row c.args.flight.now c.swap.new.x c.set_counts.new.self c.release.new.self c.swap.ensures.x_after c.set_counts.ensures.clocks
+    (sym (lower_parts p c.args.handle.number c.args.row c.args.flight.now c.swap.new.x c.set_counts.new.self c.release.new.self c.swap.ensures.x_after c.set_counts.ensures.clocks c.set_counts.ensures.place
     (c.set_counts.ensures.counts ∙ counts_given m.handles.handles c.args.handle.number (c.args.row.prepares - 1) c.args.row.enables c.args.row.exclusives c.args.row live) c.release.ensures.holders)) whole
 
 pub returns-clause-parts : goal.returns-clause-parts
@@ -38,5 +38,5 @@ returns-clause-parts g c =
     let p : Parts = parts_of m.desc m.window m.tree m.handles m.counts m.notifiers m.credits m.spent m.ignore_unused m.flight m.course m.prepare_holds m.enable_holds m.steps in
     let live : handle_at p.table.handles c.args.handle.number ≡ Some c.args.row = subst (λ (q : Parts). handle_at q.table.handles c.args.handle.number ≡ Some c.args.row) (sym c.self.view_is) c.requires.live in
     rw (← c.self.view_is)
-    (lower_parts p c.args.handle.number c.args.row c.args.flight.now c.swap.new.x c.set_counts.new.self c.release.new.self c.swap.ensures.x_after c.set_counts.ensures.clocks
+    (lower_parts p c.args.handle.number c.args.row c.args.flight.now c.swap.new.x c.set_counts.new.self c.release.new.self c.swap.ensures.x_after c.set_counts.ensures.clocks c.set_counts.ensures.place
     (c.set_counts.ensures.counts ∙ counts_given m.handles.handles c.args.handle.number (c.args.row.prepares - 1) c.args.row.enables c.args.row.exclusives c.args.row live) c.release.ensures.holders)

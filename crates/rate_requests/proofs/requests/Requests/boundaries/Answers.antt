@@ -14,12 +14,12 @@ pub returns-clause-low : goal.returns-clause-low
 returns-clause-low c =
     c.bounds_of.ensures.low
     ∙ ap (λ (ss : List Span). fold max 0 (map (λ s. s.min) ss)) (c.spans_on.ensures ∙ ap (λ (vs : List (Vec Span Global)). get_or (lists vs) c.args.c.0 []) c.deref.ensures.value)
-    ∙ low_kept (handles_of c.self.inside.records.slots c.self.inside.places.items) (lists c.self.inside.spans.items) c.args.c.0 c.self.invariant
+    ∙ low_kept (handles_of c.self.inside.records.slots c.self.inside.places.items) (lists c.self.inside.spans.items) c.args.c.0 c.self.invariant.kept
     ∙ ap (λ (t : HandleTable). low_in t.handles c.args.c.0) c.self.view_is
 
 pub returns-clause-high : goal.returns-clause-high
 returns-clause-high c =
     c.bounds_of.ensures.high
     ∙ ap (λ (ss : List Span). fold min most_rate (map (λ s. s.max) ss)) (c.spans_on.ensures ∙ ap (λ (vs : List (Vec Span Global)). get_or (lists vs) c.args.c.0 []) c.deref.ensures.value)
-    ∙ high_kept (handles_of c.self.inside.records.slots c.self.inside.places.items) (lists c.self.inside.spans.items) c.args.c.0 c.self.invariant
+    ∙ high_kept (handles_of c.self.inside.records.slots c.self.inside.places.items) (lists c.self.inside.spans.items) c.args.c.0 c.self.invariant.kept
     ∙ ap (λ (t : HandleTable). high_in t.handles c.args.c.0) c.self.view_is

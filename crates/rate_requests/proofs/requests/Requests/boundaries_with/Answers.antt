@@ -15,7 +15,7 @@ returns-clause-low c =
     let n = c.args.h.number in
     c.bounds_with.ensures.low
     ∙ ap (λ (ss : List Span). fold max 0 (map (λ s. s.min) (map (with_range n c.args.least c.args.most) ss))) (c.spans_on.ensures ∙ ap (λ (vs : List (Vec Span Global)). get_or (lists vs) c.args.c.0 []) c.deref.ensures.value)
-    ∙ low_ranged (handles_of c.self.inside.records.slots c.self.inside.places.items) (lists c.self.inside.spans.items) c.args.c.0 n c.args.least c.args.most c.self.invariant
+    ∙ low_ranged (handles_of c.self.inside.records.slots c.self.inside.places.items) (lists c.self.inside.spans.items) c.args.c.0 n c.args.least c.args.most c.self.invariant.kept
     ∙ ap (λ (t : HandleTable). low_in (with_range_at t.handles n c.args.least c.args.most) c.args.c.0) c.self.view_is
 
 pub returns-clause-high : goal.returns-clause-high
@@ -23,5 +23,5 @@ returns-clause-high c =
     let n = c.args.h.number in
     c.bounds_with.ensures.high
     ∙ ap (λ (ss : List Span). fold min most_rate (map (λ s. s.max) (map (with_range n c.args.least c.args.most) ss))) (c.spans_on.ensures ∙ ap (λ (vs : List (Vec Span Global)). get_or (lists vs) c.args.c.0 []) c.deref.ensures.value)
-    ∙ high_ranged (handles_of c.self.inside.records.slots c.self.inside.places.items) (lists c.self.inside.spans.items) c.args.c.0 n c.args.least c.args.most c.self.invariant
+    ∙ high_ranged (handles_of c.self.inside.records.slots c.self.inside.places.items) (lists c.self.inside.spans.items) c.args.c.0 n c.args.least c.args.most c.self.invariant.kept
     ∙ ap (λ (t : HandleTable). high_in (with_range_at t.handles n c.args.least c.args.most) c.args.c.0) c.self.view_is

@@ -23,6 +23,6 @@ returns c = λ row at.
     ∙ ap not
     (ap (λ (ss : List Span). nat_lt c.args.max c.args.min || list_any (λ s. not (has_number n s) && misses_span c.args.min c.args.max s) ss)
     (c.spans_on.ensures ∙ ap (λ (vs : List (Vec Span Global)). get_or (lists vs) c.of.result.clock.0 []) c.deref.ensures.value ∙ ap (λ (h : HandleRow). get_or (lists c.self.inside.spans.items) h.clock.0 []) is)
-    ∙ misses_kept (handles_of c.self.inside.records.slots c.self.inside.places.items) (lists c.self.inside.spans.items) n c.args.min c.args.max row c.self.invariant
+    ∙ misses_kept (handles_of c.self.inside.records.slots c.self.inside.places.items) (lists c.self.inside.spans.items) n c.args.min c.args.max row c.self.invariant.kept
     (ap (λ (t : HandleTable). handle_at t.handles n) c.self.view_is ∙ at)
     ∙ ap (λ (t : HandleTable). misses_in t.handles n row.clock.0 c.args.min c.args.max) c.self.view_is)

@@ -9,7 +9,7 @@ use Rattle.rate_requests.specs.Records.{handles_of}
 use Rattle.rate_requests.specs.Spans.{lists, has_number}
 use Rattle.rate_requests.specs.Kept.{IsKept}
 use Rattle.rate_requests.proofs.Spanned.{filter-has_number}
-use Rattle.rate_requests.proofs.KeptLaws.{kept_turned}
+use Rattle.rate_requests.proofs.KeptLaws.{kept_turned, still_placed}
 use Rattle.rate_requests.proofs.requests.Requests.remove.Goals as goal
 
 pub invariant_of-self : goal.invariant_of-self
@@ -22,8 +22,11 @@ invariant_of-self c =
     let h : HandleRow = c.of.result in
     let at : handle_at (handles_of old places) n ≡ Some h = ap (λ (t : HandleTable). handle_at t.handles n) c.self.view_is ∙ c.of.ensures in
     let turned : handles_of new places ≡ set (handles_of old places) n None =
-    subst (λ (ps : List ℕ). handles_of new ps ≡ set (handles_of old ps) n None) c.deref.ensures.value c.take_row.ensures in
-    subst (λ (hs : List (Option HandleRow)). IsKept hs (lists c.drop_span.new.spans.items)) (sym turned)
-    (subst (λ (ss : List (List Span)). IsKept (set (handles_of old places) n None) ss) (sym c.drop_span.ensures)
-    (kept_turned (handles_of old places) spans n None h (filter (λ s. not (has_number n s))) c.self.invariant at
-    (λ k x e. refl) refl (λ ss. filter-has_number n ss)))
+    subst (λ (ps : List ℕ). handles_of new ps ≡ set (handles_of old ps) n None) c.deref.ensures.value c.take_row.ensures.gone in
+    still_placed c.self.inside.places c.self.inside.places c.self.inside.records c.take_row.new.records c.self.inside.spans.items c.drop_span.new.spans.items c.self.inside.place
+    (λ k had. record { number = had.number; row = c.take_row.ensures.room; span = c.drop_span.ensures.keeps k had.span })
+    (subst (λ (hs : List (Option HandleRow)). IsKept hs (lists c.drop_span.new.spans.items)) (sym turned)
+    (subst (λ (ss : List (List Span)). IsKept (set (handles_of old places) n None) ss) (sym c.drop_span.ensures.left)
+    (kept_turned (handles_of old places) spans n None h (filter (λ s. not (has_number n s))) c.self.invariant.kept at
+    (λ k x e. refl) refl (λ ss. filter-has_number n ss))))
+    c.self.invariant
