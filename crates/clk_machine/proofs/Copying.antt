@@ -6,6 +6,7 @@ use Rattle.clk_base.specs.declared.call.Micro.{Micro}
 use Rattle.clk_base.specs.declared.call.Micro.TheVariants as micro
 use Rattle.clk_base.specs.declared.call.Sleeping.{Sleeping}
 use Rattle.clk_base.specs.declared.call.Sleeping.TheVariants as call
+use Rattle.clk_base.specs.declared.clock.ClockId.{ClockId}
 use Rattle.clk_base.specs.declared.event.Entry.{Entry}
 use Rattle.clk_base.specs.declared.event.Event.{Event}
 use Rattle.clk_base.specs.declared.event.Event.TheVariants as event
@@ -13,6 +14,7 @@ use Rattle.clk_base.specs.declared.event.Reply.{Reply}
 use Rattle.clk_base.specs.declared.event.Reply.TheVariants as reply
 use Rattle.clk_base.specs.declared.event.Turn.{Turn}
 use Rattle.clk_base.specs.declared.event.Turn.TheVariants as turn
+use Rattle.clk_base.specs.declared.handle.Handle.{Handle}
 use Rattle.clk_base.specs.Description.{Description, parents_of}
 use Rattle.clk_base.specs.Valid.{IsValid}
 use Rattle.clk_model.specs.declared.row.ClockRow.{ClockRow}
@@ -348,3 +350,17 @@ gone_out old new d what whole other (inr never) = λ s t of step. absurd (no_go 
 pub copies_out : (old new : Parts) (d : ℕ) (what : Sleeping) → IsWhole old → GoesOut old d what new → PartsFollow old d (event.Begin what) turn.Going new
 copies_out old new d call.Sweep whole goes = swept_out (record { parts = old; room = None }) (record { parts = new; room = None }) d goes
 copies_out old new d what whole goes = gone_out (record { parts = old; room = None }) (record { parts = new; room = None }) d what whole refl (goes_or_never old new d what refl goes)
+
+-- ---- a handle
+
+-- a handle is no answer of a call that may be left out
+handle_kept : (h : Handle) → IsLeftOut (turn.Done (reply.Handle h)) → ⊥
+handle_kept h (inl is) = cc
+handle_kept h (inr (inl is)) = cc
+handle_kept h (inr (inr is)) = cc
+
+-- a get of a clock that gives a handle
+pub copies_got : (old new : Copy) (d : ℕ) (c : ClockId) → IsWhole old.parts → (h : Handle) → GoesAlong old.parts d (event.Begin (call.Get (Some c))) (turn.Done (reply.Handle h)) new.parts
+    → FollowsEvent old d (event.Begin (call.Get (Some c))) (turn.Done (reply.Handle h)) new
+copies_got old new d c whole h along s t of step =
+    copies_begin old new s t d (call.Get (Some c)) (turn.Done (reply.Handle h)) whole of refl (handle_kept (record h { slot = 0 })) along step

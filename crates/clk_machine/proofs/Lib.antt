@@ -69,3 +69,6 @@ pub mod Still
 pub mod SettingOut
 pub mod ChangingAlong
 pub mod Copying
+pub mod Given
+pub mod Placing
+pub mod NotifyingAlong

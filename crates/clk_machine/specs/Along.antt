@@ -3,6 +3,7 @@ use Rattle.std.specs.Prelude.{◌≡◌, ℕ, Option, Some, None, Bool, true, fa
 use Rattle.clk_base.specs.declared.call.Micro.{Micro}
 use Rattle.clk_base.specs.declared.call.Sleeping.{Sleeping}
 use Rattle.clk_base.specs.declared.call.Sleeping.TheVariants as call
+use Rattle.clk_base.specs.declared.clock.ClockId.{ClockId}
 use Rattle.clk_base.specs.declared.event.Event.{Event}
 use Rattle.clk_base.specs.declared.event.Event.TheVariants as event
 use Rattle.clk_base.specs.declared.event.Reply.{Reply}
@@ -71,3 +72,8 @@ PartsFollow old d e x new = FollowsEvent (copy_of old) d e x (copy_of new) where
 -- an event is one of a call: its beginning, or a step
 abbrev pub IsEventOf : Sleeping → Event → Type 0
 IsEventOf what e = is_step e ≡ false → e ≡ event.Begin what
+
+-- the clock of which a call gets a handle
+abbrev pub clock_got : Sleeping → Option ClockId
+clock_got (call.Get found) = found
+clock_got _ = None

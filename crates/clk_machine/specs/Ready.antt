@@ -1,17 +1,19 @@
 -- What a copy has ready for a call that it has room for.
-use Rattle.std.specs.Prelude.{◌≡◌, ◌⊎◌, ℕ, ◌+◌, ◌<◌, ◌≤◌, true, false, Option, IfSome}
+use Rattle.std.specs.Prelude.{◌≡◌, ◌⊎◌, ℕ, ◌+◌, ◌<◌, ◌≤◌, true, false, List, Option, Some, IfSome}
 use Rattle.clk_base.specs.declared.call.Sleeping.{Sleeping}
 use Rattle.clk_base.specs.declared.call.Sleeping.TheVariants as call
 use Rattle.clk_base.specs.declared.event.Event.TheVariants as event
 use Rattle.clk_base.specs.declared.event.Turn.TheVariants as turn
 use Rattle.clk_flight.specs.Flights.{FlightState}
 use Rattle.clk_model.specs.Begin.{most_credits}
+use Rattle.notifiers.specs.declared.notifier.Notifier.{Notifier}
 use Rattle.core_parts.specs.Course.{CourseState}
 use Rattle.core_parts.specs.InFlight.{may_go_on}
 use Rattle.clk_model.specs.State.{State}
 use Rattle.clk_machine.specs.Along.{GoesAlong}
 use Rattle.clk_machine.specs.ChangingAlong.{Changes}
 use Rattle.clk_machine.specs.Parts.{Parts}
+use Rattle.clk_machine.specs.Places.{IsReadyToAdd}
 use Rattle.clk_machine.specs.SettingOut.{CanLower, CanSetOut, CanSweep, NeverGoes, sweep_end}
 use Rattle.clk_machine.specs.Sound.{IsPlaced}
 use Rattle.clk_machine.specs.Stands.{Stands}
@@ -40,10 +42,17 @@ NeverGo m d (call.SetRange h least most) = NeverGoes m d (call.SetRange h least 
 NeverGo m d (call.SetParent h p) = NeverGoes m d (call.SetParent h p)
 NeverGo m d what = may_go_on what ≡ false
 
--- a flight and a course are what a call goes on with, if it does
-pub record IsReadyFor (m : Parts) (d : ℕ) (what : Sleeping) (f : FlightState) (course : CourseState) : Type 0 where
+-- for a get there is the place of a handle, and for the adding of a notifier the chain with it
+abbrev pub HasPlaceFor : Parts → ℕ → Sleeping → Option (List Notifier) → Type 0
+HasPlaceFor m d (call.Get (Some c)) chain = m.table.place ≡ Some c.0
+HasPlaceFor m d (call.NotifierAdd h id priority policy) chain = IsReadyToAdd m d h (record { id = id; priority = priority; policy = policy }) chain
+HasPlaceFor m d _ chain = Unit {0}
+
+-- a flight and a course are what a call goes on with, if it does, and it has the place that it needs
+pub record IsReadyFor (m : Parts) (d : ℕ) (what : Sleeping) (f : FlightState) (course : CourseState) (chain : Option (List Notifier)) : Type 0 where
   pub ready : f.going ≡ true → CanGo m d what f course
   pub never : f.going ≡ false → NeverGo m d what
+  pub has : HasPlaceFor m d what chain
 
 -- so a call begins: the parts go along with that it goes on, or it goes on nowhere; of a sweep they have the end alone then
 abbrev pub GoesOut : Parts → ℕ → Sleeping → Parts → Type 0
@@ -52,6 +61,6 @@ GoesOut old d what new = GoesAlong old d (event.Begin what) turn.Going new ⊎ N
 
 -- what a copy keeps ready: the clocks of the call that it has room for are clocks of the description, and until that call has begun, what it
 -- goes on with is made
-pub record IsReserved (m : Parts) (room : Option (ℕ × Sleeping)) (f : FlightState) (course : CourseState) : Type 0 where
+pub record IsReserved (m : Parts) (room : Option (ℕ × Sleeping)) (f : FlightState) (course : CourseState) (chain : Option (List Notifier)) : Type 0 where
   pub placed : IfSome room (λ r. IsPlaced m.desc.defs r.1)
-  pub ready : m.flight.going ≡ false → IfSome room (λ r. IsReadyFor m r.0 r.1 f course)
+  pub ready : m.flight.going ≡ false → IfSome room (λ r. IsReadyFor m r.0 r.1 f course chain)

@@ -57,7 +57,7 @@ impl Model for Prep {
     ghost use Rattle.clk_machine.specs.Changing.{course_of};
     ghost use Rattle.clk_machine.specs.Ready.{IsReserved};
 
-    ghost invariant = { λ p. IsReserved p.machine p.room p.ready.flight (course_of p.ready.draft) };
+    ghost invariant = { λ p. IsReserved p.machine p.room p.ready.flight (course_of p.ready.draft) p.ready.chain };
 }
 
 impl Prep {
@@ -144,7 +144,8 @@ impl Prep {
             }
             Turn::Done(reply) => {
                 self.room = None;
-                end_with(&mut self.machine, driver, what, entry.event, reply)
+                let chain = &mut self.ready.chain;
+                end_with(&mut self.machine, chain, driver, what, entry.event, reply)
             }
         }
     }

@@ -1,6 +1,6 @@
 //! How a copy goes along with an event at which its call ends.
 
-ghost use Rattle.std.specs.Prelude.{◌≡◌, ℕ, Bool, Option, true, false};
+ghost use Rattle.std.specs.Prelude.{◌≡◌, ℕ, Bool, List, Option, true, false};
 ghost use Rattle.clk_base.specs.declared.call.Micro.{Micro};
 ghost use Rattle.clk_base.specs.declared.call.Sleeping.TheVariants as call;
 ghost use Rattle.clk_base.specs.declared.event.Event.TheVariants.{Begin, Step};
@@ -9,12 +9,15 @@ ghost use Rattle.clk_base.specs.declared.handle.Handle.{Handle};
 ghost use Rattle.clk_base.specs.declared.event.Reply.TheVariants.{Fine};
 ghost use Rattle.clk_base.specs.declared.event.Reply.TheVariants as reply;
 ghost use Rattle.clk_base.specs.declared.event.Turn.TheVariants.{Done};
-ghost use Rattle.clk_machine.specs.Along.{IsEventOf, KeepsShape, PartsFollow, adds_notifier, is_still};
+ghost use Rattle.notifiers.specs.declared.notifier.Notifier.{Notifier};
+ghost use Rattle.clk_machine.specs.Along.{IsEventOf, KeepsShape, PartsFollow, adds_notifier, clock_got, is_still};
 ghost use Rattle.clk_machine.specs.Parts.{IsWhole};
+ghost use Rattle.clk_machine.specs.Ready.{HasPlaceFor};
 ghost use Rattle.clk_machine.specs.Sound.{IsPlaced};
 
 use crate::machine::Machine;
-use clk_base::{Event, Reply, Sleeping};
+use clk_base::{ClockId, Event, Reply, Sleeping};
+use notifiers::Chain;
 use reg_bank::MemBank;
 
 // Whether a call that is answered by Ok at once leaves all as it is.
@@ -81,13 +84,14 @@ fn end_along(machine: &mut Machine<MemBank>)
 // Goes along with a call that was answered by Ok at once.
 fn fine_along(
     machine: &mut Machine<MemBank>,
+    chain: &mut Option<Chain>,
     driver: u32,
     what: Sleeping,
 )
     requires quiet { machine.old.flight.going ≡ false }
     requires place { IsPlaced machine.old.desc.defs what }
     requires whole { IsWhole machine.old }
-    requires stub { false ≡ true }
+    requires has { HasPlaceFor machine.old driver what chain.old }
     ensures follows { PartsFollow machine.old driver (Begin what) (Done Fine) machine.new }
     ensures quiet { machine.new.flight.going ≡ false }
     ensures same { KeepsShape machine.old machine.new }
@@ -95,33 +99,48 @@ fn fine_along(
     if is_still(what) {
         return;
     }
+    if let Sleeping::NotifierAdd(handle, _id, _priority, _policy) = what {
+        machine.notifier_add_along(chain, driver, handle);
+        return;
+    }
     do_along(machine, driver, what);
 }
 
+// The clock of which a call gets a handle.
+fn clock_got(what: Sleeping) -> Option<ClockId>
+    ensures { result ≡ clock_got what }
+{
+    match what {
+        Sleeping::Get(found) => found,
+        _ => None,
+    }
+}
+
 // Goes along with a call that was answered by a handle.
-fn given_along(
-    machine: &mut Machine<MemBank>,
-    driver: u32,
-    what: Sleeping,
-)
+fn given_along(machine: &mut Machine<MemBank>, driver: u32, what: Sleeping)
     requires quiet { machine.old.flight.going ≡ false }
-    requires place { IsPlaced machine.old.desc.defs what }
-    requires stub { false ≡ true }
+    requires whole { IsWhole machine.old }
+    requires has { (chain : Option (List Notifier)) × HasPlaceFor machine.old driver what chain }
     ensures follows { (h : Handle) → PartsFollow machine.old driver (Begin what) (Done (reply.Handle h)) machine.new }
     ensures quiet { machine.new.flight.going ≡ false }
     ensures same { KeepsShape machine.old machine.new }
 {
-    machine.halt();
+    let Some(clock) = clock_got(what) else {
+        return;
+    };
+    machine.get_along(driver, clock);
 }
 
 // Goes along with a call that was answered at once.
 fn answer_along(
     machine: &mut Machine<MemBank>,
+    chain: &mut Option<Chain>,
     driver: u32,
     what: Sleeping,
     reply: Reply,
 )
     requires place { IsPlaced machine.old.desc.defs what }
+    requires has { machine.old.flight.going ≡ false → HasPlaceFor machine.old driver what chain.old }
     ensures follows { PartsFollow machine.old driver (Begin what) (Done reply) machine.new }
     ensures quiet { machine.new.flight.going ≡ false }
     ensures same { KeepsShape machine.old machine.new }
@@ -131,27 +150,29 @@ fn answer_along(
         return;
     }
     match reply {
-        Reply::Fine => fine_along(machine, driver, what),
+        Reply::Fine => fine_along(machine, chain, driver, what),
         Reply::Handle(_) => given_along(machine, driver, what),
         _ => {}
     }
 }
 
-/// Goes along with an event at which a call ends.
+/// Goes along with an event at which a call ends, with the chain that was made ready for it.
 pub(super) fn end_with(
     machine: &mut Machine<MemBank>,
+    chain: &mut Option<Chain>,
     driver: u32,
     what: Sleeping,
     event: Event,
     reply: Reply,
 )
     requires place { IsPlaced machine.old.desc.defs what }
+    requires has { machine.old.flight.going ≡ false → HasPlaceFor machine.old driver what chain.old }
     ensures follows { IsEventOf what event → PartsFollow machine.old driver event (Done reply) machine.new }
     ensures quiet { machine.new.flight.going ≡ false }
     ensures same { KeepsShape machine.old machine.new }
 {
     match event {
-        Event::Begin(_) => answer_along(machine, driver, what, reply),
+        Event::Begin(_) => answer_along(machine, chain, driver, what, reply),
         _ => end_along(machine),
     }
 }

@@ -1,8 +1,9 @@
 //! What a call goes on with that a copy has room for, made before it begins.
 
-ghost use Rattle.std.specs.Prelude.{◌≡◌, false, IsOk, OnOk};
+ghost use Rattle.std.specs.Prelude.{◌≡◌, false, IsOk, OnErr, OnOk};
 ghost use Rattle.clk_machine.specs.Changing.{course_of};
 ghost use Rattle.clk_machine.specs.Along.{KeepsShape};
+ghost use Rattle.clk_machine.specs.Places.{placed};
 ghost use Rattle.clk_machine.specs.Ready.{GoesOut, IsReadyFor};
 ghost use Rattle.clk_machine.specs.Sound.{IsPlaced, takes_memory};
 
@@ -11,16 +12,20 @@ use clk_base::Sleeping;
 use clk_flight::Flight;
 use clk_io::NoMemory;
 use core_parts::Draft;
+use notifiers::Chain;
 use reg_bank::MemBank;
 
-/// A flight that a call can begin with, and the draft that a change of rate or parent was worked out in.
+/// A flight that a call can begin with, the draft that a change of rate or parent was worked out in, and
+/// the chain by which a notifier is added.
 #[derive(Drop)]
 pub(super) struct Ready {
     pub(super) flight: Flight,
     pub(super) draft: Draft,
+    pub(super) chain: Option<Chain>,
 }
 
-/// Makes what a call goes on with in a copy, if it does. The copy stays as it is.
+/// Makes what a call goes on with in a copy, if it does, and the place that it needs. Of the copy no more
+/// changes than the place.
 pub(super) fn make_ready(
     machine: &mut Machine<MemBank>,
     ready: &mut Ready,
@@ -30,11 +35,17 @@ pub(super) fn make_ready(
     requires machine { machine.old.flight.going ≡ false }
     requires quiet { ready.old.flight.going ≡ false }
     requires place { IsPlaced machine.old.desc.defs what }
-    ensures ok { OnOk result (IsReadyFor machine.old driver what ready.new.flight (course_of ready.new.draft)) }
-    ensures same { machine.new ≡ machine.old }
+    ensures ok { OnOk result (IsReadyFor machine.new driver what ready.new.flight (course_of ready.new.draft) ready.new.chain) }
+    ensures same { machine.new ≡ placed machine.old machine.new.table.place }
+    ensures err { OnErr result (machine.new ≡ machine.old) }
     ensures memory { takes_memory what ≡ false → IsOk result }
 {
     match what {
+        Sleeping::Get(Some(clock)) => machine.make_place(clock),
+        Sleeping::NotifierAdd(handle, id, priority, policy) => {
+            ready.chain = machine.ready_notifier(driver, handle, id, priority, policy)?;
+            Ok(())
+        }
         Sleeping::Prepare(handle) => machine.ready_prepare(&mut ready.flight, driver, handle),
         Sleeping::Unprepare(handle) => machine.ready_unprepare(&mut ready.flight, driver, handle),
         Sleeping::SetRate(_, _) => machine.ready_change(
@@ -74,9 +85,9 @@ pub(super) fn set_out(
     driver: u32,
     what: Sleeping,
 )
-    requires ready { IsReadyFor machine.old driver what ready.old.flight (course_of ready.old.draft) }
+    requires ready { IsReadyFor machine.old driver what ready.old.flight (course_of ready.old.draft) ready.old.chain }
     ensures goes { GoesOut machine.old driver what machine.new }
-    ensures ready { machine.new.flight.going ≡ false → IsReadyFor machine.new driver what ready.new.flight (course_of ready.new.draft) }
+    ensures ready { machine.new.flight.going ≡ false → IsReadyFor machine.new driver what ready.new.flight (course_of ready.new.draft) ready.new.chain }
     ensures same { KeepsShape machine.old machine.new }
 {
     if !ready.flight.going() {
