@@ -67,7 +67,8 @@ along_becomes old new adds does d what r becomes same s t stands sound step =
     let is = begin_is s t d what (slotless (turn.Done r)) step in
     subst (λ (u : State). Stands new u) (ap (λ (y : State). let u : State = record (settled s y) { spent = s.spent + 1 } in u) (sym (same s stands is.2)) ∙ is.1) (becomes.stands s stands sound)
 
-inside_row : {a b : HandleRow} → Some a ≡ Some b → a ≡ b
+-- one row in both
+pub inside_row : {a b : HandleRow} → Some a ≡ Some b → a ≡ b
 inside_row e = cc
 
 -- a call on a driver's own handle

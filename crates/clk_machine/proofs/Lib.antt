@@ -69,3 +69,5 @@ pub mod Still
 pub mod SettingOut
 pub mod ChangingAlong
 pub mod Copying
+pub mod Placing
+pub mod NotifyingAlong

@@ -24,3 +24,4 @@ pub mod ChangingAlong
 pub mod Ready
 pub mod Copied
 pub mod Beginning
+pub mod Places

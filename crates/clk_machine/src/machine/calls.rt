@@ -20,7 +20,7 @@ use reg_bank::Bank;
 
 impl<B: Bank> Machine<B> {
     // Whether a clock is registered and its path ends in a fixed-rate clock.
-    fn is_rooted(&self, clock: ClockId) -> bool
+    pub(super) fn is_rooted(&self, clock: ClockId) -> bool
         ensures rooted { result ≡ rooted self.now.desc.defs self.now.tree.clocks clock.0 }
         ensures whole { IsWhole self.now }
     {

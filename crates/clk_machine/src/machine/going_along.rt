@@ -68,7 +68,7 @@ impl<B: Bank> Machine<B> {
     // ---- calls that were answered by Ok at once
 
     // The row of a driver's own handle, if a credit is left.
-    fn own_paid(&self, driver: u32, handle: Handle) -> Option<HandleRow>
+    pub(super) fn own_paid(&self, driver: u32, handle: Handle) -> Option<HandleRow>
         ensures own { IfSome result (λ row. own_in self.now.table.handles driver handle.number ≡ Some row) }
         ensures live { IfSome result (λ row. handle_at self.now.table.handles handle.number ≡ Some row) }
         ensures credit { IfSome result (λ row. self.now.spent < self.now.credits) }

@@ -99,6 +99,7 @@ impl<B: Bank> Machine<B> {
         requires { is_some (own_in self.now.table.handles driver handle.number) ≡ true }
         ensures own { own_in self.now.table.handles driver handle.number ≡ Some result }
         ensures live { handle_at self.now.table.handles handle.number ≡ Some result }
+        ensures whole { IsWhole self.now }
     {
         match self.own(driver, handle) {
             Some(row) => row,
