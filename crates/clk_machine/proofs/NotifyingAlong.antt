@@ -1,12 +1,11 @@
 -- What goes along with the adding of a notifier.
-use Rattle.std.proofs.Common.{◌≡◌, ◌≢◌, ℕ, ℤ, ◌+◌, ◌<◌, ◌≤◌, ◌⊎◌, inl, inr, Bool, true, false, List, Option, Some, None, refl, sym, ap, ◌∙◌, arith, length, nat_le, set}
+use Rattle.std.proofs.Common.{◌≡◌, ℕ, ◌≤◌, ◌⊎◌, inl, inr, true, false, Some, None, refl, sym, ap, ◌∙◌, arith, length, nat_le}
 use Rattle.std.proofs.lemmas.Bool.Decides.{nat_tests}
 use Rattle.clk_base.specs.declared.call.Sleeping.TheVariants as call
 use Rattle.clk_base.specs.declared.event.Event.TheVariants as event
 use Rattle.clk_base.specs.declared.event.Reply.TheVariants as reply
 use Rattle.clk_base.specs.declared.event.Turn.TheVariants as turn
 use Rattle.clk_base.specs.declared.handle.Handle.{Handle}
-use Rattle.clk_base.specs.declared.handle.Policy.{Policy}
 use Rattle.clk_model.specs.declared.row.HandleRow.{HandleRow}
 use Rattle.clk_model.specs.Begin.{begun, own_handle, has_notifier, most_notifiers}
 use Rattle.clk_model.specs.Notices.{notifiers_of}
@@ -19,8 +18,8 @@ use Rattle.notifiers.specs.Chains.{chain_of, has_id}
 use Rattle.clk_machine.specs.Along.{GoesAlong}
 use Rattle.clk_machine.specs.Holding.{notified}
 use Rattle.clk_machine.specs.Parts.{Parts, own_in}
-use Rattle.clk_machine.specs.Places.{NeverAdds, CanAddNotifier}
-use Rattle.clk_machine.specs.Stands.{Stands, Becomes, nothing}
+use Rattle.clk_machine.specs.Places.{NeverAdds}
+use Rattle.clk_machine.specs.Stands.{Becomes, nothing}
 use Rattle.clk_machine.proofs.Along.{along_becomes, inside_row}
 use Rattle.clk_machine.proofs.Entered.{own_stands}
 use Rattle.clk_machine.proofs.Notifying.{has_stands, many_stand}

@@ -1,4 +1,4 @@
-use Rattle.std.proofs.Common.{◌≡◌, ◌∙◌, List, Option, Some, None, sym, ap, subst}
+use Rattle.std.proofs.Common.{◌∙◌, List, Option, sym, subst}
 use Rattle.clk_model.specs.declared.row.HandleRow.{HandleRow}
 use Rattle.notifiers.specs.Chains.{row_on, IsWith}
 use Rattle.notifiers.specs.declared.notifier.Notifier.{Notifier}

@@ -1,8 +1,7 @@
-use Rattle.std.proofs.Common.{◌≡◌, ◌∙◌, sym, ap, subst}
+use Rattle.std.proofs.Common.{subst}
 use Rattle.notifiers.specs.declared.fault.ChainFault.{ChainFault}
 use Rattle.notifiers.specs.declared.fault.ChainFault.TheVariants.{Exists, Full}
 use Rattle.notifiers.specs.Chains.{chain_of, WhyNot}
-use Rattle.notifiers.specs.declared.notifier.Notifier.{Notifier}
 use Rattle.clk_machine.specs.Parts.{Parts}
 use Rattle.clk_machine.proofs.Along.{by_none}
 use Rattle.clk_machine.proofs.NotifyingAlong.{never_paid, never_again, never_more}
