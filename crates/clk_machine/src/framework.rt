@@ -1,9 +1,10 @@
 //! The core: the machine with its journal.
 
-ghost use Rattle.std.specs.Prelude.{◌≡◌, ℕ, ◌+◌, ◌<◌, ◌≤◌, true, false, not, [], ◌∷◌, ◌++◌, length, take, drop, is_some, slice_index, IfSome, IfOk, IsOk, OnErr};
+ghost use Rattle.std.specs.Prelude.{◌≡◌, ℕ, ◌+◌, ◌<◌, ◌≤◌, true, false, None, not, [], ◌∷◌, ◌++◌, length, take, drop, is_some, slice_index, IfSome, IfOk, IsOk, OnErr};
 ghost use Rattle.std.specs.Option.{option_map};
 ghost use Rattle.clk_model.specs.State.{is_quiet};
 ghost use Rattle.clk_model.specs.Journal.{opening, replay, Legal, Polled, cost};
+ghost use Rattle.clk_base.specs.Valid.{IsValid};
 ghost use Rattle.clk_model.specs.Fed.{Fed};
 ghost use Rattle.clk_model.specs.Begin.{most_credits};
 ghost use Rattle.clk_base.specs.declared.event.Event.TheVariants.{Step};
@@ -15,6 +16,7 @@ mod beginning;
 use crate::decision::Decision;
 use crate::log::Log;
 use crate::machine::Machine;
+use crate::prep::Prep;
 use crate::row::Row;
 use clk_base::{ClockId, Entry, Event, Handle, Micro, Reply, Sleeping, Turn, ValidDesc};
 use clk_io::NoMemory;
@@ -107,7 +109,7 @@ impl<B: Bank> Core<B> {
     ghost use Rattle.clk_model.specs.Journal.{slotless};
     ghost use Rattle.clk_model.specs.Laws.CallCauses.{CallTurns};
     ghost use Rattle.clk_model.specs.Laws.Causes.{EnableCauses, DisableCauses, RunningCauses, LeavesRefused};
-    ghost use Rattle.clk_machine.specs.Copied.{IsDecided};
+    ghost use Rattle.clk_machine.specs.Copied.{IsCopyOf, IsDecided};
     ghost use Rattle.clk_machine.specs.Run.{Run, now_of, was_registered, in_flight, Appends, StepsOn, StepTurns};
     ghost use Rattle.clk_machine.specs.Row.{IsRowOf, IsTreeOf};
     ghost use Rattle.clk_machine.specs.Lawful.{KeepsLaws};
@@ -149,6 +151,25 @@ impl<B: Bank> Core<B> {
             log,
             draft: Draft::none(alloc),
         })
+    }
+
+    /// A copy of the prepare tier of the core, over which calls are decided. The one error is want of
+    /// memory.
+    pub fn prep_copy(&self) -> Result<Prep, NoMemory>
+        requires stub { false ≡ true }
+        // No call is in flight.
+        requires quiet { in_flight self.now.journal ≡ false }
+        // Where the bank tells its words, it is a copy of the core's state.
+        ensures copies { self.now.told ≡ true → IfOk result (λ copy. IsCopyOf copy (now_of self.now)) }
+        // It is made for the description, which is valid for the core's words.
+        ensures desc { IfOk result (λ copy. copy.parts.desc.defs ≡ self.now.start.defs) }
+        ensures size { IfOk result (λ copy. copy.parts.window.size ≡ length self.now.start.regs) }
+        ensures valid { IsValid (length self.now.start.regs) self.now.start.defs }
+        // There is room for no call, and none is in flight in it.
+        ensures room { IfOk result (λ copy. copy.room ≡ None) }
+        ensures quiet { IfOk result (λ copy. copy.parts.flight.going ≡ false) }
+    {
+        unreachable!()
     }
 
     /// Enables a handle. Takes no memory.

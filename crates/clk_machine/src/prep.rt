@@ -1,8 +1,9 @@
 //! A copy of the prepare tier of a core, over which calls are decided.
 
-ghost use Rattle.std.specs.Prelude.{◌≡◌, false, Some, IfOk, IsOk, OnErr, OnOk};
+ghost use Rattle.std.specs.Prelude.{◌≡◌, false, true, Some, IfOk, IsOk, OnErr, OnOk};
+ghost use Rattle.clk_model.specs.Journal.{is_going};
 ghost use Rattle.clk_model.specs.State.{State};
-ghost use Rattle.clk_machine.specs.Copied.{IsCopyOf, IsDecided, StaysCopy};
+ghost use Rattle.clk_machine.specs.Copied.{Follows, IsCopyOf, IsDecided, StaysCopy, room_after};
 ghost use Rattle.clk_machine.specs.Sound.{IsPlaced, takes_memory};
 
 mod following;
@@ -11,7 +12,7 @@ mod ready;
 use self::ready::{Ready, make_ready};
 use crate::decision::Decision;
 use crate::machine::{Machine, is_asking, is_planning};
-use clk_base::{Pause, Sleeping};
+use clk_base::{Entry, Pause, Sleeping};
 use clk_io::NoMemory;
 use rate_planner::Pausing;
 use reg_bank::MemBank;
@@ -116,5 +117,21 @@ impl Prep {
         swap(&mut self.ready, &mut self.spare);
         self.room = Some((driver, *what));
         Ok(())
+    }
+
+    /// Goes along with an entry of the core. Takes no memory.
+    pub fn follow(&mut self, entry: &Entry)
+        requires stub { false ≡ true }
+        // The copy goes along with an entry of the call that there is room for.
+        ensures follows { Follows self.old entry.now self.new }
+        // There is room for that call as long as it goes on.
+        ensures room { self.new.room ≡ room_after entry.now.turn self.old.room }
+        // After an entry at which a call ends, no call is in flight in the copy.
+        ensures quiet { is_going entry.now.turn ≡ false → self.new.parts.flight.going ≡ false }
+        // Its description and the number of its words stay.
+        ensures same { (self.new.parts.desc ≡ self.old.parts.desc) × (self.new.parts.window.size ≡ self.old.parts.window.size) }
+    {
+        let _entry = *entry;
+        unreachable!()
     }
 }
