@@ -6,12 +6,13 @@ ghost use Rattle.clk_machine.specs.Along.{KeepsShape};
 ghost use Rattle.clk_machine.specs.Ready.{GoesOut, IsReadyFor};
 ghost use Rattle.clk_machine.specs.Sound.{IsPlaced, takes_memory};
 
+use super::words::Words;
 use crate::machine::Machine;
 use clk_base::Sleeping;
 use clk_flight::Flight;
 use clk_io::NoMemory;
 use core_parts::Draft;
-use reg_bank::MemBank;
+use std::alloc::Global;
 
 /// A flight that a call can begin with, and the draft that a change of rate or parent was worked out in.
 #[derive(Drop)]
@@ -20,9 +21,21 @@ pub(super) struct Ready {
     pub(super) draft: Draft,
 }
 
+impl Ready {
+    /// Nothing.
+    pub(super) fn none(alloc: Global) -> Ready
+        ensures { result.flight.going ≡ false }
+    {
+        Ready {
+            flight: Flight::create(alloc),
+            draft: Draft::none(alloc),
+        }
+    }
+}
+
 /// Makes what a call goes on with in a copy, if it does. The copy stays as it is.
 pub(super) fn make_ready(
-    machine: &mut Machine<MemBank>,
+    machine: &mut Machine<Words>,
     ready: &mut Ready,
     driver: u32,
     what: Sleeping,
@@ -69,7 +82,7 @@ pub(super) fn make_ready(
 
 /// A call begins in a copy with what was made for it. Takes no memory.
 pub(super) fn set_out(
-    machine: &mut Machine<MemBank>,
+    machine: &mut Machine<Words>,
     ready: &mut Ready,
     driver: u32,
     what: Sleeping,
