@@ -1,5 +1,7 @@
 -- A copy goes along with the journal of a core, entry by entry.
-use Rattle.std.proofs.Common.{◌≡◌, ℕ, ◌++◌, Bool, true, false, cond, List, [], ◌∷◌, Option, Some, None, refl, sym, ap, subst, ◌∙◌}
+use Rattle.std.proofs.Common.{◌≡◌, ℕ, suc, ◌+◌, ◌<◌, ◌≤◌, ◌++◌, length, take, Bool, true, false, cond, List, [], ◌∷◌, Option, Some, None, refl, sym, ap, subst, ◌∙◌, arith}
+use Rattle.std.proofs.Math.Seq.{take-suc}
+use Rattle.std.specs.Prelude.{slice_index_or}
 use Rattle.clk_base.specs.declared.call.Micro.{Micro}
 use Rattle.clk_base.specs.declared.call.Sleeping.{Sleeping}
 use Rattle.clk_base.specs.declared.event.Entry.{Entry}
@@ -7,7 +9,11 @@ use Rattle.clk_base.specs.declared.event.Event.{Event}
 use Rattle.clk_base.specs.declared.event.Event.TheVariants as event
 use Rattle.clk_base.specs.declared.event.Turn.{Turn}
 use Rattle.clk_base.specs.declared.event.Turn.TheVariants as turn
-use Rattle.clk_model.specs.Journal.{is_going, slotless}
+use Rattle.clk_base.specs.Checked.{Checked}
+use Rattle.clk_base.specs.Description.{Description}
+use Rattle.clk_base.specs.Valid.{IsValid}
+use Rattle.clk_model.specs.Begin.{most_credits}
+use Rattle.clk_model.specs.Journal.{is_going, opening, slotless}
 use Rattle.clk_model.specs.Laws.Flight.{begins}
 use Rattle.clk_model.specs.Machine.{next}
 use Rattle.clk_model.specs.State.{State, Change}
@@ -22,13 +28,29 @@ use Rattle.clk_model.proofs.TierLaws.{beside_change}
 use Rattle.clk_model.proofs.TwinLaws.{twins_stay}
 use Rattle.clk_machine.specs.Along.{KeepsShape}
 use Rattle.clk_machine.specs.Copied.{Copy, Copies, Follows, IsCopyOf, IsOfCall, StaysCopy, room_after}
-use Rattle.clk_machine.specs.Run.{in_flight}
+use Rattle.clk_machine.specs.Parts.{Parts}
+use Rattle.clk_machine.specs.Run.{ArePlaced, IsRun, Logged, in_flight, start_of, state_of}
 use Rattle.clk_machine.specs.Sound.{IsReached}
+use Rattle.clk_machine.specs.Stands.{Stands, is_told}
 use Rattle.clk_machine.specs.Tracing.{FollowsOn, IsAtRest, IsTraced, Traces}
 use Rattle.clk_machine.proofs.Copying.{no_begin}
 use Rattle.clk_machine.proofs.Entering.{going_append, going_slotless}
 use Rattle.clk_machine.proofs.Lawful.{entry_at}
-use Rattle.clk_machine.proofs.Soundness.{reached_next}
+use Rattle.clk_machine.proofs.Soundness.{reached_next, reached_opening}
+
+-- ---- an opening
+
+-- parts that stand for an opening are a copy of it: it is a twin of itself
+pub copy_opening : (copy : Copy) (words : List ℕ) (defs : Description) (ignore_unused : Bool) (credits : ℕ) → IsValid (length words) defs → credits ≤ most_credits → copy.parts.window.size ≡ length words
+    → Stands copy.parts (opening defs words ignore_unused credits) → IsCopyOf copy (opening defs words ignore_unused credits)
+copy_opening copy words defs ignore_unused credits valid few size stands = record {
+  reached = subst (λ (n : ℕ). IsReached n (opening defs words ignore_unused credits)) (sym size) (reached_opening words defs ignore_unused credits valid few);
+  copies = record {
+    twin = opening defs words ignore_unused credits;
+    stands = stands;
+    is = record { bare = refl; holds = refl; spent = omega arith; steps = omega arith; same = refl };
+  };
+}
 
 -- ---- one entry
 
@@ -134,6 +156,16 @@ traces_on old copy new seen e before follows beside rest same = record {
   by true tier none = subst IsAtRest (sym (beside tier)) (before.rest none)
   by false prepares none = rest prepares none
 
+-- so it is at the next of its entries
+pub traces_next : (old copy new : Copy) (journal : List Entry) (i : ℕ) (d : Entry) → i < length journal → Traces old (take i journal) copy → FollowsOn copy (slice_index_or journal i d) new
+    → (is_enable_tier (slice_index_or journal i d).event ≡ true → new ≡ copy) → (is_enable_tier (slice_index_or journal i d).event ≡ false → is_going (slice_index_or journal i d).turn ≡ false → IsAtRest new)
+    → KeepsShape copy.parts new.parts → Traces old (take (i + 1) journal) new
+traces_next old copy new journal i d within before follows beside rest same =
+    subst (λ (es : List Entry). Traces old es new) (sym (ap (λ (n : ℕ). take n journal) (one_more i) ∙ take-suc journal i d within))
+    (traces_on old copy new (take i journal) (slice_index_or journal i d) before follows beside rest same) where
+      one_more : (n : ℕ) → n + 1 ≡ suc n
+      one_more n = omega arith
+
 -- ---- which entries come
 
 -- an event that begins no call and is no step is of the enable tier
@@ -146,3 +178,23 @@ is_beside (event.Step m a) begun made = absurd (made m a refl)
 
 pub no_other : (e : Event) → is_enable_tier e ≡ true → is_enable_tier e ≡ false → ⊥
 no_other e tier prepares = let no : true ≡ false = sym tier ∙ prepares in cc
+
+-- ---- a core
+
+-- the opening of a core that is told by its parts
+pub same_start : (m : Parts) (words given : List ℕ) (desc : Checked) (ignore_unused : Bool) (credits : ℕ) → desc ≡ m.desc → given ≡ words → ignore_unused ≡ m.ignore_unused → credits ≡ m.credits
+    → opening desc.defs given ignore_unused credits ≡ start_of m words
+same_start m words given desc ignore_unused credits descs same unused paid =
+    ap (λ (d : Checked). opening d.defs given ignore_unused credits) descs
+    ∙ ap (λ (ws : List ℕ). opening m.desc.defs ws ignore_unused credits) same
+    ∙ ap (λ (b : Bool). opening m.desc.defs words b credits) unused
+    ∙ ap (λ (n : ℕ). opening m.desc.defs words m.ignore_unused n) paid
+
+-- a copy of it that went along with its journal is one of its state
+pub copy_of_run : (m : Parts) (words : List ℕ) (log : Logged) (start : State) (made new : Copy) → IsRun m words log → is_told m ≡ true → start ≡ start_of m words → IsCopyOf made start → Traces made log.entries new
+    → IsCopyOf new (state_of m words log)
+copy_of_run m words log start made new run told same opens traces = (traces.leads (start_of m words) (subst (λ (s : State). IsCopyOf made s) same opens) refl (run.legal told)).of
+
+-- its calls name clocks of the description of a copy
+pub placed_of_run : (m : Parts) (words : List ℕ) (log : Logged) (desc : Checked) → IsRun m words log → desc ≡ m.desc → ArePlaced desc.defs log.entries
+placed_of_run m words log desc run same = subst (λ (d : Checked). ArePlaced d.defs log.entries) (sym same) run.placed

@@ -27,9 +27,9 @@ impl<B: Bank> Core<B> {
         ensures quiet { IfOk result (λ copy. copy.parts.flight.going ≡ false) }
     {
         let alloc = self.machine.alloc();
-        let desc = self.machine.desc().copy(alloc)?;
-        let ignore_unused = self.machine.ignore_unused();
         let credits = self.machine.credits();
+        let ignore_unused = self.machine.ignore_unused();
+        let desc = self.machine.desc().copy(alloc)?;
         let mut copy = Prep::create(alloc, desc, self.words.as_slice(), ignore_unused, credits)?;
         copy.trace(self.log.as_slice())?;
         Ok(copy)
