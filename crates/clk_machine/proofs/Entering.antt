@@ -1,7 +1,8 @@
 -- Entering an event that the machine has taken into the journal.
-use Rattle.std.proofs.Common.{◌≡◌, ℕ, ◌+◌, ◌<◌, ◌||◌, not, Bool, true, false, cond, List, [], ◌∷◌, ◌++◌, Option, Some, None, refl, sym, ap, subst, ◌∙◌, arith, length, take, nat_le, ◌≤◌}
+use Rattle.std.proofs.Common.{◌≡◌, ℕ, zero, suc, ◌+◌, ◌<◌, ◌||◌, not, Bool, true, false, cond, List, [], ◌∷◌, ◌++◌, Option, Some, None, refl, sym, ap, subst, ◌∙◌, arith, length, take, nat_le, ◌≤◌}
 use Rattle.std.proofs.lemmas.Bool.Decides.{nat_tests}
 use Rattle.std.proofs.lemmas.List.{length-append, take-append-le, take_all}
+use Rattle.std.proofs.lemmas.List.Elements.{All-append, All-nil}
 use Rattle.std.proofs.lemmas.List.Sums.{sum_by-append}
 use Rattle.clk_base.specs.declared.call.Micro.{Micro}
 use Rattle.clk_base.specs.declared.call.Sleeping.{Sleeping}
@@ -40,7 +41,7 @@ use Rattle.clk_machine.proofs.Likeness.{sound_reached}
 use Rattle.clk_machine.proofs.Soundness.{fed_reached, reached_next, reached_opening, narrow_opening}
 use Rattle.clk_model.specs.Begin.{most_credits}
 use Rattle.clk_machine.proofs.Events.{narrow_next}
-use Rattle.clk_machine.specs.Run.{Run, now_of, was_registered, going_after, in_flight, driver_after, driver_in_flight, Logged, start_of, state_of, run_of, IsRun, Appends, StepsOn, StepTurns}
+use Rattle.clk_machine.specs.Run.{Run, now_of, was_registered, BeginsPlaced, ArePlaced, going_after, in_flight, driver_after, driver_in_flight, Logged, start_of, state_of, run_of, IsRun, Appends, StepsOn, StepTurns}
 use Rattle.std.proofs.Math.Bool.{or-false}
 
 -- an entry more costs its price more
@@ -60,6 +61,11 @@ start_remains old new words remains =
 -- the entry of an event
 abbrev pub entry_of : ℕ → Event → Turn → Entry
 entry_of d e t = record { driver = d; event = e; turn = t }
+
+-- one entry, whose call names clocks of the description
+placed_one : (defs : Description) (e : Entry) → BeginsPlaced defs e.event → ArePlaced defs (e ∷ [])
+placed_one defs e placed zero f within = placed
+placed_one defs e placed (suc k) f within = absurd (omega arith)
 
 -- a journal with an entry more, after which the active clocks are fed, as they were after every prefix
 fed-append : (start t : State) (turn : Turn) (entries entries' : List Entry) (e : Entry) → entries' ≡ entries ++ e ∷ [] → next (replay start entries) e.driver e.event ≡ Some (t, turn)
@@ -93,6 +99,7 @@ pub record IsEntered (old new : Parts) (words : List ℕ) (log log' : Logged) (d
   pub proceeds : Proceeds old d e t new
   pub leads_ : is_told old ≡ true → Leads (state_of old words log) d e t new
   pub can : is_told old ≡ true → CanTake (state_of old words log) e
+  pub placed : BeginsPlaced old.desc.defs e
   pub entries : log'.entries ≡ log.entries ++ entry_of d e t ∷ []
   pub room : new.credits + steps_left new ≤ new.spent + log'.room
   pub locks : FollowsLocks old e new
@@ -118,15 +125,26 @@ sound_of m words log run told = subst (λ (n : ℕ). IsSound n (state_of m words
 leads_at : (old new : Parts) (words : List ℕ) (log : Logged) (d : ℕ) (e : Event) (t : Turn) → IsRun old words log → Enters old d e t new → is_told old ≡ true → Leads (state_of old words log) d e t new
 leads_at old new words log d e t run enters told = enters.step (state_of old words log) (run.stands told) (sound_of old words log run told)
 
+-- a call that names clocks of the description can begin in the state
+can_take : (m : Parts) (s : State) (what : Sleeping) → Stands m s → IsPlaced m.desc.defs what → CanTake s (event.Begin what)
+can_take m s what stands placed = subst (λ (d : Description). IsPlaced d what) (sym stands.defs) placed
+
+-- so can each event that is paid
+can_pay : (m : Parts) (words : List ℕ) (log : Logged) (e : Event) → IsRun m words log → is_paid e ≡ true → BeginsPlaced m.desc.defs e → is_told m ≡ true → CanTake (state_of m words log) e
+can_pay m words log (event.Begin what) run paid placed told = can_take m (state_of m words log) what (run.stands told) placed
+can_pay m words log (event.Step x answer) run paid placed told = absurd cc
+can_pay m words log _ run paid placed told = tt
+
 -- one that is paid and answered at once leaves room for the entries to come
 pub answered_from : (old new : Parts) (words : List ℕ) (log log' : Logged) (d : ℕ) (e : Event) (t : Turn) → IsRun old words log → Proceeds old d e t new → (is_told old ≡ true → Leads (state_of old words log) d e t new)
-    → (is_told old ≡ true → CanTake (state_of old words log) e) → is_paid e ≡ true → is_going t ≡ false → log'.entries ≡ log.entries ++ entry_of d e t ∷ [] → log'.room + 1 ≡ log.room
+    → BeginsPlaced old.desc.defs e → is_paid e ≡ true → is_going t ≡ false → log'.entries ≡ log.entries ++ entry_of d e t ∷ [] → log'.room + 1 ≡ log.room
     → IsEntered old new words log log' d e t
-answered_from old new words log log' d e t run proceeds leads can paid done entries taken = record {
+answered_from old new words log log' d e t run proceeds leads placed paid done entries taken = record {
   run = run;
   proceeds = proceeds;
   leads_ = leads;
-  can = can;
+  can = can_pay old words log e run paid placed;
+  placed = placed;
   entries = entries;
   room =
       let before = run.room in
@@ -141,21 +159,22 @@ answered_from old new words log log' d e t run proceeds leads can paid done entr
   paid_follows _ e = tt
 
 pub answered : (old new : Parts) (words : List ℕ) (log log' : Logged) (d : ℕ) (e : Event) (t : Turn) → IsRun old words log → Enters old d e t new
-    → (is_told old ≡ true → CanTake (state_of old words log) e) → is_paid e ≡ true → is_going t ≡ false → log'.entries ≡ log.entries ++ entry_of d e t ∷ [] → log'.room + 1 ≡ log.room
+    → BeginsPlaced old.desc.defs e → is_paid e ≡ true → is_going t ≡ false → log'.entries ≡ log.entries ++ entry_of d e t ∷ [] → log'.room + 1 ≡ log.room
     → IsEntered old new words log log' d e t
-answered old new words log log' d e t run enters can paid done entries taken =
-    answered_from old new words log log' d e t run (proceeds_of old new d e t enters) (leads_at old new words log d e t run enters) can paid done entries taken
+answered old new words log log' d e t run enters placed paid done entries taken =
+    answered_from old new words log log' d e t run (proceeds_of old new d e t enters) (leads_at old new words log d e t run enters) placed paid done entries taken
 
 -- so does a call that begins, where room was made for the steps that it comes to
 pub begun_from : (old new : Parts) (words : List ℕ) (log log' : Logged) (d : ℕ) (what : Sleeping) (t : Turn) → IsRun old words log → Proceeds old d (event.Begin what) t new
     → (is_told old ≡ true → Leads (state_of old words log) d (event.Begin what) t new)
-    → (is_told old ≡ true → CanTake (state_of old words log) (event.Begin what)) → (is_going t ≡ true → old.credits + steps_left new ≤ old.spent + log.room)
+    → IsPlaced old.desc.defs what → (is_going t ≡ true → old.credits + steps_left new ≤ old.spent + log.room)
     → log'.entries ≡ log.entries ++ entry_of d (event.Begin what) t ∷ [] → log'.room + 1 ≡ log.room → IsEntered old new words log log' d (event.Begin what) t
-begun_from old new words log log' d what t run proceeds leads can most entries taken = record {
+begun_from old new words log log' d what t run proceeds leads placed most entries taken = record {
   run = run;
   proceeds = proceeds;
   leads_ = leads;
-  can = can;
+  can = can_pay old words log (event.Begin what) run refl placed;
+  placed = placed;
   entries = entries;
   room = by (is_going t) refl;
   locks = tt;
@@ -175,17 +194,17 @@ begun_from old new words log log' d what t run proceeds leads can most entries t
 
 -- and one of which is known how many it may come to
 pub begun : (old new : Parts) (words : List ℕ) (log log' : Logged) (d : ℕ) (what : Sleeping) (t : Turn) → IsRun old words log → Enters old d (event.Begin what) t new
-    → (is_told old ≡ true → CanTake (state_of old words log) (event.Begin what)) → old.credits + most_steps old.desc.defs (event.Begin what) ≤ old.spent + log.room
+    → IsPlaced old.desc.defs what → old.credits + most_steps old.desc.defs (event.Begin what) ≤ old.spent + log.room
     → log'.entries ≡ log.entries ++ entry_of d (event.Begin what) t ∷ [] → log'.room + 1 ≡ log.room → IsEntered old new words log log' d (event.Begin what) t
-begun old new words log log' d what t run enters can most entries taken =
-    begun_from old new words log log' d what t run (proceeds_of old new d (event.Begin what) t enters) (leads_at old new words log d (event.Begin what) t run enters) can
+begun old new words log log' d what t run enters placed most entries taken =
+    begun_from old new words log log' d what t run (proceeds_of old new d (event.Begin what) t enters) (leads_at old new words log d (event.Begin what) t run enters) placed
     (λ goes. let few = enters.begun refl goes in omega arith) entries taken
 
 pub begun_along : (old new : Parts) (words : List ℕ) (log log' : Logged) (d : ℕ) (what : Sleeping) (t : Turn) → IsRun old words log → Enters old d (event.Begin what) t new
-    → (is_told old ≡ true → CanTake (state_of old words log) (event.Begin what)) → (is_going t ≡ true → old.credits + steps_left new ≤ old.spent + log.room)
+    → IsPlaced old.desc.defs what → (is_going t ≡ true → old.credits + steps_left new ≤ old.spent + log.room)
     → log'.entries ≡ log.entries ++ entry_of d (event.Begin what) t ∷ [] → log'.room + 1 ≡ log.room → IsEntered old new words log log' d (event.Begin what) t
-begun_along old new words log log' d what t run enters can most entries taken =
-    begun_from old new words log log' d what t run (proceeds_of old new d (event.Begin what) t enters) (leads_at old new words log d (event.Begin what) t run enters) can most entries taken
+begun_along old new words log log' d what t run enters placed most entries taken =
+    begun_from old new words log log' d what t run (proceeds_of old new d (event.Begin what) t enters) (leads_at old new words log d (event.Begin what) t run enters) placed most entries taken
 
 -- and a step
 pub stepped : (old new : Parts) (words : List ℕ) (log log' : Logged) (d : ℕ) (m : Micro) (answer : Option Bool) (t : Turn) → IsRun old words log
@@ -199,6 +218,7 @@ stepped old new words log log' d m answer t run enters leaves locks entries take
       let s : State = state_of old words log in
       let stands = run.stands told in
       ap (λ (ds : Description). links_well ds s.clocks m) stands.defs ∙ ap (λ (rs : List ClockRow). links_well old.desc.defs rs m) stands.clocks ∙ leaves;
+  placed = tt;
   entries = entries;
   room =
       let before = run.room in
@@ -222,6 +242,7 @@ roomier m words log log' run same more = record {
   going = run.going ∙ sym (ap in_flight same);
   driver_ = λ goes. run.driver_ goes ∙ sym (ap driver_in_flight same);
   size = run.size;
+  placed = subst (λ (j : List Entry). ArePlaced m.desc.defs j) (sym same) run.placed;
   polling = λ told goes. subst (λ (j : List Entry). IfPoll m.flight.front (IsAsked m.window.locks (asked_by [] j))) (sym same) (run.polling told goes);
   polled = λ told delay delays. subst (λ (j : List Entry). Polled delay j) (sym same) (run.polled told delay delays);
   probed = λ c. run.probed c ∙ sym (ap (λ (j : List Entry). was_registered j c) same);
@@ -309,6 +330,10 @@ module _ (old new : Parts) (words : List ℕ) (log log' : Logged) (d : ℕ) (e :
         (polled_append delay [] log.entries (entry_of d e t) (is.run.polled (was told) delay kept)
         (answers_on old new now (leads (was told)).to d e t (asked_by [] log.entries) delay (takes (was told)) (is.run.polling (was told)) delays));
     size = is.proceeds.remains.size ∙ is.run.size;
+    placed =
+        subst (λ (j : List Entry). ArePlaced new.desc.defs j) (sym is.entries)
+        (subst (λ (desc : Checked). ArePlaced desc.defs (log.entries ++ entry_of d e t ∷ [])) (sym is.proceeds.remains.desc)
+        (All-append (λ f. BeginsPlaced old.desc.defs f.event) log.entries (entry_of d e t ∷ []) is.run.placed (placed_one old.desc.defs (entry_of d e t) is.placed)));
     probed = λ c.
         is.proceeds.rows c ∙ ap (λ (b : Bool). b || joins e t c) (is.run.probed c)
         ∙ ap (λ (b : Bool). was_registered log.entries c || b) (sym (or-false (joins e t c)))
@@ -353,7 +378,7 @@ same_last (x ∷ xs) a b e = same_last xs a b (rest e) where
   rest : {ys zs : List Entry} → x ∷ ys ≡ x ∷ zs → ys ≡ zs
   rest h = cc
 
-going_slotless : (t : Turn) → slotless t ≡ turn.Going → t ≡ turn.Going
+pub going_slotless : (t : Turn) → slotless t ≡ turn.Going → t ≡ turn.Going
 going_slotless turn.Going e = refl
 going_slotless (turn.Done reply.Fine) e = absurd cc
 going_slotless (turn.Done reply.Warn) e = absurd cc
@@ -389,10 +414,6 @@ takes_room (call.Probe c) e = refl
 takes_room call.Sweep e = refl
 takes_room _ e = absurd cc
 
--- it can begin in the state
-pub can_take : (m : Parts) (s : State) (what : Sleeping) → Stands m s → IsPlaced m.desc.defs what → CanTake s (event.Begin what)
-can_take m s what stands placed = subst (λ (d : Description). IsPlaced d what) (sym stands.defs) placed
-
 -- ---- the beginning
 
 -- a core without an entry is a run
@@ -426,6 +447,7 @@ begins m words given log desc ignore_unused credits same empty room stands at cr
       going = quiet ∙ sym (ap in_flight empty);
       driver_ = λ goes. never_flown m.flight quiet goes;
       size = size ∙ sym (ap (λ (ws : List ℕ). length ws) same);
+      placed = subst (λ (j : List Entry). ArePlaced m.desc.defs j) (sym empty) (All-nil (λ e. BeginsPlaced m.desc.defs e.event));
       polling = λ told goes. let no : true ≡ false = sym goes ∙ quiet in absurd cc;
       polled = λ told delay delays. subst (λ (j : List Entry). Polled delay j) (sym empty) tt;
       probed = λ c. none c ∙ sym (ap (λ (j : List Entry). was_registered j c) empty);

@@ -33,12 +33,12 @@ use Rattle.clk_machine.specs.Run.{Logged, start_of, IsRun}
 use Rattle.clk_machine.specs.Lawful.{IsEnd, behind_call, steps_made, HoldsOfCall, KeepsLaws}
 
 -- an entry of a legal journal: those in front of it are legal, so are they with it, and it answers the machine's turn
-record IsEntry (s : State) (front : List Entry) (last : Entry) : Type 0 where
-  before : Legal s front
-  with_it : Legal s (front ++ last ∷ [])
-  answers : next (replay s front) last.driver last.event ≡ Some (replay s (front ++ last ∷ []), slotless last.turn)
+pub record IsEntry (s : State) (front : List Entry) (last : Entry) : Type 0 where
+  pub before : Legal s front
+  pub with_it : Legal s (front ++ last ∷ [])
+  pub answers : next (replay s front) last.driver last.event ≡ Some (replay s (front ++ last ∷ []), slotless last.turn)
 
-entry_at : (s : State) (front rest : List Entry) (last : Entry) → Legal s (front ++ last ∷ rest) → IsEntry s front last
+pub entry_at : (s : State) (front rest : List Entry) (last : Entry) → Legal s (front ++ last ∷ rest) → IsEntry s front last
 entry_at s [] rest last legal =
     let after : option_map_or (λ x. x.0) (next s last.driver last.event) s ≡ legal.0 = ap (λ (o : Option (State × Turn)). option_map_or (λ x. x.0) o s) legal.1 in record {
       before = tt;

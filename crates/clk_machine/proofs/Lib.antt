@@ -60,6 +60,7 @@ pub mod Probing
 pub mod Notifying
 pub mod Polling
 pub mod Entering
+pub mod Tracing
 pub mod Lawful
 pub mod Rows
 pub mod Causing

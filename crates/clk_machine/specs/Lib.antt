@@ -12,6 +12,7 @@ pub mod Sound
 pub mod Adopting
 pub mod Polls
 pub mod Run
+pub mod Tracing
 pub mod Lawful
 pub mod Row
 pub mod Asking

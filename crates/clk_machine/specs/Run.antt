@@ -1,6 +1,6 @@
 -- What contracts see of a core: where it began, and its journal.
 use Rattle.std.specs.Prelude.{◌≡◌, ◌↔◌, ℕ, ◌+◌, ◌<◌, ◌≤◌, false, if◌then◌else◌, List, [], ◌∷◌, ◌++◌, Bool, true, Option, Some, length, take}
-use Rattle.std.specs.List.{list_any}
+use Rattle.std.specs.List.{All, list_any}
 use Rattle.clk_base.specs.declared.call.Micro.{Micro}
 use Rattle.clk_base.specs.declared.event.Entry.{Entry}
 use Rattle.clk_base.specs.declared.event.Event.{Event}
@@ -8,6 +8,7 @@ use Rattle.clk_base.specs.declared.event.Event.TheVariants as event
 use Rattle.clk_base.specs.declared.event.Reply.{Reply}
 use Rattle.clk_base.specs.declared.event.Turn.{Turn}
 use Rattle.clk_base.specs.declared.event.Turn.TheVariants as turn
+use Rattle.clk_base.specs.Description.{Description}
 use Rattle.clk_model.specs.State.{State, Change, registered}
 use Rattle.clk_model.specs.Machine.{next}
 use Rattle.clk_model.specs.Tier.{is_enable_tier}
@@ -18,7 +19,7 @@ use Rattle.core_parts.specs.declared.behind.Behind.{Behind}
 use Rattle.clk_machine.specs.Parts.{Parts, steps_left}
 use Rattle.clk_machine.specs.Polls.{IfPoll, IsAsked, asked_by}
 use Rattle.clk_machine.specs.Stands.{Stands, is_told, joins}
-use Rattle.clk_machine.specs.Sound.{IsReached, IsNarrow}
+use Rattle.clk_machine.specs.Sound.{IsReached, IsNarrow, IsPlaced}
 use Rattle.core_parts.specs.Window.{HasDelays}
 
 -- a core as its opening and its journal, and what it knows of its bank
@@ -57,6 +58,15 @@ driver_after d (e ∷ es) = driver_after (if is_enable_tier e.event then d else 
 -- the driver of the call in flight behind a journal
 abbrev pub driver_in_flight : List Entry → ℕ
 driver_in_flight journal = driver_after 0 journal
+
+-- the clocks that a call names are clocks of the description, if an event begins one
+abbrev pub BeginsPlaced : Description → Event → Type 0
+BeginsPlaced defs (event.Begin what) = IsPlaced defs what
+BeginsPlaced defs e = Unit {0}
+
+-- so it is at each of these entries
+abbrev pub ArePlaced : Description → List Entry → Type 0
+ArePlaced defs entries = All (λ e. BeginsPlaced defs e.event) entries
 
 -- an event of a driver answers the machine's turn, and its entry is appended
 pub record Appends (old : Run) (driver : ℕ) (event : Event) (turn : Turn) (new : Run) : Type 0 where
@@ -117,4 +127,6 @@ pub record IsRun (m : Parts) (words : List ℕ) (log : Logged) : Type 0 where
   pub polling : is_told m ≡ true → m.flight.going ≡ true → IfPoll m.flight.front (IsAsked m.window.locks (asked_by [] log.entries))
   pub polled : is_told m ≡ true → (delay : ℕ → ℕ) → HasDelays m.window.behind.delays delay → Polled delay log.entries
   pub size : m.window.size ≡ length words
+  -- the calls of the journal name clocks of the description
+  pub placed : ArePlaced m.desc.defs log.entries
   pub probed : (c : ℕ) → registered m.tree.clocks c ≡ was_registered log.entries c

@@ -7,19 +7,22 @@ ghost use Rattle.clk_machine.specs.Along.{KeepsShape};
 ghost use Rattle.clk_machine.specs.Copied.{Follows, IsCopyOf, IsDecided, StaysCopy, room_after};
 ghost use Rattle.clk_machine.specs.Sound.{IsPlaced, takes_memory};
 
+mod creating;
 mod ending;
 mod following;
 mod ready;
+mod tracing;
+mod words;
 
 use self::ending::end_with;
 use self::following::go_on;
 use self::ready::{Ready, make_ready};
+use self::words::Words;
 use crate::decision::Decision;
 use crate::machine::{Machine, is_asking, is_planning};
 use clk_base::{Entry, Pause, Sleeping, Turn};
 use clk_io::NoMemory;
 use rate_planner::Pausing;
-use reg_bank::MemBank;
 use std::marker::Model;
 use std::mem::swap;
 use std::sync::Wait;
@@ -27,7 +30,7 @@ use std::sync::Wait;
 /// A copy of the prepare tier of a core: its tree, its handles without their enables, its notifiers, and
 /// its words, in which the bits of gates mean nothing.
 pub struct Prep {
-    machine: Machine<MemBank>,
+    machine: Machine<Words>,
     // Whose call there is room for.
     room: Option<(u32, Sleeping)>,
     // What that call goes on with, and what the next one is made in.

@@ -16,6 +16,7 @@ use clk_base::{Sleeping, ValidDesc};
 use clk_tree::Tree;
 use core_parts::{most_to_lower, most_to_raise};
 use reg_bank::Bank;
+use std::alloc::Global;
 
 impl<B: Bank> Machine<B> {
     /// The description.
@@ -69,6 +70,26 @@ impl<B: Bank> Machine<B> {
         ensures { result + self.now.spent ≡ self.now.credits }
     {
         self.credits - self.spent
+    }
+
+    /// How many credits there were.
+    pub(crate) fn credits(&self) -> u32
+        ensures credits { result ≡ self.now.credits }
+        ensures whole { IsWhole self.now }
+    {
+        self.credits
+    }
+
+    /// Whether the sweep leaves the unused clocks alone.
+    pub(crate) fn ignore_unused(&self) -> bool
+        ensures { result ≡ self.now.ignore_unused }
+    {
+        self.ignore_unused
+    }
+
+    /// Where its memory is taken from.
+    pub(crate) fn alloc(&self) -> Global {
+        self.alloc
     }
 
     /// How many words the registers are.

@@ -15,10 +15,10 @@ ghost use Rattle.clk_machine.specs.Parts.{IsWhole};
 ghost use Rattle.clk_machine.specs.Ready.{HasPlaceFor};
 ghost use Rattle.clk_machine.specs.Sound.{IsPlaced};
 
+use super::words::Words;
 use crate::machine::Machine;
 use clk_base::{ClockId, Event, Reply, Sleeping};
 use notifiers::Chain;
-use reg_bank::MemBank;
 
 // Whether a call that is answered by Ok at once leaves all as it is.
 fn is_still(what: Sleeping) -> bool
@@ -37,7 +37,7 @@ fn is_still(what: Sleeping) -> bool
 }
 
 // Goes along with a call that was answered by Ok at once and does something.
-fn do_along(machine: &mut Machine<MemBank>, driver: u32, what: Sleeping)
+fn do_along(machine: &mut Machine<Words>, driver: u32, what: Sleeping)
     requires quiet { machine.old.flight.going ≡ false }
     requires place { IsPlaced machine.old.desc.defs what }
     requires moves { is_still what ≡ false }
@@ -66,7 +66,7 @@ fn do_along(machine: &mut Machine<MemBank>, driver: u32, what: Sleeping)
 }
 
 // Goes along with the step at which the call in flight ends.
-fn end_along(machine: &mut Machine<MemBank>)
+fn end_along(machine: &mut Machine<Words>)
     ensures follows { (d : ℕ) (m : Micro) (a : Option Bool) (r : Reply) → PartsFollow machine.old d (Step m a) (Done r) machine.new }
     ensures quiet { machine.new.flight.going ≡ false }
     ensures same { KeepsShape machine.old machine.new }
@@ -83,7 +83,7 @@ fn end_along(machine: &mut Machine<MemBank>)
 
 // Goes along with a call that was answered by Ok at once.
 fn fine_along(
-    machine: &mut Machine<MemBank>,
+    machine: &mut Machine<Words>,
     chain: &mut Option<Chain>,
     driver: u32,
     what: Sleeping,
@@ -117,7 +117,7 @@ fn clock_got(what: Sleeping) -> Option<ClockId>
 }
 
 // Goes along with a call that was answered by a handle.
-fn given_along(machine: &mut Machine<MemBank>, driver: u32, what: Sleeping)
+fn given_along(machine: &mut Machine<Words>, driver: u32, what: Sleeping)
     requires quiet { machine.old.flight.going ≡ false }
     requires whole { IsWhole machine.old }
     requires has { (chain : Option (List Notifier)) × HasPlaceFor machine.old driver what chain }
@@ -133,7 +133,7 @@ fn given_along(machine: &mut Machine<MemBank>, driver: u32, what: Sleeping)
 
 // Goes along with a call that was answered at once.
 fn answer_along(
-    machine: &mut Machine<MemBank>,
+    machine: &mut Machine<Words>,
     chain: &mut Option<Chain>,
     driver: u32,
     what: Sleeping,
@@ -158,7 +158,7 @@ fn answer_along(
 
 /// Goes along with an event at which a call ends, with the chain that was made ready for it.
 pub(super) fn end_with(
-    machine: &mut Machine<MemBank>,
+    machine: &mut Machine<Words>,
     chain: &mut Option<Chain>,
     driver: u32,
     what: Sleeping,

@@ -8,13 +8,13 @@ ghost use Rattle.clk_machine.specs.Changing.{course_of};
 ghost use Rattle.clk_machine.specs.Ready.{IsReadyFor};
 
 use super::ready::{Ready, set_out};
+use super::words::Words;
 use crate::machine::Machine;
 use clk_base::{Event, Micro, Sleeping};
-use reg_bank::MemBank;
 
 // Begins the call that was made ready, unless one is in flight.
 fn begin_along(
-    machine: &mut Machine<MemBank>,
+    machine: &mut Machine<Words>,
     ready: &mut Ready,
     driver: u32,
     what: Sleeping,
@@ -31,7 +31,7 @@ fn begin_along(
 }
 
 // Goes along with a step of the call in flight.
-fn step_along(machine: &mut Machine<MemBank>, step: Micro, answer: Option<bool>)
+fn step_along(machine: &mut Machine<Words>, step: Micro, answer: Option<bool>)
     ensures follows { (d : ℕ) → PartsFollow machine.old d (Step step answer) Going machine.new }
     ensures kept { machine.new.flight.going ≡ false → machine.new ≡ machine.old }
     ensures same { KeepsShape machine.old machine.new }
@@ -48,7 +48,7 @@ fn step_along(machine: &mut Machine<MemBank>, step: Micro, answer: Option<bool>)
 
 /// Goes along with an event of a call that goes on after it, with what was made ready for the call.
 pub(super) fn go_on(
-    machine: &mut Machine<MemBank>,
+    machine: &mut Machine<Words>,
     ready: &mut Ready,
     driver: u32,
     what: Sleeping,

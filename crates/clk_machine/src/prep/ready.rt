@@ -7,13 +7,14 @@ ghost use Rattle.clk_machine.specs.Places.{placed};
 ghost use Rattle.clk_machine.specs.Ready.{GoesOut, IsReadyFor};
 ghost use Rattle.clk_machine.specs.Sound.{IsPlaced, takes_memory};
 
+use super::words::Words;
 use crate::machine::Machine;
 use clk_base::Sleeping;
 use clk_flight::Flight;
 use clk_io::NoMemory;
 use core_parts::Draft;
 use notifiers::Chain;
-use reg_bank::MemBank;
+use std::alloc::Global;
 
 /// A flight that a call can begin with, the draft that a change of rate or parent was worked out in, and
 /// the chain by which a notifier is added.
@@ -24,10 +25,23 @@ pub(super) struct Ready {
     pub(super) chain: Option<Chain>,
 }
 
+impl Ready {
+    /// Nothing.
+    pub(super) fn none(alloc: Global) -> Ready
+        ensures { result.flight.going ≡ false }
+    {
+        Ready {
+            flight: Flight::create(alloc),
+            draft: Draft::none(alloc),
+            chain: None,
+        }
+    }
+}
+
 /// Makes what a call goes on with in a copy, if it does, and the place that it needs. Of the copy no more
 /// changes than the place.
 pub(super) fn make_ready(
-    machine: &mut Machine<MemBank>,
+    machine: &mut Machine<Words>,
     ready: &mut Ready,
     driver: u32,
     what: Sleeping,
@@ -80,7 +94,7 @@ pub(super) fn make_ready(
 
 /// A call begins in a copy with what was made for it. Takes no memory.
 pub(super) fn set_out(
-    machine: &mut Machine<MemBank>,
+    machine: &mut Machine<Words>,
     ready: &mut Ready,
     driver: u32,
     what: Sleeping,

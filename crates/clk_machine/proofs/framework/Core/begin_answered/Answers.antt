@@ -7,7 +7,7 @@ use Rattle.clk_machine.specs.Run.{in_flight, state_of}
 use Rattle.clk_machine.specs.Sound.{IsPlaced}
 use Rattle.clk_machine.specs.Stands.{is_told}
 use Rattle.clk_machine.proofs.Copied.{decided_here, wired_run}
-use Rattle.clk_machine.proofs.Entering.{IsEntered, answered_from, entered, appended, can_take, sound_of}
+use Rattle.clk_machine.proofs.Entering.{IsEntered, answered_from, entered, appended, sound_of}
 use Rattle.clk_machine.proofs.framework.Core.begin_answered.Goals as goal
 
 pub answer_as-requires-clause-quiet : goal.answer_as-requires-clause-quiet
@@ -25,7 +25,7 @@ invariant_of-self g c =
     answered_from m.machine c.answer_as.new.self m.words.items m.log c.push.new.self c.args.driver (Begin c.args.what) (Done c.args.reply) c.self.invariant c.answer_as.ensures.proceeds
     (λ told. c.answer_as.ensures.leads (state_of m.machine m.words.items m.log) (c.self.invariant.stands told) (sound_of m.machine m.words.items m.log c.self.invariant told)
     (decided_here (state_of m.machine m.words.items m.log) c.args.driver c.args.what (Reply c.args.reply) (wired_run m.machine m.words.items m.log c.self.invariant told) (decided told)).2)
-    (λ told. can_take m.machine (state_of m.machine m.words.items m.log) c.args.what (c.self.invariant.stands told) placed) refl refl c.push.ensures.entries c.push.ensures.room in
+    placed refl refl c.push.ensures.entries c.push.ensures.room in
     entered m.machine c.answer_as.new.self m.words.items m.log c.push.new.self c.args.driver (Begin c.args.what) (Done c.args.reply) is
 
 pub returns : goal.returns
@@ -37,5 +37,5 @@ returns g c =
     answered_from m.machine c.answer_as.new.self m.words.items m.log c.push.new.self c.args.driver (Begin c.args.what) (Done c.args.reply) c.self.invariant c.answer_as.ensures.proceeds
     (λ told. c.answer_as.ensures.leads (state_of m.machine m.words.items m.log) (c.self.invariant.stands told) (sound_of m.machine m.words.items m.log c.self.invariant told)
     (decided_here (state_of m.machine m.words.items m.log) c.args.driver c.args.what (Reply c.args.reply) (wired_run m.machine m.words.items m.log c.self.invariant told) (decided told)).2)
-    (λ told. can_take m.machine (state_of m.machine m.words.items m.log) c.args.what (c.self.invariant.stands told) placed) refl refl c.push.ensures.entries c.push.ensures.room in
+    placed refl refl c.push.ensures.entries c.push.ensures.room in
     rw (← c.self.view_is) (appended m.machine c.answer_as.new.self m.words.items m.log c.push.new.self c.args.driver (Begin c.args.what) (Done c.args.reply) is)

@@ -1,9 +1,9 @@
 use Rattle.std.proofs.Common.{◌≡◌, ◌+◌, ◌≤◌, ◌∙◌, false, subst, arith}
 use Rattle.clk_base.specs.declared.event.Event.TheVariants.{Begin}
-use Rattle.clk_machine.specs.Run.{IsRun, Run, Appends, in_flight, run_of, state_of}
+use Rattle.clk_machine.specs.Run.{IsRun, Run, Appends, in_flight, run_of}
 use Rattle.clk_machine.specs.Sound.{IsPlaced}
 use Rattle.clk_machine.specs.Stands.{most_steps}
-use Rattle.clk_machine.proofs.Entering.{IsEntered, begun, roomier, room_made, same_run, entered, appended, can_take}
+use Rattle.clk_machine.proofs.Entering.{IsEntered, begun, roomier, room_made, same_run, entered, appended}
 use Rattle.clk_machine.proofs.framework.Core.begin_other.Goals as goal
 
 pub make_room-requires-clause-paid : goal.make_room-requires-clause-paid
@@ -27,7 +27,7 @@ invariant_of-self-2 g c =
     let run : IsRun m.machine m.words.items c.make_room.new.self = roomier m.machine m.words.items m.log c.make_room.new.self c.self.invariant c.make_room.ensures.entries c.make_room.ensures.kept in
     let is : IsEntered m.machine c.begin.new.self m.words.items c.make_room.new.self c.push.new.self c.args.driver (Begin c.args.what) c.in_ok-turn.turn =
     begun m.machine c.begin.new.self m.words.items c.make_room.new.self c.push.new.self c.args.driver c.args.what c.in_ok-turn.turn run c.in_ok-turn.ensures.ok
-    (λ told. can_take m.machine (state_of m.machine m.words.items c.make_room.new.self) c.args.what (run.stands told) placed) room c.push.ensures.entries c.push.ensures.room in
+    placed room c.push.ensures.entries c.push.ensures.room in
     entered m.machine c.begin.new.self m.words.items c.make_room.new.self c.push.new.self c.args.driver (Begin c.args.what) c.in_ok-turn.turn is
 
 pub returns-clause-ok : goal.returns-clause-ok
@@ -39,6 +39,6 @@ returns-clause-ok g c =
     let run : IsRun m.machine m.words.items c.make_room.new.self = roomier m.machine m.words.items m.log c.make_room.new.self c.self.invariant c.make_room.ensures.entries c.make_room.ensures.kept in
     let is : IsEntered m.machine c.begin.new.self m.words.items c.make_room.new.self c.push.new.self c.args.driver (Begin c.args.what) c.in_ok-turn.turn =
     begun m.machine c.begin.new.self m.words.items c.make_room.new.self c.push.new.self c.args.driver c.args.what c.in_ok-turn.turn run c.in_ok-turn.ensures.ok
-    (λ told. can_take m.machine (state_of m.machine m.words.items c.make_room.new.self) c.args.what (run.stands told) placed) room c.push.ensures.entries c.push.ensures.room in
+    placed room c.push.ensures.entries c.push.ensures.room in
     rw (← c.self.view_is) (subst (λ (r : Run). Appends r c.args.driver (Begin c.args.what) c.in_ok-turn.turn (run_of c.begin.new.self m.words.items c.push.new.self)) (same_run m.machine m.words.items m.log c.make_room.new.self c.make_room.ensures.entries)
     (appended m.machine c.begin.new.self m.words.items c.make_room.new.self c.push.new.self c.args.driver (Begin c.args.what) c.in_ok-turn.turn is))

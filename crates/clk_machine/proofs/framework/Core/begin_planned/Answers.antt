@@ -9,7 +9,7 @@ use Rattle.clk_machine.specs.Run.{IsRun, Run, Appends, in_flight, run_of, start_
 use Rattle.clk_machine.specs.Sound.{IsPlaced}
 use Rattle.clk_machine.specs.Stands.{is_told}
 use Rattle.clk_machine.proofs.Copied.{decided_here, wired_run}
-use Rattle.clk_machine.proofs.Entering.{IsEntered, begun_from, roomier, same_run, entered, appended, can_take, sound_of}
+use Rattle.clk_machine.proofs.Entering.{IsEntered, begun_from, roomier, same_run, entered, appended, sound_of}
 use Rattle.clk_machine.proofs.framework.Core.begin_planned.Goals as goal
 
 pub begin_planned-requires-clause-quiet : goal.begin_planned-requires-clause-quiet
@@ -35,7 +35,7 @@ invariant_of-self-2 g c =
     begun_from m.machine c.begin_planned.new.self m.words.items c.begin_planned.new.log c.push.new.self c.args.driver c.args.what c.in_ok-turn.turn run c.in_ok-turn.ensures.proceeds
     (λ told. c.in_ok-turn.ensures.leads (state_of m.machine m.words.items c.begin_planned.new.log) c.args._steps (run.stands told) (sound_of m.machine m.words.items c.begin_planned.new.log run told)
     (subst (λ (s : State). GoesOnBy s c.args.driver c.args.what c.args.plan c.args._steps) (sym same) (goes told)))
-    (λ told. can_take m.machine (state_of m.machine m.words.items c.begin_planned.new.log) c.args.what (run.stands told) placed) c.in_ok-turn.ensures.room c.push.ensures.entries c.push.ensures.room in
+    placed c.in_ok-turn.ensures.room c.push.ensures.entries c.push.ensures.room in
     entered m.machine c.begin_planned.new.self m.words.items c.begin_planned.new.log c.push.new.self c.args.driver (Begin c.args.what) c.in_ok-turn.turn is
 
 pub returns-clause-ok : goal.returns-clause-ok
@@ -52,6 +52,6 @@ returns-clause-ok g c =
     begun_from m.machine c.begin_planned.new.self m.words.items c.begin_planned.new.log c.push.new.self c.args.driver c.args.what c.in_ok-turn.turn run c.in_ok-turn.ensures.proceeds
     (λ told. c.in_ok-turn.ensures.leads (state_of m.machine m.words.items c.begin_planned.new.log) c.args._steps (run.stands told) (sound_of m.machine m.words.items c.begin_planned.new.log run told)
     (subst (λ (s : State). GoesOnBy s c.args.driver c.args.what c.args.plan c.args._steps) (sym same) (goes told)))
-    (λ told. can_take m.machine (state_of m.machine m.words.items c.begin_planned.new.log) c.args.what (run.stands told) placed) c.in_ok-turn.ensures.room c.push.ensures.entries c.push.ensures.room in
+    placed c.in_ok-turn.ensures.room c.push.ensures.entries c.push.ensures.room in
     rw (← c.self.view_is) (subst (λ (r : Run). Appends r c.args.driver (Begin c.args.what) c.in_ok-turn.turn (run_of c.begin_planned.new.self m.words.items c.push.new.self)) (same_run m.machine m.words.items m.log c.begin_planned.new.log c.begin_planned.ensures.entries)
     (appended m.machine c.begin_planned.new.self m.words.items c.begin_planned.new.log c.push.new.self c.args.driver (Begin c.args.what) c.in_ok-turn.turn is))

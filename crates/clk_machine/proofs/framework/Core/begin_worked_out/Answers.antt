@@ -1,8 +1,8 @@
 use Rattle.std.proofs.Common.{◌≡◌, ◌∙◌, false, subst, arith}
 use Rattle.clk_base.specs.declared.event.Event.TheVariants.{Begin}
-use Rattle.clk_machine.specs.Run.{IsRun, Run, Appends, in_flight, run_of, state_of}
+use Rattle.clk_machine.specs.Run.{IsRun, Run, Appends, in_flight, run_of}
 use Rattle.clk_machine.specs.Sound.{IsPlaced}
-use Rattle.clk_machine.proofs.Entering.{IsEntered, begun_along, roomier, same_run, entered, appended, can_take}
+use Rattle.clk_machine.proofs.Entering.{IsEntered, begun_along, roomier, same_run, entered, appended}
 use Rattle.clk_machine.proofs.framework.Core.begin_worked_out.Goals as goal
 
 pub begin_worked_out-requires-clause-quiet : goal.begin_worked_out-requires-clause-quiet
@@ -21,7 +21,7 @@ invariant_of-self-2 g c =
     let run : IsRun m.machine m.words.items c.begin_worked_out.new.log = roomier m.machine m.words.items m.log c.begin_worked_out.new.log c.self.invariant c.begin_worked_out.ensures.entries c.begin_worked_out.ensures.kept in
     let is : IsEntered m.machine c.begin_worked_out.new.self m.words.items c.begin_worked_out.new.log c.push.new.self c.args.driver (Begin c.args.what) c.in_ok-turn.turn =
     begun_along m.machine c.begin_worked_out.new.self m.words.items c.begin_worked_out.new.log c.push.new.self c.args.driver c.args.what c.in_ok-turn.turn run c.in_ok-turn.ensures.ok
-    (λ told. can_take m.machine (state_of m.machine m.words.items c.begin_worked_out.new.log) c.args.what (run.stands told) placed) c.in_ok-turn.ensures.room c.push.ensures.entries c.push.ensures.room in
+    placed c.in_ok-turn.ensures.room c.push.ensures.entries c.push.ensures.room in
     entered m.machine c.begin_worked_out.new.self m.words.items c.begin_worked_out.new.log c.push.new.self c.args.driver (Begin c.args.what) c.in_ok-turn.turn is
 
 pub returns-clause-ok : goal.returns-clause-ok
@@ -31,6 +31,6 @@ returns-clause-ok g c =
     let run : IsRun m.machine m.words.items c.begin_worked_out.new.log = roomier m.machine m.words.items m.log c.begin_worked_out.new.log c.self.invariant c.begin_worked_out.ensures.entries c.begin_worked_out.ensures.kept in
     let is : IsEntered m.machine c.begin_worked_out.new.self m.words.items c.begin_worked_out.new.log c.push.new.self c.args.driver (Begin c.args.what) c.in_ok-turn.turn =
     begun_along m.machine c.begin_worked_out.new.self m.words.items c.begin_worked_out.new.log c.push.new.self c.args.driver c.args.what c.in_ok-turn.turn run c.in_ok-turn.ensures.ok
-    (λ told. can_take m.machine (state_of m.machine m.words.items c.begin_worked_out.new.log) c.args.what (run.stands told) placed) c.in_ok-turn.ensures.room c.push.ensures.entries c.push.ensures.room in
+    placed c.in_ok-turn.ensures.room c.push.ensures.entries c.push.ensures.room in
     rw (← c.self.view_is) (subst (λ (r : Run). Appends r c.args.driver (Begin c.args.what) c.in_ok-turn.turn (run_of c.begin_worked_out.new.self m.words.items c.push.new.self)) (same_run m.machine m.words.items m.log c.begin_worked_out.new.log c.begin_worked_out.ensures.entries)
     (appended m.machine c.begin_worked_out.new.self m.words.items c.begin_worked_out.new.log c.push.new.self c.args.driver (Begin c.args.what) c.in_ok-turn.turn is))
