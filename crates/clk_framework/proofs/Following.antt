@@ -88,6 +88,19 @@ copy_beside fixed old log copy adds copied = record {
   copies = λ told. copies_beside (start_of copied.opened) old log copy adds (copied.copies told);
 }
 
+-- a copy of a core without an entry is of the state after nothing that was seen
+pub opened_copy : (run : Run) (fixed : Option Opened) (seen : List Entry) (copy : Copy) → run.journal ≡ [] → run.start ≡ start_of (opened_of run) → fixed ≡ Some (opened_of run) → seen ≡ []
+    → IsMadeFor copy (opened_of run) → (run.told ≡ true → Copies copy (now_of run)) → IsCopyAfter fixed seen copy
+opened_copy run fixed seen copy none starts knows unseen made copies = record {
+  opened = opened_of run;
+  knows = knows;
+  made = made;
+  copies = λ told.
+      let same : now_of run ≡ replay (start_of (opened_of run)) seen =
+      ap (λ (s : State). replay s run.journal) starts ∙ ap (λ (es : List Entry). replay (start_of (opened_of run)) es) (none ∙ sym unseen) in
+      subst (λ (s : State). Copies copy s) same (copies told);
+}
+
 -- so it is after the baton was lent
 pub lent_copy : (b : KnownBaton Entry Opened) (copy : Copy) (fixed : Option Opened) (log : List Entry) → IsCopyAfter b.fixed b.seen copy → fixed ≡ b.fixed
     → AddsEnablesOnly is_prepare_tier b.seen log → IsCopyAfter fixed log copy
