@@ -1,3 +1,4 @@
 pub mod Opening
 pub mod Tiers
 pub mod Calls
+pub mod Planning

@@ -1,4 +1,4 @@
-//! The enable tier: one turn of the lock for each call.
+//! The enable tier: one turn of the lock for each call, without the prepare lock.
 
 ghost use Rattle.std.specs.Prelude.{◌<◌};
 ghost use Rattle.clk_base.specs.declared.event.Event.TheVariants.{Enable, Disable, Running};
@@ -12,7 +12,7 @@ use std::sync::Wait;
 use tier_lock::Named;
 
 impl<B: Bank, N: Named> Framework<B, N> {
-    /// Enables a handle. Takes no memory, and never waits for a sleeping call.
+    /// Enables a handle, in one turn of the enable lock. Takes no memory, and not the prepare lock.
     pub fn enable<R: Wait>(&self, rt: &R, driver: &mut Driver<B>, handle: Handle) -> Reply
         // It is a driver of this framework, between two calls.
         requires ready { IsReady N.table driver.old }
@@ -28,7 +28,7 @@ impl<B: Bank, N: Named> Framework<B, N> {
         reply
     }
 
-    /// Disables a handle. Takes no memory, and never waits for a sleeping call.
+    /// Disables a handle, in one turn of the enable lock. Takes no memory, and not the prepare lock.
     pub fn disable<R: Wait>(&self, rt: &R, driver: &mut Driver<B>, handle: Handle) -> Reply
         // It is a driver of this framework, between two calls.
         requires ready { IsReady N.table driver.old }
@@ -44,7 +44,8 @@ impl<B: Bank, N: Named> Framework<B, N> {
         reply
     }
 
-    /// Tells whether a handle's clock is active. Takes no memory, and never waits for a sleeping call.
+    /// Tells whether a handle's clock is active, in one turn of the enable lock. Takes no memory, and not
+    /// the prepare lock.
     pub fn running<R: Wait>(&self, rt: &R, driver: &mut Driver<B>, handle: Handle) -> Reply
         // It is a driver of this framework, between two calls.
         requires ready { IsReady N.table driver.old }

@@ -1,18 +1,20 @@
 //! What the lock keeps: the core, as a log of entries.
 
-ghost use Rattle.std.specs.Prelude.{◌≡◌, ◌<◌, ◌≤◌, true, false, length, IfOk, IsOk, OnErr};
+ghost use Rattle.std.specs.Prelude.{◌≡◌, ◌<◌, ◌≤◌, [], ◌∷◌, ◌++◌, true, false, length, IfOk, IsOk, OnErr};
 ghost use Rattle.clk_base.specs.declared.event.Event.TheVariants.{Enable, Disable, Running, Begin};
 ghost use Rattle.clk_base.specs.declared.event.Turn.TheVariants.{Done};
 ghost use Rattle.clk_model.specs.Begin.{most_credits};
 ghost use Rattle.clk_model.specs.Journal.{cost};
+ghost use Rattle.clk_machine.specs.Copied.{Copies, IsDecided};
 ghost use Rattle.clk_machine.specs.Sound.{IsPlaced, takes_memory};
-ghost use Rattle.clk_machine.specs.Run.{Appends, StepsOn, in_flight};
+ghost use Rattle.clk_machine.specs.Run.{Appends, StepsOn, in_flight, now_of};
 ghost use Rattle.clk_framework.specs.Opening.{opened_with, opened_of, start_of, AnswersPolls, Begins};
+ghost use Rattle.clk_framework.specs.Planning.{IsMadeFor};
 
 use crate::opened::Opened;
 use clk_base::{Entry, Event, Handle, Reply, Sleeping, Turn, ValidDesc};
 use clk_io::NoMemory;
-use clk_machine::Core;
+use clk_machine::{Core, Decision, Prep};
 use reg_bank::Bank;
 use std::alloc::Global;
 use std::marker::Model;
@@ -121,26 +123,50 @@ impl<B: Bank> Kernel<B> {
         self.core.running(driver, handle)
     }
 
-    // A call begins, unless memory runs out.
-    pub(crate) fn begin(&mut self, driver: u32, what: &Sleeping) -> Result<Turn, NoMemory>
+    // A call begins as it was decided, unless memory runs out.
+    pub(crate) fn begin_as(
+        &mut self,
+        driver: u32,
+        what: &Sleeping,
+        decision: Decision,
+    ) -> Result<Turn, NoMemory>
         requires credit { cost self.old.journal < self.old.start.credits }
         requires quiet { in_flight self.old.journal ≡ false }
         requires place { IsPlaced self.old.start.defs what.now }
+        requires decided { self.old.start ≡ start_of (opened_of self.old) → self.old.told ≡ true → IsDecided (now_of self.old) driver what.now decision }
         ensures ok { IfOk result (λ turn. Appends self.old driver (Begin what.now) turn self.new) }
         ensures err { OnErr result (self.new ≡ self.old) }
         ensures memory { takes_memory what.now ≡ false → IsOk result }
         ensures opened { self.old.start ≡ start_of (opened_of self.old) }
     {
-        self.core.begin(driver, what)
+        self.core.begin_as(driver, what, decision)
     }
 
-    // The next step of the call in flight.
-    pub(crate) fn step(&mut self) -> Turn
+    // A copy of the prepare tier, unless memory runs out.
+    pub(crate) fn prep_copy(&self) -> Result<Prep, NoMemory>
+        requires quiet { in_flight self.now.journal ≡ false }
+        ensures made { IfOk result (λ copy. IsMadeFor copy (opened_of self.now)) }
+        ensures copies { IfOk result (λ copy. self.now.told ≡ true → Copies copy (now_of self.now)) }
+        ensures quiet { IfOk result (λ copy. copy.parts.flight.going ≡ false) }
+        ensures opened { self.now.start ≡ start_of (opened_of self.now) }
+    {
+        // What the core knows of its credits.
+        let _ = self.core.quiet();
+        self.core.prep_copy()
+    }
+
+    // The next step of the call in flight. Its entry.
+    pub(crate) fn step(&mut self) -> Entry
         requires { in_flight self.old.journal ≡ true }
-        ensures made { StepsOn self.old result self.new }
+        ensures made { StepsOn self.old result.turn self.new }
+        ensures entry { self.new.journal ≡ self.old.journal ++ result ∷ [] }
         ensures opened { self.old.start ≡ start_of (opened_of self.old) }
     {
-        self.core.step()
+        self.core.step();
+        match self.core.journal().last() {
+            Some(entry) => *entry,
+            None => unreachable!(),
+        }
     }
 
     // The core itself.

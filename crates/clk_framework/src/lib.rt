@@ -1,10 +1,10 @@
-//! The framework that drivers share: the core behind the counted lock.
+//! The framework that drivers share: the core under the counted lock.
 //!
 //! An [`Unnamed`] framework and driver 0 come from one call. [`Framework::of`] gives it the name of
 //! its lock, driver 0 makes further drivers, and each driver makes its calls from a thread of its
 //! own: `enable`, `disable` and `running` take one turn of the lock; `call` has the baton from its
-//! beginning to its end, and takes a turn for each step. At the end `close` takes all drivers and
-//! gives the core.
+//! decision to its end, decides over a copy of the prepare tier, and takes a turn for its beginning and
+//! for each step. At the end `close` takes all drivers and gives the core.
 #![tactic(auto)]
 
 mod calling;

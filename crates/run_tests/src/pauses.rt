@@ -142,3 +142,9 @@ fn an_enable_comes_between_two_turns_of_a_call(rt: HostRuntime) -> Result<(), Fa
     assert_eq!(rt; first_wait(&rt, Place::Between)?, Some(Waited::Rose));
     Ok(())
 }
+
+#[test]
+fn an_enable_comes_while_a_call_is_planned(rt: HostRuntime) -> Result<(), Fail> {
+    assert_eq!(rt; first_wait(&rt, Place::Planning)?, Some(Waited::Rose));
+    Ok(())
+}
