@@ -143,7 +143,13 @@ impl Prep {
         };
         match entry.turn {
             Turn::Going => {
-                go_on(&mut self.machine, &mut self.ready, driver, what, entry.event)
+                go_on(
+                    &mut self.machine,
+                    &mut self.ready,
+                    driver,
+                    what,
+                    entry.event,
+                )
             }
             Turn::Done(reply) => {
                 self.room = None;

@@ -53,8 +53,7 @@ impl<B: Bank> Machine<B> {
         requires going { self.now.flight.going ≡ true }
         requires first { ComesFirst self.now micro.End }
         ensures { (d : ℕ) (m : Micro) (a : Option Bool) → GoesAlong self.now d (Step m a) Going self.now }
-    {
-    }
+    {}
 
     /// Makes the step that comes next of the change in flight, unless that is the end. A poll is answered
     /// so.

@@ -82,12 +82,7 @@ fn end_along(machine: &mut Machine<Words>)
 }
 
 // Goes along with a call that was answered by Ok at once.
-fn fine_along(
-    machine: &mut Machine<Words>,
-    chain: &mut Option<Chain>,
-    driver: u32,
-    what: Sleeping,
-)
+fn fine_along(machine: &mut Machine<Words>, chain: &mut Option<Chain>, driver: u32, what: Sleeping)
     requires quiet { machine.old.flight.going ≡ false }
     requires place { IsPlaced machine.old.desc.defs what }
     requires whole { IsWhole machine.old }

@@ -93,12 +93,7 @@ pub(super) fn make_ready(
 }
 
 /// A call begins in a copy with what was made for it. Takes no memory.
-pub(super) fn set_out(
-    machine: &mut Machine<Words>,
-    ready: &mut Ready,
-    driver: u32,
-    what: Sleeping,
-)
+pub(super) fn set_out(machine: &mut Machine<Words>, ready: &mut Ready, driver: u32, what: Sleeping)
     requires ready { IsReadyFor machine.old driver what ready.old.flight (course_of ready.old.draft) ready.old.chain }
     ensures goes { GoesOut machine.old driver what machine.new }
     ensures ready { machine.new.flight.going ≡ false → IsReadyFor machine.new driver what ready.new.flight (course_of ready.new.draft) ready.new.chain }
