@@ -81,12 +81,7 @@ pub(super) fn make_ready(
 }
 
 /// A call begins in a copy with what was made for it. Takes no memory.
-pub(super) fn set_out(
-    machine: &mut Machine<Words>,
-    ready: &mut Ready,
-    driver: u32,
-    what: Sleeping,
-)
+pub(super) fn set_out(machine: &mut Machine<Words>, ready: &mut Ready, driver: u32, what: Sleeping)
     requires ready { IsReadyFor machine.old driver what ready.old.flight (course_of ready.old.draft) }
     ensures goes { GoesOut machine.old driver what machine.new }
     ensures same { KeepsShape machine.old machine.new }
