@@ -1,5 +1,5 @@
 -- A copy goes along with the journal of a core, entry by entry.
-use Rattle.std.proofs.Common.{◌≡◌, ℕ, suc, ◌+◌, ◌<◌, ◌≤◌, ◌++◌, length, take, Bool, true, false, cond, List, [], ◌∷◌, Option, Some, None, refl, sym, ap, subst, ◌∙◌, arith}
+use Rattle.std.proofs.Common.{◌≡◌, ℕ, suc, ◌+◌, ◌<◌, ◌≤◌, ◌++◌, length, take, Bool, true, false, cond, List, [], ◌∷◌, Option, Some, refl, sym, ap, subst, ◌∙◌, arith}
 use Rattle.std.proofs.Math.Seq.{take-suc}
 use Rattle.std.specs.Prelude.{slice_index_or}
 use Rattle.clk_base.specs.declared.call.Micro.{Micro}
@@ -32,7 +32,7 @@ use Rattle.clk_machine.specs.Parts.{Parts}
 use Rattle.clk_machine.specs.Run.{ArePlaced, IsRun, Logged, in_flight, start_of, state_of}
 use Rattle.clk_machine.specs.Sound.{IsReached}
 use Rattle.clk_machine.specs.Stands.{Stands, is_told}
-use Rattle.clk_machine.specs.Tracing.{FollowsOn, IsAtRest, IsTraced, Traces}
+use Rattle.clk_machine.specs.Tracing.{FollowsOn, IsAtRest, Traces}
 use Rattle.clk_machine.proofs.Copying.{no_begin}
 use Rattle.clk_machine.proofs.Entering.{going_append, going_slotless}
 use Rattle.clk_machine.proofs.Lawful.{entry_at}
@@ -54,7 +54,7 @@ copy_opening copy words defs ignore_unused credits valid few size stands = recor
 
 -- ---- one entry
 
--- a copy that is of a state's twin is of that state, if the other copy was of the state before
+-- a copy that went along with an entry is of the state after it
 copy_after : (old new : Copy) (s t : State) (e : Entry) → IsCopyOf old s → KeepsShape old.parts new.parts → next s e.driver e.event ≡ Some (t, slotless e.turn) → Copies new t → IsCopyOf new t
 copy_after old new s t e of same step copies = record {
   reached = subst (λ (n : ℕ). IsReached n t) (sym same.1) (reached_next old.parts.window.size s t e.driver e.event (slotless e.turn) of.reached step);
@@ -124,7 +124,7 @@ traced_step old new e m a is follows after same s t traced step =
           room_still old new e.turn e.driver found.0.call k after going room mine.0 mine.1;
     }
 
--- an entry of the enable tier leaves it a copy as it is
+-- an entry of the enable tier leaves the copy one of the state, as it is
 pub traced_beside : (copy : Copy) (e : Entry) → is_enable_tier e.event ≡ true → FollowsOn copy e copy
 traced_beside copy e tier s t traced step = record {
   of = copy_after copy copy s t e traced.of (refl, refl) step record {
@@ -137,14 +137,7 @@ traced_beside copy e tier s t traced step = record {
 
 -- ---- a journal
 
-pub traces_none : (copy : Copy) → IsAtRest copy → Traces copy [] copy
-traces_none copy rest = record {
-  leads = λ s of quiet legal. record { of = of; room = λ k at. let no : None ≡ Some k = sym quiet ∙ at in absurd cc };
-  rest = λ none. rest;
-  same = (refl, refl);
-}
-
--- with an entry more
+-- it goes along with one entry more
 pub traces_on : (old copy new : Copy) (seen : List Entry) (e : Entry) → Traces old seen copy → FollowsOn copy e new → (is_enable_tier e.event ≡ true → new ≡ copy)
     → (is_enable_tier e.event ≡ false → is_going e.turn ≡ false → IsAtRest new) → KeepsShape copy.parts new.parts → Traces old (seen ++ e ∷ []) new
 traces_on old copy new seen e before follows beside rest same = record {
@@ -176,6 +169,7 @@ is_beside (event.Running n) begun made = refl
 is_beside (event.Begin what) begun made = absurd (begun what refl)
 is_beside (event.Step m a) begun made = absurd (made m a refl)
 
+-- one of the enable tier is no other
 pub no_other : (e : Event) → is_enable_tier e ≡ true → is_enable_tier e ≡ false → ⊥
 no_other e tier prepares = let no : true ≡ false = sym tier ∙ prepares in cc
 
