@@ -150,7 +150,7 @@ impl<B: Bank> Kernel<B> {
         ensures quiet { IfOk result (λ copy. copy.parts.flight.going ≡ false) }
         ensures opened { self.now.start ≡ start_of (opened_of self.now) }
     {
-        // What the core knows of its credits.
+        // What the core tells of its credits.
         let _ = self.core.quiet();
         self.core.prep_copy()
     }
