@@ -8,4 +8,6 @@ mod clocks;
 #[cfg(test)]
 mod cores;
 #[cfg(test)]
+mod decided;
+#[cfg(test)]
 mod room;

@@ -1,0 +1,96 @@
+//! A call that was decided over a copy rounds nothing in its own turn: it reads as many words of the bank,
+//! however many rates were rounded for it.
+
+ghost use Rattle.std.specs.Prelude.{◌≡◌, IfOk};
+
+mod counting;
+
+use crate::clocks::{Given, described_with};
+use bitflags::Flags;
+use clk_base::{ClkFlags, ClockId, Handle, Kind, Pause, Place, Sleeping, Turn, ValidDesc};
+use clk_machine::Core;
+use counting::Counting;
+use std::alloc::Global;
+use std::cell::Cell;
+use std::process::Abort;
+use std::sync::Wait;
+use std::test::Fail;
+
+// The handle that the first get is answered with.
+const FIRST: Handle = Handle {
+    number: 0,
+    slot: 0,
+    driver: 1,
+};
+
+// Counts the candidates of a rounding.
+#[derive(Drop)]
+struct Candidates {
+    count: Cell<u32>,
+}
+
+impl Pause for Candidates {
+    fn pause<R: Wait + Sync>(&self, _rt: &R, _place: Place) {
+        self.count.set(self.count.get().saturating_add(1));
+    }
+}
+
+// A fixed clock of 1 MHz, and a divider below it with 65,536 settings.
+fn divided(rt: &impl Abort, alloc: Global, flags: ClkFlags) -> Result<ValidDesc, Fail>
+    ensures { IfOk result (λ desc. desc.words ≡ 1) }
+{
+    let divider = Kind::Divider {
+        word: 0,
+        shift: 0,
+        width: 16,
+        one_based: false,
+        power_of_two: false,
+    };
+    let clocks = [
+        Given("osc", Kind::FixedRate { rate: 1_000_000 }, &[]),
+        Given("asked", divider, &[0]),
+    ];
+    described_with(rt, alloc, &clocks, flags, 1)
+}
+
+// A call of driver 1 that is answered at once.
+fn call(rt: &impl Abort, core: &mut Core<Counting>, what: Sleeping) -> Result<(), Fail> {
+    assert!(rt; core.credits_left() > 0 && core.quiet() && core.desc().len() == 2);
+    let turn = core.begin(1, &what)?;
+    assert!(rt; matches!(turn, Turn::Done(_)));
+    Ok(())
+}
+
+// The candidates that are rounded for a request of the divider, and the words that are read in its turn.
+fn requested(
+    rt: &(impl Abort + Wait + Sync),
+    alloc: Global,
+    flags: ClkFlags,
+) -> Result<(u32, u32), Fail> {
+    let reads = Cell::new(0);
+    let desc = divided(rt, alloc, flags)?;
+    let bank = Counting::new(&reads);
+    let mut core = Core::create(alloc, desc, bank, &[0], false, 100)?;
+    call(rt, &mut core, Sleeping::Probe(ClockId(0)))?;
+    call(rt, &mut core, Sleeping::Probe(ClockId(1)))?;
+    call(rt, &mut core, Sleeping::Get(Some(ClockId(1))))?;
+    let candidates = Candidates { count: Cell::new(0) };
+    let what = Sleeping::SetRate(FIRST, 17);
+    assert!(rt; core.credits_left() > 0 && core.quiet());
+    let copy = core.prep_copy()?;
+    let decision = copy.decide(rt, 1, &what, &candidates)?;
+    reads.set(0);
+    let turn = core.begin_as(1, &what, decision)?;
+    assert!(rt; turn == Turn::Going);
+    Ok((candidates.count.get(), reads.get()))
+}
+
+#[test]
+fn a_decided_call_reads_as_much_for_many_candidates(rt: HostRuntime) -> Result<(), Fail> {
+    let few = requested(&rt, rt.alloc(), ClkFlags::empty())?;
+    let many = requested(&rt, rt.alloc(), ClkFlags::SET_RATE_PARENT)?;
+    assert!(rt; few.0 <= 1);
+    assert!(rt; many.0 >= 65_000);
+    assert!(rt; many.1 == few.1);
+    Ok(())
+}
