@@ -113,6 +113,7 @@ starts_along m d what scripted range f ranged sets = record {
   starts = record {
     remains = record { desc = refl; told = refl; size = refl; behind = refl; credits = refl; ignore_unused = refl };
     spent = refl;
+    locks = refl;
     rows = λ c. refl;
     table = refl;
     going = ap (λ (g : FlightState). g.going) sets.flight;

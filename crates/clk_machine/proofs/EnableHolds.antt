@@ -40,6 +40,7 @@ use Rattle.clk_machine.proofs.HoldsMaking.{places, both_more, both_less, tells_m
 pub record HoldsEnabled (old : Parts) (x : ClockId) (levels : ℕ) (window' : Shown) (counts' : CountState) (enables' : List ℕ) : Type 0 where
   pub size : window'.size ≡ old.window.size
   pub behind : window'.behind ≡ old.window.behind
+  pub locks : window'.locks ≡ old.window.locks
   pub words : window'.words ≡ option_map (gates_moved old.desc.defs (λ _. false) (λ _. true) (path_within (link_in old.tree.clocks) levels x.0)) old.window.words
   pub counts : counts' ≡ record old.counts { enables = set old.counts.enables x.0 (slice_index old.counts.enables x.0 + 1) }
   pub begun : (d : ℕ) → is_in d (path_within (up_in old.counts.links) levels x.0) ≡ (is_active counts' d && not (is_active old.counts d))
@@ -74,6 +75,7 @@ module _ (old : Parts) (x : ClockId) (levels : ℕ) (window' : Shown) (counts' :
     size = to.size;
     told = ap (λ (o : Option (List ℕ)). is_some o) to.words ∙ told_mapped _ old.window.words;
     behind = to.behind;
+    locks = to.locks;
     tied = tied-moved old.desc old.window window' old.tree (λ _. false) (λ _. true) (path_within (link_in old.tree.clocks) levels x.0) now.whole.tied
         (path_within_desc old.desc old.window old.tree levels x.0 now.whole.tied enabled_there) to.size to.words;
     there = λ c. refl;
@@ -130,6 +132,7 @@ pub record DropsEnabled (old : Parts) (x : ClockId) (levels : ℕ) (window' : Sh
   pub some : 0 < slice_index old.enable_holds x.0
   pub size : window'.size ≡ old.window.size
   pub behind : window'.behind ≡ old.window.behind
+  pub locks : window'.locks ≡ old.window.locks
   pub words : window'.words ≡ option_map (gates_moved old.desc.defs (λ _. true) (λ _. false) (reverse (path_within (link_in old.tree.clocks) levels x.0))) old.window.words
   pub counts : counts' ≡ record old.counts { enables = set old.counts.enables x.0 (slice_index old.counts.enables x.0 - 1) }
   pub stopped : (d : ℕ) → is_in d (path_within (up_in old.counts.links) levels x.0) ≡ (is_active old.counts d && not (is_active counts' d))
@@ -170,6 +173,7 @@ module _ (old : Parts) (x : ClockId) (levels : ℕ) (window' : Shown) (counts' :
     size = to.size;
     told = ap (λ (o : Option (List ℕ)). is_some o) to.words ∙ told_mapped _ old.window.words;
     behind = to.behind;
+    locks = to.locks;
     tied = tied-moved old.desc old.window window' old.tree (λ _. true) (λ _. false) (reverse (path_within (link_in old.tree.clocks) levels x.0)) now.whole.tied dropped_within to.size to.words;
     there = λ c. refl;
     linked = λ c has. has;

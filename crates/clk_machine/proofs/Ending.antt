@@ -203,6 +203,7 @@ end_enters old new does now = record {
       omega arith;
   begun = λ paid. absurd cc;
   no_more = λ paid. absurd cc;
+  locks = λ still. ap (λ (w : Shown). w.locks) now.window;
   beside = λ tier. absurd cc;
   step = λ s stands sound.
       let has = change_of old s stands now.going in

@@ -48,7 +48,8 @@ enters old new d event r does pays going left becomes comes = record {
   fewer = λ free. let no : true ≡ false = sym pays ∙ free in absurd cc;
   begun = λ paid goes. absurd cc;
   no_more = λ paid done. let same = becomes.left in omega arith;
-  beside = λ tier. (becomes.locks, becomes.flight);
+  locks = λ still. becomes.locks;
+  beside = λ tier. becomes.flight;
   step = λ s stands sound.
       let spends : s.spent < s.credits = let one = stands.spent in let two = stands.credits in omega arith in
       record {

@@ -30,7 +30,7 @@ use Rattle.clk_machine.specs.Parts.{Parts, steps_left}
 use Rattle.clk_machine.proofs.Flying.{never_flown, none_left}
 use Rattle.std.specs.Prelude.{if◌then◌else◌}
 use Rattle.clk_model.specs.Tier.{is_enable_tier}
-use Rattle.clk_machine.specs.Stands.{Stands, is_told, Remains, Leads, Enters, Proceeds, joins, most_steps, price}
+use Rattle.clk_machine.specs.Stands.{Stands, is_told, Remains, Leads, Enters, Proceeds, joins, most_steps, price, starts_or_polls}
 use Rattle.core_parts.specs.declared.behind.Behind.{Behind}
 use Rattle.clk_machine.specs.Polls.{FollowsLocks, IfPoll, IsAsked, asked_by}
 use Rattle.core_parts.specs.Window.{HasDelays}
@@ -114,6 +114,7 @@ proceeds_of old new d e t enters = record {
   fewer = enters.fewer;
   begun = enters.begun;
   no_more = enters.no_more;
+  locks = enters.locks;
   beside = enters.beside;
   rows = enters.rows;
 }
@@ -152,11 +153,11 @@ answered_from old new words log log' d e t run proceeds leads placed paid done e
       let credits = proceeds.remains.credits in
       let less = proceeds.no_more paid done in
       omega arith;
-  locks = paid_follows e paid;
+  locks = paid_follows e paid proceeds.locks;
 } where
-  paid_follows : (f : Event) → is_paid f ≡ true → FollowsLocks old f new
-  paid_follows (event.Step m answer) e = absurd cc
-  paid_follows _ e = tt
+  paid_follows : (f : Event) → is_paid f ≡ true → (starts_or_polls f ≡ false → new.window.locks ≡ old.window.locks) → FollowsLocks old f new
+  paid_follows (event.Step m answer) e stays = absurd cc
+  paid_follows _ e stays = stays refl
 
 pub answered : (old new : Parts) (words : List ℕ) (log log' : Logged) (d : ℕ) (e : Event) (t : Turn) → IsRun old words log → Enters old d e t new
     → BeginsPlaced old.desc.defs e → is_paid e ≡ true → is_going t ≡ false → log'.entries ≡ log.entries ++ entry_of d e t ∷ [] → log'.room + 1 ≡ log.room
@@ -177,7 +178,7 @@ begun_from old new words log log' d what t run proceeds leads placed most entrie
   placed = placed;
   entries = entries;
   room = by (is_going t) refl;
-  locks = tt;
+  locks = proceeds.locks refl;
 } where
   by : (b : Bool) → is_going t ≡ b → new.credits + steps_left new ≤ new.spent + log'.room
   by true goes =

@@ -184,6 +184,7 @@ module _ (old : Parts) (m : Micro) (flight' : FlightState) (now : Stepped old m 
     size = refl;
     told = refl;
     behind = refl;
+    locks = refl;
     tied = now.whole.tied;
     there = λ c. refl;
     linked = λ c has. has;

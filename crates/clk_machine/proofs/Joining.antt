@@ -179,6 +179,7 @@ pub record Joined (old : Parts) (c : ClockId) (window' : Shown) (tree' : TreeSta
   pub size : window'.size ≡ old.window.size
   pub told : is_some window'.words ≡ is_some old.window.words
   pub behind : window'.behind ≡ old.window.behind
+  pub locks : window'.locks ≡ old.window.locks
   pub tied : AreTied old.desc window' tree'
   pub keeps : AreCounts held
   pub stands : StandsFor held (bare (with_joined old window' tree' held flight'))
@@ -328,6 +329,7 @@ module _ (old : Parts) (c : ClockId) (window' : Shown) (tree' : TreeState) (coun
     fewer = λ free. joined_less;
     begun = λ paid. absurd cc;
     no_more = λ paid. absurd cc;
+    locks = λ still. to.locks;
     beside = λ tier. absurd cc;
     step = λ s stands sound.
         let has = change_of old s stands to.off.going in
@@ -360,6 +362,7 @@ module _ (old : Parts) (c : ClockId) (tree' : TreeState) (counts' : CountState) 
     size = refl;
     told = refl;
     behind = refl;
+    locks = refl;
     tied = tied_registered old c.0 tree' counts' off.whole now;
     keeps = now.keeps;
     stands = plain_stands old c.0 tree' counts' (bare old) (bare (with_joined old old.window tree' counts' flight')) now plain off.whole.counted.stands (attached_in old c.0 old.window tree' counts' counts' flight' now) refl;
@@ -383,7 +386,7 @@ module _ (old : Parts) (c : ClockId) (tree' : TreeState) (counts' : CountState) 
 
 module _ (old : Parts) (c : ClockId) (tree' : TreeState) (counts' held : CountState) (window' : Shown) (levels : ℕ) (gone flight' : FlightState) (off : ComesOff old c gone flight') (now : Registered old c.0 tree' counts')
     (beside : (d : ℕ) → d ≢ c.0 → link_in tree'.clocks d ≡ link_in old.tree.clocks d) (holds : IsHeld counts' held c.0) (critical : is_critical old.desc.defs c.0 ≡ true)
-    (size : window'.size ≡ old.window.size) (behind : window'.behind ≡ old.window.behind)
+    (size : window'.size ≡ old.window.size) (behind : window'.behind ≡ old.window.behind) (locks : window'.locks ≡ old.window.locks)
     (words : window'.words ≡ option_map (gates_moved old.desc.defs (λ _. false) (λ _. true) (path_within (link_in tree'.clocks) levels c.0)) old.window.words) where
   joined_held : Joined old c window' tree' counts' held gone flight'
   joined_held = record {
@@ -393,6 +396,7 @@ module _ (old : Parts) (c : ClockId) (tree' : TreeState) (counts' held : CountSt
     size = size;
     told = ap (λ (o : Option (List ℕ)). is_some o) words ∙ told_mapped _ old.window.words;
     behind = behind;
+    locks = locks;
     tied = tied-moved old.desc old.window window' tree' (λ _. false) (λ _. true) (path_within (link_in tree'.clocks) levels c.0) (tied_registered old c.0 tree' counts' off.whole now)
         (in_desc old c.0 tree' counts' held window' levels off.whole now holds critical) size words;
     keeps = holds.keeps;

@@ -164,6 +164,7 @@ relinked_of old c p tree' moved counts' prepares' enables' flight' now to go = r
   size = refl;
   told = refl;
   behind = refl;
+  locks = refl;
   tied = record {
     valid = whole.tied.valid;
     words = whole.tied.words;

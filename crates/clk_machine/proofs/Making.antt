@@ -34,7 +34,7 @@ use Rattle.clk_machine.specs.Parts.{Parts, IsOwnCall, IsWhole}
 use Rattle.core_parts.specs.declared.plls.Sought.{Sought}
 use Rattle.core_parts.specs.Plls.{is_loose, raisable, lowerable, Finds}
 use Rattle.clk_machine.specs.Sound.{IsSound}
-use Rattle.clk_machine.specs.Stands.{Stands, Leads, Enters, step_registers}
+use Rattle.clk_machine.specs.Stands.{Stands, Leads, Enters, step_registers, starts_or_polls}
 use Rattle.core_parts.proofs.HeldCounts.{held_on}
 use Rattle.core_parts.proofs.Moving.{clock_within, path_within_desc}
 use Rattle.clk_machine.proofs.Rows.{holds_stand}
@@ -100,10 +100,10 @@ no_registers _ c e = refl
 
 -- a step after which the call goes on, and that registers no clock, takes the parts on
 pub enters_step : (old : Parts) (window' : Shown) (flight' : FlightState) (m : Micro) (answer : Option Bool) → is_register m ≡ false → is_some window'.words ≡ is_some old.window.words → window'.size ≡ old.window.size
-    → window'.behind ≡ old.window.behind → flight'.going ≡ true → flight'.driver ≡ old.flight.driver → left_over (rows_from 0 old.chains) flight' < left_over (rows_from 0 old.chains) old.flight
+    → window'.behind ≡ old.window.behind → (starts_or_polls (event.Step m answer) ≡ false → window'.locks ≡ old.window.locks) → flight'.going ≡ true → flight'.driver ≡ old.flight.driver → left_over (rows_from 0 old.chains) flight' < left_over (rows_from 0 old.chains) old.flight
     → ((s : State) → Stands old s → IsSound old.window.size s → Leads s old.flight.driver (event.Step m answer) turn.Going (with_step old window' flight'))
     → Enters old old.flight.driver (event.Step m answer) turn.Going (with_step old window' flight')
-enters_step old window' flight' m answer plain told size behind going same less leads = record {
+enters_step old window' flight' m answer plain told size behind locks going same less leads = record {
   remains = record { desc = refl; told = told; size = size; behind = behind; credits = refl; ignore_unused = refl };
   pays = let same : old.spent ≡ old.spent + 0 = omega arith in same;
   rows = λ c. sym (or-false (registered old.tree.clocks c)) ∙ ap (λ (t : Bool). registered old.tree.clocks c || t) (sym (no_registers m c plain));
@@ -112,6 +112,7 @@ enters_step old window' flight' m answer plain told size behind going same less 
   fewer = λ free. less;
   begun = λ paid. absurd cc;
   no_more = λ paid. absurd cc;
+  locks = locks;
   beside = λ tier. absurd cc;
   step = leads;
 }

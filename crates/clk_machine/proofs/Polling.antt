@@ -287,7 +287,7 @@ pub record Takes (old new : Parts) (s u : State) (d : ℕ) (e : Event) (t : Turn
   pub after : Flies u.notifiers new.flight u.change
   pub front : (k : Change) → s.change ≡ Some k → IsFront k
   pub going : new.flight.going ≡ (if is_enable_tier e then old.flight.going else is_going t)
-  pub beside : is_enable_tier e ≡ true → (new.window.locks ≡ old.window.locks) × (new.flight ≡ old.flight)
+  pub beside : is_enable_tier e ≡ true → new.flight ≡ old.flight
   pub locks : FollowsLocks old e new
 
 -- the call in flight goes on in a step
@@ -305,9 +305,9 @@ same_asked old new asked locks flight before =
 -- the PLL that is polled next was polled as often as it was asked, behind each event
 pub polling_on : (old new : Parts) (s u : State) (d : ℕ) (e : Event) (t : Turn) (asked : List ℕ) → Takes old new s u d e t
     → (old.flight.going ≡ true → IfPoll old.flight.front (IsAsked old.window.locks asked)) → new.flight.going ≡ true → IfPoll new.flight.front (IsAsked new.window.locks (asked_after asked e))
-polling_on old new s u d (event.Enable n) t asked takes before going = same_asked old new asked (takes.beside refl).0 (takes.beside refl).1 (before (sym takes.going ∙ going))
-polling_on old new s u d (event.Disable n) t asked takes before going = same_asked old new asked (takes.beside refl).0 (takes.beside refl).1 (before (sym takes.going ∙ going))
-polling_on old new s u d (event.Running n) t asked takes before going = same_asked old new asked (takes.beside refl).0 (takes.beside refl).1 (before (sym takes.going ∙ going))
+polling_on old new s u d (event.Enable n) t asked takes before going = same_asked old new asked takes.locks (takes.beside refl) (before (sym takes.going ∙ going))
+polling_on old new s u d (event.Disable n) t asked takes before going = same_asked old new asked takes.locks (takes.beside refl) (before (sym takes.going ∙ going))
+polling_on old new s u d (event.Running n) t asked takes before going = same_asked old new asked takes.locks (takes.beside refl) (before (sym takes.going ∙ going))
 polling_on old new s u d (event.Begin what) t asked takes before going =
     bare_begin (IsAsked new.window.locks asked) s u d what new.flight
     (takes.step ∙ ap (λ (x : Turn). let y : State × Turn = (u, x) in Some y) (goes_or_ends t (sym takes.going ∙ going))) takes.after going

@@ -79,6 +79,7 @@ module _ (old : Parts) (x : ClockId) (counts' : CountState) (prepares' : List 鈩
     size = refl;
     told = refl;
     behind = refl;
+    locks = refl;
     tied = now.whole.tied;
     there = 位 c. refl;
     linked = 位 c has. has;
@@ -157,6 +158,7 @@ module _ (old : Parts) (x : ClockId) (counts' : CountState) (prepares' : List 鈩
     size = refl;
     told = refl;
     behind = refl;
+    locks = refl;
     tied = now.whole.tied;
     there = 位 c. refl;
     linked = 位 c has. has;

@@ -318,6 +318,7 @@ pub starts_probe : (old : Parts) (d : ℕ) (c : ClockId) (steps : List Micro) (f
 starts_probe old d c steps flight' now change = record {
   remains = record { desc = refl; told = refl; size = refl; behind = refl; credits = refl; ignore_unused = refl };
   spent = refl;
+  locks = refl;
   rows = λ c. refl;
   going = now.going;
   driver_ = now.driver;
@@ -363,6 +364,7 @@ enters_probe old new d c orphans steps quiet left free adopts goes made room sta
   fewer = λ free. absurd cc;
   begun = λ paid goes. let few = probe_left old new d c steps starts_ in omega arith;
   no_more = λ paid done. absurd cc;
+  locks = λ still. starts_.locks;
   beside = λ tier. absurd cc;
   step = λ s stands sound.
       let may = may_probe old s c stands quiet free in

@@ -106,7 +106,7 @@ raise_leads old x pll more window' flight' now s stands sound =
 pub raise_enters : (old : Parts) (x pll : ClockId) (more : Bool) (window' : Shown) (flight' : FlightState) → Raised old x pll more window' flight'
     → Enters old old.flight.driver (event.Step (micro.Raise x) None) turn.Going (with_step old window' flight')
 raise_enters old x pll more window' flight' now =
-    enters_step old window' flight' (micro.Raise x) None refl (told_put old.desc.defs pll.0 true old.window.words window'.words now.words) now.size now.behind
+    enters_step old window' flight' (micro.Raise x) None refl (told_put old.desc.defs pll.0 true old.window.words window'.words now.words) now.size now.behind (λ still. absurd cc)
     (ap (λ (f : FlightState). f.going) now.flight ∙ (same_raised old.flight x pll more).going ∙ now.going)
     (ap (λ (f : FlightState). f.driver) now.flight ∙ (same_raised old.flight x pll more).driver) (now.less (rows_from 0 old.chains)) (raise_leads old x pll more window' flight' now)
 
@@ -120,7 +120,7 @@ seeks_of what there _ e = absurd cc
 pub none_enters : (old : Parts) (step : Micro) (flight' : FlightState) → old.flight.going ≡ true → FindsNothing old step → flight' ≡ found_none old.flight → FindsNone old.flight flight'
     → LeavesLess old.flight flight' → Enters old old.flight.driver (event.Step step None) turn.Going (with_step old old.window flight')
 none_enters old step flight' going nothing is change less =
-    enters_step old old.window flight' step None (seeks_plain old.flight.call (registered old.tree.clocks) step nothing.seeks) refl refl refl (ap (λ (f : FlightState). f.going) is ∙ going) (ap (λ (f : FlightState). f.driver) is) (less (rows_from 0 old.chains))
+    enters_step old old.window flight' step None (seeks_plain old.flight.call (registered old.tree.clocks) step nothing.seeks) refl refl refl (λ still. refl) (ap (λ (f : FlightState). f.going) is ∙ going) (ap (λ (f : FlightState). f.driver) is) (less (rows_from 0 old.chains))
     (λ s stands sound.
     let has = change_of old s stands going in
     let first = nothing.first s.notifiers has.k stands.notifiers has.is in
@@ -142,6 +142,7 @@ pub record Lowered (old : Parts) (x pll : ClockId) (more : Bool) (window' : Show
   pub size : window'.size ≡ old.window.size
   pub words : window'.words ≡ option_map (power_put old.desc.defs pll.0 false) old.window.words
   pub behind : window'.behind ≡ old.window.behind
+  pub locks : window'.locks ≡ old.window.locks
   pub flight : flight' ≡ lowered_once old.flight x more
   pub change : LowersOne x more old.flight flight'
   pub less : LeavesLess old.flight flight'
@@ -174,7 +175,7 @@ lower_leads old x pll more window' flight' now s stands sound =
 pub lower_enters : (old : Parts) (x pll : ClockId) (more : Bool) (window' : Shown) (flight' : FlightState) → Lowered old x pll more window' flight'
     → Enters old old.flight.driver (event.Step (micro.Lower x) None) turn.Going (with_step old window' flight')
 lower_enters old x pll more window' flight' now =
-    enters_step old window' flight' (micro.Lower x) None refl (told_put old.desc.defs pll.0 false old.window.words window'.words now.words) now.size now.behind
+    enters_step old window' flight' (micro.Lower x) None refl (told_put old.desc.defs pll.0 false old.window.words window'.words now.words) now.size now.behind (λ still. now.locks)
     (ap (λ (f : FlightState). f.going) now.flight ∙ now.going) (ap (λ (f : FlightState). f.driver) now.flight) (now.less (rows_from 0 old.chains)) (lower_leads old x pll more window' flight' now)
 
 -- ---- a poll
@@ -192,7 +193,7 @@ pub poll_enters : (old : Parts) (pll : ClockId) (answer : Bool) (window' : Shown
     → flight' ≡ polled_in old.flight answer → Polls answer old.flight flight' → LeavesLess old.flight flight'
     → Enters old old.flight.driver (event.Step (micro.Poll pll) (Some answer)) turn.Going (with_step old window' flight')
 poll_enters old pll answer window' flight' going own comes size words behind is change less =
-    enters_step old window' flight' (micro.Poll pll) (Some answer) refl (ap (λ (o : Option (List ℕ)). is_some o) words) size behind
+    enters_step old window' flight' (micro.Poll pll) (Some answer) refl (ap (λ (o : Option (List ℕ)). is_some o) words) size behind (λ still. absurd cc)
     (ap (λ (f : FlightState). f.going) is ∙ (same_polled old.flight answer).going ∙ going) (ap (λ (f : FlightState). f.driver) is ∙ (same_polled old.flight answer).driver) (less (rows_from 0 old.chains))
     (λ s stands sound.
     let has = change_of old s stands going in
@@ -214,11 +215,11 @@ pub fall_less : (old : Parts) (pll : ClockId) (flight' : FlightState) → comes_
 fall_less old pll flight' next less = less (rows_from 0 old.chains) (micro.Fall pll) (fall_told (rows_from 0 old.chains) old.flight pll next) refl
 
 pub fall_enters : (old : Parts) (pll : ClockId) (window' : Shown) (flight' : FlightState) → old.flight.going ≡ true → comes_next [] old.flight ≡ Some (micro.Fall pll)
-    → ComesFirst old (micro.Fall pll) → window'.size ≡ old.window.size → window'.words ≡ option_map (power_put old.desc.defs pll.0 false) old.window.words → window'.behind ≡ old.window.behind
+    → ComesFirst old (micro.Fall pll) → window'.size ≡ old.window.size → window'.words ≡ option_map (power_put old.desc.defs pll.0 false) old.window.words → window'.behind ≡ old.window.behind → window'.locks ≡ old.window.locks
     → flight' ≡ fallen old.flight → Drops old.flight flight' → LeavesLessAt is_fall old.flight flight'
     → Enters old old.flight.driver (event.Step (micro.Fall pll) None) turn.Going (with_step old window' flight')
-fall_enters old pll window' flight' going next comes size words behind is change less =
-    enters_step old window' flight' (micro.Fall pll) None refl (told_put old.desc.defs pll.0 false old.window.words window'.words words) size behind
+fall_enters old pll window' flight' going next comes size words behind locks is change less =
+    enters_step old window' flight' (micro.Fall pll) None refl (told_put old.desc.defs pll.0 false old.window.words window'.words words) size behind (λ still. locks)
     (ap (λ (f : FlightState). f.going) is ∙ going) (ap (λ (f : FlightState). f.driver) is) (fall_less old pll flight' next less)
     (λ s stands sound.
     let has = change_of old s stands going in

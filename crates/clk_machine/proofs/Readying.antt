@@ -385,6 +385,7 @@ proceeds_along old new d what scripted changes can along = record {
   fewer = λ free. absurd cc;
   begun = λ paid goes. let left_ = along_left old new d what scripted None can along in let most = most_room old.desc.defs what changes in let room = can.room in omega arith;
   no_more = λ paid done. absurd cc;
+  locks = λ still. along.starts.locks;
   beside = λ tier. absurd cc;
 }
 
@@ -421,6 +422,7 @@ proceeds_within old between new d h least most row scripted can along is = subst
   fewer = λ free. absurd cc;
   begun = λ paid goes. let left_ = along_left old between d (call.SetRange h least most) scripted (Some (row.min, row.max)) can along in let room = can.room in omega arith;
   no_more = λ paid done. absurd cc;
+  locks = λ still. along.starts.locks;
   beside = λ tier. absurd cc;
 })
 
@@ -462,6 +464,7 @@ proceeds_answered old new d what r does none quiet becomes = record {
   fewer = λ free. absurd cc;
   begun = λ pays goes. absurd cc;
   no_more = λ pays done. let same = becomes.left in omega arith;
+  locks = λ still. becomes.locks;
   beside = λ tier. absurd cc;
 }
 
@@ -500,6 +503,7 @@ enters_by old new d e t proceeds leads = record {
   fewer = proceeds.fewer;
   begun = proceeds.begun;
   no_more = proceeds.no_more;
+  locks = proceeds.locks;
   beside = proceeds.beside;
   rows = proceeds.rows;
   step = leads;

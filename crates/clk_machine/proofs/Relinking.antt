@@ -173,6 +173,7 @@ pub record Relinked (old : Parts) (m : Micro) (window' : Shown) (tree' : TreeSta
   pub size : window'.size ≡ old.window.size
   pub told : is_some window'.words ≡ is_some old.window.words
   pub behind : window'.behind ≡ old.window.behind
+  pub locks : window'.locks ≡ old.window.locks
   pub tied : AreTied old.desc window' tree'
   pub there : (c : ℕ) → registered tree'.clocks c ≡ registered old.tree.clocks c
   pub linked : (c : ℕ) → is_some (link_in old.tree.clocks c) ≡ true → is_some (link_in tree'.clocks c) ≡ true
@@ -298,6 +299,7 @@ relinked_enters old m window' tree' counts' prepares' enables' flight' now does 
   fewer = λ free. now.less;
   begun = λ paid. absurd cc;
   no_more = λ paid. absurd cc;
+  locks = λ still. now.locks;
   beside = λ tier. absurd cc;
   step = λ s stands sound.
       let has = change_of old s stands now.going in

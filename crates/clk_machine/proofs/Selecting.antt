@@ -74,6 +74,7 @@ pub record Selects (old : Parts) (c : ClockId) (place : ℕ) (window' : Shown) (
   pub size : window'.size ≡ old.window.size
   pub words : window'.words ≡ option_map (put_field (kind_of old.desc.defs c.0) (Some place)) old.window.words
   pub behind : window'.behind ≡ old.window.behind
+  pub locks : window'.locks ≡ old.window.locks
   pub told : AreTold window'.size window'.words
   pub kept : AreKept old.desc.defs window'.words tree'.clocks tree'.rates
   pub rows : tree'.clocks ≡ old.tree.clocks
@@ -104,6 +105,7 @@ selected_of old c place window' tree' flight' now to = record {
   size = to.size;
   told = ap (λ (o : Option (List ℕ)). is_some o) to.words ∙ told_map (put_field (kind_of old.desc.defs c.0) (Some place)) old.window.words;
   behind = to.behind;
+  locks = to.locks;
   tied = record {
     valid = now.whole.tied.valid;
     words = to.size ∙ now.whole.tied.words;
@@ -199,6 +201,7 @@ settled_of old c tree' flight' now to = record {
   size = refl;
   told = refl;
   behind = refl;
+  locks = refl;
   tied = record {
     valid = whole.tied.valid;
     words = whole.tied.words;

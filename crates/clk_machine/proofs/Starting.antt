@@ -153,6 +153,7 @@ enters_prepare old new d h row whole quiet left own some room starts_ = record {
   fewer = λ free. absurd cc;
   begun = λ paid goes. let steps = starts_.left in let few = raise_left (rows_from 0 old.chains) (plls old.desc.defs) row.clock in omega arith;
   no_more = λ paid done. absurd cc;
+  locks = λ still. starts_.locks;
   beside = λ tier. absurd cc;
   step = λ s stands sound.
       let spends : s.spent < s.credits = let one = stands.spent in let two = stands.credits in omega arith in
@@ -313,6 +314,7 @@ pub starts_call : (old : Parts) (d : ℕ) (h : Handle) (row : HandleRow) (flight
 starts_call old d h row flight' now change = record {
   remains = record { desc = refl; told = refl; size = refl; behind = refl; credits = refl; ignore_unused = refl };
   spent = refl;
+  locks = refl;
   rows = λ c. refl;
   going = now.going;
   driver_ = now.driver;

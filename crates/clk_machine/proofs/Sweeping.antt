@@ -129,6 +129,7 @@ pub starts_sweep : (old : Parts) (d : ℕ) (steps : List Micro) (flight' : Fligh
 starts_sweep old d steps flight' now change = record {
   remains = record { desc = refl; told = refl; size = refl; behind = refl; credits = refl; ignore_unused = refl };
   spent = refl;
+  locks = refl;
   rows = λ c. refl;
   going = now.going;
   driver_ = now.driver;
@@ -152,6 +153,7 @@ enters_sweep old new d steps whole quiet on_ left light told room starts_ = reco
   fewer = λ free. absurd cc;
   begun = λ paid goes. let few = sweep_left old new d steps light starts_ in omega arith;
   no_more = λ paid done. absurd cc;
+  locks = λ still. starts_.locks;
   beside = λ tier. absurd cc;
   step = λ s stands sound.
       let is = told s stands in
@@ -246,6 +248,7 @@ pub record Switched (old : Parts) (m : Micro) (window' : Shown) (flight' : Fligh
   pub size : window'.size ≡ old.window.size
   pub told : is_some window'.words ≡ is_some old.window.words
   pub behind : window'.behind ≡ old.window.behind
+  pub locks : window'.locks ≡ old.window.locks
   pub tied : AreTied old.desc window' old.tree
   pub flight : flight' ≡ gone_on old.flight
   pub change : GoesOn old.flight flight'
@@ -282,7 +285,7 @@ module _ (old : Parts) (m : Micro) (window' : Shown) (flight' : FlightState) (no
       → (regs : Registers) × (window'.words ≡ Some regs) × (next s old.flight.driver (event.Step m None) ≡ Some (record s { regs = regs; change = Some (taken k); steps = s.steps + 1 }, turn.Going)))
       → Enters old old.flight.driver (event.Step m None) turn.Going (with_step old window' flight')
   switch_enters does =
-      enters_step old window' flight' m None (switch_is m now.is).plain now.told now.size now.behind (ap (λ (f : FlightState). f.going) now.flight ∙ now.going) (ap (λ (f : FlightState). f.driver) now.flight) fewer_left
+      enters_step old window' flight' m None (switch_is m now.is).plain now.told now.size now.behind (λ still. now.locks) (ap (λ (f : FlightState). f.going) now.flight ∙ now.going) (ap (λ (f : FlightState). f.driver) now.flight) fewer_left
       (λ s stands sound.
       let has = now_of old s stands now.going in
       let first = now.first s.notifiers has.k stands.notifiers has.is in

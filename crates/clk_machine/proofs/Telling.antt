@@ -119,7 +119,7 @@ whole_told old flight' whole going next is less =
 pub tell_enters : (old : Parts) (m : Micro) (flight' : FlightState) → old.flight.going ≡ true → is_notice m ≡ true → TellsNext old → ComesFirst old m → flight' ≡ gone_on old.flight → GoesOn old.flight flight'
     → LeavesLessAt is_taken old.flight flight' → Enters old old.flight.driver (event.Step m None) turn.Going (with_step old old.window flight')
 tell_enters old m flight' going notice next comes is change less =
-    enters_step old old.window flight' m None (notice_taken m notice).3 refl refl refl (ap (λ (f : FlightState). f.going) is ∙ going) (ap (λ (f : FlightState). f.driver) is)
+    enters_step old old.window flight' m None (notice_taken m notice).3 refl refl refl (λ still. refl) (ap (λ (f : FlightState). f.going) is ∙ going) (ap (λ (f : FlightState). f.driver) is)
     (less (rows_from 0 old.chains) next.notice next.next_ (notice_taken next.notice next.is).0)
     (λ s stands sound.
     let has = change_of old s stands going in

@@ -58,6 +58,7 @@ pub record Visited (old : Parts) (c : ClockId) (window' : Shown) (tree' : TreeSt
   pub told : is_some window'.words ≡ is_some old.window.words
   pub are : AreTold window'.size window'.words
   pub behind : window'.behind ≡ old.window.behind
+  pub locks : window'.locks ≡ old.window.locks
   pub kept : AreKept old.desc.defs window'.words tree'.clocks tree'.rates
   pub rows : tree'.clocks ≡ old.tree.clocks
   pub order : tree'.order ≡ old.tree.order
@@ -362,6 +363,7 @@ visit_enters old c window' tree' posts' flight' course' now = record {
   fewer = λ free. now.less (few_told old c.0 posts'.count now.few);
   begun = λ paid. absurd cc;
   no_more = λ paid. absurd cc;
+  locks = λ still. now.locks;
   beside = λ tier. absurd cc;
   step = visit_leads old c window' tree' posts' flight' course' now;
 }

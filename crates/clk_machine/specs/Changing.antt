@@ -26,6 +26,7 @@ pub record BeginsAlong (notifiers : List NotifierRow) (start : Start) (course : 
 pub record StartsChange (old : Parts) (start : Start) (course : CourseState) (new : Parts) : Type 0 where
   pub remains : Remains old new
   pub spent : new.spent ≡ old.spent + 1
+  pub locks : new.window.locks ≡ old.window.locks
   pub rows : (c : ℕ) → registered new.tree.clocks c ≡ registered old.tree.clocks c
   pub table : new.table ≡ old.table
   pub going : new.flight.going ≡ true

@@ -48,8 +48,8 @@ pub record PollsLock (y : ClockId) (answer : Option Bool) (old new : Parts) : Ty
   pub delays : new.window.behind.delays ≡ delays_in new.window.locks
   pub next : IsPoll old.flight.front (λ z polls. (z ≡ y) × IfPoll new.flight.front (λ w left. (w ≡ y) × (left + 1 ≡ polls)))
 
--- what a step does with the locks of PLLs: a raise starts one, and a poll polls the one that it is of
+-- what an event does with the locks of PLLs: a raise starts one, a poll polls the one that it is of, and any other leaves them
 abbrev pub FollowsLocks : Parts → Event → Parts → Type 0
 FollowsLocks old (event.Step (micro.Raise x) answer) new = StartsLock old new
 FollowsLocks old (event.Step (micro.Poll y) answer) new = PollsLock y answer old new
-FollowsLocks old _ new = Unit {0}
+FollowsLocks old _ new = new.window.locks ≡ old.window.locks

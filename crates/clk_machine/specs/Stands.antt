@@ -103,6 +103,12 @@ most_steps defs e = 0
 abbrev pub price : Event → ℕ
 price e = if is_paid e then 1 else 0
 
+-- whether an event may start the lock of a PLL, or polls one
+abbrev pub starts_or_polls : Event → Bool
+starts_or_polls (event.Step (micro.Raise x) answer) = true
+starts_or_polls (event.Step (micro.Poll y) answer) = true
+starts_or_polls _ = false
+
 -- an event of a driver with its turn takes the parts on, from each sound state that they stand for to the machine's next one
 pub record Enters (old : Parts) (driver : ℕ) (event : Event) (turn : Turn) (new : Parts) : Type 0 where
   pub remains : Remains old new
@@ -115,8 +121,10 @@ pub record Enters (old : Parts) (driver : ℕ) (event : Event) (turn : Turn) (ne
   pub fewer : is_paid event ≡ false → steps_left new < steps_left old
   pub begun : is_paid event ≡ true → is_going turn ≡ true → steps_left new ≤ most_steps old.desc.defs event
   pub no_more : is_paid event ≡ true → is_going turn ≡ false → steps_left new ≤ steps_left old
-  -- the enable tier leaves the locks of PLLs and what comes next of a change in flight
-  pub beside : is_enable_tier event ≡ true → (new.window.locks ≡ old.window.locks) × (new.flight ≡ old.flight)
+  -- the locks of PLLs stay, unless the event may start one or polls one
+  pub locks : starts_or_polls event ≡ false → new.window.locks ≡ old.window.locks
+  -- the enable tier leaves what comes next of a change in flight
+  pub beside : is_enable_tier event ≡ true → new.flight ≡ old.flight
   pub rows : (c : ℕ) → registered new.tree.clocks c ≡ (registered old.tree.clocks c || joins event turn c)
   pub step : (s : State) → Stands old s → IsSound old.window.size s → Leads s driver event turn new
 
@@ -129,5 +137,6 @@ pub record Proceeds (old : Parts) (driver : ℕ) (event : Event) (turn : Turn) (
   pub fewer : is_paid event ≡ false → steps_left new < steps_left old
   pub begun : is_paid event ≡ true → is_going turn ≡ true → steps_left new ≤ most_steps old.desc.defs event
   pub no_more : is_paid event ≡ true → is_going turn ≡ false → steps_left new ≤ steps_left old
-  pub beside : is_enable_tier event ≡ true → (new.window.locks ≡ old.window.locks) × (new.flight ≡ old.flight)
+  pub locks : starts_or_polls event ≡ false → new.window.locks ≡ old.window.locks
+  pub beside : is_enable_tier event ≡ true → new.flight ≡ old.flight
   pub rows : (c : ℕ) → registered new.tree.clocks c ≡ (registered old.tree.clocks c || joins event turn c)

@@ -15,6 +15,7 @@ use Rattle.clk_machine.specs.Stands.{Stands, Remains}
 pub record StartsCall (old : Parts) (driver : ℕ) (what : Sleeping) (steps : List Micro) (does : State → State) (new : Parts) : Type 0 where
   pub remains : Remains old new
   pub spent : new.spent ≡ old.spent + 1
+  pub locks : new.window.locks ≡ old.window.locks
   pub rows : (c : ℕ) → registered new.tree.clocks c ≡ registered old.tree.clocks c
   pub going : new.flight.going ≡ true
   pub driver_ : new.flight.driver ≡ driver

@@ -48,6 +48,7 @@ fn close_unless<B: Bank>(active: bool, kind: Kind, window: &mut Window<B>)
     ensures size { window.new.size ≡ window.old.size }
     ensures words { window.new.words ≡ option_map (λ regs. option_map_or (follow regs true active) (gate_of kind) regs) window.old.words }
     ensures behind { window.new.behind ≡ window.old.behind }
+    ensures locks { window.new.locks ≡ window.old.locks }
 {
     if !active {
         close_gate(kind, window);

@@ -53,6 +53,7 @@ invariant_of-self g c =
       size = c.close_unless.ensures.size;
       told = told_gate c.def.result.now.kind c.is_active-active.result m.window.words c.close_unless.new.window.words c.close_unless.ensures.words;
       behind = c.close_unless.ensures.behind;
+      locks = c.close_unless.ensures.locks;
       tied = tied_gate p c.args.clock.0 c.is_active-active.result c.def.result.now.kind c.close_unless.new.window c.self.invariant (clock_within m.desc m.window m.tree c.args.clock.0 c.self.invariant.tied there)
           (ap (λ (d : ClockDef). d.kind) c.def.ensures.def) c.close_unless.ensures.size c.close_unless.ensures.words;
       flight = c.go_on.ensures.flight;
@@ -78,6 +79,7 @@ returns g c =
       size = c.close_unless.ensures.size;
       told = told_gate c.def.result.now.kind c.is_active-active.result m.window.words c.close_unless.new.window.words c.close_unless.ensures.words;
       behind = c.close_unless.ensures.behind;
+      locks = c.close_unless.ensures.locks;
       tied = tied_gate p c.args.clock.0 c.is_active-active.result c.def.result.now.kind c.close_unless.new.window c.self.invariant (clock_within m.desc m.window m.tree c.args.clock.0 c.self.invariant.tied there)
           (ap (λ (d : ClockDef). d.kind) c.def.ensures.def) c.close_unless.ensures.size c.close_unless.ensures.words;
       flight = c.go_on.ensures.flight;

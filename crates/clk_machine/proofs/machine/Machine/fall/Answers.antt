@@ -55,4 +55,4 @@ returns g c =
     let place = fallen_place p c.args.pll c.self.invariant going next in
     let first : ComesFirst p (micro.Fall c.args.pll) = subst (λ (q : Parts). ComesFirst q (micro.Fall c.args.pll)) (sym c.self.view_is) c.requires.first in
     rw (← c.self.view_is) (fall_enters p c.args.pll c.set_power.new.window c.fall.new.self going next first c.set_power.ensures.size
-    (power_made m.desc.defs c.def.result.now.kind c.args.pll.0 false m.window.words c.set_power.new.window.words (ap (λ (d : ClockDef). d.kind) c.def.ensures.def) c.set_power.ensures.words) c.set_power.ensures.behind c.fall.ensures.flight c.fall.ensures.change c.fall.ensures.less)
+    (power_made m.desc.defs c.def.result.now.kind c.args.pll.0 false m.window.words c.set_power.new.window.words (ap (λ (d : ClockDef). d.kind) c.def.ensures.def) c.set_power.ensures.words) c.set_power.ensures.behind c.set_power.ensures.locks c.fall.ensures.flight c.fall.ensures.change c.fall.ensures.less)

@@ -56,6 +56,7 @@ returns g c =
       size = c.set_power.ensures.size;
       words = power_made m.desc.defs c.def.result.now.kind c.args.pll.0 false m.window.words c.set_power.new.window.words (ap (λ (d : ClockDef). d.kind) c.def.ensures.def) c.set_power.ensures.words;
       behind = c.set_power.ensures.behind;
+      locks = c.set_power.ensures.locks;
       flight = c.lower.ensures.flight;
       change = c.lower.ensures.change;
       less = c.lower.ensures.less;

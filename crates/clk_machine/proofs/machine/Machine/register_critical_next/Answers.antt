@@ -166,7 +166,7 @@ invariant_of-self g c =
     let holds : IsHeld c.moved.new.self c.enable_walk-begun.new.self c.args.clock.0 =
     held_twice c.moved.new.self c.hold.new.self c.enable_walk-begun.new.self c.args.clock.0 c.hold.ensures.holders c.enable_walk-begun.ensures.holders c.enable_walk-begun.ensures.stands in
     whole_held p c.args.clock c.register_clock.new.tree c.moved.new.self c.enable_walk-begun.new.self c.open_path.new.window c.enable_walk-begun.result c.go_on.new.self c.let_go_under.new.flight before now c.register_clock.ensures.links holds critical
-    c.open_path.ensures.size c.open_path.ensures.behind c.open_path.ensures.words
+    c.open_path.ensures.size c.open_path.ensures.behind c.open_path.ensures.locks c.open_path.ensures.words
 
 pub returns : goal.returns
 returns g c =
@@ -206,5 +206,5 @@ returns g c =
     let holds : IsHeld c.moved.new.self c.enable_walk-begun.new.self c.args.clock.0 =
     held_twice c.moved.new.self c.hold.new.self c.enable_walk-begun.new.self c.args.clock.0 c.hold.ensures.holders c.enable_walk-begun.ensures.holders c.enable_walk-begun.ensures.stands in
     rw (← c.self.view_is) (held_enters p c.args.clock c.register_clock.new.tree c.moved.new.self c.enable_walk-begun.new.self c.open_path.new.window c.enable_walk-begun.result c.go_on.new.self c.let_go_under.new.flight before now c.register_clock.ensures.links holds critical
-    c.open_path.ensures.size c.open_path.ensures.behind c.open_path.ensures.words
+    c.open_path.ensures.size c.open_path.ensures.behind c.open_path.ensures.locks c.open_path.ensures.words
     (held_begun c.moved.new.self c.hold.new.self c.enable_walk-begun.new.self c.args.clock.0 c.enable_walk-begun.result c.hold.ensures.holders c.enable_walk-begun.ensures.begun))

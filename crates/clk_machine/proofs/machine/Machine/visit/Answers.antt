@@ -68,6 +68,7 @@ visited_of g c =
       told = c.set_along.ensures.told;
       are = c.set_along.ensures.are;
       behind = c.set_along.ensures.behind;
+      locks = c.set_along.ensures.locks;
       kept = c.set_along.ensures.kept;
       rows = c.set_along.ensures.rows;
       order = c.set_along.ensures.order;
