@@ -1,24 +1,22 @@
 -- A call that was read has the words that it was read from.
-use Rattle.std.proofs.Common.{◌≡◌, ℕ, ◌+◌, ◌-◌, ◌<◌, ◌≤◌, ◌^◌, Bool, true, false, cond, List, [], ◌∷◌, Option, Some, None, refl, sym, ap, ◌∙◌, length, codes, arith, rules}
+use Rattle.std.proofs.Common.{◌≡◌, ℕ, ◌-◌, ◌<◌, ◌^◌, Bool, true, false, cond, List, [], ◌∷◌, Option, Some, None, refl, sym, ap, ◌∙◌, codes, arith}
 use Rattle.std.specs.Prelude.{◌&&◌}
-use Rattle.std.specs.Fmt.{decimal}
-use Rattle.std.specs.Option.{option_map, option_and_then}
+use Rattle.std.specs.Option.{option_map}
 use Rattle.std.specs.Str.{bytes_eq}
 use Rattle.std.proofs.lemmas.Slice.Eq.{bytes_eq-Decides}
 use Rattle.clk_base.specs.declared.call.Sleeping.{Sleeping}
 use Rattle.clk_base.specs.declared.call.Sleeping.TheVariants as call
 use Rattle.clk_base.specs.declared.clock.ClockId.{ClockId}
 use Rattle.clk_base.specs.declared.handle.Handle.{Handle}
-use Rattle.clk_base.specs.Description.{Description, name_of, clock_named}
+use Rattle.clk_base.specs.Description.{Description, clock_named}
 use Rattle.clk_base.proofs.Names.{clock_named-Some}
-use Rattle.clk_model.specs.Text.{Word, clock_word, policy_words, call_words}
-use Rattle.clk_journal.specs.Told.{told_handle, told_found, told_call, IsCall, IsPolicy, IsThere}
+use Rattle.clk_model.specs.Text.{Word, policy_words, call_words}
+use Rattle.clk_journal.specs.Told.{told_found, told_call, IsCall, IsPolicy}
 use Rattle.clk_journal.specs.ReadNumbers.{small, large, handle, priority}
 use Rattle.clk_journal.specs.ReadCalls.{handle_call, named_get, get_call, short_call, rated_call, middle_call, plain_policy, bound_policy, read_policy, range_call, notify_call, long_call, read_call}
 use Rattle.clk_model.proofs.Members.{both_left, both_right}
 use Rattle.clk_journal.proofs.Gives.{Gives, gives_some, gives_none, at_word, at_word_some, behind, mapped, two, onto}
 use Rattle.clk_base.specs.declared.handle.Policy.{Policy}
-use Rattle.clk_base.specs.declared.handle.Policy.TheVariants as policy
 use Rattle.clk_journal.proofs.Priorities.{priority_forth}
 use Rattle.clk_journal.proofs.Numerals.{IsNumberOf, number_forth, IsHandleOf, handle_forth}
 

@@ -1,5 +1,5 @@
 -- An event has at most seven words.
-use Rattle.std.proofs.Common.{◌≡◌, ℕ, ◌+◌, ◌<◌, ◌≤◌, Bool, true, false, List, [], ◌∷◌, ◌++◌, Option, Some, None, length, arith, codes}
+use Rattle.std.proofs.Common.{◌≤◌, Bool, true, false, Option, Some, None, length, arith}
 use Rattle.clk_base.specs.declared.call.Micro.{Micro}
 use Rattle.clk_base.specs.declared.call.Micro.TheVariants as micro
 use Rattle.clk_base.specs.declared.call.Notice.TheVariants as notice
@@ -13,7 +13,7 @@ use Rattle.clk_base.specs.declared.event.Turn.TheVariants as turn
 use Rattle.clk_base.specs.declared.handle.Policy.{Policy}
 use Rattle.clk_base.specs.declared.handle.Policy.TheVariants as policy
 use Rattle.clk_base.specs.Description.{Description}
-use Rattle.clk_model.specs.Text.{Word, policy_words, call_words, step_words, event_words, turn_words}
+use Rattle.clk_model.specs.Text.{policy_words, call_words, step_words, event_words, turn_words}
 
 few_policy : (p : Policy) → length (policy_words p) ≤ 2
 few_policy policy.Accept = omega arith

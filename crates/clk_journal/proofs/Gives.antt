@@ -1,5 +1,5 @@
 -- What holds of the value that a reading gives, if it gives one.
-use Rattle.std.proofs.Common.{◌≡◌, ℕ, Bool, true, false, cond, List, [], ◌∷◌, Option, Some, None, refl, sym, ap, ◌∙◌, subst}
+use Rattle.std.proofs.Common.{◌≡◌, true, false, cond, List, [], ◌∷◌, Option, Some, None, refl, ap, ◌∙◌, subst}
 use Rattle.std.specs.Option.{option_map, option_and_then}
 use Rattle.std.specs.Str.{bytes_eq}
 use Rattle.std.proofs.lemmas.Slice.Eq.{bytes_eq-Decides}
@@ -15,7 +15,7 @@ gives_some {X} P x h = record { holds = λ y e. let same : x ≡ y = cc in subst
 pub gives_none : {X : Type 0} (P : X → Type 0) → Gives P None
 gives_none P = record { holds = λ y e. absurd cc }
 
--- where a word is this one
+-- if a word is this one
 pub at_word : {X : Type 0} (P : X → Type 0) (w k : Word) (a b : Option X) → (w ≡ k → Gives P a) → Gives P b → Gives P (cond (bytes_eq w k) a b)
 at_word P w k a b here there =
     elim (bytes_eq w k) as (λ t. bytes_eq w k ≡ t → Gives P (cond t a b)) [ true ↦ λ e. here ((bytes_eq-Decides w k).0 e) | false ↦ λ e. there ] refl

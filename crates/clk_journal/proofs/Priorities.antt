@@ -1,5 +1,5 @@
 -- A priority is read back exactly as it is printed.
-use Rattle.std.proofs.Common.{◌≡◌, ℕ, ℤ, pos, negsuc, zero, suc, ◌+◌, ◌-◌, ◌<◌, ◌≤◌, ◌^◌, Bool, true, false, cond, List, [], ◌∷◌, drop, length, get_or, Option, Some, None, refl, sym, ap, ◌∙◌, arith}
+use Rattle.std.proofs.Common.{◌≡◌, ℕ, ℤ, pos, negsuc, zero, suc, ◌-◌, ◌<◌, ◌^◌, Bool, true, false, cond, [], ◌∷◌, drop, get_or, Option, Some, None, refl, sym, ap, ◌∙◌, arith}
 use Rattle.std.specs.Prelude.{◌==◌, is_some}
 use Rattle.std.specs.Fmt.{decimal, signed_decimal}
 use Rattle.std.specs.Int.Signed.{mag}
@@ -8,7 +8,7 @@ use Rattle.std.proofs.lemmas.Bool.Decides.{nat_tests}
 use Rattle.std.proofs.lemmas.Fmt.{first_decimal, decimal_digit}
 use Rattle.clk_model.specs.Text.{Word}
 use Rattle.clk_journal.specs.ReadNumbers.{number, minus, below, priority}
-use Rattle.clk_journal.proofs.Numerals.{number_back, IsNumberOf, number_forth}
+use Rattle.clk_journal.proofs.Numerals.{number_back, number_forth}
 
 no_minus : (n : ℕ) → n < 2 ^ 64 → (get_or (decimal n) 0 0 == 45) ≡ false
 no_minus zero low = ap (λ w. get_or w 0 0 == 45) (decimal_digit 0 (omega arith))

@@ -1,5 +1,5 @@
 -- A line spells an entry exactly where its words do.
-use Rattle.std.proofs.Common.{◌≡◌, ℕ, ◌+◌, ◌<◌, ◌≤◌, List, [], ◌∷◌, ◌++◌, Option, Some, None, refl, sym, ap, ◌∙◌, length, codes, arith, length-append}
+use Rattle.std.proofs.Common.{◌≡◌, ℕ, ◌<◌, List, ◌∷◌, ◌++◌, Option, Some, None, sym, ap, ◌∙◌, length, codes, arith, length-append}
 use Rattle.std.specs.Prelude.{MatchOption}
 use Rattle.std.proofs.lemmas.List.{append_cancel_right}
 use Rattle.clk_base.specs.declared.event.Entry.{Entry}
@@ -26,7 +26,7 @@ module _ (defs : Description) (names : List Word) (number : ℕ) (line : List �
       ap parts (sym (append_cancel_right (spaced (entry_words defs names number e)) line (codes "\n") is))
       ∙ parts_spaced _ _ (entry_whole defs names apart number e few can)
 
-  -- where nothing was read, nothing is spelled
+  -- if nothing was read, nothing is spelled
   pub spells_none : TellApart defs names → IsNumber number → read_words defs names number (parts line) ≡ None → SpellsNone defs names number line
   spells_none apart few none e can is =
       let back : read_words defs names number (parts line) ≡ Some (told_entry defs e) = ap (read_words defs names number) (words_are apart few e can is) ∙ words_back defs names apart number e can in

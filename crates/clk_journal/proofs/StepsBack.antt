@@ -1,5 +1,5 @@
 -- The words of a step are read back.
-use Rattle.std.proofs.Common.{◌≡◌, ℕ, ◌<◌, Bool, true, false, cond, List, [], ◌∷◌, Option, Some, None, refl, sym, ap, ◌∙◌, length, codes}
+use Rattle.std.proofs.Common.{◌≡◌, ℕ, Bool, true, false, Option, Some, None, refl, ap, ◌∙◌, codes}
 use Rattle.std.specs.Fmt.{decimal}
 use Rattle.std.specs.Option.{option_map, option_and_then}
 use Rattle.clk_base.specs.declared.call.Micro.{Micro}
@@ -7,12 +7,11 @@ use Rattle.clk_base.specs.declared.call.Micro.TheVariants as micro
 use Rattle.clk_base.specs.declared.call.Notice.{Notice}
 use Rattle.clk_base.specs.declared.call.Notice.TheVariants as notice
 use Rattle.clk_base.specs.declared.clock.ClockId.{ClockId}
-use Rattle.clk_base.specs.declared.event.Event.{Event}
 use Rattle.clk_base.specs.declared.event.Event.TheVariants as event
 use Rattle.clk_base.specs.Description.{Description, name_of, clock_named, HasDistinctNames}
-use Rattle.clk_model.specs.Text.{Word, step_words}
+use Rattle.clk_model.specs.Text.{step_words}
 use Rattle.clk_journal.specs.Told.{told_answer, IsStep, IsPolled}
-use Rattle.clk_journal.specs.ReadNumbers.{small, large}
+use Rattle.clk_journal.specs.ReadNumbers.{large}
 use Rattle.clk_journal.specs.ReadSteps.{clock_step, poll_answer, middle_step, pre_answer, late_kind, notice_kind, notice_step, short_step, longer_step, told_step, read_step}
 use Rattle.clk_journal.proofs.Numerals.{small_back, large_back}
 use Rattle.clk_journal.proofs.Named.{found}

@@ -1,11 +1,10 @@
 -- A step that was read has the words that it was read from.
-use Rattle.std.proofs.Common.{◌≡◌, ℕ, ◌+◌, ◌-◌, ◌<◌, ◌≤◌, ◌^◌, Bool, true, false, cond, List, [], ◌∷◌, Option, Some, None, refl, sym, ap, ◌∙◌, length, codes, arith}
+use Rattle.std.proofs.Common.{◌≡◌, ℕ, ◌-◌, ◌<◌, ◌^◌, Bool, List, [], ◌∷◌, Option, Some, None, refl, sym, ◌∙◌, length, codes, arith}
 use Rattle.std.specs.Fmt.{decimal}
 use Rattle.std.specs.Option.{option_map, option_and_then}
 use Rattle.clk_base.specs.declared.call.Micro.{Micro}
 use Rattle.clk_base.specs.declared.call.Micro.TheVariants as micro
 use Rattle.clk_base.specs.declared.call.Notice.{Notice}
-use Rattle.clk_base.specs.declared.call.Notice.TheVariants as notice
 use Rattle.clk_base.specs.declared.clock.ClockId.{ClockId}
 use Rattle.clk_base.specs.declared.event.Event.{Event}
 use Rattle.clk_base.specs.declared.event.Event.TheVariants as event
@@ -15,8 +14,8 @@ use Rattle.clk_model.specs.Text.{Word, step_words}
 use Rattle.clk_journal.specs.Told.{told_answer, IsStep, IsPolled}
 use Rattle.clk_journal.specs.ReadNumbers.{small, large}
 use Rattle.clk_journal.specs.ReadSteps.{clock_step, poll_answer, middle_step, pre_answer, late_kind, notice_kind, notice_step, short_step, longer_step, told_step, read_step}
-use Rattle.clk_journal.proofs.Gives.{Gives, gives_some, gives_none, at_word, at_word_some, behind, mapped, two, onto}
-use Rattle.clk_journal.proofs.Numerals.{IsNumberOf, number_forth}
+use Rattle.clk_journal.proofs.Gives.{Gives, gives_none, at_word, at_word_some, behind, mapped, two, onto}
+use Rattle.clk_journal.proofs.Numerals.{number_forth}
 
 -- the event is a step that has these words, can be told, and is as it is told
 pub record IsStepOf (defs : Description) (ws : List Word) (e : Event) : Type 0 where
@@ -33,7 +32,7 @@ record IsNameOf (defs : Description) (w : Word) (c : ClockId) : Type 0 where
   there : c.0 < length defs
   name : name_of defs c.0 ≡ w
 
--- a kind of notice by its first word and what stands behind its numbers
+-- a kind of notice by its first word and those after its numbers
 record IsKindOf (verb : Word) (rest : List Word) (kind : Notice) : Type 0 where
   words : (defs : Description) (c : ClockId) (id old new : ℕ) → step_words defs (micro.Notify kind c id old new) None ≡ verb ∷ name_of defs c.0 ∷ decimal id ∷ decimal old ∷ decimal new ∷ rest
 

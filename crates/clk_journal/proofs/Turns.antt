@@ -1,8 +1,6 @@
 -- The words of a turn are read back, and a turn that was read has the words that it was read from.
-use Rattle.std.proofs.Common.{◌≡◌, ℕ, ◌+◌, ◌-◌, ◌<◌, ◌≤◌, ◌^◌, Bool, true, false, cond, List, [], ◌∷◌, Option, Some, None, refl, sym, ap, ◌∙◌, length, codes, arith}
-use Rattle.std.specs.Prelude.{◌&&◌, if◌then◌else◌}
-use Rattle.std.specs.Fmt.{decimal}
-use Rattle.std.specs.Option.{option_map, option_and_then}
+use Rattle.std.proofs.Common.{◌≡◌, ℕ, ◌-◌, ◌^◌, false, List, [], ◌∷◌, Option, Some, None, refl, sym, ap, ◌∙◌, codes, arith}
+use Rattle.std.specs.Option.{option_map}
 use Rattle.clk_base.specs.declared.clock.ClockId.{ClockId}
 use Rattle.clk_base.specs.declared.event.Errno.{Errno}
 use Rattle.clk_base.specs.declared.event.Errno.TheVariants as errno
@@ -14,10 +12,10 @@ use Rattle.clk_base.specs.declared.handle.Handle.{Handle}
 use Rattle.clk_base.specs.Description.{Description, name_of, clock_named, HasDistinctNames}
 use Rattle.clk_base.proofs.Names.{clock_named-Some}
 use Rattle.clk_model.specs.Text.{Word, errno_name, clock_word, reply_words, turn_words}
-use Rattle.clk_journal.specs.Told.{told_handle, told_found, told_reply, told_turn, IsTurn, IsThere}
-use Rattle.clk_journal.specs.ReadNumbers.{small, large, handle}
+use Rattle.clk_journal.specs.Told.{told_found, told_reply, told_turn, IsTurn, IsThere}
+use Rattle.clk_journal.specs.ReadNumbers.{large, handle}
 use Rattle.clk_journal.specs.ReadEntries.{read_errno, plain_turn, named_reply, told_reply_of, read_turn}
-use Rattle.clk_journal.proofs.Gives.{Gives, gives_some, gives_none, at_word, at_word_some, behind, mapped, two, onto}
+use Rattle.clk_journal.proofs.Gives.{Gives, gives_some, gives_none, at_word, at_word_some, mapped, two, onto}
 use Rattle.clk_journal.proofs.Numerals.{handle_back, large_back, handle_forth, number_forth}
 use Rattle.clk_journal.proofs.Named.{found}
 

@@ -10,7 +10,7 @@ use Rattle.clk_base.specs.declared.handle.Policy.{Policy}
 use Rattle.clk_base.specs.declared.handle.Policy.TheVariants as policy
 use Rattle.clk_base.specs.Description.{Description, clock_named}
 use Rattle.clk_model.specs.Text.{Word}
-use Rattle.clk_journal.specs.ReadNumbers.{small, large, handle, below, priority}
+use Rattle.clk_journal.specs.ReadNumbers.{small, large, handle, priority}
 
 -- a call of a handle alone
 unfoldable pub handle_call : Word → Handle → Option Sleeping

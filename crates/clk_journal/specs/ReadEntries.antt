@@ -93,7 +93,7 @@ read_turn defs d (w ∷ []) = plain_turn w
 read_turn defs d (verb ∷ w ∷ []) = option_map (λ r. turn.Done r) (told_reply_of defs d verb w)
 read_turn defs d _ = None
 
--- the place of the sign `=` that stands in front of the last word or of the last two
+-- the place of the sign `=` before the last word or the last two
 unfoldable pub sign_at : List Word → Option ℕ
 sign_at ws =
     let n = length ws in
@@ -109,7 +109,7 @@ with_turn defs d ws t = option_map (λ e. record { driver = d; event = e; turn =
 unfoldable pub of_parts : Description → ℕ → List Word → List Word → Option Entry
 of_parts defs d es ts = option_and_then (with_turn defs d es) (read_turn defs d ts)
 
--- the entry of a driver with these words behind its name
+-- the entry of a driver with these words after its name
 unfoldable pub of_driver : Description → List Word → ℕ → Option Entry
 of_driver defs ws d = option_and_then (λ at. of_parts defs d (take at ws) (drop (at + 1) ws)) (sign_at ws)
 

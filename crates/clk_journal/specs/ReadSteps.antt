@@ -1,5 +1,5 @@
 -- The step that words of a line of a journal tell, if they tell one.
-use Rattle.std.specs.Prelude.{List, [], ◌∷◌, drop, Bool, true, false, Option, Some, None, codes, if◌then◌else◌, option_and_then}
+use Rattle.std.specs.Prelude.{List, [], ◌∷◌, Bool, true, false, Option, Some, None, codes, if◌then◌else◌, option_and_then}
 use Rattle.std.specs.Option.{option_map}
 use Rattle.std.specs.Str.{bytes_eq}
 use Rattle.clk_base.specs.declared.call.Micro.{Micro}

@@ -43,7 +43,7 @@ fn is_number(number: u32, word: &str) -> bool
     }
 }
 
-// The word at this place is the sign in front of a turn.
+// The word at this place is the sign before a turn.
 fn is_sign(words: &[&str], at: usize) -> bool
     requires { at < length words.now }
     ensures { result ≡ bytes_eq (slice_index_or (texts words.now) at []) (codes "=") }
@@ -51,7 +51,7 @@ fn is_sign(words: &[&str], at: usize) -> bool
     words[at] == "="
 }
 
-// The place of the sign in front of a turn.
+// The place of the sign before a turn.
 #[tactic(auto, unfolding(crate::specs::ReadEntries::sign_at))]
 fn sign_at(words: &[&str]) -> Option<usize>
     ensures place { result ≡ sign_at (texts words.now) }
@@ -81,7 +81,7 @@ fn of_parts(desc: &ValidDesc, driver: u32, event: &[&str], turn: &[&str]) -> Opt
     })
 }
 
-// The entry of a driver with these words behind its name.
+// The entry of a driver with these words after its name.
 #[tactic(auto, unfolding(crate::specs::ReadEntries::of_driver))]
 fn of_driver(desc: &ValidDesc, words: &[&str], driver: u32) -> Option<Entry>
     ensures { result ≡ of_driver desc.now.defs (texts words.now) driver }

@@ -75,7 +75,7 @@ fn pre_answer(word: &str) -> Option<Notice>
     }
 }
 
-// A kind of notice behind whose numbers nothing stands.
+// A kind of notice whose numbers are the last words.
 #[tactic(auto, unfolding(crate::specs::ReadSteps::late_kind))]
 fn late_kind(verb: &str) -> Option<Notice>
     ensures { result ≡ late_kind verb.now }
@@ -87,7 +87,7 @@ fn late_kind(verb: &str) -> Option<Notice>
     }
 }
 
-// A kind of notice, with what stands behind its numbers.
+// A kind of notice, by its first word and those after its numbers.
 #[tactic(auto, unfolding(crate::specs::ReadSteps::notice_kind))]
 fn notice_kind(verb: &str, rest: &[&str]) -> Option<Notice>
     ensures { result ≡ notice_kind verb.now (texts rest.now) }
@@ -140,7 +140,7 @@ fn longer_step(desc: &ValidDesc, verb: &str, word: &str, clock: Option<ClockId>)
     middle_step(desc, verb, clock?, word)
 }
 
-// A notice of a kind, where it is one, about a clock that was found, or was not.
+// A notice of a kind, if it is one, about a clock that was found, or was not.
 #[tactic(auto, unfolding(crate::specs::ReadSteps::told_step))]
 fn told_step(
     kind: Option<Notice>,

@@ -1,4 +1,4 @@
-use Rattle.std.proofs.Common.{◌≡◌, Some, sym, ap, ◌∙◌, codes}
+use Rattle.std.proofs.Common.{◌≡◌, sym, ap, ◌∙◌, codes}
 use Rattle.std.proofs.lemmas.List.{append_cancel_right}
 use Rattle.std.proofs.lemmas.Option.{same_Some}
 use Rattle.clk_model.specs.Text.{spaced}

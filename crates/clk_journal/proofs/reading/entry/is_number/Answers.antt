@@ -1,5 +1,4 @@
-use Rattle.std.proofs.Common.{◌≡◌, ◌∙◌, None, Some, sym, arith}
-use Rattle.clk_journal.specs.ReadNumbers.{small}
+use Rattle.std.proofs.Common.{◌∙◌, sym, arith}
 use Rattle.clk_journal.proofs.Numerals.{same_number, no_number}
 use Rattle.clk_journal.proofs.reading.entry.is_number.Goals as goal
 

@@ -1,5 +1,4 @@
-use Rattle.std.proofs.Common.{◌≡◌, ◌∙◌, ap, sym, arith, map, string_bytes, take, refl}
-use Rattle.clk_journal.specs.Words.{texts}
+use Rattle.std.proofs.Common.{arith, map, string_bytes, refl}
 use Rattle.clk_journal.proofs.Spelled.{reads, spells_long}
 use Rattle.clk_journal.proofs.reading.entry.read_entry.Goals as goal
 

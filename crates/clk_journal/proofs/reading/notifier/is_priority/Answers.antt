@@ -1,7 +1,7 @@
-use Rattle.std.proofs.Common.{◌≡◌, ◌∙◌, ◌∷◌, ◌^◌, ◌-◌, ℕ, pos, None, Some, sym, ap, lit<}
+use Rattle.std.proofs.Common.{◌≡◌, ◌∙◌, ◌∷◌, ◌^◌, ◌-◌, sym, ap, lit<}
 use Rattle.std.specs.Prelude.{is_some, option_and_then}
 use Rattle.std.proofs.lemmas.Str.Pattern.{strip_prefix_char}
-use Rattle.clk_journal.specs.ReadNumbers.{minus, below, number, priority}
+use Rattle.clk_journal.specs.ReadNumbers.{minus, below, number}
 use Rattle.clk_journal.proofs.Priorities.{signed, unsigned, there}
 use Rattle.clk_journal.proofs.reading.notifier.is_priority.Goals as goal
 

@@ -1,4 +1,4 @@
-use Rattle.std.proofs.Common.{◌≡◌, ◌∙◌, ℤ, true, false, Some, Ok, refl, sym, ap, rules, arith, w32, FitsSigned, to_z, of_z, ◌^◌, ◌<◌}
+use Rattle.std.proofs.Common.{◌≡◌, ◌∙◌, ℤ, true, Some, Ok, sym, ap, rules, arith, w32, FitsSigned, to_z, of_z, ◌^◌, ◌<◌}
 use Rattle.std.specs.Int.Signed.{mag}
 use Rattle.std.specs.Prelude.{is_some}
 use Rattle.std.proofs.lemmas.Fmt.{parse-signed_decimal}

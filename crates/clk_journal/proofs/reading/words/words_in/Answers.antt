@@ -1,5 +1,4 @@
-use Rattle.std.proofs.Common.{◌≡◌, sym, ◌∙◌, append-nil, take, length, arith, rules, ap, []}
-use Rattle.clk_journal.specs.Words.{texts}
+use Rattle.std.proofs.Common.{sym, ◌∙◌, append-nil, arith, rules, []}
 use Rattle.clk_journal.proofs.Splits.{parts, part_some, part_none, more_words, too_many}
 use Rattle.clk_journal.proofs.reading.words.words_in.Goals as goal
 
