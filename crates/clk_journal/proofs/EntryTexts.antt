@@ -2,9 +2,6 @@
 use Rattle.std.proofs.Common.{◌≡◌, ℕ, ◌+◌, ◌<◌, List, [], ◌∷◌, ◌++◌, length, drop, drop-cons, get_or, sym, ap, ◌∙◌, append_assoc, add-one, codes}
 use Rattle.std.specs.Fmt.{decimal}
 use Rattle.clk_base.specs.Description.{Description}
-use Rattle.clk_base.specs.declared.call.Micro.TheVariants as micro
-use Rattle.clk_base.specs.declared.call.Notice.TheVariants as notice
-use Rattle.clk_base.specs.declared.call.Sleeping.TheVariants as call
 use Rattle.clk_base.specs.declared.event.Entry.{Entry}
 use Rattle.clk_base.specs.declared.event.Event.{Event}
 use Rattle.clk_base.specs.declared.event.Event.TheVariants as event
@@ -12,7 +9,6 @@ use Rattle.clk_base.specs.declared.event.Reply.{Reply}
 use Rattle.clk_base.specs.declared.event.Reply.TheVariants as reply
 use Rattle.clk_base.specs.declared.event.Turn.{Turn}
 use Rattle.clk_base.specs.declared.event.Turn.TheVariants as turn
-use Rattle.clk_base.specs.declared.handle.Policy.TheVariants as policy
 use Rattle.clk_model.specs.Text.{Word, spaced, event_words, turn_words, reply_words, entry_text, entries_from}
 
 -- there is a word

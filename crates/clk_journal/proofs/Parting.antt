@@ -29,7 +29,7 @@ not_empty : (w : Word) → is_whole w ≡ true → [] ≡ w → ⊥
 not_empty [] h e = absurd cc
 not_empty (b ∷ w) h e = absurd cc
 
-blankless : (w : Word) → is_whole w ≡ true → no_blank w ≡ true
+pub blankless : (w : Word) → is_whole w ≡ true → no_blank w ≡ true
 blankless w h = both_right (not (length w == 0)) (no_blank w) h
 
 -- what stands in front of the first blank, and what stands behind it

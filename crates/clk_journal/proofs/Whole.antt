@@ -27,7 +27,7 @@ use Rattle.clk_base.specs.declared.handle.Policy.TheVariants as policy
 use Rattle.clk_base.specs.Description.{Description, name_of}
 use Rattle.clk_model.proofs.Members.{both_left, both_right}
 use Rattle.clk_model.specs.Text.{Word, errno_name, clock_word, reply_words, policy_words, call_words, lock_words, step_words, event_words, turn_words}
-use Rattle.clk_journal.specs.Told.{IsNumber, IsPolicy, IsThere, IsCall, IsStep, IsEvent, IsTurn, CanBeTold, is_whole, TellApart}
+use Rattle.clk_journal.specs.Told.{IsNumber, IsSmall, IsPolicy, IsThere, IsCall, IsStep, IsEvent, IsTurn, CanBeTold, is_whole, TellApart}
 use Rattle.clk_journal.proofs.Parting.{no_blank, AreWhole}
 
 -- ---- numbers
@@ -45,6 +45,9 @@ decimal_whole n small = decimal_by_steps (λ m ds. is_whole ds ≡ true) (λ m l
   longer m ds high whole =
       and_from (not (length (ds ++ (48 + m % 10) ∷ []) == 0)) _ (grind (arith, nat_tests, length-append ds ((48 + m % 10) ∷ [])))
       (blankless_both ds ((48 + m % 10) ∷ []) (both_right (not (length ds == 0)) (no_blank ds) whole) (digit (m % 10)))
+
+small_whole : (n : ℕ) → IsSmall n → is_whole (decimal n) ≡ true
+small_whole n low = decimal_whole n (omega arith)
 
 pub signed_whole : (z : ℤ) → mag z < 2 ^ 63 → is_whole (signed_decimal z) ≡ true
 signed_whole (pos n) small = decimal_whole n (omega arith)
@@ -88,7 +91,7 @@ module _ (defs : Description) (names : List Word) (apart : TellApart defs names)
   reply_whole reply.Warn is = (refl, tt)
   reply_whole reply.Yes is = (refl, tt)
   reply_whole reply.No is = (refl, tt)
-  reply_whole (reply.Handle h) is = (refl, (decimal_whole h.number is, tt))
+  reply_whole (reply.Handle h) is = (refl, (small_whole h.number is, tt))
   reply_whole (reply.Rate r) is = (refl, (decimal_whole r is, tt))
   reply_whole (reply.Clock c) is = (refl, (clock_whole c is, tt))
   reply_whole (reply.Refused e) is = (refl, (errno_whole e, tt))
@@ -99,20 +102,20 @@ module _ (defs : Description) (names : List Word) (apart : TellApart defs names)
 
   call_whole : (what : Sleeping) → IsCall defs what → AreWhole (call_words defs what)
   call_whole (call.Get found) is = (refl, (clock_whole found is, tt))
-  call_whole (call.Put h) is = (refl, (decimal_whole h.number is, tt))
-  call_whole (call.Prepare h) is = (refl, (decimal_whole h.number is, tt))
-  call_whole (call.Unprepare h) is = (refl, (decimal_whole h.number is, tt))
-  call_whole (call.GetRate h) is = (refl, (decimal_whole h.number is, tt))
-  call_whole (call.RoundRate h x) is = (refl, (decimal_whole h.number is.0, (decimal_whole x is.1, tt)))
-  call_whole (call.SetRate h x) is = (refl, (decimal_whole h.number is.0, (decimal_whole x is.1, tt)))
-  call_whole (call.SetRateExclusive h x) is = (refl, (decimal_whole h.number is.0, (decimal_whole x is.1, tt)))
-  call_whole (call.SetRange h least most) is = (refl, (decimal_whole h.number is.0, (decimal_whole least is.1, (decimal_whole most is.2, tt))))
-  call_whole (call.SetParent h p) is = (refl, (decimal_whole h.number is.0, (name_whole p is.1, tt)))
-  call_whole (call.GetParent h) is = (refl, (decimal_whole h.number is, tt))
-  call_whole (call.ExclusiveGet h) is = (refl, (decimal_whole h.number is, tt))
-  call_whole (call.ExclusivePut h) is = (refl, (decimal_whole h.number is, tt))
-  call_whole (call.NotifierAdd h id priority policy) is = (refl, (decimal_whole h.number is.0, (decimal_whole id is.1, (signed_whole priority is.2, policy_whole policy is.3))))
-  call_whole (call.NotifierRemove h id) is = (refl, (decimal_whole h.number is.0, (decimal_whole id is.1, tt)))
+  call_whole (call.Put h) is = (refl, (small_whole h.number is, tt))
+  call_whole (call.Prepare h) is = (refl, (small_whole h.number is, tt))
+  call_whole (call.Unprepare h) is = (refl, (small_whole h.number is, tt))
+  call_whole (call.GetRate h) is = (refl, (small_whole h.number is, tt))
+  call_whole (call.RoundRate h x) is = (refl, (small_whole h.number is.0, (decimal_whole x is.1, tt)))
+  call_whole (call.SetRate h x) is = (refl, (small_whole h.number is.0, (decimal_whole x is.1, tt)))
+  call_whole (call.SetRateExclusive h x) is = (refl, (small_whole h.number is.0, (decimal_whole x is.1, tt)))
+  call_whole (call.SetRange h least most) is = (refl, (small_whole h.number is.0, (decimal_whole least is.1, (decimal_whole most is.2, tt))))
+  call_whole (call.SetParent h p) is = (refl, (small_whole h.number is.0, (name_whole p is.1, tt)))
+  call_whole (call.GetParent h) is = (refl, (small_whole h.number is, tt))
+  call_whole (call.ExclusiveGet h) is = (refl, (small_whole h.number is, tt))
+  call_whole (call.ExclusivePut h) is = (refl, (small_whole h.number is, tt))
+  call_whole (call.NotifierAdd h id priority policy) is = (refl, (small_whole h.number is.0, (small_whole id is.1, (signed_whole priority (omega (arith, is.2)), policy_whole policy is.3))))
+  call_whole (call.NotifierRemove h id) is = (refl, (small_whole h.number is.0, (small_whole id is.1, tt)))
   call_whole (call.Probe c) is = (refl, (name_whole c is, tt))
   call_whole call.Sweep is = (refl, tt)
 
@@ -122,17 +125,17 @@ module _ (defs : Description) (names : List Word) (apart : TellApart defs names)
   lock_whole (Some false) = (refl, tt)
 
   step_whole : (m : Micro) (locked : Option Bool) → IsStep defs m → AreWhole (step_words defs m locked)
-  step_whole (micro.Notify (notice.Pre true) c id old new) locked is = (refl, (name_whole c is.0, (decimal_whole id is.1, (decimal_whole old is.2, (decimal_whole new is.3, (refl, tt))))))
-  step_whole (micro.Notify (notice.Pre false) c id old new) locked is = (refl, (name_whole c is.0, (decimal_whole id is.1, (decimal_whole old is.2, (decimal_whole new is.3, (refl, tt))))))
-  step_whole (micro.Notify notice.Abort c id old new) locked is = (refl, (name_whole c is.0, (decimal_whole id is.1, (decimal_whole old is.2, (decimal_whole new is.3, tt)))))
-  step_whole (micro.Notify notice.Post c id old new) locked is = (refl, (name_whole c is.0, (decimal_whole id is.1, (decimal_whole old is.2, (decimal_whole new is.3, tt)))))
+  step_whole (micro.Notify (notice.Pre true) c id old new) locked is = (refl, (name_whole c is.0, (small_whole id is.1, (decimal_whole old is.2, (decimal_whole new is.3, (refl, tt))))))
+  step_whole (micro.Notify (notice.Pre false) c id old new) locked is = (refl, (name_whole c is.0, (small_whole id is.1, (decimal_whole old is.2, (decimal_whole new is.3, (refl, tt))))))
+  step_whole (micro.Notify notice.Abort c id old new) locked is = (refl, (name_whole c is.0, (small_whole id is.1, (decimal_whole old is.2, (decimal_whole new is.3, tt)))))
+  step_whole (micro.Notify notice.Post c id old new) locked is = (refl, (name_whole c is.0, (small_whole id is.1, (decimal_whole old is.2, (decimal_whole new is.3, tt)))))
   step_whole (micro.Raise x) locked is = (refl, (name_whole x is, tt))
   step_whole (micro.Poll y) locked is = (refl, (name_whole y is, lock_whole locked))
   step_whole (micro.Fall y) locked is = (refl, (name_whole y is, tt))
   step_whole (micro.HoldPrepare x) locked is = (refl, (name_whole x is, tt))
   step_whole (micro.HoldEnable x) locked is = (refl, (name_whole x is, tt))
   step_whole (micro.Relink c p) locked is = (refl, (name_whole c is.0, (name_whole p is.1, tt)))
-  step_whole (micro.WriteMux c place) locked is = (refl, (name_whole c is.0, (decimal_whole place is.1, tt)))
+  step_whole (micro.WriteMux c place) locked is = (refl, (name_whole c is.0, (small_whole place is.1, tt)))
   step_whole (micro.DropEnable x) locked is = (refl, (name_whole x is, tt))
   step_whole (micro.DropPrepare x) locked is = (refl, (name_whole x is, tt))
   step_whole (micro.Lower x) locked is = (refl, (name_whole x is, tt))
@@ -144,9 +147,9 @@ module _ (defs : Description) (names : List Word) (apart : TellApart defs names)
   step_whole micro.End locked is = (refl, tt)
 
   event_whole : (e : Event) → IsEvent defs e → AreWhole (event_words defs e)
-  event_whole (event.Enable number) is = (refl, (decimal_whole number is, tt))
-  event_whole (event.Disable number) is = (refl, (decimal_whole number is, tt))
-  event_whole (event.Running number) is = (refl, (decimal_whole number is, tt))
+  event_whole (event.Enable number) is = (refl, (small_whole number is, tt))
+  event_whole (event.Disable number) is = (refl, (small_whole number is, tt))
+  event_whole (event.Running number) is = (refl, (small_whole number is, tt))
   event_whole (event.Begin what) is = (refl, call_whole what is)
   event_whole (event.Step m locked) is = (refl, step_whole m locked is.0)
 

@@ -1,1 +1,7 @@
 pub mod Told
+pub mod Spelling
+pub mod Words
+pub mod ReadNumbers
+pub mod ReadCalls
+pub mod ReadSteps
+pub mod ReadEntries

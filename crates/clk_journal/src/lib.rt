@@ -1,5 +1,5 @@
 //! The printed text of the clock framework: the answers of a driver's commands, the entries of a
-//! journal, and the registers.
+//! journal, and the registers. An entry is read back from its line.
 //!
 //! Each place where text is made has a type of its own whose `Display` states the bytes that it
 //! writes. A printer formats one line at a time and hands it to a `Gathered`, which writes pieces.
@@ -13,6 +13,7 @@ mod entries;
 mod event;
 mod laws;
 mod names;
+mod reading;
 mod registers;
 mod reply;
 mod step;
@@ -20,4 +21,5 @@ mod step;
 pub use answers::print_answers;
 pub use entries::{print_entries, print_entry};
 pub use laws::one_entry;
+pub use reading::read_entry;
 pub use registers::print_registers;
