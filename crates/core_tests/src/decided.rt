@@ -74,7 +74,9 @@ fn requested(
     call(rt, &mut core, Sleeping::Probe(ClockId(0)))?;
     call(rt, &mut core, Sleeping::Probe(ClockId(1)))?;
     call(rt, &mut core, Sleeping::Get(Some(ClockId(1))))?;
-    let candidates = Candidates { count: Cell::new(0) };
+    let candidates = Candidates {
+        count: Cell::new(0),
+    };
     let what = Sleeping::SetRate(FIRST, 17);
     assert!(rt; core.credits_left() > 0 && core.quiet());
     let copy = core.prep_copy()?;

@@ -27,9 +27,9 @@ pub returns-then-most-number-clause-number : goal.returns-then-most-number-claus
 returns-then-most-number-clause-number c =
     reads c.args.most c.args.word.now None (omega arith)
     (λ n low is.
-      let parsed : c.parse.result ≡ Ok n = parse-decimal 64 n c.args.word.now c.parse.result (omega (arith, low)) (omega (arith, low)) (sym is) c.parse.ensures.value.0 in
-      let same : c.in-Ok.number ≡ n = cc in
-      absurd (omega (arith, low, same, c.if-most-number.true)))
+    let parsed : c.parse.result ≡ Ok n = parse-decimal 64 n c.args.word.now c.parse.result (omega (arith, low)) (omega (arith, low)) (sym is) c.parse.ensures.value.0 in
+    let same : c.in-Ok.number ≡ n = cc in
+    absurd (omega (arith, low, same, c.if-most-number.true)))
     (λ n e. absurd cc)
 
 pub returns-clause-number : goal.returns-clause-number
@@ -40,7 +40,7 @@ returns-clause-number c =
     let text : decimal c.in-Ok.number ≡ word = printed word c.parse.result c.in-Ok.number digits plain c.parse.ensures.value.0 c.in-Ok.is in
     reads c.args.most word (Some c.in-Ok.number) (omega arith)
     (λ n low is.
-      let parsed : c.parse.result ≡ Ok n = parse-decimal 64 n word c.parse.result (omega (arith, low)) (omega (arith, low)) (sym is) c.parse.ensures.value.0 in
-      let same : c.in-Ok.number ≡ n = cc in
-      ap (λ (k : ℕ). Some k) same)
+    let parsed : c.parse.result ≡ Ok n = parse-decimal 64 n word c.parse.result (omega (arith, low)) (omega (arith, low)) (sym is) c.parse.ensures.value.0 in
+    let same : c.in-Ok.number ≡ n = cc in
+    ap (λ (k : ℕ). Some k) same)
     (λ n e. let same : c.in-Ok.number ≡ n = cc in record { word = ap decimal (sym same) ∙ text; low = omega (arith, same, c.if-most-number.false) })
