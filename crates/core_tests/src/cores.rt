@@ -48,8 +48,8 @@ fn three_gates(rt: &impl Abort, alloc: Global) -> Result<ValidDesc, Fail>
     described(rt, alloc, &clocks, 1)
 }
 
-// Whether a call names clocks of the description alone.
-fn is_placed(core: &Core<Noting>, what: &Sleeping) -> bool
+/// Whether a call names clocks of the description alone. No other call than these is asked of.
+pub(crate) fn is_placed<B: Bank>(core: &Core<B>, what: &Sleeping) -> bool
     ensures { result ≡ true → IsPlaced core.now.start.defs what.now }
 {
     match what {

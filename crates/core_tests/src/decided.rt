@@ -6,6 +6,7 @@ ghost use Rattle.std.specs.Prelude.{◌≡◌, IfOk};
 mod counting;
 
 use crate::clocks::{Given, described_with};
+use crate::cores::is_placed;
 use bitflags::Flags;
 use clk_base::{ClkFlags, ClockId, Handle, Kind, Pause, Place, Sleeping, Turn, ValidDesc};
 use clk_machine::Core;
@@ -55,7 +56,7 @@ fn divided(rt: &impl Abort, alloc: Global, flags: ClkFlags) -> Result<ValidDesc,
 
 // A call of driver 1 that is answered at once.
 fn call(rt: &impl Abort, core: &mut Core<Counting>, what: Sleeping) -> Result<(), Fail> {
-    assert!(rt; core.credits_left() > 0 && core.quiet() && core.desc().len() == 2);
+    assert!(rt; core.credits_left() > 0 && core.quiet() && is_placed(core, &what));
     let turn = core.begin(1, &what)?;
     assert!(rt; matches!(turn, Turn::Done(_)));
     Ok(())
@@ -81,6 +82,7 @@ fn requested(
     assert!(rt; core.credits_left() > 0 && core.quiet());
     let copy = core.prep_copy()?;
     let decision = copy.decide(rt, 1, &what, &candidates)?;
+    assert!(rt; core.credits_left() > 0 && core.quiet());
     reads.set(0);
     let turn = core.begin_as(1, &what, decision)?;
     assert!(rt; turn == Turn::Going);
