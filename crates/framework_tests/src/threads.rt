@@ -8,7 +8,7 @@ use clk_base::{
     Sleeping, ValidDesc,
 };
 use clk_framework::{Driver, Framework, Unnamed};
-use reg_bank::MemBank;
+use reg_bank::{Bank, MemBank};
 use std::alloc::Global;
 use std::marker::{Brand, PhantomData};
 use std::process::Abort;
@@ -29,17 +29,17 @@ const NOBODYS: Handle = Handle {
 
 /// A driver of the framework that N names, between two calls.
 #[derive(Drop)]
-pub struct Worker<N: Named> {
-    driver: Driver<MemBank>,
+pub struct Worker<B: Bank, N: Named> {
+    driver: Driver<B>,
     /// How many of its calls were answered as they have to be.
     answered: u32,
     of: PhantomData<N>,
     ghost ready: { IsReady N.table driver },
 }
 
-impl<N: Named> Worker<N> {
+impl<B: Bank, N: Named> Worker<B, N> {
     // One call: each tenth is a sleeping one.
-    fn call<R: Wait + Sync>(&mut self, rt: &R, framework: &Framework<MemBank, N>, round: u32) {
+    fn call<R: Wait + Sync>(&mut self, rt: &R, framework: &Framework<B, N>, round: u32) {
         if self.driver.room() == 0 || self.answered >= ROUNDS {
             return;
         }
@@ -55,17 +55,17 @@ impl<N: Named> Worker<N> {
 }
 
 // All calls of one driver.
-fn work<N: Named, R: Wait + Sync>(
+fn work<B: Bank, N: Named, R: Wait + Sync>(
     rt: &R,
-    framework: &Framework<MemBank, N>,
-    worker: &mut Worker<N>,
+    framework: &Framework<B, N>,
+    worker: &mut Worker<B, N>,
 ) {
     for round in 0..ROUNDS {
         worker.call(rt, framework, round);
     }
 }
 
-fn make_worker<N: Named>(driver: Driver<MemBank>) -> Worker<N>
+fn make_worker<B: Bank, N: Named>(driver: Driver<B>) -> Worker<B, N>
     requires { IsReady N.table driver }
 {
     Worker {
@@ -76,28 +76,28 @@ fn make_worker<N: Named>(driver: Driver<MemBank>) -> Worker<N>
 }
 
 // Three drivers work side by side.
-fn drive<N: Named + Send + Sync, R: Threads + Wait + Sync>(
+fn drive<B: Bank + Send + Sync, N: Named + Send + Sync, R: Threads + Wait + Sync>(
     rt: &R,
     alloc: Global,
-    unnamed: Unnamed<MemBank>,
-    boot: &mut Driver<MemBank>,
+    unnamed: Unnamed<B>,
+    boot: &mut Driver<B>,
 ) -> Result<u32, Fail>
     requires named { unnamed.lock.table ≡ N.table }
     requires ready { IsReady N.table boot.old }
     requires first { (boot.old.number ≡ 0) × (boot.old.made ≡ 1) }
     requires room { 600 ≤ boot.old.room }
 {
-    let framework = Framework::<MemBank, N>::of(unnamed);
+    let framework = Framework::<B, N>::of(unnamed);
     let mut workers = Vec::with_capacity(alloc, 3)?;
-    workers.push(make_worker::<N>(framework.driver(boot, ROUNDS)))?;
-    workers.push(make_worker::<N>(framework.driver(boot, ROUNDS)))?;
-    workers.push(make_worker::<N>(framework.driver(boot, ROUNDS)))?;
+    workers.push(make_worker::<B, N>(framework.driver(boot, ROUNDS)))?;
+    workers.push(make_worker::<B, N>(framework.driver(boot, ROUNDS)))?;
+    workers.push(make_worker::<B, N>(framework.driver(boot, ROUNDS)))?;
     let shared = &framework;
     thread::for_each_mut(
         rt,
         workers.as_mut_slice(),
         3,
-        &|_, worker: &mut Worker<N>| work(rt, shared, worker),
+        &|_, worker: &mut Worker<B, N>| work(rt, shared, worker),
     );
     let mut answered = 0u32;
     for worker in &workers {
@@ -127,7 +127,7 @@ fn drivers_are_answered_side_by_side(rt: HostRuntime) -> Result<(), Fail> {
     let desc = one_clock(&rt, rt.alloc())?;
     let bank = MemBank::new(rt.alloc())?;
     let (unnamed, mut boot) = Unnamed::create(rt.alloc(), desc, bank, &[0], false, 1_000)?;
-    let answered = drive::<Brand, HostRuntime>(&rt, rt.alloc(), unnamed, &mut boot)?;
+    let answered = drive::<MemBank, Brand, HostRuntime>(&rt, rt.alloc(), unnamed, &mut boot)?;
     assert_eq!(rt; answered, 600);
     Ok(())
 }
