@@ -58,7 +58,8 @@ pub(crate) fn is_placed<B: Bank>(core: &Core<B>, what: &Sleeping) -> bool
         Sleeping::Get(None)
         | Sleeping::Prepare(_)
         | Sleeping::Unprepare(_)
-        | Sleeping::GetRate(_) => true,
+        | Sleeping::GetRate(_)
+        | Sleeping::SetRate(_, _) => true,
         _ => false,
     }
 }

@@ -1,7 +1,9 @@
 //! A call that was decided over a copy rounds nothing in its own turn: it reads as many words of the bank,
 //! however many rates were rounded for it.
 
-ghost use Rattle.std.specs.Prelude.{◌≡◌, IfOk};
+ghost use Rattle.std.specs.Prelude.{◌≡◌, true, IfOk};
+ghost use Rattle.clk_machine.specs.Copied.{IsDecided};
+ghost use Rattle.clk_machine.specs.Run.{now_of};
 
 mod counting;
 
@@ -9,7 +11,8 @@ use crate::clocks::{Given, described_with};
 use crate::cores::is_placed;
 use bitflags::Flags;
 use clk_base::{ClkFlags, ClockId, Handle, Kind, Pause, Place, Sleeping, Turn, ValidDesc};
-use clk_machine::Core;
+use clk_io::NoMemory;
+use clk_machine::{Core, Decision};
 use counting::Counting;
 use std::alloc::Global;
 use std::cell::Cell;
@@ -62,6 +65,19 @@ fn call(rt: &impl Abort, core: &mut Core<Counting>, what: Sleeping) -> Result<()
     Ok(())
 }
 
+// A call of driver 1 begins as it was decided.
+fn begin_decided(
+    rt: &impl Abort,
+    core: &mut Core<Counting>,
+    what: &Sleeping,
+    decision: Decision,
+) -> Result<Turn, NoMemory>
+    requires { core.old.told ≡ true → IsDecided (now_of core.old) 1 what.now decision }
+{
+    assert!(rt; core.credits_left() > 0 && core.quiet() && is_placed(core, what));
+    core.begin_as(1, what, decision)
+}
+
 // The candidates that are rounded for a request of the divider, and the words that are read in its turn.
 fn requested(
     rt: &(impl Abort + Wait + Sync),
@@ -79,12 +95,11 @@ fn requested(
         count: Cell::new(0),
     };
     let what = Sleeping::SetRate(FIRST, 17);
-    assert!(rt; core.credits_left() > 0 && core.quiet());
+    assert!(rt; core.quiet());
     let copy = core.prep_copy()?;
     let decision = copy.decide(rt, 1, &what, &candidates)?;
-    assert!(rt; core.credits_left() > 0 && core.quiet());
     reads.set(0);
-    let turn = core.begin_as(1, &what, decision)?;
+    let turn = begin_decided(rt, &mut core, &what, decision)?;
     assert!(rt; turn == Turn::Going);
     Ok((candidates.count.get(), reads.get()))
 }
