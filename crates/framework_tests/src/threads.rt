@@ -75,6 +75,16 @@ fn make_worker<B: Bank, N: Named>(driver: Driver<B>) -> Worker<B, N>
     }
 }
 
+// All drivers work, each in a piece of its own.
+fn work_all<B: Bank + Send + Sync, N: Named + Send + Sync, R: Threads + Wait + Sync>(
+    rt: &R,
+    framework: &Framework<B, N>,
+    workers: &mut [Worker<B, N>],
+) {
+    let run = |_: usize, worker: &mut Worker<B, N>| work(rt, framework, worker);
+    thread::for_each_mut(rt, workers, 3, &run);
+}
+
 // Three drivers work side by side.
 fn drive<B: Bank + Send + Sync, N: Named + Send + Sync, R: Threads + Wait + Sync>(
     rt: &R,
@@ -92,13 +102,7 @@ fn drive<B: Bank + Send + Sync, N: Named + Send + Sync, R: Threads + Wait + Sync
     workers.push(make_worker::<B, N>(framework.driver(boot, ROUNDS)))?;
     workers.push(make_worker::<B, N>(framework.driver(boot, ROUNDS)))?;
     workers.push(make_worker::<B, N>(framework.driver(boot, ROUNDS)))?;
-    let shared = &framework;
-    thread::for_each_mut(
-        rt,
-        workers.as_mut_slice(),
-        3,
-        &|_, worker: &mut Worker<B, N>| work(rt, shared, worker),
-    );
+    work_all(rt, &framework, workers.as_mut_slice());
     let mut answered = 0u32;
     for worker in &workers {
         answered = answered.saturating_add(worker.answered);
