@@ -2,7 +2,8 @@
 
 ghost use Rattle.std.specs.Prelude.{◌+◌, ◌<◌, ◌^◌, length, IfOk, IfErr};
 ghost use Rattle.bundle_text.specs.Faults.{Tells};
-ghost use Rattle.clk_base.specs.Description.{EachClock};
+ghost use Rattle.clk_base.specs.Description.{name_of, EachClock};
+ghost use Rattle.bundle_text.specs.Names.{is_clock_name};
 ghost use Rattle.clk_base.specs.Valid.{has_its_parents};
 ghost use Rattle.bundle_clocks.specs.Said.{said_clocks};
 ghost use Rattle.bundle_clocks.specs.Verdict.{LinesSay, RefusesIn};
@@ -24,6 +25,7 @@ pub(crate) fn read_line_form(
     requires few { length lines.now + 1 < 2 ^ 32 }
     ensures said { IfOk result (λ part. LinesSay lines.now section (said_clocks part)) }
     ensures parents { IfOk result (λ part. EachClock part.desc (has_its_parents part.desc)) }
+    ensures names { IfOk result (λ part. EachClock part.desc (λ c. is_clock_name (name_of part.desc c))) }
     ensures fault { IfErr result (Tells (RefusesIn ClockText.Lines lines.now section)) }
 {
     let list = read_clocks(alloc, lines, section.place + 1, section.end)?;

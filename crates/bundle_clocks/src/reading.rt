@@ -1,7 +1,8 @@
 //! From a section to its clocks.
 
 ghost use Rattle.std.specs.Prelude.{◌+◌, ◌<◌, ◌≤◌, ◌^◌, length, IfOk, IfErr};
-ghost use Rattle.clk_base.specs.Description.{EachClock};
+ghost use Rattle.clk_base.specs.Description.{name_of, EachClock};
+ghost use Rattle.bundle_text.specs.Names.{is_clock_name};
 ghost use Rattle.clk_base.specs.Valid.{has_its_parents};
 ghost use Rattle.bundle_sections.specs.Verdict.{IsText};
 ghost use Rattle.bundle_text.specs.Faults.{Tells};
@@ -30,6 +31,7 @@ pub fn read_clocks_part(
     requires room { length (text_of_lines lines.now) ≤ MOST_BYTES + 1 }
     ensures said { IfOk result (λ part. Says lines.now section (said_clocks part)) }
     ensures parents { IfOk result (λ part. EachClock part.desc (has_its_parents part.desc)) }
+    ensures names { IfOk result (λ part. EachClock part.desc (λ c. is_clock_name (name_of part.desc c))) }
     ensures fault { IfErr result (Tells (Refuses lines.now section)) }
 {
     match section.text {

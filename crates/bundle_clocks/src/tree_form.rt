@@ -1,7 +1,8 @@
 //! The clocks as a device tree source.
 
 ghost use Rattle.std.specs.Prelude.{◌≡◌, ◌+◌, ◌<◌, ◌≤◌, ◌^◌, length, IfOk, IfErr};
-ghost use Rattle.clk_base.specs.Description.{EachClock};
+ghost use Rattle.clk_base.specs.Description.{name_of, EachClock};
+ghost use Rattle.bundle_text.specs.Names.{is_clock_name};
 ghost use Rattle.clk_base.specs.Valid.{has_its_parents};
 ghost use Rattle.dts_tree.specs.Tree.{seen};
 ghost use Rattle.bundle_sections.specs.Verdict.{IsText};
@@ -48,6 +49,7 @@ fn read_source(alloc: Global, source: &str, first: u32) -> Result<ClocksPart, Bu
     requires { length source.now ≤ MOST_BYTES }
     ensures said { IfOk result (λ part. TreeSays first source.now (said_clocks part)) }
     ensures parents { IfOk result (λ part. EachClock part.desc (has_its_parents part.desc)) }
+    ensures names { IfOk result (λ part. EachClock part.desc (λ c. is_clock_name (name_of part.desc c))) }
     ensures fault { IfErr result (Tells (SourceRefused first source.now)) }
 {
     let tree = read_tree(alloc, source, first)?;
@@ -76,6 +78,7 @@ pub(crate) fn read_tree_form(
     requires room { length (text_of_lines lines.now) ≤ MOST_BYTES + 1 }
     ensures said { IfOk result (λ part. TreeSays (section.place + 2) (source_of lines.now section) (said_clocks part)) }
     ensures parents { IfOk result (λ part. EachClock part.desc (has_its_parents part.desc)) }
+    ensures names { IfOk result (λ part. EachClock part.desc (λ c. is_clock_name (name_of part.desc c))) }
     ensures fault { IfErr result (Tells (SourceRefused (section.place + 2) (source_of lines.now section))) }
 {
     let source = source_of(alloc, lines, section)?;

@@ -5,5 +5,6 @@ pub mod Descending
 pub mod PlanWalks
 pub mod Whole
 pub mod Weighing
+pub mod Made
 pub mod Plain
 pub mod Leading

@@ -13,6 +13,7 @@ use Rattle.clk_base.specs.Levels.{depth}
 use Rattle.clk_base.proofs.Valid.{length-valid}
 use Rattle.kind_math.specs.Choices.{greatest_of}
 use Rattle.clk_model.specs.declared.row.ClockRow.{ClockRow}
+use Rattle.clk_model.specs.Begin.{most_notifiers}
 use Rattle.clk_model.specs.Chain.{clock_id, moves, place_of}
 use Rattle.clk_model.specs.Holders.{prepared}
 use Rattle.clk_model.specs.Laws.Plans.{clocks_in}
@@ -30,10 +31,15 @@ use Rattle.clk_tree.specs.TreeState.{TreeState}
 use Rattle.clk_tree.proofs.PllTables.{few_plls, fold_max_most}
 use Rattle.notifiers.specs.declared.notifier.Notifier.{Notifier}
 use Rattle.notifiers.specs.Chains.{Tells, row_on}
-use Rattle.change_walk.specs.Given.{HasFewNotifiers, changed_in, extra_of, planned_by, settles, weight_of}
+use Rattle.change_walk.specs.Given.{all_changed, changed_in, extra_of, planned_by, settles, weight_of}
+use Rattle.change_walk.specs.Steps.{brought_by, told_by, weighed_with}
 use Rattle.change_walk.specs.Tellings.{notifiers_at}
 use Rattle.change_walk.specs.Weights.{step_weight}
-use Rattle.change_walk.proofs.Whole.{Fits, changing_there, ordered, rates_of_change, visit_of, walk_there, wired}
+use Rattle.change_walk.proofs.Whole.{Fits, changing_there, ordered, over_prepared, rates_of_change, steps_over, visit_of, walk_there, wired}
+
+-- no clock has more notifiers than it may have
+abbrev pub HasFewNotifiers : State → Type 0
+HasFewNotifiers s = (c : ℕ) → length (notifiers_of s.notifiers c) ≤ most_notifiers
 
 -- ---- the same weights
 
@@ -155,10 +161,10 @@ moves_weigh s held c (k ∷ ks) few once =
           let all = sum_by-append (weight s) (option_map_or (move s.defs s.clocks held c) k.parent []) [] in
           omega arith
 
-visit_weighs : (s : State) (plan : Plan) (c : ℕ) → HasFewNotifiers s → none_twice (clocks_in plan.chain) ≡ true → sum_by (weight s) (visit_of s.defs s.clocks (prepared s) plan c) ≤ 4096
-visit_weighs s plan c few once =
-    let both = sum_by-append (weight s) (move_of s.defs s.clocks (prepared s) plan.chain c) (micro.Visit (clock_id c) ∷ []) in
-    let moved = moves_weigh s (prepared s) c plan.chain (plls_few s.defs) once in
+visit_weighs : (s : State) (held : ℕ → Bool) (plan : Plan) (c : ℕ) → HasFewNotifiers s → none_twice (clocks_in plan.chain) ≡ true → sum_by (weight s) (visit_of s.defs s.clocks held plan c) ≤ 4096
+visit_weighs s held plan c few once =
+    let both = sum_by-append (weight s) (move_of s.defs s.clocks held plan.chain c) (micro.Visit (clock_id c) ∷ []) in
+    let moved = moves_weigh s held c plan.chain (plls_few s.defs) once in
     let told = few c in
     omega arith
 
@@ -190,26 +196,25 @@ three_parts w t told off on_ end n a b c d few one =
       middle true = omega arith
       middle false = let both = sum_by-append w on_ end in omega arith
 
-pub changing_few : (words : ℕ) (s : State) (t : TreeState) (held : ℕ → Bool) (lists : List (List Notifier)) (plan : Plan) → Fits words s t held lists plan
+pub changing_few : (words : ℕ) (s : State) (t : TreeState) (lists : List (List Notifier)) (plan : Plan) → Fits words s t lists plan
     → (length (walk s.order (wiring s) plan.chain) ≤ 4096) × (length (changing s.order (wiring s) plan.chain) ≤ 4096)
-changing_few words s t held lists plan fits =
-    let laws = walks_list words s.order (wiring s) fits.planned.clock plan.chain (wired words s t held lists plan fits) (ordered words s t held lists plan fits) fits.planned.leads in
+changing_few words s t lists plan fits =
+    let laws = walks_list words s.order (wiring s) fits.planned.clock plan.chain (wired words s t lists plan fits) (ordered words s t lists plan fits) fits.planned.leads in
     let most = length-valid words t.defs fits.valid in
-    let walked = few_once (walk s.order (wiring s) plan.chain) (length t.defs) laws.0.once (walk_there words s t held lists plan fits) in
-    let changed = few_once (changing s.order (wiring s) plan.chain) (length t.defs) laws.1.once (changing_there words s t held lists plan fits) in
+    let walked = few_once (walk s.order (wiring s) plan.chain) (length t.defs) laws.0.once (walk_there words s t lists plan fits) in
+    let changed = few_once (changing s.order (wiring s) plan.chain) (length t.defs) laws.1.once (changing_there words s t lists plan fits) in
     (omega arith, omega arith)
 
-steps_few : (words : ℕ) (s : State) (t : TreeState) (held : ℕ → Bool) (lists : List (List Notifier)) (plan : Plan) → Fits words s t held lists plan → HasFewNotifiers s
-    → sum_by (weight s) (planned_by s plan).steps ≤ 33554434
-unfolding planned
-steps_few words s t held lists plan fits few =
+steps_few : (words : ℕ) (s : State) (t : TreeState) (lists : List (List Notifier)) (plan : Plan) → Fits words s t lists plan → HasFewNotifiers s → (held : ℕ → Bool)
+    → sum_by (weight s) (steps_over s held plan) ≤ 33554434
+steps_few words s t lists plan fits few held =
     let rates : Rates = rates_of_change s plan in
     let cs : List ℕ = changing s.order (wiring s) plan.chain in
-    let counts = changing_few words s t held lists plan fits in
+    let counts = changing_few words s t lists plan fits in
     let walk_count = counts.0 in
-    let walked = sum_each (weight s) (visit_of s.defs s.clocks (prepared s) plan) (walk s.order (wiring s) plan.chain) (λ c. visit_weighs s plan c few fits.planned.leads.once) in
+    let walked = sum_each (weight s) (visit_of s.defs s.clocks held plan) (walk s.order (wiring s) plan.chain) (λ c. visit_weighs s held plan c few fits.planned.leads.once) in
     three_parts (weight s) (list_any is_veto (pre_list rates s.notifiers cs)) (pre_list rates s.notifiers cs) (abort_list rates s.notifiers cs)
-    (flat_map (visit_of s.defs s.clocks (prepared s) plan) (walk s.order (wiring s) plan.chain)) (settles plan.set_parent plan.chain) (length cs)
+    (flat_map (visit_of s.defs s.clocks held plan) (walk s.order (wiring s) plan.chain)) (settles plan.set_parent plan.chain) (length cs)
     (sum_each (weight s) (λ c. until_veto rates c (notifiers_of s.notifiers c)) cs (λ c. let here = before_weighs s rates c (notifiers_of s.notifiers c) in let most = few c in omega arith))
     (sum_each (weight s) (λ c. map (λ n. micro.Notify notice.Abort (clock_id c) n.id (slice_index rates.before c) (slice_index rates.outcome c)) (notifiers_of s.notifiers c)) cs
     (λ c. let here = off_weighs s rates c (notifiers_of s.notifiers c) in let most = few c in omega arith))
@@ -217,41 +222,31 @@ steps_few words s t held lists plan fits few =
     (end_weighs s plan.set_parent plan.chain)
     counts.1 refl
 
-extra_few : (words : ℕ) (s : State) (t : TreeState) (held : ℕ → Bool) (lists : List (List Notifier)) (plan : Plan) → Fits words s t held lists plan → HasFewNotifiers s
+extra_few : (words : ℕ) (s : State) (t : TreeState) (lists : List (List Notifier)) (plan : Plan) → Fits words s t lists plan → HasFewNotifiers s
     → notices_of s (changing s.order (wiring s) plan.chain) ≤ 16777216
-extra_few words s t held lists plan fits few =
-    let counts = changing_few words s t held lists plan fits in
+extra_few words s t lists plan fits few =
+    let counts = changing_few words s t lists plan fits in
     let most = counts.1 in
     let told = notices_few s (changing s.order (wiring s) plan.chain) few in
     omega arith
 
-cut_small : (n m : ℕ) → n ≤ m → min n m ≡ n
-cut_small n m less = omega arith
+-- ---- whatever tells which clocks are prepared
 
--- the notices of a timeout are few, so they fit
-pub extra_fits : (words : ℕ) (s : State) (t : TreeState) (held : ℕ → Bool) (lists : List (List Notifier)) (plan : Plan) → Fits words s t held lists plan → HasFewNotifiers s
-    → cond (plan.set_parent && list_any is_raise (planned_by s plan).steps) (min (sum_by (λ x. length (notifiers_at lists x)) (map (changed_in s plan.chain) (changing s.order (wiring s) plan.chain))) (2 ^ 64 - 1)) 0
-    ≡ extra_of s plan
-unfolding planned
-extra_fits words s t held lists plan fits few =
-    let cs : List ℕ = changing s.order (wiring s) plan.chain in
-    let most = extra_few words s t held lists plan fits few in
-    ap (λ (n : ℕ). cond (plan.set_parent && list_any is_raise (planned_by s plan).steps) n 0)
-    (ap (λ (n : ℕ). min n (2 ^ 64 - 1)) (notices_count s plan.chain lists fits.told.notifiers cs) ∙ cut_small (notices_of s cs) (2 ^ 64 - 1) (omega arith))
-
-extra_small : (words : ℕ) (s : State) (t : TreeState) (held : ℕ → Bool) (lists : List (List Notifier)) (plan : Plan) → Fits words s t held lists plan → HasFewNotifiers s → extra_of s plan ≤ 16777216
-unfolding planned
-extra_small words s t held lists plan fits few = one (plan.set_parent && list_any is_raise (planned_by s plan).steps) where
-  one : (t' : Bool) → cond t' (notices_of s (changing s.order (wiring s) plan.chain)) 0 ≤ 16777216
-  one true = extra_few words s t held lists plan fits few
+-- so nothing that a timeout may bring is cut
+pub brought_whole : (words : ℕ) (s : State) (t : TreeState) (lists : List (List Notifier)) (plan : Plan) → Fits words s t lists plan → HasFewNotifiers s → (steps : List Micro)
+    → brought_by lists plan (all_changed s plan.chain) steps ≤ 16777216
+brought_whole words s t lists plan fits few steps = one (plan.set_parent && list_any is_raise steps) where
+  one : (t' : Bool) → cond t' (told_by lists (all_changed s plan.chain)) 0 ≤ 16777216
+  one true =
+      let most = extra_few words s t lists plan fits few in
+      let same = notices_count s plan.chain lists fits.told.notifiers (changing s.order (wiring s) plan.chain) in
+      omega arith
   one false = omega arith
 
--- what a script weighs fits in 64 bits
-pub weight_fits : (words : ℕ) (s : State) (t : TreeState) (held : ℕ → Bool) (lists : List (List Notifier)) (plan : Plan) → Fits words s t held lists plan → HasFewNotifiers s
-    → (k : ℕ) → k ≡ plls s.defs → min (min (sum_by (step_weight k lists) (planned_by s plan).steps) (2 ^ 64 - 1) + extra_of s plan) (2 ^ 64 - 1) ≡ weight_of s plan
-weight_fits words s t held lists plan fits few k most =
-    let steps = steps_few words s t held lists plan fits few in
-    let extra = extra_small words s t held lists plan fits few in
-    ap (λ (n : ℕ). min (min n (2 ^ 64 - 1) + extra_of s plan) (2 ^ 64 - 1)) (steps_weigh s k lists (planned_by s plan).steps most fits.told.notifiers)
-    ∙ ap (λ (n : ℕ). min (n + extra_of s plan) (2 ^ 64 - 1)) (cut_small (sum_by (weight s) (planned_by s plan).steps) (2 ^ 64 - 1) (omega arith))
-    ∙ cut_small (sum_by (weight s) (planned_by s plan).steps + extra_of s plan) (2 ^ 64 - 1) (omega arith)
+-- and nothing that the steps weigh
+pub weighed_whole : (words : ℕ) (s : State) (t : TreeState) (lists : List (List Notifier)) (plan : Plan) → Fits words s t lists plan → HasFewNotifiers s → (held : ℕ → Bool)
+    → (extra : ℕ) → extra ≤ 16777216 → weighed_with t lists (steps_over s held plan) extra ≤ 50331650
+weighed_whole words s t lists plan fits few held extra small =
+    let steps = steps_few words s t lists plan fits few held in
+    let same = steps_weigh s (plls t.defs) lists (steps_over s held plan) (ap plls (sym fits.told.defs)) fits.told.notifiers in
+    omega arith

@@ -1,5 +1,5 @@
 -- The steps of a walk in code.
-use Rattle.std.specs.Prelude.{◌≡◌, ℕ, ◌+◌, ◌-◌, ◌^◌, ◌++◌, ◌&&◌, List, [], ◌∷◌, Bool, if◌then◌else◌, flat_map, length, min, option_map, sum_by}
+use Rattle.std.specs.Prelude.{◌≡◌, ℕ, ◌+◌, ◌-◌, ◌^◌, ◌++◌, ◌&&◌, List, [], ◌∷◌, Bool, if◌then◌else◌, flat_map, length, min, slice_index, sum_by}
 use Rattle.std.specs.List.{list_any}
 use Rattle.std.specs.Option.{option_map_or}
 use Rattle.clk_base.specs.declared.call.Micro.{Micro}
@@ -17,7 +17,8 @@ use Rattle.clk_tree.specs.Plans.{ClockRate}
 use Rattle.clk_tree.specs.TreeState.{TreeState}
 use Rattle.notifiers.specs.declared.notifier.Notifier.{Notifier}
 use Rattle.change_walk.specs.declared.changes.Changed.{Changed}
-use Rattle.change_walk.specs.Given.{Script, settles}
+use Rattle.change_walk.specs.Changes.{changed_along, parent_after}
+use Rattle.change_walk.specs.Given.{OfTree, Script, all_changed, settles}
 use Rattle.change_walk.specs.Tellings.{notifiers_at, tell_before, tell_off}
 use Rattle.change_walk.specs.Weights.{step_weight}
 
@@ -49,11 +50,26 @@ pub record IsToldAs (notifiers : List (List Notifier)) (some others : List Chang
   pub off : flat_map (λ x. tell_off x (notifiers_at notifiers x)) some ≡ flat_map (λ x. tell_off x (notifiers_at notifiers x)) others
   pub count : told_by notifiers some ≡ told_by notifiers others
 
--- a script is made of a plan, of which clocks are prepared, and of the notices to the notifiers of some clocks; numbers are cut at the
--- greatest of 64 bits
+-- the clocks that a plan changes, told from the kept rates of a tree and from the rates of the plan's walk
+abbrev pub changed_by : TreeState → Plan → List Changed
+changed_by t plan = changed_along (parent_after t.clocks plan.chain) (slice_index t.rates) [] plan.rates
+
+-- what a timeout may bring, where these steps are made
+abbrev pub brought_by : List (List Notifier) → Plan → List Changed → List Micro → ℕ
+brought_by notifiers plan changed steps = if plan.set_parent && list_any is_raise steps then told_by notifiers changed else 0
+
+-- what steps weigh, where they may bring so many notices
+abbrev pub weighed_with : TreeState → List (List Notifier) → List Micro → ℕ → ℕ
+weighed_with t notifiers steps extra = sum_by (step_weight (plls t.defs) notifiers) steps + extra
+
+-- a script is made of a plan, of which clocks are prepared, and of the notices to the notifiers of the clocks that the plan changes
 pub record IsMadeOf (t : TreeState) (prepared : ℕ → Bool) (notifiers : List (List Notifier)) (plan : Plan) (script : Script) : Type 0 where
-  pub changed : List Changed
-  pub steps : script.steps ≡ steps_for t prepared notifiers plan changed
-  pub vetoed : script.vetoed ≡ list_any is_veto (flat_map (λ x. tell_before x (notifiers_at notifiers x)) changed)
-  pub extra : script.extra ≡ (if plan.set_parent && list_any is_raise script.steps then min (told_by notifiers changed) (2 ^ 64 - 1) else 0)
-  pub weight : script.weight ≡ min (sum_by (step_weight (plls t.defs) notifiers) script.steps + script.extra) (2 ^ 64 - 1)
+  pub steps : script.steps ≡ steps_for t prepared notifiers plan (changed_by t plan)
+  pub vetoed : script.vetoed ≡ list_any is_veto (flat_map (λ x. tell_before x (notifiers_at notifiers x)) (changed_by t plan))
+  -- numbers are cut at the greatest of 64 bits
+  pub extra : script.extra ≡ min (brought_by notifiers plan (changed_by t plan) script.steps) (2 ^ 64 - 1)
+  pub weight : script.weight ≡ min (weighed_with t notifiers script.steps script.extra) (2 ^ 64 - 1)
+  -- of each state that the tree is of, and that it is a plan for, they are the clocks that the definitions call changing, and no number is cut
+  pub changing : OfTree t notifiers plan (λ s. changed_by t plan ≡ all_changed s plan.chain)
+  pub extra_whole : OfTree t notifiers plan (λ s. script.extra ≡ brought_by notifiers plan (changed_by t plan) script.steps)
+  pub weight_whole : OfTree t notifiers plan (λ s. script.weight ≡ weighed_with t notifiers script.steps script.extra)

@@ -142,7 +142,7 @@ pub(crate) fn visit_all<V: View>(
     rates: &[WalkRate],
 ) -> Result<(), NoMemory>
     requires made { desc.now.defs ≡ tree.now.defs }
-    requires seen { V.size view.now ≡ length tree.now.defs }
+    requires seen { length tree.now.defs ≤ V.size view.now }
     requires there { AreThere tree.now.clocks (rates_of rates.now) }
     ensures { IfOk result (λ done. steps.new.items ≡ steps.old.items ++ visits desc.now.defs tree.now.clocks (V.means view.now).prepared (chain_of chain.now) (rates_of rates.now)) }
 {

@@ -1,14 +1,13 @@
 //! The script of a plan.
 
-ghost use Rattle.std.specs.Prelude.{◌≡◌, ◌+◌, ◌^◌, ◌-◌, ◌<◌, ◌&&◌, ◌++◌, ◌∷◌, [], false, min, length, slice_index, sum_by, if◌then◌else◌, flat_map, IfOk, OnOk};
+ghost use Rattle.std.specs.Prelude.{◌≡◌, ◌+◌, ◌^◌, ◌-◌, ◌≤◌, ◌&&◌, ◌++◌, ◌∷◌, [], false, min, length, sum_by, if◌then◌else◌, flat_map, IfOk, OnOk};
 ghost use Rattle.std.specs.List.{list_any};
 ghost use Rattle.clk_base.specs.declared.call.Micro.TheVariants as micro;
 ghost use Rattle.clk_model.specs.Script.{is_raise};
 ghost use Rattle.clk_model.specs.Notices.{is_veto};
 ghost use Rattle.clk_tree.specs.Plans.{AreThere, chain_of, rates_of};
-ghost use Rattle.change_walk.specs.Changes.{changed_along, parent_after};
-ghost use Rattle.change_walk.specs.Given.{HasFewNotifiers, OfPlan, extra_of, planned_by, settles, weight_of};
-ghost use Rattle.change_walk.specs.Steps.{IsMadeOf, IsToldAs, steps_for};
+ghost use Rattle.change_walk.specs.Given.{OfPlan, extra_of, planned_by, settles, weight_of};
+ghost use Rattle.change_walk.specs.Steps.{IsMadeOf, IsToldAs, changed_by, steps_for};
 ghost use Rattle.change_walk.specs.Tellings.{has_notifiers, notifiers_at, tell_before};
 ghost use Rattle.change_walk.specs.Weights.{brings_notices, step_weight};
 
@@ -51,7 +50,7 @@ fn find_changed(
     plan: &Plan,
 ) -> Result<bool, NoMemory>
     requires there { AreThere tree.now.clocks plan.now.rates }
-    ensures told { OnOk result (IsToldAs notifiers.now changed.new.items (changed_along (parent_after tree.now.clocks plan.now.chain) (slice_index tree.now.rates) [] plan.now.rates)) }
+    ensures told { OnOk result (IsToldAs notifiers.now changed.new.items (changed_by tree.now plan.now)) }
     ensures tells { IfOk result (λ tells. tells ≡ list_any (λ r. has_notifiers notifiers.now r.clock) plan.now.rates) }
     ensures untold { IfOk result (λ tells. tells ≡ false → changed.new.items ≡ []) }
 {
@@ -77,7 +76,7 @@ fn make_steps<V: View>(
     changed: &[Changed],
 ) -> Result<bool, NoMemory>
     requires made { desc.now.defs ≡ tree.now.defs }
-    requires seen { V.size view.now ≡ length tree.now.defs }
+    requires seen { length tree.now.defs ≤ V.size view.now }
     requires there { AreThere tree.now.clocks plan.now.rates }
     ensures steps { IfOk result (λ vetoed. steps.new.items ≡ steps_for tree.now (V.means view.now).prepared notifiers.now plan.now changed.now) }
     ensures vetoed { IfOk result (λ vetoed. vetoed ≡ list_any is_veto (flat_map (λ x. tell_before x (notifiers_at notifiers.now x)) changed.now)) }
@@ -123,9 +122,9 @@ fn weigh_steps(notifiers: &Notifiers, plls: u32, steps: &[Micro], tells: bool) -
 /// visit, and of a change of parent the settling of its clock; and the end.
 ///
 /// It costs what the walk and the notices cost. Where memory runs out, what is left of the script says
-/// nothing. What it is made of is said of each plan; that it is the script of the definitions, of a plan
-/// from this tree, as planning gives it. What is said so of `extra` and `weight` is about clocks that
-/// have at most as many notifiers as `Notifiers` lets them have.
+/// nothing. What it is made of is said of each plan and each view; that it is the script of the
+/// definitions, of a plan from this tree, as planning gives it, and a view that tells which clocks a state
+/// holds prepared.
 pub fn script<V: View>(
     list: &mut StepList,
     desc: &ValidDesc,
@@ -135,15 +134,16 @@ pub fn script<V: View>(
     plan: &Plan,
 ) -> Result<(), NoMemory>
     requires made { desc.now.defs ≡ tree.now.defs }
-    requires seen { V.size view.now ≡ length tree.now.defs }
+    requires seen { length tree.now.defs ≤ V.size view.now }
     requires there { AreThere tree.now.clocks plan.now.rates }
     ensures steps { OnOk result (OfPlan tree.now (V.means view.now).prepared notifiers.now plan.now (λ s. list.new.steps ≡ (planned_by s plan.now).steps)) }
     ensures vetoed { OnOk result (OfPlan tree.now (V.means view.now).prepared notifiers.now plan.now (λ s. list.new.vetoed ≡ (planned_by s plan.now).vetoed)) }
-    ensures extra { OnOk result (OfPlan tree.now (V.means view.now).prepared notifiers.now plan.now (λ s. HasFewNotifiers s → list.new.extra ≡ extra_of s plan.now)) }
-    ensures weight { OnOk result (OfPlan tree.now (V.means view.now).prepared notifiers.now plan.now (λ s. HasFewNotifiers s → list.new.weight ≡ weight_of s plan.now)) }
+    ensures extra { OnOk result (OfPlan tree.now (V.means view.now).prepared notifiers.now plan.now (λ s. list.new.extra ≡ extra_of s plan.now)) }
+    ensures weight { OnOk result (OfPlan tree.now (V.means view.now).prepared notifiers.now plan.now (λ s. list.new.weight ≡ weight_of s plan.now)) }
     ensures made { OnOk result (IsMadeOf tree.now (V.means view.now).prepared notifiers.now plan.now list.new) }
 {
     let _size = desc.len();
+    let _chains = notifiers.len();
     let tells = find_changed(&mut list.passed, &mut list.changed, tree, notifiers, plan)?;
     list.vetoed = make_steps(
         &mut list.steps,

@@ -27,7 +27,7 @@ use Rattle.tier_lock.specs.Known.{KnownBaton}
 use Rattle.clk_framework.specs.declared.opened.Opened.{Opened}
 use Rattle.clk_framework.specs.Opening.{opened_of, start_of}
 use Rattle.clk_framework.specs.Tiers.{is_prepare_tier}
-use Rattle.clk_framework.specs.Calls.{DriverView, GoesOnWith, MakesNone, SeesRun, Steps, entry_of}
+use Rattle.clk_framework.specs.Calls.{DriverView, GoesOnWith, SeesOthers, SeesRun, Steps, entry_of}
 use Rattle.clk_framework.specs.Planning.{IsCopyAfter, IsMadeFor, IsRoomFor, KnowsDecision}
 use Rattle.clk_framework.proofs.Planned.{made_at}
 
@@ -107,7 +107,7 @@ pub lent_copy : (b : KnownBaton Entry Opened) (copy : Copy) (fixed : Option Open
 lent_copy b copy fixed log copied same adds = subst (λ (f : Option Opened). IsCopyAfter f log copy) (sym same) (copy_beside b.fixed b.seen log copy adds copied)
 
 -- or when the call wasn't made
-pub unmade_copy : (old new : DriverView) (copy : Copy) → IsCopyAfter old.fixed old.seen copy → MakesNone old new → AddsEnablesOnly is_prepare_tier old.seen new.seen → IsCopyAfter new.fixed new.seen copy
+pub unmade_copy : (old new : DriverView) (copy : Copy) → IsCopyAfter old.fixed old.seen copy → SeesOthers old new → AddsEnablesOnly is_prepare_tier old.seen new.seen → IsCopyAfter new.fixed new.seen copy
 unmade_copy old new copy copied none adds =
     subst (λ (f : Option Opened). IsCopyAfter f new.seen copy) (sym (ap (λ (d : DriverView). d.fixed) none.driver)) (copy_beside old.fixed old.seen new.seen copy adds copied)
 

@@ -8,6 +8,7 @@ ghost use Rattle.clk_model.specs.Journal.{cost};
 ghost use Rattle.clk_machine.specs.Copied.{Copies, IsDecided};
 ghost use Rattle.clk_machine.specs.Sound.{IsPlaced, takes_memory};
 ghost use Rattle.clk_machine.specs.Run.{Appends, StepsOn, in_flight, now_of};
+ghost use Rattle.clk_framework.specs.Lawful.{RunsByLaw};
 ghost use Rattle.clk_framework.specs.Opening.{opened_with, opened_of, start_of, AnswersPolls, Begins};
 ghost use Rattle.clk_framework.specs.Planning.{IsMadeFor};
 
@@ -80,6 +81,15 @@ impl<B: Bank> Kept for Kernel<B> {
     ghost costs_little = { λ e. elim (is_paid e.event) as (λ (b : Bool). cond b 1 0 ≤ 1) [ true ↦ Prim.omega arith | false ↦ Prim.omega arith ] };
 }
 
+// What a core tells of its journal.
+fn look_at<B: Bank>(core: &Core<B>)
+    ensures lawful { RunsByLaw core.now }
+    ensures polled { AnswersPolls core.now }
+{
+    let _ = core.journal();
+    let _ = core.quiet();
+}
+
 impl<B: Bank> Kernel<B> {
     // A core at its opening.
     pub(crate) fn create(
@@ -99,28 +109,45 @@ impl<B: Bank> Kernel<B> {
         Ok(Kernel { core, credits })
     }
 
+    // What the core tells of its journal.
+    pub(crate) fn look(&self)
+        ensures lawful { RunsByLaw self.now }
+        ensures opened { self.now.start ≡ start_of (opened_of self.now) }
+    {
+        look_at(&self.core);
+    }
+
     pub(crate) fn enable(&mut self, driver: u32, handle: Handle) -> Reply
         requires { cost self.old.journal < self.old.start.credits }
         ensures entry { Appends self.old driver (Enable handle.number) (Done result) self.new }
+        ensures lawful { RunsByLaw self.new }
         ensures opened { self.old.start ≡ start_of (opened_of self.old) }
     {
-        self.core.enable(driver, handle)
+        let reply = self.core.enable(driver, handle);
+        look_at(&self.core);
+        reply
     }
 
     pub(crate) fn disable(&mut self, driver: u32, handle: Handle) -> Reply
         requires { cost self.old.journal < self.old.start.credits }
         ensures entry { Appends self.old driver (Disable handle.number) (Done result) self.new }
+        ensures lawful { RunsByLaw self.new }
         ensures opened { self.old.start ≡ start_of (opened_of self.old) }
     {
-        self.core.disable(driver, handle)
+        let reply = self.core.disable(driver, handle);
+        look_at(&self.core);
+        reply
     }
 
     pub(crate) fn running(&mut self, driver: u32, handle: Handle) -> Reply
         requires { cost self.old.journal < self.old.start.credits }
         ensures entry { Appends self.old driver (Running handle.number) (Done result) self.new }
+        ensures lawful { RunsByLaw self.new }
         ensures opened { self.old.start ≡ start_of (opened_of self.old) }
     {
-        self.core.running(driver, handle)
+        let reply = self.core.running(driver, handle);
+        look_at(&self.core);
+        reply
     }
 
     // A call begins as it was decided, unless memory runs out.
@@ -137,9 +164,12 @@ impl<B: Bank> Kernel<B> {
         ensures ok { IfOk result (λ turn. Appends self.old driver (Begin what.now) turn self.new) }
         ensures err { OnErr result (self.new ≡ self.old) }
         ensures memory { takes_memory what.now ≡ false → IsOk result }
+        ensures lawful { RunsByLaw self.new }
         ensures opened { self.old.start ≡ start_of (opened_of self.old) }
     {
-        self.core.begin_as(driver, what, decision)
+        let begun = self.core.begin_as(driver, what, decision);
+        look_at(&self.core);
+        begun
     }
 
     // A copy of the prepare tier, unless memory runs out.
@@ -160,9 +190,11 @@ impl<B: Bank> Kernel<B> {
         requires { in_flight self.old.journal ≡ true }
         ensures made { StepsOn self.old result.turn self.new }
         ensures entry { self.new.journal ≡ self.old.journal ++ result ∷ [] }
+        ensures lawful { RunsByLaw self.new }
         ensures opened { self.old.start ≡ start_of (opened_of self.old) }
     {
         self.core.step();
+        look_at(&self.core);
         match self.core.journal().last() {
             Some(entry) => *entry,
             None => unreachable!(),
@@ -174,10 +206,10 @@ impl<B: Bank> Kernel<B> {
         ensures same { result ≡ self }
         ensures opened { self.start ≡ start_of (opened_of self) }
         ensures polled { AnswersPolls result }
+        ensures lawful { RunsByLaw result }
     {
         let Kernel { core, credits: _ } = self;
-        // What the journal tells of its polls.
-        let _ = core.journal();
+        look_at(&core);
         core
     }
 }

@@ -1,5 +1,5 @@
--- What a call does to a count of faults: one more at a fault of its own kind, and the same at every other answer.
-use Rattle.std.specs.Prelude.{◌≡◌, ℕ, ◌+◌, ◌-◌, ◌^◌, min, Result, MatchResult}
+-- What a call does to a count of faults: it never falls, and an answer that tells of a fault comes only if it rose.
+use Rattle.std.specs.Prelude.{ℕ, ◌+◌, ◌-◌, ◌^◌, ◌≤◌, ⊤, min, Result, IfErr}
 use Rattle.clk_io.specs.declared.faults.ReadFault.{ReadFault}
 use Rattle.clk_io.specs.declared.faults.ReadFault.TheVariants as reading
 use Rattle.clk_io.specs.declared.faults.PrintFault.{PrintFault}
@@ -9,29 +9,29 @@ use Rattle.clk_io.specs.declared.faults.PrintFault.TheVariants as printing
 abbrev pub counted : ℕ → ℕ
 counted n = min (n + 1) (2 ^ 64 - 1)
 
--- the count counted one more
+-- the count is higher than before, or stands at its last value
 abbrev pub Rose : ℕ → ℕ → Type 0
-Rose before now = now ≡ counted before
+Rose before now = counted before ≤ now
 
--- the count rises at a fault, and stands at a success
+-- a failure comes only if the count rose
 abbrev pub CountsFault : {T E : Type 0} → ℕ → ℕ → Result T E → Type 0
-CountsFault before now r = MatchResult r (λ _. now ≡ before) (λ _. Rose before now)
+CountsFault before now r = IfErr r (λ _. Rose before now)
 
--- the count rises where a read failed, and stands at the other faults of reading
+-- a read has failed only if the count rose
 abbrev pub RisesAtRead : ℕ → ℕ → ReadFault → Type 0
 RisesAtRead before now reading.Read = Rose before now
-RisesAtRead before now reading.TooLong = now ≡ before
-RisesAtRead before now reading.NoMemory = now ≡ before
+RisesAtRead before now reading.TooLong = ⊤
+RisesAtRead before now reading.NoMemory = ⊤
 
--- the count rises where a write failed, and stands where memory ran out
+-- a write has failed only if the count rose
 abbrev pub RisesAtWrite : ℕ → ℕ → PrintFault → Type 0
 RisesAtWrite before now printing.Write = Rose before now
-RisesAtWrite before now printing.NoMemory = now ≡ before
+RisesAtWrite before now printing.NoMemory = ⊤
 
--- a source's count rises where a read failed, and stands at every other answer
+-- the answer that a read failed comes only if the source's count rose
 abbrev pub CountsReadFault : {T : Type 0} → ℕ → ℕ → Result T ReadFault → Type 0
-CountsReadFault before now r = MatchResult r (λ _. now ≡ before) (RisesAtRead before now)
+CountsReadFault before now r = IfErr r (RisesAtRead before now)
 
--- a sink's count rises where a write failed, and stands at every other answer
+-- the answer that a write failed comes only if the sink's count rose
 abbrev pub CountsPrintFault : {T : Type 0} → ℕ → ℕ → Result T PrintFault → Type 0
-CountsPrintFault before now r = MatchResult r (λ _. now ≡ before) (RisesAtWrite before now)
+CountsPrintFault before now r = IfErr r (RisesAtWrite before now)

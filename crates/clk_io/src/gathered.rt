@@ -2,7 +2,7 @@
 
 ghost use Rattle.std.specs.Prelude.{◌≡◌, ◌+◌, ◌<◌, ◌≤◌, ◌++◌, [], Err, OnOk, length, is_some};
 ghost use Rattle.clk_io.specs.Counts.{CountsFault, CountsPrintFault};
-ghost use Rattle.clk_io.specs.Gathers.{Gathers};
+ghost use Rattle.clk_io.specs.Gathers.{Gathers, short_of_piece};
 ghost use Rattle.clk_io.specs.Prints.{Prints};
 
 use crate::faults::{PrintFault, WriteFault};
@@ -51,6 +51,9 @@ impl Gathered {
         // The sink isn't called before a piece has been gathered.
         ensures waits { length self.old + length text.now < PIECE_BYTES → out.new ≡ out.old }
         ensures few { OnOk result (length self.new < PIECE_BYTES) }
+
+        // Whatever the sink tells, less than a piece stays gathered whole, and a piece is written whole.
+        ensures stays { OnOk result (self.new ≡ short_of_piece PIECE_BYTES (self.old ++ text.now)) }
 
         // Without memory nothing is written and what was gathered stays; after a write that failed
         // it is lost.

@@ -1,8 +1,8 @@
-ghost use Rattle.std.specs.Prelude.{◌≡◌, ◌≢◌, ◌<◌, ◌≤◌, length, is_some, IfErr};
+ghost use Rattle.std.specs.Prelude.{◌≡◌, ◌≢◌, ◌<◌, ◌≤◌, length, is_some, IfErr, MatchResult};
 ghost use Rattle.std.specs.Io.{ReadsAtMost};
 ghost use Rattle.std.specs.IoError.{error_kind};
 ghost use Rattle.std.specs.Io.KnownBytes.{ReadConsumes};
-ghost use Rattle.clk_io.specs.Counts.{CountsFault};
+ghost use Rattle.clk_io.specs.Counts.{counted, CountsFault};
 ghost use Rattle.clk_io.specs.Streams.{untold};
 
 use crate::faults::Failed;
@@ -67,6 +67,9 @@ impl<R: Read + Drop> Source for ReaderSource<R> {
         ensures tells { is_some untold ≡ is_some untold }
         ensures later { self.old.faults ≤ self.new.faults }
         ensures counts { CountsFault self.old.faults self.new.faults result }
+
+        // It counts each failure, and nothing else.
+        ensures each { MatchResult result (λ _. self.new.faults ≡ self.old.faults) (λ _. self.new.faults ≡ counted self.old.faults) }
 
         // It gives the bytes that the reader loses, and 0 only where the reader is at its end.
         ensures passes { ReadConsumes (R.remaining self.old.reader) (R.remaining self.new.reader) result into.new }

@@ -23,7 +23,8 @@ pub trait Sink {
         ensures bytes { WriteAppends (written self.old) (written self.new) result bytes.now }
         ensures tells { is_some (written self.new) ≡ is_some (written self.old) }
 
-        // The count of faults never falls: it rises at a fault and stands at a success.
+        // The count of faults never falls, and a write fails only if it rose. It may rise at a success too, as
+        // where a fault was met and overcome.
         ensures later { faults self.old ≤ faults self.new }
         ensures counts { CountsFault (faults self.old) (faults self.new) result };
 }

@@ -22,7 +22,8 @@ pub trait Source {
         ensures bytes { ReadConsumes (left self.old) (left self.new) result into.new }
         ensures tells { is_some (left self.new) ≡ is_some (left self.old) }
 
-        // The count of faults never falls: it rises at a fault and stands at a success.
+        // The count of faults never falls, and a read fails only if it rose. It may rise at a success too, as
+        // where a fault was met and overcome.
         ensures later { faults self.old ≤ faults self.new }
         ensures counts { CountsFault (faults self.old) (faults self.new) result };
 }

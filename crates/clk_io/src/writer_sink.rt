@@ -1,8 +1,8 @@
-ghost use Rattle.std.specs.Prelude.{◌≡◌, ◌≢◌, ◌<◌, ◌≤◌, length, is_some, IfOk, IfErr};
+ghost use Rattle.std.specs.Prelude.{◌≡◌, ◌≢◌, ◌<◌, ◌≤◌, length, is_some, IfOk, IfErr, MatchResult};
 ghost use Rattle.std.specs.Io.{WritesAtMost};
 ghost use Rattle.std.specs.IoError.{error_kind};
 ghost use Rattle.std.specs.Io.KnownBytes.{WriteAppends};
-ghost use Rattle.clk_io.specs.Counts.{CountsFault};
+ghost use Rattle.clk_io.specs.Counts.{counted, CountsFault};
 ghost use Rattle.clk_io.specs.Streams.{untold};
 
 use crate::faults::Failed;
@@ -70,6 +70,9 @@ impl<W: Write + Drop> Sink for WriterSink<W> {
         ensures tells { is_some untold ≡ is_some untold }
         ensures later { self.old.faults ≤ self.new.faults }
         ensures counts { CountsFault self.old.faults self.new.faults result }
+
+        // It counts each failure, and nothing else.
+        ensures each { MatchResult result (λ _. self.new.faults ≡ self.old.faults) (λ _. self.new.faults ≡ counted self.old.faults) }
 
         // The writer gains the bytes that were taken, and none at a fault.
         ensures passes { WriteAppends (W.contents self.old.writer) (W.contents self.new.writer) result bytes.now }

@@ -1,6 +1,7 @@
 pub mod EntryTexts
 pub mod Hexadecimal
 pub mod Lines
+pub mod Stays
 pub mod Parting
 pub mod Parts
 pub mod Splits

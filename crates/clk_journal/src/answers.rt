@@ -1,8 +1,8 @@
 //! Prints the answers of a driver's commands.
 
-ghost use Rattle.std.specs.Prelude.{◌≡◌, ◌≤◌, ◌+◌, Some, is_some};
+ghost use Rattle.std.specs.Prelude.{◌≡◌, ◌≤◌, ◌+◌, Some, is_some, IfErr};
 ghost use Rattle.clk_io.specs.Counts.{CountsPrintFault};
-ghost use Rattle.clk_io.specs.Gathers.{Gathers};
+ghost use Rattle.clk_io.specs.Gathers.{Gathers, StaysGathered};
 ghost use Rattle.clk_model.specs.Text.{answer_line, answer_words, answers_text, spaced};
 
 use crate::reply::ReplyText;
@@ -23,6 +23,8 @@ pub fn print_answers<K: Sink>(
 ) -> Result<(), PrintFault>
     ensures gathers { Gathers (K.written out.old) (K.written out.new) gathered.old gathered.new
         (answers_text desc.now.defs driver.now answers.now) result }
+    ensures stays { IfErr result (StaysGathered (K.written out.old) (K.written out.new) gathered.old gathered.new
+        (answers_text desc.now.defs driver.now answers.now)) }
     ensures tells { is_some (K.written out.new) ≡ is_some (K.written out.old) }
     ensures later { K.faults out.old ≤ K.faults out.new }
     ensures counts { CountsPrintFault (K.faults out.old) (K.faults out.new) result }
@@ -69,6 +71,8 @@ fn print_answer<K: Sink>(
 ) -> Result<(), PrintFault>
     ensures gathers { Gathers (K.written out.old) (K.written out.new) gathered.old gathered.new
         (answer_line desc.now.defs driver.now number answer) result }
+    ensures stays { IfErr result (StaysGathered (K.written out.old) (K.written out.new) gathered.old gathered.new
+        (answer_line desc.now.defs driver.now number answer)) }
     ensures tells { is_some (K.written out.new) ≡ is_some (K.written out.old) }
     ensures later { K.faults out.old ≤ K.faults out.new }
     ensures counts { CountsPrintFault (K.faults out.old) (K.faults out.new) result }

@@ -1,8 +1,8 @@
 //! Prints the entries of a journal.
 
-ghost use Rattle.std.specs.Prelude.{◌≡◌, ◌≤◌, ◌+◌, is_some, map, string_bytes};
+ghost use Rattle.std.specs.Prelude.{◌≡◌, ◌≤◌, ◌+◌, is_some, map, string_bytes, IfErr};
 ghost use Rattle.clk_io.specs.Counts.{CountsPrintFault};
-ghost use Rattle.clk_io.specs.Gathers.{Gathers};
+ghost use Rattle.clk_io.specs.Gathers.{Gathers, StaysGathered};
 ghost use Rattle.clk_model.specs.Text.{entry_text, journal_text};
 
 use crate::event::{EventText, TurnText};
@@ -25,6 +25,8 @@ pub fn print_entry<K: Sink>(
 ) -> Result<(), PrintFault>
     ensures gathers { Gathers (K.written out.old) (K.written out.new) gathered.old gathered.new
         (entry_text desc.now.defs (map string_bytes names.now) number entry.now) result }
+    ensures stays { IfErr result (StaysGathered (K.written out.old) (K.written out.new) gathered.old gathered.new
+        (entry_text desc.now.defs (map string_bytes names.now) number entry.now)) }
     ensures tells { is_some (K.written out.new) ≡ is_some (K.written out.old) }
     ensures later { K.faults out.old ≤ K.faults out.new }
     ensures counts { CountsPrintFault (K.faults out.old) (K.faults out.new) result }
@@ -53,6 +55,8 @@ pub fn print_entries<K: Sink>(
 ) -> Result<(), PrintFault>
     ensures gathers { Gathers (K.written out.old) (K.written out.new) gathered.old gathered.new
         (journal_text desc.now.defs (map string_bytes names.now) entries.now) result }
+    ensures stays { IfErr result (StaysGathered (K.written out.old) (K.written out.new) gathered.old gathered.new
+        (journal_text desc.now.defs (map string_bytes names.now) entries.now)) }
     ensures tells { is_some (K.written out.new) ≡ is_some (K.written out.old) }
     ensures later { K.faults out.old ≤ K.faults out.new }
     ensures counts { CountsPrintFault (K.faults out.old) (K.faults out.new) result }

@@ -1,8 +1,8 @@
 //! Prints the words of a register bank.
 
-ghost use Rattle.std.specs.Prelude.{◌≡◌, ◌≤◌, ◌==◌, Some, [], if◌then◌else◌, is_some};
+ghost use Rattle.std.specs.Prelude.{◌≡◌, ◌≤◌, ◌==◌, Some, [], if◌then◌else◌, is_some, IfErr};
 ghost use Rattle.clk_io.specs.Counts.{CountsPrintFault};
-ghost use Rattle.clk_io.specs.Gathers.{Gathers};
+ghost use Rattle.clk_io.specs.Gathers.{Gathers, StaysGathered};
 ghost use Rattle.clk_model.specs.Text.{hex_digits, register_line, registers_text};
 
 use clk_io::{Gathered, PrintFault, Sink};
@@ -18,6 +18,8 @@ pub fn print_registers<K: Sink>(
 ) -> Result<(), PrintFault>
     ensures gathers { Gathers (K.written out.old) (K.written out.new) gathered.old gathered.new
         (registers_text words.now) result }
+    ensures stays { IfErr result (StaysGathered (K.written out.old) (K.written out.new) gathered.old gathered.new
+        (registers_text words.now)) }
     ensures tells { is_some (K.written out.new) ≡ is_some (K.written out.old) }
     ensures later { K.faults out.old ≤ K.faults out.new }
     ensures counts { CountsPrintFault (K.faults out.old) (K.faults out.new) result }
@@ -52,6 +54,8 @@ fn print_word<K: Sink>(
 ) -> Result<(), PrintFault>
     ensures gathers { Gathers (K.written out.old) (K.written out.new) gathered.old gathered.new
         (if value == 0 then [] else register_line place value) result }
+    ensures stays { IfErr result (StaysGathered (K.written out.old) (K.written out.new) gathered.old gathered.new
+        (if value == 0 then [] else register_line place value)) }
     ensures tells { is_some (K.written out.new) ≡ is_some (K.written out.old) }
     ensures later { K.faults out.old ≤ K.faults out.new }
     ensures counts { CountsPrintFault (K.faults out.old) (K.faults out.new) result }
@@ -72,6 +76,8 @@ fn print_register<K: Sink>(
 ) -> Result<(), PrintFault>
     ensures gathers { Gathers (K.written out.old) (K.written out.new) gathered.old gathered.new
         (register_line place value) result }
+    ensures stays { IfErr result (StaysGathered (K.written out.old) (K.written out.new) gathered.old gathered.new
+        (register_line place value)) }
     ensures tells { is_some (K.written out.new) ≡ is_some (K.written out.old) }
     ensures later { K.faults out.old ≤ K.faults out.new }
     ensures counts { CountsPrintFault (K.faults out.old) (K.faults out.new) result }

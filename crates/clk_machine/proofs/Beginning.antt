@@ -33,7 +33,7 @@ use Rattle.clk_tree.specs.declared.walk_rates.WalkRate.{WalkRate}
 use Rattle.clk_tree.specs.Plans.{AreThere, rates_of}
 use Rattle.counts_core.specs.Counted.{is_prepared}
 use Rattle.counts_core.specs.Standing.{StandsFor}
-use Rattle.change_walk.specs.Given.{Script, HasFewNotifiers, IsPlanFor, OfPlan}
+use Rattle.change_walk.specs.Given.{Script, IsPlanFor, OfPlan}
 use Rattle.change_walk.proofs.Leading.{parent_fits, request_fits}
 use Rattle.core_parts.specs.InFlight.{changes_rate}
 use Rattle.core_parts.specs.Planned.{IsScriptOf, IsPlanOf}
@@ -192,7 +192,7 @@ made_with s (call.SetRange h least most) row = refl
 made_with s _ row = refl
 
 module _ (m : Parts) (s : State) (d : ℕ) (plan : Plan) (given script : Script) (whole : IsWhole m) (stands : Stands m s) (sound : IsSound m.window.size s)
-    (scripts : OfPlan m.tree (is_prepared m.counts) m.chains plan (λ t. HasFewNotifiers t → IsScriptOf t plan script)) where
+    (scripts : OfPlan m.tree (is_prepared m.counts) m.chains plan (λ t. IsScriptOf t plan script)) where
   -- a script that was made of a plan is its script in the state that the change is made in
   script_is : (what : Sleeping) (row : HandleRow) → own_handle s d (handle_of what) ≡ Some row → IsPlanFor (made_in s what row) plan → IsScriptOf (made_in s what row) plan script
   script_is what row own plans =
@@ -200,9 +200,9 @@ module _ (m : Parts) (s : State) (d : ℕ) (plan : Plan) (given script : Script)
       let hs : List (Option HandleRow) = n.handles in
       subst (λ (u : State). IsPlanFor u plan → IsScriptOf u plan script) (sym (made_with s what row))
       (λ plans_. scripts (record s { handles = hs })
-      (script_told (over_parts m s hs stands) whole.tied m.chains (is_prepared m.counts) (its_notifiers m s hs stands sound)
+      (script_told (over_parts m s hs stands) whole.tied m.chains (is_prepared m.counts) (its_notifiers m s hs stands)
       (λ c. (tells_holds m.counts (record s { handles = hs }) whole.counted.keeps (subst (λ (u : State). StandsFor m.counts u) (made_with s what row) (counts_made m s d what row whole stands own)) c).prepared))
-      plans_ (its_notifiers m s hs stands sound).few) plans
+      plans_) plans
 
   lines : LinesEnd s.defs
   lines = subst (λ (ds : Description). LinesEnd ds) (whole.tied.defs ∙ sym stands.defs) whole.tied.stands.lines

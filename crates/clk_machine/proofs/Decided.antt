@@ -30,7 +30,7 @@ use Rattle.clk_machine.specs.Parts.{Parts, own_in, IsWhole}
 use Rattle.clk_machine.specs.Sound.{IsSound}
 use Rattle.clk_machine.specs.Stands.{Stands}
 use Rattle.clk_machine.proofs.Entered.{own_stands}
-use Rattle.clk_machine.proofs.Likeness.{few_like, wired_like}
+use Rattle.clk_machine.proofs.Likeness.{wired_like}
 use Rattle.clk_machine.proofs.Writing.{counts_stand, live_in}
 
 -- ---- what planning is given
@@ -48,8 +48,8 @@ pub over_parts : (m : Parts) (s : State) (hs : List (Option HandleRow)) → Stan
 over_parts m s hs stands = record { regs = stands.regs; defs = stands.defs; clocks = stands.clocks; order = stands.order }
 
 -- and its notifiers
-pub its_notifiers : (m : Parts) (s : State) (hs : List (Option HandleRow)) → Stands m s → IsSound m.window.size s → AreItsNotifiers m.chains (with_handles s hs)
-its_notifiers m s hs stands sound = record { told = stands.notifiers; few = few_like m.window.size s sound.like }
+pub its_notifiers : (m : Parts) (s : State) (hs : List (Option HandleRow)) → Stands m s → AreItsNotifiers m.chains (with_handles s hs)
+its_notifiers m s hs stands = stands.notifiers
 
 abbrev view_of : (ℕ → ℕ) → (ℕ → ℕ) → (ℕ → Bool) → (ℕ → Bool) → View
 view_of low high guarded_ prepared_ = record { low = low; high = high; guarded = guarded_; prepared = prepared_ }
@@ -112,7 +112,7 @@ pub decides_rate : (m : Parts) (s : State) (d : ℕ) (h : Handle) (x : ℕ) (row
     → Stands m s → IsSound m.window.size s → Decides s d h.number (call.SetRate h x) decision
 decides_rate m s d h x row decision whole own live answers stands sound =
     rate_known s d h x row decision (own_stands m s d h.number (Some row) stands own)
-    (answers s h.number (given_itself m s whole stands) (its_notifiers m s s.handles stands sound) (lifts_with m s s.handles h.number row whole stands sound (live_in m s h.number row stands live)))
+    (answers s h.number (given_itself m s whole stands) (its_notifiers m s s.handles stands) (lifts_with m s s.handles h.number row whole stands sound (live_in m s h.number row stands live)))
 
 -- ---- a request with an exclusive
 
@@ -146,4 +146,4 @@ pub decides_exclusive : (m : Parts) (s : State) (d : ℕ) (h : Handle) (x : ℕ)
     → ((t : State) → IsGiven m.desc m.window m.tree m.table.handles m.counts t → AreItsNotifiers m.chains t → IsAnswer t t row.clock.0 x decision)
     → Stands m s → IsSound m.window.size s → Decides s d h.number (call.SetRateExclusive h x) decision
 decides_exclusive m s d h x row decision whole own answers stands sound =
-    exclusive_known s d h x row decision (own_stands m s d h.number (Some row) stands own) (answers s (given_itself m s whole stands) (its_notifiers m s s.handles stands sound))
+    exclusive_known s d h x row decision (own_stands m s d h.number (Some row) stands own) (answers s (given_itself m s whole stands) (its_notifiers m s s.handles stands))

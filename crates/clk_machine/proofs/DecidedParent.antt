@@ -29,7 +29,7 @@ use Rattle.counts_core.specs.Counted.{CountState, is_guarded, is_prepared}
 use Rattle.rate_planner.specs.Kept.{wired}
 use Rattle.rate_planner.specs.Walks.{parent_chain, walked_rates}
 use Rattle.change_walk.specs.Given as given
-use Rattle.change_walk.specs.Given.{Script, HasFewNotifiers, OfPlan}
+use Rattle.change_walk.specs.Given.{Script, OfPlan}
 use Rattle.change_walk.proofs.Leading.{parent_fits}
 use Rattle.core_parts.specs.Decisions as decided
 use Rattle.core_parts.specs.Planned.{IsPlanOf, IsScriptOf, IsGiven}
@@ -201,11 +201,11 @@ pub decides_parent : (m : Parts) (s : State) (d : ℕ) (h : Handle) (p : ClockId
     → parent_refusal m.desc.defs m.tree.clocks m.counts row p.0 ≡ None
     → IfSome m.window.words (λ regs. plan.chain ≡ parent_chain (wired m.desc.defs regs m.tree) row.clock.0 p.0)
     → IfSome m.window.words (λ regs. plan.rates ≡ walked_rates m.tree.order (wired m.desc.defs regs m.tree) plan.chain) → plan.set_parent ≡ true
-    → OfPlan m.tree (is_prepared m.counts) m.chains plan (λ t. HasFewNotifiers t → IsScriptOf t plan script)
+    → OfPlan m.tree (is_prepared m.counts) m.chains plan (λ t. IsScriptOf t plan script)
     → Stands m s → IsSound m.window.size s → Decides s d h.number (call.SetParent h p) (decided.Change plan script)
 decides_parent m s d h p row plan script whole own live other cause chain_ rates moves_ scripts stands sound =
     let given_ : IsGiven m.desc m.window m.tree m.table.handles m.counts s = given_itself m s whole stands in
-    let its = its_notifiers m s s.handles stands sound in
+    let its = its_notifiers m s s.handles stands in
     let at : plan.chain ≡ parent_chain (wiring s) row.clock.0 p.0 = told_here given_.over whole.tied (λ w. plan.chain ≡ parent_chain w row.clock.0 p.0) chain_ in
     let walked = rates_told given_.over whole.tied plan.chain plan.rates rates in
     let bare : List ChainStep = record { clock = row.clock.0; rate = 0; parent = Some p.0 } ∷ [] in
@@ -214,4 +214,4 @@ decides_parent m s d h p row plan script whole own live other cause chain_ rates
     let plans = parent_fits s row.clock.0 p.0 (rate_in (outcome bare (wiring s)) row.clock.0) plan possible at walked in
     parent_goes s d h p row plan script (own_stands m s d h.number (Some row) stands own) (link_told m s row.clock.0 p.0 false stands other)
     (sym (cause_told m s h.number p.0 row whole stands sound live) ∙ cause) at moves_ walked
-    (scripts s (script_told given_.over whole.tied m.chains (is_prepared m.counts) its (prepared_told given_ whole.tied whole.counted.keeps)) plans its.few)
+    (scripts s (script_told given_.over whole.tied m.chains (is_prepared m.counts) its (prepared_told given_ whole.tied whole.counted.keeps)) plans)

@@ -104,7 +104,7 @@ decides_range m s d h least most wanted row decision whole own live fits between
     (subst (λ (x : ℕ). IsAnswer (with_limits s h.number row least most) (lift (with_limits s h.number row least most) h.number) row.clock.0 x decision) between
     (answers (with_limits s h.number row least most) h.number
     (subst (λ (hs : List (Option HandleRow)). IsGiven m.desc m.window m.tree hs m.counts (with_limits s h.number row least most)) (sym same) (given_with m s hs' whole stands counted))
-    (its_notifiers m s hs' stands sound)
+    (its_notifiers m s hs' stands)
     (record { frees = lifts.frees; keeps = lifts.keeps; free = lifts.free }))) where
       hs' : List (Option HandleRow)
       hs' = set s.handles h.number (Some (ranged row least most))

@@ -373,7 +373,7 @@ steps_on old new words log log' d m answer t is same = record {
 }
 
 -- two lists with one entry more each, of the same entries, have the same last one
-same_last : (xs : List Entry) (a b : Entry) → xs ++ a ∷ [] ≡ xs ++ b ∷ [] → a ≡ b
+pub same_last : (xs : List Entry) (a b : Entry) → xs ++ a ∷ [] ≡ xs ++ b ∷ [] → a ≡ b
 same_last [] a b e = cc
 same_last (x ∷ xs) a b e = same_last xs a b (rest e) where
   rest : {ys zs : List Entry} → x ∷ ys ≡ x ∷ zs → ys ≡ zs

@@ -1,5 +1,5 @@
 -- That each journal of a core keeps the laws: each is a law of legal journals, cited at the places of one journal.
-use Rattle.std.proofs.Common.{◌≡◌, ℕ, suc, Bool, true, List, [], ◌∷◌, ◌++◌, Option, Some, take, length, refl, sym, ap, subst, ◌∙◌, zero}
+use Rattle.std.proofs.Common.{◌≡◌, ℕ, suc, Bool, true, List, [], ◌∷◌, ◌++◌, Option, Some, take, length, refl, sym, ap, subst, ◌∙◌, zero, ◌⊎◌, inl, inr}
 use Rattle.std.specs.Option.{option_map_or}
 use Rattle.std.proofs.lemmas.Option.{same_Some}
 use Rattle.reg_bank.specs.Registers.{Registers}
@@ -23,10 +23,13 @@ use Rattle.clk_model.proofs.InFlightLaws.{quiet_or_in_flight}
 use Rattle.clk_model.proofs.JournalCauseLaws.{journals_have_causes}
 use Rattle.clk_model.proofs.OutcomeWrittenLaws.{runs_write_outcomes}
 use Rattle.clk_model.proofs.RaisedFlightLaws.{raised_end_as_prepared}
-use Rattle.clk_model.proofs.RunsFedLaws.{runs_are_fed, quiet_runs_are_settled}
+use Rattle.clk_model.proofs.LinkLaws.{runs_are_wired}
+use Rattle.clk_model.proofs.RunsFedLaws.{run_of, runs_are_fed, quiet_runs_are_settled}
 use Rattle.clk_model.proofs.TimeoutLaws.{timeouts_leave_nothing}
 use Rattle.clk_model.proofs.ToldRunLaws.{changes_are_told}
 use Rattle.clk_model.proofs.VetoLaws.{vetoed_over}
+use Rattle.clk_machine.proofs.BesideCalls.{refused_beside}
+use Rattle.clk_machine.proofs.Untouched.{late_mild, off_mild, off_other}
 use Rattle.clk_machine.specs.Parts.{Parts}
 use Rattle.clk_machine.specs.Stands.{is_told}
 use Rattle.clk_machine.specs.Run.{Logged, start_of, IsRun}
@@ -79,6 +82,8 @@ holds_of_call defs regs ignore_unused credits journal valid legal is =
     let s : State = replay start is.front in
     let t : State = behind_call is in
     let d : ℕ = is.call.first.driver in
+    let over = runs_are_wired defs regs ignore_unused credits is.call.before valid in
+    let wired : IsValid (length q.regs) q.defs = subst (λ (n : ℕ). IsValid n q.defs) (sym over.size) over.wired.valid in
     let step : next s d (event.Step is.made is.answer) ≡ Some (t, turn.Done is.given) =
     ap (λ (x : ℕ). next s x (event.Step is.made is.answer)) (sym own) ∙ ap (λ (v : Event). next s is.last.driver v) (sym is.step) ∙ entry.answers
     ∙ ap (λ (z : Turn). let y : State × Turn = (t, z) in Some y) is.ends in
@@ -92,6 +97,16 @@ holds_of_call defs regs ignore_unused credits journal valid legal is =
       raised = raised_end_as_prepared defs regs ignore_unused credits is.call.before s t d is.call.what (steps_made is) is.made is.answer is.given valid is.call.flight step;
       timed_out = λ late whole. timeouts_leave_nothing defs regs ignore_unused credits is.call.before s t d is.call.what (steps_made is) is.made is.answer valid whole is.call.flight
           (gave (reply.Refused errno.ETIMEDOUT) late);
+      beside = λ leaves. elim leaves [
+        | inl veto ↦
+            let off = vetoed_over q s t d is.call.what (steps_made is) is.made is.answer is.given is.call.flight veto step in
+            refused_beside start t is.front is.call d is.made is.answer errno.EBUSY wired entry.before (off_other q s d is.call.what (steps_made is) is.call.flight veto)
+            (off_mild q t d is.call.what (steps_made is) is.given off) (gave (reply.Refused errno.EBUSY) off.refused)
+        | inr late ↦
+            let late_step = gave (reply.Refused errno.ETIMEDOUT) late.0 in
+            let mild = late_mild q s t d is.call.what (steps_made is) is.made is.answer (run_of defs regs ignore_unused credits is.call.before valid) is.call.flight late_step late.1 in
+            refused_beside start t is.front is.call d is.made is.answer errno.ETIMEDOUT wired entry.before mild.1 mild.0 late_step
+      ];
     }
 
 -- each legal journal from an opening with a valid description

@@ -28,7 +28,6 @@ use Rattle.clk_model.specs.Views.{view, lift}
 use Rattle.clk_model.proofs.Cases.{by_found, by_plan}
 use Rattle.clk_model.proofs.FlightLaws.{begin_is, step_is}
 use Rattle.clk_model.proofs.TierLaws.{pick_either, with_handle_either, paid_is}
-use Rattle.clk_machine.proofs.FewNotifiers.{enable_paid, disable_paid, running_paid}
 
 -- ---- turns have no slot
 
@@ -101,6 +100,18 @@ paid_slotless s d number f o y each is at =
 yes_slotless : (t : Bool) → slotless (turn.Done (if t then reply.Yes else reply.No)) ≡ turn.Done (if t then reply.Yes else reply.No)
 yes_slotless true = refl
 yes_slotless false = refl
+
+enable_paid : (s : State) (d number : ℕ) → next s d (event.Enable number) ≡ paid s (with_handle s d number (enabled s number))
+unfolding next
+enable_paid s d number = refl
+
+disable_paid : (s : State) (d number : ℕ) → next s d (event.Disable number) ≡ paid s (with_handle s d number (disabled s number))
+unfolding next
+disable_paid s d number = refl
+
+running_paid : (s : State) (d number : ℕ) → next s d (event.Running number) ≡ paid s (with_handle s d number (running s))
+unfolding next
+running_paid s d number = refl
 
 next_slotless : (s : State) (d : ℕ) (e : Event) (y : State × Turn) → next s d e ≡ Some y → slotless y.1 ≡ y.1
 next_slotless s d (event.Enable n) y at = paid_slotless s d n (enabled s n) (next s d (event.Enable n)) y (λ h. pick_either Slotless _ _ _ (λ e. refl) (λ e. refl)) (enable_paid s d n) at

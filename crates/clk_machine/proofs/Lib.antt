@@ -13,7 +13,6 @@ pub mod Beginning
 pub mod Events
 pub mod Owning
 pub mod Room
-pub mod FewNotifiers
 pub mod Likeness
 pub mod Legalized
 pub mod Twinned
@@ -69,7 +68,19 @@ pub mod SweptAlong
 pub mod Still
 pub mod SettingOut
 pub mod ChangingAlong
+pub mod DecidedAlong
 pub mod Copying
 pub mod Given
 pub mod Placing
 pub mod NotifyingAlong
+pub mod KindLaws
+pub mod Weighed
+pub mod Needing
+pub mod Besides
+pub mod BesideSteps
+pub mod BesideBegins
+pub mod BesideCalls
+pub mod Dropped
+pub mod DroppedProbes
+pub mod DroppedParents
+pub mod Untouched

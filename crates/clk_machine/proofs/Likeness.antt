@@ -33,9 +33,7 @@ use Rattle.clk_model.proofs.PrepStepLaws.{prepared_same, selected_same, path_sam
 use Rattle.clk_model.proofs.PrepToldLaws.{handle_masked}
 use Rattle.clk_model.proofs.Scenes.{Scene, scene, EnablesPrepared}
 use Rattle.clk_model.proofs.Scenes as scenes
-use Rattle.change_walk.specs.Given.{HasFewNotifiers}
 use Rattle.clk_machine.specs.Sound.{IsReached, IsLike, IsNarrow, IsSound}
-use Rattle.clk_machine.proofs.FewNotifiers.{few_reached}
 use Rattle.clk_machine.proofs.Soundness.{wired_reached, links_reached, room_reached}
 
 -- ---- handles without enables
@@ -203,10 +201,6 @@ pub room_like : (words : ℕ) (s : State) → IsLike words s → HasRoom s
 room_like words s like =
     by_other words s (λ (u : State). HasRoom u) like
     (room_beside words like.other s.regs s.handles (rest_of s) (looks_like words s like) (rest_like words s like) (room_reached words like.other like.reached))
-
--- no clock has more notifiers than it may have
-pub few_like : (words : ℕ) (s : State) → IsLike words s → HasFewNotifiers s
-few_like words s like = by_other words s (λ (u : State). HasFewNotifiers u) like (few_reached words like.other like.reached)
 
 -- its scene is the other's
 pub scene_like : (words : ℕ) (s : State) (late : Option ℕ) → (like : IsLike words s) → scene late s ≡ scene late like.other

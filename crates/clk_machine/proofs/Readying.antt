@@ -45,7 +45,7 @@ use Rattle.counts_core.specs.Counted.{is_prepared}
 use Rattle.rate_planner.specs.Walks.{at_rate}
 use Rattle.rate_requests.specs.Handles.{HandleTable}
 use Rattle.change_walk.specs.Given.{Script}
-use Rattle.change_walk.specs.Steps.{steps_for, told_by}
+use Rattle.change_walk.specs.Steps.{changed_by, steps_for, told_by}
 use Rattle.change_walk.specs.Weights.{step_weight}
 use Rattle.change_walk.proofs.Whole.{rate_at}
 use Rattle.core_parts.specs.declared.course.Notified.{Notified}
@@ -74,7 +74,11 @@ use Rattle.clk_machine.proofs.Movable.{parent_can}
 use Rattle.clk_machine.proofs.Requesting.{request_can}
 use Rattle.core_parts.proofs.Scripting.{links_made, script_made, tells_made, told_all, weighs_rows}
 use Rattle.clk_machine.proofs.Writing.{live_in}
-use Rattle.clk_machine.proofs.FewNotifiers.{settled_notifiers}
+
+-- what closes when an event is paid leaves the notifiers
+settled_notifiers : (s y : State) → (settled s y).notifiers ≡ y.notifiers
+unfolding settled
+settled_notifiers s y = refl
 
 -- ---- the change of a call
 
@@ -130,7 +134,7 @@ no_room_is m script e = by (m.credits + m.steps + script.weight) e where
 -- a timeout calls off only a change of parent
 lone_extra : (m : Parts) (sets : Bool) (plan : Plan) (script : Script) → IsPlanned m.tree (is_prepared m.counts) m.chains sets plan script → sets ≡ false → script.extra ≡ 0
 lone_extra m sets plan script planned_ unset =
-    planned_.made.extra ∙ ap (λ (b : Bool). if b && list_any is_raise script.steps then min (told_by m.chains planned_.made.changed) (2 ^ 64 - 1) else 0) (planned_.set_parent ∙ unset)
+    planned_.made.extra ∙ ap (λ (b : Bool). min (if b && list_any is_raise script.steps then told_by m.chains (changed_by m.tree plan) else 0) (2 ^ 64 - 1)) (planned_.set_parent ∙ unset)
 
 -- it weighs what its steps do, and the notices that a timeout may bring
 plain_weight : (m : Parts) (sets : Bool) (plan : Plan) (script : Script) → IsPlanned m.tree (is_prepared m.counts) m.chains sets plan script → has_room m script ≡ true → m.tree.defs ≡ m.desc.defs
@@ -310,14 +314,14 @@ can_scripted m d what plan script (readied.Refused e) whole changes planned_ own
 can_scripted m d what plan script readied.AtOnce whole changes planned_ own never = absurd never
 can_scripted m d what plan script (readied.Change scripted) whole changes planned_ own made = record {
   own = own;
-  script = ap (λ (ms : List Micro). is_script what (registered m.tree.clocks) ms) steps ∙ script_made m.tree (is_prepared m.counts) m.chains plan planned_.made.changed can planned_.there what changes (λ c p at. (whole.tied.stands.linked c p at, whole.tied.stands.links c p at));
+  script = ap (λ (ms : List Micro). is_script what (registered m.tree.clocks) ms) steps ∙ script_made m.tree (is_prepared m.counts) m.chains plan (changed_by m.tree plan) can planned_.there what changes (λ c p at. (whole.tied.stands.linked c p at, whole.tied.stands.links c p at));
   tells =
       ap (λ (ms : List Micro). tells_all (notifiers_at m.chains) ms scripted.course.notified) steps
-      ∙ ap (λ (ns : List Notified). tells_all (notifiers_at m.chains) (steps_for m.tree (is_prepared m.counts) m.chains plan planned_.made.changed) ns) made.notified
-      ∙ tells_made m.tree (is_prepared m.counts) m.chains plan planned_.made.changed can planned_.there (notifiers_at m.chains) m.tree.rates;
+      ∙ ap (λ (ns : List Notified). tells_all (notifiers_at m.chains) (steps_for m.tree (is_prepared m.counts) m.chains plan (changed_by m.tree plan)) ns) made.notified
+      ∙ tells_made m.tree (is_prepared m.counts) m.chains plan (changed_by m.tree plan) can planned_.there (notifiers_at m.chains) m.tree.rates;
   links =
       ap (λ (ds : Description). list_all (can_link ds m.tree.clocks) scripted.steps) (sym whole.tied.defs) ∙ ap (λ (ms : List Micro). list_all (can_link m.tree.defs m.tree.clocks) ms) steps
-      ∙ links_made m.tree (is_prepared m.counts) m.chains plan planned_.made.changed can planned_.there;
+      ∙ links_made m.tree (is_prepared m.counts) m.chains plan (changed_by m.tree plan) can planned_.there;
   lone = λ unset. made.extra ∙ lone_extra m (sets_parent what) plan script planned_ unset;
   weight = made.weight ∙ plain_weight m (sets_parent what) plan script planned_ made.room whole.tied.defs ∙ ap (λ (ms : List Micro). weight_along m ms + script.extra) (sym made.steps) ∙ ap (λ (x : ℕ). weight_along m scripted.steps + x) (sym made.extra);
   room = let same = made.weight in let room = room_is m script made.room in omega arith;
@@ -325,7 +329,7 @@ can_scripted m d what plan script (readied.Change scripted) whole changes planne
   can : can_go_along plan.set_parent m.tree.defs m.tree.clocks plan.chain ≡ true
   can = ap (λ (ds : Description). can_go_along plan.set_parent ds m.tree.clocks plan.chain) whole.tied.defs ∙ made.moves
 
-  steps : scripted.steps ≡ steps_for m.tree (is_prepared m.counts) m.chains plan planned_.made.changed
+  steps : scripted.steps ≡ steps_for m.tree (is_prepared m.counts) m.chains plan (changed_by m.tree plan)
   steps = made.steps ∙ planned_.made.steps
 
 -- ---- going on

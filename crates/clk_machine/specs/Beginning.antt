@@ -32,6 +32,10 @@ pub record IsSuited (m : Parts) (d : ℕ) (what : Sleeping) (plan : Plan) : Type
   pub set_parent : plan.set_parent ≡ sets_parent what
   pub there : AreThere m.tree.clocks plan.rates
 
+-- in each sound state that parts stand for a call goes on with this plan
+abbrev pub AllGoOn : Parts → ℕ → Sleeping → Plan → Type 0
+AllGoOn m d what plan = (s : State) → Stands m s → IsSound m.window.size s → (script : Script) × GoesOnBy s d what plan script
+
 -- in each state in which a call goes on with this plan it begins as it was made ready
 abbrev pub BeginsAsPlanned : Parts → ℕ → Sleeping → Plan → Readied → Type 0
 BeginsAsPlanned m d what plan made =

@@ -1,5 +1,5 @@
 -- What holds of each journal of a core, whatever its calls are, and wherever the enables and disables of other drivers stand.
-use Rattle.std.specs.Prelude.{◌≡◌, ℕ, List, [], ◌∷◌, ◌++◌, Bool, true, false, Option, Some, None, take, filter}
+use Rattle.std.specs.Prelude.{◌≡◌, ◌⊎◌, ℕ, List, [], ◌∷◌, ◌++◌, Bool, true, false, Option, Some, None, take, filter}
 use Rattle.std.specs.List.{list_any}
 use Rattle.clk_base.specs.Fields.{PowerBit, power_of}
 use Rattle.clk_model.specs.Kinds.{is_powered}
@@ -28,6 +28,7 @@ use Rattle.clk_model.specs.Laws.ChangesTold.{is_pre, is_post_of}
 use Rattle.clk_model.specs.Laws.NothingLeft.{DiffersInPower, is_dropped_whole, polls}
 use Rattle.clk_model.specs.Laws.Outcomes.{SameSettings}
 use Rattle.clk_model.specs.Laws.EndCauses.{EndsCall}
+use Rattle.clk_machine.specs.Besides.{SameEnables, enable_tier_of, is_dropped_by}
 
 -- ---- calls that have ended
 
@@ -60,6 +61,11 @@ steps_made is = steps_of is.call.since
 abbrev pub WentWell : {start : State} {journal : List Entry} → IsEnd start journal → Type 0
 WentWell is = (is.given ≡ reply.Fine) × (plans is.call.what ≡ true)
 
+-- whether nothing is left of it: a notice of it was a veto, or it has timed out, and is a prepare, a change of parent, or a registration
+-- that wasn't made
+abbrev pub LeavesNothing : {start : State} {journal : List Entry} → IsEnd start journal → Type 0
+LeavesNothing is = (list_any is_veto (steps_made is) ≡ true) ⊎ ((is.given ≡ reply.Refused errno.ETIMEDOUT) × (is_dropped_by (steps_made is) is.call.what ≡ true))
+
 -- what holds of a call that has ended
 pub record HoldsOfCall (start : State) (journal : List Entry) (is : IsEnd start journal) : Type 0 where
   -- its last step is of the same driver
@@ -79,6 +85,9 @@ pub record HoldsOfCall (start : State) (journal : List Entry) (is : IsEnd start 
       → is_powered (behind_call is).regs power ≡ prepared (behind_call is) y
   -- a prepare or a change of parent of which a PLL doesn't lock leaves all as it was but power, and what enables did meanwhile
   pub timed_out : is.given ≡ reply.Refused errno.ETIMEDOUT → is_dropped_whole is.call.what ≡ true → DiffersInPower (before_call is) (behind_call is)
+  -- where nothing is left of it, the clocks are active and the gates open behind it that the enables and disables in between, by themselves,
+  -- make so from the state before it
+  pub beside : LeavesNothing is → SameEnables (behind_call is) (replay (before_call is) (enable_tier_of is.call.since))
 
 -- ---- journals
 

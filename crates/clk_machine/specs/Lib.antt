@@ -26,3 +26,7 @@ pub mod Ready
 pub mod Copied
 pub mod Beginning
 pub mod Places
+pub mod Kinds
+pub mod Memory
+pub mod Weighed
+pub mod Besides

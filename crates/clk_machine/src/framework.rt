@@ -106,7 +106,11 @@ impl<B: Bank> Core<B> {
     ghost use Rattle.clk_model.specs.Laws.CallCauses.{CallTurns};
     ghost use Rattle.clk_model.specs.Laws.Causes.{EnableCauses, DisableCauses, RunningCauses, LeavesRefused};
     ghost use Rattle.clk_machine.specs.Copied.{IsDecided};
+    ghost use Rattle.clk_machine.specs.Kinds.{is_answer_to, LastMayAnswer};
+    ghost use Rattle.clk_machine.specs.Memory.{NeedsMemory};
     ghost use Rattle.clk_machine.specs.Run.{Run, now_of, in_flight, Appends, StepsOn, StepTurns};
+    ghost use Rattle.clk_machine.specs.Weighed.{GoesOnWithin};
+    ghost use Rattle.clk_model.specs.Laws.Paced.{left_of};
     ghost use Rattle.core_parts.specs.Window.{behind_of, delays_in, locks_of, HasDelays};
 
     /// A core at its opening: the words are written to the bank, nothing is registered, and the
@@ -153,6 +157,8 @@ impl<B: Bank> Core<B> {
         requires { cost self.old.journal < self.old.start.credits }
         // The machine takes the event, answers so, and its entry is appended.
         ensures entry { Appends self.old driver (Enable handle.number) (Done result) self.new }
+        // The answer is of the kind of the event, whatever the bank tells.
+        ensures kind { is_answer_to (Enable handle.number) (Done result) ≡ true }
         // Where the bank tells its words, each answer has its cause in the state before.
         ensures causes { self.old.told ≡ true → EnableCauses (now_of self.old) driver handle.number result }
         // Where the bank tells its words, a refusal spends a credit and changes nothing else.
@@ -173,6 +179,8 @@ impl<B: Bank> Core<B> {
         requires { cost self.old.journal < self.old.start.credits }
         // The machine takes the event, answers so, and its entry is appended.
         ensures entry { Appends self.old driver (Disable handle.number) (Done result) self.new }
+        // The answer is of the kind of the event, whatever the bank tells.
+        ensures kind { is_answer_to (Disable handle.number) (Done result) ≡ true }
         // Where the bank tells its words, each answer has its cause in the state before.
         ensures causes { self.old.told ≡ true → DisableCauses (now_of self.old) driver handle.number result }
         // Where the bank tells its words, a refusal spends a credit and changes nothing else.
@@ -193,6 +201,8 @@ impl<B: Bank> Core<B> {
         requires { cost self.old.journal < self.old.start.credits }
         // The machine takes the event, answers so, and its entry is appended.
         ensures entry { Appends self.old driver (Running handle.number) (Done result) self.new }
+        // The answer is of the kind of the event, whatever the bank tells.
+        ensures kind { is_answer_to (Running handle.number) (Done result) ≡ true }
         // Where the bank tells its words, each answer has its cause in the state before.
         ensures causes { self.old.told ≡ true → RunningCauses (now_of self.old) driver handle.number result }
         // Where the bank tells its words, a refusal spends a credit and changes nothing else.
@@ -221,19 +231,24 @@ impl<B: Bank> Core<B> {
         requires place { IsPlaced self.old.start.defs what.now }
         // The machine takes the event, answers so, and its entry is appended.
         ensures ok { IfOk result (λ turn. Appends self.old driver (Begin what.now) turn self.new) }
+        // The turn is of the kind of the call, whatever the bank tells.
+        ensures kind { IfOk result (λ turn. is_answer_to (Begin what.now) turn ≡ true) }
         // Where the bank tells its words, the turn of each call comes exactly where its cause in the state before holds.
         ensures turns { self.old.told ≡ true → IfOk result (λ turn. CallTurns (now_of self.old) driver what.now (slotless turn)) }
         // Where the bank tells its words, a refusal spends a credit and changes nothing else.
         ensures refused { self.old.told ≡ true → IfOk result (λ turn. LeavesRefused turn (now_of self.old) (now_of self.new)) }
+        // Where the bank tells its words, a call that goes on may come to as many steps as its script weighs.
+        ensures weight { self.old.told ≡ true → IfOk result (λ turn. GoesOnWithin turn self.new) }
         // Where memory runs out, the core is as it was.
         ensures err { OnErr result (self.new ≡ self.old) }
         // That can be only where the call takes memory.
         ensures memory { takes_memory what.now ≡ false → IsOk result }
+        // Where the bank tells its words, a prepare and an unprepare that are answered at once take none.
+        ensures needs { self.old.told ≡ true → OnErr result (NeedsMemory (now_of self.old) driver what.now) }
     {
-        if is_worked_out(what) {
-            return self.begin_worked_out(driver, *what);
-        }
-        self.begin_other(driver, *what)
+        let turn = self.begin_so(driver, *what)?;
+        self.weigh();
+        Ok(turn)
     }
 
     /// Begins a call of a driver as it was decided over a copy of the prepare tier. Nothing is rounded
@@ -257,20 +272,51 @@ impl<B: Bank> Core<B> {
         requires decided { self.old.told ≡ true → IsDecided (now_of self.old) driver what.now decision }
         // The machine takes the event, answers so, and its entry is appended.
         ensures ok { IfOk result (λ turn. Appends self.old driver (Begin what.now) turn self.new) }
+        // The turn is of the kind of the call, whatever the bank tells.
+        ensures kind { IfOk result (λ turn. is_answer_to (Begin what.now) turn ≡ true) }
         // Where the bank tells its words, the turn of each call comes exactly where its cause in the state before holds.
         ensures turns { self.old.told ≡ true → IfOk result (λ turn. CallTurns (now_of self.old) driver what.now (slotless turn)) }
         // Where the bank tells its words, a refusal spends a credit and changes nothing else.
         ensures refused { self.old.told ≡ true → IfOk result (λ turn. LeavesRefused turn (now_of self.old) (now_of self.new)) }
+        // Where the bank tells its words, a call that goes on may come to as many steps as its script weighs.
+        ensures weight { self.old.told ≡ true → IfOk result (λ turn. GoesOnWithin turn self.new) }
         // Where memory runs out, the core is as it was.
         ensures err { OnErr result (self.new ≡ self.old) }
         // That can be only where the call takes memory.
         ensures memory { takes_memory what.now ≡ false → IsOk result }
+        // Where the bank tells its words, a prepare and an unprepare that are answered at once take none.
+        ensures needs { self.old.told ≡ true → OnErr result (NeedsMemory (now_of self.old) driver what.now) }
     {
         match decision {
             Decision::Reply(reply) => self.begin_replied(driver, what, reply),
             Decision::Script { plan, steps } => self.begin_scripted(driver, what, plan, steps),
             Decision::Inside => self.begin(driver, what),
         }
+    }
+
+    // The steps to come are the weight that is left of the change in flight, where the bank tells its
+    // words.
+    fn weigh(&self)
+        ensures { self.now.told ≡ true → self.now.left ≡ left_of (now_of self.now) }
+    {
+        self.machine.keep();
+    }
+
+    // Begins a call of a driver.
+    fn begin_so(&mut self, driver: u32, what: Sleeping) -> Result<Turn, NoMemory>
+        requires credit { cost self.old.journal < self.old.start.credits }
+        requires quiet { in_flight self.old.journal ≡ false }
+        requires place { IsPlaced self.old.start.defs what }
+        ensures ok { IfOk result (λ turn. Appends self.old driver (Begin what) turn self.new) }
+        ensures kind { IfOk result (λ turn. is_answer_to (Begin what) turn ≡ true) }
+        ensures err { OnErr result (self.new ≡ self.old) }
+        ensures memory { takes_memory what ≡ false → IsOk result }
+        ensures needs { self.old.told ≡ true → OnErr result (NeedsMemory (now_of self.old) driver what) }
+    {
+        if is_worked_out(&what) {
+            return self.begin_worked_out(driver, what);
+        }
+        self.begin_other(driver, what)
     }
 
     // Begins a call whose steps are worked out before, with room for their entries.
@@ -280,6 +326,7 @@ impl<B: Bank> Core<B> {
         requires place { IsPlaced self.old.start.defs what }
         requires worked_out { is_worked_out what ≡ true }
         ensures ok { IfOk result (λ turn. Appends self.old driver (Begin what) turn self.new) }
+        ensures kind { IfOk result (λ turn. is_answer_to (Begin what) turn ≡ true) }
         ensures err { OnErr result (self.new ≡ self.old) }
     {
         let turn = self
@@ -300,13 +347,12 @@ impl<B: Bank> Core<B> {
         requires place { IsPlaced self.old.start.defs what }
         requires other { is_worked_out what ≡ false }
         ensures ok { IfOk result (λ turn. Appends self.old driver (Begin what) turn self.new) }
+        ensures kind { IfOk result (λ turn. is_answer_to (Begin what) turn ≡ true) }
         ensures err { OnErr result (self.new ≡ self.old) }
         ensures memory { takes_memory what ≡ false → IsOk result }
+        ensures needs { self.old.told ≡ true → OnErr result (NeedsMemory (now_of self.old) driver what) }
     {
-        let credits = self.machine.credits_left();
-        let steps = self.machine.most_steps(what);
-        self.log.make_room(credits, steps)?;
-        let turn = self.machine.begin(driver, what)?;
+        let turn = self.machine.begin(&mut self.log, driver, what)?;
         self.log.push(Entry {
             driver,
             event: Event::Begin(what),
@@ -321,6 +367,8 @@ impl<B: Bank> Core<B> {
         requires { in_flight self.old.journal ≡ true }
         // The machine takes the step that comes next, answers so, and its entry is appended; fewer steps are to come then.
         ensures made { StepsOn self.old result self.new }
+        // The turn is of the kind of the step, whatever the bank tells: the end is done or refused, and each other step goes on.
+        ensures kind { LastMayAnswer self.old.journal self.new.journal result }
         // Where the bank tells its words, the turn comes exactly where its cause holds.
         ensures turns { self.old.told ≡ true → StepTurns self.old self.new result }
         // Where it tells its words and its locks, a poll is answered by the delay of its PLL, as all polls of the journal are.

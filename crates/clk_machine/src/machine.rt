@@ -2,7 +2,7 @@
 
 ghost use Rattle.std.specs.Prelude.{◌≡◌, ℕ, ◌+◌, ◌<◌, ◌≤◌, true, false, None, length, is_some, IfSome, IfOk, IsOk, OnErr, Some};
 ghost use Rattle.clk_base.specs.Valid.{IsValid};
-ghost use Rattle.clk_model.specs.State.{registered, handle_at};
+ghost use Rattle.clk_model.specs.State.{State, registered, handle_at};
 ghost use Rattle.clk_model.specs.Journal.{is_going, opening};
 ghost use Rattle.clk_model.specs.Begin.{most_credits};
 
@@ -90,6 +90,8 @@ impl<B: Bank> Machine<B> {
     ghost use Rattle.clk_base.specs.declared.event.Turn.TheVariants.{Done};
     ghost use Rattle.core_parts.specs.InFlight.{is_worked_out, may_go_on};
     ghost use Rattle.clk_machine.specs.Sound.{IsPlaced, takes_memory};
+    ghost use Rattle.clk_machine.specs.Kinds.{is_answer_to, is_reply_to};
+    ghost use Rattle.clk_machine.specs.Memory.{NeedsMemory};
     ghost use Rattle.clk_machine.specs.Parts.{Parts, own_in, steps_left, IsWhole};
     ghost use Rattle.clk_machine.specs.Holding.{stays};
     ghost use Rattle.clk_machine.specs.Stands.{Stands, is_told, nothing, Becomes, Enters};
@@ -169,6 +171,7 @@ impl<B: Bank> Machine<B> {
         requires place { IsPlaced self.old.desc.defs what }
         requires at_once { may_go_on what ≡ false }
         ensures ok { IfOk result (λ reply. Enters self.old driver (Begin what) (Done reply) self.new) }
+        ensures kind { IfOk result (λ reply. is_reply_to what reply ≡ true) }
         ensures err { OnErr result (self.new ≡ self.old) }
         ensures memory { takes_memory what ≡ false → IsOk result }
     {
@@ -202,6 +205,7 @@ impl<B: Bank> Machine<B> {
         requires worked_out { is_worked_out what ≡ true }
         requires paid { self.old.credits ≤ self.old.spent + log.old.room }
         ensures ok { IfOk result (λ turn. Enters self.old driver (Begin what) turn self.new) }
+        ensures kind { IfOk result (λ turn. is_answer_to (Begin what) turn ≡ true) }
         ensures room { IfOk result (λ turn. is_going turn ≡ true → self.old.credits + steps_left self.new ≤ self.old.spent + log.new.room) }
         ensures entries { log.new.entries ≡ log.old.entries }
         ensures kept { log.old.room ≤ log.new.room }
@@ -214,19 +218,30 @@ impl<B: Bank> Machine<B> {
         }
     }
 
-    /// Begins another call.
-    pub(crate) fn begin(&mut self, driver: u32, what: Sleeping) -> Result<Turn, NoMemory>
+    /// Begins another call, with room in the log for the entries of its steps.
+    pub(crate) fn begin(
+        &mut self,
+        log: &mut Log,
+        driver: u32,
+        what: Sleeping,
+    ) -> Result<Turn, NoMemory>
         requires credit { self.old.spent < self.old.credits }
         requires quiet { self.old.flight.going ≡ false }
         requires place { IsPlaced self.old.desc.defs what }
         requires other { is_worked_out what ≡ false }
+        requires paid { self.old.credits ≤ self.old.spent + log.old.room }
         ensures ok { IfOk result (λ turn. Enters self.old driver (Begin what) turn self.new) }
+        ensures kind { IfOk result (λ turn. is_answer_to (Begin what) turn ≡ true) }
+        ensures room { IfOk result (λ turn. is_going turn ≡ true → self.old.credits + steps_left self.new ≤ self.old.spent + log.new.room) }
+        ensures entries { log.new.entries ≡ log.old.entries }
+        ensures kept { log.old.room ≤ log.new.room }
         ensures err { OnErr result (self.new ≡ self.old) }
         ensures memory { takes_memory what ≡ false → IsOk result }
+        ensures needs { OnErr result ((s : State) → Stands self.old s → NeedsMemory s driver what) }
     {
         match what {
-            Sleeping::Prepare(handle) => self.begin_prepare(driver, handle),
-            Sleeping::Unprepare(handle) => self.begin_unprepare(driver, handle),
+            Sleeping::Prepare(handle) => self.begin_prepare(log, driver, handle),
+            Sleeping::Unprepare(handle) => self.begin_unprepare(log, driver, handle),
             _ => Ok(Turn::Done(self.answer(driver, what)?)),
         }
     }

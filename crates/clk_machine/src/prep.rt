@@ -4,7 +4,7 @@ ghost use Rattle.std.specs.Prelude.{◌≡◌, false, None, Some, IfOk, IsOk, On
 ghost use Rattle.clk_model.specs.Journal.{is_going};
 ghost use Rattle.clk_model.specs.State.{State};
 ghost use Rattle.clk_machine.specs.Along.{KeepsShape};
-ghost use Rattle.clk_machine.specs.Copied.{Follows, IsCopyOf, IsDecided, StaysCopy, room_after};
+ghost use Rattle.clk_machine.specs.Copied.{AreDecided, Follows, IsCopyOf, IsDecided, StaysCopy, room_after};
 ghost use Rattle.clk_machine.specs.Sound.{IsPlaced, takes_memory};
 
 mod creating;
@@ -16,7 +16,7 @@ mod words;
 
 use self::ending::end_with;
 use self::following::go_on;
-use self::ready::{Ready, make_ready};
+use self::ready::{Ready, make_decided, make_ready};
 use self::words::Words;
 use crate::decision::Decision;
 use crate::machine::{Machine, is_asking, is_planning};
@@ -79,6 +79,8 @@ impl Prep {
         requires place { IsPlaced self.now.parts.desc.defs what.now }
         // It is decided so over the prepare tier's part of each state that the copy is of.
         ensures decides { IfOk result (λ decision. (s : State) → IsCopyOf self.now s → IsDecided s driver what.now decision) }
+        // So it is in each sound state that its parts stand for.
+        ensures here { IfOk result (AreDecided self.now.parts driver what.now) }
         // Memory can run out only if the call takes memory.
         ensures memory { takes_memory what.now ≡ false → IsOk result }
     {
@@ -94,8 +96,8 @@ impl Prep {
         Ok(Decision::Inside)
     }
 
-    /// Makes what a call goes on with in the copy, before it begins. The one error is want of memory,
-    /// and leaves the copy as it was.
+    /// Makes what a call goes on with in the copy, before it begins: of a call that plans it is made from
+    /// the plan that was decided. The one error is want of memory, and leaves the copy as it was.
     pub fn reserve(
         &mut self,
         driver: u32,
@@ -106,6 +108,8 @@ impl Prep {
         requires quiet { self.old.parts.flight.going ≡ false }
         // The clocks that the call names are clocks of the description.
         requires place { IsPlaced self.old.parts.desc.defs what.now }
+        // It was decided so over this copy.
+        requires decided { AreDecided self.old.parts driver what.now decision.now }
         // The copy is of what it was of.
         ensures stays { StaysCopy self.old self.new }
         // Still no call is in flight in it.
@@ -118,6 +122,22 @@ impl Prep {
         ensures err { OnErr result (self.new ≡ self.old) }
         // That can be only if the call takes memory.
         ensures memory { takes_memory what.now ≡ false → IsOk result }
+    {
+        self.spare.flight.end();
+        make_decided(&mut self.machine, &mut self.spare, driver, *what, decision)?;
+        swap(&mut self.ready, &mut self.spare);
+        self.room = Some((driver, *what));
+        Ok(())
+    }
+
+    // Makes what a call goes on with in the copy that was not decided over it. The one error is want of
+    // memory.
+    fn reserve_anew(&mut self, driver: u32, what: &Sleeping) -> Result<(), NoMemory>
+        requires quiet { self.old.parts.flight.going ≡ false }
+        requires place { IsPlaced self.old.parts.desc.defs what.now }
+        ensures stays { OnOk result (StaysCopy self.old self.new) }
+        ensures same { OnOk result (KeepsShape self.old.parts self.new.parts) }
+        ensures room { OnOk result (self.new.room ≡ Some (driver, what.now)) }
     {
         self.spare.flight.end();
         make_ready(&mut self.machine, &mut self.spare, driver, *what)?;

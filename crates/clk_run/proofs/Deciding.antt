@@ -8,7 +8,7 @@ use Rattle.bundle_text.specs.declared.reason.Reason.{Reason}
 use Rattle.clk_io.specs.declared.reading.TheConstants.{MOST_BYTES}
 use Rattle.drv_scripts.specs.Verdict.{Accepts, Refuses}
 use Rattle.drv_scripts.proofs.Verdicts.{never_both}
-use Rattle.clk_run.specs.Outcomes.{bytes_of, TakesBytes, GivesBundle, RefusesSource, RefusesInput, Decides}
+use Rattle.clk_run.specs.Outcomes.{bytes_of, TakesBytes, GivesBundle, RefusesSource, RefusesInput, Reaches, Decides}
 
 -- what was taken to the end is what was left
 taken_all : (left left' : Option (List ℕ)) (bytes read : List ℕ) → left ≡ Some bytes → TakesAll MOST_BYTES left left' read → read ≡ bytes
@@ -43,12 +43,12 @@ never_too_many left left' bytes is few more =
     omega arith
 
 -- a bundle was taken
-pub gives_decides : (made : Option ℕ) (left left' : Option (List ℕ)) (b : Bundle) → GivesBundle made left left' b → Decides made left 0
-gives_decides made left left' b gives = record {
-  accepts = λ bytes c is spelled. inl refl;
+pub gives_decides : (made : Option ℕ) (left left' : Option (List ℕ)) (b : Bundle) (ends : ℕ → Type 0) → GivesBundle made left left' b → ends 0 → Decides made left ends
+gives_decides made left left' b ends gives end = record {
+  accepts = λ bytes c is spelled. end;
   refuses = λ bytes line reason is no.
       absurd (never_both bytes b line reason (subst (λ (xs : List ℕ). Accepts xs b) (takes_all made left left' bytes gives.0 is gives.1) gives.2) no);
-  measured = λ drivers is. inl refl;
+  measured = λ drivers is. end;
 }
 
 -- what a source had left is refused
@@ -58,10 +58,19 @@ source_refused left left' line reason bytes b is spelled (inr all) =
     never_both bytes b line reason spelled (subst (λ (xs : List ℕ). Refuses xs line reason) (taken_all left left' bytes all.0 is all.1) all.2)
 
 -- the bytes that were taken are refused
-pub refuses_decides : (made : Option ℕ) (left left' : Option (List ℕ)) (line : ℕ) (reason : Reason) → RefusesInput made left left' line reason → Decides made left 2
-refuses_decides None left left' line reason refuses = record {
+pub refuses_decides : (made : Option ℕ) (left left' : Option (List ℕ)) (line : ℕ) (reason : Reason) (ends : ℕ → Type 0) → RefusesInput made left left' line reason → ends 2
+    → Decides made left ends
+refuses_decides None left left' line reason ends refuses end = record {
   accepts = λ bytes b is spelled. absurd (source_refused left left' line reason bytes b is spelled refuses);
-  refuses = λ bytes other why is not. inl refl;
+  refuses = λ bytes other why is not. end;
   measured = λ drivers is. absurd (cc);
 }
-refuses_decides (Some drivers) left left' line reason refuses = absurd refuses
+refuses_decides (Some drivers) left left' line reason ends refuses end = absurd refuses
+
+-- when memory ran out
+pub memory_decides : (made : Option ℕ) (left : Option (List ℕ)) (status : ℕ) → status ≡ 3 → Decides made left (Reaches status)
+memory_decides made left status three = record {
+  accepts = λ bytes b is spelled. inr three;
+  refuses = λ bytes line reason is not. inr three;
+  measured = λ drivers is. inr three;
+}

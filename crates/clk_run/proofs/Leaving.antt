@@ -2,7 +2,7 @@
 use Rattle.std.proofs.Common.{◌≡◌, ℕ, Bool, true, List, Option, Some, None, Result, Ok, Err, refl, sym, ap, subst, ◌∙◌, inl, inr, arith}
 use Rattle.std.specs.Prelude.{is_some, take, drop, IfSome, IfOk, IfErr}
 use Rattle.std.specs.Option.{option_map}
-use Rattle.clk_io.specs.Counts.{CountsPrintFault, RisesAtWrite}
+use Rattle.clk_io.specs.Counts.{Rose, CountsPrintFault, RisesAtWrite}
 use Rattle.clk_io.specs.declared.faults.PrintFault.{PrintFault}
 use Rattle.clk_io.specs.declared.faults.PrintFault.TheVariants as print_fault
 use Rattle.clk_base.specs.declared.command.Answer.{Answer}
@@ -113,14 +113,14 @@ pub same_behind : (contents before behind : Option (List ℕ)) (size words bundl
 same_behind contents before behind size words bundle has kept same all =
     ap (λ (n : ℕ). option_map (drop n) contents) (sym same) ∙ has ∙ kept ∙ ap (λ (n : ℕ). option_map (drop n) before) all
 
--- where memory ran out before anything was printed, nothing was left, and no fault was counted
+-- when memory ran out before anything was printed, nothing was left, and no fault is told
 pub none_left : {T : Type 0} (b : Bundle) (cli : Cli) (told : Telling) (old : Option (List ℕ)) (r : Result T PrintFault) (e : PrintFault) → r ≡ Err e → e ≡ print_fault.NoMemory
     → IfErr r (LeftByFault b cli told old old)
 none_left b cli told old r e is why =
     subst (λ (q : Result _ PrintFault). IfErr q (LeftByFault b cli told old old)) (sym is) (subst (LeftByFault b cli told old old) (sym why) (inl refl))
 
 pub none_risen : {T : Type 0} (n : ℕ) (r : Result T PrintFault) (e : PrintFault) → r ≡ Err e → e ≡ print_fault.NoMemory → CountsPrintFault n n r
-none_risen n r e is why = subst (λ (q : Result _ PrintFault). CountsPrintFault n n q) (sym is) (subst (RisesAtWrite n n) (sym why) refl)
+none_risen n r e is why = subst (λ (q : Result _ PrintFault). CountsPrintFault n n q) (sym is) (subst (RisesAtWrite n n) (sym why) tt)
 
 -- a fault with status 5 left a front of the text
 pub front_by : (b : Bundle) (cli : Cli) (told : Telling) (old new : Option (List ℕ)) (fault : PrintFault) (status : ℕ) → LeftByFault b cli told old new fault → status ≡ status_of fault → status ≡ 5
@@ -134,3 +134,13 @@ pub short_by : (b : Bundle) (cli : Cli) (before : Option (List ℕ)) (lock : ℕ
 short_by b cli before lock left left' old new print_fault.Write status gives by is three = absurd (omega (arith, is, three))
 short_by b cli before lock left left' old new print_fault.NoMemory status gives (inl same) is three = inl (takes_some (generates cli.mode) left left' b gives, same)
 short_by b cli before lock left left' old new print_fault.NoMemory status gives (inr front) is three = inr (inl (b, gives, front))
+
+-- the status of a fault is that of a write only if the sink's count rose
+pub rose_by : (before now : ℕ) (fault : PrintFault) (status : ℕ) → RisesAtWrite before now fault → status ≡ status_of fault → status ≡ 5 → Rose before now
+rose_by before now print_fault.Write status rises is five = rises
+rose_by before now print_fault.NoMemory status rises is five = absurd (omega (arith, is, five))
+
+-- so it is that of memory if the count didn't rise
+pub memory_by : (before now : ℕ) (fault : PrintFault) (status : ℕ) → RisesAtWrite before now fault → status ≡ status_of fault → (Rose before now → ⊥) → status ≡ 3
+memory_by before now print_fault.Write status rises is not = absurd (not rises)
+memory_by before now print_fault.NoMemory status rises is not = is

@@ -1,3 +1,4 @@
+pub mod BundleNames
 pub mod RunTexts
 pub mod Readiness
 pub mod Deciding

@@ -32,8 +32,8 @@ spelled_stops old new bytes (Err stop.Read) takes stops = absurd stops
 spelled_stops old new bytes (Err stop.NoMemory) takes stops = (bytes, takes.fits, takes.taken)
 
 -- what bytes spell is decided without a read
-pub spelled_counts : (bytes : List ℕ) (before now : ℕ) (r : Result Bundle Stop) → now ≡ before → IfErr r (StopsSpelling bytes) → CountsStop before now r
-spelled_counts bytes before now (Ok b) same stops = same
-spelled_counts bytes before now (Err (stop.Refused line reason)) same stops = same
-spelled_counts bytes before now (Err stop.Read) same stops = absurd stops
-spelled_counts bytes before now (Err stop.NoMemory) same stops = same
+pub spelled_counts : (bytes : List ℕ) (before now : ℕ) (r : Result Bundle Stop) → IfErr r (StopsSpelling bytes) → CountsStop before now r
+spelled_counts bytes before now (Ok b) stops = tt
+spelled_counts bytes before now (Err (stop.Refused line reason)) stops = tt
+spelled_counts bytes before now (Err stop.Read) stops = absurd stops
+spelled_counts bytes before now (Err stop.NoMemory) stops = tt

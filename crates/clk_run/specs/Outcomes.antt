@@ -1,12 +1,12 @@
 -- What a program that ran a bundle did, and why.
-use Rattle.std.specs.Prelude.{◌≡◌, ◌⊎◌, ◌==◌, if◌then◌else◌, ℕ, List, Option, Some, None, Result, MatchResult, max, min}
+use Rattle.std.specs.Prelude.{◌≡◌, ◌⊎◌, ⊤, ℕ, List, Option, Some, None, Result, IfErr, max, min}
 use Rattle.std.specs.Io.KnownBytes.{Appends}
 use Rattle.clk_cli.specs.declared.cli.Cli.{Cli}
 use Rattle.clk_cli.specs.declared.cli.Mode.{Mode}
 use Rattle.clk_cli.specs.declared.cli.Mode.TheVariants.{Check, Sim, Run, Bench}
 use Rattle.clk_cli.specs.Usage.{usage_line}
 use Rattle.clk_gen.specs.Generated.{generated}
-use Rattle.clk_io.specs.Counts.{Rose, counted}
+use Rattle.clk_io.specs.Counts.{Rose}
 use Rattle.clk_io.specs.Streams.{TakesAll, TakesMore, TakesSome, AppendsFront}
 use Rattle.clk_io.specs.declared.faults.PrintFault.{PrintFault}
 use Rattle.clk_io.specs.declared.faults.PrintFault.TheVariants as print_fault
@@ -68,15 +68,15 @@ StopsReading made old new (stop.Refused line reason) = RefusesInput made old new
 StopsReading made old new stop.Read = (made ≡ None) × TakesSome MOST_BYTES old new
 StopsReading made old new stop.NoMemory = TakesSome MOST_BYTES old new
 
--- a source's count of faults rises where a read failed, and stands where its bytes are refused or memory ran out
+-- a read has failed only if the source's count of faults rose; bytes are refused and memory runs out whether it did or not
 abbrev pub RisesAtStop : ℕ → ℕ → Stop → Type 0
-RisesAtStop before now (stop.Refused line reason) = now ≡ before
+RisesAtStop before now (stop.Refused line reason) = ⊤
 RisesAtStop before now stop.Read = Rose before now
-RisesAtStop before now stop.NoMemory = now ≡ before
+RisesAtStop before now stop.NoMemory = ⊤
 
--- a source's count of faults rises where a read failed, and stands at every other answer
+-- the answer that a read failed comes only if the source's count of faults rose
 abbrev pub CountsStop : {T : Type 0} → ℕ → ℕ → Result T Stop → Type 0
-CountsStop before now r = MatchResult r (λ _. now ≡ before) (RisesAtStop before now)
+CountsStop before now r = IfErr r (RisesAtStop before now)
 
 -- ---- statuses
 
@@ -88,10 +88,6 @@ status_of print_fault.NoMemory = 3
 -- the statuses of a program that could read its words
 abbrev pub IsRunStatus : ℕ → Type 0
 IsRunStatus status = (status ≡ 0) ⊎ ((status ≡ 2) ⊎ ((status ≡ 3) ⊎ ((status ≡ 4) ⊎ (status ≡ 5))))
-
--- a count of faults behind a run: one more where the status is the one of such a fault, and the same at every other status
-abbrev pub count_behind : ℕ → ℕ → ℕ → ℕ
-count_behind fault status before = if status == fault then counted before else before
 
 -- a bank by what it tells: its words, and how many polls the lock of each PLL asks for
 pub record Told : Type 0 where
@@ -132,14 +128,23 @@ Short cli before lock left left' written written' = (TakesSome MOST_BYTES left l
 
 -- the status is this one, unless memory ran out, a read failed or a write failed
 abbrev pub EndsWith : ℕ → ℕ → Type 0
-EndsWith wanted status = (status ≡ wanted) ⊎ ((status ≡ 3) ⊎ ((status ≡ 4) ⊎ (status ≡ 5)))
+EndsWith status wanted = (status ≡ wanted) ⊎ ((status ≡ 3) ⊎ ((status ≡ 4) ⊎ (status ≡ 5)))
+
+-- the status is this one, unless memory ran out
+abbrev pub Reaches : ℕ → ℕ → Type 0
+Reaches status wanted = (status ≡ wanted) ⊎ (status ≡ 3)
+
+-- neither the source's count of faults rose nor the sink's
+pub record NeitherRose (read read' wrote wrote' : ℕ) : Type 0 where
+  pub source : Rose read read' → ⊥
+  pub sink : Rose wrote wrote' → ⊥
 
 -- where a command's bytes are known, those that spell a bundle that can be run end in status 0, and those that are refused in status 2; a
 -- generated bundle ends in status 0
-pub record Decides (made : Option ℕ) (left : Option (List ℕ)) (status : ℕ) : Type 0 where
-  pub accepts : (bytes : List ℕ) (b : Bundle) → bytes_of made left ≡ Some bytes → Accepts bytes b → EndsWith 0 status
-  pub refuses : (bytes : List ℕ) (line : ℕ) (reason : Reason) → bytes_of made left ≡ Some bytes → Refuses bytes line reason → EndsWith 2 status
-  pub measured : (drivers : ℕ) → made ≡ Some drivers → EndsWith 0 status
+pub record Decides (made : Option ℕ) (left : Option (List ℕ)) (ends : ℕ → Type 0) : Type 0 where
+  pub accepts : (bytes : List ℕ) (b : Bundle) → bytes_of made left ≡ Some bytes → Accepts bytes b → ends 0
+  pub refuses : (bytes : List ℕ) (line : ℕ) (reason : Reason) → bytes_of made left ≡ Some bytes → Refuses bytes line reason → ends 2
+  pub measured : (drivers : ℕ) → made ≡ Some drivers → ends 0
 
 -- ---- the program, by what its words mean
 
@@ -174,6 +179,6 @@ abbrev pub MeansShort : Option Cli → Option (List ℕ) → (ℕ → Option Pll
 MeansShort meant before lock left left' written written' = (TakesSome MOST_BYTES left left' × (written' ≡ written)) ⊎ MeansUnwritten meant before lock left left' written written'
 
 -- words that mean nothing end in status 1, and for the others the bytes decide
-abbrev pub MeansDecided : Option Cli → Option (List ℕ) → ℕ → Type 0
-MeansDecided None left status = EndsWith 1 status
-MeansDecided (Some cli) left status = Decides (generates cli.mode) left status
+abbrev pub MeansDecided : Option Cli → Option (List ℕ) → (ℕ → Type 0) → Type 0
+MeansDecided None left ends = ends 1
+MeansDecided (Some cli) left ends = Decides (generates cli.mode) left ends

@@ -2,7 +2,8 @@
 
 ghost use Rattle.std.specs.Prelude.{◌≡◌, ◌≤◌, ◌==◌, ℕ, Some, is_some};
 ghost use Rattle.std.specs.Option.{option_map};
-ghost use Rattle.clk_run.specs.Outcomes.{generates, told_of, IsRunStatus, Done, Refused, Unread, Unwritten, Short, Decides, count_behind, status_of};
+ghost use Rattle.clk_io.specs.Counts.{Rose};
+ghost use Rattle.clk_run.specs.Outcomes.{generates, told_of, IsRunStatus, Done, Refused, Unread, Unwritten, Short, Decides, EndsWith, NeitherRose, Reaches, status_of};
 
 use crate::refusal::print_refusal;
 use crate::run_bundle::run_bundle;
@@ -49,20 +50,23 @@ pub fn simulate<S: Source, K: Sink, B: Bank>(
     ensures back { is_some result.1 ≡ (result.0 == 0) }
     // 2: the bundle isn't a generated one, what was left of the source is refused, and the line that says where and why was written.
     ensures refused { result.0 ≡ 2 → Refused cli.now (S.left input.old) (S.left input.new) (K.written out.old) (K.written out.new) }
-    // The source's count of faults rises by one at 4, and stands at every other status.
-    ensures reads { S.faults input.new ≡ count_behind 4 result.0 (S.faults input.old) }
+    // 4 comes only if the source's count of faults rose.
+    ensures reads { result.0 ≡ 4 → Rose (S.faults input.old) (S.faults input.new) }
     // 4: the bundle isn't a generated one, no more of the source was taken than a bundle may have, and the sink is as it was.
     ensures unread { result.0 ≡ 4 → Unread cli.now (S.left input.old) (S.left input.new) out.old out.new }
     // For a generated bundle nothing is read.
     ensures unasked { (drivers : ℕ) → generates cli.now.mode ≡ Some drivers → input.new ≡ input.old }
-    // The sink's count of faults rises by one at 5, and stands at every other status.
-    ensures writes { K.faults out.new ≡ count_behind 5 result.0 (K.faults out.old) }
+    // 5 comes only if the sink's count of faults rose.
+    ensures writes { result.0 ≡ 5 → Rose (K.faults out.old) (K.faults out.new) }
     // 5: a front of the text of a run was written, or of a refusal's line.
     ensures unwritten { result.0 ≡ 5 → Unwritten cli.now (B.contents bank) (B.lock bank) (S.left input.old) (S.left input.new) (K.written out.old) (K.written out.new) }
     // 3: nothing was written, and no more was taken of the source than a bundle may have, or such a front was.
     ensures short { result.0 ≡ 3 → Short cli.now (B.contents bank) (B.lock bank) (S.left input.old) (S.left input.new) (K.written out.old) (K.written out.new) }
     // What the source has left decides between 0 and 2, and a generated bundle ends in 0, unless the status is 3, 4 or 5.
-    ensures decided { Decides (generates cli.now.mode) (S.left input.old) result.0 }
+    ensures decided { Decides (generates cli.now.mode) (S.left input.old) (EndsWith result.0) }
+    // If neither count of faults rose, it is so unless the status is 3.
+    ensures complete { NeitherRose (S.faults input.old) (S.faults input.new) (K.faults out.old) (K.faults out.new)
+        → Decides (generates cli.now.mode) (S.left input.old) (Reaches result.0) }
     // Source and sink tell their bytes as before.
     ensures tells { (is_some (S.left input.new) ≡ is_some (S.left input.old)) × (is_some (K.written out.new) ≡ is_some (K.written out.old)) }
     // No count of faults falls.

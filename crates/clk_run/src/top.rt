@@ -4,7 +4,8 @@ ghost use Rattle.std.specs.Prelude.{◌≡◌, ◌≤◌, ◌==◌, ℕ, None, S
 ghost use Rattle.std.specs.Option.{option_map};
 ghost use Rattle.clk_cli.specs.Meaning.{texts, meaning};
 ghost use Rattle.clk_cli.specs.declared.cli.Cli.{Cli};
-ghost use Rattle.clk_run.specs.Outcomes.{generates, told_of, IsStatus, MeansNothing, MeansDone, MeansRefused, MeansUnread, MeansUnwritten, MeansShort, MeansDecided, count_behind};
+ghost use Rattle.clk_io.specs.Counts.{Rose};
+ghost use Rattle.clk_run.specs.Outcomes.{generates, told_of, IsStatus, MeansNothing, MeansDone, MeansRefused, MeansUnread, MeansUnwritten, MeansShort, MeansDecided, EndsWith, NeitherRose, Reaches};
 ghost use Rattle.clk_run.specs.Runs.{has_threads};
 
 use crate::side_by_side::run_side_by_side;
@@ -59,24 +60,29 @@ pub fn clkbench<
     ensures back { is_some result.1 ≡ (result.0 == 0) }
     // 2: the words ask for a run that reads a source, its bytes are refused, and the line that says where and why was written.
     ensures refused { result.0 ≡ 2 → MeansRefused (meaning (texts words.now)) (S.left input.old) (S.left input.new) (K.written out.old) (K.written out.new) }
-    // The source's count of faults rises by one at 4, and stands at every other status.
-    ensures reads { S.faults input.new ≡ count_behind 4 result.0 (S.faults input.old) }
+    // 4 comes only if the source's count of faults rose.
+    ensures reads { result.0 ≡ 4 → Rose (S.faults input.old) (S.faults input.new) }
     // 4: the words ask for a run that reads a source, no more of it was taken than a bundle may have, and the sink is as it was.
     ensures unread { result.0 ≡ 4 → MeansUnread (meaning (texts words.now)) (S.left input.old) (S.left input.new) out.old out.new }
     // Where the words mean nothing, nothing is read.
     ensures unmeant { meaning (texts words.now) ≡ None → input.new ≡ input.old }
     // Under `bench` nothing is read.
     ensures unasked { (cli : Cli) → (drivers : ℕ) → meaning (texts words.now) ≡ Some cli → generates cli.mode ≡ Some drivers → input.new ≡ input.old }
-    // The sink's count of faults rises by one at 5, and stands at every other status.
-    ensures writes { K.faults out.new ≡ count_behind 5 result.0 (K.faults out.old) }
+    // 5 comes only if the sink's count of faults rose.
+    ensures writes { result.0 ≡ 5 → Rose (K.faults out.old) (K.faults out.new) }
     // 5: a front of the text of a run was written, of a refusal's line or of the usage line.
     ensures unwritten { result.0 ≡ 5 → MeansUnwritten (meaning (texts words.now)) (B.contents bank) (B.lock bank) (S.left input.old) (S.left input.new) (K.written out.old) (K.written out.new) }
     // 3: nothing was written, and no more was taken of the source than a bundle may have, or such a front was.
     ensures short { result.0 ≡ 3 → MeansShort (meaning (texts words.now)) (B.contents bank) (B.lock bank) (S.left input.old) (S.left input.new) (K.written out.old) (K.written out.new) }
     // Words that mean nothing end in 1, and for the others what the source has left decides between 0 and 2, and a generated bundle ends in 0, unless the status is 3, 4 or 5.
-    ensures decided { MeansDecided (meaning (texts words.now)) (S.left input.old) result.0 }
+    ensures decided { MeansDecided (meaning (texts words.now)) (S.left input.old) (EndsWith result.0) }
+    // If neither count of faults rose, it is so unless the status is 3.
+    ensures complete { NeitherRose (S.faults input.old) (S.faults input.new) (K.faults out.old) (K.faults out.new)
+        → MeansDecided (meaning (texts words.now)) (S.left input.old) (Reaches result.0) }
     // Source and sink tell their bytes as before.
     ensures tells { (is_some (S.left input.new) ≡ is_some (S.left input.old)) × (is_some (K.written out.new) ≡ is_some (K.written out.old)) }
+    // No count of faults falls.
+    ensures later { (S.faults input.old ≤ S.faults input.new) × (K.faults out.old ≤ K.faults out.new) }
 {
     let alloc = rt.alloc();
     match clk_cli::words(alloc, words) {

@@ -2,7 +2,8 @@
 use Rattle.std.specs.Prelude.{◌≡◌, ℕ, ◌++◌, List, [], ◌∷◌, true, false, Option, Result}
 use Rattle.clk_base.specs.Description.{Description, name_of}
 use Rattle.clk_base.specs.declared.event.Entry.{Entry}
-use Rattle.clk_io.specs.Gathers.{Gathers}
+use Rattle.clk_io.specs.Gathers.{Gathers, StaysGathered}
+use Rattle.clk_io.specs.declared.faults.PrintFault.{PrintFault}
 use Rattle.clk_machine.specs.declared.row.Row.{Row}
 use Rattle.clk_machine.specs.Run.{Run, now_of, was_registered}
 use Rattle.clk_model.specs.Summary.{header, summary}
@@ -41,3 +42,15 @@ pub record IsTable (defs : Description) (journal : List Entry) (text : List ℕ)
 pub record IsSummary (run : Run) (text : List ℕ) : Type 0 where
   pub told : run.told ≡ true → text ≡ summary (now_of run)
   pub untold : run.told ≡ false → IsTable run.start.defs run.journal text
+
+-- after a fault some of a text of such lines stays gathered, or nothing
+pub record StaysLines (run : Run) (old new : Option (List ℕ)) (before after : List ℕ) (fault : PrintFault) : Type 0 where
+  pub text : List ℕ
+  pub lines : HasLines run.start.defs run.journal text
+  pub stays : StaysGathered old new before after text fault
+
+-- after a fault some of what is printed of a core stays gathered, or nothing
+pub record StaysSummary (run : Run) (old new : Option (List ℕ)) (before after : List ℕ) (fault : PrintFault) : Type 0 where
+  pub text : List ℕ
+  pub summary : IsSummary run text
+  pub stays : StaysGathered old new before after text fault

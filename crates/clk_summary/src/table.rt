@@ -1,16 +1,16 @@
 //! Prints the table.
 
-ghost use Rattle.std.specs.Prelude.{◌≡◌, ℕ, List, ◌+◌, ◌-◌, ◌<◌, ◌≤◌, ◌++◌, true, Some, length, slice_get, flat_map, is_some, IfSome};
+ghost use Rattle.std.specs.Prelude.{◌≡◌, ℕ, List, ◌+◌, ◌-◌, ◌<◌, ◌≤◌, ◌++◌, true, Some, length, slice_get, flat_map, is_some, IfErr, IfSome};
 ghost use Rattle.std.specs.Option.{option_map};
 ghost use Rattle.clk_base.specs.Levels.{depth};
 ghost use Rattle.clk_io.specs.Counts.{CountsPrintFault};
-ghost use Rattle.clk_io.specs.Gathers.{Gathers};
+ghost use Rattle.clk_io.specs.Gathers.{Gathers, StaysGathered};
 ghost use Rattle.clk_machine.specs.Run.{now_of};
 ghost use Rattle.clk_model.specs.State.{registered};
 ghost use Rattle.clk_model.specs.Summary.{lines_within, summary, summary_line};
 ghost use Rattle.clk_model.specs.Tree.{roots, orphans};
 ghost use Rattle.clk_summary.specs.Rows.{tops};
-ghost use Rattle.clk_summary.specs.Tables.{GathersLines, IsSummary};
+ghost use Rattle.clk_summary.specs.Tables.{GathersLines, IsSummary, StaysLines, StaysSummary};
 
 use crate::row::RowText;
 use clk_base::{ClockId, depth};
@@ -39,6 +39,9 @@ pub fn print_summary<B: Bank, K: Sink>(
     // Where the bank tells its words the summary of the core's state was gathered or written, else a
     // table of clocks that were registered; after a fault a front of it was written.
     ensures gathers { (text : List ℕ) × IsSummary core.now text × Gathers (K.written out.old) (K.written out.new) gathered.old gathered.new text result }
+    // Out of memory, the lines so far are gathered or written and none is lost; after a write that
+    // failed nothing is gathered.
+    ensures stays { IfErr result (StaysSummary core.now (K.written out.old) (K.written out.new) gathered.old gathered.new) }
     ensures tells { is_some (K.written out.new) ≡ is_some (K.written out.old) }
     ensures later { K.faults out.old ≤ K.faults out.new }
     ensures counts { CountsPrintFault (K.faults out.old) (K.faults out.new) result }
@@ -58,6 +61,10 @@ fn print_tops<B: Bank, K: Sink>(
         → Gathers (K.written out.old) (K.written out.new) gathered.old gathered.new
         (flat_map (lines_within depth (now_of core.now) 0) (tops (now_of core.now))) result }
     ensures lines { GathersLines core.now (K.written out.old) (K.written out.new) gathered.old gathered.new result }
+    ensures stays { core.now.told ≡ true
+        → IfErr result (StaysGathered (K.written out.old) (K.written out.new) gathered.old gathered.new
+        (flat_map (lines_within depth (now_of core.now) 0) (tops (now_of core.now)))) }
+    ensures lines_stay { IfErr result (StaysLines core.now (K.written out.old) (K.written out.new) gathered.old gathered.new) }
     ensures tells { is_some (K.written out.new) ≡ is_some (K.written out.old) }
     ensures later { K.faults out.old ≤ K.faults out.new }
     ensures counts { CountsPrintFault (K.faults out.old) (K.faults out.new) result }
@@ -100,6 +107,10 @@ fn print_tree<B: Bank, K: Sink>(
         → Gathers (K.written out.old) (K.written out.new) gathered.old gathered.new
         (lines_within (depth - level) (now_of core.now) level clock.0) result }
     ensures lines { GathersLines core.now (K.written out.old) (K.written out.new) gathered.old gathered.new result }
+    ensures stays { core.now.told ≡ true → registered (now_of core.now).clocks clock.0 ≡ true
+        → IfErr result (StaysGathered (K.written out.old) (K.written out.new) gathered.old gathered.new
+        (lines_within (depth - level) (now_of core.now) level clock.0)) }
+    ensures lines_stay { IfErr result (StaysLines core.now (K.written out.old) (K.written out.new) gathered.old gathered.new) }
     ensures tells { is_some (K.written out.new) ≡ is_some (K.written out.old) }
     ensures later { K.faults out.old ≤ K.faults out.new }
     ensures counts { CountsPrintFault (K.faults out.old) (K.faults out.new) result }
@@ -132,6 +143,7 @@ fn print_line<B: Bank, K: Sink>(
     ensures gathers { core.now.told ≡ true → (now_of core.now).defs ≡ core.now.start.defs → registered (now_of core.now).clocks clock.0 ≡ true
         → Gathers (K.written out.old) (K.written out.new) gathered.old gathered.new (summary_line (now_of core.now) level clock.0) result }
     ensures lines { GathersLines core.now (K.written out.old) (K.written out.new) gathered.old gathered.new result }
+    ensures stays { (text : List ℕ) → IfErr result (StaysGathered (K.written out.old) (K.written out.new) gathered.old gathered.new text) }
     ensures tells { is_some (K.written out.new) ≡ is_some (K.written out.old) }
     ensures later { K.faults out.old ≤ K.faults out.new }
     ensures counts { CountsPrintFault (K.faults out.old) (K.faults out.new) result }

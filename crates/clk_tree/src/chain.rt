@@ -1,6 +1,6 @@
 //! The chain of a plan.
 
-ghost use Rattle.std.specs.Prelude.{◌≡◌, ◌<◌, ◌++◌, ◌∷◌, [], Some, length, slice_get, OnOk};
+ghost use Rattle.std.specs.Prelude.{◌≡◌, ◌<◌, ◌++◌, ◌∷◌, [], Some, length, slice_get, OnErr, OnOk};
 
 use clk_base::ClockId;
 use clk_io::NoMemory;
@@ -63,7 +63,8 @@ impl PlannedChain {
 
     /// A step behind these. Want of memory is its one refusal.
     pub fn push(&mut self, step: ChainStep) -> Result<(), NoMemory>
-        ensures { OnOk result (self.new ≡ self.old ++ chain_of (step ∷ [])) }
+        ensures pushed { OnOk result (self.new ≡ self.old ++ chain_of (step ∷ [])) }
+        ensures err { OnErr result (self.new ≡ self.old) }
     {
         self.steps.push(step)?;
         Ok(())

@@ -1,6 +1,6 @@
 //! The rates that a plan gives the clocks of its walk.
 
-ghost use Rattle.std.specs.Prelude.{◌≡◌, ◌<◌, ◌++◌, ◌∷◌, [], true, Some, length, slice_get, OnOk};
+ghost use Rattle.std.specs.Prelude.{◌≡◌, ◌<◌, ◌++◌, ◌∷◌, [], true, Some, length, slice_get, OnErr, OnOk};
 ghost use Rattle.clk_model.specs.State.{registered};
 ghost use Rattle.clk_tree.specs.Plans.{AreThere, rates_of};
 
@@ -65,7 +65,8 @@ impl WalkRates {
 
     /// A clock with its rate behind these. Want of memory is its one refusal.
     pub fn push(&mut self, rate: WalkRate) -> Result<(), NoMemory>
-        ensures { OnOk result (self.new ≡ self.old ++ rates_of (rate ∷ [])) }
+        ensures pushed { OnOk result (self.new ≡ self.old ++ rates_of (rate ∷ [])) }
+        ensures err { OnErr result (self.new ≡ self.old) }
     {
         self.rates.push(rate)?;
         Ok(())

@@ -1,4 +1,4 @@
--- What is known of a line that says a clock: its name is no one's, and it has as many parents as its kind can have.
+-- What is known of a line that says a clock: its name is a clock's name and no one's, and it has as many parents as its kind can have.
 use Rattle.std.proofs.Common.{◌≡◌, ℕ, ◌<◌, ◌≤◌, Bool, true, false, not, List, [], ◌∷◌, length, take, drop, Option, Some, None, refl, ap, sym, subst, arith}
 use Rattle.std.specs.Prelude.{Result, Ok, Err, codes, nat_lt, nat_le, slice_index_or, if◌then◌else◌}
 use Rattle.std.specs.Option.{option_and_then}
@@ -19,10 +19,11 @@ use Rattle.clock_lines.specs.FlagWords.{are_flags, flags_of_words}
 use Rattle.clock_lines.specs.Kinds.{most_rate, most_number, ◌>>=◌, number, field_said, fixed_kind, factor_kind, gate_kind, mux_kind, divider_kind, pll_kind}
 use Rattle.clock_lines.specs.ClockLines.{with_flags, clock_said, fixed_line, factor_line, gate_line, mux_rest, mux_counted, mux_line, divider_line, pll_line, clock_line}
 
--- the name wasn't taken, it is the clock's, and the parents are as many as the kind can have
+-- the name wasn't taken, it is the clock's and is one of a clock, and the parents are as many as the kind can have
 pub record IsFine (taken : Bool) (name : List ℕ) (said : SaidClock) : Type 0 where
   pub fresh : taken ≡ false
   pub name_is : said.name ≡ name
+  pub named : is_clock_name said.name ≡ true
   pub parents : can_have_parents said.kind (length said.parents) ≡ true
 
 err_ok : {T E : Type 0} (e : E) (c : T) (r : Result T E) → r ≡ Err e → r ≡ Ok c → ⊥
@@ -41,6 +42,11 @@ if_ok false e r c h = absurd (err_ok e c _ refl h)
 if_either : {T E : Type 0} (P : Type 0) (b : Bool) (r s : Result T E) (c : T) → (if b then r else s) ≡ Ok c → (r ≡ Ok c → P) → (s ≡ Ok c → P) → P
 if_either P true r s c h first second = first h
 if_either P false r s c h first second = second h
+
+-- a test whose contrary fails
+passed : (b : Bool) → not b ≡ false → b ≡ true
+passed true h = refl
+passed false h = absurd (cc)
 
 -- ## The kinds
 
@@ -102,16 +108,17 @@ pll-parents field pword pbit nmin nmax m k h = pll_from field (number pword) (nu
 
 -- ## The lines
 
-with_flags-fine : (taken : Bool) (name : List ℕ) (kind : Option Kind) (parents flags : List (List ℕ)) (c : SaidClock) → taken ≡ false → with_flags name kind parents flags ≡ Ok c
-    → ((k : Kind) → kind ≡ Some k → CanHave (length parents) k) → IsFine taken name c
+with_flags-fine : (taken : Bool) (name : List ℕ) (kind : Option Kind) (parents flags : List (List ℕ)) (c : SaidClock) → taken ≡ false → is_clock_name name ≡ true
+    → with_flags name kind parents flags ≡ Ok c → ((k : Kind) → kind ≡ Some k → CanHave (length parents) k) → IsFine taken name c
 unfolding with_flags
-with_flags-fine taken name None parents flags c fresh h each = absurd (err_ok BadNumber c _ refl h)
-with_flags-fine taken name (Some k) parents flags c fresh h each =
+with_flags-fine taken name None parents flags c fresh named h each = absurd (err_ok BadNumber c _ refl h)
+with_flags-fine taken name (Some k) parents flags c fresh named h each =
     let made : SaidClock = record { name = name; kind = k; flags = flags_of_words flags; parents = parents } in
     let same : made ≡ c = ok_same made c _ refl (if_ok (are_flags k flags) BadFlag (Ok made) c h) in
     record {
       fresh = fresh;
       name_is = ap (λ (x : SaidClock). x.name) (sym same);
+      named = subst (λ (x : SaidClock). is_clock_name x.name ≡ true) same named;
       parents = subst (λ (x : SaidClock). can_have_parents x.kind (length x.parents) ≡ true) same (each k refl);
     }
 
@@ -121,7 +128,7 @@ unfolding clock_said
 clock_said-fine taken name kind parents flags c h each =
     let named = if_err (not (is_clock_name name)) BadName _ c h in
     let fresh = if_err taken TwiceNamed (with_flags name kind parents flags) c named.1 in
-    with_flags-fine taken name kind parents flags c fresh.0 fresh.1 each
+    with_flags-fine taken name kind parents flags c fresh.0 (passed (is_clock_name name) named.0) fresh.1 each
 
 -- the name of a line is its first word behind its kind
 abbrev FineLine : Bool → List (List ℕ) → SaidClock → Type 0

@@ -10,9 +10,10 @@ use Rattle.std.proofs.lemmas.List.{length-map, get_or-map, get_or-take, take_all
 use Rattle.std.proofs.lemmas.Option.{none-some, same_Some}
 use Rattle.bundle_text.specs.Firsts.{KeepsBelow, onto, said_from}
 use Rattle.bundle_text.specs.Lines.{line_at}
+use Rattle.bundle_text.specs.Names.{is_clock_name}
 use Rattle.bundle_text.specs.Words.{said_words}
 use Rattle.clk_base.specs.declared.clock.ClockDef.{ClockDef}
-use Rattle.clk_base.specs.Description.{Description, nobody, def_of, EachClock}
+use Rattle.clk_base.specs.Description.{Description, nobody, def_of, name_of, EachClock}
 use Rattle.clk_base.specs.Valid.{can_have_parents, has_its_parents}
 use Rattle.bundle_text.specs.declared.reason.Reason.{Reason}
 use Rattle.bundle_text.specs.declared.reason.Reason.TheVariants.{UnknownName}
@@ -35,9 +36,10 @@ err_none : {T E : Type 0} (r : Result T E) → result_err r ≡ None → (c : T)
 err_none (Ok c) h = (c, refl)
 err_none (Err e) h = absurd (none-some e (sym h))
 
--- the clock of a line without a fault has a name that no earlier clock has, and as many parents as its kind can have
+-- the clock of a line without a fault has a clock's name, which no earlier clock has, and as many parents as its kind can have
 pub record IsClockOf (earlier : List PlacedClock) (place : ℕ) (placed : PlacedClock) : Type 0 where
   pub place_is : placed.place ≡ place
+  pub named : is_clock_name placed.clock.name ≡ true
   pub fresh : is_named earlier placed.clock.name ≡ false
   pub parents : can_have_parents placed.clock.kind (length placed.clock.parents) ≡ true
 
@@ -63,7 +65,7 @@ clock-of earlier place (word ∷ rest) placed kept said =
     let made : PlacedClock = record { place = place; clock = ok.0 } in
     let same : made ≡ placed =
     same_Some made placed (sym (ap (λ r. option_map (λ (clock : SaidClock). record { place = place; clock = clock }) (result_ok r)) free) ∙ said) in
-    subst (IsClockOf earlier place) same (record { place_is = refl; fresh = ap (is_named earlier) fine.name_is ∙ fine.fresh; parents = fine.parents })
+    subst (IsClockOf earlier place) same (record { place_is = refl; named = fine.named; fresh = ap (is_named earlier) fine.name_is ∙ fine.fresh; parents = fine.parents })
 
 -- ## The clocks by their numbers
 
@@ -201,3 +203,15 @@ each-has_parents section clocks desc read found desc_is c lt =
     let count : length (map (place_of clocks) x.clock.parents) ≡ length x.clock.parents = length-map x.clock.parents (place_of clocks) in
     subst (λ (d : ClockDef). IsTrue (can_have_parents d.kind (length d.parents) && list_all (λ p. nat_lt p (length desc)) d.parents)) (sym def)
     (and_from _ _ (ap (can_have_parents x.clock.kind) count ∙ line.clock.parents) (places_within clocks (length desc) x.clock.parents size (found c low)))
+
+-- ## Names
+
+-- each clock of the description has a clock's name
+pub each-has_name : (section : List (List ℕ)) (clocks : List PlacedClock) (desc : Description) → IsRead section (length section) clocks → desc ≡ map (clock_in clocks) clocks
+    → EachClock desc (λ c. is_clock_name (name_of desc c))
+unfolding clock_in
+each-has_name section clocks desc read desc_is c lt =
+    let low : c < length clocks = omega (arith, ap length desc_is, length-map clocks (clock_in clocks)) in
+    let x = clock_number clocks c in
+    let def : def_of desc c ≡ clock_in clocks x = ap (λ ds. def_of ds c) desc_is ∙ get_or-map (clock_in clocks) clocks c no_clock nobody low in
+    subst (λ (d : ClockDef). IsTrue (is_clock_name d.name)) (sym def) (line-of section clocks c read low).clock.named

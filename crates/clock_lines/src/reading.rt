@@ -3,8 +3,9 @@
 ghost use Rattle.std.specs.Prelude.{◌≡◌, ◌<◌, ◌≤◌, ◌+◌, length, slice_range, IfOk, IfErr, MatchResult};
 ghost use Rattle.bundle_text.specs.Faults.{Tells};
 ghost use Rattle.bundle_text.specs.Words.{texts};
-ghost use Rattle.clk_base.specs.Description.{EachClock};
+ghost use Rattle.clk_base.specs.Description.{name_of, EachClock};
 ghost use Rattle.clk_base.specs.Valid.{has_its_parents};
+ghost use Rattle.bundle_text.specs.Names.{is_clock_name};
 ghost use Rattle.clock_lines.specs.Section.{name_word};
 ghost use Rattle.clock_lines.specs.Steps.{IsRead, TakesWords};
 ghost use Rattle.clock_lines.specs.Verdict.{FirstFault, Refuses, Spells};
@@ -110,6 +111,7 @@ pub fn read_clocks(
     requires few { length lines.now < 4294967295 }
     ensures ok { IfOk result (λ list. Spells from (slice_range lines.now from to) list.desc list.lines.items) }
     ensures parents { IfOk result (λ list. EachClock list.desc (has_its_parents list.desc)) }
+    ensures names { IfOk result (λ list. EachClock list.desc (λ c. is_clock_name (name_of list.desc c))) }
     ensures fits { IfOk result (λ list. length list.desc < 4294967295) }
     ensures fault { IfErr result (Tells (Refuses from (slice_range lines.now from to))) }
 {

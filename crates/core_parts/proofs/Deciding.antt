@@ -38,7 +38,7 @@ use Rattle.notifiers.specs.declared.notifier.Notifier.{Notifier}
 use Rattle.rate_planner.specs.Kept.{wired}
 use Rattle.rate_planner.specs.Walks.{walked_rates}
 use Rattle.change_walk.specs.Given as given
-use Rattle.change_walk.specs.Given.{Script, HasFewNotifiers, IsTold, OfPlan}
+use Rattle.change_walk.specs.Given.{Script, IsTold, OfPlan}
 use Rattle.change_walk.proofs.Leading.{request_fits}
 use Rattle.core_parts.specs.Decisions as decided
 use Rattle.core_parts.specs.Decisions.{Decision}
@@ -98,14 +98,16 @@ module _ {desc : Checked} {window : Shown} {tree : TreeState} {s : State} (on : 
   -- what a script is told of the state
   pub script_told : (chains : List (List Notifier)) (held : ℕ → Bool) → AreItsNotifiers chains s → ((c : ℕ) → held c ≡ prepared s c) → IsTold s tree held chains
   script_told chains held its same = record {
-    defs = on.defs ∙ sym tied.defs;
-    clocks = on.clocks;
-    order = on.order;
-    kept = λ c there.
-        (subst (λ (o : Option (List ℕ)). AreKept desc.defs o tree.clocks tree.rates) on.regs tied.kept) c there
-        ∙ sym (ap (λ (ds : Description). rate ds s.regs s.clocks c) on.defs ∙ ap (λ (rows : List ClockRow). rate desc.defs s.regs rows c) on.clocks);
+    is = record {
+      defs = on.defs ∙ sym tied.defs;
+      clocks = on.clocks;
+      order = on.order;
+      kept = λ c there.
+          (subst (λ (o : Option (List ℕ)). AreKept desc.defs o tree.clocks tree.rates) on.regs tied.kept) c there
+          ∙ sym (ap (λ (ds : Description). rate ds s.regs s.clocks c) on.defs ∙ ap (λ (rows : List ClockRow). rate desc.defs s.regs rows c) on.clocks);
+      notifiers = its;
+    };
     prepared = λ c within. same c;
-    notifiers = its.told;
   }
 
   -- whether a clock would give the rate that it has
@@ -160,7 +162,7 @@ module _ {desc : Checked} {window : Shown} {tree : TreeState} {s : State} (on : 
     pub answers_planned : (chains : List (List Notifier)) (plan : Plan) (script : Script) → AreItsNotifiers chains s → KeepsRate false
         → IfSome window.words (λ regs. Some plan.chain ≡ chain (wired desc.defs regs tree) v c x)
         → IfSome window.words (λ regs. plan.rates ≡ walked_rates tree.order (wired desc.defs regs tree) plan.chain) → plan.set_parent ≡ false
-        → OfPlan tree v.prepared chains plan (λ t. HasFewNotifiers t → IsScriptOf t plan script) → IsAnswer s lifted c x (decided.Change plan script)
+        → OfPlan tree v.prepared chains plan (λ t. IsScriptOf t plan script) → IsAnswer s lifted c x (decided.Change plan script)
     answers_planned chains plan script its says chain_ rates set_parent scripts = record {
       begins = λ old fine d what range. by_chain old fine d what range (Some plan.chain) says at;
       along = at;
@@ -180,7 +182,7 @@ module _ {desc : Checked} {window : Shown} {tree : TreeState} {s : State} (on : 
           (subst (λ (rows : List ClockRow). LinksArePossible tree.defs rows) (sym on.clocks) tied.stands.possible)) at walked_
 
       made : IsScriptOf s plan script
-      made = scripts s (script_told chains v.prepared its free.prepared_) plans its.few
+      made = scripts s (script_told chains v.prepared its free.prepared_) plans
 
 -- ---- handles and counts of a state
 

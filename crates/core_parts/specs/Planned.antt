@@ -21,7 +21,7 @@ use Rattle.notifiers.specs.Chains.{Tells}
 use Rattle.clk_tree.specs.Plans.{AreThere}
 use Rattle.rate_planner.specs.Walks.{walked_rates}
 use Rattle.change_walk.specs.Given as given
-use Rattle.change_walk.specs.Given.{Script, HasFewNotifiers, extra_of, planned_by}
+use Rattle.change_walk.specs.Given.{Script, extra_of, planned_by}
 use Rattle.change_walk.specs.Steps.{IsMadeOf}
 use Rattle.core_parts.specs.Decisions as decided
 use Rattle.core_parts.specs.Decisions.{Decision, LeavesRoomOut}
@@ -92,10 +92,9 @@ pub record IsOver (desc : Checked) (window : Shown) (tree : TreeState) (s : Stat
   pub clocks : s.clocks ≡ tree.clocks
   pub order : s.order ≡ tree.order
 
--- so are these notifiers, and no clock has too many
-pub record AreItsNotifiers (chains : List (List Notifier)) (s : State) : Type 0 where
-  pub told : Tells chains s.notifiers
-  pub few : HasFewNotifiers s
+-- so are these notifiers
+abbrev pub AreItsNotifiers : List (List Notifier) → State → Type 0
+AreItsNotifiers chains s = Tells chains s.notifiers
 
 -- what planning is given is of a state: words, a tree, handles and counts
 pub record IsGiven (desc : Checked) (window : Shown) (tree : TreeState) (handles : List (Option HandleRow)) (counts : CountState) (s : State) : Type 0 where

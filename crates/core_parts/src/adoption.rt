@@ -1,6 +1,6 @@
 //! The steps of an adoption and of a registration.
 
-ghost use Rattle.std.specs.Prelude.{◌≡◌, ◌<◌, ◌++◌, ◌||◌, ◌&&◌, OnOk};
+ghost use Rattle.std.specs.Prelude.{◌≡◌, ◌<◌, ◌++◌, ◌||◌, ◌&&◌, OnErr, OnOk};
 ghost use Rattle.clk_model.specs.Begin.{register};
 ghost use Rattle.clk_model.specs.Holders.{prepared};
 ghost use Rattle.core_parts.specs.Adoption.{adoption_by, registration_of};
@@ -16,7 +16,8 @@ pub fn push_adoption_by(
     parent: ClockId,
     prepared: bool,
 ) -> Result<(), NoMemory>
-    ensures { OnOk result (steps.new.items ≡ steps.old.items ++ adoption_by orphan parent prepared) }
+    ensures pushed { OnOk result (steps.new.items ≡ steps.old.items ++ adoption_by orphan parent prepared) }
+    ensures err { OnErr result (steps.new.items ≡ steps.old.items) }
 {
     if prepared {
         steps.extend_from_slice(&[
@@ -41,7 +42,8 @@ pub fn push_registration(
     clock: ClockId,
     critical: bool,
 ) -> Result<(), NoMemory>
-    ensures { OnOk result (steps.new.items ≡ steps.old.items ++ registration_of critical clock) }
+    ensures pushed { OnOk result (steps.new.items ≡ steps.old.items ++ registration_of critical clock) }
+    ensures err { OnErr result (steps.new.items ≡ steps.old.items) }
 {
     if critical {
         steps.extend_from_slice(&[Micro::Raise(clock), Micro::Register(clock)])?;

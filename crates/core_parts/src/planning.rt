@@ -1,8 +1,8 @@
 //! What a request for a rate comes to, as its beginning finds it.
 
-ghost use Rattle.std.specs.Prelude.{◌≡◌, ◌+◌, ℕ, true, false, Some, None, length, nat_le, if◌then◌else◌, IfOk, IfSome, OnOk};
+ghost use Rattle.std.specs.Prelude.{◌≡◌, ◌+◌, ℕ, ◌≤◌, true, false, Some, None, length, nat_le, if◌then◌else◌, IfOk, IfSome, OnOk};
 ghost use Rattle.std.specs.Option.{option_map};
-ghost use Rattle.change_walk.specs.Given.{OfPlan, HasFewNotifiers};
+ghost use Rattle.change_walk.specs.Given.{OfPlan};
 ghost use Rattle.change_walk.specs.Steps.{IsMadeOf};
 ghost use Rattle.clk_model.specs.Begin.{most_credits};
 ghost use Rattle.clk_model.specs.Chain as chain;
@@ -84,7 +84,7 @@ fn first_seen<B: Bank, V: View, W: Rest>(
     wanted: u64,
 ) -> Option<Rounded>
     requires tied { AreTied desc.now window.now tree.now }
-    requires seen { V.size view.now ≡ length tree.now.defs }
+    requires seen { length tree.now.defs ≤ V.size view.now }
     requires there { registered tree.now.clocks clock.0 ≡ true }
     ensures rounding { IfSome window.now.words (λ regs. option_map rounded_of result ≡ round (wired desc.now.defs regs tree.now) (V.means view.now) clock.0 wanted) }
     ensures names { NamesRegistered tree.now.clocks result }
@@ -116,7 +116,7 @@ fn plan_seen<B: Bank, V: View, W: Rest>(
     first: Option<Rounded>,
 ) -> Result<bool, NoMemory>
     requires tied { AreTied desc.now window.now tree.now }
-    requires seen { V.size view.now ≡ length tree.now.defs }
+    requires seen { length tree.now.defs ≤ V.size view.now }
     requires there { registered tree.now.clocks clock.0 ≡ true }
     requires rounding { IfSome window.now.words (λ regs. option_map rounded_of first ≡ round (wired desc.now.defs regs tree.now) (V.means view.now) clock.0 wanted) }
     requires names { NamesRegistered tree.now.clocks first }
@@ -149,9 +149,9 @@ pub fn write_script<V: View>(
     notifiers: &Notifiers,
 ) -> Result<(), NoMemory>
     requires made { desc.now.defs ≡ tree.now.defs }
-    requires seen { V.size view.now ≡ length tree.now.defs }
+    requires seen { length tree.now.defs ≤ V.size view.now }
     requires there { AreThere tree.now.clocks draft.old.planning.plan.rates }
-    ensures script { OnOk result (OfPlan tree.now (V.means view.now).prepared notifiers.now draft.old.planning.plan (λ s. HasFewNotifiers s → IsScriptOf s draft.old.planning.plan draft.new.script)) }
+    ensures script { OnOk result (OfPlan tree.now (V.means view.now).prepared notifiers.now draft.old.planning.plan (λ s. IsScriptOf s draft.old.planning.plan draft.new.script)) }
     ensures made { OnOk result (IsMadeOf tree.now (V.means view.now).prepared notifiers.now draft.old.planning.plan draft.new.script) }
     ensures plan { draft.new.planning ≡ draft.old.planning }
 {
@@ -175,7 +175,7 @@ pub(crate) fn decide_unguarded<B: Bank, V: View, W: Rest>(
     wanted: u64,
 ) -> Result<Verdict, NoMemory>
     requires tied { AreTied desc.now window.now tree.now }
-    requires seen { V.size view.now ≡ length tree.now.defs }
+    requires seen { length tree.now.defs ≤ V.size view.now }
     requires there { registered tree.now.clocks clock.0 ≡ true }
     ensures decides { IfOk result (λ verdict. (new lifted : State) → IsOver desc.now window.now tree.now new → AreItsNotifiers notifiers.now new → SeesFree (V.means view.now) clock.0 new lifted
         → IsAnswer new lifted clock.0 wanted (decision_of draft.new verdict)) }

@@ -1,6 +1,6 @@
 //! What a request for a rate would give, over handles and counts.
 
-ghost use Rattle.std.specs.Prelude.{◌≡◌, ℕ, ◌<◌, ◌&&◌, true, length, IfSome};
+ghost use Rattle.std.specs.Prelude.{◌≡◌, ℕ, ◌<◌, ◌≤◌, ◌&&◌, true, length, IfSome};
 ghost use Rattle.clk_model.specs.Laws.Lifting.{LiftedSees};
 ghost use Rattle.clk_model.specs.Round.{wiring, round_rate};
 ghost use Rattle.clk_model.specs.State.{State, registered};
@@ -33,7 +33,7 @@ pub(crate) fn round_seen<B: Bank, V: View, W: Rest>(
     rate: u64,
 ) -> Option<u64>
     requires tied { AreTied desc.now window.now tree.now }
-    requires seen { V.size view.now ≡ length tree.now.defs }
+    requires seen { length tree.now.defs ≤ V.size view.now }
     requires there { registered tree.now.clocks clock.0 ≡ true }
     ensures { IfSome window.now.words (λ regs. result ≡ round_rate (wired desc.now.defs regs tree.now) (V.means view.now) clock.0 rate) }
 {

@@ -38,9 +38,9 @@ answers_same old new e r made =
 
 pub none_same : (old new : DriverView) → MakesNone old new → IsSame old new
 none_same old new none =
-    none.driver
-    ∙ ap (λ (es : List Entry). let d : DriverView = record old { seen = new.seen; mine = es } in d) (sym (ap (λ (d : DriverView). d.mine) none.driver))
-    ∙ ap (λ (n : ℕ). let d : DriverView = record old { seen = new.seen; mine = new.mine; room = n } in d) (sym (ap (λ (d : DriverView). d.room) none.driver))
+    none.sees.driver
+    ∙ ap (λ (es : List Entry). let d : DriverView = record old { seen = new.seen; mine = es } in d) (sym (ap (λ (d : DriverView). d.mine) none.sees.driver))
+    ∙ ap (λ (n : ℕ). let d : DriverView = record old { seen = new.seen; mine = new.mine; room = n } in d) (sym (ap (λ (d : DriverView). d.room) none.sees.driver))
 
 -- ---- going
 

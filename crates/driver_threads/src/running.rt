@@ -66,8 +66,6 @@ fn run_named<
     let framework = Framework::<B, N>::of(unnamed);
     let (all, answers) = run_all(rt, alloc, &framework, first, boot, drivers, pause)?;
     let core = framework.close(all).core;
-    // What the core tells of its journal: that it is legal.
-    let _ = core.journal();
     Ok((core, answers))
 }
 

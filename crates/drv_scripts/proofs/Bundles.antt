@@ -1,7 +1,7 @@
 -- The bundle that lines spell, and what holds of it.
 use Rattle.std.proofs.Common.{◌≡◌, ℕ, zero, suc, ◌+◌, ◌-◌, ◌*◌, ◌<◌, ◌≤◌, ◌++◌, true, List, [], ◌∷◌, map, length, Option, Some, None, refl, ap, subst, arith}
 use Rattle.std.specs.Prelude.{slice_get, Bool, false, cond, nat_lt}
-use Rattle.std.specs.List.{range_with_len, AllByRecursion, flat_map, list_all, position}
+use Rattle.std.specs.List.{range_with_len, AllByRecursion, IsDistinct, flat_map, list_all, position}
 use Rattle.std.specs.Option.{option_map, option_and_then, option_flatten}
 use Rattle.std.specs.Str.{bytes_eq}
 use Rattle.std.proofs.lemmas.List.{length-append}
@@ -9,7 +9,9 @@ use Rattle.std.proofs.lemmas.List.Sums.{sum_by-cons}
 use Rattle.std.proofs.lemmas.Option.{none-some, same_Some}
 use Rattle.std.proofs.lemmas.Bool.{ltb-true}
 use Rattle.bundle_text.specs.Firsts.{onto, said_from}
+use Rattle.bundle_text.specs.Names.{is_clock_name, is_driver_name}
 use Rattle.clk_base.specs.Checked.{Checked}
+use Rattle.clk_base.specs.Description.{name_of, EachClock}
 use Rattle.clk_base.specs.declared.command.Command.{Command}
 use Rattle.clk_base.specs.Valid.{IsValid}
 use Rattle.bundle_clocks.specs.Said.{SaidClocks}
@@ -192,6 +194,9 @@ pub record AreFit (ls : List (List ℕ)) (parts : Parts) (said : SaidClocks) : T
   pub scripts : AllByRecursion (λ s. length s.commands ≤ 65536) (flat_map (scripts_in (around ls parts said)) parts.others)
   pub drivers : length (flat_map (scripts_in (around ls parts said)) parts.others) ≤ 64
   pub commands : count_of (flat_map (scripts_in (around ls parts said)) parts.others) ≤ 1048576
+  pub clock_names : EachClock said.defs (λ c. is_clock_name (name_of said.defs c))
+  pub driver_names : AllByRecursion (λ (s : Script). is_driver_name s.name ≡ true) (flat_map (scripts_in (around ls parts said)) parts.others)
+  pub apart : IsDistinct bytes_eq (map (λ (s : Script). s.name) (flat_map (scripts_in (around ls parts said)) parts.others))
 
 -- a bundle that was read fits together
 pub bundle_sound : (ls : List (List ℕ)) (parts : Parts) (said : SaidClocks) → AreFit ls parts said → IsSound (bundle_of ls parts said)
@@ -210,4 +215,7 @@ bundle_sound ls parts said fit = record {
   drivers = fit.drivers;
   commands = fit.commands;
   turns = order_numbered (around ls parts said) parts.others;
+  clock_names = fit.clock_names;
+  driver_names = fit.driver_names;
+  apart = fit.apart;
 }

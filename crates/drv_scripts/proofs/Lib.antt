@@ -6,6 +6,7 @@ pub mod BankWords
 pub mod Negatives
 pub mod Looked
 pub mod DriverLines
+pub mod DriverNames
 pub mod PartLines
 pub mod PartLaws
 pub mod ListLaws

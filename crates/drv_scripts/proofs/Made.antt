@@ -2,6 +2,8 @@
 use Rattle.std.proofs.Common.{◌≡◌, ℕ, ◌≤◌, true, List, length, sym, ap, subst, ◌∙◌, arith}
 use Rattle.std.specs.List.{AllByRecursion, list_all}
 use Rattle.bundle_text.specs.Firsts.{KeepsBelow}
+use Rattle.bundle_text.specs.Names.{is_clock_name}
+use Rattle.clk_base.specs.Description.{name_of, EachClock}
 use Rattle.clk_base.specs.Valid.{IsValid}
 use Rattle.bundle_clocks.specs.Said.{SaidClocks}
 use Rattle.bundle_sections.specs.Said.{Parts}
@@ -17,6 +19,7 @@ use Rattle.drv_scripts.specs.Spelled.{bank_words, bundle_of}
 use Rattle.drv_scripts.specs.Verdict.{line_fault}
 use Rattle.drv_scripts.proofs.Bundles.{bundle_sound}
 use Rattle.drv_scripts.proofs.Divided.{Lie}
+use Rattle.drv_scripts.proofs.DriverNames.{scripts_named, scripts_apart}
 use Rattle.drv_scripts.proofs.FewDrivers.{drivers_few}
 
 -- what was read of the lines behind the clocks
@@ -27,10 +30,11 @@ pub record IsContent (ls : List (List ℕ)) (parts : Parts) (said : SaidClocks) 
   pub few : AllByRecursion (λ s. length s.commands ≤ 65536) others.drivers.items
   pub fewer : count_of others.drivers.items ≤ 1048576
 
-pub made_sound : (ls : List (List ℕ)) (parts : Parts) (said : SaidClocks) (words : List ℕ) (others : Others) → Lie ls parts → section_verdict.Accepts ls parts → IsValid parts.bank.words said.defs
+pub made_sound : (ls : List (List ℕ)) (parts : Parts) (said : SaidClocks) (words : List ℕ) (others : Others) → Lie ls parts → section_verdict.Accepts ls parts
+    → AllByRecursion (section_verdict.IsSection ls) parts.others → EachClock said.defs (λ c. is_clock_name (name_of said.defs c)) → IsValid parts.bank.words said.defs
     → length said.lines ≡ length said.defs → list_all (consumer_below (length said.defs)) said.consumers ≡ true → list_all (assigned_below (length said.defs)) said.assigned ≡ true
     → step_count said.assigned ≤ 4096 → IsContent ls parts said words others → IsSound (bundle_of ls parts said)
-made_sound ls parts said words others lie accepts valid count named assigned steps read =
+made_sound ls parts said words others lie accepts each names valid count named assigned steps read =
     let within = lie.within in
     let drivers = read.others_are.drivers in
     bundle_sound ls parts said (record {
@@ -45,6 +49,9 @@ made_sound ls parts said words others lie accepts valid count named assigned ste
       scripts = subst (AllByRecursion (λ (s : Script). length s.commands ≤ 65536)) drivers read.few;
       drivers = drivers_few (around ls parts said) ls parts (omega arith) accepts;
       commands = subst (λ (xs : List Script). count_of xs ≤ 1048576) drivers read.fewer;
+      clock_names = names;
+      driver_names = scripts_named (around ls parts said) ls parts.others each;
+      apart = scripts_apart (around ls parts said) ls parts (omega arith) accepts;
     })
 
 -- what was read of the lines, over the clocks as they were read

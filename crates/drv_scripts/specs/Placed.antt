@@ -1,6 +1,9 @@
 -- What holds of every bundle that is read, for those who run it.
-use Rattle.std.specs.Prelude.{◌≡◌, ℕ, ◌<◌, ◌≤◌, List, length, Some, None}
-use Rattle.std.specs.List.{AllByRecursion}
+use Rattle.std.specs.Prelude.{◌≡◌, ℕ, ◌<◌, ◌≤◌, true, List, length, map, Some, None}
+use Rattle.std.specs.List.{AllByRecursion, IsDistinct}
+use Rattle.std.specs.Str.{bytes_eq}
+use Rattle.bundle_text.specs.Names.{is_clock_name, is_driver_name}
+use Rattle.clk_base.specs.Description.{name_of, EachClock}
 use Rattle.clk_base.specs.declared.command.Act.{Act}
 use Rattle.clk_base.specs.declared.command.Act.TheVariants.{Get, SetParent, Probe}
 use Rattle.clk_base.specs.declared.command.Command.{Command}
@@ -42,3 +45,7 @@ pub record IsSound (b : Bundle) : Type 0 where
   pub drivers : length b.drivers ≤ 64
   pub commands : count_of b.drivers ≤ 1048576
   pub turns : AllByRecursion (λ d. 0 < d) b.order
+  -- clocks have names of clocks, and drivers names of drivers, which tell them apart and from boot
+  pub clock_names : EachClock b.desc.defs (λ c. is_clock_name (name_of b.desc.defs c))
+  pub driver_names : AllByRecursion (λ s. is_driver_name s.name ≡ true) b.drivers
+  pub apart : IsDistinct bytes_eq (map (λ s. s.name) b.drivers)

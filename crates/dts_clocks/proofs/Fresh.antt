@@ -1,4 +1,4 @@
--- The names of a node's clocks are new where the first look finds no fault.
+-- The names of a node's clocks are names of clocks, and new, if the first look finds no fault.
 use Rattle.std.proofs.Common.{◌≡◌, ℕ, ◌+◌, ◌<◌, Bool, true, false, not, cond, List, [], ◌∷◌, ◌++◌, map, length, get_or, take, drop, append_assoc, Option, Some, None, Result, Ok, Err, refl, sym, ap, ◌∙◌, inl, inr, string_bytes}
 use Rattle.std.specs.Prelude.{◌&&◌, ◌||◌, slice_get}
 use Rattle.std.specs.List.{list_any, list_all}
@@ -32,15 +32,17 @@ use Rattle.dts_clocks.proofs.Looks.{binding_at-passed}
 use Rattle.dts_clocks.proofs.Parented.{names_defined, binding_at-behind}
 use Rattle.dts_clocks.proofs.Twins.{fault_by, twin_cons}
 
--- a binding without a fault has no twins
-no_fault : (over named twin : Bool) (line : ℕ) → cond over (Some (MissingProperty line)) (cond (not named) (Some (BadName line)) (cond twin (Some (TwiceNamed line)) None)) ≡ None → twin ≡ false
+-- a binding without a fault has names of clocks, and no twins
+no_fault : (over named twin : Bool) (line : ℕ) → cond over (Some (MissingProperty line)) (cond (not named) (Some (BadName line)) (cond twin (Some (TwiceNamed line)) None)) ≡ None
+    → (named ≡ true) × (twin ≡ false)
 no_fault true named twin line e = absurd (none-some _ (sym e))
 no_fault false true true line e = absurd (none-some _ (sym e))
-no_fault false true false line e = refl
+no_fault false true false line e = (refl, refl)
 no_fault false false twin line e = absurd (none-some _ (sym e))
 
-binding_fresh : (nodes : List SeenNode) (taken : List (List ℕ)) (line : ℕ) (b : SeenBinding) → binding_fault nodes taken line b ≡ None → has_twin taken (names_in b) ≡ false
-binding_fresh nodes taken line b e =
+binding_fine : (nodes : List SeenNode) (taken : List (List ℕ)) (line : ℕ) (b : SeenBinding) → binding_fault nodes taken line b ≡ None
+    → (list_all is_clock_name (names_in b) ≡ true) × (has_twin taken (names_in b) ≡ false)
+binding_fine nodes taken line b e =
     no_fault (wants_one b.wants && leaves_over nodes b.inputs) (list_all is_clock_name (names_in b)) (has_twin taken (names_in b)) line (sym (fault_by nodes taken line b _ _ _ refl refl refl) ∙ e)
 
 -- a provider's own binding
@@ -65,18 +67,27 @@ first_fault-is : (nodes : List SeenNode) (k : ℕ) (node : SeenNode) → is_pass
 unfolding first_fault
 first_fault-is nodes k node e at = rw (e, at) refl
 
-fresh_by : (nodes : List SeenNode) (k : ℕ) (b : SeenBinding) (o : Option SeenNode) → slice_get nodes k ≡ o → is_passed nodes k ≡ false → binding_at nodes k ≡ Some b → first_fault nodes k ≡ None → has_twin (names_before nodes k) (names_in b) ≡ false
-fresh_by nodes k b None at e bound kept = absurd (none-some b (sym (binding_at-behind nodes k e at) ∙ bound))
-fresh_by nodes k b (Some node) at e bound kept =
+-- the binding of a node was judged, and has no fault
+judged_by : (nodes : List SeenNode) (k : ℕ) (b : SeenBinding) (o : Option SeenNode) → slice_get nodes k ≡ o → is_passed nodes k ≡ false → binding_at nodes k ≡ Some b → first_fault nodes k ≡ None
+    → (line : ℕ) × (binding_fault nodes (names_before nodes k) line b ≡ None)
+judged_by nodes k b None at e bound kept = absurd (none-some b (sym (binding_at-behind nodes k e at) ∙ bound))
+judged_by nodes k b (Some node) at e bound kept =
     let own = own_is node b (sym (binding_at-is nodes k node e at) ∙ bound) in
-    binding_fresh nodes (names_before nodes k) node.line b (sym (node_fault-bound nodes (names_before nodes k) node b own.0 own.1) ∙ (sym (first_fault-is nodes k node e at) ∙ kept))
+    (node.line, sym (node_fault-bound nodes (names_before nodes k) node b own.0 own.1) ∙ (sym (first_fault-is nodes k node e at) ∙ kept))
 
-fresh_at : (nodes : List SeenNode) (k : ℕ) (b : SeenBinding) → binding_at nodes k ≡ Some b → first_fault nodes k ≡ None → has_twin (names_before nodes k) (names_in b) ≡ false
-fresh_at nodes k b bound kept =
+judged_at : (nodes : List SeenNode) (k : ℕ) (b : SeenBinding) → binding_at nodes k ≡ Some b → first_fault nodes k ≡ None → (line : ℕ) × (binding_fault nodes (names_before nodes k) line b ≡ None)
+judged_at nodes k b bound kept =
     elim (cases_Bool (is_passed nodes k)) [
       | inl passed ↦ absurd (none-some b (sym (binding_at-passed nodes k passed) ∙ bound))
-      | inr here ↦ fresh_by nodes k b (slice_get nodes k) refl here bound kept
+      | inr here ↦ judged_by nodes k b (slice_get nodes k) refl here bound kept
     ]
+
+fresh_at : (nodes : List SeenNode) (k : ℕ) (b : SeenBinding) → binding_at nodes k ≡ Some b → first_fault nodes k ≡ None → has_twin (names_before nodes k) (names_in b) ≡ false
+fresh_at nodes k b bound kept = let judged = judged_at nodes k b bound kept in (binding_fine nodes (names_before nodes k) judged.0 b judged.1).1
+
+-- each name is one of a clock
+pub named_at : (nodes : List SeenNode) (k : ℕ) (b : SeenBinding) → binding_at nodes k ≡ Some b → first_fault nodes k ≡ None → list_all is_clock_name (names_in b) ≡ true
+named_at nodes k b bound kept = let judged = judged_at nodes k b bound kept in (binding_fine nodes (names_before nodes k) judged.0 b judged.1).0
 
 -- the names of a description
 abbrev pub names_of : Description → List (List ℕ)

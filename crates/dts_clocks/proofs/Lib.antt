@@ -1,3 +1,4 @@
+pub mod ClockNames
 pub mod Fresh
 pub mod Gathering
 pub mod Joins

@@ -22,4 +22,4 @@ mod verdict;
 pub use fault::DtsFault;
 pub use loaded::{Assigned, AssignedStep, Consumer, ConsumerName, Loaded};
 pub use reading::read_desc;
-pub use verdict::{each_has_its_parents, one_verdict};
+pub use verdict::{each_has_its_name, each_has_its_parents, one_verdict};

@@ -1,7 +1,8 @@
 //! From a tree to what it says of clocks.
 
 ghost use Rattle.std.specs.Prelude.{IfOk, IfErr};
-ghost use Rattle.clk_base.specs.Description.{EachClock};
+ghost use Rattle.clk_base.specs.Description.{name_of, EachClock};
+ghost use Rattle.bundle_text.specs.Names.{is_clock_name};
 ghost use Rattle.clk_base.specs.Valid.{has_its_parents};
 ghost use Rattle.dts_tree.specs.Tree.{seen};
 ghost use Rattle.dts_clocks.specs.Loaded.{seen_loaded};
@@ -20,6 +21,7 @@ use std::alloc::Global;
 pub fn read_desc(alloc: Global, tree: &DtsTree) -> Result<Loaded, DtsFault>
     ensures loaded { IfOk result (λ loaded. Accepts (seen tree.now) (seen_loaded loaded)) }
     ensures parents { IfOk result (λ loaded. EachClock loaded.desc (has_its_parents loaded.desc)) }
+    ensures names { IfOk result (λ loaded. EachClock loaded.desc (λ c. is_clock_name (name_of loaded.desc c))) }
     ensures fault { IfErr result (λ fault. IsFaultOf (seen tree.now) fault) }
 {
     let chart = Chart::new(alloc, &tree.nodes)?;

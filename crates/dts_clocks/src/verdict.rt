@@ -1,7 +1,8 @@
 //! Laws of what a tree says.
 
 ghost use Rattle.std.specs.Prelude.{◌≡◌, ◌⊎◌, List};
-ghost use Rattle.clk_base.specs.Description.{EachClock};
+ghost use Rattle.clk_base.specs.Description.{name_of, EachClock};
+ghost use Rattle.bundle_text.specs.Names.{is_clock_name};
 ghost use Rattle.clk_base.specs.Valid.{has_its_parents};
 ghost use Rattle.dts_tree.specs.Tree.{SeenNode};
 ghost use Rattle.dts_clocks.specs.declared.fault.DtsFault.{DtsFault};
@@ -19,4 +20,9 @@ pub fn one_verdict()
 /// Where a tree is accepted, each of its clocks has its parents.
 pub fn each_has_its_parents()
     ensures { (nodes : List SeenNode) (loaded : SeenLoaded) → Accepts nodes loaded → EachClock loaded.defs (has_its_parents loaded.defs) }
+{}
+
+/// If a tree is accepted, each of its clocks has a clock's name.
+pub fn each_has_its_name()
+    ensures { (nodes : List SeenNode) (loaded : SeenLoaded) → Accepts nodes loaded → EachClock loaded.defs (λ c. is_clock_name (name_of loaded.defs c)) }
 {}

@@ -1,12 +1,25 @@
 -- The chain of each clock, and the list of all notifiers that the chains stand for.
-use Rattle.std.specs.Prelude.{◌≡◌, ℕ, ◌<◌, ◌≤◌, ◌==◌, ◌&&◌, Bool, true, false, not, List, [], filter, map, length, slice_index_or}
+use Rattle.std.specs.Prelude.{◌≡◌, ℕ, ◌<◌, ◌≤◌, ◌==◌, ◌&&◌, Bool, true, false, not, List, [], filter, map, length, slice_index_or, AllPairs}
 use Rattle.std.specs.List.{list_any}
+use Rattle.std.specs.Int.RustNames.{int_lt}
+use Rattle.clk_model.specs.Lists.{none_twice}
 use Rattle.clk_model.specs.State.{NotifierRow}
 use Rattle.clk_model.specs.Notices.{by_priority, notifiers_of}
 use Rattle.clk_model.specs.Begin.{most_notifiers}
 use Rattle.notifiers.specs.declared.notifier.Notifier.{Notifier}
 use Rattle.notifiers.specs.declared.fault.ChainFault.{ChainFault}
 use Rattle.notifiers.specs.declared.fault.ChainFault.TheVariants.{Exists, Full, NoMemory}
+
+-- what each chain keeps
+pub record IsChain (chain : List Notifier) : Type 0 where
+  -- of each two the later one has no higher priority
+  pub falling : AllPairs (λ first later. int_lt first.priority later.priority ≡ false) chain
+  pub once : none_twice (map (λ n. n.id) chain) ≡ true
+  pub few : length chain ≤ most_notifiers
+
+-- the chain of each clock keeps it
+abbrev pub AreChains : List (List Notifier) → Type 0
+AreChains chains = (c : ℕ) → IsChain (slice_index_or chains c [])
 
 -- a notifier as one of this clock
 abbrev pub row_on : ℕ → Notifier → NotifierRow

@@ -29,7 +29,11 @@ impl Model for Notifiers {
 
     ghost Value = { List (List Notifier) };
 
+    ghost use Rattle.notifiers.specs.Chains.{AreChains};
+
     ghost view = { λ n. map (λ chain. chain.items) n.chains.items };
+
+    ghost invariant = { λ n. AreChains (map (λ chain. chain.items) n.chains.items) };
 }
 
 /// A chain that was made for a clock. To contracts it is the list of its notifiers.
@@ -44,20 +48,33 @@ impl Model for Chain {
 
     ghost Value = { List Notifier };
 
+    ghost use Rattle.notifiers.specs.Chains.{IsChain};
+
     ghost view = { λ chain. chain.notifiers.items };
+
+    ghost invariant = { λ chain. IsChain chain.notifiers.items };
 }
 
 impl Notifiers {
-    ghost use Rattle.notifiers.specs.Chains.{row_on, chain_of, IsWith, Tells, has_id, CanAdd, WhyNot, without_notifier};
+    ghost use Rattle.notifiers.specs.Chains.{row_on, chain_of, AreChains, IsChain, IsWith, Tells, has_id, CanAdd, WhyNot, without_notifier};
 
     /// No clock of the description has a notifier. Want of memory is its one refusal.
     pub fn create(alloc: Global, desc: &ValidDesc) -> Result<Notifiers, NoMemory>
         ensures chains { IfOk result (λ made. made ≡ replicate (length desc.now.defs) []) }
         ensures told { IfOk result (λ made. Tells made []) }
+        ensures kept { IfOk result (λ made. AreChains made) }
     {
         Ok(Notifiers {
             chains: empty_chains(alloc, desc.len())?,
         })
+    }
+
+    /// How many clocks have a chain. Takes no memory.
+    pub fn len(&self) -> usize
+        ensures len { result ≡ length self.now }
+        ensures kept { AreChains self.now }
+    {
+        self.chains.len()
     }
 
     /// Adds a notifier to a clock. Refused where the clock has the id or 256 notifiers, and for
@@ -75,6 +92,7 @@ impl Notifiers {
         ensures why { IfErr result (WhyNot id (chain_of self.old c.0)) }
         ensures err { OnErr result (self.new ≡ self.old) }
         ensures clocks { length self.new ≡ length self.old }
+        ensures kept { AreChains self.new }
     {
         let notifier = Notifier {
             id,
@@ -94,6 +112,7 @@ impl Notifiers {
         ensures made { IfOk result (IsWith self.now (row_on c.0 notifier)) }
         ensures can { OnOk result (CanAdd notifier.id (chain_of self.now c.0)) }
         ensures why { IfErr result (WhyNot notifier.id (chain_of self.now c.0)) }
+        ensures kept { IfOk result (λ made. IsChain made) }
     {
         Ok(Chain {
             notifiers: with(alloc, self.chain(c), notifier)?,
@@ -106,6 +125,8 @@ impl Notifiers {
         ensures put { self.new ≡ slice_set self.old c.0 chain.old }
         ensures before { chain.new ≡ slice_index_or self.old c.0 [] }
         ensures told { (notifiers : List NotifierRow) (n : Notifier) → IsWith self.old (row_on c.0 n) chain.old → Tells self.old notifiers → Tells self.new (notifiers ++ row_on c.0 n ∷ []) }
+        ensures kept { AreChains self.new }
+        ensures chain { IsChain chain.new }
     {
         swap(&mut self.chains[c.0 as usize], &mut chain.notifiers);
     }
@@ -115,6 +136,7 @@ impl Notifiers {
         ensures had { result ≡ has_id id (chain_of self.old c.0) }
         ensures told { (notifiers : List NotifierRow) → Tells self.old notifiers → Tells self.new (without_notifier c.0 id notifiers) }
         ensures clocks { length self.new ≡ length self.old }
+        ensures kept { AreChains self.new }
     {
         if self.chains.len() <= c.0 as usize {
             return false;
@@ -129,6 +151,7 @@ impl Notifiers {
     pub fn chain(&self, c: ClockId) -> &[Notifier]
         ensures chain { result.now ≡ slice_index_or self.now c.0 [] }
         ensures told { (notifiers : List NotifierRow) → Tells self.now notifiers → map (row_on c.0) result.now ≡ notifiers_of notifiers c.0 }
+        ensures kept { AreChains self.now }
     {
         match self.chains.get(c.0 as usize) {
             Some(chain) => chain.as_slice(),

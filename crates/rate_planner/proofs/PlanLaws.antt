@@ -227,7 +227,7 @@ walked_chain told words size defs t view steps ks rates new valid fits sized tre
     (let size_ = length-chain steps in let sizes = ap length same in omega arith) out walks)
 
 -- the clocks of such a chain are those of a view
-pub steps_seen : (size : ℕ) (defs : Description) (clocks : List ClockRow) (order rates : List ℕ) (steps : List ChainStep) (ks : List state.ChainStep) → IsTree defs clocks order rates → size ≡ length defs
+pub steps_seen : (size : ℕ) (defs : Description) (clocks : List ClockRow) (order rates : List ℕ) (steps : List ChainStep) (ks : List state.ChainStep) → IsTree defs clocks order rates → length defs ≤ size
     → chain_of steps ≡ ks → AllThere clocks ks → All (λ s. s.clock.0 < size) steps
 steps_seen size defs clocks order rates steps ks tree seen same there i d less =
     let here : registered clocks (get_or steps i d).clock.0 ≡ true = (chain_there clocks steps ks same there i d less).clock in

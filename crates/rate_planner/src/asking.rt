@@ -32,7 +32,7 @@ fn rate_for<V: View, W: Rest>(
     x: u64,
 ) -> Option<u64>
     requires made { desc.now.defs ≡ tree.now.defs }
-    requires seen { V.size view.now ≡ length tree.now.defs }
+    requires seen { length tree.now.defs ≤ V.size view.now }
     requires there { registered tree.now.clocks clock.0 ≡ true }
     ensures { Always desc.now.defs tree.now (λ w. result ≡ round.rate_for levels w (V.means view.now) clock.0 x) }
 {
@@ -57,7 +57,7 @@ fn over_link<V: View, W: Rest>(
     x: u64,
 ) -> Option<Rounded>
     requires made { desc.now.defs ≡ tree.now.defs }
-    requires seen { V.size view.now ≡ length tree.now.defs }
+    requires seen { length tree.now.defs ≤ V.size view.now }
     requires there { registered tree.now.clocks clock.0 ≡ true }
     ensures rounding { Always desc.now.defs tree.now (λ w. option_map rounded_of result ≡ round.over_link (round.rate_for levels w (V.means view.now)) w clock.0 x (λ r. r)) }
     ensures names { NamesRegistered tree.now.clocks result }
@@ -85,7 +85,7 @@ fn over_candidate<V: View, W: Rest>(
     x: u64,
 ) -> Option<Rounded>
     requires made { desc.now.defs ≡ tree.now.defs }
-    requires seen { V.size view.now ≡ length tree.now.defs }
+    requires seen { length tree.now.defs ≤ V.size view.now }
     requires there { registered tree.now.clocks clock.0 ≡ true }
     ensures rounding { Always desc.now.defs tree.now (λ w. option_map rounded_of result ≡ over_rooted (round.rate_for levels w (V.means view.now)) w clock.0 x candidate.0) }
     ensures names { NamesRegistered tree.now.clocks result }
@@ -114,7 +114,7 @@ fn by_candidate<V: View, W: Rest>(
     x: u64,
 ) -> Option<Rounded>
     requires made { desc.now.defs ≡ tree.now.defs }
-    requires seen { V.size view.now ≡ length tree.now.defs }
+    requires seen { length tree.now.defs ≤ V.size view.now }
     requires there { registered tree.now.clocks clock.0 ≡ true }
     ensures rounding { Always desc.now.defs tree.now (λ w. option_map rounded_of result ≡ round.by_candidate (round.rate_for levels w (V.means view.now)) w clock.0 x) }
     ensures names { NamesRegistered tree.now.clocks result }
@@ -142,7 +142,7 @@ fn over_divisor<V: View, W: Rest>(
     divisor: u64,
 ) -> Option<Rounded>
     requires made { desc.now.defs ≡ tree.now.defs }
-    requires seen { V.size view.now ≡ length tree.now.defs }
+    requires seen { length tree.now.defs ≤ V.size view.now }
     requires there { registered tree.now.clocks clock.0 ≡ true }
     requires divides { 0 < divisor }
     ensures rounding { Always desc.now.defs tree.now (λ w. option_map rounded_of result ≡ round.over_link (round.rate_for levels w (V.means view.now)) w clock.0 product (λ r. div_ceil r divisor)) }
@@ -167,7 +167,7 @@ fn best_divisor<V: View, W: Rest>(
     style: DivStyle,
 ) -> Option<Rounded>
     requires made { desc.now.defs ≡ tree.now.defs }
-    requires seen { V.size view.now ≡ length tree.now.defs }
+    requires seen { length tree.now.defs ≤ V.size view.now }
     requires there { registered tree.now.clocks clock.0 ≡ true }
     requires right { IsDividerWidth style width }
     ensures rounding { Always desc.now.defs tree.now (λ w. option_map rounded_of result ≡ after_divisors (round.rate_for levels w (V.means view.now)) w clock.0 x None (valid_divisors style width)) }
@@ -201,7 +201,7 @@ fn by_divisor<V: View, W: Rest>(
     style: DivStyle,
 ) -> Option<Rounded>
     requires made { desc.now.defs ≡ tree.now.defs }
-    requires seen { V.size view.now ≡ length tree.now.defs }
+    requires seen { length tree.now.defs ≤ V.size view.now }
     requires there { registered tree.now.clocks clock.0 ≡ true }
     requires some { 1 ≤ x }
     requires right { IsDividerWidth style width }
@@ -235,7 +235,7 @@ fn by_factor<V: View, W: Rest>(
     div: u32,
 ) -> Option<Rounded>
     requires made { desc.now.defs ≡ tree.now.defs }
-    requires seen { V.size view.now ≡ length tree.now.defs }
+    requires seen { length tree.now.defs ≤ V.size view.now }
     requires there { registered tree.now.clocks clock.0 ≡ true }
     requires multiplies { 0 < mult }
     requires divides { 0 < div }
@@ -264,7 +264,7 @@ fn by_divider<V: View, W: Rest>(
     style: DivStyle,
 ) -> Option<Rounded>
     requires made { desc.now.defs ≡ tree.now.defs }
-    requires seen { V.size view.now ≡ length tree.now.defs }
+    requires seen { length tree.now.defs ≤ V.size view.now }
     requires there { registered tree.now.clocks clock.0 ≡ true }
     requires right { IsDividerWidth style width }
     ensures rounding { Always desc.now.defs tree.now (λ w. option_map rounded_of result ≡ divider_rounding (round.rate_for levels w (V.means view.now)) w clock.0 x width style) }
@@ -300,7 +300,7 @@ fn by_mux<V: View, W: Rest>(
     x: u64,
 ) -> Option<Rounded>
     requires made { desc.now.defs ≡ tree.now.defs }
-    requires seen { V.size view.now ≡ length tree.now.defs }
+    requires seen { length tree.now.defs ≤ V.size view.now }
     requires there { registered tree.now.clocks clock.0 ≡ true }
     ensures rounding { Always desc.now.defs tree.now (λ w. option_map rounded_of result ≡ mux_rounding (round.rate_for levels w (V.means view.now)) w clock.0 x) }
     ensures names { NamesRegistered tree.now.clocks result }
@@ -327,7 +327,7 @@ fn by_kind<V: View, W: Rest>(
     x: u64,
 ) -> Option<Rounded>
     requires made { desc.now.defs ≡ tree.now.defs }
-    requires seen { V.size view.now ≡ length tree.now.defs }
+    requires seen { length tree.now.defs ≤ V.size view.now }
     requires there { registered tree.now.clocks clock.0 ≡ true }
     requires scales { CanScale kind }
     ensures rounding { Always desc.now.defs tree.now (λ w. option_map rounded_of result ≡ round.by_kind (round.rate_for levels w (V.means view.now)) w kind clock.0 x) }
@@ -371,7 +371,7 @@ pub(crate) fn round_by<V: View, W: Rest>(
     x: u64,
 ) -> Option<Rounded>
     requires made { desc.now.defs ≡ tree.now.defs }
-    requires seen { V.size view.now ≡ length tree.now.defs }
+    requires seen { length tree.now.defs ≤ V.size view.now }
     requires there { registered tree.now.clocks clock.0 ≡ true }
     ensures rounding { Always desc.now.defs tree.now (λ w. option_map rounded_of result ≡ round.round_by (round.rate_for levels w (V.means view.now)) w (V.means view.now) clock.0 x) }
     ensures names { NamesRegistered tree.now.clocks result }

@@ -1,6 +1,6 @@
 //! The chain of a request.
 
-ghost use Rattle.std.specs.Prelude.{◌≡◌, ◌<◌, true, Some, None, length, IfOk, OnOk, if◌then◌else◌, option_map};
+ghost use Rattle.std.specs.Prelude.{◌≡◌, ◌<◌, ◌≤◌, true, Some, None, length, IfOk, OnOk, if◌then◌else◌, option_map};
 ghost use Rattle.clk_base.specs.Levels.{depth};
 ghost use Rattle.clk_model.specs.State.{registered};
 ghost use Rattle.clk_model.specs.Chain.{chain_within};
@@ -30,7 +30,7 @@ pub(crate) fn climb<V: View, W: Rest>(
     first: Option<Rounded>,
 ) -> Result<bool, NoMemory>
     requires made { desc.now.defs ≡ tree.now.defs }
-    requires seen { V.size view.now ≡ length tree.now.defs }
+    requires seen { length tree.now.defs ≤ V.size view.now }
     requires there { registered tree.now.clocks clock.0 ≡ true }
     requires names { NamesRegistered tree.now.clocks first }
     ensures chain { IfOk result (λ found. Always desc.now.defs tree.now (λ w. option_map rounded_of first ≡ round w (V.means view.now) clock.0 x

@@ -1,6 +1,6 @@
 //! One clock of a chain, and how the chain goes on from it.
 
-ghost use Rattle.std.specs.Prelude.{◌≡◌, ℕ, ◌||◌, true, List, Option, Some, length, option_map};
+ghost use Rattle.std.specs.Prelude.{◌≡◌, ℕ, ◌≤◌, ◌||◌, true, List, Option, Some, length, option_map};
 ghost use Rattle.clk_base.specs.Description.{kind_of};
 ghost use Rattle.clk_model.specs.Kinds.{can_round};
 ghost use Rattle.clk_model.specs.Round.{passes_on, round};
@@ -39,7 +39,7 @@ fn continue_from<V: View>(
     rounded: Rounded,
 ) -> Next
     requires made { desc.now.defs ≡ tree.now.defs }
-    requires seen { V.size view.now ≡ length tree.now.defs }
+    requires seen { length tree.now.defs ≤ V.size view.now }
     requires there { registered tree.now.clocks clock.0 ≡ true }
     requires names { NamesRegistered tree.now.clocks (Some rounded) }
     ensures next { Always desc.now.defs tree.now (λ w. (more : ℕ → ℕ → Option (List state.ChainStep)) → continued more result ≡ chain.chain_from more w (V.means view.now) clock.0 x (rounded_of rounded)) }
@@ -89,7 +89,7 @@ pub(crate) fn next_step<V: View>(
     rounding: Option<Rounded>,
 ) -> Next
     requires made { desc.now.defs ≡ tree.now.defs }
-    requires seen { V.size view.now ≡ length tree.now.defs }
+    requires seen { length tree.now.defs ≤ V.size view.now }
     requires there { registered tree.now.clocks clock.0 ≡ true }
     requires names { NamesRegistered tree.now.clocks rounding }
     ensures next { Always desc.now.defs tree.now (λ w. option_map rounded_of rounding ≡ round w (V.means view.now) clock.0 x

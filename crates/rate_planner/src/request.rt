@@ -36,7 +36,7 @@ fn walk_within<B: Bank, V: View>(
 ) -> Result<bool, NoMemory>
     requires made { desc.now.defs ≡ tree.now.defs }
     requires bank { desc.now.words ≤ B.size bank.now }
-    requires seen { V.size view.now ≡ length tree.now.defs }
+    requires seen { length tree.now.defs ≤ V.size view.now }
     requires steps { AllThere tree.now.clocks planning.old.plan.chain }
     requires some { 0 < length planning.old.plan.chain }
     ensures chain { IfOk result (λ found. Told (B.contents bank.now) desc.now.defs tree.now (λ w. (c x : ℕ) → Some planning.old.plan.chain ≡ chain_within depth w (V.means view.now) c x
@@ -74,7 +74,7 @@ fn plan_rounded<B: Bank, V: View, W: Rest>(
 ) -> Result<bool, NoMemory>
     requires made { desc.now.defs ≡ tree.now.defs }
     requires bank { desc.now.words ≤ B.size bank.now }
-    requires seen { V.size view.now ≡ length tree.now.defs }
+    requires seen { length tree.now.defs ≤ V.size view.now }
     requires there { registered tree.now.clocks c.0 ≡ true }
     requires names { NamesRegistered tree.now.clocks first }
     ensures chain { IfOk result (λ found. Told (B.contents bank.now) desc.now.defs tree.now (λ w. option_map rounded_of first ≡ round w (V.means view.now) c.0 x
@@ -105,7 +105,7 @@ fn plan_told<B: Bank, V: View, W: Rest>(
 ) -> Result<bool, NoMemory>
     requires made { desc.now.defs ≡ tree.now.defs }
     requires bank { desc.now.words ≤ B.size bank.now }
-    requires seen { V.size view.now ≡ length tree.now.defs }
+    requires seen { length tree.now.defs ≤ V.size view.now }
     requires there { registered tree.now.clocks c.0 ≡ true }
     ensures chain { IfOk result (λ found. Told (B.contents bank.now) desc.now.defs tree.now (λ w. (if found then Some planning.new.plan.chain else None) ≡ chain.chain w (V.means view.now) c.0 x)) }
     ensures rates { IfOk result (λ found. found ≡ true → Told (B.contents bank.now) desc.now.defs tree.now (λ w. planning.new.plan.rates ≡ walked_rates tree.now.order w planning.new.plan.chain)) }
@@ -129,7 +129,7 @@ fn plan_resting<B: Bank, V: View, W: Rest>(
 ) -> Result<bool, NoMemory>
     requires made { desc.now.defs ≡ tree.now.defs }
     requires bank { desc.now.words ≤ B.size bank.now }
-    requires seen { V.size view.now ≡ length tree.now.defs }
+    requires seen { length tree.now.defs ≤ V.size view.now }
     requires there { registered tree.now.clocks c.0 ≡ true }
     ensures chain { IfOk result (λ found. Told (B.contents bank.now) desc.now.defs tree.now (λ w. (if found then Some planning.new.plan.chain else None) ≡ chain.chain w (V.means view.now) c.0 x)) }
     ensures rates { IfOk result (λ found. found ≡ true → Told (B.contents bank.now) desc.now.defs tree.now (λ w. planning.new.plan.rates ≡ walked_rates tree.now.order w planning.new.plan.chain)) }
@@ -160,7 +160,7 @@ pub fn plan<R: Wait + Sync, B: Bank, V: View, Q: Pause>(
 ) -> Result<bool, NoMemory>
     requires made { desc.now.defs ≡ tree.now.defs }
     requires bank { desc.now.words ≤ B.size bank.now }
-    requires seen { V.size view.now ≡ length tree.now.defs }
+    requires seen { length tree.now.defs ≤ V.size view.now }
     requires there { registered tree.now.clocks c.0 ≡ true }
     ensures chain { IfOk result (λ found. Told (B.contents bank.now) desc.now.defs tree.now (λ w. (if found then Some planning.new.plan.chain else None) ≡ chain.chain w (V.means view.now) c.0 x)) }
     ensures rates { IfOk result (λ found. found ≡ true → Told (B.contents bank.now) desc.now.defs tree.now (λ w. planning.new.plan.rates ≡ walked_rates tree.now.order w planning.new.plan.chain)) }
@@ -194,7 +194,7 @@ pub fn plan_now<B: Bank, V: View>(
 ) -> Result<bool, NoMemory>
     requires made { desc.now.defs ≡ tree.now.defs }
     requires bank { desc.now.words ≤ B.size bank.now }
-    requires seen { V.size view.now ≡ length tree.now.defs }
+    requires seen { length tree.now.defs ≤ V.size view.now }
     requires there { registered tree.now.clocks c.0 ≡ true }
     ensures chain { IfOk result (λ found. Told (B.contents bank.now) desc.now.defs tree.now (λ w. (if found then Some planning.new.plan.chain else None) ≡ chain.chain w (V.means view.now) c.0 x)) }
     ensures rates { IfOk result (λ found. found ≡ true → Told (B.contents bank.now) desc.now.defs tree.now (λ w. planning.new.plan.rates ≡ walked_rates tree.now.order w planning.new.plan.chain)) }
@@ -222,7 +222,7 @@ pub fn plan_from<B: Bank, V: View, W: Rest>(
 ) -> Result<bool, NoMemory>
     requires made { desc.now.defs ≡ tree.now.defs }
     requires bank { desc.now.words ≤ B.size bank.now }
-    requires seen { V.size view.now ≡ length tree.now.defs }
+    requires seen { length tree.now.defs ≤ V.size view.now }
     requires there { registered tree.now.clocks c.0 ≡ true }
     requires names { NamesRegistered tree.now.clocks first }
     ensures chain { IfOk result (λ found. Told (B.contents bank.now) desc.now.defs tree.now (λ w. option_map rounded_of first ≡ round w (V.means view.now) c.0 x

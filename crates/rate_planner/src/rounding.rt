@@ -1,6 +1,6 @@
 //! Rounding.
 
-ghost use Rattle.std.specs.Prelude.{◌≡◌, true, length};
+ghost use Rattle.std.specs.Prelude.{◌≡◌, ◌≤◌, true, length};
 ghost use Rattle.std.specs.Option.{option_map};
 ghost use Rattle.clk_model.specs.Round as model;
 ghost use Rattle.clk_model.specs.State.{registered};
@@ -25,7 +25,7 @@ pub(crate) fn rounding<V: View, W: Rest>(
     x: u64,
 ) -> Option<Rounded>
     requires made { desc.now.defs ≡ tree.now.defs }
-    requires seen { V.size view.now ≡ length tree.now.defs }
+    requires seen { length tree.now.defs ≤ V.size view.now }
     requires there { registered tree.now.clocks c.0 ≡ true }
     ensures rounding { Always desc.now.defs tree.now (λ w. option_map rounded_of result ≡ model.round w (V.means view.now) c.0 x) }
     ensures names { NamesRegistered tree.now.clocks result }
@@ -43,7 +43,7 @@ fn round_told<V: View, W: Rest>(
     x: u64,
 ) -> Option<u64>
     requires made { desc.now.defs ≡ tree.now.defs }
-    requires seen { V.size view.now ≡ length tree.now.defs }
+    requires seen { length tree.now.defs ≤ V.size view.now }
     requires there { registered tree.now.clocks c.0 ≡ true }
     ensures { Always desc.now.defs tree.now (λ w. result ≡ model.round_rate w (V.means view.now) c.0 x) }
 {
@@ -65,7 +65,7 @@ pub fn round_resting<B: Bank, V: View, W: Rest>(
     x: u64,
 ) -> Option<u64>
     requires made { desc.now.defs ≡ tree.now.defs }
-    requires seen { V.size view.now ≡ length tree.now.defs }
+    requires seen { length tree.now.defs ≤ V.size view.now }
     requires there { registered tree.now.clocks c.0 ≡ true }
     ensures rate { Told (B.contents _bank.now) desc.now.defs tree.now (λ w. result ≡ model.round_rate w (V.means view.now) c.0 x) }
     ensures reads { Always desc.now.defs tree.now (λ w. result ≡ model.round_rate w (V.means view.now) c.0 x) }
@@ -86,7 +86,7 @@ pub fn round<R: Wait + Sync, B: Bank, V: View, Q: Pause>(
     pause: &Q,
 ) -> Option<u64>
     requires made { desc.now.defs ≡ tree.now.defs }
-    requires seen { V.size view.now ≡ length tree.now.defs }
+    requires seen { length tree.now.defs ≤ V.size view.now }
     requires there { registered tree.now.clocks c.0 ≡ true }
     ensures rate { Told (B.contents _bank.now) desc.now.defs tree.now (λ w. result ≡ model.round_rate w (V.means view.now) c.0 x) }
     ensures reads { Always desc.now.defs tree.now (λ w. result ≡ model.round_rate w (V.means view.now) c.0 x) }
@@ -105,7 +105,7 @@ pub fn round_now<B: Bank, V: View>(
     x: u64,
 ) -> Option<u64>
     requires made { desc.now.defs ≡ tree.now.defs }
-    requires seen { V.size view.now ≡ length tree.now.defs }
+    requires seen { length tree.now.defs ≤ V.size view.now }
     requires there { registered tree.now.clocks c.0 ≡ true }
     ensures rate { Told (B.contents _bank.now) desc.now.defs tree.now (λ w. result ≡ model.round_rate w (V.means view.now) c.0 x) }
     ensures reads { Always desc.now.defs tree.now (λ w. result ≡ model.round_rate w (V.means view.now) c.0 x) }
@@ -126,7 +126,7 @@ pub fn first_rounding<B: Bank, V: View, W: Rest>(
     x: u64,
 ) -> Option<Rounded>
     requires made { desc.now.defs ≡ tree.now.defs }
-    requires seen { V.size view.now ≡ length tree.now.defs }
+    requires seen { length tree.now.defs ≤ V.size view.now }
     requires there { registered tree.now.clocks c.0 ≡ true }
     ensures rounding { Told (B.contents _bank.now) desc.now.defs tree.now (λ w. option_map rounded_of result ≡ model.round w (V.means view.now) c.0 x) }
     ensures reads { Always desc.now.defs tree.now (λ w. option_map rounded_of result ≡ model.round w (V.means view.now) c.0 x) }

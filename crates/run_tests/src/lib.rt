@@ -1,5 +1,5 @@
-//! Tests of the program's top call that no text can say: sources and sinks that fail, the pieces in
-//! which a text is written, bytes that are no text, words that are no word, drivers on threads of
+//! Tests of the program's top call that no text can say: sources and sinks that fail, or try again, the
+//! pieces in which a text is written, bytes that are no text, words that are no word, drivers on threads of
 //! their own, one for each, and that the turns of their calls come between each other.
 //!
 //! Runs that a text can say stand in the crate `worked_runs`. These stand in a crate of their own
@@ -14,6 +14,8 @@ mod faults;
 mod pauses;
 #[cfg(test)]
 mod pieces;
+#[cfg(test)]
+mod retried;
 #[cfg(test)]
 mod running;
 #[cfg(test)]

@@ -13,6 +13,10 @@ use std::thread::Threads;
 pub(crate) const CLOCKS: &str =
     "%bundle 1\n%clocks\nfixed osc 24000000\ngate uart_gate osc 0 3\n%regs 1\n";
 
+/// What their run under `check` prints: the gate is off, and its word 0.
+pub(crate) const CLOCKS_PRINTED: &str =
+    "boot.1 ok\nboot.2 ok\nclock                             enable prepare protect                 rate   hw\nosc                                    0       0       0             24000000    -\n  uart_gate                            0       0       0             24000000  off\n";
+
 /// A driver that lets the gate run.
 pub(crate) const UART: &str =
     "%bundle 1\n%clocks\nfixed osc 24000000\ngate uart_gate osc 0 3\n%regs 1\n%driver A\nget a uart_gate\nprepare a\nenable a\nrate a\n";

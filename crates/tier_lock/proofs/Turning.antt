@@ -67,10 +67,10 @@ module _ {T E F : Type 0} (k : Reading T E F) (fixed : F) where
         ended = fit.ended;
       }
 
-  wins_free : (size id : ℕ) (v : View E F) (word : ℕ) → v.live ≡ true → v.beside ≡ None → word % 2 ≡ 0
-      → Allows (Holds k fixed) size id (v, []) 0 (λ n. either (n == word) (word + 1) n) (Wins k (step size 0 word (word + 1) none) (v, []))
-  wins_free size id v word live alone even s h slots at range =
-      exchanged n word (word + 1) (λ x. (w : View E F) × (a : Act (Option T)) × Valid s.homes [] a × Holds k fixed (stepped s 0 x id [] w a) × Wins k (step size 0 word (word + 1) none) (v, []) n (w, carried_after [] a)) hit miss
+  wins_free : (named : Option F) → named ≡ Some fixed → (size id : ℕ) (v : View E F) (word : ℕ) → v.live ≡ true → v.beside ≡ None → word % 2 ≡ 0
+      → Allows (Holds k fixed) size id (v, []) 0 (λ n. either (n == word) (word + 1) n) (Wins k named (step size 0 word (word + 1) none) (v, []))
+  wins_free named told size id v word live alone even s h slots at range =
+      exchanged n word (word + 1) (λ x. (w : View E F) × (a : Act (Option T)) × Valid s.homes [] a × Holds k fixed (stepped s 0 x id [] w a) × Wins k named (step size 0 word (word + 1) none) (v, []) n (w, carried_after [] a)) hit miss
     where
       n : ℕ
       n = slice_index s.words 0
@@ -84,10 +84,10 @@ module _ {T E F : Type 0} (k : Reading T E F) (fixed : F) where
       n_is : n ≡ 2 * length b.log + bit b.taken
       n_is = one_word s.words _ h.word
 
-      miss : n ≢ word → (w : View E F) × (a : Act (Option T)) × Valid s.homes [] a × Holds k fixed (stepped s 0 n id [] w a) × Wins k (step size 0 word (word + 1) none) (v, []) n (w, carried_after [] a)
+      miss : n ≢ word → (w : View E F) × (a : Act (Option T)) × Valid s.homes [] a × Holds k fixed (stepped s 0 n id [] w a) × Wins k named (step size 0 word (word + 1) none) (v, []) n (w, carried_after [] a)
       miss apart = (v, keeps, tt, stays k fixed s id v h at, record { won = λ e. absurd (apart e); lost = λ _. refl })
 
-      hit : n ≡ word → (w : View E F) × (a : Act (Option T)) × Valid s.homes [] a × Holds k fixed (stepped s 0 (word + 1) id [] w a) × Wins k (step size 0 word (word + 1) none) (v, []) n (w, carried_after [] a)
+      hit : n ≡ word → (w : View E F) × (a : Act (Option T)) × Valid s.homes [] a × Holds k fixed (stepped s 0 (word + 1) id [] w a) × Wins k named (step size 0 word (word + 1) none) (v, []) n (w, carried_after [] a)
       hit same =
           let free : b.taken ≡ false = free_word (length b.log) b.taken n n_is (ap (λ x. x % 2) same ∙ even) in
           let rests = h.free free in
@@ -114,16 +114,17 @@ module _ {T E F : Type 0} (k : Reading T E F) (fixed : F) where
                 value = rests.value;
                 seat = refl;
                 shown = subst (λ (l : List E). Shown k v l (k.fixed rests.value)) (sym rests.entries_are) (subst (λ (f : F). Shown k v b.log f) (sym rests.fixed_is) shown);
+                fixed_is = told ∙ ap (λ f. Some f) (sym rests.fixed_is);
               };
               lost = λ apart. absurd (apart same);
             },
           )
 
   -- an even word becomes odd, and the value goes to the pass
-  pub wins : (size id : ℕ) (v : View E F) (c : List (ℕ × Option T)) (word : ℕ) → c ≡ [] → v.live ≡ true → v.beside ≡ None → word % 2 ≡ 0
-      → Allows (Holds k fixed) size id (v, c) 0 (λ n. either (n == word) (word + 1) n) (Wins k (step size 0 word (word + 1) none) (v, c))
-  wins size id v c word empty live alone even =
-      subst (λ (c : List (ℕ × Option T)). Allows (Holds k fixed) size id (v, c) 0 (λ n. either (n == word) (word + 1) n) (Wins k (step size 0 word (word + 1) none) (v, c))) (sym empty) (wins_free size id v word live alone even)
+  pub wins : (named : Option F) → named ≡ Some fixed → (size id : ℕ) (v : View E F) (c : List (ℕ × Option T)) (word : ℕ) → c ≡ [] → v.live ≡ true → v.beside ≡ None → word % 2 ≡ 0
+      → Allows (Holds k fixed) size id (v, c) 0 (λ n. either (n == word) (word + 1) n) (Wins k named (step size 0 word (word + 1) none) (v, c))
+  wins named told size id v c word empty live alone even =
+      subst (λ (c : List (ℕ × Option T)). Allows (Holds k fixed) size id (v, c) 0 (λ n. either (n == word) (word + 1) n) (Wins k named (step size 0 word (word + 1) none) (v, c))) (sym empty) (wins_free named told size id v word live alone even)
 
   -- what a pass in its turn knows of the books
   record InTurn (b : Books E) (id : ℕ) (v : View E F) (fit : Fits k fixed b id v) : Type 0 where

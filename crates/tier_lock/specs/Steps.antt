@@ -50,15 +50,16 @@ module _ {T E F : Type 0} (k : Reading T E F) where
     pub numbers : v.number ≡ 0 → AreBelow k.by v.made log
     pub baton : v.baton ≡ true → AddsEnablesOnly k.prep v.seen log
 
-  -- what a take tells that wins
-  pub record Won (v : View E F) (m' : Me (Option T) (View E F)) : Type 0 where
+  -- what a take tells that wins, from the lock whose fixed part has this name
+  pub record Won (named : Option F) (v : View E F) (m' : Me (Option T) (View E F)) : Type 0 where
     pub value : T
     pub seat : m' ≡ (with_turn (k.entries value) v, (0, Some value) ∷ [])
     pub shown : Shown v (k.entries value) (k.fixed value)
+    pub fixed_is : named ≡ Some (k.fixed value)
 
   -- a compare-exchange of an even word wins, or changes nothing
-  pub record Wins (st : Step (Option T)) (m : Me (Option T) (View E F)) (found : ℕ) (m' : Me (Option T) (View E F)) : Type 0 where
-    pub won : found ≡ st.first → Won m.0 m'
+  pub record Wins (named : Option F) (st : Step (Option T)) (m : Me (Option T) (View E F)) (found : ℕ) (m' : Me (Option T) (View E F)) : Type 0 where
+    pub won : found ≡ st.first → Won named m.0 m'
     pub lost : found ≢ st.first → m' ≡ m
 
   -- the turn ends with the entry that the value in hand has more

@@ -1,5 +1,5 @@
 //! What each step on the lock's word tells, and how the knowledge of seats is cut and joined.
-ghost use Rattle.std.specs.Prelude.{ℕ};
+ghost use Rattle.std.specs.Prelude.{ℕ, Option, None};
 ghost use Rattle.tier_lock.specs.Entries.{reading};
 ghost use Rattle.tier_lock.specs.Turns.{loose, spent, newcomer};
 ghost use Rattle.tier_lock.specs.Steps.{Wins, Gives, GivesBack, Looks, Settles, with_less, without_baton, with_baton, with_ended};
@@ -9,13 +9,22 @@ use crate::view::View;
 use atomic_table::{Join, Play, Split};
 use std::marker::{Brand, PhantomData};
 
-/// Takes the turn, where nobody has it.
-pub struct Win<T: Kept> {
-    of: PhantomData<T>,
+/// Names the fixed part of a lock: what a step tells can't read the table's key.
+pub trait Fixes<F> {
+    ghost fixed: { Option F };
 }
 
-impl<T: Kept> Play<Option<T>, View<T::Entry, T::Fixed>> for Win<T> {
-    ghost then = { Wins (reading T.entries T.fixed T.by T.prep T.cost T.most) };
+impl<F> Fixes<F> for Brand {
+    ghost fixed = { None };
+}
+
+/// Takes the turn, where nobody has it.
+pub struct Win<T: Kept, N: Fixes<T::Fixed>> {
+    of: PhantomData<(T, N)>,
+}
+
+impl<T: Kept, N: Fixes<T::Fixed>> Play<Option<T>, View<T::Entry, T::Fixed>> for Win<T, N> {
+    ghost then = { Wins (reading T.entries T.fixed T.by T.prep T.cost T.most) N.fixed };
 }
 
 /// Ends a turn with one entry.

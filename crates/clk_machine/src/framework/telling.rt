@@ -1,9 +1,11 @@
 //! What a core tells of itself.
 
 ghost use Rattle.std.specs.Prelude.{◌≡◌, ℕ, ◌+◌, ◌<◌, ◌≤◌, true, not, length, take, is_some, slice_index};
+ghost use Rattle.clk_base.specs.Valid.{IsValid};
 ghost use Rattle.clk_model.specs.Begin.{most_credits};
 ghost use Rattle.clk_model.specs.Fed.{Fed};
 ghost use Rattle.clk_model.specs.Journal.{replay, Legal, Polled, cost};
+ghost use Rattle.clk_model.specs.Laws.Paced.{left_of};
 ghost use Rattle.clk_model.specs.State.{is_quiet};
 ghost use Rattle.core_parts.specs.Window.{HasDelays};
 ghost use Rattle.clk_machine.specs.Lawful.{KeepsLaws};
@@ -36,7 +38,11 @@ impl<B: Bank> Core<B> {
     /// The description.
     pub fn desc(&self) -> &ValidDesc
         // It is that of the opening.
-        ensures { result.now.defs ≡ self.now.start.defs }
+        ensures defs { result.now.defs ≡ self.now.start.defs }
+        // It was checked for as many words as the opening has.
+        ensures words { result.now.words ≡ length self.now.start.regs }
+        // For so many it is valid.
+        ensures valid { IsValid (length self.now.start.regs) self.now.start.defs }
     {
         self.machine.desc()
     }
@@ -59,6 +65,8 @@ impl<B: Bank> Core<B> {
         ensures tells { self.now.told ≡ true → result ≡ is_quiet (now_of self.now).change }
         // Where none is, no step is to come.
         ensures none { result ≡ true → self.now.left ≡ 0 }
+        // Where the bank tells its words, the steps to come are the weight that is left of the change in flight.
+        ensures weight { self.now.told ≡ true → self.now.left ≡ left_of (now_of self.now) }
         // And never more than a run may have entries, besides its credits.
         ensures few { self.now.start.credits + self.now.left ≤ most_credits }
     {

@@ -9,6 +9,7 @@ ghost use Rattle.clk_base.specs.declared.event.Reply.TheVariants.{Refused};
 ghost use Rattle.clk_base.specs.declared.event.Turn.TheVariants.{Done};
 ghost use Rattle.clk_model.specs.Laws.PlansRead.{asks};
 ghost use Rattle.clk_machine.specs.Asking.{IsToldSo};
+ghost use Rattle.clk_machine.specs.Kinds.{is_reply_to};
 ghost use Rattle.clk_machine.specs.Parts.{IsWhole};
 ghost use Rattle.clk_machine.specs.Stands.{Enters};
 
@@ -22,6 +23,7 @@ impl<B: Bank> Machine<B> {
     // The rate of a handle's clock in Hz.
     fn rate_reply(&self, driver: u32, handle: Handle) -> Reply
         ensures told { IsToldSo self.now driver (GetRate handle) result }
+        ensures kind { is_reply_to (GetRate handle) result ≡ true }
         ensures room { result ≢ Refused ENOSPC }
         ensures whole { IsWhole self.now }
     {
@@ -34,6 +36,7 @@ impl<B: Bank> Machine<B> {
     // The parent that a handle's clock is attached to.
     fn parent_reply(&self, driver: u32, handle: Handle) -> Reply
         ensures told { IsToldSo self.now driver (GetParent handle) result }
+        ensures kind { is_reply_to (GetParent handle) result ≡ true }
         ensures room { result ≢ Refused ENOSPC }
         ensures whole { IsWhole self.now }
     {
@@ -47,6 +50,7 @@ impl<B: Bank> Machine<B> {
     // count.
     fn round_reply<W: Rest>(&self, rest: &W, driver: u32, handle: Handle, rate: u64) -> Reply
         ensures told { IsToldSo self.now driver (RoundRate handle rate) result }
+        ensures kind { is_reply_to (RoundRate handle rate) result ≡ true }
         ensures room { result ≢ Refused ENOSPC }
         ensures whole { IsWhole self.now }
     {
@@ -69,6 +73,7 @@ impl<B: Bank> Machine<B> {
     pub(crate) fn asked_reply<W: Rest>(&self, rest: &W, driver: u32, what: Sleeping) -> Reply
         requires { asks what ≡ true }
         ensures told { IsToldSo self.now driver what result }
+        ensures kind { is_reply_to what result ≡ true }
         ensures room { result ≢ Refused ENOSPC }
         ensures whole { IsWhole self.now }
     {
@@ -85,7 +90,8 @@ impl<B: Bank> Machine<B> {
         requires credit { self.old.spent < self.old.credits }
         requires quiet { self.old.flight.going ≡ false }
         requires asks { asks what ≡ true }
-        ensures { Enters self.old driver (Begin what) (Done result) self.new }
+        ensures enters { Enters self.old driver (Begin what) (Done result) self.new }
+        ensures kind { is_reply_to what result ≡ true }
     {
         let reply = self.asked_reply(&NoRest, driver, what);
         self.spend();

@@ -14,6 +14,7 @@ ghost use Rattle.clk_model.specs.State.{registered};
 ghost use Rattle.core_parts.specs.InFlight.{changes_rate};
 ghost use Rattle.clk_machine.specs.Beginning.{BeginsAsPlanned, IsSuited, LeadsAnswered, LeadsPlanned};
 ghost use Rattle.clk_machine.specs.Deciding.{handle_of};
+ghost use Rattle.clk_machine.specs.Kinds.{is_answer_to};
 ghost use Rattle.clk_machine.specs.Parts.{own_in, steps_left, IsWhole};
 ghost use Rattle.clk_machine.specs.Readied.{readied_of};
 ghost use Rattle.clk_machine.specs.Readying.{CanBeginSo};
@@ -150,7 +151,7 @@ impl<B: Bank> Machine<B> {
 
     // Makes a call ready with the plan of a draft, whose script is made anew. Nothing is changed but the
     // draft.
-    fn ready_planned(
+    pub(super) fn ready_planned(
         &self,
         draft: &mut Draft,
         driver: u32,
@@ -188,6 +189,7 @@ impl<B: Bank> Machine<B> {
         requires changes { changes_rate what ≡ true }
         requires paid { self.old.credits ≤ self.old.spent + log.old.room }
         ensures proceeds { IfOk result (λ turn. Proceeds self.old driver (Begin what) turn self.new) }
+        ensures kind { IfOk result (λ turn. is_answer_to (Begin what) turn ≡ true) }
         ensures leads { IfOk result (λ turn. LeadsPlanned self.old driver what draft.old.planning.plan turn self.new) }
         ensures room { IfOk result (λ turn. is_going turn ≡ true → self.old.credits + steps_left self.new ≤ self.old.spent + log.new.room) }
         ensures entries { log.new.entries ≡ log.old.entries }

@@ -9,6 +9,7 @@ ghost use Rattle.clk_model.specs.State.{State, registered, link_in};
 ghost use Rattle.clk_model.specs.Tree.{rooted};
 ghost use Rattle.clk_model.specs.Rate.{rate};
 ghost use Rattle.clk_model.specs.Chain.{clock_id};
+ghost use Rattle.clk_machine.specs.Kinds.{is_reply_to};
 ghost use Rattle.clk_machine.specs.Parts.{IsWhole};
 ghost use Rattle.clk_machine.specs.Stands.{Stands, Enters};
 
@@ -33,6 +34,7 @@ impl<B: Bank> Machine<B> {
         requires quiet { self.old.flight.going ≡ false }
         requires place { ForSome found (λ c. c.0 < length self.old.desc.defs) }
         ensures ok { IfOk result (λ reply. Enters self.old driver (Begin (Get found)) (Done reply) self.new) }
+        ensures kind { IfOk result (λ reply. is_reply_to (Get found) reply ≡ true) }
         ensures err { OnErr result (self.new ≡ self.old) }
     {
         let Some(clock) = found else {
@@ -51,7 +53,8 @@ impl<B: Bank> Machine<B> {
     pub(crate) fn put(&mut self, driver: u32, handle: Handle) -> Reply
         requires credit { self.old.spent < self.old.credits }
         requires quiet { self.old.flight.going ≡ false }
-        ensures { Enters self.old driver (Begin (Put handle)) (Done result) self.new }
+        ensures enters { Enters self.old driver (Begin (Put handle)) (Done result) self.new }
+        ensures kind { is_reply_to (Put handle) result ≡ true }
     {
         let Some(row) = self.own(driver, handle) else {
             self.spend();

@@ -1,6 +1,7 @@
 //! What a change of rate or parent goes on with, made before it begins. Beginning with it takes no memory.
 
-ghost use Rattle.std.specs.Prelude.{◌≡◌, ◌<◌, true, false, Some, OnOk, OnErr};
+ghost use Rattle.std.specs.Prelude.{◌≡◌, ◌<◌, true, false, Some, IfOk, OnOk, OnErr};
+ghost use Rattle.clk_machine.specs.Beginning.{AllGoOn};
 ghost use Rattle.clk_machine.specs.Changing.{course_of};
 ghost use Rattle.clk_machine.specs.ChangingAlong.{Changes, SetsAlong, range_of, set_along};
 ghost use Rattle.clk_machine.specs.Parts.{IsOwnCall, IsWhole};
@@ -12,9 +13,24 @@ use super::Machine;
 use clk_base::Sleeping;
 use clk_flight::{Flight, Start};
 use clk_io::NoMemory;
+use clk_tree::{Plan, PlannedChain, WalkRates};
 use core_parts::{Draft, Verdict};
 use reg_bank::Bank;
+use std::alloc::Global;
 use std::mem::swap;
+
+// A plan that says the same.
+fn copy_of(alloc: Global, plan: &Plan) -> Result<Plan, NoMemory>
+    ensures { IfOk result (λ made. made ≡ plan.now) }
+{
+    let chain = Vec::from_slice(alloc, plan.chain.as_slice())?;
+    let rates = Vec::from_slice(alloc, plan.rates.as_slice())?;
+    Ok(Plan {
+        chain: PlannedChain::new(chain),
+        rates: WalkRates::new(rates),
+        set_parent: plan.set_parent,
+    })
+}
 
 impl<B: Bank> Machine<B> {
     // The range in Hz that a handle has before a call that sets one.
@@ -77,6 +93,36 @@ impl<B: Bank> Machine<B> {
             return Ok(());
         }
         let verdict = self.ready(draft, driver, what)?;
+        match verdict {
+            Verdict::Refused(_) => Ok(()),
+            Verdict::AtOnce => Ok(()),
+            Verdict::Change => self.fly_along(flight, draft, driver, what),
+        }
+    }
+
+    /// What a change of rate or parent goes on with that was decided to go on with this plan. Nothing is
+    /// rounded or planned here: its script is made from the plan.
+    pub(crate) fn ready_decided(
+        &self,
+        flight: &mut Flight,
+        draft: &mut Draft,
+        driver: u32,
+        what: Sleeping,
+        plan: &Plan,
+    ) -> Result<(), NoMemory>
+        requires machine { self.now.flight.going ≡ false }
+        requires quiet { flight.old.going ≡ false }
+        requires changes { changes_rate what ≡ true }
+        requires decided { AllGoOn self.now driver what plan.now }
+        ensures ready { OnOk result (flight.new.going ≡ true → Changes self.now driver what flight.new (course_of draft.new)) }
+        ensures never { OnOk result (flight.new.going ≡ false → NeverGoes self.now driver what) }
+        ensures err { OnErr result (flight.new ≡ flight.old) }
+    {
+        if self.credits_left() == 0 {
+            return Ok(());
+        }
+        draft.planning.plan = copy_of(self.alloc, plan)?;
+        let verdict = self.ready_planned(draft, driver, what)?;
         match verdict {
             Verdict::Refused(_) => Ok(()),
             Verdict::AtOnce => Ok(()),

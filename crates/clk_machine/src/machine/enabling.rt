@@ -1,10 +1,11 @@
 //! The enable tier: enabling and disabling a handle, and whether its clock runs.
 
-ghost use Rattle.std.specs.Prelude.{◌≡◌, ◌<◌, length};
+ghost use Rattle.std.specs.Prelude.{◌≡◌, ◌<◌, true, length};
 ghost use Rattle.clk_base.specs.declared.event.Event.TheVariants.{Enable, Disable, Running};
 ghost use Rattle.clk_base.specs.declared.event.Turn.TheVariants.{Done};
 ghost use Rattle.clk_model.specs.State.{State};
 ghost use Rattle.clk_model.specs.Holders.{active};
+ghost use Rattle.clk_machine.specs.Kinds.{is_answer_to};
 ghost use Rattle.clk_machine.specs.Stands.{Stands, Enters};
 
 use super::Machine;
@@ -15,7 +16,8 @@ impl<B: Bank> Machine<B> {
     /// Enables a handle: the gates above its clock open, parents first.
     pub(crate) fn enable(&mut self, driver: u32, handle: Handle) -> Reply
         requires { self.old.spent < self.old.credits }
-        ensures { Enters self.old driver (Enable handle.number) (Done result) self.new }
+        ensures enters { Enters self.old driver (Enable handle.number) (Done result) self.new }
+        ensures kind { is_answer_to (Enable handle.number) (Done result) ≡ true }
     {
         let Some(row) = self.own(driver, handle) else {
             self.spend();
@@ -33,7 +35,8 @@ impl<B: Bank> Machine<B> {
     /// first.
     pub(crate) fn disable(&mut self, driver: u32, handle: Handle) -> Reply
         requires { self.old.spent < self.old.credits }
-        ensures { Enters self.old driver (Disable handle.number) (Done result) self.new }
+        ensures enters { Enters self.old driver (Disable handle.number) (Done result) self.new }
+        ensures kind { is_answer_to (Disable handle.number) (Done result) ≡ true }
     {
         let Some(row) = self.own(driver, handle) else {
             self.spend();
@@ -58,7 +61,8 @@ impl<B: Bank> Machine<B> {
     /// Tells whether a handle's clock is active.
     pub(crate) fn running(&mut self, driver: u32, handle: Handle) -> Reply
         requires { self.old.spent < self.old.credits }
-        ensures { Enters self.old driver (Running handle.number) (Done result) self.new }
+        ensures enters { Enters self.old driver (Running handle.number) (Done result) self.new }
+        ensures kind { is_answer_to (Running handle.number) (Done result) ≡ true }
     {
         let Some(row) = self.own(driver, handle) else {
             self.spend();

@@ -1,9 +1,10 @@
 //! Exclusive holds of a rate.
 
-ghost use Rattle.std.specs.Prelude.{false, ◌≡◌, ◌<◌};
+ghost use Rattle.std.specs.Prelude.{true, false, ◌≡◌, ◌<◌};
 ghost use Rattle.clk_base.specs.declared.event.Event.TheVariants.{Begin};
 ghost use Rattle.clk_base.specs.declared.event.Turn.TheVariants.{Done};
 ghost use Rattle.clk_base.specs.declared.call.Sleeping.TheVariants.{ExclusiveGet, ExclusivePut};
+ghost use Rattle.clk_machine.specs.Kinds.{is_reply_to};
 ghost use Rattle.clk_machine.specs.Stands.{Enters};
 
 use super::Machine;
@@ -15,7 +16,8 @@ impl<B: Bank> Machine<B> {
     pub(crate) fn exclusive_get(&mut self, driver: u32, handle: Handle) -> Reply
         requires credit { self.old.spent < self.old.credits }
         requires quiet { self.old.flight.going ≡ false }
-        ensures { Enters self.old driver (Begin (ExclusiveGet handle)) (Done result) self.new }
+        ensures enters { Enters self.old driver (Begin (ExclusiveGet handle)) (Done result) self.new }
+        ensures kind { is_reply_to (ExclusiveGet handle) result ≡ true }
     {
         let Some(row) = self.own(driver, handle) else {
             self.spend();
@@ -29,7 +31,8 @@ impl<B: Bank> Machine<B> {
     pub(crate) fn exclusive_put(&mut self, driver: u32, handle: Handle) -> Reply
         requires credit { self.old.spent < self.old.credits }
         requires quiet { self.old.flight.going ≡ false }
-        ensures { Enters self.old driver (Begin (ExclusivePut handle)) (Done result) self.new }
+        ensures enters { Enters self.old driver (Begin (ExclusivePut handle)) (Done result) self.new }
+        ensures kind { is_reply_to (ExclusivePut handle) result ≡ true }
     {
         let Some(row) = self.own(driver, handle) else {
             self.spend();

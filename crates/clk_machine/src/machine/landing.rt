@@ -11,6 +11,7 @@ ghost use Rattle.clk_base.specs.declared.handle.Handle.{Handle};
 ghost use Rattle.clk_model.specs.State.{registered, handle_at};
 ghost use Rattle.clk_model.specs.Begin.{request_between};
 ghost use Rattle.core_parts.specs.InFlight.{ends_bare, is_called_off, handle_to_end};
+ghost use Rattle.clk_machine.specs.Kinds.{is_done_or_refused};
 ghost use Rattle.clk_machine.specs.Landing.{IsLanding, Requests, PutsBack};
 ghost use Rattle.clk_machine.specs.Making.{ComesFirst};
 ghost use Rattle.clk_machine.specs.Parts.{own_in, IsWhole};
@@ -38,7 +39,8 @@ pub(crate) enum Landing {
 
 // The reply of a call that ends, which was vetoed or not and has timed out or not.
 fn reply_at_end(vetoed: bool, late: bool) -> Reply
-    ensures { result ≡ (if vetoed then Refused EBUSY else if late then Refused ETIMEDOUT else Fine) }
+    ensures reply { result ≡ (if vetoed then Refused EBUSY else if late then Refused ETIMEDOUT else Fine) }
+    ensures kind { is_done_or_refused result ≡ true }
 {
     if vetoed {
         Reply::Refused(Errno::EBUSY)
@@ -215,7 +217,8 @@ impl<B: Bank> Machine<B> {
 
     // The reply at the end.
     fn reply(&self) -> Reply
-        ensures { result ≡ (if self.now.flight.vetoed then Refused EBUSY else if self.now.flight.timed_out then Refused ETIMEDOUT else Fine) }
+        ensures reply { result ≡ (if self.now.flight.vetoed then Refused EBUSY else if self.now.flight.timed_out then Refused ETIMEDOUT else Fine) }
+        ensures kind { is_done_or_refused result ≡ true }
     {
         reply_at_end(self.flight.vetoed(), self.flight.timed_out())
     }
@@ -224,7 +227,8 @@ impl<B: Bank> Machine<B> {
     pub(super) fn end(&mut self) -> Reply
         requires going { self.old.flight.going ≡ true }
         requires first { ComesFirst self.old End }
-        ensures { Enters self.old self.old.flight.driver (Step End None) (Done result) self.new }
+        ensures enters { Enters self.old self.old.flight.driver (Step End None) (Done result) self.new }
+        ensures kind { is_done_or_refused result ≡ true }
     {
         let reply = self.reply();
         match self.next_landing() {

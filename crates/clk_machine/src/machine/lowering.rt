@@ -1,21 +1,25 @@
 //! The beginning of an unprepare, which may go on.
 
-ghost use Rattle.std.specs.Prelude.{◌≡◌, ◌+◌, ◌<◌, ◌≤◌, false, [], ◌∷◌, Some, nat_le, is_some, slice_get, IfSome, IfOk, OnOk, OnErr};
+ghost use Rattle.std.specs.Prelude.{◌≡◌, ◌+◌, ◌^◌, ◌<◌, ◌≤◌, true, false, [], ◌∷◌, Some, nat_le, is_some, slice_get, IfSome, IfOk, OnOk, OnErr};
 ghost use Rattle.clk_base.specs.declared.call.Micro.TheVariants.{Lower, End};
 ghost use Rattle.clk_base.specs.declared.call.Sleeping.TheVariants.{Unprepare};
 ghost use Rattle.clk_base.specs.declared.event.Event.TheVariants.{Begin};
-ghost use Rattle.clk_model.specs.State.{handle_at};
+ghost use Rattle.clk_model.specs.State.{State, handle_at};
 ghost use Rattle.clk_model.specs.Tree.{path};
-ghost use Rattle.clk_model.specs.Begin.{most_credits};
+ghost use Rattle.clk_base.specs.declared.event.Turn.TheVariants.{Going};
+ghost use Rattle.clk_model.specs.Begin.{begun, most_credits};
+ghost use Rattle.clk_model.specs.Journal.{is_going};
 ghost use Rattle.clk_model.specs.Script.{plls};
 ghost use Rattle.counts_core.specs.Counted.{AreCounts};
 ghost use Rattle.clk_machine.specs.Holding.{prepared_less, puts};
-ghost use Rattle.clk_machine.specs.Parts.{IsWhole};
+ghost use Rattle.clk_machine.specs.Kinds.{is_answer_to};
+ghost use Rattle.clk_machine.specs.Parts.{steps_left, IsWhole};
 ghost use Rattle.core_parts.specs.Plls.{lowerable};
 ghost use Rattle.clk_machine.specs.Starting.{StartsCall, released};
-ghost use Rattle.clk_machine.specs.Stands.{Enters};
+ghost use Rattle.clk_machine.specs.Stands.{Enters, Stands};
 
 use super::Machine;
+use crate::log::Log;
 use clk_base::{Errno, Handle, Micro, Reply, Sleeping, Turn};
 use clk_flight::Start;
 use clk_io::NoMemory;
@@ -58,6 +62,14 @@ impl<B: Bank> Machine<B> {
         has_room(self.credits, self.steps, most)
     }
 
+    // How many entries a lower and the end may come to.
+    fn most_lowers(&self) -> u64
+        ensures most { result ≡ plls self.now.desc.defs + 2 }
+        ensures small { result < 2 ^ 63 }
+    {
+        most_to_lower(self.tree.plls())
+    }
+
     // An unprepare goes on, with a lower of its clock's PLLs. All memory that it needs is taken.
     fn start_unprepare(
         &mut self,
@@ -92,11 +104,22 @@ impl<B: Bank> Machine<B> {
 
     /// Begins an unprepare: at once where then no PLL above is powered without a prepare, and else it
     /// goes on, unless there is no room for the entries of its steps.
-    pub(crate) fn begin_unprepare(&mut self, driver: u32, handle: Handle) -> Result<Turn, NoMemory>
+    pub(crate) fn begin_unprepare(
+        &mut self,
+        log: &mut Log,
+        driver: u32,
+        handle: Handle,
+    ) -> Result<Turn, NoMemory>
         requires credit { self.old.spent < self.old.credits }
         requires quiet { self.old.flight.going ≡ false }
+        requires paid { self.old.credits ≤ self.old.spent + log.old.room }
         ensures ok { IfOk result (λ turn. Enters self.old driver (Begin (Unprepare handle)) turn self.new) }
+        ensures kind { IfOk result (λ turn. is_answer_to (Begin (Unprepare handle)) turn ≡ true) }
+        ensures room { IfOk result (λ turn. is_going turn ≡ true → self.old.credits + steps_left self.new ≤ self.old.spent + log.new.room) }
+        ensures entries { log.new.entries ≡ log.old.entries }
+        ensures kept { log.old.room ≤ log.new.room }
         ensures err { OnErr result (self.new ≡ self.old) }
+        ensures needs { OnErr result ((s : State) → Stands self.old s → (begun s driver (Unprepare handle)).1 ≡ Going) }
     {
         let Some(row) = self.own(driver, handle) else {
             self.spend();
@@ -114,6 +137,7 @@ impl<B: Bank> Machine<B> {
             self.spend();
             return Ok(Turn::Done(Reply::Refused(Errno::ENOSPC)));
         }
+        log.make_room(self.credits_left(), self.most_lowers())?;
         self.start_unprepare(driver, handle, row)?;
         Ok(Turn::Going)
     }

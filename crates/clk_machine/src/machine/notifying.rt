@@ -1,10 +1,11 @@
 //! Notifiers of a clock.
 
-ghost use Rattle.std.specs.Prelude.{false, ◌≡◌, ◌<◌, length, IfOk, IfErr, OnOk, OnErr};
+ghost use Rattle.std.specs.Prelude.{true, false, ◌≡◌, ◌<◌, length, IfOk, IfErr, OnOk, OnErr};
 ghost use Rattle.clk_base.specs.declared.event.Event.TheVariants.{Begin};
 ghost use Rattle.clk_base.specs.declared.event.Turn.TheVariants.{Done};
 ghost use Rattle.clk_base.specs.declared.call.Sleeping.TheVariants.{NotifierAdd, NotifierRemove};
 ghost use Rattle.notifiers.specs.Chains.{chain_of, has_id, CanAdd, WhyNot};
+ghost use Rattle.clk_machine.specs.Kinds.{is_reply_to};
 ghost use Rattle.clk_machine.specs.Holding.{notified, unnotified};
 ghost use Rattle.clk_machine.specs.Stands.{nothing, Becomes, Enters};
 
@@ -60,6 +61,7 @@ impl<B: Bank> Machine<B> {
         requires credit { self.old.spent < self.old.credits }
         requires quiet { self.old.flight.going ≡ false }
         ensures ok { IfOk result (λ reply. Enters self.old driver (Begin (NotifierAdd handle id priority policy)) (Done reply) self.new) }
+        ensures kind { IfOk result (λ reply. is_reply_to (NotifierAdd handle id priority policy) reply ≡ true) }
         ensures err { OnErr result (self.new ≡ self.old) }
     {
         let Some(row) = self.own(driver, handle) else {
@@ -84,7 +86,8 @@ impl<B: Bank> Machine<B> {
     pub(crate) fn notifier_remove(&mut self, driver: u32, handle: Handle, id: u32) -> Reply
         requires credit { self.old.spent < self.old.credits }
         requires quiet { self.old.flight.going ≡ false }
-        ensures { Enters self.old driver (Begin (NotifierRemove handle id)) (Done result) self.new }
+        ensures enters { Enters self.old driver (Begin (NotifierRemove handle id)) (Done result) self.new }
+        ensures kind { is_reply_to (NotifierRemove handle id) result ≡ true }
     {
         let Some(row) = self.own(driver, handle) else {
             self.spend();

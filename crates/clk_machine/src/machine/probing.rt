@@ -20,6 +20,7 @@ ghost use Rattle.clk_machine.specs.Holding.{stays};
 ghost use Rattle.core_parts.specs.InFlight.{can_link, is_script};
 ghost use Rattle.clk_machine.specs.Making.{ComesFirst};
 ghost use Rattle.core_parts.specs.Listed.{rows_from};
+ghost use Rattle.clk_machine.specs.Kinds.{is_answer_to};
 ghost use Rattle.clk_machine.specs.Parts.{IsWhole, steps_left};
 ghost use Rattle.clk_machine.specs.Probing.{must_raise, goes_on};
 ghost use Rattle.clk_machine.specs.Sound.{IsSound};
@@ -122,6 +123,7 @@ impl<B: Bank> Machine<B> {
         requires place { clock.0 < length self.old.desc.defs }
         requires paid { self.old.credits ≤ self.old.spent + log.old.room }
         ensures ok { IfOk result (λ turn. Enters self.old driver (Begin (Probe clock)) turn self.new) }
+        ensures kind { IfOk result (λ turn. is_answer_to (Begin (Probe clock)) turn ≡ true) }
         ensures room { IfOk result (λ turn. is_going turn ≡ true → self.old.credits + steps_left self.new ≤ self.old.spent + log.new.room) }
         ensures entries { log.new.entries ≡ log.old.entries }
         ensures kept { log.old.room ≤ log.new.room }

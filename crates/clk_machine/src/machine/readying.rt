@@ -10,6 +10,7 @@ ghost use Rattle.clk_model.specs.State.{handle_at};
 ghost use Rattle.clk_tree.specs.Plans.{AreThere};
 ghost use Rattle.clk_machine.specs.Readied.{AtOnce, Change, readied_of, scripted_of};
 ghost use Rattle.core_parts.specs.InFlight.{changes_rate, is_ranged};
+ghost use Rattle.clk_machine.specs.Kinds.{is_answer_to};
 ghost use Rattle.clk_machine.specs.Parts.{own_in, IsOwnCall, IsWhole, steps_left};
 ghost use Rattle.clk_machine.specs.Readying.{CanBeginSo, CanGoAlong, IsReady, LeadsSo, Scripts, StartsAlong, moves_well, weight_of};
 ghost use Rattle.clk_machine.specs.Stands.{Enters, Proceeds};
@@ -234,6 +235,7 @@ impl<B: Bank> Machine<B> {
         requires changes { changes_rate what ≡ true }
         requires can { CanBeginSo self.old driver what (readied_of draft.old verdict) }
         ensures proceeds { IfOk result (λ turn. Proceeds self.old driver (Begin what) turn self.new) }
+        ensures kind { IfOk result (λ turn. is_answer_to (Begin what) turn ≡ true) }
         ensures leads { IfOk result (λ turn. LeadsSo self.old driver what (readied_of draft.old verdict) turn self.new) }
         ensures left { IfOk result (λ turn. is_going turn ≡ true → steps_left self.new ≡ weight_of (readied_of draft.old verdict)) }
         ensures err { OnErr result (self.new ≡ self.old) }
@@ -270,6 +272,7 @@ impl<B: Bank> Machine<B> {
         requires can { CanBeginSo self.old driver what (readied_of draft.old verdict) }
         requires paid { self.old.credits ≤ self.old.spent + log.old.room }
         ensures proceeds { IfOk result (λ turn. Proceeds self.old driver (Begin what) turn self.new) }
+        ensures kind { IfOk result (λ turn. is_answer_to (Begin what) turn ≡ true) }
         ensures leads { IfOk result (λ turn. LeadsSo self.old driver what (readied_of draft.old verdict) turn self.new) }
         ensures room { IfOk result (λ turn. is_going turn ≡ true → self.old.credits + steps_left self.new ≤ self.old.spent + log.new.room) }
         ensures entries { log.new.entries ≡ log.old.entries }
@@ -293,6 +296,7 @@ impl<B: Bank> Machine<B> {
         requires changes { changes_rate what ≡ true }
         requires paid { self.old.credits ≤ self.old.spent + log.old.room }
         ensures ok { IfOk result (λ turn. Enters self.old driver (Begin what) turn self.new) }
+        ensures kind { IfOk result (λ turn. is_answer_to (Begin what) turn ≡ true) }
         ensures room { IfOk result (λ turn. is_going turn ≡ true → self.old.credits + steps_left self.new ≤ self.old.spent + log.new.room) }
         ensures entries { log.new.entries ≡ log.old.entries }
         ensures kept { log.old.room ≤ log.new.room }

@@ -9,6 +9,7 @@ ghost use Rattle.clk_model.specs.Tree.{path, path_to_be};
 ghost use Rattle.clk_flight.specs.Flights.{own_step, comes_next};
 ghost use Rattle.core_parts.specs.InFlight.{is_near};
 ghost use Rattle.core_parts.specs.MadeSteps.{step_of, answer_of, turn_of};
+ghost use Rattle.clk_machine.specs.Kinds.{is_answer_to};
 ghost use Rattle.clk_machine.specs.Making.{ComesFirst, ComesNext, FindsNothing, only_goes_on};
 ghost use Rattle.clk_machine.specs.Parts.{IsWhole};
 ghost use Rattle.clk_machine.specs.Polls.{FollowsLocks, PollsLock, StartsLock};
@@ -200,6 +201,7 @@ impl<B: Bank> Machine<B> {
     pub(crate) fn step(&mut self) -> Made
         requires { self.old.flight.going ≡ true }
         ensures enters { Enters self.old self.old.flight.driver (Step (step_of result) (answer_of result)) (turn_of result) self.new }
+        ensures kind { is_answer_to (Step (step_of result) (answer_of result)) (turn_of result) ≡ true }
         ensures links { links_well self.old.desc.defs self.old.tree.clocks (step_of result) ≡ true }
         ensures locks { FollowsLocks self.old (Step (step_of result) (answer_of result)) self.new }
     {

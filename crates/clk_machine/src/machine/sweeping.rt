@@ -20,6 +20,7 @@ ghost use Rattle.clk_flight.specs.Flights.{own_step};
 ghost use Rattle.clk_machine.specs.Holding.{stays};
 ghost use Rattle.core_parts.specs.InFlight.{is_script};
 ghost use Rattle.clk_machine.specs.Making.{ComesFirst};
+ghost use Rattle.clk_machine.specs.Kinds.{is_answer_to};
 ghost use Rattle.clk_machine.specs.Parts.{IsWhole, steps_left};
 ghost use Rattle.clk_machine.specs.Stands.{Enters, Stands};
 ghost use Rattle.clk_machine.specs.Starting.{StartsCall};
@@ -208,6 +209,7 @@ impl<B: Bank> Machine<B> {
         requires quiet { self.old.flight.going ≡ false }
         requires paid { self.old.credits ≤ self.old.spent + log.old.room }
         ensures ok { IfOk result (λ turn. Enters self.old driver (Begin Sweep) turn self.new) }
+        ensures kind { IfOk result (λ turn. is_answer_to (Begin Sweep) turn ≡ true) }
         ensures room { IfOk result (λ turn. is_going turn ≡ true → self.old.credits + steps_left self.new ≤ self.old.spent + log.new.room) }
         ensures entries { log.new.entries ≡ log.old.entries }
         ensures kept { log.old.room ≤ log.new.room }

@@ -3,25 +3,22 @@
 ghost use Rattle.std.specs.Prelude.{◌≡◌, ◌+◌, ◌^◌, ◌<◌, ◌≤◌, false, not, length, is_some, take, drop, slice_index, IfSome};
 ghost use Rattle.std.specs.Option.{option_map};
 ghost use Rattle.clk_model.specs.State.{State, is_quiet};
-ghost use Rattle.clk_base.specs.declared.event.Event.TheVariants.{Begin};
-ghost use Rattle.core_parts.specs.InFlight.{is_worked_out};
 ghost use Rattle.core_parts.specs.Window.{delays_in, locks_of};
 ghost use Rattle.clk_machine.specs.Parts.{IsWhole};
 ghost use Rattle.clk_machine.specs.Row.{IsTreeOf};
-ghost use Rattle.clk_machine.specs.Sound.{takes_memory};
-ghost use Rattle.clk_machine.specs.Stands.{Stands, is_told, most_steps};
+ghost use Rattle.clk_machine.specs.Stands.{Stands, is_told};
 
 use super::Machine;
-use clk_base::{Sleeping, ValidDesc};
+use clk_base::ValidDesc;
 use clk_tree::Tree;
-use core_parts::{most_to_lower, most_to_raise};
 use reg_bank::Bank;
 use std::alloc::Global;
 
 impl<B: Bank> Machine<B> {
     /// The description.
     pub(crate) fn desc(&self) -> &ValidDesc
-        ensures { result.now ≡ self.now.desc }
+        ensures desc { result.now ≡ self.now.desc }
+        ensures whole { IsWhole self.now }
     {
         &self.desc
     }
@@ -51,18 +48,11 @@ impl<B: Bank> Machine<B> {
         self.flight.driver()
     }
 
-    /// How many steps a call may come to at most, where it goes on and its steps aren't worked out before.
-    pub(crate) fn most_steps(&self, what: Sleeping) -> u64
-        requires { is_worked_out what ≡ false }
-        ensures most { result ≡ most_steps self.now.desc.defs (Begin what) }
-        ensures small { result < 2 ^ 63 }
-        ensures free { takes_memory what ≡ false → result ≡ 0 }
+    /// The parts keep what they keep.
+    pub(crate) fn keep(&self)
+        ensures { IsWhole self.now }
     {
-        match what {
-            Sleeping::Prepare(_) => most_to_raise(self.tree.plls()),
-            Sleeping::Unprepare(_) => most_to_lower(self.tree.plls()),
-            _ => 0,
-        }
+        let _ = &self.desc;
     }
 
     /// How many credits are left.

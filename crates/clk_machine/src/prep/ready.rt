@@ -3,12 +3,14 @@
 ghost use Rattle.std.specs.Prelude.{◌≡◌, false, IsOk, OnErr, OnOk};
 ghost use Rattle.clk_machine.specs.Changing.{course_of};
 ghost use Rattle.clk_machine.specs.Along.{KeepsShape};
+ghost use Rattle.clk_machine.specs.Copied.{AreDecided};
 ghost use Rattle.clk_machine.specs.Places.{placed};
 ghost use Rattle.clk_machine.specs.Ready.{GoesOut, IsReadyFor};
 ghost use Rattle.clk_machine.specs.Sound.{IsPlaced, takes_memory};
 
 use super::words::Words;
-use crate::machine::Machine;
+use crate::decision::Decision;
+use crate::machine::{Machine, is_planning};
 use clk_base::Sleeping;
 use clk_flight::Flight;
 use clk_io::NoMemory;
@@ -89,6 +91,40 @@ pub(super) fn make_ready(
         Sleeping::Probe(clock) => machine.ready_probe(&mut ready.flight, driver, clock),
         Sleeping::Sweep => machine.ready_sweep(&mut ready.flight, driver),
         _ => Ok(()),
+    }
+}
+
+/// Makes what a call goes on with in a copy as it was decided there: of a call that plans it is made from
+/// its plan, if it has one, and nothing is planned anew.
+pub(super) fn make_decided(
+    machine: &mut Machine<Words>,
+    ready: &mut Ready,
+    driver: u32,
+    what: Sleeping,
+    decision: &Decision,
+) -> Result<(), NoMemory>
+    requires machine { machine.old.flight.going ≡ false }
+    requires quiet { ready.old.flight.going ≡ false }
+    requires place { IsPlaced machine.old.desc.defs what }
+    requires decided { AreDecided machine.old driver what decision.now }
+    ensures ok { OnOk result (IsReadyFor machine.new driver what ready.new.flight (course_of ready.new.draft) ready.new.chain) }
+    ensures same { machine.new ≡ placed machine.old machine.new.table.place }
+    ensures err { OnErr result (machine.new ≡ machine.old) }
+    ensures memory { takes_memory what ≡ false → IsOk result }
+{
+    if !is_planning(&what) {
+        return make_ready(machine, ready, driver, what);
+    }
+    match decision {
+        Decision::Script { plan, .. } => machine.ready_decided(
+            &mut ready.flight,
+            &mut ready.draft,
+            driver,
+            what,
+            plan,
+        ),
+        Decision::Reply(_) => Ok(()),
+        Decision::Inside => Ok(()),
     }
 }
 

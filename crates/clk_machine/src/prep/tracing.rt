@@ -10,7 +10,6 @@ ghost use Rattle.clk_machine.specs.Sound.{IsPlaced};
 ghost use Rattle.clk_machine.specs.Tracing.{FollowsOn, IsAtRest, Traces};
 
 use super::Prep;
-use crate::decision::Decision;
 use clk_base::{Entry, Event, Sleeping};
 use clk_io::NoMemory;
 
@@ -57,7 +56,7 @@ impl Prep {
             self.follow(entry);
             return Ok(());
         }
-        self.reserve(entry.driver, what, &Decision::Inside)?;
+        self.reserve_anew(entry.driver, what)?;
         self.follow(entry);
         Ok(())
     }

@@ -1,10 +1,19 @@
-use Rattle.std.proofs.Common.{◌∙◌, ℕ, Some, ap}
+use Rattle.std.proofs.Common.{◌∙◌, ℕ, Some, ap, subst}
 use Rattle.clk_base.specs.declared.call.Sleeping.{Sleeping}
 use Rattle.clk_base.specs.declared.event.Event.TheVariants.{Begin}
+use Rattle.clk_model.specs.State.{State}
+use Rattle.clk_machine.specs.Copied.{IsCopyOf, IsDecided}
 use Rattle.clk_framework.specs.Calls.{DriverView, entry_of}
-use Rattle.clk_framework.proofs.Following.{followed_begin, stays_copy, unmade_copy}
+use Rattle.clk_framework.proofs.Following.{decides_known, followed_begin, stays_copy, unmade_copy}
 use Rattle.clk_framework.proofs.Lending.{at_error, none_yet}
 use Rattle.clk_framework.proofs.calling.plan.Goals as goal
+
+pub begin-requires-clause-knows : goal.begin-requires-clause-knows
+begin-requires-clause-knows g c =
+    let d = c.args.driver.now in
+    let made = c.in_ok-decision in
+    decides_known d.fixed d.seen c.args.copy.now d.number c.args.what.now made.decision c.requires.copied
+    (subst (λ (n : ℕ). (s : State) → IsCopyOf c.args.copy.now s → IsDecided s n c.args.what.now made.decision) c.number-number.ensures.number made.ensures.decides)
 
 pub returns-in_err-reserve-clause-err : goal.returns-in_err-reserve-clause-err
 returns-in_err-reserve-clause-err g c = at_error c.from_residual-in_err-reserve.result (none_yet c.args.driver.now)

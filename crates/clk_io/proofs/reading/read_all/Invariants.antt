@@ -10,7 +10,7 @@ invariant-loop-bytes g l =
       fits : vec_len l.bytes ≤ 16777216;
       taken : Consumes (left l.fn.source) (left l.source) l.bytes.items;
       tells : is_some (left l.source) ≡ is_some (left l.fn.source);
-      stands : g.S.Source.faults l.source ≡ g.S.Source.faults l.fn.source;
+      later : g.S.Source.faults l.fn.source ≤ g.S.Source.faults l.source;
     }
 
 abbrev pub decreases-loop-bytes : goal.decreases-loop-bytes

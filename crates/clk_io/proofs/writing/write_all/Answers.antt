@@ -1,4 +1,4 @@
-use Rattle.std.proofs.Common.{◌∙◌, arith, length-drop}
+use Rattle.std.proofs.Common.{arith, length-drop}
 use Rattle.std.proofs.lemmas.List.{take_rest}
 use Rattle.std.proofs.Math.Seq.{take-add}
 use Rattle.std.proofs.KnownBytes.{Appends-trans}
@@ -12,5 +12,5 @@ loop-at-preserved g c =
       within = grind (arith, length-drop);
       appended = rw take-add (Appends-trans _ _ _ _ _ was.appended (simp take_rest at c.in_ok-at.ensures.bytes));
       tells = cc;
-      stands = c.in_ok-at.ensures.counts ∙ was.stands;
+      later = omega (arith, was.later, c.write.ensures.later);
     }

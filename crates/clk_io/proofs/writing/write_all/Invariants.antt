@@ -10,7 +10,7 @@ invariant-loop-at g l =
       within : l.at ≤ length l.bytes;
       appended : Appends (written l.fn.sink) (written l.sink) (take l.at l.bytes);
       tells : is_some (written l.sink) ≡ is_some (written l.fn.sink);
-      stands : g.K.Sink.faults l.sink ≡ g.K.Sink.faults l.fn.sink;
+      later : g.K.Sink.faults l.fn.sink ≤ g.K.Sink.faults l.sink;
     }
 
 abbrev pub decreases-loop-at : goal.decreases-loop-at

@@ -1,7 +1,8 @@
-use Rattle.std.proofs.Common.{[], refl, ◌+◌, ◌∙◌, ap, ◌++◌}
+use Rattle.std.proofs.Common.{[], refl, arith, ◌+◌, ◌∙◌, ap, ◌++◌}
 use Rattle.clk_base.specs.declared.command.Answer.TheVariants.{Skip}
 use Rattle.clk_io.proofs.Gathering.{PassesOn-none, PassesOn-after, front_of_whole}
 use Rattle.clk_journal.proofs.Lines.{Gathers-fault, answers_at, one_more}
+use Rattle.clk_journal.proofs.Stays.{handed_on, rises_since, stays_of_whole}
 use Rattle.clk_journal.proofs.answers.print_answers.Goals as goal
 
 pub returns-in_err-print_answer-clause-gathers : goal.returns-in_err-print_answer-clause-gathers
@@ -11,8 +12,19 @@ returns-in_err-print_answer-clause-gathers g c =
     Gathers-fault _ _ _ _ _ _ c.from_residual.ensures.0
     (front_of_whole _ _ _ _ _ was.0 _ _ _ was.1 c.in_err-print_answer.ensures.gathers (was.2 ∙ ap (λ rest. was.0 ++ rest) at))
 
+pub returns-in_err-print_answer-clause-stays : goal.returns-in_err-print_answer-clause-stays
+returns-in_err-print_answer-clause-stays g c =
+    let was = c.loop-index.invariant.printed in
+    let at = answers_at c.args.desc.now.defs c.args.driver.now c.args.answers.now (c.loop-index.index + 1) c.loop-index.index Skip c.loop-index-test.true in
+    handed_on _ _ _ c.from_residual.ensures.1
+    (stays_of_whole _ _ _ _ _ _ was.0 _ _ _ _ was.1 c.in_err-print_answer.ensures.stays (was.2 ∙ ap (λ rest. was.0 ++ rest) at))
+
+pub returns-in_err-print_answer-clause-counts : goal.returns-in_err-print_answer-clause-counts
+returns-in_err-print_answer-clause-counts g c =
+    handed_on _ _ _ c.from_residual.ensures.1 (rises_since _ _ _ _ c.loop-index.invariant.later c.in_err-print_answer.ensures.counts)
+
 pub loop-index-init : goal.loop-index-init
-loop-index-init g c = record { printed = ([], PassesOn-none _ _, refl); tells = refl; stands = refl }
+loop-index-init g c = record { printed = ([], PassesOn-none _ _, refl); tells = refl; later = omega arith }
 
 pub loop-index-preserved : goal.loop-index-preserved
 loop-index-preserved g c =
@@ -21,5 +33,5 @@ loop-index-preserved g c =
     record {
       printed = (_, PassesOn-after _ _ _ _ _ _ _ _ was.1 c.in_ok-print_answer.ensures.gathers, one_more _ _ _ _ _ was.2 at);
       tells = cc;
-      stands = c.in_ok-print_answer.ensures.counts ∙ c.loop-index.invariant.stands;
+      later = omega (arith, c.loop-index.invariant.later, c.in_ok-print_answer.ensures.later);
     }

@@ -6,6 +6,7 @@ use Rattle.clk_cli.specs.declared.cli.Cli.{Cli}
 use Rattle.clk_io.proofs.Gathering.{PassesOn-none, Gathers-after, front_of_whole}
 use Rattle.clk_io.specs.Gathers.{Gathers}
 use Rattle.clk_journal.proofs.Lines.{Gathers-fault}
+use Rattle.clk_journal.proofs.Stays.{counts_since}
 use Rattle.clk_model.specs.Text.{journal_text}
 use Rattle.drv_scripts.specs.declared.bundle.Script.{Script}
 use Rattle.clk_run.specs.Texts.{shows_journal, counts_answers, names_of, told_text, calls_text}
@@ -33,3 +34,6 @@ returns-clause-gathers g c =
     c.counts_answers-counted.result c.shows_journal-shown.ensures c.counts_answers-counted.ensures in
     subst (λ (text : List ℕ). Gathers (written c.args.out.now) (written c.print_told.new.out) c.args.gathered.now c.print_told.new.gathered text c.print_told.result) (sym whole)
     (Gathers-after _ _ _ _ _ _ _ _ _ c.in_ok-print_journal.ensures.gathers c.print_told.ensures.gathers)
+
+pub returns-clause-counts : goal.returns-clause-counts
+returns-clause-counts g c = counts_since _ _ _ _ c.in_ok-print_journal.ensures.later c.print_told.ensures.counts

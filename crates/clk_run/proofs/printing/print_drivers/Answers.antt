@@ -3,6 +3,7 @@ use Rattle.clk_base.specs.declared.command.Answer.{Answer}
 use Rattle.clk_model.specs.Text.{answers_text, all_answers_text}
 use Rattle.clk_io.proofs.Gathering.{PassesOn-none, PassesOn-after, front_of_whole}
 use Rattle.clk_journal.proofs.Lines.{Gathers-fault, one_more}
+use Rattle.clk_journal.proofs.Stays.{handed_on, rises_since}
 use Rattle.clk_run.proofs.RunTexts.{texts_at}
 use Rattle.clk_run.proofs.printing.print_drivers.Goals as goal
 
@@ -22,7 +23,7 @@ returns-in_err-print_answers-clause-gathers g c =
     (front_of_whole _ _ _ _ _ was.0 _ _ _ was.1 c.in_err-print_answers.ensures.gathers (was.2 ∙ ap (λ r. was.0 ++ r) at))
 
 pub loop-index-init : goal.loop-index-init
-loop-index-init g c = record { printed = ([], PassesOn-none _ _, refl); tells = refl; stands = refl }
+loop-index-init g c = record { printed = ([], PassesOn-none _ _, refl); tells = refl; later = omega arith }
 
 pub loop-index-preserved : goal.loop-index-preserved
 loop-index-preserved g c =
@@ -39,5 +40,9 @@ loop-index-preserved g c =
     record {
       printed = (_, PassesOn-after _ _ _ _ _ _ _ _ was.1 c.in_ok-print_answers.ensures.gathers, one_more _ _ _ _ _ was.2 at);
       tells = cc;
-      stands = c.in_ok-print_answers.ensures.counts ∙ c.loop-index.invariant.stands;
+      later = omega (arith, c.loop-index.invariant.later, c.in_ok-print_answers.ensures.later);
     }
+
+pub returns-in_err-print_answers-clause-counts : goal.returns-in_err-print_answers-clause-counts
+returns-in_err-print_answers-clause-counts g c =
+    handed_on _ _ _ c.from_residual.ensures.1 (rises_since _ _ _ _ c.loop-index.invariant.later c.in_err-print_answers.ensures.counts)

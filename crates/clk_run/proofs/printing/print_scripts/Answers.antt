@@ -5,6 +5,7 @@ use Rattle.clk_model.specs.Text.{answers_text, all_answers_text}
 use Rattle.clk_io.proofs.Gathering.{PassesOn-none, Gathers-after, front_of_whole}
 use Rattle.clk_io.specs.Gathers.{Gathers}
 use Rattle.clk_journal.proofs.Lines.{Gathers-fault}
+use Rattle.clk_journal.proofs.Stays.{counts_since}
 use Rattle.clk_run.proofs.RunTexts.{boot_first}
 use Rattle.clk_run.proofs.Readiness.{behind_first}
 use Rattle.clk_run.proofs.printing.print_scripts.Goals as goal
@@ -41,3 +42,6 @@ returns-clause-gathers g c =
     let whole = in_parts defs names answers c.index-answers-0.result c.as_slice.result.now (omega arith) c.index-answers-0.is c.as_slice.ensures in
     subst (λ (text : List ℕ). Gathers (written c.args.out.now) (written c.print_drivers.new.out) c.args.gathered.now c.print_drivers.new.gathered text c.print_drivers.result) (sym whole)
     (Gathers-after _ _ _ _ _ _ boot rest _ c.in_ok-print_answers.ensures.gathers c.print_drivers.ensures.gathers)
+
+pub returns-clause-counts : goal.returns-clause-counts
+returns-clause-counts g c = counts_since _ _ _ _ c.in_ok-print_answers.ensures.later c.print_drivers.ensures.counts

@@ -1,6 +1,8 @@
 use Rattle.std.proofs.Common.{◌≡◌, ◌∙◌, ℕ, ◌++◌, List, [], Ok, Err, true, refl, sym, ap, not, arith, length, append-nil}
 use Rattle.std.proofs.lemmas.List.{length-map}
 use Rattle.clk_io.proofs.Gathering.{PassesOn-after, front_after}
+use Rattle.clk_io.specs.declared.faults.PrintFault.TheVariants.{Write}
+use Rattle.clk_journal.proofs.Stays.{handed_on, rises_since}
 use Rattle.clk_machine.specs.Run.{now_of}
 use Rattle.clk_model.specs.Text.{registers_text}
 use Rattle.clk_summary.proofs.Lined.{some_summary}
@@ -112,3 +114,13 @@ returns-clause-prints g c =
       registers = state.registers;
       prints = printed_of_parts {T = ℕ} {E = ℕ} _ _ _ _ _ _ _ (Ok 0) c.new-gathered.ensures whole done c.in_ok-finish.ensures.prints;
     }
+
+pub returns-in_err-print_state-clause-counts : goal.returns-in_err-print_state-clause-counts
+returns-in_err-print_state-clause-counts g c =
+    handed_on _ _ _ c.from_residual-in_err-print_state.ensures.1 (rises_since _ _ _ _ c.in_ok-print_calls.ensures.later c.in_err-print_state.ensures.counts)
+
+pub returns-in_err-finish-clause-counts : goal.returns-in_err-finish-clause-counts
+returns-in_err-finish-clause-counts g c =
+    let now = g.K.Sink.faults c.finish.new.out in
+    handed_on _ _ Write c.from_residual-in_err-finish.ensures.1
+    (rises_since _ _ now Write c.in_ok-print_calls.ensures.later (rises_since _ _ now Write c.in_ok-print_state.ensures.later c.in_err-finish.ensures.counts))

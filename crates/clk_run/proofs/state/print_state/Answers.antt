@@ -2,6 +2,7 @@ use Rattle.std.proofs.Common.{◌∙◌, refl, []}
 use Rattle.clk_io.proofs.Chains.{AppendsFront-none}
 use Rattle.clk_io.proofs.Gathering.{PassesOn-none, Gathers-after, front_of_whole}
 use Rattle.clk_journal.proofs.Lines.{Gathers-fault}
+use Rattle.clk_journal.proofs.Stays.{counts_since}
 use Rattle.clk_machine.specs.Run.{now_of}
 use Rattle.clk_model.specs.Text.{registers_text}
 use Rattle.clk_summary.proofs.Lined.{some_summary}
@@ -40,3 +41,6 @@ returns-clause-gathers g c =
       registers = λ tells. c.as_slice.ensures.value ∙ c.in_ok-words.ensures tells;
       gathers = Gathers-after _ _ _ _ _ _ table.0 (registers_text c.as_slice.result.now) _ table.2 c.print_registers.ensures.gathers;
     }
+
+pub returns-clause-counts : goal.returns-clause-counts
+returns-clause-counts g c = counts_since _ _ _ _ c.in_ok-print_summary.ensures.later c.print_registers.ensures.counts

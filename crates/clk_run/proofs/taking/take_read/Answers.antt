@@ -16,4 +16,4 @@ returns-in-Ok-clause-stops g c =
     (subst (λ (xs : List ℕ). IfErr c.spelled_by.result (StopsSpelling xs)) c.as_slice.ensures.value c.spelled_by.ensures.stops)
 
 pub returns-in-Ok-clause-counts : goal.returns-in-Ok-clause-counts
-returns-in-Ok-clause-counts g c = spelled_counts c.as_slice.result.now _ _ c.spelled_by.result c.in-Ok.ensures.counts c.spelled_by.ensures.stops
+returns-in-Ok-clause-counts g c = spelled_counts c.as_slice.result.now _ _ c.spelled_by.result c.spelled_by.ensures.stops

@@ -11,6 +11,7 @@ use Rattle.clk_model.specs.Tree.{children}
 use Rattle.clk_tree.proofs.Along.{drop_zero}
 use Rattle.clk_summary.proofs.Lined.{no_lines, lines_fault, lined_more}
 use Rattle.clk_summary.proofs.Printing.{fault_leaves, one_done, all_done}
+use Rattle.clk_summary.proofs.Stays.{handed_on, rises_since, stays_of_whole, no_line_stays, more_lines_stay}
 use Rattle.clk_summary.proofs.Trees.{texts_at, none_at, none_behind, same_children, child_registered, children_few, lines_at}
 use Rattle.clk_summary.proofs.table.+print_tree.Goals as goal
 
@@ -42,7 +43,7 @@ loop-place-init g t c =
           );
       lines = record { text = c.in_ok-print_line.ensures.lines.text; lines = c.in_ok-print_line.ensures.lines.lines; passed = c.in_ok-print_line.ensures.lines.gathers };
       tells = cc;
-      stands = c.in_ok-print_line.ensures.counts;
+      later = c.in_ok-print_line.ensures.later;
     }
 
 pub returns-in_default-clause-gathers : goal.returns-in_default-clause-gathers
@@ -92,7 +93,7 @@ loop-place-preserved g t c =
           );
       lines = lined_more _ _ _ _ _ _ _ _ c.loop-place.invariant.lines c.in_ok-print_tree.ensures.lines.lines c.in_ok-print_tree.ensures.lines.gathers;
       tells = cc;
-      stands = c.in_ok-print_tree.ensures.counts ∙ c.loop-place.invariant.stands;
+      later = omega (arith, c.loop-place.invariant.later, c.in_ok-print_tree.ensures.later);
     }
 
 pub returns-clause-gathers : goal.returns-clause-gathers
@@ -103,7 +104,7 @@ returns-clause-gathers g t c = λ told there.
     let was = c.loop-place.invariant.printed told there in
     let few = children_few s c.tree.result.now clock (c.tree.ensures.tree told) c.first_child-at.ensures.stands in
     let made = ap (λ defs. length defs) c.tree.ensures.made in
-    let kept = ap (λ defs. length defs) c.desc.ensures in
+    let kept = ap (λ defs. length defs) c.desc.ensures.defs in
     all_done _ _ _ _ _ was.0 _ was.1 was.2
     (none_behind (lines_within (depth - (c.args.level + 1)) s (c.args.level + 1)) kids c.loop-place._place (omega (arith, few, made, kept, c.len-place-end.ensures.len, c.loop-place-test.false)))
 
@@ -128,3 +129,34 @@ pub returns-clause-lines : goal.returns-clause-lines
 returns-clause-lines g t c =
     let was = c.loop-place.invariant.lines in
     record { text = was.text; lines = was.lines; gathers = was.passed }
+
+pub returns-in_err-print_line-clause-stays : goal.returns-in_err-print_line-clause-stays
+returns-in_err-print_line-clause-stays g t c = λ told there. handed_on _ _ _ c.from_residual.ensures.1 (c.in_err-print_line.ensures.stays _)
+
+pub returns-in_err-print_line-clause-lines_stay : goal.returns-in_err-print_line-clause-lines_stay
+returns-in_err-print_line-clause-lines_stay g t c =
+    handed_on _ _ _ c.from_residual.ensures.1 (no_line_stays _ _ _ _ _ _ (c.in_err-print_line.ensures.stays []))
+
+pub returns-in_err-print_tree-clause-stays : goal.returns-in_err-print_tree-clause-stays
+returns-in_err-print_tree-clause-stays g t c = λ told there.
+    let s = now_of c.args.core.now in
+    let kids = children s.order s.clocks c.args.clock.0 in
+    let below = lines_within (depth - (c.args.level + 1)) s (c.args.level + 1) in
+    let was = c.loop-place.invariant.printed told there in
+    let child = c.in-Some.child.0 in
+    let at : slice_get kids c.loop-place._place ≡ Some child = sym (c.loop-place.invariant.along told) ∙ ap (option_map (λ (d : ClockId). d.0)) c.in-Some.is in
+    let known = child_registered s c.tree.result.now c.args.clock.0 c.loop-place._place child (c.tree.ensures.tree told) c.first_child-at.ensures.stands at in
+    handed_on _ _ _ c.from_residual-in_err-print_tree.ensures.1
+    (stays_of_whole _ _ _ _ _ _ was.0 (below child) _ _ _ was.1
+    (c.in_err-print_tree.ensures.stays told known)
+    (was.2 ∙ ap (λ rest. was.0 ++ rest) (texts_at below kids c.loop-place._place child at)))
+
+pub returns-in_err-print_tree-clause-lines_stay : goal.returns-in_err-print_tree-clause-lines_stay
+returns-in_err-print_tree-clause-lines_stay g t c =
+    let was = c.loop-place.invariant.lines in
+    handed_on _ _ _ c.from_residual-in_err-print_tree.ensures.1
+    (more_lines_stay _ _ _ _ _ _ _ _ _ was.lines was.passed c.in_err-print_tree.ensures.lines_stay)
+
+pub returns-in_err-print_tree-clause-counts : goal.returns-in_err-print_tree-clause-counts
+returns-in_err-print_tree-clause-counts g t c =
+    handed_on _ _ _ c.from_residual-in_err-print_tree.ensures.1 (rises_since _ _ _ _ c.loop-place.invariant.later c.in_err-print_tree.ensures.counts)

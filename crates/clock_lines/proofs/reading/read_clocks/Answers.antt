@@ -7,7 +7,7 @@ use Rattle.clock_lines.specs.Section.{clock_in}
 use Rattle.bundle_text.specs.Faults.{Tells}
 use Rattle.clock_lines.specs.Verdict.{Refuses}
 use Rattle.clock_lines.proofs.Turns.{length-section}
-use Rattle.clock_lines.proofs.Whole.{few-clocks, stand-apart, have-lines, lacks-fault, spells, each-has_parents}
+use Rattle.clock_lines.proofs.Whole.{few-clocks, stand-apart, have-lines, lacks-fault, spells, each-has_parents, each-has_name}
 use Rattle.clock_lines.proofs.reading.read_clocks.Goals as goal
 
 pub describe-requires-clause-few : goal.describe-requires-clause-few
@@ -49,6 +49,11 @@ returns-clause-parents c =
     let section = slice_range c.args.lines.now c.args.from c.args.to in
     let h = c.in_ok-desc.ensures in
     each-has_parents section c.in_ok-clocks.clocks c.in_ok-desc.desc c.in_ok-clocks.ensures h.0 h.1
+
+pub returns-clause-names : goal.returns-clause-names
+returns-clause-names c =
+    let section = slice_range c.args.lines.now c.args.from c.args.to in
+    each-has_name section c.in_ok-clocks.clocks c.in_ok-desc.desc c.in_ok-clocks.ensures c.in_ok-desc.ensures.1
 
 pub returns-clause-fits : goal.returns-clause-fits
 returns-clause-fits c =

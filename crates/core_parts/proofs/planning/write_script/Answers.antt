@@ -1,9 +1,9 @@
 use Rattle.core_parts.proofs.planning.write_script.Goals as goal
 
 pub returns-clause-script : goal.returns-clause-script
-returns-clause-script g c = λ s told plans few. record {
+returns-clause-script g c = λ s told plans. record {
   steps = c.in_ok-script.ensures.steps s told plans;
   vetoed = c.in_ok-script.ensures.vetoed s told plans;
-  extra = c.in_ok-script.ensures.extra s told plans few;
-  weight = c.in_ok-script.ensures.weight s told plans few;
+  extra = c.in_ok-script.ensures.extra s told plans;
+  weight = c.in_ok-script.ensures.weight s told plans;
 }

@@ -70,6 +70,7 @@ returns-in_ok-bundle-in-Ok-clause-sound c =
     ∙ (ap (λ (xs : List Assigned). made desc clocks.lines.items (map seen_assigned xs) contents.words.items contents.others) c.deref-in-Ok.ensures.value
     ∙ bundle_is ls parts said desc contents.words.items contents.others checked read.1.words_are read.1.others_are) in
     subst IsSound (sym content)
-    (made_sound ls parts said contents.words.items contents.others (parts_lie ls parts c.requires.tiled c.requires.each) c.requires.accepted valid (lines_count _ ls _ _ c.in_ok-clocks.ensures.said)
+    (made_sound ls parts said contents.words.items contents.others (parts_lie ls parts c.requires.tiled c.requires.each) c.requires.accepted c.requires.each.1.1
+    c.in_ok-clocks.ensures.names valid (lines_count _ ls _ _ c.in_ok-clocks.ensures.said)
     (consumers_named _ ls _ _ c.in_ok-clocks.ensures.said) (assigned_named _ ls _ _ c.in_ok-clocks.ensures.said)
     (steps_within _ ls _ _ c.in_ok-clocks.ensures.said) read.1)

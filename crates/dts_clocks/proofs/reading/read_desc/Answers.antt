@@ -2,6 +2,7 @@ use Rattle.std.proofs.Common.{◌∙◌, map, ap}
 use Rattle.std.proofs.lemmas.Result.{err_from_is_err_and}
 use Rattle.dts_tree.specs.Tree.{seen_node}
 use Rattle.dts_clocks.specs.Loaded.{seen_loaded}
+use Rattle.dts_clocks.proofs.ClockNames.{named}
 use Rattle.dts_clocks.proofs.Parented.{parented}
 use Rattle.dts_clocks.proofs.Verdicts.{second_told, accepted}
 use Rattle.dts_clocks.proofs.reading.read_desc.Goals as goal
@@ -21,4 +22,10 @@ pub returns-clause-parents : goal.returns-clause-parents
 returns-clause-parents c =
     let first = c.in_ok-chart.ensures ∙ ap (map seen_node) c.deref.ensures.value in
     parented (map seen_node c.args.tree.now.nodes.items) (seen_loaded c.in_ok-loaded.loaded)
+    (accepted c.in_ok-chart.chart c.in_ok-chart-2.chart (map seen_node c.args.tree.now.nodes.items) (seen_loaded c.in_ok-loaded.loaded) first c.in_ok-chart-2.ensures c.in_ok-bindings.ensures.none c.in_ok-loaded.ensures.none c.in_ok-loaded.ensures.loaded)
+
+pub returns-clause-names : goal.returns-clause-names
+returns-clause-names c =
+    let first = c.in_ok-chart.ensures ∙ ap (map seen_node) c.deref.ensures.value in
+    named (map seen_node c.args.tree.now.nodes.items) (seen_loaded c.in_ok-loaded.loaded)
     (accepted c.in_ok-chart.chart c.in_ok-chart-2.chart (map seen_node c.args.tree.now.nodes.items) (seen_loaded c.in_ok-loaded.loaded) first c.in_ok-chart-2.ensures c.in_ok-bindings.ensures.none c.in_ok-loaded.ensures.none c.in_ok-loaded.ensures.loaded)

@@ -12,7 +12,7 @@ use Rattle.rate_planner.proofs.parent.plan_parent.Goals as goal
 pub returns-clause-chain : goal.returns-clause-chain
 returns-clause-chain g c =
     let steps : c.push.new.self ≡ to_parent c.args.c.0 c.rate_of-rate.result c.args.p.0 ∷ [] =
-    pushed_one c.push.new.self c.clear.new.self (to_parent c.args.c.0 c.rate_of-rate.result c.args.p.0) c.in_ok-push.ensures c.clear.ensures in
+    pushed_one c.push.new.self c.clear.new.self (to_parent c.args.c.0 c.rate_of-rate.result c.args.p.0) c.in_ok-push.ensures.pushed c.clear.ensures in
     told_on (g.B.Bank.contents c.args.bank.now)
     (λ (regs : Registers). KeepsRates c.args.desc.now.defs regs c.args.tree.now → to_parent c.args.c.0 c.rate_of-rate.result c.args.p.0 ∷ [] ≡ parent_chain (wired c.args.desc.now.defs regs c.args.tree.now) c.args.c.0 c.args.p.0)
     (λ (regs : Registers). KeepsRates c.args.desc.now.defs regs c.args.tree.now → c.push.new.self ≡ parent_chain (wired c.args.desc.now.defs regs c.args.tree.now) c.args.c.0 c.args.p.0)
@@ -24,7 +24,7 @@ returns-clause-chain g c =
 pub returns-clause-rates : goal.returns-clause-rates
 returns-clause-rates g c =
     let steps : c.push.new.self ≡ to_parent c.args.c.0 c.rate_of-rate.result c.args.p.0 ∷ [] =
-    pushed_one c.push.new.self c.clear.new.self (to_parent c.args.c.0 c.rate_of-rate.result c.args.p.0) c.in_ok-push.ensures c.clear.ensures in
+    pushed_one c.push.new.self c.clear.new.self (to_parent c.args.c.0 c.rate_of-rate.result c.args.p.0) c.in_ok-push.ensures.pushed c.clear.ensures in
     let rates : c.push-2.new.self.items ≡ c.rate_of-rate.result ∷ [] = pushed_one c.push-2.new.self.items c.clear-2.new.self.items c.rate_of-rate.result c.in_ok-push-2.ensures.items c.clear-2.ensures.items in
     told_on (g.B.Bank.contents c.args.bank.now)
     (λ (regs : Registers). KeepsRates c.args.desc.now.defs regs c.args.tree.now → c.walk_rates.new.into

@@ -66,7 +66,7 @@ move_one-returns-in_ok-walk_below-clause-walked g t c =
     c.requires.place (sym c.moves_to.ensures ∙ c.if-not-moves_to.false) c.kid_rate-own.ensures.rate
     (walks_whole (g.B.Bank.contents c.args.walker.now.bank.now) c.args.walker.now.desc.now.defs c.args.walker.now.tree.now (chain_of c.args.walker.now.steps.now) c.args.walker.now.rates.now c.args.levels _ c.kid_rate-own.result.0
     c.args.into.now c.push.new.self c.walk_below.new.into
-    c.requires.some c.in_ok-push.ensures c.in_ok-walk_below.ensures.walked)
+    c.requires.some c.in_ok-push.ensures.pushed c.in_ok-walk_below.ensures.walked)
 
 pub move_one-returns-else-may_go_on-clause-walked : goal.move_one-returns-else-may_go_on-clause-walked
 move_one-returns-else-may_go_on-clause-walked g t c =
@@ -75,7 +75,7 @@ move_one-returns-else-may_go_on-clause-walked g t c =
     c.requires.place (sym c.moves_to.ensures ∙ c.if-not-moves_to.false) c.kid_rate-own.ensures.rate
     (walks_alone (g.B.Bank.contents c.args.walker.now.bank.now) c.args.walker.now.desc.now.defs c.args.walker.now.tree.now (chain_of c.args.walker.now.steps.now) c.args.walker.now.rates.now c.args.levels _ c.kid_rate-own.result.0
     c.args.into.now c.push.new.self
-    c.requires.some c.in_ok-push.ensures (c.may_go_on.ensures c.if-may_go_on.false))
+    c.requires.some c.in_ok-push.ensures.pushed (c.may_go_on.ensures c.if-may_go_on.false))
 
 pub stay_one-returns-in_ok-walk_below-clause-walked : goal.stay_one-returns-in_ok-walk_below-clause-walked
 stay_one-returns-in_ok-walk_below-clause-walked g t c = λ clock child.
@@ -84,7 +84,7 @@ stay_one-returns-in_ok-walk_below-clause-walked g t c = λ clock child.
     (sym c.kid_rate-own.ensures.moves ∙ c.if-away.false) child c.kid_rate-own.ensures.rate
     (walks_whole (g.B.Bank.contents c.args.walker.now.bank.now) c.args.walker.now.desc.now.defs c.args.walker.now.tree.now (chain_of c.args.walker.now.steps.now) c.args.walker.now.rates.now c.args.levels c.args.child c.kid_rate-own.result.0
     c.args.into.now c.push.new.self c.walk_below.new.into
-    c.requires.some c.in_ok-push.ensures c.in_ok-walk_below.ensures.walked)
+    c.requires.some c.in_ok-push.ensures.pushed c.in_ok-walk_below.ensures.walked)
 
 pub stay_one-returns-else-may_go_on-clause-walked : goal.stay_one-returns-else-may_go_on-clause-walked
 stay_one-returns-else-may_go_on-clause-walked g t c = λ clock child.
@@ -93,7 +93,7 @@ stay_one-returns-else-may_go_on-clause-walked g t c = λ clock child.
     (sym c.kid_rate-own.ensures.moves ∙ c.if-away.false) child c.kid_rate-own.ensures.rate
     (walks_alone (g.B.Bank.contents c.args.walker.now.bank.now) c.args.walker.now.desc.now.defs c.args.walker.now.tree.now (chain_of c.args.walker.now.steps.now) c.args.walker.now.rates.now c.args.levels c.args.child c.kid_rate-own.result.0
     c.args.into.now c.push.new.self
-    c.requires.some c.in_ok-push.ensures (c.may_go_on.ensures c.if-may_go_on.false))
+    c.requires.some c.in_ok-push.ensures.pushed (c.may_go_on.ensures c.if-may_go_on.false))
 
 pub walk_below-returns-then-levels-eq0-clause-walked : goal.walk_below-returns-then-levels-eq0-clause-walked
 walk_below-returns-then-levels-eq0-clause-walked g t c =

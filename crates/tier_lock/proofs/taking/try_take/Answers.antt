@@ -8,7 +8,7 @@ pub compare_exchange-found-requires : goal.compare_exchange-found-requires
 compare_exchange-found-requires g c =
     let t = c.requires.table in
     let f = c.requires.free in
-    (t.table, omega (arith, t.words), wins _ _ _ _ _ _ c.args.word f.hand f.live f.alone c.if-word-ne0.false)
+    (t.table, omega (arith, t.words), wins _ _ g.N.Fixes.fixed c.requires.named _ _ _ _ c.args.word f.hand f.live f.alone c.if-word-ne0.false)
 
 pub exchange-requires : goal.exchange-requires
 exchange-requires g c =

@@ -17,6 +17,7 @@ returns g c =
       number = c.number-number.result;
       own_number = c.number-number.ensures.number;
       lent_appends = c.enable-reply.ensures.entry;
+      lawful = c.enable-reply.ensures.lawful;
       gave = c.give_entry.ensures.added;
       own_ = c.give_entry.ensures.mine;
       numbers = c.take-guard.ensures.numbers;

@@ -28,8 +28,8 @@ invariant_of-self g c =
     placed refl refl c.push.ensures.entries c.push.ensures.room in
     entered m.machine c.answer_as.new.self m.words.items m.log c.push.new.self c.args.driver (Begin c.args.what) (Done c.args.reply) is
 
-pub returns : goal.returns
-returns g c =
+pub returns-clause-ok : goal.returns-clause-ok
+returns-clause-ok g c =
     let m = c.self.inside in
     let placed : IsPlaced m.machine.desc.defs c.args.what = rw (← c.self.view_is) at c.requires.place in
     let decided : is_told m.machine ≡ true → IsDecided (state_of m.machine m.words.items m.log) c.args.driver c.args.what (Reply c.args.reply) = rw (← c.self.view_is) at c.requires.decided in

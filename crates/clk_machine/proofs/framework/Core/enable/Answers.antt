@@ -9,13 +9,13 @@ use Rattle.clk_machine.proofs.framework.Core.enable.Goals as goal
 pub invariant_of-self : goal.invariant_of-self
 invariant_of-self g c =
     entered c.self.inside.machine c.enable-reply.new.self c.self.inside.words.items c.self.inside.log c.push.new.self c.args.driver (Enable c.args.handle.number) (Done c.enable-reply.result)
-    (answered c.self.inside.machine c.enable-reply.new.self c.self.inside.words.items c.self.inside.log c.push.new.self c.args.driver (Enable c.args.handle.number) (Done c.enable-reply.result) c.self.invariant c.enable-reply.ensures tt refl refl c.push.ensures.entries c.push.ensures.room)
+    (answered c.self.inside.machine c.enable-reply.new.self c.self.inside.words.items c.self.inside.log c.push.new.self c.args.driver (Enable c.args.handle.number) (Done c.enable-reply.result) c.self.invariant c.enable-reply.ensures.enters tt refl refl c.push.ensures.entries c.push.ensures.room)
 
 pub returns-clause-entry : goal.returns-clause-entry
 returns-clause-entry g c =
     rw (← c.self.view_is)
     (appended c.self.inside.machine c.enable-reply.new.self c.self.inside.words.items c.self.inside.log c.push.new.self c.args.driver (Enable c.args.handle.number) (Done c.enable-reply.result)
-    (answered c.self.inside.machine c.enable-reply.new.self c.self.inside.words.items c.self.inside.log c.push.new.self c.args.driver (Enable c.args.handle.number) (Done c.enable-reply.result) c.self.invariant c.enable-reply.ensures tt refl refl c.push.ensures.entries c.push.ensures.room))
+    (answered c.self.inside.machine c.enable-reply.new.self c.self.inside.words.items c.self.inside.log c.push.new.self c.args.driver (Enable c.args.handle.number) (Done c.enable-reply.result) c.self.invariant c.enable-reply.ensures.enters tt refl refl c.push.ensures.entries c.push.ensures.room))
 
 pub returns-clause-causes : goal.returns-clause-causes
 returns-clause-causes g c = λ told. enable_causes _ _ c.args.driver c.args.handle.number c.enable-reply.result ((returns-clause-entry g c).step told)

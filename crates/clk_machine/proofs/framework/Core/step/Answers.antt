@@ -3,6 +3,7 @@ use Rattle.clk_base.specs.declared.event.Event.TheVariants.{Step}
 use Rattle.clk_machine.specs.Run.{in_flight}
 use Rattle.clk_machine.specs.Stands.{Enters}
 use Rattle.clk_machine.proofs.Entering.{IsEntered, stepped, entered, steps_on, step_turns}
+use Rattle.clk_machine.proofs.KindLaws.{last_kind}
 use Rattle.core_parts.specs.MadeSteps.{step_of, answer_of, turn_of}
 use Rattle.clk_machine.proofs.framework.Core.step.Goals as goal
 
@@ -64,3 +65,9 @@ returns-clause-polled g c =
     let is : IsEntered m.machine c.step-made.new.self m.words.items m.log c.push_made.new.log c.driver-driver.result (Step (step_of made) (answer_of made)) (turn_of made) =
     stepped m.machine c.step-made.new.self m.words.items m.log c.push_made.new.log c.driver-driver.result (step_of made) (answer_of made) (turn_of made) c.self.invariant enters c.step-made.ensures.links c.step-made.ensures.locks c.push_made.ensures.entries c.push_made.ensures.room in
     (entered m.machine c.step-made.new.self m.words.items m.log c.push_made.new.log c.driver-driver.result (Step (step_of made) (answer_of made)) (turn_of made) is).polled
+
+pub returns-clause-kind : goal.returns-clause-kind
+returns-clause-kind g c =
+    let made = c.step-made.result in
+    rw (← c.self.view_is)
+    (rw c.push_made.ensures.turn (last_kind _ _ c.driver-driver.result (Step (step_of made) (answer_of made)) (turn_of made) c.push_made.ensures.entries c.step-made.ensures.kind))

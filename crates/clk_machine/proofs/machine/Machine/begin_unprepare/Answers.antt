@@ -1,4 +1,4 @@
-use Rattle.std.proofs.Common.{◌+◌, refl, ◌∙◌, sym, ap, subst, true, false, Some, None, nat_le}
+use Rattle.std.proofs.Common.{◌+◌, refl, ◌∙◌, sym, ap, subst, true, false, Some, None, nat_le, arith}
 use Rattle.clk_base.specs.declared.event.Event.TheVariants.{Begin}
 use Rattle.clk_base.specs.declared.event.Errno.TheVariants.{ENOENT, ENOSPC}
 use Rattle.clk_base.specs.declared.event.Reply.TheVariants.{Refused, Fine, Warn}
@@ -6,14 +6,16 @@ use Rattle.clk_base.specs.declared.call.Sleeping.TheVariants.{Unprepare}
 use Rattle.clk_model.proofs.EventLaws.{unprepare-unknown, unprepare-warned}
 use Rattle.clk_model.specs.Begin.{most_credits}
 use Rattle.clk_model.specs.Script.{plls}
+use Rattle.core_parts.specs.Listed.{rows_from}
 use Rattle.clk_machine.specs.Holding.{prepared_less, puts, stays}
 use Rattle.clk_machine.specs.Parts.{Parts}
 use Rattle.clk_machine.specs.Stands.{nothing, Becomes}
 use Rattle.clk_machine.specs.Starting.{StartsCall}
 use Rattle.clk_machine.proofs.Entered.{enters, own_stands, frees_some}
 use Rattle.clk_machine.proofs.Flying.{quiet_stands}
+use Rattle.clk_machine.proofs.Needing.{after_any, unprepare_needs}
 use Rattle.clk_machine.proofs.Starting.{room_told}
-use Rattle.clk_machine.proofs.Lowering.{lower_script, Releases, freed_told, full_lowering, unprepare_done, unprepare_full, enters_unprepare}
+use Rattle.clk_machine.proofs.Lowering.{lower_left, lower_script, Releases, freed_told, full_lowering, unprepare_done, unprepare_full, enters_unprepare}
 use Rattle.clk_machine.proofs.machine.Machine.begin_unprepare.Goals as goal
 
 pub frees_pll-requires-clause-some : goal.frees_pll-requires-clause-some
@@ -73,3 +75,39 @@ returns-clause-ok g c =
     (λ s stands. freed_told c.args.self.now c.args.handle.number c.in-Some.row s c.frees_pll.result true c.if-not-frees_pll.false is stands c.frees_pll.ensures.found)
     (room_told _ (sym c.if-not-can_lower.false ∙ c.can_lower.ensures ∙ ap (λ (q : Parts). nat_le (q.credits + q.steps + (plls q.desc.defs + 2)) most_credits) c.frees_pll.ensures.same))
     (subst (λ (q : Parts). StartsCall q c.args.driver (Unprepare c.args.handle) (lower_script c.in-Some.row.clock) (puts c.args.handle.number (Some (prepared_less c.in-Some.row))) c.start_unprepare.new.self) c.frees_pll.ensures.same c.in_ok-start_unprepare.ensures.ok)
+
+pub returns-in_err-make_room-clause-needs : goal.returns-in_err-make_room-clause-needs
+returns-in_err-make_room-clause-needs g c =
+    let free = sym c.keeps_prepare.ensures ∙ c.if-keeps_prepare.false in
+    let is : Releases c.args.self.now c.args.handle.number c.in-Some.row =
+    record { whole = c.own.ensures.whole; live = c.in-Some.ensures.live; some = frees_some c.in-Some.row free; left = c.requires.credit; keeps = c.frees_pll.ensures.counts } in
+    after_any c.from_residual.result
+    (unprepare_needs c.args.self.now c.args.driver c.args.handle c.in-Some.row c.requires.quiet c.requires.credit
+    (λ s stands. own_stands c.args.self.now s c.args.driver c.args.handle.number (Some c.in-Some.row) stands (c.own.ensures.row ∙ c.in-Some.is)) free
+    (λ s stands. freed_told c.args.self.now c.args.handle.number c.in-Some.row s c.frees_pll.result true c.if-not-frees_pll.false is stands c.frees_pll.ensures.found)
+    (room_told _ (sym c.if-not-can_lower.false ∙ c.can_lower.ensures ∙ ap (λ (q : Parts). nat_le (q.credits + q.steps + (plls q.desc.defs + 2)) most_credits) c.frees_pll.ensures.same)))
+
+pub returns-in_err-start_unprepare-clause-needs : goal.returns-in_err-start_unprepare-clause-needs
+returns-in_err-start_unprepare-clause-needs g c =
+    let free = sym c.keeps_prepare.ensures ∙ c.if-keeps_prepare.false in
+    let is : Releases c.args.self.now c.args.handle.number c.in-Some.row =
+    record { whole = c.own.ensures.whole; live = c.in-Some.ensures.live; some = frees_some c.in-Some.row free; left = c.requires.credit; keeps = c.frees_pll.ensures.counts } in
+    after_any c.from_residual-in_err-start_unprepare.result
+    (unprepare_needs c.args.self.now c.args.driver c.args.handle c.in-Some.row c.requires.quiet c.requires.credit
+    (λ s stands. own_stands c.args.self.now s c.args.driver c.args.handle.number (Some c.in-Some.row) stands (c.own.ensures.row ∙ c.in-Some.is)) free
+    (λ s stands. freed_told c.args.self.now c.args.handle.number c.in-Some.row s c.frees_pll.result true c.if-not-frees_pll.false is stands c.frees_pll.ensures.found)
+    (room_told _ (sym c.if-not-can_lower.false ∙ c.can_lower.ensures ∙ ap (λ (q : Parts). nat_le (q.credits + q.steps + (plls q.desc.defs + 2)) most_credits) c.frees_pll.ensures.same)))
+
+pub returns-clause-room : goal.returns-clause-room
+returns-clause-room g c = λ goes.
+    let starts = subst (λ (q : Parts). StartsCall q c.args.driver (Unprepare c.args.handle) (lower_script c.in-Some.row.clock) (puts c.args.handle.number (Some (prepared_less c.in-Some.row))) c.start_unprepare.new.self) c.frees_pll.ensures.same c.in_ok-start_unprepare.ensures.ok in
+    let left = starts.left in
+    let few = lower_left (rows_from 0 c.args.self.now.chains) (plls c.args.self.now.desc.defs) c.in-Some.row.clock in
+    let same = c.frees_pll.ensures.same in
+    let one = ap (λ (q : Parts). q.credits) same in
+    let two = ap (λ (q : Parts). q.spent) same in
+    let three = ap (λ (q : Parts). plls q.desc.defs) same in
+    let credits = c.credits_left.ensures in
+    let most = c.most_lowers.ensures.most in
+    let room = c.in_ok-make_room.ensures.room in
+    omega arith

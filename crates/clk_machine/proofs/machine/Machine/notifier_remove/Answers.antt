@@ -13,22 +13,22 @@ use Rattle.clk_machine.proofs.Entered.{enters, own_stands}
 use Rattle.clk_machine.proofs.Notifying.{has_stands, unnotified_same}
 use Rattle.clk_machine.proofs.machine.Machine.notifier_remove.Goals as goal
 
-pub returns-in_default : goal.returns-in_default
-returns-in_default g c =
+pub returns-in_default-clause-enters : goal.returns-in_default-clause-enters
+returns-in_default-clause-enters g c =
     enters c.args.self.now c.spend.new.self c.args.driver (Begin (NotifierRemove c.args.handle c.args.id)) (Refused ENOENT) stays refl c.requires.quiet c.requires.credit c.spend.ensures
     (λ s stands sound. notifier_remove-unknown s c.args.driver c.args.handle c.args.id (quiet_stands c.args.self.now s stands c.requires.quiet)
     (own_stands c.args.self.now s c.args.driver c.args.handle.number None stands (c.own.ensures.row ∙ c.in_default.is)))
 
-pub returns-then-had : goal.returns-then-had
-returns-then-had g c =
+pub returns-then-had-clause-enters : goal.returns-then-had-clause-enters
+returns-then-had-clause-enters g c =
     let row = c.in-Some.row in
     enters c.args.self.now c.remove_notifier-had.new.self c.args.driver (Begin (NotifierRemove c.args.handle c.args.id)) Fine (unnotified row.clock.0 c.args.id) refl c.requires.quiet c.requires.credit c.remove_notifier-had.ensures.removed
     (λ s stands sound. notifier_remove-fine s c.args.driver c.args.handle c.args.id row (quiet_stands c.args.self.now s stands c.requires.quiet)
     (own_stands c.args.self.now s c.args.driver c.args.handle.number (Some row) stands (c.own.ensures.row ∙ c.in-Some.is))
     (has_stands c.args.self.now s row.clock.0 c.args.id stands ∙ sym c.remove_notifier-had.ensures.had ∙ c.if-had.true))
 
-pub returns-else-had : goal.returns-else-had
-returns-else-had g c =
+pub returns-else-had-clause-enters : goal.returns-else-had-clause-enters
+returns-else-had-clause-enters g c =
     let row = c.in-Some.row in
     enters c.args.self.now c.remove_notifier-had.new.self c.args.driver (Begin (NotifierRemove c.args.handle c.args.id)) (Refused ENOENT) (unnotified row.clock.0 c.args.id) refl c.requires.quiet c.requires.credit c.remove_notifier-had.ensures.removed
     (λ s stands sound.

@@ -2,7 +2,7 @@ use Rattle.std.proofs.Common.{◌≡◌, ◌∙◌, sym, subst, true, false}
 use Rattle.std.proofs.lemmas.Result.{IfOk-weaker}
 use Rattle.std.specs.Prelude.{IfOk}
 use Rattle.rate_planner.specs.declared.planning.Planning.{Planning}
-use Rattle.change_walk.specs.Given.{HasFewNotifiers, OfPlan}
+use Rattle.change_walk.specs.Given.{OfPlan}
 use Rattle.change_walk.specs.Steps.{IsMadeOf}
 use Rattle.clk_tree.specs.Plans.{AreThere}
 use Rattle.counts_core.specs.Counted.{is_prepared}
@@ -37,7 +37,7 @@ returns-clause-ready g c =
     IfOk-weaker c.tell_clocks.result _ _
     (λ verdict scripts s given stands sound goes. ready_at m s c.args.driver c.args.what plan script (readied_of c.tell_clocks.new.draft verdict) c.suits.ensures.whole stands sound c.requires.changes c.requires.credit
     (quiet_stands m s stands c.requires.quiet) planned_ (remade m s c.args.driver plan given script c.suits.ensures.whole stands sound
-    (subst (λ (q : Parts). OfPlan q.tree (is_prepared q.counts) q.chains plan (λ t. HasFewNotifiers t → IsScriptOf t plan script)) c.self.view_is c.in_ok-write_script.ensures.script) c.args.what goes) scripts)
+    (subst (λ (q : Parts). OfPlan q.tree (is_prepared q.counts) q.chains plan (λ t. IsScriptOf t plan script)) c.self.view_is c.in_ok-write_script.ensures.script) c.args.what goes) scripts)
     (subst (λ (p : Planning). IfOk c.tell_clocks.result (λ verdict. Scripts m p.plan script (readied_of c.tell_clocks.new.draft verdict))) c.write_script.ensures.plan c.tell_clocks.ensures.scripts)
 
 pub returns-clause-can : goal.returns-clause-can

@@ -14,20 +14,20 @@ use Rattle.clk_machine.proofs.machine.Machine.running.Goals as goal
 pub is_active-runs-requires : goal.is_active-runs-requires
 is_active-runs-requires g c = row_place c.args.self.now c.args.handle.number c.in-Some.row c.own.ensures.whole c.in-Some.ensures.live
 
-pub returns-in_default : goal.returns-in_default
-returns-in_default g c =
+pub returns-in_default-clause-enters : goal.returns-in_default-clause-enters
+returns-in_default-clause-enters g c =
     enters c.args.self.now c.spend.new.self c.args.driver (Running c.args.handle.number) (Refused ENOENT) stays refl refl c.requires c.spend.ensures
     (λ s stands sound. running-unknown s c.args.driver c.args.handle.number (own_stands c.args.self.now s c.args.driver c.args.handle.number None stands (c.own.ensures.row ∙ c.in_default.is)))
 
-pub returns-then-runs : goal.returns-then-runs
-returns-then-runs g c =
+pub returns-then-runs-clause-enters : goal.returns-then-runs-clause-enters
+returns-then-runs-clause-enters g c =
     enters c.args.self.now c.spend-2.new.self c.args.driver (Running c.args.handle.number) Yes stays refl refl c.requires c.spend-2.ensures
     (λ s stands sound. running-told s c.args.driver c.args.handle.number c.in-Some.row
     (own_stands c.args.self.now s c.args.driver c.args.handle.number (Some c.in-Some.row) stands (c.own.ensures.row ∙ c.in-Some.is))
     ∙ ap (λ (b : Bool). paid s (s, Done (if b then Yes else No))) (sym (c.is_active-runs.ensures s stands) ∙ c.if-runs.true))
 
-pub returns-else-runs : goal.returns-else-runs
-returns-else-runs g c =
+pub returns-else-runs-clause-enters : goal.returns-else-runs-clause-enters
+returns-else-runs-clause-enters g c =
     enters c.args.self.now c.spend-2.new.self c.args.driver (Running c.args.handle.number) No stays refl refl c.requires c.spend-2.ensures
     (λ s stands sound. running-told s c.args.driver c.args.handle.number c.in-Some.row
     (own_stands c.args.self.now s c.args.driver c.args.handle.number (Some c.in-Some.row) stands (c.own.ensures.row ∙ c.in-Some.is))

@@ -6,7 +6,7 @@ use Rattle.clk_machine.proofs.Along.{along_step, along_unended, comes_first}
 use Rattle.clk_machine.proofs.machine.Machine.step_out.Goals as goal
 
 pub returns-in-Some-End-clause-along : goal.returns-in-Some-End-clause-along
-returns-in-Some-End-clause-along g c = λ d m a r. along_step c.args.self.now c.end-reply.new.self micro.End None (Done c.end-reply.result) c.end-reply.ensures d m a (Done r) (inl refl)
+returns-in-Some-End-clause-along g c = λ d m a r. along_step c.args.self.now c.end-reply.new.self micro.End None (Done c.end-reply.result) c.end-reply.ensures.enters d m a (Done r) (inl refl)
 
 pub returns-in-Some : goal.returns-in-Some
 returns-in-Some g c =

@@ -12,6 +12,6 @@ returns-then-not-is_quiet-clause-follows c =
 
 pub returns-clause-follows : goal.returns-clause-follows
 returns-clause-follows c =
-    let made = c.in_ok-reserve.ensures in
-    traced_begin c.args.self.now c.reserve.new.self c.follow-2.new.self c.args.entry.now c.args.what.now c.requires.begins made.stays made.same made.room
+    let made = c.in_ok-reserve_anew.ensures in
+    traced_begin c.args.self.now c.reserve_anew.new.self c.follow-2.new.self c.args.entry.now c.args.what.now c.requires.begins made.stays made.same made.room
     c.follow-2.ensures.follows c.follow-2.ensures.room c.follow-2.ensures.same

@@ -2,8 +2,9 @@
 use Rattle.std.proofs.Common.{List, sym, ap, ◌∙◌, subst, map}
 use Rattle.clk_model.specs.Notices.{by_priority}
 use Rattle.notifiers.specs.declared.notifier.Notifier.{Notifier}
-use Rattle.notifiers.specs.Chains.{row_on, chain_of, CanAdd, WhyNot}
+use Rattle.notifiers.specs.Chains.{CanAdd, IsChain, WhyNot, chain_of, row_on}
 use Rattle.notifiers.proofs.Chained.{told_of_error}
+use Rattle.notifiers.proofs.Kept.{added_kept}
 use Rattle.notifiers.proofs.notifiers.Notifiers.chain_with.Goals as goal
 
 pub returns-in_err-with-clause-why : goal.returns-in_err-with-clause-why
@@ -19,3 +20,11 @@ returns-clause-made c =
 
 pub returns-clause-can : goal.returns-clause-can
 returns-clause-can c = subst (λ (ms : List Notifier). CanAdd c.args.notifier.id (map (row_on c.args.c.0) ms)) c.chain.ensures.chain (c.in_ok-with.ensures.can c.args.c.0)
+
+pub invariant_of-result : goal.invariant_of-result
+invariant_of-result c =
+    added_kept c.args.c.0 c.args.notifier c.chain.result.now c.in_ok-with.field-0.items (c.in_ok-with.ensures.made c.args.c.0) (c.in_ok-with.ensures.can c.args.c.0)
+    (subst IsChain (sym c.chain.ensures.chain) (c.chain.ensures.kept c.args.c.0))
+
+pub returns-clause-kept : goal.returns-clause-kept
+returns-clause-kept c = invariant_of-result c
