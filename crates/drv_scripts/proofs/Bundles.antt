@@ -133,7 +133,7 @@ both n (s ∷ more) placed few = (record { placed = placed.0; few = few.0 }, bot
 pub bundle_is : (ls : List (List ℕ)) (parts : Parts) (said : SaidClocks) (desc : Checked) (words : List ℕ) (others : Others) → desc ≡ record { defs = said.defs; words = parts.bank.words }
     → words ≡ bank_words ls parts.bank → AreOthers (around ls parts said) parts.others others → made desc said.lines said.assigned words others ≡ bundle_of ls parts said
 unfolding bundle_of
-bundle_is ls parts said desc words others e f read = rw (e, f, read.locks, read.late, read.drivers, read.order, read.lines) refl
+bundle_is ls parts said desc words others e f read = rw (e, f, read.locks, read.late, read.drivers, read.order) refl
 
 -- how many boot's commands are
 onto_few : (absent : List LateLine) (from : ℕ) (rest : List Command) → length (onto (probe_unless absent from) rest) ≤ suc (length rest)

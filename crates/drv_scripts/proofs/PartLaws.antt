@@ -5,7 +5,7 @@ use Rattle.bundle_sections.specs.Sections.{SaidSection}
 use Rattle.drv_scripts.specs.declared.part.Others.{Others}
 use Rattle.drv_scripts.specs.declared.part.Part.{Part}
 use Rattle.drv_scripts.specs.Parts.{IsEmpty, IsPart, Adds, AreRead, AreOthers}
-use Rattle.drv_scripts.specs.Sections.{Around, scripts_in, locks_in, late_in, turns_in, order_lines_in}
+use Rattle.drv_scripts.specs.Sections.{Around, scripts_in, locks_in, late_in, turns_in}
 
 -- nothing, and then all
 nothing_and : {X : Type 0} (done all : List X) → done ≡ [] → done ++ all ≡ all
@@ -27,7 +27,6 @@ read_none a all others none = record {
   late = nothing_and _ _ none.late;
   drivers = nothing_and _ _ none.drivers;
   order = nothing_and _ _ none.order;
-  lines = nothing_and _ _ none.lines;
 }
 
 pub read_more : (a : Around) (all : List SaidSection) (s : SaidSection) (rest : List SaidSection) (old : Others) (part : Part) (new : Others) → AreRead a all (s ∷ rest) old → IsPart a s part → Adds old part new
@@ -37,7 +36,6 @@ read_more a all s rest old part new was is added = record {
   late = one_and (late_in a) _ s rest _ _ _ was.late is.late added.late;
   drivers = one_and (scripts_in a) _ s rest _ _ _ was.drivers is.drivers added.drivers;
   order = one_and (turns_in a) _ s rest _ _ _ was.order is.order added.order;
-  lines = one_and (order_lines_in a) _ s rest _ _ _ was.lines is.lines added.lines;
 }
 
 pub read_all : (a : Around) (all rest : List SaidSection) (others : Others) → rest ≡ [] → AreRead a all rest others → AreOthers a all others
@@ -46,5 +44,4 @@ read_all a all rest others none is = record {
   late = all_and (late_in a) _ rest _ none is.late;
   drivers = all_and (scripts_in a) _ rest _ none is.drivers;
   order = all_and (turns_in a) _ rest _ none is.order;
-  lines = all_and (order_lines_in a) _ rest _ none is.lines;
 }

@@ -1,5 +1,5 @@
 -- The header and the lines of a section that isn't a driver's, and what was read of it.
-use Rattle.std.proofs.Common.{◌≡◌, ℕ, ◌+◌, ◌-◌, ◌∷◌, [], List, Option, None, refl, ap, sym, subst, ◌∙◌, inl, inr, arith}
+use Rattle.std.proofs.Common.{◌≡◌, ℕ, ◌+◌, ◌-◌, ◌∷◌, [], List, Option, None, refl, ap, ◌∙◌, inl, inr, arith}
 use Rattle.std.specs.Prelude.{Vec}
 use Rattle.std.specs.declared.alloc.Global.{Global}
 use Rattle.std.proofs.lemmas.Bool.{cases_lt}
@@ -15,7 +15,7 @@ use Rattle.drv_scripts.specs.declared.stop.Stop.TheVariants.{At, NoMemory}
 use Rattle.drv_scripts.specs.Judged.{KeepsBetween, Stops}
 use Rattle.drv_scripts.specs.ListLines.{lock_fault, locks_of, late_fault, late_of, order_fault, turns_of}
 use Rattle.drv_scripts.specs.Parts.{IsPart}
-use Rattle.drv_scripts.specs.Sections.{Around, section_from, header_fault, inside_fault, section_fault, scripts_between, locks_between, late_between, turns_between, line_of}
+use Rattle.drv_scripts.specs.Sections.{Around, section_from, header_fault, inside_fault, section_fault, scripts_between, locks_between, late_between, turns_between}
 use Rattle.drv_scripts.proofs.DriverLines.{fault-header, fault-inside}
 
 -- the lines of a section have no fault, and this was read of it
@@ -59,7 +59,7 @@ pub locks_read : (a : Around) (before place end : ℕ) (locks : Vec LockLine Glo
 unfolding header_fault inside_fault scripts_between locks_between late_between turns_between
 locks_read a before place end locks kept same = (
   inside_kept a before lock place end (lock_fault a.defs a.lines) refl (λ k. refl) kept,
-  record { locks = same; late = refl; drivers = refl; order = refl; lines = refl },
+  record { locks = same; late = refl; drivers = refl; order = refl },
 )
 
 -- ## Late clocks
@@ -73,7 +73,7 @@ pub late_read : (a : Around) (before place end : ℕ) (found : Vec LateLine Glob
 unfolding header_fault inside_fault scripts_between locks_between late_between turns_between
 late_read a before place end found kept same = (
   inside_kept a before late place end (late_fault a.defs a.lines) refl (λ k. refl) kept,
-  record { locks = refl; late = same; drivers = refl; order = refl; lines = refl },
+  record { locks = refl; late = same; drivers = refl; order = refl },
 )
 
 -- ## Turns
@@ -82,59 +82,31 @@ pub order_stop : (a : Around) (before place end : ℕ) (stop : Stop) → Stops (
 unfolding header_fault inside_fault
 order_stop a before place end stop h = inside_stop a before order place end (order_fault a.drivers a.lines (place + 1)) stop refl (λ k. refl) h
 
-order_kept : (a : Around) (before place end : ℕ) → KeepsBetween (order_fault a.drivers a.lines (place + 1)) (place + 1) end → KeepsBetween (section_fault a before (section_from order place end)) place end
-unfolding header_fault inside_fault
-order_kept a before place end kept = inside_kept a before order place end (order_fault a.drivers a.lines (place + 1)) refl (λ k. refl) kept
-
--- the section states turns
 pub order_read : (a : Around) (before place end : ℕ) (turns : Vec ℕ Global) → KeepsBetween (order_fault a.drivers a.lines (place + 1)) (place + 1) end
-    → turns.items ≡ turns_of a.drivers a.lines (place + 1) (end - (place + 1)) → (turns.items ≡ [] → ⊥) → IsRead a before order place end (parts.Turns turns (place + 1))
-unfolding scripts_between locks_between late_between turns_between
-order_read a before place end turns kept same some = (
-  order_kept a before place end kept,
-  record { locks = refl; late = refl; drivers = refl; order = same; lines = lined turns.items some ∙ ap (λ (xs : List ℕ). line_of xs place) same },
-) where
-  lined : (xs : List ℕ) → (xs ≡ [] → ⊥) → (place + 1) ∷ [] ≡ line_of xs place
-  lined [] some = absurd (some refl)
-  lined (x ∷ xs) some = refl
-
--- or none
-pub order_none : (a : Around) (before place end : ℕ) → KeepsBetween (order_fault a.drivers a.lines (place + 1)) (place + 1) end
-    → turns_of a.drivers a.lines (place + 1) (end - (place + 1)) ≡ [] → IsRead a before order place end parts.Nothing
-unfolding scripts_between locks_between late_between turns_between
-order_none a before place end kept none = (
-  order_kept a before place end kept,
-  record { locks = refl; late = refl; drivers = refl; order = sym none; lines = sym (ap (λ (xs : List ℕ). line_of xs place) none) },
+    → turns.items ≡ turns_of a.drivers a.lines (place + 1) (end - (place + 1)) → IsRead a before order place end (parts.Turns turns)
+unfolding header_fault inside_fault scripts_between locks_between late_between turns_between
+order_read a before place end turns kept same = (
+  inside_kept a before order place end (order_fault a.drivers a.lines (place + 1)) refl (λ k. refl) kept,
+  record { locks = refl; late = refl; drivers = refl; order = same },
 )
-
--- one of both
-pub order_either : (a : Around) (before place end : ℕ) (turns : Vec ℕ Global) (part : Part) → KeepsBetween (order_fault a.drivers a.lines (place + 1)) (place + 1) end
-    → turns.items ≡ turns_of a.drivers a.lines (place + 1) (end - (place + 1)) → ((turns.items ≡ [] → ⊥) → part ≡ parts.Turns turns (place + 1)) → (turns.items ≡ [] → part ≡ parts.Nothing)
-    → IsRead a before order place end part
-order_either a before place end turns part kept same some none = pick turns.items refl where
-  pick : (xs : List ℕ) → turns.items ≡ xs → IsRead a before order place end part
-  pick [] is = subst (IsRead a before order place end) (sym (none is)) (order_none a before place end kept (sym same ∙ is))
-  pick (x ∷ xs) is =
-      let not : turns.items ≡ [] → ⊥ = λ e. absurd (cc) in
-      subst (IsRead a before order place end) (sym (some not)) (order_read a before place end turns kept same not)
 
 -- ## A driver
 
 pub driver_read : (a : Around) (before : ℕ) (name : List ℕ) (path : Option (List ℕ)) (place end : ℕ) (script : Script) → KeepsBetween (section_fault a before (section_from (driver name path) place end)) place end
     → script ∷ [] ≡ scripts_between a (driver name path) (place + 1) end → IsRead a before (driver name path) place end (parts.Driver script)
 unfolding locks_between late_between turns_between
-driver_read a before name path place end script kept same = (kept, record { locks = refl; late = refl; drivers = same; order = refl; lines = refl })
+driver_read a before name path place end script kept same = (kept, record { locks = refl; late = refl; drivers = same; order = refl })
 
 -- ## Sections that say nothing
 
 pub tree_read : (a : Around) (before place end : ℕ) → IsRead a before device_tree place end parts.Nothing
 unfolding header_fault inside_fault scripts_between locks_between late_between turns_between
-tree_read a before place end = (inside_kept a before device_tree place end (λ k. None) refl (λ k. refl) (λ k low high. refl), record { locks = refl; late = refl; drivers = refl; order = refl; lines = refl })
+tree_read a before place end = (inside_kept a before device_tree place end (λ k. None) refl (λ k. refl) (λ k low high. refl), record { locks = refl; late = refl; drivers = refl; order = refl })
 
 pub clocks_read : (a : Around) (before place end : ℕ) → IsRead a before clocks place end parts.Nothing
 unfolding header_fault inside_fault scripts_between locks_between late_between turns_between
-clocks_read a before place end = (inside_kept a before clocks place end (λ k. None) refl (λ k. refl) (λ k low high. refl), record { locks = refl; late = refl; drivers = refl; order = refl; lines = refl })
+clocks_read a before place end = (inside_kept a before clocks place end (λ k. None) refl (λ k. refl) (λ k low high. refl), record { locks = refl; late = refl; drivers = refl; order = refl })
 
 pub bank_read : (a : Around) (before words place end : ℕ) → IsRead a before (bank words) place end parts.Nothing
 unfolding header_fault inside_fault scripts_between locks_between late_between turns_between
-bank_read a before words place end = (inside_kept a before (bank words) place end (λ k. None) refl (λ k. refl) (λ k low high. refl), record { locks = refl; late = refl; drivers = refl; order = refl; lines = refl })
+bank_read a before words place end = (inside_kept a before (bank words) place end (λ k. None) refl (λ k. refl) (λ k low high. refl), record { locks = refl; late = refl; drivers = refl; order = refl })

@@ -11,7 +11,7 @@ use Rattle.drv_scripts.specs.declared.bundle.Script.{Script}
 use Rattle.drv_scripts.specs.declared.part.Others.{Others}
 use Rattle.drv_scripts.specs.declared.part.Part.{Part}
 use Rattle.drv_scripts.specs.declared.part.Part.TheVariants as parts
-use Rattle.drv_scripts.specs.Sections.{Around, scripts_in, locks_in, late_in, turns_in, order_lines_in}
+use Rattle.drv_scripts.specs.Sections.{Around, scripts_in, locks_in, late_in, turns_in}
 use Rattle.drv_scripts.specs.Spelled.{probes_without, assigned_commands}
 
 -- the locks of what was read of a section
@@ -31,13 +31,8 @@ part_drivers _ = []
 
 -- its turns
 abbrev pub part_order : Part → List ℕ
-part_order (parts.Turns drivers line) = drivers.items
+part_order (parts.Turns drivers) = drivers.items
 part_order _ = []
-
--- the line of its header, where it states turns
-abbrev pub part_lines : Part → List ℕ
-part_lines (parts.Turns drivers line) = line ∷ []
-part_lines _ = []
 
 -- what was read of a section is what it says
 pub record IsPart (a : Around) (s : SaidSection) (part : Part) : Type 0 where
@@ -45,7 +40,6 @@ pub record IsPart (a : Around) (s : SaidSection) (part : Part) : Type 0 where
   pub late : part_late part ≡ late_in a s
   pub drivers : part_drivers part ≡ scripts_in a s
   pub order : part_order part ≡ turns_in a s
-  pub lines : part_lines part ≡ order_lines_in a s
 
 -- nothing was read
 pub record IsEmpty (others : Others) : Type 0 where
@@ -53,7 +47,6 @@ pub record IsEmpty (others : Others) : Type 0 where
   pub late : others.late.items ≡ []
   pub drivers : others.drivers.items ≡ []
   pub order : others.order.items ≡ []
-  pub lines : others.order_lines.items ≡ []
 
 -- what was read of a section is added behind what was read before
 pub record Adds (old : Others) (part : Part) (new : Others) : Type 0 where
@@ -61,7 +54,6 @@ pub record Adds (old : Others) (part : Part) (new : Others) : Type 0 where
   pub late : new.late.items ≡ old.late.items ++ part_late part
   pub drivers : new.drivers.items ≡ old.drivers.items ++ part_drivers part
   pub order : new.order.items ≡ old.order.items ++ part_order part
-  pub lines : new.order_lines.items ≡ old.order_lines.items ++ part_lines part
 
 -- what was read, with what is said of the sections that are left, is what all sections say
 pub record AreRead (a : Around) (all rest : List SaidSection) (others : Others) : Type 0 where
@@ -69,7 +61,6 @@ pub record AreRead (a : Around) (all rest : List SaidSection) (others : Others) 
   pub late : others.late.items ++ flat_map (late_in a) rest ≡ flat_map (late_in a) all
   pub drivers : others.drivers.items ++ flat_map (scripts_in a) rest ≡ flat_map (scripts_in a) all
   pub order : others.order.items ++ flat_map (turns_in a) rest ≡ flat_map (turns_in a) all
-  pub lines : others.order_lines.items ++ flat_map (order_lines_in a) rest ≡ flat_map (order_lines_in a) all
 
 -- what was read is what these sections say
 pub record AreOthers (a : Around) (all : List SaidSection) (others : Others) : Type 0 where
@@ -77,7 +68,6 @@ pub record AreOthers (a : Around) (all : List SaidSection) (others : Others) : T
   pub late : others.late.items ≡ flat_map (late_in a) all
   pub drivers : others.drivers.items ≡ flat_map (scripts_in a) all
   pub order : others.order.items ≡ flat_map (turns_in a) all
-  pub lines : others.order_lines.items ≡ flat_map (order_lines_in a) all
 
 -- a bundle of these clocks, of what nodes assign, of these words and of what the sections behind the bank's say
 abbrev pub made : Checked → List ℕ → List SeenAssigned → List ℕ → Others → Bundle
@@ -91,5 +81,4 @@ made desc lines assigned words others = record {
   boot = probes_without others.late.items (length desc.defs) ++ assigned_commands assigned;
   drivers = others.drivers.items;
   order = others.order.items;
-  order_lines = others.order_lines.items;
 }

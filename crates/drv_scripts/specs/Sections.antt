@@ -126,15 +126,6 @@ turns_between a _ first end = []
 abbrev pub turns_in : Around → SaidSection → List ℕ
 turns_in a s = turns_between a s.says (s.place + 1) s.end
 
--- the line of the header at a place behind which these turns stand, where there is one
-abbrev pub line_of : List ℕ → ℕ → List ℕ
-line_of [] place = []
-line_of (turn ∷ turns) place = (place + 1) ∷ []
-
--- the line of a section's header, where it states turns
-abbrev pub order_lines_in : Around → SaidSection → List ℕ
-order_lines_in a s = line_of (turns_in a s) s.place
-
 -- how many commands drivers have
 abbrev pub count_of : List Script → ℕ
 count_of scripts = sum_by (λ s. length s.commands) scripts

@@ -15,7 +15,7 @@ use Rattle.dts_clocks.specs.declared.loaded.AssignedStep.TheVariants.{Parent, Ra
 use Rattle.drv_scripts.specs.declared.bundle.Bundle.{Bundle}
 use Rattle.drv_scripts.specs.declared.bundle.LateLine.{LateLine}
 use Rattle.drv_scripts.specs.BankLines.{words_of}
-use Rattle.drv_scripts.specs.Sections.{around, scripts_in, locks_in, late_in, turns_in, order_lines_in}
+use Rattle.drv_scripts.specs.Sections.{around, scripts_in, locks_in, late_in, turns_in}
 
 -- ## Boot
 
@@ -78,5 +78,4 @@ bundle_of ls parts said = record {
   boot = probes_without (late_clocks ls parts said) (length said.defs) ++ assigned_commands said.assigned;
   drivers = flat_map (scripts_in (around ls parts said)) parts.others;
   order = flat_map (turns_in (around ls parts said)) parts.others;
-  order_lines = flat_map (order_lines_in (around ls parts said)) parts.others;
 }

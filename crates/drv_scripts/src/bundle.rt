@@ -82,6 +82,4 @@ pub struct Bundle {
     pub drivers: Listed<Script>,
     /// The numbers of drivers, in the order in which they take turns.
     pub order: Listed<u32>,
-    /// The line of the header behind which these turns stand, if there are some.
-    pub order_lines: Listed<u32>,
 }

@@ -15,8 +15,8 @@ pub(crate) enum Part {
     Late(Vec<LateLine>),
     /// A driver.
     Driver(Script),
-    /// Turns of drivers, at least one, and the line of their header.
-    Turns { drivers: Vec<u32>, line: u32 },
+    /// Turns of drivers.
+    Turns(Vec<u32>),
 }
 
 impl Part {
@@ -42,7 +42,6 @@ pub(crate) struct Others {
     pub(crate) late: Vec<LateLine>,
     pub(crate) drivers: Vec<Script>,
     pub(crate) order: Vec<u32>,
-    pub(crate) order_lines: Vec<u32>,
 }
 
 impl Others {
@@ -58,7 +57,6 @@ impl Others {
             late: Vec::new(alloc),
             drivers: Vec::new(alloc),
             order: Vec::new(alloc),
-            order_lines: Vec::new(alloc),
         }
     }
 
@@ -71,10 +69,7 @@ impl Others {
             Part::Locks(more) => Ok(self.locks.extend_from_slice(&more)?),
             Part::Late(more) => Ok(self.late.extend_from_slice(&more)?),
             Part::Driver(script) => Ok(self.drivers.push(script)?),
-            Part::Turns { drivers, line } => {
-                self.order.extend_from_slice(&drivers)?;
-                Ok(self.order_lines.push(line)?)
-            }
+            Part::Turns(drivers) => Ok(self.order.extend_from_slice(&drivers)?),
         }
     }
 }

@@ -54,7 +54,6 @@ fn bundle_with(
       boot = boot.items;
       drivers = contents.others.drivers.items;
       order = contents.others.order.items;
-      order_lines = contents.others.order_lines.items;
     } }
 {
     let (clock_lines, assigned_lines) = lines;
@@ -64,7 +63,6 @@ fn bundle_with(
         late,
         drivers,
         order,
-        order_lines,
     } = others;
     Bundle {
         desc,
@@ -76,7 +74,6 @@ fn bundle_with(
         boot: Listed::new(boot),
         drivers: Listed::new(drivers),
         order: Listed::new(order),
-        order_lines: Listed::new(order_lines),
     }
 }
 

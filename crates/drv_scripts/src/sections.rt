@@ -1,6 +1,6 @@
 //! The sections behind the bank's.
 
-ghost use Rattle.std.specs.Prelude.{◌≡◌, ◌≢◌, ◌+◌, ◌<◌, ◌≤◌, ◌^◌, [], length, map, IfOk};
+ghost use Rattle.std.specs.Prelude.{◌≡◌, ◌+◌, ◌<◌, ◌≤◌, ◌^◌, length, map, IfOk};
 ghost use Rattle.std.specs.List.{AllByRecursion};
 ghost use Rattle.std.specs.Option.{option_map, option_to_list};
 ghost use Rattle.bundle_sections.specs.Said.{said_header, said_section};
@@ -49,20 +49,6 @@ pub(crate) fn driver_names<'a>(
     Ok(names)
 }
 
-// What turns behind a header on this line are.
-fn part_of_turns(turns: Vec<u32>, line: u32) -> Part
-    ensures some { turns.items ≢ [] → result ≡ Part.Turns turns line }
-    ensures none { turns.items ≡ [] → result ≡ Part.Nothing }
-{
-    if turns.is_empty() {
-        return Part::Nothing;
-    }
-    Part::Turns {
-        drivers: turns,
-        line,
-    }
-}
-
 // What a section says, so many commands of other drivers standing before it.
 fn read_section(
     alloc: Global,
@@ -102,7 +88,7 @@ fn read_section(
         }
         Header::Order => {
             let turns = read_order(alloc, lines, drivers, place + 1, end)?;
-            Ok(part_of_turns(turns, place as u32 + 1))
+            Ok(Part::Turns(turns))
         }
         Header::DeviceTree => Ok(Part::Nothing),
         Header::Clocks => Ok(Part::Nothing),

@@ -20,7 +20,7 @@ use Rattle.bundle_sections.proofs.Places.{tiles-more}
 use Rattle.drv_scripts.specs.declared.bundle.Script.{Script}
 use Rattle.drv_scripts.specs.Commands.{clock_for, commands_of}
 use Rattle.drv_scripts.specs.Judged.{KeepsBetween}
-use Rattle.drv_scripts.specs.Sections.{Around, names_at, section_fault, scripts_in, locks_in, late_in, turns_in, order_lines_in, locks_between, late_between, turns_between, count_of, fault_among}
+use Rattle.drv_scripts.specs.Sections.{Around, names_at, section_fault, scripts_in, locks_in, late_in, turns_in, locks_between, late_between, turns_between, count_of, fault_among}
 use Rattle.drv_scripts.proofs.DriverLines.{driver_kept, driver_said}
 use Rattle.gen_laws.specs.Rows.{row_text}
 use Rattle.gen_laws.specs.Clocks.{root, gate, up_to, all_parts, name_of, place_of, clock_of, clocks}
@@ -178,7 +178,3 @@ late-none n a = flat-none (late_in a) (driver_parts n n) (each-up_to (λ s. late
 pub turns-none : (n : ℕ) (a : Around) → flat_map (turns_in a) (driver_parts n n) ≡ []
 unfolding turns_between
 turns-none n a = flat-none (turns_in a) (driver_parts n n) (each-up_to (λ s. turns_in a s ≡ []) (one_driver n) n (λ k low. (refl, tt)))
-
-pub order_lines-none : (n : ℕ) (a : Around) → flat_map (order_lines_in a) (driver_parts n n) ≡ []
-unfolding turns_between
-order_lines-none n a = flat-none (order_lines_in a) (driver_parts n n) (each-up_to (λ s. order_lines_in a s ≡ []) (one_driver n) n (λ k low. (refl, tt)))

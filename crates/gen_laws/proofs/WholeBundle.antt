@@ -32,7 +32,7 @@ use Rattle.gen_laws.proofs.ClockPart.{clock_section, length-section, placed, clo
 use Rattle.gen_laws.proofs.KeptRules.{length-clocks, rules-kept}
 use Rattle.gen_laws.proofs.RowLines.{lines-rows}
 use Rattle.gen_laws.proofs.RowPlaces.{rest_rows}
-use Rattle.gen_laws.proofs.ScriptPart.{drivers-fine, scripts-are, locks-none, late-none, turns-none, order_lines-none}
+use Rattle.gen_laws.proofs.ScriptPart.{drivers-fine, scripts-are, locks-none, late-none, turns-none}
 use Rattle.gen_laws.proofs.ShortRows.{text-fits}
 use Rattle.gen_laws.proofs.Sectioned.{bundle_lines, clocks_part, bundle_parts, bundle-sections}
 use Rattle.gen_laws.proofs.WordPart.{word-fine, bank-words}
@@ -92,9 +92,9 @@ unfolding assigned_commands
 boot-is n late none =
     sym (append-nil (probes_without late (length (clocks n))) ∙ (ap (λ l. probes_without l (length (clocks n))) none ∙ (all_probes (length (clocks n)) ∙ ap boot_of (length-clocks n))))
 
--- a bundle of these words, locks, late clocks, commands of boot, drivers, turns and their lines
-made : ℕ → List ℕ → List LockLine → List LateLine → List Command → List Script → List ℕ → List ℕ → Bundle
-made n words locks late boot drivers order order_lines = record {
+-- a bundle of these words, locks, late clocks, commands of boot, drivers and turns
+made : ℕ → List ℕ → List LockLine → List LateLine → List Command → List Script → List ℕ → Bundle
+made n words locks late boot drivers order = record {
   desc = record { defs = clocks n; words = 2 * n };
   clock_lines = range_with_len 3 (3 * n + 1);
   assigned_lines = [];
@@ -104,19 +104,18 @@ made n words locks late boot drivers order order_lines = record {
   boot = boot;
   drivers = drivers;
   order = order;
-  order_lines = order_lines;
 }
 
-same_made : (n : ℕ) (w w' : List ℕ) (l l' : List LockLine) (t t' : List LateLine) (b b' : List Command) (d d' : List Script) (o o' : List ℕ) (p p' : List ℕ)
-    → w' ≡ w → l' ≡ l → t' ≡ t → b ≡ b' → d' ≡ d → o' ≡ o → p' ≡ p → made n w l t b d o p ≡ made n w' l' t' b' d' o' p'
-same_made n w w' l l' t t' b b' d d' o o' p p' ew el et eb ed eo ep = cc
+same_made : (n : ℕ) (w w' : List ℕ) (l l' : List LockLine) (t t' : List LateLine) (b b' : List Command) (d d' : List Script) (o o' : List ℕ)
+    → w' ≡ w → l' ≡ l → t' ≡ t → b ≡ b' → d' ≡ d → o' ≡ o → made n w l t b d o ≡ made n w' l' t' b' d' o'
+same_made n w w' l l' t t' b b' d d' o o' ew el et eb ed eo = cc
 
 content : (n : ℕ) → n ≤ 64 → measured n ≡ bundle_of (bundle_lines n) (bundle_parts n) (said n)
 unfolding measured bundle_of made
 content n few =
     let a = around (bundle_lines n) (bundle_parts n) (said n) in
-    same_made n _ _ _ _ _ _ _ _ _ _ _ _ _ _ (bank-words n (3 * n + 3 + 1) (4 * n + 4 - (3 * n + 3 + 1)) few (omega arith) (omega arith)) (locks-none n a) (late-none n a) (boot-is n _ (late-none n a))
-    (scripts-are n a few (record { lines = refl; defs = refl })) (turns-none n a) (order_lines-none n a)
+    same_made n _ _ _ _ _ _ _ _ _ _ _ _ (bank-words n (3 * n + 3 + 1) (4 * n + 4 - (3 * n + 3 + 1)) few (omega arith) (omega arith)) (locks-none n a) (late-none n a) (boot-is n _ (late-none n a))
+    (scripts-are n a few (record { lines = refl; defs = refl })) (turns-none n a)
 
 -- the generated text spells the bundle
 pub text-spells : (n : ℕ) → 0 < n → n ≤ 64 → Accepts (generated n) (measured n)

@@ -27,5 +27,4 @@ measured drivers = record {
   boot = boot_of (3 * drivers + 1);
   drivers = up_to (λ driver. script drivers driver ∷ []) drivers;
   order = [];
-  order_lines = [];
 }

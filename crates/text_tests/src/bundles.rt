@@ -176,7 +176,6 @@ fn reads_locks_late_clocks_and_turns(rt: HostRuntime) -> Result<(), Fail> {
     };
     assert!(rt; bundle.late.as_slice() == [late].as_slice());
     assert!(rt; bundle.order.as_slice() == [1, 2, 2].as_slice());
-    assert!(rt; bundle.order_lines.as_slice() == [14].as_slice());
     assert!(rt; bundle.boot.as_slice().len() == 2);
     Ok(())
 }

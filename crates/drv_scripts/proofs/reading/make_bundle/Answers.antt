@@ -22,7 +22,6 @@ made_with : (desc : Checked) (lines : List ℕ) (assigned : List SeenAssigned) (
       boot = boot;
       drivers = others.drivers.items;
       order = others.order.items;
-      order_lines = others.order_lines.items;
     } ≡ made desc lines assigned words others
 made_with desc lines assigned words others numbers boot e f = rw (e, f) refl
 

@@ -7,7 +7,7 @@ use Rattle.dts_clocks.specs.Consumers.{seen_consumer}
 use Rattle.drv_scripts.specs.declared.part.Part.TheVariants as parts
 use Rattle.drv_scripts.specs.Judged.{Stops}
 use Rattle.drv_scripts.specs.Sections.{with_clocks, section_from, section_fault}
-use Rattle.drv_scripts.proofs.PartLines.{IsRead, tree_read, clocks_read, bank_read, locks_read, locks_stop, late_read, late_stop, order_either, order_stop, driver_read}
+use Rattle.drv_scripts.proofs.PartLines.{IsRead, tree_read, clocks_read, bank_read, locks_read, locks_stop, late_read, late_stop, order_read, order_stop, driver_read}
 use Rattle.drv_scripts.proofs.sections.read_section.Goals as goal
 
 pub returns-in-DeviceTree-clause-read : goal.returns-in-DeviceTree-clause-read
@@ -79,9 +79,8 @@ returns-in_ok-turns-in-Order-clause-read c =
     let a = with_clocks c.args.lines.now c.args.desc.now.defs (map seen_consumer c.args.consumers.now) (texts c.args.drivers.now) in
     let s = c.args.section.now in
     let read = c.in_ok-turns-in-Order.ensures in
-    let made = c.part_of_turns.ensures in
-    subst (λ (header : Header). IsRead a c.args.before (said_header header) s.place s.end c.part_of_turns.result) (sym c.in-Order.is)
-    (order_either a c.args.before s.place s.end c.in_ok-turns-in-Order.turns c.part_of_turns.result read.0 read.1 made.some made.none)
+    subst (λ (header : Header). IsRead a c.args.before (said_header header) s.place s.end (parts.Turns c.in_ok-turns-in-Order.turns)) (sym c.in-Order.is)
+    (order_read a c.args.before s.place s.end c.in_ok-turns-in-Order.turns read.0 read.1)
 
 pub returns-in_err-script-in-Driver-clause-read : goal.returns-in_err-script-in-Driver-clause-read
 returns-in_err-script-in-Driver-clause-read c =
