@@ -47,7 +47,7 @@ fn open_framework<B: Bank>(
 }
 
 // The core over a bank in which a bundle has run, and the answers.
-fn run_framework<B: Bank + Send + Sync, R: Threads + Wait + Sync, Q: Pause + Sync>(
+fn run_framework<B: Bank + Send, R: Threads + Wait + Sync, Q: Pause + Sync>(
     rt: &R,
     alloc: Global,
     bundle: &Bundle,
@@ -66,7 +66,7 @@ fn run_framework<B: Bank + Send + Sync, R: Threads + Wait + Sync, Q: Pause + Syn
 }
 
 // Runs a bundle over a bank and prints the run. The bank comes back.
-fn run_armed<K: Sink, B: Bank + Send + Sync, R: Threads + Wait + Sync, Q: Pause + Sync>(
+fn run_armed<K: Sink, B: Bank + Send, R: Threads + Wait + Sync, Q: Pause + Sync>(
     rt: &R,
     alloc: Global,
     bundle: &Bundle,
@@ -93,7 +93,7 @@ fn run_armed<K: Sink, B: Bank + Send + Sync, R: Threads + Wait + Sync, Q: Pause 
 }
 
 // Arms the locks of a bank, runs a bundle over it and prints the run. The bank comes back.
-fn run_bundle<K: Sink, B: Bank + Send + Sync, R: Threads + Wait + Sync, Q: Pause + Sync>(
+fn run_bundle<K: Sink, B: Bank + Send, R: Threads + Wait + Sync, Q: Pause + Sync>(
     rt: &R,
     alloc: Global,
     bundle: &Bundle,
@@ -124,7 +124,7 @@ fn run_bundle<K: Sink, B: Bank + Send + Sync, R: Threads + Wait + Sync, Q: Pause
 pub(crate) fn run_side_by_side<
     S: Source,
     K: Sink,
-    B: Bank + Send + Sync,
+    B: Bank + Send,
     R: Threads + Wait + Sync,
     Q: Pause + Sync,
 >(

@@ -45,7 +45,7 @@ pub fn clkbench<
     R: AllocGlobal + Threads + Wait + Sync,
     S: Source,
     K: Sink,
-    B: Bank + Send + Sync,
+    B: Bank + Send,
     Q: Pause + Sync,
 >(rt: &R, words: &'w [&'w str], input: &mut S, out: &mut K, bank: B, pause: &Q) -> (u8, Option<B>)
     // The bank has all words that a bundle may name.

@@ -20,12 +20,7 @@ use std::thread::Threads;
 use tier_lock::Named;
 
 // Driver 0 runs boot and makes the others, and they run. These are all drivers and their answers.
-fn run_all<
-    B: Bank + Send + Sync,
-    N: Named + Send + Sync,
-    R: Threads + Wait + Sync,
-    Q: Pause + Sync,
->(
+fn run_all<B: Bank + Send, N: Named + Send + Sync, R: Threads + Wait + Sync, Q: Pause + Sync>(
     rt: &R,
     alloc: Global,
     framework: &Framework<B, N>,
@@ -45,12 +40,7 @@ fn run_all<
 }
 
 // The framework that N names runs them, and gives its core.
-fn run_named<
-    B: Bank + Send + Sync,
-    N: Named + Send + Sync,
-    R: Threads + Wait + Sync,
-    Q: Pause + Sync,
->(
+fn run_named<B: Bank + Send, N: Named + Send + Sync, R: Threads + Wait + Sync, Q: Pause + Sync>(
     rt: &R,
     alloc: Global,
     unnamed: Unnamed<B>,
@@ -74,7 +64,7 @@ fn run_named<
 /// and then those of each driver.
 ///
 /// A driver that meets want of memory stops, and the others end; then there is no core.
-pub fn run_on_threads<B: Bank + Send + Sync, R: Threads + Wait + Sync, Q: Pause + Sync>(
+pub fn run_on_threads<B: Bank + Send, R: Threads + Wait + Sync, Q: Pause + Sync>(
     rt: &R,
     alloc: Global,
     unnamed: Unnamed<B>,

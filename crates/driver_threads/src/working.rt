@@ -18,7 +18,7 @@ use tier_lock::Named;
 
 /// Each driver runs its script, in a piece of its own.
 pub(crate) fn work_all<
-    B: Bank + Send + Sync,
+    B: Bank + Send,
     N: Named + Send + Sync,
     R: Threads + Wait + Sync,
     Q: Pause + Sync,

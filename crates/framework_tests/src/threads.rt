@@ -76,7 +76,7 @@ fn make_worker<B: Bank, N: Named>(driver: Driver<B>) -> Worker<B, N>
 }
 
 // All drivers work, each in a piece of its own.
-fn work_all<B: Bank + Send + Sync, N: Named + Send + Sync, R: Threads + Wait + Sync>(
+fn work_all<B: Bank + Send, N: Named + Send + Sync, R: Threads + Wait + Sync>(
     rt: &R,
     framework: &Framework<B, N>,
     workers: &mut [Worker<B, N>],
@@ -86,7 +86,7 @@ fn work_all<B: Bank + Send + Sync, N: Named + Send + Sync, R: Threads + Wait + S
 }
 
 // Three drivers work side by side.
-fn drive<B: Bank + Send + Sync, N: Named + Send + Sync, R: Threads + Wait + Sync>(
+fn drive<B: Bank + Send, N: Named + Send + Sync, R: Threads + Wait + Sync>(
     rt: &R,
     alloc: Global,
     unnamed: Unnamed<B>,
