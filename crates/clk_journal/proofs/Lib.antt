@@ -19,4 +19,11 @@ pub mod Turns
 pub mod Events
 pub mod Signs
 pub mod ReadBack
+pub mod WholeJournals
+pub mod Sizes
+pub mod PlacedClocks
+pub mod PlacedScripts
+pub mod PlacedSteps
+pub mod PlacedBegins
+pub mod PlacedRuns
 pub mod Spelled

@@ -2,6 +2,7 @@
 use Rattle.std.proofs.Common.{◌≡◌, ℕ, ℤ, pos, negsuc, suc, ◌+◌, ◌<◌, ◌≤◌, ◌%◌, ◌^◌, Bool, true, false, List, [], ◌∷◌, ◌++◌, Option, Some, None, refl, length, arith, codes}
 use Rattle.std.specs.Prelude.{◌==◌, not, slice_index_or}
 use Rattle.std.specs.Fmt.{decimal, signed_decimal}
+use Rattle.std.specs.List.{list_all}
 use Rattle.std.specs.Int.Signed.{mag}
 use Rattle.std.proofs.lemmas.Bool.{and_from}
 use Rattle.std.proofs.lemmas.Bool.Decides.{nat_tests}
@@ -27,24 +28,24 @@ use Rattle.clk_base.specs.declared.handle.Policy.TheVariants as policy
 use Rattle.clk_base.specs.Description.{Description, name_of}
 use Rattle.clk_model.proofs.Members.{both_left, both_right}
 use Rattle.clk_model.specs.Text.{Word, errno_name, clock_word, reply_words, policy_words, call_words, lock_words, step_words, event_words, turn_words}
-use Rattle.clk_journal.specs.Told.{IsNumber, IsSmall, IsPolicy, IsThere, IsCall, IsStep, IsEvent, IsTurn, CanBeTold, is_whole, TellApart}
-use Rattle.clk_journal.proofs.Parting.{no_blank, AreWhole}
+use Rattle.clk_journal.specs.Told.{IsNumber, IsSmall, IsPolicy, IsThere, IsCall, IsStep, IsEvent, IsTurn, CanBeTold, is_inside, is_whole, TellApart}
+use Rattle.clk_journal.proofs.Parting.{AreWhole}
 
 -- ---- numbers
 
-blankless_both : (xs ys : Word) → no_blank xs ≡ true → no_blank ys ≡ true → no_blank (xs ++ ys) ≡ true
-blankless_both [] ys p q = q
-blankless_both (x ∷ xs) ys p q = and_from (not (x == 32)) _ (both_left _ _ p) (blankless_both xs ys (both_right (not (x == 32)) (no_blank xs) p) q)
+inside_both : (xs ys : Word) → list_all is_inside xs ≡ true → list_all is_inside ys ≡ true → list_all is_inside (xs ++ ys) ≡ true
+inside_both [] ys p q = q
+inside_both (x ∷ xs) ys p q = and_from (is_inside x) _ (both_left _ _ p) (inside_both xs ys (both_right (is_inside x) (list_all is_inside xs) p) q)
 
-digit : (n : ℕ) → no_blank ((48 + n) ∷ []) ≡ true
-digit n = and_from (not ((48 + n) == 32)) true (grind (arith, nat_tests)) refl
+digit : (n : ℕ) → list_all is_inside ((48 + n) ∷ []) ≡ true
+digit n = and_from (is_inside (48 + n)) true (and_from (not ((48 + n) == 32)) (not ((48 + n) == 10)) (grind (arith, nat_tests)) (grind (arith, nat_tests))) refl
 
 pub decimal_whole : (n : ℕ) → IsNumber n → is_whole (decimal n) ≡ true
 decimal_whole n small = decimal_by_steps (λ m ds. is_whole ds ≡ true) (λ m low. digit m) longer n small where
   longer : (m : ℕ) (ds : Word) → 10 ≤ m → is_whole ds ≡ true → is_whole (ds ++ (48 + m % 10) ∷ []) ≡ true
   longer m ds high whole =
       and_from (not (length (ds ++ (48 + m % 10) ∷ []) == 0)) _ (grind (arith, nat_tests, length-append ds ((48 + m % 10) ∷ [])))
-      (blankless_both ds ((48 + m % 10) ∷ []) (both_right (not (length ds == 0)) (no_blank ds) whole) (digit (m % 10)))
+      (inside_both ds ((48 + m % 10) ∷ []) (both_right (not (length ds == 0)) (list_all is_inside ds) whole) (digit (m % 10)))
 
 small_whole : (n : ℕ) → IsSmall n → is_whole (decimal n) ≡ true
 small_whole n low = decimal_whole n (omega arith)
@@ -53,7 +54,7 @@ pub signed_whole : (z : ℤ) → mag z < 2 ^ 63 → is_whole (signed_decimal z) 
 signed_whole (pos n) small = decimal_whole n (omega arith)
 signed_whole (negsuc n) small =
     let ds = decimal (suc n) in
-    and_from (not (length (45 ∷ ds) == 0)) (no_blank (45 ∷ ds)) (grind (arith, nat_tests)) (both_right (not (length ds == 0)) (no_blank ds) (decimal_whole (suc n) (omega arith)))
+    and_from (not (length (45 ∷ ds) == 0)) (list_all is_inside (45 ∷ ds)) (grind (arith, nat_tests)) (both_right (not (length ds == 0)) (list_all is_inside ds) (decimal_whole (suc n) (omega arith)))
 
 -- ---- words one behind another
 

@@ -1,4 +1,5 @@
 pub mod Told
+pub mod Sized
 pub mod Spelling
 pub mod Words
 pub mod ReadNumbers

@@ -176,9 +176,13 @@ pub record CanBeTold (defs : Description) (names : List Word) (e : Entry) : Type
   pub event_ : IsEvent defs e.event
   pub turn_ : IsTurn defs e.turn
 
--- a word that isn't empty and has no blank
+-- whether a byte neither parts two words nor ends a line
+abbrev pub is_inside : ℕ → Bool
+is_inside b = not (b == 32) && not (b == 10)
+
+-- a word that isn't empty and has neither a blank nor the end of a line
 abbrev pub is_whole : Word → Bool
-is_whole w = not (length w == 0) && list_all (λ b. not (b == 32)) w
+is_whole w = not (length w == 0) && list_all is_inside w
 
 -- names that tell clocks and drivers apart: whole words, no two clocks and no two drivers have the same
 pub record TellApart (defs : Description) (names : List Word) : Type 0 where

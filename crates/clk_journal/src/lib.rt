@@ -13,6 +13,7 @@ mod entries;
 mod event;
 mod laws;
 mod names;
+mod ranges;
 mod reading;
 mod registers;
 mod reply;
@@ -20,6 +21,7 @@ mod step;
 
 pub use answers::print_answers;
 pub use entries::{print_entries, print_entry};
-pub use laws::one_entry;
+pub use laws::{clocks_are_there, one_entry, one_journal};
+pub use ranges::entries_are_sized;
 pub use reading::read_entry;
 pub use registers::print_registers;
