@@ -1,5 +1,5 @@
 -- The names of a bundle that was read tell its clocks and its drivers apart, boot among these.
-use Rattle.std.proofs.Common.{◌≡◌, ℕ, zero, suc, ◌<◌, Bool, true, false, not, List, [], ◌∷◌, map, length, refl, sym, ap, subst, ◌∙◌, arith, eqb, inl, inr}
+use Rattle.std.proofs.Common.{◌≡◌, ℕ, zero, suc, ◌<◌, Bool, true, false, not, List, [], ◌∷◌, map, length, refl, sym, ap, ◌∙◌, arith, inl, inr}
 use Rattle.std.specs.Prelude.{◌==◌, ◌&&◌, nat_le, codes, slice_index_or}
 use Rattle.std.specs.Bool.{one_answer}
 use Rattle.std.specs.List.{AllByRecursion, IsDistinct, list_all}
@@ -8,7 +8,7 @@ use Rattle.std.proofs.lemmas.Bool.{cases_Bool, eqb-true}
 use Rattle.std.proofs.lemmas.Slice.Eq.{bytes_eq-Decides}
 use Rattle.bundle_text.specs.Names.{is_seen, is_clock_name, is_driver_character, is_driver_name}
 use Rattle.clk_base.specs.Description.{name_of}
-use Rattle.clk_journal.specs.Told.{TellApart, is_whole}
+use Rattle.clk_journal.specs.Told.{TellApart, is_inside, is_whole}
 use Rattle.drv_scripts.specs.declared.bundle.Bundle.{Bundle}
 use Rattle.drv_scripts.specs.declared.bundle.Script.{Script}
 use Rattle.drv_scripts.specs.Placed.{IsSound}
@@ -23,26 +23,27 @@ both false b e = absurd (cc)
 join : (a b : Bool) → a ≡ true → b ≡ true → (a && b) ≡ true
 join a b e f = rw (e, f) refl
 
--- a character that passes a test which no blank passes is no blank
-no_blank : (p : ℕ → Bool) → p 32 ≡ false → (b : ℕ) → p b ≡ true → not (b == 32) ≡ true
-no_blank p fails b passes =
-    elim (cases_Bool (b == 32)) [
-      | inl same ↦ let no : true ≡ false = sym passes ∙ (ap p (eqb-true b 32 same) ∙ fails) in absurd cc
+-- a character that passes a test which this byte doesn't pass is another
+is_other : (p : ℕ → Bool) (byte : ℕ) → p byte ≡ false → (b : ℕ) → p b ≡ true → not (b == byte) ≡ true
+is_other p byte fails b passes =
+    elim (cases_Bool (b == byte)) [
+      | inl same ↦ let no : true ≡ false = sym passes ∙ (ap p (eqb-true b byte same) ∙ fails) in absurd cc
       | inr other ↦ ap not other
     ]
 
-no_blanks : (p : ℕ → Bool) → p 32 ≡ false → (word : List ℕ) → list_all p word ≡ true → list_all (λ b. not (b == 32)) word ≡ true
-no_blanks p fails [] passes = refl
-no_blanks p fails (b ∷ word) passes =
+-- a word whose characters pass a test which no blank and no line end passes has neither
+all_inside : (p : ℕ → Bool) → p 32 ≡ false → p 10 ≡ false → (word : List ℕ) → list_all p word ≡ true → list_all is_inside word ≡ true
+all_inside p blank end_ [] passes = refl
+all_inside p blank end_ (b ∷ word) passes =
     let parts = both (p b) (list_all p word) passes in
-    join (not (b == 32)) (list_all (λ x. not (x == 32)) word) (no_blank p fails b parts.0) (no_blanks p fails word parts.1)
+    join (is_inside b) (list_all is_inside word) (join (not (b == 32)) (not (b == 10)) (is_other p 32 blank b parts.0) (is_other p 10 end_ b parts.0)) (all_inside p blank end_ word parts.1)
 
 clock_whole : (word : List ℕ) → is_clock_name word ≡ true → is_whole word ≡ true
 unfolding is_clock_name
 clock_whole word named =
     let parts = both (not (length word == 0) && nat_le (length word) 64) (list_all is_seen word) named in
     let size = both (not (length word == 0)) (nat_le (length word) 64) parts.0 in
-    join (not (length word == 0)) (list_all (λ b. not (b == 32)) word) size.0 (no_blanks is_seen refl word parts.1)
+    join (not (length word == 0)) (list_all is_inside word) size.0 (all_inside is_seen refl refl word parts.1)
 
 -- a driver's name is a whole word, and not boot's
 driver_parts : (word : List ℕ) → is_driver_name word ≡ true → (is_whole word ≡ true) × (bytes_eq (codes "boot") word ≡ false)
@@ -51,15 +52,15 @@ driver_parts word named =
     let all = both (not (length word == 0) && nat_le (length word) 32 && list_all is_driver_character word) (not (bytes_eq word (codes "boot"))) named in
     let letters = both (not (length word == 0) && nat_le (length word) 32) (list_all is_driver_character word) all.0 in
     let size = both (not (length word == 0)) (nat_le (length word) 32) letters.0 in (
-      join (not (length word == 0)) (list_all (λ b. not (b == 32)) word) size.0 (no_blanks is_driver_character refl word letters.1),
+      join (not (length word == 0)) (list_all is_inside word) size.0 (all_inside is_driver_character refl refl word letters.1),
       flips word (codes "boot") ∙ unlike (bytes_eq word (codes "boot")) all.1,
     ) where
       flips : (x y : List ℕ) → bytes_eq y x ≡ bytes_eq x y
       flips x y = one_answer (bytes_eq y x) (bytes_eq x y) (bytes_eq-Decides y x) (λ e. sym ((bytes_eq-Decides x y).0 e), λ e. (bytes_eq-Decides x y).1 (sym e))
 
       unlike : (b : Bool) → not b ≡ true → b ≡ false
-      unlike true no = absurd (cc)
-      unlike false no = refl
+      unlike true e = absurd (cc)
+      unlike false e = refl
 
 -- ## Names that differ
 

@@ -1,17 +1,20 @@
 -- What a run leaves: its text, and the registers in the bank.
 use Rattle.std.proofs.Common.{◌≡◌, ℕ, Bool, true, List, Option, Some, None, Result, Ok, Err, refl, sym, ap, subst, ◌∙◌, inl, inr, arith}
 use Rattle.std.specs.Prelude.{is_some, take, drop, IfSome, IfOk, IfErr}
+use Rattle.std.specs.List.{AllByRecursion}
 use Rattle.std.specs.Option.{option_map}
 use Rattle.clk_io.specs.Counts.{Rose, CountsPrintFault, RisesAtWrite}
 use Rattle.clk_io.specs.declared.faults.PrintFault.{PrintFault}
 use Rattle.clk_io.specs.declared.faults.PrintFault.TheVariants as print_fault
 use Rattle.clk_base.specs.declared.command.Answer.{Answer}
+use Rattle.clk_journal.specs.Sized.{IsSized}
 use Rattle.clk_model.specs.State.{State, is_quiet}
 use Rattle.clk_model.specs.Fed.{Fed}
 use Rattle.clk_model.specs.Journal.{replay, Legal, Polled}
 use Rattle.clk_model.specs.Summary.{summary}
 use Rattle.clk_summary.specs.Tables.{IsTable, IsSummary}
 use Rattle.drv_scripts.specs.declared.bundle.Bundle.{Bundle}
+use Rattle.drv_scripts.specs.Placed.{IsSound}
 use Rattle.clk_cli.specs.declared.cli.Cli.{Cli}
 use Rattle.clk_machine.specs.Lawful.{KeepsLaws}
 use Rattle.clk_machine.specs.Run.{Run}
@@ -23,6 +26,7 @@ use Rattle.reg_bank.specs.declared.pll_lock.PllLock.{PllLock}
 use Rattle.clk_run.specs.Runs.{Telling, drivers_in, scripts_of, opening_of, telling, armed_telling, told_by, IsTextOf, PrintedFront, LeftByFault}
 use Rattle.clk_run.specs.Texts.{run_text}
 use Rattle.driver_runs.specs.Turns.{HasRun}
+use Rattle.clk_run.proofs.GivenBack.{given_back}
 use Rattle.clk_run.proofs.SpelledBytes.{takes_some}
 use Rattle.clk_run.proofs.Telling.{same_telling}
 use Rattle.clk_run.proofs.Threaded.{in_order}
@@ -39,32 +43,46 @@ calls_of_run b cli old core answers opens ran = record {
 }
 
 -- a core that has run a bundle gives the text of a run of it
-pub text_of : (b : Bundle) (cli : Cli) (core : Run) (answers : List (List Answer)) (table words : List ℕ) → HasCalls b cli answers core
+pub text_of : (b : Bundle) (cli : Cli) (core : Run) (answers : List (List Answer)) (table words : List ℕ) → IsSound b → AllByRecursion IsSized core.journal → HasCalls b cli answers core
     → (core.told ≡ true → Legal core.start core.journal) → (core.told ≡ true → (delay : ℕ → ℕ) → HasDelays core.behind.delays delay → Polled delay core.journal) → (core.told ≡ true → (n : ℕ) → Fed (replay core.start (take n core.journal)))
     → (core.told ≡ true → KeepsLaws core.start core.journal)
     → (core.told ≡ true → is_quiet (replay core.start core.journal).change ≡ true)
     → IsSummary core table → (core.told ≡ true → words ≡ (replay core.start core.journal).regs)
     → IsTextOf b cli (told_by core) words (run_text b.desc.defs cli (drivers_in cli.mode b) core.journal answers table words)
-text_of b cli core answers table words has legal polled fed laws quiet sums means = record {
-  journal = core.journal;
-  answers = answers;
-  table = table;
-  run = record {
-    legal = λ tells. subst (λ (s : State). Legal s core.journal) has.start (legal tells);
-    polled = polled;
-    fed = λ tells n. subst (λ (s : State). Fed (replay s (take n core.journal))) has.start (fed tells n);
-    laws = λ tells. subst (λ (s : State). KeepsLaws s core.journal) has.start (laws tells);
-    quiet = λ tells. ap (λ (s : State). is_quiet (replay s core.journal).change) (sym has.start) ∙ quiet tells;
-    ended = has.quiet;
-    follow = has.follow;
-    among = has.among;
-    ordered = has.ordered;
-  };
-  summed = λ tells. sums.told tells ∙ ap (λ (s : State). summary (replay s core.journal)) has.start;
-  listed = λ tells. subst (λ (s : State). IsTable s.defs core.journal table) has.start (sums.untold tells);
-  registers = λ tells. means tells ∙ ap (λ (s : State). (replay s core.journal).regs) has.start;
-  text_is = refl;
-}
+text_of b cli core answers table words sound sized has legal polled fed laws quiet sums means =
+    let legal_from = λ (tells : core.told ≡ true). subst (λ (s : State). Legal s core.journal) has.start (legal tells) in
+    let quiet_from = λ (tells : core.told ≡ true). ap (λ (s : State). is_quiet (replay s core.journal).change) (sym has.start) ∙ quiet tells in
+    record {
+      journal = core.journal;
+      answers = answers;
+      table = table;
+      run = record {
+        legal = legal_from;
+        polled = polled;
+        fed = λ tells n. subst (λ (s : State). Fed (replay s (take n core.journal))) has.start (fed tells n);
+        laws = λ tells. subst (λ (s : State). KeepsLaws s core.journal) has.start (laws tells);
+        quiet = quiet_from;
+        ended = has.quiet;
+        follow = has.follow;
+        among = has.among;
+        ordered = has.ordered;
+        sized = sized;
+      };
+      summed = λ tells. sums.told tells ∙ ap (λ (s : State). summary (replay s core.journal)) has.start;
+      listed = λ tells. subst (λ (s : State). IsTable s.defs core.journal table) has.start (sums.untold tells);
+      registers = λ tells. means tells ∙ ap (λ (s : State). (replay s core.journal).regs) has.start;
+      text_is = refl;
+      given_back = λ tells other is same. given_back b sound other core.journal is (record {
+        mode = cli.mode;
+        ignore_unused = cli.ignore_unused;
+        answers = answers;
+        legal = legal_from tells;
+        quiet = quiet_from tells;
+        follow = has.follow;
+        among = has.among;
+        sized = sized;
+      }) same;
+    }
 
 -- a front of the text is what each fault of printing may leave
 pub left_by : {T : Type 0} (b : Bundle) (cli : Cli) (told : Telling) (old new : Option (List ℕ)) (r : Result T PrintFault) → PrintedFront b cli told old new

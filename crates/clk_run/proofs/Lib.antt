@@ -10,3 +10,6 @@ pub mod Threaded
 pub mod OkAnswers
 pub mod MeasuredRuns
 pub mod LocksPlaced
+pub mod EndedCalls
+pub mod PlacedCalls
+pub mod GivenBack

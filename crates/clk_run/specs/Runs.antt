@@ -1,16 +1,20 @@
 -- Runs of a bundle: which journals they have, and what they print.
-use Rattle.std.specs.Prelude.{◌≡◌, ◌⊎◌, IfSome, is_some, take, drop, ℕ, ◌+◌, List, [], Bool, true, false, Option, length}
+use Rattle.std.specs.Prelude.{◌≡◌, ◌⊎◌, IfSome, is_some, map, take, drop, ℕ, ◌+◌, List, [], Bool, true, false, Option, length}
+use Rattle.std.specs.List.{AllByRecursion}
 use Rattle.std.specs.Option.{option_map}
 use Rattle.clk_base.specs.declared.command.Answer.{Answer}
 use Rattle.clk_base.specs.declared.command.Command.{Command}
 use Rattle.clk_base.specs.declared.event.Entry.{Entry}
 use Rattle.reg_bank.specs.Registers.{Registers}
 use Rattle.reg_bank.specs.declared.pll_lock.PllLock.{PllLock}
+use Rattle.clk_journal.specs.Sized.{IsSized}
+use Rattle.clk_journal.specs.Told.{told_entry}
 use Rattle.clk_model.specs.State.{State, is_quiet}
 use Rattle.clk_model.specs.Journal.{opening, replay, Legal, Polled}
 use Rattle.clk_model.specs.Fed.{Fed}
 use Rattle.clk_model.specs.Ordered.{Ordered}
 use Rattle.clk_model.specs.Summary.{summary}
+use Rattle.clk_model.specs.Text.{journal_text}
 use Rattle.clk_summary.specs.Tables.{IsTable}
 use Rattle.drv_scripts.specs.declared.bundle.Bundle.{Bundle}
 use Rattle.drv_scripts.specs.declared.bundle.Script.{Script}
@@ -28,7 +32,7 @@ use Rattle.core_parts.specs.Window.{HasDelays, delays_in, locks_of}
 use Rattle.driver_runs.specs.Drivers.{FollowAll, are_among, boot_first}
 use Rattle.driver_runs.specs.Turns.{scripts_with}
 use Rattle.clk_run.specs.Arming.{armed_by}
-use Rattle.clk_run.specs.Texts.{command_count, run_text}
+use Rattle.clk_run.specs.Texts.{command_count, names_of, run_text}
 
 -- ---- what a run begins from
 
@@ -101,11 +105,34 @@ pub record IsRunOf (b : Bundle) (cli : Cli) (bank : Telling) (journal : List Ent
   pub follow : FollowAll 0 (scripts_of cli.mode b) answers journal
   pub among : are_among (length (scripts_of cli.mode b)) journal ≡ true
   pub ordered : InOrder cli.mode (scripts_of cli.mode b) b.order journal
+  -- each number in it is of the size that its type gives it
+  pub sized : AllByRecursion IsSized journal
+
+-- ---- what the text of a journal gives back
+
+-- a journal of a bundle, run in some mode: it is legal from the bundle's opening, at its end no change is in flight, boot and each driver that
+-- runs, and nobody else, have their calls once and in their order, and each number in it is of the size that its type gives it
+pub record IsJournalOf (b : Bundle) (journal : List Entry) : Type 0 where
+  pub mode : Mode
+  pub ignore_unused : Bool
+  pub answers : List (List Answer)
+  pub legal : Legal (opening_of b ignore_unused) journal
+  pub quiet : is_quiet (replay (opening_of b ignore_unused) journal).change ≡ true
+  pub follow : FollowAll 0 (scripts_of mode b) answers journal
+  pub among : are_among (length (scripts_of mode b)) journal ≡ true
+  pub sized : AllByRecursion IsSized journal
+
+-- the text of a journal gives it back: each journal of the bundle with the same text has the same entries, as their lines tell them
+abbrev pub GivesBack : Bundle → List Entry → Type 0
+GivesBack b journal = (other : List Entry) → IsJournalOf b other
+    → journal_text b.desc.defs (names_of b.drivers) other ≡ journal_text b.desc.defs (names_of b.drivers) journal
+    → map (told_entry b.desc.defs) other ≡ map (told_entry b.desc.defs) journal
 
 -- ---- what a run prints
 
 -- a text that a run of a bundle prints: the journal where the words ask for it, the answers, a summary and registers. Where the bank tells its words, the summary
--- is that of the state behind the journal, and the registers are those that it leaves; else the summary is a table of clocks that were registered
+-- is that of the state behind the journal, the registers are those that it leaves, and the journal's text gives the journal back; else the summary is a table of
+-- clocks that were registered
 pub record IsTextOf (b : Bundle) (cli : Cli) (bank : Telling) (words : Registers) (text : List ℕ) : Type 0 where
   pub journal : List Entry
   pub answers : List (List Answer)
@@ -115,6 +142,7 @@ pub record IsTextOf (b : Bundle) (cli : Cli) (bank : Telling) (words : Registers
   pub listed : bank.told ≡ false → IsTable b.desc.defs journal table
   pub registers : bank.told ≡ true → words ≡ (replay (opening_of b cli.ignore_unused) journal).regs
   pub text_is : text ≡ run_text b.desc.defs cli (drivers_in cli.mode b) journal answers table words
+  pub given_back : bank.told ≡ true → GivesBack b journal
 
 -- ---- what is left behind
 

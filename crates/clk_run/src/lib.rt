@@ -7,6 +7,7 @@
 
 mod arming;
 mod counting;
+mod laws;
 mod printing;
 mod reading;
 mod refusal;
@@ -18,6 +19,7 @@ mod state;
 mod taking;
 mod top;
 
+pub use laws::journal_given_back;
 pub use reading::check_bundle;
 pub use sim::simulate;
 pub use top::clkbench;

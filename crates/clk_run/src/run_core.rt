@@ -12,6 +12,7 @@ use crate::state::print_state;
 use clk_base::Answer;
 use clk_cli::{Cli, Mode};
 use clk_io::{Gathered, PrintFault, Sink};
+use clk_journal::entries_are_sized;
 use clk_machine::Core;
 use driver_runs::run_scripts;
 use drv_scripts::{Bundle, Listed, Script};
@@ -38,6 +39,7 @@ pub(crate) fn print_core<K: Sink, B: Bank>(
     answers: &[Listed<Answer>],
     out: &mut K,
 ) -> Result<(), PrintFault>
+    requires sound { IsSound bundle.now }
     requires calls { HasCalls bundle.now cli.now answers.now core.now }
     requires few { credits_of bundle.now ≤ most_credits }
     ensures prints { PrintsRun bundle.now cli.now core.now (K.written out.old) (K.written out.new) result }
@@ -46,6 +48,8 @@ pub(crate) fn print_core<K: Sink, B: Bank>(
     ensures counts { CountsPrintFault (K.faults out.old) (K.faults out.new) result }
 {
     let journal = core.journal();
+    // What the types say of the journal's numbers: by them its text gives it back.
+    entries_are_sized(journal);
     // What the core tells of the end of its run: no change is in flight.
     let _ = core.quiet();
     let drivers = drivers_in(cli.mode, bundle);

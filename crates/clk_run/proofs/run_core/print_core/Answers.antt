@@ -1,7 +1,9 @@
-use Rattle.std.proofs.Common.{◌≡◌, ◌∙◌, ℕ, ◌++◌, List, [], Ok, Err, true, refl, sym, ap, not, arith, length, append-nil}
+use Rattle.std.proofs.Common.{◌≡◌, ◌∙◌, ℕ, ◌++◌, List, [], Ok, Err, true, refl, sym, ap, subst, not, arith, length, append-nil}
+use Rattle.std.specs.List.{AllByRecursion}
 use Rattle.std.proofs.lemmas.List.{length-map}
 use Rattle.clk_io.proofs.Gathering.{PassesOn-after, front_after}
 use Rattle.clk_io.specs.declared.faults.PrintFault.TheVariants.{Write}
+use Rattle.clk_journal.specs.Sized.{IsSized}
 use Rattle.clk_journal.proofs.Stays.{handed_on, rises_since}
 use Rattle.clk_machine.specs.Run.{now_of}
 use Rattle.clk_model.specs.Text.{registers_text}
@@ -37,6 +39,7 @@ returns-in_err-print_calls-clause-prints g c =
     let answers = c.args.answers.now in
     let has = c.requires.calls in
     let told = c.journal-journal.ensures in
+    let sized = subst (AllByRecursion IsSized) told.entries c.entries_are_sized.ensures in
     let quiet = λ (tells : core.told ≡ true). sym (c.quiet.ensures.tells tells) ∙ c.quiet.ensures.quiet ∙ ap not has.quiet in
     let words = (now_of core).regs in
     let some = some_summary core in
@@ -45,7 +48,7 @@ returns-in_err-print_calls-clause-prints g c =
     record {
       words = words;
       text = run_text b.desc.defs cli (drivers_in cli.mode b) core.journal answers some.0 words;
-      run = text_of b cli core answers some.0 words has told.legal told.polled told.fed told.laws quiet some.1 (λ tells. refl);
+      run = text_of b cli core answers some.0 words c.requires.sound sized has told.legal told.polled told.fed told.laws quiet some.1 (λ tells. refl);
       registers = λ tells. refl;
       prints = Prints-fault _ _ _ _ c.from_residual.ensures.0
           (front_of_parts _ _ _ calls (some.0 ++ registers_text words) _ c.new-gathered.ensures whole c.in_err-print_calls.ensures.gathers);
@@ -59,6 +62,7 @@ returns-in_err-print_state-clause-prints g c =
     let answers = c.args.answers.now in
     let has = c.requires.calls in
     let told = c.journal-journal.ensures in
+    let sized = subst (AllByRecursion IsSized) told.entries c.entries_are_sized.ensures in
     let quiet = λ (tells : core.told ≡ true). sym (c.quiet.ensures.tells tells) ∙ c.quiet.ensures.quiet ∙ ap not has.quiet in
     let state = c.in_err-print_state.ensures.gathers in
     let behind = state.table ++ registers_text state.words in
@@ -67,7 +71,7 @@ returns-in_err-print_state-clause-prints g c =
     record {
       words = state.words;
       text = run_text b.desc.defs cli (drivers_in cli.mode b) core.journal answers state.table state.words;
-      run = text_of b cli core answers state.table state.words has told.legal told.polled told.fed told.laws quiet state.summary state.registers;
+      run = text_of b cli core answers state.table state.words c.requires.sound sized has told.legal told.polled told.fed told.laws quiet state.summary state.registers;
       registers = state.registers;
       prints = Prints-fault _ _ _ _ c.from_residual-in_err-print_state.ensures.0
           (front_of_parts _ _ _ (calls ++ behind) [] _ c.new-gathered.ensures (whole ∙ sym (append-nil (calls ++ behind)))
@@ -82,6 +86,7 @@ returns-in_err-finish-clause-prints g c =
     let answers = c.args.answers.now in
     let has = c.requires.calls in
     let told = c.journal-journal.ensures in
+    let sized = subst (AllByRecursion IsSized) told.entries c.entries_are_sized.ensures in
     let quiet = λ (tells : core.told ≡ true). sym (c.quiet.ensures.tells tells) ∙ c.quiet.ensures.quiet ∙ ap not has.quiet in
     let state = c.in_ok-print_state.ensures.gathers in
     let whole = run_in_parts b.desc.defs cli (drivers_in cli.mode b) _ core.journal _ answers state.table state.words c.drivers_in-drivers.ensures told.entries in
@@ -89,7 +94,7 @@ returns-in_err-finish-clause-prints g c =
     record {
       words = state.words;
       text = run_text b.desc.defs cli (drivers_in cli.mode b) core.journal answers state.table state.words;
-      run = text_of b cli core answers state.table state.words has told.legal told.polled told.fed told.laws quiet state.summary state.registers;
+      run = text_of b cli core answers state.table state.words c.requires.sound sized has told.legal told.polled told.fed told.laws quiet state.summary state.registers;
       registers = state.registers;
       prints = Prints-fault _ _ _ _ c.from_residual-in_err-finish.ensures.0
           (printed_of_parts {T = ℕ} {E = ℕ} _ _ _ _ _ _ _ (Err 0) c.new-gathered.ensures whole done c.in_err-finish.ensures.prints);
@@ -103,6 +108,7 @@ returns-clause-prints g c =
     let answers = c.args.answers.now in
     let has = c.requires.calls in
     let told = c.journal-journal.ensures in
+    let sized = subst (AllByRecursion IsSized) told.entries c.entries_are_sized.ensures in
     let quiet = λ (tells : core.told ≡ true). sym (c.quiet.ensures.tells tells) ∙ c.quiet.ensures.quiet ∙ ap not has.quiet in
     let state = c.in_ok-print_state.ensures.gathers in
     let whole = run_in_parts b.desc.defs cli (drivers_in cli.mode b) _ core.journal _ answers state.table state.words c.drivers_in-drivers.ensures told.entries in
@@ -110,7 +116,7 @@ returns-clause-prints g c =
     record {
       words = state.words;
       text = run_text b.desc.defs cli (drivers_in cli.mode b) core.journal answers state.table state.words;
-      run = text_of b cli core answers state.table state.words has told.legal told.polled told.fed told.laws quiet state.summary state.registers;
+      run = text_of b cli core answers state.table state.words c.requires.sound sized has told.legal told.polled told.fed told.laws quiet state.summary state.registers;
       registers = state.registers;
       prints = printed_of_parts {T = ℕ} {E = ℕ} _ _ _ _ _ _ _ (Ok 0) c.new-gathered.ensures whole done c.in_ok-finish.ensures.prints;
     }

@@ -59,6 +59,7 @@ print_core-requires g c =
     let answers = c.in_ok-answers.answers.items in
     let ran = ran_of b _ (drivers_in cli.mode b) _ _ answers c.args.core.now core c.as_slice-boot.ensures c.drivers_in-drivers.ensures c.as_slice-order.ensures c.in_ok-answers.ensures.ok in
     record {
+      sound = c.requires.sound;
       calls = subst (λ (as_ : List (List Answer)). HasCalls b cli as_ core) (sym c.as_slice.ensures.value)
           (calls_of_run b cli c.args.core.now core answers c.requires.start ran);
       few = few_credits b c.requires.sound;

@@ -12,6 +12,7 @@ use Rattle.clk_run.proofs.side_by_side.run_armed.Goals as goal
 
 pub print_core-requires : goal.print_core-requires
 print_core-requires g c = record {
+  sound = c.requires.sound;
   calls = threads_calls c.args.bundle.now c.args.cli.now (g.B.Bank.contents c.args.bank) (g.B.Bank.lock c.args.bank) c.in_ok-core.answers.items _ c.in_ok-core.core c.requires.mode c.in_ok-core.ensures c.as_slice.ensures.value;
   few = few_credits c.args.bundle.now c.requires.sound;
 }

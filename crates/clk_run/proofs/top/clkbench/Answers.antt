@@ -23,4 +23,4 @@ pub returns-in-Ok-clause-short : goal.returns-in-Ok-clause-short
 returns-in-Ok-clause-short g c = λ three. short_meant _ _ _ _ _ _ _ _ c.in-Ok.ensures.ok (c.run_side_by_side.ensures.short three)
 
 pub returns-in-Ok-2-clause-short : goal.returns-in-Ok-2-clause-short
-returns-in-Ok-2-clause-short g c = λ three. short_meant _ _ _ _ _ _ _ _ c.in-Ok-2.ensures.ok (c.simulate.ensures.short three)
+returns-in-Ok-2-clause-short g c = λ three. short_meant _ _ _ _ _ _ _ _ c.in-Ok.ensures.ok (c.simulate.ensures.short three)
