@@ -10,9 +10,10 @@
 # of five runs.
 #
 # The last line says how long an enable has to wait for planning: under `run` one driver asks over and
-# over what a rate would round to, of a divider with 65,536 divisors, and another one has 20,000 enables
-# meanwhile. It counts the roundings that stand in the journal between the first enable and the last; if
-# the enables last longer than the roundings, those are nearly all.
+# over what a rate would round to, of a divider with 65,536 divisors. No divisor gives that rate, so each
+# of them is tried, and a rounding takes more than a millisecond. Another driver has 20,000 enables
+# meanwhile. It counts the roundings that stand in the journal between the first enable and the last: a
+# few, if the enables go on while a rounding is worked out, and nearly all, if each waits for one.
 
 root=$(dirname -- "$(dirname -- "$(readlink -f -- "$0")")") || exit 1
 program=$root/crates/clkbench/out/clkbench
@@ -78,7 +79,7 @@ rounding_beside_enables() {
     awk -v roundings="$1" -v enables="$2" 'BEGIN {
         print "%bundle 1\n%clocks\nfixed osc 24000000\ndivider d osc 0 0 16 set-rate-parent\ngate g osc 1 0\n%regs 2"
         print "%driver A\nget x d"
-        while (roundings-- > 0) print "round x 1000000"
+        while (roundings-- > 0) print "round x 999999"
         print "%driver B\nget x g\nprepare x"
         while (enables-- > 0) print "enable x\ndisable x"
     }'
