@@ -75,10 +75,10 @@ fold_each {pick} law a e (x ∷ xs) (inr within) = fold_each law (pick a x) e xs
 
 -- ---- filters
 
-filter_one : (p : ℕ → Bool) (x : ℕ) (xs : List ℕ) → p x ≡ true → filter p (x ∷ xs) ≡ x ∷ filter p xs
+pub filter_one : (p : ℕ → Bool) (x : ℕ) (xs : List ℕ) → p x ≡ true → filter p (x ∷ xs) ≡ x ∷ filter p xs
 filter_one p x xs passes = cond-true (p x) (x ∷ filter p xs) (filter p xs) passes
 
-filter_not : (p : ℕ → Bool) (x : ℕ) (xs : List ℕ) → p x ≡ false → filter p (x ∷ xs) ≡ filter p xs
+pub filter_not : (p : ℕ → Bool) (x : ℕ) (xs : List ℕ) → p x ≡ false → filter p (x ∷ xs) ≡ filter p xs
 filter_not p x xs fails = cond-false (p x) (x ∷ filter p xs) (filter p xs) fails
 
 -- what passes stays

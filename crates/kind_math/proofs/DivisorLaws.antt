@@ -227,7 +227,7 @@ wanted_of_zero style parent rate field none some divides =
     (λ h. absurd (omega (arith, small)))
 
 -- a number of a list is in it
-IsIn-from_at : (d : ℕ) (xs : List ℕ) (k : ℕ) → k < length xs → get_or xs k d ≡ d → IsIn d xs
+pub IsIn-from_at : (d : ℕ) (xs : List ℕ) (k : ℕ) → k < length xs → get_or xs k d ≡ d → IsIn d xs
 IsIn-from_at d [] k within same = absurd (omega arith)
 IsIn-from_at d (x ∷ xs) zero within same = inl same
 IsIn-from_at d (x ∷ xs) (suc k) within same = inr (IsIn-from_at d xs k (omega arith) same)
@@ -242,7 +242,7 @@ div_rate_falls style parent low high divides divides' below =
     omega (arith, falls, here, there)
 
 -- what holds of each holds of one
-each_at : (P : ℕ → Type 0) (xs : List ℕ) (d : ℕ) → AllByRecursion P xs → IsIn d xs → P d
+pub each_at : (P : ℕ → Type 0) (xs : List ℕ) (d : ℕ) → AllByRecursion P xs → IsIn d xs → P d
 each_at P [] d each within = absurd within
 each_at P (x ∷ xs) d each (inl same) = subst P same each.0
 each_at P (x ∷ xs) d each (inr within) = each_at P xs d each.1 within

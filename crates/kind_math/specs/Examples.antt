@@ -1,9 +1,12 @@
 -- The formulas computed on small numbers.
-use Rattle.std.specs.Prelude.{◌≡◌, [], ◌∷◌, refl}
+use Rattle.std.specs.Prelude.{◌≡◌, [], ◌∷◌, List, true, false, refl}
+use Rattle.kind_math.specs.declared.table_row.TableRow.{TableRow}
 use Rattle.kind_math.specs.declared.div_style.DivStyle.TheVariants.{Plain, OneBased, PowerOfTwo}
 use Rattle.kind_math.specs.Rates.{factor_rate, divisor, div_rate, pll_rate}
 use Rattle.kind_math.specs.Choices.{least, greatest, greatest_of}
-use Rattle.kind_math.specs.Dividers.{valid_fields, valid_divisors, least_or_greatest, div_round, div_setting}
+use Rattle.kind_math.specs.Closest.{nearest, closest}
+use Rattle.kind_math.specs.Dividers.{valid_fields, valid_divisors, least_or_greatest, div_round, div_round_closest, div_setting}
+use Rattle.kind_math.specs.Tables.{divisor_of, value_of, table_rate, table_round, planned_divisor, table_setting}
 use Rattle.kind_math.specs.Plls.{pll_multiplier}
 
 -- three halves of the greatest rate are the greatest rate
@@ -59,3 +62,49 @@ multiplier_for_forty_five = refl
 pub multiplier_for_nine : pll_multiplier 10 9 3 7 1 ≡ 3
 unfolding pll_multiplier greatest pll_rate
 multiplier_for_nine = refl
+
+-- for 30 of 100 the closest is 34, by 3; for 42 too, since 50 is as near and higher
+pub closest_to_thirty : div_round_closest 100 30 3 Plain ≡ 3
+unfolding div_round_closest closest nearest least valid_divisors valid_fields divisor
+closest_to_thirty = refl
+
+pub closest_to_forty_two : div_round_closest 100 42 3 Plain ≡ 3
+unfolding div_round_closest closest nearest least valid_divisors valid_fields divisor
+closest_to_forty_two = refl
+
+-- over a parent of 0 it is the least
+pub closest_over_nothing : div_round_closest 0 50 3 Plain ≡ 1
+unfolding div_round_closest closest nearest least valid_divisors valid_fields divisor
+closest_over_nothing = refl
+
+-- a table in which 0 divides by 1, 1 by 4 and 3 by 10
+abbrev pub three_rows : List TableRow
+three_rows = record { value = 0; div = 1 } ∷ record { value = 1; div = 4 } ∷ record { value = 3; div = 10 } ∷ []
+
+-- its 1 divides by 4; 2, which it lacks, leaves the parent's rate
+pub quarter_of_hundred : table_rate 100 1 three_rows ≡ 25
+unfolding table_rate divisor_of
+quarter_of_hundred = refl
+
+pub missing_leaves : table_rate 100 2 three_rows ≡ 100
+unfolding table_rate divisor_of
+missing_leaves = refl
+
+-- for 17 of 100 it takes 10, which gives 10, and so does the closest, since 25 is farther
+pub row_for_seventeen : table_round 100 17 three_rows false ≡ 10
+unfolding table_round least_or_greatest least greatest_of
+row_for_seventeen = refl
+
+pub closest_to_seventeen : table_round 100 17 three_rows true ≡ 10
+unfolding table_round closest nearest least
+closest_to_seventeen = refl
+
+-- for 18 the closest is 25
+pub closest_to_eighteen : table_round 100 18 three_rows true ≡ 4
+unfolding table_round closest nearest least
+closest_to_eighteen = refl
+
+-- 5 is below each rate that it gives, so it is set to 3, which gives the least
+pub value_for_five : table_setting 100 5 three_rows ≡ 3
+unfolding table_setting planned_divisor value_of least_or_greatest least greatest_of
+value_for_five = refl

@@ -18,10 +18,13 @@ divisor Plain field = field + 1
 divisor OneBased field = field
 divisor PowerOfTwo field = 2 ^ field
 
--- a divider rounds up; a divisor of 0 leaves the parent's rate
+-- a rate divided, rounded up; a divisor of 0 leaves it
+abbrev pub divided : ℕ → ℕ → ℕ
+divided parent d = if d == 0 then parent else div_ceil parent d
+
+-- a divider divides by what its field stands for
 unfoldable pub div_rate : ℕ → ℕ → DivStyle → ℕ
-div_rate parent field style =
-    if divisor style field == 0 then parent else div_ceil parent (divisor style field)
+div_rate parent field style = divided parent (divisor style field)
 
 -- a PLL multiplies by `n` and divides by `m`, and drops the fraction
 unfoldable pub pll_rate : ℕ → ℕ → ℕ → ℕ

@@ -49,8 +49,8 @@ fn exponent(wanted: u64) -> u32
     }
 }
 
-// The least valid field that divides by at least this number, or the greatest valid one.
-fn least_field(wanted: u64, width: u32, style: DivStyle) -> u32
+/// The least valid field that divides by at least this number, or the greatest valid one.
+pub(crate) fn least_field(wanted: u64, width: u32, style: DivStyle) -> u32
     requires { choice.IsDividerWidth style width }
     ensures small { result < 2 ^ width }
     ensures chosen { result ≡ choice.least_or_greatest (λ field. nat_le wanted (rates.divisor style field)) (choice.valid_fields style width) }
