@@ -31,3 +31,11 @@ keeps_parent defs c = has_flag (flags_of defs c) 16
 -- the clock is active from its registration on
 abbrev pub is_critical : Description → ℕ → Bool
 is_critical defs c = has_flag (flags_of defs c) 32
+
+-- the clock's parent runs while the clock is moved, or its setting is written
+abbrev pub runs_parent : Description → ℕ → Bool
+runs_parent defs c = has_flag (flags_of defs c) 64
+
+-- the clock runs while its setting is written
+abbrev pub runs_to_set : Description → ℕ → Bool
+runs_to_set defs c = has_flag (flags_of defs c) 128

@@ -22,6 +22,10 @@ bitflag_items! {
         const NO_REPARENT = 16;
         /// The clock is active from its registration on.
         const CRITICAL = 32;
+        /// The clock's parent runs while the clock is moved, or its setting is written.
+        const OPS_PARENT_ENABLE = 64;
+        /// The clock runs while its setting is written.
+        const SET_RATE_UNGATE = 128;
     }
 }
 
@@ -31,7 +35,8 @@ impl Flags for ClkFlags {
     ghost exact = { ⊤ };
 
     ghost table = { (codes "SET_RATE_GATE", 1) ∷ (codes "SET_PARENT_GATE", 2) ∷ (codes "SET_RATE_PARENT", 4)
-        ∷ (codes "IGNORE_UNUSED", 8) ∷ (codes "NO_REPARENT", 16) ∷ (codes "CRITICAL", 32) ∷ [] };
+        ∷ (codes "IGNORE_UNUSED", 8) ∷ (codes "NO_REPARENT", 16) ∷ (codes "CRITICAL", 32)
+        ∷ (codes "OPS_PARENT_ENABLE", 64) ∷ (codes "SET_RATE_UNGATE", 128) ∷ [] };
 
     ghost set_of = { λ f. f.0 };
 

@@ -117,29 +117,29 @@ adoption_cut x c p ms none = ap (λ (t : Bool). if t then from_first is_end ms e
 
 -- the adoptions of a list go well, one after the other
 pub adopted_goes : (s : State) (x : ClockId) (cs : List ℕ) (timed : Bool) (a : Scene) → LinesEnd s.defs → SettingsFit s.defs → ToAdopt s a cs
-    → GoesWell s.defs (call.Probe x) timed None (holding a [] [] None) (flat_map (adoption s) cs ++ micro.End ∷ [])
+    → GoesWell s.defs (call.Probe x) timed [] (holding a [] [] None) (flat_map (adoption s) cs ++ micro.End ∷ [])
 adopted_goes s x [] timed a lines fits to = ends to.sound (record { prepares = refl; enables = refl; late = refl }) tt (λ h e. absurd cc)
 adopted_goes s x (c ∷ cs) timed a lines fits to =
-    subst (λ (ms : List Micro). GoesWell s.defs (call.Probe x) timed None (holding a [] [] None) ms) (sym (append_assoc (adoption s c) (flat_map (adoption s) cs) (micro.End ∷ [])))
+    subst (λ (ms : List Micro). GoesWell s.defs (call.Probe x) timed [] (holding a [] [] None) ms) (sym (append_assoc (adoption s c) (flat_map (adoption s) cs) (micro.End ∷ [])))
     (by_link (link_given s.defs s.regs s.clocks c) refl (λ timed' b to'. adopted_goes s x cs timed' b lines fits to')) where
       rest : List Micro
       rest = flat_map (adoption s) cs ++ micro.End ∷ []
 
-      adopted : (p : ℕ) → adopts s c p → (prep : Bool) → prepared s c ≡ prep → ((timed' : Bool) (b : Scene) → ToAdopt s b cs → GoesWell s.defs (call.Probe x) timed' None (holding b [] [] None) rest)
-          → GoesWell s.defs (call.Probe x) timed None (holding a [] [] None) (adoption_block prep c p ++ rest)
+      adopted : (p : ℕ) → adopts s c p → (prep : Bool) → prepared s c ≡ prep → ((timed' : Bool) (b : Scene) → ToAdopt s b cs → GoesWell s.defs (call.Probe x) timed' [] (holding b [] [] None) rest)
+          → GoesWell s.defs (call.Probe x) timed [] (holding a [] [] None) (adoption_block prep c p ++ rest)
       adopted p at true prep goes =
           let own = to.be c p (is_in_head c cs) at in
           let can : CanMove s.defs a c p = record { ends = lines; fits = λ f m. (fits c).place f p m ((own.0).will).possible; sound = to.sound; will = (own.0).will } in
           prepared_adoption s.defs (call.Probe x) timed a c p rest can own.1 own.2 ((own.0).kept ∙ prep)
-          (subst (λ (ms : List Micro). GoesWell s.defs (call.Probe x) true None (holding a [] [] None) ms) (sym (adoption_cut x c p rest (adoptions_no_register s cs))) (goes true a (adopt_rest s a c cs to)))
+          (subst (λ (ms : List Micro). GoesWell s.defs (call.Probe x) true [] (holding a [] [] None) ms) (sym (adoption_cut x c p rest (adoptions_no_register s cs))) (goes true a (adopt_rest s a c cs to)))
           (goes timed (linked_in a c p) (adopt_moved s a c p cs lines at to))
       adopted p at false idle goes =
           let own = to.be c p (is_in_head c cs) at in
           let can : CanMove s.defs a c p = record { ends = lines; fits = λ f m. (fits c).place f p m ((own.0).will).possible; sound = to.sound; will = (own.0).will } in
           bare_adoption s.defs (call.Probe x) timed a c p rest can own.2 ((own.0).kept ∙ idle) (goes timed (linked_in a c p) (adopt_moved s a c p cs lines at to))
 
-      by_link : (o : Option ℕ) → link_given s.defs s.regs s.clocks c ≡ o → ((timed' : Bool) (b : Scene) → ToAdopt s b cs → GoesWell s.defs (call.Probe x) timed' None (holding b [] [] None) rest)
-          → GoesWell s.defs (call.Probe x) timed None (holding a [] [] None) (option_map_or (λ p. adoption_block (prepared s c) c p) o [] ++ rest)
+      by_link : (o : Option ℕ) → link_given s.defs s.regs s.clocks c ≡ o → ((timed' : Bool) (b : Scene) → ToAdopt s b cs → GoesWell s.defs (call.Probe x) timed' [] (holding b [] [] None) rest)
+          → GoesWell s.defs (call.Probe x) timed [] (holding a [] [] None) (option_map_or (λ p. adoption_block (prepared s c) c p) o [] ++ rest)
       by_link None none goes = goes timed a (adopt_rest s a c cs to)
       by_link (Some p) at goes = adopted p at (prepared s c) refl goes
 

@@ -237,9 +237,9 @@ empty_has_none : (x : ℕ) (xs : List ℕ) → xs ≡ [] → is_in x xs ≡ true
 empty_has_none x xs none m = let no : true ≡ false = sym m ∙ ap (is_in x) none in cc
 
 -- where none is left to be raised, the PLLs of the path are powered
-pub covered_powered : (s : State) (k : Change) (x c : ℕ) → PowersOn s → RaisedWell s k x → to_raise s k x ≡ [] → is_in c (path_to_be s.defs s.regs s.clocks x) ≡ true
+pub covered_powered : (s : State) (k : Change) (xs : List ℕ) (x c : ℕ) → PowersOn s → RaisedWell s k xs → to_raise s k x ≡ [] → is_in c (path_to_be s.defs s.regs s.clocks x) ≡ true
     → IfSome (power_of (kind_of s.defs c)) (λ power. is_powered s.regs power ≡ true)
-covered_powered s k x c powers raised none m =
+covered_powered s k xs x c powers raised none m =
     if_one (λ power. is_powered s.regs power ≡ true) (power_of (kind_of s.defs c))
     (λ power at. some_one (λ p. is_powered s.regs p ≡ true) (power_of (kind_of s.defs c)) power (by_prepared (prepared s c) refl (is_in c k.raised) refl power at) at)
   where

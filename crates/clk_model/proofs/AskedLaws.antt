@@ -43,6 +43,10 @@ use Rattle.clk_model.proofs.ToldFlightLaws.{all_moves, PlanBegins, plan_begins}
 use Rattle.clk_model.proofs.ToldRunLaws.{went_well}
 use Rattle.clk_model.proofs.TimeoutLaws.{no_end}
 use Rattle.clk_model.proofs.BalanceLaws.{began}
+use Rattle.clk_model.proofs.FeedLaws.{NoFeeding}
+use Rattle.clk_model.specs.Script.{visit_of}
+use Rattle.clk_model.proofs.PlanGoLaws.{feeding_no_end}
+use Rattle.clk_model.proofs.ScriptLaws.{none_visit}
 
 -- ---- lists of steps
 
@@ -79,6 +83,10 @@ no_pre : (m : Micro) → is_moving m ≡ true → is_pre m ≡ false
 no_pre (micro.Notify kind d id old new) moves_ = absurd cc
 no_pre m moves_ = refl
 
+feeding_no_pre : NoFeeding is_pre
+feeding_no_pre (micro.Notify kind d id old new) e = absurd cc
+feeding_no_pre m e = refl
+
 -- behind the notices before it a plan's script asks nobody
 none_later : (n : State) (ks : List ChainStep) (settles : List Micro) (v : Bool) → list_any is_pre settles ≡ false → list_any is_pre (cond v (abort_notices n ks) (walked n ks ++ settles)) ≡ false
 none_later n ks settles v silent =
@@ -87,8 +95,9 @@ none_later n ks settles v silent =
     (λ x. none_map is_pre (λ (r : NotifierRow). micro.Notify notice.Abort (clock_id x) r.id (slice_index (plan_rates n ks).before x) (slice_index (plan_rates n ks).outcome x)) (notifiers_of n.notifiers x) (λ r. refl)))
     (none_append is_pre (walked n ks) settles
     (none_flat_map is_pre (walked_at n ks) (walk n.order (wiring n) ks)
-    (λ x. none_append is_pre (move_of n.defs n.clocks (prepared n) ks x) (micro.Visit (clock_id x) ∷ [])
-    (none_move_of is_pre n.defs n.clocks (prepared n) ks x (all_moves (NoMove is_pre n.defs n.clocks (prepared n) x) ks (λ k same p at. none_move is_pre n x p no_pre))) refl))
+    (λ x. none_append is_pre (move_of n.defs n.clocks (prepared n) ks x) (visit_of n.defs n.clocks ks x)
+    (none_move_of is_pre n.defs n.clocks (prepared n) ks x (all_moves (NoMove is_pre n.defs n.clocks (prepared n) x) ks (λ k same p at. none_move is_pre n x p no_pre)))
+    (none_visit is_pre n.defs n.clocks ks x feeding_no_pre refl)))
     silent)
 
 planned_asks : (n : State) (ks : List ChainStep) (settles : List Micro) → list_any is_pre settles ≡ false → asks (planned n ks settles).steps ≡ pre_notices n ks
@@ -109,7 +118,7 @@ planned_ends n ks settles none =
     ap (from_first is_end) (planned_is n ks settles)
     ∙ from_first_past is_end (planned_front n ks settles) (micro.End ∷ [])
     (none_planned_front is_end n ks settles (λ kind x id old new. refl)
-    (λ x. none_move_of is_end n.defs n.clocks (prepared n) ks x (all_moves (NoMove is_end n.defs n.clocks (prepared n) x) ks (λ k same p at. none_move is_end n x p no_end))) (λ x. refl) none)
+    (λ x. none_move_of is_end n.defs n.clocks (prepared n) ks x (all_moves (NoMove is_end n.defs n.clocks (prepared n) x) ks (λ k same p at. none_move is_end n x p no_end))) (λ x. none_visit is_end n.defs n.clocks ks x feeding_no_end refl) none)
 
 -- ---- beginnings
 
@@ -211,8 +220,9 @@ changes_are_asked defs regs ignore_unused credits before q s t d what made m ans
       by_place (was_put at put left) = let no : false ≡ true = ap may_be_put (sym end_) ∙ put in absurd cc
       by_place (was_own empty left) =
           let whole : k.left ≡ micro.End ∷ (taken k).left = left ∙ ap (λ (x : Micro). x ∷ (taken k).left) end_ in
+          let suffix = is.suffix well.1 in
           ap (list_any is_pre) whole
-          ∙ none_behind_first is.suffix.0 (taken k).left (ap (from_first is_end) (sym (is.suffix.1 ∙ ap (λ (ms : List Micro). is.suffix.0 ++ ms) whole)) ∙ first.ends)
+          ∙ none_behind_first suffix.0 (taken k).left (ap (from_first is_end) (sym (suffix.1 ∙ ap (λ (ms : List Micro). suffix.0 ++ ms) whole)) ∙ first.ends)
 
       ended : list_any is_pre k.left ≡ false
       ended = by_place (comes_of k.front k.left m of.first (front_put k is.front))

@@ -1,6 +1,6 @@
 -- Laws on calls that go on: what each begins with.
 use Rattle.std.proofs.Common.{◌≡◌, ℕ, zero, suc, ◌-◌, ◌||◌, Bool, true, false, cond, List, [], ◌∷◌, ◌++◌, Option, Some, None, refl, sym, ap, ◌∙◌, length, map, set}
-use Rattle.std.specs.Prelude.{filter, flat_map, option_map, slice_set}
+use Rattle.std.specs.Prelude.{filter, flat_map, option_map, slice_set, if◌then◌else◌}
 use Rattle.std.specs.List.{list_any}
 use Rattle.std.specs.Option.{option_map_or}
 use Rattle.std.proofs.lemmas.List.Folds.{list_any-append}
@@ -16,7 +16,7 @@ use Rattle.clk_base.specs.declared.event.Reply.TheVariants as reply
 use Rattle.clk_base.specs.declared.event.Turn.{Turn}
 use Rattle.clk_base.specs.declared.event.Turn.TheVariants as turn
 use Rattle.clk_base.specs.declared.handle.Handle.{Handle}
-use Rattle.clk_base.specs.Flags.{is_critical}
+use Rattle.clk_base.specs.Flags.{is_critical, runs_parent}
 use Rattle.clk_model.specs.declared.row.HandleRow.{HandleRow}
 use Rattle.clk_model.specs.State.{State, Change, ChainStep, handle_at, link_in}
 use Rattle.clk_model.specs.Holders.{prepared}
@@ -26,7 +26,7 @@ use Rattle.clk_model.specs.Chain.{clock_id, chain}
 use Rattle.clk_model.specs.Walk.{walk}
 use Rattle.clk_model.specs.Notices.{is_veto}
 use Rattle.clk_model.specs.Views.{view, lift}
-use Rattle.clk_model.specs.Script.{move, move_of, planned, adoption, adoption_order, adoptable, probe_script, sweep_order, sweep_script}
+use Rattle.clk_model.specs.Script.{unfeed, runs_for, visit_of, close_of, move, move_of, planned, adoption, adoption_order, adoptable, probe_script, sweep_order, sweep_script}
 use Rattle.clk_model.specs.Begin.{done, refused, starts, change_of, change_along, put_handle, with_handle, got, put_back, prepared_once_more, prepare, unprepare, rounded, request, held_once_more, range_set, request_between, parent_set, reparenting, exclusive_put, register, begun}
 use Rattle.clk_model.specs.Step.{range_back, with_range}
 use Rattle.clk_model.specs.Prep.{without_enables, prep}
@@ -34,6 +34,7 @@ use Rattle.clk_model.specs.Laws.Flight.{pre_notices, abort_notices}
 use Rattle.clk_model.proofs.EventLaws.{own_is_live}
 use Rattle.clk_model.proofs.TierLaws.{pick_either, with_handle_either}
 use Rattle.clk_model.proofs.NoneLaws.{none_append, none_map, none_flat_map, none_if}
+use Rattle.clk_model.proofs.FeedLaws.{NoFeeding, none_fed}
 use Rattle.clk_model.proofs.StepLaws.{raises}
 use Rattle.clk_model.proofs.Cases.{by_plan, by_found}
 
@@ -69,6 +70,7 @@ may_raise (call.SetRateExclusive h x) = true
 may_raise (call.SetRange h least most) = true
 may_raise (call.SetParent h p) = true
 may_raise (call.Probe c) = true
+may_raise call.Sweep = true
 may_raise _ = false
 
 -- the clocks and the holds of a state are another's
@@ -98,6 +100,7 @@ pub record IsBegun (q : State) (d : ℕ) (what : Sleeping) (n : State) (k : Chan
   pub call : k.call ≡ what
   pub front : k.front ≡ []
   pub on_time : k.timed_out ≡ false
+  pub planned : k.missed ≡ None
   pub calm : may_raise what ≡ false → list_any raises k.left ≡ false
   pub vetoed : k.vetoed ≡ list_any is_veto k.left
   pub off : k.vetoed ≡ true → IsOff q n k
@@ -112,6 +115,7 @@ plain q n d what left none calm same has = record {
   call = refl;
   front = refl;
   on_time = refl;
+  planned = refl;
   calm = calm;
   vetoed = sym none;
   off = λ e. absurd cc;
@@ -124,6 +128,10 @@ plain q n d what left none calm same has = record {
 some_append : (xs ys : List Micro) → list_any is_veto xs ≡ true → list_any is_veto (xs ++ ys) ≡ true
 some_append xs ys e = list_any-append is_veto xs ys ∙ ap (λ (t : Bool). t || list_any is_veto ys) e
 
+pub feeding_is_no_veto : NoFeeding is_veto
+feeding_is_no_veto (micro.Notify kind c id old new) e = absurd cc
+feeding_is_no_veto m e = refl
+
 move_has_no_veto : (s : State) (ks : List ChainStep) (c : ℕ) → list_any is_veto (move_of s.defs s.clocks (prepared s) ks c) ≡ false
 move_has_no_veto s ks c = none_flat_map is_veto _ (filter _ ks) (λ k. one k.parent) where
   dropped : (o : Option ℕ) → list_any is_veto (option_map_or (λ o. micro.DropEnable (clock_id o) ∷ micro.DropPrepare (clock_id o) ∷ micro.Lower (clock_id o) ∷ []) o []) ≡ false
@@ -135,11 +143,11 @@ move_has_no_veto s ks c = none_flat_map is_veto _ (filter _ ks) (λ k. one k.par
 
   one : (o : Option ℕ) → list_any is_veto (option_map_or (move s.defs s.clocks (prepared s) c) o []) ≡ false
   one None = refl
-  one (Some p) = by_prepared (prepared s c) _ _ (dropped (link_in s.clocks c)) refl
+  one (Some p) = by_prepared (prepared s c) _ _ (dropped (link_in s.clocks c)) (by_prepared (runs_parent s.defs c) _ _ (none_append is_veto (option_map_or unfeed (link_in s.clocks c) []) (unfeed c) (dropped (link_in s.clocks c)) refl) refl)
 
 -- what a plan does at a clock of its walk, and at all of them
 abbrev pub walked_at : State → List ChainStep → ℕ → List Micro
-walked_at s ks c = move_of s.defs s.clocks (prepared s) ks c ++ micro.Visit (clock_id c) ∷ []
+walked_at s ks c = move_of s.defs s.clocks (prepared s) ks c ++ visit_of s.defs s.clocks ks c
 
 abbrev pub walked : State → List ChainStep → List Micro
 walked s ks = flat_map (walked_at s ks) (walk s.order (wiring s) ks)
@@ -152,7 +160,8 @@ planned-vetoed s ks settles calm =
     whole (pre_notices s ks) (abort_notices s ks)
     (walked s ks ++ settles)
     (none_append is_veto (walked s ks) settles
-    (none_flat_map is_veto (walked_at s ks) (walk s.order (wiring s) ks) (λ c. none_append is_veto (move_of s.defs s.clocks (prepared s) ks c) (micro.Visit (clock_id c) ∷ []) (move_has_no_veto s ks c) refl))
+    (none_flat_map is_veto (walked_at s ks) (walk s.order (wiring s) ks) (λ c. none_append is_veto (move_of s.defs s.clocks (prepared s) ks c) (visit_of s.defs s.clocks ks c) (move_has_no_veto s ks c)
+    (none_fed is_veto (runs_for s.defs s.clocks ks c) (micro.Visit (clock_id c)) feeding_is_no_veto refl)))
     calm)
   where
     either : (b : Bool) (notices aborts rest : List Micro) → list_any is_veto notices ≡ b → list_any is_veto rest ≡ false → b ≡ list_any is_veto ((notices ++ cond b aborts rest) ++ micro.End ∷ [])
@@ -181,6 +190,7 @@ along q n d what ks settles range extra raising calm pre abort undone_is same ha
   call = refl;
   front = refl;
   on_time = refl;
+  planned = refl;
   calm = λ e. let no : true ≡ false = sym raising ∙ e in absurd cc;
   vetoed = planned-vetoed n ks settles calm;
   off = λ e. record {
@@ -261,17 +271,17 @@ probe_has_no_veto s c =
     (none_append is_veto first (micro.Register (clock_id c) ∷ []) (none_if is_veto (is_critical s.defs c) (micro.Raise (clock_id c) ∷ []) [] refl refl) refl)
     (none_flat_map is_veto (adoption s) (adoption_order (length (adoptable s)) s (adoptable s)) (adoption_has_no_veto s))) refl
 
--- a sweep closes gates and takes power, and nothing else
-pub sweep_has_no : (p : Micro → Bool) (s : State) → ((c : ℕ) → p (micro.Close (clock_id c)) ≡ false) → ((c : ℕ) → p (micro.Unpower (clock_id c)) ≡ false) → p micro.End ≡ false
+-- a sweep closes gates, runs their parents meanwhile and takes power, and nothing else
+pub sweep_has_no : (p : Micro → Bool) (s : State) → NoFeeding p → ((c : ℕ) → p (micro.Close (clock_id c)) ≡ false) → ((c : ℕ) → p (micro.Unpower (clock_id c)) ≡ false) → p micro.End ≡ false
     → list_any p (sweep_script s) ≡ false
 unfolding sweep_script
-sweep_has_no p s close unpower end_ =
+sweep_has_no p s feeding close unpower end_ =
     whole (filter _ (sweep_order s)) (filter _ (sweep_order s)) where
-      whole : (xs ys : List ℕ) → list_any p ((map (λ c. micro.Close (clock_id c)) xs ++ map (λ c. micro.Unpower (clock_id c)) ys) ++ micro.End ∷ []) ≡ false
+      whole : (xs ys : List ℕ) → list_any p ((flat_map (close_of s.defs s.clocks) xs ++ map (λ c. micro.Unpower (clock_id c)) ys) ++ micro.End ∷ []) ≡ false
       whole xs ys =
-          none_append p (map (λ c. micro.Close (clock_id c)) xs ++ map (λ c. micro.Unpower (clock_id c)) ys) (micro.End ∷ [])
-          (none_append p (map (λ c. micro.Close (clock_id c)) xs) (map (λ c. micro.Unpower (clock_id c)) ys)
-          (none_map p (λ c. micro.Close (clock_id c)) xs close) (none_map p (λ c. micro.Unpower (clock_id c)) ys unpower))
+          none_append p (flat_map (close_of s.defs s.clocks) xs ++ map (λ c. micro.Unpower (clock_id c)) ys) (micro.End ∷ [])
+          (none_append p (flat_map (close_of s.defs s.clocks) xs) (map (λ c. micro.Unpower (clock_id c)) ys)
+          (none_flat_map p (close_of s.defs s.clocks) xs (λ c. none_fed p (if runs_parent s.defs c then link_in s.clocks c else None) (micro.Close (clock_id c)) feeding (close c))) (none_map p (λ c. micro.Unpower (clock_id c)) ys unpower))
           (ap (λ (t : Bool). t || false) end_)
 
 -- ---- each call
@@ -326,4 +336,4 @@ begun_going q d (call.Probe c) =
 begun_going q d call.Sweep =
     pick_either (IfGoing (IsBegun q d call.Sweep)) _ _ _ (λ e. answered (IsBegun q d call.Sweep) q reply.Fine)
     (λ e. started (IsBegun q d call.Sweep) q q (change_of q d call.Sweep (sweep_script q))
-    (plain q q d call.Sweep (sweep_script q) (sweep_has_no is_veto q (λ c. refl) (λ c. refl) refl) (λ e. sweep_has_no raises q (λ c. refl) (λ c. refl) refl) (refl, refl, refl) (by_sweep refl)))
+    (plain q q d call.Sweep (sweep_script q) (sweep_has_no is_veto q feeding_is_no_veto (λ c. refl) (λ c. refl) refl) (λ e. absurd cc) (refl, refl, refl) (by_sweep refl)))

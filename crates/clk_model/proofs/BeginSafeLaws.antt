@@ -1,5 +1,5 @@
 -- Laws on beginnings of calls: from a state at rest they leave one at rest, or a call in flight that is safe.
-use Rattle.std.proofs.Common.{◌≡◌, ℕ, ◌+◌, ◌-◌, ◌<◌, ◌&&◌, Bool, true, false, not, map, List, [], ◌∷◌, ◌++◌, Option, Some, None, refl, sym, ap, subst, ◌∙◌, inl, inr, arith, nat_eq, nat_lt}
+use Rattle.std.proofs.Common.{◌≡◌, ℕ, ◌+◌, ◌-◌, ◌<◌, ◌&&◌, Bool, true, false, not, map, List, [], ◌∷◌, ◌++◌, Some, None, refl, sym, ap, subst, ◌∙◌, inl, inr, arith, nat_eq, nat_lt}
 use Rattle.std.proofs.lemmas.Bool.{and_from}
 use Rattle.std.proofs.lemmas.Bool.Decides.{nat_tests}
 use Rattle.std.specs.Prelude.{IfSome, slice_get, is_none, option_map}
@@ -75,7 +75,7 @@ rests q u t rest fit defs regs quiet prepares_ enables_ state =
 
 -- its change stands between its raises, where its script goes well
 pub begins_going : (q n t : State) (k : Change) → IsAtRest q → IsFit None n → n.defs ≡ q.defs → n.regs ≡ q.regs → k.front ≡ [] → k.raised ≡ []
-    → GoesWell n.defs k.call k.timed_out None (scene None n) k.left → record (settled q (record n { change = Some k })) { spent = q.spent + 1 } ≡ t → Goes t
+    → GoesWell n.defs k.call k.timed_out [] (scene None n) k.left → record (settled q (record n { change = Some k })) { spent = q.spent + 1 } ≡ t → Goes t
 unfolding settled
 begins_going q n t k rest fit defs regs empty none goes state =
     let u : State = record n { change = Some k } in
@@ -89,7 +89,7 @@ begins_going q n t k rest fit defs regs empty none goes state =
         safe = subst (λ (v : State). IsSafe None v) state safe;
         stands = calm [] (empty ∙ sym (ap (λ (zs : List ℕ). map (λ y. micro.Fall (clock_id y)) zs ++ []) none)) refl
             (λ y m. let no : false ≡ true = sym (ap (is_in y) none) ∙ m in absurd cc)
-            (goes_told n t k.call k.timed_out None None (scene None n) k.left (sym (ap (λ (v : State). v.defs) state)) (sym (ap (λ (v : State). scene None v) state) ∙ settled_scene None q u fit.wired.valid) goes);
+            (goes_told n t k.call k.timed_out [] None (scene None n) k.left (sym (ap (λ (v : State). v.defs) state)) (sym (ap (λ (v : State). scene None v) state) ∙ settled_scene None q u fit.wired.valid) goes);
       };
     }
 
@@ -133,7 +133,7 @@ parent_cuts (call.NotifierRemove h id) is = absurd cc
 parent_cuts (call.Probe c) is = absurd cc
 parent_cuts call.Sweep is = absurd cc
 
-pub no_prepare : (test : Sleeping → Bool) (what : Sleeping) → test what ≡ true → ((h : Handle) → test (call.Prepare h) ≡ false) → (timed : Bool) (cover : Option ℕ) (a : Scene) → EndsPrepare what timed cover a
+pub no_prepare : (test : Sleeping → Bool) (what : Sleeping) → test what ≡ true → ((h : Handle) → test (call.Prepare h) ≡ false) → (timed : Bool) (cover : List ℕ) (a : Scene) → EndsPrepare what timed cover a
 no_prepare test what is off timed cover a h e = let no : false ≡ true = sym (off h) ∙ ap test (sym e) ∙ is in absurd cc
 
 -- the clock of a handle is rooted
@@ -142,12 +142,12 @@ handle_rooted s number row fit at = let is = fit.sound.tree.rooted number row.cl
 
 -- a prepare
 pub raise_goes : (q : State) (what : Sleeping) (h : Handle) (row : HandleRow) → Resting q → what ≡ call.Prepare h → handle_at q.handles h.number ≡ Some row
-    → GoesWell q.defs what false None (scene None q) (micro.Raise row.clock ∷ micro.End ∷ [])
+    → GoesWell q.defs what false [] (scene None q) (micro.Raise row.clock ∷ micro.End ∷ [])
 raise_goes q what h row rest is at =
     raises row.clock rest.fit.sound (ends rest.fit.sound (record { prepares = rest.prepares; enables = rest.enables; late = refl }) (refl, (h, is)) prepared_)
-    (subst (λ (w : Sleeping). GoesWell q.defs what true None (scene None q) (cut_short w (micro.End ∷ []))) (sym is)
+    (subst (λ (w : Sleeping). GoesWell q.defs what true [] (scene None q) (cut_short w (micro.End ∷ []))) (sym is)
     (ends rest.fit.sound (record { prepares = rest.prepares; enables = rest.enables; late = refl }) tt (λ g e. inl refl))) where
-      prepared_ : EndsPrepare what false (Some row.clock.0) (scene None q)
+      prepared_ : EndsPrepare what false (row.clock.0 ∷ []) (scene None q)
       prepared_ g e =
           let both : call.Prepare h ≡ call.Prepare g = sym is ∙ e in
           let same : h ≡ g = cc in

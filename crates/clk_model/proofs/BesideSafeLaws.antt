@@ -1,5 +1,5 @@
 -- Laws on the enable tier beside a call in flight: it leaves the call safe, and its change where it stands.
-use Rattle.std.proofs.Common.{◌≡◌, ℕ, ◌+◌, ◌-◌, ◌<◌, ◌&&◌, Bool, true, not, List, Option, Some, None, refl, sym, ap, subst, ◌∙◌, arith, length, nat_eq}
+use Rattle.std.proofs.Common.{◌≡◌, ℕ, ◌+◌, ◌-◌, ◌<◌, ◌&&◌, Bool, true, not, List, [], ◌∷◌, ◌++◌, Option, Some, None, refl, sym, ap, subst, ◌∙◌, arith, length, nat_eq}
 use Rattle.std.proofs.Math.Path.{fun_ext}
 use Rattle.std.proofs.lemmas.Bool.Decides.{nat_tests}
 use Rattle.std.specs.Prelude.{IfSome, filter}
@@ -26,10 +26,10 @@ use Rattle.clk_model.specs.Tier.{is_enable_tier}
 use Rattle.clk_model.proofs.EventLaws.{own_is_live}
 use Rattle.clk_model.proofs.TierLaws.{pick_either, with_handle_either, paid_is}
 use Rattle.clk_model.proofs.PowerLaws.{settled_power}
-use Rattle.clk_model.proofs.Scenes.{scene, IsSafe, IsAtRest, RaisingFront, raised, asks, asks_first, comes_again, Stands, calm, raising}
+use Rattle.clk_model.proofs.Scenes.{scene, IsSafe, IsAtRest, RaisedWell, RaisingFront, asks, asks_first, comes_again, Stands, calm, covered, raising}
 use Rattle.clk_model.proofs.ArriveLaws.{fit_of, wired_before, settled_safe, settled_scene, safe_recounted, prepared_told, to_be_told, some_one}
 use Rattle.clk_model.proofs.SupplyLaws.{if_one}
-use Rattle.clk_model.proofs.StandLaws.{Goes, goes_told}
+use Rattle.clk_model.proofs.StandLaws.{Goes, goes_told, over_told}
 use Rattle.clk_model.proofs.RestLaws.{Alike, alike_self, alike_counted, fit_alike, gates_alike}
 
 -- ---- what an event of the enable tier leaves
@@ -124,26 +124,30 @@ to_raise_told late s t k x beside_ =
     (fun_ext (λ c. ap (λ (d : Description). is_pll (kind_of d c) && not (prepared t c)) beside_.defs
     ∙ ap (λ (b : Bool). is_pll (kind_of s.defs c) && not b) (prepared_told late late s t (scene late s) c beside_.defs beside_.scene_is)))
 
+well_beside : (late : Option ℕ) (s t : State) (k : Change) (xs : List ℕ) → IsBeside late s t → RaisedWell s k xs → RaisedWell t k xs
+well_beside late s t k xs beside_ well = record {
+  within = λ y m. over_told s t late xs y beside_.scene_is ∙ well.within y m;
+  powered = λ y m.
+      subst (λ (d : Description). IfSome (power_of (kind_of d y)) (λ power. is_powered t.regs power ≡ true)) (sym beside_.defs)
+      (if_one (λ power. is_powered t.regs power ≡ true) (power_of (kind_of s.defs y))
+      (λ power at. beside_.powers y power at (some_one (λ p. is_powered s.regs p ≡ true) (power_of (kind_of s.defs y)) power (well.powered y m) at)));
+  unprepared = λ y m. prepared_told late late s t (scene late s) y beside_.defs beside_.scene_is ∙ well.unprepared y m;
+}
+
 stands_beside : (late : Option ℕ) (s t : State) (k : Change) → IsBeside late s t → Stands s k late → Stands t k late
 stands_beside late s t k beside_ (calm rest front still idle goes) =
     calm rest front still (λ y m. prepared_told late late s t (scene late s) y beside_.defs beside_.scene_is ∙ idle y m)
-    (goes_told s t k.call k.timed_out None late (scene late s) k.left beside_.defs beside_.scene_is goes)
-stands_beside late s t k beside_ (raising x well front goes cut) =
-    raising x
-    (record {
-      within = λ y m. ap (is_in y) (to_be_told late t (scene late s) x beside_.scene_is ∙ sym (to_be_told late s (scene late s) x refl)) ∙ well.within y m;
-      powered = λ y m.
-          subst (λ (d : Description). IfSome (power_of (kind_of d y)) (λ power. is_powered t.regs power ≡ true)) (sym beside_.defs)
-          (if_one (λ power. is_powered t.regs power ≡ true) (power_of (kind_of s.defs y))
-          (λ power at. beside_.powers y power at (some_one (λ p. is_powered s.regs p ≡ true) (power_of (kind_of s.defs y)) power (well.powered y m) at)));
-      unprepared = λ y m. prepared_told late late s t (scene late s) y beside_.defs beside_.scene_is ∙ well.unprepared y m;
-    })
+    (goes_told s t k.call k.timed_out [] late (scene late s) k.left beside_.defs beside_.scene_is goes)
+stands_beside late s t k beside_ (covered xs empty well all goes) =
+    covered xs empty (well_beside late s t k xs beside_ well) (λ x m. to_raise_told late s t k x beside_ ∙ all x m)
+    (goes_told s t k.call k.timed_out xs late (scene late s) k.left beside_.defs beside_.scene_is goes)
+stands_beside late s t k beside_ (raising done x well all front goes cut) =
+    raising done x (well_beside late s t k (done ++ x ∷ []) beside_ well) (λ z m. to_raise_told late s t k z beside_ ∙ all z m)
     (by_front front)
-    (goes_told s t k.call k.timed_out (Some x) late (scene late s) k.left beside_.defs beside_.scene_is goes)
-    (goes_told s t k.call true None late (scene late s) (cut_short k.call k.left) beside_.defs beside_.scene_is cut) where
+    (goes_told s t k.call k.timed_out (done ++ x ∷ []) late (scene late s) k.left beside_.defs beside_.scene_is goes)
+    (goes_told s t k.call true [] late (scene late s) (cut_short k.call k.left) beside_.defs beside_.scene_is cut) where
       by_front : RaisingFront s k x → RaisingFront t k x
-      by_front (raised empty all) = raised empty (to_raise_told late s t k x beside_ ∙ all)
-      by_front (asks y is all) = asks y is (to_raise_told late s t k x beside_ ∙ all)
+      by_front (asks y is none) = asks y is (to_raise_told late s t k x beside_ ∙ none)
       by_front (asks_first y is) = asks_first y is
       by_front (comes_again is) = comes_again is
 

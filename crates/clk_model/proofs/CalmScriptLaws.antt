@@ -1,5 +1,5 @@
 -- Laws on scripts and one path: what scripts of calls don't disturb.
-use Rattle.std.proofs.Common.{◌≡◌, ℕ, zero, suc, ◌<◌, ◌^◌, ◌||◌, Bool, true, false, not, List, [], ◌∷◌, Option, Some, None, refl, sym, ap, subst, ◌∙◌, inl, inr, arith, length, nat_lt}
+use Rattle.std.proofs.Common.{◌≡◌, ℕ, zero, suc, ◌<◌, ◌^◌, ◌||◌, Bool, true, false, not, cond, List, [], ◌∷◌, ◌++◌, Option, Some, None, refl, sym, ap, subst, ◌∙◌, inl, inr, arith, length, nat_lt}
 use Rattle.std.proofs.lemmas.Bool.Decides.{nat_tests}
 use Rattle.std.specs.Prelude.{if◌then◌else◌}
 use Rattle.std.specs.List.{list_any, AllByRecursion}
@@ -16,7 +16,7 @@ use Rattle.clk_model.specs.Tree.{path, link_given}
 use Rattle.clk_model.specs.Holders.{prepared}
 use Rattle.clk_model.specs.Round.{wiring}
 use Rattle.clk_model.specs.Chain.{clock_id, place_of}
-use Rattle.clk_model.specs.Script.{move, adoption, adoptable, planned, probe_script, sweep_script}
+use Rattle.clk_model.specs.Script.{unfeed, move, adoption, adoptable, planned, probe_script, sweep_script}
 use Rattle.clk_model.specs.Begin.{register}
 use Rattle.clk_model.specs.Laws.Plans.{HasParent}
 use Rattle.clk_model.proofs.BelowLaws.{Rises, IsUp, rises_both}
@@ -30,8 +30,10 @@ use Rattle.clk_model.proofs.PlanRootLaws.{IsRooted, fixed_no_parent, rooted_link
 use Rattle.clk_model.proofs.PlannedGoLaws.{all_both}
 use Rattle.clk_model.proofs.AdoptGoLaws.{ordered_in}
 use Rattle.clk_model.proofs.ProbeGoLaws.{can_adopt}
+use Rattle.clk_base.specs.Flags.{runs_parent}
+use Rattle.clk_model.proofs.FeedLaws.{NoFeeding}
 use Rattle.clk_model.proofs.KeptPathLaws.{disturbs, IsOff}
-use Rattle.clk_model.proofs.ScriptLaws.{NoMove, none_move_of, none_planned, none_probe}
+use Rattle.clk_model.proofs.ScriptLaws.{NoMove, none_move_of, none_visit, none_planned, none_probe}
 
 -- whether any of these steps disturbs a path
 abbrev pub LeaveAlone : Description → List ℕ → List Micro → Type 0
@@ -51,20 +53,29 @@ place_calm defs words c q kept valid m = one (mux_field (kind_of defs c)) refl w
 
 move_calm : (s : State) (words c q : ℕ) (kept : List ℕ) → IsValid words s.defs → is_in c kept ≡ false → is_in q (parents_of s.defs c) ≡ true
     → LeaveAlone s.defs kept (move s.defs s.clocks (prepared s) c q)
-move_calm s words c q kept valid out m = one (prepared s c) (link_in s.clocks c) where
-  calm : (is_in c kept || (disturbs s.defs kept (micro.WriteMux (clock_id c) (place_of s.defs c q)) || false)) ≡ false
-  calm =
-      ap (λ (t : Bool). t || (disturbs s.defs kept (micro.WriteMux (clock_id c) (place_of s.defs c q)) || false)) out
-      ∙ ap (λ (t : Bool). t || false) (place_calm s.defs words c q kept valid m)
+move_calm s words c q kept valid out m = either (prepared s c) _ _ (calm _ (lets (link_in s.clocks c))) (either (runs_parent s.defs c) _ _ (calm _ (more (link_in s.clocks c))) (calm _ refl)) where
+  calm : (b : Bool) → b ≡ false → (is_in c kept || (disturbs s.defs kept (micro.WriteMux (clock_id c) (place_of s.defs c q)) || b)) ≡ false
+  calm b e =
+      ap (λ (t : Bool). t || (disturbs s.defs kept (micro.WriteMux (clock_id c) (place_of s.defs c q)) || b)) out
+      ∙ ap (λ (t : Bool). t || b) (place_calm s.defs words c q kept valid m) ∙ e
 
-  one : (t : Bool) (l : Option ℕ) → LeaveAlone s.defs kept (if t
-      then micro.Raise (clock_id q) ∷ micro.HoldPrepare (clock_id q) ∷ micro.HoldEnable (clock_id q) ∷ micro.HoldEnable (clock_id c)
-      ∷ micro.Relink (clock_id c) (clock_id q) ∷ micro.WriteMux (clock_id c) (place_of s.defs c q) ∷ micro.DropEnable (clock_id c)
-      ∷ option_map_or (λ o. micro.DropEnable (clock_id o) ∷ micro.DropPrepare (clock_id o) ∷ micro.Lower (clock_id o) ∷ []) l []
-      else micro.Relink (clock_id c) (clock_id q) ∷ micro.WriteMux (clock_id c) (place_of s.defs c q) ∷ [])
-  one true None = calm
-  one true (Some o) = calm
-  one false l = calm
+  lets : (l : Option ℕ) → LeaveAlone s.defs kept (option_map_or unfeed l [])
+  lets None = refl
+  lets (Some o) = refl
+
+  more : (l : Option ℕ) → LeaveAlone s.defs kept (option_map_or unfeed l [] ++ unfeed c)
+  more None = refl
+  more (Some o) = refl
+
+  either : (t : Bool) (xs ys : List Micro) → LeaveAlone s.defs kept xs → LeaveAlone s.defs kept ys → LeaveAlone s.defs kept (cond t xs ys)
+  either true xs ys e f = e
+  either false xs ys e f = f
+
+feeding_calm : (defs : Description) (kept : List ℕ) → NoFeeding (disturbs defs kept)
+feeding_calm defs kept (micro.Relink c p) e = absurd cc
+feeding_calm defs kept (micro.Register c) e = absurd cc
+feeding_calm defs kept (micro.WriteMux c place) e = absurd cc
+feeding_calm defs kept m e = refl
 
 -- a planned script leaves a path alone that its chain is off
 pub planned_calm : (s : State) (words : ℕ) (ks : List ChainStep) (settles : List Micro) (kept : List ℕ) → IsValid words s.defs → AllByRecursion (HasParent (wiring s)) ks → IsOff kept ks
@@ -75,7 +86,7 @@ planned_calm s words ks settles kept valid parents off calm =
     (all_both (HasParent (wiring s)) (λ k. is_in k.clock kept ≡ false) (NoMove (disturbs s.defs kept) s.defs s.clocks (prepared s) c) ks
     (λ k has out same q at.
     move_calm s words c q kept valid (subst (λ (x : ℕ). is_in x kept ≡ false) same out) (subst (λ (x : ℕ). is_in q (parents_of s.defs x) ≡ true) same (has.possible q at))) parents off))
-    (λ c. refl) calm refl
+    (λ c. none_visit (disturbs s.defs kept) s.defs s.clocks ks c (feeding_calm s.defs kept) refl) calm refl
 
 -- ---- registrations
 
@@ -154,4 +165,4 @@ probe_calm s c d on free =
     (subst (λ (ds : Description). is_in p (parents_of ds a) ≡ true) same (link_given_possible r.defs r.regs r.clocks a p at)))) refl)
 
 pub sweep_calm : (s : State) (kept : List ℕ) → LeaveAlone s.defs kept (sweep_script s)
-sweep_calm s kept = sweep_has_no (disturbs s.defs kept) s (λ c. refl) (λ c. refl) refl
+sweep_calm s kept = sweep_has_no (disturbs s.defs kept) s (feeding_calm s.defs kept) (λ c. refl) (λ c. refl) refl

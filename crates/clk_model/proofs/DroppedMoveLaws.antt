@@ -29,14 +29,16 @@ use Rattle.clk_model.proofs.MicroLaws.{comes_first}
 use Rattle.clk_model.proofs.TierLaws.{beside_change}
 use Rattle.clk_model.proofs.StepLaws.{raises, step_after}
 use Rattle.clk_model.proofs.BeginLaws.{may_raise}
-use Rattle.clk_model.proofs.FlightLaws.{IsStep, IsCourse, course_of, left_is_end, first_put, front_put, next_is}
+use Rattle.clk_model.proofs.FlightLaws.{IsStep, IsCourse, course_of, left_is_part, first_put, front_put, next_is}
 use Rattle.clk_model.proofs.VetoLaws.{of_change}
 use Rattle.clk_model.proofs.HoldSteps.{relinks}
-use Rattle.clk_model.proofs.BalancedScripts.{relinks_once, once_behind}
+use Rattle.clk_model.proofs.BalancedScripts.{relinks_once, once_part, some_part}
 use Rattle.clk_model.proofs.ScriptLaws.{none_cut}
-use Rattle.clk_model.proofs.HoldLaws.{some_behind, put_relinks_none}
+use Rattle.clk_model.proofs.HoldLaws.{put_relinks_none}
 use Rattle.clk_model.proofs.BalanceLaws.{began}
 use Rattle.clk_model.proofs.HoldsLeftLaws.{script_once}
+use Rattle.clk_model.specs.Step.{is_close}
+use Rattle.clk_model.proofs.FeedLaws.{none_alone, none_lets}
 use Rattle.clk_model.proofs.SafeRunLaws.{IsRun}
 use Rattle.clk_model.proofs.RunsFedLaws.{run_of}
 use Rattle.clk_model.proofs.UnmovedLaws.{unmoved_stay}
@@ -55,7 +57,7 @@ give_is c (m ∷ ms) = ap (λ (b : Bool). b || list_any (gives_link c) ms) (give
 -- ---- steps made and steps left
 
 left_once : (what : Sleeping) (whole : List Micro) {made : List Micro} {late : Bool} {left : List Micro} → IsLeftOf what whole made late left → relinks_once whole → relinks_once left
-left_once what whole {left = left} f once = let at = left_is_end what whole f in once_behind at.0 left (subst (λ (ms : List Micro). relinks_once ms) at.1 once)
+left_once what whole {left = left} f once = once_part (left_is_part what whole f) once
 
 -- what is left of a script that relinks no clock twice relinks none that the steps made have relinked
 made_apart : (what : Sleeping) (whole : List Micro) (c : ℕ) {made : List Micro} {late : Bool} {left : List Micro} → IsLeftOf what whole made late left → relinks_once whole
@@ -70,8 +72,7 @@ made_apart what whole c (own_made {made = made} {left = left} m f) once some =
 made_apart what whole c (put_made {made = made} m put f) once some =
     none_append (relinks c) made (m ∷ []) (made_apart what whole c f once some) (ap (λ (b : Bool). b || false) (put_relinks_none m c put))
 made_apart what whole c {left = rest} (cut {left = left} f short) once some =
-    let at = left_is_end what left (cut all_left short) in
-    made_apart what whole c f once (ap (λ (ms : List Micro). list_any (relinks c) ms) at.1 ∙ some_behind (relinks c) at.0 rest some)
+    made_apart what whole c f once (some_part (relinks c) (left_is_part what left (cut all_left short)) some)
 
 -- a step that comes next and gives a clock a link is taken from the script
 next_relinks : (front left : List Micro) (m : Micro) (c : ℕ) → comes_next m (front ++ left) ≡ true → first_put front ≡ true → relinks c m ≡ true → list_any (relinks c) left ≡ true
@@ -113,7 +114,7 @@ moves_once defs regs ignore_unused credits before s t d what made m answer x val
 -- ---- what a timeout drops
 
 abbrev stops : Micro → Bool
-stops m = is_visit m || is_settle m || is_end m
+stops m = is_visit m || is_settle m || is_close m || is_end m
 
 from_none : (p test : Micro → Bool) (ms : List Micro) → list_any p ms ≡ false → list_any p (from_first test ms) ≡ false
 from_none p test [] none = refl
@@ -163,15 +164,20 @@ settle_stops : (m : Micro) → is_settle m ≡ true → stops m ≡ true
 settle_stops (micro.Settle c) e = refl
 settle_stops m e = absurd cc
 
+close_stops : (m : Micro) → is_close m ≡ true → stops m ≡ true
+close_stops (micro.Close c) e = refl
+close_stops m e = absurd cc
+
 cut_drops : (what : Sleeping) (c : ℕ) (ms : List Micro) → may_raise what ≡ true → relinks_once ms → list_any (relinks c) (move_left ms) ≡ true
     → list_any (relinks c) (cut_short what ms) ≡ false
 cut_drops (call.Prepare h) c ms raising once some = from_drops is_end c end_stops ms once some
 cut_drops (call.SetParent h p) c ms raising once some = from_drops is_end c end_stops ms once some
-cut_drops (call.SetRate h x) c ms raising once some = from_drops is_visit c visit_stops ms once some
-cut_drops (call.SetRateExclusive h x) c ms raising once some = from_drops is_visit c visit_stops ms once some
-cut_drops (call.SetRange h least most) c ms raising once some = from_drops is_visit c visit_stops ms once some
+cut_drops (call.SetRate h x) c ms raising once some = none_alone (relinks c) (from_first is_visit ms) (from_drops is_visit c visit_stops ms once some)
+cut_drops (call.SetRateExclusive h x) c ms raising once some = none_alone (relinks c) (from_first is_visit ms) (from_drops is_visit c visit_stops ms once some)
+cut_drops (call.SetRange h least most) c ms raising once some = none_alone (relinks c) (from_first is_visit ms) (from_drops is_visit c visit_stops ms once some)
 cut_drops (call.Probe d) c ms raising once some =
     none_if (relinks c) (list_any is_register ms) (from_first is_end ms) (behind_first is_settle ms) (from_drops is_end c end_stops ms once some) (behind_drops is_settle c settle_stops ms once some)
+cut_drops call.Sweep c ms raising once some = none_lets (relinks c) (behind_first is_close ms) (behind_drops is_close c close_stops ms once some)
 cut_drops _ c ms raising once some = absurd cc
 
 -- a move is what the script begins with

@@ -27,7 +27,7 @@ use Rattle.clk_model.specs.Laws.CallCauses.{GoingLeavesChanges}
 use Rattle.clk_model.specs.Laws.EndCauses.{noes_after, is_last_no, never_locks, TimesOut, IsVetoed, EndCauses, begins_call, EndsHaveCauses}
 use Rattle.clk_model.proofs.BeginLaws.{begun_going}
 use Rattle.clk_model.proofs.CallBeginLaws.{calls_begin_paced}
-use Rattle.clk_model.proofs.FlightLaws.{IsStep, step_is, begin_is, course_of, left_is_end}
+use Rattle.clk_model.proofs.FlightLaws.{IsStep, step_is, begin_is, course_of, left_is_part, none_part}
 use Rattle.clk_model.proofs.InFlightLaws.{answered_quiet, busy_cannot_begin, end_quiet}
 use Rattle.clk_model.proofs.Members.{or_cases, or_left, or_right, both_left, both_right, not_either}
 use Rattle.clk_model.proofs.NoneLaws.{none_append, none_behind, none_front, none_rest}
@@ -126,9 +126,8 @@ way_steps q s t d driver what made k noes m answer polls way step =
     let course = course_of q d what way.flight in
     let own : course.now ≡ k = same_Some course.now k (sym course.at ∙ way.at) in
     let mine : driver ≡ d = sym is.driver ∙ ap (λ (l : Change). l.driver) (sym own) ∙ course.driver in
-    let behind = left_is_end what (script q d what) course.left in
     let left : list_any is_poll k.left ≡ false =
-    ap (λ (l : Change). list_any is_poll l.left) (sym own) ∙ none_behind is_poll behind.0 course.now.left (ap (λ (ms : List Micro). list_any is_poll ms) (sym behind.1) ∙ polls) in
+    ap (λ (l : Change). list_any is_poll l.left) (sym own) ∙ none_part is_poll (left_is_part what (script q d what) course.left) polls in
     let tells = step_tells s k noes m answer (subst (λ (l : Change). IsFront l) own course.front) left way.counts is.first is.answered in (
       tells.after,
       record {
@@ -192,13 +191,13 @@ reaches q t d final what r last answer polls (e ∷ es) s made k noes way comes 
     (record { legal = comes.legal.2; one = parts.1; ending = subst (λ (u : State). next u final (event.Step last answer) ≡ Some (t, turn.Done r)) (sym back) comes.ending }))
 
 -- a call begins with no flag and nothing in front
-pub begun_fresh : (q s : State) (d : ℕ) (what : Sleeping) → next q d (event.Begin what) ≡ Some (s, turn.Going) → (k : Change) → s.change ≡ Some k → (k.timed_out ≡ false) × (k.front ≡ [])
+pub begun_fresh : (q s : State) (d : ℕ) (what : Sleeping) → next q d (event.Begin what) ≡ Some (s, turn.Going) → (k : Change) → s.change ≡ Some k → (k.timed_out ≡ false) × (k.front ≡ []) × (k.missed ≡ None)
 unfolding settled
 begun_fresh q s d what step k at =
     let start = begin_is q s d what turn.Going step in
     let going = (begun_going q d what).from start.2 in
     let own : going.1 ≡ k = same_Some going.1 k (sym (ap (λ (u : State). u.change) going.2) ∙ ap (λ (u : State). u.change) start.1 ∙ at) in
-    (ap (λ (l : Change). l.timed_out) (sym own) ∙ going.3.on_time, ap (λ (l : Change). l.front) (sym own) ∙ going.3.front)
+    (ap (λ (l : Change). l.timed_out) (sym own) ∙ going.3.on_time, ap (λ (l : Change). l.front) (sym own) ∙ going.3.front, ap (λ (l : Change). l.missed) (sym own) ∙ going.3.planned)
 
 -- ---- ends
 

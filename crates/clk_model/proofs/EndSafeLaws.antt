@@ -23,12 +23,12 @@ use Rattle.clk_model.specs.Begin.{prepared_once_more, held_once_more, request_be
 use Rattle.clk_model.specs.Step.{todo, taken, ended_well, with_range, range_back, unranged, end_of}
 use Rattle.clk_model.specs.Machine.{comes_next}
 use Rattle.clk_model.specs.Wired.{IsWired}
-use Rattle.clk_model.proofs.Members.{both_left, not_either}
+use Rattle.clk_model.proofs.Members.{is_in_head, both_left, not_either}
 use Rattle.clk_model.proofs.FlightLaws.{IsStep}
 use Rattle.clk_model.proofs.VetoLaws.{ends_it, end_state}
 use Rattle.clk_model.proofs.HoldLaws.{end_holds}
 use Rattle.clk_model.proofs.HolderLaws.{is_under}
-use Rattle.clk_model.proofs.Scenes.{scene, IsFree, EndsPrepare, is_plain, IsSafe, raised, asks, asks_first, comes_again, is_calm, Stands, calm, raising, InCall, IsAtRest}
+use Rattle.clk_model.proofs.Scenes.{scene, IsFree, EndsPrepare, is_plain, IsSafe, asks, asks_first, comes_again, is_calm, Stands, calm, covered, raising, InCall, IsAtRest}
 use Rattle.clk_model.proofs.ArriveLaws.{IsFit, fit_of, settled_safe, safe_recounted, wired_before, covered_powered}
 use Rattle.clk_model.proofs.FlightSafeLaws.{FirstGoes, first_raises, first_makes, first_ends, first_goes, front_step, script_step}
 use Rattle.clk_model.proofs.RestLaws.{Alike, alike_self, alike_far, alike_put, alike_requested, fit_alike, fit_counted, prepared_more, gates_alike}
@@ -37,14 +37,14 @@ use Rattle.clk_model.proofs.RestLaws.{Alike, alike_self, alike_far, alike_put, a
 
 -- nothing is held, and a prepare has its path powered, unless it has timed out
 record IsLast (s : State) (k : Change) (late : Option ℕ) : Type 0 where
-  cover : Option ℕ
+  cover : List ℕ
   free : IsFree (scene late s)
   prepare : EndsPrepare k.call k.timed_out cover (scene late s)
-  powered : (x c : ℕ) → cover ≡ Some x → is_in c (path_to_be s.defs s.regs s.clocks x) ≡ true → IfSome (power_of (kind_of s.defs c)) (λ power. is_powered s.regs power ≡ true)
+  powered : (x c : ℕ) → is_in x cover ≡ true → is_in c (path_to_be s.defs s.regs s.clocks x) ≡ true → IfSome (power_of (kind_of s.defs c)) (λ power. is_powered s.regs power ≡ true)
 
-last_of : (s : State) (k : Change) (late cover : Option ℕ) (m : Micro) (ms : List Micro) → m ≡ micro.End → FirstGoes s.defs k.call k.timed_out cover (scene late s) m ms
-    → ((x c : ℕ) → cover ≡ Some x → is_in c (path_to_be s.defs s.regs s.clocks x) ≡ true → IfSome (power_of (kind_of s.defs c)) (λ power. is_powered s.regs power ≡ true)) → IsLast s k late
-last_of s k late cover m ms end (first_raises x is open_ goes cut) powered = let no : micro.End ≡ micro.Raise x = sym end ∙ is in absurd cc
+last_of : (s : State) (k : Change) (late : Option ℕ) (cover : List ℕ) (m : Micro) (ms : List Micro) → m ≡ micro.End → FirstGoes s.defs k.call k.timed_out cover (scene late s) m ms
+    → ((x c : ℕ) → is_in x cover ≡ true → is_in c (path_to_be s.defs s.regs s.clocks x) ≡ true → IfSome (power_of (kind_of s.defs c)) (λ power. is_powered s.regs power ≡ true)) → IsLast s k late
+last_of s k late cover m ms end (first_raises x is goes cut) powered = let no : micro.End ≡ micro.Raise x = sym end ∙ is in absurd cc
 last_of s k late cover m ms end (first_makes plain serves grows stays goes) powered = let no : false ≡ true = ap is_plain (sym end) ∙ plain in absurd cc
 last_of s k late cover m ms end (first_ends is free alone prep) powered = record { cover = cover; free = free; prepare = prep; powered = powered }
 
@@ -64,21 +64,20 @@ last_step s k m end in_call first = by_stand in_call.stands where
       elim (by_calm k.raised rest front still) [
         | inl empty ↦
             let here = script_step k m empty first in
-            last_of s k in_call.late None m (taken k).left end (first_goes s.defs k.call m (taken k).left goes here.0) (λ x c e. absurd cc)
+            last_of s k in_call.late [] m (taken k).left end (first_goes s.defs k.call m (taken k).left goes here.0) (λ x c e. absurd cc)
         | inr never ↦ absurd never
       ]
-  by_stand (raising x well (raised empty all) goes cut) =
+  by_stand (covered xs empty well all goes) =
       let here = script_step k m empty first in
-      last_of s k in_call.late (Some x) m (taken k).left end (first_goes s.defs k.call m (taken k).left goes here.0)
-      (λ y c e n. let same : x ≡ y = cc in
-      covered_powered s k x c in_call.safe.powers well all (subst (λ (v : ℕ). is_in c (path_to_be s.defs s.regs s.clocks v) ≡ true) (sym same) n))
-  by_stand (raising x well (asks y front all) goes cut) =
+      last_of s k in_call.late xs m (taken k).left end (first_goes s.defs k.call m (taken k).left goes here.0)
+      (λ x c n on_path. covered_powered s k xs x c in_call.safe.powers well (all x n) on_path)
+  by_stand (raising done x well all (asks y front none) goes cut) =
       let here = front_step k m (micro.Poll y) [] front first in
       let no : micro.End ≡ micro.Poll y = sym end ∙ here.0 in absurd cc
-  by_stand (raising x well (asks_first y front) goes cut) =
+  by_stand (raising done x well all (asks_first y front) goes cut) =
       let here = front_step k m (micro.Poll y) (micro.Raise (clock_id x) ∷ []) front first in
       let no : micro.End ≡ micro.Poll y = sym end ∙ here.0 in absurd cc
-  by_stand (raising x well (comes_again front) goes cut) =
+  by_stand (raising done x well all (comes_again front) goes cut) =
       let here = front_step k m (micro.Raise (clock_id x)) [] front first in
       let no : micro.End ≡ micro.Raise (clock_id x) = sym end ∙ here.0 in absurd cc
 
@@ -171,13 +170,13 @@ well_behind s d what fit free powered wired = behind_alike s _ fit (alike_self s
 prepare_powered : (s : State) (k : Change) (late : Option ℕ) → IsLast s k late → k.timed_out ≡ false → (h : _) → k.call ≡ call.Prepare h → (row : HandleRow) → handle_at s.handles h.number ≡ Some row
     → (c : ℕ) → is_under s.clocks row c ≡ true → IfSome (power_of (kind_of s.defs c)) (λ power. is_powered s.regs power ≡ true)
 prepare_powered s k late last on_time h is row at c under = by_cause (last.prepare h is) where
-  by_cause : (k.timed_out ≡ true) ⊎ ((x : ℕ) × (last.cover ≡ Some x) × (registered s.clocks x ≡ true) × (option_map (λ r. r.clock.0) (handle_at s.handles h.number) ≡ Some x))
+  by_cause : (k.timed_out ≡ true) ⊎ ((x : ℕ) × (last.cover ≡ x ∷ []) × (registered s.clocks x ≡ true) × (option_map (λ r. r.clock.0) (handle_at s.handles h.number) ≡ Some x))
       → IfSome (power_of (kind_of s.defs c)) (λ power. is_powered s.regs power ≡ true)
   by_cause (inl timed) = let no : false ≡ true = sym on_time ∙ timed in absurd cc
   by_cause (inr found) =
       let both : Some row.clock.0 ≡ Some found.0 = sym (ap (option_map (λ r. r.clock.0)) at) ∙ found.3 in
       let same : row.clock.0 ≡ found.0 = cc in
-      last.powered found.0 c found.1
+      last.powered found.0 c (ap (is_in found.0) found.1 ∙ is_in_head found.0 [])
       (ap (λ (t : Bool). is_in c (if t then path s.clocks found.0 else found.0 ∷ option_map_or (path s.clocks) (link_given s.defs s.regs s.clocks found.0) [])) found.2
       ∙ ap (λ (x : ℕ). is_in c (path s.clocks x)) (sym same) ∙ under)
 

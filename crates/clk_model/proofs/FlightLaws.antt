@@ -18,12 +18,12 @@ use Rattle.clk_model.specs.Gates.{settled}
 use Rattle.clk_model.specs.Chain.{clock_id}
 use Rattle.clk_model.specs.Notices.{is_veto}
 use Rattle.clk_model.specs.Begin.{begun}
-use Rattle.clk_model.specs.Step.{todo, rest_of, left_behind, taken, is_end, is_visit, is_register, is_settle, from_first, behind_first, cut_short, stepped}
+use Rattle.clk_model.specs.Step.{todo, rest_of, left_behind, taken, is_end, is_visit, is_close, is_register, is_settle, lets_go, behind_lets, first_alone, from_first, behind_first, cut_short, stepped}
 use Rattle.clk_model.specs.Machine.{comes_next, may_step, paid, counted, next}
 use Rattle.clk_model.specs.Tier.{is_enable_tier}
-use Rattle.clk_model.specs.Laws.Flight.{Flight, begins, goes_on, beside, script, plan, IsFrom, IsBehind, IsProbeCut, IsCut, may_be_put, is_no_abort, is_no_post, IsLeftOf, all_left, own_made, put_made, cut, IsFront, nothing, polling, polling_first, raise_again, lower_again, falling, telling, IsUnderWay}
+use Rattle.clk_model.specs.Laws.Flight.{Flight, begins, goes_on, beside, script, plan, IsFrom, IsBehind, IsProbeCut, IsVisitCut, IsCut, IsPart, nothing_left, keeps, drops, may_be_put, is_no_abort, is_no_post, IsLeftOf, all_left, own_made, put_made, cut, IsFront, nothing, polling, polling_first, raise_again, lower_again, falling, telling, IsUnderWay}
 use Rattle.clk_model.proofs.Members.{same_from_test, both_left, both_right}
-use Rattle.clk_model.proofs.NoneLaws.{none_append, none_front, none_rest, none_behind}
+use Rattle.clk_model.proofs.NoneLaws.{none_append, none_front, none_rest}
 use Rattle.clk_model.proofs.MicroLaws.{comes_first}
 use Rattle.clk_model.proofs.TierLaws.{state_is, turn_is, paid_is, beside_change}
 use Rattle.clk_model.proofs.StepLaws.{raises, IsAfter, step_after}
@@ -78,9 +78,10 @@ cut_is : (what : Sleeping) (ms : List Micro) → may_raise what ≡ true → IsC
 cut_is (call.Prepare h) ms raising = from_first_is is_end ms
 cut_is (call.SetParent h p) ms raising = from_first_is is_end ms
 cut_is (call.Probe c) ms raising = probe_cut (list_any is_register ms) ms
-cut_is (call.SetRate h x) ms raising = from_first_is is_visit ms
-cut_is (call.SetRateExclusive h x) ms raising = from_first_is is_visit ms
-cut_is (call.SetRange h least most) ms raising = from_first_is is_visit ms
+cut_is (call.SetRate h x) ms raising = (from_first is_visit ms, from_first_is is_visit ms, refl)
+cut_is (call.SetRateExclusive h x) ms raising = (from_first is_visit ms, from_first_is is_visit ms, refl)
+cut_is (call.SetRange h least most) ms raising = (from_first is_visit ms, from_first_is is_visit ms, refl)
+cut_is call.Sweep ms raising = (behind_first is_close ms, behind_first_is is_close ms, refl)
 cut_is _ ms raising = absurd cc
 
 -- a list stands at the end of another
@@ -90,38 +91,84 @@ IsEnd whole left = (front : List Micro) × (whole ≡ front ++ left)
 end_of_end : (whole middle left : List Micro) → IsEnd whole middle → IsEnd middle left → IsEnd whole left
 end_of_end whole middle left f g = (f.0 ++ g.0, f.1 ∙ ap (λ (ms : List Micro). f.0 ++ ms) g.1 ∙ sym (append_assoc f.0 g.0 left))
 
-from_is_end : (test : Micro → Bool) (whole left : List Micro) → IsFrom test whole left → IsEnd whole left
-from_is_end test whole left f = (f.front, f.parts)
+-- parts of lists
+pub part_itself : (ms : List Micro) → IsPart ms ms
+part_itself [] = nothing_left
+part_itself (m ∷ ms) = keeps m (part_itself ms)
 
-behind_is_end : (test : Micro → Bool) (whole left : List Micro) → IsBehind test whole left → IsEnd whole left
-behind_is_end test whole left f = (f.front ++ f.passed ∷ [], f.parts ∙ sym (append_assoc f.front (f.passed ∷ []) left))
+pub part_none : (whole : List Micro) → IsPart whole []
+part_none [] = nothing_left
+part_none (m ∷ ms) = drops m (part_none ms)
 
-nothing_is_end : (whole left : List Micro) → left ≡ [] → IsEnd whole left
-nothing_is_end whole left none = (whole, sym (all whole) ∙ ap (λ (ms : List Micro). whole ++ ms) (sym none)) where
-  all : (ms : List Micro) → ms ++ [] ≡ ms
-  all [] = refl
-  all (m ∷ ms) = ap (λ (ns : List Micro). m ∷ ns) (all ms)
+pub part_of_part : {whole middle left : List Micro} → IsPart whole middle → IsPart middle left → IsPart whole left
+part_of_part nothing_left g = g
+part_of_part (drops m f) g = drops m (part_of_part f g)
+part_of_part (keeps m f) (keeps n g) = keeps m (part_of_part f g)
+part_of_part (keeps m f) (drops n g) = drops m (part_of_part f g)
 
-probe_cut_is_end : (b : Bool) (whole left : List Micro) → IsProbeCut b whole left → IsEnd whole left
-probe_cut_is_end true whole left f = from_is_end is_end whole left f
-probe_cut_is_end false whole left (inl f) = behind_is_end is_settle whole left f
-probe_cut_is_end false whole left (inr f) = nothing_is_end whole left f.1
+part_behind : (front left : List Micro) → IsPart (front ++ left) left
+part_behind [] left = part_itself left
+part_behind (m ∷ front) left = drops m (part_behind front left)
 
-cut_is_end : (what : Sleeping) (whole left : List Micro) → IsCut what whole left → IsEnd whole left
-cut_is_end (call.Prepare h) whole left f = from_is_end is_end whole left f
-cut_is_end (call.SetParent h p) whole left f = from_is_end is_end whole left f
-cut_is_end (call.Probe c) whole left f = probe_cut_is_end (list_any is_register whole) whole left f
-cut_is_end (call.SetRate h x) whole left f = from_is_end is_visit whole left f
-cut_is_end (call.SetRateExclusive h x) whole left f = from_is_end is_visit whole left f
-cut_is_end (call.SetRange h least most) whole left f = from_is_end is_visit whole left f
-cut_is_end _ whole left f = absurd f
+end_is_part : (whole left : List Micro) → IsEnd whole left → IsPart whole left
+end_is_part whole left f = subst (λ (ms : List Micro). IsPart ms left) (sym f.1) (part_behind f.0 left)
 
--- what is left of a script is an end of it
-pub left_is_end : (what : Sleeping) (whole : List Micro) {made : List Micro} {late : Bool} {left : List Micro} → IsLeftOf what whole made late left → IsEnd whole left
-left_is_end what whole all_left = ([], refl)
-left_is_end what whole {left = left} (own_made m f) = end_of_end whole (m ∷ left) left (left_is_end what whole f) (m ∷ [], refl)
-left_is_end what whole (put_made m put f) = left_is_end what whole f
-left_is_end what whole {left = left} (cut {left = more} f c) = end_of_end whole more left (left_is_end what whole f) (cut_is_end what more left c)
+-- a test that no step of a list passes no step of a part passes
+pub none_part : (p : Micro → Bool) {whole left : List Micro} → IsPart whole left → list_any p whole ≡ false → list_any p left ≡ false
+none_part p nothing_left none = refl
+none_part p (keeps {whole = whole} {left = left} m f) none =
+    ap (λ (b : Bool). b || list_any p left) (none_front p m whole none) ∙ none_part p f (none_rest p m whole none)
+none_part p (drops {whole = whole} m f) none = none_part p f (none_rest p m whole none)
+
+part_lets : (ms : List Micro) → IsPart ms (behind_lets ms)
+part_lets [] = nothing_left
+part_lets (m ∷ ms) = either (lets_go m) (part_lets ms) where
+  either : (b : Bool) → IsPart ms (behind_lets ms) → IsPart (m ∷ ms) (cond b (behind_lets ms) (m ∷ ms))
+  either true f = drops m f
+  either false f = part_itself (m ∷ ms)
+
+part_alone : (ms : List Micro) → IsPart ms (first_alone ms)
+part_alone [] = nothing_left
+part_alone (m ∷ ms) = keeps m (part_lets ms)
+
+from_is_part : (test : Micro → Bool) (whole left : List Micro) → IsFrom test whole left → IsPart whole left
+from_is_part test whole left f = end_is_part whole left (f.front, f.parts)
+
+behind_is_part : (test : Micro → Bool) (whole left : List Micro) → (IsBehind test whole left ⊎ ((list_any test whole ≡ false) × (left ≡ []))) → IsPart whole left
+behind_is_part test whole left (inl f) = end_is_part whole left (f.front ++ f.passed ∷ [], f.parts ∙ sym (append_assoc f.front (f.passed ∷ []) left))
+behind_is_part test whole left (inr f) = subst (λ (ms : List Micro). IsPart whole ms) (sym f.1) (part_none whole)
+
+probe_cut_is_part : (b : Bool) (whole left : List Micro) → IsProbeCut b whole left → IsPart whole left
+probe_cut_is_part true whole left f = from_is_part is_end whole left f
+probe_cut_is_part false whole left f = behind_is_part is_settle whole left f
+
+visit_cut_is_part : (whole left : List Micro) → IsVisitCut whole left → IsPart whole left
+visit_cut_is_part whole left f = part_of_part (from_is_part is_visit whole f.0 f.1) (subst (λ (ms : List Micro). IsPart f.0 ms) (sym f.2) (part_alone f.0))
+
+-- what a timeout leaves is a part
+pub cut_is_part : (what : Sleeping) (whole left : List Micro) → IsCut what whole left → IsPart whole left
+cut_is_part (call.Prepare h) whole left f = from_is_part is_end whole left f
+cut_is_part (call.SetParent h p) whole left f = from_is_part is_end whole left f
+cut_is_part (call.Probe c) whole left f = probe_cut_is_part (list_any is_register whole) whole left f
+cut_is_part (call.SetRate h x) whole left f = visit_cut_is_part whole left f
+cut_is_part (call.SetRateExclusive h x) whole left f = visit_cut_is_part whole left f
+cut_is_part (call.SetRange h least most) whole left f = visit_cut_is_part whole left f
+cut_is_part call.Sweep whole left f = part_of_part (behind_is_part is_close whole f.0 f.1) (subst (λ (ms : List Micro). IsPart f.0 ms) (sym f.2) (part_lets f.0))
+cut_is_part _ whole left f = absurd f
+
+-- what is left of a script is a part of it
+pub left_is_part : (what : Sleeping) (whole : List Micro) {made : List Micro} {late : Bool} {left : List Micro} → IsLeftOf what whole made late left → IsPart whole left
+left_is_part what whole all_left = part_itself whole
+left_is_part what whole {left = left} (own_made m f) = part_of_part (left_is_part what whole f) (drops m (part_itself left))
+left_is_part what whole (put_made m put f) = left_is_part what whole f
+left_is_part what whole {left = left} (cut {left = more} f c) = part_of_part (left_is_part what whole f) (cut_is_part what more left c)
+
+-- and while no poll has timed out it is an end of it
+pub left_is_end : (what : Sleeping) (whole : List Micro) {made : List Micro} {late : Bool} {left : List Micro} → IsLeftOf what whole made late left → late ≡ false → IsEnd whole left
+left_is_end what whole all_left e = ([], refl)
+left_is_end what whole {left = left} (own_made m f) e = end_of_end whole (m ∷ left) left (left_is_end what whole f e) (m ∷ [], refl)
+left_is_end what whole (put_made m put f) e = left_is_end what whole f e
+left_is_end what whole (cut f c) e = absurd cc
 
 -- ---- events
 
@@ -184,6 +231,8 @@ pub record IsCourse (q : State) (d : ℕ) (what : Sleeping) (s : State) (made : 
   pub calm : may_raise what ≡ false → (list_any raises now.front ≡ false) × (list_any raises now.left ≡ false)
   pub vetoed : now.vetoed ≡ list_any is_veto (script q d what)
   pub front : IsFront now
+  -- no visit is missed while no poll has timed out
+  pub on_time : now.timed_out ≡ false → now.missed ≡ None
   -- without a veto in the script no step is one
   pub unvetoed : list_any is_veto (script q d what) ≡ false → (list_any is_veto made ≡ false) × (list_any is_veto now.front ≡ false)
 
@@ -206,6 +255,7 @@ course_begins q s d what step =
       left = subst (λ (b : Bool). IsLeftOf what (script q d what) [] b k.left) (sym h.on_time) (subst (λ (ms : List Micro). IsLeftOf what (script q d what) [] false ms) own all_left);
       calm = λ e. (ap (λ (ms : List Micro). list_any raises ms) h.front, h.calm e);
       front = nothing h.front;
+      on_time = λ e. h.planned;
       vetoed = h.vetoed ∙ ap (λ (ms : List Micro). list_any is_veto ms) (sym own);
       unvetoed = λ e. (refl, ap (λ (ms : List Micro). list_any is_veto ms) h.front);
     }
@@ -223,6 +273,7 @@ course_beside q s t d other what made e x tier course step = record {
   calm = course.calm;
   vetoed = course.vetoed;
   front = course.front;
+  on_time = course.on_time;
   unvetoed = course.unvetoed;
 }
 
@@ -315,8 +366,7 @@ raising_may q s d what made m course first raising =
 -- a veto in what is left of a script is one in the script
 left_unvetoed : (what : Sleeping) (whole made : List Micro) (late : Bool) (left : List Micro) → IsLeftOf what whole made late left → list_any is_veto whole ≡ false → list_any is_veto left ≡ false
 left_unvetoed what whole made late left h none =
-    let at = left_is_end what whole h in
-    none_behind is_veto at.0 left (ap (λ (ms : List Micro). list_any is_veto ms) (sym at.1) ∙ none)
+    none_part is_veto (left_is_part what whole h) none
 
 -- the change after a step, where k is the one that takes it
 course_steps_on : (q s t : State) (d : ℕ) (what : Sleeping) (made : List Micro) (m : Micro) (answer : Option Bool) → (course : IsCourse q d what s made)
@@ -338,6 +388,10 @@ course_steps_on q s t d what made m answer course step =
       calm = λ e. still_calm e (course.calm e);
       vetoed = is.vetoed ∙ course.vetoed;
       front = front_after s k k' answer m course.front step.first step.answered after.1;
+      on_time = λ e. elim is.left [
+        | inl same ↦ same.2 ∙ course.on_time (sym same.1 ∙ e)
+        | inr late ↦ let no : true ≡ false = sym late.2 ∙ e in absurd cc
+      ];
       unvetoed = λ none.
           let before = course.unvetoed none in
           let coming : list_any is_veto k.left ≡ false = left_unvetoed what (script q d what) made k.timed_out k.left course.left none in (
@@ -386,6 +440,7 @@ script_left q s d what made flight =
       driver = course.driver;
       call = course.call;
       left = course.left;
-      suffix = left_is_end what (script q d what) course.left;
+      suffix = λ e. left_is_end what (script q d what) course.left e;
+      part = left_is_part what (script q d what) course.left;
       front = course.front;
     }

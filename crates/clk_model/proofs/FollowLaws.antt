@@ -1,7 +1,7 @@
 -- Laws on the way to an outcome: a planned script leads, visit by visit, to the links of its outcome and to what its clocks divide and
 -- multiply by there; so at each visit the clock has the rate that it has in the outcome.
 use Rattle.std.proofs.Common.{◌≡◌, ℕ, ◌^◌, Bool, true, false, not, List, [], ◌∷◌, ◌++◌, Option, Some, None, refl, sym, ap, subst, ◌∙◌, ◌⊎◌, inl, inr, length, nat_lt}
-use Rattle.std.specs.Prelude.{◌==◌, find, option_map}
+use Rattle.std.specs.Prelude.{◌==◌, if◌then◌else◌, find, option_map}
 use Rattle.std.specs.List.{list_any}
 use Rattle.std.specs.Option.{option_map_or}
 use Rattle.clk_base.specs.declared.call.Micro.{Micro}
@@ -13,7 +13,7 @@ use Rattle.clk_base.specs.Levels.{depth}
 use Rattle.clk_base.specs.Valid.{IsValid}
 use Rattle.clk_base.proofs.Valid.{lines_end}
 use Rattle.reg_bank.specs.Registers.{Registers, field}
-use Rattle.clk_model.specs.Lists.{is_in}
+use Rattle.clk_model.specs.Lists.{is_in, is_at}
 use Rattle.clk_model.specs.Kinds.{mux_field}
 use Rattle.clk_model.specs.State.{State, Change, ChainStep, link_in}
 use Rattle.clk_model.specs.Rate.{rate}
@@ -129,9 +129,9 @@ pub record IsVisited (n : State) (ks : List ChainStep) (done : ℕ → Bool) (s 
   pub each : (a : ℕ) → Agrees n ks (record s { regs = regs }) (put_at c true done a) a
   pub rate_is : rate s.defs regs s.clocks c ≡ rate_in (outcome_of n ks) c
 
-pub visit_done : (n : State) (ks : List ChainStep) (done : ℕ → Bool) (s : State) (k : Change) (c base : ℕ) → PlanOver n base ks → k.chain ≡ ks → IsValid (length s.regs) s.defs → AgreesAll n ks done s
+pub visit_done : (n : State) (ks : List ChainStep) (done : ℕ → Bool) (s : State) (k : Change) (c base : ℕ) → PlanOver n base ks → k.chain ≡ ks → k.missed ≡ None → IsValid (length s.regs) s.defs → AgreesAll n ks done s
     → AboveDone n ks done c → IsVisit n ks done c → IsVisited n ks done s c (set_in_chain s k c)
-visit_done n ks done s k c base over chain valid agrees above visit_ = record { each = each; rate_is = rate_is } where
+visit_done n ks done s k c base over chain missed valid agrees above visit_ = record { each = each; rate_is = rate_is } where
   out : Wiring
   out = outcome_of n ks
 
@@ -158,7 +158,8 @@ visit_done n ks done s k c base over chain valid agrees above visit_ = record { 
   own : IsVisit n ks done c → ScalesAlike n.defs out.regs regs c
   own (moved is none) f at = absurd (none f at)
   own (stays is still sets) f at =
-      ap (λ (js : List ChainStep). field (option_map_or (λ planned_. setting (kind_of s.defs c) (parent_rate_in (wiring s) c) planned_ s.regs) (planned_in js c) s.regs) f.word f.shift f.width) chain
+      ap (λ (o : Option ℕ). field (option_map_or (λ planned_. setting (kind_of s.defs c) (parent_rate_in (wiring s) c) planned_ s.regs) (if is_at c o then None else planned_in k.chain c) s.regs) f.word f.shift f.width) missed
+      ∙ ap (λ (js : List ChainStep). field (option_map_or (λ planned_. setting (kind_of s.defs c) (parent_rate_in (wiring s) c) planned_ s.regs) (planned_in js c) s.regs) f.word f.shift f.width) chain
       ∙ by_plan (planned_in ks c) (subst (λ (b : Bool). Agrees n ks s b c) is (agrees.each c)).1 sets f at
 
   -- other clocks divide and multiply by what they did

@@ -20,7 +20,8 @@ use Rattle.clk_model.specs.Round.{wiring, parent_rate_in}
 use Rattle.clk_model.specs.Chain.{clock_id, moves, setting, place_of}
 use Rattle.clk_model.specs.Walk.{top_of, kids_after, walk, changing}
 use Rattle.clk_model.specs.Notices.{is_veto}
-use Rattle.clk_model.specs.Script.{move, move_of, planned}
+use Rattle.clk_model.specs.Script.{unfeed, fed_step, runs_for, visit_of, move, move_of, planned}
+use Rattle.clk_base.specs.Flags.{runs_parent}
 use Rattle.clk_model.specs.Laws.Paths.{scales_by, ScalesAlike}
 use Rattle.clk_model.specs.Laws.Plans.{clocks_in, HasParent, LeadsUp, DiffersIn, LeavesFields}
 use Rattle.clk_model.specs.Laws.Walks.{IsWalk}
@@ -128,26 +129,34 @@ stays_so n base ks done c over none fresh = by_step (first_step (OfChain n ks) n
       → field (setting (kind_of n.defs x) (parent_rate_in (outcome_of n ks) x) first.step.rate regs) g.word g.shift g.width ≡ field (outcome_of n ks).regs g.word g.shift g.width) first.clock
       (λ g at'. first.has.right still regs size g at') f at))
 
+-- steps that let a clock go
+unfed_follows : (n : State) (ks : List ChainStep) (done : ℕ → Bool) (o : ℕ) (ms : List Micro) → Follows n ks done ms → Follows n ks done (unfeed o ++ ms)
+unfed_follows n ks done o ms rest = idles (micro.DropEnable (clock_id o)) refl (idles (micro.DropPrepare (clock_id o)) refl (idles (micro.Lower (clock_id o)) refl rest))
+
 -- the steps that move a clock
 follows_move : (n : State) (ks : List ChainStep) (done : ℕ → Bool) (c p : ℕ) (ms : List Micro) → IsValid (length n.regs) n.defs → link_in (outcome_of n ks).clocks c ≡ Some p → NoScale n c
     → is_in p (parents_of n.defs c) ≡ true → Follows n ks (put_at c true done) ms → Follows n ks done (move n.defs n.clocks (prepared n) c p ++ ms)
-follows_move n ks done c p ms valid link none m rest = one (prepared n c) (link_in n.clocks c) where
-  written : stirs n.defs (micro.WriteMux (clock_id c) (place_of n.defs c p)) ≡ false
-  written = place_calm n.defs (length n.regs) c p [] valid m
+follows_move n ks done c p ms valid link none m rest =
+    either (prepared n c) _ _ (idles (micro.Raise (clock_id p)) refl (idles (micro.HoldPrepare (clock_id p)) refl (idles (micro.HoldEnable (clock_id p)) refl (idles (micro.HoldEnable (clock_id c)) refl
+    (links (clock_id c) (clock_id p) link none m (idles (micro.WriteMux (clock_id c) (place_of n.defs c p)) written (idles (micro.DropEnable (clock_id c)) refl (lets (link_in n.clocks c)))))))))
+    (either (runs_parent n.defs c) _ _ (idles (micro.Raise (clock_id c)) refl (idles (micro.Raise (clock_id p)) refl (idles (micro.HoldPrepare (clock_id c)) refl (idles (micro.HoldEnable (clock_id c)) refl
+    (idles (micro.HoldPrepare (clock_id p)) refl (idles (micro.HoldEnable (clock_id p)) refl
+    (links (clock_id c) (clock_id p) link none m (idles (micro.WriteMux (clock_id c) (place_of n.defs c p)) written (more (link_in n.clocks c))))))))))
+    (links (clock_id c) (clock_id p) link none m (idles (micro.WriteMux (clock_id c) (place_of n.defs c p)) written rest))) where
+      written : stirs n.defs (micro.WriteMux (clock_id c) (place_of n.defs c p)) ≡ false
+      written = place_calm n.defs (length n.regs) c p [] valid m
 
-  one : (t : Bool) (l : Option ℕ) → Follows n ks done ((if t
-      then micro.Raise (clock_id p) ∷ micro.HoldPrepare (clock_id p) ∷ micro.HoldEnable (clock_id p) ∷ micro.HoldEnable (clock_id c)
-      ∷ micro.Relink (clock_id c) (clock_id p) ∷ micro.WriteMux (clock_id c) (place_of n.defs c p) ∷ micro.DropEnable (clock_id c)
-      ∷ option_map_or (λ o. micro.DropEnable (clock_id o) ∷ micro.DropPrepare (clock_id o) ∷ micro.Lower (clock_id o) ∷ []) l []
-      else micro.Relink (clock_id c) (clock_id p) ∷ micro.WriteMux (clock_id c) (place_of n.defs c p) ∷ []) ++ ms)
-  one true None =
-      idles (micro.Raise (clock_id p)) refl (idles (micro.HoldPrepare (clock_id p)) refl (idles (micro.HoldEnable (clock_id p)) refl (idles (micro.HoldEnable (clock_id c)) refl
-      (links (clock_id c) (clock_id p) link none m (idles (micro.WriteMux (clock_id c) (place_of n.defs c p)) written (idles (micro.DropEnable (clock_id c)) refl rest))))))
-  one true (Some o) =
-      idles (micro.Raise (clock_id p)) refl (idles (micro.HoldPrepare (clock_id p)) refl (idles (micro.HoldEnable (clock_id p)) refl (idles (micro.HoldEnable (clock_id c)) refl
-      (links (clock_id c) (clock_id p) link none m (idles (micro.WriteMux (clock_id c) (place_of n.defs c p)) written (idles (micro.DropEnable (clock_id c)) refl
-      (idles (micro.DropEnable (clock_id o)) refl (idles (micro.DropPrepare (clock_id o)) refl (idles (micro.Lower (clock_id o)) refl rest)))))))))
-  one false l = links (clock_id c) (clock_id p) link none m (idles (micro.WriteMux (clock_id c) (place_of n.defs c p)) written rest)
+      lets : (l : Option ℕ) → Follows n ks (put_at c true done) (option_map_or unfeed l [] ++ ms)
+      lets None = rest
+      lets (Some o) = unfed_follows n ks (put_at c true done) o ms rest
+
+      more : (l : Option ℕ) → Follows n ks (put_at c true done) ((option_map_or unfeed l [] ++ unfeed c) ++ ms)
+      more None = unfed_follows n ks (put_at c true done) c ms rest
+      more (Some o) = unfed_follows n ks (put_at c true done) o (unfeed c ++ ms) (unfed_follows n ks (put_at c true done) c ms rest)
+
+      either : (t : Bool) (xs ys : List Micro) → Follows n ks done (xs ++ ms) → Follows n ks done (ys ++ ms) → Follows n ks done (cond t xs ys ++ ms)
+      either true xs ys e f = e
+      either false xs ys e f = f
 
 -- ---- the walk
 
@@ -180,7 +189,7 @@ block_follows : (n : State) (base : ℕ) (ks : List ChainStep) (tail : List Micr
     → ((d : ℕ → Bool) → ToFollow n ks d cs → Follows n ks d (flat_map (walked_at n ks) cs ++ tail)) → Follows n ks done (flat_map (walked_at n ks) (c ∷ cs) ++ tail)
 block_follows n base ks tail c cs done over to go_on =
     subst (λ (ms : List Micro). Follows n ks done ms) (sym (append_assoc (walked_at n ks c) (flat_map (walked_at n ks) cs) tail))
-    (subst (λ (ms : List Micro). Follows n ks done ms) (sym (append_assoc (move_of n.defs n.clocks (prepared n) ks c) (micro.Visit (clock_id c) ∷ []) rest))
+    (subst (λ (ms : List Micro). Follows n ks done ms) (sym (append_assoc (move_of n.defs n.clocks (prepared n) ks c) (visit_of n.defs n.clocks ks c) rest))
     (by_step (one_step (OfChain n ks) n.clocks c ks over.leads.once (of_chain n base ks over)))) where
       rest : List Micro
       rest = flat_map (walked_at n ks) cs ++ tail
@@ -200,16 +209,23 @@ block_follows n base ks tail c cs done over to go_on =
       put_own : (done' : ℕ → Bool) → put_at c true done' c ≡ true
       put_own done' = put_same c c true done' refl
 
-      visit_so : (done' : ℕ → Bool) → ((a : ℕ) → (c ≡ a → ⊥) → done' a ≡ done a) → IsVisit n ks done' c → Follows n ks done' (micro.Visit (clock_id c) ∷ rest)
+      visit_so : (done' : ℕ → Bool) → ((a : ℕ) → (c ≡ a → ⊥) → done' a ≡ done a) → IsVisit n ks done' c → Follows n ks done' (visit_of n.defs n.clocks ks c ++ rest)
       visit_so done' others visit_ =
-          visits (clock_id c) (above done' others) visit_ (goes (put_at c true done') (put_own done') (λ a other. put_other c a true done' other ∙ others a other))
+          fed (runs_for n.defs n.clocks ks c) where
+            goes_on : Follows n ks (put_at c true done') rest
+            goes_on = goes (put_at c true done') (put_own done') (λ a other. put_other c a true done' other ∙ others a other)
 
-      by_step : (filter (moves_here n.clocks c) ks ≡ []) ⊎ OneStep (OfChain n ks) n.clocks c ks → Follows n ks done (move_of n.defs n.clocks (prepared n) ks c ++ micro.Visit (clock_id c) ∷ rest)
+            fed : (o : Option ℕ) → Follows n ks done' (fed_step o (micro.Visit (clock_id c)) ++ rest)
+            fed None = visits (clock_id c) (above done' others) visit_ goes_on
+            fed (Some x) = idles (micro.Raise (clock_id x)) refl (idles (micro.HoldPrepare (clock_id x)) refl (idles (micro.HoldEnable (clock_id x)) refl
+                (visits (clock_id c) (above done' others) visit_ (unfed_follows n ks (put_at c true done') x rest goes_on))))
+
+      by_step : (filter (moves_here n.clocks c) ks ≡ []) ⊎ OneStep (OfChain n ks) n.clocks c ks → Follows n ks done (move_of n.defs n.clocks (prepared n) ks c ++ (visit_of n.defs n.clocks ks c ++ rest))
       by_step (inl none) =
-          subst (λ (ls : List ChainStep). Follows n ks done (flat_map (λ k. option_map_or (move n.defs n.clocks (prepared n) c) k.parent []) ls ++ micro.Visit (clock_id c) ∷ rest)) (sym none)
+          subst (λ (ls : List ChainStep). Follows n ks done (flat_map (λ k. option_map_or (move n.defs n.clocks (prepared n) c) k.parent []) ls ++ (visit_of n.defs n.clocks ks c ++ rest))) (sym none)
           (visit_so done (λ a other. refl) (stays_so n base ks done c over none fresh))
       by_step (inr one) =
-          subst (λ (ls : List ChainStep). Follows n ks done (flat_map (λ k. option_map_or (move n.defs n.clocks (prepared n) c) k.parent []) ls ++ micro.Visit (clock_id c) ∷ rest)) (sym one.alone)
+          subst (λ (ls : List ChainStep). Follows n ks done (flat_map (λ k. option_map_or (move n.defs n.clocks (prepared n) c) k.parent []) ls ++ (visit_of n.defs n.clocks ks c ++ rest))) (sym one.alone)
           (by_parent one.step.parent refl) where
             self : (o : Option ℕ) → not (same_place o o) ≡ false
             self None = refl
@@ -218,13 +234,13 @@ block_follows n base ks tail c cs done over to go_on =
             none_ : NoScale n c
             none_ f at = moved_no_scale (length n.regs) (wiring n) one.step f over.fit.wired one.has.parent one.has.rooted one.moves_ (ap (λ (x : ℕ). scales_by (kind_of n.defs x)) one.clock ∙ at)
 
-            by_parent : (o : Option ℕ) → one.step.parent ≡ o → Follows n ks done ((option_map_or (move n.defs n.clocks (prepared n) c) o [] ++ []) ++ micro.Visit (clock_id c) ∷ rest)
+            by_parent : (o : Option ℕ) → one.step.parent ≡ o → Follows n ks done ((option_map_or (move n.defs n.clocks (prepared n) c) o [] ++ []) ++ (visit_of n.defs n.clocks ks c ++ rest))
             by_parent None e =
                 let no : true ≡ false = sym one.moves_ ∙ ap (λ (q : Option ℕ). not (same_place q (link_in n.clocks one.step.clock))) (e ∙ sym (one.has.parent.none e)) ∙ self (link_in n.clocks one.step.clock) in
                 absurd cc
             by_parent (Some p) e =
-                subst (λ (ms : List Micro). Follows n ks done (ms ++ micro.Visit (clock_id c) ∷ rest)) (sym (append-nil (move n.defs n.clocks (prepared n) c p)))
-                (follows_move n ks done c p (micro.Visit (clock_id c) ∷ rest) over.fit.wired.valid
+                subst (λ (ms : List Micro). Follows n ks done (ms ++ (visit_of n.defs n.clocks ks c ++ rest))) (sym (append-nil (move n.defs n.clocks (prepared n) c p)))
+                (follows_move n ks done c p (visit_of n.defs n.clocks ks c ++ rest) over.fit.wired.valid
                 (subst (λ (x : ℕ). link_in (outcome_of n ks).clocks x ≡ Some p) one.clock (one.has.link ∙ e)) none_
                 (subst (λ (x : ℕ). is_in p (parents_of n.defs x) ≡ true) one.clock (one.has.parent.possible p e))
                 (visit_so (put_at c true done) (λ a other. put_other c a true done other) (moved (put_own done) none_)))

@@ -16,17 +16,18 @@ use Rattle.clk_base.specs.declared.event.Reply.TheVariants as reply
 use Rattle.clk_base.specs.declared.event.Turn.{Turn}
 use Rattle.clk_base.specs.declared.event.Turn.TheVariants as turn
 use Rattle.clk_base.specs.Description.{Description}
-use Rattle.clk_base.specs.Flags.{ignores_unused, is_critical}
+use Rattle.clk_base.specs.Flags.{runs_parent, ignores_unused, is_critical}
 use Rattle.clk_model.specs.declared.row.ClockRow.{ClockRow}
 use Rattle.clk_model.specs.declared.row.HandleRow.{HandleRow}
 use Rattle.clk_model.specs.State.{State, Change, ChainStep, NotifierRow, link_in}
 use Rattle.clk_model.specs.Tree.{link_given}
 use Rattle.clk_model.specs.Holders.{active, prepared}
 use Rattle.clk_model.specs.Round.{Wiring, wiring}
-use Rattle.clk_model.specs.Chain.{clock_id, moves, outcome, place_of}
+use Rattle.clk_model.specs.Chain.{clock_id, moves, outcome}
 use Rattle.clk_model.specs.Walk.{walk, changing, rates_in}
 use Rattle.clk_model.specs.Notices.{Rates, vetoes, notifiers_of, until_veto, is_veto, pre_list, abort_list}
-use Rattle.clk_model.specs.Script.{planned, move, move_of, adoption, adoptable, adoption_order, probe_script, lets_through, runs, sweep_order, sweep_script, is_raise, notices_of}
+use Rattle.clk_model.specs.Script.{unfeed, fed_step, runs_for, visit_of, close_of, planned, move, move_of, adoption, adoptable, adoption_order, probe_script, lets_through, runs, sweep_order, sweep_script, is_raise, notices_of}
+use Rattle.clk_model.proofs.ScriptLaws.{is_moving, moves_are_moving}
 use Rattle.clk_model.specs.Begin.{refused, pick, most_credits, weight_of, starts, change_of, change_along, own_handle, with_handle, reparenting}
 use Rattle.clk_model.specs.Step.{is_end, sets_parent, aborts_of}
 use Rattle.clk_model.specs.Machine.{is_poll}
@@ -86,16 +87,22 @@ all_aborts rates ns cs =
     all_flat_map (λ c. map (λ n. micro.Notify notice.Abort (clock_id c) n.id (slice_index rates.before c) (slice_index rates.outcome c)) (notifiers_of ns c)) cs
     (λ c. all_map (λ (n : NotifierRow). micro.Notify notice.Abort (clock_id c) n.id (slice_index rates.before c) (slice_index rates.outcome c)) (notifiers_of ns c) (λ n. refl))
 
+-- the steps of moves and feeds
+inner_moving : (ms : List Micro) → list_all is_moving ms ≡ true → list_all is_inner ms ≡ true
+inner_moving [] all = refl
+inner_moving (m ∷ ms) all = and_from (is_inner m) (list_all is_inner ms) (one m (both_left (is_moving m) (list_all is_moving ms) all)) (inner_moving ms (both_right (is_moving m) (list_all is_moving ms) all)) where
+  one : (n : Micro) → is_moving n ≡ true → is_inner n ≡ true
+  one (micro.Poll y) e = absurd cc
+  one (micro.Fall y) e = absurd cc
+  one micro.End e = absurd cc
+  one n e = refl
+
 all_move : (defs : Description) (clocks : List ClockRow) (prep : ℕ → Bool) (c p : ℕ) → list_all is_inner (move defs clocks prep c p) ≡ true
-all_move defs clocks prep c p = one (prep c) (link_in clocks c) where
-  one : (t : Bool) (l : Option ℕ) → list_all is_inner (if t
-      then micro.Raise (clock_id p) ∷ micro.HoldPrepare (clock_id p) ∷ micro.HoldEnable (clock_id p) ∷ micro.HoldEnable (clock_id c)
-      ∷ micro.Relink (clock_id c) (clock_id p) ∷ micro.WriteMux (clock_id c) (place_of defs c p) ∷ micro.DropEnable (clock_id c)
-      ∷ option_map_or (λ o. micro.DropEnable (clock_id o) ∷ micro.DropPrepare (clock_id o) ∷ micro.Lower (clock_id o) ∷ []) l []
-      else micro.Relink (clock_id c) (clock_id p) ∷ micro.WriteMux (clock_id c) (place_of defs c p) ∷ []) ≡ true
-  one true None = refl
-  one true (Some o) = refl
-  one false l = refl
+all_move defs clocks prep c p = inner_moving (move defs clocks prep c p) (moves_are_moving defs clocks prep c p)
+
+all_fed : (o : Option ℕ) (m : Micro) → is_inner m ≡ true → list_all is_inner (fed_step o m) ≡ true
+all_fed None m own = and_from (is_inner m) true own refl
+all_fed (Some x) m own = and_from (is_inner m) (list_all is_inner (unfeed x)) own refl
 
 all_move_of : (defs : Description) (clocks : List ClockRow) (prep : ℕ → Bool) (ks : List ChainStep) (c : ℕ) → list_all is_inner (move_of defs clocks prep ks c) ≡ true
 all_move_of defs clocks prep ks c =
@@ -108,15 +115,15 @@ all_move_of defs clocks prep ks c =
 abbrev walked : State → List ChainStep → List Micro → Rates → List ℕ → Bool → List Micro
 walked s ks settles rates clocks t =
     if t then abort_list rates s.notifiers clocks
-    else flat_map (λ c. move_of s.defs s.clocks (prepared s) ks c ++ micro.Visit (clock_id c) ∷ []) (walk s.order (wiring s) ks) ++ settles
+    else flat_map (λ c. move_of s.defs s.clocks (prepared s) ks c ++ visit_of s.defs s.clocks ks c) (walk s.order (wiring s) ks) ++ settles
 
 all_walked : (s : State) (ks : List ChainStep) (settles : List Micro) (rates : Rates) (clocks : List ℕ) (t : Bool) → list_all is_inner settles ≡ true
     → list_all is_inner (walked s ks settles rates clocks t) ≡ true
 all_walked s ks settles rates clocks true all = all_aborts rates s.notifiers clocks
 all_walked s ks settles rates clocks false all =
-    all_append (flat_map (λ c. move_of s.defs s.clocks (prepared s) ks c ++ micro.Visit (clock_id c) ∷ []) (walk s.order (wiring s) ks)) settles
-    (all_flat_map (λ c. move_of s.defs s.clocks (prepared s) ks c ++ micro.Visit (clock_id c) ∷ []) (walk s.order (wiring s) ks)
-    (λ c. all_append (move_of s.defs s.clocks (prepared s) ks c) (micro.Visit (clock_id c) ∷ []) (all_move_of s.defs s.clocks (prepared s) ks c) refl)) all
+    all_append (flat_map (λ c. move_of s.defs s.clocks (prepared s) ks c ++ visit_of s.defs s.clocks ks c) (walk s.order (wiring s) ks)) settles
+    (all_flat_map (λ c. move_of s.defs s.clocks (prepared s) ks c ++ visit_of s.defs s.clocks ks c) (walk s.order (wiring s) ks)
+    (λ c. all_append (move_of s.defs s.clocks (prepared s) ks c) (visit_of s.defs s.clocks ks c) (all_move_of s.defs s.clocks (prepared s) ks c) (all_fed (runs_for s.defs s.clocks ks c) (micro.Visit (clock_id c)) refl))) all
 
 -- a planned script
 pub script_planned : (s : State) (ks : List ChainStep) (settles : List Micro) → list_all is_inner settles ≡ true → IsScript (planned s ks settles).steps
@@ -160,9 +167,9 @@ unfolding sweep_script
 script_sweep s =
     let closed : List ℕ = filter (λ c. not (ignores_unused s.defs c) && lets_through s.defs s.regs c && not (active s c)) (sweep_order s) in
     let unpowered : List ℕ = filter (λ c. not (ignores_unused s.defs c) && runs s.defs s.regs c && not (prepared s c)) (sweep_order s) in
-    script_more (map (λ c. micro.Close (clock_id c)) closed ++ map (λ c. micro.Unpower (clock_id c)) unpowered) (micro.End ∷ [])
-    (all_append (map (λ c. micro.Close (clock_id c)) closed) (map (λ c. micro.Unpower (clock_id c)) unpowered)
-    (all_map (λ (c : ℕ). micro.Close (clock_id c)) closed (λ c. refl)) (all_map (λ (c : ℕ). micro.Unpower (clock_id c)) unpowered (λ c. refl))) only_end
+    script_more (flat_map (close_of s.defs s.clocks) closed ++ map (λ c. micro.Unpower (clock_id c)) unpowered) (micro.End ∷ [])
+    (all_append (flat_map (close_of s.defs s.clocks) closed) (map (λ c. micro.Unpower (clock_id c)) unpowered)
+    (all_flat_map (close_of s.defs s.clocks) closed (λ c. all_fed (if runs_parent s.defs c then link_in s.clocks c else None) (micro.Close (clock_id c)) refl)) (all_map (λ (c : ℕ). micro.Unpower (clock_id c)) unpowered (λ c. refl))) only_end
 
 -- ---- beginnings
 

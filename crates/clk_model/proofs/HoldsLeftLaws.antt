@@ -1,7 +1,7 @@
 -- Laws on what calls hold: calls that are no registrations leave no hold behind, and so do runs of them.
 use Rattle.std.proofs.Common.{◌≡◌, ℕ, ◌&&◌, Bool, true, false, List, [], ◌∷◌, Option, Some, None, refl, sym, ap, subst, ◌∙◌, nat_eq, nat_lt, ◌+◌, inl}
 use Rattle.std.specs.Prelude.{is_some}
-use Rattle.std.specs.List.{AllByRecursion}
+use Rattle.std.specs.List.{AllByRecursion, list_any}
 use Rattle.std.specs.Option.{option_map_or}
 use Rattle.clk_base.specs.Description.{kind_of, parents_of}
 use Rattle.clk_base.specs.Levels.{depth}
@@ -14,7 +14,10 @@ use Rattle.clk_base.specs.declared.event.Turn.{Turn}
 use Rattle.clk_base.specs.declared.event.Turn.TheVariants as turn
 use Rattle.clk_base.proofs.Valid.{lines_end}
 use Rattle.clk_model.specs.declared.row.HandleRow.{HandleRow}
-use Rattle.clk_model.specs.Lists.{is_in}
+use Rattle.clk_model.specs.Lists.{is_in, none_twice}
+use Rattle.clk_model.specs.Walk.{walk}
+use Rattle.clk_base.specs.declared.call.Micro.TheVariants as micro
+use Rattle.clk_model.specs.Script.{planned}
 use Rattle.clk_model.specs.Kinds.{mux_field}
 use Rattle.clk_model.specs.State.{State, Change, ChainStep}
 use Rattle.clk_model.specs.Tree.{rooted}
@@ -23,22 +26,21 @@ use Rattle.clk_model.specs.Chain.{chain}
 use Rattle.clk_model.specs.Views.{lift, view}
 use Rattle.clk_model.specs.Machine.{next}
 use Rattle.clk_model.specs.Begin.{change_along, starts, refused, most_credits, weight_of, pick, request, request_between, put_handle, held_once_more, own_handle, with_handle, reparenting, parent_set, begun}
-use Rattle.clk_model.specs.Laws.Flight.{script, plan}
+use Rattle.clk_model.specs.Laws.Flight.{script}
 use Rattle.clk_model.specs.Laws.Plans.{HasParent, LeadsFrom}
 use Rattle.clk_model.specs.Script.{sweep_script}
 use Rattle.clk_model.specs.Gates.{settled}
 use Rattle.clk_model.specs.Laws.LinksKept.{KeepsLinks}
-use Rattle.clk_model.specs.Laws.HoldsLeft.{is_probe, CallsLeaveNoHold}
 use Rattle.clk_model.proofs.Members.{both_left, both_right, same_from_test}
-use Rattle.clk_model.proofs.BeginLaws.{sweep_has_no, plans, HasScript, raised_alone, lowered_alone, by_rate, by_parent, by_registration, by_sweep, IsBegun, begun_going}
+use Rattle.clk_model.proofs.BeginLaws.{plans, HasScript, raised_alone, lowered_alone, by_rate, by_parent, by_registration, by_sweep, IsBegun, begun_going}
 use Rattle.clk_model.proofs.FlightLaws.{begin_is}
 use Rattle.clk_model.proofs.PlanLaws.{chains_lead, not_above_parent}
 use Rattle.clk_model.proofs.WalkLaws.{walks_list}
-use Rattle.clk_model.proofs.HoldSteps.{relinks, holds_of}
+use Rattle.clk_model.proofs.HoldSteps.{relinks}
 use Rattle.clk_model.proofs.LinkBegins.{keeps_register}
 use Rattle.clk_model.proofs.AdoptOnceLaws.{probe_once}
 use Rattle.clk_model.proofs.BalancedScripts.{relinks_once}
-use Rattle.clk_model.proofs.BalanceLaws.{none_below_itself, once_none, IsPlain, began, begun_orderly, planned_call_leaves_no_hold}
+use Rattle.clk_model.proofs.BalanceLaws.{none_below_itself, once_none, IsPlain, planned_once, sweep_relinks_none}
 use Rattle.clk_model.specs.Wired.{IsWired, IsOrder}
 
 -- ---- plans
@@ -163,34 +165,18 @@ script_once words q s d what wired keeps step =
       changed : (begun q d what).0.change ≡ Some k
       changed = ap (λ (u : State). u.change) going.2
 
-      by_plan : plans k.call ≡ true → relinks_once k.left
-      by_plan is =
-          (begun_orderly q n d what k going.3
-          (λ c probe. let no : false ≡ true = ap (λ (w : Sleeping). plans w) (sym probe ∙ sym going.3.call) ∙ is in absurd cc)
-          (λ e. let leads = (call_leads words q d what wired start.0 e).chain k changed in plain_of words q leads.0 k.chain wired keeps.order leads.1)).1
+      by_plan : plans k.call ≡ true → (settles : List Micro) → n.order ≡ q.order → wiring n ≡ wiring q → ((c : ℕ) → list_any (relinks c) settles ≡ false) → relinks_once (planned n k.chain settles).steps
+      by_plan is settles order tree calm =
+          let e = ap plans (sym going.3.call) ∙ is in
+          let leads = (call_leads words q d what wired start.0 e).chain k changed in
+          let plain = plain_of words q leads.0 k.chain wired keeps.order leads.1 in
+          planned_once n k.chain settles plain.clocks
+          (subst (λ (w : Wiring). none_twice (walk n.order w k.chain) ≡ true) (sym tree) (subst (λ (cs : List ℕ). none_twice (walk cs (wiring q) k.chain) ≡ true) (sym order) plain.walked)) calm
 
       by_script : HasScript q n k → relinks_once k.left
       by_script (raised_alone x is) = subst (λ (ms : List Micro). relinks_once ms) (sym is) ((λ c e. absurd cc), ((λ c e. absurd cc), tt))
       by_script (lowered_alone x is) = subst (λ (ms : List Micro). relinks_once ms) (sym is) ((λ c e. absurd cc), ((λ c e. absurd cc), tt))
-      by_script (by_rate is steps order tree) = by_plan is
-      by_script (by_parent is c steps order tree) = by_plan is
+      by_script (by_rate is steps order tree) = subst (λ (ms : List Micro). relinks_once ms) (sym steps) (by_plan is [] order tree (λ c. refl))
+      by_script (by_parent is c steps order tree) = subst (λ (ms : List Micro). relinks_once ms) (sym steps) (by_plan is (micro.Settle c ∷ []) order tree (λ d. refl))
       by_script (by_registration c probe is) = subst (λ (ms : List Micro). relinks_once ms) (sym is) (probe_once words q c wired (keeps_register q c.0 keeps).order)
-      by_script (by_sweep is) = subst (λ (ms : List Micro). relinks_once ms) (sym is) (once_none (sweep_script q) (λ c. sweep_has_no (relinks c) q (λ e. refl) (λ e. refl) refl))
-
-pub calls_leave_no_hold : CallsLeaveNoHold
-calls_leave_no_hold words q s t d what made m answer r wired ordered nothing other flight step =
-    let first = began q d what flight in
-    let start = begin_is q first.0 d what turn.Going first.1 in
-    let going = (begun_going q d what).from start.2 in
-    let k : Change = going.1 in
-    let changed : (begun q d what).0.change ≡ Some k = ap (λ (u : State). u.change) going.2 in
-    let chained : plan q d what ≡ k.chain = ap (λ (o : Option Change). option_map_or (λ j. j.chain) o []) changed in
-    let none : holds_of q ≡ ([], []) = rw (nothing.prepares, nothing.enables) refl in
-    let after : holds_of t ≡ ([], []) =
-    planned_call_leaves_no_hold q s t d what made m answer r (λ c is. let no : true ≡ false = ap (λ (w : Sleeping). is_probe w) (sym is) ∙ other in absurd cc)
-    (λ is. let leads = (call_leads words q d what wired start.0 is).chain k changed in
-    subst (λ (ks : List ChainStep). IsPlain q ks) (sym chained) (plain_of words q leads.0 k.chain wired ordered leads.1)) none flight step in
-    record {
-      prepares = ap (λ (both : List ℕ × List ℕ). both.0) after;
-      enables = ap (λ (both : List ℕ × List ℕ). both.1) after;
-    }
+      by_script (by_sweep is) = subst (λ (ms : List Micro). relinks_once ms) (sym is) (once_none (sweep_script q) (sweep_relinks_none q))

@@ -14,7 +14,7 @@ use Rattle.clk_model.specs.Chain.{clock_id}
 use Rattle.clk_model.specs.Gates.{settled}
 use Rattle.clk_model.specs.Notices.{abort_list}
 use Rattle.clk_model.specs.Script.{plls}
-use Rattle.clk_model.specs.Step.{sets_parent, cut_short, on, powered, aborts_of, to_raise, most_polls, raise_one, raise, poll, to_lower, lower_one, lower}
+use Rattle.clk_model.specs.Step.{missed_by, sets_parent, cut_short, on, powered, aborts_of, to_raise, most_polls, raise_one, raise, poll, to_lower, lower_one, lower}
 use Rattle.clk_model.specs.Laws.Paced.{may_time_out, is_scripted, ends_last, StillToRaise, tells, polls, polls_to_raise, raises, lowers, IsPaced}
 use Rattle.clk_model.proofs.WeightLaws.{changed, aborts_notices}
 use Rattle.clk_model.proofs.PacedStepLaws.{raise_again}
@@ -107,6 +107,7 @@ timeout_on : (s : State) (k : Change) (front rest : List Micro) → CutsWell res
       extra = 0;
       front = map (λ y. micro.Fall (clock_id y)) k.raised ++ aborts_of s k;
       left = cut_short k.call rest;
+      missed = missed_by k.call rest;
     } in IsPaced (after s (on s l)) l
 timeout_on s k front rest well =
     let l : Change = record k {
@@ -116,6 +117,7 @@ timeout_on s k front rest well =
       extra = 0;
       front = map (λ y. micro.Fall (clock_id y)) k.raised ++ aborts_of s k;
       left = cut_short k.call rest;
+      missed = missed_by k.call rest;
     } in
     let cut = cuts_well k.call rest well.script well.last in
     tells_on s s l (falls_wind k.raised (aborts_of s k) (aborts_notices s k)) refl (record { script = cut.script; last = cut.last }) (λ late. no_extra s k rest well.last late)
@@ -157,6 +159,7 @@ poll_on s k l y o rest false valid few first well extra e = by_last (nat_le k.po
     extra = 0;
     front = map (λ z. micro.Fall (clock_id z)) k.raised ++ aborts_of s k;
     left = cut_short k.call rest;
+    missed = missed_by k.call rest;
   }
 
   again_ : Change

@@ -2,7 +2,7 @@
 use Rattle.std.proofs.Common.{◌≡◌, ℕ, zero, suc, ◌+◌, ◌-◌, ◌<◌, ◌^◌, ◌||◌, Bool, true, false, not, cond, set, List, [], ◌∷◌, Option, Some, None, refl, sym, ap, ◌∙◌, ◌⊎◌, inl, inr, arith, length, nat_lt}
 use Rattle.std.proofs.Math.Path.{fun_ext}
 use Rattle.std.proofs.lemmas.Bool.Decides.{nat_tests}
-use Rattle.std.specs.Prelude.{◌==◌, find, nat_le, reverse, slice_get, option_map}
+use Rattle.std.specs.Prelude.{◌==◌, if◌then◌else◌, find, nat_le, reverse, slice_get, option_map}
 use Rattle.std.specs.List.{AllByRecursion}
 use Rattle.std.specs.Option.{option_map_or}
 use Rattle.clk_base.specs.declared.call.Micro.{Micro}
@@ -16,7 +16,7 @@ use Rattle.clk_base.specs.Valid.{IsValid}
 use Rattle.reg_bank.specs.Registers.{Registers, field, put}
 use Rattle.clk_model.specs.declared.row.ClockRow.{ClockRow}
 use Rattle.clk_model.specs.declared.row.HandleRow.{HandleRow}
-use Rattle.clk_model.specs.Lists.{is_in}
+use Rattle.clk_model.specs.Lists.{is_in, is_at}
 use Rattle.clk_model.specs.Kinds.{mux_field}
 use Rattle.clk_model.specs.State.{State, Change, ChainStep, row_of, link_in, handle_at, requested}
 use Rattle.clk_model.specs.Tree.{path_within, path, children}
@@ -138,7 +138,11 @@ leaves_visited : (c : ℕ) (s : State) (k l : Change) (d : ℕ) → IsValid (len
 leaves_visited c s k l d valid off = leaves_written c s (set_in_chain s k d) (Some l) (λ a m. inl (by_plan a m (planned_off (path s.clocks c) d k.chain off))) where
   by_plan : (a : ℕ) → is_in a (path s.clocks c) ≡ true → (find (λ step. step.clock == d) k.chain ≡ None) ⊎ (is_in d (path s.clocks c) ≡ false) → FieldStays s.defs s.regs (set_in_chain s k d) a
   by_plan a m (inl none) =
-      λ f at. ap (λ (o : Option ChainStep). field (option_map_or (λ planned. setting (kind_of s.defs d) (parent_rate_in (wiring s) d) planned s.regs) (option_map (λ step. step.rate) o) s.regs) f.word f.shift f.width) none
+      λ f at. unset (is_at d k.missed) f where
+        unset : (t : Bool) (f : Field) → field (option_map_or (λ planned. setting (kind_of s.defs d) (parent_rate_in (wiring s) d) planned s.regs)
+            (if t then None else option_map (λ step. step.rate) (find (λ step. step.clock == d) k.chain)) s.regs) f.word f.shift f.width ≡ field s.regs f.word f.shift f.width
+        unset true f = refl
+        unset false f = ap (λ (o : Option ChainStep). field (option_map_or (λ planned. setting (kind_of s.defs d) (parent_rate_in (wiring s) d) planned s.regs) (option_map (λ step. step.rate) o) s.regs) f.word f.shift f.width) none
   by_plan a m (inr out) = set_stays s k (length s.regs) d a valid (λ same. other_member d a (path s.clocks c) out m (sym same))
 
 leaves_muxed : (c : ℕ) (s : State) (k : Change) (d place : ℕ) → IsValid (length s.regs) s.defs → disturbs s.defs (path s.clocks c) (micro.WriteMux (clock_id d) place) ≡ false

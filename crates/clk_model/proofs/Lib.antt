@@ -142,3 +142,6 @@ pub mod PrepRunLaws
 pub mod HeldCountLaws
 pub mod LiftLaws
 pub mod TwinLaws
+pub mod SweptLaws
+pub mod ShadowLaws
+pub mod FeedLaws

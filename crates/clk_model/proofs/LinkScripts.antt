@@ -1,5 +1,5 @@
 -- Laws on scripts: the steps of each script link possible parents.
-use Rattle.std.proofs.Common.{sym, ◌≡◌, ℕ, Bool, true, false, ◌&&◌, ◌||◌, List, [], ◌∷◌, ◌++◌, map, Option, Some, None, refl, ap, ◌∙◌}
+use Rattle.std.proofs.Common.{sym, ◌≡◌, ℕ, Bool, true, false, cond, ◌&&◌, ◌||◌, List, [], ◌∷◌, ◌++◌, map, Option, Some, None, refl, ap, ◌∙◌}
 use Rattle.std.specs.Prelude.{slice_index, not, if◌then◌else◌}
 use Rattle.std.specs.List.{list_all, list_any, AllByRecursion}
 use Rattle.std.specs.Option.{option_map_or}
@@ -15,9 +15,9 @@ use Rattle.clk_model.specs.State.{State, ChainStep, NotifierRow, link_in}
 use Rattle.clk_model.specs.Tree.{link_given}
 use Rattle.clk_model.specs.Holders.{prepared}
 use Rattle.clk_model.specs.Round.{Wiring, wiring}
-use Rattle.clk_model.specs.Chain.{clock_id, place_of}
+use Rattle.clk_model.specs.Chain.{clock_id}
 use Rattle.clk_model.specs.Notices.{Rates, notifiers_of, abort_list, post_list}
-use Rattle.clk_model.specs.Script.{planned, move, move_of, adoption, probe_script, sweep_script}
+use Rattle.clk_model.specs.Script.{unfeed, planned, move, move_of, adoption, probe_script, sweep_script}
 use Rattle.clk_model.specs.Step.{cut_short}
 use Rattle.clk_model.specs.Laws.Plans.{HasParent}
 use Rattle.clk_model.specs.Laws.LinksKept.{links_possible}
@@ -25,7 +25,9 @@ use Rattle.clk_model.proofs.Members.{both_left, both_right}
 use Rattle.clk_model.proofs.PllLaws.{link_given_possible}
 use Rattle.clk_model.proofs.NoneLaws.{none_front, none_rest}
 use Rattle.clk_model.proofs.BeginLaws.{sweep_has_no}
-use Rattle.clk_model.proofs.ScriptLaws.{NoMove, none_aborts, none_move_of, none_planned, none_probe, none_cut}
+use Rattle.clk_model.proofs.ScriptLaws.{NoMove, none_aborts, none_move_of, none_visit, none_planned, none_probe, none_cut}
+use Rattle.clk_model.proofs.FeedLaws.{NoFeeding}
+use Rattle.clk_base.specs.Flags.{runs_parent}
 use Rattle.std.proofs.lemmas.Bool.{and_from}
 use Rattle.clk_model.proofs.ChainStepLaws.{AllSteps-more}
 
@@ -80,18 +82,21 @@ link_posts defs rates ns c =
 -- ---- moves
 
 move_stays : (defs : Description) (clocks : List ClockRow) (prep : ℕ → Bool) (c p : ℕ) → is_in p (parents_of defs c) ≡ true → list_any (strays defs) (move defs clocks prep c p) ≡ false
-move_stays defs clocks prep c p possible = one (prep c) (link_in clocks c) where
+move_stays defs clocks prep c p possible = either (prep c) _ _ (own _ (lets (link_in clocks c))) (either (runs_parent defs c) _ _ (own _ (more (link_in clocks c))) (own _ refl)) where
   own : (b : Bool) → b ≡ false → (strays defs (micro.Relink (clock_id c) (clock_id p)) || b) ≡ false
   own b e = ap (λ (t : Bool). not t || b) possible ∙ e
 
-  one : (t : Bool) (l : Option ℕ) → list_any (strays defs) (if t
-      then micro.Raise (clock_id p) ∷ micro.HoldPrepare (clock_id p) ∷ micro.HoldEnable (clock_id p) ∷ micro.HoldEnable (clock_id c)
-      ∷ micro.Relink (clock_id c) (clock_id p) ∷ micro.WriteMux (clock_id c) (place_of defs c p) ∷ micro.DropEnable (clock_id c)
-      ∷ option_map_or (λ o. micro.DropEnable (clock_id o) ∷ micro.DropPrepare (clock_id o) ∷ micro.Lower (clock_id o) ∷ []) l []
-      else micro.Relink (clock_id c) (clock_id p) ∷ micro.WriteMux (clock_id c) (place_of defs c p) ∷ []) ≡ false
-  one true None = own false refl
-  one true (Some o) = own false refl
-  one false l = own false refl
+  lets : (l : Option ℕ) → list_any (strays defs) (option_map_or unfeed l []) ≡ false
+  lets None = refl
+  lets (Some o) = refl
+
+  more : (l : Option ℕ) → list_any (strays defs) (option_map_or unfeed l [] ++ unfeed c) ≡ false
+  more None = refl
+  more (Some o) = refl
+
+  either : (t : Bool) (xs ys : List Micro) → list_any (strays defs) xs ≡ false → list_any (strays defs) ys ≡ false → list_any (strays defs) (cond t xs ys) ≡ false
+  either true xs ys e f = e
+  either false xs ys e f = f
 
 -- the move of a clock links its planned parent, which is a possible one
 move_of_stays : (w : Wiring) (clocks : List ClockRow) (prep : ℕ → Bool) (ks : List ChainStep) (c : ℕ) → AllByRecursion (HasParent w) ks
@@ -103,12 +108,16 @@ move_of_stays w clocks prep ks c parents =
 
 -- ---- scripts
 
+feeding_stays : (defs : Description) → NoFeeding (strays defs)
+feeding_stays defs (micro.Relink c p) e = absurd cc
+feeding_stays defs m e = refl
+
 -- a planned script links possible parents
 pub link_planned : (s : State) (ks : List ChainStep) (settles : List Micro) → AllByRecursion (HasParent (wiring s)) ks → AllLink s.defs settles
     → AllLink s.defs (planned s ks settles).steps
 link_planned s ks settles parents all =
     none_stray s.defs (planned s ks settles).steps
-    (none_planned (strays s.defs) s ks settles (λ kind c id old new. refl) (λ c. move_of_stays (wiring s) s.clocks (prepared s) ks c parents) (λ c. refl)
+    (none_planned (strays s.defs) s ks settles (λ kind c id old new. refl) (λ c. move_of_stays (wiring s) s.clocks (prepared s) ks c parents) (λ c. none_visit (strays s.defs) s.defs s.clocks ks c (feeding_stays s.defs) refl)
     (all_stay s.defs settles all) refl)
 
 -- an adoption links what a registration would link
@@ -130,7 +139,7 @@ pub link_probe : (s : State) (c : ℕ) → AllLink s.defs (probe_script s c)
 link_probe s c = none_stray s.defs (probe_script s c) (none_probe (strays s.defs) s c refl refl (λ a m. adoption_stays s a) refl)
 
 pub link_sweep : (s : State) → AllLink s.defs (sweep_script s)
-link_sweep s = none_stray s.defs (sweep_script s) (sweep_has_no (strays s.defs) s (λ c. refl) (λ c. refl) refl)
+link_sweep s = none_stray s.defs (sweep_script s) (sweep_has_no (strays s.defs) s (feeding_stays s.defs) (λ c. refl) (λ c. refl) refl)
 
 -- ---- timing out
 

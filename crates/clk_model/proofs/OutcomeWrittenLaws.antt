@@ -1,5 +1,5 @@
 -- A change that ends well leaves the outcome that was planned.
-use Rattle.std.proofs.Common.{◌≡◌, ℕ, ◌+◌, ◌||◌, Bool, true, false, not, cond, List, [], ◌∷◌, ◌++◌, Option, Some, refl, sym, ap, subst, ◌∙◌, ◌⊎◌, inl, inr, length, append_assoc, true≢false}
+use Rattle.std.proofs.Common.{◌≡◌, ℕ, ◌+◌, ◌||◌, Bool, true, false, not, cond, List, [], ◌∷◌, ◌++◌, Option, Some, refl, sym, ap, subst, ◌∙◌, ◌⊎◌, inl, inr, length, append_assoc, true≢false, None}
 use Rattle.std.specs.Prelude.{slice_get, is_none}
 use Rattle.std.specs.List.{list_all}
 use Rattle.std.specs.Option.{option_map_or}
@@ -78,6 +78,7 @@ todo_first m (n ∷ ns) left e = ap (λ (x : Micro). x ∷ (ns ++ left)) (next_i
 
 -- what is left of a change can be done, and leads to a tree
 record LeadsTo (k : Change) (s : State) (target : Wiring) : Type 0 where
+  planned : k.missed ≡ None
   fit : AllFit s.defs (todo k)
   same : SameSettings (acted k.chain (todo k) (wiring s)) target
 
@@ -123,6 +124,7 @@ carries_begun q s d what wired ordered planning step =
       at = at;
       valid = still_valid q s (events_keep_shape q s d (event.Begin what) turn.Going step) wired.valid;
       leads = λ calm early. record {
+        planned = fresh.2;
         fit = subst (λ (defs : Description). AllFit defs (todo k)) (sym like.defs) fit_q;
         same = settings_through (acted k.chain (todo k) (wiring s)) (acted k.chain (todo k) (wiring q)) (outcome (plan q d what) (wiring q))
             (acted_same (length q.regs) k.chain (todo k) (wiring s) (wiring q) wired.valid fit_q like)
@@ -150,6 +152,7 @@ carries_beside target s t d e x tier carries step =
       leads = λ calm early.
           let leads = carries.leads calm early in
           record {
+            planned = leads.planned;
             fit = subst (λ (defs : Description). AllFit defs (todo carries.now)) (sym like.defs) leads.fit;
             same = settings_through (acted carries.now.chain (todo carries.now) (wiring t)) (acted carries.now.chain (todo carries.now) (wiring s)) target
                 (acted_same (length s.regs) carries.now.chain (todo carries.now) (wiring t) (wiring s) carries.valid leads.fit like) leads.same;
@@ -158,8 +161,8 @@ carries_beside target s t d e x tier carries step =
 
 -- one step leads on
 leads_on : (target : Wiring) (s t : State) (d : ℕ) (m : Micro) (answer : Option Bool) (k k' : Change) → IsValid (length s.regs) s.defs → IsValid (length t.regs) t.defs → t.defs ≡ s.defs
-    → IsStep s t d m answer turn.Going k → Adds (taken k) (Some k') → k'.chain ≡ k.chain → k'.timed_out ≡ false → LeadsTo k s target → LeadsTo k' t target
-leads_on target s t d m answer k k' valid valid' defs is adds chain early leads = by adds.either where
+    → IsStep s t d m answer turn.Going k → Adds (taken k) (Some k') → k'.chain ≡ k.chain → k'.timed_out ≡ false → k'.missed ≡ k.missed → LeadsTo k s target → LeadsTo k' t target
+leads_on target s t d m answer k k' valid valid' defs is adds chain early missed leads = by adds.either where
   rest : List Micro
   rest = rest_of k.front ++ left_behind k.front k.left
 
@@ -185,10 +188,11 @@ leads_on target s t d m answer k k' valid valid' defs is adds chain early leads 
       ap todo (sym own) ∙ ap (λ (ms : List Micro). ms ++ adds.after.left) more.1 ∙ ap (λ (ms : List Micro). (more.0 ++ rest_of k.front) ++ ms) more.3 ∙ append_assoc more.0 (rest_of k.front) (left_behind k.front k.left) in
       let preps : prep t ≡ prep y = ap prep (sym is.state) ∙ prep-steps (settled s y) (s.steps + 1) ∙ prep-settled s y in
       let like : SameSettings (wiring t) (act k.chain m (wiring s)) =
-      settings_through (wiring t) (wiring y) (act k.chain m (wiring s)) (settings_back (wiring y) (wiring t) (prep_settings t y valid' (sym preps))) (step_tree s (taken k) answer m valid fit_m is.answered) in
+      settings_through (wiring t) (wiring y) (act k.chain m (wiring s)) (settings_back (wiring y) (wiring t) (prep_settings t y valid' (sym preps))) (step_tree s (taken k) answer m valid fit_m leads.planned is.answered) in
       let fit_act : AllFit (act k.chain m (wiring s)).defs rest = subst (λ (ds : Description). AllFit ds rest) (sym defs ∙ like.defs) fit_rest in
       let valid_act : IsValid (length s.regs) (act k.chain m (wiring s)).defs = subst (λ (ds : Description). IsValid (length s.regs) ds) (sym defs ∙ like.defs) valid in
       record {
+        planned = missed ∙ leads.planned;
         fit = subst (λ (ds : Description). AllFit ds (todo k')) (sym defs) (subst (λ (ms : List Micro). AllFit s.defs ms) (sym ahead) (fit_append s.defs more.0 rest light.0 fit_rest));
         same = subst (λ (w : Wiring). SameSettings w target)
             (sym (ap (λ (ms : List Micro). acted k'.chain ms (wiring t)) ahead
@@ -217,6 +221,7 @@ carries_step target s t d m answer carries step =
       valid = valid';
       leads = λ calm early.
           leads_on target s t d m answer carries.now after.0 carries.valid valid' shape.defs is adds kept.chain early
+          (elim kept.left [ inl same ↦ same.2 | inr late ↦ absurd (true≢false (sym late.2 ∙ early)) ])
           (carries.leads (sym kept.vetoed ∙ calm) (elim kept.left [ inl same ↦ sym same.1 ∙ early | inr late ↦ absurd (true≢false (sym late.2 ∙ early)) ]));
     }
 
@@ -304,7 +309,7 @@ outcomes_written q s t d what made m answer wired ordered planning flight step =
     let leads = carries.leads flags.0 flags.1 in
     let last : m ≡ micro.End = ends_it s (taken k) answer m reply.Fine is.answered in
     let same_now : course.now ≡ k = same_Some course.now k (sym course.at ∙ carries.at) in
-    let behind = left_is_end what (script q d what) course.left in
+    let behind = left_is_end what (script q d what) course.left (ap (λ (l : Change). l.timed_out) same_now ∙ flags.1) in
     let begun_at = began q d what flight in
     let left_last : ends_last k.left ≡ true =
     ap (λ (l : Change). ends_last l.left) (sym same_now) ∙ last_behind behind.0 course.now.left (ap ends_last (sym behind.1) ∙ script_ends q begun_at.0 d what begun_at.1) in

@@ -1,6 +1,6 @@
 -- Laws on paced changes: each step leaves them paced.
 use Rattle.std.proofs.Common.{◌≡◌, ℕ, ◌+◌, ◌≤◌, Bool, true, false, not, ◌&&◌, ◌||◌, List, [], ◌∷◌, ◌++◌, map, Some, refl, sym, ap, ◌∙◌, arith, length}
-use Rattle.std.specs.Prelude.{is_none, reverse, slice_get, if◌then◌else◌}
+use Rattle.std.specs.Prelude.{cond, IfSome, is_none, reverse, slice_get, if◌then◌else◌}
 use Rattle.std.specs.List.{list_all, list_any}
 use Rattle.clk_base.specs.declared.call.Micro.{Micro}
 use Rattle.clk_base.specs.declared.call.Micro.TheVariants as micro
@@ -12,7 +12,8 @@ use Rattle.clk_model.specs.State.{State, Change}
 use Rattle.clk_model.specs.Chain.{clock_id}
 use Rattle.clk_model.specs.Gates.{settled}
 use Rattle.clk_model.specs.Script.{plls}
-use Rattle.clk_model.specs.Step.{is_end, is_visit, is_settle, is_register, sets_parent, from_first, behind_first, cut_short, on, powered, aborts_of, to_raise, most_polls, todo}
+use Rattle.std.proofs.lemmas.Bool.{and_from}
+use Rattle.clk_model.specs.Step.{is_close, lets_go, behind_lets, first_alone, is_end, is_visit, is_settle, is_register, sets_parent, from_first, behind_first, cut_short, on, powered, aborts_of, to_raise, most_polls, todo}
 use Rattle.clk_model.specs.Laws.Paced.{is_notice, winds_down, may_time_out, is_scripted, ends_last, tells, polls, polls_to_raise, IsPaced}
 use Rattle.clk_model.proofs.Members.{both_left, both_right, test_same}
 use Rattle.clk_model.proofs.WeightLaws.{changed}
@@ -109,6 +110,40 @@ cut_after test (m ∷ ms) all last = one (test m) (cut_behind m ms all last) (le
   one true here rest = here
   one false here rest = record { script = rest.script; last = rest.last }
 
+cut_lets : (ms : List Micro) → list_all is_scripted ms ≡ true → ends_last ms ≡ true → CutsWell ms (behind_lets ms)
+cut_lets [] all last = record { script = refl; last = refl }
+cut_lets (m ∷ ms) all last = one (lets_go m) (let cut = cut_behind m ms all last in cut_lets ms cut.script cut.last) where
+  one : (t : Bool) → CutsWell ms (behind_lets ms) → CutsWell (m ∷ ms) (if t then behind_lets ms else m ∷ ms)
+  one true rest = record { script = rest.script; last = rest.last }
+  one false rest = record { script = all; last = last }
+
+-- an end is no visit, so after a visit something may be dropped
+cut_alone : (ms : List Micro) → IfSome (slice_get ms 0) (λ m. is_visit m ≡ true) → list_all is_scripted ms ≡ true → ends_last ms ≡ true → CutsWell ms (first_alone ms)
+cut_alone [] first all last = record { script = refl; last = refl }
+cut_alone (m ∷ ms) first all last =
+    let cut = cut_behind m ms all last in
+    let rest = cut_lets ms cut.script cut.last in
+    record {
+      script = and_from (is_scripted m) (list_all is_scripted (behind_lets ms)) (both_left (is_scripted m) (list_all is_scripted ms) all) rest.script;
+      last = and_from (not (is_end m) || is_none (slice_get (behind_lets ms) 0)) (ends_last (behind_lets ms)) (no_end m first (is_none (slice_get (behind_lets ms) 0))) rest.last;
+    } where
+      no_end : (n : Micro) → is_visit n ≡ true → (b : Bool) → (not (is_end n) || b) ≡ true
+      no_end (micro.Visit c) e b = refl
+      no_end _ e b = absurd cc
+
+visit_first : (ms : List Micro) → IfSome (slice_get (from_first is_visit ms) 0) (λ m. is_visit m ≡ true)
+visit_first [] = tt
+visit_first (m ∷ ms) = one (is_visit m) refl (visit_first ms) where
+  one : (t : Bool) → is_visit m ≡ t → IfSome (slice_get (from_first is_visit ms) 0) (λ n. is_visit n ≡ true) → IfSome (slice_get (cond t (m ∷ ms) (from_first is_visit ms)) 0) (λ n. is_visit n ≡ true)
+  one true e rest = e
+  one false e rest = rest
+
+cut_visit : (ms : List Micro) → list_all is_scripted ms ≡ true → ends_last ms ≡ true → CutsWell ms (first_alone (from_first is_visit ms))
+cut_visit ms all last =
+    let from = cut_first is_visit ms all last in
+    let alone = cut_alone (from_first is_visit ms) (visit_first ms) from.script from.last in
+    record { script = alone.script; last = alone.last }
+
 pub cuts_well : (what : Sleeping) (ms : List Micro) → list_all is_scripted ms ≡ true → ends_last ms ≡ true → CutsWell ms (cut_short what ms)
 cuts_well (call.Prepare h) ms all last = cut_first is_end ms all last
 cuts_well (call.SetParent h p) ms all last = cut_first is_end ms all last
@@ -116,20 +151,23 @@ cuts_well (call.Probe c) ms all last = one (list_any is_register ms) where
   one : (t : Bool) → CutsWell ms (if t then from_first is_end ms else behind_first is_settle ms)
   one true = cut_first is_end ms all last
   one false = cut_after is_settle ms all last
-cuts_well call.Sweep ms all last = record { script = all; last = last }
-cuts_well (call.Get found) ms all last = cut_first is_visit ms all last
-cuts_well (call.Put h) ms all last = cut_first is_visit ms all last
-cuts_well (call.Unprepare h) ms all last = cut_first is_visit ms all last
-cuts_well (call.GetRate h) ms all last = cut_first is_visit ms all last
-cuts_well (call.RoundRate h x) ms all last = cut_first is_visit ms all last
-cuts_well (call.SetRate h x) ms all last = cut_first is_visit ms all last
-cuts_well (call.SetRateExclusive h x) ms all last = cut_first is_visit ms all last
-cuts_well (call.SetRange h least most) ms all last = cut_first is_visit ms all last
-cuts_well (call.GetParent h) ms all last = cut_first is_visit ms all last
-cuts_well (call.ExclusiveGet h) ms all last = cut_first is_visit ms all last
-cuts_well (call.ExclusivePut h) ms all last = cut_first is_visit ms all last
-cuts_well (call.NotifierAdd h id priority policy) ms all last = cut_first is_visit ms all last
-cuts_well (call.NotifierRemove h id) ms all last = cut_first is_visit ms all last
+cuts_well call.Sweep ms all last =
+    let behind = cut_after is_close ms all last in
+    let lets = cut_lets (behind_first is_close ms) behind.script behind.last in
+    record { script = lets.script; last = lets.last }
+cuts_well (call.Get found) ms all last = cut_visit ms all last
+cuts_well (call.Put h) ms all last = cut_visit ms all last
+cuts_well (call.Unprepare h) ms all last = cut_visit ms all last
+cuts_well (call.GetRate h) ms all last = cut_visit ms all last
+cuts_well (call.RoundRate h x) ms all last = cut_visit ms all last
+cuts_well (call.SetRate h x) ms all last = cut_visit ms all last
+cuts_well (call.SetRateExclusive h x) ms all last = cut_visit ms all last
+cuts_well (call.SetRange h least most) ms all last = cut_visit ms all last
+cuts_well (call.GetParent h) ms all last = cut_visit ms all last
+cuts_well (call.ExclusiveGet h) ms all last = cut_visit ms all last
+cuts_well (call.ExclusivePut h) ms all last = cut_visit ms all last
+cuts_well (call.NotifierAdd h id priority policy) ms all last = cut_visit ms all last
+cuts_well (call.NotifierRemove h id) ms all last = cut_visit ms all last
 
 pub end_calm : (m : Micro) → is_end m ≡ true → may_time_out m ≡ false
 end_calm micro.End e = refl

@@ -1,6 +1,6 @@
 -- Laws on the scripts of plans: what they make of a tree is the outcome; and how calls that plan begin.
 use Rattle.std.proofs.Common.{◌≡◌, ℕ, ◌^◌, Bool, true, false, not, ◌&&◌, cond, List, [], ◌∷◌, ◌++◌, Option, Some, None, refl, sym, ap, subst, ◌∙◌, arith, length, nat_lt, nat_eq, true≢false}
-use Rattle.std.specs.Prelude.{filter, flat_map, if◌then◌else◌, ◌==◌}
+use Rattle.std.specs.Prelude.{filter, flat_map, ◌==◌}
 use Rattle.std.specs.List.{AllByRecursion, list_all, list_any}
 use Rattle.std.specs.Option.{option_map_or}
 use Rattle.std.proofs.lemmas.Bool.{and_from}
@@ -23,7 +23,8 @@ use Rattle.clk_model.specs.Round.{Wiring, wiring, rate_in}
 use Rattle.clk_model.specs.Chain.{clock_id, moves, place_of, outcome}
 use Rattle.clk_model.specs.Walk.{walk}
 use Rattle.clk_model.specs.Notices.{is_veto}
-use Rattle.clk_model.specs.Script.{move, move_of, planned}
+use Rattle.clk_model.specs.Script.{unfeed, fed_step, runs_for, visit_of, move, move_of, planned}
+use Rattle.clk_base.specs.Flags.{runs_parent}
 use Rattle.clk_model.specs.Begin.{begun}
 use Rattle.clk_model.specs.Wired.{IsWired, IsOrder}
 use Rattle.clk_model.specs.Laws.Flight.{pre_notices, abort_notices}
@@ -75,15 +76,27 @@ place_fits defs c p fits m = by (mux_field (kind_of defs c)) refl where
   by (Some f) at = let below = (fits c).place f p at m in grind (arith, nat_tests)
 
 move_fits : (defs : Description) (clocks : List ClockRow) (prep : ℕ → Bool) (c p : ℕ) → writes_fit defs (micro.WriteMux (clock_id c) (place_of defs c p)) ≡ true → AllFit defs (move defs clocks prep c p)
-move_fits defs clocks prep c p fits = one (prep c) (link_in clocks c) where
-  one : (t : Bool) (l : Option ℕ) → AllFit defs (if t
-      then micro.Raise (clock_id p) ∷ micro.HoldPrepare (clock_id p) ∷ micro.HoldEnable (clock_id p) ∷ micro.HoldEnable (clock_id c)
-      ∷ micro.Relink (clock_id c) (clock_id p) ∷ micro.WriteMux (clock_id c) (place_of defs c p) ∷ micro.DropEnable (clock_id c)
-      ∷ option_map_or (λ o. micro.DropEnable (clock_id o) ∷ micro.DropPrepare (clock_id o) ∷ micro.Lower (clock_id o) ∷ []) l []
-      else micro.Relink (clock_id c) (clock_id p) ∷ micro.WriteMux (clock_id c) (place_of defs c p) ∷ [])
-  one true None = and_from (writes_fit defs (micro.WriteMux (clock_id c) (place_of defs c p))) true fits refl
-  one true (Some o) = and_from (writes_fit defs (micro.WriteMux (clock_id c) (place_of defs c p))) true fits refl
-  one false l = and_from (writes_fit defs (micro.WriteMux (clock_id c) (place_of defs c p))) true fits refl
+move_fits defs clocks prep c p fits = either (prep c) _ _ (own _ (lets (link_in clocks c))) (either (runs_parent defs c) _ _ (own _ (more (link_in clocks c))) (own _ refl)) where
+  own : (b : Bool) → b ≡ true → (writes_fit defs (micro.WriteMux (clock_id c) (place_of defs c p)) && b) ≡ true
+  own b e = and_from (writes_fit defs (micro.WriteMux (clock_id c) (place_of defs c p))) b fits e
+
+  lets : (l : Option ℕ) → AllFit defs (option_map_or unfeed l [])
+  lets None = refl
+  lets (Some o) = refl
+
+  more : (l : Option ℕ) → AllFit defs (option_map_or unfeed l [] ++ unfeed c)
+  more None = refl
+  more (Some o) = refl
+
+  either : (t : Bool) (xs ys : List Micro) → AllFit defs xs → AllFit defs ys → AllFit defs (cond t xs ys)
+  either true xs ys e f = e
+  either false xs ys e f = f
+
+visit_fits : (defs : Description) (clocks : List ClockRow) (ks : List ChainStep) (c : ℕ) → AllFit defs (visit_of defs clocks ks c)
+visit_fits defs clocks ks c = one (runs_for defs clocks ks c) where
+  one : (o : Option ℕ) → AllFit defs (fed_step o (micro.Visit (clock_id c)))
+  one None = refl
+  one (Some x) = refl
 
 parent_fits : (w : Wiring) (clocks : List ClockRow) (prep : ℕ → Bool) (k : ChainStep) (o : Option ℕ) → SettingsFit w.defs → HasParent w k → k.parent ≡ o → AllFit w.defs (option_map_or (move w.defs clocks prep k.clock) o [])
 parent_fits w clocks prep k None fits has at = refl
@@ -115,7 +128,7 @@ planned_fits s ks settles fits has settling =
     (either (list_any is_veto (pre_notices s ks)) (abort_notices s ks) moved (notices_fit s.defs (abort_notices s ks) (abort_are_notices s ks))
     (fit_append s.defs (flat_map (walked s.defs s.clocks (prepared s) ks) (walk s.order (wiring s) ks)) settles
     (fit_flat_map s.defs (walked s.defs s.clocks (prepared s) ks) (walk s.order (wiring s) ks)
-    (λ c. fit_append s.defs (move_of s.defs s.clocks (prepared s) ks c) (micro.Visit (clock_id c) ∷ []) (moves_fit (wiring s) s.clocks (prepared s) ks c fits has) refl)) settling))) refl where
+    (λ c. fit_append s.defs (move_of s.defs s.clocks (prepared s) ks c) (visit_of s.defs s.clocks ks c) (moves_fit (wiring s) s.clocks (prepared s) ks c fits has) (visit_fits s.defs s.clocks ks c))) settling))) refl where
       either : (t : Bool) (xs ys : List Micro) → AllFit s.defs xs → AllFit s.defs ys → AllFit s.defs (cond t xs ys)
       either true xs ys e f = e
       either false xs ys e f = f

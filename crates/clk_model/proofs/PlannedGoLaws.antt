@@ -1,5 +1,5 @@
 -- Laws on the scripts of plans: they go well.
-use Rattle.std.proofs.Common.{◌≡◌, ℕ, Bool, true, false, ◌&&◌, ◌||◌, cond, map, List, [], ◌∷◌, ◌++◌, None, refl, sym, ap, ◌∙◌, ◌⊎◌, inl, inr, nat_eq}
+use Rattle.std.proofs.Common.{◌≡◌, ℕ, Bool, true, false, ◌&&◌, ◌||◌, cond, map, List, [], ◌∷◌, ◌++◌, refl, sym, ap, ◌∙◌, ◌⊎◌, inl, inr, nat_eq}
 use Rattle.std.specs.Prelude.{◌==◌, filter, flat_map, slice_index, if◌then◌else◌}
 use Rattle.std.specs.List.{list_all, AllByRecursion}
 use Rattle.std.proofs.lemmas.Bool.{and_from}
@@ -33,8 +33,8 @@ leaves_scene (micro.Settle c) = true
 leaves_scene (micro.Close c) = true
 leaves_scene _ = false
 
-one_past : (defs : Description) (what : Sleeping) (timed : Bool) (a : Scene) (m : Micro) (ms : List Micro) → leaves_scene m ≡ true → IsSound defs a → GoesWell defs what timed None a ms
-    → GoesWell defs what timed None a (m ∷ ms)
+one_past : (defs : Description) (what : Sleeping) (timed : Bool) (a : Scene) (m : Micro) (ms : List Micro) → leaves_scene m ≡ true → IsSound defs a → GoesWell defs what timed [] a ms
+    → GoesWell defs what timed [] a (m ∷ ms)
 one_past defs what timed a (micro.Notify kind c id old new) ms leaves sound goes = makes (micro.Notify kind c id old new) refl sound tt (λ d prep. inl prep) (λ d was. uncovered was) goes
 one_past defs what timed a (micro.Lower x) ms leaves sound goes = makes (micro.Lower x) refl sound tt (λ d prep. inl prep) (λ d was. uncovered was) goes
 one_past defs what timed a (micro.Visit c) ms leaves sound goes = makes (micro.Visit c) refl sound tt (λ d prep. inl prep) (λ d was. uncovered was) goes
@@ -54,8 +54,8 @@ one_past defs what timed a (micro.Unpower c) ms leaves sound goes = absurd cc
 one_past defs what timed a micro.End ms leaves sound goes = absurd cc
 
 -- the rest of a script goes well behind steps that leave the scene
-pub goes_past : (defs : Description) (what : Sleeping) (timed : Bool) (a : Scene) (xs ms : List Micro) → list_all leaves_scene xs ≡ true → IsSound defs a → GoesWell defs what timed None a ms
-    → GoesWell defs what timed None a (xs ++ ms)
+pub goes_past : (defs : Description) (what : Sleeping) (timed : Bool) (a : Scene) (xs ms : List Micro) → list_all leaves_scene xs ≡ true → IsSound defs a → GoesWell defs what timed [] a ms
+    → GoesWell defs what timed [] a (xs ++ ms)
 goes_past defs what timed a [] ms leaves sound goes = goes
 goes_past defs what timed a (x ∷ xs) ms leaves sound goes =
     one_past defs what timed a x (xs ++ ms) (both_left (leaves_scene x) (list_all leaves_scene xs) leaves) sound

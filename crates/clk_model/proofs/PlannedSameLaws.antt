@@ -19,11 +19,11 @@ use Rattle.clk_model.specs.Tree.{path}
 use Rattle.clk_model.specs.Rate.{rate}
 use Rattle.clk_model.specs.Holders.{clocks_of, is_prepared, is_exclusive, critical_clocks, prepare_holders, is_held, protect_holders}
 use Rattle.clk_model.specs.Round.{Wiring, View, most_rate, rate_in}
-use Rattle.clk_model.specs.Chain.{clock_id, outcome}
+use Rattle.clk_model.specs.Chain.{outcome}
 use Rattle.clk_model.specs.Walk.{top_of, kids_after, below_within, walk, changing, rates_in}
 use Rattle.clk_model.specs.Notices.{Rates, is_veto, pre_list, abort_list}
 use Rattle.clk_model.specs.Views.{view, free_view, cut_at}
-use Rattle.clk_model.specs.Script.{Planned, move_of, planned}
+use Rattle.clk_model.specs.Script.{Planned, visit_of, move_of, planned}
 use Rattle.clk_model.specs.Begin.{change_of, change_along}
 use Rattle.clk_model.proofs.BareHandleLaws.{bare, values_same}
 use Rattle.clk_model.proofs.SameRateLaws.{tree_over}
@@ -115,7 +115,7 @@ abbrev planned_by : State → List ChainStep → List Micro → Rates → List �
 planned_by s ks settles rates clocks line holders = record {
   steps = pre_list rates s.notifiers clocks
       ++ (if list_any is_veto (pre_list rates s.notifiers clocks) then abort_list rates s.notifiers clocks
-      else flat_map (λ c. move_of s.defs s.clocks (is_held s.clocks holders) ks c ++ micro.Visit (clock_id c) ∷ []) line ++ settles)
+      else flat_map (λ c. move_of s.defs s.clocks (is_held s.clocks holders) ks c ++ visit_of s.defs s.clocks ks c) line ++ settles)
       ++ micro.End ∷ [];
   vetoed = list_any is_veto (pre_list rates s.notifiers clocks);
   changing = clocks;

@@ -14,7 +14,7 @@ use Rattle.clk_base.specs.declared.event.Turn.TheVariants as turn
 use Rattle.clk_model.specs.State.{State, Change}
 use Rattle.clk_model.specs.Chain.{clock_id}
 use Rattle.clk_model.specs.Notices.{Rates, notifiers_of, abort_list}
-use Rattle.clk_model.specs.Step.{todo, rest_of, taken, sets_parent, cut_short, aborts_of, on, timed_out, to_raise, most_polls, raise_one, poll, is_yes, stepped}
+use Rattle.clk_model.specs.Step.{missed_by, todo, rest_of, taken, sets_parent, cut_short, aborts_of, on, timed_out, to_raise, most_polls, raise_one, poll, is_yes, stepped}
 use Rattle.clk_model.specs.Machine.{comes_next, is_poll}
 use Rattle.clk_model.specs.Laws.EndCauses.{noes_after, is_last_no}
 use Rattle.clk_model.specs.Laws.Flight.{is_no_abort, is_no_post, IsFront, nothing, polling, polling_first, raise_again, lower_again, falling, telling}
@@ -148,6 +148,7 @@ polled s k noes y answer none some sum = by (is_yes answer) refl (nat_le k.polls
         extra = 0;
         front = map (λ z. micro.Fall (clock_id z)) k.raised ++ aborts_of s (record k { polls = 0 });
         left = cut_short k.call k.left;
+        missed = missed_by k.call k.left;
       } in
       record {
         after = late;
@@ -210,7 +211,7 @@ calm_step s k noes m answer gentle none going =
           (stays k.timed_out noes (event.Step m answer) noes_stay.1);
       counts = no_polls after.0 (noes_after noes (event.Step m answer)) (none_where raises is_poll after.0.front calm_polls (is.calm gentle none));
     } where
-      same_flag : (k' : Change) → ((k'.left ≡ k.left) × (k'.timed_out ≡ k.timed_out)) ⊎ ((raises m ≡ true) × (k'.left ≡ cut_short k.call k.left) × (k'.timed_out ≡ true)) → k'.timed_out ≡ k.timed_out
+      same_flag : (k' : Change) → ((k'.left ≡ k.left) × (k'.timed_out ≡ k.timed_out) × (k'.missed ≡ k.missed)) ⊎ ((raises m ≡ true) × (k'.left ≡ cut_short k.call k.left) × (k'.timed_out ≡ true)) → k'.timed_out ≡ k.timed_out
       same_flag k' (inl same) = same.1
       same_flag k' (inr late) = let no : true ≡ false = sym late.0 ∙ gentle in absurd cc
 

@@ -95,7 +95,7 @@ module _ (words : ℕ) (s : State) (new : Registers) (after : List (Option Handl
     ignore_unused = refl;
   }
 
-  power_masks : (y : ℕ) (up : Bool) → masked s.defs (powered t y up).regs ≡ masked s.defs (powered s y up).regs
+  pub power_masks : (y : ℕ) (up : Bool) → masked s.defs (powered t y up).regs ≡ masked s.defs (powered s y up).regs
   power_masks y up = by (power_of (kind_of s.defs y)) where
     by : (o : Option PowerBit) → masked s.defs (option_map_or (λ p. put_bit new p.word p.bit up) o new) ≡ masked s.defs (option_map_or (λ p. put_bit s.regs p.word p.bit up) o s.regs)
     by None = look.masks

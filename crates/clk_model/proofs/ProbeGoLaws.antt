@@ -8,7 +8,7 @@ use Rattle.clk_base.specs.declared.call.Micro.TheVariants as micro
 use Rattle.clk_base.specs.declared.call.Sleeping.TheVariants as call
 use Rattle.clk_base.specs.declared.clock.ClockId.{ClockId}
 use Rattle.clk_base.specs.Description.{Description, kind_of, parents_of}
-use Rattle.clk_base.specs.Flags.{is_critical, ignores_unused}
+use Rattle.clk_base.specs.Flags.{runs_parent, is_critical, ignores_unused}
 use Rattle.clk_base.specs.Valid.{IsValid}
 use Rattle.clk_base.proofs.Valid.{lines_end}
 use Rattle.clk_model.specs.Lists.{is_in, none_twice}
@@ -17,9 +17,12 @@ use Rattle.clk_model.specs.State.{State, registered, link_in}
 use Rattle.clk_model.specs.Tree.{path_to_be, link_given, is_orphan, orphans}
 use Rattle.clk_model.specs.Holders.{is_prepared, active, prepared}
 use Rattle.clk_model.specs.Chain.{clock_id}
-use Rattle.clk_model.specs.Script.{adoptable, adoption, adoption_order, probe_script, sweep_order, lets_through, runs, sweep_script}
+use Rattle.clk_model.specs.Script.{unfeed, fed_step, close_of, adoptable, adoption, adoption_order, probe_script, sweep_order, lets_through, runs, sweep_script}
 use Rattle.clk_model.specs.Begin.{register}
-use Rattle.clk_model.specs.Step.{is_end}
+use Rattle.clk_model.specs.Step.{behind_lets, is_end}
+use Rattle.clk_model.proofs.FeedLaws.{close_left}
+use Rattle.clk_model.proofs.BlockLaws.{fed_goes}
+use Rattle.clk_base.proofs.Valid.{lines_end}
 use Rattle.clk_model.specs.Laws.LinksKept.{KeepsLinks}
 use Rattle.clk_model.proofs.Members.{is_in_head, is_in_tail, both_right}
 use Rattle.clk_model.proofs.OnceLaws.{once_filter, is_in-filter, filter_passes}
@@ -33,7 +36,6 @@ use Rattle.clk_model.proofs.Scenes.{Scene, scene, holding, prepared_in, given_in
 use Rattle.clk_model.proofs.ArriveLaws.{IsFit, to_be_told}
 use Rattle.clk_model.proofs.SceneStepLaws.{register_scene, parent_lt}
 use Rattle.clk_model.proofs.WalkGoLaws.{from_first_past}
-use Rattle.clk_model.proofs.PlannedGoLaws.{goes_past, leaves_map}
 use Rattle.clk_model.proofs.PlanGoLaws.{free_scene}
 use Rattle.clk_model.proofs.RegisterGoLaws.{CanRegister, given_is, register_sound, register_prepares, register_keeps}
 use Rattle.clk_model.proofs.AdoptGoLaws.{adopts, ToAdopt, adoptions_no_end, adopted_goes, ordered_in, ordered_once, ordered_next}
@@ -131,7 +133,7 @@ to_adopt r sound keeps prepares enables =
 -- ---- the script of a registration
 
 -- it goes well
-pub probe_goes : (s : State) (c : ClockId) → Resting s → registered s.clocks c.0 ≡ false → GoesWell s.defs (call.Probe c) false None (scene None s) (probe_script (register s c.0) c.0)
+pub probe_goes : (s : State) (c : ClockId) → Resting s → registered s.clocks c.0 ≡ false → GoesWell s.defs (call.Probe c) false [] (scene None s) (probe_script (register s c.0) c.0)
 unfolding probe_script
 probe_goes s c rest free = by_critical (is_critical (register s c.0).defs c.0) (ap (λ (d : Description). is_critical d c.0) same_defs) where
   r : State
@@ -159,15 +161,15 @@ probe_goes s c rest free = by_critical (is_critical (register s c.0).defs c.0) (
   fits_r = settings_fit (length s.regs) r.defs (subst (λ (d : Description). IsValid (length s.regs) d) (sym same_defs) rest.fit.wired.valid)
 
   -- the adoptions behind it
-  rest_goes : (timed : Bool) → GoesWell s.defs (call.Probe c) timed None b (adoptions ++ micro.End ∷ [])
+  rest_goes : (timed : Bool) → GoesWell s.defs (call.Probe c) timed [] b (adoptions ++ micro.End ∷ [])
   rest_goes timed =
       let prepares = (register_holds s c.0).0 ∙ rest.prepares in
       let enables = (register_holds s c.0).1 ∙ rest.enables in
       let goes =
       adopted_goes r c (adoption_order (length (adoptable r)) r (adoptable r)) timed (scene None r) keeps_r.ends fits_r (to_adopt r sound_r keeps_r prepares enables) in
-      subst (λ (x : Scene). GoesWell s.defs (call.Probe c) timed None x (adoptions ++ micro.End ∷ [])) (register_scene s c None rest.fit.wired.rows)
-      (subst (λ (d : Description). GoesWell d (call.Probe c) timed None (scene None r) (adoptions ++ micro.End ∷ [])) same_defs
-      (subst (λ (x : Scene). GoesWell r.defs (call.Probe c) timed None x (adoptions ++ micro.End ∷ [])) (sym (free_scene r prepares enables)) goes))
+      subst (λ (x : Scene). GoesWell s.defs (call.Probe c) timed [] x (adoptions ++ micro.End ∷ [])) (register_scene s c None rest.fit.wired.rows)
+      (subst (λ (d : Description). GoesWell d (call.Probe c) timed [] (scene None r) (adoptions ++ micro.End ∷ [])) same_defs
+      (subst (λ (x : Scene). GoesWell r.defs (call.Probe c) timed [] x (adoptions ++ micro.End ∷ [])) (sym (free_scene r prepares enables)) goes))
 
   grows : (x : ℕ) → prepared_in s.defs b x ≡ true → (prepared_in s.defs a x ≡ true) ⊎ ((is_critical s.defs c.0 ≡ true) × (is_in x (to_be a c.0) ≡ true))
   grows x prep =
@@ -185,38 +187,82 @@ probe_goes s c rest free = by_critical (is_critical (register s c.0).defs c.0) (
         | inr new ↦ inr new
       ]))
 
-  only_end : (timed : Bool) → GoesWell s.defs (call.Probe c) timed None a (micro.End ∷ [])
+  only_end : (timed : Bool) → GoesWell s.defs (call.Probe c) timed [] a (micro.End ∷ [])
   only_end timed = ends rest.fit.sound (record { prepares = rest.prepares; enables = rest.enables; late = refl }) tt (λ h e. absurd cc)
 
   by_critical : (t : Bool) → t ≡ is_critical s.defs c.0
-      → GoesWell s.defs (call.Probe c) false None a ((((if t then micro.Raise (clock_id c.0) ∷ [] else []) ++ micro.Register (clock_id c.0) ∷ []) ++ adoptions) ++ micro.End ∷ [])
+      → GoesWell s.defs (call.Probe c) false [] a ((((if t then micro.Raise (clock_id c.0) ∷ [] else []) ++ micro.Register (clock_id c.0) ∷ []) ++ adoptions) ++ micro.End ∷ [])
   by_critical true is =
       raises (clock_id c.0) rest.fit.sound
-      (makes {cover = Some c.0} (micro.Register (clock_id c.0)) refl rest.fit.sound refl (λ x prep. elim (grows x prep) [ inl was ↦ inl was | inr new ↦ inr new.1 ]) (λ x was. inl (stays x (elim was [ inl prep ↦ inl prep | inr covered ↦ inr (sym is, covered) ]))) (rest_goes false))
-      (subst (λ (ms : List Micro). GoesWell s.defs (call.Probe c) true None a ms)
+      (makes {cover = c.0 ∷ []} (micro.Register (clock_id c.0)) refl rest.fit.sound (refl, refl) (λ x prep. elim (grows x prep) [ inl was ↦ inl was | inr new ↦ inr new.1 ]) (λ x was. inl (stays x (elim was [ inl prep ↦ inl prep | inr covered ↦ inr (sym is, covered) ]))) (rest_goes false))
+      (subst (λ (ms : List Micro). GoesWell s.defs (call.Probe c) true [] a ms)
       (sym (from_first_past is_end adoptions (micro.End ∷ []) (adoptions_no_end r (adoption_order (length (adoptable r)) r (adoptable r))))) (only_end true))
   by_critical false is =
-      makes {cover = None} (micro.Register (clock_id c.0)) refl rest.fit.sound tt
+      makes {cover = []} (micro.Register (clock_id c.0)) refl rest.fit.sound tt
       (λ x prep. elim (grows x prep) [ inl was ↦ inl was | inr new ↦ absurd (let no : false ≡ true = is ∙ new.0 in cc) ]) (λ x was. inl (stays x (uncovered was))) (rest_goes false)
 
 -- ---- the sweep
 
-unpowers_go : (s : State) (cs : List ℕ) → Resting s → ((c : ℕ) → is_in c cs ≡ true → prepared s c ≡ false)
-    → GoesWell s.defs call.Sweep false None (scene None s) (map (λ c. micro.Unpower (clock_id c)) cs ++ micro.End ∷ [])
-unpowers_go s [] rest idle = ends rest.fit.sound (record { prepares = rest.prepares; enables = rest.enables; late = refl }) tt (λ h e. absurd cc)
-unpowers_go s (c ∷ cs) rest idle =
-    makes (micro.Unpower (clock_id c)) refl rest.fit.sound (idle c (is_in_head c cs)) (λ d prep. inl prep) (λ d was. uncovered was) (unpowers_go s cs rest (λ d m. idle d (is_in_tail d c cs m)))
+unpowers_go : (s : State) (timed : Bool) (cs : List ℕ) → Resting s → ((c : ℕ) → is_in c cs ≡ true → prepared s c ≡ false)
+    → GoesWell s.defs call.Sweep timed [] (scene None s) (map (λ c. micro.Unpower (clock_id c)) cs ++ micro.End ∷ [])
+unpowers_go s timed [] rest idle = ends rest.fit.sound (record { prepares = rest.prepares; enables = rest.enables; late = refl }) tt (λ h e. absurd cc)
+unpowers_go s timed (c ∷ cs) rest idle =
+    makes (micro.Unpower (clock_id c)) refl rest.fit.sound (idle c (is_in_head c cs)) (λ d prep. inl prep) (λ d was. uncovered was) (unpowers_go s timed cs rest (λ d m. idle d (is_in_tail d c cs m)))
+
+-- what is left of a sweep doesn't begin with a step that lets go
+unpowers_stay : (cs : List ℕ) → behind_lets (map (λ c. micro.Unpower (clock_id c)) cs ++ micro.End ∷ []) ≡ map (λ c. micro.Unpower (clock_id c)) cs ++ micro.End ∷ []
+unpowers_stay [] = refl
+unpowers_stay (c ∷ cs) = refl
+
+closes_stay : (s : State) (cs : List ℕ) (ms : List Micro) → behind_lets ms ≡ ms → behind_lets (flat_map (close_of s.defs s.clocks) cs ++ ms) ≡ flat_map (close_of s.defs s.clocks) cs ++ ms
+closes_stay s [] ms stays = stays
+closes_stay s (c ∷ cs) ms stays = one (if runs_parent s.defs c then link_in s.clocks c else None) where
+  one : (o : Option ℕ) → behind_lets ((fed_step o (micro.Close (clock_id c)) ++ flat_map (close_of s.defs s.clocks) cs) ++ ms) ≡ (fed_step o (micro.Close (clock_id c)) ++ flat_map (close_of s.defs s.clocks) cs) ++ ms
+  one None = refl
+  one (Some o) = refl
+
+-- the gates are closed well, whichever a timeout leaves open
+closes_go : (s : State) (timed : Bool) (cs : List ℕ) (ms : List Micro) → Resting s → behind_lets ms ≡ ms → ((timed' : Bool) → GoesWell s.defs call.Sweep timed' [] (holding (scene None s) [] [] None) ms)
+    → GoesWell s.defs call.Sweep timed [] (holding (scene None s) [] [] None) (flat_map (close_of s.defs s.clocks) cs ++ ms)
+closes_go s timed [] ms rest stays goes = goes timed
+closes_go s timed (c ∷ cs) ms rest stays goes =
+    subst (λ (ns : List Micro). GoesWell s.defs call.Sweep timed [] a ns) (sym (append_assoc (close_of s.defs s.clocks c) (flat_map (close_of s.defs s.clocks) cs) ms))
+    (by_link (if runs_parent s.defs c then link_in s.clocks c else None) (λ o at. linked_there (runs_parent s.defs c) o at) (λ timed'. closes_go s timed' cs ms rest stays goes)) where
+      a : Scene
+      a = holding (scene None s) [] [] None
+
+      left : List Micro
+      left = flat_map (close_of s.defs s.clocks) cs ++ ms
+
+      sound : IsSound s.defs a
+      sound = subst (λ (b : Scene). IsSound s.defs b) (free_scene s rest.prepares rest.enables) rest.fit.sound
+
+      linked_there : (t : Bool) (o : ℕ) → (if t then link_in s.clocks c else None) ≡ Some o → registered s.clocks o ≡ true
+      linked_there true o at = (sound.tree.linked c o at).1
+      linked_there false o at = absurd cc
+
+      by_link : (o : Option ℕ) → ((p : ℕ) → o ≡ Some p → registered s.clocks p ≡ true) → ((timed' : Bool) → GoesWell s.defs call.Sweep timed' [] a left) → GoesWell s.defs call.Sweep timed [] a (fed_step o (micro.Close (clock_id c)) ++ left)
+      by_link None there more = makes (micro.Close (clock_id c)) refl sound tt (λ d prep. inl prep) (λ d was. uncovered was) (more timed)
+      by_link (Some p) there more =
+          fed_goes s.defs call.Sweep timed (scene None s) p (micro.Close (clock_id c)) left (lines_end (length s.regs) s.defs rest.fit.wired.valid) sound (there p refl)
+          (λ b ns sound' goes'. makes (micro.Close (clock_id c)) refl sound' tt (λ d prep. inl prep) (λ d was. uncovered was) goes')
+          (subst (λ (ns : List Micro). GoesWell s.defs call.Sweep true [] a ns)
+          (sym (close_left (micro.HoldPrepare (clock_id p) ∷ micro.HoldEnable (clock_id p) ∷ []) (unfeed p) left c refl refl (closes_stay s cs ms stays))) (more true))
+          (more timed)
 
 -- it goes well
-pub sweep_goes : (s : State) → Resting s → GoesWell s.defs call.Sweep false None (scene None s) (sweep_script s)
+pub sweep_goes : (s : State) → Resting s → GoesWell s.defs call.Sweep false [] (scene None s) (sweep_script s)
 unfolding sweep_script
 sweep_goes s rest =
     let closes : List ℕ = filter (λ c. not (ignores_unused s.defs c) && lets_through s.defs s.regs c && not (active s c)) (sweep_order s) in
     let unpowers : List ℕ = filter (λ c. not (ignores_unused s.defs c) && runs s.defs s.regs c && not (prepared s c)) (sweep_order s) in
-    subst (λ (ms : List Micro). GoesWell s.defs call.Sweep false None (scene None s) ms)
-    (sym (append_assoc (map (λ c. micro.Close (clock_id c)) closes) (map (λ c. micro.Unpower (clock_id c)) unpowers) (micro.End ∷ [])))
-    (goes_past s.defs call.Sweep false (scene None s) (map (λ c. micro.Close (clock_id c)) closes) (map (λ c. micro.Unpower (clock_id c)) unpowers ++ micro.End ∷ []) (leaves_map (λ c. micro.Close (clock_id c)) closes (λ c. refl)) rest.fit.sound
-    (unpowers_go s unpowers rest
+    let free = free_scene s rest.prepares rest.enables in
+    subst (λ (a : Scene). GoesWell s.defs call.Sweep false [] a (sweep_script s)) (sym free)
+    (subst (λ (ms : List Micro). GoesWell s.defs call.Sweep false [] (holding (scene None s) [] [] None) ms)
+    (sym (append_assoc (flat_map (close_of s.defs s.clocks) closes) (map (λ c. micro.Unpower (clock_id c)) unpowers) (micro.End ∷ [])))
+    (closes_go s false closes (map (λ c. micro.Unpower (clock_id c)) unpowers ++ micro.End ∷ []) rest (unpowers_stay unpowers)
+    (λ timed. subst (λ (a : Scene). GoesWell s.defs call.Sweep timed [] a (map (λ c. micro.Unpower (clock_id c)) unpowers ++ micro.End ∷ [])) free
+    (unpowers_go s timed unpowers rest
     (λ c m.
     turned_off (prepared s c)
-    (both_right (not (ignores_unused s.defs c) && runs s.defs s.regs c) (not (prepared s c)) (filter_passes (λ d. not (ignores_unused s.defs d) && runs s.defs s.regs d && not (prepared s d)) c (sweep_order s) m)))))
+    (both_right (not (ignores_unused s.defs c) && runs s.defs s.regs c) (not (prepared s c)) (filter_passes (λ d. not (ignores_unused s.defs d) && runs s.defs s.regs d && not (prepared s d)) c (sweep_order s) m)))))))

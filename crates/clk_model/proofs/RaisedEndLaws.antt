@@ -18,7 +18,7 @@ use Rattle.reg_bank.specs.Registers.{Registers}
 use Rattle.clk_model.specs.declared.row.HandleRow.{HandleRow}
 use Rattle.clk_model.specs.Lists.{is_in}
 use Rattle.clk_model.specs.State.{State, Change, registered, handle_at, requested}
-use Rattle.clk_model.specs.Tree.{path, link_given}
+use Rattle.clk_model.specs.Tree.{path, path_to_be, link_given}
 use Rattle.clk_model.specs.Holders.{is_prepared, critical_clocks, is_held, prepared}
 use Rattle.clk_model.specs.Gates.{settled}
 use Rattle.clk_model.specs.Round.{wiring}
@@ -34,7 +34,7 @@ use Rattle.clk_model.proofs.SupplyLaws.{prepared_parts}
 use Rattle.clk_model.proofs.PowerLaws.{runs_same}
 use Rattle.clk_model.proofs.FlightLaws.{IsStep}
 use Rattle.clk_model.proofs.VetoLaws.{ends_it, end_state}
-use Rattle.clk_model.proofs.Scenes.{scene, is_plain, EndsPrepare, EndsRaise, GoesWell, raised, asks, asks_first, comes_again, is_calm, Stands, calm, raising, InCall}
+use Rattle.clk_model.proofs.Scenes.{scene, is_plain, EndsPrepare, EndsRaise, GoesWell, is_over, covered, asks, asks_first, comes_again, is_calm, Stands, calm, raising, InCall}
 use Rattle.clk_model.proofs.ArriveLaws.{wired_before, prepared_told}
 use Rattle.clk_model.proofs.FlightSafeLaws.{FirstGoes, first_raises, first_makes, first_ends, first_goes, front_step, script_step}
 use Rattle.clk_model.proofs.RestLaws.{Alike, alike_far, alike_put, alike_requested}
@@ -159,35 +159,44 @@ end_accounts s t d m answer r k y step in_call wired calm_ was runs_ = by_case w
         let here = front_step k m (micro.Fall (clock_id z)) (map (λ v. micro.Fall (clock_id v)) ys ++ ms) at step.first in
         let no : micro.End ≡ micro.Fall (clock_id z) = sym end_ ∙ here.0 in
         absurd cc
-  by_raised n (raising x well (asks z front all) goes cut) =
+  by_raised n (raising done x well all (asks z front none) goes cut) =
       let here = front_step k m (micro.Poll z) [] front step.first in
       let no : micro.End ≡ micro.Poll z = sym end_ ∙ here.0 in absurd cc
-  by_raised n (raising x well (asks_first z front) goes cut) =
+  by_raised n (raising done x well all (asks_first z front) goes cut) =
       let here = front_step k m (micro.Poll z) (micro.Raise (clock_id x) ∷ []) front step.first in
       let no : micro.End ≡ micro.Poll z = sym end_ ∙ here.0 in absurd cc
-  by_raised n (raising x well (comes_again front) goes cut) =
+  by_raised n (raising done x well all (comes_again front) goes cut) =
       let here = front_step k m (micro.Raise (clock_id x)) [] front step.first in
       let no : micro.End ≡ micro.Raise (clock_id x) = sym end_ ∙ here.0 in absurd cc
-  by_raised n (raising x well (raised empty all) goes cut) = by_first (first_goes s.defs k.call m (taken k).left goes (script_step k m empty step.first).0) where
-    by_row : (h : Handle) → k.call ≡ call.Prepare h → k.timed_out ≡ false → registered s.clocks x ≡ true → (o : Option HandleRow) → handle_at s.handles h.number ≡ o → option_map (λ q. q.clock.0) o ≡ Some x
+  by_raised n (covered [] empty well all goes) = let no : false ≡ true = well.within y n in absurd cc
+  by_raised n (covered (x ∷ xs) empty well all goes) = by_first (first_goes s.defs k.call m (taken k).left goes (script_step k m empty step.first).0) where
+    first_of : List ℕ → ℕ
+    first_of [] = 0
+    first_of (z ∷ zs) = z
+
+    alone_ : (p : Bool) → (p || false) ≡ true → p ≡ true
+    alone_ true e = refl
+    alone_ false e = e
+
+    by_row : (h : Handle) → k.call ≡ call.Prepare h → k.timed_out ≡ false → registered s.clocks x ≡ true → is_in y (path_to_be s.defs s.regs s.clocks x) ≡ true → (o : Option HandleRow) → handle_at s.handles h.number ≡ o → option_map (λ q. q.clock.0) o ≡ Some x
         → prepared t y ≡ true
-    by_row h is on_time there None at e = absurd cc
-    by_row h is on_time there (Some row) at e =
+    by_row h is on_time there on_path None at e = absurd cc
+    by_row h is on_time there on_path (Some row) at e =
         let same : row.clock.0 ≡ x = cc in
         told (end_prepares s (taken k) h row y (calm_ h is) on_time is at
         (ap (λ (v : ℕ). is_in y (path s.clocks v)) same
-        ∙ sym (ap (λ (b : Bool). is_in y (if b then path s.clocks x else x ∷ option_map_or (path s.clocks) (link_given s.defs s.regs s.clocks x) [])) there) ∙ well.within y n))
+        ∙ sym (ap (λ (b : Bool). is_in y (if b then path s.clocks x else x ∷ option_map_or (path s.clocks) (link_given s.defs s.regs s.clocks x) [])) there) ∙ on_path))
 
-    by_end : EndsRaise k.call k.timed_out (Some x) → EndsPrepare k.call k.timed_out (Some x) (scene in_call.late s) → prepared t y ≡ true
+    by_end : EndsRaise k.call k.timed_out (x ∷ xs) → EndsPrepare k.call k.timed_out (x ∷ xs) (scene in_call.late s) → prepared t y ≡ true
     by_end alone prep = by_cause (prep alone.1.0 alone.1.1) where
-      by_cause : (k.timed_out ≡ true) ⊎ ((z : ℕ) × (Some x ≡ Some z) × (registered s.clocks z ≡ true) × (option_map (λ q. q.clock.0) (handle_at s.handles alone.1.0.number) ≡ Some z)) → prepared t y ≡ true
+      by_cause : (k.timed_out ≡ true) ⊎ ((z : ℕ) × (x ∷ xs ≡ z ∷ []) × (registered s.clocks z ≡ true) × (option_map (λ q. q.clock.0) (handle_at s.handles alone.1.0.number) ≡ Some z)) → prepared t y ≡ true
       by_cause (inl timed) = let no : true ≡ false = sym timed ∙ alone.0 in absurd cc
       by_cause (inr found) =
-          let same : x ≡ found.0 = cc in
-          by_row alone.1.0 alone.1.1 alone.0 (ap (registered s.clocks) same ∙ found.2) (handle_at s.handles alone.1.0.number) refl (found.3 ∙ ap (λ (v : ℕ). Some v) (sym same))
+          let same : x ≡ found.0 = ap first_of found.1 in
+          by_row alone.1.0 alone.1.1 alone.0 (ap (registered s.clocks) same ∙ found.2) (alone_ (is_in y (path_to_be s.defs s.regs s.clocks x)) (ap (λ (zs : List ℕ). is_over s zs y) (ap (λ (z : ℕ). z ∷ []) same ∙ sym found.1) ∙ well.within y n)) (handle_at s.handles alone.1.0.number) refl (found.3 ∙ ap (λ (v : ℕ). Some v) (sym same))
 
-    by_first : FirstGoes s.defs k.call k.timed_out (Some x) (scene in_call.late s) m (taken k).left → prepared t y ≡ true
-    by_first (first_raises z is open_ goes' cut') = let no : micro.End ≡ micro.Raise z = sym end_ ∙ is in absurd cc
+    by_first : FirstGoes s.defs k.call k.timed_out (x ∷ xs) (scene in_call.late s) m (taken k).left → prepared t y ≡ true
+    by_first (first_raises z is goes' cut') = let no : micro.End ≡ micro.Raise z = sym end_ ∙ is in absurd cc
     by_first (first_makes plain serves grows stays goes') = let no : false ≡ true = ap is_plain (sym end_) ∙ plain in absurd cc
     by_first (first_ends is free alone prep) = by_end alone prep
 
@@ -204,29 +213,29 @@ poll_in_front s k z in_call first = by_stand in_call.stands where
   Front : Type 0
   Front = (rest : List Micro) × (k.front ≡ micro.Poll z ∷ rest)
 
-  by_first : (cover : Option ℕ) → FirstGoes s.defs k.call k.timed_out cover (scene in_call.late s) (micro.Poll z) (taken k).left → Front
-  by_first cover (first_raises x is open_ goes cut) = absurd cc
+  by_first : (cover : List ℕ) → FirstGoes s.defs k.call k.timed_out cover (scene in_call.late s) (micro.Poll z) (taken k).left → Front
+  by_first cover (first_raises x is goes cut) = absurd cc
   by_first cover (first_makes plain serves grows stays goes) = absurd cc
   by_first cover (first_ends is free alone prep) = absurd cc
 
-  by_calm : (ys : List ℕ) (rest : List Micro) → k.front ≡ map (λ y. micro.Fall (clock_id y)) ys ++ rest → list_all is_calm rest ≡ true → GoesWell s.defs k.call k.timed_out None (scene in_call.late s) k.left → Front
+  by_calm : (ys : List ℕ) (rest : List Micro) → k.front ≡ map (λ y. micro.Fall (clock_id y)) ys ++ rest → list_all is_calm rest ≡ true → GoesWell s.defs k.call k.timed_out [] (scene in_call.late s) k.left → Front
   by_calm (y ∷ ys) rest front still goes =
       let here = front_step k (micro.Poll z) (micro.Fall (clock_id y)) (map (λ v. micro.Fall (clock_id v)) ys ++ rest) front first in
       let no : micro.Poll z ≡ micro.Fall (clock_id y) = here.0 in absurd cc
   by_calm [] (r ∷ rest) front still goes =
       let here = front_step k (micro.Poll z) r rest front first in
       let no : false ≡ true = ap is_calm here.0 ∙ (both_left (is_calm r) (list_all is_calm rest) still) in absurd cc
-  by_calm [] [] front still goes = by_first None (first_goes s.defs k.call (micro.Poll z) (taken k).left goes (script_step k (micro.Poll z) front first).0)
+  by_calm [] [] front still goes = by_first [] (first_goes s.defs k.call (micro.Poll z) (taken k).left goes (script_step k (micro.Poll z) front first).0)
 
   by_stand : Stands s k in_call.late → Front
   by_stand (calm rest front still idle goes) = by_calm k.raised rest front still goes
-  by_stand (raising x well (raised empty all) goes cut) = by_first (Some x) (first_goes s.defs k.call (micro.Poll z) (taken k).left goes (script_step k (micro.Poll z) empty first).0)
-  by_stand (raising x well (asks y front all) goes cut) =
+  by_stand (covered xs empty well all goes) = by_first xs (first_goes s.defs k.call (micro.Poll z) (taken k).left goes (script_step k (micro.Poll z) empty first).0)
+  by_stand (raising done x well all (asks y front none) goes cut) =
       let here = front_step k (micro.Poll z) (micro.Poll y) [] front first in
       ([], front ∙ ap (λ (n : Micro). n ∷ []) (sym here.0))
-  by_stand (raising x well (asks_first y front) goes cut) =
+  by_stand (raising done x well all (asks_first y front) goes cut) =
       let here = front_step k (micro.Poll z) (micro.Poll y) (micro.Raise (clock_id x) ∷ []) front first in
       (micro.Raise (clock_id x) ∷ [], front ∙ ap (λ (n : Micro). n ∷ micro.Raise (clock_id x) ∷ []) (sym here.0))
-  by_stand (raising x well (comes_again front) goes cut) =
+  by_stand (raising done x well all (comes_again front) goes cut) =
       let here = front_step k (micro.Poll z) (micro.Raise (clock_id x)) [] front first in
       let no : micro.Poll z ≡ micro.Raise (clock_id x) = here.0 in absurd cc

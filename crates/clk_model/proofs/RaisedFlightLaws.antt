@@ -40,7 +40,7 @@ use Rattle.clk_model.proofs.Members.{or_cases, same_from_test}
 use Rattle.clk_model.proofs.PowerLaws.{runs_same}
 use Rattle.clk_model.proofs.TierLaws.{beside_change}
 use Rattle.clk_model.proofs.StepLaws.{raises}
-use Rattle.clk_model.proofs.BeginLaws.{plans, HasScript, raised_alone, lowered_alone, by_rate, by_parent, by_registration, by_sweep, IsBegun, sweep_has_no, begun_going}
+use Rattle.clk_model.proofs.BeginLaws.{plans, HasScript, raised_alone, lowered_alone, by_rate, by_parent, by_registration, by_sweep, IsBegun, feeding_is_no_veto, sweep_has_no, begun_going}
 use Rattle.clk_model.proofs.FlightLaws.{IsStep, begin_is, course_of}
 use Rattle.clk_model.proofs.VetoLaws.{of_change}
 use Rattle.clk_model.proofs.InFlightLaws.{end_quiet}
@@ -187,7 +187,7 @@ prepare_unvetoed q n k h is (lowered_alone x left) = ap (list_any is_veto) left
 prepare_unvetoed q n k h is (by_rate plans_ left order same) = let no : false ≡ true = ap plans (sym is) ∙ plans_ in absurd cc
 prepare_unvetoed q n k h is (by_parent plans_ c left order same) = let no : false ≡ true = ap plans (sym is) ∙ plans_ in absurd cc
 prepare_unvetoed q n k h is (by_registration c call_ left) = let no : call.Prepare h ≡ call.Probe c = sym is ∙ call_ in absurd cc
-prepare_unvetoed q n k h is (by_sweep left) = ap (list_any is_veto) left ∙ sweep_has_no is_veto q (λ c. refl) (λ c. refl) refl
+prepare_unvetoed q n k h is (by_sweep left) = ap (list_any is_veto) left ∙ sweep_has_no is_veto q feeding_is_no_veto (λ c. refl) (λ c. refl) refl
 
 script_unvetoed : (q : State) (d : ℕ) (h : Handle) {s : State} {made : List Micro} → Flight q d (call.Prepare h) s made → list_any is_veto (script q d (call.Prepare h)) ≡ false
 script_unvetoed q d h {s = s} (begins step) =

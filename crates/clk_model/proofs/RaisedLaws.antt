@@ -29,7 +29,7 @@ use Rattle.clk_model.proofs.WholePathLaws.{same_or_not}
 use Rattle.clk_model.proofs.PowerLaws.{running_before, stopped}
 use Rattle.clk_model.proofs.KeepLaws.{power_leaves_power, mux_written}
 use Rattle.clk_model.proofs.FieldLaws.{written_power, set_power, closed_power}
-use Rattle.clk_model.proofs.Scenes.{scene, prepared_in, after, is_plain, Serves, LowersNext, Stays, IsCovered}
+use Rattle.clk_model.proofs.Scenes.{scene, prepared_in, after, is_plain, Serves, LowersNext, Stays, uncovers, OrCovered, IsCovered}
 use Rattle.clk_model.proofs.SceneStepLaws.{Lands, fits_of, step_lands}
 use Rattle.clk_model.proofs.ArriveLaws.{prepared_told, power_is_pll}
 
@@ -185,7 +185,7 @@ fall_accounts s k z y valid (inr (inr e)) =
 -- ---- plain steps
 
 -- a plain step but a lower leaves a PLL running only where it ran
-plain_running : (s : State) (k : Change) (answer : Option Bool) (m : Micro) (cover late : Option ℕ) (y : ℕ) → IsValid (length s.regs) s.defs → is_plain m ≡ true → Serves s.defs cover (scene late s) m
+pub plain_running : (s : State) (k : Change) (answer : Option Bool) (m : Micro) (cover : List ℕ) (late : Option ℕ) (y : ℕ) → IsValid (length s.regs) s.defs → is_plain m ≡ true → Serves s.defs cover (scene late s) m
     → ((x : ClockId) → m ≡ micro.Lower x → ⊥) → runs s.defs s.regs y ≡ false → runs (stepped s k answer m).0.defs (stepped s k answer m).0.regs y ≡ false
 unfolding stepped register
 plain_running s k answer (micro.WriteMux c place) cover late y valid plain serves other off =
@@ -215,11 +215,11 @@ drop_lowers s k answer (micro.DropPrepare o) late y empty low = one k.left refl 
 drop_lowers s k answer m late y empty low = absurd low
 
 -- a plain step but a lower, which comes from the script
-pub plain_accounts : (s : State) (k : Change) (answer : Option Bool) (m : Micro) (cover late : Option ℕ) (y : ℕ) → IsWired (length s.regs) (wiring s) → is_plain m ≡ true → k.front ≡ []
+pub plain_accounts : (s : State) (k : Change) (answer : Option Bool) (m : Micro) (cover : List ℕ) (late : Option ℕ) (y : ℕ) → IsWired (length s.regs) (wiring s) → is_plain m ≡ true → k.front ≡ [] → uncovers m cover ≡ []
     → Serves s.defs cover (scene late s) m → Stays s.defs cover (scene late s) m k.left → ((x : ClockId) → m ≡ micro.Lower x → ⊥)
     → (prepared s y ≡ true) ⊎ IsCovered cover (scene late s) y ⊎ (runs s.defs s.regs y ≡ false) → (j : Change) → (stepped s k answer m).0.change ≡ Some j
     → Accounted (stepped s k answer m).0 j y
-plain_accounts s k answer m cover late y wired plain empty serves stays other was j at = by_case was where
+plain_accounts s k answer m cover late y wired plain empty none serves stays other was j at = by_case was where
   lands : Lands s (after s.defs (scene late s) m).late (stepped s k answer m).0 (after s.defs (scene late s) m)
   lands = step_lands s k answer m cover late wired plain serves
 
@@ -228,7 +228,11 @@ plain_accounts s k answer m cover late y wired plain empty serves stays other wa
       kept (prepared_told (after s.defs (scene late s) m).late (after s.defs (scene late s) m).late s (stepped s k answer m).0 (after s.defs (scene late s) m) y lands.defs lands.scene_is ∙ prep)
   by_stay (inr low) = subst (λ (o : Option Change). AccountedIn (stepped s k answer m).0 o y) at (drop_lowers s k answer m late y empty low)
 
+  alone : OrCovered (uncovers m cover) (after s.defs (scene late s) m) y ((prepared_in s.defs (after s.defs (scene late s) m) y ≡ true) ⊎ LowersNext (scene late s) m k.left y)
+      → (prepared_in s.defs (after s.defs (scene late s) m) y ≡ true) ⊎ LowersNext (scene late s) m k.left y
+  alone p = subst (λ (ys : List ℕ). OrCovered ys (after s.defs (scene late s) m) y ((prepared_in s.defs (after s.defs (scene late s) m) y ≡ true) ⊎ LowersNext (scene late s) m k.left y)) none p
+
   by_case : (prepared s y ≡ true) ⊎ IsCovered cover (scene late s) y ⊎ (runs s.defs s.regs y ≡ false) → Accounted (stepped s k answer m).0 j y
-  by_case (inl prep) = by_stay (stays y (inl prep))
-  by_case (inr (inl covered)) = by_stay (stays y (inr covered))
+  by_case (inl prep) = by_stay (alone (stays y (inl prep)))
+  by_case (inr (inl covered_)) = by_stay (alone (stays y (inr covered_)))
   by_case (inr (inr off)) = stopped_ (plain_running s k answer m cover late y wired.valid plain serves other off)

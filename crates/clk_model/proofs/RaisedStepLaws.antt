@@ -10,7 +10,7 @@ use Rattle.clk_base.specs.declared.event.Turn.TheVariants as turn
 use Rattle.clk_base.specs.Valid.{IsValid}
 use Rattle.clk_model.specs.Lists.{is_in}
 use Rattle.clk_model.specs.State.{State, Change}
-use Rattle.clk_model.specs.Tree.{path}
+use Rattle.clk_model.specs.Tree.{path, path_to_be}
 use Rattle.clk_model.specs.Holders.{prepared}
 use Rattle.clk_model.specs.Round.{wiring}
 use Rattle.clk_model.specs.Chain.{clock_id}
@@ -24,11 +24,13 @@ use Rattle.clk_model.proofs.MicroLaws.{comes_first}
 use Rattle.clk_model.proofs.Cases.{by_option, by_test}
 use Rattle.clk_model.proofs.StepLaws.{raises, IsAfter, step_after}
 use Rattle.clk_model.proofs.FlightLaws.{IsStep}
-use Rattle.clk_model.proofs.Scenes.{scene, is_plain, Serves, Stays, IsCovered, GoesWell, RaisedWell, RaisingFront, raised, asks, asks_first, comes_again, is_calm, Stands, calm, raising, InCall}
-use Rattle.clk_model.proofs.ArriveLaws.{to_be_told}
-use Rattle.clk_model.proofs.FlightSafeLaws.{FirstGoes, first_raises, first_makes, first_ends, first_goes, front_step, script_step}
+use Rattle.clk_model.proofs.Scenes.{scene, prepared_in, after, uncovers, is_over, covered, is_plain, Serves, Stays, IsCovered, GoesWell, RaisedWell, RaisingFront, asks, asks_first, comes_again, is_calm, Stands, calm, raising, InCall}
+use Rattle.clk_model.proofs.ArriveLaws.{to_be_told, prepared_told}
+use Rattle.clk_model.proofs.Members.{or_cases}
+use Rattle.clk_model.proofs.SceneStepLaws.{Lands, step_lands}
+use Rattle.clk_model.proofs.FlightSafeLaws.{HoldsOn, CoveredBehind, covered_behind, uncovers_none, raised_none, FirstGoes, first_raises, first_makes, first_ends, first_goes, front_step, script_step}
 use Rattle.clk_model.proofs.ScriptLaws.{none_aborts}
-use Rattle.clk_model.proofs.RaisedLaws.{IsLowering, Accounted, stopped_, kept, raised_, lowering, AccountedIn, lower_accounts, raise_accounts, fall_accounts, plain_accounts}
+use Rattle.clk_model.proofs.RaisedLaws.{IsLowering, Accounted, stopped_, kept, raised_, lowering, AccountedIn, lower_accounts, raise_accounts, fall_accounts, plain_running, plain_accounts}
 
 -- ---- polls
 
@@ -170,15 +172,60 @@ lower_or (micro.Lower x) = inl (x, refl)
 lower_or m = inr (λ x e. cc)
 
 -- a plain step of the script that isn't a lower
-plain_tells : (s : State) (k : Change) (answer : Option Bool) (m : Micro) (cover late : Option ℕ) (y : ℕ) → IsWired (length s.regs) (wiring s) → is_plain m ≡ true → k.front ≡ [] → (stepped s k answer m).1 ≡ turn.Going
+plain_tells : (s : State) (k : Change) (answer : Option Bool) (m : Micro) (cover : List ℕ) (late : Option ℕ) (y : ℕ) → uncovers m cover ≡ [] → IsWired (length s.regs) (wiring s) → is_plain m ≡ true → k.front ≡ [] → (stepped s k answer m).1 ≡ turn.Going
     → Serves s.defs cover (scene late s) m → Stays s.defs cover (scene late s) m k.left → ((x : ClockId) → m ≡ micro.Lower x → ⊥)
     → (prepared s y ≡ true) ⊎ IsCovered cover (scene late s) y ⊎ (runs s.defs s.regs y ≡ false) → StepTells s k answer m y
-plain_tells s k answer m cover late y wired plain empty going serves stays other was =
+plain_tells s k answer m cover late y uncovered_ wired plain empty going serves stays other was =
     let after = step_after s k answer m going in
     record {
       polled = polled_behind s k answer m going (plain_none m plain) (ap (list_any raises) empty);
-      accounted = subst (λ (o : Option Change). AccountedIn (stepped s k answer m).0 o y) (sym after.1) (plain_accounts s k answer m cover late y wired plain empty serves stays other was after.0 after.1);
+      accounted = subst (λ (o : Option Change). AccountedIn (stepped s k answer m).0 o y) (sym after.1) (plain_accounts s k answer m cover late y wired plain empty uncovered_ serves stays other was after.0 after.1);
     }
+
+-- a clock on one of these paths is covered
+over_covered : (s : State) (late : Option ℕ) (xs : List ℕ) (y : ℕ) → is_over s xs y ≡ true → IsCovered xs (scene late s) y
+over_covered s late [] y m = absurd cc
+over_covered s late (x ∷ []) y m = ap (is_in y) (sym (to_be_told late s (scene late s) x refl)) ∙ alone (is_in y (path_to_be s.defs s.regs s.clocks x)) m where
+  alone : (p : Bool) → (p || false) ≡ true → p ≡ true
+  alone true e = refl
+  alone false e = e
+over_covered s late (x ∷ z ∷ zs) y m = elim (or_cases (is_in y (path_to_be s.defs s.regs s.clocks x)) (is_over s (z ∷ zs) y) m) [
+  | inl own ↦ inl (ap (is_in y) (sym (to_be_told late s (scene late s) x refl)) ∙ own)
+  | inr later ↦ inr (over_covered s late (z ∷ zs) y later)
+]
+
+-- a step of the script after raises that isn't one itself
+covered_tells : (s : State) (k : Change) (answer : Option Bool) (m : Micro) (x : ℕ) (xs : List ℕ) (late : Option ℕ) (y : ℕ) → IsWired (length s.regs) (wiring s) → is_plain m ≡ true → k.front ≡ [] → (stepped s k answer m).1 ≡ turn.Going
+    → Serves s.defs (x ∷ xs) (scene late s) m → Stays s.defs (x ∷ xs) (scene late s) m k.left → RaisedWell s k (x ∷ xs) → ((z : ClockId) → m ≡ micro.Lower z → ⊥) → Was s k.raised y → StepTells s k answer m y
+covered_tells s k answer m x xs late y wired plain empty going serves stays well other was = by_holds behind.holds where
+  behind : CoveredBehind s k answer m late (x ∷ xs)
+  behind = covered_behind s k answer m late x xs serves empty well plain
+
+  u : State
+  u = (stepped s k answer m).0
+
+  lands : Lands s (after s.defs (scene late s) m).late u (after s.defs (scene late s) m)
+  lands = step_lands s k answer m (x ∷ xs) late wired plain serves
+
+  prep_is : prepared u y ≡ prepared_in s.defs (after s.defs (scene late s) m) y
+  prep_is = prepared_told (after s.defs (scene late s) m).late (after s.defs (scene late s) m).late s u (after s.defs (scene late s) m) y lands.defs lands.scene_is
+
+  one : Was s k.raised y → (prepared s y ≡ true) ⊎ IsCovered (x ∷ xs) (scene late s) y ⊎ (runs s.defs s.regs y ≡ false)
+  one (inl e) = inl e
+  one (inr (inl n)) = inr (inl (over_covered s late (x ∷ xs) y (well.within y n)))
+  one (inr (inr e)) = inr (inr e)
+
+  by_holds : ((behind.change.raised ≡ []) × (uncovers m (x ∷ xs) ≡ [])) ⊎ HoldsOn s k behind.change late (after s.defs (scene late s) m) (x ∷ xs) (uncovers m (x ∷ xs)) → StepTells s k answer m y
+  by_holds (inl none) = plain_tells s k answer m (x ∷ xs) late y none.1 wired plain empty going serves stays other (one was)
+  by_holds (inr on_) = record {
+    polled = polled_behind s k answer m going (plain_none m plain) (ap (list_any raises) empty);
+    accounted = subst (λ (o : Option Change). AccountedIn u o y) (sym behind.at) (by_prep (prepared_in s.defs (after s.defs (scene late s) m) y) refl was);
+  } where
+    by_prep : (t : Bool) → prepared_in s.defs (after s.defs (scene late s) m) y ≡ t → Was s k.raised y → Accounted u behind.change y
+    by_prep true e w = kept (prep_is ∙ e)
+    by_prep false e (inl prep) = let no : true ≡ false = sym prep ∙ on_.grows y e in absurd cc
+    by_prep false e (inr (inl n)) = raised_ (on_.raised_still y e n)
+    by_prep false e (inr (inr off)) = stopped_ (plain_running s k answer m (x ∷ xs) late y wired.valid plain serves other off)
 
 end_stops : (s : State) (k : Change) (answer : Option Bool) (m : Micro) → m ≡ micro.End → (stepped s k answer m).1 ≡ turn.Going → ⊥
 unfolding stepped
@@ -202,8 +249,8 @@ step_tells s t d m answer k y step in_call polled_ was = by_stand in_call.stands
   apart n is other x e = other x (sym is ∙ e)
 
   -- a plain step with nothing raised before
-  by_first : k.front ≡ [] → k.raised ≡ [] → FirstGoes s.defs k.call k.timed_out None (scene late s) m (taken k).left → (taken k).front ≡ [] → StepTells s (taken k) answer m y
-  by_first front list (first_raises x is open_ goes cut) empty =
+  by_first : k.front ≡ [] → k.raised ≡ [] → FirstGoes s.defs k.call k.timed_out [] (scene late s) m (taken k).left → (taken k).front ≡ [] → StepTells s (taken k) answer m y
+  by_first front list (first_raises x is goes cut) empty =
       to (micro.Raise x) is (raise_tells s (taken k) answer x y valid empty (was_of s k m y step.first (apart (micro.Raise x) is (λ z e. cc)) was))
   by_first front list (first_ends is free alone prep) empty = absurd (end_stops s (taken k) answer m is step.answered)
   by_first front list (first_makes plain serves grows stays goes) empty = by_lower (lower_or m) where
@@ -212,13 +259,13 @@ step_tells s t d m answer k y step in_call polled_ was = by_stand in_call.stands
         to (micro.Lower low.0) low.1
         (lower_tells s k answer low.0 y valid (ap (λ (n : Micro). (stepped s (taken k) answer n).1) (sym low.1) ∙ step.answered) (ap (λ (n : Micro). comes_next n (todo k)) (sym low.1) ∙ step.first)
         (ap (list_any raises) empty) list was)
-    by_lower (inr other) = plain_tells s (taken k) answer m None late y in_call.safe.wired plain empty step.answered serves stays other (one (was_of s k m y step.first other was)) where
+    by_lower (inr other) = plain_tells s (taken k) answer m [] late y (uncovers_none m) in_call.safe.wired plain empty step.answered serves stays other (one (was_of s k m y step.first other was)) where
       one : Was s k.raised y → (prepared s y ≡ true) ⊎ ⊥ ⊎ (runs s.defs s.regs y ≡ false)
       one (inl e) = inl e
       one (inr (inl n)) = let no : false ≡ true = sym (ap (is_in y) list) ∙ n in absurd cc
       one (inr (inr e)) = inr (inr e)
 
-  by_calm : (ys : List ℕ) (rest : List Micro) → k.raised ≡ ys → k.front ≡ map (λ z. micro.Fall (clock_id z)) ys ++ rest → list_all is_calm rest ≡ true → GoesWell s.defs k.call k.timed_out None (scene late s) k.left
+  by_calm : (ys : List ℕ) (rest : List Micro) → k.raised ≡ ys → k.front ≡ map (λ z. micro.Fall (clock_id z)) ys ++ rest → list_all is_calm rest ≡ true → GoesWell s.defs k.call k.timed_out [] (scene late s) k.left
       → StepTells s (taken k) answer m y
   by_calm (z ∷ ys) rest list front still goes =
       let here = front_step k m (micro.Fall (clock_id z)) (map (λ v. micro.Fall (clock_id v)) ys ++ rest) front step.first in
@@ -242,39 +289,41 @@ step_tells s t d m answer k y step in_call polled_ was = by_stand in_call.stands
       let here = script_step k m front step.first in
       by_first front list (first_goes s.defs k.call m (taken k).left goes here.0) here.1
 
-  by_front : (x : ℕ) → RaisedWell s k x → GoesWell s.defs k.call k.timed_out (Some x) (scene late s) k.left → RaisingFront s k x → StepTells s (taken k) answer m y
-  by_front x well goes (raised empty all) = by_cover (first_goes s.defs k.call m (taken k).left goes here.0) where
+  taken_well : (xs : List ℕ) → RaisedWell s k xs → RaisedWell s (taken k) xs
+  taken_well xs well = record { within = well.within; powered = well.powered; unprepared = well.unprepared }
+
+  by_covered : (xs : List ℕ) → k.front ≡ [] → RaisedWell s k xs → GoesWell s.defs k.call k.timed_out xs (scene late s) k.left → StepTells s (taken k) answer m y
+  by_covered [] empty well goes = by_calm [] [] (raised_none s k well) empty refl goes
+  by_covered (x ∷ xs) empty well goes = by_cover (first_goes s.defs k.call m (taken k).left goes here.0) where
     here : (k.left ≡ m ∷ (taken k).left) × ((taken k).front ≡ [])
     here = script_step k m empty step.first
 
-    not_lower : Serves s.defs (Some x) (scene late s) m → (z : ClockId) → m ≡ micro.Lower z → ⊥
-    not_lower serves z e = subst (λ (n : Micro). Serves s.defs (Some x) (scene late s) n) e serves
+    not_lower : Serves s.defs (x ∷ xs) (scene late s) m → (z : ClockId) → m ≡ micro.Lower z → ⊥
+    not_lower serves z e = subst (λ (n : Micro). Serves s.defs (x ∷ xs) (scene late s) n) e serves
 
-    one : Was s k.raised y → (prepared s y ≡ true) ⊎ IsCovered (Some x) (scene late s) y ⊎ (runs s.defs s.regs y ≡ false)
-    one (inl e) = inl e
-    one (inr (inl n)) = inr (inl (ap (is_in y) (sym (to_be_told late s (scene late s) x refl)) ∙ well.within y n))
-    one (inr (inr e)) = inr (inr e)
-
-    by_cover : FirstGoes s.defs k.call k.timed_out (Some x) (scene late s) m (taken k).left → StepTells s (taken k) answer m y
-    by_cover (first_raises z is open_ goes' cut) = absurd cc
+    by_cover : FirstGoes s.defs k.call k.timed_out (x ∷ xs) (scene late s) m (taken k).left → StepTells s (taken k) answer m y
+    by_cover (first_raises z is goes' cut) = to (micro.Raise z) is (raise_tells s (taken k) answer z y valid here.1 (was_of s k m y step.first (apart (micro.Raise z) is (λ v e. cc)) was))
     by_cover (first_ends is free alone prep) = absurd (end_stops s (taken k) answer m is step.answered)
     by_cover (first_makes plain serves grows stays goes') =
-        plain_tells s (taken k) answer m (Some x) late y in_call.safe.wired plain here.1 step.answered serves stays (not_lower serves) (one (was_of s k m y step.first (not_lower serves) was))
-  by_front x well goes (asks z front all) =
+        covered_tells s (taken k) answer m x xs late y in_call.safe.wired plain here.1 step.answered serves stays (taken_well (x ∷ xs) well) (not_lower serves) (was_of s k m y step.first (not_lower serves) was)
+
+  by_front : (x : ℕ) → RaisingFront s k x → StepTells s (taken k) answer m y
+  by_front x (asks z front all) =
       let here = front_step k m (micro.Poll z) [] front step.first in
       to (micro.Poll z) here.0
       (poll_tells s (taken k) answer z y (polled_.polled z [] front) (λ w rest at. let no : [] ≡ micro.Poll w ∷ rest = sym here.1 ∙ at in absurd cc)
       (was_of s k m y step.first (apart (micro.Poll z) here.0 (λ v e. cc)) was))
-  by_front x well goes (asks_first z front) =
+  by_front x (asks_first z front) =
       let here = front_step k m (micro.Poll z) (micro.Raise (clock_id x) ∷ []) front step.first in
       to (micro.Poll z) here.0
       (poll_tells s (taken k) answer z y (polled_.polled z (micro.Raise (clock_id x) ∷ []) front) (λ w rest at. let no : micro.Raise (clock_id x) ∷ [] ≡ micro.Poll w ∷ rest = sym here.1 ∙ at in absurd cc)
       (was_of s k m y step.first (apart (micro.Poll z) here.0 (λ v e. cc)) was))
-  by_front x well goes (comes_again front) =
+  by_front x (comes_again front) =
       let here = front_step k m (micro.Raise (clock_id x)) [] front step.first in
       to (micro.Raise (clock_id x)) here.0
       (raise_tells s (taken k) answer (clock_id x) y valid here.1 (was_of s k m y step.first (apart (micro.Raise (clock_id x)) here.0 (λ z e. cc)) was))
 
   by_stand : Stands s k late → StepTells s (taken k) answer m y
   by_stand (calm rest front still idle goes) = by_calm k.raised rest refl front still goes
-  by_stand (raising x well front goes cut) = by_front x well goes front
+  by_stand (covered xs empty well all goes) = by_covered xs empty well goes
+  by_stand (raising done x well all front goes cut) = by_front x front

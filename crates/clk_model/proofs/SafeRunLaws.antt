@@ -85,7 +85,7 @@ record GoesFrom (q n : State) (k : Change) : Type 0 where
   regs : n.regs ≡ q.regs
   empty : k.front ≡ []
   none : k.raised ≡ []
-  goes : GoesWell n.defs k.call k.timed_out None (scene None n) k.left
+  goes : GoesWell n.defs k.call k.timed_out [] (scene None n) k.left
 
 goes_from : (q n : State) (d : ℕ) (what : Sleeping) (k : Change) → Resting q → Starts q d what n k → GoesFrom q n k
 goes_from q n d what k rest (raising_handle h row is at) = record { fit = rest.fit; defs = refl; regs = refl; empty = refl; none = refl; goes = raise_goes q what h row rest is at }
@@ -112,7 +112,7 @@ goes_from q n d what k rest (planning _ number row over x ks range planned_ at i
       regs = there.2;
       empty = refl;
       none = refl;
-      goes = planned_goes n what row.clock.0 ks [] (plan_over n row.clock.0 ks rest_n leads steps) (rate_cuts what rates) (no_prepare changes_rate what rates (λ h. refl)) refl refl;
+      goes = planned_goes n what row.clock.0 ks [] (plan_over n row.clock.0 ks rest_n leads steps) (rate_cuts what rates) (no_prepare changes_rate what rates (λ h. refl)) refl refl refl;
     } where
       rooted_over : (s m : State) (i : ℕ) (r : HandleRow) → Resting s → IsPlannedOver s m → handle_at s.handles i ≡ Some r → IsRooted m.defs m.clocks r.clock.0
       rooted_over s m i r resting_ over_itself f = handle_rooted s i r resting_.fit f
@@ -129,7 +129,7 @@ goes_from q n d what k rest (reparents number row p sets at away mux m root) =
       empty = refl;
       none = refl;
       goes = planned_goes q what c ks (micro.Settle (clock_id c) ∷ []) (plan_over q c ks rest (one_step_leads q c p rate m) (one_step_rooted q c p rate m own root)) (parent_cuts what sets)
-          (no_prepare sets_parent what sets (λ h. refl)) refl refl;
+          (no_prepare sets_parent what sets (λ h. refl)) refl refl refl;
     }
 goes_from q n d what k rest (probing c is free) = record {
   fit = rest.fit;
@@ -137,7 +137,7 @@ goes_from q n d what k rest (probing c is free) = record {
   regs = refl;
   empty = refl;
   none = refl;
-  goes = subst (λ (w : Sleeping). GoesWell q.defs w false None (scene None q) (probe_script (register q c.0) c.0)) (sym is) (probe_goes q c rest free);
+  goes = subst (λ (w : Sleeping). GoesWell q.defs w false [] (scene None q) (probe_script (register q c.0) c.0)) (sym is) (probe_goes q c rest free);
 }
 goes_from q n d what k rest (sweeping is) = record {
   fit = rest.fit;
@@ -145,7 +145,7 @@ goes_from q n d what k rest (sweeping is) = record {
   regs = refl;
   empty = refl;
   none = refl;
-  goes = subst (λ (w : Sleeping). GoesWell q.defs w false None (scene None q) (sweep_script q)) (sym is) (sweep_goes q rest);
+  goes = subst (λ (w : Sleeping). GoesWell q.defs w false [] (scene None q) (sweep_script q)) (sym is) (sweep_goes q rest);
 }
 
 -- ---- beginnings

@@ -184,20 +184,20 @@ lands_lowered s late k x valid = one (slice_get (to_lower s x) 0) refl where
 
 -- ---- each step
 
-possible_of : (defs : Description) (cover : Option ℕ) (a : Scene) (c p : ClockId) → Serves defs cover a (micro.Relink c p) → is_in p.0 (parents_of defs c.0) ≡ true
-possible_of defs None a c p serves = serves.0
-possible_of defs (Some x) a c p serves = absurd serves
+possible_of : (defs : Description) (cover : List ℕ) (a : Scene) (c p : ClockId) → Serves defs cover a (micro.Relink c p) → is_in p.0 (parents_of defs c.0) ≡ true
+possible_of defs [] a c p serves = serves.0
+possible_of defs (x ∷ xs) a c p serves = absurd serves
 
-pub fits_of : (defs : Description) (cover : Option ℕ) (a : Scene) (c : ClockId) (place : ℕ) → Serves defs cover a (micro.WriteMux c place) → (f : Field) → mux_field (kind_of defs c.0) ≡ Some f → place < 2 ^ f.width
-fits_of defs None a c place serves = serves
-fits_of defs (Some x) a c place serves = absurd serves
+pub fits_of : (defs : Description) (cover : List ℕ) (a : Scene) (c : ClockId) (place : ℕ) → Serves defs cover a (micro.WriteMux c place) → (f : Field) → mux_field (kind_of defs c.0) ≡ Some f → place < 2 ^ f.width
+fits_of defs [] a c place serves = serves
+fits_of defs (x ∷ xs) a c place serves = absurd serves
 
-idle_of : (defs : Description) (cover : Option ℕ) (a : Scene) (c : ClockId) → Serves defs cover a (micro.Unpower c) → prepared_in defs a c.0 ≡ false
-idle_of defs None a c serves = serves
-idle_of defs (Some x) a c serves = absurd serves
+idle_of : (defs : Description) (cover : List ℕ) (a : Scene) (c : ClockId) → Serves defs cover a (micro.Unpower c) → prepared_in defs a c.0 ≡ false
+idle_of defs [] a c serves = serves
+idle_of defs (x ∷ xs) a c serves = absurd serves
 
 -- where each step of a script lands
-pub step_lands : (s : State) (k : Change) (answer : Option Bool) (m : Micro) (cover late : Option ℕ) → IsWired (length s.regs) (wiring s) → is_plain m ≡ true → Serves s.defs cover (scene late s) m
+pub step_lands : (s : State) (k : Change) (answer : Option Bool) (m : Micro) (cover : List ℕ) (late : Option ℕ) → IsWired (length s.regs) (wiring s) → is_plain m ≡ true → Serves s.defs cover (scene late s) m
     → Lands s (after s.defs (scene late s) m).late (stepped s k answer m).0 (after s.defs (scene late s) m)
 unfolding stepped
 step_lands s k answer (micro.Notify kind c id old new) cover late wired plain serves = lands_same s late k

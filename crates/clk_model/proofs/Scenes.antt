@@ -2,7 +2,7 @@
 -- and disables come between its steps, each active clock stays fed.
 use Rattle.std.proofs.Common.{inl, inr}
 use Rattle.std.specs.Prelude.{◌≡◌, ◌⊎◌, ℕ, ◌<◌, ◌≤◌, ◌^◌, ◌++◌, List, [], ◌∷◌, Bool, true, false, cond, ◌&&◌, nat_lt, Option, Some, None, filter, length, if◌then◌else◌, option_map, option_and_then, slice_get, map, IfSome}
-use Rattle.std.specs.List.{list_all}
+use Rattle.std.specs.List.{list_all, list_any}
 use Rattle.std.specs.Option.{option_map_or}
 use Rattle.clk_base.specs.declared.call.Micro.{Micro}
 use Rattle.clk_base.specs.declared.call.Micro.TheVariants as micro
@@ -149,24 +149,34 @@ is_plain _ = true
 abbrev pub IsHeldToMove : Description → Scene → ℕ → ℕ → Type 0
 IsHeldToMove defs a c p = ((is_in c a.enable_holds ≡ true) × (is_in p a.enable_holds ≡ true)) ⊎ ((prepared_in defs a c ≡ false) × (a.enable_holds ≡ []))
 
--- what a step needs: behind a raise stands what it was for, a new link leads to a possible parent and is held for, a place fits the
--- field, and what loses its power isn't prepared
-abbrev pub Serves : Description → Option ℕ → Scene → Micro → Type 0
-Serves defs None a (micro.Unpower c) = prepared_in defs a c.0 ≡ false
-Serves defs None a (micro.Relink c p) = (is_in p.0 (parents_of defs c.0) ≡ true) × IsHeldToMove defs a c.0 p.0
-Serves defs None a (micro.WriteMux c place) = (f : Field) → mux_field (kind_of defs c.0) ≡ Some f → place < 2 ^ f.width
-Serves defs None a _ = Unit {0}
-Serves defs (Some x) a (micro.HoldPrepare y) = (y.0 ≡ x) × (a.there x ≡ true)
-Serves defs (Some x) a (micro.Register y) = y.0 ≡ x
-Serves defs (Some x) a _ = ⊥
+-- what a step needs, if the paths of the clocks of cover were raised for the holds to come: these come in the order of the raises,
+-- with enable holds between them; else a new link leads to a possible parent and is held for, a place fits the field, and what loses
+-- its power isn't prepared
+abbrev pub Serves : Description → List ℕ → Scene → Micro → Type 0
+Serves defs [] a (micro.Unpower c) = prepared_in defs a c.0 ≡ false
+Serves defs [] a (micro.Relink c p) = (is_in p.0 (parents_of defs c.0) ≡ true) × IsHeldToMove defs a c.0 p.0
+Serves defs [] a (micro.WriteMux c place) = (f : Field) → mux_field (kind_of defs c.0) ≡ Some f → place < 2 ^ f.width
+Serves defs [] a _ = Unit {0}
+Serves defs (x ∷ xs) a (micro.HoldPrepare y) = (y.0 ≡ x) × (a.there x ≡ true)
+Serves defs (x ∷ xs) a (micro.HoldEnable y) = Unit {0}
+Serves defs (x ∷ xs) a (micro.Register y) = (y.0 ≡ x) × (xs ≡ [])
+Serves defs (x ∷ xs) a _ = ⊥
 
--- a clock is on the path that was raised
-abbrev pub IsCovered : Option ℕ → Scene → ℕ → Type 0
-IsCovered None a c = ⊥
-IsCovered (Some x) a c = is_in c (to_be a x) ≡ true
+-- what is still covered after a step
+abbrev pub uncovers : Micro → List ℕ → List ℕ
+uncovers (micro.HoldPrepare y) [] = []
+uncovers (micro.HoldPrepare y) (x ∷ xs) = xs
+uncovers (micro.HoldEnable y) cover = cover
+uncovers _ cover = []
+
+-- a clock is on a path that was raised
+abbrev pub IsCovered : List ℕ → Scene → ℕ → Type 0
+IsCovered [] a c = ⊥
+IsCovered (x ∷ []) a c = is_in c (to_be a x) ≡ true
+IsCovered (x ∷ y ∷ ys) a c = (is_in c (to_be a x) ≡ true) ⊎ IsCovered (y ∷ ys) a c
 
 -- a step prepares no clock but those that were raised for it
-abbrev pub Grows : Description → Option ℕ → Scene → Scene → Type 0
+abbrev pub Grows : Description → List ℕ → Scene → Scene → Type 0
 Grows defs cover a b = (c : ℕ) → prepared_in defs b c ≡ true → (prepared_in defs a c ≡ true) ⊎ IsCovered cover a c
 
 -- whether a step lets go of a clock on the path that the lower behind it lowers
@@ -174,9 +184,16 @@ abbrev pub LowersNext : Scene → Micro → List Micro → ℕ → Type 0
 LowersNext a (micro.DropPrepare o) (micro.Lower x ∷ ms) c = is_in c (path_within a.up depth x.0) ≡ true
 LowersNext a _ _ c = ⊥
 
--- what is prepared before a step, or was raised for it, is prepared behind it, unless the lower that comes next lowers it
-abbrev pub Stays : Description → Option ℕ → Scene → Micro → List Micro → Type 0
-Stays defs cover a m ms = (c : ℕ) → (prepared_in defs a c ≡ true) ⊎ IsCovered cover a c → (prepared_in defs (after defs a m) c ≡ true) ⊎ LowersNext a m ms c
+-- or is on a path that was raised and isn't held yet
+abbrev pub OrCovered : List ℕ → Scene → ℕ → Type 0 → Type 0
+OrCovered [] a c P = P
+OrCovered (x ∷ xs) a c P = P ⊎ IsCovered (x ∷ xs) a c
+
+-- what is prepared before a step, or was raised for it, is prepared after it, or raised still, unless the lower that comes next
+-- lowers it
+abbrev pub Stays : Description → List ℕ → Scene → Micro → List Micro → Type 0
+Stays defs cover a m ms = (c : ℕ) → (prepared_in defs a c ≡ true) ⊎ IsCovered cover a c
+    → OrCovered (uncovers m cover) (after defs a m) c ((prepared_in defs (after defs a m) c ≡ true) ⊎ LowersNext a m ms c)
 
 -- where nothing was raised
 pub uncovered : {P Q : Type 0} → P ⊎ ⊥ → P ⊎ Q
@@ -184,23 +201,23 @@ uncovered (inl p) = inl p
 uncovered (inr never) = absurd never
 
 -- only the end of a prepare comes behind a raise, and there no poll has timed out
-abbrev pub EndsRaise : Sleeping → Bool → Option ℕ → Type 0
-EndsRaise what timed None = Unit {0}
-EndsRaise what timed (Some x) = (timed ≡ false) × ((h : Handle) × (what ≡ call.Prepare h))
+abbrev pub EndsRaise : Sleeping → Bool → List ℕ → Type 0
+EndsRaise what timed [] = Unit {0}
+EndsRaise what timed (x ∷ xs) = (timed ≡ false) × ((h : Handle) × (what ≡ call.Prepare h))
 
 -- at the end of a prepare the path of its clock was raised, unless a poll has timed out
-abbrev pub EndsPrepare : Sleeping → Bool → Option ℕ → Scene → Type 0
+abbrev pub EndsPrepare : Sleeping → Bool → List ℕ → Scene → Type 0
 EndsPrepare what timed cover a = (h : Handle) → what ≡ call.Prepare h
-    → (timed ≡ true) ⊎ ((x : ℕ) × (cover ≡ Some x) × (a.there x ≡ true) × (a.clock_at h.number ≡ Some x))
+    → (timed ≡ true) ⊎ ((x : ℕ) × (cover ≡ x ∷ []) × (a.there x ≡ true) × (a.clock_at h.number ≡ Some x))
 
 -- what is left of a script goes well over a scene: each scene on the way is sound, also where a poll times out; what was raised is
--- there for the step behind it
-pub data GoesWell (defs : Description) (what : Sleeping) : Bool → Option ℕ → Scene → List Micro → Type 0 where
-  raises : {timed : Bool} {a : Scene} {ms : List Micro} (x : ClockId) → IsSound defs a → GoesWell defs what timed (Some x.0) a ms
-      → GoesWell defs what true None a (cut_short what ms) → GoesWell defs what timed None a (micro.Raise x ∷ ms)
-  makes : {timed : Bool} {cover : Option ℕ} {a : Scene} {ms : List Micro} (m : Micro) → is_plain m ≡ true → IsSound defs a → Serves defs cover a m
-      → Grows defs cover a (after defs a m) → Stays defs cover a m ms → GoesWell defs what timed None (after defs a m) ms → GoesWell defs what timed cover a (m ∷ ms)
-  ends : {timed : Bool} {cover : Option ℕ} {a : Scene} → IsSound defs a → IsFree a → EndsRaise what timed cover → EndsPrepare what timed cover a → GoesWell defs what timed cover a (micro.End ∷ [])
+-- there for the steps after it, and nothing is held while more is raised
+pub data GoesWell (defs : Description) (what : Sleeping) : Bool → List ℕ → Scene → List Micro → Type 0 where
+  raises : {timed : Bool} {cover : List ℕ} {a : Scene} {ms : List Micro} (x : ClockId) → IsSound defs a → GoesWell defs what timed (cover ++ x.0 ∷ []) a ms
+      → GoesWell defs what true [] a (cut_short what ms) → GoesWell defs what timed cover a (micro.Raise x ∷ ms)
+  makes : {timed : Bool} {cover : List ℕ} {a : Scene} {ms : List Micro} (m : Micro) → is_plain m ≡ true → IsSound defs a → Serves defs cover a m
+      → Grows defs cover a (after defs a m) → Stays defs cover a m ms → GoesWell defs what timed (uncovers m cover) (after defs a m) ms → GoesWell defs what timed cover a (m ∷ ms)
+  ends : {timed : Bool} {cover : List ℕ} {a : Scene} → IsSound defs a → IsFree a → EndsRaise what timed cover → EndsPrepare what timed cover a → GoesWell defs what timed cover a (micro.End ∷ [])
 
 -- ---- safe states
 
@@ -220,16 +237,23 @@ pub record IsSafe (late : Option ℕ) (s : State) : Type 0 where
   pub powers : PowersOn s
   pub gates : GatesOpen s s
 
--- the PLLs that a change has raised: on the path of the clock, powered, and unprepared
-pub record RaisedWell (s : State) (k : Change) (x : ℕ) : Type 0 where
-  pub within : (y : ℕ) → is_in y k.raised ≡ true → is_in y (path_to_be s.defs s.regs s.clocks x) ≡ true
+-- whether a clock is on the path of one of these
+abbrev pub is_over : State → List ℕ → ℕ → Bool
+is_over s xs y = list_any (λ x. is_in y (path_to_be s.defs s.regs s.clocks x)) xs
+
+-- the PLLs that a change has raised: on the paths of these clocks, powered, and unprepared
+pub record RaisedWell (s : State) (k : Change) (xs : List ℕ) : Type 0 where
+  pub within : (y : ℕ) → is_in y k.raised ≡ true → is_over s xs y ≡ true
   pub powered : (y : ℕ) → is_in y k.raised ≡ true → IfSome (power_of (kind_of s.defs y)) (λ power. is_powered s.regs power ≡ true)
   pub unprepared : (y : ℕ) → is_in y k.raised ≡ true → prepared s y ≡ false
 
--- what stands in front of a script while the path of x is raised: the poll of a PLL, the raise that comes again, both, or nothing
--- where none is left to be raised
+-- none is left to be raised for these clocks
+abbrev pub AllRaised : State → Change → List ℕ → Type 0
+AllRaised s k xs = (x : ℕ) → is_in x xs ≡ true → to_raise s k x ≡ []
+
+-- what stands before a script while the path of x is raised: the poll of a PLL, after which none is left or the raise comes
+-- again, or that raise
 pub data RaisingFront (s : State) (k : Change) (x : ℕ) : Type 0 where
-  raised : k.front ≡ [] → to_raise s k x ≡ [] → RaisingFront s k x
   asks : (y : ClockId) → k.front ≡ micro.Poll y ∷ [] → to_raise s k x ≡ [] → RaisingFront s k x
   asks_first : (y : ClockId) → k.front ≡ micro.Poll y ∷ micro.Raise (clock_id x) ∷ [] → RaisingFront s k x
   comes_again : k.front ≡ micro.Raise (clock_id x) ∷ [] → RaisingFront s k x
@@ -240,12 +264,14 @@ is_calm (micro.Notify kind c id old new) = true
 is_calm (micro.Lower x) = true
 is_calm _ = false
 
--- where a change stands: between its raises, with the falls of what was raised and calm steps in front; or raising the path of a clock
+-- how far a change has come: it is between its raises, with the falls of what was raised and calm steps first; after raises, before what
+-- was raised is held; or raising the path of a clock
 pub data Stands (s : State) (k : Change) (late : Option ℕ) : Type 0 where
   calm : (rest : List Micro) → k.front ≡ map (λ y. micro.Fall (clock_id y)) k.raised ++ rest → list_all is_calm rest ≡ true
-      → ((y : ℕ) → is_in y k.raised ≡ true → prepared s y ≡ false) → GoesWell s.defs k.call k.timed_out None (scene late s) k.left → Stands s k late
-  raising : (x : ℕ) → RaisedWell s k x → RaisingFront s k x → GoesWell s.defs k.call k.timed_out (Some x) (scene late s) k.left
-      → GoesWell s.defs k.call true None (scene late s) (cut_short k.call k.left) → Stands s k late
+      → ((y : ℕ) → is_in y k.raised ≡ true → prepared s y ≡ false) → GoesWell s.defs k.call k.timed_out [] (scene late s) k.left → Stands s k late
+  covered : (xs : List ℕ) → k.front ≡ [] → RaisedWell s k xs → AllRaised s k xs → GoesWell s.defs k.call k.timed_out xs (scene late s) k.left → Stands s k late
+  raising : (done : List ℕ) (x : ℕ) → RaisedWell s k (done ++ x ∷ []) → AllRaised s k done → RaisingFront s k x → GoesWell s.defs k.call k.timed_out (done ++ x ∷ []) (scene late s) k.left
+      → GoesWell s.defs k.call true [] (scene late s) (cut_short k.call k.left) → Stands s k late
 
 -- a call in flight is safe, and its change stands so
 pub record InCall (s : State) (k : Change) : Type 0 where

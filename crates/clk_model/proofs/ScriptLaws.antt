@@ -1,6 +1,6 @@
 -- Laws on tests that no step of a script passes, for each script of a call and each end that a timeout leaves of it.
-use Rattle.std.proofs.Common.{◌≡◌, ℕ, ◌||◌, ◌&&◌, Bool, true, false, cond, List, [], ◌∷◌, ◌++◌, Option, Some, None, refl, sym, ap, ◌∙◌, length}
-use Rattle.std.specs.Prelude.{◌==◌, filter, flat_map, slice_index, if◌then◌else◌}
+use Rattle.std.proofs.Common.{◌≡◌, ℕ, ◌||◌, ◌&&◌, Bool, true, false, cond, List, [], ◌∷◌, ◌++◌, Option, Some, None, refl, ap, ◌∙◌, length}
+use Rattle.std.specs.Prelude.{◌==◌, filter, flat_map, slice_index}
 use Rattle.std.specs.List.{list_any, AllByRecursion, list_all}
 use Rattle.std.specs.Option.{option_map_or}
 use Rattle.clk_base.specs.declared.call.Micro.{Micro}
@@ -10,22 +10,22 @@ use Rattle.clk_base.specs.declared.call.Notice.TheVariants as notice
 use Rattle.clk_base.specs.declared.call.Sleeping.{Sleeping}
 use Rattle.clk_base.specs.declared.clock.ClockId.{ClockId}
 use Rattle.clk_base.specs.Description.{Description}
-use Rattle.clk_base.specs.Flags.{is_critical}
+use Rattle.clk_base.specs.Flags.{is_critical, runs_parent}
 use Rattle.clk_model.specs.declared.row.ClockRow.{ClockRow}
 use Rattle.clk_model.specs.Lists.{is_in}
 use Rattle.clk_model.specs.State.{State, ChainStep, NotifierRow, link_in}
 use Rattle.clk_model.specs.Holders.{prepared}
 use Rattle.clk_model.specs.Round.{wiring}
-use Rattle.clk_model.specs.Chain.{clock_id, moves, place_of}
+use Rattle.clk_model.specs.Chain.{clock_id, moves}
 use Rattle.clk_model.specs.Walk.{walk, changing}
 use Rattle.clk_model.specs.Notices.{Rates, vetoes, notifiers_of, until_veto, is_veto, abort_list}
-use Rattle.clk_model.specs.Script.{move, move_of, planned, adoption, adoptable, adoption_order, probe_script}
+use Rattle.clk_model.specs.Script.{unfeed, runs_for, visit_of, move, move_of, planned, adoption, adoptable, adoption_order, probe_script}
 use Rattle.clk_model.specs.Step.{cut_short}
 use Rattle.clk_model.specs.Laws.Flight.{plan_rates, pre_notices, abort_notices}
 use Rattle.clk_model.proofs.Members.{is_in_head, is_in_tail, same_from_test, both_left, both_right}
-use Rattle.clk_model.proofs.NoneLaws.{none_append, none_map, none_flat_map, none_if, none_behind}
+use Rattle.clk_model.proofs.NoneLaws.{none_append, none_map, none_flat_map, none_if}
 use Rattle.clk_model.proofs.BeginLaws.{walked_at, walked}
-use Rattle.clk_model.proofs.BalancedScripts.{short_is_end}
+use Rattle.clk_model.proofs.FeedLaws.{NoFeeding, none_fed, none_short}
 
 -- a test that no notice passes
 abbrev pub NoNotice : (Micro → Bool) → Type 0
@@ -33,9 +33,7 @@ NoNotice p = (kind : Notice) (c : ClockId) (id old new : ℕ) → p (micro.Notif
 
 -- what a timeout leaves passes no test that the script doesn't
 pub none_cut : (p : Micro → Bool) (what : Sleeping) (ms : List Micro) → list_any p ms ≡ false → list_any p (cut_short what ms) ≡ false
-none_cut p what ms none =
-    let at = short_is_end what ms in
-    none_behind p at.0 (cut_short what ms) (ap (λ (ns : List Micro). list_any p ns) (sym at.1) ∙ none)
+none_cut p what ms none = none_short p what ms none
 
 -- nor do the steps of a list
 pub none_flat_in : (p : Micro → Bool) (f : ℕ → List Micro) (xs : List ℕ) → ((x : ℕ) → is_in x xs ≡ true → list_any p (f x) ≡ false) → list_any p (flat_map f xs) ≡ false
@@ -83,16 +81,27 @@ none_moving p (m ∷ ms) each all =
     let rest : list_all is_moving ms ≡ true = both_right (is_moving m) (list_all is_moving ms) all in
     ap (λ (b : Bool). b || list_any p ms) (each m here) ∙ none_moving p ms each rest
 
+-- the steps of each move
+lets_are_moving : (l : Option ℕ) → list_all is_moving (option_map_or unfeed l []) ≡ true
+lets_are_moving None = refl
+lets_are_moving (Some o) = refl
+
+pub moves_are_moving : (defs : Description) (clocks : List ClockRow) (prep : ℕ → Bool) (c q : ℕ) → list_all is_moving (move defs clocks prep c q) ≡ true
+moves_are_moving defs clocks prep c q = either (prep c) _ _ (lets_are_moving (link_in clocks c)) (either (runs_parent defs c) _ _ (behind (link_in clocks c)) refl) where
+  either : (t : Bool) (xs ys : List Micro) → list_all is_moving xs ≡ true → list_all is_moving ys ≡ true → list_all is_moving (cond t xs ys) ≡ true
+  either true xs ys e f = e
+  either false xs ys e f = f
+
+  behind : (l : Option ℕ) → list_all is_moving (option_map_or unfeed l [] ++ unfeed c) ≡ true
+  behind None = refl
+  behind (Some o) = refl
+
 pub none_move : (p : Micro → Bool) (s : State) (c q : ℕ) → ((m : Micro) → is_moving m ≡ true → p m ≡ false) → list_any p (move s.defs s.clocks (prepared s) c q) ≡ false
-none_move p s c q each = none_moving p (move s.defs s.clocks (prepared s) c q) each (one (prepared s c) (link_in s.clocks c)) where
-  one : (t : Bool) (l : Option ℕ) → list_all is_moving (if t
-      then micro.Raise (clock_id q) ∷ micro.HoldPrepare (clock_id q) ∷ micro.HoldEnable (clock_id q) ∷ micro.HoldEnable (clock_id c)
-      ∷ micro.Relink (clock_id c) (clock_id q) ∷ micro.WriteMux (clock_id c) (place_of s.defs c q) ∷ micro.DropEnable (clock_id c)
-      ∷ option_map_or (λ o. micro.DropEnable (clock_id o) ∷ micro.DropPrepare (clock_id o) ∷ micro.Lower (clock_id o) ∷ []) l []
-      else micro.Relink (clock_id c) (clock_id q) ∷ micro.WriteMux (clock_id c) (place_of s.defs c q) ∷ []) ≡ true
-  one true None = refl
-  one true (Some o) = refl
-  one false l = refl
+none_move p s c q each = none_moving p (move s.defs s.clocks (prepared s) c q) each (moves_are_moving s.defs s.clocks (prepared s) c q)
+
+-- the visit of a clock passes no test that neither a visit nor the steps that feed it pass
+pub none_visit : (p : Micro → Bool) (defs : Description) (clocks : List ClockRow) (ks : List ChainStep) (c : ℕ) → NoFeeding p → p (micro.Visit (clock_id c)) ≡ false → list_any p (visit_of defs clocks ks c) ≡ false
+none_visit p defs clocks ks c feeding own = none_fed p (runs_for defs clocks ks c) (micro.Visit (clock_id c)) feeding own
 
 -- a move of a clock by a step of the chain passes no test
 abbrev pub NoMove : (Micro → Bool) → Description → List ClockRow → (ℕ → Bool) → ℕ → ChainStep → Type 0
@@ -128,17 +137,17 @@ alone a e = ap (λ (t : Bool). t || false) e
 
 -- it passes no test that no notice, no move, no visit and nothing behind the walk passes
 pub none_planned_front : (p : Micro → Bool) (s : State) (ks : List ChainStep) (settles : List Micro) → NoNotice p → ((c : ℕ) → list_any p (move_of s.defs s.clocks (prepared s) ks c) ≡ false)
-    → ((c : ℕ) → p (micro.Visit (clock_id c)) ≡ false) → list_any p settles ≡ false → list_any p (planned_front s ks settles) ≡ false
+    → ((c : ℕ) → list_any p (visit_of s.defs s.clocks ks c) ≡ false) → list_any p settles ≡ false → list_any p (planned_front s ks settles) ≡ false
 none_planned_front p s ks settles none moved visited settled_ =
     none_append p (pre_notices s ks) (cond (list_any is_veto (pre_notices s ks)) (abort_notices s ks) (walked s ks ++ settles)) (none_pre p s ks none)
     (none_if p (list_any is_veto (pre_notices s ks)) (abort_notices s ks) (walked s ks ++ settles) (none_aborts p (plan_rates s ks) s.notifiers (changing s.order (wiring s) ks) none)
     (none_append p (walked s ks) settles
-    (none_flat_map p (walked_at s ks) (walk s.order (wiring s) ks) (λ c. none_append p (move_of s.defs s.clocks (prepared s) ks c) (micro.Visit (clock_id c) ∷ []) (moved c) (alone _ (visited c))))
+    (none_flat_map p (walked_at s ks) (walk s.order (wiring s) ks) (λ c. none_append p (move_of s.defs s.clocks (prepared s) ks c) (visit_of s.defs s.clocks ks c) (moved c) (visited c)))
     settled_))
 
 -- so does the whole, where the end doesn't pass
 pub none_planned : (p : Micro → Bool) (s : State) (ks : List ChainStep) (settles : List Micro) → NoNotice p → ((c : ℕ) → list_any p (move_of s.defs s.clocks (prepared s) ks c) ≡ false)
-    → ((c : ℕ) → p (micro.Visit (clock_id c)) ≡ false) → list_any p settles ≡ false → p micro.End ≡ false → list_any p (planned s ks settles).steps ≡ false
+    → ((c : ℕ) → list_any p (visit_of s.defs s.clocks ks c) ≡ false) → list_any p settles ≡ false → p micro.End ≡ false → list_any p (planned s ks settles).steps ≡ false
 none_planned p s ks settles none moved visited settled_ ended =
     ap (list_any p) (planned_is s ks settles)
     ∙ none_append p (planned_front s ks settles) (micro.End ∷ []) (none_planned_front p s ks settles none moved visited settled_) (alone _ ended)

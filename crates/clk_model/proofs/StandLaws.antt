@@ -1,7 +1,8 @@
 -- Laws on a change in flight: each of its steps that isn't the end leaves it safe, and its change stands somewhere.
 use Rattle.std.proofs.Common.{◌≡◌, ℕ, ◌+◌, ◌&&◌, Bool, true, false, cond, map, List, [], ◌∷◌, ◌++◌, Option, Some, None, refl, sym, ap, subst, ◌∙◌, inl, length}
 use Rattle.std.specs.Prelude.{slice_get, nat_le}
-use Rattle.std.specs.List.{list_all}
+use Rattle.std.specs.List.{list_all, list_any}
+use Rattle.std.proofs.Math.Path.{fun_ext}
 use Rattle.std.specs.Option.{option_map_or}
 use Rattle.clk_base.specs.declared.call.Micro.{Micro}
 use Rattle.clk_base.specs.declared.call.Micro.TheVariants as micro
@@ -17,10 +18,10 @@ use Rattle.clk_model.specs.Step.{on, powered, fall, to_lower, lower_one, lower}
 use Rattle.clk_model.specs.Wired.{IsWired}
 use Rattle.clk_model.proofs.Members.{is_in_head, is_in_tail, test_same}
 use Rattle.clk_model.proofs.PowerLaws.{powered_muxes}
-use Rattle.clk_model.proofs.Scenes.{Scene, scene, prepared_in, IsSound, GoesWell, IsSafe, is_calm, calm, InCall}
+use Rattle.clk_model.proofs.Scenes.{Scene, scene, prepared_in, IsSound, GoesWell, IsSafe, is_calm, is_over, calm, InCall}
 use Rattle.clk_model.proofs.KeepLaws.{keeps_lowered}
 use Rattle.clk_model.proofs.SceneStepLaws.{Lands, lands_on, lands_same, lands_lowered}
-use Rattle.clk_model.proofs.ArriveLaws.{Arrives, Powers, prepared_told, arrive}
+use Rattle.clk_model.proofs.ArriveLaws.{Arrives, Powers, prepared_told, to_be_told, arrive}
 
 -- ---- where a change goes
 
@@ -30,15 +31,20 @@ pub record Goes (t : State) : Type 0 where
   pub at : t.change ≡ Some change
   pub in_call : InCall t change
 
-pub goes_told : (s t : State) (what : Sleeping) (timed : Bool) (cover late : Option ℕ) (b : Scene) (ms : List Micro) → t.defs ≡ s.defs → scene late t ≡ b
+pub goes_told : (s t : State) (what : Sleeping) (timed : Bool) (cover : List ℕ) (late : Option ℕ) (b : Scene) (ms : List Micro) → t.defs ≡ s.defs → scene late t ≡ b
     → GoesWell s.defs what timed cover b ms → GoesWell t.defs what timed cover (scene late t) ms
 goes_told s t what timed cover late b ms defs is goes =
     subst (λ (d : Description). GoesWell d what timed cover (scene late t) ms) (sym defs) (subst (λ (x : Scene). GoesWell s.defs what timed cover x ms) (sym is) goes)
 
+-- the clocks on the paths of others can be told from the scene
+pub over_told : (s t : State) (late : Option ℕ) (xs : List ℕ) (y : ℕ) → scene late t ≡ scene late s → is_over t xs y ≡ is_over s xs y
+over_told s t late xs y is =
+    ap (λ (on_path : ℕ → List ℕ). list_any (λ x. is_in y (on_path x)) xs) (fun_ext (λ x. to_be_told late t (scene late s) x is ∙ sym (to_be_told late s (scene late s) x refl)))
+
 -- a change that stands between its raises
 pub stands_calm : (s t : State) (k : Change) (late : Option ℕ) (b : Scene) (rest : List Micro) → Arrives s late t b → t.change ≡ Some k
     → k.front ≡ map (λ y. micro.Fall (clock_id y)) k.raised ++ rest → list_all is_calm rest ≡ true → ((y : ℕ) → is_in y k.raised ≡ true → prepared_in s.defs b y ≡ false)
-    → GoesWell s.defs k.call k.timed_out None b k.left → Goes t
+    → GoesWell s.defs k.call k.timed_out [] b k.left → Goes t
 stands_calm s t k late b rest arrives at front still idle goes = record {
   change = k;
   at = at;
@@ -46,7 +52,7 @@ stands_calm s t k late b rest arrives at front still idle goes = record {
     late = late;
     safe = arrives.safe;
     stands = calm rest front still (λ y m. prepared_told late late s t b y arrives.defs arrives.scene_is ∙ idle y m)
-        (goes_told s t k.call k.timed_out None late b k.left arrives.defs arrives.scene_is goes);
+        (goes_told s t k.call k.timed_out [] late b k.left arrives.defs arrives.scene_is goes);
   };
 }
 
@@ -72,7 +78,7 @@ change_after s u t k event at = sym (ap (λ (v : State). v.change) event.state) 
 
 pub fall_goes : (s t : State) (k l : Change) (late : Option ℕ) (y : ℕ) (ys : List ℕ) (rest : List Micro) → IsSafe late s → k.raised ≡ y ∷ ys → k.front ≡ map (λ z. micro.Fall (clock_id z)) ys ++ rest
     → list_all is_calm rest ≡ true → ((z : ℕ) → is_in z (y ∷ ys) ≡ true → prepared s z ≡ false)
-    → GoesWell s.defs k.call k.timed_out None (scene late s) k.left → IsEvent s (fall s k y) t → Goes t
+    → GoesWell s.defs k.call k.timed_out [] (scene late s) k.left → IsEvent s (fall s k y) t → Goes t
 fall_goes s t k l late y ys rest safe list front still idle goes event =
     let less : without_one y k.raised ≡ ys = ap (without_one y) list ∙ ap (λ (b : Bool). cond b ys (y ∷ without_one y ys)) (test_same y) in
     let arrives = arrive_same late s (fall s k y) t safe
@@ -82,7 +88,7 @@ fall_goes s t k l late y ys rest safe list front still idle goes event =
     (λ z m. idle z (is_in_tail z y ys (sym (ap (is_in z) less) ∙ m))) goes
 
 pub told_goes : (s t : State) (k : Change) (late : Option ℕ) → IsSafe late s → k.raised ≡ [] → list_all is_calm k.front ≡ true
-    → GoesWell s.defs k.call k.timed_out None (scene late s) k.left → IsEvent s (on s k) t → Goes t
+    → GoesWell s.defs k.call k.timed_out [] (scene late s) k.left → IsEvent s (on s k) t → Goes t
 told_goes s t k late safe list still goes event =
     stands_calm s t k late (scene late s) k.front (arrive_same late s (on s k) t safe (lands_same s late k) event) (change_after s (on s k) t k event refl)
     (ap (λ (zs : List ℕ). map (λ z. micro.Fall (clock_id z)) zs ++ k.front) (sym list)) still
@@ -102,12 +108,12 @@ lowered_change s k x still = one (slice_get (to_lower s x) 0) where
   one (Some y) = (_, refl, refl, refl, refl, refl, calm_before (nat_le 2 (length (to_lower s x))) (micro.Lower (clock_id x)) k.front refl still)
 
 pub lower_goes : (s t : State) (k : Change) (late : Option ℕ) (x : ℕ) → IsSafe late s → k.raised ≡ [] → list_all is_calm k.front ≡ true
-    → GoesWell s.defs k.call k.timed_out None (scene late s) k.left → IsEvent s (lower s k x) t → Goes t
+    → GoesWell s.defs k.call k.timed_out [] (scene late s) k.left → IsEvent s (lower s k x) t → Goes t
 lower_goes s t k late x safe list still goes event =
     let j = lowered_change s k x still in
     stands_calm s t j.0 late (scene late s) (j.0).front (arrive_same late s (lower s k x) t safe (lands_lowered s late k x safe.wired.valid) event) (change_after s (lower s k x) t j.0 event j.1)
     (ap (λ (zs : List ℕ). map (λ z. micro.Fall (clock_id z)) zs ++ (j.0).front) (sym (j.5 ∙ list))) j.6
     (λ y m. let no : false ≡ true = sym (ap (is_in y) (j.5 ∙ list)) ∙ m in absurd cc)
-    (subst (λ (ms : List Micro). GoesWell s.defs (j.0).call (j.0).timed_out None (scene late s) ms) (sym j.4)
-    (subst (λ (b : Bool). GoesWell s.defs (j.0).call b None (scene late s) k.left) (sym j.3)
-    (subst (λ (w : Sleeping). GoesWell s.defs w k.timed_out None (scene late s) k.left) (sym j.2) goes)))
+    (subst (λ (ms : List Micro). GoesWell s.defs (j.0).call (j.0).timed_out [] (scene late s) ms) (sym j.4)
+    (subst (λ (b : Bool). GoesWell s.defs (j.0).call b [] (scene late s) k.left) (sym j.3)
+    (subst (λ (w : Sleeping). GoesWell s.defs w k.timed_out [] (scene late s) k.left) (sym j.2) goes)))

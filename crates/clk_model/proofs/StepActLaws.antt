@@ -1,6 +1,6 @@
 -- Laws on what each step of a plan makes of the tree of a state, and puts in front of the script.
-use Rattle.std.proofs.Common.{◌≡◌, ℕ, zero, suc, ◌+◌, ◌-◌, Bool, true, false, cond, List, [], ◌∷◌, ◌++◌, Option, Some, None, refl, sym, ap, ◌⊎◌, inl, inr, arith, length, nat_le, map, true≢false}
-use Rattle.std.specs.Prelude.{slice_get, slice_set, slice_index, reverse, option_map, ◌==◌}
+use Rattle.std.proofs.Common.{◌≡◌, ℕ, zero, suc, ◌+◌, ◌-◌, Bool, true, false, cond, List, [], ◌∷◌, ◌++◌, Option, Some, None, refl, sym, ap, subst, ◌⊎◌, inl, inr, arith, length, nat_le, map, true≢false}
+use Rattle.std.specs.Prelude.{slice_get, slice_set, slice_index, reverse, option_map, find, if◌then◌else◌, ◌==◌}
 use Rattle.std.specs.List.{list_all}
 use Rattle.std.specs.Option.{option_map_or}
 use Rattle.std.proofs.lemmas.Bool.{and_from}
@@ -22,10 +22,11 @@ use Rattle.clk_base.specs.Levels.{depth}
 use Rattle.clk_model.specs.Tree.{children}
 use Rattle.clk_model.specs.Walk.{below_within}
 use Rattle.clk_model.specs.Rate.{rate}
-use Rattle.clk_model.specs.Round.{wiring}
-use Rattle.clk_model.specs.Chain.{clock_id}
+use Rattle.clk_model.specs.Lists.{is_at}
+use Rattle.clk_model.specs.Round.{wiring, parent_rate_in}
+use Rattle.clk_model.specs.Chain.{clock_id, setting}
 use Rattle.clk_model.specs.Notices.{Rates, notifiers_of, post_list}
-use Rattle.clk_model.specs.Step.{cut_short, aborts_of, on, powered, timed_out, to_raise, raise_one, raise, poll, is_yes, to_lower, lower_one, lower, set_in_chain, visit, stepped}
+use Rattle.clk_model.specs.Step.{missed_by, cut_short, aborts_of, on, powered, timed_out, to_raise, raise_one, raise, poll, is_yes, to_lower, lower_one, lower, set_in_chain, visit, stepped}
 use Rattle.clk_model.specs.Prep.{prep}
 use Rattle.clk_model.specs.Laws.Outcomes.{SameSettings}
 use Rattle.clk_model.specs.Laws.Plans.{LieApart}
@@ -87,33 +88,36 @@ link_row (r ∷ clocks) (suc c) row same (suc d) = link_row clocks c row same d
 -- ---- what a step leaves of a tree
 
 -- the tree after a step is what the step makes of it
-pub step_tree : (s : State) (k : Change) (answer : Option Bool) (m : Micro) → IsValid (length s.regs) s.defs → writes_fit s.defs m ≡ true → (stepped s k answer m).1 ≡ turn.Going
+pub step_tree : (s : State) (k : Change) (answer : Option Bool) (m : Micro) → IsValid (length s.regs) s.defs → writes_fit s.defs m ≡ true → k.missed ≡ None → (stepped s k answer m).1 ≡ turn.Going
     → SameSettings (wiring (stepped s k answer m).0) (act k.chain m (wiring s))
 unfolding stepped
-step_tree s k answer (micro.Notify kind c id old new) valid fits going = same_settings (wiring s)
-step_tree s k answer (micro.Raise x) valid fits going =
+step_tree s k answer (micro.Notify kind c id old new) valid fits planned going = same_settings (wiring s)
+step_tree s k answer (micro.Raise x) valid fits planned going =
     by_option (λ u. SameSettings (wiring u) (wiring s)) (slice_get (reverse (to_raise s k x.0)) 0) (raise_one s k x.0) (on s (record k { again = 0 })) (same_settings (wiring s)) (λ y. power_settings s y true valid)
-step_tree s k answer (micro.Poll y) valid fits going = polled (is_yes answer) where
+step_tree s k answer (micro.Poll y) valid fits planned going = polled (is_yes answer) where
   polled : (b : Bool) → SameSettings (wiring (poll s k y.0 b)) (wiring s)
   polled true = same_settings (wiring s)
   polled false = by_test (λ u. SameSettings (wiring u) (wiring s)) (nat_le k.polls 1) (timed_out s (record k { polls = 0 })) (on s (record k { polls = k.polls - 1; front = micro.Poll (clock_id y.0) ∷ k.front }))
       (same_settings (wiring s)) (same_settings (wiring s))
-step_tree s k answer (micro.Fall y) valid fits going = power_settings s y.0 false valid
-step_tree s k answer (micro.HoldPrepare x) valid fits going = same_settings (wiring s)
-step_tree s k answer (micro.HoldEnable x) valid fits going = same_settings (wiring s)
-step_tree s k answer (micro.Relink c p) valid fits going = same_settings (act k.chain (micro.Relink c p) (wiring s))
-step_tree s k answer (micro.WriteMux c place) valid fits going = same_settings (act k.chain (micro.WriteMux c place) (wiring s))
-step_tree s k answer (micro.DropEnable x) valid fits going = same_settings (wiring s)
-step_tree s k answer (micro.DropPrepare x) valid fits going = same_settings (wiring s)
-step_tree s k answer (micro.Lower x) valid fits going =
+step_tree s k answer (micro.Fall y) valid fits planned going = power_settings s y.0 false valid
+step_tree s k answer (micro.HoldPrepare x) valid fits planned going = same_settings (wiring s)
+step_tree s k answer (micro.HoldEnable x) valid fits planned going = same_settings (wiring s)
+step_tree s k answer (micro.Relink c p) valid fits planned going = same_settings (act k.chain (micro.Relink c p) (wiring s))
+step_tree s k answer (micro.WriteMux c place) valid fits planned going = same_settings (act k.chain (micro.WriteMux c place) (wiring s))
+step_tree s k answer (micro.DropEnable x) valid fits planned going = same_settings (wiring s)
+step_tree s k answer (micro.DropPrepare x) valid fits planned going = same_settings (wiring s)
+step_tree s k answer (micro.Lower x) valid fits planned going =
     by_option (λ u. SameSettings (wiring u) (wiring s)) (slice_get (to_lower s x.0) 0) (lower_one s k x.0) (on s (record k { again = 0 })) (same_settings (wiring s)) (λ y. power_settings s y false valid)
-step_tree s k answer (micro.Visit c) valid fits going = same_settings (act k.chain (micro.Visit c) (wiring s))
-step_tree s k answer (micro.Register c) valid fits going = absurd (true≢false (sym fits))
-step_tree s k answer (micro.Settle c) valid fits going =
+step_tree s k answer (micro.Visit c) valid fits planned going =
+    subst (λ (o : Option ℕ). SameSettings
+    (record (wiring s) { regs = option_map_or (λ r. setting (kind_of s.defs c.0) (parent_rate_in (wiring s) c.0) r s.regs) (if is_at c.0 o then None else option_map (λ step. step.rate) (find (λ step. step.clock == c.0) k.chain)) s.regs })
+    (act k.chain (micro.Visit c) (wiring s))) (sym planned) (same_settings (act k.chain (micro.Visit c) (wiring s)))
+step_tree s k answer (micro.Register c) valid fits planned going = absurd (true≢false (sym fits))
+step_tree s k answer (micro.Settle c) valid fits planned going =
     record { defs = refl; rows = length-settle_all s (below_within (children s.order s.clocks) depth c.0); words = refl; links = λ d. settled_links s (below_within (children s.order s.clocks) depth c.0) d; fields = λ d f at. refl }
-step_tree s k answer (micro.Close c) valid fits going = absurd (true≢false (sym fits))
-step_tree s k answer (micro.Unpower c) valid fits going = absurd (true≢false (sym fits))
-step_tree s k answer micro.End valid fits going = absurd cc
+step_tree s k answer (micro.Close c) valid fits planned going = absurd (true≢false (sym fits))
+step_tree s k answer (micro.Unpower c) valid fits planned going = absurd (true≢false (sym fits))
+step_tree s k answer micro.End valid fits planned going = absurd cc
 
 -- ---- what a step puts in front
 
@@ -195,6 +199,7 @@ poll_adds s k y false =
         extra = 0;
         front = map (λ z. micro.Fall (clock_id z)) k.raised ++ aborts_of s (record k { polls = 0 });
         left = cut_short k.call k.left;
+        missed = missed_by k.call k.left;
       };
       is = refl;
       either = inl refl;

@@ -26,7 +26,7 @@ pub record IsAfter (m : Micro) (k k' : Change) : Type 0 where
   pub call : k'.call ≡ k.call
   pub chain : k'.chain ≡ k.chain
   pub vetoed : k'.vetoed ≡ k.vetoed
-  pub left : ((k'.left ≡ k.left) × (k'.timed_out ≡ k.timed_out)) ⊎ ((raises m ≡ true) × (k'.left ≡ cut_short k.call k.left) × (k'.timed_out ≡ true))
+  pub left : ((k'.left ≡ k.left) × (k'.timed_out ≡ k.timed_out) × (k'.missed ≡ k.missed)) ⊎ ((raises m ≡ true) × (k'.left ≡ cut_short k.call k.left) × (k'.timed_out ≡ true))
   pub unvetoed : list_any is_veto k.front ≡ false → list_any is_veto k'.front ≡ false
   pub calm : raises m ≡ false → list_any raises k.front ≡ false → list_any raises k'.front ≡ false
 
@@ -42,7 +42,7 @@ stays m k = record {
   call = refl;
   chain = refl;
   vetoed = refl;
-  left = inl (refl, refl);
+  left = inl (refl, refl, refl);
   unvetoed = λ none. none;
   calm = λ e none. none;
 }
@@ -54,7 +54,7 @@ recounted m k raised polls again = record {
   call = refl;
   chain = refl;
   vetoed = refl;
-  left = inl (refl, refl);
+  left = inl (refl, refl, refl);
   unvetoed = λ none. none;
   calm = λ e none. none;
 }
@@ -72,7 +72,7 @@ one_raised s k x y = record {
   call = refl;
   chain = refl;
   vetoed = refl;
-  left = inl (refl, refl);
+  left = inl (refl, refl, refl);
   unvetoed = λ none. none_append is_veto (cond (nat_le 2 (length (to_raise s k x))) (micro.Raise (clock_id x) ∷ []) []) k.front
       (none_if is_veto (nat_le 2 (length (to_raise s k x))) (micro.Raise (clock_id x) ∷ []) [] refl refl) none;
   calm = λ e none. absurd cc;
@@ -89,7 +89,7 @@ one_lowered s k x y = record {
   call = refl;
   chain = refl;
   vetoed = refl;
-  left = inl (refl, refl);
+  left = inl (refl, refl, refl);
   unvetoed = λ none. none_append is_veto (cond (nat_le 2 (length (to_lower s x))) (micro.Lower (clock_id x) ∷ []) []) k.front
       (none_if is_veto (nat_le 2 (length (to_lower s x))) (micro.Lower (clock_id x) ∷ []) [] refl refl) none;
   calm = λ e none. none_append raises (cond (nat_le 2 (length (to_lower s x))) (micro.Lower (clock_id x) ∷ []) []) k.front
@@ -127,7 +127,7 @@ poll_again s k y = record {
   call = refl;
   chain = refl;
   vetoed = refl;
-  left = inl (refl, refl);
+  left = inl (refl, refl, refl);
   unvetoed = λ none. none;
   calm = λ e none. absurd cc;
 }
@@ -156,7 +156,7 @@ visit_leaves s k c =
       call = refl;
       chain = refl;
       vetoed = refl;
-      left = inl (refl, refl);
+      left = inl (refl, refl, refl);
       unvetoed = λ none. none_append is_veto (cond same [] (post_list rates s.notifiers c)) k.front
           (none_if is_veto same [] (post_list rates s.notifiers c) refl (post_is_no is_veto rates s.notifiers c (λ n. refl))) none;
       calm = λ e none. none_append raises (cond same [] (post_list rates s.notifiers c)) k.front

@@ -1,5 +1,5 @@
 -- Laws on changes that go well: each clock that the notices before the change were for is told of it once.
-use Rattle.std.proofs.Common.{◌≡◌, ℕ, ◌||◌, Bool, true, false, not, cond, List, [], ◌∷◌, ◌++◌, Some, refl, sym, ap, ◌∙◌, inl, inr, length}
+use Rattle.std.proofs.Common.{◌≡◌, ℕ, Bool, true, false, not, cond, List, [], ◌∷◌, ◌++◌, Some, refl, sym, ap, ◌∙◌, inl, inr, length, Option, None}
 use Rattle.std.proofs.lemmas.List.{append_assoc}
 use Rattle.std.proofs.lemmas.List.Folds.{list_any-append}
 use Rattle.std.specs.Prelude.{◌==◌, flat_map, if◌then◌else◌}
@@ -22,6 +22,9 @@ use Rattle.clk_model.specs.Laws.ChangesTold.{is_post_of, is_pre}
 use Rattle.clk_model.specs.Laws.PlansRead.{plans}
 use Rattle.clk_model.proofs.Members.{is_in_cases, same_from_test, test_same, not_either, or_left, or_right}
 use Rattle.clk_model.proofs.NoneLaws.{none_append}
+use Rattle.clk_model.specs.Script.{fed_step, runs_for, visit_of}
+use Rattle.clk_model.proofs.FeedLaws.{NoFeeding}
+use Rattle.clk_model.proofs.ScriptLaws.{none_visit}
 use Rattle.clk_model.proofs.OnceLaws.{once_head}
 use Rattle.clk_model.proofs.BeginLaws.{walked_at, walked}
 use Rattle.clk_model.proofs.PlanLaws.{chains_lead}
@@ -61,11 +64,16 @@ visits_none c (x ∷ xs) none =
     let parts = not_either (visits_of c x) (list_any (visits_of c) xs) none in
     ap (λ (b : Bool). if b then not (list_any (visits_of c) xs) else visits_once c xs) parts.0 ∙ visits_none c xs parts.1
 
+feeding_no_visit : (c : ℕ) → NoFeeding (visits_of c)
+feeding_no_visit c (micro.Visit d) e = absurd cc
+feeding_no_visit c m e = refl
+
 -- the visits of other clocks
 others_unvisited : (n : State) (ks : List ChainStep) (c : ℕ) (ws : List ℕ) → is_in c ws ≡ false → list_any (visits_of c) (flat_map (walked_at n ks) ws) ≡ false
 others_unvisited n ks c ws out =
     none_flat_in (visits_of c) (walked_at n ks) ws
-    (λ x m. none_append (visits_of c) (move_of n.defs n.clocks (prepared n) ks x) (micro.Visit (clock_id x) ∷ []) (moves_no_visit n ks c x) (ap (λ (b : Bool). b || false) (apart x m (x == c) refl))) where
+    (λ x m. none_append (visits_of c) (move_of n.defs n.clocks (prepared n) ks x) (visit_of n.defs n.clocks ks x) (moves_no_visit n ks c x)
+    (none_visit (visits_of c) n.defs n.clocks ks x (feeding_no_visit c) (apart x m (x == c) refl))) where
       apart : (x : ℕ) → is_in x ws ≡ true → (t : Bool) → (x == c) ≡ t → t ≡ false
       apart x m true e = let no : false ≡ true = sym out ∙ ap (λ (y : ℕ). is_in y ws) (sym (same_from_test x c e)) ∙ m in absurd cc
       apart x m false e = refl
@@ -73,11 +81,16 @@ others_unvisited n ks c ws out =
 walk_once : (n : State) (ks : List ChainStep) (c : ℕ) (ws : List ℕ) (tail : List Micro) → none_twice ws ≡ true → list_any (visits_of c) tail ≡ false → visits_once c (flat_map (walked_at n ks) ws ++ tail) ≡ true
 walk_once n ks c [] tail once none = visits_none c tail none
 walk_once n ks c (w ∷ ws) tail once none =
-    ap (visits_once c) (append_assoc (walked_at n ks w) rest tail ∙ append_assoc (move_of n.defs n.clocks (prepared n) ks w) (micro.Visit (clock_id w) ∷ []) (rest ++ tail))
-    ∙ visits_past c (move_of n.defs n.clocks (prepared n) ks w) (micro.Visit (clock_id w) ∷ (rest ++ tail)) (moves_no_visit n ks c w)
+    ap (visits_once c) (append_assoc (walked_at n ks w) rest tail ∙ append_assoc (move_of n.defs n.clocks (prepared n) ks w) (visit_of n.defs n.clocks ks w) (rest ++ tail))
+    ∙ visits_past c (move_of n.defs n.clocks (prepared n) ks w) (visit_of n.defs n.clocks ks w ++ (rest ++ tail)) (moves_no_visit n ks c w)
+    ∙ fed (runs_for n.defs n.clocks ks w)
     ∙ by_clock (w == c) refl (walk_once n ks c ws tail (once_head w ws once).1 none) where
       rest : List Micro
       rest = flat_map (walked_at n ks) ws
+
+      fed : (o : Option ℕ) → visits_once c (fed_step o (micro.Visit (clock_id w)) ++ (rest ++ tail)) ≡ visits_once c (micro.Visit (clock_id w) ∷ (rest ++ tail))
+      fed None = refl
+      fed (Some x) = refl
 
       by_clock : (t : Bool) → (w == c) ≡ t → visits_once c (rest ++ tail) ≡ true → (if t then not (list_any (visits_of c) (rest ++ tail)) else visits_once c (rest ++ tail)) ≡ true
       by_clock false e later = later
@@ -92,9 +105,12 @@ walk_visits n ks c (w ∷ ws) m =
     ∙ elim (is_in_cases c w ws m) [
       | inr later ↦ or_right (list_any (visits_of c) (walked_at n ks w)) (list_any (visits_of c) (flat_map (walked_at n ks) ws)) (walk_visits n ks c ws later)
       | inl same ↦ or_left (list_any (visits_of c) (walked_at n ks w)) (list_any (visits_of c) (flat_map (walked_at n ks) ws))
-          (list_any-append (visits_of c) (move_of n.defs n.clocks (prepared n) ks w) (micro.Visit (clock_id w) ∷ [])
-          ∙ or_right (list_any (visits_of c) (move_of n.defs n.clocks (prepared n) ks w)) ((w == c) || false) (or_left (w == c) false (ap (λ (x : ℕ). x == c) same ∙ test_same c)))
-    ]
+          (list_any-append (visits_of c) (move_of n.defs n.clocks (prepared n) ks w) (visit_of n.defs n.clocks ks w)
+          ∙ or_right (list_any (visits_of c) (move_of n.defs n.clocks (prepared n) ks w)) (list_any (visits_of c) (visit_of n.defs n.clocks ks w)) (fed_visits (runs_for n.defs n.clocks ks w) same))
+    ] where
+      fed_visits : (o : Option ℕ) → w ≡ c → list_any (visits_of c) (fed_step o (micro.Visit (clock_id w))) ≡ true
+      fed_visits None same = or_left (w == c) false (ap (λ (x : ℕ). x == c) same ∙ test_same c)
+      fed_visits (Some x) same = or_left (w == c) false (ap (λ (x' : ℕ). x' == c) same ∙ test_same c)
 
 -- the script of a plan that isn't called off
 pub planned_visits : (n : State) (base : ℕ) (ks : List ChainStep) (settles : List Micro) (c : ℕ) → PlanOver n base ks → list_any is_veto (pre_notices n ks) ≡ false → is_in c (walk n.order (wiring n) ks) ≡ true
@@ -141,6 +157,7 @@ pub record PlanBegins (q n : State) (k : Change) : Type 0 where
   pub outcome_is : k.outcome ≡ rates_in (outcome_of n k.chain)
   pub vetoed : k.vetoed ≡ list_any is_veto (pre_notices n k.chain)
   pub on_time_ : k.timed_out ≡ false
+  pub missed_ : k.missed ≡ None
   pub silent : (c : ℕ) → (list_any (visits_of c) settles ≡ false) × (list_any (is_post_of c) settles ≡ false)
   pub hears : (c : ℕ) → expected n k.chain c ≡ expected q k.chain c
   pub changes : changing n.order (wiring n) k.chain ≡ changing q.order (wiring q) k.chain
@@ -174,6 +191,7 @@ plan_begins q n d what k rest plans_ (planning _ number row over x ks range plan
       outcome_is = refl;
       vetoed = refl;
       on_time_ = refl;
+      missed_ = refl;
       silent = λ c. (refl, refl);
       hears = λ c. by_state planned_ c;
       changes = by_changing planned_;
@@ -208,6 +226,7 @@ plan_begins q n d what k rest plans_ (reparents number row p sets at away mux m 
       outcome_is = refl;
       vetoed = refl;
       on_time_ = refl;
+      missed_ = refl;
       silent = λ e. (refl, refl);
       hears = λ e. refl;
       changes = refl;

@@ -1,5 +1,5 @@
 -- Laws on changes that go well and their notices: each visit of a clock whose rate the plan changes tells it, and nothing else does.
-use Rattle.std.proofs.Common.{◌≡◌, ℕ, zero, suc, ◌+◌, ◌<◌, Bool, true, false, not, map, List, [], ◌∷◌, ◌++◌, Option, Some, refl, sym, ap, subst, ◌∙◌, ◌⊎◌, inl, inr, arith, length, nat_eq}
+use Rattle.std.proofs.Common.{◌≡◌, ℕ, zero, suc, ◌+◌, ◌<◌, Bool, true, false, not, map, List, [], ◌∷◌, ◌++◌, Option, Some, refl, sym, ap, subst, ◌∙◌, ◌⊎◌, inl, inr, arith, length, nat_eq, None}
 use Rattle.std.proofs.lemmas.Bool.{cases_lt}
 use Rattle.std.proofs.lemmas.List.{get_or_past, append-nil}
 use Rattle.std.proofs.lemmas.Option.{same_Some}
@@ -118,6 +118,7 @@ pub record OnTime (n : State) (ks : List ChainStep) (c : ℕ) (s : State) (k : C
   pub total : posts c made ++ (posts c k.front ++ to_come n ks c k.left) ≡ expected n ks c
   pub once : visits_once c k.left ≡ true
   pub quiet_ : list_any (is_post_of c) k.left ≡ false
+  pub planned_ : k.missed ≡ None
 
 pub data Telling (n : State) (ks : List ChainStep) (c : ℕ) (s : State) (k : Change) (made : List Micro) : Type 0 where
   late : k.timed_out ≡ true → Telling n ks c s k made

@@ -74,7 +74,10 @@ use Rattle.clk_model.specs.Step.{from_first}
 use Rattle.clk_model.specs.Laws.Flight.{may_be_put}
 use Rattle.clk_model.specs.Laws.PrepTold.{DiffersInEnables}
 use Rattle.clk_model.proofs.NoneLaws.{none_map, none_flat_map, none_if}
-use Rattle.clk_model.proofs.ScriptLaws.{none_planned_front}
+use Rattle.clk_model.proofs.ScriptLaws.{none_planned_front, none_visit}
+use Rattle.clk_model.proofs.FeedLaws.{NoFeeding}
+use Rattle.clk_model.specs.Script.{visit_of}
+use Rattle.clk_model.proofs.PlanGoLaws.{feeding_no_end}
 use Rattle.clk_model.proofs.WalkGoLaws.{from_first_past}
 use Rattle.clk_model.proofs.NextLaws.{Comes, was_put, was_own, comes_of}
 use Rattle.clk_model.proofs.FlightLaws.{front_put}
@@ -89,6 +92,10 @@ no_post : (c : ℕ) (m : Micro) → is_moving m ≡ true → is_post_of c m ≡ 
 no_post c (micro.Notify kind d id old new) moves_ = absurd cc
 no_post c m moves_ = refl
 
+feeding_posts_none : (c : ℕ) → NoFeeding (is_post_of c)
+feeding_posts_none c (micro.Notify kind d id old new) e = absurd cc
+feeding_posts_none c m e = refl
+
 -- no script of a plan tells that a rate has changed: the visits do
 quiet_posts : (n : State) (ks : List ChainStep) (settles : List Micro) (c : ℕ) → list_any (is_post_of c) settles ≡ false → list_any (is_post_of c) (planned n ks settles).steps ≡ false
 quiet_posts n ks settles c silent =
@@ -101,8 +108,9 @@ quiet_posts n ks settles c silent =
     (λ x. none_map (is_post_of c) (λ (r : NotifierRow). micro.Notify notice.Abort (clock_id x) r.id (slice_index (plan_rates n ks).before x) (slice_index (plan_rates n ks).outcome x)) (notifiers_of n.notifiers x) (λ r. refl)))
     (none_append (is_post_of c) (walked n ks) settles
     (none_flat_map (is_post_of c) (walked_at n ks) (walk n.order (wiring n) ks)
-    (λ x. none_append (is_post_of c) (move_of n.defs n.clocks (prepared n) ks x) (micro.Visit (clock_id x) ∷ [])
-    (none_move_of (is_post_of c) n.defs n.clocks (prepared n) ks x (all_moves (NoMove (is_post_of c) n.defs n.clocks (prepared n) x) ks (λ k same p at. none_move (is_post_of c) n x p (no_post c)))) refl))
+    (λ x. none_append (is_post_of c) (move_of n.defs n.clocks (prepared n) ks x) (visit_of n.defs n.clocks ks x)
+    (none_move_of (is_post_of c) n.defs n.clocks (prepared n) ks x (all_moves (NoMove (is_post_of c) n.defs n.clocks (prepared n) x) ks (λ k same p at. none_move (is_post_of c) n x p (no_post c))))
+    (none_visit (is_post_of c) n.defs n.clocks ks x (feeding_posts_none c) refl)))
     silent))) refl where
       before : (x : ℕ) (ns : List NotifierRow) → list_any (is_post_of c) (until_veto (plan_rates n ks) x ns) ≡ false
       before x [] = refl
@@ -115,7 +123,7 @@ none_behind_end n ks settles c none =
     ∙ ap (list_any (visits_of c))
     (from_first_past is_end (planned_front n ks settles) (micro.End ∷ [])
     (none_planned_front is_end n ks settles (λ kind x id old new. refl)
-    (λ x. none_move_of is_end n.defs n.clocks (prepared n) ks x (all_moves (NoMove is_end n.defs n.clocks (prepared n) x) ks (λ k same p at. none_move is_end n x p no_end))) (λ x. refl) none))
+    (λ x. none_move_of is_end n.defs n.clocks (prepared n) ks x (all_moves (NoMove is_end n.defs n.clocks (prepared n) x) ks (λ k same p at. none_move is_end n x p no_end))) (λ x. none_visit is_end n.defs n.clocks ks x feeding_no_end refl) none))
 
 abbrev Behind : ℕ → Change → Type 0
 Behind c k = (k.timed_out ≡ true) ⊎ (list_any (visits_of c) (from_first is_end k.left) ≡ false)
@@ -231,6 +239,7 @@ told_beside q ps c s t other e x made tier is step = record {
     total = way.total;
     once = way.once;
     quiet_ = way.quiet_;
+    planned_ = way.planned_;
   })
 
 -- ---- beginnings
@@ -304,6 +313,7 @@ told_begins q s d what c run plans_ step m = by_case (begun q d what) (begins_so
               ∙ ap (λ (b : Bool). if b then expected n k.chain c else []) seen.0;
           once = ap (visits_once c) is.left ∙ seen.1;
           quiet_ = ap (list_any (is_post_of c)) is.left ∙ quiet_posts n k.chain is.settles c (is.silent c).1;
+          planned_ = is.missed_;
         })
 
   by_case : (y : State × Turn) → Begins q d what y → y.1 ≡ turn.Going → record (settled q y.0) { spent = q.spent + 1 } ≡ s → is_in c (changing q.order (wiring q) (chain_of y.0)) ≡ true

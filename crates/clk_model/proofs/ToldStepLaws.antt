@@ -105,7 +105,7 @@ telling_step n base ks c s t d m answer k j made plan step wired wired_t shape f
       behind way.done (alike.defs ∙ way.agrees.defs) (λ a. agrees_alike n ks s u (way.done a) a way.agrees.defs alike (way.agrees.each a))
 
   Same : Type 0
-  Same = (j.left ≡ (taken k).left) × (j.timed_out ≡ (taken k).timed_out)
+  Same = (j.left ≡ (taken k).left) × (j.timed_out ≡ (taken k).timed_out) × (j.missed ≡ (taken k).missed)
 
   -- a step that stood in front
   from_front : Same → k.front ≡ m ∷ rest_of k.front → may_be_put m ≡ true → (taken k).left ≡ k.left → Telling n ks c t j (made ++ m ∷ [])
@@ -127,6 +127,7 @@ telling_step n base ks c s t d m answer k j made plan step wired wired_t shape f
           way.total;
       once = ap (visits_once c) here ∙ way.once;
       quiet_ = ap (list_any (is_post_of c)) here ∙ way.quiet_;
+      planned_ = same.2 ∙ way.planned_;
     })
 
   -- a step of the script
@@ -145,6 +146,7 @@ telling_step n base ks c s t d m answer k j made plan step wired wired_t shape f
         ∙ ap (to_come n ks c) (sym left) ∙ ap (λ (ns : List Micro). posts c ns ++ to_come n ks c k.left) (sym empty))
         way.total;
     once = ap (visits_once c) here ∙ once;
+    planned_ = same.2 ∙ way.planned_;
     quiet_ = ap (list_any (is_post_of c)) here ∙ none_rest (is_post_of c) m ms (ap (list_any (is_post_of c)) (sym left) ∙ way.quiet_);
   }) where
     here : j.left ≡ ms
@@ -178,7 +180,7 @@ telling_step n base ks c s t d m answer k j made plan step wired wired_t shape f
     done' = put_at x.0 true way.done
 
     is_visited : IsVisited n ks way.done s x.0 (set_in_chain s (taken k) x.0)
-    is_visited = visit_done n ks way.done s (taken k) x.0 base plan.over has.chain wired.valid way.agrees above visit_
+    is_visited = visit_done n ks way.done s (taken k) x.0 base plan.over has.chain way.planned_ wired.valid way.agrees above visit_
 
     state : u ≡ visit s (taken k) x.0
     state = visited_state s (taken k) answer m x at

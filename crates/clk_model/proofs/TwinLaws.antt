@@ -6,13 +6,10 @@ use Rattle.clk_base.specs.declared.call.Micro.{Micro}
 use Rattle.clk_base.specs.declared.call.Micro.TheVariants as micro
 use Rattle.clk_base.specs.declared.call.Sleeping.{Sleeping}
 use Rattle.clk_base.specs.declared.call.Sleeping.TheVariants as call
-use Rattle.clk_base.specs.declared.event.Errno.TheVariants as errno
 use Rattle.clk_base.specs.declared.event.Event.TheVariants as event
-use Rattle.clk_base.specs.declared.event.Reply.{Reply}
 use Rattle.clk_base.specs.declared.event.Reply.TheVariants as reply
 use Rattle.clk_base.specs.declared.event.Turn.{Turn}
 use Rattle.clk_base.specs.declared.event.Turn.TheVariants as turn
-use Rattle.clk_base.specs.Description.{Description}
 use Rattle.clk_model.specs.declared.row.ClockRow.{ClockRow}
 use Rattle.clk_model.specs.declared.row.HandleRow.{HandleRow}
 use Rattle.clk_model.specs.State.{State, Change, handle_at, link_in, requested}
@@ -20,14 +17,12 @@ use Rattle.clk_model.specs.Holders.{is_enabled}
 use Rattle.clk_model.specs.Round.{most_rate}
 use Rattle.clk_model.specs.Chain.{clock_id}
 use Rattle.clk_model.specs.Gates.{settled}
-use Rattle.clk_model.specs.Begin.{change_of, put_handle, register, prepared_once_more, held_once_more, request_between, begun}
+use Rattle.clk_model.specs.Begin.{put_handle, register, prepared_once_more, held_once_more, request_between, begun}
 use Rattle.clk_model.specs.Step.{taken, on, to_raise, raise_one, timed_out, poll, is_yes, to_lower, lower_one, ended_well, with_range, range_back, unranged, end_of, stepped}
 use Rattle.clk_model.specs.Machine.{next}
 use Rattle.clk_model.specs.Prep.{without_enables, prep}
-use Rattle.clk_model.specs.Laws.PrepBegins as prep_begins
-use Rattle.clk_model.specs.Laws.PrepBegins.{ComesAlike, finds_enable, IsKeptBack, BeginsAlike, alike, first_lacks_room, second_lacks_room, SweepComes, switched_off, lacks_room}
-use Rattle.clk_model.specs.Laws.PrepSteps.{fits_mux, is_of_sweep}
-use Rattle.clk_model.specs.Laws.Twins.{IsTwin, IsLeftOut, TwinsStay, TwinMakes, TwinsStep, TwinsBegin, TwinSweeps, TwinsSweep, TwinsStepSweeps}
+use Rattle.clk_model.specs.Laws.PrepBegins.{ComesAlike, finds_enable, IsKeptBack, BeginsAlike, alike, first_lacks_room, second_lacks_room}
+use Rattle.clk_model.specs.Laws.Twins.{IsTwin, IsLeftOut, TwinsStay, TwinMakes, TwinsStep, TwinsBegin}
 use Rattle.clk_model.proofs.BareHandleLaws.{bare, bare_set}
 use Rattle.clk_model.proofs.BeginsLaws.{Adjusts, over_itself, over_range, Starts, raising_handle, lowering_handle, planning, reparents, probing, sweeping, Begins, answers, gives, takes, adjusts, prepares, unprepares, notes, registers, goes_on, begins_so}
 use Rattle.clk_model.proofs.Cases.{by_option, by_test}
@@ -35,14 +30,13 @@ use Rattle.clk_model.proofs.FlightLaws.{begin_is}
 use Rattle.clk_model.proofs.HoldLaws.{end_holds}
 use Rattle.clk_model.proofs.HoldSteps.{holds_of, held_after_step, step_holds}
 use Rattle.clk_model.proofs.PrepToldLaws.{handle_masked}
-use Rattle.clk_model.proofs.ShapeLaws.{IsPaid, step_shape, taken_step, begun_paid, enable_paid}
+use Rattle.clk_model.proofs.ShapeLaws.{IsPaid, taken_step, begun_paid, enable_paid}
 use Rattle.clk_model.proofs.TierLaws.{enable_tier_leaves_prep, beside_clocks}
-use Rattle.clk_model.proofs.VetoLaws.{of_change, end_state, not_done}
+use Rattle.clk_model.proofs.VetoLaws.{of_change, end_state}
 use Rattle.clk_model.proofs.AlikeLaws.{same_change}
 use Rattle.clk_model.proofs.PlansReadLaws.{prep_credits, still_quiet}
 use Rattle.clk_model.proofs.PrepEndLaws.{steps_read_prep}
-use Rattle.clk_model.proofs.PrepSweepLaws.{sweeps_read_prep}
-use Rattle.clk_model.proofs.PrepEventLaws.{sweeps_begin_by_prep, bare_begins_read_prep, room_alike, begins_paid, prep_paid}
+use Rattle.clk_model.proofs.PrepEventLaws.{bare_begins_read_prep, room_alike, begins_paid, prep_paid}
 
 -- ---- the enable tier
 
@@ -312,85 +306,3 @@ twins_begin s t u d what x wired twin other step = by (bare_begins_read_prep s t
   by : IsKeptBack s (begun s d what) ⊎ ComesAlike s t (begun s d what) (begun t d what) → TwinMakes t d (event.Begin what) u x ⊎ (IsLeftOut x × IsTwin t u)
   by (inl kept) = inr (kept_back kept)
   by (inr come) = by_room (room_alike s t (begun s d what) (begun t d what) twin.same come)
-
--- ---- sweeps
-
-sweep_holds : (s : State) (k : Change) (answer : Option Bool) (m : Micro) → is_of_sweep m ≡ true → (stepped s k answer m).0.enable_holds ≡ s.enable_holds
-unfolding stepped
-sweep_holds s k answer (micro.Close c) is = refl
-sweep_holds s k answer (micro.Unpower c) is = refl
-sweep_holds s k answer micro.End is = ap (λ (h : List ℕ × List ℕ). h.1) (end_holds s k)
-sweep_holds s k answer _ is = absurd cc
-
-sweep_fits : (defs : Description) (m : Micro) → is_of_sweep m ≡ true → fits_mux defs m ≡ true
-sweep_fits defs (micro.WriteMux c place) is = absurd cc
-sweep_fits defs _ is = refl
-
-pub twins_step_sweeps : TwinsStepSweeps
-unfolding settled
-twins_step_sweeps s t u k l d m answer x wired twin at at' sweeps own step =
-    let is = of_change s u d m answer x k at step in
-    let alike_ = sweeps_read_prep s t u k l d m answer x wired twin.same at at' sweeps (sweep_fits s.defs m own) step in
-    let one = taken_step s u k d m answer x at step in
-    let shape = step_shape t l answer m in
-    let spent = one.spent in
-    let steps = one.steps in
-    let spent' = shape.spent in
-    let steps' = shape.steps in
-    let least = twin.spent in
-    let few = twin.steps in
-    let holds : u.enable_holds ≡ s.enable_holds = sym (ap (λ (v : State). v.enable_holds) is.state) ∙ sweep_holds s (taken k) answer m own in
-    record {
-      stepped_ = record {
-        bare = step_bare t l answer m twin.bare;
-        holds = sweep_holds t l answer m own ∙ twin.holds ∙ sym holds;
-        spent = omega arith;
-        steps = omega arith;
-        same = alike_.same;
-      };
-      closes = λ shuts. record {
-        bare = twin.bare;
-        holds = twin.holds ∙ sym holds;
-        spent = omega arith;
-        steps = omega arith;
-        same = twin.same ∙ sym (alike_.closes shuts);
-      };
-    }
-
-pub twins_sweep : TwinsSweep
-unfolding settled
-twins_sweep s t u d x wired twin step = by (sweeps_begin_by_prep s t d wired twin.same) where
-  is : (s.change ≡ None) × (record (settled s (begun s d call.Sweep).0) { spent = s.spent + 1 } ≡ u) × ((begun s d call.Sweep).1 ≡ x)
-  is = begin_is s u d call.Sweep x step
-
-  own : prep u ≡ prep (begun s d call.Sweep).0
-  own = ap prep (sym is.1) ∙ prep_paid s (begun s d call.Sweep)
-
-  goes : (v : State) → v.handles ≡ t.handles → v.enable_holds ≡ t.enable_holds → v.spent ≡ t.spent → v.steps ≡ t.steps → prep v ≡ prep u → IsTwin v u
-  goes v handles holds spent steps same =
-      let paid = (begun_paid s u d call.Sweep x step).0 in
-      let more = paid.spent in
-      let still = paid.steps in
-      let least = twin.spent in
-      let few = twin.steps in
-      record {
-        bare = handles ∙ twin.bare ∙ ap bare (sym handles);
-        holds = holds ∙ twin.holds ∙ sym (ap (λ (w : State). w.enable_holds) (sym is.1) ∙ (begun_kept s d call.Sweep (begun s d call.Sweep) (begins_so s d call.Sweep)).holds);
-        spent = omega arith;
-        steps = omega arith;
-        same = same;
-      }
-
-  nothing : (r : Reply) → begun s d call.Sweep ≡ (s, turn.Done r) → TwinSweeps t d u x
-  nothing r answer = record {
-    goes_on = λ going. absurd (not_done r (sym (ap (λ (y : State × Turn). y.1) answer) ∙ is.2 ∙ going));
-    answered = λ none. goes t refl refl refl refl (twin.same ∙ sym (own ∙ ap (λ (y : State × Turn). prep y.0) answer));
-  }
-
-  by : SweepComes s t d (begun s d call.Sweep) → TwinSweeps t d u x
-  by (switched_off one other) = nothing reply.Fine one
-  by (lacks_room one) = nothing (reply.Refused errno.ENOSPC) one
-  by (prep_begins.goes_on going scripts) = record {
-    goes_on = λ same ms. goes (record t { change = Some (change_of t d call.Sweep ms) }) refl refl refl refl (scripts ms ∙ sym own);
-    answered = λ none. absurd (none (sym is.2 ∙ going));
-  }

@@ -18,7 +18,8 @@ use Rattle.clk_model.specs.Kinds.{mux_field}
 use Rattle.clk_model.specs.State.{ChainStep, row_of, link_in}
 use Rattle.clk_model.specs.Round.{Wiring, parent_rate_in}
 use Rattle.clk_model.specs.Chain.{clock_id, linked, moves, place_of, select, setting, set_one, outcome}
-use Rattle.clk_model.specs.Script.{move, move_of}
+use Rattle.clk_model.specs.Script.{unfeed, fed_step, runs_for, visit_of, move, move_of}
+use Rattle.clk_base.specs.Flags.{runs_parent}
 use Rattle.clk_model.specs.Walk.{top_of, kids_after, walk}
 use Rattle.clk_model.specs.Wired.{IsWired, IsOrder}
 use Rattle.clk_model.specs.Laws.Plans.{clocks_in, LeadsUp, HasParent, LeadsFrom}
@@ -53,7 +54,20 @@ set_along before ks (c ∷ cs) w = set_along before ks cs (set_at before ks c w)
 
 -- the steps of a walk at one clock
 abbrev pub walked : Description → List ClockRow → (ℕ → Bool) → List ChainStep → ℕ → List Micro
-walked defs before prep ks c = move_of defs before prep ks c ++ micro.Visit (clock_id c) ∷ []
+walked defs before prep ks c = move_of defs before prep ks c ++ visit_of defs before ks c
+
+-- and without what keeps a clock running for them
+abbrev bare : Description → List ClockRow → (ℕ → Bool) → List ChainStep → ℕ → List Micro
+bare defs before prep ks c = move_of defs before prep ks c ++ micro.Visit (clock_id c) ∷ []
+
+bare_acts : (all ks : List ChainStep) (defs : Description) (before : List ClockRow) (prep : ℕ → Bool) (c : ℕ) (w : Wiring) → acted all (walked defs before prep ks c) w ≡ acted all (bare defs before prep ks c) w
+bare_acts all ks defs before prep c w =
+    acted_append all (move_of defs before prep ks c) (visit_of defs before ks c) w
+    ∙ fed (runs_for defs before ks c) (acted all (move_of defs before prep ks c) w)
+    ∙ sym (acted_append all (move_of defs before prep ks c) (micro.Visit (clock_id c) ∷ []) w) where
+      fed : (o : Option ℕ) (v : Wiring) → acted all (fed_step o (micro.Visit (clock_id c))) v ≡ act all (micro.Visit (clock_id c)) v
+      fed None v = refl
+      fed (Some x) v = refl
 
 -- a step that moves a clock leads somewhere, and the clock is a mux
 pub record MovesMux (defs : Description) (before : List ClockRow) (k : ChainStep) : Type 0 where
@@ -71,22 +85,25 @@ mux_setting (Pll word shift width power_word power_bit least most m) parent plan
 -- a move links the clock and writes its field, whichever other steps it has
 move_acts : (all : List ChainStep) (defs : Description) (before : List ClockRow) (prep : ℕ → Bool) (c p : ℕ) (w : Wiring) → w.defs ≡ defs
     → acted all (move defs before prep c p) w ≡ record w { clocks = linked w.clocks c p; regs = select w.defs c p w.regs }
-move_acts all defs before prep c p w same = by (prep c) (link_in before c) where
-  done : Wiring
-  done = record w { clocks = linked w.clocks c p; regs = select w.defs c p w.regs }
+move_acts all defs before prep c p w same =
+    either (prep c) _ _ done (lets (link_in before c) _ ∙ written) (either (runs_parent defs c) _ _ done (more (link_in before c) _ ∙ written) written) where
+      done : Wiring
+      done = record w { clocks = linked w.clocks c p; regs = select w.defs c p w.regs }
 
-  written : act all (micro.WriteMux (clock_id c) (place_of defs c p)) (act all (micro.Relink (clock_id c) (clock_id p)) w) ≡ record w { clocks = linked w.clocks c p; regs = select w.defs c p w.regs }
-  written = ap (λ (ds : Description). act all (micro.WriteMux (clock_id c) (place_of ds c p)) (act all (micro.Relink (clock_id c) (clock_id p)) w)) (sym same)
+      written : act all (micro.WriteMux (clock_id c) (place_of defs c p)) (act all (micro.Relink (clock_id c) (clock_id p)) w) ≡ record w { clocks = linked w.clocks c p; regs = select w.defs c p w.regs }
+      written = ap (λ (ds : Description). act all (micro.WriteMux (clock_id c) (place_of ds c p)) (act all (micro.Relink (clock_id c) (clock_id p)) w)) (sym same)
 
-  by : (t : Bool) (l : Option ℕ) → acted all (if t
-      then micro.Raise (clock_id p) ∷ micro.HoldPrepare (clock_id p) ∷ micro.HoldEnable (clock_id p) ∷ micro.HoldEnable (clock_id c)
-      ∷ micro.Relink (clock_id c) (clock_id p) ∷ micro.WriteMux (clock_id c) (place_of defs c p) ∷ micro.DropEnable (clock_id c)
-      ∷ option_map_or (λ o. micro.DropEnable (clock_id o) ∷ micro.DropPrepare (clock_id o) ∷ micro.Lower (clock_id o) ∷ []) l []
-      else micro.Relink (clock_id c) (clock_id p) ∷ micro.WriteMux (clock_id c) (place_of defs c p) ∷ []) w
-      ≡ record w { clocks = linked w.clocks c p; regs = select w.defs c p w.regs }
-  by true None = written
-  by true (Some o) = written
-  by false l = written
+      lets : (l : Option ℕ) (v : Wiring) → acted all (option_map_or unfeed l []) v ≡ v
+      lets None v = refl
+      lets (Some o) v = refl
+
+      more : (l : Option ℕ) (v : Wiring) → acted all (option_map_or unfeed l [] ++ unfeed c) v ≡ v
+      more None v = refl
+      more (Some o) v = refl
+
+      either : (t : Bool) (xs ys : List Micro) (v : Wiring) → acted all xs w ≡ v → acted all ys w ≡ v → acted all (cond t xs ys) w ≡ v
+      either true xs ys v e f = e
+      either false xs ys v e f = f
 
 find_hit : (c : ℕ) (k : ChainStep) (ks : List ChainStep) → nat_eq k.clock c ≡ true → find (λ l. nat_eq l.clock c) (k ∷ ks) ≡ Some k
 find_hit c k ks e = ap (λ (t : Bool). cond t (Some k) (find (λ l. nat_eq l.clock c) ks)) e
@@ -126,12 +143,12 @@ here_acts all defs before prep k w same is planned = by (moves before k) refl k.
 
 -- the steps at a clock make of a tree what its step of the chain does
 one_acts : (all ks : List ChainStep) (defs : Description) (before : List ClockRow) (prep : ℕ → Bool) (c : ℕ) (w : Wiring) → w.defs ≡ defs → none_twice (clocks_in ks) ≡ true → AllByRecursion (MovesMux defs before) ks
-    → planned_in all c ≡ planned_in ks c → acted all (walked defs before prep ks c) w ≡ set_at before ks c w
+    → planned_in all c ≡ planned_in ks c → acted all (bare defs before prep ks c) w ≡ set_at before ks c w
 one_acts all [] defs before prep c w same once is planned =
     ap (λ (r : Option ℕ). let v : Wiring = record w { regs = option_map_or (λ rated. setting (kind_of w.defs c) (parent_rate_in w c) rated w.regs) r w.regs } in v) planned
 one_acts all (k ∷ ks) defs before prep c w same once is planned =
     by (nat_eq k.clock c) refl (λ e. one_acts all ks defs before prep c w same (once_head k.clock (clocks_in ks) once).1 is.1 (planned ∙ ap (λ (o : Option ChainStep). option_map (λ l. l.rate) o) (find_past c k ks e))) where
-      by : (t : Bool) → nat_eq k.clock c ≡ t → (nat_eq k.clock c ≡ false → acted all (walked defs before prep ks c) w ≡ set_at before ks c w) → acted all (walked defs before prep (k ∷ ks) c) w ≡ set_at before (k ∷ ks) c w
+      by : (t : Bool) → nat_eq k.clock c ≡ t → (nat_eq k.clock c ≡ false → acted all (bare defs before prep ks c) w ≡ set_at before ks c w) → acted all (bare defs before prep (k ∷ ks) c) w ≡ set_at before (k ∷ ks) c w
       by false e rest =
           ap (λ (t : Bool). acted all (moved_by defs before prep c (cond (t && moves before k) (k ∷ filter (moves_here before c) ks) (filter (moves_here before c) ks)) ++ micro.Visit (clock_id c) ∷ []) w) e
           ∙ rest e
@@ -158,7 +175,7 @@ pub walk_acts : (ks : List ChainStep) (defs : Description) (before : List ClockR
 walk_acts ks defs before prep [] w same once is = refl
 walk_acts ks defs before prep (c ∷ cs) w same once is =
     acted_append ks (walked defs before prep ks c) (flat_map (walked defs before prep ks) cs) w
-    ∙ ap (λ (v : Wiring). acted ks (flat_map (walked defs before prep ks) cs) v) (one_acts ks ks defs before prep c w same once is refl)
+    ∙ ap (λ (v : Wiring). acted ks (flat_map (walked defs before prep ks) cs) v) (bare_acts ks ks defs before prep c w ∙ one_acts ks ks defs before prep c w same once is refl)
     ∙ walk_acts ks defs before prep cs (set_at before ks c w) (set_at_defs before ks c w ∙ same) once is
 
 -- ---- a list of clocks

@@ -16,7 +16,7 @@ use Rattle.clk_model.specs.State.{State, Change, NotifierRow}
 use Rattle.clk_model.specs.Chain.{clock_id}
 use Rattle.clk_model.specs.Notices.{Rates, notifiers_of, abort_list, post_list}
 use Rattle.clk_model.specs.Script.{plls, weight}
-use Rattle.clk_model.specs.Step.{on, powered, from_first, behind_first, cut_short, is_end, is_register, is_settle, is_visit, sets_parent, aborts_of, to_raise, most_polls, raise_one, raise, to_lower, lower_one, lower}
+use Rattle.clk_model.specs.Step.{is_close, lets_go, behind_lets, first_alone, on, powered, from_first, behind_first, cut_short, is_end, is_register, is_settle, is_visit, sets_parent, aborts_of, to_raise, most_polls, raise_one, raise, to_lower, lower_one, lower}
 use Rattle.clk_model.specs.Laws.Weight.{front_weight, weight_left}
 use Rattle.clk_model.specs.Laws.Paced.{left_of, is_notice}
 use Rattle.clk_model.proofs.Members.{both_left, both_right}
@@ -109,6 +109,19 @@ behind_first-le f test (m ∷ ms) = one (test m) (behind_first-le f test ms) whe
   one true rest = let sum = sum_by-cons f m ms in omega arith
   one false rest = let sum = sum_by-cons f m ms in omega arith
 
+behind_lets-le : (f : Micro → ℕ) (ms : List Micro) → sum_by f (behind_lets ms) ≤ sum_by f ms
+behind_lets-le f [] = omega arith
+behind_lets-le f (m ∷ ms) = one (lets_go m) (behind_lets-le f ms) where
+  one : (t : Bool) → sum_by f (behind_lets ms) ≤ sum_by f ms → sum_by f (if t then behind_lets ms else m ∷ ms) ≤ sum_by f (m ∷ ms)
+  one true rest = let sum = sum_by-cons f m ms in omega arith
+  one false rest = omega arith
+
+visit-le : (f : Micro → ℕ) (ms : List Micro) → sum_by f (first_alone (from_first is_visit ms)) ≤ sum_by f ms
+visit-le f ms = let from = from_first-le f is_visit ms in let alone = one (from_first is_visit ms) in omega (arith, from, alone) where
+  one : (ns : List Micro) → sum_by f (first_alone ns) ≤ sum_by f ns
+  one [] = omega arith
+  one (n ∷ ns) = let rest = behind_lets-le f ns in let sum = sum_by-cons f n ns in let less = sum_by-cons f n (behind_lets ns) in omega (arith, rest, sum, less)
+
 pub cut_short-le : (f : Micro → ℕ) (what : Sleeping) (ms : List Micro) → sum_by f (cut_short what ms) ≤ sum_by f ms
 cut_short-le f (call.Prepare h) ms = from_first-le f is_end ms
 cut_short-le f (call.SetParent h p) ms = from_first-le f is_end ms
@@ -116,20 +129,20 @@ cut_short-le f (call.Probe c) ms = one (list_any is_register ms) where
   one : (t : Bool) → sum_by f (if t then from_first is_end ms else behind_first is_settle ms) ≤ sum_by f ms
   one true = from_first-le f is_end ms
   one false = behind_first-le f is_settle ms
-cut_short-le f call.Sweep ms = omega arith
-cut_short-le f (call.Get found) ms = from_first-le f is_visit ms
-cut_short-le f (call.Put h) ms = from_first-le f is_visit ms
-cut_short-le f (call.Unprepare h) ms = from_first-le f is_visit ms
-cut_short-le f (call.GetRate h) ms = from_first-le f is_visit ms
-cut_short-le f (call.RoundRate h x) ms = from_first-le f is_visit ms
-cut_short-le f (call.SetRate h x) ms = from_first-le f is_visit ms
-cut_short-le f (call.SetRateExclusive h x) ms = from_first-le f is_visit ms
-cut_short-le f (call.SetRange h least most) ms = from_first-le f is_visit ms
-cut_short-le f (call.GetParent h) ms = from_first-le f is_visit ms
-cut_short-le f (call.ExclusiveGet h) ms = from_first-le f is_visit ms
-cut_short-le f (call.ExclusivePut h) ms = from_first-le f is_visit ms
-cut_short-le f (call.NotifierAdd h id priority policy) ms = from_first-le f is_visit ms
-cut_short-le f (call.NotifierRemove h id) ms = from_first-le f is_visit ms
+cut_short-le f call.Sweep ms = let behind = behind_first-le f is_close ms in let lets = behind_lets-le f (behind_first is_close ms) in omega (arith, behind, lets)
+cut_short-le f (call.Get found) ms = visit-le f ms
+cut_short-le f (call.Put h) ms = visit-le f ms
+cut_short-le f (call.Unprepare h) ms = visit-le f ms
+cut_short-le f (call.GetRate h) ms = visit-le f ms
+cut_short-le f (call.RoundRate h x) ms = visit-le f ms
+cut_short-le f (call.SetRate h x) ms = visit-le f ms
+cut_short-le f (call.SetRateExclusive h x) ms = visit-le f ms
+cut_short-le f (call.SetRange h least most) ms = visit-le f ms
+cut_short-le f (call.GetParent h) ms = visit-le f ms
+cut_short-le f (call.ExclusiveGet h) ms = visit-le f ms
+cut_short-le f (call.ExclusivePut h) ms = visit-le f ms
+cut_short-le f (call.NotifierAdd h id priority policy) ms = visit-le f ms
+cut_short-le f (call.NotifierRemove h id) ms = visit-le f ms
 
 -- ---- the steps of a script
 

@@ -82,6 +82,7 @@ change_of s driver what steps = record {
   extra = 0;
   vetoed = false;
   timed_out = false;
+  missed = None;
 }
 
 -- a change of rates or of a parent by a planned chain

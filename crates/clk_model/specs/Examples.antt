@@ -27,3 +27,4 @@ pub mod Weights
 pub mod Defined
 pub mod Feeds
 pub mod SameParts
+pub mod Feeding

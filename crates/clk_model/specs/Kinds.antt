@@ -1,7 +1,7 @@
 -- What the definitions ask of a clock's kind, one question each.
 use Rattle.std.specs.Prelude.{Bool, true, false, not, if◌then◌else◌, Option, Some, None}
 use Rattle.clk_base.specs.declared.clock.Kind.{Kind}
-use Rattle.clk_base.specs.declared.clock.Kind.TheVariants.{FixedRate, Gate, Mux, Pll}
+use Rattle.clk_base.specs.declared.clock.Kind.TheVariants.{FixedRate, Gate, Mux, Divider, Pll}
 use Rattle.clk_base.specs.Fields.{Field, GateBit, PowerBit}
 use Rattle.reg_bank.specs.Registers.{Registers, is_set, put_bit}
 
@@ -24,6 +24,12 @@ mux_field _ = None
 abbrev pub is_read_only : Kind → Bool
 is_read_only (Mux word shift width read_only) = read_only
 is_read_only _ = false
+
+-- whether a planned rate is set in a field of the clock: of a divider and a PLL
+abbrev pub has_setting : Kind → Bool
+has_setting (Divider word shift width one_based power_of_two) = true
+has_setting (Pll word shift width power_word power_bit least most m) = true
+has_setting _ = false
 
 -- whether a request for a rate may change something of the clock itself
 abbrev pub can_round : Kind → Bool

@@ -25,3 +25,4 @@ pub mod PrepSteps
 pub mod PrepBegins
 pub mod Lifting
 pub mod Twins
+pub mod Shadows

@@ -1,18 +1,18 @@
 -- The scripts of the calls that go on, and what they weigh.
-use Rattle.std.specs.Prelude.{ℕ, zero, suc, ◌+◌, ◌*◌, List, [], ◌∷◌, ◌++◌, Bool, true, false, not, ◌&&◌, ◌==◌, filter, map, if◌then◌else◌, flat_map, length, sum_by, find}
+use Rattle.std.specs.Prelude.{ℕ, zero, suc, ◌+◌, ◌*◌, List, [], ◌∷◌, ◌++◌, Bool, true, false, not, ◌&&◌, ◌==◌, Option, Some, None, filter, map, if◌then◌else◌, flat_map, length, sum_by, find}
 use Rattle.std.specs.List.{list_any}
 use Rattle.std.specs.Option.{option_map_or}
 use Rattle.clk_base.specs.declared.call.Micro.{Micro}
 use Rattle.clk_base.specs.declared.call.Micro.TheVariants as micro
 use Rattle.clk_base.specs.Description.{Description, kind_of, parents_of}
 use Rattle.clk_base.specs.Levels.{depth}
-use Rattle.clk_base.specs.Flags.{ignores_unused, is_critical}
+use Rattle.clk_base.specs.Flags.{ignores_unused, is_critical, runs_parent, runs_to_set}
 use Rattle.reg_bank.specs.Registers.{Registers}
 use Rattle.kind_math.specs.Choices.{greatest_of}
 use Rattle.clk_model.specs.declared.row.ClockRow.{ClockRow}
 use Rattle.clk_model.specs.Lists.{is_in, count_from, without_one}
 use Rattle.clk_base.specs.Fields.{gate_of, power_of}
-use Rattle.clk_model.specs.Kinds.{is_pll, is_open, is_powered}
+use Rattle.clk_model.specs.Kinds.{is_pll, is_open, is_powered, has_setting}
 use Rattle.clk_model.specs.State.{State, ChainStep, link_in}
 use Rattle.clk_model.specs.Tree.{path, children, roots, orphans, link_given}
 use Rattle.clk_model.specs.Holders.{active, prepared}
@@ -40,20 +40,47 @@ pub record Planned : Type 0 where
   pub changing : List ℕ
   pub outcome : List ℕ
 
--- the steps that move a clock: a mux that isn't prepared is only relinked; under a prepared one the new parent runs before
--- and the old one after
+-- the steps that keep a clock running, and that let it go
+abbrev pub feed : ℕ → List Micro
+feed x = micro.Raise (clock_id x) ∷ micro.HoldPrepare (clock_id x) ∷ micro.HoldEnable (clock_id x) ∷ []
+
+abbrev pub unfeed : ℕ → List Micro
+unfeed x = micro.DropEnable (clock_id x) ∷ micro.DropPrepare (clock_id x) ∷ micro.Lower (clock_id x) ∷ []
+
+-- the steps that move a clock: a mux that isn't prepared is only relinked, or is kept running with its new parent meanwhile, if
+-- its parent runs for it; under a prepared one the new parent runs before and the old one after
 abbrev pub move : Description → List ClockRow → (ℕ → Bool) → ℕ → ℕ → List Micro
 move defs clocks prepared c p =
     if prepared c
     then micro.Raise (clock_id p) ∷ micro.HoldPrepare (clock_id p) ∷ micro.HoldEnable (clock_id p) ∷ micro.HoldEnable (clock_id c)
     ∷ micro.Relink (clock_id c) (clock_id p) ∷ micro.WriteMux (clock_id c) (place_of defs c p) ∷ micro.DropEnable (clock_id c)
-    ∷ option_map_or (λ o. micro.DropEnable (clock_id o) ∷ micro.DropPrepare (clock_id o) ∷ micro.Lower (clock_id o) ∷ []) (link_in clocks c) []
+    ∷ option_map_or unfeed (link_in clocks c) []
+    else if runs_parent defs c
+    then micro.Raise (clock_id c) ∷ micro.Raise (clock_id p) ∷ micro.HoldPrepare (clock_id c) ∷ micro.HoldEnable (clock_id c)
+    ∷ micro.HoldPrepare (clock_id p) ∷ micro.HoldEnable (clock_id p)
+    ∷ micro.Relink (clock_id c) (clock_id p) ∷ micro.WriteMux (clock_id c) (place_of defs c p)
+    ∷ option_map_or unfeed (link_in clocks c) [] ++ unfeed c
     else micro.Relink (clock_id c) (clock_id p) ∷ micro.WriteMux (clock_id c) (place_of defs c p) ∷ []
 
 -- the move of a clock, where the chain moves it
 abbrev pub move_of : Description → List ClockRow → (ℕ → Bool) → List ChainStep → ℕ → List Micro
 move_of defs clocks prepared ks c =
     flat_map (λ k. option_map_or (move defs clocks prepared c) k.parent []) (filter (λ k. (k.clock == c) && moves clocks k) ks)
+
+-- the clock that runs while a clock of the chain is set: the clock itself, or its parent
+abbrev pub runs_for : Description → List ClockRow → List ChainStep → ℕ → Option ℕ
+runs_for defs clocks ks c =
+    if list_any (λ k. k.clock == c) ks && has_setting (kind_of defs c)
+    then (if runs_to_set defs c then Some c else if runs_parent defs c then link_in clocks c else None)
+    else None
+
+-- a step within what keeps a clock running for it, if there is one
+abbrev pub fed_step : Option ℕ → Micro → List Micro
+fed_step o m = option_map_or (λ x. feed x ++ m ∷ unfeed x) o (m ∷ [])
+
+-- the visit of a clock
+abbrev pub visit_of : Description → List ClockRow → List ChainStep → ℕ → List Micro
+visit_of defs clocks ks c = fed_step (runs_for defs clocks ks c) (micro.Visit (clock_id c))
 
 -- the script of a plan: all notices before it; then where one vetoes the notices that it is called off, else each clock of
 -- the walk with its move; and the end
@@ -67,7 +94,7 @@ planned s ks settles =
     record {
       steps = notices
           ++ (if vetoed then abort_list rates s.notifiers clocks
-          else flat_map (λ c. move_of s.defs s.clocks (prepared s) ks c ++ micro.Visit (clock_id c) ∷ []) (walk s.order w ks) ++ settles)
+          else flat_map (λ c. move_of s.defs s.clocks (prepared s) ks c ++ visit_of s.defs s.clocks ks c) (walk s.order w ks) ++ settles)
           ++ micro.End ∷ [];
       vetoed = vetoed;
       changing = clocks;
@@ -124,10 +151,14 @@ sweep_order s =
 abbrev pub lets_through : Description → Registers → ℕ → Bool
 lets_through defs regs c = option_map_or (is_open regs) (gate_of (kind_of defs c)) false
 
+-- a gate is closed; its parent runs meanwhile, if it runs for it
+abbrev pub close_of : Description → List ClockRow → ℕ → List Micro
+close_of defs clocks c = fed_step (if runs_parent defs c then link_in clocks c else None) (micro.Close (clock_id c))
+
 -- the gates that are open without need, then the PLLs that are powered without need
 unfoldable pub sweep_script : State → List Micro
 sweep_script s =
-    map (λ c. micro.Close (clock_id c)) (filter (λ c. not (ignores_unused s.defs c) && lets_through s.defs s.regs c && not (active s c)) (sweep_order s))
+    flat_map (close_of s.defs s.clocks) (filter (λ c. not (ignores_unused s.defs c) && lets_through s.defs s.regs c && not (active s c)) (sweep_order s))
     ++ map (λ c. micro.Unpower (clock_id c)) (filter (λ c. not (ignores_unused s.defs c) && runs s.defs s.regs c && not (prepared s c)) (sweep_order s))
     ++ micro.End ∷ []
 

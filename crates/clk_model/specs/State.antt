@@ -47,6 +47,8 @@ pub record Change : Type 0 where
   pub extra : ℕ
   pub vetoed : Bool
   pub timed_out : Bool
+  -- the clock of the next visit, if a poll for it has timed out: it isn't set
+  pub missed : Option ℕ
 
 -- the state of the machine
 pub record State : Type 0 where

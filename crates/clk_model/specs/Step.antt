@@ -15,7 +15,7 @@ use Rattle.clk_base.specs.Levels.{depth}
 use Rattle.reg_bank.specs.Registers.{Registers, put}
 use Rattle.clk_model.specs.declared.row.ClockRow.{ClockRow}
 use Rattle.clk_model.specs.declared.row.HandleRow.{HandleRow}
-use Rattle.clk_model.specs.Lists.{is_in, without_one, without, to_front}
+use Rattle.clk_model.specs.Lists.{is_in, is_at, without_one, without, to_front}
 use Rattle.clk_base.specs.Fields.{gate_of, power_of}
 use Rattle.clk_model.specs.Kinds.{mux_field, with_gate, with_power}
 use Rattle.clk_model.specs.State.{State, Change, row_of, link_in, handle_at, requested}
@@ -74,6 +74,17 @@ abbrev pub is_settle : Micro → Bool
 is_settle (micro.Settle c) = true
 is_settle _ = false
 
+abbrev pub is_close : Micro → Bool
+is_close (micro.Close c) = true
+is_close _ = false
+
+-- whether a step lets go of what was kept running
+abbrev pub lets_go : Micro → Bool
+lets_go (micro.DropEnable x) = true
+lets_go (micro.DropPrepare x) = true
+lets_go (micro.Lower x) = true
+lets_go _ = false
+
 -- a script from its first step of a kind on
 abbrev pub from_first : (Micro → Bool) → List Micro → List Micro
 from_first test [] = []
@@ -84,14 +95,40 @@ abbrev pub behind_first : (Micro → Bool) → List Micro → List Micro
 behind_first test [] = []
 behind_first test (m ∷ ms) = if test m then ms else behind_first test ms
 
+-- a script after the steps before it that let go
+abbrev pub behind_lets : List Micro → List Micro
+behind_lets [] = []
+behind_lets (m ∷ ms) = if lets_go m then behind_lets ms else m ∷ ms
+
+-- a script without the steps that let go after its first step
+abbrev pub first_alone : List Micro → List Micro
+first_alone [] = []
+first_alone (m ∷ ms) = m ∷ behind_lets ms
+
+-- the clock of the next visit
+abbrev pub visit_clock : Micro → Option ℕ
+visit_clock (micro.Visit c) = Some c.0
+visit_clock _ = None
+
+abbrev pub next_visit : List Micro → Option ℕ
+next_visit [] = None
+next_visit (m ∷ ms) = if is_visit m then visit_clock m else next_visit ms
+
+-- the clock that isn't set after a timeout: of a change of rate, the one that is visited next
+abbrev pub missed_by : Sleeping → List Micro → Option ℕ
+missed_by (call.SetRate h x) ms = next_visit ms
+missed_by (call.SetRateExclusive h x) ms = next_visit ms
+missed_by (call.SetRange h least most) ms = next_visit ms
+missed_by _ ms = None
+
 -- what a timeout leaves of a script: of a prepare, a change of parent and a registration that isn't made only the end,
--- of an adoption what stands behind it, and of a move the rest of the walk
+-- of an adoption and of a gate that is closed what stands after it, and of a move and a visit that visit alone and the rest of the walk
 abbrev pub cut_short : Sleeping → List Micro → List Micro
 cut_short (call.Prepare h) ms = from_first is_end ms
 cut_short (call.SetParent h p) ms = from_first is_end ms
 cut_short (call.Probe c) ms = if list_any is_register ms then from_first is_end ms else behind_first is_settle ms
-cut_short call.Sweep ms = ms
-cut_short _ ms = from_first is_visit ms
+cut_short call.Sweep ms = behind_lets (behind_first is_close ms)
+cut_short _ ms = first_alone (from_first is_visit ms)
 
 -- whether the call changes a parent
 abbrev pub sets_parent : Sleeping → Bool
@@ -103,7 +140,7 @@ abbrev pub aborts_of : State → Change → List Micro
 aborts_of s k =
     if sets_parent k.call then abort_list (record { before = k.before; outcome = k.outcome }) s.notifiers k.changing else []
 
--- the raised PLLs fall, the last raised first, and the script is cut short
+-- the raised PLLs fall, the last raised first, the script is cut short, and a clock is missed
 abbrev pub timed_out : State → Change → State
 timed_out s k = on s (record k {
   timed_out = true;
@@ -111,6 +148,7 @@ timed_out s k = on s (record k {
   extra = 0;
   front = map (λ y. micro.Fall (clock_id y)) k.raised ++ aborts_of s k;
   left = cut_short k.call k.left;
+  missed = missed_by k.call k.left;
 })
 
 -- ---- PLLs
@@ -206,9 +244,9 @@ drop_prepare s k x = on (record s { prepare_holds = without_one x s.prepare_hold
 
 -- ---- visits, registration, sweep
 
--- the planned rate of a clock of the chain
+-- the planned rate of a clock of the chain, unless a poll for its visit has timed out
 abbrev pub planned_rate : Change → ℕ → Option ℕ
-planned_rate k c = option_map (λ step. step.rate) (find (λ step. step.clock == c) k.chain)
+planned_rate k c = if is_at c k.missed then None else option_map (λ step. step.rate) (find (λ step. step.clock == c) k.chain)
 
 -- the registers with the setting of a clock of the chain
 abbrev pub set_in_chain : State → Change → ℕ → Registers

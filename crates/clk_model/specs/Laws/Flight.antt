@@ -22,7 +22,7 @@ use Rattle.clk_model.specs.Chain.{clock_id, outcome}
 use Rattle.clk_model.specs.Walk.{changing, rates_in}
 use Rattle.clk_model.specs.Notices.{Rates, pre_list, abort_list}
 use Rattle.clk_model.specs.Begin.{begun}
-use Rattle.clk_model.specs.Step.{is_end, is_visit, is_register, is_settle}
+use Rattle.clk_model.specs.Step.{is_end, is_visit, is_close, is_register, is_settle, behind_lets, first_alone}
 use Rattle.clk_model.specs.Machine.{next}
 use Rattle.clk_model.specs.Journal.{replay}
 use Rattle.clk_model.specs.Prep.{prep}
@@ -89,15 +89,25 @@ abbrev pub IsProbeCut : Bool → List Micro → List Micro → Type 0
 IsProbeCut true whole left = IsFrom is_end whole left
 IsProbeCut false whole left = IsBehind is_settle whole left ⊎ ((list_any is_settle whole ≡ false) × (left ≡ []))
 
+-- what is left from the first visit on, without the steps directly after it that let go; and what stands after the first gate
+-- that is closed, and the steps that let go after it
+abbrev pub IsVisitCut : List Micro → List Micro → Type 0
+IsVisitCut whole left = (from : List Micro) × IsFrom is_visit whole from × (left ≡ first_alone from)
+
+abbrev pub IsCloseCut : List Micro → List Micro → Type 0
+IsCloseCut whole left = (rest : List Micro) × (IsBehind is_close whole rest ⊎ ((list_any is_close whole ≡ false) × (rest ≡ []))) × (left ≡ behind_lets rest)
+
 -- what a timeout leaves of the steps that were left: of a prepare and of a change of parent only the end; of a change of rate the
--- rest of the walk, from the next visit on, so that the rest of the move is dropped
+-- next visit and the rest of the walk, so that the rest of the move or the visit's feeding is dropped; of a sweep what stands after
+-- the gate that was to be closed
 abbrev pub IsCut : Sleeping → List Micro → List Micro → Type 0
 IsCut (call.Prepare h) whole left = IsFrom is_end whole left
 IsCut (call.SetParent h p) whole left = IsFrom is_end whole left
 IsCut (call.Probe c) whole left = IsProbeCut (list_any is_register whole) whole left
-IsCut (call.SetRate h x) whole left = IsFrom is_visit whole left
-IsCut (call.SetRateExclusive h x) whole left = IsFrom is_visit whole left
-IsCut (call.SetRange h least most) whole left = IsFrom is_visit whole left
+IsCut (call.SetRate h x) whole left = IsVisitCut whole left
+IsCut (call.SetRateExclusive h x) whole left = IsVisitCut whole left
+IsCut (call.SetRange h least most) whole left = IsVisitCut whole left
+IsCut call.Sweep whole left = IsCloseCut whole left
 IsCut _ whole left = ⊥
 
 -- ---- what is left of a script
@@ -147,6 +157,12 @@ pub data IsFront (k : Change) : Type 0 where
       → k.front ≡ map (λ y. micro.Fall (clock_id y)) k.raised ++ aborts → IsFront k
   telling : list_any is_no_post k.front ≡ false → IsFront k
 
+-- some of these steps, in their order
+pub data IsPart : List Micro → List Micro → Type 0 where
+  nothing_left : IsPart [] []
+  keeps : {whole left : List Micro} (m : Micro) → IsPart whole left → IsPart (m ∷ whole) (m ∷ left)
+  drops : {whole left : List Micro} (m : Micro) → IsPart whole left → IsPart (m ∷ whole) left
+
 -- the change of a state is this driver's call; behind the steps made what is left of its script is an end of the script over the
 -- state before the call, as timing out shortened it
 pub record IsUnderWay (q : State) (d : ℕ) (what : Sleeping) (s : State) (made : List Micro) : Type 0 where
@@ -155,7 +171,8 @@ pub record IsUnderWay (q : State) (d : ℕ) (what : Sleeping) (s : State) (made 
   pub driver : now.driver ≡ d
   pub call : now.call ≡ what
   pub left : IsLeftOf what (script q d what) made now.timed_out now.left
-  pub suffix : (front : List Micro) × (script q d what ≡ front ++ now.left)
+  pub suffix : now.timed_out ≡ false → (front : List Micro) × (script q d what ≡ front ++ now.left)
+  pub part : IsPart (script q d what) now.left
   pub front : IsFront now
 
 -- ---- notices

@@ -24,7 +24,7 @@ use Rattle.clk_model.specs.State.{State, Change, link_in, handle_at}
 use Rattle.clk_model.specs.Rate.{rate}
 use Rattle.clk_model.specs.Holders.{prepared}
 use Rattle.clk_model.specs.Prep.{without_enables}
-use Rattle.clk_model.specs.Step.{is_end, is_visit, is_settle}
+use Rattle.clk_model.specs.Step.{is_end, is_visit, is_settle, is_close}
 use Rattle.clk_model.specs.Machine.{next}
 use Rattle.clk_model.specs.Tier.{is_enable_tier}
 use Rattle.clk_model.specs.Journal.{replay, opening}
@@ -106,7 +106,7 @@ pub record TimesOut (s : State) (d : ℕ) (k : Change) (u : State) : Type 0 wher
 -- what is left of the move at hand: the steps up to the next visit, the next settling of a last request, or the end
 abbrev pub move_left : List Micro → List Micro
 move_left [] = []
-move_left (m ∷ ms) = if is_visit m || is_settle m || is_end m then [] else m ∷ move_left ms
+move_left (m ∷ ms) = if is_visit m || is_settle m || is_close m || is_end m then [] else m ∷ move_left ms
 
 -- this driver's call, in flight in one state, is still so in another, which further steps of it have led to. Events of the enable tier,
 -- of any driver, may stand between

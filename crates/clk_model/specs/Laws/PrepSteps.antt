@@ -1,11 +1,12 @@
 -- That the prepare tier's part of a state goes on by itself: what a step makes of it depends on it and the step alone.
-use Rattle.std.specs.Prelude.{◌≡◌, ℕ, ◌^◌, List, Bool, true, false, Option, Some, nat_lt, length}
+use Rattle.std.specs.Prelude.{◌≡◌, ◌⊎◌, ℕ, ◌^◌, List, Bool, true, false, Option, Some, nat_lt, length}
 use Rattle.std.specs.Option.{option_map_or}
 use Rattle.clk_base.specs.declared.call.Micro.{Micro}
 use Rattle.clk_base.specs.declared.call.Micro.TheVariants as micro
 use Rattle.clk_base.specs.declared.event.Entry.{Entry}
 use Rattle.clk_base.specs.Valid.{IsValid}
 use Rattle.clk_model.specs.Journal.{replay, opening}
+use Rattle.clk_base.specs.declared.event.Errno.TheVariants as errno
 use Rattle.clk_base.specs.declared.event.Event.TheVariants as event
 use Rattle.clk_base.specs.declared.event.Reply.TheVariants as reply
 use Rattle.clk_base.specs.declared.event.Turn.{Turn}
@@ -64,19 +65,27 @@ RunsStepByPrep = (defs : Description) (regs : Registers) (ignore_unused : Bool) 
     → is_sweep call.what ≡ false → next (replay (opening defs regs ignore_unused credits) journal) call.first.driver (event.Step m answer) ≡ Some (u, x)
     → StepsAlike t call.first.driver m answer u x
 
--- whether a step is one of a sweep
+-- whether a step may be one of a sweep: it keeps a clock running or lets it go, closes a gate, takes the power of a PLL, or ends it
 abbrev pub is_of_sweep : Micro → Bool
+is_of_sweep (micro.Raise x) = true
+is_of_sweep (micro.Poll y) = true
+is_of_sweep (micro.Fall y) = true
+is_of_sweep (micro.HoldPrepare x) = true
+is_of_sweep (micro.HoldEnable x) = true
+is_of_sweep (micro.DropEnable x) = true
+is_of_sweep (micro.DropPrepare x) = true
+is_of_sweep (micro.Lower x) = true
 is_of_sweep (micro.Close c) = true
 is_of_sweep (micro.Unpower c) = true
 is_of_sweep micro.End = true
 is_of_sweep _ = false
 
--- a step of a sweep closes a gate, takes the power of a PLL or ends it, and a sweep ends well
+-- a step of a sweep is one of these, and a sweep ends well, or because a poll has timed out
 pub record SweepsOn (t : State) (l : Change) (m : Micro) (answer : Option Bool) (s u : State) (x : Turn) : Type 0 where
   pub alike : SweepsAlike t l m answer s u
   pub step : is_of_sweep m ≡ true
   pub goes_on : is_end m ≡ false → x ≡ turn.Going
-  pub ends : is_end m ≡ true → x ≡ turn.Done reply.Fine
+  pub ends : is_end m ≡ true → (x ≡ turn.Done reply.Fine) ⊎ (x ≡ turn.Done (reply.Refused errno.ETIMEDOUT))
 
 -- so is each step of a sweep behind such a journal, and so it comes to the same in each state with the same part
 abbrev pub RunsSweepByPrep : Type 0

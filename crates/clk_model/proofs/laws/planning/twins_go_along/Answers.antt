@@ -1,4 +1,4 @@
-use Rattle.clk_model.proofs.TwinLaws.{twins_stay, twins_step, twins_begin, twins_sweep, twins_step_sweeps}
+use Rattle.clk_model.proofs.TwinLaws.{twins_stay, twins_step, twins_begin}
 use Rattle.clk_model.proofs.laws.planning.twins_go_along.Goals as goal
 
 pub returns-clause-beside : goal.returns-clause-beside
@@ -9,9 +9,3 @@ returns-clause-steps c = twins_step
 
 pub returns-clause-begins : goal.returns-clause-begins
 returns-clause-begins c = twins_begin
-
-pub returns-clause-sweep : goal.returns-clause-sweep
-returns-clause-sweep c = twins_sweep
-
-pub returns-clause-sweeping : goal.returns-clause-sweeping
-returns-clause-sweeping c = twins_step_sweeps
