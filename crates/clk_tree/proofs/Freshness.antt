@@ -22,7 +22,7 @@ use Rattle.clk_model.proofs.StateLaws.{row_of-set_other, registered_lt}
 use Rattle.clk_model.proofs.WalkLaws.{is_at_same, at_same}
 use Rattle.clk_tree.specs.declared.group.Group.TheVariants.{ChildrenOf}
 use Rattle.clk_tree.specs.Groups.{AreListed}
-use Rattle.clk_tree.specs.Refreshed.{is_below, IsFresh, AreKidRings, AreOver}
+use Rattle.clk_tree.specs.Refreshed.{is_below, IsFresh, AreKidRings, AreOver, FreshensBelow, FreshensAll}
 use Rattle.clk_tree.specs.TreeState.{IsTree, attached}
 use Rattle.clk_tree.proofs.GroupLaws.{members_below}
 use Rattle.clk_tree.proofs.Refreshing.{RefreshesBelow}
@@ -100,21 +100,18 @@ kept_above defs regs clocks rates None (Some q) is fresh = absurd cc
 kept_above defs regs clocks rates (Some p) None is fresh = absurd cc
 kept_above defs regs clocks rates (Some p) (Some q) is fresh = let same : p.0 ≡ q = cc in ap (slice_index rates) same ∙ fresh q refl
 
--- the same of equal descriptions, rates and levels
-pub done_in_tree : (defs defs' : Description) (told : Option Registers) (siblings old old' new new' : List ℕ) (levels c above : ℕ) → defs' ≡ defs → old' ≡ old → new' ≡ new → levels ≡ depth
-    → RefreshesBelow defs' told siblings old' new' levels c above → RefreshesBelow defs told siblings old new depth c above
-done_in_tree defs defs' told siblings old old' new new' levels c above made was is deep done =
-    subst (λ (ds : Description). RefreshesBelow ds told siblings old new depth c above) made
-    (subst (λ (rs : List ℕ). RefreshesBelow defs' told siblings rs new depth c above) was
-    (subst (λ (rs : List ℕ). RefreshesBelow defs' told siblings old' rs depth c above) is
-    (subst (λ (n : ℕ). RefreshesBelow defs' told siblings old' new' n c above) deep done)))
+-- the same of equal rates and levels
+pub done_in_tree : (defs : Description) (told : Option Registers) (siblings old old' new new' : List ℕ) (levels c above : ℕ) → old' ≡ old → new' ≡ new → levels ≡ depth
+    → RefreshesBelow defs told siblings old' new' levels c above → RefreshesBelow defs told siblings old new depth c above
+done_in_tree defs told siblings old old' new new' levels c above was is deep done =
+    subst (λ (rs : List ℕ). RefreshesBelow defs told siblings rs new depth c above) was
+    (subst (λ (rs : List ℕ). RefreshesBelow defs told siblings old' rs depth c above) is
+    (subst (λ (n : ℕ). RefreshesBelow defs told siblings old' new' n c above) deep done))
 
 -- what a refresh brings up to date: the clock and all below it, where its parent's kept rate is right
 pub fresh_below : (defs : Description) (told : Option Registers) (clocks : List ClockRow) (order old new turns siblings : List ℕ) (c above : ℕ) (link : Option ClockId)
     → IsTree defs clocks order old → AreListed defs clocks order turns siblings → option_map (λ p. p.0) link ≡ link_in clocks c → above ≡ option_map_or (λ p. slice_index old p.0) link 0
-    → RefreshesBelow defs told siblings old new depth c above
-    → IfSome told (λ regs. ((p : ℕ) → link_in clocks c ≡ Some p → IsFresh defs regs clocks old p)
-    → (k : ℕ) → is_below clocks c k ≡ true → IsFresh defs regs clocks new k)
+    → RefreshesBelow defs told siblings old new depth c above → FreshensBelow defs told clocks old new c
 fresh_below defs told clocks order old new turns siblings c above link tree listed is kept done = given told done.below where
   given : (told' : Option Registers)
       → IfSome told' (λ regs. (kids : ℕ → List ℕ) (rates : ℕ → ℕ) → AreKidRings (length defs) siblings kids → AreOver defs regs kids rates
@@ -138,10 +135,8 @@ others_stay defs told clocks order old new turns siblings c above tree listed do
 -- so where all others were right, all are
 pub fresh_all : (defs : Description) (told : Option Registers) (clocks : List ClockRow) (order old new : List ℕ) (c : ℕ)
     → IsTree defs clocks order old
-    → IfSome told (λ regs. ((p : ℕ) → link_in clocks c ≡ Some p → IsFresh defs regs clocks old p) → (k : ℕ) → is_below clocks c k ≡ true → IsFresh defs regs clocks new k)
-    → ((k : ℕ) → is_below clocks c k ≡ false → slice_index new k ≡ slice_index old k)
-    → IfSome told (λ regs. ((k : ℕ) → registered clocks k ≡ true → is_below clocks c k ≡ false → IsFresh defs regs clocks old k)
-    → (k : ℕ) → registered clocks k ≡ true → IsFresh defs regs clocks new k)
+    → FreshensBelow defs told clocks old new c → ((k : ℕ) → is_below clocks c k ≡ false → slice_index new k ≡ slice_index old k)
+    → FreshensAll defs told clocks old new c
 fresh_all defs None clocks order old new c tree below others = tt
 fresh_all defs (Some regs) clocks order old new c tree below others = λ fresh k there. elim (cases_Bool (is_below clocks c k)) [
   | inl under ↦ below (λ p at. fresh p (tree.links c p at) (parent_apart defs clocks order old c p tree at)) k under

@@ -15,7 +15,7 @@ use Rattle.clk_tree.specs.TreeState.{TreeState, attached}
 -- the tree of a fixed clock of 24 MHz (0), a PLL (1), a divider (2), a factor of 1 / 4 (3), a mux over 0 and 3 (4) and a gate (5)
 -- before a clock is registered
 abbrev pub bare : TreeState
-bare = record { defs = all_kinds; clocks = replicate (length all_kinds) unregistered_row; order = []; rates = replicate (length all_kinds) 0 }
+bare = record { words = 2; defs = all_kinds; clocks = replicate (length all_kinds) unregistered_row; order = []; rates = replicate (length all_kinds) 0 }
 
 -- a clock is attached
 abbrev pub with : ℕ → Option ClockId → TreeState → TreeState

@@ -6,8 +6,10 @@ use Rattle.clk_model.specs.declared.row.ClockRow.{ClockRow}
 use Rattle.clk_model.specs.State.{row_of, registered, link_in}
 use Rattle.clk_model.specs.Wired.{LinesEnd, LinksArePossible, ListsRegistered}
 
--- a tree: its description, the rows of the clocks, the registered clocks with the newest attached first, and the kept rates
+-- a tree: the number of words of the bank that its description was checked for, its description, the rows of the clocks,
+-- the registered clocks with the newest attached first, and the kept rates
 pub record TreeState : Type 0 where
+  pub words : ℕ
   pub defs : Description
   pub clocks : List ClockRow
   pub order : List ℕ

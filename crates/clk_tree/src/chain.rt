@@ -61,7 +61,7 @@ impl PlannedChain {
         self.steps.clear();
     }
 
-    /// A step behind these. Want of memory is its one refusal.
+    /// A step behind these. Its one refusal is that memory runs out.
     pub fn push(&mut self, step: ChainStep) -> Result<(), NoMemory>
         ensures pushed { OnOk result (self.new ≡ self.old ++ chain_of (step ∷ [])) }
         ensures err { OnErr result (self.new ≡ self.old) }

@@ -1,7 +1,8 @@
 //! What a clock's kind says, and the rate that it makes of its parent's rate.
 
-ghost use Rattle.std.specs.Prelude.{◌≡◌, ◌≤◌, IfSome};
+ghost use Rattle.std.specs.Prelude.{◌≡◌, IfSome};
 ghost use Rattle.clk_base.specs.Description.{kind_of};
+ghost use Rattle.clk_base.specs.Valid.{IsValid};
 ghost use Rattle.clk_model.specs.Kinds.{is_fixed};
 ghost use Rattle.clk_model.specs.Rate.{style_of, rate_over};
 ghost use Rattle.clk_tree.specs.Readable.{CanRead};
@@ -73,8 +74,8 @@ pub fn rate_by<B: Bank>(kind: &Kind, bank: &B, parent: u64) -> u64
 /// The rate in Hz of a clock over this rate of its parent, by the registers. A place outside of the
 /// description counts as a fixed clock of 0 Hz.
 #[inline(always)]
-pub fn rate_of<B: Bank>(desc: &ValidDesc, clock: ClockId, bank: &B, parent: u64) -> u64
-    requires { desc.now.words ≤ B.size bank.now }
+pub(crate) fn rate_over<B: Bank>(desc: &ValidDesc, clock: ClockId, bank: &B, parent: u64) -> u64
+    requires { IsValid (B.size bank.now) desc.now.defs }
     ensures { IfSome (B.contents bank.now) (λ regs. result ≡ rate_over (kind_of desc.now.defs clock.0) regs parent) }
 {
     if (clock.0 as usize) < desc.len() {

@@ -11,6 +11,7 @@ mod group;
 mod kind;
 mod plan;
 mod plls;
+mod rate;
 mod refresh;
 mod ring;
 mod rooting;
@@ -20,8 +21,9 @@ mod view;
 mod walk_rates;
 
 pub use chain::{ChainStep, PlannedChain, step_at};
-pub use kind::{rate_by, rate_of, style_of};
+pub use kind::{rate_by, style_of};
 pub use plan::Plan;
+pub use rate::rate_of;
 pub use tree::Tree;
 pub use view::View;
 pub use walk_rates::{WalkRate, WalkRates, rate_at};

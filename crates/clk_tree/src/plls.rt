@@ -25,7 +25,8 @@ pub(crate) fn most_plls(alloc: Global, desc: &ValidDesc) -> Result<u32, NoMemory
 fn one_level_more(alloc: Global, desc: &ValidDesc, above: &[u32]) -> Result<Vec<u32>, NoMemory>
     requires each { length above.now ≡ length desc.now.defs }
     requires small { (c : ℕ) → slice_index above.now c ≤ 64 }
-    ensures { (levels : ℕ) → TellsPlls desc.now.defs levels above.now → IfOk result (λ counts. TellsPlls desc.now.defs (suc levels) counts.items) }
+    ensures { (levels : ℕ) → TellsPlls desc.now.defs levels above.now
+        → IfOk result (λ counts. TellsPlls desc.now.defs (suc levels) counts.items) }
 {
     let mut counts = Vec::new(alloc);
     for place in 0..desc.len() {

@@ -3,13 +3,14 @@
 ghost use Rattle.std.specs.Prelude.{◌≡◌, ℕ, ◌+◌, ◌<◌, ◌≤◌, true, false, List, [], flat_map, length, slice_index, IfSome};
 ghost use Rattle.std.specs.Option.{option_map_or};
 ghost use Rattle.clk_base.specs.Description.{kind_of};
+ghost use Rattle.clk_base.specs.Valid.{IsValid};
 ghost use Rattle.clk_model.specs.Lists.{is_in};
 ghost use Rattle.clk_model.specs.Rate.{rate_over};
 ghost use Rattle.clk_model.specs.Walk.{below_within};
 ghost use Rattle.clk_tree.specs.Refreshed.{AreKidRings, AreOver};
 
 use crate::group::count_of;
-use crate::kind::rate_of;
+use crate::kind::rate_over;
 use crate::ring::Ring;
 use clk_base::{ClockId, ValidDesc};
 use reg_bank::Bank;
@@ -49,18 +50,19 @@ fn refresh_kid<B: Bank>(
     rates: &mut [u64],
 )
     requires some { 0 < levels }
-    requires bank { desc.now.words ≤ B.size bank.now }
+    requires valid { IsValid (B.size bank.now) desc.now.defs }
     requires rings { length siblings.now ≡ length desc.now.defs + length desc.now.defs + 2 }
     requires place { clock.0 < length desc.now.defs }
     requires rated { length rates.old ≡ length desc.now.defs }
     ensures rated { length rates.new ≡ length rates.old }
-    ensures below { IfSome (B.contents bank.now) (λ regs. (kids : ℕ → List ℕ) (rate : ℕ → ℕ) → AreKidRings (length desc.now.defs) siblings.now kids → AreOver desc.now.defs regs kids rate
+    ensures below { IfSome (B.contents bank.now) (λ regs. (kids : ℕ → List ℕ) (rate : ℕ → ℕ)
+        → AreKidRings (length desc.now.defs) siblings.now kids → AreOver desc.now.defs regs kids rate
         → rate clock.0 ≡ rate_over (kind_of desc.now.defs clock.0) regs parent
         → (k : ℕ) → is_in k (below_within kids levels clock.0) ≡ true → slice_index rates.new k ≡ rate k) }
     ensures others { (kids : ℕ → List ℕ) → AreKidRings (length desc.now.defs) siblings.now kids
         → (k : ℕ) → is_in k (below_within kids levels clock.0) ≡ false → slice_index rates.new k ≡ slice_index rates.old k }
 {
-    let rate = rate_of(desc, clock, bank, parent);
+    let rate = rate_over(desc, clock, bank, parent);
     rates[clock.0 as usize] = rate;
     if has_kids(count_of(desc), siblings, clock) {
         refresh_kids(levels - 1, desc, siblings, bank, clock, rate, rates);
@@ -78,16 +80,18 @@ fn refresh_kids<B: Bank>(
     rate: u64,
     rates: &mut [u64],
 )
-    requires bank { desc.now.words ≤ B.size bank.now }
+    requires valid { IsValid (B.size bank.now) desc.now.defs }
     requires rings { length siblings.now ≡ length desc.now.defs + length desc.now.defs + 2 }
     requires place { clock.0 < length desc.now.defs }
     requires rated { length rates.old ≡ length desc.now.defs }
     ensures rated { length rates.new ≡ length rates.old }
-    ensures below { IfSome (B.contents bank.now) (λ regs. (kids : ℕ → List ℕ) (rates_below : ℕ → ℕ) → AreKidRings (length desc.now.defs) siblings.now kids → AreOver desc.now.defs regs kids rates_below
+    ensures below { IfSome (B.contents bank.now) (λ regs. (kids : ℕ → List ℕ) (rates_below : ℕ → ℕ)
+        → AreKidRings (length desc.now.defs) siblings.now kids → AreOver desc.now.defs regs kids rates_below
         → rates_below clock.0 ≡ rate
         → (k : ℕ) → is_in k (flat_map (below_within kids levels) (kids clock.0)) ≡ true → slice_index rates.new k ≡ rates_below k) }
     ensures others { (kids : ℕ → List ℕ) → AreKidRings (length desc.now.defs) siblings.now kids
-        → (k : ℕ) → is_in k (flat_map (below_within kids levels) (kids clock.0)) ≡ false → slice_index rates.new k ≡ slice_index rates.old k }
+        → (k : ℕ) → is_in k (flat_map (below_within kids levels) (kids clock.0)) ≡ false
+        → slice_index rates.new k ≡ slice_index rates.old k }
 {
     if levels == 0 {
         return;
@@ -114,12 +118,13 @@ pub(crate) fn refresh_below<B: Bank>(
     parent: u64,
     rates: &mut [u64],
 )
-    requires bank { desc.now.words ≤ B.size bank.now }
+    requires valid { IsValid (B.size bank.now) desc.now.defs }
     requires rings { length siblings.now ≡ length desc.now.defs + length desc.now.defs + 2 }
     requires place { clock.0 < length desc.now.defs }
     requires rated { length rates.old ≡ length desc.now.defs }
     ensures rated { length rates.new ≡ length rates.old }
-    ensures below { IfSome (B.contents bank.now) (λ regs. (kids : ℕ → List ℕ) (rate : ℕ → ℕ) → AreKidRings (length desc.now.defs) siblings.now kids → AreOver desc.now.defs regs kids rate
+    ensures below { IfSome (B.contents bank.now) (λ regs. (kids : ℕ → List ℕ) (rate : ℕ → ℕ)
+        → AreKidRings (length desc.now.defs) siblings.now kids → AreOver desc.now.defs regs kids rate
         → rate clock.0 ≡ rate_over (kind_of desc.now.defs clock.0) regs parent
         → (k : ℕ) → is_in k (below_within kids levels clock.0) ≡ true → slice_index rates.new k ≡ rate k) }
     ensures others { (kids : ℕ → List ℕ) → AreKidRings (length desc.now.defs) siblings.now kids
@@ -128,7 +133,7 @@ pub(crate) fn refresh_below<B: Bank>(
     if levels == 0 {
         return;
     }
-    let rate = rate_of(desc, clock, bank, parent);
+    let rate = rate_over(desc, clock, bank, parent);
     rates[clock.0 as usize] = rate;
     refresh_kids(levels - 1, desc, siblings, bank, clock, rate, rates);
 }

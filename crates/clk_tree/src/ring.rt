@@ -64,7 +64,8 @@ impl Ring {
         requires { number < length self.old }
         ensures size { length self.new ≡ length self.old }
         ensures alone { slice_index self.new number ≡ number }
-        ensures rings { (end : ℕ) (xs : List ℕ) → end ≢ number → Leads self.old end end xs → Leads self.new end end (without (number ∷ []) xs) }
+        ensures rings { (end : ℕ) (xs : List ℕ) → end ≢ number → Leads self.old end end xs
+            → Leads self.new end end (without (number ∷ []) xs) }
         ensures stays { (k : ℕ) → k ≢ number → slice_index self.old k ≡ k → slice_index self.new k ≡ k }
     {
         let after = self.after[number as usize];
@@ -82,8 +83,10 @@ impl Ring {
         requires two { end ≢ number }
         requires alone { slice_index self.old number ≡ number }
         ensures size { length self.new ≡ length self.old }
-        ensures front { (xs : List ℕ) → is_in end xs ≡ false → is_in number xs ≡ false → Leads self.old end end xs → Leads self.new end end (number ∷ xs) }
-        ensures others { (e : ℕ) (xs : List ℕ) → e ≢ end → e ≢ number → is_in end xs ≡ false → is_in number xs ≡ false → Leads self.old e e xs → Leads self.new e e xs }
+        ensures front { (xs : List ℕ) → is_in end xs ≡ false → is_in number xs ≡ false → Leads self.old end end xs
+            → Leads self.new end end (number ∷ xs) }
+        ensures others { (e : ℕ) (xs : List ℕ) → e ≢ end → e ≢ number → is_in end xs ≡ false → is_in number xs ≡ false
+            → Leads self.old e e xs → Leads self.new e e xs }
         ensures stays { (k : ℕ) → k ≢ end → k ≢ number → slice_index self.old k ≡ k → slice_index self.new k ≡ k }
     {
         let first = self.after[end as usize];
@@ -100,7 +103,8 @@ impl Ring {
         requires number { number < end }
         ensures size { length self.new ≡ length self.old }
         ensures front { (xs : List ℕ) → is_in end xs ≡ false → Leads self.old end end xs → Leads self.new end end (to_front number xs) }
-        ensures others { (e : ℕ) (xs : List ℕ) → e ≢ end → e ≢ number → is_in end xs ≡ false → Leads self.old e e xs → Leads self.new e e (without (number ∷ []) xs) }
+        ensures others { (e : ℕ) (xs : List ℕ) → e ≢ end → e ≢ number → is_in end xs ≡ false
+            → Leads self.old e e xs → Leads self.new e e (without (number ∷ []) xs) }
         ensures stays { (k : ℕ) → k ≢ end → k ≢ number → slice_index self.old k ≡ k → slice_index self.new k ≡ k }
     {
         self.take_out(number);

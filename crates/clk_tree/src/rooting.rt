@@ -70,7 +70,7 @@ fn set_below(
 }
 
 /// Brings the flags up to date with a clock that was attached to this parent, or to none. Only
-/// where it is rooted now and wasn't, or the other way round, it goes to the clocks below it.
+/// if it is rooted now and wasn't, or the other way round, it goes to the clocks below it.
 pub(crate) fn update_flags(
     desc: &ValidDesc,
     siblings: &Ring,
@@ -84,7 +84,8 @@ pub(crate) fn update_flags(
     ensures size { length flags.new ≡ length flags.old }
     ensures below { (kids : ℕ → List ℕ) → AreKidRings (length desc.now.defs) siblings.now kids
         → ((k : ℕ) → is_in k (below_within kids depth clock.0) ≡ true → flag_at flags.old k ≡ flag_at flags.old clock.0)
-        → (k : ℕ) → is_in k (below_within kids depth clock.0) ≡ true → flag_at flags.new k ≡ rooted_over desc.now.defs flags.old clock.0 parent }
+        → (k : ℕ) → is_in k (below_within kids depth clock.0) ≡ true
+        → flag_at flags.new k ≡ rooted_over desc.now.defs flags.old clock.0 parent }
     ensures others { (kids : ℕ → List ℕ) → AreKidRings (length desc.now.defs) siblings.now kids
         → (k : ℕ) → is_in k (below_within kids depth clock.0) ≡ false → flag_at flags.new k ≡ flag_at flags.old k }
 {

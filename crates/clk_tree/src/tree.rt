@@ -2,14 +2,15 @@
 
 ghost use Rattle.std.specs.Prelude.{◌≡◌, ◌<◌, ◌≤◌, ℕ, ◌+◌, true, false, [], ◌++◌, length, replicate, slice_get, slice_index, IfSome, IfOk};
 ghost use Rattle.std.specs.Option.{option_map};
-ghost use Rattle.clk_base.specs.Description.{parents_of};
+ghost use Rattle.clk_base.specs.Description.{def_of, parents_of};
+ghost use Rattle.clk_base.specs.Valid.{IsValid};
 ghost use Rattle.clk_model.specs.Chain.{moves};
 ghost use Rattle.clk_model.specs.Lists.{is_in, to_front};
 ghost use Rattle.clk_model.specs.State.{row_of, registered, link_in, unregistered_row};
 ghost use Rattle.clk_model.specs.Tree.{rooted, children, roots, orphans};
 ghost use Rattle.clk_model.specs.Script.{plls};
 ghost use Rattle.clk_tree.specs.Plans.{step_of};
-ghost use Rattle.clk_tree.specs.Refreshed.{is_below, IsFresh};
+ghost use Rattle.clk_tree.specs.Refreshed.{is_below, FreshensBelow, FreshensAll};
 
 use crate::chain::ChainStep;
 use crate::group::{Group, as_clock, count_of, end_of, group_of, nth_behind};
@@ -18,7 +19,7 @@ use crate::refresh::{rate_behind, refresh_below};
 use crate::ring::Ring;
 use crate::rooting::{flag_of, update_flags};
 use crate::row::{is_registered, link_of, row_of, unregistered};
-use clk_base::{ClockId, ValidDesc, depth};
+use clk_base::{ClockDef, ClockId, ValidDesc, depth};
 use clk_io::NoMemory;
 use clk_model::ClockRow;
 use reg_bank::Bank;
@@ -28,8 +29,9 @@ use std::marker::Model;
 /// The links of the clocks of a description, the order in which they were attached, and a kept
 /// rate in Hz for each.
 ///
-/// To contracts a tree is a `TreeState`: its description, the rows of the clocks, the registered
-/// clocks with the newest attached first, and the kept rates. No call but `create` takes memory.
+/// To contracts a tree is a `TreeState`: its description with the number of words that it was
+/// checked for, the rows of the clocks, the registered clocks with the newest attached first, and
+/// the kept rates. No call but `create` takes memory.
 #[derive(Drop)]
 pub struct Tree {
     desc: ValidDesc,
@@ -55,6 +57,7 @@ impl Model for Tree {
     ghost Value = { TreeState };
 
     ghost view = { λ t. record {
+      words = t.desc.words;
       defs = t.desc.defs;
       clocks = t.clocks.items;
       order = ring_of t.turns (length t.desc.defs);
@@ -68,9 +71,10 @@ impl Tree {
     ghost use Rattle.clk_tree.specs.TreeState.{IsTree, attached};
     ghost use Rattle.clk_model.specs.State.{requested};
 
-    /// A tree in which no clock is registered and every kept rate is 0. Want of memory is its one
-    /// refusal.
+    /// A tree in which no clock is registered and every kept rate is 0. Its one refusal is that
+    /// memory runs out.
     pub fn create(alloc: Global, desc: &ValidDesc) -> Result<Tree, NoMemory>
+        ensures words { IfOk result (λ tree. tree.words ≡ desc.now.words) }
         ensures defs { IfOk result (λ tree. tree.defs ≡ desc.now.defs) }
         ensures rows { IfOk result (λ tree. tree.clocks ≡ replicate (length desc.now.defs) unregistered_row) }
         ensures order { IfOk result (λ tree. tree.order ≡ []) }
@@ -93,6 +97,37 @@ impl Tree {
             plls,
             rooted,
         })
+    }
+
+    /// The description that the tree was made of.
+    pub fn desc(&self) -> &ValidDesc
+        ensures words { result.now.words ≡ self.now.words }
+        ensures defs { result.now.defs ≡ self.now.defs }
+        ensures valid { IsValid self.now.words self.now.defs }
+        ensures stands { IsTree self.now.defs self.now.clocks self.now.order self.now.rates }
+    {
+        let _size = self.desc.len();
+        &self.desc
+    }
+
+    /// The number of clocks of the description.
+    pub fn len(&self) -> usize
+        ensures len { result ≡ length self.now.defs }
+        ensures few { result ≤ 4096 }
+        ensures valid { IsValid self.now.words self.now.defs }
+        ensures stands { IsTree self.now.defs self.now.clocks self.now.order self.now.rates }
+    {
+        count_of(&self.desc) as usize
+    }
+
+    /// A clock's record in the description.
+    pub fn def(&self, c: ClockId) -> &ClockDef
+        requires place { c.0 < length self.now.defs }
+        ensures def { result.now ≡ def_of self.now.defs c.0 }
+        ensures valid { IsValid self.now.words self.now.defs }
+        ensures stands { IsTree self.now.defs self.now.clocks self.now.order self.now.rates }
+    {
+        self.desc.def(c)
     }
 
     /// The kept rate of a clock in Hz.
@@ -170,9 +205,12 @@ impl Tree {
     /// The next older one of the clocks that a clock stands with: the children of its parent, the
     /// roots or the orphans. None behind the last, and of a clock that isn't registered. No search.
     pub fn next_sibling(&self, c: ClockId) -> Option<ClockId>
-        ensures child { (p k : ℕ) → slice_get (children self.now.order self.now.clocks p) k ≡ Some c.0 → option_map (λ d. d.0) result ≡ slice_get (children self.now.order self.now.clocks p) (k + 1) }
-        ensures root { (k : ℕ) → slice_get (roots self.now.defs self.now.order) k ≡ Some c.0 → option_map (λ d. d.0) result ≡ slice_get (roots self.now.defs self.now.order) (k + 1) }
-        ensures orphan { (k : ℕ) → slice_get (orphans self.now.defs self.now.order self.now.clocks) k ≡ Some c.0 → option_map (λ d. d.0) result ≡ slice_get (orphans self.now.defs self.now.order self.now.clocks) (k + 1) }
+        ensures child { (p k : ℕ) → slice_get (children self.now.order self.now.clocks p) k ≡ Some c.0
+            → option_map (λ d. d.0) result ≡ slice_get (children self.now.order self.now.clocks p) (k + 1) }
+        ensures root { (k : ℕ) → slice_get (roots self.now.defs self.now.order) k ≡ Some c.0
+            → option_map (λ d. d.0) result ≡ slice_get (roots self.now.defs self.now.order) (k + 1) }
+        ensures orphan { (k : ℕ) → slice_get (orphans self.now.defs self.now.order self.now.clocks) k ≡ Some c.0
+            → option_map (λ d. d.0) result ≡ slice_get (orphans self.now.defs self.now.order self.now.clocks) (k + 1) }
         ensures alone { registered self.now.clocks c.0 ≡ false → result ≡ None }
         ensures inside { IfSome result (λ d. d.0 < length self.now.defs) }
         ensures stands { IsTree self.now.defs self.now.clocks self.now.order self.now.rates }
@@ -190,7 +228,8 @@ impl Tree {
 
     /// The k-th, from 0, of the roots and then the orphans, the newest attached first of each.
     pub fn top(&self, k: usize) -> Option<ClockId>
-        ensures top { option_map (λ c. c.0) result ≡ slice_get (roots self.now.defs self.now.order ++ orphans self.now.defs self.now.order self.now.clocks) k }
+        ensures top { option_map (λ c. c.0) result
+            ≡ slice_get (roots self.now.defs self.now.order ++ orphans self.now.defs self.now.order self.now.clocks) k }
         ensures stands { IsTree self.now.defs self.now.clocks self.now.order self.now.rates }
     {
         let count = count_of(&self.desc);
@@ -221,8 +260,8 @@ impl Tree {
         row_of(&self.clocks, c).last_request
     }
 
-    /// Attaches a clock to a parent, or to none, and registers it where it isn't. It is the newest
-    /// attached from now on. Only where it is rooted then and wasn't, or the other way round, this
+    /// Attaches a clock to a parent, or to none, and registers it if it isn't. It is the newest
+    /// attached from now on. Only if it is rooted then and wasn't, or the other way round, this
     /// goes to the clocks below it.
     pub fn attach(&mut self, c: ClockId, p: Option<ClockId>)
         requires place { c.0 < length self.old.defs }
@@ -231,6 +270,7 @@ impl Tree {
         ensures link { self.new.clocks ≡ attached self.old.clocks c.0 p }
         ensures newest { self.new.order ≡ to_front c.0 self.old.order }
         ensures rates { self.new.rates ≡ self.old.rates }
+        ensures words { self.new.words ≡ self.old.words }
         ensures defs { self.new.defs ≡ self.old.defs }
         ensures stands { IsTree self.new.defs self.new.clocks self.new.order self.new.rates }
     {
@@ -253,6 +293,7 @@ impl Tree {
         ensures request { self.new.clocks ≡ requested self.old.clocks c.0 rate }
         ensures order { self.new.order ≡ self.old.order }
         ensures rates { self.new.rates ≡ self.old.rates }
+        ensures words { self.new.words ≡ self.old.words }
         ensures defs { self.new.defs ≡ self.old.defs }
         ensures stands { IsTree self.new.defs self.new.clocks self.new.order self.new.rates }
     {
@@ -265,17 +306,15 @@ impl Tree {
 
     /// Brings the kept rates of a clock and of all clocks below it up to date with the registers.
     /// Other kept rates stay.
-    pub fn refresh<B: Bank>(&mut self, desc: &ValidDesc, bank: &B, c: ClockId)
-        requires made { desc.now.defs ≡ self.old.defs }
-        requires bank { desc.now.words ≤ B.size bank.now }
+    pub fn refresh_from<B: Bank>(&mut self, bank: &B, c: ClockId)
+        requires valid { IsValid (B.size bank.now) self.old.defs }
         requires place { c.0 < length self.old.defs }
-        ensures below { IfSome (B.contents bank.now) (λ regs. ((p : ℕ) → link_in self.old.clocks c.0 ≡ Some p → IsFresh self.old.defs regs self.old.clocks self.old.rates p)
-            → (k : ℕ) → is_below self.old.clocks c.0 k ≡ true → IsFresh self.old.defs regs self.old.clocks self.new.rates k) }
-        ensures rates { IfSome (B.contents bank.now) (λ regs. ((k : ℕ) → registered self.old.clocks k ≡ true → is_below self.old.clocks c.0 k ≡ false → IsFresh self.old.defs regs self.old.clocks self.old.rates k)
-            → (k : ℕ) → registered self.old.clocks k ≡ true → IsFresh self.old.defs regs self.old.clocks self.new.rates k) }
+        ensures below { FreshensBelow self.old.defs (B.contents bank.now) self.old.clocks self.old.rates self.new.rates c.0 }
+        ensures rates { FreshensAll self.old.defs (B.contents bank.now) self.old.clocks self.old.rates self.new.rates c.0 }
         ensures others { (k : ℕ) → is_below self.old.clocks c.0 k ≡ false → slice_index self.new.rates k ≡ slice_index self.old.rates k }
         ensures rows { self.new.clocks ≡ self.old.clocks }
         ensures order { self.new.order ≡ self.old.order }
+        ensures words { self.new.words ≡ self.old.words }
         ensures defs { self.new.defs ≡ self.old.defs }
         ensures stands { IsTree self.new.defs self.new.clocks self.new.order self.new.rates }
     {
@@ -284,12 +323,30 @@ impl Tree {
         let levels = depth();
         refresh_below(
             levels,
-            desc,
+            &self.desc,
             &self.siblings,
             bank,
             c,
             parent,
             &mut self.rates,
         );
+    }
+
+    /// Does what `refresh_from` does, of a description equal to the tree's own.
+    pub fn refresh<B: Bank>(&mut self, desc: &ValidDesc, bank: &B, c: ClockId)
+        requires made { desc.now.defs ≡ self.old.defs }
+        requires bank { desc.now.words ≤ B.size bank.now }
+        requires place { c.0 < length self.old.defs }
+        ensures below { FreshensBelow self.old.defs (B.contents bank.now) self.old.clocks self.old.rates self.new.rates c.0 }
+        ensures rates { FreshensAll self.old.defs (B.contents bank.now) self.old.clocks self.old.rates self.new.rates c.0 }
+        ensures others { (k : ℕ) → is_below self.old.clocks c.0 k ≡ false → slice_index self.new.rates k ≡ slice_index self.old.rates k }
+        ensures rows { self.new.clocks ≡ self.old.clocks }
+        ensures order { self.new.order ≡ self.old.order }
+        ensures words { self.new.words ≡ self.old.words }
+        ensures defs { self.new.defs ≡ self.old.defs }
+        ensures stands { IsTree self.new.defs self.new.clocks self.new.order self.new.rates }
+    {
+        let _size = desc.len();
+        self.refresh_from(bank, c);
     }
 }

@@ -63,7 +63,7 @@ impl WalkRates {
         self.rates.clear();
     }
 
-    /// A clock with its rate behind these. Want of memory is its one refusal.
+    /// A clock with its rate behind these. Its one refusal is that memory runs out.
     pub fn push(&mut self, rate: WalkRate) -> Result<(), NoMemory>
         ensures pushed { OnOk result (self.new ≡ self.old ++ rates_of (rate ∷ [])) }
         ensures err { OnErr result (self.new ≡ self.old) }

@@ -1,19 +1,21 @@
 -- The kept sums are the definitions': a count isn't 0 exactly where the clock is on the path of a holder.
 use Rattle.std.proofs.Common.{◌≡◌, ℕ, zero, suc, ◌+◌, ◌<◌, ◌≤◌, ◌&&◌, ◌⊎◌, Bool, true, false, cond, List, [], ◌∷◌, Option, Some, None, refl, sym, ap, ◌∙◌, inl, inr, ⊎_elim, arith, length, get_or, nat_eq, nat_lt}
 use Rattle.std.specs.Prelude.{count_by}
-use Rattle.std.specs.Option.{option_map}
+use Rattle.std.specs.List.{list_all}
+use Rattle.std.specs.Option.{option_map, option_to_list}
 use Rattle.std.proofs.lemmas.Bool.{cases_lt, false≢true}
 use Rattle.std.proofs.lemmas.Bool.Decides.{nat_tests}
 use Rattle.std.proofs.lemmas.List.{get_or_past}
 use Rattle.std.proofs.lemmas.List.Sums.{sum_by-cons}
 use Rattle.clk_base.specs.declared.clock.ClockId.{ClockId}
 use Rattle.clk_base.specs.Levels.{depth, ends_within}
+use Rattle.clk_base.proofs.Lines.{ends_within-parent}
 use Rattle.clk_model.specs.Lists.{is_in, count_from}
 use Rattle.clk_model.specs.Tree.{path_within}
-use Rattle.clk_model.proofs.Members.{both_left, both_right, same_from_test, any_in, any_from_in, is_in-count_from}
+use Rattle.clk_model.proofs.Members.{both_left, both_right, same_from_test, any_in, any_from_in, is_in_head, is_in-count_from}
 use Rattle.clk_model.proofs.PathLaws.{path_all}
 use Rattle.clk_model.proofs.BelowLaws.{Rises, IsUp, rises_on, few_steps, rises_path}
-use Rattle.counts_core.specs.Sums.{up_in, leads, mark, kids, AreSums}
+use Rattle.counts_core.specs.Sums.{up_in, ups_in, LinksEnd, leads, mark, kids, AreSums}
 use Rattle.counts_core.specs.Counted.{is_held, sum_over}
 use Rattle.clk_model.proofs.WalkLaws.{either_way}
 use Rattle.clk_model.proofs.RootLaws.{both_from}
@@ -65,10 +67,18 @@ up_leads links b d e = to (get_or links b None) e where
 
 -- ---- who counts
 
--- what a contract needs of the links: they lead to possible parents, whose lines end
-pub record LinksEnd (parents : ℕ → List ℕ) (links : List (Option ClockId)) : Type 0 where
-  pub up : IsUp parents (up_in links)
-  pub ends : (c : ℕ) → ends_within parents depth c ≡ true
+-- a link leads to the parent that the list of it has
+pub up_listed : (links : List (Option ClockId)) → IsUp (ups_in links) (up_in links)
+up_listed links c p e = ap (λ (o : Option ℕ). is_in p (option_to_list o)) e ∙ is_in_head p []
+
+-- lines of links end where those of possible parents do
+pub lines_under : (parents : ℕ → List ℕ) (links : List (Option ClockId)) (levels c : ℕ) → IsUp parents (up_in links) → ends_within parents levels c ≡ true → ends_within (ups_in links) levels c ≡ true
+lines_under parents links zero c up ends = ends
+lines_under parents links (suc levels) c up ends =
+    by (up_in links c) (λ p at. lines_under parents links levels p up (ends_within-parent parents levels c p ends (up c p at))) where
+      by : (o : Option ℕ) → ((p : ℕ) → o ≡ Some p → ends_within (ups_in links) levels p ≡ true) → list_all (ends_within (ups_in links) levels) (option_to_list o) ≡ true
+      by None rest = refl
+      by (Some p) rest = both_from (ends_within (ups_in links) levels p) true (rest p refl) refl
 
 -- what is above a clock that counts counts
 counts_up : (links : List (Option ClockId)) (own counts : List ℕ) → AreSums links own counts → (b p : ℕ) → 0 < get_or counts b 0 → up_in links b ≡ Some p → 0 < get_or counts p 0
@@ -101,9 +111,9 @@ own_within links own h long some =
     (cases_lt h (length own))
 
 -- a count isn't 0 exactly where the clock is on the path of a holder
-pub counts_held : (parents : ℕ → List ℕ) (links : List (Option ClockId)) (own counts : List ℕ) → LinksEnd parents links → AreSums links own counts
+pub counts_held : (links : List (Option ClockId)) (own counts : List ℕ) → LinksEnd links → AreSums links own counts
     → (c : ℕ) → nat_lt 0 (get_or counts c 0) ≡ is_held links (λ d. get_or own d 0) c
-counts_held parents links own counts end_ sums c = either_way (nat_lt 0 (get_or counts c 0)) (is_held links (λ d. get_or own d 0) c) to from where
+counts_held links own counts end_ sums c = either_way (nat_lt 0 (get_or counts c 0)) (is_held links (λ d. get_or own d 0) c) to from where
   test : ℕ → Bool
   test h = nat_lt 0 (get_or own h 0) && is_in c (path_within (up_in links) depth h)
 
@@ -112,11 +122,11 @@ counts_held parents links own counts end_ sums c = either_way (nat_lt 0 (get_or 
       elim (holder_below links own counts sums depth c (counts_true (get_or counts c 0) e)) [
         | inl found ↦
             let h = found.0 in
-            let less = few_steps parents (up_in links) depth found.1.0 h c end_.up (end_.ends h) found.1.2 in
+            let less = few_steps (ups_in links) (up_in links) depth found.1.0 h c (up_listed links) (end_ h) found.1.2 in
             any_from_in test (count_from 0 (length links)) h
             (is_in-count_from h 0 (length links) (omega arith) (let within = own_within links own h sums.owned found.1.1 in omega arith))
             (both_from (nat_lt 0 (get_or own h 0)) (is_in c (path_within (up_in links) depth h)) (true_counts (get_or own h 0) found.1.1) (rises_path (up_in links) depth found.1.0 h c found.1.2 less))
-        | inr far ↦ let less = few_steps parents (up_in links) depth depth far.0 c end_.up (end_.ends far.0) far.1 in absurd (omega arith)
+        | inr far ↦ let less = few_steps (ups_in links) (up_in links) depth depth far.0 c (up_listed links) (end_ far.0) far.1 in absurd (omega arith)
       ]
 
   from : is_held links (λ d. get_or own d 0) c ≡ true → nat_lt 0 (get_or counts c 0) ≡ true
@@ -143,12 +153,12 @@ kids-count (l ∷ ls) (n ∷ ns) d k test long same =
     ∙ sym (sum_by-cons (λ x. cond (test x) 1 0) k (count_from (suc k) (length ls)))
 
 -- each count is the definitions' sum
-pub counts_sum : (parents : ℕ → List ℕ) (links : List (Option ClockId)) (own counts : List ℕ) → LinksEnd parents links → AreSums links own counts
+pub counts_sum : (links : List (Option ClockId)) (own counts : List ℕ) → LinksEnd links → AreSums links own counts
     → (c : ℕ) → get_or counts c 0 ≡ sum_over links (λ d. get_or own d 0) c
-counts_sum parents links own counts end_ sums c =
+counts_sum links own counts end_ sums c =
     sym (sums.sums c)
     ∙ ap (λ (n : ℕ). get_or own c 0 + n)
     (kids-count links counts c 0 (λ d. leads c (get_or links d None) && is_held links (λ x. get_or own x 0) d) sums.counted
     (λ i. let from : 0 + i ≡ i = omega arith in
     ap (λ (x : ℕ). leads c (get_or links x None) && is_held links (λ y. get_or own y 0) x) from
-    ∙ ap (λ (t : Bool). leads c (get_or links i None) && t) (sym (counts_held parents links own counts end_ sums i))))
+    ∙ ap (λ (t : Bool). leads c (get_or links i None) && t) (sym (counts_held links own counts end_ sums i))))

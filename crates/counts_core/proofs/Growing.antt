@@ -2,12 +2,8 @@
 use Rattle.std.proofs.Common.{◌≡◌, ℕ, ◌+◌, ◌≤◌, Bool, true, false, cond, List, Option, refl, sym, ap, ◌∙◌, arith, get_or, nat_eq}
 use Rattle.clk_base.specs.declared.clock.ClockId.{ClockId}
 use Rattle.clk_model.proofs.Members.{same_from_test}
-use Rattle.counts_core.specs.Sums.{one, gated_part}
+use Rattle.counts_core.specs.Sums.{one, gated_part, Grows}
 use Rattle.counts_core.proofs.Steps.{Steps}
-
--- the protections and the prepares of gated clocks have grown by the same
-abbrev pub Grows : List Bool → List ℕ → List ℕ → List ℕ → List ℕ → Type 0
-Grows gated own0 prep0 own prep = (d : ℕ) → get_or own d 0 + gated_part gated prep0 d ≡ get_or own0 d 0 + gated_part gated prep d
 
 -- one more of a clock, and of its protection if it is gated
 part_more : (gated : List Bool) (links : List (Option ClockId)) (less more : List ℕ) (a d : ℕ) → Steps links less more a

@@ -8,19 +8,20 @@ use Rattle.clk_base.specs.declared.clock.ClockId.{ClockId}
 use Rattle.clk_base.specs.declared.clock.ClockDef.{ClockDef}
 use Rattle.clk_base.specs.Description.{Description, nobody, parents_of}
 use Rattle.clk_base.specs.Flags.{has_flag, sets_rate_gate}
+use Rattle.clk_base.specs.Levels.{depth}
 use Rattle.clk_base.specs.Valid.{IsValid}
 use Rattle.clk_base.proofs.Valid.{length-valid, lines_end}
 use Rattle.clk_model.specs.Lists.{is_in}
 use Rattle.clk_model.specs.Tree.{path_within}
 use Rattle.clk_model.proofs.Members.{same_from_test}
-use Rattle.counts_core.specs.Sums.{up_in, one, kids, AreSums, Begins, gated_part}
+use Rattle.counts_core.specs.Sums.{up_in, LinksEnd, one, kids, AreSums, Begins, Grows, gated_part}
 use Rattle.counts_core.specs.Counted.{AreCounts, is_held, protect_own}
 use Rattle.counts_core.specs.CountsKept.{AreFew, IsCounted}
 use Rattle.counts_core.proofs.Walking.{count-more}
 use Rattle.counts_core.proofs.Steps.{steps_down}
 use Rattle.counts_core.proofs.Tallies.{sums_small}
-use Rattle.counts_core.proofs.Growing.{Grows, part-le}
-use Rattle.counts_core.proofs.Definitions.{LinksEnd, counts_held, counts_sum, true_counts}
+use Rattle.counts_core.proofs.Growing.{part-le}
+use Rattle.counts_core.proofs.Definitions.{counts_held, counts_sum, true_counts, lines_under}
 
 -- ---- which clocks begin to be held
 
@@ -35,37 +36,31 @@ diff_false true false e = sym e
 diff_false false b e = refl
 
 -- the first so many clocks of the path are those that are held behind the walk and weren't before
-pub begins_held : (parents : ℕ → List ℕ) (links : List (Option ClockId)) (own less own' more : List ℕ) (c k : ℕ) → LinksEnd parents links → AreSums links own less → AreSums links own' more
+pub begins_held : (links : List (Option ClockId)) (own less own' more : List ℕ) (c k : ℕ) → LinksEnd links → AreSums links own less → AreSums links own' more
     → Begins links less more c k
     → (d : ℕ) → is_in d (path_within (up_in links) k c) ≡ (is_held links (λ x. get_or own' x 0) d && not (is_held links (λ x. get_or own x 0) d))
-begins_held parents links own less own' more c k end_ before after begins d =
+begins_held links own less own' more c k end_ before after begins d =
     elim (is_in d (path_within (up_in links) k c)) as (λ t. is_in d (path_within (up_in links) k c) ≡ t → t ≡ (is_held links (λ x. get_or own' x 0) d && not (is_held links (λ x. get_or own x 0) d))) [
       | true ↦ λ e.
           diff_true (is_held links (λ x. get_or own' x 0) d) (is_held links (λ x. get_or own x 0) d)
-          (sym (counts_held parents links own' more end_ after d) ∙ true_counts (get_or more d 0) (begins.on d e))
-          (sym (counts_held parents links own less end_ before d) ∙ ap (nat_lt 0) (begins.off d e))
+          (sym (counts_held links own' more end_ after d) ∙ true_counts (get_or more d 0) (begins.on d e))
+          (sym (counts_held links own less end_ before d) ∙ ap (nat_lt 0) (begins.off d e))
       | false ↦ λ e.
           diff_false (is_held links (λ x. get_or own' x 0) d) (is_held links (λ x. get_or own x 0) d)
-          (sym (counts_held parents links own' more end_ after d) ∙ begins.others d e ∙ counts_held parents links own less end_ before d)
+          (sym (counts_held links own' more end_ after d) ∙ begins.others d e ∙ counts_held links own less end_ before d)
     ] refl
 
 -- ---- what the fields keep
 
-module _ {defs : Description} {links : List (Option ClockId)} {gated : List Bool} {en pr ex enc prc po pc : List ℕ} where
-  pub links_end : IsCounted defs links gated en pr ex enc prc po pc → LinksEnd (parents_of defs) links
-  links_end k = record { up = k.possible; ends = k.lines }
-
+module _ {links : List (Option ClockId)} {gated : List Bool} {en pr ex enc prc po pc : List ℕ} where
   -- other prepare holders
-  pub counted_prepares : (pr' prc' po' pc' : List ℕ) → IsCounted defs links gated en pr ex enc prc po pc → AreFew pr' → AreSums links pr' prc' → AreSums links po' pc' → Grows gated po prc po' prc'
-      → IsCounted defs links gated en pr' ex enc prc' po' pc'
+  pub counted_prepares : (pr' prc' po' pc' : List ℕ) → IsCounted links gated en pr ex enc prc po pc → AreFew pr' → AreSums links pr' prc' → AreSums links po' pc' → Grows gated po prc po' prc'
+      → IsCounted links gated en pr' ex enc prc' po' pc'
   counted_prepares pr' prc' po' pc' k few sums protects grown = record {
-    size = k.size;
     most = k.most;
     lines = k.lines;
     inside = k.inside;
-    possible = k.possible;
     flags = k.flags;
-    flagged = k.flagged;
     enable_few = k.enable_few;
     prepare_few = few;
     exclusive_few = k.exclusive_few;
@@ -77,16 +72,13 @@ module _ {defs : Description} {links : List (Option ClockId)} {gated : List Bool
   }
 
   -- other exclusive holders
-  pub counted_exclusives : (ex' po' pc' : List ℕ) → IsCounted defs links gated en pr ex enc prc po pc → AreFew ex' → length ex' ≡ length links → AreSums links po' pc'
-      → ((d : ℕ) → get_or po' d 0 + get_or ex d 0 ≡ get_or po d 0 + get_or ex' d 0) → IsCounted defs links gated en pr ex' enc prc po' pc'
+  pub counted_exclusives : (ex' po' pc' : List ℕ) → IsCounted links gated en pr ex enc prc po pc → AreFew ex' → length ex' ≡ length links → AreSums links po' pc'
+      → ((d : ℕ) → get_or po' d 0 + get_or ex d 0 ≡ get_or po d 0 + get_or ex' d 0) → IsCounted links gated en pr ex' enc prc po' pc'
   counted_exclusives ex' po' pc' k few size protects same = record {
-    size = k.size;
     most = k.most;
     lines = k.lines;
     inside = k.inside;
-    possible = k.possible;
     flags = k.flags;
-    flagged = k.flagged;
     enable_few = k.enable_few;
     prepare_few = k.prepare_few;
     exclusive_few = few;
@@ -167,19 +159,15 @@ few_nobody n d = let none = none_of n d in omega arith
 
 -- at the making nobody holds a clock
 pub counted_nobody : (words : ℕ) (defs : Description) (n : ℕ) (gated : List Bool) → IsValid words defs → n ≡ length defs → length gated ≡ length defs
-    → ((d : ℕ) → d < length defs → get_or gated d false ≡ sets_rate_gate defs d)
-    → IsCounted defs (replicate n (none_link tt)) gated (blank n) (blank n) (blank n) (blank n) (blank n) (blank n) (blank n)
-counted_nobody words defs n gated valid size flags flagged =
+    → IsCounted (replicate n (none_link tt)) gated (blank n) (blank n) (blank n) (blank n) (blank n) (blank n) (blank n)
+counted_nobody words defs n gated valid size flags =
     let long = length-replicate n (none_link tt) in
     let most = length-valid words defs valid in
     record {
-      size = long ∙ size;
       most = omega arith;
-      lines = lines_end words defs valid;
+      lines = λ c. lines_under (parents_of defs) (replicate n (none_link tt)) depth c (λ d p e. absurd (unlinked d p e)) (lines_end words defs valid c);
       inside = λ d p e. absurd (unlinked d p e);
-      possible = λ d p e. absurd (unlinked d p e);
       flags = flags ∙ sym (long ∙ size);
-      flagged = flags_all defs gated flags flagged;
       enable_few = few_nobody n;
       prepare_few = few_nobody n;
       exclusive_few = few_nobody n;
@@ -203,8 +191,8 @@ counted_nobody words defs n gated valid size flags flagged =
             nothing false m e = refl
 
 -- protections are small
-pub own_small : {defs : Description} {links : List (Option ClockId)} {gated : List Bool} {en pr ex enc prc po pc : List ℕ} → IsCounted defs links gated en pr ex enc prc po pc → (d : ℕ) → get_or po d 0 ≤ 16781312
-own_small {defs} {links} {gated} {en} {pr} {ex} {enc} {prc} {po} {pc} k d =
+pub own_small : {links : List (Option ClockId)} {gated : List Bool} {en pr ex enc prc po pc : List ℕ} → IsCounted links gated en pr ex enc prc po pc → (d : ℕ) → get_or po d 0 ≤ 16781312
+own_small {links} {gated} {en} {pr} {ex} {enc} {prc} {po} {pc} k d =
     let whole = k.coupled d in
     let exclusive = k.exclusive_few d in
     let part = part-le gated prc d in
@@ -212,36 +200,33 @@ own_small {defs} {links} {gated} {en} {pr} {ex} {enc} {prc} {po} {pc} k d =
     omega arith
 
 -- the three counts are the definitions'
-pub protect_own_is : {defs : Description} {links : List (Option ClockId)} {gated : List Bool} {en pr ex enc prc po pc : List ℕ} → IsCounted defs links gated en pr ex enc prc po pc
-    → (d : ℕ) → get_or po d 0 ≡ protect_own (record { defs = defs; links = links; enables = en; prepares = pr; exclusives = ex }) d
-protect_own_is {defs} {links} {gated} {en} {pr} {ex} {enc} {prc} {po} {pc} k d =
+pub protect_own_is : {links : List (Option ClockId)} {gated : List Bool} {en pr ex enc prc po pc : List ℕ} → IsCounted links gated en pr ex enc prc po pc
+    → (d : ℕ) → get_or po d 0 ≡ protect_own (record { gated = gated; links = links; enables = en; prepares = pr; exclusives = ex }) d
+protect_own_is {links} {gated} {en} {pr} {ex} {enc} {prc} {po} {pc} k d =
     k.coupled d
-    ∙ ap (λ (t : Bool). get_or ex d 0 + cond t (get_or prc d 0) 0) (k.flagged d)
-    ∙ ap (λ (m : ℕ). get_or ex d 0 + cond (sets_rate_gate defs d) m 0) (counts_sum (parents_of defs) links pr prc (links_end k) k.prepare_sums d)
+    ∙ ap (λ (m : ℕ). get_or ex d 0 + cond (get_or gated d false) m 0) (counts_sum links pr prc k.lines k.prepare_sums d)
 
 -- what the fields keep, all counts keep
-pub counts_stand : {defs : Description} {links : List (Option ClockId)} {gated : List Bool} {en pr ex enc prc po pc : List ℕ} → IsCounted defs links gated en pr ex enc prc po pc
-    → AreCounts (record { defs = defs; links = links; enables = en; prepares = pr; exclusives = ex })
+pub counts_stand : {links : List (Option ClockId)} {gated : List Bool} {en pr ex enc prc po pc : List ℕ} → IsCounted links gated en pr ex enc prc po pc
+    → AreCounts (record { gated = gated; links = links; enables = en; prepares = pr; exclusives = ex })
 counts_stand k = record {
-  links = k.size;
-  enables = k.enable_sums.owned ∙ k.size;
-  prepares = k.prepare_sums.owned ∙ k.size;
-  exclusives = k.exclusive_size ∙ k.size;
-  possible = k.possible;
+  gated = k.flags;
+  enables = k.enable_sums.owned;
+  prepares = k.prepare_sums.owned;
+  exclusives = k.exclusive_size;
   lines = k.lines;
 }
 
 -- the same lists keep the same
-pub counted_same : {defs defs' : Description} {links links' : List (Option ClockId)} {gated : List Bool} {en en' pr pr' ex ex' enc enc' prc prc' po po' pc pc' : List ℕ}
-    → defs' ≡ defs → links' ≡ links → en' ≡ en → pr' ≡ pr → ex' ≡ ex → enc' ≡ enc → prc' ≡ prc → po' ≡ po → pc' ≡ pc
-    → IsCounted defs links gated en pr ex enc prc po pc → IsCounted defs' links' gated en' pr' ex' enc' prc' po' pc'
-counted_same {defs} {defs'} {links} {links'} {gated} {en} {en'} {pr} {pr'} {ex} {ex'} {enc} {enc'} {prc} {prc'} {po} {po'} {pc} {pc'} a b c d e f g h i k =
-    let k1 = subst (λ (x : Description). IsCounted x links gated en pr ex enc prc po pc) (sym a) k in
-    let k2 = subst (λ (x : List (Option ClockId)). IsCounted defs' x gated en pr ex enc prc po pc) (sym b) k1 in
-    let k3 = subst (λ (x : List ℕ). IsCounted defs' links' gated x pr ex enc prc po pc) (sym c) k2 in
-    let k4 = subst (λ (x : List ℕ). IsCounted defs' links' gated en' x ex enc prc po pc) (sym d) k3 in
-    let k5 = subst (λ (x : List ℕ). IsCounted defs' links' gated en' pr' x enc prc po pc) (sym e) k4 in
-    let k6 = subst (λ (x : List ℕ). IsCounted defs' links' gated en' pr' ex' x prc po pc) (sym f) k5 in
-    let k7 = subst (λ (x : List ℕ). IsCounted defs' links' gated en' pr' ex' enc' x po pc) (sym g) k6 in
-    let k8 = subst (λ (x : List ℕ). IsCounted defs' links' gated en' pr' ex' enc' prc' x pc) (sym h) k7 in
-    subst (λ (x : List ℕ). IsCounted defs' links' gated en' pr' ex' enc' prc' po' x) (sym i) k8
+pub counted_same : {links links' : List (Option ClockId)} {gated : List Bool} {en en' pr pr' ex ex' enc enc' prc prc' po po' pc pc' : List ℕ}
+    → links' ≡ links → en' ≡ en → pr' ≡ pr → ex' ≡ ex → enc' ≡ enc → prc' ≡ prc → po' ≡ po → pc' ≡ pc
+    → IsCounted links gated en pr ex enc prc po pc → IsCounted links' gated en' pr' ex' enc' prc' po' pc'
+counted_same {links} {links'} {gated} {en} {en'} {pr} {pr'} {ex} {ex'} {enc} {enc'} {prc} {prc'} {po} {po'} {pc} {pc'} b c d e f g h i k =
+    let k2 = subst (λ (x : List (Option ClockId)). IsCounted x gated en pr ex enc prc po pc) (sym b) k in
+    let k3 = subst (λ (x : List ℕ). IsCounted links' gated x pr ex enc prc po pc) (sym c) k2 in
+    let k4 = subst (λ (x : List ℕ). IsCounted links' gated en' x ex enc prc po pc) (sym d) k3 in
+    let k5 = subst (λ (x : List ℕ). IsCounted links' gated en' pr' x enc prc po pc) (sym e) k4 in
+    let k6 = subst (λ (x : List ℕ). IsCounted links' gated en' pr' ex' x prc po pc) (sym f) k5 in
+    let k7 = subst (λ (x : List ℕ). IsCounted links' gated en' pr' ex' enc' x po pc) (sym g) k6 in
+    let k8 = subst (λ (x : List ℕ). IsCounted links' gated en' pr' ex' enc' prc' x pc) (sym h) k7 in
+    subst (λ (x : List ℕ). IsCounted links' gated en' pr' ex' enc' prc' po' x) (sym i) k8

@@ -17,9 +17,9 @@ use Rattle.clk_model.proofs.PathLaws.{path_agree}
 use Rattle.clk_model.proofs.BelowLaws.{Rises, rises_on, few_steps, path_rises, rises_path}
 use Rattle.clk_model.proofs.CountLaws.{count_by-agree}
 use Rattle.clk_model.proofs.WalkLaws.{is_at_same, either_way}
-use Rattle.counts_core.specs.Sums.{up_in, leads}
+use Rattle.counts_core.specs.Sums.{up_in, ups_in, LinksEnd, leads}
 use Rattle.counts_core.specs.Counted.{HasLinks, is_held, sum_over}
-use Rattle.counts_core.proofs.Definitions.{LinksEnd, counts_true, true_counts, leads_up, up_leads}
+use Rattle.counts_core.proofs.Definitions.{counts_true, true_counts, leads_up, up_leads, up_listed}
 use Rattle.counts_core.proofs.Listing.{tally, count_step, count_by-filter, count_by-listed}
 use Rattle.clk_model.proofs.RootLaws.{both_from}
 
@@ -31,12 +31,12 @@ last_link up zero h c way = (h, refl, way.1 ∙ ap (λ (x : ℕ). Some x) way.2)
 last_link up (suc n) h c way = let rest = last_link up n way.0 c way.2 in (rest.0, (way.0, way.1, rest.1), rest.2)
 
 -- a clock on the path of a holder, and the holder
-held_from : (parents : ℕ → List ℕ) (links : List (Option ClockId)) (own : ℕ → ℕ) (h n c : ℕ) → LinksEnd parents links → h < length links → 0 < own h → Rises (up_in links) n h c
+held_from : (links : List (Option ClockId)) (own : ℕ → ℕ) (h n c : ℕ) → LinksEnd links → h < length links → 0 < own h → Rises (up_in links) n h c
     → is_held links own c ≡ true
-held_from parents links own h n c end_ within some way =
+held_from links own h n c end_ within some way =
     any_from_in (λ x. nat_lt 0 (own x) && is_in c (path_within (up_in links) depth x)) (count_from 0 (length links)) h (is_in-count_from h 0 (length links) (omega arith) (omega arith))
     (both_from (nat_lt 0 (own h)) (is_in c (path_within (up_in links) depth h)) (true_counts (own h) some)
-    (rises_path (up_in links) depth n h c way (few_steps parents (up_in links) depth n h c end_.up (end_.ends h) way)))
+    (rises_path (up_in links) depth n h c way (few_steps (ups_in links) (up_in links) depth n h c (up_listed links) (end_ h) way)))
 
 held_by : (links : List (Option ClockId)) (own : ℕ → ℕ) (c : ℕ) → is_held links own c ≡ true → (h : ℕ) × (n : ℕ) × (0 < own h) × Rises (up_in links) n h c
 held_by links own c held =
@@ -78,9 +78,9 @@ linked_within links d c way =
       gone q f = cc
 
 -- a sum isn't 0 exactly where the clock is on the path of a holder
-pub sum_held : (parents : ℕ → List ℕ) (links : List (Option ClockId)) (own : ℕ → ℕ) → LinksEnd parents links → ((h : ℕ) → 0 < own h → h < length links)
+pub sum_held : (links : List (Option ClockId)) (own : ℕ → ℕ) → LinksEnd links → ((h : ℕ) → 0 < own h → h < length links)
     → (c : ℕ) → nat_lt 0 (sum_over links own c) ≡ is_held links own c
-sum_held parents links own end_ within c = either_way (nat_lt 0 (sum_over links own c)) (is_held links own c) to from where
+sum_held links own end_ within c = either_way (nat_lt 0 (sum_over links own c)) (is_held links own c) to from where
   test : ℕ → Bool
   test d = leads c (get_or links d None) && is_held links own d
 
@@ -88,13 +88,13 @@ sum_held parents links own end_ within c = either_way (nat_lt 0 (sum_over links 
   by_child d pass =
       let below = held_by links own d (both_right (leads c (get_or links d None)) (is_held links own d) pass) in
       let way = rises_on (up_in links) below.1 below.0 d c below.3 (leads_up links d c (both_left (leads c (get_or links d None)) (is_held links own d) pass)) in
-      held_from parents links own below.0 (suc below.1) c end_ (within below.0 below.2) below.2 way
+      held_from links own below.0 (suc below.1) c end_ (within below.0 below.2) below.2 way
 
   to : nat_lt 0 (sum_over links own c) ≡ true → is_held links own c ≡ true
   to e =
       let some = counts_true (sum_over links own c) e in
       ⊎_elim
-      (λ (mine : 0 < own c). held_from parents links own c 0 c end_ (within c mine) mine refl)
+      (λ (mine : 0 < own c). held_from links own c 0 c end_ (within c mine) mine refl)
       (λ (none : own c ≤ 0). let child = count_some test (count_from 0 (length links)) (omega arith) in by_child child.0 child.1)
       (cases_lt 0 (own c))
 
@@ -108,7 +108,7 @@ sum_held parents links own end_ within c = either_way (nat_lt 0 (sum_over links 
   by_way h zero some way = let here : own h ≡ own c = ap own way in omega arith
   by_way h (suc n) some way =
       let last = last_link (up_in links) n h c way in
-      let child = child_counts last.0 last.2 (held_from parents links own h n last.0 end_ (within h some) some last.1) in
+      let child = child_counts last.0 last.2 (held_from links own h n last.0 end_ (within h some) some last.1) in
       omega arith
 
   from : is_held links own c ≡ true → nat_lt 0 (sum_over links own c) ≡ true

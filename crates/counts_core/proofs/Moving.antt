@@ -4,18 +4,20 @@ use Rattle.std.specs.Option.{option_map, IfSome}
 use Rattle.std.proofs.lemmas.List.{length-set, get_or-set_same, get_or-set_other}
 use Rattle.clk_base.specs.declared.clock.ClockId.{ClockId}
 use Rattle.clk_base.specs.Description.{Description, parents_of}
+use Rattle.clk_base.specs.Levels.{depth}
 use Rattle.clk_model.specs.declared.row.ClockRow.{ClockRow}
 use Rattle.clk_model.specs.Chain.{clock_id}
 use Rattle.clk_model.specs.Lists.{is_in}
 use Rattle.clk_model.specs.State.{link_in}
+use Rattle.clk_model.specs.Wired.{LinesEnd, LinksArePossible}
 use Rattle.clk_model.proofs.Members.{same_from_test, test_other}
 use Rattle.clk_model.proofs.StateLaws.{registered_lt}
 use Rattle.clk_tree.specs.TreeState.{IsTree}
-use Rattle.counts_core.specs.Sums.{up_in, leads, mark, kids, AreSums, AreOwed}
+use Rattle.counts_core.specs.Sums.{up_in, LinksEnd, leads, mark, kids, AreSums, AreOwed, Grows}
 use Rattle.counts_core.specs.Counted.{CountState, HasOtherLinks}
 use Rattle.counts_core.specs.CountsKept.{IsCounted}
+use Rattle.counts_core.proofs.Definitions.{lines_under}
 use Rattle.counts_core.proofs.Walking.{kids-le}
-use Rattle.counts_core.proofs.Growing.{Grows}
 
 -- the children that count over a new link of a clock are those over the old one, but for this clock
 kids-link : (links : List (Option ClockId)) (counts : List ℕ) (c : ℕ) (link : Option ClockId) (d : ℕ) → length links ≡ length counts → c < length links
@@ -57,7 +59,8 @@ pub record Moves (defs : Description) (links : List (Option ClockId)) (clocks : 
   pub after : option_map (λ p. p.0) to ≡ link_in clocks c
   pub others : HasOtherLinks clocks links c
   pub inside : (d p : ℕ) → link_in clocks d ≡ Some p → p < length links
-  pub possible : (d p : ℕ) → link_in clocks d ≡ Some p → is_in p (parents_of defs d) ≡ true
+  pub possible : LinksArePossible defs clocks
+  pub lines : LinesEnd defs
 
 same_clock : (o p : Option ClockId) → option_map (λ q. q.0) o ≡ option_map (λ q. q.0) p → o ≡ p
 same_clock None None e = refl
@@ -85,6 +88,10 @@ module _ {defs : Description} {links : List (Option ClockId)} {clocks : List Clo
   pub moves_possible : Moves defs links clocks c from to → (d p : ℕ) → up_in (set links c to) d ≡ Some p → is_in p (parents_of defs d) ≡ true
   moves_possible m d p e = m.possible d p (moves_links m d ∙ e)
 
+  -- so the new lines of links end
+  pub moves_lines : Moves defs links clocks c from to → LinksEnd (set links c to)
+  moves_lines m d = lines_under (parents_of defs) (set links c to) depth d (moves_possible m) (m.lines d)
+
   -- the old link is the one that the call was told
   pub moves_from : Moves defs links clocks c from to → get_or links c None ≡ from
   moves_from m = same_clock (get_or links c None) from m.before
@@ -102,40 +109,35 @@ module _ {defs : Description} {links : List (Option ClockId)} {clocks : List Clo
 
 -- ---- what the fields keep
 
-module _ {defs : Description} {links : List (Option ClockId)} {gated : List Bool} {en pr ex enc prc po pc : List ℕ} where
-  -- what the call asks, of the fields
-  pub moves : {tdefs : Description} {clocks : List ClockRow} {order rates : List ℕ} {c : ℕ} {from to : Option ClockId} (t : CountState)
-      → IsCounted defs links gated en pr ex enc prc po pc → record { defs = defs; links = links; enables = en; prepares = pr; exclusives = ex } ≡ t
-      → IsTree tdefs clocks order rates → c < length t.links → tdefs ≡ t.defs → up_in t.links c ≡ option_map (λ p. p.0) from → HasOtherLinks clocks t.links c
-      → option_map (λ p. p.0) to ≡ link_in clocks c → Moves defs links clocks c from to
-  moves {tdefs} {clocks} {order} {rates} {c} {from} {to} t k view tree place made before others after = record {
-    place = subst (λ (x : CountState). c < length x.links) (sym view) place;
-    before = subst (λ (x : CountState). up_in x.links c ≡ option_map (λ (p : ClockId). p.0) from) (sym view) before;
-    after = after;
-    others = subst (λ (x : CountState). HasOtherLinks clocks x.links c) (sym view) others;
-    inside = λ d p e.
-        let there = registered_lt clocks p (tree.links d p e) in
-        let rows = tree.rows in
-        let long = ap length same in
-        let size = k.size in
-        omega arith;
-    possible = λ d p e. subst (λ (ds : Description). is_in p (parents_of ds d) ≡ true) same (tree.possible d p e);
-  } where
-    same : tdefs ≡ defs
-    same = made ∙ ap (λ (x : CountState). x.defs) (sym view)
+-- what the call asks, of the fields
+pub moves : {links : List (Option ClockId)} {gated : List Bool} {en pr ex : List ℕ} {defs : Description} {clocks : List ClockRow} {order rates : List ℕ} {c : ℕ} {from to : Option ClockId} (t : CountState)
+    → record { gated = gated; links = links; enables = en; prepares = pr; exclusives = ex } ≡ t
+    → IsTree defs clocks order rates → c < length t.links → length defs ≡ length t.links → up_in t.links c ≡ option_map (λ p. p.0) from → HasOtherLinks clocks t.links c
+    → option_map (λ p. p.0) to ≡ link_in clocks c → Moves defs links clocks c from to
+moves {links} {gated} {en} {pr} {ex} {defs} {clocks} {order} {rates} {c} {from} {to} t view tree place size before others after = record {
+  place = subst (λ (x : CountState). c < length x.links) (sym view) place;
+  before = subst (λ (x : CountState). up_in x.links c ≡ option_map (λ (p : ClockId). p.0) from) (sym view) before;
+  after = after;
+  others = subst (λ (x : CountState). HasOtherLinks clocks x.links c) (sym view) others;
+  inside = λ d p e.
+      let there = registered_lt clocks p (tree.links d p e) in
+      let rows = tree.rows in
+      let long : length links ≡ length t.links = ap (λ (x : CountState). length x.links) view in
+      omega arith;
+  possible = tree.possible;
+  lines = tree.lines;
+}
 
+module _ {links : List (Option ClockId)} {gated : List Bool} {en pr ex enc prc po pc : List ℕ} where
   -- the sums over the new links
-  pub counted_moved : {clocks : List ClockRow} {c : ℕ} {from to : Option ClockId} (enc' prc' po' pc' : List ℕ) → IsCounted defs links gated en pr ex enc prc po pc → Moves defs links clocks c from to
+  pub counted_moved : {defs : Description} {clocks : List ClockRow} {c : ℕ} {from to : Option ClockId} (enc' prc' po' pc' : List ℕ) → IsCounted links gated en pr ex enc prc po pc → Moves defs links clocks c from to
       → AreSums (set links c to) en enc' → AreSums (set links c to) pr prc' → AreSums (set links c to) po' pc' → Grows gated po prc po' prc'
-      → IsCounted defs (set links c to) gated en pr ex enc' prc' po' pc'
-  counted_moved {clocks} {c} {from} {to} enc' prc' po' pc' k m enables prepares protects grown = record {
-    size = length-set links c to ∙ k.size;
+      → IsCounted (set links c to) gated en pr ex enc' prc' po' pc'
+  counted_moved {defs} {clocks} {c} {from} {to} enc' prc' po' pc' k m enables prepares protects grown = record {
     most = let long = length-set links c to in let most = k.most in omega arith;
-    lines = k.lines;
+    lines = moves_lines m;
     inside = moves_inside m;
-    possible = moves_possible m;
     flags = k.flags ∙ sym (length-set links c to);
-    flagged = k.flagged;
     enable_few = k.enable_few;
     prepare_few = k.prepare_few;
     exclusive_few = k.exclusive_few;

@@ -5,9 +5,8 @@ use Rattle.std.proofs.lemmas.Bool.{cases_lt, false≢true}
 use Rattle.std.proofs.lemmas.Bool.Decides.{nat_tests}
 use Rattle.std.proofs.lemmas.List.{get_or_past}
 use Rattle.std.proofs.lemmas.List.Sums.{sum_by-cons}
-use Rattle.clk_base.specs.declared.clock.ClockDef.{ClockDef}
-use Rattle.clk_base.specs.Description.{Description, nobody, parents_of}
-use Rattle.clk_base.specs.Flags.{has_flag, is_critical, sets_rate_gate}
+use Rattle.clk_base.specs.Description.{Description}
+use Rattle.clk_base.specs.Flags.{is_critical, sets_rate_gate}
 use Rattle.clk_model.specs.declared.row.HandleRow.{HandleRow}
 use Rattle.clk_model.specs.Lists.{is_in, count_from, present}
 use Rattle.clk_model.specs.State.{State, registered}
@@ -17,9 +16,9 @@ use Rattle.clk_model.specs.Counts.{sum_of_handles, critical_part, prepare_count}
 use Rattle.clk_model.specs.Wired.{IsOrder}
 use Rattle.clk_model.proofs.Members.{both_left, is_in-count_from}
 use Rattle.clk_model.proofs.OnceLaws.{is_in-append, filter_passes, filter_keeps}
-use Rattle.counts_core.specs.Counted.{CountState, AreCounts, is_held, protect_own, prepare_sum}
+use Rattle.counts_core.specs.Counted.{CountState, AreCounts, is_gated, is_held, protect_own, prepare_sum}
 use Rattle.counts_core.specs.Standing.{own_enables, own_prepares, own_exclusives, StandsFor, HoldsAsIn, TellsHolds, CountsAsIn, TellsCounts}
-use Rattle.counts_core.proofs.Definitions.{LinksEnd, own_within}
+use Rattle.counts_core.proofs.Definitions.{own_within}
 use Rattle.counts_core.proofs.Held.{past_flag}
 use Rattle.counts_core.proofs.Holding.{sum_held, held_as, sum_as}
 use Rattle.counts_core.proofs.Listing.{tally, count_step}
@@ -88,6 +87,11 @@ pub gate_within : (defs : Description) (c : ℕ) → sets_rate_gate defs c ≡ t
 gate_within defs c e =
     ⊎_elim (λ (within : c < length defs). within) (λ (past : length defs ≤ c). absurd (false≢true (sym (past_flag defs c past) ∙ e))) (cases_lt c (length defs))
 
+-- a flag that is set is one of the list
+flag_within : (flags : List Bool) (c : ℕ) → get_or flags c false ≡ true → c < length flags
+flag_within flags c e =
+    ⊎_elim (λ (within : c < length flags). within) (λ (past : length flags ≤ c). absurd (false≢true (sym (get_or_past flags c false past) ∙ e))) (cases_lt c (length flags))
+
 critical_in : (s : State) (c : ℕ) → nat_lt 0 (critical_part s c) ≡ is_in c (critical_clocks s)
 critical_in s c =
     one_counts (is_critical s.defs c && registered s.clocks c)
@@ -121,11 +125,8 @@ gated_counts true n = refl
 gated_counts false n = refl
 
 module _ (k : CountState) (s : State) (keeps : AreCounts k) (stands : StandsFor k s) where
-  ends_ : LinksEnd (parents_of k.defs) k.links
-  ends_ = record { up = keeps.possible; ends = keeps.lines }
-
-  within : (own : List ℕ) → length own ≡ length k.defs → (h : ℕ) → 0 < get_or own h 0 → h < length k.links
-  within own size h some = own_within k.links own h (size ∙ sym keeps.links) some
+  within : (own : List ℕ) → length own ≡ length k.links → (h : ℕ) → 0 < get_or own h 0 → h < length k.links
+  within own size h some = own_within k.links own h size some
 
   active_as : (c : ℕ) → is_held k.links (slice_index k.enables) c ≡ active s c
   active_as =
@@ -136,19 +137,16 @@ module _ (k : CountState) (s : State) (keeps : AreCounts k) (stands : StandsFor 
       held_as s.clocks k.links (slice_index k.prepares) (prepare_holders s) stands.links (λ h. ap (nat_lt 0) (stands.prepares h) ∙ prepares_in s h) (within k.prepares keeps.prepares)
 
   prepares_counted : (c : ℕ) → nat_lt 0 (prepare_sum k c) ≡ prepared s c
-  prepares_counted c = sum_held (parents_of k.defs) k.links (slice_index k.prepares) ends_ (within k.prepares keeps.prepares) c ∙ prepared_as c
-
-  gated_as : (c : ℕ) → sets_rate_gate k.defs c ≡ sets_rate_gate s.defs c
-  gated_as c = ap (λ (ds : Description). sets_rate_gate ds c) stands.defs
+  prepares_counted c = sum_held k.links (slice_index k.prepares) keeps.lines (within k.prepares keeps.prepares) c ∙ prepared_as c
 
   protects_in : (c : ℕ) → nat_lt 0 (protect_own k c) ≡ is_in c (protect_holders s)
   protects_in c =
-      positive_both (get_or k.exclusives c 0) (cond (sets_rate_gate k.defs c) (prepare_sum k c) 0)
-      ∙ ap (λ (n : ℕ). nat_lt 0 n || nat_lt 0 (cond (sets_rate_gate k.defs c) (prepare_sum k c) 0)) (stands.exclusives c)
-      ∙ ap (λ (t : Bool). t || nat_lt 0 (cond (sets_rate_gate k.defs c) (prepare_sum k c) 0)) (handles_in (λ h. h.exclusives) c (present s.handles))
+      positive_both (get_or k.exclusives c 0) (cond (is_gated k c) (prepare_sum k c) 0)
+      ∙ ap (λ (n : ℕ). nat_lt 0 n || nat_lt 0 (cond (is_gated k c) (prepare_sum k c) 0)) (stands.exclusives c)
+      ∙ ap (λ (t : Bool). t || nat_lt 0 (cond (is_gated k c) (prepare_sum k c) 0)) (handles_in (λ h. h.exclusives) c (present s.handles))
       ∙ ap (λ (t : Bool). is_in c (clocks_of is_exclusive s.handles) || t)
-      (gated_counts (sets_rate_gate k.defs c) (prepare_sum k c)
-      ∙ ap (λ (t : Bool). t && nat_lt 0 (prepare_sum k c)) (gated_as c)
+      (gated_counts (is_gated k c) (prepare_sum k c)
+      ∙ ap (λ (t : Bool). t && nat_lt 0 (prepare_sum k c)) (stands.gated c)
       ∙ ap (λ (t : Bool). sets_rate_gate s.defs c && t) (prepares_counted c)
       ∙ sym (in_passing (λ d. sets_rate_gate s.defs d && prepared s d) c (length s.defs) (λ e. gate_within s.defs c (both_left (sets_rate_gate s.defs c) (prepared s c) e))))
       ∙ sym (is_in-append c (clocks_of is_exclusive s.handles) (filter (λ d. sets_rate_gate s.defs d && prepared s d) (count_from 0 (length s.defs))))
@@ -158,8 +156,8 @@ module _ (k : CountState) (s : State) (keeps : AreCounts k) (stands : StandsFor 
       ⊎_elim
       (λ (own : 0 < get_or k.exclusives h 0). within k.exclusives keeps.exclusives h own)
       (λ (none : get_or k.exclusives h 0 ≤ 0).
-      elim (sets_rate_gate k.defs h) as (λ t. sets_rate_gate k.defs h ≡ t → 0 < get_or k.exclusives h 0 + cond t (prepare_sum k h) 0 → h < length k.links) [
-        | true ↦ λ e more. let less = gate_within k.defs h e in let size = keeps.links in omega arith
+      elim (is_gated k h) as (λ t. is_gated k h ≡ t → 0 < get_or k.exclusives h 0 + cond t (prepare_sum k h) 0 → h < length k.links) [
+        | true ↦ λ e more. let less = flag_within k.gated h e in let size = keeps.gated in omega arith
         | false ↦ λ e more. absurd (omega arith)
       ] refl some)
       (cases_lt 0 (get_or k.exclusives h 0))
@@ -183,8 +181,8 @@ module _ (k : CountState) (s : State) (keeps : AreCounts k) (stands : StandsFor 
     prepares = prepares_as lists c;
     protects =
         sum_as s.order s.clocks k.links (protect_own k) (guarded s) stands.links lists guarded_as c
-        ∙ ap (λ (n : ℕ). n + cond (sets_rate_gate k.defs c) (prepare_sum k c) 0 + count_by (guarded s) (children s.order s.clocks c)) (stands.exclusives c)
-        ∙ ap (λ (t : Bool). own_exclusives s c + cond t (prepare_sum k c) 0 + count_by (guarded s) (children s.order s.clocks c)) (gated_as c)
+        ∙ ap (λ (n : ℕ). n + cond (is_gated k c) (prepare_sum k c) 0 + count_by (guarded s) (children s.order s.clocks c)) (stands.exclusives c)
+        ∙ ap (λ (t : Bool). own_exclusives s c + cond t (prepare_sum k c) 0 + count_by (guarded s) (children s.order s.clocks c)) (stands.gated c)
         ∙ ap (λ (n : ℕ). own_exclusives s c + cond (sets_rate_gate s.defs c) n 0 + count_by (guarded s) (children s.order s.clocks c)) (prepares_as lists c);
   }
 

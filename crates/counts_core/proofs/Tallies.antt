@@ -2,7 +2,7 @@
 use Rattle.std.proofs.Common.{ℕ, ◌+◌, ◌-◌, ◌<◌, ◌≤◌, List, Option, sym, ◌∙◌, arith, length, set, get_or}
 use Rattle.std.proofs.lemmas.List.{length-set}
 use Rattle.clk_base.specs.declared.clock.ClockId.{ClockId}
-use Rattle.counts_core.specs.Sums.{one, AreSums, OneMore}
+use Rattle.counts_core.specs.Sums.{AreSums, OneMore}
 use Rattle.counts_core.proofs.Walking.{count-more, kids-le}
 use Rattle.counts_core.proofs.Steps.{steps_down}
 

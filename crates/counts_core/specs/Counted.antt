@@ -1,33 +1,34 @@
 -- What contracts see of counts, and the three counts as the definitions have them: over holders and links alone.
-use Rattle.std.specs.Prelude.{◌≡◌, ◌≢◌, ℕ, ◌+◌, ◌&&◌, List, Bool, Option, Some, None, true, if◌then◌else◌, nat_lt, count_by, length, slice_index, slice_index_or}
+use Rattle.std.specs.Prelude.{◌≡◌, ◌≢◌, ℕ, ◌+◌, ◌&&◌, List, Bool, Option, None, false, if◌then◌else◌, nat_lt, count_by, length, slice_index, slice_index_or}
 use Rattle.std.specs.List.{list_any}
 use Rattle.clk_base.specs.declared.clock.ClockId.{ClockId}
-use Rattle.clk_base.specs.Description.{Description, parents_of}
-use Rattle.clk_base.specs.Flags.{sets_rate_gate}
 use Rattle.clk_base.specs.Levels.{depth}
 use Rattle.clk_model.specs.declared.row.ClockRow.{ClockRow}
 use Rattle.clk_model.specs.Lists.{is_in, count_from}
 use Rattle.clk_model.specs.State.{link_in}
 use Rattle.clk_model.specs.Tree.{path_within}
-use Rattle.clk_model.specs.Wired.{LinesEnd}
-use Rattle.counts_core.specs.Sums.{up_in, leads}
+use Rattle.counts_core.specs.Sums.{up_in, leads, LinksEnd}
 
--- the description, the links that the sums are over, and how many holders of each kind each clock has
+-- which clocks protect their rate while they are prepared, the links that the sums are over, and how many holders of each kind
+-- each clock has
 pub record CountState : Type 0 where
-  pub defs : Description
+  pub gated : List Bool
   pub links : List (Option ClockId)
   pub enables : List ℕ
   pub prepares : List ℕ
   pub exclusives : List ℕ
 
--- what all counts keep: a place in each list for each clock of the description, links to possible parents, and lines of these that end
+-- what all counts keep: a place in each list for each clock, and lines of links that end
 pub record AreCounts (s : CountState) : Type 0 where
-  pub links : length s.links ≡ length s.defs
-  pub enables : length s.enables ≡ length s.defs
-  pub prepares : length s.prepares ≡ length s.defs
-  pub exclusives : length s.exclusives ≡ length s.defs
-  pub possible : (c p : ℕ) → up_in s.links c ≡ Some p → is_in p (parents_of s.defs c) ≡ true
-  pub lines : LinesEnd s.defs
+  pub gated : length s.gated ≡ length s.links
+  pub enables : length s.enables ≡ length s.links
+  pub prepares : length s.prepares ≡ length s.links
+  pub exclusives : length s.exclusives ≡ length s.links
+  pub lines : LinksEnd s.links
+
+-- whether a clock protects its rate while it is prepared
+abbrev pub is_gated : CountState → ℕ → Bool
+is_gated s c = slice_index_or s.gated c false
 
 -- a tree has these links
 abbrev pub HasLinks : List ClockRow → List (Option ClockId) → Type 0
@@ -63,7 +64,7 @@ prepare_sum s c = sum_over s.links (slice_index s.prepares) c
 
 -- its exclusive holders, and its prepare count if being prepared protects it
 abbrev pub protect_own : CountState → ℕ → ℕ
-protect_own s c = slice_index s.exclusives c + (if sets_rate_gate s.defs c then prepare_sum s c else 0)
+protect_own s c = slice_index s.exclusives c + (if is_gated s c then prepare_sum s c else 0)
 
 -- whether it is guarded: on the path of a clock with a protection of its own
 abbrev pub is_guarded : CountState → ℕ → Bool

@@ -1,26 +1,19 @@
 -- What the fields of counts keep.
-use Rattle.std.specs.Prelude.{◌≡◌, ℕ, ◌+◌, ◌<◌, ◌≤◌, List, Bool, true, false, Option, Some, length, slice_index, slice_index_or}
+use Rattle.std.specs.Prelude.{◌≡◌, ℕ, ◌+◌, ◌<◌, ◌≤◌, List, Bool, Option, Some, length, slice_index}
 use Rattle.clk_base.specs.declared.clock.ClockId.{ClockId}
-use Rattle.clk_base.specs.Description.{Description, parents_of}
-use Rattle.clk_base.specs.Flags.{sets_rate_gate}
-use Rattle.clk_base.specs.Levels.{depth, ends_within}
-use Rattle.clk_model.specs.Lists.{is_in}
-use Rattle.counts_core.specs.Sums.{up_in, AreSums, gated_part}
+use Rattle.counts_core.specs.Sums.{up_in, LinksEnd, AreSums, gated_part}
 
 -- no clock has more holders of a kind than this
 abbrev pub AreFew : List ℕ → Type 0
 AreFew own = (d : ℕ) → slice_index own d ≤ 8388608
 
--- lines of possible parents end; links lead to possible parents, which are clocks of the description; each gated clock is flagged; the
--- counts are sums; and a flagged clock is protected as often as it is prepared, beside its exclusive holders
-pub record IsCounted (defs : Description) (links : List (Option ClockId)) (gated : List Bool) (enables prepares exclusives enabled prepared protects protected : List ℕ) : Type 0 where
-  pub size : length links ≡ length defs
+-- lines of links end; links lead to clocks; the counts are sums; and a gated clock is protected as often as it is prepared, beside its
+-- exclusive holders
+pub record IsCounted (links : List (Option ClockId)) (gated : List Bool) (enables prepares exclusives enabled prepared protects protected : List ℕ) : Type 0 where
   pub most : length links ≤ 4096
-  pub lines : (c : ℕ) → ends_within (parents_of defs) depth c ≡ true
+  pub lines : LinksEnd links
   pub inside : (d p : ℕ) → up_in links d ≡ Some p → p < length links
-  pub possible : (d p : ℕ) → up_in links d ≡ Some p → is_in p (parents_of defs d) ≡ true
   pub flags : length gated ≡ length links
-  pub flagged : (d : ℕ) → slice_index_or gated d false ≡ sets_rate_gate defs d
   pub enable_few : AreFew enables
   pub prepare_few : AreFew prepares
   pub exclusive_few : AreFew exclusives

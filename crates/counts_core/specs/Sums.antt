@@ -1,13 +1,22 @@
 -- Counts as sums over holders and children.
 use Rattle.std.specs.Prelude.{◌≡◌, ℕ, ◌+◌, ◌<◌, ◌==◌, ◌&&◌, List, [], ◌∷◌, Bool, true, false, Option, None, if◌then◌else◌, nat_lt, length, slice_index, slice_index_or}
-use Rattle.std.specs.Option.{option_map, option_map_or}
+use Rattle.std.specs.Option.{option_map, option_map_or, option_to_list}
 use Rattle.clk_base.specs.declared.clock.ClockId.{ClockId}
+use Rattle.clk_base.specs.Levels.{depth, ends_within}
 use Rattle.clk_model.specs.Lists.{is_in}
 use Rattle.clk_model.specs.Tree.{path_within}
 
 -- the parent that a clock is linked to
 abbrev pub up_in : List (Option ClockId) → ℕ → Option ℕ
 up_in links c = option_map (λ p. p.0) (slice_index_or links c None)
+
+-- the same as a list
+abbrev pub ups_in : List (Option ClockId) → ℕ → List ℕ
+ups_in links c = option_to_list (up_in links c)
+
+-- each line of links ends
+abbrev pub LinksEnd : List (Option ClockId) → Type 0
+LinksEnd links = (c : ℕ) → ends_within (ups_in links) depth c ≡ true
 
 -- whether a link leads to this clock
 abbrev pub leads : ℕ → Option ClockId → Bool
@@ -33,7 +42,7 @@ pub record AreSums (links : List (Option ClockId)) (own counts : List ℕ) : Typ
   pub counted : length counts ≡ length links
   pub sums : (d : ℕ) → slice_index own d + kids links counts d ≡ slice_index counts d
 
--- counts that are sums but for a child: where it counts, one for it is counted already of the clock that this link of it leads to
+-- counts that are sums but for a child: if it counts, one for it is counted already of the clock that this link of it leads to
 pub record AreOwed (links : List (Option ClockId)) (own counts : List ℕ) (child : ℕ) (link : Option ClockId) : Type 0 where
   pub owned : length own ≡ length links
   pub counted : length counts ≡ length links
@@ -55,3 +64,8 @@ pub record Begins (links : List (Option ClockId)) (less more : List ℕ) (c k : 
 -- what being prepared adds to the protection of a clock
 abbrev pub gated_part : List Bool → List ℕ → ℕ → ℕ
 gated_part gated prepares d = if slice_index_or gated d false then slice_index prepares d else 0
+
+-- the protections and the prepares of gated clocks have grown by the same
+abbrev pub Grows : List Bool → List ℕ → List ℕ → List ℕ → List ℕ → Type 0
+Grows gated protects prepares protects' prepares' =
+    (d : ℕ) → slice_index protects' d + gated_part gated prepares d ≡ slice_index protects d + gated_part gated prepares' d

@@ -1,7 +1,7 @@
 //! A child that comes to a parent, and one that goes from it.
 
-ghost use Rattle.std.specs.Prelude.{◌≡◌, ℕ, ◌+◌, ◌<◌, ◌≤◌, Some, length, slice_index, IfSome};
-ghost use Rattle.counts_core.specs.Sums.{up_in, AreSums, AreOwed, gated_part};
+ghost use Rattle.std.specs.Prelude.{◌≡◌, ℕ, ◌<◌, ◌≤◌, Some, length, slice_index, IfSome};
+ghost use Rattle.counts_core.specs.Sums.{up_in, AreSums, AreOwed, Grows, gated_part};
 
 use crate::coupled::{hold_up, release_up};
 use crate::tally::Tally;
@@ -71,7 +71,7 @@ fn count_prepared_child(
     ensures owed { AreOwed links.now prepares.new.own.items prepares.new.counts.items child.0 parent }
     ensures own { prepares.new.own.items ≡ prepares.old.own.items }
     ensures sums { AreSums links.now protects.new.own.items protects.new.counts.items }
-    ensures coupled { (d : ℕ) → slice_index protects.new.own.items d + gated_part gated.now prepares.old.counts.items d ≡ slice_index protects.old.own.items d + gated_part gated.now prepares.new.counts.items d }
+    ensures coupled { Grows gated.now protects.old.own.items prepares.old.counts.items protects.new.own.items prepares.new.counts.items }
 {
     if prepares.counts[child.0 as usize] == 0 {
         return;
@@ -101,7 +101,7 @@ fn drop_prepared_child(
     ensures prepare_sums { AreSums links.now prepares.new.own.items prepares.new.counts.items }
     ensures own { prepares.new.own.items ≡ prepares.old.own.items }
     ensures sums { AreSums links.now protects.new.own.items protects.new.counts.items }
-    ensures coupled { (d : ℕ) → slice_index protects.new.own.items d + gated_part gated.now prepares.old.counts.items d ≡ slice_index protects.old.own.items d + gated_part gated.now prepares.new.counts.items d }
+    ensures coupled { Grows gated.now protects.old.own.items prepares.old.counts.items protects.new.own.items prepares.new.counts.items }
 {
     if prepares.counts[child.0 as usize] == 0 {
         return;
@@ -111,7 +111,7 @@ fn drop_prepared_child(
     }
 }
 
-/// Counts a child for the parent that it comes to, where it is enabled, prepared or protected.
+/// Counts a child for the parent that it comes to, if it is enabled, prepared or protected.
 pub(crate) fn child_joins(
     links: &[Option<ClockId>],
     gated: &[bool],
@@ -137,14 +137,14 @@ pub(crate) fn child_joins(
     ensures owed { AreOwed links.now protects.new.own.items protects.new.counts.items child.0 parent }
     ensures enable_own { enables.new.own.items ≡ enables.old.own.items }
     ensures prepare_own { prepares.new.own.items ≡ prepares.old.own.items }
-    ensures coupled { (d : ℕ) → slice_index protects.new.own.items d + gated_part gated.now prepares.old.counts.items d ≡ slice_index protects.old.own.items d + gated_part gated.now prepares.new.counts.items d }
+    ensures coupled { Grows gated.now protects.old.own.items prepares.old.counts.items protects.new.own.items prepares.new.counts.items }
 {
     count_child(links, enables, child, parent);
     count_prepared_child(links, gated, prepares, protects, child, parent);
     count_child(links, protects, child, parent);
 }
 
-/// No longer counts a child for the parent that it goes from, where it is enabled, prepared or
+/// No longer counts a child for the parent that it goes from, if it is enabled, prepared or
 /// protected.
 pub(crate) fn child_leaves(
     links: &[Option<ClockId>],
@@ -169,7 +169,7 @@ pub(crate) fn child_leaves(
     ensures sums { AreSums links.now protects.new.own.items protects.new.counts.items }
     ensures enable_own { enables.new.own.items ≡ enables.old.own.items }
     ensures prepare_own { prepares.new.own.items ≡ prepares.old.own.items }
-    ensures coupled { (d : ℕ) → slice_index protects.new.own.items d + gated_part gated.now prepares.old.counts.items d ≡ slice_index protects.old.own.items d + gated_part gated.now prepares.new.counts.items d }
+    ensures coupled { Grows gated.now protects.old.own.items prepares.old.counts.items protects.new.own.items prepares.new.counts.items }
 {
     drop_child(links, protects, child, parent);
     drop_prepared_child(links, gated, prepares, protects, child, parent);

@@ -2,7 +2,7 @@
 //! as often as it is prepared.
 
 ghost use Rattle.std.specs.Prelude.{◌≡◌, ℕ, ◌+◌, ◌<◌, ◌≤◌, Some, length, slice_index, IsTrue, if◌then◌else◌};
-ghost use Rattle.counts_core.specs.Sums.{up_in, kids, one, AreSums, OneMore, Begins, gated_part};
+ghost use Rattle.counts_core.specs.Sums.{up_in, kids, one, AreSums, OneMore, Begins, Grows, gated_part};
 
 use crate::tally::Tally;
 use clk_base::ClockId;
@@ -15,7 +15,8 @@ fn add_if(gated: bool, protects: &mut Tally, links: &[Option<ClockId>], clock: C
     requires sums { AreSums links.now protects.old.own.items protects.old.counts.items }
     requires room { (d : ℕ) → slice_index protects.old.own.items d ≤ 536870912 }
     ensures sums { AreSums links.now protects.new.own.items protects.new.counts.items }
-    ensures own { (d : ℕ) → slice_index protects.new.own.items d ≡ slice_index protects.old.own.items d + (if gated then one clock.0 d else 0) }
+    ensures own { (d : ℕ) → slice_index protects.new.own.items d
+        ≡ slice_index protects.old.own.items d + (if gated then one clock.0 d else 0) }
 {
     if gated {
         protects.add(links, clock);
@@ -30,14 +31,15 @@ fn take_if(gated: bool, protects: &mut Tally, links: &[Option<ClockId>], clock: 
     requires sums { AreSums links.now protects.old.own.items protects.old.counts.items }
     requires held { IsTrue gated → 0 < slice_index protects.old.own.items clock.0 }
     ensures sums { AreSums links.now protects.new.own.items protects.new.counts.items }
-    ensures own { (d : ℕ) → slice_index protects.new.own.items d + (if gated then one clock.0 d else 0) ≡ slice_index protects.old.own.items d }
+    ensures own { (d : ℕ) → slice_index protects.new.own.items d + (if gated then one clock.0 d else 0)
+        ≡ slice_index protects.old.own.items d }
 {
     if gated {
         protects.take(links, clock);
     }
 }
 
-/// Counts one prepare holder of a clock more, and one more above wherever a count leaves 0. Tells
+/// Counts one prepare holder of a clock more, and one more above whenever a count leaves 0. Tells
 /// how many clocks began to count: the first so many of the clock's path.
 pub(crate) fn hold_up(
     links: &[Option<ClockId>],
@@ -57,7 +59,7 @@ pub(crate) fn hold_up(
     ensures more { OneMore links.now prepares.old prepares.new clock.0 }
     ensures begins { Begins links.now prepares.old prepares.new clock.0 result }
     ensures sums { AreSums links.now protects.new.own.items protects.new.counts.items }
-    ensures coupled { (d : ℕ) → slice_index protects.new.own.items d + gated_part gated.now prepares.old d ≡ slice_index protects.old.own.items d + gated_part gated.now prepares.new d }
+    ensures coupled { Grows gated.now protects.old.own.items prepares.old protects.new.own.items prepares.new }
 {
     let mut at = clock;
     let mut begun = 0;
@@ -76,7 +78,7 @@ pub(crate) fn hold_up(
     }
 }
 
-/// Counts one prepare holder of a clock less, and one less above wherever a count reaches 0. Tells
+/// Counts one prepare holder of a clock less, and one less above whenever a count reaches 0. Tells
 /// how many clocks no longer count: the first so many of the clock's path.
 pub(crate) fn release_up(
     links: &[Option<ClockId>],
@@ -96,7 +98,7 @@ pub(crate) fn release_up(
     ensures less { OneMore links.now prepares.new prepares.old clock.0 }
     ensures stops { Begins links.now prepares.new prepares.old clock.0 result }
     ensures sums { AreSums links.now protects.new.own.items protects.new.counts.items }
-    ensures coupled { (d : ℕ) → slice_index protects.new.own.items d + gated_part gated.now prepares.old d ≡ slice_index protects.old.own.items d + gated_part gated.now prepares.new d }
+    ensures coupled { Grows gated.now protects.old.own.items prepares.old protects.new.own.items prepares.new }
 {
     let mut at = clock;
     let mut stopped = 0;

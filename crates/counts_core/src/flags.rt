@@ -38,7 +38,8 @@ fn is_gated(desc: &ValidDesc, clock: ClockId) -> bool
 /// For each clock, whether it protects its rate while it is prepared.
 pub(crate) fn gated_clocks(alloc: Global, desc: &ValidDesc) -> Result<Vec<bool>, NoMemory>
     ensures size { IfOk result (λ gated. length gated.items ≡ length desc.now.defs) }
-    ensures flags { IfOk result (λ gated. (d : ℕ) → d < length desc.now.defs → slice_index_or gated.items d false ≡ sets_rate_gate desc.now.defs d) }
+    ensures flags { IfOk result (λ gated. (d : ℕ) → d < length desc.now.defs
+        → slice_index_or gated.items d false ≡ sets_rate_gate desc.now.defs d) }
 {
     let mut gated = Vec::new(alloc);
     for place in 0..desc.len() {

@@ -1,6 +1,6 @@
 //! The holders of one kind that each clock has of its own, and the counts over them.
 
-ghost use Rattle.std.specs.Prelude.{◌≡◌, ℕ, ◌+◌, ◌-◌, ◌<◌, ◌≤◌, Some, length, replicate, slice_index, slice_set, IfOk, if◌then◌else◌};
+ghost use Rattle.std.specs.Prelude.{◌≡◌, ℕ, ◌+◌, ◌-◌, ◌<◌, ◌≤◌, Some, length, replicate, slice_index, slice_set, IfOk};
 ghost use Rattle.counts_core.specs.Sums.{up_in, AreSums, Begins};
 
 use crate::walk::{lower, raise};

@@ -5,7 +5,7 @@ ghost use Rattle.counts_core.specs.Sums.{up_in, kids, one, OneMore, Begins};
 
 use clk_base::ClockId;
 
-/// Counts one holder of a clock more, and one more above wherever a count leaves 0. Tells how many
+/// Counts one holder of a clock more, and one more above whenever a count leaves 0. Tells how many
 /// clocks began to count: the first so many of the clock's path.
 pub(crate) fn raise(links: &[Option<ClockId>], counts: &mut [u32], clock: ClockId) -> usize
     requires few { length links.now ≤ 4096 }
@@ -32,7 +32,7 @@ pub(crate) fn raise(links: &[Option<ClockId>], counts: &mut [u32], clock: ClockI
     }
 }
 
-/// Counts one holder of a clock less, and one less above wherever a count reaches 0. Tells how many
+/// Counts one holder of a clock less, and one less above whenever a count reaches 0. Tells how many
 /// clocks no longer count: the first so many of the clock's path.
 pub(crate) fn lower(links: &[Option<ClockId>], counts: &mut [u32], clock: ClockId) -> usize
     requires few { length links.now ≤ 4096 }

@@ -18,7 +18,7 @@ use Rattle.clk_model.specs.Begin.{register, registered_rows}
 use Rattle.clk_model.specs.Laws.Siblings.{front_if}
 use Rattle.clk_model.specs.Wired.{LinesEnd, ListsRegistered}
 use Rattle.clk_model.proofs.Members.{any_in, any_from_in, same_from_test, test_same, test_other, is_in_cases, both_left, both_right, not_either}
-use Rattle.clk_model.proofs.OnceLaws.{once_head, once_cons, is_in-filter}
+use Rattle.clk_model.proofs.OnceLaws.{once_head, is_in-filter}
 use Rattle.clk_model.proofs.SiblingLaws.{registers_attach, registers_unattached}
 use Rattle.clk_model.proofs.PllLaws.{selected_possible, at_place}
 use Rattle.orphans.specs.Beside.{AreMarked, is_free, has_parent}

@@ -1,5 +1,5 @@
 -- Laws on the parent that a registration gives.
-use Rattle.std.proofs.Common.{◌≡◌, ◌<◌, ◌≤◌, ◌+◌, ℕ, Bool, true, false, cond, List, [], Option, Some, None, sym, ap, ◌∙◌, length}
+use Rattle.std.proofs.Common.{◌≡◌, ◌<◌, ◌≤◌, ◌+◌, ℕ, Bool, true, false, cond, List, [], Option, Some, None, refl, sym, ap, subst, ◌∙◌, length}
 use Rattle.std.specs.Prelude.{IfSome, slice_get, option_and_then}
 use Rattle.std.specs.Option.{option_map, option_map_or}
 use Rattle.clk_base.specs.declared.clock.ClockId.{ClockId}
@@ -46,6 +46,17 @@ given_there defs regs clocks c p e there = given_by defs regs clocks c (Some p) 
 pub given_away : (defs : Description) (regs : Registers) (clocks : List ClockRow) (c p : ℕ) → selected defs regs c ≡ Some p → registered clocks p ≡ false
     → link_given defs regs clocks c ≡ None
 given_away defs regs clocks c p e away = given_by defs regs clocks c (Some p) e ∙ ap (λ (t : Bool). cond t (Some p) None) away
+
+-- what is left of a selected parent when it is asked to be registered is the link
+pub given_as : (defs : Description) (regs : Registers) (clocks : List ClockRow) (c : ℕ) (found link : Option ClockId) → option_map (λ p. p.0) found ≡ selected defs regs c
+    → option_map (λ p. p.0) link ≡ option_and_then (if_registered clocks) (option_map (λ p. p.0) found) → option_map (λ p. p.0) link ≡ link_given defs regs clocks c
+given_as defs regs clocks c found link is left =
+    left ∙ ap (option_and_then (if_registered clocks)) is ∙ sym (given_by defs regs clocks c (selected defs regs c) refl)
+
+-- and a possible parent
+pub possible_as : (ps : List ℕ) (found link : Option ClockId) → IfSome found (λ p. is_in p.0 ps ≡ true) → IfSome link (λ p. found ≡ Some p) → IfSome link (λ p. is_in p.0 ps ≡ true)
+possible_as ps found None can same = tt
+possible_as ps found (Some p) can same = subst (λ (o : Option ClockId). IfSome o (λ q. is_in q.0 ps ≡ true)) same can
 
 -- a fixed clock is given none
 pub given_fixed : (words : ℕ) (defs : Description) (regs : Registers) (clocks : List ClockRow) (c : ℕ) → IsValid words defs → c < length defs → is_fixed (kind_of defs c) ≡ true

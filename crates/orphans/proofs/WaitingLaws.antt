@@ -1,5 +1,5 @@
 -- Laws on the orphans that wait for a parent.
-use Rattle.std.proofs.Common.{◌≡◌, ℕ, suc, ◌+◌, ◌<◌, ◌≤◌, ◌++◌, Bool, true, false, cond, List, [], ◌∷◌, Option, Some, None, refl, sym, ap, subst, ◌∙◌, inl, inr, arith, length, drop}
+use Rattle.std.proofs.Common.{◌≡◌, ℕ, suc, ◌+◌, ◌<◌, ◌≤◌, ◌++◌, Bool, true, false, cond, List, [], ◌∷◌, Option, Some, None, refl, sym, ap, ◌∙◌, inl, inr, arith, length, drop}
 use Rattle.std.specs.Prelude.{All, IfSome, filter, slice_get, find}
 use Rattle.std.specs.Option.{option_map, option_map_or}
 use Rattle.std.proofs.lemmas.List.{append-nil, append_assoc}
@@ -105,13 +105,12 @@ pub find_at : (test : ℕ → Bool) (xs : List ℕ) (k x : ℕ) → slice_get xs
 find_at test xs k x at = ap (find test) (drop_at xs k x at)
 
 -- a root or an orphan is a clock of the description
-pub top_inside : (t : TreeState) (k n : ℕ) (top : Option ClockId) → IsTree t.defs t.clocks t.order t.rates → length t.defs ≡ n
-    → option_map (λ c. c.0) top ≡ slice_get (roots t.defs t.order ++ orphans t.defs t.order t.clocks) k → IfSome top (λ c. c.0 < n)
-top_inside t k n None tree size at = tt
-top_inside t k n (Some c) tree size at =
-    subst (λ (m : ℕ). c.0 < m) size
-    (order_below t.defs t.clocks t.order t.rates tree c.0
+pub top_inside : (t : TreeState) (k : ℕ) (top : Option ClockId) → IsTree t.defs t.clocks t.order t.rates
+    → option_map (λ c. c.0) top ≡ slice_get (roots t.defs t.order ++ orphans t.defs t.order t.clocks) k → IfSome top (λ c. c.0 < length t.defs)
+top_inside t k None tree at = tt
+top_inside t k (Some c) tree at =
+    order_below t.defs t.clocks t.order t.rates tree c.0
     (elim (in_append c.0 (roots t.defs t.order) (orphans t.defs t.order t.clocks) (at_place (roots t.defs t.order ++ orphans t.defs t.order t.clocks) k c.0 (sym at))) [
       | inl root ↦ is_in-filter (λ d. is_fixed (kind_of t.defs d)) c.0 t.order root
       | inr orphan ↦ is_in-filter (is_orphan t.defs t.clocks) c.0 t.order orphan
-    ]))
+    ])

@@ -7,6 +7,6 @@ mod link;
 mod marks;
 mod waiting;
 
-pub use adopting::adoptable;
+pub use adopting::{adoptable, adoptable_in};
 pub use beside::link_beside;
-pub use link::link_of;
+pub use link::{link_of, read_link};

@@ -10,7 +10,7 @@ use Rattle.clk_base.proofs.Valid.{lines_end}
 use Rattle.reg_bank.specs.Registers.{Registers}
 use Rattle.clk_model.specs.Chain.{chain, chain_within, keeps_boundaries, outcome}
 use Rattle.clk_model.specs.Prep.{masked}
-use Rattle.clk_model.specs.Round.{Wiring, View, rate_in}
+use Rattle.clk_model.specs.Round.{Wiring, View}
 use Rattle.clk_model.specs.State.{ChainStep}
 use Rattle.clk_model.specs.Walk.{walk}
 use Rattle.clk_model.specs.Wired.{LinksArePossible}

@@ -66,32 +66,32 @@ one_chain words defs regs t c rate p valid fits tree there possible other is =
 -- ---- where the bank tells its words
 
 -- the chain is that of the definitions
-pub parent_planned : (told : Option Registers) (words size : ℕ) (defs : Description) (t : TreeState) (c rate above p : ℕ) → IsValid words defs → words ≤ size → IfSome told (λ regs. length regs ≡ size)
-    → IsTree t.defs t.clocks t.order t.rates → defs ≡ t.defs → registered t.clocks c ≡ true → is_in p (parents_of defs c) ≡ true → link_in t.clocks c ≢ Some p
-    → IfSome told (λ regs. rate ≡ rate_over (kind_of defs c) regs above) → Always defs t (λ w. above ≡ rate_in w p)
-    → Told told defs t (λ w. to_parent c rate p ∷ [] ≡ parent_chain w c p)
-parent_planned told words size defs t c rate above p valid fits sized tree made there possible other is above_is =
-    told_both told (λ regs. length regs ≡ size) (λ regs. rate ≡ rate_over (kind_of defs c) regs above)
-    (λ regs. KeepsRates defs regs t → to_parent c rate p ∷ [] ≡ parent_chain (wired defs regs t) c p)
+pub parent_planned : (told : Option Registers) (size : ℕ) (t : TreeState) (c rate above p : ℕ) → IsValid size t.defs → IfSome told (λ regs. length regs ≡ size)
+    → IsTree t.defs t.clocks t.order t.rates → registered t.clocks c ≡ true → is_in p (parents_of t.defs c) ≡ true → link_in t.clocks c ≢ Some p
+    → IfSome told (λ regs. rate ≡ rate_over (kind_of t.defs c) regs above) → Always t.defs t (λ w. above ≡ rate_in w p)
+    → Told told t.defs t (λ w. to_parent c rate p ∷ [] ≡ parent_chain w c p)
+parent_planned told size t c rate above p valid sized tree there possible other is above_is =
+    told_both told (λ regs. length regs ≡ size) (λ regs. rate ≡ rate_over (kind_of t.defs c) regs above)
+    (λ regs. KeepsRates t.defs regs t → to_parent c rate p ∷ [] ≡ parent_chain (wired t.defs regs t) c p)
     (λ regs sized_ is_ kept.
-    one_chain words defs regs t c rate p valid (omega arith) (subst (λ (ds : Description). IsTree ds t.clocks t.order t.rates) (sym made) tree) there possible other
-    (is_ ∙ ap (rate_over (kind_of defs c) regs) (above_is regs kept))) sized is
+    one_chain size t.defs regs t c rate p valid (omega arith) tree there possible other
+    (is_ ∙ ap (rate_over (kind_of t.defs c) regs) (above_is regs kept))) sized is
 
 -- and so are the rates of its walk
-pub parent_walked : (told : Option Registers) (words size : ℕ) (defs : Description) (t : TreeState) (c rate above p : ℕ) (new : List ClockRate) → IsValid words defs → words ≤ size → IfSome told (λ regs. length regs ≡ size)
-    → IsTree t.defs t.clocks t.order t.rates → defs ≡ t.defs → registered t.clocks c ≡ true → is_in p (parents_of defs c) ≡ true → link_in t.clocks c ≢ Some p
-    → IfSome told (λ regs. rate ≡ rate_over (kind_of defs c) regs above) → Always defs t (λ w. above ≡ rate_in w p)
-    → Walks told defs t (to_parent c rate p ∷ []) (rate ∷ []) c rate [] new (below_within (kids_after t.order t.clocks (to_parent c rate p ∷ [])) depth c)
-    → Told told defs t (λ w. new ≡ walked_rates t.order w (to_parent c rate p ∷ []))
-parent_walked told words size defs t c rate above p new valid fits sized tree made there possible other is above_is walks =
+pub parent_walked : (told : Option Registers) (size : ℕ) (t : TreeState) (c rate above p : ℕ) (new : List ClockRate) → IsValid size t.defs → IfSome told (λ regs. length regs ≡ size)
+    → IsTree t.defs t.clocks t.order t.rates → registered t.clocks c ≡ true → is_in p (parents_of t.defs c) ≡ true → link_in t.clocks c ≢ Some p
+    → IfSome told (λ regs. rate ≡ rate_over (kind_of t.defs c) regs above) → Always t.defs t (λ w. above ≡ rate_in w p)
+    → Walks told t.defs t (to_parent c rate p ∷ []) (rate ∷ []) c rate [] new (below_within (kids_after t.order t.clocks (to_parent c rate p ∷ [])) depth c)
+    → Told told t.defs t (λ w. new ≡ walked_rates t.order w (to_parent c rate p ∷ []))
+parent_walked told size t c rate above p new valid sized tree there possible other is above_is walks =
     told_both told (λ regs. length regs ≡ size)
-    (λ regs. (rate ≡ rate_over (kind_of defs c) regs above) × ((rated : ℕ → ℕ) → AreWalked defs regs t (to_parent c rate p ∷ []) (rate ∷ []) rated → rated c ≡ rate
+    (λ regs. (rate ≡ rate_over (kind_of t.defs c) regs above) × ((rated : ℕ → ℕ) → AreWalked t.defs regs t (to_parent c rate p ∷ []) (rate ∷ []) rated → rated c ≡ rate
     → new ≡ map (at_rate rated) (below_within (kids_after t.order t.clocks (to_parent c rate p ∷ [])) depth c)))
-    (λ regs. KeepsRates defs regs t → new ≡ walked_rates t.order (wired defs regs t) (to_parent c rate p ∷ []))
+    (λ regs. KeepsRates t.defs regs t → new ≡ walked_rates t.order (wired t.defs regs t) (to_parent c rate p ∷ []))
     (λ regs sized_ both kept.
-    walked_whole words defs regs t (to_parent c rate p ∷ []) (rate ∷ []) new
-    (one_step words defs regs t c rate p valid (omega arith) (subst (λ (ds : Description). IsTree ds t.clocks t.order t.rates) (sym made) tree) there possible) (omega arith)
-    (ap (λ (r : ℕ). r ∷ []) (both.0 ∙ ap (rate_over (kind_of defs c) regs) (above_is regs kept)) ∙ sym (one_out (wired defs regs t) c rate p other)) both.1)
+    walked_whole size t.defs regs t (to_parent c rate p ∷ []) (rate ∷ []) new
+    (one_step size t.defs regs t c rate p valid (omega arith) tree there possible) (omega arith)
+    (ap (λ (r : ℕ). r ∷ []) (both.0 ∙ ap (rate_over (kind_of t.defs c) regs) (above_is regs kept)) ∙ sym (one_out (wired t.defs regs t) c rate p other)) both.1)
     sized (told_both told _ _ _ (λ regs i w. (i, w)) is walks)
 
 -- ---- lists of one

@@ -179,51 +179,51 @@ walked_whole words defs regs t ks rates new is some out walks =
 
 -- ---- plans where the bank tells its words
 
-bounded_steps : (told : Option Registers) (words size : ℕ) (defs : Description) (t : TreeState) (view : View) (steps : List ChainStep) (rates : List ℕ) (keeps : Bool) → IsValid words defs → words ≤ size
-    → IfSome told (λ regs. length regs ≡ size) → IsTree t.defs t.clocks t.order t.rates → defs ≡ t.defs → All (IsThere t.clocks) steps → keeps ≡ rates_within view (chain_of steps) rates
-    → Told told defs t (λ w. rates ≡ out_rates w (chain_of steps))
-    → Told told defs t (λ w. (c x : ℕ) → Some (chain_of steps) ≡ chain_within depth w view c x → cond keeps (Some (chain_of steps)) None ≡ chain w view c x)
-bounded_steps told words size defs t view steps rates keeps valid fits sized tree made there is out =
-    told_both told (λ regs. length regs ≡ size) (λ regs. KeepsRates defs regs t → rates ≡ out_rates (wired defs regs t) (chain_of steps))
-    (λ regs. KeepsRates defs regs t → (c x : ℕ) → Some (chain_of steps) ≡ chain_within depth (wired defs regs t) view c x → cond keeps (Some (chain_of steps)) None ≡ chain (wired defs regs t) view c x)
+bounded_steps : (told : Option Registers) (size : ℕ) (t : TreeState) (view : View) (steps : List ChainStep) (rates : List ℕ) (keeps : Bool) → IsValid size t.defs
+    → IfSome told (λ regs. length regs ≡ size) → IsTree t.defs t.clocks t.order t.rates → All (IsThere t.clocks) steps → keeps ≡ rates_within view (chain_of steps) rates
+    → Told told t.defs t (λ w. rates ≡ out_rates w (chain_of steps))
+    → Told told t.defs t (λ w. (c x : ℕ) → Some (chain_of steps) ≡ chain_within depth w view c x → cond keeps (Some (chain_of steps)) None ≡ chain w view c x)
+bounded_steps told size t view steps rates keeps valid sized tree there is out =
+    told_both told (λ regs. length regs ≡ size) (λ regs. KeepsRates t.defs regs t → rates ≡ out_rates (wired t.defs regs t) (chain_of steps))
+    (λ regs. KeepsRates t.defs regs t → (c x : ℕ) → Some (chain_of steps) ≡ chain_within depth (wired t.defs regs t) view c x → cond keeps (Some (chain_of steps)) None ≡ chain (wired t.defs regs t) view c x)
     (λ regs sized_ out_ kept c x climbed.
-    let ground = chain_given words defs regs t view c x steps valid (omega arith) (subst (λ (ds : Description). IsTree ds t.clocks t.order t.rates) (sym made) tree) there climbed in
-    chain_bounded (wired defs regs t) view c x (chain_of steps) keeps climbed
-    (sym (boundaries_are words t.order (wired defs regs t) view (chain_of steps) ground) ∙ ap (rates_within view (chain_of steps)) (sym (out_ kept)) ∙ sym is)) sized out
+    let ground = chain_given size t.defs regs t view c x steps valid (omega arith) tree there climbed in
+    chain_bounded (wired t.defs regs t) view c x (chain_of steps) keeps climbed
+    (sym (boundaries_are size t.order (wired t.defs regs t) view (chain_of steps) ground) ∙ ap (rates_within view (chain_of steps)) (sym (out_ kept)) ∙ sym is)) sized out
 
 -- a chain that was climbed is planned exactly where its rates keep the boundaries
-pub bounded_chain : (told : Option Registers) (words size : ℕ) (defs : Description) (t : TreeState) (view : View) (steps : List ChainStep) (ks : List state.ChainStep) (rates : List ℕ) (keeps : Bool) → IsValid words defs → words ≤ size
-    → IfSome told (λ regs. length regs ≡ size) → IsTree t.defs t.clocks t.order t.rates → defs ≡ t.defs → chain_of steps ≡ ks → AllThere t.clocks ks → keeps ≡ rates_within view (chain_of steps) rates
-    → Told told defs t (λ w. rates ≡ out_rates w (chain_of steps))
-    → Told told defs t (λ w. (c x : ℕ) → Some ks ≡ chain_within depth w view c x → cond keeps (Some ks) None ≡ chain w view c x)
-bounded_chain told words size defs t view steps ks rates keeps valid fits sized tree made same there is out =
-    subst (λ (ls : List state.ChainStep). Told told defs t (λ w. (c x : ℕ) → Some ls ≡ chain_within depth w view c x → cond keeps (Some ls) None ≡ chain w view c x)) same
-    (bounded_steps told words size defs t view steps rates keeps valid fits sized tree made (chain_there t.clocks steps ks same there) is out)
+pub bounded_chain : (told : Option Registers) (size : ℕ) (t : TreeState) (view : View) (steps : List ChainStep) (ks : List state.ChainStep) (rates : List ℕ) (keeps : Bool) → IsValid size t.defs
+    → IfSome told (λ regs. length regs ≡ size) → IsTree t.defs t.clocks t.order t.rates → chain_of steps ≡ ks → AllThere t.clocks ks → keeps ≡ rates_within view (chain_of steps) rates
+    → Told told t.defs t (λ w. rates ≡ out_rates w (chain_of steps))
+    → Told told t.defs t (λ w. (c x : ℕ) → Some ks ≡ chain_within depth w view c x → cond keeps (Some ks) None ≡ chain w view c x)
+bounded_chain told size t view steps ks rates keeps valid sized tree same there is out =
+    subst (λ (ls : List state.ChainStep). Told told t.defs t (λ w. (c x : ℕ) → Some ls ≡ chain_within depth w view c x → cond keeps (Some ls) None ≡ chain w view c x)) same
+    (bounded_steps told size t view steps rates keeps valid sized tree (chain_there t.clocks steps ks same there) is out)
 
-walked_steps : (told : Option Registers) (words size : ℕ) (defs : Description) (t : TreeState) (view : View) (steps : List ChainStep) (rates : List ℕ) (new : List ClockRate) → IsValid words defs → words ≤ size
-    → IfSome told (λ regs. length regs ≡ size) → IsTree t.defs t.clocks t.order t.rates → defs ≡ t.defs → All (IsThere t.clocks) steps → 0 < length steps
-    → Told told defs t (λ w. rates ≡ out_rates w (chain_of steps))
-    → Walks told defs t (chain_of steps) rates (top_of (chain_of steps)) (slice_index rates (length rates - 1)) [] new (below_within (kids_after t.order t.clocks (chain_of steps)) depth (top_of (chain_of steps)))
-    → Told told defs t (λ w. (c x : ℕ) → Some (chain_of steps) ≡ chain_within depth w view c x → new ≡ walked_rates t.order w (chain_of steps))
-walked_steps told words size defs t view steps rates new valid fits sized tree made there some out walks =
-    told_both told (λ regs. length regs ≡ size) (λ regs. (KeepsRates defs regs t → rates ≡ out_rates (wired defs regs t) (chain_of steps))
-    × ((rated : ℕ → ℕ) → AreWalked defs regs t (chain_of steps) rates rated → rated (top_of (chain_of steps)) ≡ slice_index rates (length rates - 1)
+walked_steps : (told : Option Registers) (size : ℕ) (t : TreeState) (view : View) (steps : List ChainStep) (rates : List ℕ) (new : List ClockRate) → IsValid size t.defs
+    → IfSome told (λ regs. length regs ≡ size) → IsTree t.defs t.clocks t.order t.rates → All (IsThere t.clocks) steps → 0 < length steps
+    → Told told t.defs t (λ w. rates ≡ out_rates w (chain_of steps))
+    → Walks told t.defs t (chain_of steps) rates (top_of (chain_of steps)) (slice_index rates (length rates - 1)) [] new (below_within (kids_after t.order t.clocks (chain_of steps)) depth (top_of (chain_of steps)))
+    → Told told t.defs t (λ w. (c x : ℕ) → Some (chain_of steps) ≡ chain_within depth w view c x → new ≡ walked_rates t.order w (chain_of steps))
+walked_steps told size t view steps rates new valid sized tree there some out walks =
+    told_both told (λ regs. length regs ≡ size) (λ regs. (KeepsRates t.defs regs t → rates ≡ out_rates (wired t.defs regs t) (chain_of steps))
+    × ((rated : ℕ → ℕ) → AreWalked t.defs regs t (chain_of steps) rates rated → rated (top_of (chain_of steps)) ≡ slice_index rates (length rates - 1)
     → new ≡ map (at_rate rated) (below_within (kids_after t.order t.clocks (chain_of steps)) depth (top_of (chain_of steps)))))
-    (λ regs. KeepsRates defs regs t → (c x : ℕ) → Some (chain_of steps) ≡ chain_within depth (wired defs regs t) view c x → new ≡ walked_rates t.order (wired defs regs t) (chain_of steps))
+    (λ regs. KeepsRates t.defs regs t → (c x : ℕ) → Some (chain_of steps) ≡ chain_within depth (wired t.defs regs t) view c x → new ≡ walked_rates t.order (wired t.defs regs t) (chain_of steps))
     (λ regs sized_ both kept c x climbed.
-    let ground = chain_given words defs regs t view c x steps valid (omega arith) (subst (λ (ds : Description). IsTree ds t.clocks t.order t.rates) (sym made) tree) there climbed in
-    walked_whole words defs regs t (chain_of steps) rates new ground (let size_ = length-chain steps in omega arith) (both.0 kept) both.1)
+    let ground = chain_given size t.defs regs t view c x steps valid (omega arith) tree there climbed in
+    walked_whole size t.defs regs t (chain_of steps) rates new ground (let size_ = length-chain steps in omega arith) (both.0 kept) both.1)
     sized (told_both told _ _ _ (λ regs o w. (o, w)) out walks)
 
 -- and the rates of its walk are those of the outcome
-pub walked_chain : (told : Option Registers) (words size : ℕ) (defs : Description) (t : TreeState) (view : View) (steps : List ChainStep) (ks : List state.ChainStep) (rates : List ℕ) (new : List ClockRate) → IsValid words defs
-    → words ≤ size → IfSome told (λ regs. length regs ≡ size) → IsTree t.defs t.clocks t.order t.rates → defs ≡ t.defs → chain_of steps ≡ ks → AllThere t.clocks ks → 0 < length ks
-    → Told told defs t (λ w. rates ≡ out_rates w (chain_of steps))
-    → Walks told defs t (chain_of steps) rates (top_of (chain_of steps)) (slice_index rates (length rates - 1)) [] new (below_within (kids_after t.order t.clocks (chain_of steps)) depth (top_of (chain_of steps)))
-    → Told told defs t (λ w. (c x : ℕ) → Some ks ≡ chain_within depth w view c x → new ≡ walked_rates t.order w ks)
-walked_chain told words size defs t view steps ks rates new valid fits sized tree made same there some out walks =
-    subst (λ (ls : List state.ChainStep). Told told defs t (λ w. (c x : ℕ) → Some ls ≡ chain_within depth w view c x → new ≡ walked_rates t.order w ls)) same
-    (walked_steps told words size defs t view steps rates new valid fits sized tree made (chain_there t.clocks steps ks same there)
+pub walked_chain : (told : Option Registers) (size : ℕ) (t : TreeState) (view : View) (steps : List ChainStep) (ks : List state.ChainStep) (rates : List ℕ) (new : List ClockRate) → IsValid size t.defs
+    → IfSome told (λ regs. length regs ≡ size) → IsTree t.defs t.clocks t.order t.rates → chain_of steps ≡ ks → AllThere t.clocks ks → 0 < length ks
+    → Told told t.defs t (λ w. rates ≡ out_rates w (chain_of steps))
+    → Walks told t.defs t (chain_of steps) rates (top_of (chain_of steps)) (slice_index rates (length rates - 1)) [] new (below_within (kids_after t.order t.clocks (chain_of steps)) depth (top_of (chain_of steps)))
+    → Told told t.defs t (λ w. (c x : ℕ) → Some ks ≡ chain_within depth w view c x → new ≡ walked_rates t.order w ks)
+walked_chain told size t view steps ks rates new valid sized tree same there some out walks =
+    subst (λ (ls : List state.ChainStep). Told told t.defs t (λ w. (c x : ℕ) → Some ls ≡ chain_within depth w view c x → new ≡ walked_rates t.order w ls)) same
+    (walked_steps told size t view steps rates new valid sized tree (chain_there t.clocks steps ks same there)
     (let size_ = length-chain steps in let sizes = ap length same in omega arith) out walks)
 
 -- the clocks of such a chain are those of a view

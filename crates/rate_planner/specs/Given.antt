@@ -30,7 +30,7 @@ abbrev pub after_divisors : (ℕ → ℕ → Option ℕ) → round.Wiring → �
 after_divisors ask w c x best divisors =
     fold (round.better x) best (filter_map (λ i. round.over_link ask w c (x * i) (λ r. div_ceil r i)) (filter (λ i. nat_le (x * i) round.most_rate) divisors))
 
--- what a possible parent of a mux gives, and nothing where it isn't rooted
+-- what a possible parent of a mux gives, and nothing if it isn't rooted
 abbrev pub over_rooted : (ℕ → ℕ → Option ℕ) → round.Wiring → ℕ → ℕ → ℕ → Option round.Rounded
 over_rooted ask w c x p = elim (rooted w.defs w.clocks p) [ true ↦ round.over_candidate ask w c x p | false ↦ None ]
 

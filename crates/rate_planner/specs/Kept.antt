@@ -20,7 +20,7 @@ wired defs regs t = record { defs = defs; regs = regs; clocks = t.clocks }
 abbrev pub Always : Description → TreeState → (Wiring → Type 0) → Type 0
 Always defs t P = (regs : Registers) → KeepsRates defs regs t → P (wired defs regs t)
 
--- what holds of the tree with the registers that a bank tells, where it keeps their rates
+-- what holds of the tree with the registers that a bank tells, if it keeps their rates
 abbrev pub Told : Option Registers → Description → TreeState → (Wiring → Type 0) → Type 0
 Told told defs t P = IfSome told (λ regs. KeepsRates defs regs t → P (wired defs regs t))
 

@@ -15,7 +15,7 @@ field_for (Divider word shift width one_based power_of_two) parent planned = Som
 field_for (Pll word shift width power_word power_bit least most m) parent planned = Some (pll_multiplier parent planned least most m)
 field_for _ parent planned = None
 
--- the registers with this number in the field of a kind, where there is a number
+-- the registers with this number in the field of a kind, if there is a number
 abbrev pub put_field : Kind → Option ℕ → Registers → Registers
 put_field kind None regs = regs
 put_field kind (Some value) regs = option_map_or (λ f. put regs f.word f.shift f.width value) (field_of kind) regs

@@ -16,7 +16,7 @@ use crate::kind::{can_round, keeps_parent, kind_of, sets_rate_parent};
 use crate::now::{over_parent, parent_rate_now, passes_on, rate_now};
 use crate::rest::Rest;
 use crate::rounded::{Rounded, better, given, with_rate};
-use clk_base::{ClockId, Kind, ValidDesc};
+use clk_base::{ClockId, Kind};
 use clk_tree::{Tree, View, style_of};
 use kind_math::{DivStyle, div_round, factor_rate, pll_rate, pll_round, quotient, quotient_up};
 
@@ -24,22 +24,20 @@ use kind_math::{DivStyle, div_round, factor_rate, pll_rate, pll_round, quotient,
 #[cycle(asking)]
 fn rate_for<V: View, W: Rest>(
     levels: u32,
-    desc: &ValidDesc,
     tree: &Tree,
     view: &V,
     rest: &W,
     clock: ClockId,
     x: u64,
 ) -> Option<u64>
-    requires made { desc.now.defs ≡ tree.now.defs }
     requires seen { length tree.now.defs ≤ V.size view.now }
     requires there { registered tree.now.clocks clock.0 ≡ true }
-    ensures { Always desc.now.defs tree.now (λ w. result ≡ round.rate_for levels w (V.means view.now) clock.0 x) }
+    ensures { Always tree.now.defs tree.now (λ w. result ≡ round.rate_for levels w (V.means view.now) clock.0 x) }
 {
     if levels == 0 {
         return None;
     }
-    match round_by(levels - 1, desc, tree, view, rest, clock, x) {
+    match round_by(levels - 1, tree, view, rest, clock, x) {
         Some(rounded) => Some(rounded.rate),
         None => None,
     }
@@ -49,21 +47,20 @@ fn rate_for<V: View, W: Rest>(
 #[cycle(asking)]
 fn over_link<V: View, W: Rest>(
     levels: u32,
-    desc: &ValidDesc,
     tree: &Tree,
     view: &V,
     rest: &W,
     clock: ClockId,
     x: u64,
 ) -> Option<Rounded>
-    requires made { desc.now.defs ≡ tree.now.defs }
     requires seen { length tree.now.defs ≤ V.size view.now }
     requires there { registered tree.now.clocks clock.0 ≡ true }
-    ensures rounding { Always desc.now.defs tree.now (λ w. option_map rounded_of result ≡ round.over_link (round.rate_for levels w (V.means view.now)) w clock.0 x (λ r. r)) }
+    ensures rounding { Always tree.now.defs tree.now (λ w. option_map rounded_of result
+        ≡ round.over_link (round.rate_for levels w (V.means view.now)) w clock.0 x (λ r. r)) }
     ensures names { NamesRegistered tree.now.clocks result }
 {
     match tree.parent(clock) {
-        Some(parent) => match rate_for(levels, desc, tree, view, rest, parent, x) {
+        Some(parent) => match rate_for(levels, tree, view, rest, parent, x) {
             Some(rate) => Some(given(parent, rate)),
             None => None,
         },
@@ -71,12 +68,11 @@ fn over_link<V: View, W: Rest>(
     }
 }
 
-// What a possible parent of a mux gives: its rounding where requests are passed on, else its rate
-// now; nothing where it isn't rooted.
+// What a possible parent of a mux gives: its rounding if requests are passed on, else its rate now;
+// nothing if it isn't rooted.
 #[cycle(asking)]
 fn over_candidate<V: View, W: Rest>(
     levels: u32,
-    desc: &ValidDesc,
     tree: &Tree,
     view: &V,
     rest: &W,
@@ -84,21 +80,21 @@ fn over_candidate<V: View, W: Rest>(
     candidate: ClockId,
     x: u64,
 ) -> Option<Rounded>
-    requires made { desc.now.defs ≡ tree.now.defs }
     requires seen { length tree.now.defs ≤ V.size view.now }
     requires there { registered tree.now.clocks clock.0 ≡ true }
-    ensures rounding { Always desc.now.defs tree.now (λ w. option_map rounded_of result ≡ over_rooted (round.rate_for levels w (V.means view.now)) w clock.0 x candidate.0) }
+    ensures rounding { Always tree.now.defs tree.now (λ w. option_map rounded_of result
+        ≡ over_rooted (round.rate_for levels w (V.means view.now)) w clock.0 x candidate.0) }
     ensures names { NamesRegistered tree.now.clocks result }
 {
     if !tree.rooted(candidate) {
         return None;
     }
     rest.rest();
-    if sets_rate_parent(desc, clock) {
-        let rate = rate_for(levels, desc, tree, view, rest, candidate, x)?;
+    if sets_rate_parent(tree, clock) {
+        let rate = rate_for(levels, tree, view, rest, candidate, x)?;
         Some(given(candidate, rate))
     } else {
-        Some(given(candidate, rate_now(desc, tree, candidate)))
+        Some(given(candidate, rate_now(tree, candidate)))
     }
 }
 
@@ -106,24 +102,23 @@ fn over_candidate<V: View, W: Rest>(
 #[cycle(asking)]
 fn by_candidate<V: View, W: Rest>(
     levels: u32,
-    desc: &ValidDesc,
     tree: &Tree,
     view: &V,
     rest: &W,
     clock: ClockId,
     x: u64,
 ) -> Option<Rounded>
-    requires made { desc.now.defs ≡ tree.now.defs }
     requires seen { length tree.now.defs ≤ V.size view.now }
     requires there { registered tree.now.clocks clock.0 ≡ true }
-    ensures rounding { Always desc.now.defs tree.now (λ w. option_map rounded_of result ≡ round.by_candidate (round.rate_for levels w (V.means view.now)) w clock.0 x) }
+    ensures rounding { Always tree.now.defs tree.now (λ w. option_map rounded_of result
+        ≡ round.by_candidate (round.rate_for levels w (V.means view.now)) w clock.0 x) }
     ensures names { NamesRegistered tree.now.clocks result }
 {
     let mut best = None;
     // Its clause says that the clock is one of the description.
-    let _place = rate_now(desc, tree, clock);
-    for candidate in desc.def(clock).parents.as_slice() {
-        let tried = over_candidate(levels, desc, tree, view, rest, clock, *candidate, x);
+    let _place = rate_now(tree, clock);
+    for candidate in tree.def(clock).parents.as_slice() {
+        let tried = over_candidate(levels, tree, view, rest, clock, *candidate, x);
         best = better(x, best, tried);
     }
     best
@@ -133,7 +128,6 @@ fn by_candidate<V: View, W: Rest>(
 #[cycle(asking)]
 fn over_divisor<V: View, W: Rest>(
     levels: u32,
-    desc: &ValidDesc,
     tree: &Tree,
     view: &V,
     rest: &W,
@@ -141,14 +135,14 @@ fn over_divisor<V: View, W: Rest>(
     product: u64,
     divisor: u64,
 ) -> Option<Rounded>
-    requires made { desc.now.defs ≡ tree.now.defs }
     requires seen { length tree.now.defs ≤ V.size view.now }
     requires there { registered tree.now.clocks clock.0 ≡ true }
     requires divides { 0 < divisor }
-    ensures rounding { Always desc.now.defs tree.now (λ w. option_map rounded_of result ≡ round.over_link (round.rate_for levels w (V.means view.now)) w clock.0 product (λ r. div_ceil r divisor)) }
+    ensures rounding { Always tree.now.defs tree.now (λ w. option_map rounded_of result
+        ≡ round.over_link (round.rate_for levels w (V.means view.now)) w clock.0 product (λ r. div_ceil r divisor)) }
     ensures names { NamesRegistered tree.now.clocks result }
 {
-    let given = over_link(levels, desc, tree, view, rest, clock, product)?;
+    let given = over_link(levels, tree, view, rest, clock, product)?;
     Some(with_rate(given, quotient_up(given.rate, divisor)))
 }
 
@@ -157,7 +151,6 @@ fn over_divisor<V: View, W: Rest>(
 #[cycle(asking)]
 fn best_divisor<V: View, W: Rest>(
     levels: u32,
-    desc: &ValidDesc,
     tree: &Tree,
     view: &V,
     rest: &W,
@@ -166,11 +159,11 @@ fn best_divisor<V: View, W: Rest>(
     width: u32,
     style: DivStyle,
 ) -> Option<Rounded>
-    requires made { desc.now.defs ≡ tree.now.defs }
     requires seen { length tree.now.defs ≤ V.size view.now }
     requires there { registered tree.now.clocks clock.0 ≡ true }
     requires right { IsDividerWidth style width }
-    ensures rounding { Always desc.now.defs tree.now (λ w. option_map rounded_of result ≡ after_divisors (round.rate_for levels w (V.means view.now)) w clock.0 x None (valid_divisors style width)) }
+    ensures rounding { Always tree.now.defs tree.now (λ w. option_map rounded_of result
+        ≡ after_divisors (round.rate_for levels w (V.means view.now)) w clock.0 x None (valid_divisors style width)) }
     ensures names { NamesRegistered tree.now.clocks result }
 {
     let mut best = None;
@@ -180,7 +173,7 @@ fn best_divisor<V: View, W: Rest>(
             return best
         };
         rest.rest();
-        let tried = over_divisor(levels, desc, tree, view, rest, clock, product, divisor);
+        let tried = over_divisor(levels, tree, view, rest, clock, product, divisor);
         best = better(x, best, tried);
     }
     best
@@ -191,7 +184,6 @@ fn best_divisor<V: View, W: Rest>(
 #[cycle(asking)]
 fn by_divisor<V: View, W: Rest>(
     levels: u32,
-    desc: &ValidDesc,
     tree: &Tree,
     view: &V,
     rest: &W,
@@ -200,22 +192,22 @@ fn by_divisor<V: View, W: Rest>(
     width: u32,
     style: DivStyle,
 ) -> Option<Rounded>
-    requires made { desc.now.defs ≡ tree.now.defs }
     requires seen { length tree.now.defs ≤ V.size view.now }
     requires there { registered tree.now.clocks clock.0 ≡ true }
     requires some { 1 ≤ x }
     requires right { IsDividerWidth style width }
-    ensures rounding { Always desc.now.defs tree.now (λ w. option_map rounded_of result ≡ round.by_divisor (round.rate_for levels w (V.means view.now)) w clock.0 x (valid_divisors style width)) }
+    ensures rounding { Always tree.now.defs tree.now (λ w. option_map rounded_of result
+        ≡ round.by_divisor (round.rate_for levels w (V.means view.now)) w clock.0 x (valid_divisors style width)) }
     ensures names { NamesRegistered tree.now.clocks result }
 {
-    let parent = parent_rate_now(desc, tree, clock);
+    let parent = parent_rate_now(tree, clock);
     match exact_fit(x, parent, width, style) {
-        Some(divisor) => Some(over_parent(desc, tree, clock, quotient_up(parent, divisor))),
-        None => match best_divisor(levels, desc, tree, view, rest, clock, x, width, style) {
+        Some(divisor) => Some(over_parent(tree, clock, quotient_up(parent, divisor))),
+        None => match best_divisor(levels, tree, view, rest, clock, x, width, style) {
             Some(best) => Some(best),
             None => {
                 let greatest = greatest_divisor(width, style);
-                over_divisor(levels, desc, tree, view, rest, clock, 1, greatest)
+                over_divisor(levels, tree, view, rest, clock, 1, greatest)
             }
         },
     }
@@ -225,7 +217,6 @@ fn by_divisor<V: View, W: Rest>(
 #[cycle(asking)]
 fn by_factor<V: View, W: Rest>(
     levels: u32,
-    desc: &ValidDesc,
     tree: &Tree,
     view: &V,
     rest: &W,
@@ -234,19 +225,19 @@ fn by_factor<V: View, W: Rest>(
     mult: u32,
     div: u32,
 ) -> Option<Rounded>
-    requires made { desc.now.defs ≡ tree.now.defs }
     requires seen { length tree.now.defs ≤ V.size view.now }
     requires there { registered tree.now.clocks clock.0 ≡ true }
     requires multiplies { 0 < mult }
     requires divides { 0 < div }
-    ensures rounding { Always desc.now.defs tree.now (λ w. option_map rounded_of result ≡ round.by_kind (round.rate_for levels w (V.means view.now)) w (kinds.Factor mult div) clock.0 x) }
+    ensures rounding { Always tree.now.defs tree.now (λ w. option_map rounded_of result
+        ≡ round.by_kind (round.rate_for levels w (V.means view.now)) w (kinds.Factor mult div) clock.0 x) }
     ensures names { NamesRegistered tree.now.clocks result }
 {
-    if !passes_on(desc, tree, clock) {
-        return Some(over_parent(desc, tree, clock, rate_now(desc, tree, clock)));
+    if !passes_on(tree, clock) {
+        return Some(over_parent(tree, clock, rate_now(tree, clock)));
     }
     let wanted = quotient(x, u64::from(mult)).saturating_mul(u64::from(div));
-    let given = over_link(levels, desc, tree, view, rest, clock, wanted)?;
+    let given = over_link(levels, tree, view, rest, clock, wanted)?;
     Some(with_rate(given, factor_rate(given.rate, mult, div)))
 }
 
@@ -254,7 +245,6 @@ fn by_factor<V: View, W: Rest>(
 #[cycle(asking)]
 fn by_divider<V: View, W: Rest>(
     levels: u32,
-    desc: &ValidDesc,
     tree: &Tree,
     view: &V,
     rest: &W,
@@ -263,62 +253,50 @@ fn by_divider<V: View, W: Rest>(
     width: u32,
     style: DivStyle,
 ) -> Option<Rounded>
-    requires made { desc.now.defs ≡ tree.now.defs }
     requires seen { length tree.now.defs ≤ V.size view.now }
     requires there { registered tree.now.clocks clock.0 ≡ true }
     requires right { IsDividerWidth style width }
-    ensures rounding { Always desc.now.defs tree.now (λ w. option_map rounded_of result ≡ divider_rounding (round.rate_for levels w (V.means view.now)) w clock.0 x width style) }
+    ensures rounding { Always tree.now.defs tree.now (λ w. option_map rounded_of result
+        ≡ divider_rounding (round.rate_for levels w (V.means view.now)) w clock.0 x width style) }
     ensures names { NamesRegistered tree.now.clocks result }
 {
-    if passes_on(desc, tree, clock) {
-        return by_divisor(
-            levels,
-            desc,
-            tree,
-            view,
-            rest,
-            clock,
-            x.max(1),
-            width,
-            style,
-        );
+    if passes_on(tree, clock) {
+        return by_divisor(levels, tree, view, rest, clock, x.max(1), width, style);
     }
-    let parent = parent_rate_now(desc, tree, clock);
+    let parent = parent_rate_now(tree, clock);
     let divisor = div_round(parent, x, width, style);
-    Some(over_parent(desc, tree, clock, quotient_up(parent, divisor)))
+    Some(over_parent(tree, clock, quotient_up(parent, divisor)))
 }
 
 // A mux that keeps its parent, or one that may move.
 #[cycle(asking)]
 fn by_mux<V: View, W: Rest>(
     levels: u32,
-    desc: &ValidDesc,
     tree: &Tree,
     view: &V,
     rest: &W,
     clock: ClockId,
     x: u64,
 ) -> Option<Rounded>
-    requires made { desc.now.defs ≡ tree.now.defs }
     requires seen { length tree.now.defs ≤ V.size view.now }
     requires there { registered tree.now.clocks clock.0 ≡ true }
-    ensures rounding { Always desc.now.defs tree.now (λ w. option_map rounded_of result ≡ mux_rounding (round.rate_for levels w (V.means view.now)) w clock.0 x) }
+    ensures rounding { Always tree.now.defs tree.now (λ w. option_map rounded_of result
+        ≡ mux_rounding (round.rate_for levels w (V.means view.now)) w clock.0 x) }
     ensures names { NamesRegistered tree.now.clocks result }
 {
-    if !keeps_parent(desc, clock) {
-        return by_candidate(levels, desc, tree, view, rest, clock, x);
+    if !keeps_parent(tree, clock) {
+        return by_candidate(levels, tree, view, rest, clock, x);
     }
-    if passes_on(desc, tree, clock) {
-        return over_link(levels, desc, tree, view, rest, clock, x);
+    if passes_on(tree, clock) {
+        return over_link(levels, tree, view, rest, clock, x);
     }
-    Some(over_parent(desc, tree, clock, parent_rate_now(desc, tree, clock)))
+    Some(over_parent(tree, clock, parent_rate_now(tree, clock)))
 }
 
 // The rounding of a clock that can round and isn't guarded.
 #[cycle(asking)]
 fn by_kind<V: View, W: Rest>(
     levels: u32,
-    desc: &ValidDesc,
     tree: &Tree,
     view: &V,
     rest: &W,
@@ -326,17 +304,15 @@ fn by_kind<V: View, W: Rest>(
     kind: Kind,
     x: u64,
 ) -> Option<Rounded>
-    requires made { desc.now.defs ≡ tree.now.defs }
     requires seen { length tree.now.defs ≤ V.size view.now }
     requires there { registered tree.now.clocks clock.0 ≡ true }
     requires scales { CanScale kind }
-    ensures rounding { Always desc.now.defs tree.now (λ w. option_map rounded_of result ≡ round.by_kind (round.rate_for levels w (V.means view.now)) w kind clock.0 x) }
+    ensures rounding { Always tree.now.defs tree.now (λ w. option_map rounded_of result
+        ≡ round.by_kind (round.rate_for levels w (V.means view.now)) w kind clock.0 x) }
     ensures names { NamesRegistered tree.now.clocks result }
 {
     match kind {
-        Kind::Factor { mult, div } => {
-            by_factor(levels, desc, tree, view, rest, clock, x, mult, div)
-        }
+        Kind::Factor { mult, div } => by_factor(levels, tree, view, rest, clock, x, mult, div),
         Kind::Divider {
             width,
             one_based,
@@ -344,58 +320,48 @@ fn by_kind<V: View, W: Rest>(
             ..
         } => {
             let style = style_of(one_based, power_of_two);
-            by_divider(levels, desc, tree, view, rest, clock, x, width, style)
+            by_divider(levels, tree, view, rest, clock, x, width, style)
         }
-        Kind::Mux { .. } => by_mux(levels, desc, tree, view, rest, clock, x),
+        Kind::Mux { .. } => by_mux(levels, tree, view, rest, clock, x),
         Kind::Pll { least, most, m, .. } => {
-            let parent = parent_rate_now(desc, tree, clock);
+            let parent = parent_rate_now(tree, clock);
             let n = pll_round(parent, x, least, most, m);
-            Some(over_parent(desc, tree, clock, pll_rate(parent, n, m)))
+            Some(over_parent(tree, clock, pll_rate(parent, n, m)))
         }
         Kind::FixedRate { .. } | Kind::Gate { .. } => {
-            Some(over_parent(desc, tree, clock, rate_now(desc, tree, clock)))
+            Some(over_parent(tree, clock, rate_now(tree, clock)))
         }
     }
 }
 
-/// The rate that a clock would get for a request with the parent that gives it, where its parents are
+/// The rate that a clock would get for a request with the parent that gives it, if its parents are
 /// asked over at most so many levels.
 #[cycle(asking)]
 pub(crate) fn round_by<V: View, W: Rest>(
     levels: u32,
-    desc: &ValidDesc,
     tree: &Tree,
     view: &V,
     rest: &W,
     clock: ClockId,
     x: u64,
 ) -> Option<Rounded>
-    requires made { desc.now.defs ≡ tree.now.defs }
     requires seen { length tree.now.defs ≤ V.size view.now }
     requires there { registered tree.now.clocks clock.0 ≡ true }
-    ensures rounding { Always desc.now.defs tree.now (λ w. option_map rounded_of result ≡ round.round_by (round.rate_for levels w (V.means view.now)) w (V.means view.now) clock.0 x) }
+    ensures rounding { Always tree.now.defs tree.now (λ w. option_map rounded_of result
+        ≡ round.round_by (round.rate_for levels w (V.means view.now)) w (V.means view.now) clock.0 x) }
     ensures names { NamesRegistered tree.now.clocks result }
 {
-    let kind = kind_of(desc, clock);
-    let now = rate_now(desc, tree, clock);
+    let kind = kind_of(tree, clock);
+    let now = rate_now(tree, clock);
     if !can_round(kind) {
-        if passes_on(desc, tree, clock) {
-            return over_link(levels, desc, tree, view, rest, clock, x);
+        if passes_on(tree, clock) {
+            return over_link(levels, tree, view, rest, clock, x);
         }
-        return Some(over_parent(desc, tree, clock, now));
+        return Some(over_parent(tree, clock, now));
     }
     if view.guarded(clock) {
-        return Some(over_parent(desc, tree, clock, now));
+        return Some(over_parent(tree, clock, now));
     }
     let (low, high) = view.bounds(clock);
-    by_kind(
-        levels,
-        desc,
-        tree,
-        view,
-        rest,
-        clock,
-        kind,
-        x.max(low).min(high),
-    )
+    by_kind(levels, tree, view, rest, clock, kind, x.max(low).min(high))
 }

@@ -13,15 +13,14 @@ use crate::next::{Next, next_step};
 use crate::rest::Rest;
 use crate::rounded::Rounded;
 use crate::rounding::rounding;
-use clk_base::{ClockId, ValidDesc, depth};
+use clk_base::{ClockId, depth};
 use clk_io::NoMemory;
 use clk_tree::{PlannedChain, Tree, View};
 
-/// The chain from a clock that is asked for a rate to the top, where the clock would be rounded so,
+/// The chain from a clock that is asked for a rate to the top, if the clock would be rounded so,
 /// before boundaries are looked at. Answers whether there is one.
 pub(crate) fn climb<V: View, W: Rest>(
     steps: &mut PlannedChain,
-    desc: &ValidDesc,
     tree: &Tree,
     view: &V,
     rest: &W,
@@ -29,11 +28,11 @@ pub(crate) fn climb<V: View, W: Rest>(
     x: u64,
     first: Option<Rounded>,
 ) -> Result<bool, NoMemory>
-    requires made { desc.now.defs ≡ tree.now.defs }
     requires seen { length tree.now.defs ≤ V.size view.now }
     requires there { registered tree.now.clocks clock.0 ≡ true }
     requires names { NamesRegistered tree.now.clocks first }
-    ensures chain { IfOk result (λ found. Always desc.now.defs tree.now (λ w. option_map rounded_of first ≡ round w (V.means view.now) clock.0 x
+    ensures chain { IfOk result (λ found. Always tree.now.defs tree.now (λ w.
+        option_map rounded_of first ≡ round w (V.means view.now) clock.0 x
         → (if found then Some steps.new else None) ≡ chain_within depth w (V.means view.now) clock.0 x)) }
     ensures some { IfOk result (λ found. found ≡ true → 0 < length steps.new) }
     ensures there { OnOk result (AllThere tree.now.clocks steps.new) }
@@ -43,7 +42,7 @@ pub(crate) fn climb<V: View, W: Rest>(
     let mut request = x;
     let mut rounded = first;
     for _level in 0..depth() {
-        match next_step(desc, tree, view, at, request, rounded) {
+        match next_step(tree, view, at, request, rounded) {
             Next::NoPlan => return Ok(false),
             Next::Last(step) => {
                 steps.push(step)?;
@@ -53,7 +52,7 @@ pub(crate) fn climb<V: View, W: Rest>(
                 steps.push(step)?;
                 at = parent;
                 request = wanted;
-                rounded = rounding(desc, tree, view, rest, parent, wanted);
+                rounded = rounding(tree, view, rest, parent, wanted);
             }
         }
     }

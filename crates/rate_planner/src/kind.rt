@@ -1,8 +1,9 @@
 //! What a clock's kind and flags say.
 
-ghost use Rattle.std.specs.Prelude.{◌≡◌, ℕ, ◌≤◌, IfSome};
+ghost use Rattle.std.specs.Prelude.{◌≡◌, ℕ, IfSome};
 ghost use Rattle.clk_base.specs.Description.{kind_of};
 ghost use Rattle.clk_base.specs.Flags as flags;
+ghost use Rattle.clk_base.specs.Valid.{IsValid};
 ghost use Rattle.clk_model.specs.Kinds.{can_round};
 ghost use Rattle.clk_tree.specs.Readable.{CanRead};
 ghost use Rattle.rate_planner.specs.Given.{CanScale};
@@ -10,21 +11,30 @@ ghost use Rattle.rate_planner.specs.Outcomes.{set_rate};
 
 use bitflags::Flags;
 use clk_base::{ClkFlags, ClockId, Kind, ValidDesc};
-use clk_tree::{rate_by, style_of};
+use clk_tree::{Tree, rate_by, style_of};
 use kind_math::{div_rate, div_setting, pll_rate, pll_setting};
 use reg_bank::Bank;
 
-/// The kind of a clock. A place outside of the description counts as a fixed clock of 0 Hz.
-pub(crate) fn kind_of(desc: &ValidDesc, clock: ClockId) -> Kind
+/// The kind of a clock of a description. A place outside of it counts as a fixed clock of 0 Hz.
+pub(crate) fn kind_in(desc: &ValidDesc, clock: ClockId) -> Kind
     ensures kind { result ≡ kind_of desc.now.defs clock.0 }
     ensures scales { CanScale result }
-    ensures reads { (words : ℕ) → desc.now.words ≤ words → CanRead words result }
+    ensures reads { (words : ℕ) → IsValid words desc.now.defs → CanRead words result }
 {
     if (clock.0 as usize) < desc.len() {
         desc.def(clock).kind
     } else {
         Kind::FixedRate { rate: 0 }
     }
+}
+
+/// The kind of a clock.
+pub(crate) fn kind_of(tree: &Tree, clock: ClockId) -> Kind
+    ensures kind { result ≡ kind_of tree.now.defs clock.0 }
+    ensures scales { CanScale result }
+    ensures reads { (words : ℕ) → IsValid words tree.now.defs → CanRead words result }
+{
+    kind_in(tree.desc(), clock)
 }
 
 /// Whether a request for a rate may change something of a clock of this kind.
@@ -39,27 +49,27 @@ pub(crate) fn can_round(kind: Kind) -> bool
 }
 
 /// Whether a request for a rate is passed on to the parent.
-pub(crate) fn sets_rate_parent(desc: &ValidDesc, clock: ClockId) -> bool
-    ensures { result ≡ flags.sets_rate_parent desc.now.defs clock.0 }
+pub(crate) fn sets_rate_parent(tree: &Tree, clock: ClockId) -> bool
+    ensures { result ≡ flags.sets_rate_parent tree.now.defs clock.0 }
 {
-    (clock.0 as usize) < desc.len()
-        && Flags::contains(&desc.def(clock).flags, ClkFlags::SET_RATE_PARENT)
+    (clock.0 as usize) < tree.len()
+        && Flags::contains(&tree.def(clock).flags, ClkFlags::SET_RATE_PARENT)
 }
 
 /// Whether a prepared clock keeps its parent.
-pub(crate) fn sets_parent_gate(desc: &ValidDesc, clock: ClockId) -> bool
-    ensures { result ≡ flags.sets_parent_gate desc.now.defs clock.0 }
+pub(crate) fn sets_parent_gate(tree: &Tree, clock: ClockId) -> bool
+    ensures { result ≡ flags.sets_parent_gate tree.now.defs clock.0 }
 {
-    (clock.0 as usize) < desc.len()
-        && Flags::contains(&desc.def(clock).flags, ClkFlags::SET_PARENT_GATE)
+    (clock.0 as usize) < tree.len()
+        && Flags::contains(&tree.def(clock).flags, ClkFlags::SET_PARENT_GATE)
 }
 
 /// Whether a request for a rate doesn't move the clock to another parent.
-pub(crate) fn keeps_parent(desc: &ValidDesc, clock: ClockId) -> bool
-    ensures { result ≡ flags.keeps_parent desc.now.defs clock.0 }
+pub(crate) fn keeps_parent(tree: &Tree, clock: ClockId) -> bool
+    ensures { result ≡ flags.keeps_parent tree.now.defs clock.0 }
 {
-    (clock.0 as usize) < desc.len()
-        && Flags::contains(&desc.def(clock).flags, ClkFlags::NO_REPARENT)
+    (clock.0 as usize) < tree.len()
+        && Flags::contains(&tree.def(clock).flags, ClkFlags::NO_REPARENT)
 }
 
 /// The rate in Hz of a clock of this kind over its parent's rate, once it is set to a planned rate.

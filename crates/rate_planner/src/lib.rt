@@ -1,7 +1,7 @@
 //! Rounding and planning: the rate that a clock would get for a request, and the chain of clocks that
 //! the request changes.
 //!
-//! What is promised of the answers holds where the tree keeps the rates that the registers give.
+//! What is promised of the answers holds if the tree keeps the rates that the registers give.
 #![tactic(auto)]
 
 mod asking;
@@ -20,7 +20,7 @@ mod rounding;
 mod settings;
 mod walk;
 
-pub use parent::plan_parent;
+pub use parent::{plan_move, plan_parent};
 pub use planning::Planning;
 pub use request::{plan, plan_from, plan_now};
 pub use rest::{NoRest, Pausing, Rest};

@@ -9,7 +9,7 @@ use std::alloc::Global;
 /// that one as long as an earlier one takes none.
 #[derive(Drop)]
 pub struct Planning {
-    /// The plan that was worked out last, where there was one.
+    /// The plan that was worked out last, if there was one.
     pub plan: Plan,
     /// The rates in Hz that come out for the clocks of its chain.
     pub(crate) out: Vec<u64>,

@@ -16,7 +16,7 @@ pub struct Rounded {
     pub rate: u64,
     /// The parent that it would have.
     pub parent: Option<ClockId>,
-    /// The rate in Hz that this parent would have; 0 where there is none.
+    /// The rate in Hz that this parent would have; 0 if there is none.
     pub parent_rate: u64,
 }
 
@@ -39,11 +39,12 @@ pub(crate) fn with_rate(given: Rounded, rate: u64) -> Rounded
     Rounded { rate, ..given }
 }
 
-/// The better of two for a request: the later one where it isn't above the request and is greater
+/// The better of two for a request: the later one if it isn't above the request and is greater
 /// than the one so far.
 pub(crate) fn better(x: u64, best: Option<Rounded>, tried: Option<Rounded>) -> Option<Rounded>
     ensures choice { option_map rounded_of result ≡ after_try x (option_map rounded_of best) (option_map rounded_of tried) }
-    ensures names { (clocks : List ClockRow) → NamesRegistered clocks best → NamesRegistered clocks tried → NamesRegistered clocks result }
+    ensures names { (clocks : List ClockRow)
+        → NamesRegistered clocks best → NamesRegistered clocks tried → NamesRegistered clocks result }
 {
     let Some(tried) = tried else { return best };
     let most = match best {

@@ -1,13 +1,13 @@
 //! Settings.
 
-ghost use Rattle.std.specs.Prelude.{◌≡◌, ℕ, ◌^◌, ◌<◌, IfSome};
+ghost use Rattle.std.specs.Prelude.{◌≡◌, ◌^◌, ◌<◌, IfSome};
 ghost use Rattle.clk_base.specs.Description.{kind_of};
 ghost use Rattle.clk_base.specs.Fields.{field_of};
 ghost use Rattle.reg_bank.specs.Registers.{Registers};
 ghost use Rattle.clk_model.specs.Chain as chain;
 ghost use Rattle.rate_planner.specs.Settings.{field_for, put_field};
 
-use crate::kind::kind_of;
+use crate::kind::kind_in;
 use clk_base::{ClockId, Kind, ValidDesc};
 use clk_tree::style_of;
 use kind_math::{div_setting, pll_setting};
@@ -17,9 +17,10 @@ use kind_math::{div_setting, pll_setting};
 pub fn setting(desc: &ValidDesc, c: ClockId, parent: u64, rate: u64) -> Option<u32>
     ensures field { result ≡ field_for (kind_of desc.now.defs c.0) parent rate }
     ensures fits { IfSome result (λ value. IfSome (field_of (kind_of desc.now.defs c.0)) (λ f. value < 2 ^ f.width)) }
-    ensures puts { (regs : Registers) → put_field (kind_of desc.now.defs c.0) result regs ≡ chain.setting (kind_of desc.now.defs c.0) parent rate regs }
+    ensures puts { (regs : Registers)
+        → put_field (kind_of desc.now.defs c.0) result regs ≡ chain.setting (kind_of desc.now.defs c.0) parent rate regs }
 {
-    match kind_of(desc, c) {
+    match kind_in(desc, c) {
         Kind::Divider {
             width,
             one_based,

@@ -8,28 +8,28 @@ use Rattle.clk_tree.proofs.refresh.+refreshing.Goals as goal
 
 pub refresh_kid-returns-then-has_kids-clause-below : goal.refresh_kid-returns-then-has_kids-clause-below
 refresh_kid-returns-then-has_kids-clause-below g t c =
-    (own_rate c.args.desc.now.defs (g.B.Bank.contents c.args.bank.now) c.args.siblings.now c.args.rates.now c.refresh_kids.new.rates (c.args.levels - 1) c.args.levels c.args.clock.0 c.args.parent c.rate_of-rate.result
-    c.requires.some refl (let place = c.requires.place in let rated = c.requires.rated in omega arith) c.rate_of-rate.ensures
+    (own_rate c.args.desc.now.defs (g.B.Bank.contents c.args.bank.now) c.args.siblings.now c.args.rates.now c.refresh_kids.new.rates (c.args.levels - 1) c.args.levels c.args.clock.0 c.args.parent c.rate_over-rate.result
+    c.requires.some refl (let place = c.requires.place in let rated = c.requires.rated in omega arith) c.rate_over-rate.ensures
     (record { below = c.refresh_kids.ensures.below; others = c.refresh_kids.ensures.others })).below
 
 pub refresh_kid-returns-then-has_kids-clause-others : goal.refresh_kid-returns-then-has_kids-clause-others
 refresh_kid-returns-then-has_kids-clause-others g t c =
-    (own_rate c.args.desc.now.defs (g.B.Bank.contents c.args.bank.now) c.args.siblings.now c.args.rates.now c.refresh_kids.new.rates (c.args.levels - 1) c.args.levels c.args.clock.0 c.args.parent c.rate_of-rate.result
-    c.requires.some refl (let place = c.requires.place in let rated = c.requires.rated in omega arith) c.rate_of-rate.ensures
+    (own_rate c.args.desc.now.defs (g.B.Bank.contents c.args.bank.now) c.args.siblings.now c.args.rates.now c.refresh_kids.new.rates (c.args.levels - 1) c.args.levels c.args.clock.0 c.args.parent c.rate_over-rate.result
+    c.requires.some refl (let place = c.requires.place in let rated = c.requires.rated in omega arith) c.rate_over-rate.ensures
     (record { below = c.refresh_kids.ensures.below; others = c.refresh_kids.ensures.others })).others
 
 pub refresh_kid-returns-else-has_kids-clause-below : goal.refresh_kid-returns-else-has_kids-clause-below
 refresh_kid-returns-else-has_kids-clause-below g t c =
-    (own_rate c.args.desc.now.defs (g.B.Bank.contents c.args.bank.now) c.args.siblings.now c.args.rates.now (slice_set c.args.rates.now c.args.clock.0 c.rate_of-rate.result) (c.args.levels - 1) c.args.levels c.args.clock.0 c.args.parent c.rate_of-rate.result
-    c.requires.some refl (let place = c.requires.place in let rated = c.requires.rated in omega arith) c.rate_of-rate.ensures
-    (no_child c.args.desc.now.defs (g.B.Bank.contents c.args.bank.now) c.args.siblings.now (slice_set c.args.rates.now c.args.clock.0 c.rate_of-rate.result) (c.args.levels - 1) c.args.clock.0 c.rate_of-rate.result
+    (own_rate c.args.desc.now.defs (g.B.Bank.contents c.args.bank.now) c.args.siblings.now c.args.rates.now (slice_set c.args.rates.now c.args.clock.0 c.rate_over-rate.result) (c.args.levels - 1) c.args.levels c.args.clock.0 c.args.parent c.rate_over-rate.result
+    c.requires.some refl (let place = c.requires.place in let rated = c.requires.rated in omega arith) c.rate_over-rate.ensures
+    (no_child c.args.desc.now.defs (g.B.Bank.contents c.args.bank.now) c.args.siblings.now (slice_set c.args.rates.now c.args.clock.0 c.rate_over-rate.result) (c.args.levels - 1) c.args.clock.0 c.rate_over-rate.result
     (λ kids are. c.has_kids.ensures.none kids (subst (λ (n : ℕ). AreKidRings n c.args.siblings.now kids) (sym c.count_of.ensures.count) are) c.if-has_kids.false))).below
 
 pub refresh_kid-returns-else-has_kids-clause-others : goal.refresh_kid-returns-else-has_kids-clause-others
 refresh_kid-returns-else-has_kids-clause-others g t c =
-    (own_rate c.args.desc.now.defs (g.B.Bank.contents c.args.bank.now) c.args.siblings.now c.args.rates.now (slice_set c.args.rates.now c.args.clock.0 c.rate_of-rate.result) (c.args.levels - 1) c.args.levels c.args.clock.0 c.args.parent c.rate_of-rate.result
-    c.requires.some refl (let place = c.requires.place in let rated = c.requires.rated in omega arith) c.rate_of-rate.ensures
-    (no_child c.args.desc.now.defs (g.B.Bank.contents c.args.bank.now) c.args.siblings.now (slice_set c.args.rates.now c.args.clock.0 c.rate_of-rate.result) (c.args.levels - 1) c.args.clock.0 c.rate_of-rate.result
+    (own_rate c.args.desc.now.defs (g.B.Bank.contents c.args.bank.now) c.args.siblings.now c.args.rates.now (slice_set c.args.rates.now c.args.clock.0 c.rate_over-rate.result) (c.args.levels - 1) c.args.levels c.args.clock.0 c.args.parent c.rate_over-rate.result
+    c.requires.some refl (let place = c.requires.place in let rated = c.requires.rated in omega arith) c.rate_over-rate.ensures
+    (no_child c.args.desc.now.defs (g.B.Bank.contents c.args.bank.now) c.args.siblings.now (slice_set c.args.rates.now c.args.clock.0 c.rate_over-rate.result) (c.args.levels - 1) c.args.clock.0 c.rate_over-rate.result
     (λ kids are. c.has_kids.ensures.none kids (subst (λ (n : ℕ). AreKidRings n c.args.siblings.now kids) (sym c.count_of.ensures.count) are) c.if-has_kids.false))).others
 
 pub refresh_kids-returns-then-levels-eq0-clause-below : goal.refresh_kids-returns-then-levels-eq0-clause-below

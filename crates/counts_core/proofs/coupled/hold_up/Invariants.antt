@@ -3,7 +3,7 @@ use Rattle.std.proofs.Common.{ℕ, ◌+◌, ◌<◌, ◌≤◌, length, get_or}
 use Rattle.counts_core.specs.Sums.{AreSums}
 use Rattle.counts_core.proofs.Walking.{zeros}
 use Rattle.counts_core.proofs.Steps.{Raising}
-use Rattle.counts_core.proofs.Growing.{Grows}
+use Rattle.counts_core.specs.Sums.{Grows}
 use Rattle.counts_core.proofs.coupled.hold_up.Given as goal
 
 abbrev pub invariant-loop-at : goal.invariant-loop-at

@@ -1,5 +1,5 @@
 -- Each step of the walk, and its end.
-use Rattle.std.proofs.Common.{ℕ, ◌-◌, ap, arith, set, get_or}
+use Rattle.std.proofs.Common.{◌-◌, ap, arith, set, get_or}
 use Rattle.std.proofs.lemmas.List.{length-set}
 use Rattle.std.specs.Option.{option_map}
 use Rattle.clk_base.specs.declared.clock.ClockId.{ClockId}

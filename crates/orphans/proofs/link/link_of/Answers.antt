@@ -1,21 +1,19 @@
 -- The parent that is selected, if it is registered.
-use Rattle.std.proofs.Common.{◌∙◌, sym, ap}
-use Rattle.std.specs.Option.{option_map}
-use Rattle.clk_base.specs.declared.clock.ClockId.{ClockId}
-use Rattle.orphans.proofs.LinkLaws.{given_none, given_there, given_away}
+use Rattle.clk_base.specs.Description.{parents_of}
+use Rattle.clk_tree.proofs.Reading.{valid_in}
+use Rattle.orphans.proofs.LinkLaws.{given_as, possible_as}
 use Rattle.orphans.proofs.link.link_of.Goals as goal
 
-pub returns-in_err-parent-clause-link : goal.returns-in_err-parent-clause-link
-returns-in_err-parent-clause-link g c = λ regs told.
-    ap (option_map (λ (p : ClockId). p.0)) c.from_residual.ensures
-    ∙ sym (given_none c.args.desc.now.defs regs c.args.tree.now.clocks c.args.c.0 (sym (c.in_err-parent.ensures.selected regs told)))
+pub selected-requires-clause-valid : goal.selected-requires-clause-valid
+selected-requires-clause-valid g c =
+    valid_in c.args.desc.now.words (g.B.Bank.size c.args.bank.now) c.args.desc.now.defs c.len-size.ensures.valid c.requires.bank
 
-pub returns-then-registered-clause-link : goal.returns-then-registered-clause-link
-returns-then-registered-clause-link g c = λ regs told.
-    sym (given_there c.args.desc.now.defs regs c.args.tree.now.clocks c.args.c.0 c.in_ok-parent.parent.0 (sym (c.in_ok-parent.ensures.selected regs told))
-    (sym c.registered.ensures.registered ∙ c.if-registered.true))
+pub returns-clause-link : goal.returns-clause-link
+returns-clause-link g c = λ regs told.
+    given_as c.args.desc.now.defs regs c.args.tree.now.clocks c.args.c.0 c.selected.result c.if_there.result
+    (c.selected.ensures.selected regs told) c.if_there.ensures.link
 
-pub returns-else-registered-clause-link : goal.returns-else-registered-clause-link
-returns-else-registered-clause-link g c = λ regs told.
-    sym (given_away c.args.desc.now.defs regs c.args.tree.now.clocks c.args.c.0 c.in_ok-parent.parent.0 (sym (c.in_ok-parent.ensures.selected regs told))
-    (sym c.registered.ensures.registered ∙ c.if-registered.false))
+pub returns-clause-possible : goal.returns-clause-possible
+returns-clause-possible g c =
+    possible_as (parents_of c.args.desc.now.defs c.args.c.0) c.selected.result c.if_there.result
+    c.selected.ensures.possible c.if_there.ensures.same

@@ -50,7 +50,7 @@ decreases-round_by g l = 8 * l.levels + 7
 abbrev pub invariant-best_divisor-loop-field : goal.invariant-best_divisor-loop-field
 invariant-best_divisor-loop-field g l = record {
   names : NamesRegistered l.tree.clocks l.best;
-  left : Always l.desc.defs l.tree (λ w.
+  left : Always l.tree.defs l.tree (λ w.
       after_divisors (rate_for l.levels w (g.V.View.means l.view)) w l.clock.0 l.x (option_map rounded_of l.best) (divisors_from l.style l.field l.field-end)
       ≡ after_divisors (rate_for l.levels w (g.V.View.means l.view)) w l.clock.0 l.x None (valid_divisors l.style l.width));
 }
@@ -58,7 +58,7 @@ invariant-best_divisor-loop-field g l = record {
 abbrev pub invariant-by_candidate-loop-candidate : goal.invariant-by_candidate-loop-candidate
 invariant-by_candidate-loop-candidate g l = record {
   names : NamesRegistered l.tree.clocks l.best;
-  left : Always l.desc.defs l.tree (λ w.
+  left : Always l.tree.defs l.tree (λ w.
       after_candidates (rate_for l.levels w (g.V.View.means l.view)) w l.clock.0 l.x (option_map rounded_of l.best) (drop l.candidate-index (places l.candidate-items))
       ≡ by_candidate (rate_for l.levels w (g.V.View.means l.view)) w l.clock.0 l.x);
 }

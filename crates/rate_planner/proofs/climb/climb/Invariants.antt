@@ -14,9 +14,9 @@ invariant-loop-level g l = record {
   at : registered l.tree.clocks l.at.0 ≡ true;
   there : AllThere l.tree.clocks l.steps;
   names : NamesRegistered l.tree.clocks l.rounded;
-  rounding : Always l.desc.defs l.tree (λ w.
+  rounding : Always l.tree.defs l.tree (λ w.
       option_map rounded_of l.fn.first ≡ round w (g.V.View.means l.view) l.fn.clock.0 l.fn.x → option_map rounded_of l.rounded ≡ round w (g.V.View.means l.view) l.at.0 l.request);
-  left : Always l.desc.defs l.tree (λ w. option_map rounded_of l.fn.first ≡ round w (g.V.View.means l.view) l.fn.clock.0 l.fn.x
+  left : Always l.tree.defs l.tree (λ w. option_map rounded_of l.fn.first ≡ round w (g.V.View.means l.view) l.fn.clock.0 l.fn.x
       → option_map (λ ks. l.steps ++ ks) (chain_within (l._level-end - l._level) w (g.V.View.means l.view) l.at.0 l.request)
       ≡ chain_within l._level-end w (g.V.View.means l.view) l.fn.clock.0 l.fn.x);
 }

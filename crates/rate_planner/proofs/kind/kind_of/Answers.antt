@@ -1,21 +1,5 @@
--- The parameters of a clock of the description are in their ranges.
-use Rattle.std.proofs.Common.{◌<◌, sym, ap, subst, length, arith}
-use Rattle.clk_base.specs.declared.clock.ClockDef.{ClockDef}
-use Rattle.clk_base.specs.declared.clock.Kind.{Kind}
-use Rattle.clk_tree.specs.Readable.{CanRead}
-use Rattle.clk_tree.proofs.Reading.{can_read}
-use Rattle.rate_planner.specs.Given.{CanScale}
-use Rattle.rate_planner.proofs.Scaling.{can_scale}
+-- The kind is that of the tree's own description.
 use Rattle.rate_planner.proofs.kind.kind_of.Goals as goal
 
-pub returns-then-clock-len-clause-scales : goal.returns-then-clock-len-clause-scales
-returns-then-clock-len-clause-scales c =
-    let place : c.args.clock.0 < length c.args.desc.now.defs = let is = c.len.ensures.len in let lt = c.if-clock-len.true in omega arith in
-    subst (λ (kind : Kind). CanScale kind) (sym (ap (λ (d : ClockDef). d.kind) c.def.ensures.def))
-    (can_scale c.args.desc.now.words c.args.desc.now.defs c.args.clock.0 c.len.ensures.valid place)
-
-pub returns-then-clock-len-clause-reads : goal.returns-then-clock-len-clause-reads
-returns-then-clock-len-clause-reads c = λ words fits.
-    let place : c.args.clock.0 < length c.args.desc.now.defs = let is = c.len.ensures.len in let lt = c.if-clock-len.true in omega arith in
-    subst (λ (kind : Kind). CanRead words kind) (sym (ap (λ (d : ClockDef). d.kind) c.def.ensures.def))
-    (can_read c.args.desc.now.words c.args.desc.now.defs c.args.clock.0 words c.len.ensures.valid place fits)
+pub returns-clause-reads : goal.returns-clause-reads
+returns-clause-reads c = λ words valid. c.kind_in.ensures.reads words (rw c.desc.ensures.defs valid)

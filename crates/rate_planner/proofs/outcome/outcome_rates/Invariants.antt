@@ -8,5 +8,5 @@ use Rattle.rate_planner.proofs.outcome.outcome_rates.Given as goal
 abbrev pub invariant-loop-done : goal.invariant-loop-done
 invariant-loop-done g l = record {
   size : length l.rates.items ≡ length l.steps;
-  rates : Told (g.B.Bank.contents l.bank) l.desc.defs l.tree (λ w. drop (l.count - l.done) l.rates.items ≡ out_rates w (drop (l.count - l.done) (chain_of l.steps)));
+  rates : Told (g.B.Bank.contents l.bank) l.tree.defs l.tree (λ w. drop (l.count - l.done) l.rates.items ≡ out_rates w (drop (l.count - l.done) (chain_of l.steps)));
 }

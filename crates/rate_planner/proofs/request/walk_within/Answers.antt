@@ -19,9 +19,9 @@ keep_boundaries-requires-clause-inside g c =
 
 pub returns-then-not-keep_boundaries-clause-chain : goal.returns-then-not-keep_boundaries-clause-chain
 returns-then-not-keep_boundaries-clause-chain g c =
-    bounded_chain (g.B.Bank.contents c.args.bank.now) c.args.desc.now.words (g.B.Bank.size c.args.bank.now) c.args.desc.now.defs c.args.tree.now (g.V.View.means c.args.view.now) c.as_slice-steps.result.now
+    bounded_chain (g.B.Bank.contents c.args.bank.now) (g.B.Bank.size c.args.bank.now) c.args.tree.now (g.V.View.means c.args.view.now) c.as_slice-steps.result.now
     c.args.planning.now.plan.chain c.outcome_rates.new.rates.items false
-    c.len-size.ensures.valid c.requires.bank (g.met.B.Bank.sized c.args.bank.now) c.registered-there.ensures.stands c.requires.made c.as_slice-steps.ensures c.requires.steps
+    c.requires.valid (g.met.B.Bank.sized c.args.bank.now) c.registered-there.ensures.stands c.as_slice-steps.ensures c.requires.steps
     (sym c.if-not-keep_boundaries.true ∙ c.keep_boundaries.ensures ∙ ap (rates_within (g.V.View.means c.args.view.now) (chain_of c.as_slice-steps.result.now)) c.as_slice-rates.ensures.value) c.in_ok-outcome_rates.ensures.rates
 
 pub walk_rates-requires-clause-steps : goal.walk_rates-requires-clause-steps
@@ -29,18 +29,18 @@ walk_rates-requires-clause-steps g c = chain_there c.args.tree.now.clocks c.as_s
 
 pub returns-clause-chain : goal.returns-clause-chain
 returns-clause-chain g c =
-    bounded_chain (g.B.Bank.contents c.args.bank.now) c.args.desc.now.words (g.B.Bank.size c.args.bank.now) c.args.desc.now.defs c.args.tree.now (g.V.View.means c.args.view.now) c.as_slice-steps.result.now
+    bounded_chain (g.B.Bank.contents c.args.bank.now) (g.B.Bank.size c.args.bank.now) c.args.tree.now (g.V.View.means c.args.view.now) c.as_slice-steps.result.now
     c.args.planning.now.plan.chain c.outcome_rates.new.rates.items true
-    c.len-size.ensures.valid c.requires.bank (g.met.B.Bank.sized c.args.bank.now) c.registered-there.ensures.stands c.requires.made c.as_slice-steps.ensures c.requires.steps
+    c.requires.valid (g.met.B.Bank.sized c.args.bank.now) c.registered-there.ensures.stands c.as_slice-steps.ensures c.requires.steps
     (sym c.if-not-keep_boundaries.false ∙ c.keep_boundaries.ensures ∙ ap (rates_within (g.V.View.means c.args.view.now) (chain_of c.as_slice-steps.result.now)) c.as_slice-rates.ensures.value) c.in_ok-outcome_rates.ensures.rates
 
 pub returns-clause-rates : goal.returns-clause-rates
 returns-clause-rates g c = λ found.
-    walked_chain (g.B.Bank.contents c.args.bank.now) c.args.desc.now.words (g.B.Bank.size c.args.bank.now) c.args.desc.now.defs c.args.tree.now (g.V.View.means c.args.view.now) c.as_slice-steps.result.now
+    walked_chain (g.B.Bank.contents c.args.bank.now) (g.B.Bank.size c.args.bank.now) c.args.tree.now (g.V.View.means c.args.view.now) c.as_slice-steps.result.now
     c.args.planning.now.plan.chain c.as_slice-rates.result.now c.walk_rates.new.into
-    c.len-size.ensures.valid c.requires.bank (g.met.B.Bank.sized c.args.bank.now) c.registered-there.ensures.stands c.requires.made c.as_slice-steps.ensures c.requires.steps c.requires.some
+    c.requires.valid (g.met.B.Bank.sized c.args.bank.now) c.registered-there.ensures.stands c.as_slice-steps.ensures c.requires.steps c.requires.some
     (told_on (g.B.Bank.contents c.args.bank.now)
-    (λ (regs : Registers). KeepsRates c.args.desc.now.defs regs c.args.tree.now → c.outcome_rates.new.rates.items ≡ out_rates (wired c.args.desc.now.defs regs c.args.tree.now) (chain_of c.as_slice-steps.result.now))
-    (λ (regs : Registers). KeepsRates c.args.desc.now.defs regs c.args.tree.now → c.as_slice-rates.result.now ≡ out_rates (wired c.args.desc.now.defs regs c.args.tree.now) (chain_of c.as_slice-steps.result.now))
+    (λ (regs : Registers). KeepsRates c.args.tree.now.defs regs c.args.tree.now → c.outcome_rates.new.rates.items ≡ out_rates (wired c.args.tree.now.defs regs c.args.tree.now) (chain_of c.as_slice-steps.result.now))
+    (λ (regs : Registers). KeepsRates c.args.tree.now.defs regs c.args.tree.now → c.as_slice-rates.result.now ≡ out_rates (wired c.args.tree.now.defs regs c.args.tree.now) (chain_of c.as_slice-steps.result.now))
     (λ regs out kept. c.as_slice-rates.ensures.value ∙ out kept) c.in_ok-outcome_rates.ensures.rates)
     c.in_ok-walk_rates.ensures.walked

@@ -7,4 +7,4 @@ use Rattle.rate_planner.proofs.rounding.rounding.Goals as goal
 
 pub returns-clause-rounding : goal.returns-clause-rounding
 returns-clause-rounding g c = λ regs kept.
-    round_whole (wired c.args.desc.now.defs regs c.args.tree.now) (g.V.View.means c.args.view.now) c.args.c.0 c.args.x (option_map rounded_of c.round_by.result) c.depth.result c.depth.ensures (c.round_by.ensures.rounding regs kept)
+    round_whole (wired c.args.tree.now.defs regs c.args.tree.now) (g.V.View.means c.args.view.now) c.args.c.0 c.args.x (option_map rounded_of c.round_by.result) c.depth.result c.depth.ensures (c.round_by.ensures.rounding regs kept)

@@ -11,7 +11,7 @@ use Rattle.rate_planner.proofs.settings.setting.Goals as goal
 
 pub returns-in-Divider-clause-fits : goal.returns-in-Divider-clause-fits
 returns-in-Divider-clause-fits c =
-    subst (λ (kind : Kind). IfSome (field_of kind) (λ f. c.div_setting.result < 2 ^ f.width)) (sym c.in-Divider.is ∙ c.kind_of.ensures.kind)
+    subst (λ (kind : Kind). IfSome (field_of kind) (λ f. c.div_setting.result < 2 ^ f.width)) (sym c.in-Divider.is ∙ c.kind_in.ensures.kind)
     (subst (λ n. n < 2 ^ c.in-Divider.width)
     (sym (c.div_setting.ensures.value ∙ ap (div_setting c.args.parent c.args.rate c.in-Divider.width) c.style_of.ensures))
     (div_setting-fits (style_of c.in-Divider.one_based c.in-Divider.power_of_two) c.args.parent c.args.rate c.in-Divider.width c.in-Divider.ensures.scales))
@@ -21,5 +21,5 @@ returns-in-Pll-clause-fits c =
     let scales = c.in-Pll.ensures.scales in
     let le = pll_multiplier-le c.args.parent c.args.rate c.in-Pll.least c.in-Pll.most c.in-Pll.m scales.0 in
     let below = scales.2 in
-    subst (λ (kind : Kind). IfSome (field_of kind) (λ f. c.pll_setting.result < 2 ^ f.width)) (sym c.in-Pll.is ∙ c.kind_of.ensures.kind)
+    subst (λ (kind : Kind). IfSome (field_of kind) (λ f. c.pll_setting.result < 2 ^ f.width)) (sym c.in-Pll.is ∙ c.kind_in.ensures.kind)
     (subst (λ n. n < 2 ^ c.in-Pll.width) (sym c.pll_setting.ensures.value) (omega arith))

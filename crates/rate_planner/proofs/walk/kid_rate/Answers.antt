@@ -11,24 +11,24 @@ pub loop-done-preserved : goal.loop-done-preserved
 loop-done-preserved g c = elim c.if-step-clock.branch [
   | then-step-clock+then-away w ↦ record {
     own = λ regs.
-        kid_taken c.args.walker.now.desc.now.defs regs c.args.walker.now.steps.now c.args.walker.now.rates.now (length c.args.walker.now.steps.now) c.loop-done.done _ c.args.clock.0 c.args.parent _ 0 _
-        c.loop-done-test.true refl refl c.requires.sizes w.if-step-clock.true (ap (λ (o : Option ℕ). option_map_or (λ r. r) o (rate_over (kind_of c.args.walker.now.desc.now.defs c.args.clock.0) regs c.args.parent)) w.own-is);
+        kid_taken c.args.walker.now.tree.now.defs regs c.args.walker.now.steps.now c.args.walker.now.rates.now (length c.args.walker.now.steps.now) c.loop-done.done _ c.args.clock.0 c.args.parent _ 0 _
+        c.loop-done-test.true refl refl c.requires.sizes w.if-step-clock.true (ap (λ (o : Option ℕ). option_map_or (λ r. r) o (rate_over (kind_of c.args.walker.now.tree.now.defs c.args.clock.0) regs c.args.parent)) w.own-is);
     away =
         moves_before c.args.walker.now.tree.now.clocks c.args.walker.now.steps.now (length c.args.walker.now.steps.now) c.loop-done.done _ c.args.clock.0 (record { clock = c.args.clock; rate = 0; parent = None }) c.loop-done.away c.if-step-clock.away
         c.loop-done-test.true refl refl w.if-away.true w.away-is c.loop-done.invariant.away;
   }
   | then-step-clock+else-away w ↦ record {
     own = λ regs.
-        kid_taken c.args.walker.now.desc.now.defs regs c.args.walker.now.steps.now c.args.walker.now.rates.now (length c.args.walker.now.steps.now) c.loop-done.done _ c.args.clock.0 c.args.parent _ 0 _
-        c.loop-done-test.true refl refl c.requires.sizes w.if-step-clock.true (ap (λ (o : Option ℕ). option_map_or (λ r. r) o (rate_over (kind_of c.args.walker.now.desc.now.defs c.args.clock.0) regs c.args.parent)) w.own-is);
+        kid_taken c.args.walker.now.tree.now.defs regs c.args.walker.now.steps.now c.args.walker.now.rates.now (length c.args.walker.now.steps.now) c.loop-done.done _ c.args.clock.0 c.args.parent _ 0 _
+        c.loop-done-test.true refl refl c.requires.sizes w.if-step-clock.true (ap (λ (o : Option ℕ). option_map_or (λ r. r) o (rate_over (kind_of c.args.walker.now.tree.now.defs c.args.clock.0) regs c.args.parent)) w.own-is);
     away =
         moves_here c.args.walker.now.tree.now.clocks c.args.walker.now.steps.now (length c.args.walker.now.steps.now) c.loop-done.done _ c.args.clock.0 _ c.loop-done.away c.if-step-clock.away
         c.loop-done-test.true refl refl w.if-step-clock.true w.if-away.false (w.away-is ∙ w.moves-away.ensures) c.loop-done.invariant.away;
   }
   | else-step-clock w ↦ record {
     own = λ regs.
-        kid_passed c.args.walker.now.desc.now.defs regs c.args.walker.now.steps.now c.args.walker.now.rates.now (length c.args.walker.now.steps.now) c.loop-done.done _ c.args.clock.0 c.args.parent _ _ _
-        c.loop-done-test.true refl refl c.requires.sizes w.if-step-clock.false (ap (λ (o : Option ℕ). option_map_or (λ r. r) o (rate_over (kind_of c.args.walker.now.desc.now.defs c.args.clock.0) regs c.args.parent)) w.own-is) (c.loop-done.invariant.own regs);
+        kid_passed c.args.walker.now.tree.now.defs regs c.args.walker.now.steps.now c.args.walker.now.rates.now (length c.args.walker.now.steps.now) c.loop-done.done _ c.args.clock.0 c.args.parent _ _ _
+        c.loop-done-test.true refl refl c.requires.sizes w.if-step-clock.false (ap (λ (o : Option ℕ). option_map_or (λ r. r) o (rate_over (kind_of c.args.walker.now.tree.now.defs c.args.clock.0) regs c.args.parent)) w.own-is) (c.loop-done.invariant.own regs);
     away =
         moves_past c.args.walker.now.tree.now.clocks c.args.walker.now.steps.now (length c.args.walker.now.steps.now) c.loop-done.done _ c.args.clock.0 _ c.loop-done.away c.if-step-clock.away
         c.loop-done-test.true refl refl w.if-step-clock.false w.away-is c.loop-done.invariant.away;

@@ -11,7 +11,7 @@ use Rattle.rate_planner.proofs.walk.kid_rate.Given as goal
 
 abbrev pub invariant-loop-done : goal.invariant-loop-done
 invariant-loop-done g l = record {
-  own : (regs : Registers) → option_map_or (λ r. r) l.own (rate_over (kind_of l.walker.desc.now.defs l.clock.0) regs l.parent)
-      ≡ kid_rate l.walker.desc.now.defs regs (drop (l.count - l.done) (chain_of l.walker.steps.now)) (drop (l.count - l.done) l.walker.rates.now) l.clock.0 l.parent;
+  own : (regs : Registers) → option_map_or (λ r. r) l.own (rate_over (kind_of l.walker.tree.now.defs l.clock.0) regs l.parent)
+      ≡ kid_rate l.walker.tree.now.defs regs (drop (l.count - l.done) (chain_of l.walker.steps.now)) (drop (l.count - l.done) l.walker.rates.now) l.clock.0 l.parent;
   away : l.away ≡ moves_away l.walker.tree.now.clocks (drop (l.count - l.done) (chain_of l.walker.steps.now)) l.clock.0;
 }

@@ -13,16 +13,16 @@ overflow_sub-depth g c = let some = subst (λ n. 0 < n) (sym c.depth.ensures) so
 
 pub returns-in_ok-walk_below-clause-walked : goal.returns-in_ok-walk_below-clause-walked
 returns-in_ok-walk_below-clause-walked g c =
-    walks_top (g.B.Bank.contents c.args.bank.now) c.args.desc.now.defs c.args.tree.now c.args.steps.now c.args.rates.now c.depth.result _ _ c.clear.new.self c.walk_below.new.into
+    walks_top (g.B.Bank.contents c.args.bank.now) c.args.tree.now.defs c.args.tree.now c.args.steps.now c.args.rates.now c.depth.result _ _ c.clear.new.self c.walk_below.new.into
     c.requires.some c.clear.ensures c.depth.ensures refl
-    (walks_whole (g.B.Bank.contents c.args.bank.now) c.args.desc.now.defs c.args.tree.now (chain_of c.args.steps.now) c.args.rates.now c.depth.result _ _ c.clear.new.self c.push.new.self c.walk_below.new.into
+    (walks_whole (g.B.Bank.contents c.args.bank.now) c.args.tree.now.defs c.args.tree.now (chain_of c.args.steps.now) c.args.rates.now c.depth.result _ _ c.clear.new.self c.push.new.self c.walk_below.new.into
     (subst (λ n. 0 < n) (sym c.depth.ensures) some_levels) c.in_ok-push.ensures.pushed c.in_ok-walk_below.ensures.walked)
 
 pub returns-else-may_go_on-clause-walked : goal.returns-else-may_go_on-clause-walked
 returns-else-may_go_on-clause-walked g c =
-    walks_top (g.B.Bank.contents c.args.bank.now) c.args.desc.now.defs c.args.tree.now c.args.steps.now c.args.rates.now depth _ _ c.clear.new.self c.push.new.self
+    walks_top (g.B.Bank.contents c.args.bank.now) c.args.tree.now.defs c.args.tree.now c.args.steps.now c.args.rates.now depth _ _ c.clear.new.self c.push.new.self
     c.requires.some c.clear.ensures refl refl
-    (walks_alone (g.B.Bank.contents c.args.bank.now) c.args.desc.now.defs c.args.tree.now (chain_of c.args.steps.now) c.args.rates.now depth _ _ c.clear.new.self c.push.new.self
+    (walks_alone (g.B.Bank.contents c.args.bank.now) c.args.tree.now.defs c.args.tree.now (chain_of c.args.steps.now) c.args.rates.now depth _ _ c.clear.new.self c.push.new.self
     some_levels c.in_ok-push.ensures.pushed (c.may_go_on.ensures c.if-may_go_on.false))
 
 -- a clock that is there alone is all that is there

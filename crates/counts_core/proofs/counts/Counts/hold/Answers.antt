@@ -3,15 +3,13 @@ use Rattle.std.proofs.Common.{◌≡◌, ℕ, ◌+◌, ◌<◌, ◌&&◌, Bool, 
 use Rattle.std.specs.Prelude.{slice_index}
 use Rattle.std.proofs.lemmas.List.{get_or_read, with_items_is}
 use Rattle.clk_base.specs.declared.clock.ClockId.{ClockId}
-use Rattle.clk_base.specs.Description.{parents_of}
 use Rattle.clk_model.specs.Lists.{is_in}
 use Rattle.clk_model.specs.Tree.{path_within}
-use Rattle.counts_core.specs.Sums.{up_in, AreSums, OneMore, Begins}
+use Rattle.counts_core.specs.Sums.{up_in, AreSums, OneMore, Begins, Grows}
 use Rattle.counts_core.specs.Counted.{CountState, is_held}
 use Rattle.counts_core.specs.CountsKept.{IsCounted}
-use Rattle.counts_core.proofs.Growing.{Grows}
 use Rattle.counts_core.proofs.Tallies.{sums_small, sums_added}
-use Rattle.counts_core.proofs.Held.{links_end, begins_held, counted_prepares, few_added, own_small}
+use Rattle.counts_core.proofs.Held.{begins_held, counted_prepares, few_added, own_small}
 use Rattle.counts_core.proofs.counts.Counts.hold.Goals as goal
 
 pub hold_up-requires-clause-few : goal.hold_up-requires-clause-few
@@ -48,7 +46,7 @@ invariant_of-self c =
     let room : get_or s.prepares.own.items n 0 < 8388608 = subst (λ (xs : List ℕ). get_or xs n 0 < 8388608) (sym (ap (λ (t : CountState). t.prepares) c.self.view_is)) c.requires.room in
     let few = few_added s.prepares.own.items n c.index_mut.result.now k.prepare_few (omega arith) room value in
     let items = with_items_is s.prepares.counts c.hold_up.new.prepares (more.size ∙ sym s.prepares.counts.ok.0) in
-    subst (λ (xs : List ℕ). IsCounted s.desc.defs s.links.items s.gated.items s.enables.own.items (set s.prepares.own.items n (c.index_mut.result.now + 1)) s.exclusives.items s.enables.counts.items xs c.hold_up.new.protects.own.items c.hold_up.new.protects.counts.items)
+    subst (λ (xs : List ℕ). IsCounted s.links.items s.gated.items s.enables.own.items (set s.prepares.own.items n (c.index_mut.result.now + 1)) s.exclusives.items s.enables.counts.items xs c.hold_up.new.protects.own.items c.hold_up.new.protects.counts.items)
     (sym items)
     (counted_prepares (set s.prepares.own.items n (c.index_mut.result.now + 1)) c.hold_up.new.prepares c.hold_up.new.protects.own.items c.hold_up.new.protects.counts.items k few sums protects grown)
 
@@ -69,4 +67,4 @@ returns-clause-begun c = λ d.
     let sums = subst (λ (m : ℕ). AreSums s.links.items (set s.prepares.own.items n (m + 1)) c.hold_up.new.prepares) (sym value)
     (sums_added s.links.items s.prepares.own.items s.prepares.counts.items c.hold_up.new.prepares n k.prepare_sums more within) in
     subst (λ (t : CountState). is_in d (path_within (up_in t.links) c.hold_up.result n) ≡ (is_held s.links.items (slice_index (set s.prepares.own.items n (c.index_mut.result.now + 1))) d && not (is_held t.links (slice_index t.prepares) d))) c.self.view_is
-    (begins_held (parents_of s.desc.defs) s.links.items s.prepares.own.items s.prepares.counts.items (set s.prepares.own.items n (c.index_mut.result.now + 1)) c.hold_up.new.prepares n c.hold_up.result (links_end k) k.prepare_sums sums begins d)
+    (begins_held s.links.items s.prepares.own.items s.prepares.counts.items (set s.prepares.own.items n (c.index_mut.result.now + 1)) c.hold_up.new.prepares n c.hold_up.result k.lines k.prepare_sums sums begins d)

@@ -3,15 +3,13 @@ use Rattle.std.proofs.Common.{◌≡◌, ℕ, ◌-◌, ◌<◌, ◌&&◌, Bool, 
 use Rattle.std.specs.Prelude.{slice_index}
 use Rattle.std.proofs.lemmas.List.{get_or_read, with_items_is}
 use Rattle.clk_base.specs.declared.clock.ClockId.{ClockId}
-use Rattle.clk_base.specs.Description.{parents_of}
 use Rattle.clk_model.specs.Lists.{is_in}
 use Rattle.clk_model.specs.Tree.{path_within}
-use Rattle.counts_core.specs.Sums.{up_in, AreSums, OneMore, Begins}
+use Rattle.counts_core.specs.Sums.{up_in, AreSums, OneMore, Begins, Grows}
 use Rattle.counts_core.specs.Counted.{CountState, is_held}
 use Rattle.counts_core.specs.CountsKept.{IsCounted}
-use Rattle.counts_core.proofs.Growing.{Grows}
 use Rattle.counts_core.proofs.Tallies.{sums_taken}
-use Rattle.counts_core.proofs.Held.{links_end, begins_held, counted_prepares, few_taken}
+use Rattle.counts_core.proofs.Held.{begins_held, counted_prepares, few_taken}
 use Rattle.counts_core.proofs.counts.Counts.release.Goals as goal
 
 pub release_up-requires-clause-few : goal.release_up-requires-clause-few
@@ -37,7 +35,7 @@ invariant_of-self c =
     (sums_taken s.links.items s.prepares.own.items s.prepares.counts.items c.release_up.new.prepares n k.prepare_sums more within held) in
     let few = few_taken s.prepares.own.items n (c.index_mut.result.now - 1) s.links.items k.prepare_few (sym size) (omega arith) (omega arith) in
     let items = with_items_is s.prepares.counts c.release_up.new.prepares (sym more.size ∙ sym s.prepares.counts.ok.0) in
-    subst (λ (xs : List ℕ). IsCounted s.desc.defs s.links.items s.gated.items s.enables.own.items (set s.prepares.own.items n (c.index_mut.result.now - 1)) s.exclusives.items s.enables.counts.items xs c.release_up.new.protects.own.items c.release_up.new.protects.counts.items)
+    subst (λ (xs : List ℕ). IsCounted s.links.items s.gated.items s.enables.own.items (set s.prepares.own.items n (c.index_mut.result.now - 1)) s.exclusives.items s.enables.counts.items xs c.release_up.new.protects.own.items c.release_up.new.protects.counts.items)
     (sym items)
     (counted_prepares (set s.prepares.own.items n (c.index_mut.result.now - 1)) c.release_up.new.prepares c.release_up.new.protects.own.items c.release_up.new.protects.counts.items k few sums protects grown)
 
@@ -59,4 +57,4 @@ returns-clause-stopped c = λ d.
     let sums = subst (λ (m : ℕ). AreSums s.links.items (set s.prepares.own.items n (m - 1)) c.release_up.new.prepares) (sym value)
     (sums_taken s.links.items s.prepares.own.items s.prepares.counts.items c.release_up.new.prepares n k.prepare_sums more within held) in
     subst (λ (t : CountState). is_in d (path_within (up_in t.links) c.release_up.result n) ≡ (is_held t.links (slice_index t.prepares) d && not (is_held s.links.items (slice_index (set s.prepares.own.items n (c.index_mut.result.now - 1))) d))) c.self.view_is
-    (begins_held (parents_of s.desc.defs) s.links.items (set s.prepares.own.items n (c.index_mut.result.now - 1)) c.release_up.new.prepares s.prepares.own.items s.prepares.counts.items n c.release_up.result (links_end k) sums k.prepare_sums begins d)
+    (begins_held s.links.items (set s.prepares.own.items n (c.index_mut.result.now - 1)) c.release_up.new.prepares s.prepares.own.items s.prepares.counts.items n c.release_up.result k.lines sums k.prepare_sums begins d)
