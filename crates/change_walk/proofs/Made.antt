@@ -1,12 +1,12 @@
 -- What a script is made of, and that it is the script of the definitions where the view tells what a state holds prepared.
-use Rattle.std.proofs.Common.{◌≡◌, ℕ, ◌+◌, ◌-◌, ◌^◌, ◌≤◌, ◌<◌, min, Bool, true, false, ◌&&◌, cond, List, refl, sym, ap, subst, ◌∙◌, arith}
+use Rattle.std.proofs.Common.{◌≡◌, ℕ, ◌+◌, ◌-◌, ◌^◌, ◌≤◌, min, Bool, true, false, ◌&&◌, cond, List, refl, sym, ap, subst, ◌∙◌, arith}
 use Rattle.std.specs.Prelude.{flat_map, sum_by}
 use Rattle.std.specs.List.{list_any}
 use Rattle.clk_base.specs.declared.call.Micro.{Micro}
 use Rattle.clk_base.specs.Valid.{IsValid}
 use Rattle.clk_model.specs.Notices.{is_veto}
 use Rattle.clk_model.specs.Round.{wiring}
-use Rattle.clk_model.specs.Script.{is_raise, notices_of, planned, plls, weight}
+use Rattle.clk_model.specs.Script.{is_raise, planned, plls, weight}
 use Rattle.clk_model.specs.State.{State}
 use Rattle.clk_model.specs.Walk.{changing}
 use Rattle.clk_tree.specs.Plans.{AreThere}
@@ -16,10 +16,9 @@ use Rattle.notifiers.specs.declared.notifier.Notifier.{Notifier}
 use Rattle.notifiers.specs.Chains.{AreChains}
 use Rattle.notifiers.proofs.Kept.{few_told}
 use Rattle.change_walk.specs.declared.changes.Changed.{Changed}
-use Rattle.change_walk.specs.Given.{IsOf, IsPlanFor, IsTold, OfPlan, Script, all_changed, extra_of, planned_by, weight_of}
-use Rattle.change_walk.specs.Steps.{IsMadeOf, brought_by, changed_by, steps_for, told_by, weighed_with}
+use Rattle.change_walk.specs.Given.{IsOf, IsPlanFor, OfPlan, Script, all_changed, extra_of, planned_by, weight_of}
+use Rattle.change_walk.specs.Steps.{IsMadeOf, brought_by, changed_by, steps_for, weighed_with}
 use Rattle.change_walk.specs.Tellings.{notifiers_at, tell_before}
-use Rattle.change_walk.specs.Weights.{step_weight}
 use Rattle.change_walk.proofs.Weighing.{HasFewNotifiers, brought_whole, notices_count, steps_weigh, weighed_whole}
 use Rattle.change_walk.proofs.Whole.{Fits, changed_are, made_over, steps_are, steps_over, vetoed_is}
 
@@ -78,7 +77,7 @@ module _ {words : ℕ} {t : TreeState} {lists : List (List Notifier)} {plan : Pl
         let small = extra_is s is plans in
         let over : script.steps ≡ steps_over s held plan =
         steps ∙ ap (steps_for t held lists plan) (changing_are s is plans) ∙ made_over words s t lists plan (fitting s is plans) held in
-        let fits = subst (λ (ms : List Micro). weighed_with t lists ms script.extra ≤ 50331650) (sym over)
+        let fits = subst (λ (ms : List Micro). weighed_with t lists ms script.extra ≤ 67108866) (sym over)
         (weighed_whole words s t lists plan (fitting s is plans) (few s is) held script.extra (omega arith)) in
         uncut script.weight (weighed_with t lists script.steps script.extra) (2 ^ 64 - 1) weight (omega arith);
   } where

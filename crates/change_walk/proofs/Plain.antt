@@ -1,5 +1,5 @@
 -- Laws on scripts without a notice and without a PLL: each step weighs one.
-use Rattle.std.proofs.Common.{◌≡◌, ℕ, ◌+◌, ◌-◌, ◌^◌, ◌≤◌, min, ◌||◌, Bool, true, false, cond, List, [], ◌∷◌, ◌++◌, Option, Some, None, refl, sym, ap, ◌∙◌, arith, length}
+use Rattle.std.proofs.Common.{◌≡◌, ℕ, ◌+◌, ◌-◌, ◌^◌, ◌≤◌, min, ◌||◌, Bool, true, false, List, [], ◌∷◌, ◌++◌, Option, Some, None, refl, sym, ap, ◌∙◌, arith, length}
 use Rattle.std.specs.Prelude.{◌==◌, ◌&&◌, filter, slice_index_or, sum_by}
 use Rattle.std.specs.List.{list_any}
 use Rattle.std.specs.Option.{option_map_or}
@@ -7,12 +7,13 @@ use Rattle.std.proofs.lemmas.List.Sums.{sum_by-cons}
 use Rattle.clk_base.specs.declared.call.Micro.{Micro}
 use Rattle.clk_base.specs.declared.call.Micro.TheVariants as micro
 use Rattle.clk_base.specs.Description.{Description}
+use Rattle.clk_base.specs.Flags.{runs_parent}
 use Rattle.clk_model.specs.declared.row.ClockRow.{ClockRow}
-use Rattle.clk_model.specs.Chain.{clock_id, moves, place_of}
-use Rattle.clk_model.specs.Script.{move, move_of}
+use Rattle.clk_model.specs.Chain.{clock_id, moves}
+use Rattle.clk_model.specs.Script.{fed_step, move, move_of, runs_for, unfeed, visit_of}
 use Rattle.clk_model.specs.State.{ChainStep, link_in}
 use Rattle.clk_model.proofs.Members.{not_either}
-use Rattle.clk_model.proofs.NoneLaws.{none_append, none_flat_map}
+use Rattle.clk_model.proofs.NoneLaws.{none_append, none_flat_map, none_if}
 use Rattle.clk_tree.specs.declared.plan.Plan.{Plan}
 use Rattle.clk_tree.specs.Plans.{ClockRate}
 use Rattle.clk_tree.specs.TreeState.{TreeState}
@@ -72,28 +73,35 @@ number_weighs lists k ms no_pll none small =
 move_plain : (lists : List (List Notifier)) (defs : Description) (clocks : List ClockRow) (held : ℕ → Bool) (c : ℕ) (parent : Option ℕ)
     → list_any (brings_notices lists) (option_map_or (move defs clocks held c) parent []) ≡ false
 move_plain lists defs clocks held c None = refl
-move_plain lists defs clocks held c (Some p) = one (held c) (link_in clocks c) where
-  one : (t : Bool) (o : Option ℕ)
-      → list_any (brings_notices lists)
-      (cond t
-      (micro.Raise (clock_id p) ∷ micro.HoldPrepare (clock_id p) ∷ micro.HoldEnable (clock_id p) ∷ micro.HoldEnable (clock_id c)
-      ∷ micro.Relink (clock_id c) (clock_id p) ∷ micro.WriteMux (clock_id c) (place_of defs c p) ∷ micro.DropEnable (clock_id c)
-      ∷ option_map_or (λ q. micro.DropEnable (clock_id q) ∷ micro.DropPrepare (clock_id q) ∷ micro.Lower (clock_id q) ∷ []) o [])
-      (micro.Relink (clock_id c) (clock_id p) ∷ micro.WriteMux (clock_id c) (place_of defs c p) ∷ [])) ≡ false
-  one false o = refl
-  one true None = refl
-  one true (Some q) = refl
+move_plain lists defs clocks held c (Some p) =
+    none_if (brings_notices lists) (held c) _ _ (dropped (link_in clocks c))
+    (none_if (brings_notices lists) (runs_parent defs c) _ _ (let_go (link_in clocks c)) refl) where
+      dropped : (o : Option ℕ) → list_any (brings_notices lists) (option_map_or unfeed o []) ≡ false
+      dropped None = refl
+      dropped (Some q) = refl
+
+      let_go : (o : Option ℕ) → list_any (brings_notices lists) (option_map_or unfeed o [] ++ unfeed c) ≡ false
+      let_go None = refl
+      let_go (Some q) = refl
+
+-- a visit brings notices only of its own clock
+visit_plain : (lists : List (List Notifier)) (defs : Description) (clocks : List ClockRow) (ks : List ChainStep) (c : ℕ) → has_notifiers lists c ≡ false
+    → list_any (brings_notices lists) (visit_of defs clocks ks c) ≡ false
+visit_plain lists defs clocks ks c none = one (runs_for defs clocks ks c) where
+  one : (o : Option ℕ) → list_any (brings_notices lists) (fed_step o (micro.Visit (clock_id c))) ≡ false
+  one None = ap (λ (t : Bool). t || false) none
+  one (Some x) = ap (λ (t : Bool). t || false) none
 
 visits_plain : (lists : List (List Notifier)) (defs : Description) (clocks : List ClockRow) (held : ℕ → Bool) (ks : List ChainStep) (rates : List ClockRate)
     → list_any (λ r. has_notifiers lists r.clock) rates ≡ false → list_any (brings_notices lists) (visits defs clocks held ks rates) ≡ false
 visits_plain lists defs clocks held ks [] none = refl
 visits_plain lists defs clocks held ks (r ∷ rates) none =
     let parts = not_either (has_notifiers lists r.clock) (list_any (λ (q : ClockRate). has_notifiers lists q.clock) rates) none in
-    none_append (brings_notices lists) (move_of defs clocks held ks r.clock ++ micro.Visit (clock_id r.clock) ∷ []) (visits defs clocks held ks rates)
-    (none_append (brings_notices lists) (move_of defs clocks held ks r.clock) (micro.Visit (clock_id r.clock) ∷ [])
+    none_append (brings_notices lists) (move_of defs clocks held ks r.clock ++ visit_of defs clocks ks r.clock) (visits defs clocks held ks rates)
+    (none_append (brings_notices lists) (move_of defs clocks held ks r.clock) (visit_of defs clocks ks r.clock)
     (none_flat_map (brings_notices lists) (λ (k : ChainStep). option_map_or (move defs clocks held r.clock) k.parent []) (filter (λ k. (k.clock == r.clock) && moves clocks k) ks)
     (λ k. move_plain lists defs clocks held r.clock k.parent))
-    (ap (λ (t : Bool). t || false) parts.0))
+    (visit_plain lists defs clocks ks r.clock parts.0))
     (visits_plain lists defs clocks held ks rates parts.1)
 
 settled_plain : (lists : List (List Notifier)) (set_parent : Bool) (ks : List ChainStep) → list_any (brings_notices lists) (settles set_parent ks) ≡ false

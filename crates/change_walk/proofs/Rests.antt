@@ -1,5 +1,5 @@
 -- Lists that are gone through place by place: what is done with what is left makes the whole.
-use Rattle.std.proofs.Common.{◌≡◌, ℕ, zero, suc, ◌+◌, ◌<◌, ◌++◌, true, List, [], ◌∷◌, Some, refl, sym, ap, ◌∙◌, arith, length, drop, map, append_assoc, get_or}
+use Rattle.std.proofs.Common.{◌≡◌, ℕ, zero, suc, ◌+◌, ◌++◌, List, [], ◌∷◌, Some, refl, sym, ap, ◌∙◌, arith, drop, map, append_assoc}
 use Rattle.std.specs.Prelude.{flat_map, option_map, slice_get}
 use Rattle.std.proofs.lemmas.Option.{slice_get-map}
 
@@ -31,9 +31,9 @@ pushed_on f xs k x old new whole at one all =
     ∙ ap (λ ys. old ++ map f ys) (sym (rest_at xs k x at))
     ∙ all
 
--- an element was pushed, and then others were added
-pub pushed_then : {X : Type 0} (old mid new : List X) (x : X) (rest : List X) → mid ≡ old ++ x ∷ [] → new ≡ mid ++ rest → new ≡ old ++ x ∷ rest
-pushed_then old mid new x rest one more = more ∙ ap (λ ys. ys ++ rest) one ∙ append_assoc old (x ∷ []) rest
+-- some were added, and then others
+pub added_then : {X : Type 0} (old mid new some rest : List X) → mid ≡ old ++ some → new ≡ mid ++ rest → new ≡ old ++ (some ++ rest)
+added_then old mid new some rest one more = more ∙ ap (λ ys. ys ++ rest) one ∙ append_assoc old some rest
 
 -- and so of what they are made into
 pub rest_of : {X Y : Type 0} (f : X → Y) (xs : List X) (k : ℕ) (x : X) → slice_get xs k ≡ Some x → drop k (map f xs) ≡ f x ∷ drop (k + 1) (map f xs)

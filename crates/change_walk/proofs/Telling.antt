@@ -7,7 +7,6 @@ use Rattle.std.proofs.lemmas.List.Folds.{list_any-append}
 use Rattle.std.proofs.lemmas.List.Recursion.{is_position_or_len}
 use Rattle.std.proofs.lemmas.List.Sums.{sum_by-cons}
 use Rattle.clk_base.specs.declared.call.Micro.{Micro}
-use Rattle.clk_base.specs.declared.call.Micro.TheVariants as micro
 use Rattle.clk_base.specs.declared.call.Notice.TheVariants as notice
 use Rattle.clk_base.specs.declared.clock.ClockId.{ClockId}
 use Rattle.clk_base.specs.Description.{Description}
@@ -15,7 +14,7 @@ use Rattle.clk_base.specs.Places.{places}
 use Rattle.clk_model.specs.declared.row.ClockRow.{ClockRow}
 use Rattle.clk_model.specs.Chain.{moves}
 use Rattle.clk_model.specs.Notices.{is_veto, vetoes}
-use Rattle.clk_model.specs.Script.{move, move_of}
+use Rattle.clk_model.specs.Script.{move, move_of, visit_of}
 use Rattle.clk_model.specs.State as state
 use Rattle.clk_tree.specs.declared.chain.ChainStep.{ChainStep}
 use Rattle.clk_tree.specs.declared.walk_rates.WalkRate.{WalkRate}
@@ -23,7 +22,7 @@ use Rattle.clk_tree.specs.Plans.{ClockRate, chain_of, rates_of, step_of}
 use Rattle.notifiers.specs.declared.notifier.Notifier.{Notifier}
 use Rattle.change_walk.specs.declared.changes.Changed.{Changed}
 use Rattle.change_walk.specs.declared.changes.Passed.{Passed}
-use Rattle.change_walk.specs.Changes.{back_to, changes, changed_along, changes_below, parent_after}
+use Rattle.change_walk.specs.Changes.{back_to, changed_along, changes_below, parent_after}
 use Rattle.change_walk.specs.Steps.{visits}
 use Rattle.change_walk.specs.Tellings.{notify, tell_before}
 use Rattle.change_walk.proofs.Rests.{rest_at, rest_of}
@@ -141,14 +140,15 @@ moved_on defs clocks held c chain k step old new whole at one all =
 
 -- one clock of the walk was visited
 pub visited_on : (defs : Description) (clocks : List ClockRow) (prepared : ℕ → Bool) (ks : List state.ChainStep) (rates : List WalkRate) (k : ℕ) (r : WalkRate) (old mid new whole : List Micro)
-    → slice_get rates k ≡ Some r → mid ≡ old ++ move_of defs clocks prepared ks r.clock.0 → new ≡ mid ++ micro.Visit r.clock ∷ []
+    → slice_get rates k ≡ Some r → mid ≡ old ++ move_of defs clocks prepared ks r.clock.0 → new ≡ mid ++ visit_of defs clocks ks r.clock.0
     → old ++ visits defs clocks prepared ks (drop k (rates_of rates)) ≡ whole → new ++ visits defs clocks prepared ks (drop (k + 1) (rates_of rates)) ≡ whole
 visited_on defs clocks prepared ks rates k r old mid new whole at first second all =
     let rest : List ClockRate = drop (k + 1) (rates_of rates) in
     let moved : List Micro = move_of defs clocks prepared ks r.clock.0 in
+    let visited : List Micro = visit_of defs clocks ks r.clock.0 in
     let end : List Micro = visits defs clocks prepared ks rest in
-    ap (λ ms. ms ++ end) (second ∙ ap (λ ms. ms ++ micro.Visit r.clock ∷ []) first ∙ append_assoc old moved (micro.Visit r.clock ∷ []))
-    ∙ append_assoc old (moved ++ micro.Visit r.clock ∷ []) end
+    ap (λ ms. ms ++ end) (second ∙ ap (λ ms. ms ++ visited) first ∙ append_assoc old moved visited)
+    ∙ append_assoc old (moved ++ visited) end
     ∙ ap (λ rs. old ++ visits defs clocks prepared ks rs) (sym (rest_of (λ (x : WalkRate). record { clock = x.clock.0; rate = x.rate }) rates k r at))
     ∙ all
 

@@ -13,7 +13,7 @@ use Rattle.clk_model.specs.Holders.{prepared}
 use Rattle.clk_model.specs.Lists.{is_in, none_twice, count_from}
 use Rattle.clk_model.specs.Notices.{Rates, notifiers_of, vetoes, until_veto, pre_list, abort_list, is_veto}
 use Rattle.clk_model.specs.Round.{Wiring, wiring, rate_in}
-use Rattle.clk_model.specs.Script.{move_of, planned}
+use Rattle.clk_model.specs.Script.{move_of, planned, visit_of}
 use Rattle.clk_model.specs.State.{State, NotifierRow, registered, link_in}
 use Rattle.clk_model.specs.Walk.{changing, rates_in, walk}
 use Rattle.clk_model.specs.Wired.{IsWired, IsOrder, LinesEnd, LinksArePossible}
@@ -185,26 +185,26 @@ abort_is words s t lists plan fits =
 
 -- ---- visits
 
--- the move and the visit of one clock, where it is said whether it is prepared
-abbrev pub visit_of : Description → List ClockRow → (ℕ → Bool) → Plan → ℕ → List Micro
-visit_of defs clocks held plan c = move_of defs clocks held plan.chain c ++ micro.Visit (clock_id c) ∷ []
+-- the move and the visit of one clock, given which clocks are prepared
+abbrev pub steps_at : Description → List ClockRow → (ℕ → Bool) → Plan → ℕ → List Micro
+steps_at defs clocks held plan c = move_of defs clocks held plan.chain c ++ visit_of defs clocks plan.chain c
 
 visits_over : (words : ℕ) (s : State) (t : TreeState) (lists : List (List Notifier)) (plan : Plan) → Fits words s t lists plan → (held : ℕ → Bool)
-    → visits t.defs t.clocks held plan.chain plan.rates ≡ flat_map (visit_of s.defs s.clocks held plan) (walk s.order (wiring s) plan.chain)
+    → visits t.defs t.clocks held plan.chain plan.rates ≡ flat_map (steps_at s.defs s.clocks held plan) (walk s.order (wiring s) plan.chain)
 visits_over words s t lists plan fits held =
     ap (visits t.defs t.clocks held plan.chain) fits.planned.rates
-    ∙ through (λ (r : ClockRate). visit_of t.defs t.clocks held plan r.clock) (rated_at (rate_in (outcome plan.chain (wiring s)))) (visit_of s.defs s.clocks held plan) (walk s.order (wiring s) plan.chain)
+    ∙ through (λ (r : ClockRate). steps_at t.defs t.clocks held plan r.clock) (rated_at (rate_in (outcome plan.chain (wiring s)))) (steps_at s.defs s.clocks held plan) (walk s.order (wiring s) plan.chain)
     (λ c m.
-    ap (λ (defs : Description). visit_of defs t.clocks held plan c) (sym fits.told.defs)
-    ∙ ap (λ (rows : List ClockRow). visit_of s.defs rows held plan c) (sym fits.told.clocks))
+    ap (λ (defs : Description). steps_at defs t.clocks held plan c) (sym fits.told.defs)
+    ∙ ap (λ (rows : List ClockRow). steps_at s.defs rows held plan c) (sym fits.told.clocks))
 
 -- which clocks are prepared matters for those of the walk alone
 visits_alike : (s : State) (plan : Plan) (held other : ℕ → Bool) (cs : List ℕ) → ((c : ℕ) → is_in c cs ≡ true → held c ≡ other c)
-    → flat_map (visit_of s.defs s.clocks held plan) cs ≡ flat_map (visit_of s.defs s.clocks other plan) cs
+    → flat_map (steps_at s.defs s.clocks held plan) cs ≡ flat_map (steps_at s.defs s.clocks other plan) cs
 visits_alike s plan held other [] same = refl
 visits_alike s plan held other (c ∷ cs) same =
-    ap (λ (b : Bool). visit_of s.defs s.clocks (λ x. b) plan c ++ flat_map (visit_of s.defs s.clocks held plan) cs) (same c (is_in_head c cs))
-    ∙ ap (λ (ms : List Micro). visit_of s.defs s.clocks other plan c ++ ms) (visits_alike s plan held other cs (λ x m. same x (is_in_tail x c cs m)))
+    ap (λ (b : Bool). steps_at s.defs s.clocks (λ x. b) plan c ++ flat_map (steps_at s.defs s.clocks held plan) cs) (same c (is_in_head c cs))
+    ∙ ap (λ (ms : List Micro). steps_at s.defs s.clocks other plan c ++ ms) (visits_alike s plan held other cs (λ x m. same x (is_in_tail x c cs m)))
 
 -- ---- the whole
 
@@ -219,7 +219,7 @@ steps_over s held plan =
     let cs : List ℕ = changing s.order (wiring s) plan.chain in
     let told : List Micro = pre_list rates s.notifiers cs in
     told
-    ++ cond (list_any is_veto told) (abort_list rates s.notifiers cs) (flat_map (visit_of s.defs s.clocks held plan) (walk s.order (wiring s) plan.chain) ++ settles plan.set_parent plan.chain)
+    ++ cond (list_any is_veto told) (abort_list rates s.notifiers cs) (flat_map (steps_at s.defs s.clocks held plan) (walk s.order (wiring s) plan.chain) ++ settles plan.set_parent plan.chain)
     ++ micro.End ∷ []
 
 pub made_over : (words : ℕ) (s : State) (t : TreeState) (lists : List (List Notifier)) (plan : Plan) → Fits words s t lists plan → (held : ℕ → Bool)

@@ -1,10 +1,9 @@
 -- The clocks whose rate a plan changes, told from the rates of its walk alone.
-use Rattle.std.specs.Prelude.{◌≡◌, ℕ, ◌==◌, ◌&&◌, ◌++◌, List, [], ◌∷◌, Bool, true, not, if◌then◌else◌, Option}
-use Rattle.std.specs.List.{AllByRecursion}
+use Rattle.std.specs.Prelude.{ℕ, ◌==◌, ◌&&◌, ◌++◌, List, [], ◌∷◌, Bool, true, not, if◌then◌else◌, Option}
 use Rattle.clk_model.specs.declared.row.ClockRow.{ClockRow}
 use Rattle.clk_model.specs.Chain.{clock_id}
 use Rattle.clk_model.specs.Lists.{is_at}
-use Rattle.clk_model.specs.State.{ChainStep, registered, link_in}
+use Rattle.clk_model.specs.State.{ChainStep, link_in}
 use Rattle.clk_tree.specs.Plans.{ClockRate}
 use Rattle.change_walk.specs.declared.changes.Changed.{Changed}
 use Rattle.change_walk.specs.declared.changes.Passed.{Passed}
@@ -43,4 +42,5 @@ changed_along up before passed [] = []
 changed_along up before passed (r ∷ rs) =
     let above = back_to (up r.clock) passed in
     let here = changes before above r in
-    (if here then changed_to before r ∷ [] else []) ++ changed_along up before (record { clock = clock_id r.clock; changes = here } ∷ above) rs
+    (if here then changed_to before r ∷ [] else [])
+    ++ changed_along up before (record { clock = clock_id r.clock; changes = here } ∷ above) rs

@@ -1,17 +1,18 @@
 -- The steps of a walk in code.
-use Rattle.std.specs.Prelude.{◌≡◌, ℕ, ◌+◌, ◌-◌, ◌^◌, ◌++◌, ◌&&◌, List, [], ◌∷◌, Bool, if◌then◌else◌, flat_map, length, min, slice_index, sum_by}
+use Rattle.std.specs.Prelude.{◌≡◌, ℕ, ◌+◌, ◌-◌, ◌^◌, ◌++◌, ◌&&◌, List, [], ◌∷◌, Option, Some, None, Bool, if◌then◌else◌, flat_map, length, min, slice_index, sum_by}
 use Rattle.std.specs.List.{list_any}
 use Rattle.std.specs.Option.{option_map_or}
 use Rattle.clk_base.specs.declared.call.Micro.{Micro}
 use Rattle.clk_base.specs.declared.call.Micro.TheVariants as micro
+use Rattle.clk_base.specs.declared.clock.ClockId.{ClockId}
 use Rattle.clk_base.specs.Description.{Description}
+use Rattle.clk_base.specs.Flags.{runs_parent, runs_to_set}
 use Rattle.clk_model.specs.declared.row.ClockRow.{ClockRow}
-use Rattle.clk_model.specs.Chain.{clock_id}
+use Rattle.clk_model.specs.Chain.{clock_id, place_of}
 use Rattle.clk_model.specs.Notices.{is_veto}
-use Rattle.clk_model.specs.Script.{is_raise, move_of, plls}
+use Rattle.clk_model.specs.Script.{is_raise, unfeed, move_of, visit_of, plls}
 use Rattle.clk_model.specs.State as state
 use Rattle.clk_model.specs.State.{link_in}
-use Rattle.clk_tree.specs.declared.chain.ChainStep.{ChainStep}
 use Rattle.clk_tree.specs.declared.plan.Plan.{Plan}
 use Rattle.clk_tree.specs.Plans.{ClockRate}
 use Rattle.clk_tree.specs.TreeState.{TreeState}
@@ -22,13 +23,29 @@ use Rattle.change_walk.specs.Given.{OfTree, Script, all_changed, settles}
 use Rattle.change_walk.specs.Tellings.{notifiers_at, tell_before, tell_off}
 use Rattle.change_walk.specs.Weights.{step_weight}
 
--- what a prepared clock lets go of when it has moved
+-- the holds that keep a powered clock running
+abbrev pub holds : ClockId → List Micro
+holds c = micro.HoldPrepare c ∷ micro.HoldEnable c ∷ []
+
+-- what is let go of when a clock has moved: the parent that it had
 abbrev pub drops : List ClockRow → ℕ → List Micro
-drops clocks c = option_map_or (λ o. micro.DropEnable (clock_id o) ∷ micro.DropPrepare (clock_id o) ∷ micro.Lower (clock_id o) ∷ []) (link_in clocks c) []
+drops clocks c = option_map_or unfeed (link_in clocks c) []
+
+-- the move of a clock that isn't prepared, while it and its parents run
+abbrev pub fed_move : Description → List ClockRow → ℕ → ℕ → List Micro
+fed_move defs clocks c p =
+    micro.Raise (clock_id c) ∷ micro.Raise (clock_id p) ∷ micro.HoldPrepare (clock_id c) ∷ micro.HoldEnable (clock_id c)
+    ∷ micro.HoldPrepare (clock_id p) ∷ micro.HoldEnable (clock_id p)
+    ∷ micro.Relink (clock_id c) (clock_id p) ∷ micro.WriteMux (clock_id c) (place_of defs c p)
+    ∷ drops clocks c ++ unfeed c
+
+-- the clock that runs while the setting of a clock is written, as its flags say: itself or its parent
+abbrev pub runs_by_flags : Description → List ClockRow → ℕ → Option ℕ
+runs_by_flags defs clocks c = if runs_to_set defs c then Some c else if runs_parent defs c then link_in clocks c else None
 
 -- each clock of a walk with its move, and then its visit
 abbrev pub visits : Description → List ClockRow → (ℕ → Bool) → List state.ChainStep → List ClockRate → List Micro
-visits defs clocks prepared ks rates = flat_map (λ r. move_of defs clocks prepared ks r.clock ++ micro.Visit (clock_id r.clock) ∷ []) rates
+visits defs clocks prepared ks rates = flat_map (λ r. move_of defs clocks prepared ks r.clock ++ visit_of defs clocks ks r.clock) rates
 
 -- the steps of a script, where these clocks change: the notices, then where one vetoes those that it is called off, else the walk and
 -- what is settled behind it, and the end
@@ -46,7 +63,8 @@ told_by notifiers changed = sum_by (λ x. length (notifiers_at notifiers x)) cha
 
 -- to these notifiers some changed clocks bring the notices of others, before a change and where it is called off, and as many
 pub record IsToldAs (notifiers : List (List Notifier)) (some others : List Changed) : Type 0 where
-  pub before : flat_map (λ x. tell_before x (notifiers_at notifiers x)) some ≡ flat_map (λ x. tell_before x (notifiers_at notifiers x)) others
+  pub before : flat_map (λ x. tell_before x (notifiers_at notifiers x)) some
+      ≡ flat_map (λ x. tell_before x (notifiers_at notifiers x)) others
   pub off : flat_map (λ x. tell_off x (notifiers_at notifiers x)) some ≡ flat_map (λ x. tell_off x (notifiers_at notifiers x)) others
   pub count : told_by notifiers some ≡ told_by notifiers others
 
@@ -69,7 +87,8 @@ pub record IsMadeOf (t : TreeState) (prepared : ℕ → Bool) (notifiers : List 
   -- numbers are cut at the greatest of 64 bits
   pub extra : script.extra ≡ min (brought_by notifiers plan (changed_by t plan) script.steps) (2 ^ 64 - 1)
   pub weight : script.weight ≡ min (weighed_with t notifiers script.steps script.extra) (2 ^ 64 - 1)
-  -- of each state that the tree is of, and that it is a plan for, they are the clocks that the definitions call changing, and no number is cut
+  -- of each state that the tree is of, and that it is a plan for, they are the clocks that the definitions call changing,
+  -- and no number is cut
   pub changing : OfTree t notifiers plan (λ s. changed_by t plan ≡ all_changed s plan.chain)
   pub extra_whole : OfTree t notifiers plan (λ s. script.extra ≡ brought_by notifiers plan (changed_by t plan) script.steps)
   pub weight_whole : OfTree t notifiers plan (λ s. script.weight ≡ weighed_with t notifiers script.steps script.extra)

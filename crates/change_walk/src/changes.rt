@@ -60,7 +60,7 @@ fn is_back(passed: &[Passed], parent: Option<ClockId>) -> bool
     }
 }
 
-// Leaves the clocks behind the last that is this parent.
+// Leaves the clocks after the last that is this parent.
 fn go_back_to(passed: &mut Vec<Passed>, parent: Option<ClockId>)
     ensures { reverse passed.new.items ≡ back_to (option_map (λ p. p.0) parent) (reverse passed.old.items) }
 {
@@ -86,7 +86,7 @@ fn changes_here(passed: &[Passed], before: u64, after: u64) -> bool
     changes_below(passed) && after != before
 }
 
-// Adds a clock where it changes.
+// Adds a clock if it changes.
 fn add_if(changed: &mut Vec<Changed>, changes: bool, one: Changed) -> Result<(), NoMemory>
     ensures { IfOk result (λ done. changed.new.items ≡ changed.old.items ++ (if changes then one ∷ [] else [])) }
 {
@@ -106,7 +106,8 @@ pub(crate) fn changes(
     rates: &[WalkRate],
 ) -> Result<(), NoMemory>
     requires there { AreThere tree.now.clocks (rates_of rates.now) }
-    ensures { OnOk result (changed.new.items ≡ changed_along (parent_after tree.now.clocks (chain_of chain.now)) (slice_index tree.now.rates) [] (rates_of rates.now)) }
+    ensures { OnOk result (changed.new.items
+        ≡ changed_along (parent_after tree.now.clocks (chain_of chain.now)) (slice_index tree.now.rates) [] (rates_of rates.now)) }
 {
     passed.clear();
     changed.clear();

@@ -71,8 +71,10 @@ pub(crate) fn tell_all_before(
     notifiers: &Notifiers,
     changed: &[Changed],
 ) -> Result<bool, NoMemory>
-    ensures told { IfOk result (λ vetoed. steps.new.items ≡ steps.old.items ++ flat_map (λ x. tell_before x (notifiers_at notifiers.now x)) changed.now) }
-    ensures vetoed { IfOk result (λ vetoed. vetoed ≡ list_any is_veto (flat_map (λ x. tell_before x (notifiers_at notifiers.now x)) changed.now)) }
+    ensures told { IfOk result (λ vetoed. steps.new.items
+        ≡ steps.old.items ++ flat_map (λ x. tell_before x (notifiers_at notifiers.now x)) changed.now) }
+    ensures vetoed { IfOk result (λ vetoed. vetoed
+        ≡ list_any is_veto (flat_map (λ x. tell_before x (notifiers_at notifiers.now x)) changed.now)) }
 {
     let mut vetoed = false;
     for place in 0..changed.len() {
@@ -100,7 +102,8 @@ pub(crate) fn tell_all_off(
     notifiers: &Notifiers,
     changed: &[Changed],
 ) -> Result<(), NoMemory>
-    ensures { IfOk result (λ done. steps.new.items ≡ steps.old.items ++ flat_map (λ x. tell_off x (notifiers_at notifiers.now x)) changed.now) }
+    ensures { IfOk result (λ done. steps.new.items
+        ≡ steps.old.items ++ flat_map (λ x. tell_off x (notifiers_at notifiers.now x)) changed.now) }
 {
     for place in 0..changed.len() {
         let one = changed_at(changed, place);

@@ -40,7 +40,7 @@ fn has_notifiers(notifiers: &Notifiers, rates: &[WalkRate]) -> bool
         .any(|entry| !notifiers.chain(entry.clock).is_empty())
 }
 
-// Finds the clocks that a plan changes, where a clock of its walk has a notifier; else it finds none,
+// Finds the clocks that a plan changes, if a clock of its walk has a notifier; else it finds none,
 // since none is told. Answers whether a clock has one.
 fn find_changed(
     passed: &mut Vec<Passed>,
@@ -68,18 +68,18 @@ fn find_changed(
 // whether a notice vetoes it.
 fn make_steps<V: View>(
     steps: &mut Vec<Micro>,
-    desc: &ValidDesc,
     tree: &Tree,
     view: &V,
     notifiers: &Notifiers,
     plan: &Plan,
     changed: &[Changed],
 ) -> Result<bool, NoMemory>
-    requires made { desc.now.defs ≡ tree.now.defs }
     requires seen { length tree.now.defs ≤ V.size view.now }
     requires there { AreThere tree.now.clocks plan.now.rates }
-    ensures steps { IfOk result (λ vetoed. steps.new.items ≡ steps_for tree.now (V.means view.now).prepared notifiers.now plan.now changed.now) }
-    ensures vetoed { IfOk result (λ vetoed. vetoed ≡ list_any is_veto (flat_map (λ x. tell_before x (notifiers_at notifiers.now x)) changed.now)) }
+    ensures steps { IfOk result (λ vetoed. steps.new.items
+        ≡ steps_for tree.now (V.means view.now).prepared notifiers.now plan.now changed.now) }
+    ensures vetoed { IfOk result (λ vetoed. vetoed
+        ≡ list_any is_veto (flat_map (λ x. tell_before x (notifiers_at notifiers.now x)) changed.now)) }
 {
     steps.clear();
     let vetoed = tell_all_before(steps, notifiers, changed)?;
@@ -87,7 +87,7 @@ fn make_steps<V: View>(
         tell_all_off(steps, notifiers, changed)?;
     } else {
         let chain = plan.chain.as_slice();
-        visit_all(steps, desc, tree, view, chain, plan.rates.as_slice())?;
+        visit_all(steps, tree, view, chain, plan.rates.as_slice())?;
         settle(steps, plan.set_parent, chain)?;
     }
     steps.push(Micro::End)?;
@@ -96,7 +96,8 @@ fn make_steps<V: View>(
 
 // The notices that a timeout of these steps may bring.
 fn extra_of(notifiers: &Notifiers, set_parent: bool, steps: &[Micro], changed: &[Changed]) -> u64
-    ensures { result ≡ (if set_parent && list_any is_raise steps.now then min (sum_by (λ x. length (notifiers_at notifiers.now x)) changed.now) (2 ^ 64 - 1) else 0) }
+    ensures { result ≡ (if set_parent && list_any is_raise steps.now
+        then min (sum_by (λ x. length (notifiers_at notifiers.now x)) changed.now) (2 ^ 64 - 1) else 0) }
 {
     if set_parent && raises(steps) {
         count_notifiers(notifiers, changed)
@@ -105,8 +106,8 @@ fn extra_of(notifiers: &Notifiers, set_parent: bool, steps: &[Micro], changed: &
     }
 }
 
-// How many entries steps come to, where it is known whether one of them visits a clock with a notifier:
-// where none does and no line of possible parents has a PLL, each step is one entry.
+// How many entries steps come to, told whether one of them visits a clock with a notifier: if none
+// does and no line of possible parents has a PLL, each step is one entry.
 fn weigh_steps(notifiers: &Notifiers, plls: u32, steps: &[Micro], tells: bool) -> u64
     requires { tells ≡ false → list_any (brings_notices notifiers.now) steps.now ≡ false }
     ensures { result ≡ min (sum_by (step_weight plls notifiers.now) steps.now) (2 ^ 64 - 1) }
@@ -118,13 +119,43 @@ fn weigh_steps(notifiers: &Notifiers, plls: u32, steps: &[Micro], tells: bool) -
 }
 
 /// Makes the script of a plan, in place of the one that was made last: the notices before the change;
-/// where one vetoes those that it is called off, else each clock of the walk with its move and its
+/// if one vetoes those that it is called off, else each clock of the walk with its move and its
 /// visit, and of a change of parent the settling of its clock; and the end.
 ///
-/// It costs what the walk and the notices cost. Where memory runs out, what is left of the script says
-/// nothing. What it is made of is said of each plan and each view; that it is the script of the
-/// definitions, of a plan from this tree, as planning gives it, and a view that tells which clocks a state
-/// holds prepared.
+/// It costs what the walk and the notices cost. If memory runs out, what is left of the script says
+/// nothing. What it is made of is said of each plan and each view. That it is the script of the
+/// definitions is said of a plan from this tree, as planning gives it, and of a view that tells which
+/// clocks a state holds prepared.
+pub fn script_of<V: View>(
+    list: &mut StepList,
+    tree: &Tree,
+    view: &V,
+    notifiers: &Notifiers,
+    plan: &Plan,
+) -> Result<(), NoMemory>
+    requires seen { length tree.now.defs ≤ V.size view.now }
+    requires there { AreThere tree.now.clocks plan.now.rates }
+    ensures steps { OnOk result (OfPlan tree.now (V.means view.now).prepared notifiers.now plan.now
+        (λ s. list.new.steps ≡ (planned_by s plan.now).steps)) }
+    ensures vetoed { OnOk result (OfPlan tree.now (V.means view.now).prepared notifiers.now plan.now
+        (λ s. list.new.vetoed ≡ (planned_by s plan.now).vetoed)) }
+    ensures extra { OnOk result (OfPlan tree.now (V.means view.now).prepared notifiers.now plan.now
+        (λ s. list.new.extra ≡ extra_of s plan.now)) }
+    ensures weight { OnOk result (OfPlan tree.now (V.means view.now).prepared notifiers.now plan.now
+        (λ s. list.new.weight ≡ weight_of s plan.now)) }
+    ensures made { OnOk result (IsMadeOf tree.now (V.means view.now).prepared notifiers.now plan.now list.new) }
+{
+    let _size = tree.len();
+    let _chains = notifiers.len();
+    let tells = find_changed(&mut list.passed, &mut list.changed, tree, notifiers, plan)?;
+    list.vetoed = make_steps(&mut list.steps, tree, view, notifiers, plan, &list.changed)?;
+    list.extra = extra_of(notifiers, plan.set_parent, &list.steps, &list.changed);
+    let weight = weigh_steps(notifiers, tree.plls(), &list.steps, tells);
+    list.weight = weight.saturating_add(list.extra);
+    Ok(())
+}
+
+/// Makes what `script_of` makes, of a description equal to the tree's own.
 pub fn script<V: View>(
     list: &mut StepList,
     desc: &ValidDesc,
@@ -136,26 +167,15 @@ pub fn script<V: View>(
     requires made { desc.now.defs ≡ tree.now.defs }
     requires seen { length tree.now.defs ≤ V.size view.now }
     requires there { AreThere tree.now.clocks plan.now.rates }
-    ensures steps { OnOk result (OfPlan tree.now (V.means view.now).prepared notifiers.now plan.now (λ s. list.new.steps ≡ (planned_by s plan.now).steps)) }
-    ensures vetoed { OnOk result (OfPlan tree.now (V.means view.now).prepared notifiers.now plan.now (λ s. list.new.vetoed ≡ (planned_by s plan.now).vetoed)) }
-    ensures extra { OnOk result (OfPlan tree.now (V.means view.now).prepared notifiers.now plan.now (λ s. list.new.extra ≡ extra_of s plan.now)) }
-    ensures weight { OnOk result (OfPlan tree.now (V.means view.now).prepared notifiers.now plan.now (λ s. list.new.weight ≡ weight_of s plan.now)) }
+    ensures steps { OnOk result (OfPlan tree.now (V.means view.now).prepared notifiers.now plan.now
+        (λ s. list.new.steps ≡ (planned_by s plan.now).steps)) }
+    ensures vetoed { OnOk result (OfPlan tree.now (V.means view.now).prepared notifiers.now plan.now
+        (λ s. list.new.vetoed ≡ (planned_by s plan.now).vetoed)) }
+    ensures extra { OnOk result (OfPlan tree.now (V.means view.now).prepared notifiers.now plan.now
+        (λ s. list.new.extra ≡ extra_of s plan.now)) }
+    ensures weight { OnOk result (OfPlan tree.now (V.means view.now).prepared notifiers.now plan.now
+        (λ s. list.new.weight ≡ weight_of s plan.now)) }
     ensures made { OnOk result (IsMadeOf tree.now (V.means view.now).prepared notifiers.now plan.now list.new) }
 {
-    let _size = desc.len();
-    let _chains = notifiers.len();
-    let tells = find_changed(&mut list.passed, &mut list.changed, tree, notifiers, plan)?;
-    list.vetoed = make_steps(
-        &mut list.steps,
-        desc,
-        tree,
-        view,
-        notifiers,
-        plan,
-        &list.changed,
-    )?;
-    list.extra = extra_of(notifiers, plan.set_parent, &list.steps, &list.changed);
-    let weight = weigh_steps(notifiers, tree.plls(), &list.steps, tells);
-    list.weight = weight.saturating_add(list.extra);
-    Ok(())
+    script_of(list, tree, view, notifiers, plan)
 }

@@ -14,7 +14,7 @@ use std::mem::replace;
 pub struct StepList {
     pub(crate) steps: Vec<Micro>,
     pub(crate) vetoed: bool,
-    /// The clocks whose rates change, where a clock of the walk has a notifier.
+    /// The clocks whose rates change, if a clock of the walk has a notifier.
     pub(crate) changed: Vec<Changed>,
     /// The clocks that the search for them has passed.
     pub(crate) passed: Vec<Passed>,

@@ -11,7 +11,7 @@ use crate::places::{changed_at, micro_at};
 use clk_base::Micro;
 use notifiers::Notifiers;
 
-// What a step weighs, where a line of possible parents has so many PLLs at most.
+// What a step weighs, if a line of possible parents has so many PLLs at most.
 fn step_weight(notifiers: &Notifiers, plls: u32, step: Micro) -> u64
     ensures { result ≡ step_weight plls notifiers.now step }
 {
@@ -23,7 +23,7 @@ fn step_weight(notifiers: &Notifiers, plls: u32, step: Micro) -> u64
     }
 }
 
-/// How many entries of a journal steps may come to together, and 2^64 - 1 where it is more. Takes no
+/// How many entries of a journal steps may come to together, and 2^64 - 1 if it is more. Takes no
 /// memory.
 pub fn weigh(notifiers: &Notifiers, plls: u32, steps: &[Micro]) -> u64
     ensures { result ≡ min (sum_by (step_weight plls notifiers.now) steps.now) (2 ^ 64 - 1) }
@@ -35,7 +35,7 @@ pub fn weigh(notifiers: &Notifiers, plls: u32, steps: &[Micro]) -> u64
     sum
 }
 
-/// How many notifiers the changed clocks have, and 2^64 - 1 where it is more.
+/// How many notifiers the changed clocks have, and 2^64 - 1 if it is more.
 pub(crate) fn count_notifiers(notifiers: &Notifiers, changed: &[Changed]) -> u64
     ensures { result ≡ min (sum_by (λ x. length (notifiers_at notifiers.now x)) changed.now) (2 ^ 64 - 1) }
 {

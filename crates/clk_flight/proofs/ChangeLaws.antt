@@ -345,6 +345,7 @@ gone_on-change f notifiers k m is first t =
       calls_off = is.calls_off;
       vetoed = is.vetoed;
       timed_out = is.timed_out;
+      missed = is.missed;
       aborts = λ may. is.aborts (times_out_before k may);
     }
 
@@ -388,5 +389,6 @@ found_none-change f notifiers k m is first seeks =
       calls_off = on.calls_off;
       vetoed = on.vetoed;
       timed_out = on.timed_out;
+      missed = on.missed;
       aborts = on.aborts;
     }

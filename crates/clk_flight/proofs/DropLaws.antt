@@ -57,6 +57,7 @@ fallen_last f s k y ys told left is = record {
   calls_off = is.calls_off;
   vetoed = is.vetoed;
   timed_out = is.timed_out;
+  missed = is.missed;
   aborts = λ may. is.aborts (times_out_before k may);
 } where
   same_place : nat_eq y y ≡ true
@@ -185,6 +186,7 @@ visited_still f s k c told old new is first tells was will = record {
   calls_off = is.calls_off;
   vetoed = is.vetoed;
   timed_out = is.timed_out;
+  missed = is.missed;
   aborts = λ may. is.aborts (times_out_before k (in_time may));
 } where
   nil : k.front ≡ []

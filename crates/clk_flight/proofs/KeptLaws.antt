@@ -4,7 +4,6 @@ use Rattle.std.specs.Prelude.{slice_get, is_none, if◌then◌else◌}
 use Rattle.std.proofs.lemmas.Bool.Decides.{nat_tests}
 use Rattle.clk_base.specs.declared.clock.ClockId.{ClockId}
 use Rattle.clk_base.specs.declared.call.Micro.{Micro}
-use Rattle.clk_base.specs.declared.call.Micro.TheVariants as micro
 use Rattle.clk_model.specs.Lists.{without}
 use Rattle.clk_model.specs.Step.{cut_short}
 use Rattle.clk_model.proofs.WeightLaws.{cut_short-le, without-le}
@@ -113,13 +112,13 @@ let_go-keeps f y ys front room after same are is kept =
     (subst (λ (fr : Front). IsKept (record f { raised = ys; front = fr }) room) (sym is)
     (with_raised-keeps f ys room (let fewer = without-le (y ∷ []) f.raised in let long = ap length are in omega arith) kept))
 
-pub timeout-keeps : (f : FlightState) (script left : List Micro) (front : Front) (room : ℕ) → f.extra < 2 ^ 64 → front ≡ falls f.raised 0 f.extra
+pub timeout-keeps : (f : FlightState) (script left : List Micro) (front : Front) (missed : Option ℕ) (room : ℕ) → f.extra < 2 ^ 64 → front ≡ falls f.raised 0 f.extra
     → left ≡ cut_short f.call f.left → IsKept f room
-    → IsKept (record f { timed_out = true; again = 0; extra = 0; front = front; script = script; left = left }) room
-timeout-keeps f script left front room fits is cut kept =
+    → IsKept (record f { timed_out = true; missed = missed; again = 0; extra = 0; front = front; script = script; left = left }) room
+timeout-keeps f script left front missed room fits is cut kept =
     let k = timed_out-keeps f room fits kept in
     let front_is : front ≡ falls f.raised 0 f.extra = is in
     let left_is : left ≡ cut_short f.call f.left = cut in
-    subst (λ (fr : Front). IsKept (record f { timed_out = true; again = 0; extra = 0; front = fr; script = script; left = left }) room) (sym is)
-    (subst (λ (ms : List Micro). IsKept (record f { timed_out = true; again = 0; extra = 0; front = falls f.raised 0 f.extra; script = script; left = ms }) room) (sym cut)
+    subst (λ (fr : Front). IsKept (record f { timed_out = true; missed = missed; again = 0; extra = 0; front = fr; script = script; left = left }) room) (sym is)
+    (subst (λ (ms : List Micro). IsKept (record f { timed_out = true; missed = missed; again = 0; extra = 0; front = falls f.raised 0 f.extra; script = script; left = ms }) room) (sym cut)
     (record { steps = k.steps; counted = k.counted; again = k.again; room = k.room }))

@@ -14,7 +14,7 @@ use Rattle.clk_base.specs.declared.call.Micro.TheVariants as micro
 use Rattle.clk_model.specs.State.{State, NotifierRow, Change}
 use Rattle.clk_model.specs.Chain.{clock_id}
 use Rattle.clk_model.specs.Notices.{abort_list}
-use Rattle.clk_model.specs.Step.{on, todo, taken, rest_of, left_behind, is_end, from_first, cut_short, sets_parent, timed_out, poll}
+use Rattle.clk_model.specs.Step.{on, todo, taken, rest_of, left_behind, is_end, from_first, cut_short, missed_by, sets_parent, timed_out, poll}
 use Rattle.clk_model.specs.Laws.Paced.{may_time_out, is_notice, is_scripted, ends_last, IsPaced}
 use Rattle.clk_model.proofs.Members.{both_left}
 use Rattle.clk_model.proofs.WeightLaws.{abort_notices}
@@ -145,6 +145,7 @@ locked f s k y n None is = record {
   calls_off = is.calls_off;
   vetoed = is.vetoed;
   timed_out = is.timed_out;
+  missed = is.missed;
   aborts = λ may. is.aborts (times_out_before k may);
 }
 locked f s k y n (Some x) is = record {
@@ -165,6 +166,7 @@ locked f s k y n (Some x) is = record {
   calls_off = is.calls_off;
   vetoed = is.vetoed;
   timed_out = is.timed_out;
+  missed = is.missed;
   aborts = λ may. is.aborts (times_out_before k may);
 }
 
@@ -190,6 +192,7 @@ asked_again f s k y n again is first more = record {
   calls_off = is.calls_off;
   vetoed = is.vetoed;
   timed_out = is.timed_out;
+  missed = is.missed;
   aborts = λ may. is.aborts (first_may (todo k) (micro.Poll y) first refl);
 } where
   same : (o : Option ClockId) → length (micro.Poll y ∷ option_map_or (λ x. micro.Raise x ∷ []) o []) ≡ 1 + option_map_or (λ x. 1) o 0
@@ -202,6 +205,7 @@ late : (f : FlightState) (s : State) (k : Change) (y : ClockId) (n : ℕ) (again
     → IsChange s.notifiers (timed_out_in (polling f y n again)) (record (taken k) {
       polls = 0;
       timed_out = true;
+      missed = missed_by k.call (left_behind k.front k.left);
       again = 0;
       extra = 0;
       front = map (λ z. micro.Fall (clock_id z)) k.raised ++ aborts_over s.notifiers k;
@@ -232,6 +236,7 @@ late f s k y n again is first last = record {
   calls_off = ap (λ (ms : List Micro). list_all is_notice (map called_off ms)) (none_of f.script);
   vetoed = is.vetoed;
   timed_out = refl;
+  missed = ap (λ (what : Sleeping). missed_by what (left_behind k.front k.left)) is.call ∙ ap (missed_by f.call) left_is;
   aborts = λ may.
       no_aborts_left k.call k.raised (aborts_over s.notifiers k) (abort_list (record { before = k.before; outcome = k.outcome }) s.notifiers k.changing) (left_behind k.front k.left)
       (aborts_over_noticed s.notifiers k) (ap ends_last (left_is ∙ sym is.left) ∙ last) may

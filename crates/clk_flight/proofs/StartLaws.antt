@@ -18,7 +18,7 @@ use Rattle.clk_model.specs.Notices.{Rates, vetoes, notifiers_of, until_veto, pre
 use Rattle.clk_model.specs.Holders.{prepared}
 use Rattle.clk_model.specs.Round.{wiring, rate_in}
 use Rattle.clk_model.specs.Walk.{walk, changing, rates_in}
-use Rattle.clk_model.specs.Script.{planned, move_of, is_raise, notices_of}
+use Rattle.clk_model.specs.Script.{planned, visit_of, move_of, is_raise, notices_of}
 use Rattle.clk_model.specs.Begin.{begun, reparenting}
 use Rattle.clk_model.specs.Step.{sets_parent}
 use Rattle.clk_model.specs.Laws.Paced.{may_time_out, is_notice}
@@ -165,7 +165,7 @@ parent_clocks s c p = changing s.order (wiring s) (parent_steps s c p)
 
 abbrev parent_tail : State → ℕ → ℕ → List Micro
 parent_tail s c p =
-    flat_map (λ a. move_of s.defs s.clocks (prepared s) (parent_steps s c p) a ++ micro.Visit (clock_id a) ∷ []) (walk s.order (wiring s) (parent_steps s c p)) ++ micro.Settle (clock_id c) ∷ []
+    flat_map (λ a. move_of s.defs s.clocks (prepared s) (parent_steps s c p) a ++ visit_of s.defs s.clocks (parent_steps s c p) a) (walk s.order (wiring s) (parent_steps s c p)) ++ micro.Settle (clock_id c) ∷ []
 
 parent_script : (s : State) (d : ℕ) (what : Sleeping) (c p : ℕ)
     → (reparenting s d what c p).left
@@ -237,16 +237,17 @@ pub record IsFirst (k : Change) : Type 0 where
   pub again : k.again ≡ 0
   pub raised : k.raised ≡ []
   pub timed_out : k.timed_out ≡ false
+  pub missed : k.missed ≡ None
 
 starts_ahead : (s n : State) (d : ℕ) (what : Sleeping) (k : Change) → Starts s d what n k → IsAhead n.notifiers k × IsFirst k
-starts_ahead s n d what k (raising_handle h row is at) = (plain_ahead s.notifiers _ refl (ap sets_parent is), record { front = refl; polls = refl; again = refl; raised = refl; timed_out = refl })
-starts_ahead s n d what k (lowering_handle h row is at gives_up) = (plain_ahead s.notifiers _ refl (ap sets_parent is), record { front = refl; polls = refl; again = refl; raised = refl; timed_out = refl })
+starts_ahead s n d what k (raising_handle h row is at) = (plain_ahead s.notifiers _ refl (ap sets_parent is), record { front = refl; polls = refl; again = refl; raised = refl; timed_out = refl; missed = refl })
+starts_ahead s n d what k (lowering_handle h row is at gives_up) = (plain_ahead s.notifiers _ refl (ap sets_parent is), record { front = refl; polls = refl; again = refl; raised = refl; timed_out = refl; missed = refl })
 starts_ahead s n d what k (planning m number row over x ks range planned_ at is rates) =
-    (plain_ahead m.notifiers _ refl (no_parent_set what rates), record { front = refl; polls = refl; again = refl; raised = refl; timed_out = refl })
+    (plain_ahead m.notifiers _ refl (no_parent_set what rates), record { front = refl; polls = refl; again = refl; raised = refl; timed_out = refl; missed = refl })
 starts_ahead s n d what k (reparents number row p sets at away mux m root) =
-    (parent_ahead s d what row.clock.0 p sets, record { front = refl; polls = refl; again = refl; raised = refl; timed_out = refl })
-starts_ahead s n d what k (probing c is free) = (plain_ahead s.notifiers _ refl (ap sets_parent is), record { front = refl; polls = refl; again = refl; raised = refl; timed_out = refl })
-starts_ahead s n d what k (sweeping is) = (plain_ahead s.notifiers _ refl (ap sets_parent is), record { front = refl; polls = refl; again = refl; raised = refl; timed_out = refl })
+    (parent_ahead s d what row.clock.0 p sets, record { front = refl; polls = refl; again = refl; raised = refl; timed_out = refl; missed = refl })
+starts_ahead s n d what k (probing c is free) = (plain_ahead s.notifiers _ refl (ap sets_parent is), record { front = refl; polls = refl; again = refl; raised = refl; timed_out = refl; missed = refl })
+starts_ahead s n d what k (sweeping is) = (plain_ahead s.notifiers _ refl (ap sets_parent is), record { front = refl; polls = refl; again = refl; raised = refl; timed_out = refl; missed = refl })
 
 starts_as : (notifiers : List NotifierRow) (start : Start) (k : Change) → IsAhead notifiers k → IsFirst k → IsPlanned start k → StartsAs notifiers start k
 starts_as notifiers start k ahead first is = record {
@@ -263,6 +264,7 @@ starts_as notifiers start k ahead first is = record {
   calls_off = sym (ap (λ (ms : List Micro). list_all is_notice (map called_off ms)) taken_) ∙ ahead.calls_off;
   vetoed = is.vetoed;
   timed_out = first.timed_out;
+  missed = first.missed;
   aborts = λ may. ahead.aborts may ∙ ap (map called_off) taken_;
 } where
   taken_ : take k.extra k.left ≡ take start.extra start.script.items

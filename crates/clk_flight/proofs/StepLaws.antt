@@ -115,6 +115,7 @@ raised_change f notifiers k x y more comes own first is same =
         calls_off = is.calls_off;
         vetoed = is.vetoed;
         timed_out = is.timed_out;
+        missed = is.missed;
         aborts = λ e. is.aborts may_before;
       }
       each false = record {
@@ -135,6 +136,7 @@ raised_change f notifiers k x y more comes own first is same =
         calls_off = is.calls_off;
         vetoed = is.vetoed;
         timed_out = is.timed_out;
+        missed = is.missed;
         aborts = λ e. is.aborts may_before;
       }
 
@@ -223,6 +225,7 @@ lowered-change f x more own s k y is lines first still lowest is_more =
         calls_off = is.calls_off;
         vetoed = is.vetoed;
         timed_out = is.timed_out;
+        missed = is.missed;
         aborts = λ e. is.aborts (times_out_before k (no_time (sym (ap (λ (ms : List Micro). list_any may_time_out ((micro.Lower x ∷ ms) ++ left_behind k.front k.left)) none) ∙ e)));
       }
       each false = record {
@@ -243,5 +246,6 @@ lowered-change f x more own s k y is lines first still lowest is_more =
         calls_off = on_.calls_off;
         vetoed = on_.vetoed;
         timed_out = on_.timed_out;
+        missed = on_.missed;
         aborts = on_.aborts;
       }

@@ -1,5 +1,5 @@
 -- How a change in flight begins.
-use Rattle.std.specs.Prelude.{◌≡◌, ℕ, List, [], true, false, map, take, length, ◌≤◌}
+use Rattle.std.specs.Prelude.{◌≡◌, ℕ, List, [], true, false, None, map, take, length, ◌≤◌}
 use Rattle.std.specs.List.{list_any, list_all}
 use Rattle.clk_model.specs.State.{NotifierRow, Change}
 use Rattle.clk_model.specs.Laws.Paced.{may_time_out, is_notice}
@@ -23,6 +23,7 @@ begun start plls = record {
   extra = start.extra;
   vetoed = start.vetoed;
   timed_out = false;
+  missed = None;
   plls = plls;
 }
 
@@ -41,5 +42,6 @@ pub record StartsAs (notifiers : List NotifierRow) (start : Start) (k : Change) 
   pub calls_off : list_all is_notice (map called_off (take start.extra start.script.items)) ≡ true
   pub vetoed : k.vetoed ≡ start.vetoed
   pub timed_out : k.timed_out ≡ false
+  pub missed : k.missed ≡ None
   -- where a step may time out, the notices that this calls off stand at the head of the script
   pub aborts : list_any may_time_out k.left ≡ true → aborts_over notifiers k ≡ map called_off (take start.extra start.script.items)

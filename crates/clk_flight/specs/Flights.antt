@@ -35,6 +35,8 @@ pub record FlightState : Type 0 where
   pub extra : ℕ
   pub vetoed : Bool
   pub timed_out : Bool
+  -- the clock that isn't set after a timeout
+  pub missed : Option ℕ
   -- the greatest number of PLLs on a line of possible parents
   pub plls : ℕ
 
@@ -101,6 +103,7 @@ pub record IsChange (notifiers : List NotifierRow) (f : FlightState) (k : Change
   pub calls_off : list_all is_notice (map called_off (take f.extra f.script)) ≡ true
   pub vetoed : k.vetoed ≡ f.vetoed
   pub timed_out : k.timed_out ≡ f.timed_out
+  pub missed : k.missed ≡ f.missed
   -- what a timeout calls off stands at the head of the script, as long as a step may time out
   pub aborts : list_any may_time_out (todo k) ≡ true → aborts_over notifiers k ≡ map called_off (take f.extra f.script)
 

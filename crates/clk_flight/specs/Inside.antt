@@ -1,5 +1,6 @@
 -- What a flight's fields stand for.
 use Rattle.clk_flight.specs.declared.flight.Flight.TheInside.{Inside}
+use Rattle.std.specs.Option.{option_map}
 use Rattle.clk_flight.specs.Flights.{FlightState}
 use Rattle.clk_flight.specs.Kept.{IsKept}
 
@@ -18,6 +19,7 @@ flight_of f = record {
   extra = f.extra;
   vetoed = f.vetoed;
   timed_out = f.timed_out;
+  missed = option_map (λ c. c.0) f.missed;
   plls = f.plls;
 }
 

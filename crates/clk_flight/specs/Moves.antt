@@ -3,7 +3,7 @@ use Rattle.std.specs.Prelude.{ℕ, ◌+◌, ◌-◌, ◌&&◌, List, [], ◌∷�
 use Rattle.std.specs.Option.{option_map_or}
 use Rattle.clk_base.specs.declared.clock.ClockId.{ClockId}
 use Rattle.clk_model.specs.Lists.{without}
-use Rattle.clk_model.specs.Step.{cut_short, most_polls}
+use Rattle.clk_model.specs.Step.{cut_short, missed_by, most_polls}
 use Rattle.clk_flight.specs.declared.front.Front.{Front}
 use Rattle.clk_flight.specs.declared.front.Front.TheVariants.{Empty, Poll, Raise, Lower, Falls}
 use Rattle.clk_flight.specs.Fronts.{falls, posts, front_behind, script_behind}
@@ -55,6 +55,7 @@ lowered_once f x more = record f {
 abbrev pub timed_out_in : FlightState → FlightState
 timed_out_in f = record f {
   timed_out = true;
+  missed = missed_by f.call f.left;
   again = 0;
   extra = 0;
   front = falls f.raised 0 f.extra;

@@ -43,6 +43,8 @@ pub struct Flight {
     extra: usize,
     vetoed: bool,
     timed_out: bool,
+    /// The clock that isn't set after a timeout. Its visit comes all the same.
+    missed: Option<ClockId>,
     /// The greatest number of PLLs on a line of possible parents.
     plls: u32,
 }
@@ -106,6 +108,7 @@ impl Flight {
             extra: 0,
             vetoed: false,
             timed_out: false,
+            missed: None,
             plls: 0,
         }
     }
@@ -133,6 +136,7 @@ impl Flight {
         self.extra = start.extra;
         self.vetoed = start.vetoed;
         self.timed_out = false;
+        self.missed = None;
         self.plls = plls;
         Ok(before)
     }
@@ -211,5 +215,12 @@ impl Flight {
         ensures { result ≡ self.now.timed_out }
     {
         self.timed_out
+    }
+
+    /// The clock that isn't set after a timeout.
+    pub fn missed(&self) -> Option<ClockId>
+        ensures { option_map (λ c. c.0) result ≡ self.now.missed }
+    {
+        self.missed
     }
 }

@@ -1,11 +1,12 @@
 //! A script and the place at which it stands.
 
 ghost use Rattle.std.specs.Prelude.{◌≡◌, ◌≤◌, ◌^◌, [], slice_get, sum_by, IfSome, IfNone};
-ghost use Rattle.clk_model.specs.Step.{cut_short, rest_of};
+ghost use Rattle.std.specs.Option.{option_map};
+ghost use Rattle.clk_model.specs.Step.{cut_short, missed_by, rest_of};
 ghost use Rattle.clk_flight.specs.Kept.{room_for};
 
-use crate::cut::cut;
-use clk_base::{Micro, Sleeping};
+use crate::cut::{Remainder, cut, keeps_visit, lets, missed};
+use clk_base::{ClockId, Micro, Sleeping};
 use std::alloc::Global;
 use std::marker::Model;
 use std::mem::replace;
@@ -16,15 +17,18 @@ use std::mem::replace;
 pub(crate) struct Script {
     steps: Vec<Micro>,
     at: usize,
+    // The clock of a visit that comes next by itself: a timeout has dropped what keeps a clock running
+    // for it.
+    alone: Option<ClockId>,
 }
 
 impl Model for Script {
-    ghost use Rattle.std.specs.Prelude.{◌≤◌, drop, length};
-    ghost use Rattle.clk_flight.specs.Parts.{ScriptState};
+    ghost use Rattle.std.specs.Prelude.{◌≤◌, ◌++◌, drop, length};
+    ghost use Rattle.clk_flight.specs.Parts.{ScriptState, visit_alone};
 
     ghost Value = { ScriptState };
 
-    ghost view = { λ s. record { whole = s.steps.items; left = drop s.at s.steps.items } };
+    ghost view = { λ s. record { whole = s.steps.items; left = visit_alone s.alone ++ drop s.at s.steps.items } };
 
     ghost invariant = { λ s. s.at ≤ length s.steps.items };
 }
@@ -53,6 +57,7 @@ impl Script {
         Script {
             steps: Vec::new(alloc),
             at: 0,
+            alone: None,
         }
     }
 
@@ -62,6 +67,7 @@ impl Script {
         ensures whole { self.new.whole ≡ steps.items }
     {
         self.at = 0;
+        self.alone = None;
         replace(&mut self.steps, steps)
     }
 
@@ -69,6 +75,9 @@ impl Script {
     pub(crate) fn first(&self) -> Option<Micro>
         ensures { result ≡ slice_get self.now.left 0 }
     {
+        if let Some(clock) = self.alone {
+            return Some(Micro::Visit(clock));
+        }
         self.steps.get(self.at).copied()
     }
 
@@ -84,18 +93,31 @@ impl Script {
         ensures left { self.new.left ≡ rest_of self.old.left }
         ensures whole { self.new.whole ≡ self.old.whole }
     {
-        if self.at < self.steps.len() {
-            self.at += 1;
+        match self.alone {
+            Some(_) => self.alone = None,
+            None => {
+                if self.at < self.steps.len() {
+                    self.at += 1;
+                }
+            }
         }
     }
 
-    /// The call has timed out.
-    pub(crate) fn cut(&mut self, call: Sleeping)
+    /// The call has timed out. Answers the clock that isn't set now, if there is one: its visit comes
+    /// all the same.
+    pub(crate) fn cut(&mut self, call: Sleeping) -> Option<ClockId>
         ensures left { self.new.left ≡ cut_short call self.old.left }
         ensures whole { self.new.whole ≡ self.old.whole }
+        ensures missed { option_map (λ c. c.0) result ≡ missed_by call self.old.left }
     {
-        let dropped = cut(call, &self.steps[self.at..]);
-        self.at += dropped;
+        if self.alone.is_some() && keeps_visit(call) {
+            self.at += lets(&self.steps[self.at..]);
+        } else {
+            let Remainder { alone, dropped } = cut(call, &self.steps[self.at..]);
+            self.alone = alone;
+            self.at += dropped;
+        }
+        missed(call, self.alone)
     }
 
     /// Nothing is left.
@@ -104,5 +126,6 @@ impl Script {
         ensures whole { self.new.whole ≡ self.old.whole }
     {
         self.at = self.steps.len();
+        self.alone = None;
     }
 }

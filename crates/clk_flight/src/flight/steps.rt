@@ -162,7 +162,7 @@ impl Flight {
     {
         if is_last_no(self.front, yes) {
             self.front = falls(self.raised.len(), 0, self.extra);
-            self.script.cut(self.call);
+            self.missed = self.script.cut(self.call);
             self.again = 0;
             self.extra = 0;
             self.timed_out = true;

@@ -6,5 +6,5 @@ use Rattle.change_walk.proofs.moves.move_of.Given as goal
 
 abbrev pub invariant-loop-place : goal.invariant-loop-place
 invariant-loop-place g l =
-    l.steps.items ++ move_of l.desc.defs l.tree.clocks (g.V.View.means l.view).prepared (drop l.place (chain_of l.chain)) l.clock.0
-    ≡ l.fn.steps.items ++ move_of l.desc.defs l.tree.clocks (g.V.View.means l.view).prepared (chain_of l.chain) l.clock.0
+    l.steps.items ++ move_of l.tree.defs l.tree.clocks (g.V.View.means l.view).prepared (drop l.place (chain_of l.chain)) l.clock.0
+    ≡ l.fn.steps.items ++ move_of l.tree.defs l.tree.clocks (g.V.View.means l.view).prepared (chain_of l.chain) l.clock.0

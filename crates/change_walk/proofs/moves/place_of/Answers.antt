@@ -13,9 +13,9 @@ use Rattle.change_walk.proofs.moves.place_of.Goals as goal
 
 pub overflow_cast-result : goal.overflow_cast-result
 overflow_cast-result c =
-    let count : length c.as_slice.result.now ≡ length (parents_of c.args.desc.now.defs c.args.clock.0) =
+    let count : length c.as_slice.result.now ≡ length (parents_of c.args.tree.now.defs c.args.clock.0) =
     sym (length-map c.as_slice.result.now (λ (p : ClockId). p.0)) ∙ ap length (c.as_slice.ensures ∙ ap (λ (d : ClockDef). d.parents) c.def.ensures.def) in
-    let few = parents_few c.args.desc.now.defs (c.def.ensures.valid.rules counts) c.args.clock.0 c.requires in
+    let few = parents_few c.args.tree.now.defs (c.def.ensures.valid.rules counts) c.args.clock.0 c.requires in
     let inside = c.place_in-place.ensures.few in
     omega arith
 

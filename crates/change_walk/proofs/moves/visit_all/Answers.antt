@@ -5,6 +5,6 @@ use Rattle.change_walk.proofs.moves.visit_all.Goals as goal
 
 pub loop-place-preserved : goal.loop-place-preserved
 loop-place-preserved g c =
-    visited_on c.args.desc.now.defs c.args.tree.now.clocks (g.V.View.means c.args.view.now).prepared (chain_of c.args.chain.now) c.args.rates.now c.loop-place.place c.rate_at.result
-    c.loop-place.steps.items c.move_of.new.steps.items c.push.new.self.items _
-    c.rate_at.ensures.at c.in_ok-move_of.ensures c.in_ok-push.ensures.items c.loop-place.invariant
+    visited_on c.args.tree.now.defs c.args.tree.now.clocks (g.V.View.means c.args.view.now).prepared (chain_of c.args.chain.now) c.args.rates.now c.loop-place.place c.rate_at.result
+    c.loop-place.steps.items c.move_of.new.steps.items c.visit.new.steps.items _
+    c.rate_at.ensures.at c.in_ok-move_of.ensures c.in_ok-visit.ensures c.loop-place.invariant

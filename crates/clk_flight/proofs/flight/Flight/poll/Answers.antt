@@ -1,6 +1,7 @@
 -- The falls need no room, and the script is no longer than it was; the flight is what the poll makes of it, so it is the change that
 -- the definitions have.
 use Rattle.std.proofs.Common.{arith, rules, sym, subst}
+use Rattle.std.specs.Option.{option_map}
 use Rattle.clk_flight.specs.Inside.{flight_of}
 use Rattle.clk_flight.specs.Flights.{FlightState}
 use Rattle.clk_flight.specs.Kept.{IsKept}
@@ -12,8 +13,8 @@ use Rattle.clk_flight.proofs.flight.Flight.poll.Goals as goal
 
 pub invariant_of-self : goal.invariant_of-self
 invariant_of-self c =
-    timeout-keeps (flight_of c.self.inside) c.cut.new.self.whole c.cut.new.self.left c.falls-self-inside.result c.self.inside.raised.room
-    (omega (arith, c.self.ranges)) (c.falls-self-inside.ensures.front c.self.inside.raised.plls c.len.ensures) c.cut.ensures.left c.self.invariant
+    timeout-keeps (flight_of c.self.inside) c.cut-self-inside.new.self.whole c.cut-self-inside.new.self.left c.falls-self-inside.result (option_map (λ x. x.0) c.cut-self-inside.result) c.self.inside.raised.room
+    (omega (arith, c.self.ranges)) (c.falls-self-inside.ensures.front c.self.inside.raised.plls c.len.ensures) c.cut-self-inside.ensures.left c.self.invariant
 
 pub returns-then-is_last_no-clause-flight : goal.returns-then-is_last_no-clause-flight
 returns-then-is_last_no-clause-flight c = search rules

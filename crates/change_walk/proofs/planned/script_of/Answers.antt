@@ -1,9 +1,8 @@
 -- The parts of a script are those of the plan.
-use Rattle.std.proofs.Common.{◌∙◌, ◌+◌, ◌-◌, ◌^◌, ◌&&◌, ℕ, List, cond, sym, ap, min, subst}
+use Rattle.std.proofs.Common.{◌∙◌, ◌+◌, ◌-◌, ◌^◌, ◌&&◌, ℕ, List, cond, sym, ap, min}
 use Rattle.std.specs.Prelude.{flat_map, sum_by}
 use Rattle.std.specs.List.{list_any}
 use Rattle.clk_base.specs.declared.call.Micro.{Micro}
-use Rattle.clk_base.specs.Valid.{IsValid}
 use Rattle.clk_model.specs.Notices.{is_veto}
 use Rattle.clk_model.specs.Script.{is_raise, plls}
 use Rattle.change_walk.specs.declared.changes.Changed.{Changed}
@@ -13,14 +12,14 @@ use Rattle.change_walk.specs.Weights.{step_weight}
 use Rattle.change_walk.proofs.Alike.{steps_alike}
 use Rattle.change_walk.proofs.Made.{IsGivenWith, cut_either, cut_once, is_made, told_extra, told_steps, told_vetoed, told_weight}
 use Rattle.change_walk.proofs.Plain.{steps_plain}
-use Rattle.change_walk.proofs.planned.script.Given as given
-use Rattle.change_walk.proofs.planned.script.Goals as goal
+use Rattle.change_walk.proofs.planned.script_of.Given as given
+use Rattle.change_walk.proofs.planned.script_of.Goals as goal
 
 -- what is given with the script
-given_here : (g : given.Over) (c : goal.After-list-4-1 g) → IsGivenWith c.args.desc.now.words c.args.tree.now c.args.notifiers.now c.args.plan.now
+given_here : (g : given.Over) (c : goal.After-list-4-1 g) → IsGivenWith c.args.tree.now.words c.args.tree.now c.args.notifiers.now c.args.plan.now
 given_here g c = record {
   stands = c.plls.ensures.stands;
-  valid = subst (IsValid c.args.desc.now.words) c.requires.made c.len-size.ensures.valid;
+  valid = c.len-size.ensures.valid;
   there = c.requires.there;
   chains = c.len-chains.ensures.kept;
 }
