@@ -3,7 +3,6 @@ use Rattle.std.proofs.Common.{◌≡◌, ℕ, ◌+◌, ◌&&◌, ◌||◌, Bool,
 use Rattle.std.proofs.Math.Path.{fun_ext}
 use Rattle.std.specs.Prelude.{sum_by, filter, slice_index}
 use Rattle.std.proofs.lemmas.List.Sums.{sum_by-cons}
-use Rattle.clk_base.specs.Description.{parents_of}
 use Rattle.clk_base.specs.Flags.{sets_rate_gate}
 use Rattle.clk_base.specs.Levels.{depth}
 use Rattle.clk_model.specs.declared.row.ClockRow.{ClockRow}
@@ -21,7 +20,8 @@ use Rattle.clk_model.proofs.OnceLaws.{is_in-append, filter_passes, filter_keeps,
 use Rattle.clk_model.proofs.WalkLaws.{either_way, is_at_same, at_same}
 use Rattle.counts_core.specs.Counted.{CountState, AreCounts, is_guarded, protect_sum}
 use Rattle.counts_core.specs.Standing.{StandsFor}
-use Rattle.counts_core.proofs.Definitions.{own_within}
+use Rattle.counts_core.specs.Sums.{ups_in}
+use Rattle.counts_core.proofs.Definitions.{own_within, up_listed}
 use Rattle.counts_core.proofs.Holding.{sum_held}
 use Rattle.counts_core.proofs.Standing.{tells_holds, tells_counts, positive_both, gate_within}
 use Rattle.core_parts.specs.Free.{sole_parent, freed, free_seen}
@@ -60,8 +60,7 @@ module _ (k : CountState) (s : State) (keeps : AreCounts k) (stands : StandsFor 
   prepares_some : (c : ℕ) → nat_lt 0 (prepare_count s c) ≡ prepared s c
   prepares_some c =
       ap (nat_lt 0) (sym (tells_counts k s keeps stands order c).prepares)
-      ∙ sum_held (parents_of k.defs) k.links (slice_index k.prepares) (record { up = keeps.possible; ends = keeps.lines })
-      (λ h some. own_within k.links k.prepares h (keeps.prepares ∙ sym keeps.links) some) c
+      ∙ sum_held k.links (slice_index k.prepares) keeps.lines (λ h some. own_within k.links k.prepares h keeps.prepares some) c
       ∙ (tells_holds k s keeps stands c).prepared
 
   gates_in : (c : ℕ) → nat_lt 0 (cond (sets_rate_gate s.defs c) (prepare_count s c) 0) ≡ is_in c (filter (λ d. sets_rate_gate s.defs d && prepared s d) (count_from 0 (length s.defs)))
@@ -83,10 +82,10 @@ module _ (k : CountState) (s : State) (keeps : AreCounts k) (stands : StandsFor 
       ∙ ap (λ (t : Bool). is_in c (clocks_of is_exclusive s.handles) || t) (gates_in c)
       ∙ sym (is_in-append c (clocks_of is_exclusive s.handles) (filter (λ d. sets_rate_gate s.defs d && prepared s d) (count_from 0 (length s.defs))))
 
-  links_up : (c p : ℕ) → link_in s.clocks c ≡ Some p → is_in p (parents_of k.defs c) ≡ true
-  links_up c p at = keeps.possible c p (sym (stands.links c) ∙ at)
+  links_up : (c p : ℕ) → link_in s.clocks c ≡ Some p → is_in p (ups_in k.links c) ≡ true
+  links_up c p at = up_listed k.links c p (sym (stands.links c) ∙ at)
 
-  counting : Counting (parents_of k.defs) (link_in s.clocks) (protect_holders s) (children s.order s.clocks) (own_part s) (protect_count s)
+  counting : Counting (ups_in k.links) (link_in s.clocks) (protect_holders s) (children s.order s.clocks) (own_part s) (protect_count s)
   counting = record {
     up_ = links_up;
     ends = keeps.lines;

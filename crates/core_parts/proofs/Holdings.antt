@@ -1,11 +1,11 @@
 -- Counts that stand for a state, where a handle of it changes.
 use Rattle.std.proofs.Common.{◌≡◌, ℕ, ◌+◌, ◌<◌, ◌&&◌, Bool, true, false, cond, List, [], ◌∷◌, ◌++◌, Option, Some, None, refl, sym, ap, subst, ◌∙◌, arith, length, set, nat_eq}
-use Rattle.std.specs.Prelude.{sum_by, count_by, filter, slice_index, slice_set}
+use Rattle.std.specs.Prelude.{sum_by, count_by, filter, slice_index, slice_index_or, slice_set}
 use Rattle.std.proofs.lemmas.List.Sums.{sum_by-cons}
 use Rattle.std.proofs.lemmas.List.{get_or-set_same, get_or-set_other}
 use Rattle.clk_base.specs.declared.clock.ClockId.{ClockId}
 use Rattle.clk_base.specs.Description.{Description}
-use Rattle.clk_base.specs.Flags.{is_critical}
+use Rattle.clk_base.specs.Flags.{is_critical, sets_rate_gate}
 use Rattle.clk_model.specs.declared.row.ClockRow.{ClockRow}
 use Rattle.clk_model.specs.declared.row.HandleRow.{HandleRow}
 use Rattle.clk_model.specs.Lists.{present}
@@ -125,7 +125,8 @@ own_all count defs clocks handles holds c = sum_on count handles c + cond (is_cr
 pub StandsFor-same : (k : CountState) (s t : State) → StandsFor k s → t.defs ≡ s.defs → t.clocks ≡ s.clocks → t.handles ≡ s.handles → t.prepare_holds ≡ s.prepare_holds
     → t.enable_holds ≡ s.enable_holds → StandsFor k t
 StandsFor-same k s t stands defs clocks handles prepare_holds enable_holds = record {
-  defs = stands.defs ∙ sym defs;
+  size = stands.size ∙ ap (λ (ds : Description). length ds) (sym defs);
+  gated = λ c. stands.gated c ∙ ap (λ (ds : Description). sets_rate_gate ds c) (sym defs);
   links = subst (λ (cs : List ClockRow). HasLinks cs k.links) (sym clocks) stands.links;
   enables = λ c. stands.enables c ∙ sym (own_same (λ h. h.enables) t.enable_holds s.enable_holds enable_holds c);
   prepares = λ c. stands.prepares c ∙ sym (own_same (λ h. h.prepares) t.prepare_holds s.prepare_holds prepare_holds c);
@@ -147,7 +148,8 @@ StandsFor-held k s t stands defs clocks handles prepare_holds enable_holds =
     let same : StandsFor k (record t { prepare_holds = s.prepare_holds; enable_holds = s.enable_holds }) =
     StandsFor-same k s (record t { prepare_holds = s.prepare_holds; enable_holds = s.enable_holds }) stands defs clocks handles refl refl in
     record {
-      defs = same.defs;
+      size = same.size;
+      gated = same.gated;
       links = same.links;
       enables = λ c. let was = same.enables c in let held = enable_holds c in omega arith;
       prepares = λ c. let was = same.prepares c in let held = prepare_holds c in omega arith;
@@ -155,15 +157,16 @@ StandsFor-held k s t stands defs clocks handles prepare_holds enable_holds =
     }
 
 -- so do counts with other holders, where the holds differ by as much
-pub StandsFor-moved : (k k' : CountState) (s t : State) → StandsFor k s → k'.defs ≡ k.defs → k'.links ≡ k.links → k'.exclusives ≡ k.exclusives → t.defs ≡ s.defs → t.clocks ≡ s.clocks → t.handles ≡ s.handles
+pub StandsFor-moved : (k k' : CountState) (s t : State) → StandsFor k s → k'.gated ≡ k.gated → k'.links ≡ k.links → k'.exclusives ≡ k.exclusives → t.defs ≡ s.defs → t.clocks ≡ s.clocks → t.handles ≡ s.handles
     → ((c : ℕ) → slice_index k'.enables c + count_by (λ h. nat_eq h c) s.enable_holds ≡ slice_index k.enables c + count_by (λ h. nat_eq h c) t.enable_holds)
     → ((c : ℕ) → slice_index k'.prepares c + count_by (λ h. nat_eq h c) s.prepare_holds ≡ slice_index k.prepares c + count_by (λ h. nat_eq h c) t.prepare_holds)
     → StandsFor k' t
-StandsFor-moved k k' s t stands made linked exclusives defs clocks handles enables prepares =
+StandsFor-moved k k' s t stands gates linked exclusives defs clocks handles enables prepares =
     let same : StandsFor k (record t { prepare_holds = s.prepare_holds; enable_holds = s.enable_holds }) =
     StandsFor-same k s (record t { prepare_holds = s.prepare_holds; enable_holds = s.enable_holds }) stands defs clocks handles refl refl in
     record {
-      defs = made ∙ same.defs;
+      size = ap (λ (ls : List (Option ClockId)). length ls) linked ∙ same.size;
+      gated = λ c. ap (λ (bs : List Bool). slice_index_or bs c false) gates ∙ same.gated c;
       links = subst (λ (ls : List (Option ClockId)). HasLinks t.clocks ls) (sym linked) same.links;
       enables = λ c. let was = same.enables c in let held = enables c in omega arith;
       prepares = λ c. let was = same.prepares c in let held = prepares c in omega arith;
@@ -171,10 +174,11 @@ StandsFor-moved k k' s t stands made linked exclusives defs clocks handles enabl
     }
 
 -- so do counts with other links for a state that has these, where the same clocks are registered
-pub StandsFor-linked : (k k' : CountState) (s t : State) → StandsFor k s → k'.defs ≡ k.defs → k'.enables ≡ k.enables → k'.prepares ≡ k.prepares → k'.exclusives ≡ k.exclusives → HasLinks t.clocks k'.links
+pub StandsFor-linked : (k k' : CountState) (s t : State) → StandsFor k s → k'.gated ≡ k.gated → length k'.links ≡ length k.links → k'.enables ≡ k.enables → k'.prepares ≡ k.prepares → k'.exclusives ≡ k.exclusives → HasLinks t.clocks k'.links
     → t.defs ≡ s.defs → ((c : ℕ) → registered t.clocks c ≡ registered s.clocks c) → t.handles ≡ s.handles → t.prepare_holds ≡ s.prepare_holds → t.enable_holds ≡ s.enable_holds → StandsFor k' t
-StandsFor-linked k k' s t stands made enables prepares exclusives links defs there handles prepare_holds enable_holds = record {
-  defs = made ∙ stands.defs ∙ sym defs;
+StandsFor-linked k k' s t stands gates size enables prepares exclusives links defs there handles prepare_holds enable_holds = record {
+  size = size ∙ stands.size ∙ ap (λ (ds : Description). length ds) (sym defs);
+  gated = λ c. ap (λ (bs : List Bool). slice_index_or bs c false) gates ∙ stands.gated c ∙ ap (λ (ds : Description). sets_rate_gate ds c) (sym defs);
   links = links;
   enables = λ c. ap (λ (xs : List ℕ). slice_index xs c) enables ∙ stands.enables c ∙ sym (own_like (λ h. h.enables) t.enable_holds s.enable_holds enable_holds c);
   prepares = λ c. ap (λ (xs : List ℕ). slice_index xs c) prepares ∙ stands.prepares c ∙ sym (own_like (λ h. h.prepares) t.prepare_holds s.prepare_holds prepare_holds c);
@@ -192,15 +196,16 @@ StandsFor-linked k k' s t stands made enables prepares exclusives links defs the
 pub StandsFor-like : (k : CountState) (s t : State) → StandsFor k s → t.defs ≡ s.defs → ((c : ℕ) → link_in t.clocks c ≡ link_in s.clocks c) → ((c : ℕ) → registered t.clocks c ≡ registered s.clocks c)
     → t.handles ≡ s.handles → t.prepare_holds ≡ s.prepare_holds → t.enable_holds ≡ s.enable_holds → StandsFor k t
 StandsFor-like k s t stands defs links there handles prepare_holds enable_holds =
-    StandsFor-linked k k s t stands refl refl refl refl (λ c. links c ∙ stands.links c) defs there handles prepare_holds enable_holds
+    StandsFor-linked k k s t stands refl refl refl refl refl (λ c. links c ∙ stands.links c) defs there handles prepare_holds enable_holds
 
 -- and for a state with another handle in the place of one, where the holders change with it
 pub StandsFor-put : (k k' : CountState) (s : State) (n : ℕ) (old new : HandleRow) → StandsFor k s → handle_at s.handles n ≡ Some old
-    → k'.defs ≡ k.defs → k'.links ≡ k.links → Moves (λ h. h.enables) k.enables k'.enables old new → Moves (λ h. h.prepares) k.prepares k'.prepares old new
+    → k'.gated ≡ k.gated → k'.links ≡ k.links → Moves (λ h. h.enables) k.enables k'.enables old new → Moves (λ h. h.prepares) k.prepares k'.prepares old new
     → Moves (λ h. h.exclusives) k.exclusives k'.exclusives old new
     → StandsFor k' (put_handle s n (Some new))
-StandsFor-put k k' s n old new stands at defs links enables prepares exclusives = record {
-  defs = defs ∙ stands.defs;
+StandsFor-put k k' s n old new stands at gates links enables prepares exclusives = record {
+  size = ap (λ (ls : List (Option ClockId)). length ls) links ∙ stands.size;
+  gated = λ c. ap (λ (bs : List Bool). slice_index_or bs c false) gates ∙ stands.gated c;
   links = subst (λ (ls : List (Option ClockId)). HasLinks s.clocks ls) (sym links) stands.links;
   enables = λ d.
       let moved = enables d in
@@ -223,7 +228,8 @@ StandsFor-put k k' s n old new stands at defs links enables prepares exclusives 
 pub StandsFor-gone : (k : CountState) (s : State) (n : ℕ) (old : HandleRow) → StandsFor k s → handle_at s.handles n ≡ Some old → old.enables ≡ 0 → old.prepares ≡ 0 → old.exclusives ≡ 0
     → StandsFor k (put_handle s n None)
 StandsFor-gone k s n old stands at enables prepares exclusives = record {
-  defs = stands.defs;
+  size = stands.size;
+  gated = stands.gated;
   links = stands.links;
   enables = λ d. let was = stands.enables d in let sums = sum_on-gone (λ h. h.enables) s.handles n d old at enables in omega arith;
   prepares = λ d. let was = stands.prepares d in let sums = sum_on-gone (λ h. h.prepares) s.handles n d old at prepares in omega arith;
@@ -233,7 +239,8 @@ StandsFor-gone k s n old stands at enables prepares exclusives = record {
 -- with a new one
 pub StandsFor-given : (k : CountState) (s : State) (driver c : ℕ) → StandsFor k s → StandsFor k (given s driver c).0
 StandsFor-given k s driver c stands = record {
-  defs = stands.defs;
+  size = stands.size;
+  gated = stands.gated;
   links = stands.links;
   enables = λ d. let was = stands.enables d in let sums = sum_on-append (λ h. h.enables) s.handles (new_row driver (clock_id c)) d refl in omega arith;
   prepares = λ d. let was = stands.prepares d in let sums = sum_on-append (λ h. h.prepares) s.handles (new_row driver (clock_id c)) d refl in omega arith;

@@ -3,7 +3,6 @@ use Rattle.std.proofs.Common.{◌≡◌, ◌≢◌, ℕ, ◌+◌, ◌-◌, ◌<�
 use Rattle.std.proofs.lemmas.List.{length-set, get_or-set_same, get_or-set_other}
 use Rattle.std.proofs.lemmas.List.Sums.{sum_by-set}
 use Rattle.std.specs.Prelude.{slice_index}
-use Rattle.counts_core.specs.Counted.{CountState}
 use Rattle.clk_model.proofs.Members.{same_from_test, test_other}
 use Rattle.clk_model.specs.Step.{passed_over}
 use Rattle.clk_model.proofs.BalanceLaws.{other_way}
@@ -97,19 +96,6 @@ held_ended there clocks steps clock own own' held held' are ends ended = record 
   none : (t : Bool) → ◌≡◌ {A = ℕ} (cond t 0 0) 0
   none true = refl
   none false = refl
-
--- ---- counts
-
--- counts of which only the prepares were written stay so
-pub prepares_less : (a b c : CountState) (x : List ℕ) → b ≡ record a { prepares = b.prepares } → c ≡ record b { prepares = x } → c ≡ record a { prepares = c.prepares }
-prepares_less a b c x first second =
-    second ∙ ap (λ (n : List ℕ). let k : CountState = record b { prepares = n } in k) (sym (ap (λ (k : CountState). k.prepares) second))
-    ∙ ap (λ (k : CountState). let j : CountState = record k { prepares = c.prepares } in j) first
-
-pub enables_less : (a b c : CountState) (x : List ℕ) → b ≡ record a { enables = b.enables } → c ≡ record b { enables = x } → c ≡ record a { enables = c.enables }
-enables_less a b c x first second =
-    second ∙ ap (λ (n : List ℕ). let k : CountState = record b { enables = n } in k) (sym (ap (λ (k : CountState). k.enables) second))
-    ∙ ap (λ (k : CountState). let j : CountState = record k { enables = c.enables } in j) first
 
 -- one hold more ends
 pub ends_step : (clock : ℕ) (own own' own'' held held' held'' : List ℕ) → Ends clock own own' held held' → own'' ≡ set own' clock (slice_index own' clock - 1) → held'' ≡ set held' clock (slice_index held' clock - 1)

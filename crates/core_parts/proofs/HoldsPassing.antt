@@ -1,22 +1,8 @@
 -- What a hold that goes over makes of counts.
 use Rattle.std.proofs.Common.{◌≡◌, ◌≢◌, ℕ, ◌+◌, ◌-◌, ◌<◌, ◌≤◌, List, sym, ap, subst, ◌∙◌, arith, length, set}
 use Rattle.std.specs.Prelude.{slice_index}
-use Rattle.counts_core.specs.Counted.{CountState}
 use Rattle.core_parts.specs.Holds.{Passes}
 use Rattle.core_parts.proofs.HeldCounts.{passes_one, passes_then}
-
--- counts of which only the prepares were written stay so
-pub prepares_only : (a b c d : CountState) (x y : List ℕ) → b ≡ record a { prepares = b.prepares } → c ≡ record b { prepares = x } → d ≡ record c { prepares = y } → d ≡ record a { prepares = d.prepares }
-prepares_only a b c d x y first second third =
-    third ∙ ap (λ (n : List ℕ). let k : CountState = record c { prepares = n } in k) (sym (ap (λ (k : CountState). k.prepares) third))
-    ∙ ap (λ (k : CountState). let j : CountState = record k { prepares = d.prepares } in j) second
-    ∙ ap (λ (k : CountState). let j : CountState = record k { prepares = d.prepares } in j) first
-
-pub enables_only : (a b c d : CountState) (x y : List ℕ) → b ≡ record a { enables = b.enables } → c ≡ record b { enables = x } → d ≡ record c { enables = y } → d ≡ record a { enables = d.enables }
-enables_only a b c d x y first second third =
-    third ∙ ap (λ (n : List ℕ). let k : CountState = record c { enables = n } in k) (sym (ap (λ (k : CountState). k.enables) third))
-    ∙ ap (λ (k : CountState). let j : CountState = record k { enables = d.enables } in j) second
-    ∙ ap (λ (k : CountState). let j : CountState = record k { enables = d.enables } in j) first
 
 -- one hold more goes over
 pub passes_step : (from to : ℕ) (own own' more own'' held held' added held'' : List ℕ) → Passes from to own own' held held' → more ≡ set own' to (slice_index own' to + 1) → own'' ≡ set more from (slice_index more from - 1)

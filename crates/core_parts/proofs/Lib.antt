@@ -10,9 +10,11 @@ pub mod Opening
 pub mod Gathering
 pub mod Closing
 pub mod Shapes
+pub mod Described
 pub mod SettledRows
 pub mod Moving
 pub mod HeldCounts
+pub mod HoldKinds
 pub mod HoldsPassing
 pub mod HoldsEnding
 pub mod Holdings

@@ -16,7 +16,7 @@ use Rattle.clk_flight.specs.Fronts.{aborts_behind, front_behind, script_behind}
 use Rattle.clk_flight.specs.Moves.{gone_on}
 use Rattle.clk_flight.specs.Steps.{is_taken}
 use Rattle.clk_flight.proofs.KeptLaws.{going_step}
-use Rattle.core_parts.specs.declared.course.Notified.{Notified}
+use Rattle.change_walk.specs.declared.changes.Changed.{Changed}
 use Rattle.core_parts.specs.InFlight.{may_raise, is_script, is_front, IsUnderWay, is_near}
 use Rattle.core_parts.specs.Course.{visited_by, behind_visit, begins_with, tells_all, PostsFit, TellsAlong}
 use Rattle.core_parts.proofs.InFlight.{script_rest, cut_behind}
@@ -101,7 +101,7 @@ behind_fits count raised (Posts c told left old new) fits = by (nat_eq (left - 1
     apart : (n : ℕ) → nat_eq n 0 ≡ false → n ≡ 0 → ⊥
     apart n e same = let no : true ≡ false = sym (ap (λ (k : ℕ). nat_eq k 0) same) ∙ e in absurd cc
 
-behind_visits : (f : FlightState) (count : ℕ → ℕ) (ns : List Notified) (rows : List NotifierRow) (front : Front) (m : Micro) → first_step rows f front ≡ Some m → is_notice m ≡ true
+behind_visits : (f : FlightState) (count : ℕ → ℕ) (ns : List Changed) (rows : List NotifierRow) (front : Front) (m : Micro) → first_step rows f front ≡ Some m → is_notice m ≡ true
     → tells_all count f.left ns ≡ true → tells_all count (script_behind front f.left) ns ≡ true
 behind_visits f count ns rows Empty m first notice is = from f.left first is where
   from : (left : List Micro) → slice_get left 0 ≡ Some m → tells_all count left ns ≡ true → tells_all count (rest_of left) ns ≡ true
@@ -115,7 +115,7 @@ behind_visits f count ns rows (Lower x) m first notice is = is
 behind_visits f count ns rows (Falls told left) m first notice is = is
 behind_visits f count ns rows (Posts c told left old new) m first notice is = is
 
-pub tells-told : (f : FlightState) (count : ℕ → ℕ) (ns : List Notified) (rows : List NotifierRow) (m : Micro) → comes_next rows f ≡ Some m → is_notice m ≡ true → TellsAlong count ns f → TellsAlong count ns (gone_on f)
+pub tells-told : (f : FlightState) (count : ℕ → ℕ) (ns : List Changed) (rows : List NotifierRow) (m : Micro) → comes_next rows f ≡ Some m → is_notice m ≡ true → TellsAlong count ns f → TellsAlong count ns (gone_on f)
 tells-told f count ns rows m comes notice is = record {
   front = behind_fits count f.raised f.front is.front;
   visits = behind_visits f count ns rows f.front m (going_step f.going (first_step rows f f.front) m comes) notice is.visits;

@@ -4,7 +4,7 @@ use Rattle.std.proofs.Common.{◌≡◌, ℕ, zero, suc, ◌&&◌, not, Bool, tr
 use Rattle.std.proofs.Math.Path.{fun_ext}
 use Rattle.std.specs.Prelude.{is_none, slice_get, IfSome}
 use Rattle.std.specs.List.{list_any}
-use Rattle.clk_base.specs.Description.{Description, kind_of, parents_of}
+use Rattle.clk_base.specs.Description.{Description, kind_of}
 use Rattle.clk_base.specs.Levels.{depth}
 use Rattle.reg_bank.specs.Registers.{Registers}
 use Rattle.clk_model.specs.declared.row.ClockRow.{ClockRow}
@@ -21,7 +21,8 @@ use Rattle.clk_model.proofs.RootLaws.{both_from}
 use Rattle.clk_model.proofs.StateLaws.{filter_none}
 use Rattle.clk_tree.specs.TreeState.{TreeState, IsTree}
 use Rattle.counts_core.specs.Counted.{CountState, AreCounts, HasLinks, is_held, is_prepared}
-use Rattle.counts_core.specs.Sums.{up_in}
+use Rattle.counts_core.specs.Sums.{up_in, ups_in}
+use Rattle.counts_core.proofs.Definitions.{up_listed}
 use Rattle.core_parts.specs.Plls.{is_loose, lowerable, Finds}
 use Rattle.core_parts.specs.declared.plls.Sought.{Sought}
 use Rattle.core_parts.proofs.Seeking.{none_or_any}
@@ -33,7 +34,7 @@ held_above k own c p counts held at =
     let h = any_in (λ b. nat_lt 0 (own b) && is_in c (path_within up depth b)) (count_from 0 (length k.links)) held in
     any_from_in (λ b. nat_lt 0 (own b) && is_in p (path_within up depth b)) (count_from 0 (length k.links)) h.0 h.1
     (both_from (nat_lt 0 (own h.0)) (is_in p (path_within up depth h.0)) (both_left (nat_lt 0 (own h.0)) (is_in c (path_within up depth h.0)) h.2)
-    (path_closed (parents_of k.defs) up depth h.0 c p counts.possible (counts.lines h.0) (both_right (nat_lt 0 (own h.0)) (is_in c (path_within up depth h.0)) h.2) at))
+    (path_closed (ups_in k.links) up depth h.0 c p (up_listed k.links) (counts.lines h.0) (both_right (nat_lt 0 (own h.0)) (is_in c (path_within up depth h.0)) h.2) at))
 
 -- a clock on the path of a prepared one is prepared
 prepared_above : (k : CountState) (levels c d : ℕ) → AreCounts k → is_prepared k c ≡ true → is_in d (path_within (up_in k.links) levels c) ≡ true → is_prepared k d ≡ true
@@ -59,14 +60,13 @@ none_loose defs k clocks levels c counts same prepared =
     (λ d m. and_not (is_pll (kind_of defs d)) (is_prepared k d) (prepared_above k levels c d counts prepared m))
 
 -- nor on any path where no line of possible parents has a PLL
-pub none_anywhere : (defs : Description) (k : CountState) (t : TreeState) (levels c most : ℕ) → defs ≡ t.defs → IsTree t.defs t.clocks t.order t.rates → most ≡ plls t.defs → most ≡ 0
-    → filter (is_loose defs k) (path_within (link_in t.clocks) levels c) ≡ []
-none_anywhere defs k t levels c most made stands counted none =
-    subst (λ (ds : Description). filter (is_loose ds k) path ≡ []) (sym made)
-    (let few = length-filter-weaker (is_loose t.defs k) (λ d. is_pll (kind_of t.defs d)) path (λ d e. both_left (is_pll (kind_of t.defs d)) (not (is_prepared k d)) e) in
+pub none_anywhere : (k : CountState) (t : TreeState) (levels c most : ℕ) → IsTree t.defs t.clocks t.order t.rates → most ≡ plls t.defs → most ≡ 0
+    → filter (is_loose t.defs k) (path_within (link_in t.clocks) levels c) ≡ []
+none_anywhere k t levels c most stands counted none =
+    let few = length-filter-weaker (is_loose t.defs k) (λ d. is_pll (kind_of t.defs d)) path (λ d e. both_left (is_pll (kind_of t.defs d)) (not (is_prepared k d)) e) in
     let own = path_plls t.defs (link_in t.clocks) levels depth c stands.possible (stands.lines c) in
     let lines = lines_plls t.defs c in
-    no_entry (filter (is_loose t.defs k) path) (omega arith)) where
+    no_entry (filter (is_loose t.defs k) path) (omega arith) where
       path : List ℕ
       path = path_within (link_in t.clocks) levels c
 

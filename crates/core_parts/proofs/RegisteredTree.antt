@@ -25,7 +25,7 @@ use Rattle.clk_model.proofs.RateLaws.{rate-links, writes_leave_rates}
 use Rattle.clk_model.proofs.SupplyLaws.{selected_same}
 use Rattle.clk_model.proofs.OutcomeRateLaws.{scale_lt}
 use Rattle.clk_tree.specs.TreeState.{TreeState, attached}
-use Rattle.clk_tree.specs.Refreshed.{is_below, IsFresh}
+use Rattle.clk_tree.specs.Refreshed.{FreshensAll}
 use Rattle.clk_tree.proofs.Fitting.{attached-registered}
 use Rattle.clk_tree.proofs.Freshness.{fresh_attached}
 use Rattle.clk_tree.proofs.Rows.{registered-set, registered-requested, link-requested}
@@ -88,8 +88,7 @@ kept_registered n (Some regs) defs clocks rates c request valid within fresh =
 -- where the kept rates were right before a clock was attached, and a refresh makes all right where those that it leaves are, all are
 pub fresh_registered : (n : ℕ) (told : Option (List ℕ)) (defs : Description) (clocks : List ClockRow) (old new : List ℕ) (c : ℕ) (parent : Option ClockId)
     → IsValid n defs → c < length clocks → AreKept defs (option_map (take n) told) clocks old
-    → IfSome told (λ regs. ((k : ℕ) → registered (attached clocks c parent) k ≡ true → is_below (attached clocks c parent) c k ≡ false → IsFresh defs regs (attached clocks c parent) old k)
-    → (k : ℕ) → registered (attached clocks c parent) k ≡ true → IsFresh defs regs (attached clocks c parent) new k)
+    → FreshensAll defs told (attached clocks c parent) old new c
     → IfSome told (λ regs. (k : ℕ) → registered (attached clocks c parent) k ≡ true → slice_index new k ≡ rate defs regs (attached clocks c parent) k)
 fresh_registered n None defs clocks old new c parent valid within kept refreshed = tt
 fresh_registered n (Some regs) defs clocks old new c parent valid within kept refreshed =
@@ -102,16 +101,13 @@ Fresh defs told clocks rates = IfSome told (λ regs. (k : ℕ) → registered cl
 -- what a refresh says of a tree with a clock attached
 pub refreshed : (n : ℕ) (told : Option (List ℕ)) (defs : Description) (tree : TreeState) (clocks : List ClockRow) (old new : List ℕ) (c : ℕ) (parent : Option ClockId)
     → IsValid n defs → c < length clocks → tree.defs ≡ defs → tree.clocks ≡ attached clocks c parent → tree.rates ≡ old → AreKept defs (option_map (take n) told) clocks old
-    → IfSome told (λ regs. ((k : ℕ) → registered tree.clocks k ≡ true → is_below tree.clocks c k ≡ false → IsFresh tree.defs regs tree.clocks tree.rates k)
-    → (k : ℕ) → registered tree.clocks k ≡ true → IsFresh tree.defs regs tree.clocks new k)
+    → FreshensAll tree.defs told tree.clocks tree.rates new c
     → Fresh defs told (attached clocks c parent) new
 refreshed n told defs tree clocks old new c parent valid within made link rates kept says =
     fresh_registered n told defs clocks old new c parent valid within kept
-    (subst (λ (ds : Description). Says ds (attached clocks c parent) old) made
-    (subst (λ (rs : List ClockRow). Says tree.defs rs old) link
-    (subst (λ (xs : List ℕ). Says tree.defs tree.clocks xs) rates says))) where
-      Says : Description → List ClockRow → List ℕ → Type 0
-      Says ds rs xs = IfSome told (λ regs. ((k : ℕ) → registered rs k ≡ true → is_below rs c k ≡ false → IsFresh ds regs rs xs k) → (k : ℕ) → registered rs k ≡ true → IsFresh ds regs rs new k)
+    (subst (λ (ds : Description). FreshensAll ds told (attached clocks c parent) old new c) made
+    (subst (λ (rs : List ClockRow). FreshensAll tree.defs told rs old new c) link
+    (subst (λ (xs : List ℕ). FreshensAll tree.defs told tree.clocks xs new c) rates says)))
 
 -- the rows are those of the registration
 pub rows_registered : (n : ℕ) (told : Option (List ℕ)) (defs : Description) (clocks : List ClockRow) (rates : List ℕ) (c : ℕ) (parent : Option ClockId)

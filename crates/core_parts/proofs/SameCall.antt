@@ -7,7 +7,7 @@ use Rattle.clk_base.specs.declared.clock.ClockId.{ClockId}
 use Rattle.clk_flight.specs.Flights.{FlightState}
 use Rattle.clk_flight.specs.Moves.{raised_once, raised_in, found_none, polled_in, timed_out_in, is_last_no, front_polled}
 use Rattle.clk_flight.specs.Fronts.{script_behind}
-use Rattle.core_parts.specs.declared.course.Notified.{Notified}
+use Rattle.change_walk.specs.declared.changes.Changed.{Changed}
 use Rattle.core_parts.specs.Course.{TellsAlong}
 
 -- the call that is in flight is the same
@@ -20,7 +20,7 @@ pub record SameCall (f g : FlightState) : Type 0 where
 -- and of a change of a rate or a parent what is told and what is linked fits as before
 pub record KeepsAlong (f g : FlightState) : Type 0 where
   pub call : g.call ≡ f.call
-  pub tells : (count : ℕ → ℕ) (ns : List Notified) → TellsAlong count ns f → TellsAlong count ns g
+  pub tells : (count : ℕ → ℕ) (ns : List Changed) → TellsAlong count ns f → TellsAlong count ns g
   pub links : (can : Micro → Bool) → list_all can f.left ≡ true → list_all can g.left ≡ true
 
 pub same_raised : (f : FlightState) (x y : ClockId) (more : Bool) → SameCall f (raised_in f x y more)

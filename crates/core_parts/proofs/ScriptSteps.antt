@@ -1,5 +1,5 @@
 -- Steps of a script that all pass a test: the moves of a chain, its notices and visits.
-use Rattle.std.proofs.Common.{◌≡◌, ℕ, ◌+◌, ◌<◌, ◌&&◌, ◌||◌, ◌++◌, not, Bool, true, false, cond, List, [], ◌∷◌, Option, Some, None, refl, sym, ap, ◌∙◌, inl, inr, map, filter, nat_eq, arith}
+use Rattle.std.proofs.Common.{◌≡◌, ◌⊎◌, ℕ, ◌+◌, ◌<◌, ◌&&◌, ◌||◌, ◌++◌, not, Bool, true, false, cond, List, [], ◌∷◌, Option, Some, None, refl, sym, ap, ◌∙◌, inl, inr, map, filter, nat_eq, arith}
 use Rattle.std.specs.Prelude.{slice_index, slice_get, is_none, flat_map, length, nat_lt, if◌then◌else◌}
 use Rattle.std.specs.List.{AllByRecursion, list_all, list_any, position_or_len}
 use Rattle.std.specs.Option.{option_map_or}
@@ -12,12 +12,14 @@ use Rattle.clk_base.specs.declared.call.Notice.{Notice}
 use Rattle.clk_base.specs.declared.call.Notice.TheVariants as notice
 use Rattle.clk_base.specs.declared.call.Sleeping.{Sleeping}
 use Rattle.clk_base.specs.declared.clock.ClockId.{ClockId}
-use Rattle.clk_base.specs.Description.{Description}
+use Rattle.clk_base.specs.Description.{Description, kind_of}
+use Rattle.clk_base.specs.Flags.{runs_parent, runs_to_set}
 use Rattle.clk_model.specs.declared.row.ClockRow.{ClockRow}
 use Rattle.clk_model.specs.Chain.{clock_id, moves, place_of}
+use Rattle.clk_model.specs.Kinds.{has_setting}
 use Rattle.clk_model.specs.Lists.{is_in, same_place}
 use Rattle.clk_model.specs.Notices.{is_veto, vetoes}
-use Rattle.clk_model.specs.Script.{is_raise, move, move_of}
+use Rattle.clk_model.specs.Script.{feed, unfeed, is_raise, move, move_of, runs_for, fed_step, visit_of}
 use Rattle.clk_model.specs.State.{ChainStep, link_in}
 use Rattle.clk_model.specs.Step.{is_end, is_visit, is_register}
 use Rattle.clk_model.proofs.Members.{both_left, both_right, or_cases, or_right, same_from_test, test_same}
@@ -29,14 +31,14 @@ use Rattle.change_walk.specs.declared.changes.Changed.{Changed}
 use Rattle.change_walk.specs.Given.{settles}
 use Rattle.change_walk.specs.Steps.{visits}
 use Rattle.change_walk.specs.Tellings as tellings
-use Rattle.core_parts.specs.declared.course.Notified.{Notified}
+use Rattle.change_walk.specs.declared.changes.Changed.{Changed}
 use Rattle.core_parts.specs.Told.{told_clocks}
 use Rattle.core_parts.specs.Course.{behind_first, behind_visit, begins_with, tells_all, visited_by}
-use Rattle.core_parts.specs.InFlight.{asks_rate, cuts_behind, is_probe, may_make, there_behind, is_script}
+use Rattle.core_parts.specs.InFlight.{asks_rate, changes_rate, cuts_behind, is_probe, may_make, there_behind, is_script}
 use Rattle.core_parts.specs.Movable.{can_get, can_go, can_go_along}
 use Rattle.core_parts.specs.Reparenting.{is_candidate}
 use Rattle.core_parts.proofs.InFlight.{there_still}
-use Rattle.core_parts.proofs.StepsInFlight.{cut_plain, makes_plain}
+use Rattle.core_parts.proofs.StepsInFlight.{changes_plain, cut_plain, makes_plain}
 
 -- ---- lists of steps that pass
 
@@ -46,6 +48,38 @@ all_both P xs ys one two = list_all-append P xs ys ∙ ap (λ (t : Bool). t && l
 pub all_mapped : {X : Type 0} (P : Micro → Bool) (f : X → List Micro) (xs : List X) → ((x : X) → list_all P (f x) ≡ true) → list_all P (flat_map f xs) ≡ true
 all_mapped P f [] each = refl
 all_mapped P f (x ∷ xs) each = all_both P (f x) (flat_map f xs) (each x) (all_mapped P f xs each)
+
+-- ---- what keeps a clock running
+
+-- the steps that keep a clock running and let it go pass
+pub record FeedPasses (P : Micro → Bool) (x : ℕ) : Type 0 where
+  pub feeds : list_all P (feed x) ≡ true
+  pub lets : list_all P (unfeed x) ≡ true
+
+-- a visit passes, and so do the steps that keep a clock running for it
+pub record VisitPasses (P : Micro → Bool) (defs : Description) (clocks : List ClockRow) (ks : List ChainStep) (c : ℕ) : Type 0 where
+  pub own : P (micro.Visit (clock_id c)) ≡ true
+  pub fed : (x : ℕ) → runs_for defs clocks ks c ≡ Some x → FeedPasses P x
+
+visit_all : (P : Micro → Bool) (defs : Description) (clocks : List ClockRow) (ks : List ChainStep) (c : ℕ) → VisitPasses P defs clocks ks c → list_all P (visit_of defs clocks ks c) ≡ true
+visit_all P defs clocks ks c passes = by (runs_for defs clocks ks c) passes.fed where
+  by : (o : Option ℕ) → ((x : ℕ) → o ≡ Some x → FeedPasses P x) → list_all P (fed_step o (micro.Visit (clock_id c))) ≡ true
+  by None fed = ap (λ (t : Bool). t && true) passes.own
+  by (Some x) fed =
+      all_both P (feed x) (micro.Visit (clock_id c) ∷ unfeed x) (fed x refl).feeds
+      (and_from (P (micro.Visit (clock_id c))) (list_all P (unfeed x)) passes.own (fed x refl).lets)
+
+-- the clock that runs for a visit is the visited one or its parent
+pub runs_for_is : (defs : Description) (clocks : List ClockRow) (ks : List ChainStep) (c x : ℕ) → runs_for defs clocks ks c ≡ Some x → (x ≡ c) ⊎ (link_in clocks c ≡ Some x)
+runs_for_is defs clocks ks c x is = by (list_any (λ k. nat_eq k.clock c) ks && has_setting (kind_of defs c)) (runs_to_set defs c) (runs_parent defs c) is where
+  same_Some : (a b : ℕ) → Some a ≡ Some b → b ≡ a
+  same_Some a b e = cc
+
+  by : (planned itself parent : Bool) → (if planned then (if itself then Some c else if parent then link_in clocks c else None) else None) ≡ Some x → (x ≡ c) ⊎ (link_in clocks c ≡ Some x)
+  by true true parent e = inl (same_Some c x e)
+  by true false true e = inr e
+  by true false false e = absurd cc
+  by false itself parent e = absurd cc
 
 -- ---- the moves of a chain
 
@@ -102,12 +136,12 @@ module _ (P : Micro → Bool) (sets : Bool) (defs : Description) (clocks : List 
         by true here more = all_both P (by_step c k) (flat_map (by_step c) rest) (step_all c k here (both_left (can_go sets defs clocks k) (can_go_along sets defs clocks ks) all)) more
         by false here more = more
 
-  visits_all : (ks : List ChainStep) (rates : List ClockRate) → can_go_along sets defs clocks ks ≡ true → AllByRecursion (λ r. P (micro.Visit (clock_id r.clock)) ≡ true) rates
+  visits_all : (ks : List ChainStep) (rates : List ClockRate) → can_go_along sets defs clocks ks ≡ true → AllByRecursion (λ r. VisitPasses P defs clocks ks r.clock) rates
       → list_all P (visits defs clocks prepared ks rates) ≡ true
   visits_all ks [] all seen = refl
   visits_all ks (r ∷ rates) all seen =
-      all_both P (move_of defs clocks prepared ks r.clock ++ micro.Visit (clock_id r.clock) ∷ []) (visits defs clocks prepared ks rates)
-      (all_both P (move_of defs clocks prepared ks r.clock) (micro.Visit (clock_id r.clock) ∷ []) (moves_all r.clock ks all) (ap (λ (t : Bool). t && true) seen.0))
+      all_both P (move_of defs clocks prepared ks r.clock ++ visit_of defs clocks ks r.clock) (visits defs clocks prepared ks rates)
+      (all_both P (move_of defs clocks prepared ks r.clock) (visit_of defs clocks ks r.clock) (moves_all r.clock ks all) (visit_all P defs clocks ks r.clock seen.0))
       (visits_all ks rates all seen.1)
 
 -- ---- notices
@@ -145,7 +179,7 @@ body_of t prepared lists plan changed = notices_before lists changed ++ behind_n
 pub record Passes (P : Micro → Bool) (t : TreeState) (prepared : ℕ → Bool) (plan : Plan) : Type 0 where
   pub tells : (kind : Notice) (c : ClockId) (id old new : ℕ) → P (micro.Notify kind c id old new) ≡ true
   pub moved : (c p : ℕ) → IsMoved t.defs t.clocks c p → list_all P (move t.defs t.clocks prepared c p) ≡ true
-  pub seen : AllByRecursion (λ r. P (micro.Visit (clock_id r.clock)) ≡ true) plan.rates
+  pub seen : AllByRecursion (λ r. VisitPasses P t.defs t.clocks plan.chain r.clock) plan.rates
   pub settled : list_all P (settles plan.set_parent plan.chain) ≡ true
 
 -- all of them pass
@@ -183,59 +217,81 @@ script_calm what there (m ∷ xs) tail none may more =
       cuts _ other e = refl
 
 -- and steps that it may make in front of one that has a visit, which a timeout leaves
-pub script_before : (what : Sleeping) (there : ℕ → Bool) (xs tail : List Micro) → is_probe what ≡ false → list_all (may_make what there) xs ≡ true → list_any is_visit tail ≡ true → is_script what there tail ≡ true → is_script what there (xs ++ tail) ≡ true
-script_before what there [] tail none may seen more = more
-script_before what there (m ∷ xs) tail none may seen more =
+pub script_before : (what : Sleeping) (there : ℕ → Bool) (xs tail : List Micro) → changes_rate what ≡ true → list_all (may_make what there) xs ≡ true → list_any is_visit tail ≡ true → is_script what there tail ≡ true → is_script what there (xs ++ tail) ≡ true
+script_before what there [] tail changes may seen more = more
+script_before what there (m ∷ xs) tail changes may seen more =
     or_right (is_end m && is_none (slice_get (xs ++ tail) 0)) (cuts_behind what m (xs ++ tail) && (may_make what there m && is_script what (there_behind there m) (xs ++ tail)))
     (and_from (cuts_behind what m (xs ++ tail)) (may_make what there m && is_script what (there_behind there m) (xs ++ tail))
     (cuts m plain (list_any-append is_visit xs tail ∙ or_right (list_any is_visit xs) (list_any is_visit tail) seen))
     (and_from (may_make what there m) (is_script what (there_behind there m) (xs ++ tail)) (both_left (may_make what there m) (list_all (may_make what there) xs) may)
     (ap (λ (test : ℕ → Bool). is_script what test (xs ++ tail)) (there_still there m plain)
-    ∙ script_before what there xs tail none (both_right (may_make what there m) (list_all (may_make what there) xs) may) seen more))) where
+    ∙ script_before what there xs tail changes (both_right (may_make what there m) (list_all (may_make what there) xs) may) seen more))) where
       plain : is_register m ≡ false
-      plain = makes_plain what there m none (both_left (may_make what there m) (list_all (may_make what there) xs) may)
+      plain = makes_plain what there m (changes_plain what changes) (both_left (may_make what there m) (list_all (may_make what there) xs) may)
 
       cuts : (n : Micro) → is_register n ≡ false → list_any is_visit (xs ++ tail) ≡ true → cuts_behind what n (xs ++ tail) ≡ true
-      cuts (micro.Raise x) other e = cut_plain what (xs ++ tail) none ∙ ap (λ (t : Bool). t || not (asks_rate what)) e
+      cuts (micro.Raise x) other e = cut_plain what (xs ++ tail) changes ∙ ap (λ (t : Bool). t || not (asks_rate what)) e
       cuts (micro.Register c) other e = absurd cc
       cuts _ other e = refl
 
--- what the steps that let the old parent go pass
-abbrev drops_of : ℕ → List Micro
-drops_of o = micro.DropEnable (clock_id o) ∷ micro.DropPrepare (clock_id o) ∷ micro.Lower (clock_id o) ∷ []
-
--- what the steps pass that hold a prepared clock and its new parent, and let the old one go
+-- the steps pass that keep a clock and its new parent running, and let them and the old one go
 pub record HeldPass (P : Micro → Bool) (clocks : List ClockRow) (c p : ℕ) : Type 0 where
-  pub raises : P (micro.Raise (clock_id p)) ≡ true
-  pub prepares : P (micro.HoldPrepare (clock_id p)) ≡ true
-  pub enables : P (micro.HoldEnable (clock_id p)) ≡ true
-  pub own : P (micro.HoldEnable (clock_id c)) ≡ true
-  pub drops : P (micro.DropEnable (clock_id c)) ≡ true
-  pub old : (o : ℕ) → link_in clocks c ≡ Some o → list_all P (drops_of o) ≡ true
+  pub new : FeedPasses P p
+  pub own : FeedPasses P c
+  pub old : (o : ℕ) → link_in clocks c ≡ Some o → FeedPasses P o
 
-all_eight : (a b c d e f g h : Bool) → a ≡ true → b ≡ true → c ≡ true → d ≡ true → e ≡ true → f ≡ true → g ≡ true → h ≡ true → (a && (b && (c && (d && (e && (f && (g && h))))))) ≡ true
-all_eight a b c d e f g h one two three four five six seven eight =
-    and_from a _ one (and_from b _ two (and_from c _ three (and_from d _ four (and_from e _ five (and_from f _ six (and_from g h seven eight))))))
-
--- a move links a clock and selects its parent, and holds them meanwhile where the clock is prepared
+-- a move links a clock and selects its parent, and keeps them running meanwhile if the clock is prepared, or if its flags say so
 pub move_all : (P : Micro → Bool) (defs : Description) (clocks : List ClockRow) (prepared : ℕ → Bool) (c p : ℕ) → P (micro.Relink (clock_id c) (clock_id p)) ≡ true → P (micro.WriteMux (clock_id c) (place_of defs c p)) ≡ true
     → HeldPass P clocks c p → list_all P (move defs clocks prepared c p) ≡ true
-move_all P defs clocks prepared c p links selects pass = by (prepared c) where
-  let_go : (l : Option ℕ) → ((o : ℕ) → l ≡ Some o → list_all P (drops_of o) ≡ true) → list_all P (option_map_or drops_of l []) ≡ true
-  let_go None each = refl
-  let_go (Some o) each = each o refl
+move_all P defs clocks prepared c p links selects pass = by (prepared c) (runs_parent defs c) where
+  relinks : List Micro
+  relinks = micro.Relink (clock_id c) (clock_id p) ∷ micro.WriteMux (clock_id c) (place_of defs c p) ∷ []
 
-  whole : list_all P (micro.Raise (clock_id p) ∷ micro.HoldPrepare (clock_id p) ∷ micro.HoldEnable (clock_id p) ∷ micro.HoldEnable (clock_id c)
-      ∷ micro.Relink (clock_id c) (clock_id p) ∷ micro.WriteMux (clock_id c) (place_of defs c p) ∷ micro.DropEnable (clock_id c) ∷ option_map_or drops_of (link_in clocks c) []) ≡ true
-  whole = all_eight _ _ _ _ _ _ _ _ pass.raises pass.prepares pass.enables pass.own links selects pass.drops (let_go (link_in clocks c) pass.old)
+  relinked : list_all P relinks ≡ true
+  relinked = and_from (P (micro.Relink (clock_id c) (clock_id p))) (P (micro.WriteMux (clock_id c) (place_of defs c p)) && true) links (ap (λ (b : Bool). b && true) selects)
 
-  by : (t : Bool)
-      → list_all P (if t
+  first : (m : Micro) (ms : List Micro) → list_all P (m ∷ ms) ≡ true → P m ≡ true
+  first m ms all = both_left (P m) (list_all P ms) all
+
+  rest : (m : Micro) (ms : List Micro) → list_all P (m ∷ ms) ≡ true → list_all P ms ≡ true
+  rest m ms all = both_right (P m) (list_all P ms) all
+
+  one : (m : Micro) → P m ≡ true → list_all P (m ∷ []) ≡ true
+  one m e = ap (λ (b : Bool). b && true) e
+
+  old : list_all P (option_map_or unfeed (link_in clocks c) []) ≡ true
+  old = let_go (link_in clocks c) pass.old where
+    let_go : (l : Option ℕ) → ((o : ℕ) → l ≡ Some o → FeedPasses P o) → list_all P (option_map_or unfeed l []) ≡ true
+    let_go None each = refl
+    let_go (Some o) each = (each o refl).lets
+
+  holds : (x : ℕ) → FeedPasses P x → list_all P (micro.HoldPrepare (clock_id x) ∷ micro.HoldEnable (clock_id x) ∷ []) ≡ true
+  holds x passes = rest (micro.Raise (clock_id x)) (micro.HoldPrepare (clock_id x) ∷ micro.HoldEnable (clock_id x) ∷ []) passes.feeds
+
+  raises : (x : ℕ) → FeedPasses P x → P (micro.Raise (clock_id x)) ≡ true
+  raises x passes = first (micro.Raise (clock_id x)) (micro.HoldPrepare (clock_id x) ∷ micro.HoldEnable (clock_id x) ∷ []) passes.feeds
+
+  by : (held runs : Bool)
+      → list_all P (if held
       then micro.Raise (clock_id p) ∷ micro.HoldPrepare (clock_id p) ∷ micro.HoldEnable (clock_id p) ∷ micro.HoldEnable (clock_id c)
-      ∷ micro.Relink (clock_id c) (clock_id p) ∷ micro.WriteMux (clock_id c) (place_of defs c p) ∷ micro.DropEnable (clock_id c) ∷ option_map_or drops_of (link_in clocks c) []
+      ∷ micro.Relink (clock_id c) (clock_id p) ∷ micro.WriteMux (clock_id c) (place_of defs c p) ∷ micro.DropEnable (clock_id c) ∷ option_map_or unfeed (link_in clocks c) []
+      else if runs
+      then micro.Raise (clock_id c) ∷ micro.Raise (clock_id p) ∷ micro.HoldPrepare (clock_id c) ∷ micro.HoldEnable (clock_id c) ∷ micro.HoldPrepare (clock_id p) ∷ micro.HoldEnable (clock_id p)
+      ∷ micro.Relink (clock_id c) (clock_id p) ∷ micro.WriteMux (clock_id c) (place_of defs c p) ∷ option_map_or unfeed (link_in clocks c) [] ++ unfeed c
       else micro.Relink (clock_id c) (clock_id p) ∷ micro.WriteMux (clock_id c) (place_of defs c p) ∷ []) ≡ true
-  by true = whole
-  by false = and_from (P (micro.Relink (clock_id c) (clock_id p))) (P (micro.WriteMux (clock_id c) (place_of defs c p)) && true) links (ap (λ (b : Bool). b && true) selects)
+  by true runs =
+      all_both P (feed p) (micro.HoldEnable (clock_id c) ∷ relinks ++ micro.DropEnable (clock_id c) ∷ option_map_or unfeed (link_in clocks c) []) pass.new.feeds
+      (and_from (P (micro.HoldEnable (clock_id c))) _ (first (micro.HoldEnable (clock_id c)) [] (rest (micro.HoldPrepare (clock_id c)) (micro.HoldEnable (clock_id c) ∷ []) (holds c pass.own)))
+      (all_both P relinks (micro.DropEnable (clock_id c) ∷ option_map_or unfeed (link_in clocks c) []) relinked
+      (and_from (P (micro.DropEnable (clock_id c))) _ (first (micro.DropEnable (clock_id c)) (micro.DropPrepare (clock_id c) ∷ micro.Lower (clock_id c) ∷ []) pass.own.lets) old)))
+  by false true =
+      and_from (P (micro.Raise (clock_id c))) _ (raises c pass.own)
+      (and_from (P (micro.Raise (clock_id p))) _ (raises p pass.new)
+      (all_both P (micro.HoldPrepare (clock_id c) ∷ micro.HoldEnable (clock_id c) ∷ [])
+      (micro.HoldPrepare (clock_id p) ∷ micro.HoldEnable (clock_id p) ∷ relinks ++ (option_map_or unfeed (link_in clocks c) [] ++ unfeed c)) (holds c pass.own)
+      (all_both P (micro.HoldPrepare (clock_id p) ∷ micro.HoldEnable (clock_id p) ∷ []) (relinks ++ (option_map_or unfeed (link_in clocks c) [] ++ unfeed c)) (holds p pass.new)
+      (all_both P relinks (option_map_or unfeed (link_in clocks c) [] ++ unfeed c) relinked (all_both P (option_map_or unfeed (link_in clocks c) []) (unfeed c) old pass.own.lets)))))
+  by false false = relinked
 
 -- what a change of parent settles passes where its clock does
 pub settles_all : (P : Micro → Bool) (sets : Bool) (ks : List ChainStep) → ((k : ChainStep) (ls : List ChainStep) → sets ≡ true → ks ≡ k ∷ ls → P (micro.Settle (clock_id k.clock)) ≡ true) → list_all P (settles sets ks) ≡ true
@@ -275,7 +331,7 @@ place_below p ps m = less (position_or_len (λ r. nat_eq r p) ps) (length ps) (p
 abbrev pub unseen : Micro → Bool
 unseen m = is_none (visited_by m)
 
-pub unseen_first : (count : ℕ → ℕ) (ms tail : List Micro) (ns : List Notified) → list_all unseen ms ≡ true → tells_all count (ms ++ tail) ns ≡ tells_all count tail ns
+pub unseen_first : (count : ℕ → ℕ) (ms tail : List Micro) (ns : List Changed) → list_all unseen ms ≡ true → tells_all count (ms ++ tail) ns ≡ tells_all count tail ns
 unseen_first count [] tail ns all = refl
 unseen_first count (m ∷ ms) tail ns all = by (visited_by m) (both_left (unseen m) (list_all unseen ms) all) (unseen_first count ms tail ns (both_right (unseen m) (list_all unseen ms) all)) where
   by : (o : Option ℕ) → is_none o ≡ true → tells_all count (ms ++ tail) ns ≡ tells_all count tail ns
@@ -284,7 +340,7 @@ unseen_first count (m ∷ ms) tail ns all = by (visited_by m) (both_left (unseen
   by (Some c) e rest = absurd cc
 
 -- a clock that is told
-abbrev pub told_of : List ℕ → ClockRate → Notified
+abbrev pub told_of : List ℕ → ClockRate → Changed
 told_of before r = record { clock = clock_id r.clock; before = slice_index before r.clock; after = r.rate }
 
 -- a visited clock with notifiers is the first of those that are told

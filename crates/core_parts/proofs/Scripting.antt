@@ -1,5 +1,5 @@
 -- What the script of a plan whose moves can be made says of a change that goes on with it.
-use Rattle.std.proofs.Common.{◌≡◌, ℕ, ◌+◌, ◌&&◌, ◌||◌, ◌++◌, not, Bool, true, false, cond, List, [], ◌∷◌, Option, Some, None, refl, sym, ap, ◌∙◌, map, filter, nat_eq, append_assoc}
+use Rattle.std.proofs.Common.{◌≡◌, ◌⊎◌, inl, inr, ℕ, ◌+◌, ◌&&◌, ◌||◌, ◌++◌, not, Bool, true, false, cond, List, [], ◌∷◌, Option, Some, None, refl, sym, ap, ◌∙◌, map, filter, nat_eq, append_assoc}
 use Rattle.std.specs.Prelude.{sum_by, slice_index, is_some, length, nat_lt}
 use Rattle.std.specs.List.{AllByRecursion, list_all, list_any}
 use Rattle.std.specs.Option.{option_map_or}
@@ -12,7 +12,8 @@ use Rattle.clk_model.specs.Chain.{clock_id, place_of}
 use Rattle.clk_model.specs.Kinds.{mux_field}
 use Rattle.clk_model.specs.Lists.{is_in}
 use Rattle.clk_model.specs.Notices.{is_veto}
-use Rattle.clk_model.specs.Script.{is_raise, move_of}
+use Rattle.clk_model.specs.Prep.{is_sweep}
+use Rattle.clk_model.specs.Script.{feed, unfeed, is_raise, move_of, runs_for, fed_step, visit_of}
 use Rattle.clk_model.specs.State.{ChainStep, registered, link_in}
 use Rattle.clk_model.specs.Tree.{rooted}
 use Rattle.clk_model.proofs.Members.{both_left, both_right, or_right}
@@ -29,42 +30,47 @@ use Rattle.change_walk.specs.Tellings as tellings
 use Rattle.change_walk.specs.Weights.{step_weight}
 use Rattle.core_parts.specs.Told.{told_clocks}
 use Rattle.core_parts.specs.Course.{tells_all}
-use Rattle.core_parts.specs.InFlight.{can_link, changes_rate, is_near, is_prepare, is_probe, is_unprepare, links_clocks, may_make, may_raise, probes, is_script}
+use Rattle.core_parts.specs.InFlight.{can_link, changes_rate, holds_clocks, is_near, is_prepare, is_probe, is_unprepare, links_clocks, may_lower, may_make, may_raise, probes, is_script}
 use Rattle.core_parts.specs.Movable.{can_get, can_go, can_go_along}
 use Rattle.core_parts.specs.Listed.{rows_from}
 use Rattle.core_parts.specs.Reparenting.{is_candidate}
 use Rattle.core_parts.proofs.NotifierRows.{rows_count}
 use Rattle.core_parts.proofs.StepsInFlight.{changes_plain}
-use Rattle.core_parts.proofs.ScriptSteps.{all_both, all_mapped, IsMoved, notices_before, notices_off, behind_notices, body_of, body_all, script_calm, script_before, HeldPass, move_all, settles_all, each_there, all_three, place_below, unseen, unseen_first, told_of, visit_told, moves_all, before_all, off_all}
+use Rattle.core_parts.proofs.ScriptSteps.{all_both, all_mapped, IsMoved, notices_before, notices_off, behind_notices, body_of, body_all, script_calm, script_before, FeedPasses, VisitPasses, runs_for_is, HeldPass, move_all, settles_all, all_three, place_below, unseen, unseen_first, told_of, visit_told, moves_all, before_all, off_all}
 
 -- ---- the script of a plan whose moves can be made
 
 module _ (t : TreeState) (prepared : ℕ → Bool) (lists : List (List Notifier)) (plan : Plan) (changed : List Changed) (can : can_go_along plan.set_parent t.defs t.clocks plan.chain ≡ true)
     (there : AllByRecursion (λ r. registered t.clocks r.clock ≡ true) plan.rates) where
-  -- what a call may make of a move
+  -- what a call may make of what keeps a registered clock running
+  feeds_may : (what : Sleeping) → changes_rate what ≡ true → (x : ℕ) → registered t.clocks x ≡ true → FeedPasses (may_make what (registered t.clocks)) x
+  feeds_may what changes x here = record {
+    feeds =
+        and_from (may_raise what && is_near what (registered t.clocks) x) _ (and_from (may_raise what) (is_near what (registered t.clocks) x) raises (ap (λ (b : Bool). b || probes what x) here))
+        (and_from (holds_clocks what && registered t.clocks x) _ held (and_from (holds_clocks what && registered t.clocks x) true held refl));
+    lets =
+        and_from (holds_clocks what && registered t.clocks x) _ held
+        (and_from (holds_clocks what && registered t.clocks x) _ held
+        (and_from (may_lower what && registered t.clocks x) true (and_from (may_lower what) (registered t.clocks x) lowers here) refl));
+  } where
+    raises : may_raise what ≡ true
+    raises = ap (λ (b : Bool). b || is_probe what || is_sweep what) (or_right (is_prepare what) (changes_rate what) changes)
+
+    lowers : may_lower what ≡ true
+    lowers = ap (λ (b : Bool). b || is_sweep what) (or_right (is_unprepare what) (changes_rate what) changes)
+
+    held : (holds_clocks what && registered t.clocks x) ≡ true
+    held = and_from (holds_clocks what) (registered t.clocks x) (ap (λ (b : Bool). b || is_probe what || is_sweep what) changes) here
+
+  -- and of a move
   moved_may : (what : Sleeping) → changes_rate what ≡ true → ((c p : ℕ) → link_in t.clocks c ≡ Some p → (registered t.clocks c ≡ true) × (registered t.clocks p ≡ true))
       → (c p : ℕ) → IsMoved t.defs t.clocks c p → HeldPass (may_make what (registered t.clocks)) t.clocks c p
   moved_may what changes linked c p is = record {
-    raises = and_from (may_raise what) (is_near what (registered t.clocks) p)
-        (ap (λ (b : Bool). b || is_probe what) (or_right (is_prepare what) (changes_rate what) changes)) (ap (λ (b : Bool). b || probes what p) new);
-    prepares = and_from (links_clocks what) (registered t.clocks p) links new;
-    enables = and_from (links_clocks what) (registered t.clocks p) links new;
-    own = and_from (links_clocks what) (registered t.clocks c) links own_;
-    drops = and_from (links_clocks what) (registered t.clocks c) links own_;
-    old = λ o at.
-        let there_ = (linked c o at).1 in
-        let lets = and_from (links_clocks what) (registered t.clocks o) links there_ in
-        let lowers = and_from (is_unprepare what || changes_rate what) (registered t.clocks o) (or_right (is_unprepare what) (changes_rate what) changes) there_ in
-        and_from (links_clocks what && registered t.clocks o) _ lets (and_from (links_clocks what && registered t.clocks o) _ lets (ap (λ (b : Bool). b && true) lowers));
-  } where
-    links : links_clocks what ≡ true
-    links = ap (λ (b : Bool). b || is_probe what) changes
-
-    own_ : registered t.clocks c ≡ true
-    own_ = (linked c is.from is.link).0
-
-    new : registered t.clocks p ≡ true
-    new = both_left (registered t.clocks p) _ (both_right (is_some (mux_field (kind_of t.defs c)) && is_in p (parents_of t.defs c)) (rooted t.defs t.clocks p) is.candidate)
+    new = feeds_may what changes p
+        (both_left (registered t.clocks p) _ (both_right (is_some (mux_field (kind_of t.defs c)) && is_in p (parents_of t.defs c)) (rooted t.defs t.clocks p) is.candidate));
+    own = feeds_may what changes c (linked c is.from is.link).0;
+    old = λ o at. feeds_may what changes o (linked c o at).1;
+  }
 
   -- a new link is between registered clocks
   relinked_may : (what : Sleeping) → changes_rate what ≡ true → ((c p : ℕ) → link_in t.clocks c ≡ Some p → (registered t.clocks c ≡ true) × (registered t.clocks p ≡ true))
@@ -98,18 +104,52 @@ module _ (t : TreeState) (prepared : ℕ → Bool) (lists : List (List Notifier)
       (settles_all (λ m. may_make what (registered t.clocks) m && not (is_raise m)) plan.set_parent plan.chain
       (λ k ls sets at. ap (λ (b : Bool). b && true) (and_from (links_clocks what) (registered t.clocks k.clock) (ap (λ (b : Bool). b || is_probe what) changes) (settled_there k ls sets at (λ c p at. (linked c p at).0))))) refl
   visits_script what changes linked (r ∷ rates) all =
-      ap (is_script what (registered t.clocks))
-      (append_assoc (moved ++ micro.Visit (clock_id r.clock) ∷ []) (visits t.defs t.clocks prepared plan.chain rates) rest_ ∙ append_assoc moved (micro.Visit (clock_id r.clock) ∷ []) (visits t.defs t.clocks prepared plan.chain rates ++ rest_))
-      ∙ script_before what (registered t.clocks) moved (micro.Visit (clock_id r.clock) ∷ (visits t.defs t.clocks prepared plan.chain rates ++ rest_)) (changes_plain what changes)
-      (moves_all (may_make what (registered t.clocks)) plan.set_parent t.defs t.clocks prepared (λ c p is. move_all (may_make what (registered t.clocks)) t.defs t.clocks prepared c p (relinked_may what changes linked c p is) changes (moved_may what changes linked c p is)) r.clock plan.chain can)
-      refl
-      (and_from (changes_rate what && registered t.clocks r.clock) (is_script what (registered t.clocks) (visits t.defs t.clocks prepared plan.chain rates ++ rest_))
-      (and_from (changes_rate what) (registered t.clocks r.clock) changes all.0) (visits_script what changes linked rates all.1)) where
+      ap (is_script what there_)
+      (append_assoc (moved ++ visit_of t.defs t.clocks plan.chain r.clock) (visits t.defs t.clocks prepared plan.chain rates) rest_
+      ∙ append_assoc moved (visit_of t.defs t.clocks plan.chain r.clock) after)
+      ∙ by (visits_script what changes linked rates all.1) (runs_for t.defs t.clocks plan.chain r.clock)
+      (λ x runs. feeds_may what changes x (runs_there x (runs_for_is t.defs t.clocks plan.chain r.clock x runs))) where
+        there_ : ℕ → Bool
+        there_ = registered t.clocks
+
         moved : List Micro
         moved = move_of t.defs t.clocks prepared plan.chain r.clock
 
         rest_ : List Micro
         rest_ = settles plan.set_parent plan.chain ++ micro.End ∷ []
+
+        after : List Micro
+        after = visits t.defs t.clocks prepared plan.chain rates ++ rest_
+
+        runs_there : (x : ℕ) → (x ≡ r.clock) ⊎ (link_in t.clocks r.clock ≡ Some x) → registered t.clocks x ≡ true
+        runs_there x (inl same) = ap (registered t.clocks) same ∙ all.0
+        runs_there x (inr link) = (linked r.clock x link).1
+
+        moves_may : list_all (may_make what there_) moved ≡ true
+        moves_may =
+            moves_all (may_make what there_) plan.set_parent t.defs t.clocks prepared
+            (λ c p is. move_all (may_make what there_) t.defs t.clocks prepared c p (relinked_may what changes linked c p is) changes (moved_may what changes linked c p is)) r.clock plan.chain can
+
+        visited : (tail : List Micro) → is_script what there_ tail ≡ true → is_script what there_ (micro.Visit (clock_id r.clock) ∷ tail) ≡ true
+        visited tail more = and_from (changes_rate what && registered t.clocks r.clock) (is_script what there_ tail) (and_from (changes_rate what) (registered t.clocks r.clock) changes all.0) more
+
+        calm : (x : ℕ) → list_all (may_make what there_) (unfeed x) ≡ true → list_all (λ m. may_make what there_ m && not (is_raise m)) (unfeed x) ≡ true
+        calm x e =
+            three (may_make what there_ (micro.DropEnable (clock_id x))) (may_make what there_ (micro.DropPrepare (clock_id x))) (may_make what there_ (micro.Lower (clock_id x))) e where
+              three : (a b c : Bool) → (a && (b && (c && true))) ≡ true → ((a && true) && ((b && true) && ((c && true) && true))) ≡ true
+              three true true true e = refl
+              three true true false e = absurd cc
+              three true false c e = absurd cc
+              three false b c e = absurd cc
+
+        by : is_script what there_ after ≡ true → (o : Option ℕ) → ((x : ℕ) → o ≡ Some x → FeedPasses (may_make what there_) x) → is_script what there_ (moved ++ (fed_step o (micro.Visit (clock_id r.clock)) ++ after)) ≡ true
+        by later None fed = script_before what there_ moved (micro.Visit (clock_id r.clock) ∷ after) changes moves_may refl (visited after later)
+        by later (Some x) fed =
+            ap (λ (ms : List Micro). is_script what there_ (moved ++ ms)) (append_assoc (feed x) (micro.Visit (clock_id r.clock) ∷ unfeed x) after)
+            ∙ ap (is_script what there_) (sym (append_assoc moved (feed x) (micro.Visit (clock_id r.clock) ∷ (unfeed x ++ after))))
+            ∙ script_before what there_ (moved ++ feed x) (micro.Visit (clock_id r.clock) ∷ (unfeed x ++ after)) changes
+            (all_both (may_make what there_) moved (feed x) moves_may (fed x refl).feeds) refl
+            (visited (unfeed x ++ after) (script_calm what there_ (unfeed x) after (changes_plain what changes) (calm x (fed x refl).lets) later))
 
   pub script_made : (what : Sleeping) → changes_rate what ≡ true → ((c p : ℕ) → link_in t.clocks c ≡ Some p → (registered t.clocks c ≡ true) × (registered t.clocks p ≡ true)) → is_script what (registered t.clocks) (steps_for t prepared lists plan changed) ≡ true
   script_made what changes linked =
@@ -136,10 +176,14 @@ module _ (t : TreeState) (prepared : ℕ → Bool) (lists : List (List Notifier)
   pub links_made : list_all (can_link t.defs t.clocks) (steps_for t prepared lists plan changed) ≡ true
   links_made = all_both (can_link t.defs t.clocks) (body_of t prepared lists plan changed) (micro.End ∷ []) (body_all (can_link t.defs t.clocks) t prepared lists plan changed can (record {
     tells = λ kind c id old new. refl;
-    moved = λ c p is. move_all (can_link t.defs t.clocks) t.defs t.clocks prepared c p (is_possible c p is) (selects c p is) (record { raises = refl; prepares = refl; enables = refl; own = refl; drops = refl; old = λ o at. refl });
-    seen = each_there (λ c. true) (registered t.clocks) plan.rates (λ c here. refl) there;
+    moved = λ c p is. move_all (can_link t.defs t.clocks) t.defs t.clocks prepared c p (is_possible c p is) (selects c p is) (record { new = record { feeds = refl; lets = refl }; own = record { feeds = refl; lets = refl }; old = λ o at. record { feeds = refl; lets = refl } });
+    seen = each_seen plan.rates;
     settled = settles_all (can_link t.defs t.clocks) plan.set_parent plan.chain (λ k ls sets at. refl);
   })) refl where
+    each_seen : (rates : List ClockRate) → AllByRecursion (λ r. VisitPasses (can_link t.defs t.clocks) t.defs t.clocks plan.chain r.clock) rates
+    each_seen [] = tt
+    each_seen (r ∷ rates) = (record { own = refl; fed = λ x runs. record { feeds = refl; lets = refl } }, each_seen rates)
+
     is_mux : (c p : ℕ) → IsMoved t.defs t.clocks c p → is_some (mux_field (kind_of t.defs c)) ≡ true
     is_mux c p is = both_left (is_some (mux_field (kind_of t.defs c))) (is_in p (parents_of t.defs c)) (both_left (is_some (mux_field (kind_of t.defs c)) && is_in p (parents_of t.defs c)) (rooted t.defs t.clocks p) is.candidate)
 
@@ -161,15 +205,27 @@ module _ (t : TreeState) (prepared : ℕ → Bool) (lists : List (List Notifier)
       unseen_first count (settles plan.set_parent plan.chain) (micro.End ∷ []) [] (settles_all unseen plan.set_parent plan.chain (λ k ls sets at. refl))
   visits_told count before (r ∷ rates) =
       ap (λ (ms : List Micro). tells_all count ms (told_clocks count before (r ∷ rates)))
-      (append_assoc (moved ++ micro.Visit (clock_id r.clock) ∷ []) (visits t.defs t.clocks prepared plan.chain rates) rest_ ∙ append_assoc moved (micro.Visit (clock_id r.clock) ∷ []) (visits t.defs t.clocks prepared plan.chain rates ++ rest_))
-      ∙ unseen_first count moved (micro.Visit (clock_id r.clock) ∷ (visits t.defs t.clocks prepared plan.chain rates ++ rest_)) (told_clocks count before (r ∷ rates))
-      (moves_all unseen plan.set_parent t.defs t.clocks prepared (λ c p is. move_all unseen t.defs t.clocks prepared c p refl refl (record { raises = refl; prepares = refl; enables = refl; own = refl; drops = refl; old = λ o at. refl })) r.clock plan.chain can)
-      ∙ visit_told count before r rates (visits t.defs t.clocks prepared plan.chain rates ++ rest_) (visits_told count before rates) where
+      (append_assoc (moved ++ visit_of t.defs t.clocks plan.chain r.clock) (visits t.defs t.clocks prepared plan.chain rates) rest_
+      ∙ append_assoc moved (visit_of t.defs t.clocks plan.chain r.clock) after)
+      ∙ unseen_first count moved (visit_of t.defs t.clocks plan.chain r.clock ++ after) (told_clocks count before (r ∷ rates))
+      (moves_all unseen plan.set_parent t.defs t.clocks prepared (λ c p is. move_all unseen t.defs t.clocks prepared c p refl refl
+      (record { new = record { feeds = refl; lets = refl }; own = record { feeds = refl; lets = refl }; old = λ o at. record { feeds = refl; lets = refl } })) r.clock plan.chain can)
+      ∙ by (visits_told count before rates) (runs_for t.defs t.clocks plan.chain r.clock) where
         moved : List Micro
         moved = move_of t.defs t.clocks prepared plan.chain r.clock
 
         rest_ : List Micro
         rest_ = settles plan.set_parent plan.chain ++ micro.End ∷ []
+
+        after : List Micro
+        after = visits t.defs t.clocks prepared plan.chain rates ++ rest_
+
+        by : tells_all count after (told_clocks count before rates) ≡ true → (o : Option ℕ) → tells_all count (fed_step o (micro.Visit (clock_id r.clock)) ++ after) (told_clocks count before (r ∷ rates)) ≡ true
+        by later None = visit_told count before r rates after later
+        by later (Some x) =
+            ap (λ (ms : List Micro). tells_all count ms (told_clocks count before (r ∷ rates))) (append_assoc (feed x) (micro.Visit (clock_id r.clock) ∷ unfeed x) after)
+            ∙ unseen_first count (feed x) (micro.Visit (clock_id r.clock) ∷ (unfeed x ++ after)) (told_clocks count before (r ∷ rates)) refl
+            ∙ visit_told count before r rates (unfeed x ++ after) (unseen_first count (unfeed x) after (told_clocks count before rates) refl ∙ later)
 
   pub tells_made : (count : ℕ → ℕ) (before : List ℕ) → tells_all count (steps_for t prepared lists plan changed) (told_clocks count before plan.rates) ≡ true
   tells_made count before =

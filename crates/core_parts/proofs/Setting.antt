@@ -8,7 +8,7 @@ use Rattle.clk_base.specs.Valid.{IsValid}
 use Rattle.clk_base.proofs.Valid.{field-field, fields-within}
 use Rattle.reg_bank.specs.Registers.{Registers, field, put}
 use Rattle.clk_model.specs.declared.row.ClockRow.{ClockRow}
-use Rattle.clk_model.specs.State.{ChainStep, registered}
+use Rattle.clk_model.specs.State.{ChainStep}
 use Rattle.clk_model.specs.Rate.{rate}
 use Rattle.clk_model.proofs.ApartLaws.{fields_apart}
 use Rattle.clk_model.proofs.GateRateLaws.{scales_is_field}
@@ -16,10 +16,10 @@ use Rattle.clk_model.proofs.OutcomeLaws.{field-put_outside}
 use Rattle.clk_model.proofs.RateLaws.{writes_leave_rates}
 use Rattle.clk_tree.specs.declared.chain.ChainStep as chain
 use Rattle.clk_tree.specs.Plans.{chain_of}
-use Rattle.clk_tree.specs.Refreshed.{is_below, IsFresh}
+use Rattle.clk_tree.specs.Refreshed.{is_below, FreshensAll}
 use Rattle.rate_planner.specs.Settings.{put_field}
 use Rattle.change_walk.proofs.Rests.{rest_of}
-use Rattle.core_parts.specs.declared.course.Notified.{Notified}
+use Rattle.change_walk.specs.declared.changes.Changed.{Changed}
 use Rattle.core_parts.specs.Course.{planned_along, behind_first}
 use Rattle.core_parts.specs.Tied.{AreKept}
 use Rattle.core_parts.proofs.RegisteredTree.{rate-take}
@@ -54,7 +54,7 @@ rate_beside words defs regs clocks c value k valid few off =
 -- where a refresh makes all rates right where those of the others are, all are, after the setting as before
 pub kept_set : (n : ℕ) (told : Option Registers) (was : Option (List ℕ)) (defs : Description) (clocks : List ClockRow) (old new : List ℕ) (c value : ℕ) → IsValid n defs
     → option_map (take n) told ≡ option_map (put_field (kind_of defs c) (Some value)) was → IfSome (field_of (kind_of defs c)) (λ g. value < 2 ^ g.width) → AreKept defs was clocks old
-    → IfSome told (λ regs. ((k : ℕ) → registered clocks k ≡ true → is_below clocks c k ≡ false → IsFresh defs regs clocks old k) → (k : ℕ) → registered clocks k ≡ true → IsFresh defs regs clocks new k)
+    → FreshensAll defs told clocks old new c
     → AreKept defs (option_map (take n) told) clocks new
 kept_set n None was defs clocks old new c value valid is few kept says = tt
 kept_set n (Some regs) None defs clocks old new c value valid is few kept says = absurd cc
@@ -95,16 +95,16 @@ planned_passed steps k step c whole at other all =
     sym (planned_first (step_of step) (drop (k + 1) (chain_of steps)) c false other) ∙ ap (λ (ks : List ChainStep). planned_along ks c) (sym (rest_of step_of steps k step at)) ∙ all
 
 -- the clocks behind the first
-pub drop_one : (k : ℕ) (xs : List Notified) → drop (k + 1) xs ≡ behind_first (drop k xs)
+pub drop_one : (k : ℕ) (xs : List Changed) → drop (k + 1) xs ≡ behind_first (drop k xs)
 drop_one k xs = sym (ap (λ (n : ℕ). drop n xs) (let e : suc k ≡ k + 1 = omega arith in e)) ∙ one k xs where
-  one : (k : ℕ) (xs : List Notified) → drop (suc k) xs ≡ behind_first (drop k xs)
+  one : (k : ℕ) (xs : List Changed) → drop (suc k) xs ≡ behind_first (drop k xs)
   one zero [] = refl
   one zero (x ∷ xs) = refl
   one (suc k) [] = refl
   one (suc k) (x ∷ xs) = one k xs
 
 -- none is behind the last
-pub drop_last : (k : ℕ) (xs : List Notified) → length xs ≤ k → drop k xs ≡ behind_first (drop k xs)
+pub drop_last : (k : ℕ) (xs : List Changed) → length xs ≤ k → drop k xs ≡ behind_first (drop k xs)
 drop_last zero [] past = refl
 drop_last zero (x ∷ xs) past = absurd (omega arith)
 drop_last (suc k) [] past = refl

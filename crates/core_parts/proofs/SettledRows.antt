@@ -87,6 +87,7 @@ pub record Settling (old now : TreeState) (levels clock : ℕ) (next : Option Cl
   pub order : now.order ≡ old.order
   pub rates : now.rates ≡ old.rates
   pub defs : now.defs ≡ old.defs
+  pub checked : now.words ≡ old.words
   pub stands : IsTree now.defs now.clocks now.order now.rates
   pub next_ : option_map (λ c. c.0) next ≡ slice_get (children old.order old.clocks clock) step
 
@@ -97,13 +98,14 @@ settling_links old now levels clock next step is d =
     ∙ links_settled (slice_index old.rates) (requested old.clocks clock (slice_index old.rates clock)) (flat_map (below_within (children old.order old.clocks) levels) (take step (children old.order old.clocks clock))) d
     ∙ links_settled (slice_index old.rates) old.clocks (clock ∷ []) d
 
-pub settling_begins : (old now : TreeState) (levels clock : ℕ) (next : Option ClockId) → now.clocks ≡ requested old.clocks clock (slice_index old.rates clock) → now.order ≡ old.order → now.rates ≡ old.rates → now.defs ≡ old.defs
+pub settling_begins : (old now : TreeState) (levels clock : ℕ) (next : Option ClockId) → now.clocks ≡ requested old.clocks clock (slice_index old.rates clock) → now.order ≡ old.order → now.rates ≡ old.rates → now.defs ≡ old.defs → now.words ≡ old.words
     → IsTree now.defs now.clocks now.order now.rates → option_map (λ c. c.0) next ≡ slice_get (children now.order now.clocks clock) 0 → Settling old now levels clock next 0
-settling_begins old now levels clock next clocks order rates defs stands first = record {
+settling_begins old now levels clock next clocks order rates defs checked stands first = record {
   clocks = clocks;
   order = order;
   rates = rates;
   defs = defs;
+  checked = checked;
   stands = stands;
   next_ =
       first ∙ ap (λ (ks : ℕ → List ℕ). slice_get (ks clock) 0)
@@ -116,10 +118,10 @@ take_at (y ∷ ys) zero x e = let same : y ≡ x = cc in ap (λ (z : ℕ). z ∷
 take_at (y ∷ ys) (suc n) x e = ap (λ (zs : List ℕ). y ∷ zs) (take_at ys n x e)
 
 pub settling_goes : (old mid new : TreeState) (levels clock : ℕ) (child : ClockId) (next' : Option ClockId) (step : ℕ) → Settling old mid levels clock (Some child) step
-    → new.clocks ≡ settled_rows (slice_index mid.rates) mid.clocks (below_within (children mid.order mid.clocks) levels child.0) → new.order ≡ mid.order → new.rates ≡ mid.rates → new.defs ≡ mid.defs
+    → new.clocks ≡ settled_rows (slice_index mid.rates) mid.clocks (below_within (children mid.order mid.clocks) levels child.0) → new.order ≡ mid.order → new.rates ≡ mid.rates → new.defs ≡ mid.defs → new.words ≡ mid.words
     → IsTree new.defs new.clocks new.order new.rates → ((p k : ℕ) → slice_get (children new.order new.clocks p) k ≡ Some child.0 → option_map (λ d. d.0) next' ≡ slice_get (children new.order new.clocks p) (k + 1))
     → Settling old new levels clock next' (suc step)
-settling_goes old mid new levels clock child next' step is clocks order rates defs stands follows = record {
+settling_goes old mid new levels clock child next' step is clocks order rates defs checked stands follows = record {
   clocks =
       clocks ∙ ap (λ (xs : List ℕ). settled_rows (slice_index xs) mid.clocks (below_within (children mid.order mid.clocks) levels child.0)) is.rates
       ∙ ap (λ (ks : ℕ → List ℕ). settled_rows f mid.clocks (below_within ks levels child.0)) kids_mid
@@ -129,6 +131,7 @@ settling_goes old mid new levels clock child next' step is clocks order rates de
   order = order ∙ is.order;
   rates = rates ∙ is.rates;
   defs = defs ∙ is.defs;
+  checked = checked ∙ is.checked;
   stands = stands;
   next_ =
       follows clock step (ap (λ (ks : ℕ → List ℕ). slice_get (ks clock) step) kids_new ∙ sym is.next_)

@@ -10,8 +10,9 @@ use Rattle.clk_base.specs.declared.call.Sleeping.TheVariants as call
 use Rattle.clk_base.specs.declared.clock.ClockId.{ClockId}
 use Rattle.clk_model.specs.State.{NotifierRow}
 use Rattle.clk_model.specs.Notices.{notifiers_of}
-use Rattle.clk_model.specs.Step.{is_end, is_visit, is_register, is_settle, from_first, behind_first, cut_short, rest_of, sets_parent}
+use Rattle.clk_model.specs.Step.{is_end, is_visit, is_close, is_register, is_settle, lets_go, from_first, behind_first, behind_lets, first_alone, cut_short, rest_of, sets_parent}
 use Rattle.clk_model.proofs.Members.{or_cases, or_right, not_either, both_left, both_right}
+use Rattle.std.proofs.lemmas.Bool.{and_from}
 use Rattle.clk_model.proofs.DelayLaws.{three_true}
 use Rattle.clk_flight.specs.declared.front.Front.{Front}
 use Rattle.clk_flight.specs.declared.front.Front.TheVariants.{Empty, Poll, Raise, Lower, Falls, Posts}
@@ -157,9 +158,10 @@ pub changes_links : (what : Sleeping) → changes_rate what ≡ true → links_c
 changes_links what e = ap (λ (b : Bool). b || is_probe what) e
 
 -- what a timeout leaves of the script of such a call
-pub cut_plain : (what : Sleeping) (ms : List Micro) → is_probe what ≡ false → can_cut what ms ≡ (list_any is_visit ms || not (asks_rate what))
-cut_plain (call.Probe c) ms lacks = absurd cc
-cut_plain _ ms lacks = refl
+pub cut_plain : (what : Sleeping) (ms : List Micro) → changes_rate what ≡ true → can_cut what ms ≡ (list_any is_visit ms || not (asks_rate what))
+cut_plain (call.Probe c) ms changes = absurd cc
+cut_plain call.Sweep ms changes = absurd cc
+cut_plain _ ms changes = refl
 
 pub makes_plain : (what : Sleeping) (there : ℕ → Bool) (m : Micro) → is_probe what ≡ false → may_make what there m ≡ true → is_register m ≡ false
 makes_plain what there (micro.Register c) lacks may = let never : false ≡ true = sym (no_probes what c.0 lacks) ∙ may in absurd cc
@@ -186,45 +188,97 @@ cut_visit : (what : Sleeping) (there : ℕ → Bool) (ms : List Micro) → is_pr
 cut_visit what there [] lacks some e = absurd cc
 cut_visit what there (m ∷ ms) lacks some e = visit_one what there m ms (is_visit m) lacks refl some e (λ h more. cut_visit what there ms lacks more h)
 
--- behind its first settling, where no clock is registered before
-settle_one : (what : Sleeping) (there : ℕ → Bool) (m : Micro) (ms : List Micro) (t : Bool) → is_settle m ≡ t → list_any is_register (m ∷ ms) ≡ false → list_any is_settle (m ∷ ms) ≡ true → is_script what there (m ∷ ms) ≡ true
-    → (list_any is_register ms ≡ false → list_any is_settle ms ≡ true → is_script what there ms ≡ true → is_script what there (behind_first is_settle ms) ≡ true)
-    → is_script what there (if t then ms else behind_first is_settle ms) ≡ true
-settle_one what there m ms t at lacks some e more = by t at where
+-- after its first step of a kind other than the end, if no clock is registered before
+first_one : (test : Micro → Bool) (goes_on : (n : Micro) → test n ≡ true → is_end n ≡ false) (what : Sleeping) (there : ℕ → Bool) (m : Micro) (ms : List Micro) (t : Bool) → test m ≡ t
+    → list_any is_register (m ∷ ms) ≡ false → list_any test (m ∷ ms) ≡ true → is_script what there (m ∷ ms) ≡ true
+    → (list_any is_register ms ≡ false → list_any test ms ≡ true → is_script what there ms ≡ true → is_script what there (behind_first test ms) ≡ true)
+    → is_script what there (if t then ms else behind_first test ms) ≡ true
+first_one test goes_on what there m ms t at lacks some e more = by t at where
   plain : is_register m ≡ false
   plain = (not_either (is_register m) (list_any is_register ms) lacks).0
 
   later : list_any is_register ms ≡ false
   later = (not_either (is_register m) (list_any is_register ms) lacks).1
 
-  settle_goes : (n : Micro) → is_settle n ≡ true → is_end n ≡ false
-  settle_goes (micro.Settle c) is = refl
-  settle_goes _ is = absurd cc
-
   rest : is_end m ≡ false → is_script what there ms ≡ true
   rest goes = sym (ap (λ (test : ℕ → Bool). is_script what test ms) (there_still there m plain)) ∙ (behind_seek what there m ms goes e).1
 
-  by_end : (u : Bool) → is_end m ≡ u → list_any is_settle ms ≡ true → is_script what there (behind_first is_settle ms) ≡ true
+  by_end : (u : Bool) → is_end m ≡ u → list_any test ms ≡ true → is_script what there (behind_first test ms) ≡ true
   by_end true ends settles =
       let none : ms ≡ [] = ap rest_of (end_alone what there m ms ends e) in
-      let never : false ≡ true = sym (ap (λ (ns : List Micro). list_any is_settle ns) none) ∙ settles in
+      let never : false ≡ true = sym (ap (λ (ns : List Micro). list_any test ns) none) ∙ settles in
       absurd cc
   by_end false goes settles = more later settles (rest goes)
 
-  by : (u : Bool) → is_settle m ≡ u → is_script what there (if u then ms else behind_first is_settle ms) ≡ true
-  by true here = rest (settle_goes m here)
-  by false here = by_end (is_end m) refl (sym (ap (λ (b : Bool). b || list_any is_settle ms) here) ∙ some)
+  by : (u : Bool) → test m ≡ u → is_script what there (if u then ms else behind_first test ms) ≡ true
+  by true here = rest (goes_on m here)
+  by false here = by_end (is_end m) refl (sym (ap (λ (b : Bool). b || list_any test ms) here) ∙ some)
 
-cut_settle : (what : Sleeping) (there : ℕ → Bool) (ms : List Micro) → list_any is_register ms ≡ false → list_any is_settle ms ≡ true → is_script what there ms ≡ true → is_script what there (behind_first is_settle ms) ≡ true
-cut_settle what there [] lacks some e = absurd cc
-cut_settle what there (m ∷ ms) lacks some e = settle_one what there m ms (is_settle m) refl lacks some e (λ later settles is. cut_settle what there ms later settles is)
+cut_first : (test : Micro → Bool) → ((n : Micro) → test n ≡ true → is_end n ≡ false) → (what : Sleeping) (there : ℕ → Bool) (ms : List Micro) → list_any is_register ms ≡ false
+    → list_any test ms ≡ true → is_script what there ms ≡ true → is_script what there (behind_first test ms) ≡ true
+cut_first test goes_on what there [] lacks some e = absurd cc
+cut_first test goes_on what there (m ∷ ms) lacks some e = first_one test goes_on what there m ms (test m) refl lacks some e (λ later more is. cut_first test goes_on what there ms later more is)
+
+settle_goes : (n : Micro) → is_settle n ≡ true → is_end n ≡ false
+settle_goes (micro.Settle c) is = refl
+settle_goes _ is = absurd cc
+
+close_goes : (n : Micro) → is_close n ≡ true → is_end n ≡ false
+close_goes (micro.Close c) is = refl
+close_goes _ is = absurd cc
+
+-- without the steps before it that let go
+cut_lets : (what : Sleeping) (there : ℕ → Bool) (ms : List Micro) → is_script what there ms ≡ true → is_script what there (behind_lets ms) ≡ true
+cut_lets what there [] e = e
+cut_lets what there (m ∷ ms) e = by (lets_go m) refl (λ h. cut_lets what there ms h) where
+  goes : (n : Micro) → lets_go n ≡ true → (is_end n ≡ false) × (is_register n ≡ false)
+  goes (micro.DropEnable x) is = (refl, refl)
+  goes (micro.DropPrepare x) is = (refl, refl)
+  goes (micro.Lower x) is = (refl, refl)
+  goes _ is = absurd cc
+
+  by : (t : Bool) → lets_go m ≡ t → (is_script what there ms ≡ true → is_script what there (behind_lets ms) ≡ true) → is_script what there (if t then behind_lets ms else m ∷ ms) ≡ true
+  by true is more = more (sym (ap (λ (test : ℕ → Bool). is_script what test ms) (there_still there m (goes m is).1)) ∙ (behind_seek what there m ms (goes m is).0 e).1)
+  by false is more = e
+
+-- a visit without the steps after it that let go
+visit_alone : (what : Sleeping) (there : ℕ → Bool) (ms : List Micro) → is_script what there (from_first is_visit ms) ≡ true → is_script what there (first_alone (from_first is_visit ms)) ≡ true
+visit_alone what there [] e = e
+visit_alone what there (m ∷ ms) e = by (is_visit m) refl e (λ h. visit_alone what there ms h) where
+  own : (n : Micro) → is_visit n ≡ true → is_script what there (n ∷ ms) ≡ true → is_script what there (n ∷ behind_lets ms) ≡ true
+  own (micro.Visit c) is h =
+      let made : (changes_rate what && there c.0 && is_script what there ms) ≡ true = h in
+      and_from (changes_rate what && there c.0) (is_script what there (behind_lets ms)) (both_left _ _ made) (cut_lets what there ms (both_right _ _ made))
+  own _ is h = absurd cc
+
+  by : (t : Bool) → is_visit m ≡ t → is_script what there (if t then m ∷ ms else from_first is_visit ms) ≡ true
+      → (is_script what there (from_first is_visit ms) ≡ true → is_script what there (first_alone (from_first is_visit ms)) ≡ true)
+      → is_script what there (first_alone (if t then m ∷ ms else from_first is_visit ms)) ≡ true
+  by true is h more = own m is h
+  by false is h more = more h
+
+-- a sweep registers no clock
+sweep_registers : (there : ℕ → Bool) (ms : List Micro) → is_script call.Sweep there ms ≡ true → list_any is_register ms ≡ false
+sweep_registers there [] e = refl
+sweep_registers there (m ∷ ms) e = by (is_end m) refl (λ h. sweep_registers there ms h) where
+  by : (t : Bool) → is_end m ≡ t → (is_script call.Sweep there ms ≡ true → list_any is_register ms ≡ false) → list_any is_register (m ∷ ms) ≡ false
+  by true ends more =
+      let none : ms ≡ [] = ap rest_of (end_alone call.Sweep there m ms ends e) in
+      ap (λ (ns : List Micro). is_register m || list_any is_register ns) none ∙ ends_plain m ends where
+        ends_plain : (n : Micro) → is_end n ≡ true → (is_register n || false) ≡ false
+        ends_plain micro.End is = refl
+        ends_plain _ is = absurd cc
+  by false goes more =
+      let made = behind_seek call.Sweep there m ms goes e in
+      let plain = makes_plain call.Sweep there m refl made.0 in
+      ap (λ (b : Bool). b || list_any is_register ms) plain ∙ more (sym (ap (λ (test : ℕ → Bool). is_script call.Sweep test ms) (there_still there m plain)) ∙ made.1)
 
 -- of a registration that isn't made the end is left, and of an adoption what stands behind it
 cut_probe : (c : ClockId) (there : ℕ → Bool) (ms : List Micro) → can_cut (call.Probe c) ms ≡ true → is_script (call.Probe c) there ms ≡ true → is_script (call.Probe c) there (cut_short (call.Probe c) ms) ≡ true
 cut_probe c there ms cut e = by (list_any is_register ms) refl where
   by : (t : Bool) → list_any is_register ms ≡ t → is_script (call.Probe c) there (if t then from_first is_end ms else behind_first is_settle ms) ≡ true
   by true some = cut_end (call.Probe c) there ms e
-  by false none = cut_settle (call.Probe c) there ms none (sym (ap (λ (b : Bool). b || list_any is_settle ms) none) ∙ cut) e
+  by false none = cut_first is_settle settle_goes (call.Probe c) there ms none (sym (ap (λ (b : Bool). b || list_any is_settle ms) none) ∙ cut) e
 
 -- a visit is left of a request for a rate
 asks_visit : (ms : List Micro) → (list_any is_visit ms || false) ≡ true → list_any is_visit ms ≡ true
@@ -235,11 +289,15 @@ asks_visit ms e = elim (or_cases (list_any is_visit ms) false e) [
 
 cut_script : (what : Sleeping) (there : ℕ → Bool) (ms : List Micro) → may_raise what ≡ true → can_cut what ms ≡ true → is_script what there ms ≡ true → is_script what there (cut_short what ms) ≡ true
 cut_script (call.Prepare h) there ms may cut e = cut_end (call.Prepare h) there ms e
-cut_script (call.SetRate h x) there ms may cut e = cut_visit (call.SetRate h x) there ms refl (asks_visit ms cut) e
-cut_script (call.SetRateExclusive h x) there ms may cut e = cut_visit (call.SetRateExclusive h x) there ms refl (asks_visit ms cut) e
-cut_script (call.SetRange h least most) there ms may cut e = cut_visit (call.SetRange h least most) there ms refl (asks_visit ms cut) e
+cut_script (call.SetRate h x) there ms may cut e = visit_alone (call.SetRate h x) there ms (cut_visit (call.SetRate h x) there ms refl (asks_visit ms cut) e)
+cut_script (call.SetRateExclusive h x) there ms may cut e =
+    visit_alone (call.SetRateExclusive h x) there ms (cut_visit (call.SetRateExclusive h x) there ms refl (asks_visit ms cut) e)
+cut_script (call.SetRange h least most) there ms may cut e =
+    visit_alone (call.SetRange h least most) there ms (cut_visit (call.SetRange h least most) there ms refl (asks_visit ms cut) e)
 cut_script (call.SetParent h p) there ms may cut e = cut_end (call.SetParent h p) there ms e
 cut_script (call.Probe c) there ms may cut e = cut_probe c there ms cut e
+cut_script call.Sweep there ms may cut e =
+    cut_lets call.Sweep there (behind_first is_close ms) (cut_first is_close close_goes call.Sweep there ms (sweep_registers there ms e) cut e)
 cut_script _ there ms may cut e = absurd cc
 
 -- falls, and of a change of parent notices that it is called off

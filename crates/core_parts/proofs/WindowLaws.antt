@@ -55,13 +55,7 @@ pub told_first : (n size : ℕ) (told : Option (List ℕ)) → n ≤ size → If
 told_first n size None fits sized whole = tt
 told_first n size (Some words) fits sized whole = (All-take (λ word. word < 2 ^ 32) n words whole, length-take-le n words (omega arith))
 
--- where the words are told, so is the field
-pub told_field : (n : ℕ) (told : Option (List ℕ)) (word shift width answer : ℕ) → word < n → IfSome told (λ words. answer ≡ field words word shift width)
-    → IfSome (option_map (take n) told) (λ words. answer ≡ field words word shift width)
-told_field n None word shift width answer within h = tt
-told_field n (Some words) word shift width answer within h = h ∙ sym (field-take n words word shift width within)
-
--- so with a field
+-- so is a number that is put into a field
 pub field_told_put : (n : ℕ) (told new : Option (List ℕ)) (word shift width value : ℕ) → word < n → new ≡ option_map (λ words. put words word shift width value) told
     → option_map (take n) new ≡ option_map (λ words. put words word shift width value) (option_map (take n) told)
 unfolding put

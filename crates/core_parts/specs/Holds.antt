@@ -1,5 +1,20 @@
 -- What is held for a change in flight: how often each clock is.
 use Rattle.std.specs.Prelude.{◌≡◌, ◌≢◌, ℕ, zero, suc, ◌+◌, ◌≤◌, ◌==◌, List, [], ◌∷◌, Option, Some, None, if◌then◌else◌, Bool, false, length, count_by, sum_by, slice_index}
+use Rattle.counts_core.specs.Counted.{CountState}
+use Rattle.core_parts.specs.declared.holds.HoldKind.{HoldKind}
+use Rattle.core_parts.specs.declared.holds.HoldKind.TheVariants as kind
+
+-- how many holders of a kind each clock has of its own
+abbrev pub own_of : HoldKind → CountState → List ℕ
+own_of kind.Prepare k = k.prepares
+own_of kind.Enable k = k.enables
+own_of kind.Exclusive k = k.exclusives
+
+-- counts with these holders of a kind
+abbrev pub with_own : HoldKind → CountState → List ℕ → CountState
+with_own kind.Prepare k own = record k { prepares = own }
+with_own kind.Enable k own = record k { enables = own }
+with_own kind.Exclusive k own = record k { exclusives = own }
 
 -- so many holds of a clock in front of others
 abbrev pub held_times : ℕ → ℕ → List ℕ → List ℕ

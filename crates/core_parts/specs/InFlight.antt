@@ -13,7 +13,7 @@ use Rattle.clk_model.specs.Kinds.{mux_field}
 use Rattle.clk_model.specs.Lists.{is_in}
 use Rattle.clk_model.specs.State.{registered, link_in}
 use Rattle.clk_model.specs.Prep.{is_sweep}
-use Rattle.clk_model.specs.Step.{is_end, is_visit, is_register, is_settle, sets_parent}
+use Rattle.clk_model.specs.Step.{is_end, is_visit, is_close, is_register, is_settle, sets_parent}
 use Rattle.clk_flight.specs.declared.front.Front.{Front}
 use Rattle.clk_flight.specs.declared.front.Front.TheVariants.{Empty, Poll, Raise, Lower, Falls, Posts}
 use Rattle.clk_flight.specs.Flights.{FlightState}
@@ -64,13 +64,13 @@ is_near what there c = there c || probes what c
 abbrev pub is_worked_out : Sleeping → Bool
 is_worked_out what = changes_rate what || is_sweep what || is_probe what
 
--- whether a call may raise PLLs: a prepare, a probe, or a change of a rate or a parent
+-- whether a call may raise PLLs: a prepare, a change of a rate or a parent, a probe, or the sweep
 abbrev pub may_raise : Sleeping → Bool
-may_raise what = is_prepare what || changes_rate what || is_probe what
+may_raise what = is_prepare what || changes_rate what || is_probe what || is_sweep what
 
--- whether a call may lower PLLs: an unprepare, or a change of a rate or a parent
+-- whether a call may lower PLLs: an unprepare, a change of a rate or a parent, or the sweep
 abbrev pub may_lower : Sleeping → Bool
-may_lower what = is_unprepare what || changes_rate what
+may_lower what = is_unprepare what || changes_rate what || is_sweep what
 
 -- whether a call may go on: a prepare, an unprepare, a change of a rate or a parent, the sweep, or a probe
 abbrev pub may_go_on : Sleeping → Bool
@@ -79,6 +79,10 @@ may_go_on what = is_prepare what || is_unprepare what || changes_rate what || is
 -- whether a call gives clocks links: a change of a rate or a parent, or a probe
 abbrev pub links_clocks : Sleeping → Bool
 links_clocks what = changes_rate what || is_probe what
+
+-- whether a call holds clocks while it goes on: one that links clocks, or the sweep
+abbrev pub holds_clocks : Sleeping → Bool
+holds_clocks what = links_clocks what || is_sweep what
 
 -- whether a step raises or lowers the PLLs of a clock that passes a test, as its call may; a probe raises those of the clock that it registers, too
 abbrev pub may_seek : Sleeping → (ℕ → Bool) → Micro → Bool
@@ -90,10 +94,10 @@ may_seek what there _ = false
 -- holds it, lets it go, settles its last request or links it to another such clock, as its call may
 abbrev pub may_make : Sleeping → (ℕ → Bool) → Micro → Bool
 may_make what there (micro.Notify kind c id old new) = changes_rate what
-may_make what there (micro.HoldPrepare x) = links_clocks what && there x.0
-may_make what there (micro.HoldEnable x) = links_clocks what && there x.0
-may_make what there (micro.DropEnable x) = links_clocks what && there x.0
-may_make what there (micro.DropPrepare x) = links_clocks what && there x.0
+may_make what there (micro.HoldPrepare x) = holds_clocks what && there x.0
+may_make what there (micro.HoldEnable x) = holds_clocks what && there x.0
+may_make what there (micro.DropEnable x) = holds_clocks what && there x.0
+may_make what there (micro.DropPrepare x) = holds_clocks what && there x.0
 may_make what there (micro.Relink c p) = links_clocks what && (there c.0 && there p.0)
 may_make what there (micro.WriteMux c place) = changes_rate what
 may_make what there (micro.Visit c) = changes_rate what && there c.0
@@ -111,10 +115,11 @@ can_link defs clocks (micro.WriteMux c place) = is_some (mux_field (kind_of defs
 can_link defs clocks (micro.Register c) = nat_lt c.0 (length defs) && not (registered clocks c.0)
 can_link defs clocks _ = true
 
--- whether a timeout leaves steps of this rest of a script: it has a visit, where the call asks for a rate, and where it registers a clock the
--- registration or a settling
+-- whether a timeout leaves steps of this rest of a script: it has a visit, if the call asks for a rate; the registration or a settling, if it
+-- registers a clock; and a gate to close, if it is the sweep
 abbrev pub can_cut : Sleeping → List Micro → Bool
 can_cut (call.Probe c) ms = list_any is_register ms || list_any is_settle ms
+can_cut call.Sweep ms = list_any is_close ms
 can_cut what ms = list_any is_visit ms || not (asks_rate what)
 
 -- whether the rest behind a step is as it may be: behind a raise a timeout leaves steps of it, and behind a registration there is no other

@@ -9,6 +9,10 @@ use Rattle.clk_model.specs.Rate.{rate}
 use Rattle.clk_tree.specs.TreeState.{TreeState, IsTree}
 use Rattle.core_parts.specs.Window.{Shown, AreTold}
 
+-- the description of a tree, as a checked one is seen
+abbrev pub desc_of : TreeState → Checked
+desc_of t = record { words = t.words; defs = t.defs }
+
 -- the kept rate of each registered clock is the one that the registers give, where they are told
 abbrev pub AreKept : Description → Option (List ℕ) → List ClockRow → List ℕ → Type 0
 AreKept defs words clocks rates = IfSome words (λ regs. (c : ℕ) → registered clocks c ≡ true → slice_index rates c ≡ rate defs regs clocks c)

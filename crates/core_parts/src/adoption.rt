@@ -1,15 +1,14 @@
 //! The steps of an adoption and of a registration.
 
 ghost use Rattle.std.specs.Prelude.{◌≡◌, ◌<◌, ◌++◌, ◌||◌, ◌&&◌, OnErr, OnOk};
-ghost use Rattle.clk_model.specs.Begin.{register};
 ghost use Rattle.clk_model.specs.Holders.{prepared};
 ghost use Rattle.core_parts.specs.Adoption.{adoption_by, registration_of};
 
 use clk_base::{ClockId, Micro};
 use clk_io::NoMemory;
 
-/// The steps by which a parent adopts an orphan that is prepared or isn't, behind these. Want of
-/// memory is its one refusal.
+/// The steps by which a parent adopts an orphan that is prepared or isn't, after these. Its one refusal
+/// is that memory runs out.
 pub fn push_adoption_by(
     steps: &mut Vec<Micro>,
     orphan: ClockId,
@@ -35,8 +34,8 @@ pub fn push_adoption_by(
     Ok(())
 }
 
-/// The steps that register a clock that is critical or isn't, behind these. Want of memory is its
-/// one refusal.
+/// The steps that register a clock that is critical or isn't, after these. Its one refusal is that
+/// memory runs out.
 pub fn push_registration(
     steps: &mut Vec<Micro>,
     clock: ClockId,

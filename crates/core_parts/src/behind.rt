@@ -3,10 +3,10 @@
 use std::alloc::Global;
 use std::collections::LinkedList;
 
-/// What lies behind the words of a description in a bank, and stays as it is.
+/// What lies after the words of a description in a bank, and stays as it is.
 pub struct Behind {
-    /// The words behind those, where the bank tells them.
+    /// The words after those, if the bank tells them.
     pub words: Option<LinkedList<u32, Global>>,
-    /// How many polls the lock of each PLL asks for, where the bank tells it.
+    /// How many polls the lock of each PLL asks for, if the bank tells it.
     pub delays: LinkedList<Option<u32>, Global>,
 }

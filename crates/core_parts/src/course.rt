@@ -4,28 +4,19 @@ ghost use Rattle.std.specs.Prelude.{◌≡◌, ◌<◌, [], Some, length, slice_
 ghost use Rattle.clk_tree.specs.Plans.{chain_of};
 ghost use Rattle.core_parts.specs.Course.{planned_along, behind_first};
 
+use change_walk::Changed;
 use clk_base::ClockId;
 use clk_tree::{ChainStep, PlannedChain, step_at};
 use std::alloc::Global;
 use std::marker::Model;
 use std::mem::swap;
 
-/// A clock with notifiers that a change visits.
-#[derive(Clone, Copy, Debug, PartialEq, Eq)]
-pub struct Notified {
-    pub clock: ClockId,
-    /// Its rate in Hz before the change.
-    pub before: u64,
-    /// Its planned rate in Hz.
-    pub after: u64,
-}
-
 /// The planned chain of a change of rate, and the clocks with notifiers that it still visits. To
 /// contracts it is a `CourseState`. No call takes memory.
 #[derive(Drop)]
 pub struct Course {
     chain: PlannedChain,
-    notified: Vec<Notified>,
+    notified: Vec<Changed>,
     /// How many of them were visited.
     at: usize,
 }
@@ -69,7 +60,7 @@ impl Course {
 
     /// From now on this chain and these clocks, of which none was visited. Their lists change places
     /// with those before.
-    pub fn begin(&mut self, chain: &mut PlannedChain, notified: &mut Vec<Notified>)
+    pub fn begin(&mut self, chain: &mut PlannedChain, notified: &mut Vec<Changed>)
         ensures chain { self.new.chain ≡ chain.old }
         ensures notified { self.new.notified ≡ notified.old.items }
     {
@@ -86,7 +77,7 @@ impl Course {
     }
 
     /// The clock with notifiers that is visited next.
-    pub fn first(&self) -> Option<Notified>
+    pub fn first(&self) -> Option<Changed>
         ensures { result ≡ slice_get self.now.notified 0 }
     {
         self.notified.get(self.at).copied()

@@ -1,7 +1,6 @@
 //! What a change is worked out in before it begins.
 
-use crate::course::Notified;
-use change_walk::StepList;
+use change_walk::{Changed, StepList};
 use rate_planner::Planning;
 use std::alloc::Global;
 
@@ -12,7 +11,7 @@ use std::alloc::Global;
 pub struct Draft {
     pub planning: Planning,
     pub script: StepList,
-    pub told: Vec<Notified>,
+    pub told: Vec<Changed>,
 }
 
 impl Draft {

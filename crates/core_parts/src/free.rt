@@ -1,4 +1,4 @@
-//! What planning sees of the clocks where one of them is free of what protects it.
+//! What planning sees of the clocks if one of them is free of what protects it.
 
 ghost use Rattle.std.specs.Prelude.{◌≡◌, ◌<◌, ◌≤◌, length};
 ghost use Rattle.clk_model.specs.Lists.{is_in};
@@ -9,20 +9,16 @@ ghost use Rattle.core_parts.specs.Free.{sole_parent, freed, free_seen, is_sole};
 ghost use Rattle.core_parts.specs.Seen.{handles_seen};
 ghost use Rattle.core_parts.specs.Shape.{LinksLie};
 
-use crate::seen::{OtherRange, bounds_seen};
+use crate::seen::Seen;
 use clk_base::{ClockId, depth};
 use clk_model::HandleRow;
 use clk_tree::{Tree, View};
 use counts_core::Counts;
-use rate_requests::Requests;
 
-/// The boundaries that handles set to each clock, and whether the counts say that it is guarded and
-/// prepared, where so many clocks of the path of one are free.
+/// What planning sees of the clocks, if so many of the path of one are free.
 #[derive(Drop)]
 pub(crate) struct FreeSeen<'a> {
-    pub handles: &'a Requests,
-    pub ranged: Option<OtherRange>,
-    pub counts: &'a Counts,
+    pub seen: &'a Seen<'a>,
     pub tree: &'a Tree,
     pub clock: ClockId,
     /// How many clocks are free, from this one upwards.
@@ -30,20 +26,21 @@ pub(crate) struct FreeSeen<'a> {
 }
 
 impl<'a> View for FreeSeen<'a> {
-    ghost size = { λ v. length v.counts.now.links };
+    ghost size = { λ v. length v.seen.now.counts.now.links };
 
-    ghost means = { λ v. free_seen (handles_seen v.ranged v.handles.now.handles) v.counts.now (path_within (link_in v.tree.now.clocks) v.many v.clock.0) };
+    ghost means = { λ v. free_seen (handles_seen v.seen.now.ranged v.seen.now.handles.now.handles) v.seen.now.counts.now
+        (path_within (link_in v.tree.now.clocks) v.many v.clock.0) };
 
     fn bounds(&self, c: ClockId) -> (u64, u64) {
-        bounds_seen(self.handles, self.ranged, c)
+        self.seen.bounds(c)
     }
 
     fn guarded(&self, c: ClockId) -> bool {
-        self.counts.protected(c) > 0 && !is_among(self.many, self.tree, self.clock, c)
+        self.seen.guarded(c) && !is_among(self.many, self.tree, self.clock, c)
     }
 
     fn prepared(&self, c: ClockId) -> bool {
-        self.counts.prepared(c) > 0
+        self.seen.prepared(c)
     }
 }
 
@@ -68,7 +65,8 @@ pub fn is_among(many: u32, tree: &Tree, from: ClockId, clock: ClockId) -> bool
 fn sole_above(levels: u32, tree: &Tree, counts: &Counts, clock: ClockId) -> u32
     requires links { LinksLie tree.now.defs tree.now.clocks }
     requires counted { length counts.now.links ≡ length tree.now.defs }
-    ensures sole { path_within (link_in tree.now.clocks) result clock.0 ≡ path_within (sole_parent (link_in tree.now.clocks) (protect_sum counts.now)) levels clock.0 }
+    ensures sole { path_within (link_in tree.now.clocks) result clock.0
+        ≡ path_within (sole_parent (link_in tree.now.clocks) (protect_sum counts.now)) levels clock.0 }
     ensures few { result ≤ levels }
 {
     if levels == 0 {
@@ -83,7 +81,7 @@ fn sole_above(levels: u32, tree: &Tree, counts: &Counts, clock: ClockId) -> u32
     1 + sole_above(levels - 1, tree, counts, parent)
 }
 
-/// How many clocks of a clock's path are free where it is: none where it isn't guarded.
+/// How many clocks of a clock's path are free if it is: none if it isn't guarded.
 pub(crate) fn freed_above(tree: &Tree, counts: &Counts, clock: ClockId) -> u32
     requires place { clock.0 < length tree.now.defs }
     requires links { LinksLie tree.now.defs tree.now.clocks }

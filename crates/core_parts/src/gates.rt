@@ -13,7 +13,7 @@ ghost use Rattle.clk_model.specs.Gates.{follow, gates_moved};
 ghost use Rattle.core_parts.specs.Shape.{LinksLie};
 
 use crate::window::Window;
-use clk_base::{ClockId, Kind, ValidDesc};
+use clk_base::{ClockId, Kind};
 use clk_tree::Tree;
 use reg_bank::Bank;
 
@@ -92,7 +92,7 @@ pub fn close_gate<B: Bank>(kind: Kind, window: &mut Window<B>)
 // How many clocks of a path are gathered before those above them are opened.
 const GATHERED: usize = 16;
 
-// How many clocks of a path were gathered, and the one above them where the path goes on.
+// How many clocks of a path were gathered, and the one above them if the path goes on.
 struct Gathered {
     count: usize,
     above: Option<ClockId>,
@@ -100,10 +100,13 @@ struct Gathered {
 
 // Gathers the first so many clocks of a path, the clock itself first, as far as there is room.
 fn gather(levels: usize, tree: &Tree, clock: ClockId, path: &mut [ClockId; GATHERED]) -> Gathered
-    ensures path { path_within (link_in tree.now.clocks) levels clock.0 ≡ map (λ c. c.0) (take result.count path.new) ++ option_map_or (λ c. path_within (link_in tree.now.clocks) (levels - result.count) c.0) result.above [] }
+    ensures path { path_within (link_in tree.now.clocks) levels clock.0
+        ≡ map (λ c. c.0) (take result.count path.new)
+        ++ option_map_or (λ c. path_within (link_in tree.now.clocks) (levels - result.count) c.0) result.above [] }
     ensures few { result.count ≤ 16 }
     ensures full { IfSome result.above (λ _. (result.count ≡ 16) × (16 ≤ levels)) }
-    ensures inside { (defs : Description) → clock.0 < length defs → LinksLie defs tree.now.clocks → IfSome result.above (λ c. c.0 < length defs) }
+    ensures inside { (defs : Description) → clock.0 < length defs → LinksLie defs tree.now.clocks
+        → IfSome result.above (λ c. c.0 < length defs) }
 {
     let mut at = clock;
     for place in 0..GATHERED {
@@ -129,65 +132,56 @@ fn gather(levels: usize, tree: &Tree, clock: ClockId, path: &mut [ClockId; GATHE
 }
 
 // Opens the gates of clocks that were gathered, the last of them first.
-fn open_gathered<B: Bank>(path: &[ClockId], desc: &ValidDesc, window: &mut Window<B>)
-    requires inside { (c : ℕ) → is_in c (map (λ c. c.0) path.now) ≡ true → c < length desc.now.defs }
-    requires words { window.old.size ≡ desc.now.words }
+fn open_gathered<B: Bank>(path: &[ClockId], tree: &Tree, window: &mut Window<B>)
+    requires inside { (c : ℕ) → is_in c (map (λ c. c.0) path.now) ≡ true → c < length tree.now.defs }
+    requires words { window.old.size ≡ tree.now.words }
     ensures size { window.new.size ≡ window.old.size }
-    ensures words { window.new.words ≡ option_map (gates_moved desc.now.defs (λ _. false) (λ _. true) (map (λ c. c.0) path.now)) window.old.words }
+    ensures words { window.new.words ≡ option_map (gates_moved tree.now.defs (λ _. false) (λ _. true)
+        (map (λ c. c.0) path.now)) window.old.words }
     ensures behind { window.new.behind ≡ window.old.behind }
     ensures locks { window.new.locks ≡ window.old.locks }
 {
     for done in 0..path.len() {
         let clock = path[path.len() - 1 - done];
-        open_gate(desc.def(clock).kind, window);
+        open_gate(tree.def(clock).kind, window);
     }
 }
 
 /// Opens the gates of the first so many clocks of a path, parents first.
-pub fn open_path<B: Bank>(
-    levels: usize,
-    desc: &ValidDesc,
-    tree: &Tree,
-    window: &mut Window<B>,
-    clock: ClockId,
-)
-    requires place { clock.0 < length desc.now.defs }
-    requires links { LinksLie desc.now.defs tree.now.clocks }
-    requires words { window.old.size ≡ desc.now.words }
+pub fn open_path<B: Bank>(levels: usize, tree: &Tree, window: &mut Window<B>, clock: ClockId)
+    requires place { clock.0 < length tree.now.defs }
+    requires links { LinksLie tree.now.defs tree.now.clocks }
+    requires words { window.old.size ≡ tree.now.words }
     ensures size { window.new.size ≡ window.old.size }
-    ensures words { window.new.words ≡ option_map (gates_moved desc.now.defs (λ _. false) (λ _. true) (path_within (link_in tree.now.clocks) levels clock.0)) window.old.words }
+    ensures words { window.new.words ≡ option_map (gates_moved tree.now.defs (λ _. false) (λ _. true)
+        (path_within (link_in tree.now.clocks) levels clock.0)) window.old.words }
     ensures behind { window.new.behind ≡ window.old.behind }
     ensures locks { window.new.locks ≡ window.old.locks }
 {
     let mut path = [clock; GATHERED];
     let Gathered { count, above } = gather(levels, tree, clock, &mut path);
     if let Some(parent) = above {
-        open_path(levels - count, desc, tree, window, parent);
+        open_path(levels - count, tree, window, parent);
     }
-    open_gathered(&path[..count], desc, window);
+    open_gathered(&path[..count], tree, window);
 }
 
 /// Closes the gates of the first so many clocks of a path, the clock's own first.
-pub fn close_path<B: Bank>(
-    levels: usize,
-    desc: &ValidDesc,
-    tree: &Tree,
-    window: &mut Window<B>,
-    clock: ClockId,
-)
-    requires place { clock.0 < length desc.now.defs }
-    requires links { LinksLie desc.now.defs tree.now.clocks }
-    requires words { window.old.size ≡ desc.now.words }
+pub fn close_path<B: Bank>(levels: usize, tree: &Tree, window: &mut Window<B>, clock: ClockId)
+    requires place { clock.0 < length tree.now.defs }
+    requires links { LinksLie tree.now.defs tree.now.clocks }
+    requires words { window.old.size ≡ tree.now.words }
     ensures size { window.new.size ≡ window.old.size }
-    ensures words { window.new.words ≡ option_map (gates_moved desc.now.defs (λ _. true) (λ _. false) (reverse (path_within (link_in tree.now.clocks) levels clock.0))) window.old.words }
+    ensures words { window.new.words ≡ option_map (gates_moved tree.now.defs (λ _. true) (λ _. false)
+        (reverse (path_within (link_in tree.now.clocks) levels clock.0))) window.old.words }
     ensures behind { window.new.behind ≡ window.old.behind }
     ensures locks { window.new.locks ≡ window.old.locks }
 {
     if levels == 0 {
         return;
     }
-    close_gate(desc.def(clock).kind, window);
+    close_gate(tree.def(clock).kind, window);
     if let Some(parent) = tree.parent(clock) {
-        close_path(levels - 1, desc, tree, window, parent);
+        close_path(levels - 1, tree, window, parent);
     }
 }

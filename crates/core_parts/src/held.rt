@@ -23,7 +23,8 @@ impl Model for Held {
 }
 
 impl Held {
-    /// No hold on any of so many clocks. Want of memory is its one refusal.
+    /// No hold on any of so many clocks. Its one refusal is that memory
+    /// runs out.
     pub fn create(alloc: Global, clocks: usize) -> Result<Held, NoMemory>
         ensures { IfOk result (λ made. made ≡ replicate clocks 0) }
     {

@@ -1,7 +1,7 @@
 //! What is told of a clock that a change of rate visits.
 
 ghost use Rattle.std.specs.Prelude.{◌≡◌, ◌≤◌, ◌==◌, false, Some, slice_get, if◌then◌else◌};
-ghost use Rattle.core_parts.specs.declared.course.Notified.{Notified};
+ghost use Rattle.change_walk.specs.declared.changes.Changed.{Changed};
 
 use crate::course::Course;
 
@@ -25,11 +25,12 @@ fn no_posting() -> Posting
     }
 }
 
-/// What is told of a clock that has so many notifiers and this rate in Hz now: nothing where its rate
+/// What is told of a clock that has so many notifiers and this rate in Hz now: nothing if its rate
 /// is the one before the change.
 pub fn posts_of(course: &Course, count: usize, rate: u64) -> Posting
     ensures none { count ≡ 0 → result ≡ record { count = 0; before = 0; after = 0 } }
-    ensures some { (count == 0) ≡ false → (n : Notified) → slice_get course.now.notified 0 ≡ Some n → result ≡ record { count = if rate == n.before then 0 else count; before = n.before; after = n.after } }
+    ensures some { (count == 0) ≡ false → (n : Changed) → slice_get course.now.notified 0 ≡ Some n
+        → result ≡ record { count = if rate == n.before then 0 else count; before = n.before; after = n.after } }
     ensures few { result.count ≤ count }
 {
     if count == 0 {

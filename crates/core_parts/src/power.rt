@@ -28,7 +28,8 @@ pub fn is_running<B: Bank>(kind: Kind, window: &Window<B>) -> bool
 pub fn set_power<B: Bank>(kind: Kind, window: &mut Window<B>, powered: bool)
     requires { IfSome (power_of kind) (λ power. (power.word < window.old.size) × (power.bit < 32)) }
     ensures size { window.new.size ≡ window.old.size }
-    ensures words { window.new.words ≡ option_map (λ regs. option_map_or (λ power. with_power regs power powered) (power_of kind) regs) window.old.words }
+    ensures words { window.new.words ≡ option_map (λ regs. option_map_or (λ power. with_power regs power powered)
+        (power_of kind) regs) window.old.words }
     ensures behind { window.new.behind ≡ window.old.behind }
     ensures locks { window.new.locks ≡ window.old.locks }
 {

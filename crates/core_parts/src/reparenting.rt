@@ -9,27 +9,26 @@ ghost use Rattle.clk_model.specs.State.{registered, link_in};
 ghost use Rattle.rate_planner.specs.Kept.{wired};
 ghost use Rattle.clk_tree.specs.Plans.{AreThere};
 ghost use Rattle.rate_planner.specs.Walks.{parent_chain, walked_rates};
-ghost use Rattle.core_parts.specs.Tied.{AreTied};
+ghost use Rattle.core_parts.specs.Tied.{AreTied, desc_of};
 ghost use Rattle.core_parts.specs.Reparenting.{is_bound, is_candidate, parent_refusal};
 
 use crate::draft::Draft;
 use crate::free::is_sole;
 use crate::window::Window;
 use bitflags::Flags;
-use clk_base::{ClkFlags, ClockId, Errno, Kind, ValidDesc};
+use clk_base::{ClkFlags, ClockId, Errno, Kind};
 use clk_io::NoMemory;
 use clk_model::HandleRow;
 use clk_tree::Tree;
 use counts_core::Counts;
-use rate_planner::plan_parent;
 use reg_bank::Bank;
 
 // Whether a clock is a mux that is only read, with two possible parents or more.
-fn is_bound(desc: &ValidDesc, clock: ClockId) -> bool
-    requires { clock.0 < length desc.now.defs }
-    ensures { result ≡ is_bound desc.now.defs clock.0 }
+fn is_bound(tree: &Tree, clock: ClockId) -> bool
+    requires { clock.0 < length tree.now.defs }
+    ensures { result ≡ is_bound tree.now.defs clock.0 }
 {
-    let def = desc.def(clock);
+    let def = tree.def(clock);
     match def.kind {
         Kind::Mux { read_only, .. } => read_only && def.parents.as_slice().len() >= 2,
         _ => false,
@@ -37,11 +36,11 @@ fn is_bound(desc: &ValidDesc, clock: ClockId) -> bool
 }
 
 // Whether a prepared clock keeps its parent.
-fn keeps_parent(desc: &ValidDesc, clock: ClockId) -> bool
-    requires { clock.0 < length desc.now.defs }
-    ensures { result ≡ flags.sets_parent_gate desc.now.defs clock.0 }
+fn keeps_parent(tree: &Tree, clock: ClockId) -> bool
+    requires { clock.0 < length tree.now.defs }
+    ensures { result ≡ flags.sets_parent_gate tree.now.defs clock.0 }
 {
-    Flags::contains(&desc.def(clock).flags, ClkFlags::SET_PARENT_GATE)
+    Flags::contains(&tree.def(clock).flags, ClkFlags::SET_PARENT_GATE)
 }
 
 // Whether a clock is among these.
@@ -57,12 +56,11 @@ fn is_among(wanted: ClockId, clocks: &[ClockId]) -> bool
 }
 
 /// Whether a clock is a mux with this possible parent, which is rooted.
-pub(crate) fn is_candidate(desc: &ValidDesc, tree: &Tree, clock: ClockId, parent: ClockId) -> bool
-    requires place { clock.0 < length desc.now.defs }
-    requires made { desc.now.defs ≡ tree.now.defs }
-    ensures { result ≡ is_candidate desc.now.defs tree.now.clocks clock.0 parent.0 }
+pub(crate) fn is_candidate(tree: &Tree, clock: ClockId, parent: ClockId) -> bool
+    requires place { clock.0 < length tree.now.defs }
+    ensures { result ≡ is_candidate tree.now.defs tree.now.clocks clock.0 parent.0 }
 {
-    let def = desc.def(clock);
+    let def = tree.def(clock);
     matches!(def.kind, Kind::Mux { .. })
         && is_among(parent, def.parents.as_slice())
         && tree.rooted(parent)
@@ -70,28 +68,21 @@ pub(crate) fn is_candidate(desc: &ValidDesc, tree: &Tree, clock: ClockId, parent
 
 /// Why the clock of a handle doesn't get another parent, if it doesn't. One exclusive of the handle
 /// doesn't count.
-pub fn refusal(
-    desc: &ValidDesc,
-    tree: &Tree,
-    counts: &Counts,
-    row: HandleRow,
-    parent: ClockId,
-) -> Option<Errno>
-    requires made { desc.now.defs ≡ tree.now.defs }
-    requires lies { row.clock.0 < length desc.now.defs }
+pub fn refusal(tree: &Tree, counts: &Counts, row: HandleRow, parent: ClockId) -> Option<Errno>
+    requires lies { row.clock.0 < length tree.now.defs }
     requires clock { row.clock.0 < length counts.now.links }
-    ensures cause { result ≡ parent_refusal desc.now.defs tree.now.clocks counts.now row parent.0 }
+    ensures cause { result ≡ parent_refusal tree.now.defs tree.now.clocks counts.now row parent.0 }
 {
-    if is_bound(desc, row.clock) {
+    if is_bound(tree, row.clock) {
         return Some(Errno::EPERM);
     }
-    if keeps_parent(desc, row.clock) && counts.prepared(row.clock) > 0 {
+    if keeps_parent(tree, row.clock) && counts.prepared(row.clock) > 0 {
         return Some(Errno::EBUSY);
     }
     if counts.protected(row.clock) > 0 && !is_sole(counts, row) {
         return Some(Errno::EBUSY);
     }
-    if is_candidate(desc, tree, row.clock, parent) {
+    if is_candidate(tree, row.clock, parent) {
         None
     } else {
         Some(Errno::EINVAL)
@@ -108,31 +99,25 @@ pub fn is_linked(tree: &Tree, clock: ClockId, parent: ClockId) -> bool
     }
 }
 
-/// Works out the plan of a change of parent. Want of memory is its one refusal.
+/// Works out the plan of a change of parent. Its one refusal is that memory runs out.
 pub fn plan_move<B: Bank>(
     draft: &mut Draft,
-    desc: &ValidDesc,
     window: &Window<B>,
     tree: &Tree,
     clock: ClockId,
     parent: ClockId,
 ) -> Result<(), NoMemory>
-    requires tied { AreTied desc.now window.now tree.now }
+    requires tied { AreTied (desc_of tree.now) window.now tree.now }
     requires clock { registered tree.now.clocks clock.0 ≡ true }
     requires parent { registered tree.now.clocks parent.0 ≡ true }
-    requires possible { is_in parent.0 (parents_of desc.now.defs clock.0) ≡ true }
+    requires possible { is_in parent.0 (parents_of tree.now.defs clock.0) ≡ true }
     requires other { link_in tree.now.clocks clock.0 ≢ Some parent.0 }
-    ensures chain { OnOk result (IfSome window.now.words (λ regs. draft.new.planning.plan.chain ≡ parent_chain (wired desc.now.defs regs tree.now) clock.0 parent.0)) }
-    ensures rates { OnOk result (IfSome window.now.words (λ regs. draft.new.planning.plan.rates ≡ walked_rates tree.now.order (wired desc.now.defs regs tree.now) draft.new.planning.plan.chain)) }
+    ensures chain { OnOk result (IfSome window.now.words (λ regs. draft.new.planning.plan.chain
+        ≡ parent_chain (wired tree.now.defs regs tree.now) clock.0 parent.0)) }
+    ensures rates { OnOk result (IfSome window.now.words (λ regs. draft.new.planning.plan.rates
+        ≡ walked_rates tree.now.order (wired tree.now.defs regs tree.now) draft.new.planning.plan.chain)) }
     ensures set_parent { OnOk result (draft.new.planning.plan.set_parent ≡ true) }
     ensures there { OnOk result (AreThere tree.now.clocks draft.new.planning.plan.rates) }
 {
-    plan_parent(
-        &mut draft.planning,
-        desc,
-        tree,
-        window.bank(),
-        clock,
-        parent,
-    )
+    rate_planner::plan_move(&mut draft.planning, tree, window.bank(), clock, parent)
 }

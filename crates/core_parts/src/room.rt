@@ -1,6 +1,6 @@
 //! The script of a prepare or an unprepare that goes on, and whether there is room for its entries.
 
-ghost use Rattle.std.specs.Prelude.{◌≡◌, ◌+◌, ◌*◌, ◌^◌, ◌<◌, [], ◌∷◌, nat_le, IfOk};
+ghost use Rattle.std.specs.Prelude.{◌≡◌, ◌+◌, ◌*◌, [], ◌∷◌, nat_le, IfOk};
 ghost use Rattle.clk_base.specs.declared.call.Micro.TheVariants.{End};
 ghost use Rattle.clk_model.specs.Begin.{most_credits};
 
@@ -8,7 +8,7 @@ use clk_base::{MOST_CREDITS, Micro};
 use clk_io::NoMemory;
 use std::alloc::Global;
 
-/// A script of this step and the end. Want of memory is its one refusal.
+/// A script of this step and the end. Its one refusal is that memory runs out.
 pub fn ending(alloc: Global, first: Micro) -> Result<Vec<Micro>, NoMemory>
     ensures { IfOk result (λ steps. steps.items ≡ first ∷ End ∷ []) }
 {
@@ -18,28 +18,31 @@ pub fn ending(alloc: Global, first: Micro) -> Result<Vec<Micro>, NoMemory>
     Ok(steps)
 }
 
-/// How many entries a raise of a path's PLLs and the end come to at most, where a line has so many
+/// Whether there is room for so many entries after so many.
+pub fn fits(used: u64, weight: u64) -> bool
+    ensures { result ≡ nat_le (used + weight) most_credits }
+{
+    used.saturating_add(weight) <= u64::from(MOST_CREDITS)
+}
+
+/// How many entries a raise of one PLL comes to at most: 32 polls, and two steps.
+const MOST_FOR_A_PLL: u64 = 34;
+
+/// How many entries the last step of a raise or a lower and the end come to.
+const LAST_ENTRIES: u64 = 2;
+
+/// How many entries a raise of a path's PLLs and the end come to at most, if a line has so many
 /// PLLs.
 pub fn most_to_raise(plls: u32) -> u64
-    ensures most { result ≡ 34 * plls + 2 }
-    ensures small { result < 2 ^ 63 }
+    ensures { result ≡ 34 * plls + 2 }
 {
-    34 * u64::from(plls) + 2
+    MOST_FOR_A_PLL * u64::from(plls) + LAST_ENTRIES
 }
 
-/// Whether there is room for so many entries of steps behind credits and steps that were made.
-pub fn has_room(credits: u32, steps: u32, most: u64) -> bool
-    requires { most < 2 ^ 63 }
-    ensures { result ≡ nat_le (credits + steps + most) most_credits }
-{
-    u64::from(credits) + u64::from(steps) + most <= u64::from(MOST_CREDITS)
-}
-
-/// How many entries a lower of a path's PLLs and the end come to at most, where a line has so many
+/// How many entries a lower of a path's PLLs and the end come to at most, if a line has so many
 /// PLLs.
 pub fn most_to_lower(plls: u32) -> u64
-    ensures most { result ≡ plls + 2 }
-    ensures small { result < 2 ^ 63 }
+    ensures { result ≡ plls + 2 }
 {
-    u64::from(plls) + 2
+    u64::from(plls) + LAST_ENTRIES
 }

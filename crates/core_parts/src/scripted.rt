@@ -1,29 +1,30 @@
 //! The clocks that a change of rate or parent tells.
 
-ghost use Rattle.std.specs.Prelude.{◌≡◌, ◌++◌, ◌∷◌, [], ◌<◌, Some, length, slice_get, IfOk, OnOk};
+ghost use Rattle.std.specs.Prelude.{◌≡◌, ◌++◌, ◌∷◌, [], ◌<◌, length, IfOk, OnOk};
 ghost use Rattle.clk_tree.specs.Plans.{AreThere, rates_of};
 ghost use Rattle.core_parts.specs.Told.{told_clocks};
 ghost use Rattle.core_parts.specs.Course.{notifiers_at};
 
-use crate::course::Notified;
+use change_walk::Changed;
 use clk_io::NoMemory;
 use clk_tree::{Tree, WalkRate, rate_at};
 use notifiers::Notifiers;
 
-// A clock of a walk, behind these, if it has notifiers.
+// A clock of a walk, after these, if it has notifiers.
 fn push_told(
-    told: &mut Vec<Notified>,
+    told: &mut Vec<Changed>,
     tree: &Tree,
     notifiers: &Notifiers,
     entry: WalkRate,
 ) -> Result<(), NoMemory>
     requires place { entry.clock.0 < length tree.now.defs }
-    ensures { IfOk result (λ done. told.new.items ≡ told.old.items ++ told_clocks (notifiers_at notifiers.now) tree.now.rates (rates_of (entry ∷ []))) }
+    ensures { IfOk result (λ done. told.new.items ≡ told.old.items
+        ++ told_clocks (notifiers_at notifiers.now) tree.now.rates (rates_of (entry ∷ []))) }
 {
     if notifiers.chain(entry.clock).is_empty() {
         return Ok(());
     }
-    told.push(Notified {
+    told.push(Changed {
         clock: entry.clock,
         before: tree.rate(entry.clock),
         after: entry.rate,
@@ -32,9 +33,9 @@ fn push_told(
 }
 
 /// The clocks of a walk that have notifiers, each with its kept rate and its planned one, in place of
-/// those that stand there. Want of memory is its one refusal.
+/// those that stand there. Its one refusal is that memory runs out.
 pub fn told_clocks(
-    told: &mut Vec<Notified>,
+    told: &mut Vec<Changed>,
     tree: &Tree,
     notifiers: &Notifiers,
     rates: &[WalkRate],

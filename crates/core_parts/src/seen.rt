@@ -26,8 +26,8 @@ pub struct Seen<'a> {
     pub counts: &'a Counts,
 }
 
-/// The boundaries of a clock in Hz, if one of the handles had another range.
-pub(crate) fn bounds_seen(handles: &Requests, ranged: Option<OtherRange>, c: ClockId) -> (u64, u64)
+// The boundaries of a clock in Hz, if one of the handles had another range.
+fn bounds_seen(handles: &Requests, ranged: Option<OtherRange>, c: ClockId) -> (u64, u64)
     ensures low { result.0 ≡ low_in (handles_seen ranged handles.now.handles) c.0 }
     ensures high { result.1 ≡ high_in (handles_seen ranged handles.now.handles) c.0 }
 {

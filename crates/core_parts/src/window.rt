@@ -3,14 +3,14 @@
 ghost use Rattle.std.specs.Prelude.{◌≡◌, ◌≢◌, ℕ, ◌+◌, ◌<◌, ◌≤◌, ◌^◌, IfSome, length, take, drop, slice_index};
 ghost use Rattle.std.specs.Option.{option_map};
 ghost use Rattle.reg_bank.specs.Locks.{most_plls, started, polled, is_locked};
-ghost use Rattle.reg_bank.specs.Registers.{is_set, put_bit, field, put};
+ghost use Rattle.reg_bank.specs.Registers.{is_set, put_bit, put};
 ghost use Rattle.core_parts.specs.Window.{AreTold, behind_of, delays_in, locks_of, lock_in};
 
 use clk_base::ClockId;
-use reg_bank::{Bank, read_bit, read_field, write_bit, write_field};
+use reg_bank::{Bank, read_bit, write_bit, write_field};
 use std::marker::Model;
 
-/// The first words of a bank, as many as a description was checked for. The words behind them are
+/// The first words of a bank, as many as a description was checked for. The words after them are
 /// left alone.
 #[derive(Drop)]
 pub struct Window<B: Bank> {
@@ -25,7 +25,12 @@ impl<B: Bank> Model for Window<B> {
 
     ghost Value = { Shown };
 
-    ghost view = { λ w. record { size = w.size; words = option_map (take w.size) (B.contents w.bank); behind = behind_of w.size (B.contents w.bank) (B.lock w.bank); locks = locks_of (B.lock w.bank) } };
+    ghost view = { λ w. record {
+      size = w.size;
+      words = option_map (take w.size) (B.contents w.bank);
+      behind = behind_of w.size (B.contents w.bank) (B.lock w.bank);
+      locks = locks_of (B.lock w.bank);
+    } };
 
     ghost invariant = { λ w. w.size ≤ B.size w.bank };
 }
@@ -74,19 +79,11 @@ impl<B: Bank> Window<B> {
         read_bit(&self.bank, word as usize, bit)
     }
 
-    /// The number in a field.
-    pub fn field(&self, word: u32, shift: u32, width: u32) -> u32
-        requires word { word < self.now.size }
-        requires bits { shift + width ≤ 32 }
-        ensures { IfSome self.now.words (λ words. result ≡ field words word shift width) }
-    {
-        read_field(&self.bank, word as usize, shift, width)
-    }
-
     /// The bank whose first words these are.
     pub fn bank(&self) -> &B
         ensures fits { self.now.size ≤ B.size result.now }
         ensures words { option_map (take self.now.size) (B.contents result.now) ≡ self.now.words }
+        ensures told { AreTold self.now.size self.now.words }
     {
         &self.bank
     }

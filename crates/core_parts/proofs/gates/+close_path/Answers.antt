@@ -11,12 +11,12 @@ use Rattle.core_parts.proofs.gates.+close_path.Goals as goal
 pub close_gate-requires : goal.close_gate-requires
 close_gate-requires g t c =
     subst (λ (n : ℕ). IfSome (gate_of c.def.result.now.kind) (λ gate. (gate.word < n) × (gate.bit < 32))) (sym c.requires.words)
-    (subst (λ (kind : Kind). IfSome (gate_of kind) (λ gate. (gate.word < c.args.desc.now.words) × (gate.bit < 32))) (sym (ap (λ (d : ClockDef). d.kind) c.def.ensures.def))
-    (gate_fits c.args.desc.now.words c.args.desc.now.defs c.args.clock.0 c.def.ensures.valid c.requires.place))
+    (subst (λ (kind : Kind). IfSome (gate_of kind) (λ gate. (gate.word < c.args.tree.now.words) × (gate.bit < 32))) (sym (ap (λ (d : ClockDef). d.kind) c.def.ensures.def))
+    (gate_fits c.args.tree.now.words c.args.tree.now.defs c.args.clock.0 c.def.ensures.valid c.requires.place))
 
 pub returns-in-Some-clause-words : goal.returns-in-Some-clause-words
 returns-in-Some-clause-words g t c =
-    let defs = c.args.desc.now.defs in
+    let defs = c.args.tree.now.defs in
     let after : ℕ → Bool = (λ _. false) in
     let up : ℕ → Option ℕ = link_in c.args.tree.now.clocks in
     let own : c.close_gate.new.window.words ≡ closed defs after (c.args.clock.0 ∷ []) c.args.window.now.words =
@@ -26,7 +26,7 @@ returns-in-Some-clause-words g t c =
 
 pub returns-in_default-clause-words : goal.returns-in_default-clause-words
 returns-in_default-clause-words g t c =
-    let defs = c.args.desc.now.defs in
+    let defs = c.args.tree.now.defs in
     let after : ℕ → Bool = (λ _. false) in
     let up : ℕ → Option ℕ = link_in c.args.tree.now.clocks in
     let own : c.close_gate.new.window.words ≡ closed defs after (c.args.clock.0 ∷ []) c.args.window.now.words =

@@ -12,12 +12,12 @@ use Rattle.core_parts.proofs.gates.+open_path.Goals.{in-Some, in_default}
 
 pub open_gathered-requires-clause-inside : goal.open_gathered-requires-clause-inside
 open_gathered-requires-clause-inside g t c =
-    λ k m. path_all (λ b. b < length c.args.desc.now.defs) (link_in c.args.tree.now.clocks) c.args.levels c.args.clock.0 k (λ b p _ e. c.requires.links.lie b p e) c.requires.place
+    λ k m. path_all (λ b. b < length c.args.tree.now.defs) (link_in c.args.tree.now.clocks) c.args.levels c.args.clock.0 k (λ b p _ e. c.requires.links.lie b p e) c.requires.place
     (subst (λ (cs : List ℕ). is_in k cs ≡ true) (sym c.gather-count.ensures.path) (in_front k (places (take c.gather-count.result.count c.gather-count.new.path)) _ m))
 
 pub returns-clause-words : goal.returns-clause-words
 returns-clause-words g t c =
-    let defs = c.args.desc.now.defs in
+    let defs = c.args.tree.now.defs in
     let before : ℕ → Bool = (λ _. false) in
     let rest : Option ClockId → List ℕ = (λ above. option_map_or (λ p. path_within (link_in c.args.tree.now.clocks) (c.args.levels - c.gather-count.result.count) p.0) above []) in
     let first : c.match-above.window.words ≡ opened defs before (rest c.gather-count.result.above) c.args.window.now.words =

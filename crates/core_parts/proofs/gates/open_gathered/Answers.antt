@@ -11,8 +11,8 @@ use Rattle.core_parts.proofs.gates.open_gathered.Goals as goal
 pub loop-done-init : goal.loop-done-init
 loop-done-init g c = record {
   size = refl;
-  words = opened_none c.args.desc.now.defs (λ _. false) c.args.window.now.words
-      ∙ ap (λ (cs : List ℕ). opened c.args.desc.now.defs (λ _. false) cs c.args.window.now.words) (sym (none_behind c.args.path.now));
+  words = opened_none c.args.tree.now.defs (λ _. false) c.args.window.now.words
+      ∙ ap (λ (cs : List ℕ). opened c.args.tree.now.defs (λ _. false) cs c.args.window.now.words) (sym (none_behind c.args.path.now));
   behind = refl;
   locks = refl;
 }
@@ -20,15 +20,15 @@ loop-done-init g c = record {
 pub def-requires : goal.def-requires
 def-requires g c =
     let some = c.loop-done-test.true in
-    c.requires.inside _ (among_places c.args.path.now (length c.args.path.now - 1 - c.loop-done.done) (record { 0 = 0 }) (omega arith))
+    record { place = c.requires.inside _ (among_places c.args.path.now (length c.args.path.now - 1 - c.loop-done.done) (record { 0 = 0 }) (omega arith)) }
 
 pub open_gate-requires : goal.open_gate-requires
 open_gate-requires g c =
     let some = c.loop-done-test.true in
     let at : ClockId = get_or c.args.path.now (length c.args.path.now - 1 - c.loop-done.done) (record { 0 = 0 }) in
     subst (λ (n : ℕ). IfSome (gate_of c.def.result.now.kind) (λ gate. (gate.word < n) × (gate.bit < 32))) (sym (c.loop-done.invariant.size ∙ c.requires.words))
-    (subst (λ (kind : Kind). IfSome (gate_of kind) (λ gate. (gate.word < c.args.desc.now.words) × (gate.bit < 32))) (sym (ap (λ (d : ClockDef). d.kind) c.def.ensures.def))
-    (gate_fits c.args.desc.now.words c.args.desc.now.defs at.0 c.def.ensures.valid
+    (subst (λ (kind : Kind). IfSome (gate_of kind) (λ gate. (gate.word < c.args.tree.now.words) × (gate.bit < 32))) (sym (ap (λ (d : ClockDef). d.kind) c.def.ensures.def))
+    (gate_fits c.args.tree.now.words c.args.tree.now.defs at.0 c.def.ensures.valid
     (c.requires.inside at.0 (among_places c.args.path.now (length c.args.path.now - 1 - c.loop-done.done) (record { 0 = 0 }) (omega arith)))))
 
 pub loop-done-preserved : goal.loop-done-preserved
@@ -38,9 +38,9 @@ loop-done-preserved g c =
     let done = c.loop-done.done in
     record {
       size = c.open_gate.ensures.size ∙ inv.size;
-      words = opened_next c.args.desc.now.defs (λ _. false) _ (drop (length path - done) (places path)) c.def.result.now.kind c.args.window.now.words c.loop-done.window.words c.open_gate.new.window.words
+      words = opened_next c.args.tree.now.defs (λ _. false) _ (drop (length path - done) (places path)) c.def.result.now.kind c.args.window.now.words c.loop-done.window.words c.open_gate.new.window.words
           (ap (λ (d : ClockDef). d.kind) c.def.ensures.def) refl inv.words c.open_gate.ensures.words
-          ∙ ap (λ (cs : List ℕ). opened c.args.desc.now.defs (λ _. false) cs c.args.window.now.words) (sym (one_before path done (record { 0 = 0 }) c.loop-done-test.true));
+          ∙ ap (λ (cs : List ℕ). opened c.args.tree.now.defs (λ _. false) cs c.args.window.now.words) (sym (one_before path done (record { 0 = 0 }) c.loop-done-test.true));
       behind = c.open_gate.ensures.behind ∙ inv.behind;
       locks = c.open_gate.ensures.locks ∙ inv.locks;
     }
@@ -52,7 +52,7 @@ pub returns-clause-words : goal.returns-clause-words
 returns-clause-words g c =
     let past = c.loop-done-test.false in
     c.loop-done.invariant.words
-    ∙ ap (λ (cs : List ℕ). opened c.args.desc.now.defs (λ _. false) cs c.args.window.now.words) (all_left c.args.path.now c.loop-done.done (omega arith))
+    ∙ ap (λ (cs : List ℕ). opened c.args.tree.now.defs (λ _. false) cs c.args.window.now.words) (all_left c.args.path.now c.loop-done.done (omega arith))
 
 pub returns-clause-behind : goal.returns-clause-behind
 returns-clause-behind g c = c.loop-done.invariant.behind

@@ -7,7 +7,7 @@ use Rattle.core_parts.proofs.gates.open_gathered.Given as goal
 abbrev pub invariant-loop-done : goal.invariant-loop-done
 invariant-loop-done g l = record {
   size : l.window.size ≡ l.fn.window.size;
-  words : l.window.words ≡ opened l.desc.defs (λ _. false) (drop (length l.path - l.done) (places l.path)) l.fn.window.words;
+  words : l.window.words ≡ opened l.tree.defs (λ _. false) (drop (length l.path - l.done) (places l.path)) l.fn.window.words;
   behind : l.window.behind ≡ l.fn.window.behind;
   locks : l.window.locks ≡ l.fn.window.locks;
 }

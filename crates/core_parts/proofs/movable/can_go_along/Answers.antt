@@ -16,14 +16,14 @@ first_left test chain k s at = ap (λ (ks : List state.ChainStep). list_all test
 
 pub returns-then-not-can_go : goal.returns-then-not-can_go
 returns-then-not-can_go c =
-    let test = can_go c.args.sets_parent c.args.desc.now.defs c.args.tree.now.clocks in
+    let test = can_go c.args.sets_parent c.args.tree.now.defs c.args.tree.now.clocks in
     sym (c.loop-place.invariant
     ∙ first_left test c.args.chain.now c.loop-place.place c.step_at.result c.step_at.ensures
     ∙ ap (λ (t : Bool). t && list_all test (drop (c.loop-place.place + 1) (chain_of c.args.chain.now))) (sym c.can_go.ensures ∙ c.if-not-can_go.true))
 
 pub loop-place-preserved : goal.loop-place-preserved
 loop-place-preserved c =
-    let test = can_go c.args.sets_parent c.args.desc.now.defs c.args.tree.now.clocks in
+    let test = can_go c.args.sets_parent c.args.tree.now.defs c.args.tree.now.clocks in
     c.loop-place.invariant
     ∙ first_left test c.args.chain.now c.loop-place.place c.step_at.result c.step_at.ensures
     ∙ ap (λ (t : Bool). t && list_all test (drop (c.loop-place.place + 1) (chain_of c.args.chain.now))) (sym c.can_go.ensures ∙ c.if-not-can_go.false)

@@ -6,5 +6,5 @@ use Rattle.core_parts.proofs.movable.can_go_along.Given as goal
 -- whether all can be made is up to those that are left
 abbrev pub invariant-loop-place : goal.invariant-loop-place
 invariant-loop-place l =
-    can_go_along l.sets_parent l.desc.defs l.tree.clocks (chain_of l.chain)
-    ≡ can_go_along l.sets_parent l.desc.defs l.tree.clocks (drop l.place (chain_of l.chain))
+    can_go_along l.sets_parent l.tree.defs l.tree.clocks (chain_of l.chain)
+    ≡ can_go_along l.sets_parent l.tree.defs l.tree.clocks (drop l.place (chain_of l.chain))

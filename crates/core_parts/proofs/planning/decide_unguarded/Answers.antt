@@ -17,13 +17,13 @@ rate-requires g c =
 pub returns-then-leaves_rate-clause-decides : goal.returns-then-leaves_rate-clause-decides
 returns-then-leaves_rate-clause-decides g c = λ new lifted on its free.
     answers_at_once on c.requires.tied (g.V.View.means c.args.view.now) lifted c.args.clock.0 c.args.wanted free
-    (first_given c.args.window.now.words c.args.desc.now.defs c.args.tree.now (g.V.View.means c.args.view.now) c.args.clock.0 c.args.wanted c.rate.result c.first_seen-first.result _
+    (first_given c.args.window.now.words c.args.tree.now.defs c.args.tree.now (g.V.View.means c.args.view.now) c.args.clock.0 c.args.wanted c.rate.result c.first_seen-first.result _
     c.requires.there c.rate.ensures.rate c.requires.tied.kept (sym c.if-leaves_rate.true ∙ c.leaves_rate.ensures) c.first_seen-first.ensures.rounding)
 
 pub returns-then-not-branch-clause-decides : goal.returns-then-not-branch-clause-decides
 returns-then-not-branch-clause-decides g c = λ new lifted on its free.
     answers_no_plan on c.requires.tied (g.V.View.means c.args.view.now) lifted c.args.clock.0 c.args.wanted free
-    (first_given c.args.window.now.words c.args.desc.now.defs c.args.tree.now (g.V.View.means c.args.view.now) c.args.clock.0 c.args.wanted c.rate.result c.first_seen-first.result _
+    (first_given c.args.window.now.words c.args.tree.now.defs c.args.tree.now (g.V.View.means c.args.view.now) c.args.clock.0 c.args.wanted c.rate.result c.first_seen-first.result _
     c.requires.there c.rate.ensures.rate c.requires.tied.kept (sym c.if-leaves_rate.false ∙ c.leaves_rate.ensures) c.first_seen-first.ensures.rounding)
     (rw c.if-not-branch.true at c.in_ok-plan_seen.ensures.chain)
 
@@ -33,7 +33,7 @@ returns-clause-decides g c = λ new lifted on its free.
     let script = c.write_script.new.draft.script in
     subst (λ (p : Planning). IsAnswer new lifted c.args.clock.0 c.args.wanted (Change p.plan script)) (sym c.write_script.ensures.plan)
     (answers_planned on c.requires.tied (g.V.View.means c.args.view.now) lifted c.args.clock.0 c.args.wanted free c.args.notifiers.now plan script its
-    (first_given c.args.window.now.words c.args.desc.now.defs c.args.tree.now (g.V.View.means c.args.view.now) c.args.clock.0 c.args.wanted c.rate.result c.first_seen-first.result _
+    (first_given c.args.window.now.words c.args.tree.now.defs c.args.tree.now (g.V.View.means c.args.view.now) c.args.clock.0 c.args.wanted c.rate.result c.first_seen-first.result _
     c.requires.there c.rate.ensures.rate c.requires.tied.kept (sym c.if-leaves_rate.false ∙ c.leaves_rate.ensures) c.first_seen-first.ensures.rounding)
     (rw c.if-not-branch.false at c.in_ok-plan_seen.ensures.chain) (c.in_ok-plan_seen.ensures.rates c.if-not-branch.false) c.in_ok-plan_seen.ensures.set_parent c.in_ok-write_script.ensures.script)
 

@@ -21,24 +21,22 @@ rate-requires g c =
 
 pub returns-in-Some-clause-keeps : goal.returns-in-Some-clause-keeps
 returns-in-Some-clause-keeps g c =
-    let desc = c.args.desc.now in
     let tree = c.args.tree.now in
     let handles : List (Option HandleRow) = handles_seen c.args.view.now.ranged c.args.view.now.handles.now.handles in
     let counts = c.args.view.now.counts.now in
     let seen_ : View = free_seen handles counts (freed tree.clocks counts c.args.clock.0) in
-    let free = subst (λ (cs : List ℕ). IfSome c.args.window.now.words (λ regs. c.round_seen.result ≡ round_rate (wired desc.defs regs tree) (free_seen handles counts cs) c.args.clock.0 c.args.wanted))
+    let free = subst (λ (cs : List ℕ). IfSome c.args.window.now.words (λ regs. c.round_seen.result ≡ round_rate (wired tree.defs regs tree) (free_seen handles counts cs) c.args.clock.0 c.args.wanted))
     c.freed_above.ensures.freed c.round_seen.ensures in
-    kept_given c.args.window.now.words desc.defs tree seen_ c.args.clock.0 c.args.wanted c.in-Some.rounded c.rate.result c.requires.there c.rate.ensures.rate c.requires.tied.kept
-    (subst (λ (o : Option ℕ). IfSome c.args.window.now.words (λ regs. o ≡ round_rate (wired desc.defs regs tree) seen_ c.args.clock.0 c.args.wanted)) c.in-Some.is free)
+    kept_given c.args.window.now.words tree.defs tree seen_ c.args.clock.0 c.args.wanted c.in-Some.rounded c.rate.result c.requires.there c.rate.ensures.rate c.requires.tied.kept
+    (subst (λ (o : Option ℕ). IfSome c.args.window.now.words (λ regs. o ≡ round_rate (wired tree.defs regs tree) seen_ c.args.clock.0 c.args.wanted)) c.in-Some.is free)
 
 pub returns-in-None-clause-keeps : goal.returns-in-None-clause-keeps
 returns-in-None-clause-keeps g c =
-    let desc = c.args.desc.now in
     let tree = c.args.tree.now in
     let handles : List (Option HandleRow) = handles_seen c.args.view.now.ranged c.args.view.now.handles.now.handles in
     let counts = c.args.view.now.counts.now in
     let seen_ : View = free_seen handles counts (freed tree.clocks counts c.args.clock.0) in
-    let free = subst (λ (cs : List ℕ). IfSome c.args.window.now.words (λ regs. c.round_seen.result ≡ round_rate (wired desc.defs regs tree) (free_seen handles counts cs) c.args.clock.0 c.args.wanted))
+    let free = subst (λ (cs : List ℕ). IfSome c.args.window.now.words (λ regs. c.round_seen.result ≡ round_rate (wired tree.defs regs tree) (free_seen handles counts cs) c.args.clock.0 c.args.wanted))
     c.freed_above.ensures.freed c.round_seen.ensures in
-    none_given c.args.window.now.words desc.defs tree seen_ c.args.clock.0 c.args.wanted
-    (subst (λ (o : Option ℕ). IfSome c.args.window.now.words (λ regs. o ≡ round_rate (wired desc.defs regs tree) seen_ c.args.clock.0 c.args.wanted)) c.in-None.is free)
+    none_given c.args.window.now.words tree.defs tree seen_ c.args.clock.0 c.args.wanted
+    (subst (λ (o : Option ℕ). IfSome c.args.window.now.words (λ regs. o ≡ round_rate (wired tree.defs regs tree) seen_ c.args.clock.0 c.args.wanted)) c.in-None.is free)

@@ -9,7 +9,7 @@ pub returns : goal.returns
 returns t c =
     let up = link_in c.args.tree.now.clocks in
     let some : 0 < c.args.levels = omega arith in
-    raise_found c.args.desc.now.defs c.args.counts.now c.args.flight.now.raised c.in-Some.clock.0 (option_map_or (λ p. path_within up (c.args.levels - 1) p.0) c.parent.result []) _
+    raise_found c.args.tree.now.defs c.args.counts.now c.args.flight.now.raised c.in-Some.clock.0 (option_map_or (λ p. path_within up (c.args.levels - 1) p.0) c.parent.result []) _
     c.is_raisable-sought.result c.raisable_above-above.result c.with_last.result
     (path_from up c.args.levels c.args.from c.in-Some.clock c.parent.result c.in-Some.is some c.parent.ensures.link)
     c.is_raisable-sought.ensures c.raisable_above-above.ensures c.with_last.ensures

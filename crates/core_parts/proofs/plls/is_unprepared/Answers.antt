@@ -9,11 +9,11 @@ use Rattle.core_parts.proofs.plls.is_unprepared.Goals.{then-plls-eq0-via-then-pl
 
 pub returns-then-plls-eq0 : goal.returns-then-plls-eq0
 returns-then-plls-eq0 c =
-    let defs = c.args.desc.now.defs in
+    let defs = c.args.tree.now.defs in
     let counts = c.args.counts.now in
     let tree = c.args.tree.now in
     let none : filter (is_loose defs counts) (path tree.clocks c.args.clock.0) ≡ [] = elim c.then-plls-eq0.branch [
-      | then-plls-eq0-via-then-plls-eq0 w ↦ none_anywhere defs counts tree depth c.args.clock.0 c.plls.result c.requires.made c.plls.ensures.stands c.plls.ensures.plls w.if-plls-eq0.true
+      | then-plls-eq0-via-then-plls-eq0 w ↦ none_anywhere counts tree depth c.args.clock.0 c.plls.result c.plls.ensures.stands c.plls.ensures.plls w.if-plls-eq0.true
       | then-plls-eq0-via-else-plls-eq0+then-prepared-gt0 w ↦
           let some = w.if-prepared-gt0.true in
           let counted : nat_lt 0 w.prepared.result ≡ true = grind (arith, nat_tests) in

@@ -1,20 +1,10 @@
-use Rattle.std.proofs.Common.{◌≡◌, ◌∙◌, sym, ap, subst, take, List, Option, ℕ}
-use Rattle.std.specs.Prelude.{IfSome}
-use Rattle.std.specs.Option.{option_map}
+use Rattle.std.proofs.Common.{◌≡◌}
 use Rattle.clk_model.specs.Round.{round_rate}
-use Rattle.rate_planner.specs.Kept.{wired}
-use Rattle.core_parts.specs.Tied.{AreKept}
-use Rattle.core_parts.proofs.RoundedWords.{round-take}
+use Rattle.core_parts.proofs.RoundedWords.{read_shown}
 use Rattle.core_parts.proofs.rounding.round_seen.Goals as goal
 
 pub returns : goal.returns
 returns g c =
-    let desc = c.args.desc.now in
     let tree = c.args.tree.now in
-    let view = g.V.View.means c.args.view.now in
-    let contents = g.B.Bank.contents c.bank.result.now in
-    let words : option_map (take desc.words) contents ≡ c.args.window.now.words =
-    ap (λ (n : ℕ). option_map (take n) contents) (sym c.requires.tied.words) ∙ c.bank.ensures.words in
-    subst (λ (o : Option (List ℕ)). IfSome o (λ regs. c.round_resting.result ≡ round_rate (wired desc.defs regs tree) view c.args.clock.0 c.args.rate)) words
-    (round-take desc.words contents desc.defs tree view c.args.clock.0 c.args.rate c.round_resting.result c.requires.tied.valid
-    (subst (λ (o : Option (List ℕ)). AreKept desc.defs o tree.clocks tree.rates) (sym words) c.requires.tied.kept) c.round_resting.ensures.rate)
+    read_shown c.args.window.now.words tree.defs tree (λ w. c.round_resting.result ≡ round_rate w (g.V.View.means c.args.view.now) c.args.clock.0 c.args.rate)
+    c.requires.tied.kept c.round_resting.ensures.reads
