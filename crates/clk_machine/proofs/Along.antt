@@ -1,5 +1,5 @@
 -- That parts go along with an event, from what was done to them.
-use Rattle.std.proofs.Common.{◌≡◌, ℕ, ◌+◌, ◌<◌, ◌≤◌, ◌⊎◌, inl, inr, Bool, true, false, List, [], ◌∷◌, Option, Some, None, refl, sym, ap, subst, ◌∙◌, arith, nat_eq}
+use Rattle.std.proofs.Common.{◌≡◌, ℕ, ◌+◌, ◌≤◌, ◌⊎◌, inl, inr, Bool, true, false, List, [], ◌∷◌, Option, Some, None, refl, sym, ap, subst, ◌∙◌, arith, nat_eq}
 use Rattle.std.specs.Prelude.{slice_get}
 use Rattle.std.specs.Option.{IfNone}
 use Rattle.clk_base.specs.declared.call.Micro.{Micro}
@@ -28,7 +28,7 @@ use Rattle.clk_machine.specs.Along.{GoesAlong}
 use Rattle.clk_machine.specs.Making.{ComesFirst, ComesNext, only_goes_on}
 use Rattle.clk_machine.specs.Parts.{Parts, own_in}
 use Rattle.clk_machine.specs.Stands.{Stands, Becomes, Enters}
-use Rattle.clk_machine.proofs.Answered.{HasDone, FineDoes, probe_does}
+use Rattle.clk_machine.proofs.Answered.{FineDoes, probe_does}
 use Rattle.clk_machine.proofs.Entered.{own_stands}
 use Rattle.clk_machine.proofs.Making.{change_of}
 

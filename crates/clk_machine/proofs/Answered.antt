@@ -1,5 +1,5 @@
 -- What a call has done that was answered by Ok at once.
-use Rattle.std.proofs.Common.{◌≡◌, ℕ, ◌+◌, ◌-◌, ◌==◌, not, Bool, true, false, [], ◌∷◌, Option, Some, None, refl, ap, List}
+use Rattle.std.proofs.Common.{◌≡◌, ℕ, ◌-◌, ◌==◌, not, Bool, true, false, [], ◌∷◌, Option, Some, None, refl, ap}
 use Rattle.clk_base.specs.declared.call.Micro.TheVariants as micro
 use Rattle.clk_base.specs.declared.call.Sleeping.{Sleeping}
 use Rattle.clk_base.specs.declared.call.Sleeping.TheVariants as call
@@ -8,7 +8,6 @@ use Rattle.clk_base.specs.declared.event.Reply.TheVariants as reply
 use Rattle.clk_base.specs.declared.event.Turn.{Turn}
 use Rattle.clk_base.specs.declared.event.Turn.TheVariants as turn
 use Rattle.clk_base.specs.declared.handle.Handle.{Handle}
-use Rattle.clk_base.specs.declared.handle.Policy.{Policy}
 use Rattle.clk_model.specs.declared.row.HandleRow.{HandleRow}
 use Rattle.clk_model.specs.Begin.{starts, change_of, change_along, put_handle, own_handle, with_handle, keeps_prepare, holds_something, held_once_more, request, request_between, register, begun}
 use Rattle.clk_model.specs.Chain.{chain}
@@ -19,7 +18,7 @@ use Rattle.clk_model.specs.State.{State, Change, registered}
 use Rattle.clk_model.specs.Views.{view, lift}
 use Rattle.clk_model.proofs.Cases.{by_plan}
 use Rattle.clk_model.proofs.TierLaws.{pick_either, with_handle_either}
-use Rattle.clk_machine.specs.Holding.{prepared_more, prepared_less, exclusive_more, exclusive_less, ranged, puts, notified, unnotified}
+use Rattle.clk_machine.specs.Holding.{prepared_more, prepared_less, exclusive_more, exclusive_less, ranged, puts, unnotified}
 
 -- a call was made on a driver's own handle, whose row passes a test, and left this state
 pub record HasDone (s : State) (d n : ℕ) (test : HandleRow → Bool) (does : State → HandleRow → State) (y : State) : Type 0 where

@@ -1,6 +1,6 @@
 -- Calls that are answered at once, and what the sweep has that isn't.
-use Rattle.std.proofs.Common.{◌≡◌, ℕ, zero, suc, ◌+◌, ◌<◌, ◌≤◌, ◌&&◌, not, Bool, true, false, Option, Some, None, refl, sym, ◌∙◌, arith, nat_le, List, [], ◌∷◌, ◌++◌, length, sum_by, map}
-use Rattle.std.specs.Prelude.{filter}
+use Rattle.std.proofs.Common.{◌≡◌, ℕ, zero, suc, ◌+◌, ◌<◌, ◌≤◌, ◌&&◌, not, Bool, true, false, Option, Some, None, refl, arith, nat_le, List, [], ◌∷◌, ◌++◌, length, sum_by, map}
+use Rattle.std.specs.Prelude.{filter, flat_map}
 use Rattle.std.proofs.lemmas.Bool.Decides.{nat_tests}
 use Rattle.std.proofs.lemmas.List.Sums.{sum_by-append}
 use Rattle.clk_base.specs.declared.call.Micro.{Micro}
@@ -10,7 +10,6 @@ use Rattle.clk_base.specs.declared.call.Sleeping.TheVariants as call
 use Rattle.clk_base.specs.declared.clock.ClockId.{ClockId}
 use Rattle.clk_base.specs.declared.event.Event.TheVariants as event
 use Rattle.clk_base.specs.declared.event.Reply.{Reply}
-use Rattle.clk_base.specs.declared.event.Turn.{Turn}
 use Rattle.clk_base.specs.declared.event.Turn.TheVariants as turn
 use Rattle.clk_base.specs.Flags.{ignores_unused}
 use Rattle.clk_model.specs.declared.row.HandleRow.{HandleRow}
@@ -21,7 +20,7 @@ use Rattle.clk_model.specs.Laws.CallCauses.{CallTurns, GetTurns, PutTurns, Round
 use Rattle.clk_model.specs.Machine.{next}
 use Rattle.clk_model.specs.Notices.{notifiers_of}
 use Rattle.clk_model.specs.Round.{wiring, round_rate}
-use Rattle.clk_model.specs.Script.{lets_through, runs, sweep_order, sweep_script, weight}
+use Rattle.clk_model.specs.Script.{close_of, lets_through, runs, sweep_order, sweep_script, weight}
 use Rattle.clk_model.specs.State.{State}
 use Rattle.clk_model.specs.Tree.{rooted}
 use Rattle.clk_model.specs.Views.{view, lift}
@@ -112,7 +111,7 @@ sweep_weighs : (s : State) → 1 ≤ sum_by (weight s) (sweep_script s)
 unfolding sweep_script
 sweep_weighs s =
     end_weighs s
-    (map (λ c. micro.Close (clock_id c)) (filter (λ c. not (ignores_unused s.defs c) && lets_through s.defs s.regs c && not (active s c)) (sweep_order s)))
+    (flat_map (close_of s.defs s.clocks) (filter (λ c. not (ignores_unused s.defs c) && lets_through s.defs s.regs c && not (active s c)) (sweep_order s)))
     (map (λ c. micro.Unpower (clock_id c)) (filter (λ c. not (ignores_unused s.defs c) && runs s.defs s.regs c && not (prepared s c)) (sweep_order s)))
 
 -- a sweep that goes on has a credit, and room for its end

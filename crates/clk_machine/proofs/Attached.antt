@@ -5,12 +5,12 @@ use Rattle.std.proofs.Math.Path.{fun_ext}
 use Rattle.std.proofs.lemmas.Bool.{and_from}
 use Rattle.std.proofs.lemmas.Bool.Decides.{nat_tests}
 use Rattle.std.proofs.lemmas.List.{length-set, get_or-set_other}
-use Rattle.std.specs.Prelude.{sum_by, filter, slice_index, count_by}
+use Rattle.std.specs.Prelude.{sum_by, filter, slice_index, slice_index_or, count_by}
 use Rattle.std.specs.List.{list_any}
 use Rattle.std.specs.Option.{option_map}
 use Rattle.clk_base.specs.declared.clock.ClockId.{ClockId}
 use Rattle.clk_base.specs.Description.{Description}
-use Rattle.clk_base.specs.Flags.{is_critical}
+use Rattle.clk_base.specs.Flags.{is_critical, sets_rate_gate}
 use Rattle.clk_base.specs.Levels.{depth}
 use Rattle.clk_model.specs.declared.row.HandleRow.{HandleRow}
 use Rattle.clk_model.specs.Lists.{is_in, count_from, present}
@@ -155,12 +155,13 @@ pub record IsAttached (s t : State) (c : ℕ) : Type 0 where
   pub enable_holds : t.enable_holds ≡ s.enable_holds
 
 -- counts that got its link, and its holders if it is critical, stand for the state behind it
-pub stands_attached : (k k' : CountState) (s t : State) (c : ℕ) → StandsFor k s → IsAttached s t c → HasLinks t.clocks k'.links → k'.defs ≡ k.defs
+pub stands_attached : (k k' : CountState) (s t : State) (c : ℕ) → StandsFor k s → IsAttached s t c → HasLinks t.clocks k'.links → k'.gated ≡ k.gated → length k'.links ≡ length k.links
     → ((d : ℕ) → slice_index k'.enables d ≡ slice_index k.enables d + critical_more s.defs c d)
     → ((d : ℕ) → slice_index k'.prepares d ≡ slice_index k.prepares d + critical_more s.defs c d)
     → k'.exclusives ≡ k.exclusives → StandsFor k' t
-stands_attached k k' s t c stands is links defs enables prepares exclusives = record {
-  defs = defs ∙ stands.defs ∙ sym is.defs;
+stands_attached k k' s t c stands is links gated long enables prepares exclusives = record {
+  size = long ∙ stands.size ∙ ap (λ (ds : Description). length ds) (sym is.defs);
+  gated = λ d. ap (λ (gs : List Bool). slice_index_or gs d false) gated ∙ stands.gated d ∙ ap (λ (ds : Description). sets_rate_gate ds d) (sym is.defs);
   links = links;
   enables = λ d. enables d ∙ ap (λ (n : ℕ). n + critical_more s.defs c d) (stands.enables d) ∙ own_more (λ h. h.enables) s.enable_holds t.enable_holds (sym is.enable_holds) d;
   prepares = λ d. prepares d ∙ ap (λ (n : ℕ). n + critical_more s.defs c d) (stands.prepares d) ∙ own_more (λ h. h.prepares) s.prepare_holds t.prepare_holds (sym is.prepare_holds) d;

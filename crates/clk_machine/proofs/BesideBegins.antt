@@ -1,7 +1,6 @@
 -- How a call that goes on begins beside the enables and disables: the same clocks, enables and gates, and of handles at most another range.
-use Rattle.std.proofs.Common.{◌≡◌, ℕ, ◌+◌, Bool, true, false, List, [], Option, Some, None, refl, sym, ap, subst, ◌∙◌, arith, length, set}
+use Rattle.std.proofs.Common.{◌≡◌, ℕ, ◌+◌, Bool, true, false, [], Option, Some, None, refl, sym, ap, subst, ◌∙◌, arith, length, set}
 use Rattle.std.specs.Prelude.{option_map}
-use Rattle.std.specs.Option.{option_map_or}
 use Rattle.clk_base.specs.declared.call.Sleeping.{Sleeping}
 use Rattle.clk_base.specs.declared.call.Sleeping.TheVariants as call
 use Rattle.clk_base.specs.declared.event.Errno.TheVariants as errno
@@ -11,14 +10,13 @@ use Rattle.clk_base.specs.Valid.{IsValid}
 use Rattle.reg_bank.specs.Registers.{Registers}
 use Rattle.clk_model.specs.declared.row.HandleRow.{HandleRow}
 use Rattle.clk_model.specs.Begin.{begun, change_along, held_once_more, put_handle, refused, request, request_between, starts}
-use Rattle.clk_model.specs.Gates.{gates_moved, settled}
-use Rattle.clk_model.specs.Holders.{active}
+use Rattle.clk_model.specs.Gates.{settled}
 use Rattle.clk_model.specs.Chain.{chain}
 use Rattle.clk_model.specs.Kinds.{is_open}
 use Rattle.clk_model.specs.Machine.{next}
 use Rattle.clk_model.specs.Round.{wiring}
 use Rattle.clk_model.specs.Views.{lift, view}
-use Rattle.clk_model.specs.State.{State, Change, ChainStep, handle_at}
+use Rattle.clk_model.specs.State.{State, Change, handle_at}
 use Rattle.clk_base.specs.declared.event.Turn.{Turn}
 use Rattle.clk_model.proofs.BeginsLaws.{changes_rate, Starts, raising_handle, lowering_handle, planning, reparents, probing, sweeping, Begins, answers, gives, takes, adjusts, prepares, unprepares, notes, registers, goes_on, begins_so}
 use Rattle.clk_model.proofs.Cases.{by_plan}

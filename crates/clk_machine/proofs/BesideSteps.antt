@@ -1,6 +1,6 @@
 -- A call whose steps only tell notifiers and switch PLLs leaves the enables and the gates to the enables and disables beside it.
-use Rattle.std.proofs.Common.{◌≡◌, ℕ, ◌+◌, ◌-◌, ◌≤◌, ◌||◌, Bool, true, false, not, cond, List, [], ◌∷◌, ◌++◌, Option, Some, None, refl, sym, ap, subst, ◌∙◌, arith, length, map, set, zero, suc}
-use Rattle.std.specs.Prelude.{filter, nat_le, option_map, reverse, slice_get, if◌then◌else◌}
+use Rattle.std.proofs.Common.{◌≡◌, ℕ, ◌+◌, ◌-◌, ◌||◌, Bool, true, false, not, cond, List, [], ◌∷◌, ◌++◌, Option, Some, None, refl, sym, ap, subst, ◌∙◌, arith, length, set, zero, suc}
+use Rattle.std.specs.Prelude.{nat_le, option_map, reverse, slice_get, if◌then◌else◌}
 use Rattle.std.specs.List.{list_any}
 use Rattle.std.specs.Option.{option_map_or}
 use Rattle.clk_base.specs.declared.call.Micro.{Micro}
@@ -9,7 +9,6 @@ use Rattle.clk_base.specs.declared.call.Sleeping.{Sleeping}
 use Rattle.clk_base.specs.declared.call.Sleeping.TheVariants as call
 use Rattle.clk_base.specs.declared.event.Entry.{Entry}
 use Rattle.clk_base.specs.declared.event.Errno.{Errno}
-use Rattle.clk_base.specs.declared.event.Errno.TheVariants as errno
 use Rattle.clk_base.specs.declared.event.Event.{Event}
 use Rattle.clk_base.specs.declared.event.Event.TheVariants as event
 use Rattle.clk_base.specs.declared.event.Reply.TheVariants as reply
@@ -23,7 +22,7 @@ use Rattle.reg_bank.specs.Registers.{Registers, is_set}
 use Rattle.reg_bank.proofs.BitLaws.{length-put_bit}
 use Rattle.clk_model.specs.declared.row.HandleRow.{HandleRow}
 use Rattle.clk_model.specs.Chain.{clock_id}
-use Rattle.clk_model.specs.Gates.{gates_moved, settled}
+use Rattle.clk_model.specs.Gates.{settled}
 use Rattle.clk_model.specs.Holders.{active}
 use Rattle.clk_model.specs.Journal.{slotless, replay, Legal}
 use Rattle.clk_model.specs.Kinds.{is_open, with_power}
@@ -37,11 +36,12 @@ use Rattle.clk_model.proofs.Cases.{by_option, by_test}
 use Rattle.clk_model.proofs.FlightLaws.{begin_is, step_is}
 use Rattle.clk_model.proofs.GateLaws.{gates_moved-still}
 use Rattle.clk_model.proofs.KeepLaws.{put_leaves}
-use Rattle.clk_model.proofs.NoneLaws.{none_behind, none_front, none_rest}
+use Rattle.clk_model.proofs.NoneLaws.{none_front, none_rest}
 use Rattle.clk_model.proofs.SettingLaws.{bit_same}
 use Rattle.clk_model.proofs.TierLaws.{beside_change}
 use Rattle.clk_machine.specs.Besides.{SameEnables, enable_tier_of}
-use Rattle.clk_machine.proofs.Besides.{Beside, GoesBeside, at_unranged, set_unranged, tier_beside, unranged, who_is_active, without_range}
+use Rattle.clk_machine.proofs.Besides.{Beside, at_unranged, set_unranged, tier_beside, unranged, who_is_active, without_range}
+use Rattle.clk_machine.specs.Landing.{reply_of}
 
 -- whether a step does more than tell a notifier, ask for a lock, switch a PLL or end the call
 abbrev pub touches : Micro → Bool
@@ -228,7 +228,7 @@ end_beside words u s t d answer e is step =
             gates = λ c gate at. ap (λ (rs : Registers). is_open rs gate) rest ∙ is.gates c gate at;
           }
 
-      refused_end : (k : Change) (v b : Bool) → turn.Done (if v then reply.Refused errno.EBUSY else if b then reply.Refused errno.ETIMEDOUT else reply.Fine) ≡ turn.Done (reply.Refused e)
+      refused_end : (k : Change) (v b : Bool) → turn.Done (reply_of v b) ≡ turn.Done (reply.Refused e)
           → record (settled s (record (if v || b then record s { handles = range_back k.call k.range s.handles } else ended_well s k.driver k.call) { change = None })) { steps = s.steps + 1 } ≡ t
           → SameEnables t u
       refused_end k true b f at = subst (λ (w : State). SameEnables w u) at (left k)

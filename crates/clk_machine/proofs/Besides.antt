@@ -1,5 +1,5 @@
 -- Enables and disables do the same in two states whose handles, links and holds are the same.
-use Rattle.std.proofs.Common.{◌≡◌, ℕ, zero, suc, ◌+◌, ◌-◌, ◌<◌, ◌≤◌, ◌&&◌, Bool, true, false, cond, List, [], ◌∷◌, ◌++◌, Option, Some, None, refl, sym, ap, subst, ◌∙◌, arith, length, map, set, nat_eq, nat_lt}
+use Rattle.std.proofs.Common.{◌≡◌, ℕ, zero, suc, ◌+◌, ◌-◌, ◌<◌, ◌≤◌, ◌&&◌, Bool, true, false, cond, List, [], ◌∷◌, ◌++◌, Option, Some, None, refl, sym, ap, subst, ◌∙◌, arith, length, map, set, nat_lt}
 use Rattle.std.proofs.lemmas.Bool.Decides.{nat_tests}
 use Rattle.std.specs.Prelude.{filter, option_map, if◌then◌else◌, ◌==◌}
 use Rattle.std.specs.Option.{option_map_or}
@@ -8,7 +8,6 @@ use Rattle.clk_base.specs.declared.event.Event.{Event}
 use Rattle.clk_base.specs.declared.event.Event.TheVariants as event
 use Rattle.clk_base.specs.declared.event.Reply.{Reply}
 use Rattle.clk_base.specs.declared.event.Turn.{Turn}
-use Rattle.clk_base.specs.declared.event.Turn.TheVariants as turn
 use Rattle.clk_base.specs.Description.{Description, kind_of}
 use Rattle.clk_base.specs.Fields.{GateBit, gate_of}
 use Rattle.clk_base.specs.Flags.{is_critical}
@@ -16,7 +15,7 @@ use Rattle.clk_base.specs.Valid.{IsValid}
 use Rattle.clk_model.specs.declared.row.ClockRow.{ClockRow}
 use Rattle.clk_model.specs.declared.row.HandleRow.{HandleRow}
 use Rattle.clk_model.specs.Begin.{done, pick, put_handle, refused, with_handle}
-use Rattle.clk_model.specs.Gates.{gates_moved, settled}
+use Rattle.clk_model.specs.Gates.{settled}
 use Rattle.clk_model.specs.Holders.{active, clocks_of, critical_clocks, enable_holders, is_enabled, is_held}
 use Rattle.clk_model.specs.Kinds.{is_open}
 use Rattle.clk_model.specs.Laws.Supplied.{FollowsGates}

@@ -1,5 +1,5 @@
 -- That a change of rate or parent can go on with what was made before.
-use Rattle.std.proofs.Common.{◌≡◌, ℕ, ◌+◌, ◌<◌, ◌≤◌, Bool, true, false, List, Option, Some, None, refl, sym, ap, subst, ◌∙◌, arith, length}
+use Rattle.std.proofs.Common.{◌≡◌, ℕ, ◌+◌, ◌<◌, true, false, List, Option, Some, None, refl, sym, ap, subst, ◌∙◌, arith}
 use Rattle.std.specs.Prelude.{sum_by, is_some}
 use Rattle.std.specs.List.{list_all}
 use Rattle.std.specs.Option.{option_map}
@@ -17,26 +17,23 @@ use Rattle.clk_flight.specs.Flights.{FlightState}
 use Rattle.clk_flight.specs.LeftOver.{left_over, step_weight}
 use Rattle.clk_flight.specs.declared.start.Start.{Start}
 use Rattle.clk_model.specs.declared.row.HandleRow.{HandleRow}
-use Rattle.clk_model.specs.Begin.{most_credits}
 use Rattle.clk_model.specs.Script.{plls}
-use Rattle.clk_model.specs.State.{State, Change, NotifierRow, registered, handle_at}
+use Rattle.clk_model.specs.State.{State, NotifierRow, registered, handle_at}
 use Rattle.clk_model.proofs.EventLaws.{own_is_live}
 use Rattle.clk_model.proofs.FlightLaws.{begin_is}
 use Rattle.clk_model.specs.Step.{sets_parent}
 use Rattle.core_parts.specs.Course.{CourseState, notifiers_at, tells_all}
 use Rattle.core_parts.specs.InFlight.{can_link, changes_rate, is_ranged, is_script, may_go_on, probes}
 use Rattle.core_parts.specs.Listed.{rows_from}
-use Rattle.core_parts.proofs.Holdings.{StandsFor-same}
 use Rattle.clk_machine.specs.ChangingAlong.{SetsAlong, CanChange, CanRange, Changes, range_of, set_along}
-use Rattle.clk_machine.specs.Parts.{Parts, bare, own_in, with_range, IsOwnCall, IsFlown, IsWhole}
+use Rattle.clk_machine.specs.Parts.{Parts, bare, own_in, with_range, IsOwnCall, IsWhole}
 use Rattle.clk_machine.specs.Readied.{Scripted}
 use Rattle.clk_machine.specs.Readied as readied
 use Rattle.clk_machine.specs.Readying.{CanGoAlong, IsReady, StartsAlong}
 use Rattle.clk_machine.specs.SettingOut.{NeverGoes}
-use Rattle.clk_machine.specs.Stands.{Stands}
 use Rattle.clk_machine.proofs.Readying.{room_to_start, proceeds_along, leads_along, proceeds_within, leads_within, enters_readied}
 use Rattle.clk_machine.proofs.SettingOut.{along_enters, never_paid}
-use Rattle.clk_machine.proofs.Starting.{flying, with_spent, whole_flying}
+use Rattle.clk_machine.proofs.Starting.{with_spent, whole_flying}
 use Rattle.clk_machine.proofs.Writing.{whole_spent}
 
 -- ---- the parts stay whole

@@ -16,6 +16,7 @@ use Rattle.clk_model.specs.Begin.{begun}
 use Rattle.clk_model.specs.Journal.{slotless}
 use Rattle.clk_model.specs.Laws.PlansRead.{asks, plans}
 use Rattle.clk_model.specs.Laws.PrepBegins.{is_decided}
+use Rattle.clk_model.specs.Laws.Twins.{IsTwin}
 use Rattle.clk_model.specs.Lists.{is_in, count_from}
 use Rattle.clk_model.specs.Prep.{masked, prep}
 use Rattle.clk_model.specs.Round.{wiring}
@@ -24,6 +25,8 @@ use Rattle.clk_model.specs.Wired.{IsWired, LinksArePossible}
 use Rattle.clk_model.proofs.CopyLaws.{prep_twice}
 use Rattle.clk_model.proofs.PlansReadLaws.{still_quiet}
 use Rattle.clk_model.proofs.PrepLaws.{length-gates_cleared}
+use Rattle.clk_model.proofs.ShadowLaws.{twin_unswept}
+use Rattle.clk_model.proofs.SweptLaws.{none_sweeps}
 use Rattle.clk_tree.specs.Plans.{ClockRate, AreThere}
 use Rattle.core_parts.specs.Decisions as decided
 use Rattle.core_parts.specs.Window.{AreTold}
@@ -118,13 +121,18 @@ wired_prep s wired = record {
   links = wired.links;
 }
 
--- a twin that the parts of a copy stand for is sound
+-- while no call is in flight in a copy, its parts stand for a twin
+copy_twin : (copy : Copy) (s : State) (is : IsCopyOf copy s) → copy.parts.flight.going ≡ false → IsTwin is.copies.twin s
+copy_twin copy s is quiet = twin_unswept s is.copies.twin is.copies.is (none_sweeps is.copies.twin (quiet_stands copy.parts is.copies.twin is.copies.stands quiet))
+
+-- that is sound
 pub copy_sound : (copy : Copy) (s : State) (is : IsCopyOf copy s) → IsWhole copy.parts → copy.parts.flight.going ≡ false → IsSound copy.parts.window.size is.copies.twin
 copy_sound copy s is whole quiet =
     let t : State = is.copies.twin in
     let none : t.change ≡ None = quiet_stands copy.parts t is.copies.stands quiet in
+    let twin = copy_twin copy s is quiet in
     record {
-      like = twin_like copy.parts.window.size s t is.reached is.copies.is (none ∙ sym (still_quiet t s none (sym is.copies.is.same)));
+      like = twin_like copy.parts.window.size s t is.reached twin (none ∙ sym (still_quiet t s none (sym twin.same)));
       narrow = narrow_parts copy.parts t whole is.copies.stands;
     }
 
@@ -135,7 +143,7 @@ pub decided_over : (copy : Copy) (d : ℕ) (what : Sleeping) (made : Decision) �
     → (s : State) → IsCopyOf copy s → IsDecided s d what made
 decided_over copy d what made whole quiet each s is =
     let t : State = is.copies.twin in
-    decided_alike t (prep s) d what made (wired_parts copy.parts t whole is.copies.stands) (prep_twice s ∙ sym is.copies.is.same) (each t is.copies.stands (copy_sound copy s is whole quiet))
+    decided_alike t (prep s) d what made (wired_parts copy.parts t whole is.copies.stands) (prep_twice s ∙ sym (copy_twin copy s is quiet).same) (each t is.copies.stands (copy_sound copy s is whole quiet))
 
 -- what isn't decided is decided inside
 pub inside_over : (d : ℕ) (what : Sleeping) → asks what ≡ false → plans what ≡ false → (s : State) → IsDecided s d what decision.Inside

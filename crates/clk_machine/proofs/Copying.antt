@@ -1,4 +1,4 @@
--- A copy goes along with the entries of a core, from the twin that its parts stand for.
+-- A copy goes along with the entries of a core, from the twin or the shadow that its parts stand for.
 use Rattle.std.proofs.Common.{◌≡◌, ℕ, ◌+◌, ◌≤◌, ◌<◌, ◌⊎◌, inl, inr, ⊎_elim, not, Bool, true, false, List, Option, Some, None, refl, sym, ap, subst, ◌∙◌, arith, length, [], ◌∷◌}
 use Rattle.std.specs.Prelude.{option_map}
 use Rattle.std.specs.Option.{option_map_or}
@@ -22,19 +22,19 @@ use Rattle.clk_model.specs.declared.row.HandleRow.{HandleRow}
 use Rattle.clk_model.specs.Begin.{change_of, begun, most_credits}
 use Rattle.clk_model.specs.Gates.{settled}
 use Rattle.clk_model.specs.Journal.{slotless}
-use Rattle.clk_model.specs.Laws.PrepSteps.{closes_gate}
+use Rattle.clk_model.specs.Laws.Shadows.{sweeps, sweep_does, IsShadow, as_twin, as_shadow}
 use Rattle.clk_model.specs.Laws.Twins.{IsTwin, IsLeftOut, TwinMakes}
 use Rattle.clk_model.specs.Lists.{is_in}
 use Rattle.clk_model.specs.Machine.{next}
 use Rattle.clk_model.specs.Prep.{is_sweep, change_prep, prep}
 use Rattle.clk_model.specs.State.{State, Change, registered, link_in}
-use Rattle.clk_model.specs.Step.{stepped}
+use Rattle.clk_model.specs.Step.{is_end}
 use Rattle.clk_model.specs.Tier.{is_step}
 use Rattle.clk_model.proofs.AlikeLaws.{inside_change, same_changes}
-use Rattle.clk_model.proofs.FlightLaws.{IsStep, begin_is, step_is}
+use Rattle.clk_model.proofs.FlightLaws.{begin_is, step_is}
 use Rattle.clk_model.proofs.PrepEventLaws.{prep_paid}
-use Rattle.clk_model.proofs.PrepLaws.{prep-spent}
-use Rattle.clk_model.proofs.ShapeLaws.{begun_paid}
+use Rattle.clk_model.proofs.ShadowLaws.{twin_unswept, twin_beside, shadow_swept}
+use Rattle.clk_model.proofs.SweptLaws.{none_sweeps, begun_unswept, stepped_unswept}
 use Rattle.clk_tree.specs.TreeState.{IsTree}
 use Rattle.core_parts.specs.Tied.{AreTied}
 use Rattle.clk_machine.specs.Along.{GoesAlong, IsEventOf, PartsFollow, SweepsAlong, FollowsEvent, tells_only, is_still}
@@ -48,11 +48,9 @@ use Rattle.clk_machine.proofs.Along.{ends_with, slotless_done}
 use Rattle.clk_machine.proofs.Answering.{never_going, sweep_has}
 use Rattle.clk_machine.proofs.Flying.{quiet_stands}
 use Rattle.clk_machine.proofs.Likeness.{twin_like, twin_change, twin_quiet}
-use Rattle.clk_machine.proofs.Making.{HasChange}
 use Rattle.clk_machine.proofs.Making as making
 use Rattle.clk_machine.proofs.Still.{tells_still, fine_still}
-use Rattle.clk_machine.proofs.SweptAlong.{halted}
-use Rattle.clk_machine.proofs.Twinned.{TwinGoes, twin_steps, twin_begins, twin_sweeps, twin_goes}
+use Rattle.clk_machine.proofs.Twinned.{twin_steps, twin_begins, twin_sweeps, shadow_goes}
 
 -- ---- the twin is sound
 
@@ -77,26 +75,38 @@ narrow_stands m s whole stands = record {
     by None at = refl
     by (Some p) at = let no : true ≡ false = sym (whole.tied.stands.linked c p at) ∙ free in absurd cc
 
-pub sound_copy : (copy : Copy) (s : State) → IsWhole copy.parts → (of : IsCopyOf copy s) → of.copies.twin.change ≡ s.change → IsSound copy.parts.window.size of.copies.twin
-sound_copy copy s whole of change = record {
-  like = twin_like copy.parts.window.size s of.copies.twin of.reached of.copies.is change;
+pub sound_copy : (copy : Copy) (s : State) → IsWhole copy.parts → (of : IsCopyOf copy s) → IsTwin of.copies.twin s → of.copies.twin.change ≡ s.change → IsSound copy.parts.window.size of.copies.twin
+sound_copy copy s whole of twin change = record {
+  like = twin_like copy.parts.window.size s of.copies.twin of.reached twin change;
   narrow = narrow_stands copy.parts of.copies.twin whole of.copies.stands;
 }
 
--- what it goes along with it is of then
-copies_made : (old new : Copy) (s t : State) (d : ℕ) (e : Event) (x : Turn) → IsWhole old.parts → (of : IsCopyOf old s) → of.copies.twin.change ≡ s.change → GoesAlong old.parts d e x new.parts
-    → TwinMakes of.copies.twin d e t (slotless x) → Copies new t
-copies_made old new s t d e x whole of change along makes =
-    record { twin = makes.after; stands = along of.copies.twin makes.after of.copies.stands (sound_copy old s whole of change) makes.made; is = makes.twin }
+-- what it goes along with it is of then, if no sweep is in flight after it
+copies_made : (old new : Copy) (s t : State) (d : ℕ) (e : Event) (x : Turn) → IsWhole old.parts → (of : IsCopyOf old s) → IsTwin of.copies.twin s → of.copies.twin.change ≡ s.change
+    → GoesAlong old.parts d e x new.parts → (makes : TwinMakes of.copies.twin d e t (slotless x)) → sweeps makes.after ≡ false → Copies new t
+copies_made old new s t d e x whole of twin change along makes none =
+    record { twin = makes.after; stands = along of.copies.twin makes.after of.copies.stands (sound_copy old s whole of twin change) makes.made; is = as_twin none makes.twin }
+
+-- ---- twins and shadows
+
+-- whether a sweep is in flight in a state is what the parts of it say
+swept_stands : (m : Parts) (t : State) → Stands m t → m.flight.going ≡ true → sweeps t ≡ is_sweep m.flight.call
+swept_stands m t stands going =
+    let has = making.change_of m t stands going in
+    ap (λ (o : Option Change). option_map_or (λ k. is_sweep k.call) o false) has.change ∙ ap is_sweep has.is.call
+
+-- while no call is in flight in a state, its copy stands for a twin
+twin_at_rest : (copy : Copy) (s : State) (of : IsCopyOf copy s) → s.change ≡ None → IsTwin of.copies.twin s
+twin_at_rest copy s of quiet = twin_beside s of.copies.twin of.copies.is (none_sweeps s quiet)
 
 -- ---- steps
 
 -- the call in flight is the copy's
-same_call : (copy : Copy) (s : State) (k : Change) (of : IsCopyOf copy s) → copy.parts.flight.going ≡ true → s.change ≡ Some k → k.call ≡ copy.parts.flight.call
-same_call copy s k of going at =
+same_call : (copy : Copy) (s : State) (k : Change) (of : IsCopyOf copy s) → IsTwin of.copies.twin s → copy.parts.flight.going ≡ true → s.change ≡ Some k → k.call ≡ copy.parts.flight.call
+same_call copy s k of twin going at =
     let has = making.change_of copy.parts of.copies.twin of.copies.stands going in
     let one : change_prep has.k ≡ change_prep k =
-    inside_change (ap (λ (o : Option Change). option_map change_prep o) (sym has.change) ∙ same_changes s of.copies.twin of.copies.is.same ∙ ap (λ (o : Option Change). option_map change_prep o) at) in
+    inside_change (ap (λ (o : Option Change). option_map change_prep o) (sym has.change) ∙ same_changes s of.copies.twin twin.same ∙ ap (λ (o : Option Change). option_map change_prep o) at) in
     sym (ap (λ (j : Change). j.call) one) ∙ has.is.call
 
 -- a step of a call that isn't the sweep
@@ -104,17 +114,21 @@ pub copies_step : (old new : Copy) (s t : State) (d : ℕ) (m : Micro) (a : Opti
     → GoesAlong old.parts d (event.Step m a) x new.parts → next s d (event.Step m a) ≡ Some (t, slotless x) → Copies new t
 copies_step old new s t d m a x whole of going other along step =
     let found = step_is s t d m a (slotless x) step in
-    let not_sweep : is_sweep found.0.call ≡ false = ap is_sweep (same_call old s found.0 of going found.1.at) ∙ other in
-    copies_made old new s t d (event.Step m a) x whole of (twin_change s of.copies.twin found.0 of.copies.is found.1.at not_sweep) along
-    (twin_steps old.parts.window.size s of.copies.twin t found.0 d m a (slotless x) of.reached of.copies.is found.1.at not_sweep step)
+    let none : sweeps of.copies.twin ≡ false = swept_stands old.parts of.copies.twin of.copies.stands going ∙ other in
+    let twin = twin_unswept s of.copies.twin of.copies.is none in
+    let not_sweep : is_sweep found.0.call ≡ false = ap is_sweep (same_call old s found.0 of twin going found.1.at) ∙ other in
+    let makes = twin_steps old.parts.window.size s of.copies.twin t found.0 d m a (slotless x) of.reached twin found.1.at not_sweep step in
+    copies_made old new s t d (event.Step m a) x whole of twin (twin_change s of.copies.twin found.0 twin found.1.at not_sweep) along makes
+    (stepped_unswept of.copies.twin makes.after d m a (slotless x) none makes.made)
 
--- no step comes where no call is in flight
+-- no step comes if no call is in flight
 pub no_step : (copy : Copy) (s t : State) (d : ℕ) (m : Micro) (a : Option Bool) (x : Turn) → IsCopyOf copy s → copy.parts.flight.going ≡ false → next s d (event.Step m a) ≡ Some (t, x) → ⊥
 no_step copy s t d m a x of quiet step =
     let found = step_is s t d m a x step in
     let none = quiet_stands copy.parts of.copies.twin of.copies.stands quiet in
+    let twin = twin_unswept s of.copies.twin of.copies.is (none_sweeps of.copies.twin none) in
     let no : None ≡ Some (change_prep found.0) =
-    ap (λ (o : Option Change). option_map change_prep o) (sym none) ∙ same_changes s of.copies.twin of.copies.is.same ∙ ap (λ (o : Option Change). option_map change_prep o) found.1.at in
+    ap (λ (o : Option Change). option_map change_prep o) (sym none) ∙ same_changes s of.copies.twin twin.same ∙ ap (λ (o : Option Change). option_map change_prep o) found.1.at in
     cc
 
 -- ---- beginnings
@@ -123,12 +137,16 @@ no_step copy s t d m a x of quiet step =
 pub copies_begin : (old new : Copy) (s t : State) (d : ℕ) (what : Sleeping) (x : Turn) → IsWhole old.parts → IsCopyOf old s → is_sweep what ≡ false → (IsLeftOut (slotless x) → ⊥)
     → GoesAlong old.parts d (event.Begin what) x new.parts → next s d (event.Begin what) ≡ Some (t, slotless x) → Copies new t
 copies_begin old new s t d what x whole of other never along step =
-    by (twin_begins old.parts.window.size s of.copies.twin t d what (slotless x) of.reached of.copies.is other step) where
-      change : of.copies.twin.change ≡ s.change
-      change = twin_quiet s of.copies.twin of.copies.is (begin_is s t d what (slotless x) step).0
+    by (twin_begins old.parts.window.size s of.copies.twin t d what (slotless x) of.reached twin other step) where
+      quiet : s.change ≡ None
+      quiet = (begin_is s t d what (slotless x) step).0
+
+      twin : IsTwin of.copies.twin s
+      twin = twin_at_rest old s of quiet
 
       by : TwinMakes of.copies.twin d (event.Begin what) t (slotless x) ⊎ (IsLeftOut (slotless x) × IsTwin of.copies.twin t) → Copies new t
-      by (inl makes) = copies_made old new s t d (event.Begin what) x whole of change along makes
+      by (inl makes) =
+          copies_made old new s t d (event.Begin what) x whole of twin (twin_quiet s of.copies.twin twin quiet) along makes (begun_unswept of.copies.twin makes.after d what (slotless x) other makes.made)
       by (inr left) = absurd (never left.0)
 
 -- a call that leaves the state as it is leaves the copy one of it
@@ -136,7 +154,7 @@ copies_still : (copy : Copy) (s t : State) (d : ℕ) (what : Sleeping) (x : Turn
 unfolding settled
 copies_still copy s t d what x of step still =
     let is = begin_is s t d what x step in
-    let twin = of.copies.is in
+    let twin = twin_at_rest copy s of is.0 in
     let to : t ≡ record (settled s s) { spent = s.spent + 1 } =
     sym is.1 ∙ ap (λ (y : State). let u : State = record (settled s y) { spent = s.spent + 1 } in u) still in
     let spent : t.spent ≡ s.spent + 1 = ap (λ (u : State). u.spent) to in
@@ -147,13 +165,13 @@ copies_still copy s t d what x of step still =
     record {
       twin = of.copies.twin;
       stands = of.copies.stands;
-      is = record {
+      is = as_twin (none_sweeps of.copies.twin (twin_quiet s of.copies.twin twin is.0 ∙ is.0)) (record {
         bare = twin.bare;
         holds = twin.holds ∙ sym holds;
         spent = omega arith;
         steps = omega arith;
         same = twin.same ∙ sym (ap prep (sym is.1) ∙ prep_paid s (begun s d what) ∙ ap prep still);
-      };
+      });
     }
 
 -- so does an answer that tells or refuses
@@ -182,28 +200,17 @@ going_kept (inr (inr is)) = cc
 
 -- ---- a sweep
 
+-- a copy stands for a shadow then
+swept_shadow : (copy : Copy) (s : State) (of : IsCopyOf copy s) → copy.parts.flight.going ≡ true → is_sweep copy.parts.flight.call ≡ true → IsShadow of.copies.twin s
+swept_shadow copy s of going sweeping = shadow_swept s of.copies.twin of.copies.is (swept_stands copy.parts of.copies.twin of.copies.stands going ∙ sweeping)
+
+-- a step that isn't the end
 pub copies_sweep : (old new : Copy) (s t : State) (d : ℕ) (m : Micro) (a : Option Bool) (x : Turn) → IsCopyOf old s → old.parts.flight.going ≡ true → is_sweep old.parts.flight.call ≡ true
-    → SweepsAlong old.parts m new.parts → next s d (event.Step m a) ≡ Some (t, slotless x) → Copies new t
-copies_sweep old new s t d m a x of going sweeping along step = by (closes_gate m) refl where
-  found : (k : Change) × IsStep s t d m a (slotless x) k
-  found = step_is s t d m a (slotless x) step
-
-  has : HasChange old.parts of.copies.twin
-  has = making.change_of old.parts of.copies.twin of.copies.stands going
-
-  sweeps : is_sweep found.0.call ≡ true
-  sweeps = ap is_sweep (same_call old s found.0 of going found.1.at) ∙ sweeping
-
-  goes : TwinGoes of.copies.twin has.k m a t (slotless x)
-  goes = twin_goes old.parts.window.size s of.copies.twin t found.0 has.k d m a (slotless x) of.reached of.copies.is found.1.at has.change sweeps step
-
-  by : (b : Bool) → closes_gate m ≡ b → Copies new t
-  by true closes = record { twin = of.copies.twin; stands = subst (λ (p : Parts). Stands p of.copies.twin) (sym (along.closes closes)) of.copies.stands; is = goes.steps.closes closes }
-  by false plain = record {
-    twin = (stepped of.copies.twin has.k a m).0;
-    stands = along.others goes.own plain of.copies.twin has.k a of.copies.stands has.change (ap is_sweep has.is.call ∙ sweeping);
-    is = goes.steps.stepped_;
-  }
+    → is_end m ≡ false → SweepsAlong old.parts m new.parts → next s d (event.Step m a) ≡ Some (t, slotless x) → Copies new t
+copies_sweep old new s t d m a x of going sweeping other along step =
+    let shadow = swept_shadow old s of going sweeping in
+    let goes = shadow_goes old.parts.window.size s of.copies.twin t d m a (slotless x) of.reached shadow step in
+    record { twin = sweep_does of.copies.twin m; stands = along of.copies.twin of.copies.stands goes.there; is = as_shadow (goes.stays other) }
 
 -- at its end none is in flight in the copy
 pub copies_halted : (old new : Copy) (d : ℕ) (m : Micro) (a : Option Bool) (r : Reply) → old.parts.flight.going ≡ true → is_sweep old.parts.flight.call ≡ true
@@ -211,7 +218,8 @@ pub copies_halted : (old new : Copy) (d : ℕ) (m : Micro) (a : Option Bool) (r 
 copies_halted old new d m a r going sweeping stands s t of step =
     let done = slotless_done r in
     let last : m ≡ micro.End = ends_with s t d m a done.0 (step ∙ ap (λ (x : Turn). Some (t, x)) done.1) in
-    copies_sweep old new s t d m a (turn.Done r) of going sweeping (subst (λ (i : Micro). SweepsAlong old.parts i new.parts) (sym last) (halted old.parts new.parts stands)) step
+    let goes = shadow_goes old.parts.window.size s of.copies.twin t d m a (slotless (turn.Done r)) of.reached (swept_shadow old s of going sweeping) step in
+    record { twin = record of.copies.twin { change = None }; stands = stands of.copies.twin of.copies.stands; is = as_twin refl (goes.ends (ap is_end last)) }
 
 -- a call that is answered by Ok at once and isn't the sweep
 pub copies_done : (old new : Copy) (d : ℕ) (what : Sleeping) → IsWhole old.parts → is_sweep what ≡ false → GoesAlong old.parts d (event.Begin what) (turn.Done reply.Fine) new.parts
@@ -232,7 +240,8 @@ going_told false quiet is so = let none : false ≡ true = sym so ∙ is in absu
 pub no_begin : (copy : Copy) (s t : State) (d : ℕ) (what : Sleeping) (x : Turn) → IsCopyOf copy s → copy.parts.flight.going ≡ true → next s d (event.Begin what) ≡ Some (t, x) → ⊥
 no_begin copy s t d what x of going step =
     let has = making.change_of copy.parts of.copies.twin of.copies.stands going in
-    let none = twin_quiet s of.copies.twin of.copies.is (begin_is s t d what x step).0 ∙ (begin_is s t d what x step).0 in
+    let quiet = (begin_is s t d what x step).0 in
+    let none = twin_quiet s of.copies.twin (twin_at_rest copy s of quiet) quiet ∙ quiet in
     let so : Some has.k ≡ None = sym has.change ∙ none in
     cc
 
@@ -251,32 +260,26 @@ copies_going old new d what whole other along s t of step = copies_begin old new
 pub never_copied : (copy : Copy) (s t : State) (d : ℕ) (what : Sleeping) → IsWhole copy.parts → IsCopyOf copy s → is_sweep what ≡ false → NeverGoes copy.parts d what
     → next s d (event.Begin what) ≡ Some (t, turn.Going) → ⊥
 never_copied copy s t d what whole of other never step =
-    by (twin_begins copy.parts.window.size s of.copies.twin t d what turn.Going of.reached of.copies.is other step) where
-      change : of.copies.twin.change ≡ s.change
-      change = twin_quiet s of.copies.twin of.copies.is (begin_is s t d what turn.Going step).0
+    by (twin_begins copy.parts.window.size s of.copies.twin t d what turn.Going of.reached twin other step) where
+      quiet : s.change ≡ None
+      quiet = (begin_is s t d what turn.Going step).0
+
+      twin : IsTwin of.copies.twin s
+      twin = twin_at_rest copy s of quiet
 
       by : TwinMakes of.copies.twin d (event.Begin what) t turn.Going ⊎ (IsLeftOut turn.Going × IsTwin of.copies.twin t) → ⊥
-      by (inl makes) = never of.copies.twin makes.after of.copies.stands (sound_copy copy s whole of change) makes.made
+      by (inl makes) = never of.copies.twin makes.after of.copies.stands (sound_copy copy s whole of twin (twin_quiet s of.copies.twin twin quiet)) makes.made
       by (inr left) = going_kept left.0
 
 -- a sweep has its end alone left in the copy
 pub copies_swept : (old new : Copy) (d : ℕ) → ((s : State) → Stands old.parts s → Stands new.parts (sweep_end s d)) → FollowsEvent old d (event.Begin call.Sweep) turn.Going new
 copies_swept old new d stands s t of step =
     let tw = of.copies.twin in
-    let swept = (twin_sweeps old.parts.window.size s tw t d turn.Going of.reached of.copies.is step).goes_on refl (micro.End ∷ []) in
-    let paid = (begun_paid s t d call.Sweep turn.Going step).0 in
-    let spent = paid.spent in
-    let least = of.copies.is.spent in
+    let twin = twin_at_rest old s of (begin_is s t d call.Sweep turn.Going step).0 in
     record {
       twin = sweep_end tw d;
       stands = stands tw of.copies.stands;
-      is = record {
-        bare = swept.bare;
-        holds = swept.holds;
-        spent = omega arith;
-        steps = swept.steps;
-        same = prep-spent (record tw { change = Some (change_of tw d call.Sweep (micro.End ∷ [])) }) (tw.spent + 1) ∙ swept.same;
-      };
+      is = as_shadow (twin_sweeps old.parts.window.size s tw t (change_of tw d call.Sweep (micro.End ∷ [])) d of.reached twin refl step);
     }
 
 -- ---- an entry
@@ -323,13 +326,14 @@ no_sweep : (old : Copy) (s t : State) (d : ℕ) → IsCopyOf old s → NeverGo o
 unfolding prep
 no_sweep old s t d of never step =
     let has = sweep_has s t d step in
+    let twin = twin_at_rest old s of (begin_is s t d call.Sweep turn.Going step).0 in
     let left = has.0 in
     let room = has.1 in
-    let credits : s.credits ≡ old.parts.credits = sym (ap (λ (u : State). u.credits) of.copies.is.same) ∙ of.copies.stands.credits in
+    let credits : s.credits ≡ old.parts.credits = sym (ap (λ (u : State). u.credits) twin.same) ∙ of.copies.stands.credits in
     let spent = of.copies.stands.spent in
-    let least = of.copies.is.spent in
+    let least = twin.spent in
     let steps = of.copies.stands.steps in
-    let few = of.copies.is.steps in
+    let few = twin.steps in
     ⊎_elim (λ (poor : old.parts.credits ≤ old.parts.spent). let no : ⊥ = omega arith in no) (λ (full : most_credits < old.parts.credits + old.parts.steps + 1). let no : ⊥ = omega arith in no) never
 
 -- how a call that isn't the sweep goes out

@@ -1,5 +1,6 @@
 -- A critical clock that is registered: it is prepared and enabled from then on, and the gates of its path follow.
 use Rattle.std.proofs.Common.{◌≡◌, ℕ, ◌+◌, ◌<◌, ◌&&◌, ◌||◌, Bool, true, false, cond, not, List, Option, Some, refl, sym, ap, subst, ◌∙◌, arith, length, set, get_or, nat_eq, nat_lt}
+use Rattle.std.proofs.lemmas.List.{length-set}
 use Rattle.std.proofs.Math.Path.{fun_ext}
 use Rattle.std.proofs.lemmas.Bool.Decides.{nat_tests}
 use Rattle.std.specs.Prelude.{is_some, slice_index}
@@ -65,9 +66,9 @@ module _ (old : Parts) (c : ℕ) (tree' : TreeState) (counts' held : CountState)
       let one : critical_more defs c d ≡ cond (nat_eq c d) 1 0 = ap (λ (t : Bool). cond (t && nat_eq c d) 1 0) is in
       omega arith
 
-  place : (xs : List ℕ) → length xs ≡ length counts'.defs → c < length xs
+  place : (xs : List ℕ) → length xs ≡ length counts'.links → c < length xs
   place xs many =
-      let defs : length counts'.defs ≡ length old.desc.defs = ap (λ (k : CountState). length k.defs) now.counts ∙ ap (λ (d : Description). length d) whole.counted.stands.defs in
+      let long : length counts'.links ≡ length old.desc.defs = ap (λ (k : CountState). length k.links) now.counts ∙ length-set old.counts.links c now.link ∙ whole.counted.stands.size in
       let inside = now.place in
       omega arith
 
@@ -75,7 +76,8 @@ module _ (old : Parts) (c : ℕ) (tree' : TreeState) (counts' held : CountState)
   held_stands s t is stands attached rows =
       stands_attached old.counts held s t c stands attached
       (subst (λ (rs : List ClockRow). HasLinks rs held.links) (sym rows) (subst (λ (ls : List (Option ClockId)). HasLinks tree'.clocks ls) (sym (ap (λ (k : CountState). k.links) holds.is)) now.links))
-      (ap (λ (k : CountState). k.defs) holds.is ∙ ap (λ (k : CountState). k.defs) now.counts)
+      (ap (λ (k : CountState). k.gated) holds.is ∙ ap (λ (k : CountState). k.gated) now.counts)
+      (ap (λ (k : CountState). length k.links) holds.is ∙ ap (λ (k : CountState). length k.links) now.counts ∙ length-set old.counts.links c now.link)
       (one_more s.defs old.counts.enables counts'.enables held.enables is (place counts'.enables now.keeps.enables) (ap (λ (k : CountState). k.enables) now.counts) (ap (λ (k : CountState). k.enables) holds.is))
       (one_more s.defs old.counts.prepares counts'.prepares held.prepares is (place counts'.prepares now.keeps.prepares) (ap (λ (k : CountState). k.prepares) now.counts) (ap (λ (k : CountState). k.prepares) holds.is))
       (ap (λ (k : CountState). k.exclusives) holds.is ∙ ap (λ (k : CountState). k.exclusives) now.counts)

@@ -1,5 +1,5 @@
 -- A call that changes a rate begins as was decided, in each sound state that the parts of a core stand for.
-use Rattle.std.proofs.Common.{◌≡◌, ◌≢◌, ℕ, Bool, List, Option, Some, None, refl, sym, ap, subst, ◌∙◌, length}
+use Rattle.std.proofs.Common.{◌≡◌, ℕ, Bool, List, Option, Some, None, refl, sym, ap, subst, ◌∙◌, length}
 use Rattle.std.proofs.Math.Path.{fun_ext}
 use Rattle.clk_base.specs.declared.call.Sleeping.{Sleeping}
 use Rattle.clk_base.specs.declared.call.Sleeping.TheVariants as call
@@ -12,7 +12,7 @@ use Rattle.clk_model.specs.Holders.{guarded}
 use Rattle.clk_model.specs.Laws.Lifting.{LiftedSees}
 use Rattle.clk_model.specs.Round.{View, wiring}
 use Rattle.clk_model.specs.State.{State, handle_at}
-use Rattle.clk_model.specs.Views.{view, lift}
+use Rattle.clk_model.specs.Views.{lift}
 use Rattle.clk_model.specs.Wired.{IsWired}
 use Rattle.clk_model.proofs.EventLaws.{with-none, with-some}
 use Rattle.clk_model.proofs.LiftLaws.{lifting_sees}
@@ -23,7 +23,6 @@ use Rattle.rate_requests.specs.Handles.{low_in, high_in}
 use Rattle.core_parts.specs.Decisions.{Decision}
 use Rattle.core_parts.specs.Decisions as decided
 use Rattle.core_parts.specs.Planned.{AreItsNotifiers, IsAnswer, IsGiven, IsOver, answered}
-use Rattle.core_parts.specs.Seen.{seen}
 use Rattle.core_parts.proofs.Deciding.{listed}
 use Rattle.clk_machine.specs.Deciding.{Decides}
 use Rattle.clk_machine.specs.Parts.{Parts, own_in, IsWhole}

@@ -1,5 +1,6 @@
 -- What a call that plans was decided to do, and what it goes on with.
-use Rattle.std.proofs.Common.{◌≡◌, ℕ, true, false, List, Option, sym, ◌∙◌}
+use Rattle.std.proofs.Common.{◌≡◌, ℕ, true, false, List, Option, sym, subst, ◌∙◌}
+use Rattle.std.specs.Prelude.{Result, Ok, Err, OnOk}
 use Rattle.clk_base.specs.declared.call.Sleeping.{Sleeping}
 use Rattle.clk_base.specs.declared.call.Sleeping.TheVariants as call
 use Rattle.clk_base.specs.declared.event.Reply.{Reply}
@@ -44,3 +45,10 @@ ready_for m d (call.SetRateExclusive h x) f course chain is ready never = record
 ready_for m d (call.SetRange h least most) f course chain is ready never = record { ready = ready; never = never; has = tt }
 ready_for m d (call.SetParent h p) f course chain is ready never = record { ready = ready; never = never; has = tt }
 ready_for m d _ f course chain is ready never = absurd cc
+
+-- the same if it was made for an equal call
+pub ready_call : {T E : Type 0} (r : Result T E) (m : Parts) (d : ℕ) (made what : Sleeping) (f : FlightState) (course : CourseState) (chain : Option (List Notifier)) → made ≡ what → plans what ≡ true
+    → OnOk r (f.going ≡ true → Changes m d made f course) → OnOk r (f.going ≡ false → NeverGoes m d made) → OnOk r (IsReadyFor m d what f course chain)
+ready_call (Ok x) m d made what f course chain same is ready never =
+    ready_for m d what f course chain is (subst (λ (w : Sleeping). f.going ≡ true → Changes m d w f course) same ready) (subst (λ (w : Sleeping). f.going ≡ false → NeverGoes m d w) same never)
+ready_call (Err e) m d made what f course chain same is ready never = tt

@@ -1,32 +1,26 @@
 -- Which calls touch neither enables nor gates: those that are vetoed, prepares, and registrations that aren't made.
-use Rattle.std.proofs.Common.{◌≡◌, ℕ, ◌||◌, Bool, true, false, List, [], ◌∷◌, ◌++◌, Option, Some, None, refl, sym, ap, subst, ◌∙◌, ◌⊎◌, inl, inr}
-use Rattle.std.specs.Prelude.{slice_get, IfSome}
+use Rattle.std.proofs.Common.{◌≡◌, ℕ, ◌||◌, Bool, true, false, List, [], ◌∷◌, ◌++◌, Some, refl, ap, ◌∙◌}
 use Rattle.std.specs.List.{list_any}
 use Rattle.std.specs.Option.{option_map_or}
-use Rattle.std.proofs.lemmas.List.{append_assoc}
 use Rattle.clk_base.specs.declared.call.Micro.{Micro}
 use Rattle.clk_base.specs.declared.call.Micro.TheVariants as micro
-use Rattle.clk_base.specs.declared.call.Notice.TheVariants as notice
 use Rattle.clk_base.specs.declared.call.Sleeping.{Sleeping}
 use Rattle.clk_base.specs.declared.call.Sleeping.TheVariants as call
-use Rattle.clk_base.specs.declared.clock.ClockId.{ClockId}
 use Rattle.clk_base.specs.declared.event.Event.TheVariants as event
 use Rattle.clk_base.specs.declared.event.Turn.{Turn}
 use Rattle.clk_base.specs.declared.event.Turn.TheVariants as turn
 use Rattle.clk_base.specs.declared.handle.Handle.{Handle}
-use Rattle.clk_base.specs.Flags.{is_critical}
-use Rattle.clk_model.specs.Begin.{begun, register}
-use Rattle.clk_model.specs.Laws.Flight.{Flight, begins, goes_on, beside, script, IsLeftOf, all_left, own_made, put_made, cut, may_be_put, IsFrom, IsBehind, IsProbeCut}
+use Rattle.clk_model.specs.Begin.{begun}
+use Rattle.clk_model.specs.Laws.Flight.{Flight, begins, goes_on, beside, script, IsLeftOf, all_left, own_made, put_made, cut, may_be_put}
 use Rattle.clk_model.specs.Machine.{next}
 use Rattle.clk_model.specs.Notices.{is_veto}
-use Rattle.clk_model.specs.Script.{adoptable, adoption, adoption_order, probe_script}
 use Rattle.clk_model.specs.State.{State, Change}
-use Rattle.clk_model.specs.Step.{is_end, is_register}
+use Rattle.clk_model.specs.Step.{is_end}
 use Rattle.clk_model.proofs.BeginsLaws.{Starts, raising_handle, lowering_handle, planning, reparents, probing, sweeping, Begins, answers, gives, takes, adjusts, prepares, unprepares, notes, registers, begins_so}
 use Rattle.clk_model.proofs.BeginsLaws.{goes_on as goes_in}
-use Rattle.clk_model.proofs.FlightLaws.{begin_is, course_of, left_is_end, step_is}
+use Rattle.clk_model.proofs.FlightLaws.{begin_is, course_of, left_is_part, none_part, step_is}
 use Rattle.clk_model.proofs.NextLaws.{going_no_end}
-use Rattle.clk_model.proofs.NoneLaws.{none_append, none_behind, none_front, none_if, none_rest}
+use Rattle.clk_model.proofs.NoneLaws.{none_append, none_front, none_rest}
 use Rattle.clk_machine.proofs.BesideSteps.{touches}
 
 -- ---- lists of steps
@@ -54,8 +48,7 @@ pub made_none : (p : Micro → Bool) (what : Sleeping) (whole : List Micro) {mad
     → list_any p whole ≡ false → IsLeftOf what whole made late left → list_any p made ≡ false
 made_none p what whole put none all_left = refl
 made_none p what whole put none (own_made {made = made} {left = left} m f) =
-    let end = left_is_end what whole f in
-    let own : list_any p (m ∷ left) ≡ false = none_behind p end.0 (m ∷ left) (sym (ap (list_any p) end.1) ∙ none) in
+    let own : list_any p (m ∷ left) ≡ false = none_part p (left_is_part what whole f) none in
     none_append p made (m ∷ []) (made_none p what whole put none f) (one_none p m (none_front p m left own))
 made_none p what whole put none (put_made {made = made} m is f) = none_append p made (m ∷ []) (made_none p what whole put none f) (one_none p m (put m is))
 made_none p what whole put none (cut f c) = made_none p what whole put none f

@@ -1,6 +1,6 @@
 -- A change of parent that times out touches neither enables nor gates.
-use Rattle.std.proofs.Common.{◌≡◌, ℕ, ◌+◌, ◌||◌, ◌&&◌, Bool, true, false, cond, List, [], ◌∷◌, ◌++◌, Option, Some, None, refl, sym, ap, subst, ◌∙◌, inl, inr, length}
-use Rattle.std.specs.Prelude.{◌==◌, flat_map, slice_get, if◌then◌else◌}
+use Rattle.std.proofs.Common.{◌≡◌, ℕ, ◌||◌, ◌&&◌, Bool, true, false, cond, List, [], ◌∷◌, ◌++◌, Option, Some, None, refl, sym, ap, subst, ◌∙◌, inl, inr, length}
+use Rattle.std.specs.Prelude.{◌==◌, is_some, flat_map, slice_get, if◌then◌else◌}
 use Rattle.std.specs.List.{list_any}
 use Rattle.std.specs.Option.{option_map_or}
 use Rattle.clk_base.specs.declared.call.Micro.{Micro}
@@ -8,13 +8,9 @@ use Rattle.clk_base.specs.declared.call.Micro.TheVariants as micro
 use Rattle.clk_base.specs.declared.call.Sleeping.{Sleeping}
 use Rattle.clk_base.specs.declared.call.Sleeping.TheVariants as call
 use Rattle.clk_base.specs.declared.event.Errno.TheVariants as errno
-use Rattle.clk_base.specs.declared.event.Event.{Event}
 use Rattle.clk_base.specs.declared.event.Event.TheVariants as event
 use Rattle.clk_base.specs.declared.event.Reply.TheVariants as reply
-use Rattle.clk_base.specs.declared.event.Turn.{Turn}
 use Rattle.clk_base.specs.declared.event.Turn.TheVariants as turn
-use Rattle.clk_base.specs.Valid.{IsValid}
-use Rattle.clk_model.specs.declared.row.HandleRow.{HandleRow}
 use Rattle.clk_model.specs.Lists.{is_in, none_twice}
 use Rattle.clk_model.specs.State.{State, Change, ChainStep, link_in}
 use Rattle.clk_model.specs.Holders.{prepared}
@@ -23,41 +19,38 @@ use Rattle.clk_model.specs.Round.{wiring, rate_in}
 use Rattle.clk_model.specs.Chain.{clock_id, moves, outcome, place_of}
 use Rattle.clk_model.specs.Walk.{walk, changing}
 use Rattle.clk_model.specs.Notices.{is_veto}
-use Rattle.clk_model.specs.Script.{move, move_of, planned}
-use Rattle.clk_model.specs.Begin.{begun}
-use Rattle.clk_model.specs.Step.{todo, rest_of, taken, is_end, from_first, ended_well, range_back, end_of, unranged, stepped}
+use Rattle.clk_model.specs.Script.{unfeed, fed_step, visit_of, move, move_of, planned}
+use Rattle.clk_base.specs.Flags.{runs_parent, runs_to_set}
+use Rattle.clk_base.specs.declared.clock.Kind.{Kind}
+use Rattle.clk_base.specs.declared.clock.Kind.TheVariants.{FixedRate, Factor, Gate, Mux, Divider, Pll}
+use Rattle.clk_model.specs.Kinds.{has_setting, mux_field}
+use Rattle.clk_model.proofs.FeedLaws.{NoFeeding}
+use Rattle.clk_model.proofs.PlanGoLaws.{feeding_no_end}
+use Rattle.clk_model.specs.Step.{todo, rest_of, taken, is_end, from_first}
 use Rattle.clk_model.specs.Machine.{next}
-use Rattle.clk_model.specs.Journal.{replay, opening}
-use Rattle.clk_model.specs.Tier.{is_enable_tier}
-use Rattle.clk_model.specs.Wired.{IsWired}
 use Rattle.clk_model.specs.Laws.Plans.{LeadsFrom}
 use Rattle.clk_model.specs.Laws.Walks.{IsWalk}
 use Rattle.clk_model.specs.Laws.Flight.{Flight, begins, goes_on, beside, may_be_put, IsFront, plan_rates, abort_notices, pre_notices}
 use Rattle.clk_base.specs.declared.clock.ClockId.{ClockId}
-use Rattle.clk_model.proofs.Members.{not_either}
+use Rattle.clk_model.proofs.Members.{not_either, same_from_test}
 use Rattle.clk_model.proofs.NoneLaws.{none_append, none_front, none_rest}
 use Rattle.clk_model.proofs.OnceLaws.{once_head}
 use Rattle.clk_model.proofs.TierLaws.{beside_change}
 use Rattle.clk_model.proofs.NextLaws.{Comes, was_put, was_own, comes_of, going_no_end}
 use Rattle.clk_model.proofs.FlightLaws.{first_none}
 use Rattle.clk_model.proofs.StepLaws.{raises, IsAfter, step_after}
-use Rattle.clk_model.proofs.FrontLaws.{front_after}
 use Rattle.clk_model.proofs.BeginLaws.{walked_at, walked}
 use Rattle.clk_model.proofs.WalkLaws.{walks_list}
 use Rattle.clk_model.proofs.FlightLaws.{IsStep, begin_is, front_put, taken_none}
-use Rattle.clk_model.proofs.VetoLaws.{of_change, ends_it, end_state, end_turn}
-use Rattle.clk_model.proofs.ArriveLaws.{wired_before}
+use Rattle.clk_model.proofs.VetoLaws.{of_change, ends_it, end_turn}
 use Rattle.clk_model.proofs.WalkGoLaws.{from_first_past}
-use Rattle.clk_model.proofs.BeginsLaws.{changes_rate, Starts, raising_handle, lowering_handle, planning, reparents, probing, sweeping, Begins, answers, gives, takes, adjusts, prepares, unprepares, notes, registers, goes_on as goes_in, begins_so}
-use Rattle.clk_model.proofs.SafeRunLaws.{one_step_leads, IsRun, run_goes_on}
-use Rattle.clk_model.proofs.RunsFedLaws.{run_of}
-use Rattle.clk_model.proofs.ScriptLaws.{none_flat_in, none_move_of, none_pre, none_aborts, planned_front, planned_is, none_planned_front, is_moving, none_move}
-use Rattle.clk_base.specs.Description.{Description}
-use Rattle.reg_bank.specs.Registers.{Registers}
-use Rattle.clk_base.specs.declared.event.Entry.{Entry}
+use Rattle.clk_model.proofs.BeginsLaws.{Starts, raising_handle, lowering_handle, planning, reparents, probing, sweeping}
+use Rattle.clk_model.proofs.SafeRunLaws.{one_step_leads, IsRun}
+use Rattle.clk_model.proofs.ScriptLaws.{none_visit, none_flat_in, none_move_of, none_pre, none_aborts, planned_front, planned_is, none_planned_front, is_moving, none_move}
+use Rattle.clk_base.specs.Description.{kind_of}
 use Rattle.clk_base.specs.declared.handle.Handle.{Handle}
 use Rattle.std.proofs.lemmas.Option.{same_Some}
-use Rattle.clk_model.specs.Laws.Flight.{script, IsLeftOf}
+use Rattle.clk_model.specs.Laws.Flight.{script}
 use Rattle.clk_model.specs.Laws.NothingLeft.{is_dropped_whole}
 use Rattle.clk_model.proofs.FlightLaws.{course_of}
 use Rattle.clk_model.proofs.EndCauseLaws.{begun_fresh}
@@ -65,6 +58,7 @@ use Rattle.clk_model.proofs.TimeoutLaws.{no_end}
 use Rattle.clk_model.proofs.TimeoutStepLaws.{does_more, raises_late, late_calm, late_past, late_front, late_from, from_twice, cut_is_from}
 use Rattle.clk_machine.proofs.BesideSteps.{touches}
 use Rattle.clk_machine.proofs.Dropped.{flight_begins, made_none, of_script, one_none}
+use Rattle.clk_machine.specs.Landing.{reply_of}
 
 -- ---- a flight
 
@@ -146,15 +140,28 @@ stage_steps s t d m answer k made step drops front (early mild late only timed) 
 
 -- the script of a change of parent: its one raise stands in front of all that does more
 late_move : (q : State) (c p : ℕ) → raises_late (move q.defs q.clocks (prepared q) c p) ≡ false
-late_move q c p = one (prepared q c) (link_in q.clocks c) where
-  one : (t : Bool) (l : Option ℕ) → raises_late (if t
-      then micro.Raise (clock_id p) ∷ micro.HoldPrepare (clock_id p) ∷ micro.HoldEnable (clock_id p) ∷ micro.HoldEnable (clock_id c)
-      ∷ micro.Relink (clock_id c) (clock_id p) ∷ micro.WriteMux (clock_id c) (place_of q.defs c p) ∷ micro.DropEnable (clock_id c)
-      ∷ option_map_or (λ o. micro.DropEnable (clock_id o) ∷ micro.DropPrepare (clock_id o) ∷ micro.Lower (clock_id o) ∷ []) l []
-      else micro.Relink (clock_id c) (clock_id p) ∷ micro.WriteMux (clock_id c) (place_of q.defs c p) ∷ []) ≡ false
-  one true None = refl
-  one true (Some o) = refl
-  one false l = refl
+late_move q c p =
+    either (prepared q c) _ _
+    (late_past (micro.Raise (clock_id p) ∷ []) (micro.HoldPrepare (clock_id p) ∷ micro.HoldEnable (clock_id p) ∷ micro.HoldEnable (clock_id c)
+    ∷ micro.Relink (clock_id c) (clock_id p) ∷ micro.WriteMux (clock_id c) (place_of q.defs c p) ∷ micro.DropEnable (clock_id c) ∷ option_map_or unfeed (link_in q.clocks c) []) refl (late_calm (micro.HoldPrepare (clock_id p) ∷ micro.HoldEnable (clock_id p) ∷ micro.HoldEnable (clock_id c)
+    ∷ micro.Relink (clock_id c) (clock_id p) ∷ micro.WriteMux (clock_id c) (place_of q.defs c p) ∷ micro.DropEnable (clock_id c) ∷ option_map_or unfeed (link_in q.clocks c) []) (lets (link_in q.clocks c))))
+    (either (runs_parent q.defs c) _ _
+    (late_past (micro.Raise (clock_id c) ∷ micro.Raise (clock_id p) ∷ []) (micro.HoldPrepare (clock_id c) ∷ micro.HoldEnable (clock_id c)
+    ∷ micro.HoldPrepare (clock_id p) ∷ micro.HoldEnable (clock_id p)
+    ∷ micro.Relink (clock_id c) (clock_id p) ∷ micro.WriteMux (clock_id c) (place_of q.defs c p) ∷ option_map_or unfeed (link_in q.clocks c) [] ++ unfeed c) refl (late_calm (micro.HoldPrepare (clock_id c) ∷ micro.HoldEnable (clock_id c)
+    ∷ micro.HoldPrepare (clock_id p) ∷ micro.HoldEnable (clock_id p)
+    ∷ micro.Relink (clock_id c) (clock_id p) ∷ micro.WriteMux (clock_id c) (place_of q.defs c p) ∷ option_map_or unfeed (link_in q.clocks c) [] ++ unfeed c) (more (link_in q.clocks c)))) refl) where
+      lets : (l : Option ℕ) → list_any raises (option_map_or unfeed l []) ≡ false
+      lets None = refl
+      lets (Some o) = refl
+
+      more : (l : Option ℕ) → list_any raises (option_map_or unfeed l [] ++ unfeed c) ≡ false
+      more None = refl
+      more (Some o) = refl
+
+      either : (t : Bool) (xs ys : List Micro) → raises_late xs ≡ false → raises_late ys ≡ false → raises_late (cond t xs ys) ≡ false
+      either true xs ys e f = e
+      either false xs ys e f = f
 
 -- a chain of one step
 late_own : (q : State) (k : ChainStep) (w : ℕ) → raises_late (move_of q.defs q.clocks (prepared q) (k ∷ []) w) ≡ false
@@ -170,23 +177,33 @@ late_own q k w = one ((k.clock == w) && moves q.clocks k) k.parent where
   one false o = refl
   one true o = nothing_more (option_map_or (move q.defs q.clocks (prepared q) w) k.parent []) (by_parent k.parent)
 
-late_walked : (q : State) (k : ChainStep) (ws : List ℕ) → slice_get ws 0 ≡ Some k.clock → none_twice ws ≡ true → raises_late (flat_map (walked_at q (k ∷ [])) ws) ≡ false
-late_walked q k [] at once = absurd cc
-late_walked q k (w ∷ ws) at once =
+-- nothing runs for the visit of a clock that a chain sets nothing of
+visit_alone : (q : State) (k : ChainStep) (x : ℕ) → has_setting (kind_of q.defs k.clock) ≡ false → visit_of q.defs q.clocks (k ∷ []) x ≡ micro.Visit (clock_id x) ∷ []
+visit_alone q k x bare = by_clock (k.clock == x) refl where
+  by_clock : (t : Bool) → (k.clock == x) ≡ t → visit_of q.defs q.clocks (k ∷ []) x ≡ micro.Visit (clock_id x) ∷ []
+  by_clock false e = ap (λ (t : Bool). fed_step (if (t || false) && has_setting (kind_of q.defs x) then (if runs_to_set q.defs x then Some x else if runs_parent q.defs x then link_in q.clocks x else None) else None) (micro.Visit (clock_id x))) e
+  by_clock true e =
+      ap (λ (t : Bool). fed_step (if (t || false) && has_setting (kind_of q.defs x) then (if runs_to_set q.defs x then Some x else if runs_parent q.defs x then link_in q.clocks x else None) else None) (micro.Visit (clock_id x))) e
+      ∙ ap (λ (t : Bool). fed_step (if t then (if runs_to_set q.defs x then Some x else if runs_parent q.defs x then link_in q.clocks x else None) else None) (micro.Visit (clock_id x)))
+      (subst (λ (y : ℕ). has_setting (kind_of q.defs y) ≡ false) (same_from_test k.clock x e) bare)
+
+late_walked : (q : State) (k : ChainStep) (ws : List ℕ) → has_setting (kind_of q.defs k.clock) ≡ false → slice_get ws 0 ≡ Some k.clock → none_twice ws ≡ true → raises_late (flat_map (walked_at q (k ∷ [])) ws) ≡ false
+late_walked q k [] bare at once = absurd cc
+late_walked q k (w ∷ ws) bare at once =
     late_front (walked_at q (k ∷ []) w) (flat_map (walked_at q (k ∷ [])) ws)
     (none_flat_in raises (walked_at q (k ∷ [])) ws
-    (λ x m. none_append raises (move_of q.defs q.clocks (prepared q) (k ∷ []) x) (micro.Visit (clock_id x) ∷ [])
-    (none_move_of raises q.defs q.clocks (prepared q) (k ∷ []) x ((λ same p is. absurd (twice x m same)), tt)) refl))
-    (late_front (move_of q.defs q.clocks (prepared q) (k ∷ []) w) (micro.Visit (clock_id w) ∷ []) refl (late_own q k w)) where
+    (λ x m. none_append raises (move_of q.defs q.clocks (prepared q) (k ∷ []) x) (visit_of q.defs q.clocks (k ∷ []) x)
+    (none_move_of raises q.defs q.clocks (prepared q) (k ∷ []) x ((λ same p is. absurd (twice x m same)), tt)) (ap (list_any raises) (visit_alone q k x bare))))
+    (late_front (move_of q.defs q.clocks (prepared q) (k ∷ []) w) (visit_of q.defs q.clocks (k ∷ []) w) (ap (list_any raises) (visit_alone q k w bare)) (late_own q k w)) where
       twice : (x : ℕ) → is_in x ws ≡ true → k.clock ≡ x → ⊥
       twice x m same =
           let first : w ≡ k.clock = cc in
           let no : false ≡ true = sym (once_head w ws once).0 ∙ ap (λ (v : ℕ). is_in v ws) (first ∙ same) ∙ m in
           cc
 
-parent_stage : (q : State) (k : ChainStep) (settles : List Micro) → IsRun q → LeadsFrom (wiring q) k.clock (k ∷ []) → list_any raises settles ≡ false → list_any is_end settles ≡ false
+parent_stage : (q : State) (k : ChainStep) (settles : List Micro) → IsRun q → has_setting (kind_of q.defs k.clock) ≡ false → LeadsFrom (wiring q) k.clock (k ∷ []) → list_any raises settles ≡ false → list_any is_end settles ≡ false
     → (raises_late (planned q (k ∷ []) settles).steps ≡ false) × (list_any does_more (from_first is_end (planned q (k ∷ []) settles).steps) ≡ false)
-parent_stage q k settles run leads calm none = (
+parent_stage q k settles run bare leads calm none = (
   ap raises_late (planned_is q (k ∷ []) settles)
       ∙ late_front (planned_front q (k ∷ []) settles) (micro.End ∷ []) refl
       (late_past (pre_notices q (k ∷ [])) _ (none_pre does_more q (k ∷ []) (λ kind c id old new. refl)) (middle (list_any is_veto (pre_notices q (k ∷ []))))),
@@ -194,7 +211,7 @@ parent_stage q k settles run leads calm none = (
       ∙ ap (list_any does_more)
       (from_first_past is_end (planned_front q (k ∷ []) settles) (micro.End ∷ [])
       (none_planned_front is_end q (k ∷ []) settles (λ kind c id old new. refl)
-      (λ c. none_move_of is_end q.defs q.clocks (prepared q) (k ∷ []) c ((λ same p is. none_move is_end q c p no_end), tt)) (λ c. refl) none)),
+      (λ c. none_move_of is_end q.defs q.clocks (prepared q) (k ∷ []) c ((λ same p is. none_move is_end q c p no_end), tt)) (λ c. none_visit is_end q.defs q.clocks (k ∷ []) c feeding_no_end refl) none)),
 ) where
   ws : List ℕ
   ws = walk q.order (wiring q) (k ∷ [])
@@ -204,7 +221,15 @@ parent_stage q k settles run leads calm none = (
 
   middle : (v : Bool) → raises_late (cond v (abort_notices q (k ∷ [])) (walked q (k ∷ []) ++ settles)) ≡ false
   middle true = late_calm (abort_notices q (k ∷ [])) (none_aborts raises (plan_rates q (k ∷ [])) q.notifiers (changing q.order (wiring q) (k ∷ [])) (λ kind c id old new. refl))
-  middle false = late_front (walked q (k ∷ [])) settles calm (late_walked q k ws is_walk.first is_walk.once)
+  middle false = late_front (walked q (k ∷ [])) settles calm (late_walked q k ws bare is_walk.first is_walk.once)
+
+mux_bare : (kind : Kind) → is_some (mux_field kind) ≡ true → has_setting kind ≡ false
+mux_bare (Mux word shift width read_only) is = refl
+mux_bare (FixedRate rate) is = refl
+mux_bare (Factor mult div) is = refl
+mux_bare (Gate word bit set_to_disable) is = refl
+mux_bare (Divider word shift width one_based power_of_two) is = absurd cc
+mux_bare (Pll word shift width power_word power_bit least most m) is = absurd cc
 
 -- the script of such a call
 EarlyScript : List Micro → Type 0
@@ -217,7 +242,7 @@ parent_starts q n d h c k run (lowering_handle g row is at gives_up) = absurd cc
 parent_starts q n d h c k run (planning _ number row over x ks range planned_ at is rates) = absurd cc
 parent_starts q n d h c k run (reparents number row p sets at away mux m root) =
     let rate_ : ℕ = rate_in (outcome (record { clock = row.clock.0; rate = 0; parent = Some p } ∷ []) (wiring q)) row.clock.0 in
-    parent_stage q (record { clock = row.clock.0; rate = rate_; parent = Some p }) (micro.Settle row.clock ∷ []) run (one_step_leads q row.clock.0 p rate_ m) refl refl
+    parent_stage q (record { clock = row.clock.0; rate = rate_; parent = Some p }) (micro.Settle row.clock ∷ []) run (mux_bare (kind_of q.defs row.clock.0) mux) (one_step_leads q row.clock.0 p rate_ m) refl refl
 parent_starts q n d h c k run (probing b is free) = absurd cc
 parent_starts q n d h c k run (sweeping is) = absurd cc
 
@@ -293,6 +318,11 @@ unfolding closes_gate
 no_close (micro.Close c) moves_ = absurd cc
 no_close m moves_ = refl
 
+no_close_fed : NoFeeding closes_gate
+unfolding closes_gate
+no_close_fed (micro.Close c) e = absurd cc
+no_close_fed m e = refl
+
 parent_closes : (q n : State) (d : ℕ) (h : Handle) (c : ClockId) (k : Change) → Starts q d (call.SetParent h c) n k → list_any closes_gate k.left ≡ false
 unfolding closes_gate
 parent_closes q n d h c k (raising_handle g row is at) = absurd cc
@@ -304,11 +334,12 @@ parent_closes q n d h c k (reparents number row p sets at away mux m root) =
     ap (list_any closes_gate) (planned_is q (step ∷ []) (micro.Settle row.clock ∷ []))
     ∙ none_append closes_gate (planned_front q (step ∷ []) (micro.Settle row.clock ∷ [])) (micro.End ∷ [])
     (none_planned_front closes_gate q (step ∷ []) (micro.Settle row.clock ∷ []) (λ kind x id old new. refl)
-    (λ x. none_move_of closes_gate q.defs q.clocks (prepared q) (step ∷ []) x ((λ same p is. none_move closes_gate q x p no_close), tt)) (λ x. refl) refl) refl
+    (λ x. none_move_of closes_gate q.defs q.clocks (prepared q) (step ∷ []) x ((λ same p is. none_move closes_gate q x p no_close), tt))
+    (λ x. none_visit closes_gate q.defs q.clocks (step ∷ []) x no_close_fed refl) refl) refl
 parent_closes q n d h c k (probing b is free) = absurd cc
 parent_closes q n d h c k (sweeping is) = absurd cc
 
-late_reply : (k : Change) (v b : Bool) → turn.Done (if v then reply.Refused errno.EBUSY else if b then reply.Refused errno.ETIMEDOUT else reply.Fine) ≡ turn.Done (reply.Refused errno.ETIMEDOUT) → b ≡ true
+late_reply : (k : Change) (v b : Bool) → turn.Done (reply_of v b) ≡ turn.Done (reply.Refused errno.ETIMEDOUT) → b ≡ true
 late_reply k v true f = refl
 late_reply k true false f = absurd cc
 late_reply k false false f = absurd cc

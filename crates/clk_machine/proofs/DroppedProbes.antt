@@ -1,27 +1,26 @@
 -- A registration that isn't made touches neither enables nor gates.
-use Rattle.std.proofs.Common.{◌≡◌, ℕ, ◌||◌, Bool, true, false, List, [], ◌∷◌, ◌++◌, Option, Some, None, refl, sym, ap, subst, ◌∙◌, ◌⊎◌, inl, inr, length}
+use Rattle.std.proofs.Common.{◌≡◌, ℕ, ◌||◌, Bool, true, false, List, [], ◌∷◌, ◌++◌, Option, Some, None, refl, sym, ap, ◌∙◌, inl, inr, length, append-nil}
 use Rattle.std.specs.Prelude.{slice_get, IfSome, flat_map, if◌then◌else◌}
 use Rattle.std.specs.List.{list_any}
 use Rattle.std.specs.Option.{option_map_or}
 use Rattle.std.proofs.lemmas.List.{append_assoc}
 use Rattle.clk_base.specs.declared.call.Micro.{Micro}
 use Rattle.clk_base.specs.declared.call.Micro.TheVariants as micro
-use Rattle.clk_base.specs.declared.call.Sleeping.{Sleeping}
 use Rattle.clk_base.specs.declared.call.Sleeping.TheVariants as call
 use Rattle.clk_base.specs.declared.clock.ClockId.{ClockId}
 use Rattle.clk_base.specs.declared.event.Turn.TheVariants as turn
 use Rattle.clk_base.specs.Flags.{is_critical}
-use Rattle.clk_model.specs.Begin.{begun, register}
+use Rattle.clk_model.specs.Begin.{register}
 use Rattle.clk_model.specs.Chain.{clock_id}
 use Rattle.clk_model.specs.Holders.{prepared}
-use Rattle.clk_model.specs.Laws.Flight.{Flight, script, IsLeftOf, all_left, own_made, put_made, cut, IsFrom, IsBehind, IsProbeCut}
+use Rattle.clk_model.specs.Laws.Flight.{Flight, script, IsLeftOf, all_left, own_made, put_made, cut, IsProbeCut}
 use Rattle.clk_model.specs.Script.{adoptable, adoption, adoption_order, probe_script}
 use Rattle.clk_model.specs.State.{State, Change}
-use Rattle.clk_model.specs.Step.{is_end, is_register, is_settle}
+use Rattle.clk_model.specs.Step.{is_end, is_register}
 use Rattle.clk_model.specs.Tree.{link_given}
 use Rattle.clk_model.proofs.BeginsLaws.{Starts, raising_handle, lowering_handle, planning, reparents, probing, sweeping}
-use Rattle.clk_model.proofs.FlightLaws.{begin_is, course_of, left_is_end}
-use Rattle.clk_model.proofs.NoneLaws.{none_append, none_behind, none_flat_map, none_front, none_if, none_rest}
+use Rattle.clk_model.proofs.FlightLaws.{begin_is, course_of}
+use Rattle.clk_model.proofs.NoneLaws.{none_append, none_behind, none_flat_map, none_front, none_rest}
 use Rattle.clk_machine.proofs.BesideSteps.{touches}
 use Rattle.clk_machine.proofs.Dropped.{flight_begins, none_ahead, of_script, one_none, put_touches}
 
@@ -102,6 +101,25 @@ behind_none : (xs ys : List Micro) → [] ≡ xs ++ ys → ProbeLeft ys
 behind_none [] ys e = over (sym e)
 behind_none (x ∷ xs) ys e = absurd cc
 
+-- what is left of a registration is an end of its script, also after a timeout
+cut_end : (b : Bool) (more left : List Micro) → IsProbeCut b more left → (whole before : List Micro) → whole ≡ before ++ more → (front : List Micro) × (whole ≡ front ++ left)
+cut_end true more left from_first whole before parts = (before ++ from_first.front, parts ∙ ap (λ (ms : List Micro). before ++ ms) from_first.parts ∙ sym (append_assoc before from_first.front left))
+cut_end false more left (inl behind) whole before parts =
+    let passed : List Micro = behind.front ++ behind.passed ∷ [] in
+    let here : more ≡ passed ++ left = behind.parts ∙ sym (append_assoc behind.front (behind.passed ∷ []) left) in
+    (before ++ passed, parts ∙ ap (λ (ms : List Micro). before ++ ms) here ∙ sym (append_assoc before passed left))
+cut_end false more left (inr none) whole before parts = (whole, sym (append-nil whole) ∙ ap (λ (ms : List Micro). whole ++ ms) (sym none.1))
+
+probe_end : (c : ClockId) (whole : List Micro) {made : List Micro} {late : Bool} {left : List Micro} → IsLeftOf (call.Probe c) whole made late left → (front : List Micro) × (whole ≡ front ++ left)
+probe_end c whole all_left = ([], refl)
+probe_end c whole {left = left} (own_made m f) =
+    let end = probe_end c whole f in
+    (end.0 ++ m ∷ [], end.1 ∙ sym (append_assoc end.0 (m ∷ []) left))
+probe_end c whole (put_made m put f) = probe_end c whole f
+probe_end c whole (cut {left = more} {rest = rest} f cuts) =
+    let end = probe_end c whole f in
+    cut_end (list_any is_register more) more rest cuts whole end.0 end.1
+
 -- the steps that a registration has made before it is made touch nothing
 probe_made : (c : ClockId) (whole : List Micro) → IsProbe whole → {made : List Micro} {late : Bool} {left : List Micro} → IsLeftOf (call.Probe c) whole made late left
     → list_any is_register made ≡ false → list_any is_end made ≡ false → (list_any touches made ≡ false) × ProbeLeft left
@@ -122,7 +140,7 @@ probe_made c whole is (put_made {made = made} m put f) fresh going =
     (none_append touches made (m ∷ []) before.0 (one_none touches m (put_touches m put)), before.1)
 probe_made c whole is (cut {left = left} {rest = rest} f cuts) fresh going =
     let before = probe_made c whole is f fresh going in
-    let end = left_is_end (call.Probe c) whole f in
+    let end = probe_end c whole f in
     (before.0, by before.1 end.0 end.1) where
       from : (b : Bool) → IsProbeCut b left rest → list_any is_register left ≡ b → ProbeLeft left → (before : List Micro) → whole ≡ before ++ left → ProbeLeft rest
       from true from_first has left_ before parts =

@@ -84,7 +84,7 @@ module _ (old : Parts) (x : ClockId) (levels : ℕ) (window' : Shown) (counts' :
     prepares = held_on (registered old.tree.clocks) (length old.desc.defs) old.steps old.prepare_holds now.whole.prepares_held;
     enables = subst (λ (xs : List ℕ). AreHeld (registered old.tree.clocks) (length old.desc.defs) (old.steps + 1) xs) (sym to.holds)
         (held_more (registered old.tree.clocks) (length old.desc.defs) old.steps old.enable_holds x.0 now.whole.enables_held at_enabled.desc enabled_there);
-    stands = stands_held old counts' old.prepare_holds enables' (bare old) (bare (record old { enable_holds = enables' })) now.whole.counted.stands (ap (λ (k : CountState). k.defs) to.counts)
+    stands = stands_held old counts' old.prepare_holds enables' (bare old) (bare (record old { enable_holds = enables' })) now.whole.counted.stands (ap (λ (k : CountState). k.gated) to.counts)
         (ap (λ (k : CountState). k.links) to.counts) (ap (λ (k : CountState). k.exclusives) to.counts) refl refl refl enabled_more enabled_less (listed_tells old.enable_holds) (listed_tells enables')
         (listed_tells old.prepare_holds) (listed_tells old.prepare_holds);
     raised = old.flight.raised;
@@ -99,7 +99,7 @@ module _ (old : Parts) (x : ClockId) (levels : ℕ) (window' : Shown) (counts' :
       let cs : List ℕ = path_within (link_in old.tree.clocks) levels x.0 in
       let tells : TellsHolds enables' (x.0 ∷ s.enable_holds) = subst (λ (xs : List ℕ). TellsHolds xs (x.0 ∷ s.enable_holds)) (sym to.holds) (tells_more old.enable_holds s.enable_holds x.0 stands.enable_holds at_enabled.enable_holds) in
       let counted = counts_stand old s now.whole stands in
-      let then_ = stands_held old counts' old.prepare_holds enables' s (hold_enable s (taken k) x.0) counted (ap (λ (k : CountState). k.defs) to.counts) (ap (λ (k : CountState). k.links) to.counts)
+      let then_ = stands_held old counts' old.prepare_holds enables' s (hold_enable s (taken k) x.0) counted (ap (λ (k : CountState). k.gated) to.counts) (ap (λ (k : CountState). k.links) to.counts)
       (ap (λ (k : CountState). k.exclusives) to.counts) refl refl refl enabled_more enabled_less stands.enable_holds tells stands.prepare_holds stands.prepare_holds in
       let same : path_within (up_in old.counts.links) levels x.0 ≡ cs = ap (λ (up : ℕ → Option ℕ). path_within up levels x.0) (sym (links_are old now.whole)) in
       let opened : gates_moved s.defs (active s) (active (hold_enable s (taken k) x.0)) (count_from 0 (length s.defs)) s.regs ≡ gates_moved s.defs (λ _. false) (λ _. true) cs s.regs =
@@ -181,7 +181,7 @@ module _ (old : Parts) (x : ClockId) (levels : ℕ) (window' : Shown) (counts' :
     prepares = held_on (registered old.tree.clocks) (length old.desc.defs) old.steps old.prepare_holds now.whole.prepares_held;
     enables = subst (λ (xs : List ℕ). AreHeld (registered old.tree.clocks) (length old.desc.defs) (old.steps + 1) xs) (sym to.holds)
         (held_less (registered old.tree.clocks) (length old.desc.defs) old.steps old.enable_holds x.0 now.whole.enables_held at_dropped.desc dropped_there to.some);
-    stands = stands_held old counts' old.prepare_holds enables' (bare old) (bare (record old { enable_holds = enables' })) now.whole.counted.stands (ap (λ (k : CountState). k.defs) to.counts)
+    stands = stands_held old counts' old.prepare_holds enables' (bare old) (bare (record old { enable_holds = enables' })) now.whole.counted.stands (ap (λ (k : CountState). k.gated) to.counts)
         (ap (λ (k : CountState). k.links) to.counts) (ap (λ (k : CountState). k.exclusives) to.counts) refl refl refl dropped_less dropped_same (listed_tells old.enable_holds) (listed_tells enables')
         (listed_tells old.prepare_holds) (listed_tells old.prepare_holds);
     raised = old.flight.raised;
@@ -197,7 +197,7 @@ module _ (old : Parts) (x : ClockId) (levels : ℕ) (window' : Shown) (counts' :
       let left : List ℕ = without_one x.0 s.enable_holds in
       let tells : TellsHolds enables' left = subst (λ (xs : List ℕ). TellsHolds xs left) (sym to.holds) (tells_less old.enable_holds s.enable_holds x.0 stands.enable_holds at_dropped.enable_holds to.some) in
       let counted = counts_stand old s now.whole stands in
-      let then_ = stands_held old counts' old.prepare_holds enables' s (drop_enable s (taken k) x.0) counted (ap (λ (k : CountState). k.defs) to.counts) (ap (λ (k : CountState). k.links) to.counts)
+      let then_ = stands_held old counts' old.prepare_holds enables' s (drop_enable s (taken k) x.0) counted (ap (λ (k : CountState). k.gated) to.counts) (ap (λ (k : CountState). k.links) to.counts)
       (ap (λ (k : CountState). k.exclusives) to.counts) refl refl refl dropped_less dropped_same stands.enable_holds tells stands.prepare_holds stands.prepare_holds in
       let same : path_within (up_in old.counts.links) levels x.0 ≡ cs = ap (λ (up : ℕ → Option ℕ). path_within up levels x.0) (sym (links_are old now.whole)) in
       let closed : gates_moved s.defs (active s) (active (drop_enable s (taken k) x.0)) (count_from 0 (length s.defs)) s.regs ≡ gates_moved s.defs (λ _. true) (λ _. false) (reverse cs) s.regs =

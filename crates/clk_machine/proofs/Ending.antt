@@ -5,7 +5,6 @@ use Rattle.std.proofs.Math.Bool.{or-false}
 use Rattle.std.proofs.lemmas.List.{length-set}
 use Rattle.clk_base.specs.declared.call.Micro.TheVariants as micro
 use Rattle.clk_base.specs.declared.clock.ClockId.{ClockId}
-use Rattle.clk_base.specs.declared.event.Event.TheVariants as event
 use Rattle.clk_base.specs.declared.event.Turn.{Turn}
 use Rattle.clk_base.specs.declared.event.Turn.TheVariants as turn
 use Rattle.clk_model.specs.declared.row.ClockRow.{ClockRow}
@@ -23,11 +22,12 @@ use Rattle.clk_flight.specs.Moves.{landed}
 use Rattle.counts_core.specs.Counted.{CountState, is_active}
 use Rattle.rate_requests.specs.Handles.{HandleTable}
 use Rattle.core_parts.specs.Window.{Shown}
+use Rattle.clk_machine.specs.Landing.{Lands, reply_of}
 use Rattle.clk_machine.specs.Making.{ComesFirst}
 use Rattle.core_parts.specs.Listed.{rows_from}
 use Rattle.core_parts.specs.Tied.{AreKept}
 use Rattle.clk_machine.specs.Parts.{Parts, bare, held_in_all, ArePaid, IsWhole}
-use Rattle.clk_machine.specs.Stands.{Stands, Enters}
+use Rattle.clk_machine.specs.Stands.{Stands}
 use Rattle.core_parts.proofs.HeldCounts.{held_on, held_still}
 use Rattle.clk_machine.proofs.Flying.{none_left}
 use Rattle.core_parts.proofs.Holdings.{StandsFor-same, StandsFor-like}
@@ -35,7 +35,7 @@ use Rattle.core_parts.proofs.Coming.{some_left}
 use Rattle.clk_machine.proofs.Making.{with_step, change_of, next_of}
 use Rattle.clk_machine.proofs.Rows.{holds_stand}
 use Rattle.core_parts.proofs.Shapes.{handle_at-put, sum_by-set}
-use Rattle.clk_machine.proofs.Stepping.{reply_of, ends_still}
+use Rattle.clk_machine.proofs.Stepping.{ends_still}
 use Rattle.clk_machine.proofs.Writing.{Written, written_stands}
 
 -- ---- the parts stay whole
@@ -182,8 +182,7 @@ pub record Ends (old new : Parts) (does : State → State) : Type 0 where
   pub stands : (s : State) → Stands old s → Stands new (record (does s) { change = None; steps = s.steps + 1 })
 
 -- it takes the parts on
-pub end_enters : (old new : Parts) (does : State → State) → Ends old new does
-    → Enters old old.flight.driver (event.Step micro.End None) (turn.Done (reply_of old.flight.vetoed old.flight.timed_out)) new
+pub end_enters : (old new : Parts) (does : State → State) → Ends old new does → Lands old new
 end_enters old new does now = record {
   remains = record {
     desc = now.desc;

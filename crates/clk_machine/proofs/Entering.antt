@@ -6,7 +6,6 @@ use Rattle.std.proofs.lemmas.List.Elements.{All-append, All-nil}
 use Rattle.std.proofs.lemmas.List.Sums.{sum_by-append}
 use Rattle.clk_base.specs.declared.call.Micro.{Micro}
 use Rattle.clk_base.specs.declared.call.Sleeping.{Sleeping}
-use Rattle.clk_base.specs.declared.call.Sleeping.TheVariants as call
 use Rattle.std.proofs.lemmas.List.Folds.{list_any-append}
 use Rattle.clk_base.specs.declared.event.Entry.{Entry}
 use Rattle.clk_base.specs.declared.event.Event.{Event}
@@ -23,8 +22,7 @@ use Rattle.clk_model.specs.Journal.{slotless, replay, Legal, opening, is_paid, i
 use Rattle.clk_model.proofs.EndCauseLaws.{going_leaves_changes}
 use Rattle.clk_model.proofs.JournalCauseLaws.{journals_have_causes}
 use Rattle.clk_model.proofs.JournalLaws.{replay-append, Legal-append}
-use Rattle.core_parts.specs.InFlight.{is_worked_out}
-use Rattle.clk_machine.specs.Sound.{IsReached, IsNarrow, IsSound, IsPlaced, takes_memory, links_well, CanTake}
+use Rattle.clk_machine.specs.Sound.{IsReached, IsNarrow, IsSound, IsPlaced, links_well, CanTake}
 use Rattle.core_parts.specs.Listed.{rows_from}
 use Rattle.clk_machine.specs.Parts.{Parts, steps_left}
 use Rattle.clk_machine.proofs.Flying.{never_flown, none_left}
@@ -402,18 +400,6 @@ step_turns old new t on opens told =
           subst (λ (j : List Entry). Legal old.start j) grew (subst (λ (s : State). Legal s new.journal) on.entry.start (on.entry.legal told)) in
           journals_have_causes old.start old.journal last on.made on.answer r opens legal (ap (λ (e : Entry). e.event) (sym same)) (ap (λ (e : Entry). e.turn) (sym same) ∙ is);
     }
-
--- ---- which calls can begin
-
--- a call whose steps are worked out before takes memory
-pub takes_room : (what : Sleeping) → is_worked_out what ≡ true → takes_memory what ≡ true
-takes_room (call.SetRate h x) e = refl
-takes_room (call.SetRateExclusive h x) e = refl
-takes_room (call.SetRange h least most) e = refl
-takes_room (call.SetParent h p) e = refl
-takes_room (call.Probe c) e = refl
-takes_room call.Sweep e = refl
-takes_room _ e = absurd cc
 
 -- ---- the beginning
 

@@ -14,7 +14,7 @@ use Rattle.clk_model.proofs.OffPathLaws.{handle_at-set_other}
 use Rattle.clk_flight.specs.Flights.{FlightState, Flies}
 use Rattle.clk_flight.specs.LeftOver.{left_over}
 use Rattle.notifiers.specs.declared.notifier.Notifier.{Notifier}
-use Rattle.core_parts.specs.declared.course.Notified.{Notified}
+use Rattle.change_walk.specs.declared.changes.Changed.{Changed}
 use Rattle.core_parts.specs.InFlight.{handle_to_end}
 use Rattle.clk_machine.specs.Parts.{Parts, held_in_all, own_in, IsOwnCall, IsFlown}
 use Rattle.clk_machine.specs.Stands.{Stands}
@@ -75,7 +75,7 @@ own_call handles n row new d what at same own = by (handle_to_end what) own wher
   by (Some h) was = own_written handles n row new d h.number at same was
 
 -- a change in flight is kept where a handle is written and a credit spent for it
-pub flown_written : (defs : Description) (clocks : List ClockRow) (handles handles' : List (Option HandleRow)) (chains : List (List Notifier)) (notified : List Notified) (spent n : ℕ) (row new : HandleRow) (f : FlightState)
+pub flown_written : (defs : Description) (clocks : List ClockRow) (handles handles' : List (Option HandleRow)) (chains : List (List Notifier)) (notified : List Changed) (spent n : ℕ) (row new : HandleRow) (f : FlightState)
     → IsFlown defs clocks handles chains notified spent f → handle_at handles n ≡ Some row → new.driver ≡ row.driver → held_in_all new ≤ held_in_all row + 1
     → handles' ≡ set handles n (Some new) → IsFlown defs clocks handles' chains notified (spent + 1) f
 flown_written defs clocks handles handles' chains notified spent n row new f flown at same more is =
@@ -90,7 +90,7 @@ flown_written defs clocks handles handles' chains notified spent n row new f flo
     })
 
 -- and where a credit alone is spent
-pub flown_spent : (defs : Description) (clocks : List ClockRow) (handles : List (Option HandleRow)) (chains : List (List Notifier)) (notified : List Notified) (spent : ℕ) (f : FlightState)
+pub flown_spent : (defs : Description) (clocks : List ClockRow) (handles : List (Option HandleRow)) (chains : List (List Notifier)) (notified : List Changed) (spent : ℕ) (f : FlightState)
     → IsFlown defs clocks handles chains notified spent f → IsFlown defs clocks handles chains notified (spent + 1) f
 flown_spent defs clocks handles chains notified spent f flown = record {
   plls_ = flown.plls_;

@@ -1,17 +1,16 @@
 -- Which calls are answered by a handle.
-use Rattle.std.proofs.Common.{◌≡◌, ℕ, ◌-◌, Bool, true, false, List, [], ◌∷◌, Option, Some, None, refl, sym, ap, subst, ◌∙◌}
+use Rattle.std.proofs.Common.{◌≡◌, ℕ, ◌-◌, [], ◌∷◌, Option, Some, None, ap}
 use Rattle.clk_base.specs.declared.call.Micro.TheVariants as micro
 use Rattle.clk_base.specs.declared.call.Sleeping.{Sleeping}
 use Rattle.clk_base.specs.declared.call.Sleeping.TheVariants as call
 use Rattle.clk_base.specs.declared.clock.ClockId.{ClockId}
 use Rattle.clk_base.specs.declared.event.Event.TheVariants as event
 use Rattle.clk_base.specs.declared.event.Errno.TheVariants as errno
-use Rattle.clk_base.specs.declared.event.Reply.{Reply}
 use Rattle.clk_base.specs.declared.event.Reply.TheVariants as reply
 use Rattle.clk_base.specs.declared.event.Turn.{Turn}
 use Rattle.clk_base.specs.declared.event.Turn.TheVariants as turn
 use Rattle.clk_base.specs.declared.handle.Handle.{Handle}
-use Rattle.clk_model.specs.Begin.{done, refused, starts, change_of, change_along, with_handle, put_handle, held_once_more, request, request_between, reparenting, parent_set, register, begun}
+use Rattle.clk_model.specs.Begin.{done, refused, starts, change_of, change_along, put_handle, held_once_more, request, request_between, reparenting, parent_set, register, begun}
 use Rattle.clk_model.specs.Chain.{chain}
 use Rattle.clk_model.specs.Journal.{slotless}
 use Rattle.clk_model.specs.Laws.CallCauses.{with_limits}

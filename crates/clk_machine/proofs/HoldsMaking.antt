@@ -8,7 +8,6 @@ use Rattle.clk_base.specs.declared.clock.ClockId.{ClockId}
 use Rattle.clk_base.specs.declared.event.Event.TheVariants as event
 use Rattle.clk_base.specs.declared.event.Turn.{Turn}
 use Rattle.clk_base.specs.declared.event.Turn.TheVariants as turn
-use Rattle.clk_base.specs.Description.{Description}
 use Rattle.clk_model.specs.Holders.{active, clocks_of, critical_clocks, enable_holders, is_enabled}
 use Rattle.clk_model.specs.Lists.{is_in, without_one}
 use Rattle.clk_model.specs.State.{State, registered}
@@ -20,7 +19,7 @@ use Rattle.clk_flight.specs.Flights.{FlightState, own_step}
 use Rattle.counts_core.specs.Counted.{CountState}
 use Rattle.counts_core.specs.Standing.{StandsFor}
 use Rattle.core_parts.specs.Holds.{TellsHolds}
-use Rattle.core_parts.specs.InFlight.{links_clocks, may_make}
+use Rattle.core_parts.specs.InFlight.{holds_clocks, may_make}
 use Rattle.clk_machine.specs.Parts.{Parts, IsWhole}
 use Rattle.clk_machine.specs.Stands.{Enters}
 use Rattle.core_parts.proofs.HeldCounts.{times_in, times_more, held_on}
@@ -140,11 +139,11 @@ active_grows s es d more act =
 
 -- such a step is of a registered clock
 pub held_there : (old : Parts) (m : Micro) (x : ℕ) → IsWhole old → old.flight.going ≡ true → relinks m ≡ true → own_step old.flight ≡ Some m
-    → may_make old.flight.call (registered old.tree.clocks) m ≡ (links_clocks old.flight.call && registered old.tree.clocks x) → registered old.tree.clocks x ≡ true
-held_there old m x whole going is own may = both_right (links_clocks old.flight.call) (registered old.tree.clocks x) (sym may ∙ made_now old m whole going is own)
+    → may_make old.flight.call (registered old.tree.clocks) m ≡ (holds_clocks old.flight.call && registered old.tree.clocks x) → registered old.tree.clocks x ≡ true
+held_there old m x whole going is own may = both_right (holds_clocks old.flight.call) (registered old.tree.clocks x) (sym may ∙ made_now old m whole going is own)
 
 -- counts that changed with what is held stand for what is held then
-pub stands_held : (old : Parts) (k' : CountState) (prepares' enables' : List ℕ) (s t : State) → StandsFor old.counts s → k'.defs ≡ old.counts.defs → k'.links ≡ old.counts.links → k'.exclusives ≡ old.counts.exclusives
+pub stands_held : (old : Parts) (k' : CountState) (prepares' enables' : List ℕ) (s t : State) → StandsFor old.counts s → k'.gated ≡ old.counts.gated → k'.links ≡ old.counts.links → k'.exclusives ≡ old.counts.exclusives
     → t.defs ≡ s.defs → t.clocks ≡ s.clocks → t.handles ≡ s.handles
     → ((c : ℕ) → slice_index k'.enables c + slice_index old.enable_holds c ≡ slice_index old.counts.enables c + slice_index enables' c)
     → ((c : ℕ) → slice_index k'.prepares c + slice_index old.prepare_holds c ≡ slice_index old.counts.prepares c + slice_index prepares' c)
@@ -164,7 +163,7 @@ pub record HasPlaces (old : Parts) (x : ℕ) : Type 0 where
 pub places : (old : Parts) (x : ℕ) → IsWhole old → registered old.tree.clocks x ≡ true → HasPlaces old x
 places old x whole there =
     let within : x < length old.desc.defs = clock_within old.desc old.window old.tree x whole.tied there in
-    let same : length old.counts.defs ≡ length old.desc.defs = ap (λ (ds : Description). length ds) whole.counted.stands.defs in
+    let same : length old.counts.links ≡ length old.desc.defs = whole.counted.stands.size in
     let one = whole.counted.keeps.enables in
     let two = whole.counted.keeps.prepares in
     let three = whole.enables_held.size in

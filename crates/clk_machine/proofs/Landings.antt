@@ -139,7 +139,7 @@ back_written old h row least most table' whole back handles clocks = record {
   handles = handles ∙ ap (λ (o : Option HandleRow). set old.table.handles h.number (option_map (λ (h : HandleRow). let r : HandleRow = record h { min = least; max = most } in r) o)) back.live;
   clocks = clocks;
   keeps = whole.counted.keeps;
-  defs = refl;
+  gated = refl;
   links = refl;
   enables = moves_none (λ h. h.enables) old.counts.enables row (with_range (least, most) row) refl refl;
   prepares = moves_none (λ h. h.prepares) old.counts.prepares row (with_range (least, most) row) refl refl;

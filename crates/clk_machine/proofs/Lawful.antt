@@ -1,5 +1,5 @@
 -- That each journal of a core keeps the laws: each is a law of legal journals, cited at the places of one journal.
-use Rattle.std.proofs.Common.{◌≡◌, ℕ, suc, Bool, true, List, [], ◌∷◌, ◌++◌, Option, Some, take, length, refl, sym, ap, subst, ◌∙◌, zero, ◌⊎◌, inl, inr}
+use Rattle.std.proofs.Common.{◌≡◌, ℕ, suc, Bool, true, List, [], ◌∷◌, ◌++◌, Option, Some, take, length, refl, sym, ap, subst, ◌∙◌, zero, inl, inr}
 use Rattle.std.specs.Option.{option_map_or}
 use Rattle.std.proofs.lemmas.Option.{same_Some}
 use Rattle.reg_bank.specs.Registers.{Registers}

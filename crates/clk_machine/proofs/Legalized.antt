@@ -1,5 +1,5 @@
 -- A state that a journal leads to is led to by a legal one.
-use Rattle.std.proofs.Common.{◌≡◌, ℕ, ◌-◌, ◌||◌, Bool, true, false, List, [], ◌∷◌, Option, Some, None, refl, sym, ap, ◌∙◌}
+use Rattle.std.proofs.Common.{◌≡◌, ℕ, ◌-◌, Bool, true, false, List, [], ◌∷◌, Option, Some, None, refl, sym, ap, ◌∙◌}
 use Rattle.std.specs.Prelude.{if◌then◌else◌}
 use Rattle.std.specs.Option.{option_map_or}
 use Rattle.clk_base.specs.declared.call.Micro.{Micro}
@@ -28,6 +28,7 @@ use Rattle.clk_model.specs.Views.{view, lift}
 use Rattle.clk_model.proofs.Cases.{by_found, by_plan}
 use Rattle.clk_model.proofs.FlightLaws.{begin_is, step_is}
 use Rattle.clk_model.proofs.TierLaws.{pick_either, with_handle_either, paid_is}
+use Rattle.clk_machine.specs.Landing.{reply_of}
 
 -- ---- turns have no slot
 
@@ -79,8 +80,7 @@ begun_slotless s d (call.Probe c) =
     pick_either Slotless _ _ _ (λ e. refl) (λ e. pick_either Slotless _ _ _ (λ f. refl) (λ f. starts_slotless s s (change_of s d (call.Probe c) (probe_script (register s c.0) c.0))))
 begun_slotless s d call.Sweep = pick_either Slotless _ _ _ (λ e. refl) (λ e. starts_slotless s s (change_of s d call.Sweep (sweep_script s)))
 
-ended_slotless : (v late : Bool) → slotless (turn.Done (if v then reply.Refused errno.EBUSY else if late then reply.Refused errno.ETIMEDOUT else reply.Fine))
-    ≡ turn.Done (if v then reply.Refused errno.EBUSY else if late then reply.Refused errno.ETIMEDOUT else reply.Fine)
+ended_slotless : (v late : Bool) → slotless (turn.Done (reply_of v late)) ≡ turn.Done (reply_of v late)
 ended_slotless true late = refl
 ended_slotless false true = refl
 ended_slotless false false = refl

@@ -29,6 +29,7 @@ pub mod Making
 pub mod Raising
 pub mod Telling
 pub mod Visiting
+pub mod Described
 pub mod Relinking
 pub mod LinkSteps
 pub mod Selecting
@@ -42,6 +43,7 @@ pub mod Starting
 pub mod Staying
 pub mod Movable
 pub mod Requesting
+pub mod ChangeCalls
 pub mod Readying
 pub mod Ranging
 pub mod SweepScript

@@ -1,9 +1,8 @@
 -- What is read of a state that is like a reached one is what is read of that one.
-use Rattle.std.proofs.Common.{◌≡◌, ℕ, ◌+◌, ◌<◌, ◌≤◌, ◌&&◌, ◌⊎◌, inl, inr, Bool, not, true, false, List, [], Option, Some, None, refl, sym, ap, subst, ◌∙◌, length, map, arith}
+use Rattle.std.proofs.Common.{◌≡◌, ℕ, ◌+◌, ◌≤◌, ◌&&◌, ◌⊎◌, inl, inr, Bool, not, true, false, List, Option, Some, None, refl, sym, ap, subst, ◌∙◌, length, arith}
 use Rattle.std.proofs.Math.Path.{fun_ext}
-use Rattle.std.specs.Prelude.{IfSome, filter, option_map, slice_get}
+use Rattle.std.specs.Prelude.{IfSome, filter, option_map}
 use Rattle.std.specs.Option.{option_map_or}
-use Rattle.clk_base.specs.declared.call.Micro.TheVariants as micro
 use Rattle.clk_base.specs.declared.clock.ClockId.{ClockId}
 use Rattle.clk_base.specs.Description.{Description, kind_of}
 use Rattle.clk_base.specs.Fields.{PowerBit, power_of}
@@ -14,17 +13,15 @@ use Rattle.clk_model.specs.Holders.{clocks_of, is_prepared, prepared}
 use Rattle.clk_model.specs.Kinds.{is_pll, is_powered}
 use Rattle.clk_model.specs.Lists.{is_in}
 use Rattle.clk_model.specs.Prep.{without_enables, is_sweep, change_prep}
-use Rattle.clk_model.specs.Round.{wiring}
 use Rattle.clk_model.specs.Script.{plls}
 use Rattle.clk_model.specs.State.{State, Change, registered, handle_at, link_in}
-use Rattle.clk_model.specs.Step.{to_raise, to_lower}
+use Rattle.clk_model.specs.Step.{to_raise}
 use Rattle.clk_model.specs.Tree.{selected, path_to_be}
-use Rattle.clk_model.specs.Wired.{IsWired}
 use Rattle.clk_model.specs.Laws.LinksKept.{WillBePossible, KeepsLinks, IsWiredOver}
 use Rattle.clk_model.specs.Laws.Paced.{Front, tells, polls, polls_to_raise, raises, lowers, StillToRaise, StillToLower, IsPaced, left_of}
 use Rattle.clk_model.specs.Laws.Twins.{IsTwin}
 use Rattle.clk_model.specs.Laws.Weight.{weight_left}
-use Rattle.clk_model.specs.Laws.RunsEnd.{HasRoom, GoesOn}
+use Rattle.clk_model.specs.Laws.RunsEnd.{HasRoom}
 use Rattle.clk_model.proofs.AlikeLaws.{LooksAlike, fields_of_masks, rest_of, is_beside, looks_alike, runs_same, same_changes, same_change}
 use Rattle.clk_model.proofs.ArriveLaws.{IsFit}
 use Rattle.clk_model.proofs.BareHandleLaws.{bare, at_bare, values_same}

@@ -1,5 +1,6 @@
 -- A new link: it takes the parts of a core on.
 use Rattle.std.proofs.Common.{◌≡◌, ℕ, ◌+◌, ◌<◌, ◌&&◌, ◌⊎◌, inl, inr, true, List, Option, Some, None, refl, sym, ap, subst, ◌∙◌, length, set, arith}
+use Rattle.std.proofs.lemmas.List.{length-set}
 use Rattle.std.specs.Prelude.{is_some, slice_index}
 use Rattle.clk_base.specs.declared.call.Micro.{Micro}
 use Rattle.clk_base.specs.declared.call.Micro.TheVariants as micro
@@ -78,7 +79,7 @@ pub record LinksTo (old : Parts) (c p : ClockId) (tree' : TreeState) (counts' : 
 
 -- what becomes of holds on the new parent: they are holds on the link that the clock had, and end where it had none
 pub record HoldsGo (old : Parts) (c p : ClockId) (moved counts' : CountState) (prepares' enables' : List ℕ) : Type 0 where
-  pub defs : counts'.defs ≡ moved.defs
+  pub gated : counts'.gated ≡ moved.gated
   pub links : counts'.links ≡ moved.links
   pub exclusives : counts'.exclusives ≡ moved.exclusives
   pub keeps : AreCounts counts'
@@ -114,7 +115,7 @@ pub record HoldsEnd (old : Parts) (c p : ClockId) (moved mid counts' : CountStat
 -- so they go
 pub holds_passed : (old : Parts) (c p : ClockId) (moved mid counts' : CountState) (o : ℕ) (prepares' enables' : List ℕ) → IsWhole old → HoldsPass old c p moved mid counts' o prepares' enables' → HoldsGo old c p moved counts' prepares' enables'
 holds_passed old c p moved mid counts' o prepares' enables' whole pass = record {
-  defs = ap (λ (k : CountState). k.defs) pass.counts ∙ ap (λ (k : CountState). k.defs) pass.mid_;
+  gated = ap (λ (k : CountState). k.gated) pass.counts ∙ ap (λ (k : CountState). k.gated) pass.mid_;
   links = ap (λ (k : CountState). k.links) pass.counts ∙ ap (λ (k : CountState). k.links) pass.mid_;
   exclusives = ap (λ (k : CountState). k.exclusives) pass.counts ∙ ap (λ (k : CountState). k.exclusives) pass.mid_;
   keeps = pass.keeps;
@@ -130,7 +131,7 @@ holds_passed old c p moved mid counts' o prepares' enables' whole pass = record 
 
 pub holds_ended : (old : Parts) (c p : ClockId) (moved mid counts' : CountState) (prepares' enables' : List ℕ) → IsWhole old → HoldsEnd old c p moved mid counts' prepares' enables' → HoldsGo old c p moved counts' prepares' enables'
 holds_ended old c p moved mid counts' prepares' enables' whole end_ = record {
-  defs = ap (λ (k : CountState). k.defs) end_.counts ∙ ap (λ (k : CountState). k.defs) end_.mid_;
+  gated = ap (λ (k : CountState). k.gated) end_.counts ∙ ap (λ (k : CountState). k.gated) end_.mid_;
   links = ap (λ (k : CountState). k.links) end_.counts ∙ ap (λ (k : CountState). k.links) end_.mid_;
   exclusives = ap (λ (k : CountState). k.exclusives) end_.counts ∙ ap (λ (k : CountState). k.exclusives) end_.mid_;
   keeps = end_.keeps;
@@ -150,7 +151,8 @@ tells_gone p (Some o) counts counts' holds tells go = tells_passed p o counts co
 -- the counts with the link stand for the tree with it
 pub stands_linked : (old : Parts) (c p : ClockId) (tree' : TreeState) (moved : CountState) → IsWhole old → LinksTo old c p tree' moved → StandsFor moved (bare (record old { tree = tree' }))
 stands_linked old c p tree' moved whole to =
-    StandsFor-linked old.counts moved (bare old) (bare (record old { tree = tree' })) whole.counted.stands (ap (λ (k : CountState). k.defs) to.counts) (ap (λ (k : CountState). k.enables) to.counts)
+    StandsFor-linked old.counts moved (bare old) (bare (record old { tree = tree' })) whole.counted.stands (ap (λ (k : CountState). k.gated) to.counts)
+    (ap (λ (k : CountState). length k.links) to.counts ∙ length-set old.counts.links c.0 to.link) (ap (λ (k : CountState). k.enables) to.counts)
     (ap (λ (k : CountState). k.prepares) to.counts) (ap (λ (k : CountState). k.exclusives) to.counts) to.links refl (λ d. ap (λ (rs : List ClockRow). registered rs d) to.clocks ∙ linked_there old.tree.clocks c.0 p.0 d) refl refl refl
 
 pub relinked_of : (old : Parts) (c p : ClockId) (tree' : TreeState) (moved counts' : CountState) (prepares' enables' : List ℕ) (flight' : FlightState) → Stepped old (micro.Relink c p) flight' → LinksTo old c p tree' moved
@@ -179,7 +181,7 @@ relinked_of old c p tree' moved counts' prepares' enables' flight' now to go = r
   prepares = go.prepares_held;
   enables = go.enables_held;
   stands = StandsFor-moved moved counts' (bare (record old { tree = tree' })) (bare (record old { tree = tree'; prepare_holds = prepares'; enable_holds = enables' })) (stands_linked old c p tree' moved whole to)
-      go.defs go.links go.exclusives refl refl refl
+      go.gated go.links go.exclusives refl refl refl
       (λ d.
       let coupled = go.enables d in
       let was = (listed_tells old.enable_holds).each d in

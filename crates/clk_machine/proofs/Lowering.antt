@@ -256,7 +256,7 @@ full_lowering m s stands full =
 
 -- a clock has its place among the prepares
 place_held : (counts : CountState) (c : ℕ) → AreCounts counts → c < length counts.links → c < length counts.prepares
-place_held counts c keeps within = let one = keeps.links in let two = keeps.prepares in omega arith
+place_held counts c keeps within = let same = keeps.prepares in omega arith
 
 -- a prepare that is given up and taken again leaves the counts as they were
 pub held_again : (counts less back : CountState) (c : ℕ) → AreCounts counts → 0 < get_or counts.prepares c 0 → c < length counts.links → less ≡ released counts c

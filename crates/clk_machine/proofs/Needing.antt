@@ -1,5 +1,5 @@
 -- Which calls need memory: a prepare and an unprepare only if they go on.
-use Rattle.std.proofs.Common.{◌≡◌, ℕ, ◌+◌, ◌*◌, ◌<◌, ◌≤◌, Bool, true, false, Option, Some, Result, Ok, Err, refl, ap, arith}
+use Rattle.std.proofs.Common.{◌≡◌, ℕ, ◌+◌, ◌*◌, ◌<◌, ◌≤◌, true, false, Some, Result, Ok, Err, refl, ap, arith}
 use Rattle.std.specs.Prelude.{is_none, slice_get}
 use Rattle.std.specs.List.{list_any}
 use Rattle.std.specs.Result.{OnErr}
@@ -14,7 +14,6 @@ use Rattle.clk_model.specs.Script.{plls}
 use Rattle.clk_model.specs.State.{State}
 use Rattle.clk_model.specs.Tree.{path}
 use Rattle.clk_model.proofs.FlightLaws.{begin_is}
-use Rattle.core_parts.specs.InFlight.{is_worked_out}
 use Rattle.core_parts.specs.Plls.{is_loose}
 use Rattle.clk_machine.specs.Memory.{NeedsMemory}
 use Rattle.clk_machine.specs.Parts.{Parts, IsWhole}
@@ -45,17 +44,7 @@ unprepare_needs m d h row quiet left own frees some room s stands =
     (begin_is s _ d (call.Unprepare h) turn.Going
     (unprepare_going s d h row (quiet_stands m s stands quiet) (own s stands) frees (some s stands) spends fits)).2
 
--- the calls whose steps are worked out before take memory
-pub worked_out_needs : (s : State) (d : ℕ) (what : Sleeping) → is_worked_out what ≡ true → NeedsMemory s d what
-worked_out_needs s d (call.SetRate h x) e = refl
-worked_out_needs s d (call.SetRateExclusive h x) e = refl
-worked_out_needs s d (call.SetRange h least most) e = refl
-worked_out_needs s d (call.SetParent h p) e = refl
-worked_out_needs s d (call.Probe c) e = refl
-worked_out_needs s d call.Sweep e = refl
-worked_out_needs s d _ e = absurd cc
-
--- among them those that plan
+-- the calls that plan need memory
 pub plan_needs : (s : State) (d : ℕ) (what : Sleeping) → plans what ≡ true → NeedsMemory s d what
 plan_needs s d (call.SetRate h x) e = refl
 plan_needs s d (call.SetRateExclusive h x) e = refl

@@ -87,7 +87,7 @@ module _ (old : Parts) (x : ClockId) (counts' : CountState) (prepares' : List �
     prepares = subst (λ (xs : List ℕ). AreHeld (registered old.tree.clocks) (length old.desc.defs) (old.steps + 1) xs) (sym to.holds)
         (held_more (registered old.tree.clocks) (length old.desc.defs) old.steps old.prepare_holds x.0 now.whole.prepares_held at_prepared.desc prepared_there);
     enables = held_on (registered old.tree.clocks) (length old.desc.defs) old.steps old.enable_holds now.whole.enables_held;
-    stands = stands_held old counts' prepares' old.enable_holds (bare old) (bare (record old { prepare_holds = prepares' })) now.whole.counted.stands (ap (λ (k : CountState). k.defs) to.counts)
+    stands = stands_held old counts' prepares' old.enable_holds (bare old) (bare (record old { prepare_holds = prepares' })) now.whole.counted.stands (ap (λ (k : CountState). k.gated) to.counts)
         (ap (λ (k : CountState). k.links) to.counts) (ap (λ (k : CountState). k.exclusives) to.counts) refl refl refl prepared_same prepared_more (listed_tells old.enable_holds) (listed_tells old.enable_holds)
         (listed_tells old.prepare_holds) (listed_tells prepares');
     raised = without (path_within (link_in old.tree.clocks) depth x.0) old.flight.raised;
@@ -166,7 +166,7 @@ module _ (old : Parts) (x : ClockId) (counts' : CountState) (prepares' : List �
     prepares = subst (λ (xs : List ℕ). AreHeld (registered old.tree.clocks) (length old.desc.defs) (old.steps + 1) xs) (sym to.holds)
         (held_less (registered old.tree.clocks) (length old.desc.defs) old.steps old.prepare_holds x.0 now.whole.prepares_held at_freed.desc freed_there to.some);
     enables = held_on (registered old.tree.clocks) (length old.desc.defs) old.steps old.enable_holds now.whole.enables_held;
-    stands = stands_held old counts' prepares' old.enable_holds (bare old) (bare (record old { prepare_holds = prepares' })) now.whole.counted.stands (ap (λ (k : CountState). k.defs) to.counts)
+    stands = stands_held old counts' prepares' old.enable_holds (bare old) (bare (record old { prepare_holds = prepares' })) now.whole.counted.stands (ap (λ (k : CountState). k.gated) to.counts)
         (ap (λ (k : CountState). k.links) to.counts) (ap (λ (k : CountState). k.exclusives) to.counts) refl refl refl freed_same freed_less (listed_tells old.enable_holds) (listed_tells old.enable_holds)
         (listed_tells old.prepare_holds) (listed_tells prepares');
     raised = old.flight.raised;

@@ -286,7 +286,7 @@ plain_weight s rows p (micro.Visit c) plain same = absurd cc
 plain_weight s rows p _ plain same = refl
 
 -- in a state as in the parts, where no clock is visited
-plain_sum : (s : State) (rows : List NotifierRow) (p : ℕ) (ms : List Micro) → list_any is_visit ms ≡ false → p ≡ plls s.defs → sum_by (weight s) ms ≡ sum_by (step_weight rows p) ms
+pub plain_sum : (s : State) (rows : List NotifierRow) (p : ℕ) (ms : List Micro) → list_any is_visit ms ≡ false → p ≡ plls s.defs → sum_by (weight s) ms ≡ sum_by (step_weight rows p) ms
 plain_sum s rows p [] plain same = refl
 plain_sum s rows p (m ∷ ms) plain same =
     let parts = not_either (is_visit m) (list_any is_visit ms) plain in

@@ -9,7 +9,7 @@ use Rattle.clk_model.specs.State.{State, registered, handle_at}
 use Rattle.clk_flight.specs.Flights.{FlightState}
 use Rattle.notifiers.specs.declared.notifier.Notifier.{Notifier}
 use Rattle.rate_requests.specs.Handles.{HandleTable, with_range_at}
-use Rattle.core_parts.specs.declared.course.Notified.{Notified}
+use Rattle.change_walk.specs.declared.changes.Changed.{Changed}
 use Rattle.clk_machine.specs.Holding.{ranged}
 use Rattle.clk_machine.specs.Parts.{Parts, bare, held_in_all, with_range, ArePaid, IsFlown, IsWhole}
 use Rattle.clk_machine.specs.Stands.{Stands}
@@ -36,7 +36,7 @@ written_range old n least most row table' whole live handles clocks = record {
   handles = handles ∙ range_written old.table.handles n least most row live;
   clocks = clocks;
   keeps = whole.counted.keeps;
-  defs = refl;
+  gated = refl;
   links = refl;
   enables = moves_none (λ h. h.enables) old.counts.enables row (ranged row least most) refl refl;
   prepares = moves_none (λ h. h.prepares) old.counts.prepares row (ranged row least most) refl refl;
@@ -45,7 +45,7 @@ written_range old n least most row table' whole live handles clocks = record {
 }
 
 -- what is kept of a change in flight is kept
-flown_ranged : (defs : Description) (clocks : List ClockRow) (handles : List (Option HandleRow)) (chains : List (List Notifier)) (notified : List Notified) (spent n least most : ℕ) (row : HandleRow) (f : FlightState)
+flown_ranged : (defs : Description) (clocks : List ClockRow) (handles : List (Option HandleRow)) (chains : List (List Notifier)) (notified : List Changed) (spent n least most : ℕ) (row : HandleRow) (f : FlightState)
     → IsFlown defs clocks handles chains notified spent f → handle_at handles n ≡ Some row → IsFlown defs clocks (set handles n (Some (ranged row least most))) chains notified spent f
 flown_ranged defs clocks handles chains notified spent n least most row f flown at = record {
   plls_ = flown.plls_;

@@ -48,14 +48,14 @@ use Rattle.change_walk.specs.Given.{Script}
 use Rattle.change_walk.specs.Steps.{changed_by, steps_for, told_by}
 use Rattle.change_walk.specs.Weights.{step_weight}
 use Rattle.change_walk.proofs.Whole.{rate_at}
-use Rattle.core_parts.specs.declared.course.Notified.{Notified}
+use Rattle.change_walk.specs.declared.changes.Changed.{Changed}
 use Rattle.core_parts.specs.Decisions as decided
 use Rattle.clk_machine.specs.Readied.{Readied, Scripted}
 use Rattle.clk_machine.specs.Readied as readied
 use Rattle.core_parts.specs.Course.{notifiers_at, tells_all}
 use Rattle.core_parts.specs.Planned.{IsPlanned, IsPlanOf}
 use Rattle.clk_machine.specs.Deciding.{ArePlannedOver, Decided, GoesOn, change_by, handle_of, left_at_once, made_in}
-use Rattle.clk_machine.specs.Holding.{ranged, stays}
+use Rattle.clk_machine.specs.Holding.{ranged}
 use Rattle.core_parts.specs.InFlight.{asks_rate, can_link, changes_rate, is_ranged, is_script}
 use Rattle.core_parts.specs.Movable.{can_go_along}
 use Rattle.core_parts.specs.Listed.{rows_from}
@@ -278,7 +278,7 @@ module _ (m : Parts) (s : State) (d : ℕ) (what : Sleeping) (plan : Plan) (scri
               vetoed = of_plan.vetoed ∙ sym made.vetoed ∙ sym is.vetoed;
             }));
         chain = of_plan.chain ∙ sym made.chain;
-        rates = subst (λ (ns : List Notified). AllByRecursion (λ x. (x.before ≡ slice_index k.before x.clock.0) × (x.after ≡ slice_index k.outcome x.clock.0)) ns) (sym made.notified)
+        rates = subst (λ (ns : List Changed). AllByRecursion (λ x. (x.before ≡ slice_index k.before x.clock.0) × (x.after ≡ slice_index k.outcome x.clock.0)) ns) (sym made.notified)
             (told_all (notifiers_at m.chains) m.tree.rates k.before k.outcome plan.rates rates_all);
       };
     }
@@ -317,7 +317,7 @@ can_scripted m d what plan script (readied.Change scripted) whole changes planne
   script = ap (λ (ms : List Micro). is_script what (registered m.tree.clocks) ms) steps ∙ script_made m.tree (is_prepared m.counts) m.chains plan (changed_by m.tree plan) can planned_.there what changes (λ c p at. (whole.tied.stands.linked c p at, whole.tied.stands.links c p at));
   tells =
       ap (λ (ms : List Micro). tells_all (notifiers_at m.chains) ms scripted.course.notified) steps
-      ∙ ap (λ (ns : List Notified). tells_all (notifiers_at m.chains) (steps_for m.tree (is_prepared m.counts) m.chains plan (changed_by m.tree plan)) ns) made.notified
+      ∙ ap (λ (ns : List Changed). tells_all (notifiers_at m.chains) (steps_for m.tree (is_prepared m.counts) m.chains plan (changed_by m.tree plan)) ns) made.notified
       ∙ tells_made m.tree (is_prepared m.counts) m.chains plan (changed_by m.tree plan) can planned_.there (notifiers_at m.chains) m.tree.rates;
   links =
       ap (λ (ds : Description). list_all (can_link ds m.tree.clocks) scripted.steps) (sym whole.tied.defs) ∙ ap (λ (ms : List Micro). list_all (can_link m.tree.defs m.tree.clocks) ms) steps

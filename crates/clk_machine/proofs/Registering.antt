@@ -1,5 +1,6 @@
 -- Registering a clock.
 use Rattle.std.proofs.Common.{◌≡◌, ◌≢◌, ℕ, ◌+◌, ◌<◌, ◌||◌, ◌&&◌, Bool, true, false, cond, List, Option, Some, None, refl, sym, ap, subst, ◌∙◌, arith, length, set, nat_eq}
+use Rattle.std.proofs.lemmas.List.{length-set}
 use Rattle.std.specs.Prelude.{IfSome, slice_index}
 use Rattle.clk_base.specs.declared.clock.ClockId.{ClockId}
 use Rattle.clk_base.specs.Flags.{is_critical}
@@ -96,7 +97,8 @@ none_more defs c xs ys plain same d =
 pub plain_stands : (old : Parts) (c : ℕ) (tree' : TreeState) (counts' : CountState) (s t : State) → Registered old c tree' counts' → is_critical s.defs c ≡ false
     → StandsFor old.counts s → IsAttached s t c → t.clocks ≡ tree'.clocks → StandsFor counts' t
 plain_stands old c tree' counts' s t now plain stands is rows =
-    stands_attached old.counts counts' s t c stands is (subst (λ (rs : List ClockRow). HasLinks rs counts'.links) (sym rows) now.links) (ap (λ (k : CountState). k.defs) now.counts)
+    stands_attached old.counts counts' s t c stands is (subst (λ (rs : List ClockRow). HasLinks rs counts'.links) (sym rows) now.links) (ap (λ (k : CountState). k.gated) now.counts)
+    (ap (λ (k : CountState). length k.links) now.counts ∙ length-set old.counts.links c now.link)
     (none_more s.defs c old.counts.enables counts'.enables plain (ap (λ (k : CountState). k.enables) now.counts))
     (none_more s.defs c old.counts.prepares counts'.prepares plain (ap (λ (k : CountState). k.prepares) now.counts))
     (ap (λ (k : CountState). k.exclusives) now.counts)

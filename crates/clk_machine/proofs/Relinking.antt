@@ -31,7 +31,7 @@ use Rattle.clk_flight.proofs.KeptLaws.{going_step}
 use Rattle.clk_tree.specs.TreeState.{TreeState}
 use Rattle.counts_core.specs.Counted.{CountState, AreCounts}
 use Rattle.counts_core.specs.Standing.{StandsFor}
-use Rattle.core_parts.specs.declared.course.Notified.{Notified}
+use Rattle.change_walk.specs.declared.changes.Changed.{Changed}
 use Rattle.core_parts.specs.Holds.{TellsHolds, AreHeld}
 use Rattle.core_parts.specs.Course.{IsAlong, TellsAlong, tells_all, begins_with, behind_visit, visited_by, notifiers_at}
 use Rattle.core_parts.specs.InFlight.{IsUnderWay, links_clocks, can_link, may_make, is_front, is_near}
@@ -60,12 +60,20 @@ relinks (micro.WriteMux c place) = true
 relinks (micro.Settle c) = true
 relinks _ = false
 
+-- whether such a step holds a clock or lets it go, and so gives no link
+abbrev pub only_holds : Micro → Bool
+only_holds (micro.HoldPrepare x) = true
+only_holds (micro.HoldEnable x) = true
+only_holds (micro.DropEnable x) = true
+only_holds (micro.DropPrepare x) = true
+only_holds _ = false
+
 -- such a step is the script's own
 pub record OwnStep (f : FlightState) (m : Micro) : Type 0 where
   pub front : f.front ≡ Empty
   pub rest : List Micro
   pub left : f.left ≡ m ∷ rest
-  pub changes : links_clocks f.call ≡ true
+  pub changes : only_holds m ≡ false → links_clocks f.call ≡ true
 
 -- what such a step is
 pub record IsKind (m : Micro) : Type 0 where
@@ -73,16 +81,16 @@ pub record IsKind (m : Micro) : Type 0 where
   pub plain : is_register m ≡ false
   pub taken_ : is_taken m ≡ true
   pub unseen : visited_by m ≡ None
-  pub may : (what : Sleeping) (there : ℕ → Bool) → may_make what there m ≡ true → links_clocks what ≡ true
+  pub may : (what : Sleeping) (there : ℕ → Bool) → may_make what there m ≡ true → only_holds m ≡ false → links_clocks what ≡ true
 
 pub kind_is : (m : Micro) → relinks m ≡ true → IsKind m
-kind_is (micro.HoldPrepare x) e = record { no_end = refl; plain = refl; taken_ = refl; unseen = refl; may = λ what there made. both_left (links_clocks what) (there x.0) made }
-kind_is (micro.HoldEnable x) e = record { no_end = refl; plain = refl; taken_ = refl; unseen = refl; may = λ what there made. both_left (links_clocks what) (there x.0) made }
-kind_is (micro.DropEnable x) e = record { no_end = refl; plain = refl; taken_ = refl; unseen = refl; may = λ what there made. both_left (links_clocks what) (there x.0) made }
-kind_is (micro.DropPrepare x) e = record { no_end = refl; plain = refl; taken_ = refl; unseen = refl; may = λ what there made. both_left (links_clocks what) (there x.0) made }
-kind_is (micro.Relink c p) e = record { no_end = refl; plain = refl; taken_ = refl; unseen = refl; may = λ what there made. both_left (links_clocks what) (there c.0 && there p.0) made }
-kind_is (micro.WriteMux c place) e = record { no_end = refl; plain = refl; taken_ = refl; unseen = refl; may = λ what there made. changes_links what made }
-kind_is (micro.Settle c) e = record { no_end = refl; plain = refl; taken_ = refl; unseen = refl; may = λ what there made. both_left (links_clocks what) (there c.0) made }
+kind_is (micro.HoldPrepare x) e = record { no_end = refl; plain = refl; taken_ = refl; unseen = refl; may = λ what there made links. absurd cc }
+kind_is (micro.HoldEnable x) e = record { no_end = refl; plain = refl; taken_ = refl; unseen = refl; may = λ what there made links. absurd cc }
+kind_is (micro.DropEnable x) e = record { no_end = refl; plain = refl; taken_ = refl; unseen = refl; may = λ what there made links. absurd cc }
+kind_is (micro.DropPrepare x) e = record { no_end = refl; plain = refl; taken_ = refl; unseen = refl; may = λ what there made links. absurd cc }
+kind_is (micro.Relink c p) e = record { no_end = refl; plain = refl; taken_ = refl; unseen = refl; may = λ what there made links. both_left (links_clocks what) (there c.0 && there p.0) made }
+kind_is (micro.WriteMux c place) e = record { no_end = refl; plain = refl; taken_ = refl; unseen = refl; may = λ what there made links. changes_links what made }
+kind_is (micro.Settle c) e = record { no_end = refl; plain = refl; taken_ = refl; unseen = refl; may = λ what there made links. both_left (links_clocks what) (there c.0) made }
 kind_is _ e = absurd cc
 
 pub own_of : (f : FlightState) (there : ℕ → Bool) (m : Micro) → relinks m ≡ true → own_step f ≡ Some m → IsUnderWay there f → OwnStep f m
@@ -146,7 +154,7 @@ under_way-own f there m ys is own all way = record {
   vetoed = way.vetoed;
 }
 
-tells-own : (f : FlightState) (counts : ℕ → ℕ) (ns : List Notified) (m : Micro) → relinks m ≡ true → OwnStep f m → TellsAlong counts ns f → TellsAlong counts ns (gone_on f)
+tells-own : (f : FlightState) (counts : ℕ → ℕ) (ns : List Changed) (m : Micro) → relinks m ≡ true → OwnStep f m → TellsAlong counts ns f → TellsAlong counts ns (gone_on f)
 tells-own f counts ns m is own tells =
     subst (λ (g : FlightState). TellsAlong counts ns g) (sym (own_behind f m own)) (record {
       front = tt;
@@ -217,9 +225,20 @@ made_now old m whole going is own =
 
 -- the step can be made
 pub can_now : (old : Parts) (m : Micro) → IsWhole old → old.flight.going ≡ true → relinks m ≡ true → own_step old.flight ≡ Some m → can_link old.desc.defs old.tree.clocks m ≡ true
-can_now old m whole going is own =
-    let at = own_step_of old m whole going is own in
-    (links-own old.flight old.desc.defs old.tree.clocks m at ((whole.flown going).links at.changes)).0
+can_now old m whole going is own = by (only_holds m) refl where
+  free : (n : Micro) → only_holds n ≡ true → can_link old.desc.defs old.tree.clocks n ≡ true
+  free (micro.HoldPrepare x) e = refl
+  free (micro.HoldEnable x) e = refl
+  free (micro.DropEnable x) e = refl
+  free (micro.DropPrepare x) e = refl
+  free _ e = absurd cc
+
+  at : OwnStep old.flight m
+  at = own_step_of old m whole going is own
+
+  by : (t : Bool) → only_holds m ≡ t → can_link old.desc.defs old.tree.clocks m ≡ true
+  by true holds = free m holds
+  by false links = (links-own old.flight old.desc.defs old.tree.clocks m at ((whole.flown going).links (at.changes links))).0
 
 -- fewer steps are to come
 pub falls_of : (old : Parts) (m : Micro) (flight' : FlightState) → IsWhole old → old.flight.going ≡ true → relinks m ≡ true → own_step old.flight ≡ Some m → LeavesLessAt is_taken old.flight flight'

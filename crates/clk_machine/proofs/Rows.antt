@@ -45,4 +45,4 @@ sums_stand m s c whole stands = tells_counts m.counts s whole.counted.keeps (cou
 -- the clocks of the description have their places in the counts
 pub counted_place : (m : Parts) (c : ℕ) → IsWhole m → c < length m.desc.defs → c < length m.counts.links
 counted_place m c whole within =
-    subst (λ (n : ℕ). c < n) (sym (whole.counted.keeps.links ∙ ap (λ (d : Description). length d) whole.counted.stands.defs)) within
+    subst (λ (n : ℕ). c < n) (sym whole.counted.stands.size) within

@@ -1,5 +1,5 @@
 -- That a call can go on with a flight that was made before, or goes on in no state.
-use Rattle.std.proofs.Common.{◌≡◌, ℕ, ◌+◌, ◌*◌, ◌<◌, ◌≤◌, true, false, List, Option, Some, None, refl, sym, ap, subst, ◌∙◌, arith, length, set, nat_le, [], ◌∷◌}
+use Rattle.std.proofs.Common.{◌≡◌, ℕ, ◌+◌, ◌*◌, ◌<◌, ◌≤◌, true, false, List, Option, Some, refl, sym, ap, subst, ◌∙◌, arith, length, set, nat_le, [], ◌∷◌}
 use Rattle.std.proofs.lemmas.Bool.Decides.{nat_tests}
 use Rattle.std.specs.Prelude.{is_none, slice_get, sum_by}
 use Rattle.std.specs.List.{list_any}
@@ -144,7 +144,7 @@ pub can_sweep : (m : Parts) (d : ℕ) (f : FlightState) → IsWhole m → m.spen
 can_sweep m d f whole left room sets =
     let now = set_started m d call.Sweep (micro.End ∷ []) f sets in
     record {
-      whole = whole_sweeping m d (micro.End ∷ []) f whole left refl refl room now;
+      whole = whole_sweeping m d (micro.End ∷ []) f whole left refl room now;
       stands = (starts_sweep m d (micro.End ∷ []) f now
           (λ s. sets.change s.notifiers (change_of s d call.Sweep (micro.End ∷ []))
           (starts_as s s.notifiers d call.Sweep (micro.End ∷ []) sets.start refl sets.driver sets.call_ sets.script sets.range sets.extra sets.vetoed))).stands;

@@ -127,6 +127,7 @@ starts_as s ns d what steps start stays_ driver is script range extra vetoed =
       calls_off = ap (λ (n : ℕ). list_all is_notice (map called_off (take n start.script.items))) extra;
       vetoed = sym vetoed;
       timed_out = refl;
+      missed = refl;
       aborts = λ may.
           ap (λ (t : Bool). if t then abort_list (record { before = k.before; outcome = k.outcome }) ns k.changing else []) stays_
           ∙ sym (ap (λ (n : ℕ). map called_off (take n start.script.items)) extra);

@@ -10,9 +10,6 @@ use Rattle.clk_base.specs.declared.event.Turn.{Turn}
 use Rattle.clk_base.specs.declared.event.Turn.TheVariants as turn
 use Rattle.clk_base.specs.declared.call.Sleeping.{Sleeping}
 use Rattle.clk_base.specs.declared.call.Sleeping.TheVariants as call
-use Rattle.clk_base.specs.declared.event.Errno.TheVariants as errno
-use Rattle.clk_base.specs.declared.event.Reply.{Reply}
-use Rattle.clk_base.specs.declared.event.Reply.TheVariants as reply
 use Rattle.clk_model.specs.State.{State, Change, link_in}
 use Rattle.clk_model.specs.Holders.{active}
 use Rattle.core_parts.specs.InFlight.{is_unprepare, is_ranged, is_probe, may_go_on}
@@ -29,6 +26,7 @@ use Rattle.clk_model.specs.Step.{todo, taken, on, visit, timed_out, to_raise, ra
 use Rattle.clk_model.specs.Machine.{same_list, micro_code, comes_next, may_step, counted, next}
 use Rattle.clk_model.proofs.Members.{test_same}
 use Rattle.clk_model.proofs.StateLaws.{settled-still}
+use Rattle.clk_machine.specs.Landing.{reply_of}
 
 same_code : (xs : List ℕ) → same_list xs xs ≡ true
 same_code [] = refl
@@ -244,10 +242,6 @@ pub ends : (s : State) (d : ℕ) (k : Change) → IsNext s d k micro.End
     → next s d (event.Step micro.End None) ≡ Some (record (settled s (end_of s (taken k)).0) { steps = s.steps + 1 }, (end_of s (taken k)).1)
 unfolding stepped
 ends s d k is = takes s k d micro.End None is.change (three _ _ (mine s d k micro.End is) (first_comes micro.End (todo k) is.first))
-
--- the reply at the end
-abbrev pub reply_of : Bool → Bool → Reply
-reply_of vetoed late = if vetoed then reply.Refused errno.EBUSY else if late then reply.Refused errno.ETIMEDOUT else reply.Fine
 
 -- what the end leaves, by whether the call is called off
 abbrev left_by : State → Change → Bool → State × Turn

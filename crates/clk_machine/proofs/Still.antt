@@ -1,5 +1,5 @@
 -- Calls that are answered at once and leave the state as it is.
-use Rattle.std.proofs.Common.{◌≡◌, ℕ, ◌-◌, Bool, true, false, List, [], ◌∷◌, Option, Some, None, refl, sym, ap, subst, ◌∙◌}
+use Rattle.std.proofs.Common.{◌≡◌, ℕ, ◌-◌, true, false, [], ◌∷◌, Option, Some, None, refl, ap, ◌∙◌}
 use Rattle.clk_base.specs.declared.call.Micro.TheVariants as micro
 use Rattle.clk_base.specs.declared.call.Sleeping.{Sleeping}
 use Rattle.clk_base.specs.declared.call.Sleeping.TheVariants as call
@@ -8,7 +8,7 @@ use Rattle.clk_base.specs.declared.event.Reply.{Reply}
 use Rattle.clk_base.specs.declared.event.Reply.TheVariants as reply
 use Rattle.clk_base.specs.declared.event.Turn.{Turn}
 use Rattle.clk_base.specs.declared.event.Turn.TheVariants as turn
-use Rattle.clk_model.specs.Begin.{done, refused, starts, change_of, change_along, with_handle, put_handle, held_once_more, request, request_between, reparenting, parent_set, register, begun}
+use Rattle.clk_model.specs.Begin.{done, refused, starts, change_of, change_along, put_handle, held_once_more, request, request_between, reparenting, parent_set, register, begun}
 use Rattle.clk_model.specs.Chain.{chain}
 use Rattle.clk_model.specs.Laws.CallCauses.{with_limits}
 use Rattle.clk_model.specs.Round.{wiring, round_rate}

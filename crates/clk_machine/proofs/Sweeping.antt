@@ -1,7 +1,7 @@
 -- The unused sweep: how it begins, and what its steps make of the parts of a core.
-use Rattle.std.proofs.Common.{◌≡◌, ℕ, ◌+◌, ◌<◌, ◌≤◌, ◌&&◌, ◌||◌, inl, inr, not, Bool, true, false, List, [], ◌∷◌, Option, Some, None, refl, sym, ap, subst, ◌∙◌, arith, length, nat_eq, nat_lt, nat_le, true≢false}
-use Rattle.std.specs.Prelude.{if◌then◌else◌, is_some, slice_get, IfSome}
-use Rattle.std.specs.List.{list_all}
+use Rattle.std.proofs.Common.{◌≡◌, ℕ, ◌+◌, ◌-◌, ◌^◌, ◌<◌, ◌≤◌, ◌&&◌, ◌||◌, min, inl, inr, not, Bool, true, false, List, [], ◌∷◌, Option, Some, None, refl, sym, ap, subst, ◌∙◌, arith, length, nat_eq, nat_lt, nat_le, true≢false}
+use Rattle.std.specs.Prelude.{if◌then◌else◌, is_some, slice_get, sum_by, IfSome}
+use Rattle.std.specs.List.{list_all, list_any}
 use Rattle.std.specs.Option.{option_map, option_map_or}
 use Rattle.std.proofs.Math.Bool.{or-false}
 use Rattle.std.proofs.lemmas.Bool.Decides.{nat_tests}
@@ -27,7 +27,7 @@ use Rattle.clk_model.specs.Machine.{paid, next}
 use Rattle.clk_model.specs.Prep.{is_sweep}
 use Rattle.clk_model.specs.Script.{plls, sweep_script, weight}
 use Rattle.clk_model.specs.State.{State, Change, registered}
-use Rattle.clk_model.specs.Step.{is_end, powered, close, rest_of, taken, todo, is_register}
+use Rattle.clk_model.specs.Step.{is_end, is_visit, powered, close, rest_of, taken, todo, is_register}
 use Rattle.clk_model.proofs.EventLaws.{pick-true, pick-false, begin_quiet}
 use Rattle.clk_model.proofs.Members.{both_right, is_in_cases}
 use Rattle.clk_model.proofs.StateLaws.{paid-still}
@@ -49,7 +49,6 @@ use Rattle.core_parts.specs.Tied.{AreTied}
 use Rattle.clk_machine.specs.Parts.{Parts, IsOwnCall, IsWhole}
 use Rattle.clk_machine.specs.Stands.{Stands, Enters}
 use Rattle.clk_machine.specs.Starting.{StartsCall}
-use Rattle.clk_machine.specs.Sweeping.{are_light}
 use Rattle.core_parts.proofs.Closing.{closed_regs}
 use Rattle.clk_machine.proofs.Flying.{quiet_stands}
 use Rattle.core_parts.proofs.InFlight.{cut_behind, first_seeks, script_rest}
@@ -63,7 +62,8 @@ use Rattle.core_parts.proofs.Deciding.{not_less}
 use Rattle.clk_machine.proofs.Starting.{Started, started_left, started_way, whole_flying, flying, with_spent, stands_flying, stands_spent}
 use Rattle.clk_machine.proofs.Stepping.{closes_one, unpowers_one}
 use Rattle.clk_machine.proofs.Writing.{whole_spent}
-use Rattle.clk_machine.proofs.SweepScript.{light_sum, one_entry, one_step}
+use Rattle.clk_machine.proofs.Probing.{plain_sum}
+use Rattle.clk_machine.proofs.SweepScript.{swept_unvisited}
 
 -- ---- the beginning, in states
 
@@ -71,38 +71,41 @@ pub sweep_off : (s : State) (d : ℕ) → s.change ≡ None → s.ignore_unused 
 unfolding begun
 sweep_off s d quiet off = begin_quiet s d call.Sweep quiet ∙ ap (paid s) (pick-true s.ignore_unused _ _ off)
 
-weighs : (s : State) (d : ℕ) → are_light (sweep_script s) ≡ true → weight_of s (change_of s d call.Sweep (sweep_script s)) ≡ length (sweep_script s)
-weighs s d light = let sum = light_sum (weight s) (sweep_script s) (one_entry s) light in omega arith
-
-pub sweep_full : (s : State) (d : ℕ) → s.change ≡ None → s.ignore_unused ≡ false → are_light (sweep_script s) ≡ true → most_credits < s.credits + s.steps + length (sweep_script s)
+pub sweep_full : (s : State) (d : ℕ) → s.change ≡ None → s.ignore_unused ≡ false → most_credits < s.credits + s.steps + sum_by (weight s) (sweep_script s)
     → next s d (event.Begin call.Sweep) ≡ paid s (refused s errno.ENOSPC)
 unfolding begun
-sweep_full s d quiet on_ light full =
+sweep_full s d quiet on_ full =
     let k : Change = change_of s d call.Sweep (sweep_script s) in
-    let is = weighs s d light in
     let more : nat_lt most_credits (s.credits + s.steps + weight_of s k) ≡ true = less_is most_credits (s.credits + s.steps + weight_of s k) (omega arith) in
     begin_quiet s d call.Sweep quiet ∙ ap (paid s) (pick-false s.ignore_unused _ _ on_ ∙ pick-true (nat_lt most_credits (s.credits + s.steps + weight_of s k)) _ _ more) where
       less_is : (a b : ℕ) → a < b → nat_lt a b ≡ true
       less_is a b lt = grind (arith, nat_tests)
 
--- where the parts have no room, the state hasn't either
-pub sweep_refused : (m : Parts) (s : State) (d : ℕ) (steps : List Micro) (used : ℕ) → Stands m s → s.change ≡ None → m.ignore_unused ≡ false → are_light steps ≡ true → steps ≡ sweep_script s
-    → used ≡ m.credits + m.steps → nat_le (used + length steps) most_credits ≡ false → next s d (event.Begin call.Sweep) ≡ paid s (refused s errno.ENOSPC)
-sweep_refused m s d steps used stands quiet on_ light told is full =
-    let many : length (sweep_script s) ≡ length steps = ap (λ (ms : List Micro). length ms) (sym told) in
-    let over : most_credits < used + length steps = more most_credits (used + length steps) full in
+-- what the script weighs in a state that the parts stand for
+sweep_weighs : (m : Parts) (s : State) (steps : List Micro) → Stands m s → steps ≡ sweep_script s
+    → sum_by (weight s) (sweep_script s) ≡ sum_by (step_weight (rows_from 0 m.chains) (plls m.desc.defs)) steps
+sweep_weighs m s steps stands is =
+    ap (λ (ms : List Micro). sum_by (weight s) ms) (sym is)
+    ∙ plain_sum s (rows_from 0 m.chains) (plls m.desc.defs) steps (ap (λ (ms : List Micro). list_any is_visit ms) is ∙ swept_unvisited s) (ap plls (sym stands.defs))
+
+-- if the parts have no room, the state hasn't either
+pub sweep_refused : (m : Parts) (s : State) (d : ℕ) (steps : List Micro) (used weight_ : ℕ) → Stands m s → s.change ≡ None → m.ignore_unused ≡ false → steps ≡ sweep_script s
+    → used ≡ m.credits + m.steps → weight_ ≡ min (sum_by (step_weight (rows_from 0 m.chains) (plls m.desc.defs)) steps) (2 ^ 64 - 1) → nat_le (used + weight_) most_credits ≡ false
+    → next s d (event.Begin call.Sweep) ≡ paid s (refused s errno.ENOSPC)
+sweep_refused m s d steps used weight_ stands quiet on_ told is weighs full =
+    let over : most_credits < used + weight_ = more most_credits (used + weight_) full in
     let one = stands.credits in
     let two = stands.steps in
-    sweep_full s d quiet (stands.ignore_unused ∙ on_) (ap are_light (sym told) ∙ light) (omega arith) where
+    let sum = sweep_weighs m s steps stands told in
+    sweep_full s d quiet (stands.ignore_unused ∙ on_) (omega arith) where
       more : (a b : ℕ) → nat_le b a ≡ false → a < b
       more a b e = grind (arith, nat_tests)
 
-sweep_going : (s : State) (d : ℕ) → s.change ≡ None → s.ignore_unused ≡ false → are_light (sweep_script s) ≡ true → s.spent < s.credits → s.credits + s.steps + length (sweep_script s) ≤ most_credits
+sweep_going : (s : State) (d : ℕ) → s.change ≡ None → s.ignore_unused ≡ false → s.spent < s.credits → s.credits + s.steps + sum_by (weight s) (sweep_script s) ≤ most_credits
     → next s d (event.Begin call.Sweep) ≡ Some (record s { change = Some (change_of s d call.Sweep (sweep_script s)); spent = s.spent + 1 }, turn.Going)
 unfolding begun
-sweep_going s d quiet on_ light left room =
+sweep_going s d quiet on_ left room =
     let k : Change = change_of s d call.Sweep (sweep_script s) in
-    let is = weighs s d light in
     let fits : nat_lt most_credits (s.credits + s.steps + weight_of s k) ≡ false = not_less (s.credits + s.steps + weight_of s k) most_credits (omega arith) in
     begin_quiet s d call.Sweep quiet
     ∙ ap (paid s) (pick-false s.ignore_unused _ _ on_ ∙ pick-false (nat_lt most_credits (s.credits + s.steps + weight_of s k)) _ _ fits)
@@ -110,10 +113,10 @@ sweep_going s d quiet on_ light left room =
 
 -- ---- and in the parts
 
--- the parts stay whole where the sweep's flight begins
-pub whole_sweeping : (old : Parts) (d : ℕ) (steps : List Micro) (flight' : FlightState) → IsWhole old → old.spent < old.credits → is_script call.Sweep (registered old.tree.clocks) steps ≡ true → are_light steps ≡ true
-    → old.credits + old.steps + length steps ≤ most_credits → Started old d call.Sweep steps flight' → IsWhole (flying (with_spent old) flight')
-whole_sweeping old d steps flight' whole left script light room now =
+-- the parts stay whole if the sweep's flight begins
+pub whole_sweeping : (old : Parts) (d : ℕ) (steps : List Micro) (flight' : FlightState) → IsWhole old → old.spent < old.credits → is_script call.Sweep (registered old.tree.clocks) steps ≡ true
+    → old.credits + old.steps + sum_by (step_weight (rows_from 0 old.chains) (plls old.desc.defs)) steps ≤ most_credits → Started old d call.Sweep steps flight' → IsWhole (flying (with_spent old) flight')
+whole_sweeping old d steps flight' whole left script room now =
     whole_flying (with_spent old) flight' (whole_spent old whole left) (record {
       plls_ = now.plls_;
       tells = λ changes. let no : true ≡ false = sym changes ∙ ap changes_rate now.call_ in absurd cc;
@@ -122,7 +125,7 @@ whole_sweeping old d steps flight' whole left script light room now =
       way = started_way old d call.Sweep steps flight' (registered old.tree.clocks) now refl script;
       own = subst (λ (what : Sleeping). IsOwnCall old.table.handles flight'.driver what) (sym now.call_) tt;
       paid = let few = whole.paid.few_holds in omega arith;
-    }) (let few = started_left old d call.Sweep steps flight' now in let sum = light_sum (step_weight (rows_from 0 old.chains) (plls old.desc.defs)) steps (one_step (rows_from 0 old.chains) (plls old.desc.defs)) light in omega arith)
+    }) (let few = started_left old d call.Sweep steps flight' now in omega arith)
 
 pub starts_sweep : (old : Parts) (d : ℕ) (steps : List Micro) (flight' : FlightState) → Started old d call.Sweep steps flight' → ((s : State) → IsChange s.notifiers flight' (change_of s d call.Sweep steps))
     → StartsCall old d call.Sweep steps stays (flying (with_spent old) flight')
@@ -138,32 +141,32 @@ starts_sweep old d steps flight' now change = record {
 }
 
 -- how many steps are to come
-pub sweep_left : (old new : Parts) (d : ℕ) (steps : List Micro) → are_light steps ≡ true → StartsCall old d call.Sweep steps stays new → left_over (rows_from 0 new.chains) new.flight ≡ length steps
-sweep_left old new d steps light starts_ =
-    starts_.left ∙ light_sum (step_weight (rows_from 0 old.chains) (plls old.desc.defs)) steps (one_step (rows_from 0 old.chains) (plls old.desc.defs)) light
+pub sweep_left : (old new : Parts) (d : ℕ) (steps : List Micro) → StartsCall old d call.Sweep steps stays new
+    → left_over (rows_from 0 new.chains) new.flight ≡ sum_by (step_weight (rows_from 0 old.chains) (plls old.desc.defs)) steps
+sweep_left old new d steps starts_ = starts_.left
 
-pub enters_sweep : (old new : Parts) (d : ℕ) (steps : List Micro) → IsWhole old → old.flight.going ≡ false → old.ignore_unused ≡ false → old.spent < old.credits → are_light steps ≡ true
-    → ((s : State) → Stands old s → steps ≡ sweep_script s) → old.credits + old.steps + length steps ≤ most_credits → StartsCall old d call.Sweep steps stays new → Enters old d (event.Begin call.Sweep) turn.Going new
-enters_sweep old new d steps whole quiet on_ left light told room starts_ = record {
+pub enters_sweep : (old new : Parts) (d : ℕ) (steps : List Micro) → old.flight.going ≡ false → old.ignore_unused ≡ false → old.spent < old.credits → ((s : State) → Stands old s → steps ≡ sweep_script s)
+    → old.credits + old.steps + sum_by (step_weight (rows_from 0 old.chains) (plls old.desc.defs)) steps ≤ most_credits → StartsCall old d call.Sweep steps stays new
+    → Enters old d (event.Begin call.Sweep) turn.Going new
+enters_sweep old new d steps quiet on_ left told room starts_ = record {
   remains = starts_.remains;
   pays = starts_.spent;
   rows = λ c. starts_.rows c ∙ sym (or-false (registered old.tree.clocks c));
   going = starts_.going;
   driver_ = λ still. starts_.driver_;
   fewer = λ free. absurd cc;
-  begun = λ paid goes. let few = sweep_left old new d steps light starts_ in omega arith;
+  begun = λ paid goes. let few = sweep_left old new d steps starts_ in omega arith;
   no_more = λ paid done. absurd cc;
   locks = λ still. starts_.locks;
   beside = λ tier. absurd cc;
   step = λ s stands sound.
       let is = told s stands in
-      let light_s : are_light (sweep_script s) ≡ true = ap are_light (sym is) ∙ light in
-      let many : length (sweep_script s) ≡ length steps = ap (λ (ms : List Micro). length ms) (sym is) in
+      let sum = sweep_weighs old s steps stands is in
       let spends : s.spent < s.credits = let one = stands.spent in let two = stands.credits in omega arith in
-      let fits : s.credits + s.steps + length (sweep_script s) ≤ most_credits = let one = stands.credits in let two = stands.steps in omega arith in
+      let fits : s.credits + s.steps + sum_by (weight s) (sweep_script s) ≤ most_credits = let one = stands.credits in let two = stands.steps in omega arith in
       record {
         to = record s { change = Some (change_of s d call.Sweep steps); spent = s.spent + 1 };
-        next_ = sweep_going s d (quiet_stands old s stands quiet) (stands.ignore_unused ∙ on_) light_s spends fits
+        next_ = sweep_going s d (quiet_stands old s stands quiet) (stands.ignore_unused ∙ on_) spends fits
             ∙ ap (λ (ms : List Micro). let x : State × Turn = (record s { change = Some (change_of s d call.Sweep ms); spent = s.spent + 1 }, turn.Going) in Some x) (sym is);
         stands = starts_.stands s stands;
       };

@@ -1,31 +1,32 @@
 -- That parts go along with the steps of a sweep.
-use Rattle.std.proofs.Common.{◌≡◌, ℕ, ◌+◌, ◌≤◌, ◌<◌, ◌||◌, Bool, true, false, List, Option, Some, None, refl, sym, ap, subst, ◌∙◌, arith, length, nat_lt}
-use Rattle.std.specs.Prelude.{if◌then◌else◌, option_map}
+use Rattle.std.proofs.Common.{◌≡◌, ℕ, ◌<◌, Bool, true, false, List, Option, Some, None, refl, sym, ap, subst, ◌∙◌, arith, length, nat_lt}
+use Rattle.std.specs.Prelude.{IfSome, option_map, slice_get}
 use Rattle.std.specs.Option.{option_map_or}
 use Rattle.std.proofs.lemmas.Bool.Decides.{nat_tests}
 use Rattle.clk_base.specs.declared.call.Micro.{Micro}
 use Rattle.clk_base.specs.declared.call.Micro.TheVariants as micro
-use Rattle.clk_base.specs.declared.call.Sleeping.{Sleeping}
-use Rattle.clk_base.specs.declared.call.Sleeping.TheVariants as call
 use Rattle.clk_base.specs.declared.clock.ClockId.{ClockId}
-use Rattle.clk_base.specs.declared.event.Turn.{Turn}
 use Rattle.clk_base.specs.Description.{Description, kind_of}
 use Rattle.clk_base.specs.Fields.{PowerBit, bit_field, power_of}
 use Rattle.clk_base.proofs.Valid.{power-field}
 use Rattle.clk_model.specs.Kinds.{with_power}
-use Rattle.clk_model.specs.Prep.{is_sweep}
-use Rattle.clk_model.specs.State.{State, Change}
-use Rattle.clk_model.specs.Step.{is_end, powered, on, range_back, unranged, ended_well, stepped}
+use Rattle.clk_model.specs.declared.row.ClockRow.{ClockRow}
+use Rattle.clk_model.specs.State.{State, registered}
+use Rattle.clk_model.specs.Step.{is_end, powered, to_lower}
+use Rattle.clk_model.specs.Tree.{path}
 use Rattle.clk_model.proofs.ApartLaws.{fielded_lt}
 use Rattle.clk_flight.specs.Flights.{FlightState}
 use Rattle.core_parts.proofs.Powering.{power_put, powered_words}
+use Rattle.core_parts.specs.declared.plls.Sought.{Sought}
 use Rattle.core_parts.specs.Listed.{rows_from}
+use Rattle.core_parts.specs.Plls.{lowerable, Finds}
 use Rattle.core_parts.specs.Tied.{AreTied}
 use Rattle.core_parts.specs.Window.{Shown}
 use Rattle.clk_machine.specs.Along.{SweepsAlong}
 use Rattle.clk_machine.specs.Parts.{Parts, IsWhole}
 use Rattle.clk_machine.specs.Stands.{Stands}
 use Rattle.clk_machine.proofs.Flying.{none_left}
+use Rattle.clk_machine.proofs.Making.{to_lower_stands}
 
 -- ---- a change that is no more
 
@@ -62,7 +63,7 @@ stands_halted old flight' quiet s stands = record {
   ignore_unused = stands.ignore_unused;
 }
 
--- ---- a PLL that loses its power
+-- ---- a PLL that gets its power or loses it
 
 pub whole_tied : (old : Parts) (window' : Shown) → IsWhole old → AreTied old.desc window' old.tree → IsWhole (record old { window = window' })
 whole_tied old window' whole tied = record {
@@ -79,11 +80,11 @@ whole_tied old window' whole tied = record {
   enables_held = whole.enables_held;
 }
 
-pub stands_powered : (old : Parts) (c : ℕ) (window' : Shown) → window'.words ≡ option_map (power_put old.desc.defs c false) old.window.words → (s : State) → Stands old s
-    → Stands (record old { window = window' }) (powered s c false)
-stands_powered old c window' words s stands = record {
+pub stands_powered : (old : Parts) (c : ℕ) (on : Bool) (window' : Shown) → window'.words ≡ option_map (power_put old.desc.defs c on) old.window.words → (s : State) → Stands old s
+    → Stands (record old { window = window' }) (powered s c on)
+stands_powered old c on window' words s stands = record {
   defs = stands.defs;
-  regs = powered_words old.desc.defs c false old.window.words window'.words s stands.defs stands.regs words;
+  regs = powered_words old.desc.defs c on old.window.words window'.words s stands.defs stands.regs words;
   clocks = stands.clocks;
   order = stands.order;
   handles = stands.handles;
@@ -98,52 +99,54 @@ stands_powered old c window' words s stands = record {
   ignore_unused = stands.ignore_unused;
 }
 
+-- a clock that the description doesn't have has none
+pub stands_past : (old : Parts) (c : ℕ) (on : Bool) → nat_lt c (length old.desc.defs) ≡ false → (s : State) → Stands old s → Stands old (powered s c on)
+stands_past old c on past s stands = subst (λ (u : State). Stands old u) (by (power_of (kind_of s.defs c)) refl) stands where
+  by : (o : Option PowerBit) → power_of (kind_of s.defs c) ≡ o → s ≡ powered s c on
+  by None at = ap (λ (o : Option PowerBit). let u : State = record s { regs = option_map_or (λ power. with_power s.regs power on) o s.regs } in u) (sym at)
+  by (Some p) at =
+      let less = fielded_lt s.defs c 1 (bit_field p.word p.bit) (power-field (kind_of s.defs c) p at) in
+      let long = ap (λ (ds : Description). length ds) stands.defs in
+      absurd (let no : c < length old.desc.defs = omega arith in grind (arith, nat_tests))
+
 -- ---- the steps
 
--- the change that a sweep's step leaves is the one that there was
-on_same : (s : State) (l : Change) → s.change ≡ Some l → s ≡ on s l
-on_same s l at = ap (λ (o : Option Change). let u : State = record s { change = o } in u) at
+-- what was found is the first PLL that a lower switches off
+found_first : (p : Parts) (x : ClockId) (found : Sought) → IsWhole p → IfSome p.window.words (λ regs. Finds found (lowerable p.desc.defs p.counts regs (path p.tree.clocks x.0))) → (s : State) → Stands p s
+    → slice_get (to_lower s x.0) 0 ≡ option_map (λ c. c.0) found.pll
+found_first p x found whole is s stands =
+    let told : Finds found (lowerable p.desc.defs p.counts s.regs (path p.tree.clocks x.0)) =
+    subst (λ (o : Option (List ℕ)). IfSome o (λ regs. Finds found (lowerable p.desc.defs p.counts regs (path p.tree.clocks x.0)))) stands.regs is in
+    ap (λ (ys : List ℕ). slice_get ys 0) (to_lower_stands p s x.0 whole stands) ∙ sym told.first
 
-pub unpowered : (old new : Parts) (c : ClockId) → ((s : State) → Stands old s → Stands new (powered s c.0 false)) → SweepsAlong old (micro.Unpower c) new
-unfolding stepped
-unpowered old new c stands = record {
-  closes = λ is. absurd cc;
-  others = λ own plain s l answer is at sweeps. subst (λ (u : State). Stands new u) (on_same (powered s c.0 false) l at) (stands s is);
-}
+-- it loses its power
+pub lowered_one : (old new : Parts) (x pll : ClockId) (found : Sought) → IsWhole old → IfSome old.window.words (λ regs. Finds found (lowerable old.desc.defs old.counts regs (path old.tree.clocks x.0)))
+    → found.pll ≡ Some pll → ((s : State) → Stands old s → Stands new (powered s pll.0 false)) → SweepsAlong old (micro.Lower x) new
+lowered_one old new x pll found whole is one stands s stands_ there =
+    subst (λ (o : Option ℕ). Stands new (option_map_or (λ y. powered s y false) o s))
+    (sym (found_first old x found whole is s stands_ ∙ ap (λ (o : Option ClockId). option_map (λ c. c.0) o) one)) (stands s stands_)
 
--- a clock that the description doesn't have has none
-pub unpowered_none : (old : Parts) (c : ClockId) → nat_lt c.0 (length old.desc.defs) ≡ false → SweepsAlong old (micro.Unpower c) old
-unpowered_none old c past = unpowered old old c (λ s stands. subst (λ (u : State). Stands old u) (by s stands (power_of (kind_of s.defs c.0)) refl) stands) where
-  by : (s : State) → Stands old s → (o : Option PowerBit) → power_of (kind_of s.defs c.0) ≡ o → s ≡ powered s c.0 false
-  by s stands None at = ap (λ (o : Option PowerBit). let u : State = record s { regs = option_map_or (λ power. with_power s.regs power false) o s.regs } in u) (sym at)
-  by s stands (Some p) at =
-      let less = fielded_lt s.defs c.0 1 (bit_field p.word p.bit) (power-field (kind_of s.defs c.0) p at) in
-      let long = ap (λ (ds : Description). length ds) stands.defs in
-      absurd (let no : c.0 < length old.desc.defs = omega arith in grind (arith, nat_tests))
+-- if there is none, all stays as it is
+pub lowered_none : (old : Parts) (x : ClockId) (found : Sought) → IsWhole old → IfSome old.window.words (λ regs. Finds found (lowerable old.desc.defs old.counts regs (path old.tree.clocks x.0)))
+    → found.pll ≡ None → SweepsAlong old (micro.Lower x) old
+lowered_none old x found whole is none s stands there =
+    subst (λ (o : Option ℕ). Stands old (option_map_or (λ y. powered s y false) o s))
+    (sym (found_first old x found whole is s stands ∙ ap (λ (o : Option ClockId). option_map (λ c. c.0) o) none)) stands
 
--- it ends
-swept : (s : State) (l : Change) (b : Bool) → is_sweep l.call ≡ true → (if b then unranged s l else ended_well s l.driver l.call) ≡ s
-swept s l b sweeps = by b (only l.call sweeps) where
-  only : (what : Sleeping) → is_sweep what ≡ true → what ≡ call.Sweep
-  only call.Sweep e = refl
-  only _ e = absurd cc
+-- a clock that isn't registered has no lower in a sweep
+pub lowered_never : (old : Parts) (x : ClockId) → registered old.tree.clocks x.0 ≡ false → SweepsAlong old (micro.Lower x) old
+lowered_never old x never s stands there =
+    let no : true ≡ false = sym there ∙ ap (λ (rows : List ClockRow). registered rows x.0) stands.clocks ∙ never in
+    absurd cc
 
-  by : (t : Bool) → l.call ≡ call.Sweep → (if t then unranged s l else ended_well s l.driver l.call) ≡ s
-  by true is = ap (λ (what : Sleeping). let u : State = record s { handles = range_back what l.range s.handles } in u) is
-  by false is = ap (λ (what : Sleeping). ended_well s l.driver what) is
-
-pub halted : (old new : Parts) → ((s : State) → Stands old s → Stands new (record s { change = None })) → SweepsAlong old micro.End new
-unfolding stepped
-halted old new stands = record {
-  closes = λ is. absurd cc;
-  others = λ own plain s l answer is at sweeps. subst (λ (u : State). Stands new (record u { change = None })) (sym (swept s l (l.vetoed || l.timed_out) sweeps)) (stands s is);
-}
-
--- any other step but the end closes a gate, or isn't one of a sweep
-pub swept_only : (old : Parts) (m : Micro) → is_end m ≡ false → ((c : ClockId) → m ≡ micro.Unpower c → ⊥) → SweepsAlong old m old
-swept_only old (micro.Unpower c) other never = absurd (never c refl)
-swept_only old micro.End other never = absurd cc
-swept_only old m other never = record { closes = λ is. refl; others = λ own plain. absurd cc }
+-- any other step but a poll, a fall and one that switches a PLL off changes nothing
+pub others_stay : (old : Parts) (m : Micro) → ((y : ClockId) → m ≡ micro.Poll y → ⊥) → ((y : ClockId) → m ≡ micro.Fall y → ⊥) → ((x : ClockId) → m ≡ micro.Lower x → ⊥) → ((c : ClockId) → m ≡ micro.Unpower c → ⊥)
+    → SweepsAlong old m old
+others_stay old (micro.Poll y) polls falls lowers unpowers = absurd (polls y refl)
+others_stay old (micro.Fall y) polls falls lowers unpowers = absurd (falls y refl)
+others_stay old (micro.Lower x) polls falls lowers unpowers = absurd (lowers x refl)
+others_stay old (micro.Unpower c) polls falls lowers unpowers = absurd (unpowers c refl)
+others_stay old m polls falls lowers unpowers = λ s stands there. stands
 
 -- a step that isn't the end is told apart from it
 pub not_last : (m : Micro) → (m ≡ micro.End → ⊥) → is_end m ≡ false

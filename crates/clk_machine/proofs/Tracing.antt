@@ -15,6 +15,7 @@ use Rattle.clk_base.specs.Valid.{IsValid}
 use Rattle.clk_model.specs.Begin.{most_credits}
 use Rattle.clk_model.specs.Journal.{is_going, opening, slotless}
 use Rattle.clk_model.specs.Laws.Flight.{begins}
+use Rattle.clk_model.specs.Laws.Shadows.{as_twin}
 use Rattle.clk_model.specs.Machine.{next}
 use Rattle.clk_model.specs.State.{State, Change}
 use Rattle.clk_model.specs.Step.{taken, stepped}
@@ -22,10 +23,10 @@ use Rattle.clk_model.specs.Tier.{is_enable_tier, is_step}
 use Rattle.clk_model.proofs.AlikeLaws.{inside_change}
 use Rattle.clk_model.proofs.EndCauseLaws.{going_leaves_changes}
 use Rattle.clk_model.proofs.FlightLaws.{IsStep, step_is, course_of}
+use Rattle.clk_model.proofs.ShadowLaws.{goes_by_stays}
 use Rattle.clk_model.proofs.ShapeLaws.{settled_change}
 use Rattle.clk_model.proofs.StepLaws.{step_after}
 use Rattle.clk_model.proofs.TierLaws.{beside_change}
-use Rattle.clk_model.proofs.TwinLaws.{twins_stay}
 use Rattle.clk_machine.specs.Along.{KeepsShape}
 use Rattle.clk_machine.specs.Copied.{Copy, Copies, Follows, IsCopyOf, IsOfCall, StaysCopy, room_after}
 use Rattle.clk_machine.specs.Parts.{Parts}
@@ -48,7 +49,7 @@ copy_opening copy words defs ignore_unused credits valid few size stands = recor
   copies = record {
     twin = opening defs words ignore_unused credits;
     stands = stands;
-    is = record { bare = refl; holds = refl; spent = omega arith; steps = omega arith; same = refl };
+    is = as_twin refl (record { bare = refl; holds = refl; spent = omega arith; steps = omega arith; same = refl });
   };
 }
 
@@ -130,7 +131,7 @@ traced_beside copy e tier s t traced step = record {
   of = copy_after copy copy s t e traced.of (refl, refl) step record {
     twin = traced.of.copies.twin;
     stands = traced.of.copies.stands;
-    is = twins_stay s traced.of.copies.twin t e.driver e.event (slotless e.turn) traced.of.copies.is tier step;
+    is = goes_by_stays s traced.of.copies.twin t e.driver e.event (slotless e.turn) traced.of.copies.is tier step;
   };
   room = λ k at. traced.room k (sym (beside_change s t e.driver e.event (slotless e.turn) tier step) ∙ at);
 }

@@ -1,5 +1,5 @@
--- Twins of a state that a journal leads to go along with its events.
-use Rattle.std.proofs.Common.{◌≡◌, ℕ, ◌⊎◌, inl, inr, Bool, true, false, List, Option, Some, None, refl, sym, ap, subst, ◌∙◌, length}
+-- Twins of a state that a journal leads to, and shadows of it, go along with its events.
+use Rattle.std.proofs.Common.{◌≡◌, ℕ, ◌+◌, ◌⊎◌, inl, inr, Bool, true, false, List, Option, Some, None, refl, sym, ap, subst, ◌∙◌, length}
 use Rattle.clk_base.specs.declared.call.Micro.{Micro}
 use Rattle.clk_base.specs.declared.call.Sleeping.{Sleeping}
 use Rattle.clk_base.specs.declared.call.Sleeping.TheVariants as call
@@ -7,23 +7,23 @@ use Rattle.clk_base.specs.declared.event.Entry.{Entry}
 use Rattle.clk_base.specs.declared.event.Event.TheVariants as event
 use Rattle.clk_base.specs.declared.event.Turn.{Turn}
 use Rattle.clk_base.specs.declared.event.Turn.TheVariants as turn
-use Rattle.clk_base.specs.declared.event.Reply.TheVariants as reply
 use Rattle.clk_model.specs.Journal.{opening, replay}
 use Rattle.clk_model.specs.Laws.Flight.{Flight, IsInFlight, QuietOrInFlight, steps_of}
-use Rattle.clk_model.specs.Laws.PrepSteps.{fits_mux, is_of_sweep, SweepsOn}
-use Rattle.clk_model.specs.Laws.Twins.{IsTwin, TwinMakes, IsLeftOut, TwinSweeps, TwinSteps}
+use Rattle.clk_model.specs.Laws.PrepSteps.{fits_mux}
+use Rattle.clk_model.specs.Laws.Shadows.{IsShadow, ShadowSteps}
+use Rattle.clk_model.specs.Laws.Twins.{IsTwin, TwinMakes, IsLeftOut}
 use Rattle.clk_model.specs.Machine.{next}
-use Rattle.clk_model.specs.Prep.{is_sweep, prep}
+use Rattle.clk_model.specs.Prep.{is_sweep}
 use Rattle.clk_model.specs.Round.{wiring}
 use Rattle.clk_model.specs.State.{State, Change}
-use Rattle.clk_model.specs.Step.{is_end}
 use Rattle.clk_model.specs.Wired.{IsWired}
 use Rattle.clk_model.proofs.AlikeLaws.{inside_change}
 use Rattle.clk_model.proofs.FlightLaws.{step_is, course_of}
 use Rattle.clk_model.proofs.InFlightLaws.{quiet_or_in_flight}
 use Rattle.clk_model.proofs.LinkLaws.{runs_are_wired}
-use Rattle.clk_model.proofs.PrepRunLaws.{flight_fits, runs_sweep_by_prep}
-use Rattle.clk_model.proofs.TwinLaws.{twins_step, twins_begin, twins_sweep, twins_step_sweeps}
+use Rattle.clk_model.proofs.PrepRunLaws.{flight_fits}
+use Rattle.clk_model.proofs.ShadowLaws.{shadows_begin, shadows_step}
+use Rattle.clk_model.proofs.TwinLaws.{twins_step, twins_begin}
 use Rattle.clk_machine.specs.Sound.{IsReached}
 use Rattle.clk_machine.proofs.Legalized.{Legalized, legalized}
 use Rattle.clk_machine.proofs.Soundness.{wired_reached}
@@ -93,22 +93,6 @@ fits words s u k d m answer x is at step =
     flight_fits q s u call_.first.driver call_.what (steps_of call_.since) m answer x wired (ap (λ (v : State). v.defs) known.fly.leads ∙ now.same ∙ sym before.same) known.flight
     (subst (λ (n : ℕ). next s n (event.Step m answer) ≡ Some (u, x)) known.driver step)
 
--- a step of a sweep is one of its own, and it ends well
-record IsSweepStep (m : Micro) (x : Turn) : Type 0 where
-  pub own : is_of_sweep m ≡ true
-  pub ends : is_end m ≡ true → x ≡ turn.Done reply.Fine
-
-sweep_step : (words : ℕ) (s t u : State) (k l : Change) (d : ℕ) (m : Micro) (answer : Option Bool) (x : Turn) → IsReached words s → IsTwin t s → s.change ≡ Some k → t.change ≡ Some l
-    → is_sweep k.call ≡ true → next s d (event.Step m answer) ≡ Some (u, x) → IsSweepStep m x
-sweep_step words s t u k l d m answer x is twin at at' sweeps step =
-    let known = flown words s u k d m answer x is at step in
-    let call_ = known.fly.call_ in
-    let start : State = opening is.defs is.regs is.ignore_unused is.credits in
-    let one = subst (λ (n : ℕ). next s n (event.Step m answer) ≡ Some (u, x)) known.driver step in
-    let on = runs_sweep_by_prep is.defs is.regs is.ignore_unused is.credits known.fly.journal t u l m answer x is.valid call_ (twin.same ∙ ap prep known.fly.leads) at'
-    (ap is_sweep (sym known.call_) ∙ sweeps) (subst (λ (v : State). next v call_.first.driver (event.Step m answer) ≡ Some (u, x)) known.fly.leads one) in
-    record { own = on.step; ends = on.ends }
-
 -- ---- a twin of a reached state
 
 -- it makes each step of a call that isn't the sweep
@@ -122,22 +106,17 @@ pub twin_begins : (words : ℕ) (s t u : State) (d : ℕ) (what : Sleeping) (x :
     → TwinMakes t d (event.Begin what) u x ⊎ (IsLeftOut x × IsTwin t u)
 twin_begins words s t u d what x is twin other step = twins_begin s t u d what x (wired_of words s is) twin other step
 
--- a sweep begins over it with any script
-pub twin_sweeps : (words : ℕ) (s t u : State) (d : ℕ) (x : Turn) → IsReached words s → IsTwin t s → next s d (event.Begin call.Sweep) ≡ Some (u, x) → TwinSweeps t d u x
-twin_sweeps words s t u d x is twin step = twins_sweep s t u d x (wired_of words s is) twin step
+-- a sweep that begins makes it a shadow, with any change of a sweep
+pub twin_sweeps : (words : ℕ) (s t u : State) (l : Change) (d : ℕ) → IsReached words s → IsTwin t s → is_sweep l.call ≡ true → next s d (event.Begin call.Sweep) ≡ Some (u, turn.Going)
+    → IsShadow (record t { change = Some l; spent = t.spent + 1 }) u
+twin_sweeps words s t u l d is twin sweeps step =
+    shadows_begin is.defs is.regs is.ignore_unused is.credits is.journal t u l d is.valid (subst (λ (v : State). IsTwin t v) is.leads twin) sweeps
+    (ap (λ (v : State). next v d (event.Begin call.Sweep)) (sym is.leads) ∙ step)
 
--- and each step of a sweep is one of its own, and leaves it a twin
-pub record TwinGoes (t : State) (l : Change) (m : Micro) (answer : Option Bool) (u : State) (x : Turn) : Type 0 where
-  pub steps : TwinSteps t l m answer u
-  pub own : is_of_sweep m ≡ true
-  pub ends : is_end m ≡ true → x ≡ turn.Done reply.Fine
+-- ---- a shadow of one
 
-pub twin_goes : (words : ℕ) (s t u : State) (k l : Change) (d : ℕ) (m : Micro) (answer : Option Bool) (x : Turn) → IsReached words s → IsTwin t s → s.change ≡ Some k → t.change ≡ Some l
-    → is_sweep k.call ≡ true → next s d (event.Step m answer) ≡ Some (u, x) → TwinGoes t l m answer u x
-twin_goes words s t u k l d m answer x is twin at at' sweeps step =
-    let one = sweep_step words s t u k l d m answer x is twin at at' sweeps step in
-    record {
-      steps = twins_step_sweeps s t u k l d m answer x (wired_of words s is) twin at at' sweeps one.own step;
-      own = one.own;
-      ends = one.ends;
-    }
+-- each step of the sweep leaves one, or ends it
+pub shadow_goes : (words : ℕ) (s t u : State) (d : ℕ) (m : Micro) (answer : Option Bool) (x : Turn) → IsReached words s → IsShadow t s → next s d (event.Step m answer) ≡ Some (u, x) → ShadowSteps t m u x
+shadow_goes words s t u d m answer x is shadow step =
+    shadows_step is.defs is.regs is.ignore_unused is.credits is.journal t u d m answer x is.valid (subst (λ (v : State). IsShadow t v) is.leads shadow)
+    (ap (λ (v : State). next v d (event.Step m answer)) (sym is.leads) ∙ step)

@@ -30,7 +30,7 @@ use Rattle.clk_model.proofs.PathLaws.{path_agree}
 use Rattle.clk_model.proofs.ProbeGoLaws.{Resting}
 use Rattle.clk_model.proofs.RunsFedLaws as fed
 use Rattle.clk_model.proofs.SafeRunLaws as runs
-use Rattle.clk_model.proofs.Scenes.{scene, IsHeldToMove, GoesWell, InCall, calm, raising}
+use Rattle.clk_model.proofs.Scenes.{scene, IsHeldToMove, GoesWell, InCall, calm, covered, raising}
 use Rattle.clk_model.proofs.Scenes as scenes
 use Rattle.clk_model.proofs.WholePathLaws.{same_or_not, linked_same, linked_other}
 use Rattle.clk_model.proofs.SceneStepLaws.{settled_there}
@@ -80,25 +80,33 @@ record Links (s : State) (late : Option ℕ) (c p : ClockId) : Type 0 where
   possible : is_in p.0 (parents_of s.defs c.0) ≡ true
   held : IsHeldToMove s.defs (scene late s) c.0 p.0
 
-links_well_in : (s : State) (what : _) (timed : Bool) (late : Option ℕ) (c p : ClockId) (ms left : List Micro) → GoesWell s.defs what timed None (scene late s) left → left ≡ micro.Relink c p ∷ ms → Links s late c p
+links_well_in : (s : State) (what : _) (timed : Bool) (late : Option ℕ) (c p : ClockId) (ms left : List Micro) → GoesWell s.defs what timed [] (scene late s) left → left ≡ micro.Relink c p ∷ ms → Links s late c p
 links_well_in s what timed late c p ms left goes at = by (first_goes s.defs what (micro.Relink c p) ms goes at) where
-  by : FirstGoes s.defs what timed None (scene late s) (micro.Relink c p) ms → Links s late c p
-  by (first_raises x is none rest cut) = absurd cc
+  by : FirstGoes s.defs what timed [] (scene late s) (micro.Relink c p) ms → Links s late c p
+  by (first_raises x is rest cut) = absurd cc
   by (first_ends is free alone prep) = absurd cc
   by (first_makes plain serves grows stays rest) = record { sound = goes_sound s.defs what goes; possible = serves.0; held = serves.1 }
 
-never_raising : (s : State) (what : _) (timed : Bool) (x : ℕ) (late : Option ℕ) (c p : ClockId) (ms left : List Micro) → GoesWell s.defs what timed (Some x) (scene late s) left → left ≡ micro.Relink c p ∷ ms → Links s late c p
-never_raising s what timed x late c p ms left goes at = by (first_goes s.defs what (micro.Relink c p) ms goes at) where
-  by : FirstGoes s.defs what timed (Some x) (scene late s) (micro.Relink c p) ms → Links s late c p
-  by (first_raises y is none rest cut) = absurd cc
+-- no new link comes while a raise isn't held for yet
+never_covered : (s : State) (what : _) (timed : Bool) (x : ℕ) (xs : List ℕ) (late : Option ℕ) (c p : ClockId) (ms left : List Micro) → GoesWell s.defs what timed (x ∷ xs) (scene late s) left
+    → left ≡ micro.Relink c p ∷ ms → Links s late c p
+never_covered s what timed x xs late c p ms left goes at = by (first_goes s.defs what (micro.Relink c p) ms goes at) where
+  by : FirstGoes s.defs what timed (x ∷ xs) (scene late s) (micro.Relink c p) ms → Links s late c p
+  by (first_raises y is rest cut) = absurd cc
   by (first_ends is free alone prep) = absurd cc
   by (first_makes plain serves grows stays rest) = absurd serves
+
+links_over : (s : State) (what : _) (timed : Bool) (cover : List ℕ) (late : Option ℕ) (c p : ClockId) (ms left : List Micro) → GoesWell s.defs what timed cover (scene late s) left
+    → left ≡ micro.Relink c p ∷ ms → Links s late c p
+links_over s what timed [] late c p ms left goes at = links_well_in s what timed late c p ms left goes at
+links_over s what timed (x ∷ xs) late c p ms left goes at = never_covered s what timed x xs late c p ms left goes at
 
 links_in : (s : State) (k : Change) (c p : ClockId) (ms : List Micro) → (is : InCall s k) → k.left ≡ micro.Relink c p ∷ ms → Links s is.late c p
 links_in s k c p ms is at = by is.stands where
   by : scenes.Stands s k is.late → Links s is.late c p
-  by (calm rest front still idle goes) = links_well_in s k.call k.timed_out is.late c p ms k.left goes at
-  by (raising x well front goes cut) = never_raising s k.call k.timed_out x is.late c p ms k.left goes at
+  by (calm rest front still idle goes) = links_over s k.call k.timed_out [] is.late c p ms k.left goes at
+  by (covered xs front well all goes) = links_over s k.call k.timed_out xs is.late c p ms k.left goes at
+  by (raising done x well all front goes cut) = links_over s k.call k.timed_out (done ++ x ∷ []) is.late c p ms k.left goes at
 
 -- the same scene has such a link too
 links_too : (s t : State) (late : Option ℕ) (c p : ClockId) → t.defs ≡ s.defs → scene late t ≡ scene late s → Links s late c p → Links t late c p

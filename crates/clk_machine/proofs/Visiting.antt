@@ -29,7 +29,7 @@ use Rattle.clk_flight.proofs.KeptLaws.{going_step}
 use Rattle.clk_tree.specs.TreeState.{TreeState, IsTree}
 use Rattle.rate_planner.specs.Kept.{wired}
 use Rattle.core_parts.specs.Window.{Shown, AreTold}
-use Rattle.core_parts.specs.declared.course.Notified.{Notified}
+use Rattle.change_walk.specs.declared.changes.Changed.{Changed}
 use Rattle.core_parts.specs.declared.posting.Posting.{Posting}
 use Rattle.core_parts.specs.InFlight.{changes_rate, is_front, IsUnderWay, can_link, cuts_front}
 use Rattle.core_parts.specs.Course.{CourseState, set_along, notifiers_at, begins_with, behind_first, behind_visit, tells_all, PostsFit, TellsAlong, GoesAlong}
@@ -54,7 +54,7 @@ pub record Visited (old : Parts) (c : ClockId) (window' : Shown) (tree' : TreeSt
   pub own : own_step old.flight ≡ Some (micro.Visit c)
   pub first : ComesFirst old (micro.Visit c)
   pub size : window'.size ≡ old.window.size
-  pub words : IfSome old.window.words (λ regs. window'.words ≡ Some (set_along old.course.chain (wired old.desc.defs regs old.tree) c.0))
+  pub words : IfSome old.window.words (λ regs. window'.words ≡ Some (set_along old.flight.missed old.course.chain (wired old.desc.defs regs old.tree) c.0))
   pub told : is_some window'.words ≡ is_some old.window.words
   pub are : AreTold window'.size window'.words
   pub behind : window'.behind ≡ old.window.behind
@@ -65,7 +65,7 @@ pub record Visited (old : Parts) (c : ClockId) (window' : Shown) (tree' : TreeSt
   pub defs : tree'.defs ≡ old.tree.defs
   pub stands : IsTree tree'.defs tree'.clocks tree'.order tree'.rates
   pub none_ : notifiers_at old.chains c.0 ≡ 0 → posts' ≡ record { count = 0; before = 0; after = 0 }
-  pub some_ : nat_eq (notifiers_at old.chains c.0) 0 ≡ false → (n : Notified) → slice_get old.course.notified 0 ≡ Some n
+  pub some_ : nat_eq (notifiers_at old.chains c.0) 0 ≡ false → (n : Changed) → slice_get old.course.notified 0 ≡ Some n
       → posts' ≡ record { count = if nat_eq (slice_index tree'.rates c.0) n.before then 0 else notifiers_at old.chains c.0; before = n.before; after = n.after }
   pub few : posts'.count ≤ notifiers_at old.chains c.0
   pub flight : flight' ≡ visited old.flight c posts'.count posts'.before posts'.after
@@ -161,7 +161,7 @@ under_way-visited f there c count before after own is = record {
   still true = refl
   still false = refl
 
-tells-visited : (f : FlightState) (there : ℕ → Bool) (counts : ℕ → ℕ) (ns : List Notified) (c : ClockId) (count before after : ℕ) → own_step f ≡ Some (micro.Visit c) → IsUnderWay there f → count ≤ counts c.0
+tells-visited : (f : FlightState) (there : ℕ → Bool) (counts : ℕ → ℕ) (ns : List Changed) (c : ClockId) (count before after : ℕ) → own_step f ≡ Some (micro.Visit c) → IsUnderWay there f → count ≤ counts c.0
     → TellsAlong counts ns f → TellsAlong counts (behind_visit (counts c.0) ns) (visited f c count before after)
 tells-visited f there counts ns c count before after own is few tells = record {
   front = by (nat_eq count 0);
@@ -179,13 +179,13 @@ tells-visited f there counts ns c count before after own is few tells = record {
   by false = omega arith
 
 -- the next clock to be told is the visited one, where it has notifiers
-record IsTold (ns : List Notified) (c : ℕ) : Type 0 where
-  next : Notified
-  rest : List Notified
+record IsTold (ns : List Changed) (c : ℕ) : Type 0 where
+  next : Changed
+  rest : List Changed
   is : ns ≡ next ∷ rest
   clock : next.clock.0 ≡ c
 
-is_told : (f : FlightState) (there : ℕ → Bool) (counts : ℕ → ℕ) (ns : List Notified) (c : ClockId) → own_step f ≡ Some (micro.Visit c) → IsUnderWay there f → TellsAlong counts ns f → nat_eq (counts c.0) 0 ≡ false → IsTold ns c.0
+is_told : (f : FlightState) (there : ℕ → Bool) (counts : ℕ → ℕ) (ns : List Changed) (c : ClockId) → own_step f ≡ Some (micro.Visit c) → IsUnderWay there f → TellsAlong counts ns f → nat_eq (counts c.0) 0 ≡ false → IsTold ns c.0
 is_told f there counts ns c own is tells some = from ns refl begins where
   at : OwnVisit f there c
   at = own_visit f there c own is
@@ -195,7 +195,7 @@ is_told f there counts ns c own is tells some = from ns refl begins where
       sym (ap (λ (t : Bool). t || begins_with c.0 ns) some)
       ∙ both_left (nat_eq (counts c.0) 0 || begins_with c.0 ns) (tells_all counts at.rest (behind_visit (counts c.0) ns)) (sym (ap (λ (ms : List Micro). tells_all counts ms ns) at.left) ∙ tells.visits)
 
-  from : (xs : List Notified) → ns ≡ xs → begins_with c.0 xs ≡ true → IsTold ns c.0
+  from : (xs : List Changed) → ns ≡ xs → begins_with c.0 xs ≡ true → IsTold ns c.0
   from [] same e = absurd cc
   from (x ∷ xs) same e = record { next = x; rest = xs; is = same; clock = same_from_test x.clock.0 c.0 e }
 
@@ -228,7 +228,7 @@ whole_visited old c window' tree' posts' flight' course' now =
       notified = whole.notified;
       listed = whole.listed;
       flown = λ still. subst (λ (rs : List ClockRow). IsFlown old.desc.defs rs old.table.handles old.chains course'.notified old.spent flight') (sym now.rows)
-          (subst (λ (ns : List Notified). IsFlown old.desc.defs old.tree.clocks old.table.handles old.chains ns old.spent flight') (sym now.notified)
+          (subst (λ (ns : List Changed). IsFlown old.desc.defs old.tree.clocks old.table.handles old.chains ns old.spent flight') (sym now.notified)
           (subst (λ (f : FlightState). IsFlown old.desc.defs old.tree.clocks old.table.handles old.chains (behind_visit (notifiers_at old.chains c.0) old.course.notified) old.spent f) (sym now.flight) (record {
             plls_ = flown.plls_;
             way = under_way-visited old.flight (registered old.tree.clocks) c posts'.count posts'.before posts'.after now.own flown.way;
@@ -287,12 +287,12 @@ visit_flies old c window' tree' posts' flight' course' now s k stands at goes is
       ∙ ap (λ (n : ℕ). if nat_eq (rate s.defs (set_in_chain s k c.0) s.clocks c.0) (slice_index k.before c.0) then 0 else n) (sym (many ∙ zero_))) refl refl)
   by false some =
       let next = is_told old.flight (registered old.tree.clocks) (notifiers_at old.chains) old.course.notified c now.own flown.way (flown.tells own.changes) some in
-      let rates = subst (λ (ns : List Notified). AllByRecursion (λ n. (n.before ≡ slice_index k.before n.clock.0) × (n.after ≡ slice_index k.outcome n.clock.0)) ns) next.is goes.rates in
+      let rates = subst (λ (ns : List Changed). AllByRecursion (λ n. (n.before ≡ slice_index k.before n.clock.0) × (n.after ≡ slice_index k.outcome n.clock.0)) ns) next.is goes.rates in
       let was : next.next.before ≡ slice_index k.before c.0 = rates.0.0 ∙ ap (slice_index k.before) next.clock in
       let will : next.next.after ≡ slice_index k.outcome c.0 = rates.0.1 ∙ ap (slice_index k.outcome) next.clock in
       let count : ℕ = if nat_eq (slice_index tree'.rates c.0) next.next.before then 0 else notifiers_at old.chains c.0 in
       let is_ : flight' ≡ visited old.flight c count next.next.before next.next.after =
-      now.flight ∙ ap (λ (p : Posting). visited old.flight c p.count p.before p.after) (now.some_ some next.next (ap (λ (ns : List Notified). slice_get ns 0) next.is)) in
+      now.flight ∙ ap (λ (p : Posting). visited old.flight c p.count p.before p.after) (now.some_ some next.next (ap (λ (ns : List Changed). slice_get ns 0) next.is)) in
       subst (λ (f : FlightState). Flies s.notifiers f (visit s (taken k) c.0).change) (sym is_)
       (told count next.next.before next.next.after
       (ap (λ (x : ℕ). if nat_eq x next.next.before then 0 else notifiers_at old.chains c.0) fresh
@@ -309,12 +309,13 @@ visit_leads old c window' tree' posts' flight' course' now s stands sound =
     let own = own_visit old.flight (registered old.tree.clocks) c now.own flown.way in
     let goes : GoesAlong old.course k = has.along (ap changes_rate has.is.call ∙ own.changes) in
     let regs' : Registers = set_in_chain s k c.0 in
-    let same : set_along old.course.chain (wired old.desc.defs s.regs old.tree) c.0 ≡ regs' =
-    ap (λ (ks : List ChainStep). set_along ks (wired old.desc.defs s.regs old.tree) c.0) (sym goes.chain)
-    ∙ ap (λ (ds : Description). set_along k.chain (record { defs = ds; regs = s.regs; clocks = old.tree.clocks }) c.0) (sym stands.defs)
-    ∙ ap (λ (rs : List ClockRow). set_along k.chain (record { defs = s.defs; regs = s.regs; clocks = rs }) c.0) (sym stands.clocks) in
+    let same : set_along old.flight.missed old.course.chain (wired old.desc.defs s.regs old.tree) c.0 ≡ regs' =
+    ap (λ (o : Option ℕ). set_along o old.course.chain (wired old.desc.defs s.regs old.tree) c.0) (sym has.is.missed)
+    ∙ ap (λ (ks : List ChainStep). set_along k.missed ks (wired old.desc.defs s.regs old.tree) c.0) (sym goes.chain)
+    ∙ ap (λ (ds : Description). set_along k.missed k.chain (record { defs = ds; regs = s.regs; clocks = old.tree.clocks }) c.0) (sym stands.defs)
+    ∙ ap (λ (rs : List ClockRow). set_along k.missed k.chain (record { defs = s.defs; regs = s.regs; clocks = rs }) c.0) (sym stands.clocks) in
     let words : window'.words ≡ Some regs' =
-    subst (λ (o : Option (List ℕ)). IfSome o (λ regs. window'.words ≡ Some (set_along old.course.chain (wired old.desc.defs regs old.tree) c.0))) stands.regs now.words
+    subst (λ (o : Option (List ℕ)). IfSome o (λ regs. window'.words ≡ Some (set_along old.flight.missed old.course.chain (wired old.desc.defs regs old.tree) c.0))) stands.regs now.words
     ∙ ap (λ (ws : Registers). Some ws) same in
     let there : registered tree'.clocks c.0 ≡ true = ap (λ (rs : List ClockRow). registered rs c.0) now.rows ∙ own.there_ in
     let fresh : slice_index tree'.rates c.0 ≡ rate s.defs regs' s.clocks c.0 =
@@ -336,7 +337,7 @@ visit_leads old c window' tree' posts' flight' course' now s stands sound =
         change = visit_flies old c window' tree' posts' flight' course' now s k stands has.change goes has.is fresh;
         along = λ changes. record {
           chain = goes.chain ∙ sym now.chain;
-          rates = subst (λ (ns : List Notified). AllByRecursion (λ n. (n.before ≡ slice_index k.before n.clock.0) × (n.after ≡ slice_index k.outcome n.clock.0)) ns) (sym now.notified)
+          rates = subst (λ (ns : List Changed). AllByRecursion (λ n. (n.before ≡ slice_index k.before n.clock.0) × (n.after ≡ slice_index k.outcome n.clock.0)) ns) (sym now.notified)
               (rest_rates k (nat_eq (notifiers_at old.chains c.0) 0) old.course.notified goes.rates);
         };
         credits = stands.credits;
@@ -345,7 +346,7 @@ visit_leads old c window' tree' posts' flight' course' now s stands sound =
         ignore_unused = stands.ignore_unused;
       };
     } where
-      rest_rates : (k : Change) (t : Bool) (ns : List Notified) → AllByRecursion (λ n. (n.before ≡ slice_index k.before n.clock.0) × (n.after ≡ slice_index k.outcome n.clock.0)) ns
+      rest_rates : (k : Change) (t : Bool) (ns : List Changed) → AllByRecursion (λ n. (n.before ≡ slice_index k.before n.clock.0) × (n.after ≡ slice_index k.outcome n.clock.0)) ns
           → AllByRecursion (λ n. (n.before ≡ slice_index k.before n.clock.0) × (n.after ≡ slice_index k.outcome n.clock.0)) (if t then ns else behind_first ns)
       rest_rates k true ns all = all
       rest_rates k false [] all = tt

@@ -4,7 +4,6 @@ use Rattle.std.specs.Prelude.{sum_by}
 use Rattle.std.specs.Option.{option_map}
 use Rattle.std.proofs.lemmas.List.{length-set, length-append}
 use Rattle.clk_base.specs.declared.clock.ClockId.{ClockId}
-use Rattle.clk_base.specs.Description.{Description}
 use Rattle.clk_model.specs.declared.row.HandleRow.{HandleRow}
 use Rattle.clk_model.specs.Lists.{present}
 use Rattle.clk_model.specs.State.{State, registered, handle_at}
@@ -44,7 +43,7 @@ pub record Written (old : Parts) (n : ℕ) (row new : HandleRow) (table' : Handl
   pub handles : table'.handles ≡ set old.table.handles n (Some new)
   pub clocks : table'.clocks ≡ old.table.clocks
   pub keeps : AreCounts counts'
-  pub defs : counts'.defs ≡ old.counts.defs
+  pub gated : counts'.gated ≡ old.counts.gated
   pub links : counts'.links ≡ old.counts.links
   pub enables : Moves (λ h. h.enables) old.counts.enables counts'.enables row new
   pub prepares : Moves (λ h. h.prepares) old.counts.prepares counts'.prepares row new
@@ -59,7 +58,7 @@ with_written old window' table' counts' = record old { window = window'; table =
 pub written_stands : (old : Parts) (n : ℕ) (row new : HandleRow) (table' : HandleTable) (counts' : CountState) (s : State) → Written old n row new table' counts'
     → StandsFor old.counts s → handle_at s.handles n ≡ Some row → StandsFor counts' (put_handle s n (Some new))
 written_stands old n row new table' counts' s written stands at =
-    StandsFor-put old.counts counts' s n row new stands at written.defs written.links written.enables written.prepares written.exclusives
+    StandsFor-put old.counts counts' s n row new stands at written.gated written.links written.enables written.prepares written.exclusives
 
 -- the parts stay whole
 pub whole_written : (old : Parts) (n : ℕ) (row new : HandleRow) (window' : Shown) (table' : HandleTable) (counts' : CountState) → IsWhole old → Written old n row new table' counts'
@@ -324,9 +323,9 @@ pub record Row (old : Parts) (n : ℕ) (row new : HandleRow) (table' : HandleTab
 pub row_place : (m : Parts) (n : ℕ) (row : HandleRow) → IsWhole m → handle_at m.table.handles n ≡ Some row → row.clock.0 < length m.desc.defs
 row_place m n row whole live = clock_within m.desc m.window m.tree row.clock.0 whole.tied (whole.handled n row live)
 
-place_among : (m : Parts) (c : ℕ) (own : List ℕ) → IsWhole m → c < length m.desc.defs → length own ≡ length m.counts.defs → c < length own
+place_among : (m : Parts) (c : ℕ) (own : List ℕ) → IsWhole m → c < length m.desc.defs → length own ≡ length m.counts.links → c < length own
 place_among m c own whole within size =
-    subst (λ (n : ℕ). c < n) (sym (size ∙ ap (λ (d : Description). length d) whole.counted.stands.defs)) within
+    subst (λ (n : ℕ). c < n) (sym (size ∙ whole.counted.stands.size)) within
 
 -- its enables
 pub written_enables : (old : Parts) (n value : ℕ) (row new : HandleRow) (table' : HandleTable) (counts' : CountState) → IsWhole old → Row old n row new table' → AreCounts counts'
@@ -339,7 +338,7 @@ written_enables old n value row new table' counts' whole wrote keeps is sum prep
   handles = wrote.handles;
   clocks = wrote.clocks;
   keeps = keeps;
-  defs = ap (λ (k : CountState). k.defs) is;
+  gated = ap (λ (k : CountState). k.gated) is;
   links = ap (λ (k : CountState). k.links) is;
   enables =
       subst (λ (k : CountState). Moves (λ h. h.enables) old.counts.enables k.enables row new) (sym is)
@@ -364,7 +363,7 @@ written_prepares old n value row new table' counts' whole wrote keeps is sum ena
   handles = wrote.handles;
   clocks = wrote.clocks;
   keeps = keeps;
-  defs = ap (λ (k : CountState). k.defs) is;
+  gated = ap (λ (k : CountState). k.gated) is;
   links = ap (λ (k : CountState). k.links) is;
   enables =
       subst (λ (k : CountState). Moves (λ h. h.enables) old.counts.enables k.enables row new) (sym is) (moves_none (λ h. h.enables) old.counts.enables row new wrote.clock enables);
@@ -389,7 +388,7 @@ written_exclusives old n value row new table' counts' whole wrote keeps is sum e
   handles = wrote.handles;
   clocks = wrote.clocks;
   keeps = keeps;
-  defs = ap (λ (k : CountState). k.defs) is;
+  gated = ap (λ (k : CountState). k.gated) is;
   links = ap (λ (k : CountState). k.links) is;
   enables =
       subst (λ (k : CountState). Moves (λ h. h.enables) old.counts.enables k.enables row new) (sym is) (moves_none (λ h. h.enables) old.counts.enables row new wrote.clock enables);

@@ -11,10 +11,8 @@ use Rattle.clk_base.specs.declared.event.Reply.TheVariants as reply
 use Rattle.clk_base.specs.declared.event.Turn.{Turn}
 use Rattle.clk_model.specs.Journal.{slotless}
 use Rattle.clk_model.specs.Machine.{next}
-use Rattle.clk_model.specs.Laws.PrepSteps.{closes_gate, is_of_sweep}
-use Rattle.clk_model.specs.Prep.{is_sweep}
-use Rattle.clk_model.specs.State.{State, Change}
-use Rattle.clk_model.specs.Step.{stepped}
+use Rattle.clk_model.specs.Laws.Shadows.{lowers_there, sweep_does}
+use Rattle.clk_model.specs.State.{State}
 use Rattle.clk_model.specs.Tier.{is_step}
 use Rattle.clk_machine.specs.Copied.{Copy, Copies, IsCopyOf}
 use Rattle.clk_machine.specs.Parts.{Parts}
@@ -46,22 +44,15 @@ is_still (call.GetParent h) = true
 is_still call.Sweep = true
 is_still _ = false
 
--- parts go along with a step of a sweep that is in flight in the states that they stand for: that a gate is closed changes nothing, and else
--- they come to stand for what the step leaves, whatever comes next of the sweep
-pub record SweepsAlong (old : Parts) (m : Micro) (new : Parts) : Type 0 where
-  pub closes : closes_gate m ≡ true → new ≡ old
-  pub others : is_of_sweep m ≡ true → closes_gate m ≡ false → (s : State) (l : Change) (answer : Option Bool) → Stands old s → s.change ≡ Some l → is_sweep l.call ≡ true → Stands new (stepped s l answer m).0
+-- parts go along with a step of a sweep: they come to stand for what it makes of each state that they stood for
+abbrev pub SweepsAlong : Parts → Micro → Parts → Type 0
+SweepsAlong old m new = (s : State) → Stands old s → lowers_there s.clocks m ≡ true → Stands new (sweep_does s m)
 
 -- ---- copies
 
 -- a copy goes along with an event, from each state that it is of and that takes it with this turn
 abbrev pub FollowsEvent : Copy → ℕ → Event → Turn → Copy → Type 0
 FollowsEvent old d e x new = (s t : State) → IsCopyOf old s → next s d e ≡ Some (t, slotless x) → Copies new t
-
--- whether a call adds a notifier
-abbrev pub adds_notifier : Sleeping → Bool
-adds_notifier (call.NotifierAdd h id priority policy) = true
-adds_notifier _ = false
 
 -- parts of a copy go along with an event
 abbrev pub PartsFollow : Parts → ℕ → Event → Turn → Parts → Type 0

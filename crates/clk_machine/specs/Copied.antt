@@ -1,5 +1,5 @@
 -- A copy of the prepare tier of a core, what is decided over it, and how it follows the core.
-use Rattle.std.specs.Prelude.{◌≡◌, ◌≢◌, ℕ, Bool, true, false, Option, Some, None}
+use Rattle.std.specs.Prelude.{◌≡◌, ◌≢◌, ℕ, true, false, Option, Some, None}
 use Rattle.clk_base.specs.declared.call.Sleeping.{Sleeping}
 use Rattle.clk_base.specs.declared.event.Entry.{Entry}
 use Rattle.clk_base.specs.declared.event.Errno.TheVariants as errno
@@ -15,7 +15,7 @@ use Rattle.clk_model.specs.declared.row.HandleRow.{HandleRow}
 use Rattle.clk_model.specs.Begin.{begun, starts, own_handle}
 use Rattle.clk_model.specs.Journal.{slotless}
 use Rattle.clk_model.specs.Laws.PrepBegins.{is_decided}
-use Rattle.clk_model.specs.Laws.Twins.{IsTwin}
+use Rattle.clk_model.specs.Laws.Shadows.{GoesBy}
 use Rattle.clk_model.specs.Machine.{next}
 use Rattle.clk_model.specs.Prep.{prep}
 use Rattle.clk_model.specs.Round.{wiring}
@@ -35,11 +35,12 @@ pub record Copy : Type 0 where
   pub parts : Parts
   pub room : Option (ℕ × Sleeping)
 
--- the parts of a copy stand for a twin of a state: it has the state's part of the prepare tier, and no handle of it has an enable
+-- the parts of a copy stand for a state that goes by another: no handle of it has an enable, and it has the other's part of the prepare tier,
+-- while no sweep is in flight; of a sweep it learns which PLL was powered when that is polled
 pub record Copies (copy : Copy) (s : State) : Type 0 where
   pub twin : State
   pub stands : Stands copy.parts twin
-  pub is : IsTwin twin s
+  pub is : GoesBy twin s
 
 -- a copy is of a state that a journal leads to
 pub record IsCopyOf (copy : Copy) (s : State) : Type 0 where

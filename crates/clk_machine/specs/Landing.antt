@@ -1,6 +1,12 @@
 -- What the end of a call writes.
-use Rattle.std.specs.Prelude.{◌≡◌, ℕ, true, false, Some}
+use Rattle.std.specs.Prelude.{◌≡◌, ℕ, Bool, true, false, Some, None, if◌then◌else◌}
+use Rattle.clk_base.specs.declared.call.Micro.TheVariants as micro
 use Rattle.clk_base.specs.declared.call.Sleeping.TheVariants as call
+use Rattle.clk_base.specs.declared.event.Errno.TheVariants as errno
+use Rattle.clk_base.specs.declared.event.Event.TheVariants as event
+use Rattle.clk_base.specs.declared.event.Reply.{Reply}
+use Rattle.clk_base.specs.declared.event.Reply.TheVariants as reply
+use Rattle.clk_base.specs.declared.event.Turn.TheVariants as turn
 use Rattle.clk_base.specs.declared.clock.ClockId.{ClockId}
 use Rattle.clk_base.specs.declared.handle.Handle.{Handle}
 use Rattle.clk_model.specs.declared.row.HandleRow.{HandleRow}
@@ -10,7 +16,15 @@ use Rattle.clk_machine.specs.declared.machine.landing.Landing.{Landing}
 use Rattle.clk_machine.specs.declared.machine.landing.Landing.TheVariants as landing
 use Rattle.core_parts.specs.InFlight.{is_called_off, ends_bare}
 use Rattle.clk_machine.specs.Parts.{Parts}
-use Rattle.clk_machine.specs.Stands.{Stands}
+use Rattle.clk_machine.specs.Stands.{Stands, Enters}
+
+-- the reply of a call that ends, which was vetoed or not and has timed out or not
+abbrev pub reply_of : Bool → Bool → Reply
+reply_of vetoed late = if vetoed then reply.Refused errno.EBUSY else if late then reply.Refused errno.ETIMEDOUT else reply.Fine
+
+-- the call in flight ends with that reply
+abbrev pub Lands : Parts → Parts → Type 0
+Lands old new = Enters old old.flight.driver (event.Step micro.End None) (turn.Done (reply_of old.flight.vetoed old.flight.timed_out)) new
 
 -- a call that ends well makes this rate the last request of a registered clock, and writes nothing else
 pub record Requests (m : Parts) (c : ClockId) (x : ℕ) : Type 0 where

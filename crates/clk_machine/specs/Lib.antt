@@ -5,6 +5,7 @@ pub mod Posted
 pub mod Starting
 pub mod Sweeping
 pub mod Probing
+pub mod ChangeCalls
 pub mod Changing
 pub mod Landing
 pub mod Holding

@@ -18,13 +18,13 @@ use Rattle.counts_core.specs.Standing.{StandsFor}
 use Rattle.notifiers.specs.declared.notifier.Notifier.{Notifier}
 use Rattle.rate_requests.specs.Handles.{HandleTable, with_range_at}
 use Rattle.core_parts.specs.Window.{Shown}
-use Rattle.core_parts.specs.declared.course.Notified.{Notified}
+use Rattle.change_walk.specs.declared.changes.Changed.{Changed}
 use Rattle.std.specs.List.{list_all}
 use Rattle.core_parts.specs.Holds.{listed, AreHeld}
 use Rattle.core_parts.specs.InFlight.{can_link, changes_rate, links_clocks, probes, handle_to_end, IsUnderWay}
 use Rattle.core_parts.specs.Course.{CourseState, notifiers_at, TellsAlong}
 use Rattle.core_parts.specs.Listed.{rows_from, AreListed}
-use Rattle.core_parts.specs.Tied.{AreTied}
+use Rattle.core_parts.specs.Tied.{AreTied, desc_of}
 
 -- a core without its journal, as what contracts see of each part
 pub record Parts : Type 0 where
@@ -44,10 +44,10 @@ pub record Parts : Type 0 where
   pub enable_holds : List ℕ
   pub steps : ℕ
 
--- these parts
-abbrev pub parts_of : Checked → Shown → TreeState → HandleTable → CountState → List (List Notifier) → ℕ → ℕ → Bool → FlightState → CourseState → List ℕ → List ℕ → ℕ → Parts
-parts_of desc window tree table counts chains credits spent ignore_unused flight course prepare_holds enable_holds steps = record {
-  desc = desc;
+-- these parts, with the description that the tree has
+abbrev pub parts_of : Shown → TreeState → HandleTable → CountState → List (List Notifier) → ℕ → ℕ → Bool → FlightState → CourseState → List ℕ → List ℕ → ℕ → Parts
+parts_of window tree table counts chains credits spent ignore_unused flight course prepare_holds enable_holds steps = record {
+  desc = desc_of tree;
   window = window;
   tree = tree;
   table = table;
@@ -107,7 +107,7 @@ IsOwnCall handles driver what = IfSome (handle_to_end what) (λ h. is_some (own_
 
 -- what is kept of a change in flight: what is left of it to do, its call's own handle or clock, that what it may come to hold was paid for, of a change of rate
 -- or parent the clocks that are still to be told, and that its links and registration can be made
-pub record IsFlown (defs : Description) (clocks : List ClockRow) (handles : List (Option HandleRow)) (chains : List (List Notifier)) (notified : List Notified) (spent : ℕ) (f : FlightState) : Type 0 where
+pub record IsFlown (defs : Description) (clocks : List ClockRow) (handles : List (Option HandleRow)) (chains : List (List Notifier)) (notified : List Changed) (spent : ℕ) (f : FlightState) : Type 0 where
   pub plls_ : f.plls ≡ plls defs
   pub way : IsUnderWay (registered clocks) f
   pub own : IsOwnCall handles f.driver f.call

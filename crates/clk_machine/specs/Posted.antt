@@ -3,7 +3,7 @@ use Rattle.std.specs.Prelude.{◌≡◌, ℕ, ◌≤◌, ◌==◌, false, Some, 
 use Rattle.clk_base.specs.declared.clock.ClockId.{ClockId}
 use Rattle.clk_flight.specs.Flights.{FlightState}
 use Rattle.clk_flight.specs.Moves.{visited}
-use Rattle.core_parts.specs.declared.course.Notified.{Notified}
+use Rattle.change_walk.specs.declared.changes.Changed.{Changed}
 use Rattle.core_parts.specs.declared.posting.Posting.{Posting}
 use Rattle.core_parts.specs.Course.{CourseState}
 
@@ -11,6 +11,6 @@ use Rattle.core_parts.specs.Course.{CourseState}
 pub record IsPosted (course : CourseState) (c : ClockId) (count rate : ℕ) (f g : FlightState) : Type 0 where
   pub posts : Posting
   pub none_ : count ≡ 0 → posts ≡ record { count = 0; before = 0; after = 0 }
-  pub some_ : (count == 0) ≡ false → (n : Notified) → slice_get course.notified 0 ≡ Some n → posts ≡ record { count = if rate == n.before then 0 else count; before = n.before; after = n.after }
+  pub some_ : (count == 0) ≡ false → (n : Changed) → slice_get course.notified 0 ≡ Some n → posts ≡ record { count = if rate == n.before then 0 else count; before = n.before; after = n.after }
   pub few : posts.count ≤ count
   pub flight : g ≡ visited f c posts.count posts.before posts.after

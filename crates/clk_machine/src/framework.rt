@@ -1,11 +1,11 @@
 //! The core: the machine with its journal.
 
-ghost use Rattle.std.specs.Prelude.{◌≡◌, ℕ, ◌+◌, ◌<◌, ◌≤◌, true, false, None, [], ◌∷◌, ◌++◌, length, take, drop, is_some, IfSome, IfOk, IsOk, OnErr};
+ghost use Rattle.std.specs.Prelude.{◌≡◌, ℕ, ◌+◌, ◌<◌, ◌≤◌, true, false, None, [], ◌∷◌};
+ghost use Rattle.std.specs.Prelude.{◌++◌, length, take, drop, is_some, IfSome, IfOk, IsOk, OnErr};
 ghost use Rattle.std.specs.Option.{option_map};
 ghost use Rattle.clk_model.specs.Journal.{opening, Polled, cost};
 ghost use Rattle.clk_model.specs.Begin.{most_credits};
 ghost use Rattle.clk_base.specs.declared.event.Event.TheVariants.{Step};
-ghost use Rattle.core_parts.specs.InFlight.{is_worked_out};
 ghost use Rattle.core_parts.specs.MadeSteps.{step_of, answer_of, turn_of};
 
 mod beginning;
@@ -46,25 +46,11 @@ impl<B: Bank> Drop for Core<B> {
     }
 }
 
-// Whether the steps of a call are worked out before it begins.
-fn is_worked_out(what: &Sleeping) -> bool
-    ensures { result ≡ is_worked_out what.now }
-{
-    matches!(
-        what,
-        Sleeping::SetRate(_, _)
-            | Sleeping::SetRateExclusive(_, _)
-            | Sleeping::SetRange(_, _, _)
-            | Sleeping::SetParent(_, _)
-            | Sleeping::Probe(_)
-            | Sleeping::Sweep
-    )
-}
-
 // Appends the entry of a step that was made. Answers its turn.
 fn push_made(log: &mut Log, driver: u32, made: Made) -> Turn
     requires { 0 < log.old.room }
-    ensures entries { log.new.entries ≡ log.old.entries ++ record { driver = driver; event = Step (step_of made) (answer_of made); turn = turn_of made } ∷ [] }
+    ensures entries { log.new.entries ≡ log.old.entries
+        ++ record { driver = driver; event = Step (step_of made) (answer_of made); turn = turn_of made } ∷ [] }
     ensures room { log.new.room + 1 ≡ log.old.room }
     ensures turn { result ≡ turn_of made }
 {
@@ -302,7 +288,7 @@ impl<B: Bank> Core<B> {
         self.machine.keep();
     }
 
-    // Begins a call of a driver.
+    // Begins a call of a driver, with room for the entries of the steps that it may come to.
     fn begin_so(&mut self, driver: u32, what: Sleeping) -> Result<Turn, NoMemory>
         requires credit { cost self.old.journal < self.old.start.credits }
         requires quiet { in_flight self.old.journal ≡ false }
@@ -313,46 +299,9 @@ impl<B: Bank> Core<B> {
         ensures memory { takes_memory what ≡ false → IsOk result }
         ensures needs { self.old.told ≡ true → OnErr result (NeedsMemory (now_of self.old) driver what) }
     {
-        if is_worked_out(&what) {
-            return self.begin_worked_out(driver, what);
-        }
-        self.begin_other(driver, what)
-    }
-
-    // Begins a call whose steps are worked out before, with room for their entries.
-    fn begin_worked_out(&mut self, driver: u32, what: Sleeping) -> Result<Turn, NoMemory>
-        requires credit { cost self.old.journal < self.old.start.credits }
-        requires quiet { in_flight self.old.journal ≡ false }
-        requires place { IsPlaced self.old.start.defs what }
-        requires worked_out { is_worked_out what ≡ true }
-        ensures ok { IfOk result (λ turn. Appends self.old driver (Begin what) turn self.new) }
-        ensures kind { IfOk result (λ turn. is_answer_to (Begin what) turn ≡ true) }
-        ensures err { OnErr result (self.new ≡ self.old) }
-    {
         let turn = self
             .machine
-            .begin_worked_out(&mut self.draft, &mut self.log, driver, what)?;
-        self.log.push(Entry {
-            driver,
-            event: Event::Begin(what),
-            turn,
-        });
-        Ok(turn)
-    }
-
-    // Begins another call, with room for the entries of the steps that it may come to.
-    fn begin_other(&mut self, driver: u32, what: Sleeping) -> Result<Turn, NoMemory>
-        requires credit { cost self.old.journal < self.old.start.credits }
-        requires quiet { in_flight self.old.journal ≡ false }
-        requires place { IsPlaced self.old.start.defs what }
-        requires other { is_worked_out what ≡ false }
-        ensures ok { IfOk result (λ turn. Appends self.old driver (Begin what) turn self.new) }
-        ensures kind { IfOk result (λ turn. is_answer_to (Begin what) turn ≡ true) }
-        ensures err { OnErr result (self.new ≡ self.old) }
-        ensures memory { takes_memory what ≡ false → IsOk result }
-        ensures needs { self.old.told ≡ true → OnErr result (NeedsMemory (now_of self.old) driver what) }
-    {
-        let turn = self.machine.begin(&mut self.log, driver, what)?;
+            .begin(&mut self.draft, &mut self.log, driver, what)?;
         self.log.push(Entry {
             driver,
             event: Event::Begin(what),

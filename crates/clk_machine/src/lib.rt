@@ -1,6 +1,7 @@
 //! The core of the clock framework: the state of the machine with its journal.
 #![tactic(auto)]
 
+mod change;
 mod decision;
 mod framework;
 mod laws;

@@ -38,9 +38,10 @@ mod sweeping_along;
 mod telling;
 mod visiting;
 
+use crate::change::change_of;
 use crate::log::Log;
-pub(crate) use beginning::{is_asking, is_planning};
-use clk_base::{Handle, Reply, Sleeping, Turn, ValidDesc};
+pub(crate) use beginning::is_asking;
+use clk_base::{Handle, Sleeping, Turn, ValidDesc};
 use clk_flight::Flight;
 use clk_io::NoMemory;
 use clk_model::HandleRow;
@@ -57,7 +58,6 @@ use std::marker::Model;
 /// definitions.
 #[derive(Drop)]
 pub(crate) struct Machine<B: Bank> {
-    desc: ValidDesc,
     window: Window<B>,
     tree: Tree,
     handles: Requests,
@@ -80,17 +80,17 @@ impl<B: Bank> Model for Machine<B> {
 
     ghost Value = { Parts };
 
-    ghost view = { λ m. parts_of m.desc m.window m.tree m.handles m.counts m.notifiers m.credits m.spent m.ignore_unused m.flight m.course m.prepare_holds m.enable_holds m.steps };
+    ghost view = { λ m. parts_of m.window m.tree m.handles m.counts m.notifiers m.credits m.spent m.ignore_unused m.flight m.course
+        m.prepare_holds m.enable_holds m.steps };
 
-    ghost invariant = { λ m. IsWhole (parts_of m.desc m.window m.tree m.handles m.counts m.notifiers m.credits m.spent m.ignore_unused m.flight m.course m.prepare_holds m.enable_holds m.steps) };
+    ghost invariant = { λ m. IsWhole (parts_of m.window m.tree m.handles m.counts m.notifiers m.credits m.spent m.ignore_unused m.flight
+        m.course m.prepare_holds m.enable_holds m.steps) };
 }
 
 impl<B: Bank> Machine<B> {
     ghost use Rattle.clk_base.specs.declared.event.Event.TheVariants.{Begin};
-    ghost use Rattle.clk_base.specs.declared.event.Turn.TheVariants.{Done};
-    ghost use Rattle.core_parts.specs.InFlight.{is_worked_out, may_go_on};
     ghost use Rattle.clk_machine.specs.Sound.{IsPlaced, takes_memory};
-    ghost use Rattle.clk_machine.specs.Kinds.{is_answer_to, is_reply_to};
+    ghost use Rattle.clk_machine.specs.Kinds.{is_answer_to};
     ghost use Rattle.clk_machine.specs.Memory.{NeedsMemory};
     ghost use Rattle.clk_machine.specs.Parts.{Parts, own_in, steps_left, IsWhole};
     ghost use Rattle.clk_machine.specs.Holding.{stays};
@@ -125,7 +125,6 @@ impl<B: Bank> Machine<B> {
         let flight = Flight::create(alloc);
         let course = Course::none(alloc);
         Ok(Machine {
-            desc,
             window,
             tree,
             handles: lists.0,
@@ -164,35 +163,8 @@ impl<B: Bank> Machine<B> {
         }
     }
 
-    // Answers one of the calls that never go on.
-    fn answer(&mut self, driver: u32, what: Sleeping) -> Result<Reply, NoMemory>
-        requires credit { self.old.spent < self.old.credits }
-        requires quiet { self.old.flight.going ≡ false }
-        requires place { IsPlaced self.old.desc.defs what }
-        requires at_once { may_go_on what ≡ false }
-        ensures ok { IfOk result (λ reply. Enters self.old driver (Begin what) (Done reply) self.new) }
-        ensures kind { IfOk result (λ reply. is_reply_to what reply ≡ true) }
-        ensures err { OnErr result (self.new ≡ self.old) }
-        ensures memory { takes_memory what ≡ false → IsOk result }
-    {
-        match what {
-            Sleeping::Get(found) => self.get(driver, found),
-            Sleeping::Put(handle) => Ok(self.put(driver, handle)),
-            Sleeping::GetRate(_) => Ok(self.asked(driver, what)),
-            Sleeping::RoundRate(_, _) => Ok(self.asked(driver, what)),
-            Sleeping::GetParent(_) => Ok(self.asked(driver, what)),
-            Sleeping::ExclusiveGet(handle) => Ok(self.exclusive_get(driver, handle)),
-            Sleeping::ExclusivePut(handle) => Ok(self.exclusive_put(driver, handle)),
-            Sleeping::NotifierAdd(handle, id, priority, policy) => {
-                self.notifier_add(driver, handle, id, priority, policy)
-            }
-            Sleeping::NotifierRemove(handle, id) => Ok(self.notifier_remove(driver, handle, id)),
-            _ => unreachable!(),
-        }
-    }
-
-    /// Begins a call whose steps are worked out before, with room in the log for their entries.
-    pub(crate) fn begin_worked_out(
+    /// Begins a call, with room in the log for the entries of its steps.
+    pub(crate) fn begin(
         &mut self,
         draft: &mut Draft,
         log: &mut Log,
@@ -202,33 +174,6 @@ impl<B: Bank> Machine<B> {
         requires credit { self.old.spent < self.old.credits }
         requires quiet { self.old.flight.going ≡ false }
         requires place { IsPlaced self.old.desc.defs what }
-        requires worked_out { is_worked_out what ≡ true }
-        requires paid { self.old.credits ≤ self.old.spent + log.old.room }
-        ensures ok { IfOk result (λ turn. Enters self.old driver (Begin what) turn self.new) }
-        ensures kind { IfOk result (λ turn. is_answer_to (Begin what) turn ≡ true) }
-        ensures room { IfOk result (λ turn. is_going turn ≡ true → self.old.credits + steps_left self.new ≤ self.old.spent + log.new.room) }
-        ensures entries { log.new.entries ≡ log.old.entries }
-        ensures kept { log.old.room ≤ log.new.room }
-        ensures err { OnErr result (self.new ≡ self.old) }
-    {
-        match what {
-            Sleeping::Sweep => self.begin_sweep(log, driver),
-            Sleeping::Probe(clock) => self.begin_probe(log, driver, clock),
-            _ => self.begin_change(draft, log, driver, what),
-        }
-    }
-
-    /// Begins another call, with room in the log for the entries of its steps.
-    pub(crate) fn begin(
-        &mut self,
-        log: &mut Log,
-        driver: u32,
-        what: Sleeping,
-    ) -> Result<Turn, NoMemory>
-        requires credit { self.old.spent < self.old.credits }
-        requires quiet { self.old.flight.going ≡ false }
-        requires place { IsPlaced self.old.desc.defs what }
-        requires other { is_worked_out what ≡ false }
         requires paid { self.old.credits ≤ self.old.spent + log.old.room }
         ensures ok { IfOk result (λ turn. Enters self.old driver (Begin what) turn self.new) }
         ensures kind { IfOk result (λ turn. is_answer_to (Begin what) turn ≡ true) }
@@ -239,10 +184,26 @@ impl<B: Bank> Machine<B> {
         ensures memory { takes_memory what ≡ false → IsOk result }
         ensures needs { OnErr result ((s : State) → Stands self.old s → NeedsMemory s driver what) }
     {
+        if let Some(change) = change_of(what) {
+            return self.begin_change(draft, log, driver, change);
+        }
         match what {
+            Sleeping::Sweep => self.begin_sweep(log, driver),
+            Sleeping::Probe(clock) => self.begin_probe(log, driver, clock),
             Sleeping::Prepare(handle) => self.begin_prepare(log, driver, handle),
             Sleeping::Unprepare(handle) => self.begin_unprepare(log, driver, handle),
-            _ => Ok(Turn::Done(self.answer(driver, what)?)),
+            Sleeping::Get(found) => Ok(Turn::Done(self.get(driver, found)?)),
+            Sleeping::Put(handle) => Ok(Turn::Done(self.put(driver, handle))),
+            Sleeping::ExclusiveGet(handle) => Ok(Turn::Done(self.exclusive_get(driver, handle))),
+            Sleeping::ExclusivePut(handle) => Ok(Turn::Done(self.exclusive_put(driver, handle))),
+            Sleeping::NotifierAdd(handle, id, priority, policy) => {
+                let reply = self.notifier_add(driver, handle, id, priority, policy)?;
+                Ok(Turn::Done(reply))
+            }
+            Sleeping::NotifierRemove(handle, id) => {
+                Ok(Turn::Done(self.notifier_remove(driver, handle, id)))
+            }
+            _ => Ok(Turn::Done(self.asked(driver, what))),
         }
     }
 }

@@ -18,8 +18,9 @@ use self::ending::end_with;
 use self::following::go_on;
 use self::ready::{Ready, make_decided, make_ready};
 use self::words::Words;
+use crate::change::change_of;
 use crate::decision::Decision;
-use crate::machine::{Machine, is_asking, is_planning};
+use crate::machine::{Machine, is_asking};
 use clk_base::{Entry, Pause, Sleeping, Turn};
 use clk_io::NoMemory;
 use rate_planner::Pausing;
@@ -90,10 +91,10 @@ impl Prep {
                 .asked_reply(&Pausing { rt, pause }, driver, *what);
             return Ok(Decision::Reply(reply));
         }
-        if is_planning(what) {
-            return self.machine.planned(&Pausing { rt, pause }, driver, *what);
+        match change_of(*what) {
+            Some(change) => self.machine.planned(&Pausing { rt, pause }, driver, change),
+            None => Ok(Decision::Inside),
         }
-        Ok(Decision::Inside)
     }
 
     /// Makes what a call goes on with in the copy, before it begins: of a call that plans it is made from

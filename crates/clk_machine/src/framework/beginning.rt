@@ -6,8 +6,8 @@ ghost use Rattle.clk_base.specs.declared.event.Turn.TheVariants.{Done};
 ghost use Rattle.clk_model.specs.Journal.{cost, slotless};
 ghost use Rattle.clk_model.specs.Laws.CallCauses.{CallTurns};
 ghost use Rattle.clk_model.specs.Laws.Causes.{LeavesRefused};
-ghost use Rattle.clk_model.specs.Laws.PlansRead.{plans};
 ghost use Rattle.clk_model.specs.Laws.PrepBegins.{is_decided};
+ghost use Rattle.clk_machine.specs.ChangeCalls.{call_of};
 ghost use Rattle.clk_machine.specs.Copied.{IsDecided};
 ghost use Rattle.clk_machine.specs.declared.decision.Decision.TheVariants as decided;
 ghost use Rattle.clk_machine.specs.Kinds.{gets_handle, gets_parent, gets_rate, gives_up, is_answer_to, is_reply_to};
@@ -17,7 +17,8 @@ ghost use Rattle.clk_machine.specs.Sound.{IsPlaced, takes_memory};
 ghost use Rattle.clk_machine.specs.Weighed.{GoesOnWithin};
 
 use super::Core;
-use crate::machine::{is_asking, is_planning};
+use crate::change::{ChangeCall, change_of};
+use crate::machine::is_asking;
 use change_walk::StepList;
 use clk_base::{Entry, Event, Reply, Sleeping, Turn};
 use clk_io::NoMemory;
@@ -28,10 +29,7 @@ use reg_bank::Bank;
 fn is_decided(what: &Sleeping) -> bool
     ensures { result ≡ is_decided what.now }
 {
-    if is_asking(what) {
-        return true;
-    }
-    is_planning(what)
+    is_asking(what) || change_of(*what).is_some()
 }
 
 // Whether a call gives up a prepare or an exclusive hold.
@@ -155,10 +153,10 @@ impl<B: Bank> Core<B> {
         ensures memory { takes_memory what.now ≡ false → IsOk result }
         ensures needs { self.old.told ≡ true → OnErr result (NeedsMemory (now_of self.old) driver what.now) }
     {
-        if !is_planning(what) {
+        let Some(change) = change_of(*what) else {
             return self.begin(driver, what);
-        }
-        let turn = self.begin_planned(driver, *what, plan, steps)?;
+        };
+        let turn = self.begin_planned(driver, change, plan, steps)?;
         self.weigh();
         Ok(turn)
     }
@@ -168,26 +166,25 @@ impl<B: Bank> Core<B> {
     fn begin_planned(
         &mut self,
         driver: u32,
-        what: Sleeping,
+        change: ChangeCall,
         plan: Plan,
         _steps: StepList,
     ) -> Result<Turn, NoMemory>
         requires credit { cost self.old.journal < self.old.start.credits }
         requires quiet { in_flight self.old.journal ≡ false }
-        requires place { IsPlaced self.old.start.defs what }
-        requires plans { plans what ≡ true }
-        requires decided { self.old.told ≡ true → IsDecided (now_of self.old) driver what (decided.Script plan _steps) }
-        ensures ok { IfOk result (λ turn. Appends self.old driver (Begin what) turn self.new) }
-        ensures kind { IfOk result (λ turn. is_answer_to (Begin what) turn ≡ true) }
+        requires place { IsPlaced self.old.start.defs (call_of change) }
+        requires decided { self.old.told ≡ true → IsDecided (now_of self.old) driver (call_of change) (decided.Script plan _steps) }
+        ensures ok { IfOk result (λ turn. Appends self.old driver (Begin (call_of change)) turn self.new) }
+        ensures kind { IfOk result (λ turn. is_answer_to (Begin (call_of change)) turn ≡ true) }
         ensures err { OnErr result (self.new ≡ self.old) }
     {
         self.draft.planning.plan = plan;
         let turn = self
             .machine
-            .begin_planned(&mut self.draft, &mut self.log, driver, what)?;
+            .begin_planned(&mut self.draft, &mut self.log, driver, change)?;
         self.log.push(Entry {
             driver,
-            event: Event::Begin(what),
+            event: Event::Begin(change.call()),
             turn,
         });
         Ok(turn)

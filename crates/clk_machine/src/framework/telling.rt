@@ -25,11 +25,13 @@ impl<B: Bank> Core<B> {
         ensures entries { result.now ≡ self.now.journal }
         // Where the bank tells its words, they are a legal run from the opening.
         ensures legal { self.now.told ≡ true → Legal self.now.start self.now.journal }
-        // Where the bank tells its words and its locks, each poll among them is answered by the delay of its PLL, counted from the last raise on.
+        // Where the bank tells its words and its locks, each poll among them is answered by the delay of its PLL,
+        // counted from the last raise on.
         ensures polled { self.now.told ≡ true → (delay : ℕ → ℕ) → HasDelays self.now.behind.delays delay → Polled delay self.now.journal }
         // Where the bank tells its words, after each prefix of them each active clock is fed.
         ensures fed { self.now.told ≡ true → (n : ℕ) → Fed (replay self.now.start (take n self.now.journal)) }
-        // And they keep the laws of journals: rates that are held exclusively, what each call writes and tells, and that vetoes and timeouts leave nothing.
+        // And they keep the laws of journals: rates that are held exclusively, what each call writes and tells, and
+        // that vetoes and timeouts leave nothing.
         ensures laws { self.now.told ≡ true → KeepsLaws self.now.start self.now.journal }
     {
         self.log.as_slice()

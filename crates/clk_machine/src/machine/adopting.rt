@@ -20,7 +20,7 @@ use super::sweeping::clock_at;
 use clk_base::{ClockId, Micro, depth};
 use clk_io::NoMemory;
 use core_parts::{is_among, is_held, push_adoption_by, push_registration};
-use orphans::{adoptable, link_beside, link_of};
+use orphans::{adoptable_in, link_beside, read_link};
 use reg_bank::Bank;
 
 impl<B: Bank> Machine<B> {
@@ -32,19 +32,20 @@ impl<B: Bank> Machine<B> {
         ensures there { IfOk result (λ list. list_all (registered self.now.tree.clocks) (places list.items) ≡ true) }
         ensures whole { IsWhole self.now }
     {
-        adoptable(self.alloc, &self.desc, &self.tree, self.window.bank(), new)
+        adoptable_in(self.alloc, &self.tree, self.window.bank(), new)
     }
 
     // The parent that a registered clock is given behind the registration of another.
     fn parent_beside(&self, new: ClockId, clock: ClockId) -> Option<ClockId>
         requires place { new.0 < length self.now.desc.defs }
         requires there { registered self.now.tree.clocks clock.0 ≡ true }
-        ensures told { (s : State) → Stands self.now s → option_map (λ p. p.0) result ≡ link_given (register s new.0).defs (register s new.0).regs (register s new.0).clocks clock.0 }
+        ensures told { (s : State) → Stands self.now s
+            → option_map (λ p. p.0) result ≡ link_given (register s new.0).defs (register s new.0).regs (register s new.0).clocks clock.0 }
         ensures possible { IfSome result (λ p. is_in p.0 (parents_of self.now.desc.defs clock.0) ≡ true) }
         ensures beside { IfSome result (λ p. is_beside self.now new.0 p.0 ≡ true) }
         ensures whole { IsWhole self.now }
     {
-        link_beside(&self.desc, &self.tree, self.window.bank(), new, clock)
+        link_beside(&self.tree, self.window.bank(), new, clock)
     }
 
     // Whether a clock stands above one that isn't registered yet.
@@ -54,7 +55,7 @@ impl<B: Bank> Machine<B> {
         requires there { registered self.now.tree.clocks clock.0 ≡ true }
         ensures { (s : State) → Stands self.now s → result ≡ is_in clock.0 (path_to_be s.defs s.regs s.clocks new.0) }
     {
-        match link_of(&self.desc, &self.tree, self.window.bank(), new) {
+        match read_link(&self.tree, self.window.bank(), new) {
             Some(parent) => is_among(depth(), &self.tree, parent, clock),
             None => false,
         }

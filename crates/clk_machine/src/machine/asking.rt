@@ -62,7 +62,7 @@ impl<B: Bank> Machine<B> {
             ranged: None,
             counts: &self.counts,
         };
-        let found = round_lifted(&self.desc, &self.window, &self.tree, &view, rest, row, rate);
+        let found = round_lifted(&self.window, &self.tree, &view, rest, row, rate);
         match found {
             Some(rate) => Reply::Rate(rate),
             None => Reply::Refused(Errno::EINVAL),

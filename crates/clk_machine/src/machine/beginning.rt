@@ -7,12 +7,12 @@ ghost use Rattle.clk_base.specs.declared.event.Event.TheVariants.{Begin};
 ghost use Rattle.clk_base.specs.declared.event.Reply.TheVariants.{Fine};
 ghost use Rattle.clk_base.specs.declared.event.Turn.TheVariants.{Done};
 ghost use Rattle.clk_model.specs.Journal.{is_going};
-ghost use Rattle.clk_model.specs.Laws.PlansRead.{asks, plans};
+ghost use Rattle.clk_model.specs.Laws.PlansRead.{asks};
 ghost use Rattle.clk_model.specs.Laws.PrepBegins.{is_decided};
 ghost use Rattle.clk_model.specs.Step.{sets_parent};
 ghost use Rattle.clk_model.specs.State.{registered};
-ghost use Rattle.core_parts.specs.InFlight.{changes_rate};
 ghost use Rattle.clk_machine.specs.Beginning.{BeginsAsPlanned, IsSuited, LeadsAnswered, LeadsPlanned};
+ghost use Rattle.clk_machine.specs.ChangeCalls.{call_of};
 ghost use Rattle.clk_machine.specs.Deciding.{handle_of};
 ghost use Rattle.clk_machine.specs.Kinds.{is_answer_to};
 ghost use Rattle.clk_machine.specs.Parts.{own_in, steps_left, IsWhole};
@@ -21,6 +21,7 @@ ghost use Rattle.clk_machine.specs.Readying.{CanBeginSo};
 ghost use Rattle.clk_machine.specs.Stands.{Proceeds};
 
 use super::Machine;
+use crate::change::{ChangeCall, Wanted, change_of};
 use crate::log::Log;
 use clk_base::{Errno, Reply, Sleeping, Turn};
 use clk_io::NoMemory;
@@ -38,24 +39,11 @@ pub(crate) fn is_asking(what: &Sleeping) -> bool
     )
 }
 
-// Whether a call changes a rate or a parent by a plan.
-pub(crate) fn is_planning(what: &Sleeping) -> bool
-    ensures { result ≡ plans what.now }
+// Whether a call changes a parent.
+fn is_reparenting(change: ChangeCall) -> bool
+    ensures { result ≡ sets_parent (call_of change) }
 {
-    matches!(
-        what,
-        Sleeping::SetRate(_, _)
-            | Sleeping::SetRateExclusive(_, _)
-            | Sleeping::SetRange(_, _, _)
-            | Sleeping::SetParent(_, _)
-    )
-}
-
-// Whether a call is a change of parent.
-fn is_reparenting(what: &Sleeping) -> bool
-    ensures { result ≡ sets_parent what.now }
-{
-    matches!(what, Sleeping::SetParent(_, _))
+    matches!(change.wanted, Wanted::Parent(_))
 }
 
 // Whether the clock of a rate is registered.
@@ -74,45 +62,36 @@ fn are_there(tree: &Tree, rates: &[WalkRate]) -> bool
 
 impl<B: Bank> Machine<B> {
     // Whether a call that changes a rate or a parent is on a handle of its driver.
-    fn owns(&self, driver: u32, what: Sleeping) -> bool
-        requires { changes_rate what ≡ true }
-        ensures own { result ≡ is_some (own_in self.now.table.handles driver (handle_of what)) }
+    fn owns(&self, driver: u32, change: ChangeCall) -> bool
+        ensures own { result ≡ is_some (own_in self.now.table.handles driver (handle_of (call_of change))) }
         ensures whole { IsWhole self.now }
     {
-        match what {
-            Sleeping::SetRate(handle, _) => self.own(driver, handle).is_some(),
-            Sleeping::SetRateExclusive(handle, _) => self.own(driver, handle).is_some(),
-            Sleeping::SetRange(handle, _, _) => self.own(driver, handle).is_some(),
-            Sleeping::SetParent(handle, _) => self.own(driver, handle).is_some(),
-            _ => unreachable!(),
-        }
+        self.own(driver, change.handle).is_some()
     }
 
     // Answers a call by Ok that changes a rate or a parent, if the handle is the driver's own.
-    fn answer_fine(&mut self, driver: u32, what: Sleeping)
+    fn answer_fine(&mut self, driver: u32, change: ChangeCall)
         requires credit { self.old.spent < self.old.credits }
         requires quiet { self.old.flight.going ≡ false }
-        requires changes { changes_rate what ≡ true }
-        ensures proceeds { Proceeds self.old driver (Begin what) (Done Fine) self.new }
-        ensures leads { LeadsAnswered self.old driver what Fine self.new }
+        ensures proceeds { Proceeds self.old driver (Begin (call_of change)) (Done Fine) self.new }
+        ensures leads { LeadsAnswered self.old driver (call_of change) Fine self.new }
     {
-        if !self.owns(driver, what) {
+        if !self.owns(driver, change) {
             self.spend();
             return;
         }
-        self.answer_at_once(driver, what);
+        self.answer_at_once(driver, change);
     }
 
     // Answers a call that changes a rate or a parent so.
-    fn answer_planned(&mut self, driver: u32, what: Sleeping, reply: Reply)
+    fn answer_planned(&mut self, driver: u32, change: ChangeCall, reply: Reply)
         requires credit { self.old.spent < self.old.credits }
         requires quiet { self.old.flight.going ≡ false }
-        requires changes { changes_rate what ≡ true }
-        ensures proceeds { Proceeds self.old driver (Begin what) (Done reply) self.new }
-        ensures leads { LeadsAnswered self.old driver what reply self.new }
+        ensures proceeds { Proceeds self.old driver (Begin (call_of change)) (Done reply) self.new }
+        ensures leads { LeadsAnswered self.old driver (call_of change) reply self.new }
     {
         match reply {
-            Reply::Fine => self.answer_fine(driver, what),
+            Reply::Fine => self.answer_fine(driver, change),
             _ => self.spend(),
         }
     }
@@ -125,25 +104,23 @@ impl<B: Bank> Machine<B> {
         ensures proceeds { Proceeds self.old driver (Begin what) (Done reply) self.new }
         ensures leads { LeadsAnswered self.old driver what reply self.new }
     {
-        if is_asking(&what) {
-            self.spend();
-            return;
+        match change_of(what) {
+            Some(change) => self.answer_planned(driver, change, reply),
+            None => self.spend(),
         }
-        self.answer_planned(driver, what, reply);
     }
 
     // Whether a call can go on with a plan, whatever the bank tells: its handle is the driver's own, and
     // the plan is of such a call, over registered clocks.
-    fn suits(&self, driver: u32, what: Sleeping, plan: &Plan) -> bool
-        requires { changes_rate what ≡ true }
-        ensures yes { result ≡ true → IsSuited self.now driver what plan.now }
-        ensures no { IsSuited self.now driver what plan.now → result ≡ true }
+    fn suits(&self, driver: u32, change: ChangeCall, plan: &Plan) -> bool
+        ensures yes { result ≡ true → IsSuited self.now driver (call_of change) plan.now }
+        ensures no { IsSuited self.now driver (call_of change) plan.now → result ≡ true }
         ensures whole { IsWhole self.now }
     {
-        if !self.owns(driver, what) {
+        if !self.owns(driver, change) {
             return false;
         }
-        if plan.set_parent != is_reparenting(&what) {
+        if plan.set_parent != is_reparenting(change) {
             return false;
         }
         are_there(&self.tree, plan.rates.as_slice())
@@ -155,15 +132,15 @@ impl<B: Bank> Machine<B> {
         &self,
         draft: &mut Draft,
         driver: u32,
-        what: Sleeping,
+        change: ChangeCall,
     ) -> Result<Verdict, NoMemory>
         requires credit { self.now.spent < self.now.credits }
         requires quiet { self.now.flight.going ≡ false }
-        requires changes { changes_rate what ≡ true }
-        ensures ready { IfOk result (λ verdict. BeginsAsPlanned self.now driver what draft.old.planning.plan (readied_of draft.new verdict)) }
-        ensures can { IfOk result (λ verdict. CanBeginSo self.now driver what (readied_of draft.new verdict)) }
+        ensures ready { IfOk result (λ verdict. BeginsAsPlanned self.now driver (call_of change) draft.old.planning.plan
+            (readied_of draft.new verdict)) }
+        ensures can { IfOk result (λ verdict. CanBeginSo self.now driver (call_of change) (readied_of draft.new verdict)) }
     {
-        if !self.suits(driver, what, &draft.planning.plan) {
+        if !self.suits(driver, change, &draft.planning.plan) {
             return Ok(Verdict::Refused(Errno::EINVAL));
         }
         let view = Seen {
@@ -171,7 +148,7 @@ impl<B: Bank> Machine<B> {
             ranged: None,
             counts: &self.counts,
         };
-        write_script(draft, &self.desc, &self.tree, &view, &self.notifiers)?;
+        write_script(draft, &self.tree, &view, &self.notifiers)?;
         self.tell_clocks(draft)
     }
 
@@ -182,21 +159,20 @@ impl<B: Bank> Machine<B> {
         draft: &mut Draft,
         log: &mut Log,
         driver: u32,
-        what: Sleeping,
+        change: ChangeCall,
     ) -> Result<Turn, NoMemory>
         requires credit { self.old.spent < self.old.credits }
         requires quiet { self.old.flight.going ≡ false }
-        requires changes { changes_rate what ≡ true }
         requires paid { self.old.credits ≤ self.old.spent + log.old.room }
-        ensures proceeds { IfOk result (λ turn. Proceeds self.old driver (Begin what) turn self.new) }
-        ensures kind { IfOk result (λ turn. is_answer_to (Begin what) turn ≡ true) }
-        ensures leads { IfOk result (λ turn. LeadsPlanned self.old driver what draft.old.planning.plan turn self.new) }
+        ensures proceeds { IfOk result (λ turn. Proceeds self.old driver (Begin (call_of change)) turn self.new) }
+        ensures kind { IfOk result (λ turn. is_answer_to (Begin (call_of change)) turn ≡ true) }
+        ensures leads { IfOk result (λ turn. LeadsPlanned self.old driver (call_of change) draft.old.planning.plan turn self.new) }
         ensures room { IfOk result (λ turn. is_going turn ≡ true → self.old.credits + steps_left self.new ≤ self.old.spent + log.new.room) }
         ensures entries { log.new.entries ≡ log.old.entries }
         ensures kept { log.old.room ≤ log.new.room }
         ensures err { OnErr result (self.new ≡ self.old) }
     {
-        let verdict = self.ready_planned(draft, driver, what)?;
-        self.begin_readied(draft, log, driver, what, verdict)
+        let verdict = self.ready_planned(draft, driver, change)?;
+        self.begin_readied(draft, log, driver, change, verdict)
     }
 }

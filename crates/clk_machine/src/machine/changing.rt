@@ -32,7 +32,8 @@ impl<B: Bank> Machine<B> {
         requires tells { tells_all (notifiers_at self.old.chains) start.script.items draft.old.told.items ≡ true }
         requires links { list_all (can_link self.old.desc.defs self.old.tree.clocks) start.script.items ≡ true }
         requires lone { sets_parent start.call ≡ false → start.extra ≡ 0 }
-        requires room { self.old.credits + self.old.steps + sum_by (step_weight (rows_from 0 self.old.chains) (plls self.old.desc.defs)) start.script.items + start.extra ≤ most_credits }
+        requires room { self.old.credits + self.old.steps
+            + sum_by (step_weight (rows_from 0 self.old.chains) (plls self.old.desc.defs)) start.script.items + start.extra ≤ most_credits }
         ensures ok { OnOk result (StartsChange self.old start (course_of draft.old) self.new) }
         ensures err { OnErr result (self.new ≡ self.old) }
     {

@@ -2,15 +2,15 @@
 
 ghost use Rattle.std.specs.Prelude.{◌≡◌, ◌<◌, true, false, Some, IfOk, OnOk, OnErr};
 ghost use Rattle.clk_machine.specs.Beginning.{AllGoOn};
+ghost use Rattle.clk_machine.specs.ChangeCalls.{call_of};
 ghost use Rattle.clk_machine.specs.Changing.{course_of};
 ghost use Rattle.clk_machine.specs.ChangingAlong.{Changes, SetsAlong, range_of, set_along};
 ghost use Rattle.clk_machine.specs.Parts.{IsOwnCall, IsWhole};
 ghost use Rattle.clk_machine.specs.Readied.{scripted_of};
 ghost use Rattle.clk_machine.specs.SettingOut.{NeverGoes};
-ghost use Rattle.core_parts.specs.InFlight.{changes_rate};
 
 use super::Machine;
-use clk_base::Sleeping;
+use crate::change::{ChangeCall, Wanted};
 use clk_flight::{Flight, Start};
 use clk_io::NoMemory;
 use clk_tree::{Plan, PlannedChain, WalkRates};
@@ -34,13 +34,13 @@ fn copy_of(alloc: Global, plan: &Plan) -> Result<Plan, NoMemory>
 
 impl<B: Bank> Machine<B> {
     // The range in Hz that a handle has before a call that sets one.
-    fn range_of(&self, driver: u32, what: Sleeping) -> Option<(u64, u64)>
-        requires { IsOwnCall self.now.table.handles driver what }
-        ensures { result ≡ range_of self.now driver what }
+    fn range_of(&self, driver: u32, change: ChangeCall) -> Option<(u64, u64)>
+        requires { IsOwnCall self.now.table.handles driver (call_of change) }
+        ensures { result ≡ range_of self.now driver (call_of change) }
     {
-        match what {
-            Sleeping::SetRange(handle, _, _) => {
-                let row = self.known(driver, handle);
+        match change.wanted {
+            Wanted::Range(_, _) => {
+                let row = self.known(driver, change.handle);
                 Some((row.min, row.max))
             }
             _ => None,
@@ -53,19 +53,19 @@ impl<B: Bank> Machine<B> {
         flight: &mut Flight,
         draft: &mut Draft,
         driver: u32,
-        what: Sleeping,
+        change: ChangeCall,
     ) -> Result<(), NoMemory>
-        requires { IsOwnCall self.now.table.handles driver what }
-        ensures ok { OnOk result (SetsAlong self.now driver what (scripted_of draft.old) flight.new) }
+        requires { IsOwnCall self.now.table.handles driver (call_of change) }
+        ensures ok { OnOk result (SetsAlong self.now driver (call_of change) (scripted_of draft.old) flight.new) }
         ensures course { course_of draft.new ≡ course_of draft.old }
         ensures err { OnErr result (flight.new ≡ flight.old) }
         ensures whole { IsWhole self.now }
     {
         let start = Start {
             driver,
-            call: what,
+            call: change.call(),
             script: draft.script.take_steps(self.alloc),
-            range: self.range_of(driver, what),
+            range: self.range_of(driver, change),
             extra: draft.script.extra() as usize,
             vetoed: draft.script.vetoed(),
         };
@@ -80,23 +80,22 @@ impl<B: Bank> Machine<B> {
         flight: &mut Flight,
         draft: &mut Draft,
         driver: u32,
-        what: Sleeping,
+        change: ChangeCall,
     ) -> Result<(), NoMemory>
         requires machine { self.now.flight.going ≡ false }
         requires quiet { flight.old.going ≡ false }
-        requires changes { changes_rate what ≡ true }
-        ensures ready { OnOk result (flight.new.going ≡ true → Changes self.now driver what flight.new (course_of draft.new)) }
-        ensures never { OnOk result (flight.new.going ≡ false → NeverGoes self.now driver what) }
+        ensures ready { OnOk result (flight.new.going ≡ true → Changes self.now driver (call_of change) flight.new (course_of draft.new)) }
+        ensures never { OnOk result (flight.new.going ≡ false → NeverGoes self.now driver (call_of change)) }
         ensures err { OnErr result (flight.new ≡ flight.old) }
     {
         if self.credits_left() == 0 {
             return Ok(());
         }
-        let verdict = self.ready(draft, driver, what)?;
+        let verdict = self.ready(draft, driver, change)?;
         match verdict {
             Verdict::Refused(_) => Ok(()),
             Verdict::AtOnce => Ok(()),
-            Verdict::Change => self.fly_along(flight, draft, driver, what),
+            Verdict::Change => self.fly_along(flight, draft, driver, change),
         }
     }
 
@@ -107,26 +106,25 @@ impl<B: Bank> Machine<B> {
         flight: &mut Flight,
         draft: &mut Draft,
         driver: u32,
-        what: Sleeping,
+        change: ChangeCall,
         plan: &Plan,
     ) -> Result<(), NoMemory>
         requires machine { self.now.flight.going ≡ false }
         requires quiet { flight.old.going ≡ false }
-        requires changes { changes_rate what ≡ true }
-        requires decided { AllGoOn self.now driver what plan.now }
-        ensures ready { OnOk result (flight.new.going ≡ true → Changes self.now driver what flight.new (course_of draft.new)) }
-        ensures never { OnOk result (flight.new.going ≡ false → NeverGoes self.now driver what) }
+        requires decided { AllGoOn self.now driver (call_of change) plan.now }
+        ensures ready { OnOk result (flight.new.going ≡ true → Changes self.now driver (call_of change) flight.new (course_of draft.new)) }
+        ensures never { OnOk result (flight.new.going ≡ false → NeverGoes self.now driver (call_of change)) }
         ensures err { OnErr result (flight.new ≡ flight.old) }
     {
         if self.credits_left() == 0 {
             return Ok(());
         }
         draft.planning.plan = copy_of(self.alloc, plan)?;
-        let verdict = self.ready_planned(draft, driver, what)?;
+        let verdict = self.ready_planned(draft, driver, change)?;
         match verdict {
             Verdict::Refused(_) => Ok(()),
             Verdict::AtOnce => Ok(()),
-            Verdict::Change => self.fly_along(flight, draft, driver, what),
+            Verdict::Change => self.fly_along(flight, draft, driver, change),
         }
     }
 

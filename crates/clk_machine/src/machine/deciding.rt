@@ -3,16 +3,17 @@
 
 ghost use Rattle.std.specs.Prelude.{◌≡◌, true, false, max, min, IfOk};
 ghost use Rattle.clk_base.specs.declared.call.Sleeping.TheVariants.{SetRate, SetRateExclusive, SetRange};
-ghost use Rattle.clk_model.specs.Laws.PlansRead.{plans};
 ghost use Rattle.core_parts.specs.Decisions.{decision_of};
+ghost use Rattle.clk_machine.specs.ChangeCalls.{call_of};
 ghost use Rattle.clk_machine.specs.Copied.{AreDecided, told_of};
 ghost use Rattle.clk_machine.specs.Deciding.{ArePlannedOver, Decided, IsOwned};
 ghost use Rattle.clk_machine.specs.Parts.{IsWhole};
 
 use super::Machine;
+use crate::change::{ChangeCall, Wanted};
 use crate::decision::Decision;
 use change_walk::StepList;
-use clk_base::{Errno, Handle, Reply, Sleeping};
+use clk_base::{Errno, Handle, Reply};
 use clk_io::NoMemory;
 use clk_tree::Plan;
 use core_parts::{Draft, OtherRange, Seen, Verdict, decide_lifted, decide_request};
@@ -49,15 +50,14 @@ impl<B: Bank> Machine<B> {
         &self,
         rest: &W,
         driver: u32,
-        what: Sleeping,
+        change: ChangeCall,
     ) -> Result<Decision, NoMemory>
         requires quiet { self.now.flight.going ≡ false }
-        requires plans { plans what ≡ true }
-        ensures decides { IfOk result (λ decision. AreDecided self.now driver what decision) }
+        ensures decides { IfOk result (λ decision. AreDecided self.now driver (call_of change) decision) }
         ensures whole { IsWhole self.now }
     {
         let mut draft = Draft::none(self.alloc);
-        let verdict = self.decide(&mut draft, rest, driver, what)?;
+        let verdict = self.decide(&mut draft, rest, driver, change)?;
         Ok(taken_from(&mut draft, self.alloc, verdict))
     }
 
@@ -69,26 +69,21 @@ impl<B: Bank> Machine<B> {
         draft: &mut Draft,
         rest: &W,
         driver: u32,
-        what: Sleeping,
+        change: ChangeCall,
     ) -> Result<Verdict, NoMemory>
         requires quiet { self.now.flight.going ≡ false }
-        requires plans { plans what ≡ true }
-        ensures decides { IfOk result (λ verdict. Decided self.now driver what (decision_of draft.new verdict)) }
-        ensures there { IfOk result (λ verdict. ArePlannedOver self.now what (decision_of draft.new verdict)) }
-        ensures own { IfOk result (λ verdict. IsOwned self.now.table.handles driver what (decision_of draft.new verdict)) }
+        ensures decides { IfOk result (λ verdict. Decided self.now driver (call_of change) (decision_of draft.new verdict)) }
+        ensures there { IfOk result (λ verdict. ArePlannedOver self.now (call_of change) (decision_of draft.new verdict)) }
+        ensures own { IfOk result (λ verdict. IsOwned self.now.table.handles driver (call_of change) (decision_of draft.new verdict)) }
     {
-        match what {
-            Sleeping::SetRate(handle, rate) => self.decide_rate(draft, rest, driver, handle, rate),
-            Sleeping::SetRateExclusive(handle, rate) => self.decide_exclusive(
-                draft, rest, driver, handle, rate,
-            ),
-            Sleeping::SetRange(handle, least, most) => {
+        let handle = change.handle;
+        match change.wanted {
+            Wanted::Rate(rate) => self.decide_rate(draft, rest, driver, handle, rate),
+            Wanted::HeldRate(rate) => self.decide_exclusive(draft, rest, driver, handle, rate),
+            Wanted::Range(least, most) => {
                 self.decide_range(draft, rest, driver, handle, least, most)
             }
-            Sleeping::SetParent(handle, parent) => self.decide_parent(
-                draft, driver, handle, parent,
-            ),
-            _ => unreachable!(),
+            Wanted::Parent(parent) => self.decide_parent(draft, driver, handle, parent),
         }
     }
 
@@ -116,7 +111,6 @@ impl<B: Bank> Machine<B> {
         };
         decide_lifted(
             draft,
-            &self.desc,
             &self.window,
             &self.tree,
             &view,
@@ -139,7 +133,8 @@ impl<B: Bank> Machine<B> {
         requires quiet { self.now.flight.going ≡ false }
         ensures decides { IfOk result (λ verdict. Decided self.now driver (SetRateExclusive handle rate) (decision_of draft.new verdict)) }
         ensures there { IfOk result (λ verdict. ArePlannedOver self.now (SetRateExclusive handle rate) (decision_of draft.new verdict)) }
-        ensures own { IfOk result (λ verdict. IsOwned self.now.table.handles driver (SetRateExclusive handle rate) (decision_of draft.new verdict)) }
+        ensures own { IfOk result (λ verdict. IsOwned self.now.table.handles driver (SetRateExclusive handle rate)
+            (decision_of draft.new verdict)) }
     {
         let Some(row) = self.own(driver, handle) else {
             return Ok(Verdict::Refused(Errno::ENOENT));
@@ -151,7 +146,6 @@ impl<B: Bank> Machine<B> {
         };
         decide_request(
             draft,
-            &self.desc,
             &self.window,
             &self.tree,
             &view,
@@ -176,7 +170,8 @@ impl<B: Bank> Machine<B> {
         requires quiet { self.now.flight.going ≡ false }
         ensures decides { IfOk result (λ verdict. Decided self.now driver (SetRange handle least most) (decision_of draft.new verdict)) }
         ensures there { IfOk result (λ verdict. ArePlannedOver self.now (SetRange handle least most) (decision_of draft.new verdict)) }
-        ensures own { IfOk result (λ verdict. IsOwned self.now.table.handles driver (SetRange handle least most) (decision_of draft.new verdict)) }
+        ensures own { IfOk result (λ verdict. IsOwned self.now.table.handles driver (SetRange handle least most)
+            (decision_of draft.new verdict)) }
     {
         let Some(row) = self.own(driver, handle) else {
             return Ok(Verdict::Refused(Errno::ENOENT));
@@ -196,7 +191,6 @@ impl<B: Bank> Machine<B> {
         };
         decide_lifted(
             draft,
-            &self.desc,
             &self.window,
             &self.tree,
             &view,

@@ -3,7 +3,8 @@
 ghost use Rattle.std.specs.Prelude.{◌≡◌, ℕ, ◌<◌, true, false, length, IfOk, OnOk, OnErr, Some, None};
 ghost use Rattle.clk_model.specs.State.{registered, handle_at};
 ghost use Rattle.clk_model.specs.Begin.{holds_something};
-ghost use Rattle.clk_machine.specs.Holding.{enabled_more, enabled_less, prepared_more, prepared_less, exclusive_more, exclusive_less, puts, gives};
+ghost use Rattle.clk_machine.specs.Holding.{enabled_more, enabled_less, prepared_more, prepared_less};
+ghost use Rattle.clk_machine.specs.Holding.{exclusive_more, exclusive_less, puts, gives};
 ghost use Rattle.clk_machine.specs.Stands.{nothing, Becomes};
 
 use super::Machine;
@@ -22,7 +23,7 @@ impl<B: Bank> Machine<B> {
         ensures { Becomes self.old nothing (puts handle.number (Some (enabled_more row))) self.new }
     {
         let begun = self.counts.enable_walk(&self.tree, row.clock);
-        open_path(begun, &self.desc, &self.tree, &mut self.window, row.clock);
+        open_path(begun, &self.tree, &mut self.window, row.clock);
         self.handles
             .set_counts(handle, row.prepares, row.enables + 1, row.exclusives);
         self.spent += 1;
@@ -37,7 +38,7 @@ impl<B: Bank> Machine<B> {
         ensures { Becomes self.old nothing (puts handle.number (Some (enabled_less row))) self.new }
     {
         let stopped = self.counts.disable_walk(&self.tree, row.clock);
-        close_path(stopped, &self.desc, &self.tree, &mut self.window, row.clock);
+        close_path(stopped, &self.tree, &mut self.window, row.clock);
         self.handles
             .set_counts(handle, row.prepares, row.enables - 1, row.exclusives);
         self.spent += 1;

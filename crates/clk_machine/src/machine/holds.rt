@@ -37,7 +37,7 @@ impl<B: Bank> Machine<B> {
         ensures { Enters self.old self.old.flight.driver (Step (micro.HoldEnable clock) None) Going self.new }
     {
         let begun = self.counts.enable_walk(&self.tree, clock);
-        open_path(begun, &self.desc, &self.tree, &mut self.window, clock);
+        open_path(begun, &self.tree, &mut self.window, clock);
         self.enable_holds.add(clock);
         self.flight.go_on();
         self.steps += 1;
@@ -83,7 +83,7 @@ impl<B: Bank> Machine<B> {
         ensures { Enters self.old self.old.flight.driver (Step (micro.DropEnable clock) None) Going self.new }
     {
         let stopped = self.counts.disable_walk(&self.tree, clock);
-        close_path(stopped, &self.desc, &self.tree, &mut self.window, clock);
+        close_path(stopped, &self.tree, &mut self.window, clock);
         self.enable_holds.drop_one(clock);
         self.flight.go_on();
         self.steps += 1;

@@ -1,18 +1,16 @@
 //! The end of a call that went on.
 
-ghost use Rattle.std.specs.Prelude.{◌≡◌, ◌||◌, true, false, Some, None, IfSome, if◌then◌else◌};
+ghost use Rattle.std.specs.Prelude.{◌≡◌, ◌||◌, true, false, Some, None, IfSome};
 ghost use Rattle.clk_base.specs.declared.call.Micro.TheVariants.{End};
 ghost use Rattle.clk_base.specs.declared.call.Sleeping.TheVariants.{Prepare, SetRateExclusive};
-ghost use Rattle.clk_base.specs.declared.event.Errno.TheVariants.{EBUSY, ETIMEDOUT};
 ghost use Rattle.clk_base.specs.declared.event.Event.TheVariants.{Step};
-ghost use Rattle.clk_base.specs.declared.event.Reply.TheVariants.{Fine, Refused};
 ghost use Rattle.clk_base.specs.declared.event.Turn.TheVariants.{Done};
 ghost use Rattle.clk_base.specs.declared.handle.Handle.{Handle};
 ghost use Rattle.clk_model.specs.State.{registered, handle_at};
 ghost use Rattle.clk_model.specs.Begin.{request_between};
 ghost use Rattle.core_parts.specs.InFlight.{ends_bare, is_called_off, handle_to_end};
 ghost use Rattle.clk_machine.specs.Kinds.{is_done_or_refused};
-ghost use Rattle.clk_machine.specs.Landing.{IsLanding, Requests, PutsBack};
+ghost use Rattle.clk_machine.specs.Landing.{IsLanding, Lands, Requests, PutsBack, reply_of};
 ghost use Rattle.clk_machine.specs.Making.{ComesFirst};
 ghost use Rattle.clk_machine.specs.Parts.{own_in, IsWhole};
 ghost use Rattle.clk_machine.specs.Stands.{Enters};
@@ -37,27 +35,13 @@ pub(crate) enum Landing {
     PutsBack(Handle, HandleRow, u64, u64),
 }
 
-// The reply of a call that ends, which was vetoed or not and has timed out or not.
-fn reply_at_end(vetoed: bool, late: bool) -> Reply
-    ensures reply { result ≡ (if vetoed then Refused EBUSY else if late then Refused ETIMEDOUT else Fine) }
-    ensures kind { is_done_or_refused result ≡ true }
-{
-    if vetoed {
-        Reply::Refused(Errno::EBUSY)
-    } else if late {
-        Reply::Refused(Errno::ETIMEDOUT)
-    } else {
-        Reply::Fine
-    }
-}
-
 impl<B: Bank> Machine<B> {
     // The call ends, and nothing else changes.
     fn land(&mut self)
         requires going { self.old.flight.going ≡ true }
         requires first { ComesFirst self.old End }
         requires bare { ends_bare self.old.flight ≡ true }
-        ensures { Enters self.old self.old.flight.driver (Step End None) (Done (if self.old.flight.vetoed then Refused EBUSY else if self.old.flight.timed_out then Refused ETIMEDOUT else Fine)) self.new }
+        ensures { Lands self.old self.new }
     {
         self.flight.end();
         self.steps += 1;
@@ -70,7 +54,7 @@ impl<B: Bank> Machine<B> {
         requires call { self.old.flight.call ≡ Prepare handle }
         requires timely { is_called_off self.old.flight ≡ false }
         requires live { handle_at self.old.table.handles handle.number ≡ Some row }
-        ensures { Enters self.old self.old.flight.driver (Step End None) (Done (if self.old.flight.vetoed then Refused EBUSY else if self.old.flight.timed_out then Refused ETIMEDOUT else Fine)) self.new }
+        ensures { Lands self.old self.new }
     {
         self.counts.hold(&self.tree, row.clock);
         self.handles
@@ -84,7 +68,7 @@ impl<B: Bank> Machine<B> {
         requires going { self.old.flight.going ≡ true }
         requires first { ComesFirst self.old End }
         requires requests { Requests self.old clock rate }
-        ensures { Enters self.old self.old.flight.driver (Step End None) (Done (if self.old.flight.vetoed then Refused EBUSY else if self.old.flight.timed_out then Refused ETIMEDOUT else Fine)) self.new }
+        ensures { Lands self.old self.new }
     {
         self.tree.set_last_request(clock, rate);
         self.flight.end();
@@ -99,7 +83,7 @@ impl<B: Bank> Machine<B> {
         requires call { self.old.flight.call ≡ SetRateExclusive handle rate }
         requires timely { is_called_off self.old.flight ≡ false }
         requires live { handle_at self.old.table.handles handle.number ≡ Some row }
-        ensures { Enters self.old self.old.flight.driver (Step End None) (Done (if self.old.flight.vetoed then Refused EBUSY else if self.old.flight.timed_out then Refused ETIMEDOUT else Fine)) self.new }
+        ensures { Lands self.old self.new }
     {
         self.counts.protect(&self.tree, row.clock);
         self.handles
@@ -114,7 +98,7 @@ impl<B: Bank> Machine<B> {
         requires going { self.old.flight.going ≡ true }
         requires first { ComesFirst self.old End }
         requires back { PutsBack self.old handle row least most }
-        ensures { Enters self.old self.old.flight.driver (Step End None) (Done (if self.old.flight.vetoed then Refused EBUSY else if self.old.flight.timed_out then Refused ETIMEDOUT else Fine)) self.new }
+        ensures { Lands self.old self.new }
     {
         self.handles.set_range(handle, least, most);
         self.flight.end();
@@ -135,7 +119,8 @@ impl<B: Bank> Machine<B> {
     // The row of the handle that the end of the call may write, if there is one.
     fn row_to_end(&self) -> Option<HandleRow>
         requires { self.now.flight.going ≡ true }
-        ensures some { IfSome result (λ row. (h : Handle) → handle_to_end self.now.flight.call ≡ Some h → handle_at self.now.table.handles h.number ≡ Some row) }
+        ensures some { IfSome result (λ row. (h : Handle) → handle_to_end self.now.flight.call ≡ Some h
+            → handle_at self.now.table.handles h.number ≡ Some row) }
         ensures there { IfSome result (λ row. registered self.now.tree.clocks row.clock.0 ≡ true) }
         ensures none { result ≡ None → handle_to_end self.now.flight.call ≡ None }
         ensures whole { IsWhole self.now }
@@ -217,10 +202,16 @@ impl<B: Bank> Machine<B> {
 
     // The reply at the end.
     fn reply(&self) -> Reply
-        ensures reply { result ≡ (if self.now.flight.vetoed then Refused EBUSY else if self.now.flight.timed_out then Refused ETIMEDOUT else Fine) }
+        ensures reply { result ≡ reply_of self.now.flight.vetoed self.now.flight.timed_out }
         ensures kind { is_done_or_refused result ≡ true }
     {
-        reply_at_end(self.flight.vetoed(), self.flight.timed_out())
+        if self.flight.vetoed() {
+            Reply::Refused(Errno::EBUSY)
+        } else if self.flight.timed_out() {
+            Reply::Refused(Errno::ETIMEDOUT)
+        } else {
+            Reply::Fine
+        }
     }
 
     /// The call ends.

@@ -1,6 +1,7 @@
 //! The beginning of an unprepare, which may go on.
 
-ghost use Rattle.std.specs.Prelude.{◌≡◌, ◌+◌, ◌^◌, ◌<◌, ◌≤◌, true, false, [], ◌∷◌, Some, nat_le, is_some, slice_get, IfSome, IfOk, OnOk, OnErr};
+ghost use Rattle.std.specs.Prelude.{◌≡◌, ◌+◌, ◌^◌, ◌<◌, ◌≤◌, true, false, [], ◌∷◌};
+ghost use Rattle.std.specs.Prelude.{Some, nat_le, is_some, slice_get, IfSome, IfOk, OnOk, OnErr};
 ghost use Rattle.clk_base.specs.declared.call.Micro.TheVariants.{Lower, End};
 ghost use Rattle.clk_base.specs.declared.call.Sleeping.TheVariants.{Unprepare};
 ghost use Rattle.clk_base.specs.declared.event.Event.TheVariants.{Begin};
@@ -24,7 +25,7 @@ use clk_base::{Errno, Handle, Micro, Reply, Sleeping, Turn};
 use clk_flight::Start;
 use clk_io::NoMemory;
 use clk_model::HandleRow;
-use core_parts::{ending, has_room, keeps_prepare, most_to_lower, next_to_lower};
+use core_parts::{ending, fits, keeps_prepare, most_to_lower, next_to_lower};
 use reg_bank::Bank;
 
 impl<B: Bank> Machine<B> {
@@ -34,7 +35,8 @@ impl<B: Bank> Machine<B> {
     pub(super) fn frees_pll(&mut self, handle: Handle, row: HandleRow) -> bool
         requires live { handle_at self.old.table.handles handle.number ≡ Some row }
         requires some { 0 < row.prepares }
-        ensures found { IfSome self.old.window.words (λ regs. result ≡ is_some (slice_get (lowerable self.old.desc.defs (released self.old.counts row.clock.0) regs (path self.old.tree.clocks row.clock.0)) 0)) }
+        ensures found { IfSome self.old.window.words (λ regs. result ≡ is_some (slice_get
+            (lowerable self.old.desc.defs (released self.old.counts row.clock.0) regs (path self.old.tree.clocks row.clock.0)) 0)) }
         ensures counts { AreCounts (released self.old.counts row.clock.0) }
         ensures same { self.new ≡ self.old }
         ensures whole { IsWhole self.old }
@@ -43,13 +45,7 @@ impl<B: Bank> Machine<B> {
             return false;
         }
         self.counts.release(&self.tree, row.clock);
-        let found = next_to_lower(
-            &self.desc,
-            &self.tree,
-            &self.counts,
-            &self.window,
-            row.clock,
-        );
+        let found = next_to_lower(&self.tree, &self.counts, &self.window, row.clock);
         self.counts.hold(&self.tree, row.clock);
         found.pll.is_some()
     }
@@ -58,8 +54,7 @@ impl<B: Bank> Machine<B> {
     pub(super) fn can_lower(&self) -> bool
         ensures { result ≡ nat_le (self.now.credits + self.now.steps + (plls self.now.desc.defs + 2)) most_credits }
     {
-        let most = most_to_lower(self.tree.plls());
-        has_room(self.credits, self.steps, most)
+        fits(self.used(), self.most_lowers())
     }
 
     // How many entries a lower and the end may come to.
@@ -82,7 +77,8 @@ impl<B: Bank> Machine<B> {
         requires live { handle_at self.old.table.handles handle.number ≡ Some row }
         requires some { 0 < row.prepares }
         requires room { self.old.credits + self.old.steps + (plls self.old.desc.defs + 2) ≤ most_credits }
-        ensures ok { OnOk result (StartsCall self.old driver (Unprepare handle) (Lower row.clock ∷ End ∷ []) (puts handle.number (Some (prepared_less row))) self.new) }
+        ensures ok { OnOk result (StartsCall self.old driver (Unprepare handle) (Lower row.clock ∷ End ∷ [])
+            (puts handle.number (Some (prepared_less row))) self.new) }
         ensures err { OnErr result (self.new ≡ self.old) }
     {
         let script = ending(self.alloc, Micro::Lower(row.clock))?;

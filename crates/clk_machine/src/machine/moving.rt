@@ -12,9 +12,7 @@ ghost use Rattle.clk_machine.specs.Stands.{Enters};
 
 use super::Machine;
 use clk_base::{ClockId, depth};
-use core_parts::{
-    end_enables, end_prepares, link_to, pass_enables, pass_prepares, set_to, settle_below,
-};
+use core_parts::{HoldKind, end_holds, link_to, pass_holds, set_to, settle_below};
 use reg_bank::Bank;
 
 impl<B: Bank> Machine<B> {
@@ -34,16 +32,18 @@ impl<B: Bank> Machine<B> {
         requires link { link_in self.old.tree.clocks clock.0 ≡ Some from.0 }
         ensures { Enters self.old self.old.flight.driver (Step (micro.Relink clock parent) None) Going self.new }
     {
-        link_to(&self.desc, &self.window, &mut self.tree, clock, parent);
+        link_to(&self.window, &mut self.tree, clock, parent);
         self.counts.moved(&self.tree, clock, Some(from));
-        pass_prepares(
+        pass_holds(
+            HoldKind::Prepare,
             &self.tree,
             &mut self.counts,
             &mut self.prepare_holds,
             parent,
             from,
         );
-        pass_enables(
+        pass_holds(
+            HoldKind::Enable,
             &self.tree,
             &mut self.counts,
             &mut self.enable_holds,
@@ -62,15 +62,22 @@ impl<B: Bank> Machine<B> {
         requires link { link_in self.old.tree.clocks clock.0 ≡ None }
         ensures { Enters self.old self.old.flight.driver (Step (micro.Relink clock parent) None) Going self.new }
     {
-        link_to(&self.desc, &self.window, &mut self.tree, clock, parent);
+        link_to(&self.window, &mut self.tree, clock, parent);
         self.counts.moved(&self.tree, clock, None);
-        end_prepares(
+        end_holds(
+            HoldKind::Prepare,
             &self.tree,
             &mut self.counts,
             &mut self.prepare_holds,
             parent,
         );
-        end_enables(&self.tree, &mut self.counts, &mut self.enable_holds, parent);
+        end_holds(
+            HoldKind::Enable,
+            &self.tree,
+            &mut self.counts,
+            &mut self.enable_holds,
+            parent,
+        );
         self.flight.go_on();
         self.steps += 1;
     }
@@ -96,7 +103,7 @@ impl<B: Bank> Machine<B> {
         requires first { ComesFirst self.old (micro.WriteMux clock place) }
         ensures { Enters self.old self.old.flight.driver (Step (micro.WriteMux clock place) None) Going self.new }
     {
-        set_to(&self.desc, &mut self.window, &mut self.tree, clock, place);
+        set_to(&mut self.window, &mut self.tree, clock, place);
         self.flight.go_on();
         self.steps += 1;
     }
@@ -108,7 +115,7 @@ impl<B: Bank> Machine<B> {
         requires first { ComesFirst self.old (micro.Settle clock) }
         ensures { Enters self.old self.old.flight.driver (Step (micro.Settle clock) None) Going self.new }
     {
-        settle_below(depth(), &self.desc, &mut self.tree, clock);
+        settle_below(depth(), &mut self.tree, clock);
         self.flight.go_on();
         self.steps += 1;
     }

@@ -53,7 +53,8 @@ impl<B: Bank> Machine<B> {
         requires quiet { self.old.flight.going ≡ false }
         requires place { clock.0 < length self.old.desc.defs }
         requires made { (n : Notifier) × IsWith self.old.chains (row_on clock.0 n) chain.old }
-        ensures { (n : Notifier) → IsWith self.old.chains (row_on clock.0 n) chain.old → Becomes self.old nothing (notified clock.0 n.id n.priority n.policy) self.new }
+        ensures { (n : Notifier) → IsWith self.old.chains (row_on clock.0 n) chain.old
+            → Becomes self.old nothing (notified clock.0 n.id n.priority n.policy) self.new }
     {
         self.notifiers.put_chain(clock, chain);
         self.spent += 1;
@@ -68,7 +69,8 @@ impl<B: Bank> Machine<B> {
     )
         requires quiet { self.old.flight.going ≡ false }
         requires ready { (n : Notifier) × IsReadyToAdd self.old driver handle n chain.old }
-        ensures along { (n : Notifier) → IsReadyToAdd self.old driver handle n chain.old → GoesAlong self.old driver (Begin (call.NotifierAdd handle n.id n.priority n.policy)) (Done Fine) self.new }
+        ensures along { (n : Notifier) → IsReadyToAdd self.old driver handle n chain.old
+            → GoesAlong self.old driver (Begin (call.NotifierAdd handle n.id n.priority n.policy)) (Done Fine) self.new }
         ensures same { KeepsShape self.old self.new }
         ensures quiet { self.new.flight.going ≡ false }
     {

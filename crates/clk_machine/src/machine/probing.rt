@@ -1,7 +1,8 @@
 //! Registrations that go on: PLLs are raised first where a critical clock is to be registered, and
 //! orphans are adopted behind it.
 
-ghost use Rattle.std.specs.Prelude.{◌≡◌, ◌+◌, ◌-◌, ◌^◌, ◌<◌, ◌≤◌, ◌||◌, not, true, false, None, Some, length, min, sum_by, IfOk, OnOk, OnErr};
+ghost use Rattle.std.specs.Prelude.{◌≡◌, ◌+◌, ◌-◌, ◌^◌, ◌<◌, ◌≤◌, ◌||◌, not, true};
+ghost use Rattle.std.specs.Prelude.{false, None, Some, length, min, sum_by, IfOk, OnOk, OnErr};
 ghost use Rattle.std.specs.List.{list_all};
 ghost use Rattle.clk_base.specs.declared.call.Micro.TheVariants as micro;
 ghost use Rattle.clk_base.specs.declared.call.Sleeping.TheVariants.{Probe};
@@ -55,18 +56,19 @@ impl<B: Bank> Machine<B> {
         ensures told { (s : State) → Stands self.now s → result ≡ must_raise s clock.0 }
         ensures whole { IsWhole self.now }
     {
-        if !is_critical(&self.desc, clock) {
+        if !is_critical(&self.tree, clock) {
             return false;
         }
-        let parent = given_parent(&self.desc, &self.window, &self.tree, clock);
-        is_unprepared_under(&self.desc, &self.tree, &self.counts, parent, clock)
+        let parent = given_parent(&self.window, &self.tree, clock);
+        is_unprepared_under(&self.tree, &self.counts, parent, clock)
     }
 
     // Whether the registration of a clock goes on behind which these orphans are adopted.
     pub(super) fn goes_on(&self, clock: ClockId, orphans: &[ClockId]) -> bool
         requires place { clock.0 < length self.now.desc.defs }
         requires free { registered self.now.tree.clocks clock.0 ≡ false }
-        ensures told { (s : State) → Stands self.now s → IsSound self.now.window.size s → places orphans.now ≡ adopted (register s clock.0) → result ≡ goes_on s clock.0 }
+        ensures told { (s : State) → Stands self.now s → IsSound self.now.window.size s
+            → places orphans.now ≡ adopted (register s clock.0) → result ≡ goes_on s clock.0 }
         ensures whole { IsWhole self.now }
     {
         let raises = self.must_raise(clock);
@@ -92,7 +94,8 @@ impl<B: Bank> Machine<B> {
         requires place { clock.0 < length self.old.desc.defs }
         requires script { is_script (Probe clock) (registered self.old.tree.clocks) steps.items ≡ true }
         requires links { list_all (can_link self.old.desc.defs self.old.tree.clocks) steps.items ≡ true }
-        requires room { self.old.credits + self.old.steps + sum_by (step_weight (rows_from 0 self.old.chains) (plls self.old.desc.defs)) steps.items ≤ most_credits }
+        requires room { self.old.credits + self.old.steps
+            + sum_by (step_weight (rows_from 0 self.old.chains) (plls self.old.desc.defs)) steps.items ≤ most_credits }
         ensures ok { OnOk result (StartsCall self.old driver (Probe clock) steps.items stays self.new) }
         ensures err { OnErr result (self.new ≡ self.old) }
     {
@@ -155,7 +158,7 @@ impl<B: Bank> Machine<B> {
         requires next { own_step self.now.flight ≡ Some (micro.Register clock) }
         ensures critical { result ≡ is_critical self.now.desc.defs clock.0 }
     {
-        is_critical(&self.desc, clock)
+        is_critical(&self.tree, clock)
     }
 
     // A clock is registered that isn't critical.
@@ -166,10 +169,10 @@ impl<B: Bank> Machine<B> {
         requires plain { is_critical self.old.desc.defs clock.0 ≡ false }
         ensures { Enters self.old self.old.flight.driver (Step (micro.Register clock) None) Going self.new }
     {
-        let parent = given_parent(&self.desc, &self.window, &self.tree, clock);
+        let parent = given_parent(&self.window, &self.tree, clock);
         self.flight.go_on();
         let_go_under(&self.tree, &mut self.flight, parent, clock);
-        register_clock(&self.desc, &self.window, &mut self.tree, clock);
+        register_clock(&self.window, &mut self.tree, clock);
         self.counts.moved(&self.tree, clock, None);
         self.steps += 1;
     }
@@ -183,14 +186,14 @@ impl<B: Bank> Machine<B> {
         requires critical { is_critical self.old.desc.defs clock.0 ≡ true }
         ensures { Enters self.old self.old.flight.driver (Step (micro.Register clock) None) Going self.new }
     {
-        let parent = given_parent(&self.desc, &self.window, &self.tree, clock);
+        let parent = given_parent(&self.window, &self.tree, clock);
         self.flight.go_on();
         let_go_under(&self.tree, &mut self.flight, parent, clock);
-        register_clock(&self.desc, &self.window, &mut self.tree, clock);
+        register_clock(&self.window, &mut self.tree, clock);
         self.counts.moved(&self.tree, clock, None);
         self.counts.hold(&self.tree, clock);
         let begun = self.counts.enable_walk(&self.tree, clock);
-        open_path(begun, &self.desc, &self.tree, &mut self.window, clock);
+        open_path(begun, &self.tree, &mut self.window, clock);
         self.steps += 1;
     }
 

@@ -8,16 +8,18 @@ ghost use Rattle.clk_base.specs.declared.event.Turn.TheVariants.{Done, Going};
 ghost use Rattle.clk_model.specs.Journal.{is_going};
 ghost use Rattle.clk_model.specs.State.{handle_at};
 ghost use Rattle.clk_tree.specs.Plans.{AreThere};
+ghost use Rattle.clk_machine.specs.ChangeCalls.{call_of};
 ghost use Rattle.clk_machine.specs.Readied.{AtOnce, Change, readied_of, scripted_of};
-ghost use Rattle.core_parts.specs.InFlight.{changes_rate, is_ranged};
+ghost use Rattle.core_parts.specs.InFlight.{is_ranged};
 ghost use Rattle.clk_machine.specs.Kinds.{is_answer_to};
 ghost use Rattle.clk_machine.specs.Parts.{own_in, IsOwnCall, IsWhole, steps_left};
 ghost use Rattle.clk_machine.specs.Readying.{CanBeginSo, CanGoAlong, IsReady, LeadsSo, Scripts, StartsAlong, moves_well, weight_of};
 ghost use Rattle.clk_machine.specs.Stands.{Enters, Proceeds};
 
 use super::Machine;
+use crate::change::{ChangeCall, Wanted};
 use crate::log::Log;
-use clk_base::{Errno, Handle, Reply, Sleeping, Turn};
+use clk_base::{Errno, Handle, Reply, Turn};
 use clk_flight::Start;
 use clk_io::NoMemory;
 use clk_model::HandleRow;
@@ -50,14 +52,15 @@ impl<B: Bank> Machine<B> {
         ensures whole { IsWhole self.now }
     {
         let chain = plan.chain.as_slice();
-        can_go_along(&self.desc, &self.tree, plan.set_parent, chain)
+        can_go_along(&self.tree, plan.set_parent, chain)
     }
 
     // A plan with its script goes on, if there is room for the entries of its steps and its moves can be
     // made: the clocks that it tells are found.
     pub(super) fn tell_clocks(&self, draft: &mut Draft) -> Result<Verdict, NoMemory>
         requires there { AreThere self.now.tree.clocks draft.old.planning.plan.rates }
-        ensures scripts { IfOk result (λ verdict. Scripts self.now draft.old.planning.plan draft.old.script (readied_of draft.new verdict)) }
+        ensures scripts { IfOk result (λ verdict. Scripts self.now draft.old.planning.plan draft.old.script
+            (readied_of draft.new verdict)) }
         ensures whole { IsWhole self.now }
     {
         let used = self.used();
@@ -79,15 +82,14 @@ impl<B: Bank> Machine<B> {
         &self,
         draft: &mut Draft,
         driver: u32,
-        what: Sleeping,
+        change: ChangeCall,
     ) -> Result<Verdict, NoMemory>
         requires credit { self.now.spent < self.now.credits }
         requires quiet { self.now.flight.going ≡ false }
-        requires changes { changes_rate what ≡ true }
-        ensures ready { IfOk result (λ verdict. IsReady self.now driver what (readied_of draft.new verdict)) }
-        ensures can { IfOk result (λ verdict. CanBeginSo self.now driver what (readied_of draft.new verdict)) }
+        ensures ready { IfOk result (λ verdict. IsReady self.now driver (call_of change) (readied_of draft.new verdict)) }
+        ensures can { IfOk result (λ verdict. CanBeginSo self.now driver (call_of change) (readied_of draft.new verdict)) }
     {
-        let verdict = self.decide(draft, &NoRest, driver, what)?;
+        let verdict = self.decide(draft, &NoRest, driver, change)?;
         match verdict {
             Verdict::Refused(errno) => Ok(Verdict::Refused(errno)),
             Verdict::AtOnce => Ok(Verdict::AtOnce),
@@ -96,39 +98,35 @@ impl<B: Bank> Machine<B> {
     }
 
     // The row of a handle that is the driver's own.
-    pub(crate) fn known(&self, driver: u32, handle: Handle) -> HandleRow
-        requires { is_some (own_in self.now.table.handles driver handle.number) ≡ true }
-        ensures own { own_in self.now.table.handles driver handle.number ≡ Some result }
+    pub(crate) fn known(&self, _driver: u32, handle: Handle) -> HandleRow
+        requires { is_some (own_in self.now.table.handles _driver handle.number) ≡ true }
+        ensures own { own_in self.now.table.handles _driver handle.number ≡ Some result }
         ensures live { handle_at self.now.table.handles handle.number ≡ Some result }
         ensures whole { IsWhole self.now }
     {
-        match self.own(driver, handle) {
-            Some(row) => row,
-            None => unreachable!(),
-        }
+        self.handles.of(handle)
     }
 
     // Answers a call by Ok that changes a rate or a parent and has nothing to do.
-    pub(super) fn answer_at_once(&mut self, driver: u32, what: Sleeping)
+    pub(super) fn answer_at_once(&mut self, driver: u32, change: ChangeCall)
         requires credit { self.old.spent < self.old.credits }
         requires quiet { self.old.flight.going ≡ false }
-        requires changes { changes_rate what ≡ true }
-        requires own { IsOwnCall self.old.table.handles driver what }
-        ensures proceeds { Proceeds self.old driver (Begin what) (Done Fine) self.new }
-        ensures leads { LeadsSo self.old driver what AtOnce (Done Fine) self.new }
+        requires own { IsOwnCall self.old.table.handles driver (call_of change) }
+        ensures proceeds { Proceeds self.old driver (Begin (call_of change)) (Done Fine) self.new }
+        ensures leads { LeadsSo self.old driver (call_of change) AtOnce (Done Fine) self.new }
     {
-        match what {
-            Sleeping::SetRate(_, _) => self.spend(),
-            Sleeping::SetParent(_, _) => self.spend(),
-            Sleeping::SetRateExclusive(handle, _) => {
+        let handle = change.handle;
+        match change.wanted {
+            Wanted::Rate(_) => self.spend(),
+            Wanted::Parent(_) => self.spend(),
+            Wanted::HeldRate(_) => {
                 let row = self.known(driver, handle);
                 self.add_exclusive(handle, row);
             }
-            Sleeping::SetRange(handle, least, most) => {
+            Wanted::Range(least, most) => {
                 let row = self.known(driver, handle);
                 self.keep_range(handle, row, least, most);
             }
-            _ => unreachable!(),
         }
     }
 
@@ -139,19 +137,18 @@ impl<B: Bank> Machine<B> {
         &mut self,
         draft: &mut Draft,
         driver: u32,
-        what: Sleeping,
+        change: ChangeCall,
         range: Option<(u64, u64)>,
     ) -> Result<(), NoMemory>
         requires credit { self.old.spent < self.old.credits }
         requires quiet { self.old.flight.going ≡ false }
-        requires changes { changes_rate what ≡ true }
-        requires can { CanGoAlong self.old driver what (scripted_of draft.old) }
-        ensures ok { OnOk result (StartsAlong self.old driver what range (scripted_of draft.old) self.new) }
+        requires can { CanGoAlong self.old driver (call_of change) (scripted_of draft.old) }
+        ensures ok { OnOk result (StartsAlong self.old driver (call_of change) range (scripted_of draft.old) self.new) }
         ensures err { OnErr result (self.new ≡ self.old) }
     {
         let start = Start {
             driver,
-            call: what,
+            call: change.call(),
             script: draft.script.take_steps(self.alloc),
             range,
             extra: draft.script.extra() as usize,
@@ -161,18 +158,22 @@ impl<B: Bank> Machine<B> {
     }
 
     // A change of rate or parent goes on that sets no range. All memory that it needs is taken.
-    fn go_along(&mut self, draft: &mut Draft, driver: u32, what: Sleeping) -> Result<(), NoMemory>
+    fn go_along(
+        &mut self,
+        draft: &mut Draft,
+        driver: u32,
+        change: ChangeCall,
+    ) -> Result<(), NoMemory>
         requires credit { self.old.spent < self.old.credits }
         requires quiet { self.old.flight.going ≡ false }
-        requires changes { changes_rate what ≡ true }
-        requires unranged { is_ranged what ≡ false }
-        requires can { CanGoAlong self.old driver what (scripted_of draft.old) }
-        ensures proceeds { OnOk result (Proceeds self.old driver (Begin what) Going self.new) }
-        ensures leads { OnOk result (LeadsSo self.old driver what (Change (scripted_of draft.old)) Going self.new) }
+        requires unranged { is_ranged (call_of change) ≡ false }
+        requires can { CanGoAlong self.old driver (call_of change) (scripted_of draft.old) }
+        ensures proceeds { OnOk result (Proceeds self.old driver (Begin (call_of change)) Going self.new) }
+        ensures leads { OnOk result (LeadsSo self.old driver (call_of change) (Change (scripted_of draft.old)) Going self.new) }
         ensures left { OnOk result (steps_left self.new ≡ (scripted_of draft.old).weight) }
         ensures err { OnErr result (self.new ≡ self.old) }
     {
-        self.start_along(draft, driver, what, None)
+        self.start_along(draft, driver, change, None)
     }
 
     // A change of rate goes on that gives a handle another range in Hz. All memory that it needs is
@@ -194,31 +195,30 @@ impl<B: Bank> Machine<B> {
         ensures err { OnErr result (self.new ≡ self.old) }
     {
         let row = self.known(driver, handle);
-        let what = Sleeping::SetRange(handle, least, most);
-        self.start_along(draft, driver, what, Some((row.min, row.max)))?;
+        let wanted = Wanted::Range(least, most);
+        let change = ChangeCall { handle, wanted };
+        self.start_along(draft, driver, change, Some((row.min, row.max)))?;
         self.write_range(handle, row, least, most);
         Ok(())
     }
 
     // A change of rate or parent goes on.
-    fn go_on(&mut self, draft: &mut Draft, driver: u32, what: Sleeping) -> Result<(), NoMemory>
+    fn go_on(&mut self, draft: &mut Draft, driver: u32, change: ChangeCall) -> Result<(), NoMemory>
         requires credit { self.old.spent < self.old.credits }
         requires quiet { self.old.flight.going ≡ false }
-        requires changes { changes_rate what ≡ true }
-        requires can { CanGoAlong self.old driver what (scripted_of draft.old) }
-        ensures proceeds { OnOk result (Proceeds self.old driver (Begin what) Going self.new) }
-        ensures leads { OnOk result (LeadsSo self.old driver what (Change (scripted_of draft.old)) Going self.new) }
+        requires can { CanGoAlong self.old driver (call_of change) (scripted_of draft.old) }
+        ensures proceeds { OnOk result (Proceeds self.old driver (Begin (call_of change)) Going self.new) }
+        ensures leads { OnOk result (LeadsSo self.old driver (call_of change) (Change (scripted_of draft.old)) Going self.new) }
         ensures left { OnOk result (steps_left self.new ≡ (scripted_of draft.old).weight) }
         ensures err { OnErr result (self.new ≡ self.old) }
     {
-        match what {
-            Sleeping::SetRange(handle, least, most) => {
-                self.go_along_within(draft, driver, handle, least, most)
+        match change.wanted {
+            Wanted::Range(least, most) => {
+                self.go_along_within(draft, driver, change.handle, least, most)
             }
-            Sleeping::SetRate(_, _)
-            | Sleeping::SetRateExclusive(_, _)
-            | Sleeping::SetParent(_, _) => self.go_along(draft, driver, what),
-            _ => unreachable!(),
+            Wanted::Rate(_) | Wanted::HeldRate(_) | Wanted::Parent(_) => {
+                self.go_along(draft, driver, change)
+            }
         }
     }
 
@@ -227,16 +227,15 @@ impl<B: Bank> Machine<B> {
         &mut self,
         draft: &mut Draft,
         driver: u32,
-        what: Sleeping,
+        change: ChangeCall,
         verdict: Verdict,
     ) -> Result<Turn, NoMemory>
         requires credit { self.old.spent < self.old.credits }
         requires quiet { self.old.flight.going ≡ false }
-        requires changes { changes_rate what ≡ true }
-        requires can { CanBeginSo self.old driver what (readied_of draft.old verdict) }
-        ensures proceeds { IfOk result (λ turn. Proceeds self.old driver (Begin what) turn self.new) }
-        ensures kind { IfOk result (λ turn. is_answer_to (Begin what) turn ≡ true) }
-        ensures leads { IfOk result (λ turn. LeadsSo self.old driver what (readied_of draft.old verdict) turn self.new) }
+        requires can { CanBeginSo self.old driver (call_of change) (readied_of draft.old verdict) }
+        ensures proceeds { IfOk result (λ turn. Proceeds self.old driver (Begin (call_of change)) turn self.new) }
+        ensures kind { IfOk result (λ turn. is_answer_to (Begin (call_of change)) turn ≡ true) }
+        ensures leads { IfOk result (λ turn. LeadsSo self.old driver (call_of change) (readied_of draft.old verdict) turn self.new) }
         ensures left { IfOk result (λ turn. is_going turn ≡ true → steps_left self.new ≡ weight_of (readied_of draft.old verdict)) }
         ensures err { OnErr result (self.new ≡ self.old) }
     {
@@ -246,11 +245,11 @@ impl<B: Bank> Machine<B> {
                 Ok(Turn::Done(Reply::Refused(errno)))
             }
             Verdict::AtOnce => {
-                self.answer_at_once(driver, what);
+                self.answer_at_once(driver, change);
                 Ok(Turn::Done(Reply::Fine))
             }
             Verdict::Change => {
-                self.go_on(draft, driver, what)?;
+                self.go_on(draft, driver, change)?;
                 Ok(Turn::Going)
             }
         }
@@ -263,24 +262,23 @@ impl<B: Bank> Machine<B> {
         draft: &mut Draft,
         log: &mut Log,
         driver: u32,
-        what: Sleeping,
+        change: ChangeCall,
         verdict: Verdict,
     ) -> Result<Turn, NoMemory>
         requires credit { self.old.spent < self.old.credits }
         requires quiet { self.old.flight.going ≡ false }
-        requires changes { changes_rate what ≡ true }
-        requires can { CanBeginSo self.old driver what (readied_of draft.old verdict) }
+        requires can { CanBeginSo self.old driver (call_of change) (readied_of draft.old verdict) }
         requires paid { self.old.credits ≤ self.old.spent + log.old.room }
-        ensures proceeds { IfOk result (λ turn. Proceeds self.old driver (Begin what) turn self.new) }
-        ensures kind { IfOk result (λ turn. is_answer_to (Begin what) turn ≡ true) }
-        ensures leads { IfOk result (λ turn. LeadsSo self.old driver what (readied_of draft.old verdict) turn self.new) }
+        ensures proceeds { IfOk result (λ turn. Proceeds self.old driver (Begin (call_of change)) turn self.new) }
+        ensures kind { IfOk result (λ turn. is_answer_to (Begin (call_of change)) turn ≡ true) }
+        ensures leads { IfOk result (λ turn. LeadsSo self.old driver (call_of change) (readied_of draft.old verdict) turn self.new) }
         ensures room { IfOk result (λ turn. is_going turn ≡ true → self.old.credits + steps_left self.new ≤ self.old.spent + log.new.room) }
         ensures entries { log.new.entries ≡ log.old.entries }
         ensures kept { log.old.room ≤ log.new.room }
         ensures err { OnErr result (self.new ≡ self.old) }
     {
         log.make_room(self.credits_left(), weight_of(draft, verdict))?;
-        self.begin_so(draft, driver, what, verdict)
+        self.begin_so(draft, driver, change, verdict)
     }
 
     /// Begins a call that changes a rate or a parent, with room in the log for the entries of its steps.
@@ -289,20 +287,19 @@ impl<B: Bank> Machine<B> {
         draft: &mut Draft,
         log: &mut Log,
         driver: u32,
-        what: Sleeping,
+        change: ChangeCall,
     ) -> Result<Turn, NoMemory>
         requires credit { self.old.spent < self.old.credits }
         requires quiet { self.old.flight.going ≡ false }
-        requires changes { changes_rate what ≡ true }
         requires paid { self.old.credits ≤ self.old.spent + log.old.room }
-        ensures ok { IfOk result (λ turn. Enters self.old driver (Begin what) turn self.new) }
-        ensures kind { IfOk result (λ turn. is_answer_to (Begin what) turn ≡ true) }
+        ensures ok { IfOk result (λ turn. Enters self.old driver (Begin (call_of change)) turn self.new) }
+        ensures kind { IfOk result (λ turn. is_answer_to (Begin (call_of change)) turn ≡ true) }
         ensures room { IfOk result (λ turn. is_going turn ≡ true → self.old.credits + steps_left self.new ≤ self.old.spent + log.new.room) }
         ensures entries { log.new.entries ≡ log.old.entries }
         ensures kept { log.old.room ≤ log.new.room }
         ensures err { OnErr result (self.new ≡ self.old) }
     {
-        let verdict = self.ready(draft, driver, what)?;
-        self.begin_readied(draft, log, driver, what, verdict)
+        let verdict = self.ready(draft, driver, change)?;
+        self.begin_readied(draft, log, driver, change, verdict)
     }
 }

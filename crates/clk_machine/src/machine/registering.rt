@@ -35,7 +35,7 @@ impl<B: Bank> Machine<B> {
         requires plain { is_critical self.old.desc.defs clock.0 ≡ false }
         ensures { Becomes self.old (λ k. clock.0 == k) (λ s. register s clock.0) self.new }
     {
-        register_clock(&self.desc, &self.window, &mut self.tree, clock);
+        register_clock(&self.window, &mut self.tree, clock);
         self.counts.moved(&self.tree, clock, None);
         self.spent += 1;
     }
@@ -49,11 +49,11 @@ impl<B: Bank> Machine<B> {
         requires critical { is_critical self.old.desc.defs clock.0 ≡ true }
         ensures { Becomes self.old (λ k. clock.0 == k) (λ s. register s clock.0) self.new }
     {
-        register_clock(&self.desc, &self.window, &mut self.tree, clock);
+        register_clock(&self.window, &mut self.tree, clock);
         self.counts.moved(&self.tree, clock, None);
         self.counts.hold(&self.tree, clock);
         let begun = self.counts.enable_walk(&self.tree, clock);
-        open_path(begun, &self.desc, &self.tree, &mut self.window, clock);
+        open_path(begun, &self.tree, &mut self.window, clock);
         self.spent += 1;
     }
 
@@ -63,7 +63,7 @@ impl<B: Bank> Machine<B> {
         ensures critical { result ≡ is_critical self.now.desc.defs clock.0 }
         ensures whole { IsWhole self.now }
     {
-        is_critical(&self.desc, clock)
+        is_critical(&self.tree, clock)
     }
 
     /// Registers a clock at once, where no orphan is adopted behind it and no PLL has to be raised for it.

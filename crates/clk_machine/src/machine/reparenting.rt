@@ -24,7 +24,8 @@ impl<B: Bank> Machine<B> {
         requires quiet { self.now.flight.going ≡ false }
         ensures decides { IfOk result (λ verdict. Decided self.now driver (SetParent handle parent) (decision_of draft.new verdict)) }
         ensures there { IfOk result (λ verdict. ArePlannedOver self.now (SetParent handle parent) (decision_of draft.new verdict)) }
-        ensures own { IfOk result (λ verdict. IsOwned self.now.table.handles driver (SetParent handle parent) (decision_of draft.new verdict)) }
+        ensures own { IfOk result (λ verdict. IsOwned self.now.table.handles driver (SetParent handle parent)
+            (decision_of draft.new verdict)) }
     {
         let Some(row) = self.own(driver, handle) else {
             return Ok(Verdict::Refused(Errno::ENOENT));
@@ -32,23 +33,16 @@ impl<B: Bank> Machine<B> {
         if is_linked(&self.tree, row.clock, parent) {
             return Ok(Verdict::AtOnce);
         }
-        if let Some(errno) = refusal(&self.desc, &self.tree, &self.counts, row, parent) {
+        if let Some(errno) = refusal(&self.tree, &self.counts, row, parent) {
             return Ok(Verdict::Refused(errno));
         }
-        plan_move(
-            draft,
-            &self.desc,
-            &self.window,
-            &self.tree,
-            row.clock,
-            parent,
-        )?;
+        plan_move(draft, &self.window, &self.tree, row.clock, parent)?;
         let view = Seen {
             handles: &self.handles,
             ranged: None,
             counts: &self.counts,
         };
-        write_script(draft, &self.desc, &self.tree, &view, &self.notifiers)?;
+        write_script(draft, &self.tree, &view, &self.notifiers)?;
         Ok(Verdict::Change)
     }
 }

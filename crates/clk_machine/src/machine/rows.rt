@@ -44,7 +44,7 @@ impl<B: Bank> Machine<B> {
         requires { clock.0 < length self.now.desc.defs }
         ensures { (s : State) → Stands self.now s → result ≡ is_on (kind_of s.defs clock.0) s.regs }
     {
-        switch_state(self.desc.def(clock).kind, &self.window)
+        switch_state(self.tree.def(clock).kind, &self.window)
     }
 
     /// The row of a clock, if it is registered.

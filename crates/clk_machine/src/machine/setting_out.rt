@@ -111,7 +111,8 @@ impl<B: Bank> Machine<B> {
         requires machine { self.now.flight.going ≡ false }
         requires quiet { flight.old.going ≡ false }
         ensures ready { OnOk result (flight.new.going ≡ true → CanSweep self.now driver flight.new) }
-        ensures never { OnOk result (flight.new.going ≡ false → (self.now.credits ≤ self.now.spent) ⊎ (most_credits < self.now.credits + self.now.steps + 1)) }
+        ensures never { OnOk result (flight.new.going ≡ false → (self.now.credits ≤ self.now.spent)
+            ⊎ (most_credits < self.now.credits + self.now.steps + 1)) }
         ensures err { OnErr result (flight.new ≡ flight.old) }
     {
         if self.credits_left() == 0 {

@@ -24,7 +24,7 @@ use clk_base::{ClockId, Errno, Handle, Micro, Reply, Sleeping, Turn};
 use clk_flight::Start;
 use clk_io::NoMemory;
 use clk_model::HandleRow;
-use core_parts::{ending, has_room, is_unprepared, most_to_raise};
+use core_parts::{ending, fits, is_unprepared, most_to_raise};
 use reg_bank::Bank;
 
 impl<B: Bank> Machine<B> {
@@ -34,15 +34,14 @@ impl<B: Bank> Machine<B> {
         ensures unprepared { result ≡ list_any (is_loose self.now.desc.defs self.now.counts) (path self.now.tree.clocks clock.0) }
         ensures whole { IsWhole self.now }
     {
-        is_unprepared(&self.desc, &self.tree, &self.counts, clock)
+        is_unprepared(&self.tree, &self.counts, clock)
     }
 
     // Whether there is room for the entries of a raise and the end.
     pub(super) fn can_raise(&self) -> bool
         ensures { result ≡ nat_le (self.now.credits + self.now.steps + (34 * plls self.now.desc.defs + 2)) most_credits }
     {
-        let most = most_to_raise(self.tree.plls());
-        has_room(self.credits, self.steps, most)
+        fits(self.used(), self.most_raises())
     }
 
     // How many entries a raise and the end may come to.

@@ -30,32 +30,28 @@ impl<B: Bank> Machine<B> {
     fn to_raise(&self, clock: ClockId) -> Sought
         requires going { self.now.flight.going ≡ true }
         requires near { is_near self.now.flight.call (registered self.now.tree.clocks) clock.0 ≡ true }
-        ensures found { IfSome self.now.window.words (λ regs. Finds result (reverse (raisable self.now.desc.defs self.now.counts self.now.flight.raised (path_to_be self.now.desc.defs regs self.now.tree.clocks clock.0)))) }
+        ensures found { IfSome self.now.window.words (λ regs. Finds result
+            (reverse (raisable self.now.desc.defs self.now.counts self.now.flight.raised
+            (path_to_be self.now.desc.defs regs self.now.tree.clocks clock.0)))) }
         ensures near { IfSome result.pll (λ pll. is_near self.now.flight.call (registered self.now.tree.clocks) pll.0 ≡ true) }
         ensures whole { IsWhole self.now }
     {
         if self.tree.registered(clock) {
-            return next_to_raise(&self.desc, &self.tree, &self.counts, &self.flight, clock);
+            return next_to_raise(&self.tree, &self.counts, &self.flight, clock);
         }
-        let parent = given_parent(&self.desc, &self.window, &self.tree, clock);
-        next_to_raise_under(
-            &self.desc,
-            &self.tree,
-            &self.counts,
-            &self.flight,
-            parent,
-            clock,
-        )
+        let parent = given_parent(&self.window, &self.tree, clock);
+        next_to_raise_under(&self.tree, &self.counts, &self.flight, parent, clock)
     }
 
-    // The lowest PLL above a clock that is powered without a prepare.
-    fn to_lower(&self, clock: ClockId) -> Sought
+    /// The lowest PLL above a clock that is powered without a prepare.
+    pub(super) fn to_lower(&self, clock: ClockId) -> Sought
         requires { registered self.now.tree.clocks clock.0 ≡ true }
-        ensures found { IfSome self.now.window.words (λ regs. Finds result (lowerable self.now.desc.defs self.now.counts regs (path self.now.tree.clocks clock.0))) }
+        ensures found { IfSome self.now.window.words (λ regs. Finds result
+            (lowerable self.now.desc.defs self.now.counts regs (path self.now.tree.clocks clock.0))) }
         ensures place { IfSome result.pll (λ pll. pll.0 < length self.now.desc.defs) }
         ensures whole { IsWhole self.now }
     {
-        next_to_lower(&self.desc, &self.tree, &self.counts, &self.window, clock)
+        next_to_lower(&self.tree, &self.counts, &self.window, clock)
     }
 
     // A raise or a lower has found no PLL.
@@ -76,11 +72,13 @@ impl<B: Bank> Machine<B> {
         requires next { own_step self.old.flight ≡ Some (micro.Raise clock) }
         requires first { ComesFirst self.old (micro.Raise clock) }
         requires near { is_near self.old.flight.call (registered self.old.tree.clocks) pll.0 ≡ true }
-        requires found { IfSome self.old.window.words (λ regs. Finds (record { pll = Some pll; more = more }) (reverse (raisable self.old.desc.defs self.old.counts self.old.flight.raised (path_to_be self.old.desc.defs regs self.old.tree.clocks clock.0)))) }
+        requires found { IfSome self.old.window.words (λ regs. Finds (record { pll = Some pll; more = more })
+            (reverse (raisable self.old.desc.defs self.old.counts self.old.flight.raised
+            (path_to_be self.old.desc.defs regs self.old.tree.clocks clock.0)))) }
         ensures enters { Enters self.old self.old.flight.driver (Step (micro.Raise clock) None) Going self.new }
         ensures starts { StartsLock self.old self.new }
     {
-        set_power(self.desc.def(pll).kind, &mut self.window, true);
+        set_power(self.tree.def(pll).kind, &mut self.window, true);
         self.window.start(pll);
         self.flight.raise(clock, pll, more);
         self.steps += 1;
@@ -92,10 +90,11 @@ impl<B: Bank> Machine<B> {
         requires next { own_step self.old.flight ≡ Some (micro.Lower clock) }
         requires first { ComesFirst self.old (micro.Lower clock) }
         requires place { pll.0 < length self.old.desc.defs }
-        requires found { IfSome self.old.window.words (λ regs. Finds (record { pll = Some pll; more = more }) (lowerable self.old.desc.defs self.old.counts regs (path self.old.tree.clocks clock.0))) }
+        requires found { IfSome self.old.window.words (λ regs. Finds (record { pll = Some pll; more = more })
+            (lowerable self.old.desc.defs self.old.counts regs (path self.old.tree.clocks clock.0))) }
         ensures { Enters self.old self.old.flight.driver (Step (micro.Lower clock) None) Going self.new }
     {
-        set_power(self.desc.def(pll).kind, &mut self.window, false);
+        set_power(self.tree.def(pll).kind, &mut self.window, false);
         self.flight.lower(clock, more);
         self.steps += 1;
     }
@@ -152,7 +151,7 @@ impl<B: Bank> Machine<B> {
         requires first { ComesFirst self.old (micro.Fall pll) }
         ensures { Enters self.old self.old.flight.driver (Step (micro.Fall pll) None) Going self.new }
     {
-        set_power(self.desc.def(pll).kind, &mut self.window, false);
+        set_power(self.tree.def(pll).kind, &mut self.window, false);
         self.flight.fall();
         self.steps += 1;
     }

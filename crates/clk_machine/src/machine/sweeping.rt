@@ -1,6 +1,7 @@
 //! The unused sweep: gates that are open and PLLs that are powered without need are switched off.
 
-ghost use Rattle.std.specs.Prelude.{◌≡◌, ◌+◌, ◌<◌, ◌≤◌, ◌&&◌, ◌∷◌, [], not, true, false, None, Some, length, slice_get, IfOk, IfSome, OnOk, OnErr};
+ghost use Rattle.std.specs.Prelude.{◌≡◌, ◌+◌, ◌<◌, ◌≤◌, ◌&&◌, ◌∷◌, [], not, true};
+ghost use Rattle.std.specs.Prelude.{false, None, Some, length, slice_get, sum_by, IfOk, IfSome, OnOk, OnErr};
 ghost use Rattle.std.specs.Option.{option_map, option_map_or};
 ghost use Rattle.std.specs.List.{list_all};
 ghost use Rattle.clk_base.specs.declared.call.Micro.TheVariants as micro;
@@ -14,7 +15,9 @@ ghost use Rattle.clk_model.specs.Begin.{most_credits};
 ghost use Rattle.clk_model.specs.Gates.{follow};
 ghost use Rattle.clk_model.specs.Holders.{prepared};
 ghost use Rattle.clk_model.specs.Journal.{is_going};
-ghost use Rattle.clk_model.specs.Script.{lets_through, runs, sweep_script};
+ghost use Rattle.clk_model.specs.Script.{lets_through, plls, runs, sweep_script};
+ghost use Rattle.clk_flight.specs.LeftOver.{step_weight};
+ghost use Rattle.core_parts.specs.Listed.{rows_from};
 ghost use Rattle.clk_model.specs.State.{State, registered};
 ghost use Rattle.clk_flight.specs.Flights.{own_step};
 ghost use Rattle.clk_machine.specs.Holding.{stays};
@@ -24,7 +27,7 @@ ghost use Rattle.clk_machine.specs.Kinds.{is_answer_to};
 ghost use Rattle.clk_machine.specs.Parts.{IsWhole, steps_left};
 ghost use Rattle.clk_machine.specs.Stands.{Enters, Stands};
 ghost use Rattle.clk_machine.specs.Starting.{StartsCall};
-ghost use Rattle.clk_machine.specs.Sweeping.{Adds, closes, unpowers, close_step, unpower_step, are_light};
+ghost use Rattle.clk_machine.specs.Sweeping.{Adds, closes, unpowers, close_steps, unpower_steps};
 
 use super::Machine;
 use crate::log::Log;
@@ -34,7 +37,7 @@ use clk_flight::Start;
 use clk_io::NoMemory;
 use core_parts::{Window, close_gate, fits, is_open, is_running, set_power};
 use reg_bank::Bank;
-use unused_sweep::sweep_order;
+use unused_sweep::{push_close, sweep_order};
 
 // Whether a clock is to be switched off that is passed over or isn't, is on or off, and is held or isn't.
 fn is_idle(passed_over: bool, on: bool, held: bool) -> bool
@@ -71,7 +74,7 @@ impl<B: Bank> Machine<B> {
         ensures told { (s : State) → Stands self.now s → result ≡ ignores_unused s.defs clock.0 }
         ensures whole { IsWhole self.now }
     {
-        Flags::contains(&self.desc.def(clock).flags, ClkFlags::IGNORE_UNUSED)
+        Flags::contains(&self.tree.def(clock).flags, ClkFlags::IGNORE_UNUSED)
     }
 
     // Whether a clock has a gate that is open.
@@ -79,7 +82,7 @@ impl<B: Bank> Machine<B> {
         requires { registered self.now.tree.clocks clock.0 ≡ true }
         ensures { (s : State) → Stands self.now s → result ≡ lets_through s.defs s.regs clock.0 }
     {
-        is_open(self.desc.def(clock).kind, &self.window)
+        is_open(self.tree.def(clock).kind, &self.window)
     }
 
     // Whether a clock is a PLL that is powered.
@@ -87,7 +90,7 @@ impl<B: Bank> Machine<B> {
         requires { registered self.now.tree.clocks clock.0 ≡ true }
         ensures { (s : State) → Stands self.now s → result ≡ runs s.defs s.regs clock.0 }
     {
-        is_running(self.desc.def(clock).kind, &self.window)
+        is_running(self.tree.def(clock).kind, &self.window)
     }
 
     /// Whether something keeps a clock prepared.
@@ -120,21 +123,21 @@ impl<B: Bank> Machine<B> {
         is_idle(passed_over, powered, held)
     }
 
-    // A step that closes a clock's gate, behind these, if the sweep closes it.
+    // The steps that close a clock's gate are added, if the sweep closes it.
     fn push_close(&self, steps: &mut Vec<Micro>, clock: ClockId) -> Result<(), NoMemory>
         requires { registered self.now.tree.clocks clock.0 ≡ true }
-        ensures { IfOk result (λ done. Adds self.now close_step closes (places (clock ∷ [])) steps.old.items steps.new.items) }
+        ensures { IfOk result (λ done. Adds self.now (close_steps self.now) closes (places (clock ∷ [])) steps.old.items steps.new.items) }
     {
         if self.closes(clock) {
-            steps.push(Micro::Close(clock))?;
+            push_close(steps, &self.tree, clock)?;
         }
         Ok(())
     }
 
-    // A step that switches a PLL off, behind these, if the sweep does.
+    // The step that switches a PLL off is added, if the sweep does so.
     fn push_unpower(&self, steps: &mut Vec<Micro>, clock: ClockId) -> Result<(), NoMemory>
         requires { registered self.now.tree.clocks clock.0 ≡ true }
-        ensures { IfOk result (λ done. Adds self.now unpower_step unpowers (places (clock ∷ [])) steps.old.items steps.new.items) }
+        ensures { IfOk result (λ done. Adds self.now unpower_steps unpowers (places (clock ∷ [])) steps.old.items steps.new.items) }
     {
         if self.unpowers(clock) {
             steps.push(Micro::Unpower(clock))?;
@@ -142,10 +145,10 @@ impl<B: Bank> Machine<B> {
         Ok(())
     }
 
-    // The steps that close gates of an order of clocks, behind these.
+    // The steps that close gates of an order of clocks are added.
     fn push_closes(&self, steps: &mut Vec<Micro>, order: &[ClockId]) -> Result<(), NoMemory>
         requires { list_all (registered self.now.tree.clocks) (places order.now) ≡ true }
-        ensures { IfOk result (λ done. Adds self.now close_step closes (places order.now) steps.old.items steps.new.items) }
+        ensures { IfOk result (λ done. Adds self.now (close_steps self.now) closes (places order.now) steps.old.items steps.new.items) }
     {
         for place in 0..order.len() {
             self.push_close(steps, clock_at(order, place))?;
@@ -153,10 +156,10 @@ impl<B: Bank> Machine<B> {
         Ok(())
     }
 
-    // The steps that switch PLLs of an order of clocks off, behind these.
+    // The steps that switch PLLs of an order of clocks off are added.
     fn push_unpowers(&self, steps: &mut Vec<Micro>, order: &[ClockId]) -> Result<(), NoMemory>
         requires { list_all (registered self.now.tree.clocks) (places order.now) ≡ true }
-        ensures { IfOk result (λ done. Adds self.now unpower_step unpowers (places order.now) steps.old.items steps.new.items) }
+        ensures { IfOk result (λ done. Adds self.now unpower_steps unpowers (places order.now) steps.old.items steps.new.items) }
     {
         for place in 0..order.len() {
             self.push_unpower(steps, clock_at(order, place))?;
@@ -167,7 +170,6 @@ impl<B: Bank> Machine<B> {
     // The script of the sweep.
     fn sweep_steps(&self) -> Result<Vec<Micro>, NoMemory>
         ensures script { IfOk result (λ steps. is_script Sweep (registered self.now.tree.clocks) steps.items ≡ true) }
-        ensures light { IfOk result (λ steps. are_light steps.items ≡ true) }
         ensures told { (s : State) → Stands self.now s → IfOk result (λ steps. steps.items ≡ sweep_script s) }
         ensures whole { IsWhole self.now }
     {
@@ -184,8 +186,8 @@ impl<B: Bank> Machine<B> {
         requires credit { self.old.spent < self.old.credits }
         requires quiet { self.old.flight.going ≡ false }
         requires script { is_script Sweep (registered self.old.tree.clocks) steps.items ≡ true }
-        requires light { are_light steps.items ≡ true }
-        requires room { self.old.credits + self.old.steps + length steps.items ≤ most_credits }
+        requires room { self.old.credits + self.old.steps
+            + sum_by (step_weight (rows_from 0 self.old.chains) (plls self.old.desc.defs)) steps.items ≤ most_credits }
         ensures ok { OnOk result (StartsCall self.old driver Sweep steps.items stays self.new) }
         ensures err { OnErr result (self.new ≡ self.old) }
     {
@@ -203,7 +205,7 @@ impl<B: Bank> Machine<B> {
     }
 
     /// Begins the sweep: at once where it is switched off, and else it goes on, with room in the log
-    /// for the entries of its steps, unless there is none behind the credits and the steps so far.
+    /// for the entries of its steps, unless there is none after the credits and the steps so far.
     pub(crate) fn begin_sweep(&mut self, log: &mut Log, driver: u32) -> Result<Turn, NoMemory>
         requires credit { self.old.spent < self.old.credits }
         requires quiet { self.old.flight.going ≡ false }
@@ -220,7 +222,7 @@ impl<B: Bank> Machine<B> {
             return Ok(Turn::Done(Reply::Fine));
         }
         let steps = self.sweep_steps()?;
-        let weight = steps.len() as u64;
+        let weight = self.weigh(steps.as_slice());
         if !fits(self.used(), weight) {
             self.spend();
             return Ok(Turn::Done(Reply::Refused(Errno::ENOSPC)));
@@ -238,7 +240,7 @@ impl<B: Bank> Machine<B> {
         ensures { Enters self.old self.old.flight.driver (Step (micro.Close clock) None) Going self.new }
     {
         let active = self.is_active(clock);
-        close_unless(active, self.desc.def(clock).kind, &mut self.window);
+        close_unless(active, self.tree.def(clock).kind, &mut self.window);
         self.flight.go_on();
         self.steps += 1;
     }
@@ -250,7 +252,7 @@ impl<B: Bank> Machine<B> {
         requires first { ComesFirst self.old (micro.Unpower clock) }
         ensures { Enters self.old self.old.flight.driver (Step (micro.Unpower clock) None) Going self.new }
     {
-        set_power(self.desc.def(clock).kind, &mut self.window, false);
+        set_power(self.tree.def(clock).kind, &mut self.window, false);
         self.flight.go_on();
         self.steps += 1;
     }

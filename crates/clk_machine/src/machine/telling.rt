@@ -20,7 +20,7 @@ impl<B: Bank> Machine<B> {
         ensures desc { result.now ≡ self.now.desc }
         ensures whole { IsWhole self.now }
     {
-        &self.desc
+        self.tree.desc()
     }
 
     /// The tree with its kept rates.
@@ -52,7 +52,7 @@ impl<B: Bank> Machine<B> {
     pub(crate) fn keep(&self)
         ensures { IsWhole self.now }
     {
-        let _ = &self.desc;
+        let _ = &self.tree;
     }
 
     /// How many credits are left.
@@ -105,7 +105,6 @@ impl<B: Bank> Machine<B> {
         ensures delays { delays_in (locks_of (B.lock result)) ≡ self.window.behind.delays }
     {
         let Machine {
-            desc: _,
             window,
             tree: _,
             handles: _,

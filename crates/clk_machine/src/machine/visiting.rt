@@ -58,9 +58,10 @@ impl<B: Bank> Machine<B> {
         requires first { ComesFirst self.old (micro.Visit clock) }
         ensures { Enters self.old self.old.flight.driver (Step (micro.Visit clock) None) Going self.new }
     {
+        let missed = self.flight.missed();
         set_along(
-            &self.desc,
             &self.course,
+            missed,
             &mut self.window,
             &mut self.tree,
             clock,

@@ -1,8 +1,7 @@
 //! How a copy goes along with an event at which its call ends.
 
-ghost use Rattle.std.specs.Prelude.{◌≡◌, ℕ, Bool, List, Option, true, false};
+ghost use Rattle.std.specs.Prelude.{◌≡◌, ℕ, Bool, List, Option, false};
 ghost use Rattle.clk_base.specs.declared.call.Micro.{Micro};
-ghost use Rattle.clk_base.specs.declared.call.Sleeping.TheVariants as call;
 ghost use Rattle.clk_base.specs.declared.event.Event.TheVariants.{Begin, Step};
 ghost use Rattle.clk_base.specs.declared.event.Reply.{Reply};
 ghost use Rattle.clk_base.specs.declared.handle.Handle.{Handle};
@@ -10,7 +9,7 @@ ghost use Rattle.clk_base.specs.declared.event.Reply.TheVariants.{Fine};
 ghost use Rattle.clk_base.specs.declared.event.Reply.TheVariants as reply;
 ghost use Rattle.clk_base.specs.declared.event.Turn.TheVariants.{Done};
 ghost use Rattle.notifiers.specs.declared.notifier.Notifier.{Notifier};
-ghost use Rattle.clk_machine.specs.Along.{IsEventOf, KeepsShape, PartsFollow, adds_notifier, clock_got, is_still};
+ghost use Rattle.clk_machine.specs.Along.{IsEventOf, KeepsShape, PartsFollow, clock_got};
 ghost use Rattle.clk_machine.specs.Parts.{IsWhole};
 ghost use Rattle.clk_machine.specs.Ready.{HasPlaceFor};
 ghost use Rattle.clk_machine.specs.Sound.{IsPlaced};
@@ -19,51 +18,6 @@ use super::words::Words;
 use crate::machine::Machine;
 use clk_base::{ClockId, Event, Reply, Sleeping};
 use notifiers::Chain;
-
-// Whether a call that is answered by Ok at once leaves all as it is.
-fn is_still(what: Sleeping) -> bool
-    ensures { result ≡ is_still what }
-{
-    matches!(
-        what,
-        Sleeping::Get(_)
-            | Sleeping::GetRate(_)
-            | Sleeping::RoundRate(_, _)
-            | Sleeping::SetRate(_, _)
-            | Sleeping::SetParent(_, _)
-            | Sleeping::GetParent(_)
-            | Sleeping::Sweep
-    )
-}
-
-// Goes along with a call that was answered by Ok at once and does something.
-fn do_along(machine: &mut Machine<Words>, driver: u32, what: Sleeping)
-    requires quiet { machine.old.flight.going ≡ false }
-    requires place { IsPlaced machine.old.desc.defs what }
-    requires moves { is_still what ≡ false }
-    requires known { adds_notifier what ≡ false }
-    requires whole { IsWhole machine.old }
-    ensures follows { PartsFollow machine.old driver (Begin what) (Done Fine) machine.new }
-    ensures quiet { machine.new.flight.going ≡ false }
-    ensures same { KeepsShape machine.old machine.new }
-{
-    match what {
-        Sleeping::Put(handle) => machine.put_along(driver, handle),
-        Sleeping::Prepare(handle) => machine.prepare_along(driver, handle),
-        Sleeping::Unprepare(handle) => machine.unprepare_along(driver, handle),
-        Sleeping::SetRateExclusive(handle, _) => machine.exclusive_get_along(driver, handle),
-        Sleeping::SetRange(handle, least, most) => {
-            machine.range_along(driver, handle, least, most)
-        }
-        Sleeping::ExclusiveGet(handle) => machine.exclusive_get_along(driver, handle),
-        Sleeping::ExclusivePut(handle) => machine.exclusive_put_along(driver, handle),
-        Sleeping::NotifierRemove(handle, id) => {
-            machine.notifier_remove_along(driver, handle, id)
-        }
-        Sleeping::Probe(clock) => machine.probe_along(driver, clock),
-        _ => unreachable!(),
-    }
-}
 
 // Goes along with the step at which the call in flight ends.
 fn end_along(machine: &mut Machine<Words>)
@@ -91,14 +45,25 @@ fn fine_along(machine: &mut Machine<Words>, chain: &mut Option<Chain>, driver: u
     ensures quiet { machine.new.flight.going ≡ false }
     ensures same { KeepsShape machine.old machine.new }
 {
-    if is_still(what) {
-        return;
+    match what {
+        Sleeping::Put(handle) => machine.put_along(driver, handle),
+        Sleeping::Prepare(handle) => machine.prepare_along(driver, handle),
+        Sleeping::Unprepare(handle) => machine.unprepare_along(driver, handle),
+        Sleeping::SetRateExclusive(handle, _) => machine.exclusive_get_along(driver, handle),
+        Sleeping::SetRange(handle, least, most) => {
+            machine.range_along(driver, handle, least, most)
+        }
+        Sleeping::ExclusiveGet(handle) => machine.exclusive_get_along(driver, handle),
+        Sleeping::ExclusivePut(handle) => machine.exclusive_put_along(driver, handle),
+        Sleeping::NotifierAdd(handle, _id, _priority, _policy) => {
+            machine.notifier_add_along(chain, driver, handle)
+        }
+        Sleeping::NotifierRemove(handle, id) => {
+            machine.notifier_remove_along(driver, handle, id)
+        }
+        Sleeping::Probe(clock) => machine.probe_along(driver, clock),
+        _ => {}
     }
-    if let Sleeping::NotifierAdd(handle, _id, _priority, _policy) = what {
-        machine.notifier_add_along(chain, driver, handle);
-        return;
-    }
-    do_along(machine, driver, what);
 }
 
 // The clock of which a call gets a handle.

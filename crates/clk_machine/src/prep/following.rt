@@ -14,9 +14,11 @@ use clk_base::{Event, Micro, Sleeping};
 
 // Begins the call that was made ready, unless one is in flight.
 fn begin_along(machine: &mut Machine<Words>, ready: &mut Ready, driver: u32, what: Sleeping)
-    requires ready { machine.old.flight.going ≡ false → IsReadyFor machine.old driver what ready.old.flight (course_of ready.old.draft) ready.old.chain }
+    requires ready { machine.old.flight.going ≡ false
+        → IsReadyFor machine.old driver what ready.old.flight (course_of ready.old.draft) ready.old.chain }
     ensures follows { PartsFollow machine.old driver (Begin what) Going machine.new }
-    ensures ready { machine.new.flight.going ≡ false → IsReadyFor machine.new driver what ready.new.flight (course_of ready.new.draft) ready.new.chain }
+    ensures ready { machine.new.flight.going ≡ false
+        → IsReadyFor machine.new driver what ready.new.flight (course_of ready.new.draft) ready.new.chain }
     ensures same { KeepsShape machine.old machine.new }
 {
     if !machine.is_quiet() {
@@ -49,9 +51,11 @@ pub(super) fn go_on(
     what: Sleeping,
     event: Event,
 )
-    requires ready { machine.old.flight.going ≡ false → IsReadyFor machine.old driver what ready.old.flight (course_of ready.old.draft) ready.old.chain }
+    requires ready { machine.old.flight.going ≡ false
+        → IsReadyFor machine.old driver what ready.old.flight (course_of ready.old.draft) ready.old.chain }
     ensures follows { IsEventOf what event → PartsFollow machine.old driver event Going machine.new }
-    ensures ready { machine.new.flight.going ≡ false → IsReadyFor machine.new driver what ready.new.flight (course_of ready.new.draft) ready.new.chain }
+    ensures ready { machine.new.flight.going ≡ false
+        → IsReadyFor machine.new driver what ready.new.flight (course_of ready.new.draft) ready.new.chain }
     ensures same { KeepsShape machine.old machine.new }
 {
     match event {

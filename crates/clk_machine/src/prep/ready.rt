@@ -9,8 +9,9 @@ ghost use Rattle.clk_machine.specs.Ready.{GoesOut, IsReadyFor};
 ghost use Rattle.clk_machine.specs.Sound.{IsPlaced, takes_memory};
 
 use super::words::Words;
+use crate::change::change_of;
 use crate::decision::Decision;
-use crate::machine::{Machine, is_planning};
+use crate::machine::Machine;
 use clk_base::Sleeping;
 use clk_flight::Flight;
 use clk_io::NoMemory;
@@ -56,6 +57,9 @@ pub(super) fn make_ready(
     ensures err { OnErr result (machine.new ≡ machine.old) }
     ensures memory { takes_memory what ≡ false → IsOk result }
 {
+    if let Some(change) = change_of(what) {
+        return machine.ready_change(&mut ready.flight, &mut ready.draft, driver, change);
+    }
     match what {
         Sleeping::Get(Some(clock)) => machine.make_place(clock),
         Sleeping::NotifierAdd(handle, id, priority, policy) => {
@@ -64,30 +68,6 @@ pub(super) fn make_ready(
         }
         Sleeping::Prepare(handle) => machine.ready_prepare(&mut ready.flight, driver, handle),
         Sleeping::Unprepare(handle) => machine.ready_unprepare(&mut ready.flight, driver, handle),
-        Sleeping::SetRate(_, _) => machine.ready_change(
-            &mut ready.flight,
-            &mut ready.draft,
-            driver,
-            what,
-        ),
-        Sleeping::SetRateExclusive(_, _) => machine.ready_change(
-            &mut ready.flight,
-            &mut ready.draft,
-            driver,
-            what,
-        ),
-        Sleeping::SetRange(_, _, _) => machine.ready_change(
-            &mut ready.flight,
-            &mut ready.draft,
-            driver,
-            what,
-        ),
-        Sleeping::SetParent(_, _) => machine.ready_change(
-            &mut ready.flight,
-            &mut ready.draft,
-            driver,
-            what,
-        ),
         Sleeping::Probe(clock) => machine.ready_probe(&mut ready.flight, driver, clock),
         Sleeping::Sweep => machine.ready_sweep(&mut ready.flight, driver),
         _ => Ok(()),
@@ -112,15 +92,15 @@ pub(super) fn make_decided(
     ensures err { OnErr result (machine.new ≡ machine.old) }
     ensures memory { takes_memory what ≡ false → IsOk result }
 {
-    if !is_planning(&what) {
+    let Some(change) = change_of(what) else {
         return make_ready(machine, ready, driver, what);
-    }
+    };
     match decision {
         Decision::Script { plan, .. } => machine.ready_decided(
             &mut ready.flight,
             &mut ready.draft,
             driver,
-            what,
+            change,
             plan,
         ),
         Decision::Reply(_) => Ok(()),
@@ -132,7 +112,8 @@ pub(super) fn make_decided(
 pub(super) fn set_out(machine: &mut Machine<Words>, ready: &mut Ready, driver: u32, what: Sleeping)
     requires ready { IsReadyFor machine.old driver what ready.old.flight (course_of ready.old.draft) ready.old.chain }
     ensures goes { GoesOut machine.old driver what machine.new }
-    ensures ready { machine.new.flight.going ≡ false → IsReadyFor machine.new driver what ready.new.flight (course_of ready.new.draft) ready.new.chain }
+    ensures ready { machine.new.flight.going ≡ false
+        → IsReadyFor machine.new driver what ready.new.flight (course_of ready.new.draft) ready.new.chain }
     ensures same { KeepsShape machine.old machine.new }
 {
     if !ready.flight.going() {

@@ -10,7 +10,7 @@ use Rattle.clk_machine.proofs.machine.Machine.add_exclusive.Goals as goal
 pub protect-requires-clause-place : goal.protect-requires-clause-place
 protect-requires-clause-place g c =
     let m = c.self.inside in
-    let p : Parts = parts_of m.desc m.window m.tree m.handles m.counts m.notifiers m.credits m.spent m.ignore_unused m.flight m.course m.prepare_holds m.enable_holds m.steps in
+    let p : Parts = parts_of m.window m.tree m.handles m.counts m.notifiers m.credits m.spent m.ignore_unused m.flight m.course m.prepare_holds m.enable_holds m.steps in
     let row = c.args.row in
     let n = c.args.handle.number in
     let live : handle_at m.handles.handles n ≡ Some row = rw (← c.self.view_is) at c.requires.live in
@@ -19,7 +19,7 @@ protect-requires-clause-place g c =
 pub protect-requires-clause-links : goal.protect-requires-clause-links
 protect-requires-clause-links g c =
     let m = c.self.inside in
-    let p : Parts = parts_of m.desc m.window m.tree m.handles m.counts m.notifiers m.credits m.spent m.ignore_unused m.flight m.course m.prepare_holds m.enable_holds m.steps in
+    let p : Parts = parts_of m.window m.tree m.handles m.counts m.notifiers m.credits m.spent m.ignore_unused m.flight m.course m.prepare_holds m.enable_holds m.steps in
     let row = c.args.row in
     let n = c.args.handle.number in
     let live : handle_at m.handles.handles n ≡ Some row = rw (← c.self.view_is) at c.requires.live in
@@ -28,7 +28,7 @@ protect-requires-clause-links g c =
 pub protect-requires-clause-room : goal.protect-requires-clause-room
 protect-requires-clause-room g c =
     let m = c.self.inside in
-    let p : Parts = parts_of m.desc m.window m.tree m.handles m.counts m.notifiers m.credits m.spent m.ignore_unused m.flight m.course m.prepare_holds m.enable_holds m.steps in
+    let p : Parts = parts_of m.window m.tree m.handles m.counts m.notifiers m.credits m.spent m.ignore_unused m.flight m.course m.prepare_holds m.enable_holds m.steps in
     let row = c.args.row in
     let n = c.args.handle.number in
     let live : handle_at m.handles.handles n ≡ Some row = rw (← c.self.view_is) at c.requires.live in
@@ -37,7 +37,7 @@ protect-requires-clause-room g c =
 pub overflow_add-row : goal.overflow_add-row
 overflow_add-row g c =
     let m = c.self.inside in
-    let p : Parts = parts_of m.desc m.window m.tree m.handles m.counts m.notifiers m.credits m.spent m.ignore_unused m.flight m.course m.prepare_holds m.enable_holds m.steps in
+    let p : Parts = parts_of m.window m.tree m.handles m.counts m.notifiers m.credits m.spent m.ignore_unused m.flight m.course m.prepare_holds m.enable_holds m.steps in
     let row = c.args.row in
     let n = c.args.handle.number in
     let live : handle_at m.handles.handles n ≡ Some row = rw (← c.self.view_is) at c.requires.live in
@@ -47,7 +47,7 @@ overflow_add-row g c =
 pub invariant_of-self : goal.invariant_of-self
 invariant_of-self g c =
     let m = c.self.inside in
-    let p : Parts = parts_of m.desc m.window m.tree m.handles m.counts m.notifiers m.credits m.spent m.ignore_unused m.flight m.course m.prepare_holds m.enable_holds m.steps in
+    let p : Parts = parts_of m.window m.tree m.handles m.counts m.notifiers m.credits m.spent m.ignore_unused m.flight m.course m.prepare_holds m.enable_holds m.steps in
     let row = c.args.row in
     let n = c.args.handle.number in
     let live : handle_at m.handles.handles n ≡ Some row = rw (← c.self.view_is) at c.requires.live in
@@ -66,7 +66,7 @@ invariant_of-self g c =
 pub returns : goal.returns
 returns g c =
     let m = c.self.inside in
-    let p : Parts = parts_of m.desc m.window m.tree m.handles m.counts m.notifiers m.credits m.spent m.ignore_unused m.flight m.course m.prepare_holds m.enable_holds m.steps in
+    let p : Parts = parts_of m.window m.tree m.handles m.counts m.notifiers m.credits m.spent m.ignore_unused m.flight m.course m.prepare_holds m.enable_holds m.steps in
     let row = c.args.row in
     let n = c.args.handle.number in
     let live : handle_at m.handles.handles n ≡ Some row = rw (← c.self.view_is) at c.requires.live in

@@ -7,7 +7,7 @@ use Rattle.clk_machine.proofs.machine.Machine.add_handle.Goals as goal
 pub invariant_of-self-2 : goal.invariant_of-self-2
 invariant_of-self-2 g c =
     let m = c.self.inside in
-    let p : Parts = parts_of m.desc m.window m.tree m.handles m.counts m.notifiers m.credits m.spent m.ignore_unused m.flight m.course m.prepare_holds m.enable_holds m.steps in
+    let p : Parts = parts_of m.window m.tree m.handles m.counts m.notifiers m.credits m.spent m.ignore_unused m.flight m.course m.prepare_holds m.enable_holds m.steps in
     let quiet : m.flight.going ≡ false = rw (← c.self.view_is) at c.requires.quiet in
     let there : registered m.tree.clocks c.args.clock.0 ≡ true = rw (← c.self.view_is) at c.requires.there in
     let left : m.spent < m.credits = rw (← c.self.view_is) at c.requires.credit in
@@ -16,5 +16,5 @@ invariant_of-self-2 g c =
 pub returns-clause-ok : goal.returns-clause-ok
 returns-clause-ok g c =
     let m = c.self.inside in
-    let p : Parts = parts_of m.desc m.window m.tree m.handles m.counts m.notifiers m.credits m.spent m.ignore_unused m.flight m.course m.prepare_holds m.enable_holds m.steps in
+    let p : Parts = parts_of m.window m.tree m.handles m.counts m.notifiers m.credits m.spent m.ignore_unused m.flight m.course m.prepare_holds m.enable_holds m.steps in
     rw (← c.self.view_is) (becomes_added p c.args.driver c.args.clock c.add.new.self c.in_ok-handle.ensures.handles)

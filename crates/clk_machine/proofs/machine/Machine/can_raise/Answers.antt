@@ -1,12 +1,8 @@
-use Rattle.std.proofs.Common.{◌≡◌, ℕ, ◌+◌, ◌*◌, ap, ◌∙◌, nat_le}
+use Rattle.std.proofs.Common.{ℕ, ◌+◌, ap, ◌∙◌, nat_le}
 use Rattle.clk_model.specs.Begin.{most_credits}
-use Rattle.clk_model.specs.Script.{plls}
-use Rattle.clk_machine.specs.Parts.{Parts, parts_of}
 use Rattle.clk_machine.proofs.machine.Machine.can_raise.Goals as goal
 
 pub returns : goal.returns
 returns g c =
-    let m = c.self.inside in
-    let p : Parts = parts_of m.desc m.window m.tree m.handles m.counts m.notifiers m.credits m.spent m.ignore_unused m.flight m.course m.prepare_holds m.enable_holds m.steps in
-    let most : c.plls.result ≡ plls m.desc.defs = c.plls.ensures.plls ∙ ap plls c.self.invariant.tied.defs in
-    rw (← c.self.view_is) (c.has_room.ensures ∙ ap (λ (n : ℕ). nat_le (m.credits + m.steps + n) most_credits) (c.most_to_raise-most.ensures.most ∙ ap (λ (n : ℕ). 34 * n + 2) most))
+    c.fits.ensures ∙ ap (λ (n : ℕ). nat_le (n + c.most_raises.result) most_credits) c.used.ensures
+    ∙ ap (λ (n : ℕ). nat_le (c.args.self.now.credits + c.args.self.now.steps + n) most_credits) c.most_raises.ensures.most

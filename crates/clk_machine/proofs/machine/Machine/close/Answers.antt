@@ -7,30 +7,31 @@ use Rattle.clk_machine.specs.Parts.{Parts, parts_of}
 use Rattle.clk_machine.specs.Stands.{Stands}
 use Rattle.core_parts.proofs.Moving.{clock_within}
 use Rattle.clk_machine.proofs.Sweeping.{Switched, clock_switched, gate_there, tied_gate, told_gate, closes_gate, whole_switched, switch_enters}
+use Rattle.core_parts.specs.Tied.{desc_of}
 use Rattle.clk_machine.proofs.machine.Machine.close.Goals as goal
 
 pub is_active-active-requires : goal.is_active-active-requires
 is_active-active-requires g c =
     let m = c.self.inside in
-    let p : Parts = parts_of m.desc m.window m.tree m.handles m.counts m.notifiers m.credits m.spent m.ignore_unused m.flight m.course m.prepare_holds m.enable_holds m.steps in
+    let p : Parts = parts_of m.window m.tree m.handles m.counts m.notifiers m.credits m.spent m.ignore_unused m.flight m.course m.prepare_holds m.enable_holds m.steps in
     let going : p.flight.going ≡ true = subst (λ (q : Parts). q.flight.going ≡ true) (sym c.self.view_is) c.requires.going in
     let own : own_step p.flight ≡ Some (micro.Close c.args.clock) = subst (λ (q : Parts). own_step q.flight ≡ Some (micro.Close c.args.clock)) (sym c.self.view_is) c.requires.next in
     let there = clock_switched p (micro.Close c.args.clock) c.args.clock.0 (λ what there. refl) refl c.self.invariant going own in
-    subst (λ (q : Parts). c.args.clock.0 < length q.desc.defs) c.self.view_is (clock_within m.desc m.window m.tree c.args.clock.0 c.self.invariant.tied there)
+    subst (λ (q : Parts). c.args.clock.0 < length q.desc.defs) c.self.view_is (clock_within (desc_of m.tree) m.window m.tree c.args.clock.0 c.self.invariant.tied there)
 
 pub def-requires : goal.def-requires
 def-requires g c =
     let m = c.self.inside in
-    let p : Parts = parts_of m.desc m.window m.tree m.handles m.counts m.notifiers m.credits m.spent m.ignore_unused m.flight m.course m.prepare_holds m.enable_holds m.steps in
+    let p : Parts = parts_of m.window m.tree m.handles m.counts m.notifiers m.credits m.spent m.ignore_unused m.flight m.course m.prepare_holds m.enable_holds m.steps in
     let going : p.flight.going ≡ true = subst (λ (q : Parts). q.flight.going ≡ true) (sym c.self.view_is) c.requires.going in
     let own : own_step p.flight ≡ Some (micro.Close c.args.clock) = subst (λ (q : Parts). own_step q.flight ≡ Some (micro.Close c.args.clock)) (sym c.self.view_is) c.requires.next in
     let there = clock_switched p (micro.Close c.args.clock) c.args.clock.0 (λ what there. refl) refl c.self.invariant going own in
-    clock_within m.desc m.window m.tree c.args.clock.0 c.self.invariant.tied there
+    record { place = clock_within (desc_of m.tree) m.window m.tree c.args.clock.0 c.self.invariant.tied there }
 
 pub close_unless-requires : goal.close_unless-requires
 close_unless-requires g c =
     let m = c.self.inside in
-    let p : Parts = parts_of m.desc m.window m.tree m.handles m.counts m.notifiers m.credits m.spent m.ignore_unused m.flight m.course m.prepare_holds m.enable_holds m.steps in
+    let p : Parts = parts_of m.window m.tree m.handles m.counts m.notifiers m.credits m.spent m.ignore_unused m.flight m.course m.prepare_holds m.enable_holds m.steps in
     let going : p.flight.going ≡ true = subst (λ (q : Parts). q.flight.going ≡ true) (sym c.self.view_is) c.requires.going in
     let own : own_step p.flight ≡ Some (micro.Close c.args.clock) = subst (λ (q : Parts). own_step q.flight ≡ Some (micro.Close c.args.clock)) (sym c.self.view_is) c.requires.next in
     let there = clock_switched p (micro.Close c.args.clock) c.args.clock.0 (λ what there. refl) refl c.self.invariant going own in
@@ -39,7 +40,7 @@ close_unless-requires g c =
 pub invariant_of-self : goal.invariant_of-self
 invariant_of-self g c =
     let m = c.self.inside in
-    let p : Parts = parts_of m.desc m.window m.tree m.handles m.counts m.notifiers m.credits m.spent m.ignore_unused m.flight m.course m.prepare_holds m.enable_holds m.steps in
+    let p : Parts = parts_of m.window m.tree m.handles m.counts m.notifiers m.credits m.spent m.ignore_unused m.flight m.course m.prepare_holds m.enable_holds m.steps in
     let going : p.flight.going ≡ true = subst (λ (q : Parts). q.flight.going ≡ true) (sym c.self.view_is) c.requires.going in
     let own : own_step p.flight ≡ Some (micro.Close c.args.clock) = subst (λ (q : Parts). own_step q.flight ≡ Some (micro.Close c.args.clock)) (sym c.self.view_is) c.requires.next in
     let there = clock_switched p (micro.Close c.args.clock) c.args.clock.0 (λ what there. refl) refl c.self.invariant going own in
@@ -54,7 +55,7 @@ invariant_of-self g c =
       told = told_gate c.def.result.now.kind c.is_active-active.result m.window.words c.close_unless.new.window.words c.close_unless.ensures.words;
       behind = c.close_unless.ensures.behind;
       locks = c.close_unless.ensures.locks;
-      tied = tied_gate p c.args.clock.0 c.is_active-active.result c.def.result.now.kind c.close_unless.new.window c.self.invariant (clock_within m.desc m.window m.tree c.args.clock.0 c.self.invariant.tied there)
+      tied = tied_gate p c.args.clock.0 c.is_active-active.result c.def.result.now.kind c.close_unless.new.window c.self.invariant (clock_within (desc_of m.tree) m.window m.tree c.args.clock.0 c.self.invariant.tied there)
           (ap (λ (d : ClockDef). d.kind) c.def.ensures.def) c.close_unless.ensures.size c.close_unless.ensures.words;
       flight = c.go_on.ensures.flight;
       change = c.go_on.ensures.change;
@@ -65,7 +66,7 @@ invariant_of-self g c =
 pub returns : goal.returns
 returns g c =
     let m = c.self.inside in
-    let p : Parts = parts_of m.desc m.window m.tree m.handles m.counts m.notifiers m.credits m.spent m.ignore_unused m.flight m.course m.prepare_holds m.enable_holds m.steps in
+    let p : Parts = parts_of m.window m.tree m.handles m.counts m.notifiers m.credits m.spent m.ignore_unused m.flight m.course m.prepare_holds m.enable_holds m.steps in
     let going : p.flight.going ≡ true = subst (λ (q : Parts). q.flight.going ≡ true) (sym c.self.view_is) c.requires.going in
     let own : own_step p.flight ≡ Some (micro.Close c.args.clock) = subst (λ (q : Parts). own_step q.flight ≡ Some (micro.Close c.args.clock)) (sym c.self.view_is) c.requires.next in
     let there = clock_switched p (micro.Close c.args.clock) c.args.clock.0 (λ what there. refl) refl c.self.invariant going own in
@@ -80,7 +81,7 @@ returns g c =
       told = told_gate c.def.result.now.kind c.is_active-active.result m.window.words c.close_unless.new.window.words c.close_unless.ensures.words;
       behind = c.close_unless.ensures.behind;
       locks = c.close_unless.ensures.locks;
-      tied = tied_gate p c.args.clock.0 c.is_active-active.result c.def.result.now.kind c.close_unless.new.window c.self.invariant (clock_within m.desc m.window m.tree c.args.clock.0 c.self.invariant.tied there)
+      tied = tied_gate p c.args.clock.0 c.is_active-active.result c.def.result.now.kind c.close_unless.new.window c.self.invariant (clock_within (desc_of m.tree) m.window m.tree c.args.clock.0 c.self.invariant.tied there)
           (ap (λ (d : ClockDef). d.kind) c.def.ensures.def) c.close_unless.ensures.size c.close_unless.ensures.words;
       flight = c.go_on.ensures.flight;
       change = c.go_on.ensures.change;

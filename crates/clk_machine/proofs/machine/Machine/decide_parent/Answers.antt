@@ -29,7 +29,7 @@ returns-then-is_linked-clause-decides g c = λ s stands sound.
 pub refusal-requires-clause-lies : goal.refusal-requires-clause-lies
 refusal-requires-clause-lies g c =
     let m = c.self.inside in
-    let p : Parts = parts_of m.desc m.window m.tree m.handles m.counts m.notifiers m.credits m.spent m.ignore_unused m.flight m.course m.prepare_holds m.enable_holds m.steps in
+    let p : Parts = parts_of m.window m.tree m.handles m.counts m.notifiers m.credits m.spent m.ignore_unused m.flight m.course m.prepare_holds m.enable_holds m.steps in
     let row = c.in-Some.row in
     let live : handle_at p.table.handles c.args.handle.number ≡ Some row = subst (λ (q : Parts). handle_at q.table.handles c.args.handle.number ≡ Some row) (sym c.self.view_is) c.in-Some.ensures.live in
     row_place p c.args.handle.number row c.self.invariant live
@@ -37,7 +37,7 @@ refusal-requires-clause-lies g c =
 pub refusal-requires-clause-clock : goal.refusal-requires-clause-clock
 refusal-requires-clause-clock g c =
     let m = c.self.inside in
-    let p : Parts = parts_of m.desc m.window m.tree m.handles m.counts m.notifiers m.credits m.spent m.ignore_unused m.flight m.course m.prepare_holds m.enable_holds m.steps in
+    let p : Parts = parts_of m.window m.tree m.handles m.counts m.notifiers m.credits m.spent m.ignore_unused m.flight m.course m.prepare_holds m.enable_holds m.steps in
     let row = c.in-Some.row in
     let live : handle_at p.table.handles c.args.handle.number ≡ Some row = subst (λ (q : Parts). handle_at q.table.handles c.args.handle.number ≡ Some row) (sym c.self.view_is) c.in-Some.ensures.live in
     counted_place p row.clock.0 c.self.invariant (row_place p c.args.handle.number row c.self.invariant live)
@@ -45,17 +45,17 @@ refusal-requires-clause-clock g c =
 pub plan_move-requires-clause-parent : goal.plan_move-requires-clause-parent
 plan_move-requires-clause-parent g c =
     let m = c.self.inside in
-    (none_against m.desc.defs m.tree.clocks m.counts c.in-Some.row c.args.parent.0 (sym c.refusal.ensures.cause ∙ c.in_default-refusal.is)).1
+    (none_against m.tree.defs m.tree.clocks m.counts c.in-Some.row c.args.parent.0 (sym c.refusal.ensures.cause ∙ c.in_default-refusal.is)).1
 
 pub plan_move-requires-clause-possible : goal.plan_move-requires-clause-possible
 plan_move-requires-clause-possible g c =
     let m = c.self.inside in
-    (none_against m.desc.defs m.tree.clocks m.counts c.in-Some.row c.args.parent.0 (sym c.refusal.ensures.cause ∙ c.in_default-refusal.is)).0
+    (none_against m.tree.defs m.tree.clocks m.counts c.in-Some.row c.args.parent.0 (sym c.refusal.ensures.cause ∙ c.in_default-refusal.is)).0
 
 pub returns-in-Some-refusal-clause-decides : goal.returns-in-Some-refusal-clause-decides
 returns-in-Some-refusal-clause-decides g c =
     let m = c.self.inside in
-    let p : Parts = parts_of m.desc m.window m.tree m.handles m.counts m.notifiers m.credits m.spent m.ignore_unused m.flight m.course m.prepare_holds m.enable_holds m.steps in
+    let p : Parts = parts_of m.window m.tree m.handles m.counts m.notifiers m.credits m.spent m.ignore_unused m.flight m.course m.prepare_holds m.enable_holds m.steps in
     let row = c.in-Some.row in
     let live : handle_at p.table.handles c.args.handle.number ≡ Some row = subst (λ (q : Parts). handle_at q.table.handles c.args.handle.number ≡ Some row) (sym c.self.view_is) c.in-Some.ensures.live in
     let own = subst (λ (q : Parts). own_in q.table.handles c.args.driver c.args.handle.number ≡ Some row) (sym c.self.view_is) (c.own.ensures.row ∙ c.in-Some.is) in
@@ -67,7 +67,7 @@ returns-in-Some-refusal-clause-decides g c =
 pub returns-clause-decides : goal.returns-clause-decides
 returns-clause-decides g c =
     let m = c.self.inside in
-    let p : Parts = parts_of m.desc m.window m.tree m.handles m.counts m.notifiers m.credits m.spent m.ignore_unused m.flight m.course m.prepare_holds m.enable_holds m.steps in
+    let p : Parts = parts_of m.window m.tree m.handles m.counts m.notifiers m.credits m.spent m.ignore_unused m.flight m.course m.prepare_holds m.enable_holds m.steps in
     let row = c.in-Some.row in
     let live : handle_at p.table.handles c.args.handle.number ≡ Some row = subst (λ (q : Parts). handle_at q.table.handles c.args.handle.number ≡ Some row) (sym c.self.view_is) c.in-Some.ensures.live in
     let own = subst (λ (q : Parts). own_in q.table.handles c.args.driver c.args.handle.number ≡ Some row) (sym c.self.view_is) (c.own.ensures.row ∙ c.in-Some.is) in

@@ -12,22 +12,23 @@ use Rattle.core_parts.proofs.Moving.{clock_within}
 use Rattle.clk_machine.proofs.Relinking.{whole_relinked}
 use Rattle.clk_machine.proofs.Room.{prepare_place, prepare_owned}
 use Rattle.clk_machine.proofs.Rows.{counted_place}
+use Rattle.core_parts.specs.Tied.{desc_of}
 use Rattle.clk_machine.proofs.machine.Machine.end_prepare.Goals as goal
 
 pub release-requires-clause-place : goal.release-requires-clause-place
 release-requires-clause-place g c =
     let m = c.self.inside in
-    let p : Parts = parts_of m.desc m.window m.tree m.handles m.counts m.notifiers m.credits m.spent m.ignore_unused m.flight m.course m.prepare_holds m.enable_holds m.steps in
+    let p : Parts = parts_of m.window m.tree m.handles m.counts m.notifiers m.credits m.spent m.ignore_unused m.flight m.course m.prepare_holds m.enable_holds m.steps in
     let going : p.flight.going ≡ true = subst (λ (q : Parts). q.flight.going ≡ true) (sym c.self.view_is) c.requires.going in
     let own : own_step p.flight ≡ Some (micro.DropPrepare c.args.clock) = subst (λ (q : Parts). own_step q.flight ≡ Some (micro.DropPrepare c.args.clock)) (sym c.self.view_is) c.requires.next in
     let there : registered m.tree.clocks c.args.clock.0 ≡ true = held_there p (micro.DropPrepare c.args.clock) c.args.clock.0 c.self.invariant going refl own refl in
-    let within : c.args.clock.0 < length m.desc.defs = clock_within m.desc m.window m.tree c.args.clock.0 c.self.invariant.tied there in
+    let within : c.args.clock.0 < length m.tree.defs = clock_within (desc_of m.tree) m.window m.tree c.args.clock.0 c.self.invariant.tied there in
     counted_place p c.args.clock.0 c.self.invariant within
 
 pub release-requires-clause-links : goal.release-requires-clause-links
 release-requires-clause-links g c =
     let m = c.self.inside in
-    let p : Parts = parts_of m.desc m.window m.tree m.handles m.counts m.notifiers m.credits m.spent m.ignore_unused m.flight m.course m.prepare_holds m.enable_holds m.steps in
+    let p : Parts = parts_of m.window m.tree m.handles m.counts m.notifiers m.credits m.spent m.ignore_unused m.flight m.course m.prepare_holds m.enable_holds m.steps in
     let going : p.flight.going ≡ true = subst (λ (q : Parts). q.flight.going ≡ true) (sym c.self.view_is) c.requires.going in
     let own : own_step p.flight ≡ Some (micro.DropPrepare c.args.clock) = subst (λ (q : Parts). own_step q.flight ≡ Some (micro.DropPrepare c.args.clock)) (sym c.self.view_is) c.requires.next in
     c.self.invariant.counted.stands.links
@@ -35,7 +36,7 @@ release-requires-clause-links g c =
 pub release-requires-clause-held : goal.release-requires-clause-held
 release-requires-clause-held g c =
     let m = c.self.inside in
-    let p : Parts = parts_of m.desc m.window m.tree m.handles m.counts m.notifiers m.credits m.spent m.ignore_unused m.flight m.course m.prepare_holds m.enable_holds m.steps in
+    let p : Parts = parts_of m.window m.tree m.handles m.counts m.notifiers m.credits m.spent m.ignore_unused m.flight m.course m.prepare_holds m.enable_holds m.steps in
     let going : p.flight.going ≡ true = subst (λ (q : Parts). q.flight.going ≡ true) (sym c.self.view_is) c.requires.going in
     let own : own_step p.flight ≡ Some (micro.DropPrepare c.args.clock) = subst (λ (q : Parts). own_step q.flight ≡ Some (micro.DropPrepare c.args.clock)) (sym c.self.view_is) c.requires.next in
     let some : 0 < slice_index m.prepare_holds c.args.clock.0 = subst (λ (q : Parts). 0 < slice_index q.prepare_holds c.args.clock.0) (sym c.self.view_is) c.requires.some in
@@ -44,17 +45,17 @@ release-requires-clause-held g c =
 pub drop_one-requires-clause-place : goal.drop_one-requires-clause-place
 drop_one-requires-clause-place g c =
     let m = c.self.inside in
-    let p : Parts = parts_of m.desc m.window m.tree m.handles m.counts m.notifiers m.credits m.spent m.ignore_unused m.flight m.course m.prepare_holds m.enable_holds m.steps in
+    let p : Parts = parts_of m.window m.tree m.handles m.counts m.notifiers m.credits m.spent m.ignore_unused m.flight m.course m.prepare_holds m.enable_holds m.steps in
     let going : p.flight.going ≡ true = subst (λ (q : Parts). q.flight.going ≡ true) (sym c.self.view_is) c.requires.going in
     let own : own_step p.flight ≡ Some (micro.DropPrepare c.args.clock) = subst (λ (q : Parts). own_step q.flight ≡ Some (micro.DropPrepare c.args.clock)) (sym c.self.view_is) c.requires.next in
     let there : registered m.tree.clocks c.args.clock.0 ≡ true = held_there p (micro.DropPrepare c.args.clock) c.args.clock.0 c.self.invariant going refl own refl in
-    let within : c.args.clock.0 < length m.desc.defs = clock_within m.desc m.window m.tree c.args.clock.0 c.self.invariant.tied there in
+    let within : c.args.clock.0 < length m.tree.defs = clock_within (desc_of m.tree) m.window m.tree c.args.clock.0 c.self.invariant.tied there in
     prepare_place p c.args.clock.0 c.self.invariant within
 
 pub drop_one-requires-clause-held : goal.drop_one-requires-clause-held
 drop_one-requires-clause-held g c =
     let m = c.self.inside in
-    let p : Parts = parts_of m.desc m.window m.tree m.handles m.counts m.notifiers m.credits m.spent m.ignore_unused m.flight m.course m.prepare_holds m.enable_holds m.steps in
+    let p : Parts = parts_of m.window m.tree m.handles m.counts m.notifiers m.credits m.spent m.ignore_unused m.flight m.course m.prepare_holds m.enable_holds m.steps in
     let going : p.flight.going ≡ true = subst (λ (q : Parts). q.flight.going ≡ true) (sym c.self.view_is) c.requires.going in
     let own : own_step p.flight ≡ Some (micro.DropPrepare c.args.clock) = subst (λ (q : Parts). own_step q.flight ≡ Some (micro.DropPrepare c.args.clock)) (sym c.self.view_is) c.requires.next in
     let some : 0 < slice_index m.prepare_holds c.args.clock.0 = subst (λ (q : Parts). 0 < slice_index q.prepare_holds c.args.clock.0) (sym c.self.view_is) c.requires.some in
@@ -63,7 +64,7 @@ drop_one-requires-clause-held g c =
 pub invariant_of-self : goal.invariant_of-self
 invariant_of-self g c =
     let m = c.self.inside in
-    let p : Parts = parts_of m.desc m.window m.tree m.handles m.counts m.notifiers m.credits m.spent m.ignore_unused m.flight m.course m.prepare_holds m.enable_holds m.steps in
+    let p : Parts = parts_of m.window m.tree m.handles m.counts m.notifiers m.credits m.spent m.ignore_unused m.flight m.course m.prepare_holds m.enable_holds m.steps in
     let going : p.flight.going ≡ true = subst (λ (q : Parts). q.flight.going ≡ true) (sym c.self.view_is) c.requires.going in
     let own : own_step p.flight ≡ Some (micro.DropPrepare c.args.clock) = subst (λ (q : Parts). own_step q.flight ≡ Some (micro.DropPrepare c.args.clock)) (sym c.self.view_is) c.requires.next in
     let first : ComesFirst p (micro.DropPrepare c.args.clock) = subst (λ (q : Parts). ComesFirst q (micro.DropPrepare c.args.clock)) (sym c.self.view_is) c.requires.first in
@@ -89,7 +90,7 @@ invariant_of-self g c =
 pub returns : goal.returns
 returns g c =
     let m = c.self.inside in
-    let p : Parts = parts_of m.desc m.window m.tree m.handles m.counts m.notifiers m.credits m.spent m.ignore_unused m.flight m.course m.prepare_holds m.enable_holds m.steps in
+    let p : Parts = parts_of m.window m.tree m.handles m.counts m.notifiers m.credits m.spent m.ignore_unused m.flight m.course m.prepare_holds m.enable_holds m.steps in
     let going : p.flight.going ≡ true = subst (λ (q : Parts). q.flight.going ≡ true) (sym c.self.view_is) c.requires.going in
     let own : own_step p.flight ≡ Some (micro.DropPrepare c.args.clock) = subst (λ (q : Parts). own_step q.flight ≡ Some (micro.DropPrepare c.args.clock)) (sym c.self.view_is) c.requires.next in
     let first : ComesFirst p (micro.DropPrepare c.args.clock) = subst (λ (q : Parts). ComesFirst q (micro.DropPrepare c.args.clock)) (sym c.self.view_is) c.requires.first in

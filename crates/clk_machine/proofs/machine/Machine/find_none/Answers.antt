@@ -16,7 +16,7 @@ use Rattle.clk_machine.proofs.machine.Machine.find_none.Goals as goal
 pub find_none-requires : goal.find_none-requires
 find_none-requires g c =
     let m = c.self.inside in
-    let p : Parts = parts_of m.desc m.window m.tree m.handles m.counts m.notifiers m.credits m.spent m.ignore_unused m.flight m.course m.prepare_holds m.enable_holds m.steps in
+    let p : Parts = parts_of m.window m.tree m.handles m.counts m.notifiers m.credits m.spent m.ignore_unused m.flight m.course m.prepare_holds m.enable_holds m.steps in
     let going : p.flight.going ≡ true = subst (λ (q : Parts). q.flight.going ≡ true) (sym c.self.view_is) c.requires.going in
     let own : own_step p.flight ≡ Some (c.args.step) = subst (λ (q : Parts). own_step q.flight ≡ Some (c.args.step)) (sym c.self.view_is) c.requires.next in
     let nothing : FindsNothing p c.args.step = subst (λ (q : Parts). FindsNothing q c.args.step) (sym c.self.view_is) c.requires.seeks in
@@ -25,7 +25,7 @@ find_none-requires g c =
 pub invariant_of-self : goal.invariant_of-self
 invariant_of-self g c =
     let m = c.self.inside in
-    let p : Parts = parts_of m.desc m.window m.tree m.handles m.counts m.notifiers m.credits m.spent m.ignore_unused m.flight m.course m.prepare_holds m.enable_holds m.steps in
+    let p : Parts = parts_of m.window m.tree m.handles m.counts m.notifiers m.credits m.spent m.ignore_unused m.flight m.course m.prepare_holds m.enable_holds m.steps in
     let going : p.flight.going ≡ true = subst (λ (q : Parts). q.flight.going ≡ true) (sym c.self.view_is) c.requires.going in
     let own : own_step p.flight ≡ Some (c.args.step) = subst (λ (q : Parts). own_step q.flight ≡ Some (c.args.step)) (sym c.self.view_is) c.requires.next in
     let nothing : FindsNothing p c.args.step = subst (λ (q : Parts). FindsNothing q c.args.step) (sym c.self.view_is) c.requires.seeks in
@@ -37,7 +37,7 @@ invariant_of-self g c =
 pub returns-clause-enters : goal.returns-clause-enters
 returns-clause-enters g c =
     let m = c.self.inside in
-    let p : Parts = parts_of m.desc m.window m.tree m.handles m.counts m.notifiers m.credits m.spent m.ignore_unused m.flight m.course m.prepare_holds m.enable_holds m.steps in
+    let p : Parts = parts_of m.window m.tree m.handles m.counts m.notifiers m.credits m.spent m.ignore_unused m.flight m.course m.prepare_holds m.enable_holds m.steps in
     let going : p.flight.going ≡ true = subst (λ (q : Parts). q.flight.going ≡ true) (sym c.self.view_is) c.requires.going in
     let nothing : FindsNothing p c.args.step = subst (λ (q : Parts). FindsNothing q c.args.step) (sym c.self.view_is) c.requires.seeks in
     rw (← c.self.view_is) (none_enters p c.args.step c.find_none.new.self going nothing c.find_none.ensures.flight c.find_none.ensures.change c.find_none.ensures.less)
@@ -45,5 +45,5 @@ returns-clause-enters g c =
 pub returns-clause-starts : goal.returns-clause-starts
 returns-clause-starts g c =
     let m = c.self.inside in
-    let p : Parts = parts_of m.desc m.window m.tree m.handles m.counts m.notifiers m.credits m.spent m.ignore_unused m.flight m.course m.prepare_holds m.enable_holds m.steps in
-    rw (← c.self.view_is) (starts_none p (parts_of m.desc m.window m.tree m.handles m.counts m.notifiers m.credits m.spent m.ignore_unused c.find_none.new.self m.course m.prepare_holds m.enable_holds (m.steps + 1)) c.find_none.ensures.flight)
+    let p : Parts = parts_of m.window m.tree m.handles m.counts m.notifiers m.credits m.spent m.ignore_unused m.flight m.course m.prepare_holds m.enable_holds m.steps in
+    rw (← c.self.view_is) (starts_none p (parts_of m.window m.tree m.handles m.counts m.notifiers m.credits m.spent m.ignore_unused c.find_none.new.self m.course m.prepare_holds m.enable_holds (m.steps + 1)) c.find_none.ensures.flight)

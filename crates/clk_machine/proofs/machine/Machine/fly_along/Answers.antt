@@ -8,12 +8,12 @@ use Rattle.clk_machine.proofs.machine.Machine.fly_along.Goals as goal
 
 pub returns-clause-ok : goal.returns-clause-ok
 returns-clause-ok g c =
-    let start : Start = record { driver = c.args.driver; call = c.args.what; script = c.take_steps.result; range = c.range_of.result; extra = c.extra.result; vetoed = c.vetoed.result } in
+    let start : Start = record { driver = c.args.driver; call = c.call.result; script = c.take_steps.result; range = c.range_of.result; extra = c.extra.result; vetoed = c.vetoed.result } in
     record {
       start = start;
       is = record {
         driver_ = refl;
-        call = refl;
+        call = c.call.ensures;
         script = c.take_steps.ensures.steps;
         range_ = c.range_of.ensures;
         extra = c.extra.ensures ∙ ap (λ (s : Script). s.extra) c.take_steps.ensures.rest;

@@ -11,22 +11,23 @@ use Rattle.core_parts.proofs.Moving.{clock_within, links_within}
 use Rattle.clk_machine.proofs.Relinking.{whole_relinked}
 use Rattle.clk_machine.proofs.Room.{enable_room, enable_place, enable_hold_room}
 use Rattle.clk_machine.proofs.Rows.{counted_place}
+use Rattle.core_parts.specs.Tied.{desc_of}
 use Rattle.clk_machine.proofs.machine.Machine.hold_enable.Goals as goal
 
 pub enable_walk-begun-requires-clause-place : goal.enable_walk-begun-requires-clause-place
 enable_walk-begun-requires-clause-place g c =
     let m = c.self.inside in
-    let p : Parts = parts_of m.desc m.window m.tree m.handles m.counts m.notifiers m.credits m.spent m.ignore_unused m.flight m.course m.prepare_holds m.enable_holds m.steps in
+    let p : Parts = parts_of m.window m.tree m.handles m.counts m.notifiers m.credits m.spent m.ignore_unused m.flight m.course m.prepare_holds m.enable_holds m.steps in
     let going : p.flight.going ≡ true = subst (λ (q : Parts). q.flight.going ≡ true) (sym c.self.view_is) c.requires.going in
     let own : own_step p.flight ≡ Some (micro.HoldEnable c.args.clock) = subst (λ (q : Parts). own_step q.flight ≡ Some (micro.HoldEnable c.args.clock)) (sym c.self.view_is) c.requires.next in
     let there : registered m.tree.clocks c.args.clock.0 ≡ true = held_there p (micro.HoldEnable c.args.clock) c.args.clock.0 c.self.invariant going refl own refl in
-    let within : c.args.clock.0 < length m.desc.defs = clock_within m.desc m.window m.tree c.args.clock.0 c.self.invariant.tied there in
+    let within : c.args.clock.0 < length m.tree.defs = clock_within (desc_of m.tree) m.window m.tree c.args.clock.0 c.self.invariant.tied there in
     counted_place p c.args.clock.0 c.self.invariant within
 
 pub enable_walk-begun-requires-clause-links : goal.enable_walk-begun-requires-clause-links
 enable_walk-begun-requires-clause-links g c =
     let m = c.self.inside in
-    let p : Parts = parts_of m.desc m.window m.tree m.handles m.counts m.notifiers m.credits m.spent m.ignore_unused m.flight m.course m.prepare_holds m.enable_holds m.steps in
+    let p : Parts = parts_of m.window m.tree m.handles m.counts m.notifiers m.credits m.spent m.ignore_unused m.flight m.course m.prepare_holds m.enable_holds m.steps in
     let going : p.flight.going ≡ true = subst (λ (q : Parts). q.flight.going ≡ true) (sym c.self.view_is) c.requires.going in
     let own : own_step p.flight ≡ Some (micro.HoldEnable c.args.clock) = subst (λ (q : Parts). own_step q.flight ≡ Some (micro.HoldEnable c.args.clock)) (sym c.self.view_is) c.requires.next in
     c.self.invariant.counted.stands.links
@@ -34,7 +35,7 @@ enable_walk-begun-requires-clause-links g c =
 pub enable_walk-begun-requires-clause-room : goal.enable_walk-begun-requires-clause-room
 enable_walk-begun-requires-clause-room g c =
     let m = c.self.inside in
-    let p : Parts = parts_of m.desc m.window m.tree m.handles m.counts m.notifiers m.credits m.spent m.ignore_unused m.flight m.course m.prepare_holds m.enable_holds m.steps in
+    let p : Parts = parts_of m.window m.tree m.handles m.counts m.notifiers m.credits m.spent m.ignore_unused m.flight m.course m.prepare_holds m.enable_holds m.steps in
     let going : p.flight.going ≡ true = subst (λ (q : Parts). q.flight.going ≡ true) (sym c.self.view_is) c.requires.going in
     let own : own_step p.flight ≡ Some (micro.HoldEnable c.args.clock) = subst (λ (q : Parts). own_step q.flight ≡ Some (micro.HoldEnable c.args.clock)) (sym c.self.view_is) c.requires.next in
     enable_room p c.args.clock.0 c.self.invariant
@@ -42,35 +43,35 @@ enable_walk-begun-requires-clause-room g c =
 pub open_path-requires-clause-place : goal.open_path-requires-clause-place
 open_path-requires-clause-place g c =
     let m = c.self.inside in
-    let p : Parts = parts_of m.desc m.window m.tree m.handles m.counts m.notifiers m.credits m.spent m.ignore_unused m.flight m.course m.prepare_holds m.enable_holds m.steps in
+    let p : Parts = parts_of m.window m.tree m.handles m.counts m.notifiers m.credits m.spent m.ignore_unused m.flight m.course m.prepare_holds m.enable_holds m.steps in
     let going : p.flight.going ≡ true = subst (λ (q : Parts). q.flight.going ≡ true) (sym c.self.view_is) c.requires.going in
     let own : own_step p.flight ≡ Some (micro.HoldEnable c.args.clock) = subst (λ (q : Parts). own_step q.flight ≡ Some (micro.HoldEnable c.args.clock)) (sym c.self.view_is) c.requires.next in
     let there : registered m.tree.clocks c.args.clock.0 ≡ true = held_there p (micro.HoldEnable c.args.clock) c.args.clock.0 c.self.invariant going refl own refl in
-    let within : c.args.clock.0 < length m.desc.defs = clock_within m.desc m.window m.tree c.args.clock.0 c.self.invariant.tied there in
+    let within : c.args.clock.0 < length m.tree.defs = clock_within (desc_of m.tree) m.window m.tree c.args.clock.0 c.self.invariant.tied there in
     within
 
 pub open_path-requires-clause-links : goal.open_path-requires-clause-links
 open_path-requires-clause-links g c =
     let m = c.self.inside in
-    let p : Parts = parts_of m.desc m.window m.tree m.handles m.counts m.notifiers m.credits m.spent m.ignore_unused m.flight m.course m.prepare_holds m.enable_holds m.steps in
+    let p : Parts = parts_of m.window m.tree m.handles m.counts m.notifiers m.credits m.spent m.ignore_unused m.flight m.course m.prepare_holds m.enable_holds m.steps in
     let going : p.flight.going ≡ true = subst (λ (q : Parts). q.flight.going ≡ true) (sym c.self.view_is) c.requires.going in
     let own : own_step p.flight ≡ Some (micro.HoldEnable c.args.clock) = subst (λ (q : Parts). own_step q.flight ≡ Some (micro.HoldEnable c.args.clock)) (sym c.self.view_is) c.requires.next in
-    links_within m.desc m.window m.tree c.self.invariant.tied
+    links_within (desc_of m.tree) m.window m.tree c.self.invariant.tied
 
 pub add-requires-clause-place : goal.add-requires-clause-place
 add-requires-clause-place g c =
     let m = c.self.inside in
-    let p : Parts = parts_of m.desc m.window m.tree m.handles m.counts m.notifiers m.credits m.spent m.ignore_unused m.flight m.course m.prepare_holds m.enable_holds m.steps in
+    let p : Parts = parts_of m.window m.tree m.handles m.counts m.notifiers m.credits m.spent m.ignore_unused m.flight m.course m.prepare_holds m.enable_holds m.steps in
     let going : p.flight.going ≡ true = subst (λ (q : Parts). q.flight.going ≡ true) (sym c.self.view_is) c.requires.going in
     let own : own_step p.flight ≡ Some (micro.HoldEnable c.args.clock) = subst (λ (q : Parts). own_step q.flight ≡ Some (micro.HoldEnable c.args.clock)) (sym c.self.view_is) c.requires.next in
     let there : registered m.tree.clocks c.args.clock.0 ≡ true = held_there p (micro.HoldEnable c.args.clock) c.args.clock.0 c.self.invariant going refl own refl in
-    let within : c.args.clock.0 < length m.desc.defs = clock_within m.desc m.window m.tree c.args.clock.0 c.self.invariant.tied there in
+    let within : c.args.clock.0 < length m.tree.defs = clock_within (desc_of m.tree) m.window m.tree c.args.clock.0 c.self.invariant.tied there in
     enable_place p c.args.clock.0 c.self.invariant within
 
 pub add-requires-clause-room : goal.add-requires-clause-room
 add-requires-clause-room g c =
     let m = c.self.inside in
-    let p : Parts = parts_of m.desc m.window m.tree m.handles m.counts m.notifiers m.credits m.spent m.ignore_unused m.flight m.course m.prepare_holds m.enable_holds m.steps in
+    let p : Parts = parts_of m.window m.tree m.handles m.counts m.notifiers m.credits m.spent m.ignore_unused m.flight m.course m.prepare_holds m.enable_holds m.steps in
     let going : p.flight.going ≡ true = subst (λ (q : Parts). q.flight.going ≡ true) (sym c.self.view_is) c.requires.going in
     let own : own_step p.flight ≡ Some (micro.HoldEnable c.args.clock) = subst (λ (q : Parts). own_step q.flight ≡ Some (micro.HoldEnable c.args.clock)) (sym c.self.view_is) c.requires.next in
     enable_hold_room p c.args.clock.0 c.self.invariant
@@ -78,7 +79,7 @@ add-requires-clause-room g c =
 pub invariant_of-self : goal.invariant_of-self
 invariant_of-self g c =
     let m = c.self.inside in
-    let p : Parts = parts_of m.desc m.window m.tree m.handles m.counts m.notifiers m.credits m.spent m.ignore_unused m.flight m.course m.prepare_holds m.enable_holds m.steps in
+    let p : Parts = parts_of m.window m.tree m.handles m.counts m.notifiers m.credits m.spent m.ignore_unused m.flight m.course m.prepare_holds m.enable_holds m.steps in
     let going : p.flight.going ≡ true = subst (λ (q : Parts). q.flight.going ≡ true) (sym c.self.view_is) c.requires.going in
     let own : own_step p.flight ≡ Some (micro.HoldEnable c.args.clock) = subst (λ (q : Parts). own_step q.flight ≡ Some (micro.HoldEnable c.args.clock)) (sym c.self.view_is) c.requires.next in
     let first : ComesFirst p (micro.HoldEnable c.args.clock) = subst (λ (q : Parts). ComesFirst q (micro.HoldEnable c.args.clock)) (sym c.self.view_is) c.requires.first in
@@ -107,7 +108,7 @@ invariant_of-self g c =
 pub returns : goal.returns
 returns g c =
     let m = c.self.inside in
-    let p : Parts = parts_of m.desc m.window m.tree m.handles m.counts m.notifiers m.credits m.spent m.ignore_unused m.flight m.course m.prepare_holds m.enable_holds m.steps in
+    let p : Parts = parts_of m.window m.tree m.handles m.counts m.notifiers m.credits m.spent m.ignore_unused m.flight m.course m.prepare_holds m.enable_holds m.steps in
     let going : p.flight.going ≡ true = subst (λ (q : Parts). q.flight.going ≡ true) (sym c.self.view_is) c.requires.going in
     let own : own_step p.flight ≡ Some (micro.HoldEnable c.args.clock) = subst (λ (q : Parts). own_step q.flight ≡ Some (micro.HoldEnable c.args.clock)) (sym c.self.view_is) c.requires.next in
     let first : ComesFirst p (micro.HoldEnable c.args.clock) = subst (λ (q : Parts). ComesFirst q (micro.HoldEnable c.args.clock)) (sym c.self.view_is) c.requires.first in

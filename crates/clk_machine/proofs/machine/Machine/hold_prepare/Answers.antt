@@ -13,22 +13,23 @@ use Rattle.core_parts.proofs.Moving.{clock_within}
 use Rattle.clk_machine.proofs.Relinking.{front_gone, whole_relinked}
 use Rattle.clk_machine.proofs.Room.{prepare_room, prepare_place, prepare_hold_room}
 use Rattle.clk_machine.proofs.Rows.{counted_place}
+use Rattle.core_parts.specs.Tied.{desc_of}
 use Rattle.clk_machine.proofs.machine.Machine.hold_prepare.Goals as goal
 
 pub hold-requires-clause-place : goal.hold-requires-clause-place
 hold-requires-clause-place g c =
     let m = c.self.inside in
-    let p : Parts = parts_of m.desc m.window m.tree m.handles m.counts m.notifiers m.credits m.spent m.ignore_unused m.flight m.course m.prepare_holds m.enable_holds m.steps in
+    let p : Parts = parts_of m.window m.tree m.handles m.counts m.notifiers m.credits m.spent m.ignore_unused m.flight m.course m.prepare_holds m.enable_holds m.steps in
     let going : p.flight.going ≡ true = subst (λ (q : Parts). q.flight.going ≡ true) (sym c.self.view_is) c.requires.going in
     let own : own_step p.flight ≡ Some (micro.HoldPrepare c.args.clock) = subst (λ (q : Parts). own_step q.flight ≡ Some (micro.HoldPrepare c.args.clock)) (sym c.self.view_is) c.requires.next in
     let there : registered m.tree.clocks c.args.clock.0 ≡ true = held_there p (micro.HoldPrepare c.args.clock) c.args.clock.0 c.self.invariant going refl own refl in
-    let within : c.args.clock.0 < length m.desc.defs = clock_within m.desc m.window m.tree c.args.clock.0 c.self.invariant.tied there in
+    let within : c.args.clock.0 < length m.tree.defs = clock_within (desc_of m.tree) m.window m.tree c.args.clock.0 c.self.invariant.tied there in
     counted_place p c.args.clock.0 c.self.invariant within
 
 pub hold-requires-clause-links : goal.hold-requires-clause-links
 hold-requires-clause-links g c =
     let m = c.self.inside in
-    let p : Parts = parts_of m.desc m.window m.tree m.handles m.counts m.notifiers m.credits m.spent m.ignore_unused m.flight m.course m.prepare_holds m.enable_holds m.steps in
+    let p : Parts = parts_of m.window m.tree m.handles m.counts m.notifiers m.credits m.spent m.ignore_unused m.flight m.course m.prepare_holds m.enable_holds m.steps in
     let going : p.flight.going ≡ true = subst (λ (q : Parts). q.flight.going ≡ true) (sym c.self.view_is) c.requires.going in
     let own : own_step p.flight ≡ Some (micro.HoldPrepare c.args.clock) = subst (λ (q : Parts). own_step q.flight ≡ Some (micro.HoldPrepare c.args.clock)) (sym c.self.view_is) c.requires.next in
     c.self.invariant.counted.stands.links
@@ -36,7 +37,7 @@ hold-requires-clause-links g c =
 pub hold-requires-clause-room : goal.hold-requires-clause-room
 hold-requires-clause-room g c =
     let m = c.self.inside in
-    let p : Parts = parts_of m.desc m.window m.tree m.handles m.counts m.notifiers m.credits m.spent m.ignore_unused m.flight m.course m.prepare_holds m.enable_holds m.steps in
+    let p : Parts = parts_of m.window m.tree m.handles m.counts m.notifiers m.credits m.spent m.ignore_unused m.flight m.course m.prepare_holds m.enable_holds m.steps in
     let going : p.flight.going ≡ true = subst (λ (q : Parts). q.flight.going ≡ true) (sym c.self.view_is) c.requires.going in
     let own : own_step p.flight ≡ Some (micro.HoldPrepare c.args.clock) = subst (λ (q : Parts). own_step q.flight ≡ Some (micro.HoldPrepare c.args.clock)) (sym c.self.view_is) c.requires.next in
     prepare_room p c.args.clock.0 c.self.invariant
@@ -44,17 +45,17 @@ hold-requires-clause-room g c =
 pub add-requires-clause-place : goal.add-requires-clause-place
 add-requires-clause-place g c =
     let m = c.self.inside in
-    let p : Parts = parts_of m.desc m.window m.tree m.handles m.counts m.notifiers m.credits m.spent m.ignore_unused m.flight m.course m.prepare_holds m.enable_holds m.steps in
+    let p : Parts = parts_of m.window m.tree m.handles m.counts m.notifiers m.credits m.spent m.ignore_unused m.flight m.course m.prepare_holds m.enable_holds m.steps in
     let going : p.flight.going ≡ true = subst (λ (q : Parts). q.flight.going ≡ true) (sym c.self.view_is) c.requires.going in
     let own : own_step p.flight ≡ Some (micro.HoldPrepare c.args.clock) = subst (λ (q : Parts). own_step q.flight ≡ Some (micro.HoldPrepare c.args.clock)) (sym c.self.view_is) c.requires.next in
     let there : registered m.tree.clocks c.args.clock.0 ≡ true = held_there p (micro.HoldPrepare c.args.clock) c.args.clock.0 c.self.invariant going refl own refl in
-    let within : c.args.clock.0 < length m.desc.defs = clock_within m.desc m.window m.tree c.args.clock.0 c.self.invariant.tied there in
+    let within : c.args.clock.0 < length m.tree.defs = clock_within (desc_of m.tree) m.window m.tree c.args.clock.0 c.self.invariant.tied there in
     prepare_place p c.args.clock.0 c.self.invariant within
 
 pub add-requires-clause-room : goal.add-requires-clause-room
 add-requires-clause-room g c =
     let m = c.self.inside in
-    let p : Parts = parts_of m.desc m.window m.tree m.handles m.counts m.notifiers m.credits m.spent m.ignore_unused m.flight m.course m.prepare_holds m.enable_holds m.steps in
+    let p : Parts = parts_of m.window m.tree m.handles m.counts m.notifiers m.credits m.spent m.ignore_unused m.flight m.course m.prepare_holds m.enable_holds m.steps in
     let going : p.flight.going ≡ true = subst (λ (q : Parts). q.flight.going ≡ true) (sym c.self.view_is) c.requires.going in
     let own : own_step p.flight ≡ Some (micro.HoldPrepare c.args.clock) = subst (λ (q : Parts). own_step q.flight ≡ Some (micro.HoldPrepare c.args.clock)) (sym c.self.view_is) c.requires.next in
     prepare_hold_room p c.args.clock.0 c.self.invariant
@@ -62,7 +63,7 @@ add-requires-clause-room g c =
 pub let_go_path-requires : goal.let_go_path-requires
 let_go_path-requires g c =
     let m = c.self.inside in
-    let p : Parts = parts_of m.desc m.window m.tree m.handles m.counts m.notifiers m.credits m.spent m.ignore_unused m.flight m.course m.prepare_holds m.enable_holds m.steps in
+    let p : Parts = parts_of m.window m.tree m.handles m.counts m.notifiers m.credits m.spent m.ignore_unused m.flight m.course m.prepare_holds m.enable_holds m.steps in
     let going : p.flight.going ≡ true = subst (λ (q : Parts). q.flight.going ≡ true) (sym c.self.view_is) c.requires.going in
     let own : own_step p.flight ≡ Some (micro.HoldPrepare c.args.clock) = subst (λ (q : Parts). own_step q.flight ≡ Some (micro.HoldPrepare c.args.clock)) (sym c.self.view_is) c.requires.next in
     front_gone p (micro.HoldPrepare c.args.clock) c.go_on.new.self c.self.invariant going refl own c.go_on.ensures.flight
@@ -70,7 +71,7 @@ let_go_path-requires g c =
 pub invariant_of-self : goal.invariant_of-self
 invariant_of-self g c =
     let m = c.self.inside in
-    let p : Parts = parts_of m.desc m.window m.tree m.handles m.counts m.notifiers m.credits m.spent m.ignore_unused m.flight m.course m.prepare_holds m.enable_holds m.steps in
+    let p : Parts = parts_of m.window m.tree m.handles m.counts m.notifiers m.credits m.spent m.ignore_unused m.flight m.course m.prepare_holds m.enable_holds m.steps in
     let going : p.flight.going ≡ true = subst (λ (q : Parts). q.flight.going ≡ true) (sym c.self.view_is) c.requires.going in
     let own : own_step p.flight ≡ Some (micro.HoldPrepare c.args.clock) = subst (λ (q : Parts). own_step q.flight ≡ Some (micro.HoldPrepare c.args.clock)) (sym c.self.view_is) c.requires.next in
     let first : ComesFirst p (micro.HoldPrepare c.args.clock) = subst (λ (q : Parts). ComesFirst q (micro.HoldPrepare c.args.clock)) (sym c.self.view_is) c.requires.first in
@@ -95,7 +96,7 @@ invariant_of-self g c =
 pub returns : goal.returns
 returns g c =
     let m = c.self.inside in
-    let p : Parts = parts_of m.desc m.window m.tree m.handles m.counts m.notifiers m.credits m.spent m.ignore_unused m.flight m.course m.prepare_holds m.enable_holds m.steps in
+    let p : Parts = parts_of m.window m.tree m.handles m.counts m.notifiers m.credits m.spent m.ignore_unused m.flight m.course m.prepare_holds m.enable_holds m.steps in
     let going : p.flight.going ≡ true = subst (λ (q : Parts). q.flight.going ≡ true) (sym c.self.view_is) c.requires.going in
     let own : own_step p.flight ≡ Some (micro.HoldPrepare c.args.clock) = subst (λ (q : Parts). own_step q.flight ≡ Some (micro.HoldPrepare c.args.clock)) (sym c.self.view_is) c.requires.next in
     let first : ComesFirst p (micro.HoldPrepare c.args.clock) = subst (λ (q : Parts). ComesFirst q (micro.HoldPrepare c.args.clock)) (sym c.self.view_is) c.requires.first in

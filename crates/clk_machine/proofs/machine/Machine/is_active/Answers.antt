@@ -6,12 +6,12 @@ use Rattle.clk_machine.proofs.machine.Machine.is_active.Goals as goal
 pub enabled-requires : goal.enabled-requires
 enabled-requires g c =
     let m = c.self.inside in
-    let p : Parts = parts_of m.desc m.window m.tree m.handles m.counts m.notifiers m.credits m.spent m.ignore_unused m.flight m.course m.prepare_holds m.enable_holds m.steps in
-    let within : c.args.clock.0 < length m.desc.defs = rw (← c.self.view_is) at c.requires in
+    let p : Parts = parts_of m.window m.tree m.handles m.counts m.notifiers m.credits m.spent m.ignore_unused m.flight m.course m.prepare_holds m.enable_holds m.steps in
+    let within : c.args.clock.0 < length m.tree.defs = rw (← c.self.view_is) at c.requires in
     record { place = counted_place p c.args.clock.0 c.self.invariant within }
 
 pub returns : goal.returns
 returns g c =
     let m = c.self.inside in
-    let p : Parts = parts_of m.desc m.window m.tree m.handles m.counts m.notifiers m.credits m.spent m.ignore_unused m.flight m.course m.prepare_holds m.enable_holds m.steps in
+    let p : Parts = parts_of m.window m.tree m.handles m.counts m.notifiers m.credits m.spent m.ignore_unused m.flight m.course m.prepare_holds m.enable_holds m.steps in
     rw (← c.self.view_is) (λ s stands. c.enabled.ensures.active ∙ (holds_stand p s c.args.clock.0 c.self.invariant stands).active)

@@ -10,18 +10,19 @@ use Rattle.clk_model.specs.State.{registered}
 use Rattle.clk_machine.specs.Parts.{Parts, parts_of}
 use Rattle.core_parts.proofs.Moving.{clock_within}
 use Rattle.clk_machine.proofs.Sweeping.{power_there}
+use Rattle.core_parts.specs.Tied.{desc_of}
 use Rattle.clk_machine.proofs.machine.Machine.is_powered.Goals as goal
 
 pub def-requires : goal.def-requires
 def-requires g c =
     let m = c.self.inside in
     let there : registered m.tree.clocks c.args.clock.0 ≡ true = rw (← c.self.view_is) at c.requires in
-    clock_within m.desc m.window m.tree c.args.clock.0 c.self.invariant.tied there
+    record { place = clock_within (desc_of m.tree) m.window m.tree c.args.clock.0 c.self.invariant.tied there }
 
 pub is_running-requires : goal.is_running-requires
 is_running-requires g c =
     let m = c.self.inside in
-    let p : Parts = parts_of m.desc m.window m.tree m.handles m.counts m.notifiers m.credits m.spent m.ignore_unused m.flight m.course m.prepare_holds m.enable_holds m.steps in
+    let p : Parts = parts_of m.window m.tree m.handles m.counts m.notifiers m.credits m.spent m.ignore_unused m.flight m.course m.prepare_holds m.enable_holds m.steps in
     let there : registered m.tree.clocks c.args.clock.0 ≡ true = rw (← c.self.view_is) at c.requires in
     power_there p c.def.result.now.kind c.args.clock.0 c.self.invariant there (ap (λ (d : ClockDef). d.kind) c.def.ensures.def)
 

@@ -1,25 +1,22 @@
-use Rattle.std.proofs.Common.{◌≡◌, true, sym, subst, ap, ◌∙◌, length}
-use Rattle.clk_base.specs.Description.{Description}
+use Rattle.std.proofs.Common.{◌≡◌, true, sym, subst}
 use Rattle.clk_model.specs.State.{registered}
 use Rattle.clk_machine.specs.Parts.{Parts, parts_of}
 use Rattle.core_parts.proofs.Moving.{links_within, clock_within}
+use Rattle.core_parts.specs.Tied.{desc_of}
 use Rattle.clk_machine.proofs.machine.Machine.is_unprepared.Goals as goal
 
 pub is_unprepared-requires-clause-place : goal.is_unprepared-requires-clause-place
 is_unprepared-requires-clause-place g c =
     let m = c.self.inside in
-    let p : Parts = parts_of m.desc m.window m.tree m.handles m.counts m.notifiers m.credits m.spent m.ignore_unused m.flight m.course m.prepare_holds m.enable_holds m.steps in
+    let p : Parts = parts_of m.window m.tree m.handles m.counts m.notifiers m.credits m.spent m.ignore_unused m.flight m.course m.prepare_holds m.enable_holds m.steps in
     let here : registered p.tree.clocks c.args.clock.0 ≡ true = subst (λ (q : Parts). registered q.tree.clocks c.args.clock.0 ≡ true) (sym c.self.view_is) c.requires in
-    clock_within m.desc m.window m.tree c.args.clock.0 c.self.invariant.tied here
+    clock_within (desc_of m.tree) m.window m.tree c.args.clock.0 c.self.invariant.tied here
 
 pub is_unprepared-requires-clause-links : goal.is_unprepared-requires-clause-links
-is_unprepared-requires-clause-links g c = links_within c.self.inside.desc c.self.inside.window c.self.inside.tree c.self.invariant.tied
+is_unprepared-requires-clause-links g c = links_within (desc_of c.self.inside.tree) c.self.inside.window c.self.inside.tree c.self.invariant.tied
 
 pub is_unprepared-requires-clause-counted : goal.is_unprepared-requires-clause-counted
-is_unprepared-requires-clause-counted g c = c.self.invariant.counted.keeps.links ∙ ap (λ (d : Description). length d) c.self.invariant.counted.stands.defs
+is_unprepared-requires-clause-counted g c = c.self.invariant.counted.stands.size
 
 pub is_unprepared-requires-clause-same : goal.is_unprepared-requires-clause-same
 is_unprepared-requires-clause-same g c = c.self.invariant.counted.stands.links
-
-pub is_unprepared-requires-clause-made : goal.is_unprepared-requires-clause-made
-is_unprepared-requires-clause-made g c = sym c.self.invariant.tied.defs

@@ -16,7 +16,7 @@ set_range-requires g c =
 pub invariant_of-self : goal.invariant_of-self
 invariant_of-self g c =
     let m = c.self.inside in
-    let p : Parts = parts_of m.desc m.window m.tree m.handles m.counts m.notifiers m.credits m.spent m.ignore_unused m.flight m.course m.prepare_holds m.enable_holds m.steps in
+    let p : Parts = parts_of m.window m.tree m.handles m.counts m.notifiers m.credits m.spent m.ignore_unused m.flight m.course m.prepare_holds m.enable_holds m.steps in
     let row = c.args.row in
     let n = c.args.handle.number in
     let live : handle_at m.handles.handles n ≡ Some row = rw (← c.self.view_is) at c.requires.live in
@@ -28,7 +28,7 @@ invariant_of-self g c =
 pub returns : goal.returns
 returns g c =
     let m = c.self.inside in
-    let p : Parts = parts_of m.desc m.window m.tree m.handles m.counts m.notifiers m.credits m.spent m.ignore_unused m.flight m.course m.prepare_holds m.enable_holds m.steps in
+    let p : Parts = parts_of m.window m.tree m.handles m.counts m.notifiers m.credits m.spent m.ignore_unused m.flight m.course m.prepare_holds m.enable_holds m.steps in
     let row = c.args.row in
     let n = c.args.handle.number in
     let live : handle_at m.handles.handles n ≡ Some row = rw (← c.self.view_is) at c.requires.live in

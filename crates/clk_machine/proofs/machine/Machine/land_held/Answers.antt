@@ -1,4 +1,4 @@
-use Rattle.std.proofs.Common.{◌≡◌, ◌+◌, ◌<◌, ◌∙◌, length, true, false, refl, sym, ap, subst, arith, Some, get_or}
+use Rattle.std.proofs.Common.{◌≡◌, None, ◌+◌, ◌<◌, ◌∙◌, length, true, false, refl, sym, ap, subst, arith, Some, get_or}
 use Rattle.clk_model.specs.State.{handle_at}
 use Rattle.clk_machine.specs.Parts.{Parts, parts_of}
 use Rattle.clk_machine.specs.Holding.{exclusive_more}
@@ -14,12 +14,17 @@ use Rattle.clk_machine.proofs.Landings.{held_ends, row_among}
 use Rattle.clk_machine.proofs.Room.{row_few, exclusive_room}
 use Rattle.clk_machine.proofs.Rows.{counted_place}
 use Rattle.clk_machine.proofs.Writing.{Written, written_exclusives, row_place, counts_given}
+use Rattle.clk_machine.specs.Landing.{reply_of}
+use Rattle.clk_machine.proofs.Described.{whole_described, enters_described}
+use Rattle.core_parts.proofs.Described.{desc_same}
+use Rattle.clk_base.specs.declared.event.Event.TheVariants as event
+use Rattle.clk_base.specs.declared.event.Turn.TheVariants as turn
 use Rattle.clk_machine.proofs.machine.Machine.land_held.Goals as goal
 
 pub protect-requires-clause-place : goal.protect-requires-clause-place
 protect-requires-clause-place g c =
     let m = c.self.inside in
-    let p : Parts = parts_of m.desc m.window m.tree m.handles m.counts m.notifiers m.credits m.spent m.ignore_unused m.flight m.course m.prepare_holds m.enable_holds m.steps in
+    let p : Parts = parts_of m.window m.tree m.handles m.counts m.notifiers m.credits m.spent m.ignore_unused m.flight m.course m.prepare_holds m.enable_holds m.steps in
     let row = c.args.row in
     let n = c.args.handle.number in
     let live : handle_at m.handles.handles n ≡ Some row = rw (← c.self.view_is) at c.requires.live in
@@ -28,7 +33,7 @@ protect-requires-clause-place g c =
 pub protect-requires-clause-links : goal.protect-requires-clause-links
 protect-requires-clause-links g c =
     let m = c.self.inside in
-    let p : Parts = parts_of m.desc m.window m.tree m.handles m.counts m.notifiers m.credits m.spent m.ignore_unused m.flight m.course m.prepare_holds m.enable_holds m.steps in
+    let p : Parts = parts_of m.window m.tree m.handles m.counts m.notifiers m.credits m.spent m.ignore_unused m.flight m.course m.prepare_holds m.enable_holds m.steps in
     let row = c.args.row in
     let n = c.args.handle.number in
     let live : handle_at m.handles.handles n ≡ Some row = rw (← c.self.view_is) at c.requires.live in
@@ -37,7 +42,7 @@ protect-requires-clause-links g c =
 pub protect-requires-clause-room : goal.protect-requires-clause-room
 protect-requires-clause-room g c =
     let m = c.self.inside in
-    let p : Parts = parts_of m.desc m.window m.tree m.handles m.counts m.notifiers m.credits m.spent m.ignore_unused m.flight m.course m.prepare_holds m.enable_holds m.steps in
+    let p : Parts = parts_of m.window m.tree m.handles m.counts m.notifiers m.credits m.spent m.ignore_unused m.flight m.course m.prepare_holds m.enable_holds m.steps in
     let row = c.args.row in
     let n = c.args.handle.number in
     let live : handle_at m.handles.handles n ≡ Some row = rw (← c.self.view_is) at c.requires.live in
@@ -46,7 +51,7 @@ protect-requires-clause-room g c =
 pub overflow_add-row : goal.overflow_add-row
 overflow_add-row g c =
     let m = c.self.inside in
-    let p : Parts = parts_of m.desc m.window m.tree m.handles m.counts m.notifiers m.credits m.spent m.ignore_unused m.flight m.course m.prepare_holds m.enable_holds m.steps in
+    let p : Parts = parts_of m.window m.tree m.handles m.counts m.notifiers m.credits m.spent m.ignore_unused m.flight m.course m.prepare_holds m.enable_holds m.steps in
     let row = c.args.row in
     let n = c.args.handle.number in
     let live : handle_at m.handles.handles n ≡ Some row = rw (← c.self.view_is) at c.requires.live in
@@ -56,7 +61,7 @@ overflow_add-row g c =
 pub set_last_request-requires : goal.set_last_request-requires
 set_last_request-requires g c =
     let m = c.self.inside in
-    let p : Parts = parts_of m.desc m.window m.tree m.handles m.counts m.notifiers m.credits m.spent m.ignore_unused m.flight m.course m.prepare_holds m.enable_holds m.steps in
+    let p : Parts = parts_of m.window m.tree m.handles m.counts m.notifiers m.credits m.spent m.ignore_unused m.flight m.course m.prepare_holds m.enable_holds m.steps in
     let row = c.args.row in
     let n = c.args.handle.number in
     let live : handle_at m.handles.handles n ≡ Some row = rw (← c.self.view_is) at c.requires.live in
@@ -65,7 +70,7 @@ set_last_request-requires g c =
 pub invariant_of-self : goal.invariant_of-self
 invariant_of-self g c =
     let m = c.self.inside in
-    let p : Parts = parts_of m.desc m.window m.tree m.handles m.counts m.notifiers m.credits m.spent m.ignore_unused m.flight m.course m.prepare_holds m.enable_holds m.steps in
+    let p : Parts = parts_of m.window m.tree m.handles m.counts m.notifiers m.credits m.spent m.ignore_unused m.flight m.course m.prepare_holds m.enable_holds m.steps in
     let row = c.args.row in
     let n = c.args.handle.number in
     let live : handle_at m.handles.handles n ≡ Some row = rw (← c.self.view_is) at c.requires.live in
@@ -87,13 +92,14 @@ invariant_of-self g c =
       defs = c.set_last_request.ensures.defs;
       stands = c.set_last_request.ensures.stands;
     } in
-    whole_requested (with_ended p c.set_counts.new.self c.protect.new.self c.end.new.self) c.set_last_request.new.self row.clock.0 c.args.rate
-    (whole_ended p n row (exclusive_more row) c.set_counts.new.self c.protect.new.self c.end.new.self c.self.invariant going c.end.ensures.flight written) (ap (λ (f : FlightState). f.going) c.end.ensures.flight) requested_
+    whole_described (record (with_ended p c.set_counts.new.self c.protect.new.self c.end.new.self) { tree = c.set_last_request.new.self }) (desc_same c.set_last_request.new.self m.tree c.set_last_request.ensures.words c.set_last_request.ensures.defs)
+    (whole_requested (with_ended p c.set_counts.new.self c.protect.new.self c.end.new.self) c.set_last_request.new.self row.clock.0 c.args.rate
+    (whole_ended p n row (exclusive_more row) c.set_counts.new.self c.protect.new.self c.end.new.self c.self.invariant going c.end.ensures.flight written) (ap (λ (f : FlightState). f.going) c.end.ensures.flight) requested_)
 
 pub returns : goal.returns
 returns g c =
     let m = c.self.inside in
-    let p : Parts = parts_of m.desc m.window m.tree m.handles m.counts m.notifiers m.credits m.spent m.ignore_unused m.flight m.course m.prepare_holds m.enable_holds m.steps in
+    let p : Parts = parts_of m.window m.tree m.handles m.counts m.notifiers m.credits m.spent m.ignore_unused m.flight m.course m.prepare_holds m.enable_holds m.steps in
     let row = c.args.row in
     let n = c.args.handle.number in
     let live : handle_at m.handles.handles n ≡ Some row = rw (← c.self.view_is) at c.requires.live in
@@ -118,5 +124,7 @@ returns g c =
     } in
     let holds : p.flight.call ≡ call.SetRateExclusive c.args.handle c.args.rate = subst (λ (q : Parts). q.flight.call ≡ call.SetRateExclusive c.args.handle c.args.rate) (sym c.self.view_is) c.requires.call in
     let timely : is_called_off p.flight ≡ false = subst (λ (q : Parts). is_called_off q.flight ≡ false) (sym c.self.view_is) c.requires.timely in
-    rw (← c.self.view_is) (end_enters p _ _ (held_ends p c.args.handle row c.args.rate c.set_counts.new.self c.protect.new.self c.end.new.self c.set_last_request.new.self c.self.invariant going c.end.ensures.flight written requested_ first holds timely
-    (λ d. ap (λ (k : CountState). is_active k d) c.protect.ensures.holders)))
+    rw (← c.self.view_is)
+    (enters_described p p.flight.driver (event.Step micro.End None) (turn.Done (reply_of p.flight.vetoed p.flight.timed_out)) (record (with_ended p c.set_counts.new.self c.protect.new.self c.end.new.self) { tree = c.set_last_request.new.self }) (desc_same c.set_last_request.new.self m.tree c.set_last_request.ensures.words c.set_last_request.ensures.defs)
+    (end_enters p _ _ (held_ends p c.args.handle row c.args.rate c.set_counts.new.self c.protect.new.self c.end.new.self c.set_last_request.new.self c.self.invariant going c.end.ensures.flight written requested_ first holds timely
+    (λ d. ap (λ (k : CountState). is_active k d) c.protect.ensures.holders))))

@@ -12,7 +12,7 @@ use Rattle.clk_machine.proofs.machine.Machine.pass_prepare.Goals as goal
 pub invariant_of-self : goal.invariant_of-self
 invariant_of-self g c =
     let m = c.self.inside in
-    let p : Parts = parts_of m.desc m.window m.tree m.handles m.counts m.notifiers m.credits m.spent m.ignore_unused m.flight m.course m.prepare_holds m.enable_holds m.steps in
+    let p : Parts = parts_of m.window m.tree m.handles m.counts m.notifiers m.credits m.spent m.ignore_unused m.flight m.course m.prepare_holds m.enable_holds m.steps in
     let going : p.flight.going ≡ true = subst (λ (q : Parts). q.flight.going ≡ true) (sym c.self.view_is) c.requires.going in
     let own : own_step p.flight ≡ Some (micro.DropPrepare c.args.clock) = subst (λ (q : Parts). own_step q.flight ≡ Some (micro.DropPrepare c.args.clock)) (sym c.self.view_is) c.requires.next in
     let first : ComesFirst p (micro.DropPrepare c.args.clock) = subst (λ (q : Parts). ComesFirst q (micro.DropPrepare c.args.clock)) (sym c.self.view_is) c.requires.first in
@@ -31,7 +31,7 @@ invariant_of-self g c =
 pub returns : goal.returns
 returns g c =
     let m = c.self.inside in
-    let p : Parts = parts_of m.desc m.window m.tree m.handles m.counts m.notifiers m.credits m.spent m.ignore_unused m.flight m.course m.prepare_holds m.enable_holds m.steps in
+    let p : Parts = parts_of m.window m.tree m.handles m.counts m.notifiers m.credits m.spent m.ignore_unused m.flight m.course m.prepare_holds m.enable_holds m.steps in
     let going : p.flight.going ≡ true = subst (λ (q : Parts). q.flight.going ≡ true) (sym c.self.view_is) c.requires.going in
     let own : own_step p.flight ≡ Some (micro.DropPrepare c.args.clock) = subst (λ (q : Parts). own_step q.flight ≡ Some (micro.DropPrepare c.args.clock)) (sym c.self.view_is) c.requires.next in
     let first : ComesFirst p (micro.DropPrepare c.args.clock) = subst (λ (q : Parts). ComesFirst q (micro.DropPrepare c.args.clock)) (sym c.self.view_is) c.requires.first in

@@ -16,12 +16,13 @@ use Rattle.core_parts.proofs.SameCall.{SameCall, KeepsAlong}
 use Rattle.clk_machine.proofs.Making.{whole_stepped}
 use Rattle.core_parts.proofs.Powering.{tied_powered}
 use Rattle.clk_machine.proofs.Raising.{power_lies, power_made, lower_enters}
+use Rattle.core_parts.specs.Tied.{desc_of}
 use Rattle.clk_machine.proofs.machine.Machine.power_down.Goals as goal
 
 pub set_power-requires : goal.set_power-requires
 set_power-requires g c =
     let m = c.self.inside in
-    let p : Parts = parts_of m.desc m.window m.tree m.handles m.counts m.notifiers m.credits m.spent m.ignore_unused m.flight m.course m.prepare_holds m.enable_holds m.steps in
+    let p : Parts = parts_of m.window m.tree m.handles m.counts m.notifiers m.credits m.spent m.ignore_unused m.flight m.course m.prepare_holds m.enable_holds m.steps in
     let going : p.flight.going ≡ true = subst (λ (q : Parts). q.flight.going ≡ true) (sym c.self.view_is) c.requires.going in
     let place : c.args.pll.0 < length p.desc.defs = subst (λ (q : Parts). c.args.pll.0 < length q.desc.defs) (sym c.self.view_is) c.requires.place in
     power_lies p c.def.result.now.kind c.args.pll.0 c.self.invariant place (ap (λ (d : ClockDef). d.kind) c.def.ensures.def)
@@ -29,13 +30,13 @@ set_power-requires g c =
 pub invariant_of-self : goal.invariant_of-self
 invariant_of-self g c =
     let m = c.self.inside in
-    let p : Parts = parts_of m.desc m.window m.tree m.handles m.counts m.notifiers m.credits m.spent m.ignore_unused m.flight m.course m.prepare_holds m.enable_holds m.steps in
+    let p : Parts = parts_of m.window m.tree m.handles m.counts m.notifiers m.credits m.spent m.ignore_unused m.flight m.course m.prepare_holds m.enable_holds m.steps in
     let going : p.flight.going ≡ true = subst (λ (q : Parts). q.flight.going ≡ true) (sym c.self.view_is) c.requires.going in
     let own : own_step p.flight ≡ Some (micro.Lower c.args.clock) = subst (λ (q : Parts). own_step q.flight ≡ Some (micro.Lower c.args.clock)) (sym c.self.view_is) c.requires.next in
     let place : c.args.pll.0 < length p.desc.defs = subst (λ (q : Parts). c.args.pll.0 < length q.desc.defs) (sym c.self.view_is) c.requires.place in
     whole_stepped p c.set_power.new.window c.lower.new.self c.self.invariant
-    (tied_powered m.desc m.window c.set_power.new.window m.tree c.args.pll.0 false c.self.invariant.tied place c.set_power.ensures.size
-    (power_made m.desc.defs c.def.result.now.kind c.args.pll.0 false m.window.words c.set_power.new.window.words (ap (λ (d : ClockDef). d.kind) c.def.ensures.def) c.set_power.ensures.words))
+    (tied_powered (desc_of m.tree) m.window c.set_power.new.window m.tree c.args.pll.0 false c.self.invariant.tied place c.set_power.ensures.size
+    (power_made m.tree.defs c.def.result.now.kind c.args.pll.0 false m.window.words c.set_power.new.window.words (ap (λ (d : ClockDef). d.kind) c.def.ensures.def) c.set_power.ensures.words))
     going (subst (λ (f : FlightState). KeepsAlong m.flight f) (sym c.lower.ensures.flight) (along-lowered m.flight c.args.clock c.args.more own)) (subst (λ (f : FlightState). SameCall m.flight f) (sym c.lower.ensures.flight) (record { plls = refl; driver = refl; call = refl; going = refl }))
     (subst (λ (f : FlightState). IsUnderWay (registered m.tree.clocks) f) (sym c.lower.ensures.flight) (under_way-lowered m.flight (registered m.tree.clocks) c.args.clock c.args.more own (c.self.invariant.flown going).way))
     (c.lower.ensures.less (rows_from 0 m.notifiers))
@@ -43,7 +44,7 @@ invariant_of-self g c =
 pub returns : goal.returns
 returns g c =
     let m = c.self.inside in
-    let p : Parts = parts_of m.desc m.window m.tree m.handles m.counts m.notifiers m.credits m.spent m.ignore_unused m.flight m.course m.prepare_holds m.enable_holds m.steps in
+    let p : Parts = parts_of m.window m.tree m.handles m.counts m.notifiers m.credits m.spent m.ignore_unused m.flight m.course m.prepare_holds m.enable_holds m.steps in
     let going : p.flight.going ≡ true = subst (λ (q : Parts). q.flight.going ≡ true) (sym c.self.view_is) c.requires.going in
     let own : own_step p.flight ≡ Some (micro.Lower c.args.clock) = subst (λ (q : Parts). own_step q.flight ≡ Some (micro.Lower c.args.clock)) (sym c.self.view_is) c.requires.next in
     let first : ComesFirst p (micro.Lower c.args.clock) = subst (λ (q : Parts). ComesFirst q (micro.Lower c.args.clock)) (sym c.self.view_is) c.requires.first in
@@ -54,7 +55,7 @@ returns g c =
       first = first;
       found = found;
       size = c.set_power.ensures.size;
-      words = power_made m.desc.defs c.def.result.now.kind c.args.pll.0 false m.window.words c.set_power.new.window.words (ap (λ (d : ClockDef). d.kind) c.def.ensures.def) c.set_power.ensures.words;
+      words = power_made m.tree.defs c.def.result.now.kind c.args.pll.0 false m.window.words c.set_power.new.window.words (ap (λ (d : ClockDef). d.kind) c.def.ensures.def) c.set_power.ensures.words;
       behind = c.set_power.ensures.behind;
       locks = c.set_power.ensures.locks;
       flight = c.lower.ensures.flight;

@@ -10,7 +10,7 @@ use Rattle.clk_machine.proofs.machine.Machine.put_chain.Goals as goal
 pub invariant_of-self : goal.invariant_of-self
 invariant_of-self g c =
     let m = c.self.inside in
-    let p : Parts = parts_of m.desc m.window m.tree m.handles m.counts m.notifiers m.credits m.spent m.ignore_unused m.flight m.course m.prepare_holds m.enable_holds m.steps in
+    let p : Parts = parts_of m.window m.tree m.handles m.counts m.notifiers m.credits m.spent m.ignore_unused m.flight m.course m.prepare_holds m.enable_holds m.steps in
     let quiet : m.flight.going ≡ false = rw (← c.self.view_is) at c.requires.quiet in
     let left : m.spent < m.credits = rw (← c.self.view_is) at c.requires.credit in
     let n = c.requires.made.0 in
@@ -23,7 +23,7 @@ invariant_of-self g c =
 pub returns : goal.returns
 returns g c = λ n with_.
     let m = c.self.inside in
-    let p : Parts = parts_of m.desc m.window m.tree m.handles m.counts m.notifiers m.credits m.spent m.ignore_unused m.flight m.course m.prepare_holds m.enable_holds m.steps in
+    let p : Parts = parts_of m.window m.tree m.handles m.counts m.notifiers m.credits m.spent m.ignore_unused m.flight m.course m.prepare_holds m.enable_holds m.steps in
     let quiet : m.flight.going ≡ false = rw (← c.self.view_is) at c.requires.quiet in
     let k = c.args.clock.0 in
     let made : IsWith m.notifiers (row_on k n) c.args.chain.now = subst (λ (q : Parts). IsWith q.chains (row_on k n) c.args.chain.now) (sym c.self.view_is) with_ in

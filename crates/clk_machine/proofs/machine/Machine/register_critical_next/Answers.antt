@@ -1,23 +1,33 @@
-use Rattle.std.proofs.Common.{◌≡◌, ◌<◌, ◌∙◌, true, Some, sym, subst, get_or}
+use Rattle.std.proofs.Common.{◌≡◌, false, None, ◌<◌, ◌∙◌, true, Some, sym, subst, get_or, ap, length}
 use Rattle.clk_base.specs.declared.call.Micro.TheVariants as micro
 use Rattle.clk_base.specs.Flags.{is_critical}
-use Rattle.clk_model.specs.State.{row_of}
+use Rattle.clk_model.specs.State.{row_of, link_in}
 use Rattle.clk_flight.specs.Flights.{own_step}
 use Rattle.clk_machine.specs.Making.{ComesFirst}
 use Rattle.clk_machine.specs.Parts.{Parts, parts_of}
 use Rattle.counts_core.specs.Counted.{CountState}
 use Rattle.clk_machine.proofs.Critical.{IsHeld, held_begun, held_twice}
-use Rattle.clk_machine.proofs.Joining.{ComesOff, may_join, front_joining, whole_held, held_enters}
+use Rattle.clk_machine.proofs.Joining.{ComesOff, with_joined, may_join, front_joining, whole_held, held_enters}
 use Rattle.core_parts.proofs.Moving.{links_within}
 use Rattle.clk_machine.proofs.Registering.{Registered, no_link, other_links, tied_registered}
 use Rattle.clk_machine.proofs.Room.{prepare_room, enable_room}
 use Rattle.clk_machine.proofs.Rows.{counted_place}
+use Rattle.core_parts.specs.Tied.{desc_of}
+use Rattle.std.specs.Option.{option_map}
+use Rattle.clk_base.specs.Description.{Description}
+use Rattle.clk_model.specs.Gates.{gates_moved}
+use Rattle.clk_model.specs.Tree.{path_within}
+use Rattle.core_parts.specs.Shape.{LinksLie}
+use Rattle.clk_machine.proofs.Described.{whole_described, enters_described}
+use Rattle.core_parts.proofs.Described.{desc_same}
+use Rattle.clk_base.specs.declared.event.Event.TheVariants as event
+use Rattle.clk_base.specs.declared.event.Turn.TheVariants as turn
 use Rattle.clk_machine.proofs.machine.Machine.register_critical_next.Goals as goal
 
 pub given_parent-parent-requires-clause-place : goal.given_parent-parent-requires-clause-place
 given_parent-parent-requires-clause-place g c =
     let m = c.self.inside in
-    let p : Parts = parts_of m.desc m.window m.tree m.handles m.counts m.notifiers m.credits m.spent m.ignore_unused m.flight m.course m.prepare_holds m.enable_holds m.steps in
+    let p : Parts = parts_of m.window m.tree m.handles m.counts m.notifiers m.credits m.spent m.ignore_unused m.flight m.course m.prepare_holds m.enable_holds m.steps in
     let going : p.flight.going ≡ true = subst (λ (q : Parts). q.flight.going ≡ true) (sym c.self.view_is) c.requires.going in
     let own : own_step p.flight ≡ Some (micro.Register c.args.clock) = subst (λ (q : Parts). own_step q.flight ≡ Some (micro.Register c.args.clock)) (sym c.self.view_is) c.requires.next in
     let may = may_join p c.args.clock c.self.invariant going own in
@@ -32,7 +42,7 @@ given_parent-parent-requires-clause-words g c = c.self.invariant.tied.words
 pub let_go_under-requires : goal.let_go_under-requires
 let_go_under-requires g c =
     let m = c.self.inside in
-    let p : Parts = parts_of m.desc m.window m.tree m.handles m.counts m.notifiers m.credits m.spent m.ignore_unused m.flight m.course m.prepare_holds m.enable_holds m.steps in
+    let p : Parts = parts_of m.window m.tree m.handles m.counts m.notifiers m.credits m.spent m.ignore_unused m.flight m.course m.prepare_holds m.enable_holds m.steps in
     let going : p.flight.going ≡ true = subst (λ (q : Parts). q.flight.going ≡ true) (sym c.self.view_is) c.requires.going in
     let own : own_step p.flight ≡ Some (micro.Register c.args.clock) = subst (λ (q : Parts). own_step q.flight ≡ Some (micro.Register c.args.clock)) (sym c.self.view_is) c.requires.next in
     let may = may_join p c.args.clock c.self.invariant going own in
@@ -41,7 +51,7 @@ let_go_under-requires g c =
 pub register_clock-requires-clause-place : goal.register_clock-requires-clause-place
 register_clock-requires-clause-place g c =
     let m = c.self.inside in
-    let p : Parts = parts_of m.desc m.window m.tree m.handles m.counts m.notifiers m.credits m.spent m.ignore_unused m.flight m.course m.prepare_holds m.enable_holds m.steps in
+    let p : Parts = parts_of m.window m.tree m.handles m.counts m.notifiers m.credits m.spent m.ignore_unused m.flight m.course m.prepare_holds m.enable_holds m.steps in
     let going : p.flight.going ≡ true = subst (λ (q : Parts). q.flight.going ≡ true) (sym c.self.view_is) c.requires.going in
     let own : own_step p.flight ≡ Some (micro.Register c.args.clock) = subst (λ (q : Parts). own_step q.flight ≡ Some (micro.Register c.args.clock)) (sym c.self.view_is) c.requires.next in
     let may = may_join p c.args.clock c.self.invariant going own in
@@ -50,28 +60,25 @@ register_clock-requires-clause-place g c =
 pub register_clock-requires-clause-words : goal.register_clock-requires-clause-words
 register_clock-requires-clause-words g c = c.self.invariant.tied.words
 
-pub register_clock-requires-clause-made : goal.register_clock-requires-clause-made
-register_clock-requires-clause-made g c = c.self.invariant.tied.defs
-
 pub register_clock-requires-clause-kept : goal.register_clock-requires-clause-kept
 register_clock-requires-clause-kept g c = c.self.invariant.tied.kept
 
 pub moved-requires-clause-place : goal.moved-requires-clause-place
 moved-requires-clause-place g c =
     let m = c.self.inside in
-    let p : Parts = parts_of m.desc m.window m.tree m.handles m.counts m.notifiers m.credits m.spent m.ignore_unused m.flight m.course m.prepare_holds m.enable_holds m.steps in
+    let p : Parts = parts_of m.window m.tree m.handles m.counts m.notifiers m.credits m.spent m.ignore_unused m.flight m.course m.prepare_holds m.enable_holds m.steps in
     let going : p.flight.going ≡ true = subst (λ (q : Parts). q.flight.going ≡ true) (sym c.self.view_is) c.requires.going in
     let own : own_step p.flight ≡ Some (micro.Register c.args.clock) = subst (λ (q : Parts). own_step q.flight ≡ Some (micro.Register c.args.clock)) (sym c.self.view_is) c.requires.next in
     let may = may_join p c.args.clock c.self.invariant going own in
     counted_place p c.args.clock.0 c.self.invariant may.place
 
-pub moved-requires-clause-made : goal.moved-requires-clause-made
-moved-requires-clause-made g c = c.register_clock.ensures.defs ∙ c.self.invariant.tied.defs ∙ sym c.self.invariant.counted.stands.defs
+pub moved-requires-clause-size : goal.moved-requires-clause-size
+moved-requires-clause-size g c = ap (λ (ds : Description). length ds) c.register_clock.ensures.defs ∙ sym c.self.invariant.counted.stands.size
 
 pub moved-requires-clause-from : goal.moved-requires-clause-from
 moved-requires-clause-from g c =
     let m = c.self.inside in
-    let p : Parts = parts_of m.desc m.window m.tree m.handles m.counts m.notifiers m.credits m.spent m.ignore_unused m.flight m.course m.prepare_holds m.enable_holds m.steps in
+    let p : Parts = parts_of m.window m.tree m.handles m.counts m.notifiers m.credits m.spent m.ignore_unused m.flight m.course m.prepare_holds m.enable_holds m.steps in
     let going : p.flight.going ≡ true = subst (λ (q : Parts). q.flight.going ≡ true) (sym c.self.view_is) c.requires.going in
     let own : own_step p.flight ≡ Some (micro.Register c.args.clock) = subst (λ (q : Parts). own_step q.flight ≡ Some (micro.Register c.args.clock)) (sym c.self.view_is) c.requires.next in
     let may = may_join p c.args.clock c.self.invariant going own in
@@ -80,7 +87,7 @@ moved-requires-clause-from g c =
 pub moved-requires-clause-others : goal.moved-requires-clause-others
 moved-requires-clause-others g c =
     let m = c.self.inside in
-    let p : Parts = parts_of m.desc m.window m.tree m.handles m.counts m.notifiers m.credits m.spent m.ignore_unused m.flight m.course m.prepare_holds m.enable_holds m.steps in
+    let p : Parts = parts_of m.window m.tree m.handles m.counts m.notifiers m.credits m.spent m.ignore_unused m.flight m.course m.prepare_holds m.enable_holds m.steps in
     let going : p.flight.going ≡ true = subst (λ (q : Parts). q.flight.going ≡ true) (sym c.self.view_is) c.requires.going in
     let own : own_step p.flight ≡ Some (micro.Register c.args.clock) = subst (λ (q : Parts). own_step q.flight ≡ Some (micro.Register c.args.clock)) (sym c.self.view_is) c.requires.next in
     let may = may_join p c.args.clock c.self.invariant going own in
@@ -89,7 +96,7 @@ moved-requires-clause-others g c =
 pub hold-requires-clause-room : goal.hold-requires-clause-room
 hold-requires-clause-room g c =
     let m = c.self.inside in
-    let p : Parts = parts_of m.desc m.window m.tree m.handles m.counts m.notifiers m.credits m.spent m.ignore_unused m.flight m.course m.prepare_holds m.enable_holds m.steps in
+    let p : Parts = parts_of m.window m.tree m.handles m.counts m.notifiers m.credits m.spent m.ignore_unused m.flight m.course m.prepare_holds m.enable_holds m.steps in
     let going : p.flight.going ≡ true = subst (λ (q : Parts). q.flight.going ≡ true) (sym c.self.view_is) c.requires.going in
     let own : own_step p.flight ≡ Some (micro.Register c.args.clock) = subst (λ (q : Parts). own_step q.flight ≡ Some (micro.Register c.args.clock)) (sym c.self.view_is) c.requires.next in
     let may = may_join p c.args.clock c.self.invariant going own in
@@ -98,17 +105,29 @@ hold-requires-clause-room g c =
 pub enable_walk-begun-requires-clause-room : goal.enable_walk-begun-requires-clause-room
 enable_walk-begun-requires-clause-room g c =
     let m = c.self.inside in
-    let p : Parts = parts_of m.desc m.window m.tree m.handles m.counts m.notifiers m.credits m.spent m.ignore_unused m.flight m.course m.prepare_holds m.enable_holds m.steps in
+    let p : Parts = parts_of m.window m.tree m.handles m.counts m.notifiers m.credits m.spent m.ignore_unused m.flight m.course m.prepare_holds m.enable_holds m.steps in
     let going : p.flight.going ≡ true = subst (λ (q : Parts). q.flight.going ≡ true) (sym c.self.view_is) c.requires.going in
     let own : own_step p.flight ≡ Some (micro.Register c.args.clock) = subst (λ (q : Parts). own_step q.flight ≡ Some (micro.Register c.args.clock)) (sym c.self.view_is) c.requires.next in
     let may = may_join p c.args.clock c.self.invariant going own in
     subst (λ (k : CountState). get_or k.enables c.args.clock.0 0 < 8388608) (sym c.hold.ensures.holders)
     (subst (λ (k : CountState). get_or k.enables c.args.clock.0 0 < 8388608) (sym c.moved.ensures.moved) (enable_room p c.args.clock.0 c.self.invariant))
 
+pub open_path-requires-clause-place : goal.open_path-requires-clause-place
+open_path-requires-clause-place g c =
+    let m = c.self.inside in
+    let p : Parts = parts_of m.window m.tree m.handles m.counts m.notifiers m.credits m.spent m.ignore_unused m.flight m.course m.prepare_holds m.enable_holds m.steps in
+    let going : p.flight.going ≡ true = subst (λ (q : Parts). q.flight.going ≡ true) (sym c.self.view_is) c.requires.going in
+    let own : own_step p.flight ≡ Some (micro.Register c.args.clock) = subst (λ (q : Parts). own_step q.flight ≡ Some (micro.Register c.args.clock)) (sym c.self.view_is) c.requires.next in
+    let may = may_join p c.args.clock c.self.invariant going own in
+    subst (λ (ds : Description). c.args.clock.0 < length ds) (sym c.register_clock.ensures.defs) may.place
+
+pub open_path-requires-clause-words : goal.open_path-requires-clause-words
+open_path-requires-clause-words g c = c.self.invariant.tied.words ∙ sym c.register_clock.ensures.checked
+
 pub open_path-requires-clause-links : goal.open_path-requires-clause-links
 open_path-requires-clause-links g c =
     let m = c.self.inside in
-    let p : Parts = parts_of m.desc m.window m.tree m.handles m.counts m.notifiers m.credits m.spent m.ignore_unused m.flight m.course m.prepare_holds m.enable_holds m.steps in
+    let p : Parts = parts_of m.window m.tree m.handles m.counts m.notifiers m.credits m.spent m.ignore_unused m.flight m.course m.prepare_holds m.enable_holds m.steps in
     let going : p.flight.going ≡ true = subst (λ (q : Parts). q.flight.going ≡ true) (sym c.self.view_is) c.requires.going in
     let own : own_step p.flight ≡ Some (micro.Register c.args.clock) = subst (λ (q : Parts). own_step q.flight ≡ Some (micro.Register c.args.clock)) (sym c.self.view_is) c.requires.next in
     let may = may_join p c.args.clock c.self.invariant going own in
@@ -126,12 +145,13 @@ open_path-requires-clause-links g c =
       links = c.moved.ensures.links;
       keeps = c.moved.ensures.stands;
     } in
-    links_within m.desc m.window c.register_clock.new.tree (tied_registered p c.args.clock.0 c.register_clock.new.tree c.moved.new.self c.self.invariant now)
+    subst (λ (ds : Description). LinksLie ds c.register_clock.new.tree.clocks) (sym c.register_clock.ensures.defs)
+    (links_within (desc_of m.tree) m.window c.register_clock.new.tree (tied_registered p c.args.clock.0 c.register_clock.new.tree c.moved.new.self c.self.invariant now))
 
 pub invariant_of-self : goal.invariant_of-self
 invariant_of-self g c =
     let m = c.self.inside in
-    let p : Parts = parts_of m.desc m.window m.tree m.handles m.counts m.notifiers m.credits m.spent m.ignore_unused m.flight m.course m.prepare_holds m.enable_holds m.steps in
+    let p : Parts = parts_of m.window m.tree m.handles m.counts m.notifiers m.credits m.spent m.ignore_unused m.flight m.course m.prepare_holds m.enable_holds m.steps in
     let going : p.flight.going ≡ true = subst (λ (q : Parts). q.flight.going ≡ true) (sym c.self.view_is) c.requires.going in
     let own : own_step p.flight ≡ Some (micro.Register c.args.clock) = subst (λ (q : Parts). own_step q.flight ≡ Some (micro.Register c.args.clock)) (sym c.self.view_is) c.requires.next in
     let may = may_join p c.args.clock c.self.invariant going own in
@@ -165,13 +185,16 @@ invariant_of-self g c =
     } in
     let holds : IsHeld c.moved.new.self c.enable_walk-begun.new.self c.args.clock.0 =
     held_twice c.moved.new.self c.hold.new.self c.enable_walk-begun.new.self c.args.clock.0 c.hold.ensures.holders c.enable_walk-begun.ensures.holders c.enable_walk-begun.ensures.stands in
-    whole_held p c.args.clock c.register_clock.new.tree c.moved.new.self c.enable_walk-begun.new.self c.open_path.new.window c.enable_walk-begun.result c.go_on.new.self c.let_go_under.new.flight before now c.register_clock.ensures.links holds critical
-    c.open_path.ensures.size c.open_path.ensures.behind c.open_path.ensures.locks c.open_path.ensures.words
+    let words : c.open_path.new.window.words ≡ option_map (gates_moved m.tree.defs (λ _. false) (λ _. true) (path_within (link_in c.register_clock.new.tree.clocks) c.enable_walk-begun.result c.args.clock.0)) m.window.words =
+    c.open_path.ensures.words ∙ ap (λ (ds : Description). option_map (gates_moved ds (λ _. false) (λ _. true) (path_within (link_in c.register_clock.new.tree.clocks) c.enable_walk-begun.result c.args.clock.0)) m.window.words) c.register_clock.ensures.defs in
+    whole_described (with_joined p c.open_path.new.window c.register_clock.new.tree c.enable_walk-begun.new.self c.let_go_under.new.flight) (desc_same c.register_clock.new.tree m.tree c.register_clock.ensures.checked c.register_clock.ensures.defs)
+    (whole_held p c.args.clock c.register_clock.new.tree c.moved.new.self c.enable_walk-begun.new.self c.open_path.new.window c.enable_walk-begun.result c.go_on.new.self c.let_go_under.new.flight before now c.register_clock.ensures.links holds critical
+    c.open_path.ensures.size c.open_path.ensures.behind c.open_path.ensures.locks words)
 
 pub returns : goal.returns
 returns g c =
     let m = c.self.inside in
-    let p : Parts = parts_of m.desc m.window m.tree m.handles m.counts m.notifiers m.credits m.spent m.ignore_unused m.flight m.course m.prepare_holds m.enable_holds m.steps in
+    let p : Parts = parts_of m.window m.tree m.handles m.counts m.notifiers m.credits m.spent m.ignore_unused m.flight m.course m.prepare_holds m.enable_holds m.steps in
     let going : p.flight.going ≡ true = subst (λ (q : Parts). q.flight.going ≡ true) (sym c.self.view_is) c.requires.going in
     let own : own_step p.flight ≡ Some (micro.Register c.args.clock) = subst (λ (q : Parts). own_step q.flight ≡ Some (micro.Register c.args.clock)) (sym c.self.view_is) c.requires.next in
     let may = may_join p c.args.clock c.self.invariant going own in
@@ -205,6 +228,10 @@ returns g c =
     } in
     let holds : IsHeld c.moved.new.self c.enable_walk-begun.new.self c.args.clock.0 =
     held_twice c.moved.new.self c.hold.new.self c.enable_walk-begun.new.self c.args.clock.0 c.hold.ensures.holders c.enable_walk-begun.ensures.holders c.enable_walk-begun.ensures.stands in
-    rw (← c.self.view_is) (held_enters p c.args.clock c.register_clock.new.tree c.moved.new.self c.enable_walk-begun.new.self c.open_path.new.window c.enable_walk-begun.result c.go_on.new.self c.let_go_under.new.flight before now c.register_clock.ensures.links holds critical
-    c.open_path.ensures.size c.open_path.ensures.behind c.open_path.ensures.locks c.open_path.ensures.words
-    (held_begun c.moved.new.self c.hold.new.self c.enable_walk-begun.new.self c.args.clock.0 c.enable_walk-begun.result c.hold.ensures.holders c.enable_walk-begun.ensures.begun))
+    let words : c.open_path.new.window.words ≡ option_map (gates_moved m.tree.defs (λ _. false) (λ _. true) (path_within (link_in c.register_clock.new.tree.clocks) c.enable_walk-begun.result c.args.clock.0)) m.window.words =
+    c.open_path.ensures.words ∙ ap (λ (ds : Description). option_map (gates_moved ds (λ _. false) (λ _. true) (path_within (link_in c.register_clock.new.tree.clocks) c.enable_walk-begun.result c.args.clock.0)) m.window.words) c.register_clock.ensures.defs in
+    rw (← c.self.view_is)
+    (enters_described p p.flight.driver (event.Step (micro.Register c.args.clock) None) turn.Going (with_joined p c.open_path.new.window c.register_clock.new.tree c.enable_walk-begun.new.self c.let_go_under.new.flight) (desc_same c.register_clock.new.tree m.tree c.register_clock.ensures.checked c.register_clock.ensures.defs)
+    (held_enters p c.args.clock c.register_clock.new.tree c.moved.new.self c.enable_walk-begun.new.self c.open_path.new.window c.enable_walk-begun.result c.go_on.new.self c.let_go_under.new.flight before now c.register_clock.ensures.links holds critical
+    c.open_path.ensures.size c.open_path.ensures.behind c.open_path.ensures.locks words
+    (held_begun c.moved.new.self c.hold.new.self c.enable_walk-begun.new.self c.args.clock.0 c.enable_walk-begun.result c.hold.ensures.holders c.enable_walk-begun.ensures.begun)))

@@ -1,19 +1,24 @@
-use Rattle.std.proofs.Common.{◌≡◌, ◌∙◌, true, false, Some, sym, subst}
+use Rattle.std.proofs.Common.{◌≡◌, None, ◌∙◌, true, false, Some, sym, subst, ap, length}
 use Rattle.clk_base.specs.declared.call.Micro.TheVariants as micro
 use Rattle.clk_base.specs.Flags.{is_critical}
 use Rattle.clk_model.specs.State.{row_of}
 use Rattle.clk_flight.specs.Flights.{own_step}
 use Rattle.clk_machine.specs.Making.{ComesFirst}
 use Rattle.clk_machine.specs.Parts.{Parts, parts_of}
-use Rattle.clk_machine.proofs.Joining.{ComesOff, may_join, front_joining, whole_plain, plain_enters}
+use Rattle.clk_machine.proofs.Joining.{ComesOff, with_joined, may_join, front_joining, whole_plain, plain_enters}
 use Rattle.clk_machine.proofs.Registering.{Registered, no_link, other_links}
 use Rattle.clk_machine.proofs.Rows.{counted_place}
+use Rattle.clk_machine.proofs.Described.{whole_described, enters_described}
+use Rattle.core_parts.proofs.Described.{desc_same}
+use Rattle.clk_base.specs.declared.event.Event.TheVariants as event
+use Rattle.clk_base.specs.declared.event.Turn.TheVariants as turn
+use Rattle.clk_base.specs.Description.{Description}
 use Rattle.clk_machine.proofs.machine.Machine.register_plain_next.Goals as goal
 
 pub given_parent-parent-requires-clause-place : goal.given_parent-parent-requires-clause-place
 given_parent-parent-requires-clause-place g c =
     let m = c.self.inside in
-    let p : Parts = parts_of m.desc m.window m.tree m.handles m.counts m.notifiers m.credits m.spent m.ignore_unused m.flight m.course m.prepare_holds m.enable_holds m.steps in
+    let p : Parts = parts_of m.window m.tree m.handles m.counts m.notifiers m.credits m.spent m.ignore_unused m.flight m.course m.prepare_holds m.enable_holds m.steps in
     let going : p.flight.going ≡ true = subst (λ (q : Parts). q.flight.going ≡ true) (sym c.self.view_is) c.requires.going in
     let own : own_step p.flight ≡ Some (micro.Register c.args.clock) = subst (λ (q : Parts). own_step q.flight ≡ Some (micro.Register c.args.clock)) (sym c.self.view_is) c.requires.next in
     let may = may_join p c.args.clock c.self.invariant going own in
@@ -28,7 +33,7 @@ given_parent-parent-requires-clause-words g c = c.self.invariant.tied.words
 pub let_go_under-requires : goal.let_go_under-requires
 let_go_under-requires g c =
     let m = c.self.inside in
-    let p : Parts = parts_of m.desc m.window m.tree m.handles m.counts m.notifiers m.credits m.spent m.ignore_unused m.flight m.course m.prepare_holds m.enable_holds m.steps in
+    let p : Parts = parts_of m.window m.tree m.handles m.counts m.notifiers m.credits m.spent m.ignore_unused m.flight m.course m.prepare_holds m.enable_holds m.steps in
     let going : p.flight.going ≡ true = subst (λ (q : Parts). q.flight.going ≡ true) (sym c.self.view_is) c.requires.going in
     let own : own_step p.flight ≡ Some (micro.Register c.args.clock) = subst (λ (q : Parts). own_step q.flight ≡ Some (micro.Register c.args.clock)) (sym c.self.view_is) c.requires.next in
     let may = may_join p c.args.clock c.self.invariant going own in
@@ -37,7 +42,7 @@ let_go_under-requires g c =
 pub register_clock-requires-clause-place : goal.register_clock-requires-clause-place
 register_clock-requires-clause-place g c =
     let m = c.self.inside in
-    let p : Parts = parts_of m.desc m.window m.tree m.handles m.counts m.notifiers m.credits m.spent m.ignore_unused m.flight m.course m.prepare_holds m.enable_holds m.steps in
+    let p : Parts = parts_of m.window m.tree m.handles m.counts m.notifiers m.credits m.spent m.ignore_unused m.flight m.course m.prepare_holds m.enable_holds m.steps in
     let going : p.flight.going ≡ true = subst (λ (q : Parts). q.flight.going ≡ true) (sym c.self.view_is) c.requires.going in
     let own : own_step p.flight ≡ Some (micro.Register c.args.clock) = subst (λ (q : Parts). own_step q.flight ≡ Some (micro.Register c.args.clock)) (sym c.self.view_is) c.requires.next in
     let may = may_join p c.args.clock c.self.invariant going own in
@@ -46,28 +51,25 @@ register_clock-requires-clause-place g c =
 pub register_clock-requires-clause-words : goal.register_clock-requires-clause-words
 register_clock-requires-clause-words g c = c.self.invariant.tied.words
 
-pub register_clock-requires-clause-made : goal.register_clock-requires-clause-made
-register_clock-requires-clause-made g c = c.self.invariant.tied.defs
-
 pub register_clock-requires-clause-kept : goal.register_clock-requires-clause-kept
 register_clock-requires-clause-kept g c = c.self.invariant.tied.kept
 
 pub moved-requires-clause-place : goal.moved-requires-clause-place
 moved-requires-clause-place g c =
     let m = c.self.inside in
-    let p : Parts = parts_of m.desc m.window m.tree m.handles m.counts m.notifiers m.credits m.spent m.ignore_unused m.flight m.course m.prepare_holds m.enable_holds m.steps in
+    let p : Parts = parts_of m.window m.tree m.handles m.counts m.notifiers m.credits m.spent m.ignore_unused m.flight m.course m.prepare_holds m.enable_holds m.steps in
     let going : p.flight.going ≡ true = subst (λ (q : Parts). q.flight.going ≡ true) (sym c.self.view_is) c.requires.going in
     let own : own_step p.flight ≡ Some (micro.Register c.args.clock) = subst (λ (q : Parts). own_step q.flight ≡ Some (micro.Register c.args.clock)) (sym c.self.view_is) c.requires.next in
     let may = may_join p c.args.clock c.self.invariant going own in
     counted_place p c.args.clock.0 c.self.invariant may.place
 
-pub moved-requires-clause-made : goal.moved-requires-clause-made
-moved-requires-clause-made g c = c.register_clock.ensures.defs ∙ c.self.invariant.tied.defs ∙ sym c.self.invariant.counted.stands.defs
+pub moved-requires-clause-size : goal.moved-requires-clause-size
+moved-requires-clause-size g c = ap (λ (ds : Description). length ds) c.register_clock.ensures.defs ∙ sym c.self.invariant.counted.stands.size
 
 pub moved-requires-clause-from : goal.moved-requires-clause-from
 moved-requires-clause-from g c =
     let m = c.self.inside in
-    let p : Parts = parts_of m.desc m.window m.tree m.handles m.counts m.notifiers m.credits m.spent m.ignore_unused m.flight m.course m.prepare_holds m.enable_holds m.steps in
+    let p : Parts = parts_of m.window m.tree m.handles m.counts m.notifiers m.credits m.spent m.ignore_unused m.flight m.course m.prepare_holds m.enable_holds m.steps in
     let going : p.flight.going ≡ true = subst (λ (q : Parts). q.flight.going ≡ true) (sym c.self.view_is) c.requires.going in
     let own : own_step p.flight ≡ Some (micro.Register c.args.clock) = subst (λ (q : Parts). own_step q.flight ≡ Some (micro.Register c.args.clock)) (sym c.self.view_is) c.requires.next in
     let may = may_join p c.args.clock c.self.invariant going own in
@@ -76,7 +78,7 @@ moved-requires-clause-from g c =
 pub moved-requires-clause-others : goal.moved-requires-clause-others
 moved-requires-clause-others g c =
     let m = c.self.inside in
-    let p : Parts = parts_of m.desc m.window m.tree m.handles m.counts m.notifiers m.credits m.spent m.ignore_unused m.flight m.course m.prepare_holds m.enable_holds m.steps in
+    let p : Parts = parts_of m.window m.tree m.handles m.counts m.notifiers m.credits m.spent m.ignore_unused m.flight m.course m.prepare_holds m.enable_holds m.steps in
     let going : p.flight.going ≡ true = subst (λ (q : Parts). q.flight.going ≡ true) (sym c.self.view_is) c.requires.going in
     let own : own_step p.flight ≡ Some (micro.Register c.args.clock) = subst (λ (q : Parts). own_step q.flight ≡ Some (micro.Register c.args.clock)) (sym c.self.view_is) c.requires.next in
     let may = may_join p c.args.clock c.self.invariant going own in
@@ -85,7 +87,7 @@ moved-requires-clause-others g c =
 pub invariant_of-self : goal.invariant_of-self
 invariant_of-self g c =
     let m = c.self.inside in
-    let p : Parts = parts_of m.desc m.window m.tree m.handles m.counts m.notifiers m.credits m.spent m.ignore_unused m.flight m.course m.prepare_holds m.enable_holds m.steps in
+    let p : Parts = parts_of m.window m.tree m.handles m.counts m.notifiers m.credits m.spent m.ignore_unused m.flight m.course m.prepare_holds m.enable_holds m.steps in
     let going : p.flight.going ≡ true = subst (λ (q : Parts). q.flight.going ≡ true) (sym c.self.view_is) c.requires.going in
     let own : own_step p.flight ≡ Some (micro.Register c.args.clock) = subst (λ (q : Parts). own_step q.flight ≡ Some (micro.Register c.args.clock)) (sym c.self.view_is) c.requires.next in
     let may = may_join p c.args.clock c.self.invariant going own in
@@ -117,12 +119,13 @@ invariant_of-self g c =
       given = c.given_parent-parent.ensures.link;
       lets = c.let_go_under.ensures;
     } in
-    whole_plain p c.args.clock c.register_clock.new.tree c.moved.new.self c.go_on.new.self c.let_go_under.new.flight before now c.register_clock.ensures.links plain
+    whole_described (with_joined p m.window c.register_clock.new.tree c.moved.new.self c.let_go_under.new.flight) (desc_same c.register_clock.new.tree m.tree c.register_clock.ensures.checked c.register_clock.ensures.defs)
+    (whole_plain p c.args.clock c.register_clock.new.tree c.moved.new.self c.go_on.new.self c.let_go_under.new.flight before now c.register_clock.ensures.links plain)
 
 pub returns : goal.returns
 returns g c =
     let m = c.self.inside in
-    let p : Parts = parts_of m.desc m.window m.tree m.handles m.counts m.notifiers m.credits m.spent m.ignore_unused m.flight m.course m.prepare_holds m.enable_holds m.steps in
+    let p : Parts = parts_of m.window m.tree m.handles m.counts m.notifiers m.credits m.spent m.ignore_unused m.flight m.course m.prepare_holds m.enable_holds m.steps in
     let going : p.flight.going ≡ true = subst (λ (q : Parts). q.flight.going ≡ true) (sym c.self.view_is) c.requires.going in
     let own : own_step p.flight ≡ Some (micro.Register c.args.clock) = subst (λ (q : Parts). own_step q.flight ≡ Some (micro.Register c.args.clock)) (sym c.self.view_is) c.requires.next in
     let may = may_join p c.args.clock c.self.invariant going own in
@@ -154,4 +157,6 @@ returns g c =
       given = c.given_parent-parent.ensures.link;
       lets = c.let_go_under.ensures;
     } in
-    rw (← c.self.view_is) (plain_enters p c.args.clock c.register_clock.new.tree c.moved.new.self c.go_on.new.self c.let_go_under.new.flight before now c.register_clock.ensures.links plain)
+    rw (← c.self.view_is)
+    (enters_described p p.flight.driver (event.Step (micro.Register c.args.clock) None) turn.Going (with_joined p m.window c.register_clock.new.tree c.moved.new.self c.let_go_under.new.flight) (desc_same c.register_clock.new.tree m.tree c.register_clock.ensures.checked c.register_clock.ensures.defs)
+    (plain_enters p c.args.clock c.register_clock.new.tree c.moved.new.self c.go_on.new.self c.let_go_under.new.flight before now c.register_clock.ensures.links plain))

@@ -7,7 +7,7 @@ use Rattle.clk_machine.proofs.machine.Machine.remove_handle.Goals as goal
 pub invariant_of-self : goal.invariant_of-self
 invariant_of-self g c =
     let m = c.self.inside in
-    let p : Parts = parts_of m.desc m.window m.tree m.handles m.counts m.notifiers m.credits m.spent m.ignore_unused m.flight m.course m.prepare_holds m.enable_holds m.steps in
+    let p : Parts = parts_of m.window m.tree m.handles m.counts m.notifiers m.credits m.spent m.ignore_unused m.flight m.course m.prepare_holds m.enable_holds m.steps in
     let quiet : m.flight.going ≡ false = rw (← c.self.view_is) at c.requires.quiet in
     let live : handle_at m.handles.handles c.args.handle.number ≡ Some c.args.row = rw (← c.self.view_is) at c.requires.live in
     let left : m.spent < m.credits = rw (← c.self.view_is) at c.requires.credit in
@@ -16,6 +16,6 @@ invariant_of-self g c =
 pub returns : goal.returns
 returns g c =
     let m = c.self.inside in
-    let p : Parts = parts_of m.desc m.window m.tree m.handles m.counts m.notifiers m.credits m.spent m.ignore_unused m.flight m.course m.prepare_holds m.enable_holds m.steps in
+    let p : Parts = parts_of m.window m.tree m.handles m.counts m.notifiers m.credits m.spent m.ignore_unused m.flight m.course m.prepare_holds m.enable_holds m.steps in
     let live : handle_at m.handles.handles c.args.handle.number ≡ Some c.args.row = rw (← c.self.view_is) at c.requires.live in
     rw (← c.self.view_is) (becomes_removed p c.args.handle.number c.args.row c.remove.new.self live c.requires.free c.remove.ensures.handles)

@@ -11,7 +11,7 @@ use Rattle.clk_machine.proofs.machine.Machine.start_prepare.Goals as goal
 pub invariant_of-self-2 : goal.invariant_of-self-2
 invariant_of-self-2 g c =
     let m = c.self.inside in
-    let p : Parts = parts_of m.desc m.window m.tree m.handles m.counts m.notifiers m.credits m.spent m.ignore_unused m.flight m.course m.prepare_holds m.enable_holds m.steps in
+    let p : Parts = parts_of m.window m.tree m.handles m.counts m.notifiers m.credits m.spent m.ignore_unused m.flight m.course m.prepare_holds m.enable_holds m.steps in
     let live : handle_at p.table.handles c.args.handle.number ≡ Some c.args.row = subst (λ (q : Parts). handle_at q.table.handles c.args.handle.number ≡ Some c.args.row) (sym c.self.view_is) c.requires.live in
     let own : own_in p.table.handles c.args.driver c.args.handle.number ≡ Some c.args.row = subst (λ (q : Parts). own_in q.table.handles c.args.driver c.args.handle.number ≡ Some c.args.row) (sym c.self.view_is) c.requires.own in
     let start : Start = record { driver = c.args.driver; call = call.Prepare c.args.handle; script = c.in_ok-script.script; range = None; extra = 0; vetoed = false } in
@@ -24,7 +24,7 @@ invariant_of-self-2 g c =
 pub returns-clause-ok : goal.returns-clause-ok
 returns-clause-ok g c =
     let m = c.self.inside in
-    let p : Parts = parts_of m.desc m.window m.tree m.handles m.counts m.notifiers m.credits m.spent m.ignore_unused m.flight m.course m.prepare_holds m.enable_holds m.steps in
+    let p : Parts = parts_of m.window m.tree m.handles m.counts m.notifiers m.credits m.spent m.ignore_unused m.flight m.course m.prepare_holds m.enable_holds m.steps in
     let start : Start = record { driver = c.args.driver; call = call.Prepare c.args.handle; script = c.in_ok-script.script; range = None; extra = 0; vetoed = false } in
     let now : Started p c.args.driver (call.Prepare c.args.handle) (raise_script c.args.row.clock) c.begin.new.self =
     begun_started p c.args.driver (call.Prepare c.args.handle) (raise_script c.args.row.clock) c.begin.new.self start c.plls.result c.in_ok-begin.ensures.begun (c.plls.ensures.plls ∙ ap plls c.self.invariant.tied.defs) refl refl c.in_ok-script.ensures refl refl in

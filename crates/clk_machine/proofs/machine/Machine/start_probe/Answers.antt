@@ -17,7 +17,7 @@ use Rattle.clk_machine.proofs.machine.Machine.start_probe.Goals as goal
 pub invariant_of-self-2 : goal.invariant_of-self-2
 invariant_of-self-2 g c =
     let m = c.self.inside in
-    let p : Parts = parts_of m.desc m.window m.tree m.handles m.counts m.notifiers m.credits m.spent m.ignore_unused m.flight m.course m.prepare_holds m.enable_holds m.steps in
+    let p : Parts = parts_of m.window m.tree m.handles m.counts m.notifiers m.credits m.spent m.ignore_unused m.flight m.course m.prepare_holds m.enable_holds m.steps in
     let start : Start = record { driver = c.args.driver; call = call.Probe c.args.clock; script = c.args.steps; range = None; extra = 0; vetoed = false } in
     let now : Started p c.args.driver (call.Probe c.args.clock) c.args.steps.items c.begin.new.self =
     begun_started p c.args.driver (call.Probe c.args.clock) c.args.steps.items c.begin.new.self start c.plls.result c.in_ok-begin.ensures.begun (c.plls.ensures.plls ∙ ap plls c.self.invariant.tied.defs) refl refl refl refl refl in
@@ -34,7 +34,7 @@ invariant_of-self-2 g c =
 pub returns-clause-ok : goal.returns-clause-ok
 returns-clause-ok g c =
     let m = c.self.inside in
-    let p : Parts = parts_of m.desc m.window m.tree m.handles m.counts m.notifiers m.credits m.spent m.ignore_unused m.flight m.course m.prepare_holds m.enable_holds m.steps in
+    let p : Parts = parts_of m.window m.tree m.handles m.counts m.notifiers m.credits m.spent m.ignore_unused m.flight m.course m.prepare_holds m.enable_holds m.steps in
     let start : Start = record { driver = c.args.driver; call = call.Probe c.args.clock; script = c.args.steps; range = None; extra = 0; vetoed = false } in
     let now : Started p c.args.driver (call.Probe c.args.clock) c.args.steps.items c.begin.new.self =
     begun_started p c.args.driver (call.Probe c.args.clock) c.args.steps.items c.begin.new.self start c.plls.result c.in_ok-begin.ensures.begun (c.plls.ensures.plls ∙ ap plls c.self.invariant.tied.defs) refl refl refl refl refl in

@@ -1,4 +1,4 @@
-use Rattle.std.proofs.Common.{rules, ◌≡◌, true, None, Some, inl, inr, refl, sym}
+use Rattle.std.proofs.Common.{rules, ◌≡◌, true, None, Some, inl, inr, sym}
 use Rattle.clk_base.specs.declared.call.Micro.TheVariants as micro
 use Rattle.clk_base.specs.declared.event.Turn.TheVariants.{Going}
 use Rattle.clk_machine.specs.Making.{only_goes_on}

@@ -10,4 +10,4 @@ returns g c =
     let m = c.self.inside in
     rw (← c.self.view_is) (c.weigh.ensures
     ∙ ap (λ (n : ℕ). min (sum_by (step_weight n m.notifiers) c.args.steps.now) (2 ^ 64 - 1)) (c.plls.ensures.plls ∙ ap plls c.self.invariant.tied.defs)
-    ∙ ap (λ (n : ℕ). min n (2 ^ 64 - 1)) (sym (weighs_rows m.notifiers (plls m.desc.defs) c.args.steps.now)))
+    ∙ ap (λ (n : ℕ). min n (2 ^ 64 - 1)) (sym (weighs_rows m.notifiers (plls m.tree.defs) c.args.steps.now)))

@@ -1,4 +1,4 @@
-use Rattle.std.proofs.Common.{None, refl, subst, sym}
+use Rattle.std.proofs.Common.{None, subst, sym}
 use Rattle.clk_base.specs.declared.event.Turn.{Turn}
 use Rattle.clk_machine.specs.Along.{PartsFollow}
 use Rattle.clk_machine.specs.Copied.{Copy}

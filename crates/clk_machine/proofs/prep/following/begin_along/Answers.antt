@@ -1,7 +1,7 @@
 use Rattle.std.proofs.Common.{None}
 use Rattle.clk_base.specs.declared.event.Turn.TheVariants.{Going}
 use Rattle.clk_machine.specs.Copied.{Copy}
-use Rattle.clk_machine.proofs.Copying.{no_begin, going_told, quiet_told, copies_out}
+use Rattle.clk_machine.proofs.Copying.{no_begin, going_told, copies_out}
 use Rattle.clk_machine.proofs.prep.following.begin_along.Goals as goal
 
 pub returns-then-not-is_quiet-clause-follows : goal.returns-then-not-is_quiet-clause-follows

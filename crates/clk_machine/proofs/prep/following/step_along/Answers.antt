@@ -16,7 +16,7 @@ returns-then-sweeps-clause-follows c =
     let old : Copy = record { parts = c.args.machine.now; room = None } in
     let new : Copy = record { parts = c.sweep_on.new.self; room = None } in
     λ d s t of step. copies_sweep old new s t d c.args.step c.args.answer Going of (going_told c.args.machine.now.flight.going c.is_quiet.result c.is_quiet.ensures.going c.if-is_quiet.false)
-    (sym c.sweeps.ensures ∙ c.if-sweeps.true) (c.sweep_on.ensures.along (not_last c.args.step (going_on s t d c.args.step c.args.answer step))) step
+    (sym c.sweeps.ensures ∙ c.if-sweeps.true) (not_last c.args.step (going_on s t d c.args.step c.args.answer step)) c.sweep_on.ensures.along step
 
 pub returns-clause-follows : goal.returns-clause-follows
 returns-clause-follows c =
