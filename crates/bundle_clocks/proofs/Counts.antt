@@ -9,6 +9,7 @@ use Rattle.clk_base.specs.Description.{Description}
 use Rattle.clock_lines.specs.Section.{desc_of, lines_of}
 use Rattle.clock_lines.specs.Verdict.{Spells}
 use Rattle.dts_bindings.specs.Binding.{SeenBinding}
+use Rattle.dts_bindings.specs.Versions.{all_known}
 use Rattle.dts_clocks.specs.Above.{is_passed}
 use Rattle.dts_clocks.specs.Clocks.{binding_at, own_binding}
 use Rattle.dts_clocks.specs.Joined.{joined}
@@ -16,6 +17,7 @@ use Rattle.dts_clocks.specs.Loaded.{SeenLoaded, defs_with, lines_with, defs_at, 
 use Rattle.dts_clocks.specs.SecondPass.{Links, links_at}
 use Rattle.dts_clocks.specs.Verdict.{Accepts}
 use Rattle.dts_tree.specs.Tree.{SeenNode}
+use Rattle.bundle_sections.specs.Sections.{version_of}
 use Rattle.bundle_sections.specs.declared.section.ClockSection.{ClockSection}
 use Rattle.bundle_sections.specs.declared.section.ClockText.{ClockText}
 use Rattle.bundle_sections.specs.declared.section.ClockText.TheVariants.{Lines, DeviceTree}
@@ -28,8 +30,8 @@ spelled_count : (from : ℕ) (section : List (List ℕ)) → length (lines_of fr
 unfolding lines_of desc_of
 spelled_count from section = simp length-map
 
-line_count : (from : ℕ) (section : List (List ℕ)) (desc : Description) (lines : List ℕ) → Spells from section desc lines → length lines ≡ length desc
-line_count from section desc lines h = ap length h.lines_are ∙ (spelled_count from section ∙ sym (ap length h.desc_is))
+line_count : (version from : ℕ) (section : List (List ℕ)) (desc : Description) (lines : List ℕ) → Spells version from section desc lines → length lines ≡ length desc
+line_count version from section desc lines h = ap length h.lines_are ∙ (spelled_count from section ∙ sym (ap length h.desc_is))
 
 -- ## Trees
 
@@ -80,6 +82,6 @@ tree_count nodes loaded h = subst (λ l. length l.lines ≡ length l.defs) (sym 
 
 -- each clock that a section says has its line
 pub lines_count : (text : ClockText) (ls : List (List ℕ)) (s : ClockSection) (said : SaidClocks) → SaysIn text ls s said → length said.lines ≡ length said.defs
-lines_count Lines ls s said h = line_count (s.place + 1) _ said.defs said.lines h.spelled
+lines_count Lines ls s said h = line_count (version_of ls) (s.place + 1) _ said.defs said.lines h.spelled
 lines_count DeviceTree ls s said h =
-    subst (λ clocks. length clocks.lines ≡ length clocks.defs) (sym h.content) (tree_count h.nodes h.loaded h.accepted)
+    subst (λ clocks. length clocks.lines ≡ length clocks.defs) (sym h.content) (tree_count (all_known (version_of ls) h.nodes) h.loaded h.accepted)

@@ -31,7 +31,7 @@ unfolding source_of
 source_room ls s order within few = omega (arith, room-slice ls (s.place + 1) s.end (omega arith) within)
 
 -- a source without tokens
-pub no_tokens : (first : ℕ) (source : List ℕ) (tokens : List Token) (fault : BundleFault) → fault ≡ Refused first reasons.Syntax → Tokens source tokens → (length tokens == 0) ≡ true → Tells (SourceRefused first source) fault
-no_tokens first source tokens fault e cuts empty =
+pub no_tokens : (version first : ℕ) (source : List ℕ) (tokens : List Token) (fault : BundleFault) → fault ≡ Refused first reasons.Syntax → Tokens source tokens → (length tokens == 0) ≡ true → Tells (SourceRefused version first source) fault
+no_tokens version first source tokens fault e cuts empty =
     let found : nodes_of first source tokens ≡ Err (Syntax first) = ap (λ b. cond b (Err (Syntax first)) (spelled source tokens)) empty in
     rw e (inr (inl (record { tokens = tokens; cuts = cuts; fault = Syntax first; found = found; told_is = refl })))

@@ -3,6 +3,7 @@ use Rattle.std.proofs.Common.{◌≡◌, ℕ, ◌+◌, List, Option, Some, None,
 use Rattle.bundle_text.specs.Firsts.{KeepsBelow}
 use Rattle.bundle_text.proofs.Results.{ok_same, err_same, ok_err}
 use Rattle.bundle_text.proofs.Rows.{First-kept, First-unique}
+use Rattle.bundle_sections.specs.Sections.{version_of}
 use Rattle.bundle_sections.specs.declared.section.ClockSection.{ClockSection}
 use Rattle.bundle_sections.specs.declared.section.ClockText.{ClockText}
 use Rattle.bundle_sections.specs.declared.section.ClockText.TheVariants.{Lines, DeviceTree}
@@ -13,6 +14,7 @@ use Rattle.bundle_clocks.specs.Said.{SaidClocks}
 use Rattle.bundle_clocks.specs.Source.{lines_in, source_of}
 use Rattle.bundle_clocks.specs.Verdict.{SourceSays, TreeSays, TreeRefused, NodesRefused, SourceRefused, SaysIn, RefusesIn, nodes_of, clocks_of_tree}
 use Rattle.clock_lines.proofs.Verdicts as line_laws
+use Rattle.dts_bindings.specs.Versions.{all_known}
 use Rattle.dts_clocks.specs.declared.fault.DtsFault.{DtsFault}
 use Rattle.dts_clocks.specs.Loaded.{SeenLoaded}
 use Rattle.dts_clocks.specs.Faults.{IsFirstOf}
@@ -111,35 +113,35 @@ loaded_fault : (nodes : List SeenNode) (a : SeenLoaded) (fault : DtsFault) → n
 loaded_fault nodes a fault x (inl y) = first_kept (first_fault nodes) (length nodes) fault x.first y
 loaded_fault nodes a fault x (inr y) = first_kept (second_fault nodes) (length nodes) fault x.second y.found
 
-nodes_refused_same : (first : ℕ) (source : List ℕ) (line other : ℕ) (reason why : Reason) → NodesRefused first source line reason → NodesRefused first source other why → (line ≡ other) × (reason ≡ why)
-nodes_refused_same first source line other reason why x y =
+nodes_refused_same : (version first : ℕ) (source : List ℕ) (line other : ℕ) (reason why : Reason) → NodesRefused version first source line reason → NodesRefused version first source other why → (line ≡ other) × (reason ≡ why)
+nodes_refused_same version first source line other reason why x y =
     let same = nodes_same first source x.nodes y.nodes x.tree y.tree in
-    let fault = fault_same y.nodes x.fault y.fault (subst (λ nodes. node_verdict.Refuses nodes x.fault) same x.found) y.found in
+    let fault = fault_same (all_known version y.nodes) x.fault y.fault (subst (λ nodes. node_verdict.Refuses (all_known version nodes) x.fault) same x.found) y.found in
     told_same line other reason why (sym x.told_is ∙ (ap nodes_told fault ∙ y.told_is))
 
-source_same : (first : ℕ) (source : List ℕ) (line other : ℕ) (reason why : Reason) → SourceRefused first source line reason → SourceRefused first source other why → (line ≡ other) × (reason ≡ why)
-source_same first source line other reason why (inl x) (inl y) = token_same source x.fault y.fault line other reason why x.first y.first x.told_is y.told_is
-source_same first source line other reason why (inl x) (inr (inl y)) = absurd (token_cut source x.fault y.tokens line reason x.first x.told_is y.cuts)
-source_same first source line other reason why (inl x) (inr (inr y)) = absurd (token_cut source x.fault y.tree.tokens line reason x.first x.told_is y.tree.cuts)
-source_same first source line other reason why (inr (inl x)) (inl y) = absurd (token_cut source y.fault x.tokens other why y.first y.told_is x.cuts)
-source_same first source line other reason why (inr (inl x)) (inr (inl y)) = tree_same first source line other reason why x y
-source_same first source line other reason why (inr (inl x)) (inr (inr y)) = absurd (tree_says first source y.nodes line reason y.tree x)
-source_same first source line other reason why (inr (inr x)) (inl y) = absurd (token_cut source y.fault x.tree.tokens other why y.first y.told_is x.tree.cuts)
-source_same first source line other reason why (inr (inr x)) (inr (inl y)) = absurd (tree_says first source x.nodes other why x.tree y)
-source_same first source line other reason why (inr (inr x)) (inr (inr y)) = nodes_refused_same first source line other reason why x y
+source_same : (version first : ℕ) (source : List ℕ) (line other : ℕ) (reason why : Reason) → SourceRefused version first source line reason → SourceRefused version first source other why → (line ≡ other) × (reason ≡ why)
+source_same version first source line other reason why (inl x) (inl y) = token_same source x.fault y.fault line other reason why x.first y.first x.told_is y.told_is
+source_same version first source line other reason why (inl x) (inr (inl y)) = absurd (token_cut source x.fault y.tokens line reason x.first x.told_is y.cuts)
+source_same version first source line other reason why (inl x) (inr (inr y)) = absurd (token_cut source x.fault y.tree.tokens line reason x.first x.told_is y.tree.cuts)
+source_same version first source line other reason why (inr (inl x)) (inl y) = absurd (token_cut source y.fault x.tokens other why y.first y.told_is x.cuts)
+source_same version first source line other reason why (inr (inl x)) (inr (inl y)) = tree_same first source line other reason why x y
+source_same version first source line other reason why (inr (inl x)) (inr (inr y)) = absurd (tree_says first source y.nodes line reason y.tree x)
+source_same version first source line other reason why (inr (inr x)) (inl y) = absurd (token_cut source y.fault x.tree.tokens other why y.first y.told_is x.tree.cuts)
+source_same version first source line other reason why (inr (inr x)) (inr (inl y)) = absurd (tree_says first source x.nodes other why x.tree y)
+source_same version first source line other reason why (inr (inr x)) (inr (inr y)) = nodes_refused_same version first source line other reason why x y
 
-tree_means : (first : ℕ) (source : List ℕ) (a b : SaidClocks) → TreeSays first source a → TreeSays first source b → a ≡ b
-tree_means first source a b x y =
+tree_means : (version first : ℕ) (source : List ℕ) (a b : SaidClocks) → TreeSays version first source a → TreeSays version first source b → a ≡ b
+tree_means version first source a b x y =
     let same = nodes_same first source x.nodes y.nodes x.tree y.tree in
-    let loaded = loaded_same y.nodes x.loaded y.loaded (subst (λ nodes. node_verdict.Accepts nodes x.loaded) same x.accepted) y.accepted in
+    let loaded = loaded_same (all_known version y.nodes) x.loaded y.loaded (subst (λ nodes. node_verdict.Accepts (all_known version nodes) x.loaded) same x.accepted) y.accepted in
     x.content ∙ (ap clocks_of_tree loaded ∙ sym y.content)
 
-tree_both : (first : ℕ) (source : List ℕ) (a : SaidClocks) (line : ℕ) (reason : Reason) → TreeSays first source a → SourceRefused first source line reason → ⊥
-tree_both first source a line reason x (inl y) = token_cut source y.fault x.tree.tokens line reason y.first y.told_is x.tree.cuts
-tree_both first source a line reason x (inr (inl y)) = tree_says first source x.nodes line reason x.tree y
-tree_both first source a line reason x (inr (inr y)) =
+tree_both : (version first : ℕ) (source : List ℕ) (a : SaidClocks) (line : ℕ) (reason : Reason) → TreeSays version first source a → SourceRefused version first source line reason → ⊥
+tree_both version first source a line reason x (inl y) = token_cut source y.fault x.tree.tokens line reason y.first y.told_is x.tree.cuts
+tree_both version first source a line reason x (inr (inl y)) = tree_says first source x.nodes line reason x.tree y
+tree_both version first source a line reason x (inr (inr y)) =
     let same = nodes_same first source x.nodes y.nodes x.tree y.tree in
-    loaded_fault y.nodes x.loaded y.fault (subst (λ nodes. node_verdict.Accepts nodes x.loaded) same x.accepted) y.found
+    loaded_fault (all_known version y.nodes) x.loaded y.fault (subst (λ nodes. node_verdict.Accepts (all_known version nodes) x.loaded) same x.accepted) y.found
 
 -- ## Sections
 
@@ -153,12 +155,12 @@ one_meaning Lines ls s a b x y =
     ∙ (ap (λ l. record { defs = b.defs; lines = l; consumers = a.consumers; assigned = a.assigned }) lines
     ∙ (ap (λ n. record { defs = b.defs; lines = b.lines; consumers = n; assigned = a.assigned }) consumers
     ∙ ap (λ n. record { defs = b.defs; lines = b.lines; consumers = b.consumers; assigned = n }) assigned))
-one_meaning DeviceTree ls s a b x y = tree_means (s.place + 2) (source_of ls s) a b x y
+one_meaning DeviceTree ls s a b x y = tree_means (version_of ls) (s.place + 2) (source_of ls s) a b x y
 
 pub one_refusal : (text : ClockText) (ls : List (List ℕ)) (s : ClockSection) (line other : ℕ) (reason why : Reason) → RefusesIn text ls s line reason → RefusesIn text ls s other why → (line ≡ other) × (reason ≡ why)
-one_refusal Lines ls s line other reason why x y = line_laws.one_refusal (s.place + 1) (lines_in ls s) line other reason why x y
-one_refusal DeviceTree ls s line other reason why x y = source_same (s.place + 2) (source_of ls s) line other reason why x y
+one_refusal Lines ls s line other reason why x y = line_laws.one_refusal (version_of ls) (s.place + 1) (lines_in ls s) line other reason why x y
+one_refusal DeviceTree ls s line other reason why x y = source_same (version_of ls) (s.place + 2) (source_of ls s) line other reason why x y
 
 pub never_both : (text : ClockText) (ls : List (List ℕ)) (s : ClockSection) (a : SaidClocks) (line : ℕ) (reason : Reason) → SaysIn text ls s a → RefusesIn text ls s line reason → ⊥
-never_both Lines ls s a line reason x y = line_laws.never_both (s.place + 1) (lines_in ls s) a.defs a.lines line reason x.spelled y
-never_both DeviceTree ls s a line reason x y = tree_both (s.place + 2) (source_of ls s) a line reason x y
+never_both Lines ls s a line reason x y = line_laws.never_both (version_of ls) (s.place + 1) (lines_in ls s) a.defs a.lines line reason x.spelled y
+never_both DeviceTree ls s a line reason x y = tree_both (version_of ls) (s.place + 2) (source_of ls s) a line reason x y

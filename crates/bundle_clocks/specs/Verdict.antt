@@ -1,13 +1,15 @@
--- Which section of clocks says what, and why others are refused.
+-- Which section of clocks says what in a bundle of its version, and why others are refused.
 use Rattle.std.specs.Prelude.{◌≡◌, ℕ, ◌+◌, ◌==◌, ◌⊎◌, List, [], length, Result, Ok, Err, if◌then◌else◌}
 use Rattle.bundle_text.specs.declared.reason.Reason.{Reason}
 use Rattle.bundle_clocks.specs.Reasons.{told, token_told, tree_told, nodes_told}
 use Rattle.bundle_clocks.specs.Said.{SaidClocks}
 use Rattle.bundle_clocks.specs.Source.{lines_in, source_of}
+use Rattle.bundle_sections.specs.Sections.{version_of}
 use Rattle.bundle_sections.specs.declared.section.ClockSection.{ClockSection}
 use Rattle.bundle_sections.specs.declared.section.ClockText.{ClockText}
 use Rattle.bundle_sections.specs.declared.section.ClockText.TheVariants.{Lines, DeviceTree}
 use Rattle.clock_lines.specs.Verdict as line_verdict
+use Rattle.dts_bindings.specs.Versions.{all_known}
 use Rattle.dts_clocks.specs.declared.fault.DtsFault.{DtsFault}
 use Rattle.dts_clocks.specs.Loaded.{SeenLoaded}
 use Rattle.dts_clocks.specs.Verdict as node_verdict
@@ -21,7 +23,7 @@ use Rattle.dts_tree.specs.Tree.{SeenNode}
 
 -- clock lines say these clocks, and neither consumers nor assigned clocks
 pub record LinesSay (ls : List (List ℕ)) (s : ClockSection) (said : SaidClocks) : Type 0 where
-  pub spelled : line_verdict.Spells (s.place + 1) (lines_in ls s) said.defs said.lines
+  pub spelled : line_verdict.Spells (version_of ls) (s.place + 1) (lines_in ls s) said.defs said.lines
   pub consumers : said.consumers ≡ []
   pub assigned : said.assigned ≡ []
 
@@ -39,12 +41,12 @@ pub record SourceSays (first : ℕ) (source : List ℕ) (nodes : List SeenNode) 
 abbrev pub clocks_of_tree : SeenLoaded → SaidClocks
 clocks_of_tree loaded = record { defs = loaded.defs; lines = loaded.lines; consumers = loaded.consumers; assigned = loaded.assigned }
 
--- a device tree source says these clocks
-pub record TreeSays (first : ℕ) (source : List ℕ) (said : SaidClocks) : Type 0 where
+-- a device tree source of a version says these clocks
+pub record TreeSays (version first : ℕ) (source : List ℕ) (said : SaidClocks) : Type 0 where
   pub nodes : List SeenNode
   pub tree : SourceSays first source nodes
   pub loaded : SeenLoaded
-  pub accepted : node_verdict.Accepts nodes loaded
+  pub accepted : node_verdict.Accepts (all_known version nodes) loaded
   pub content : said ≡ clocks_of_tree loaded
 
 -- a source can't be cut into tokens
@@ -61,22 +63,22 @@ pub record TreeRefused (first : ℕ) (source : List ℕ) (line : ℕ) (reason : 
   pub found : nodes_of first source tokens ≡ Err fault
   pub told_is : tree_told fault ≡ told line reason
 
--- the nodes of a source's tree are refused
-pub record NodesRefused (first : ℕ) (source : List ℕ) (line : ℕ) (reason : Reason) : Type 0 where
+-- the nodes of a source's tree are refused in a version
+pub record NodesRefused (version first : ℕ) (source : List ℕ) (line : ℕ) (reason : Reason) : Type 0 where
   pub nodes : List SeenNode
   pub tree : SourceSays first source nodes
   pub fault : DtsFault
-  pub found : node_verdict.Refuses nodes fault
+  pub found : node_verdict.Refuses (all_known version nodes) fault
   pub told_is : nodes_told fault ≡ told line reason
 
--- a source is refused: for its tokens, else for its tree, else for its nodes
-abbrev pub SourceRefused : ℕ → List ℕ → ℕ → Reason → Type 0
-SourceRefused first source line reason = TokensRefused source line reason ⊎ (TreeRefused first source line reason ⊎ NodesRefused first source line reason)
+-- a source is refused in a version: for its tokens, else for its tree, else for its nodes
+abbrev pub SourceRefused : ℕ → ℕ → List ℕ → ℕ → Reason → Type 0
+SourceRefused version first source line reason = TokensRefused source line reason ⊎ (TreeRefused first source line reason ⊎ NodesRefused version first source line reason)
 
 -- the section says these clocks, by its form
 abbrev pub SaysIn : ClockText → List (List ℕ) → ClockSection → SaidClocks → Type 0
 SaysIn Lines ls s said = LinesSay ls s said
-SaysIn DeviceTree ls s said = TreeSays (s.place + 2) (source_of ls s) said
+SaysIn DeviceTree ls s said = TreeSays (version_of ls) (s.place + 2) (source_of ls s) said
 
 -- the section says these clocks
 abbrev pub Says : List (List ℕ) → ClockSection → SaidClocks → Type 0
@@ -84,8 +86,8 @@ Says ls s said = SaysIn s.text ls s said
 
 -- the section is refused at this line for this reason, by its form
 abbrev pub RefusesIn : ClockText → List (List ℕ) → ClockSection → ℕ → Reason → Type 0
-RefusesIn Lines ls s line reason = line_verdict.Refuses (s.place + 1) (lines_in ls s) line reason
-RefusesIn DeviceTree ls s line reason = SourceRefused (s.place + 2) (source_of ls s) line reason
+RefusesIn Lines ls s line reason = line_verdict.Refuses (version_of ls) (s.place + 1) (lines_in ls s) line reason
+RefusesIn DeviceTree ls s line reason = SourceRefused (version_of ls) (s.place + 2) (source_of ls s) line reason
 
 -- the section is refused at this line for this reason
 abbrev pub Refuses : List (List ℕ) → ClockSection → ℕ → Reason → Type 0

@@ -2,8 +2,8 @@
 //!
 //! `read_clocks_part` reads a description, and the lines of its clocks, from clock lines or from a
 //! device tree source. Lines are those of the bundle, counted from 1, in both forms. `specs/` says
-//! which section says what, or why it is refused; `one_verdict` is the law that a section has one
-//! verdict.
+//! which section says what in the version that the bundle's first line states, or why it is refused;
+//! `one_verdict` is the law that a section has one verdict.
 #![tactic(auto)]
 
 mod fault;

@@ -9,7 +9,7 @@ ghost use Rattle.bundle_clocks.specs.Said.{said_clocks};
 ghost use Rattle.bundle_clocks.specs.Verdict.{LinesSay, RefusesIn};
 
 use crate::part::ClocksPart;
-use bundle_sections::{ClockSection, ClockText};
+use bundle_sections::{ClockSection, ClockText, version_of};
 use bundle_text::{BundleFault, TextLines};
 use clock_lines::read_clocks;
 use std::alloc::Global;
@@ -28,7 +28,8 @@ pub(crate) fn read_line_form(
     ensures names { IfOk result (λ part. EachClock part.desc (λ c. is_clock_name (name_of part.desc c))) }
     ensures fault { IfErr result (Tells (RefusesIn ClockText.Lines lines.now section)) }
 {
-    let list = read_clocks(alloc, lines, section.place + 1, section.end)?;
+    let version = version_of(lines);
+    let list = read_clocks(alloc, lines, section.place + 1, section.end, version)?;
     Ok(ClocksPart {
         desc: list.desc,
         lines: list.lines,

@@ -43,7 +43,7 @@ header_there ls from high =
     let there = passes_at_first is_header (drop from ls) [] (simp length-drop (omega arith)) in
     rw get_or-drop at there
 
--- a first line that states the version is there
+-- a first line that states a version is there
 pub version_some : (ls : List (List ℕ)) → has_version ls ≡ true → 0 < length ls
 unfolding has_version
 version_some [] h = absurd (cc)
@@ -66,7 +66,7 @@ pub fault_first : (ls : List (List ℕ)) → fault_at ls 0 ≡ unless (has_versi
 unfolding fault_at
 fault_first ls = refl
 
--- no line below the second has a fault where the first states the version
+-- no line below the second has a fault if the first states a version
 pub version_kept : (ls : List (List ℕ)) → has_version ls ≡ true → KeepsBelow (fault_at ls) 1
 version_kept ls e k below =
     let first : 0 ≡ k = omega arith in

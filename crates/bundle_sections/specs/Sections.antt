@@ -1,5 +1,5 @@
 -- The sections that lines stand in, and which line has a fault. Places count lines from 0, and each line is judged by its place in the whole text.
-use Rattle.std.specs.Prelude.{ℕ, ◌+◌, ◌-◌, ◌==◌, ◌&&◌, nat_lt, Bool, true, false, List, Option, Some, None, Result, Ok, Err, codes, if◌then◌else◌, length, map}
+use Rattle.std.specs.Prelude.{ℕ, ◌+◌, ◌-◌, ◌==◌, ◌&&◌, ◌||◌, nat_lt, Bool, List, Option, Some, None, Result, Ok, Err, codes, if◌then◌else◌, length, map}
 use Rattle.std.specs.List.{list_any}
 use Rattle.std.specs.Str.{bytes_eq, is_utf8}
 use Rattle.bundle_text.specs.Faults.{unless}
@@ -42,15 +42,19 @@ abbrev pub header_fault : List SaidSection → Result Said Reason → Option Rea
 header_fault before (Err reason) = Some reason
 header_fault before (Ok said) = order_fault (map (λ s. s.says) before) said
 
--- the first line states the version
+-- the first line states a version, 1 or 2
 unfoldable pub has_version : List (List ℕ) → Bool
-has_version ls = bytes_eq (line_at ls 0) (codes "%bundle 1")
+has_version ls = bytes_eq (line_at ls 0) (codes "%bundle 1") || bytes_eq (line_at ls 0) (codes "%bundle 2")
+
+-- the version that the first line states; lines whose first states none are refused for that
+unfoldable pub version_of : List (List ℕ) → ℕ
+version_of ls = if bytes_eq (line_at ls 0) (codes "%bundle 2") then 2 else 1
 
 -- a line before the first header has no words, but for a comment
 abbrev pub is_passed_over : List ℕ → Bool
 is_passed_over line = length (said_words line) == 0
 
--- what is wrong with the place of a line: the first line states the version, a header follows earlier ones, and before the first header no line says anything
+-- what is wrong with the place of a line: the first line states a version, a header follows earlier ones, and before the first header no line says anything
 unfoldable pub fault_at : List (List ℕ) → ℕ → Option Reason
 fault_at ls k =
     if k == 0 then unless (has_version ls) BadVersion

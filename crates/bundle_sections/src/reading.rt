@@ -8,7 +8,7 @@ ghost use Rattle.bundle_text.specs.Firsts.{KeepsBelow};
 ghost use Rattle.bundle_text.specs.Lines.{line_at, header_from};
 ghost use Rattle.bundle_text.specs.Words.{said_words};
 ghost use Rattle.bundle_sections.specs.Said.{said_section, in_order};
-ghost use Rattle.bundle_sections.specs.Sections.{text_fault, fault_at, has_version, sections_of, is_passed_over};
+ghost use Rattle.bundle_sections.specs.Sections.{text_fault, fault_at, has_version, version_of, sections_of, is_passed_over};
 ghost use Rattle.bundle_sections.specs.Verdict.{Accepts, Refuses, Tiles, IsText, IsSection};
 ghost use Rattle.bundle_sections.specs.Reads.{Stops, Reads, AtHeader, IsNext, clock_part, bank_part, first_parts, parts_of};
 
@@ -42,12 +42,24 @@ fn check_text(lines: &TextLines) -> Result<(), BundleFault>
     Ok(())
 }
 
-// Whether the first line states the version.
+// Whether the first line states a version.
 #[tactic(auto, unfolding(crate::specs::Sections::has_version))]
 fn has_version(lines: &TextLines) -> bool
     ensures { result ≡ has_version lines.now }
 {
-    lines.line(0) == b"%bundle 1".as_slice()
+    lines.line(0) == b"%bundle 1".as_slice() || lines.line(0) == b"%bundle 2".as_slice()
+}
+
+/// The version that the first line states, 1 or 2.
+#[tactic(auto, unfolding(crate::specs::Sections::version_of))]
+pub fn version_of(lines: &TextLines) -> u32
+    ensures { result ≡ version_of lines.now }
+{
+    if lines.line(0) == b"%bundle 2".as_slice() {
+        2
+    } else {
+        1
+    }
 }
 
 // Whether the line at a place says nothing before the first header.
@@ -58,7 +70,7 @@ fn is_passed_over(alloc: Global, lines: &TextLines, at: usize) -> Result<bool, N
     Ok(words.is_empty())
 }
 
-// Checks that the first line states the version, and that the lines behind it and before the first
+// Checks that the first line states a version, and that the lines behind it and before the first
 // header say nothing.
 fn check_front(alloc: Global, lines: &TextLines) -> Result<usize, BundleFault>
     requires few { length lines.now + 1 < 2 ^ 32 }

@@ -7,7 +7,7 @@ pub enum Reason {
     TooLong,
     /// A byte isn't UTF-8.
     NotUtf8,
-    /// Line 1 isn't `%bundle 1`.
+    /// Line 1 is neither `%bundle 1` nor `%bundle 2`.
     BadVersion,
     /// A line with words stands before the first header.
     StrayLine,

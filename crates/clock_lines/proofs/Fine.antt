@@ -11,13 +11,14 @@ use Rattle.clk_base.specs.declared.clock.Kind.TheVariants.{FixedRate, Factor, Ga
 use Rattle.clk_base.specs.Valid.{can_have_parents}
 use Rattle.bundle_text.specs.Names.{is_clock_name}
 use Rattle.bundle_text.specs.Numbers.{number_within, written_up_to}
+use Rattle.bundle_text.specs.declared.reason.Reason.{Reason}
 use Rattle.bundle_text.specs.declared.reason.Reason.TheVariants.{UnknownKind, BadWords, BadName, TwiceNamed, BadNumber, BadFlag}
 use Rattle.bundle_text.proofs.Results.{ok_same}
 use Rattle.clock_lines.specs.declared.field.Field.{Field}
 use Rattle.clock_lines.specs.Said.{SaidClock}
-use Rattle.clock_lines.specs.FlagWords.{are_flags, flags_of_words}
+use Rattle.clock_lines.specs.FlagWords.{are_flags, flags_of_words, are_known}
 use Rattle.clock_lines.specs.Kinds.{most_rate, most_number, ◌>>=◌, number, field_said, fixed_kind, factor_kind, gate_kind, mux_kind, divider_kind, pll_kind}
-use Rattle.clock_lines.specs.ClockLines.{with_flags, clock_said, fixed_line, factor_line, gate_line, mux_rest, mux_counted, mux_line, divider_line, pll_line, clock_line}
+use Rattle.clock_lines.specs.ClockLines.{with_flags, clock_said, fixed_line, factor_line, gate_line, mux_rest, mux_counted, mux_line, divider_line, pll_line, clock_line, known_line}
 
 -- the name wasn't taken, it is the clock's and is one of a clock, and the parents are as many as the kind can have
 pub record IsFine (taken : Bool) (name : List ℕ) (said : SaidClock) : Type 0 where
@@ -208,3 +209,9 @@ line-fine taken (kind ∷ rest) c h =
     (λ h. if_either _ (bytes_eq kind (codes "divider")) _ _ c h (divider-fine taken rest c)
     (λ h. if_either _ (bytes_eq kind (codes "pll")) _ _ c h (pll-fine taken rest c)
     (λ h. absurd (err_ok UnknownKind c _ refl h)))))))
+
+-- a line that says a clock in a bundle of a version says it
+pub known-said : (version : ℕ) (said : Result SaidClock Reason) (c : SaidClock) → known_line version said ≡ Ok c → said ≡ Ok c
+unfolding known_line
+known-said version (Err reason) c h = h
+known-said version (Ok clock) c h = if_ok (are_known version clock.flags) BadFlag (Ok clock) c h

@@ -10,26 +10,26 @@ use Rattle.bundle_text.specs.Words.{said_words}
 use Rattle.bundle_text.proofs.Rows.{KeepsBelow-more, said_from-next}
 use Rattle.bundle_text.specs.declared.reason.Reason.{Reason}
 use Rattle.clock_lines.specs.Said.{SaidClock, PlacedClock}
-use Rattle.clock_lines.specs.ClockLines.{clock_line}
+use Rattle.clock_lines.specs.ClockLines.{clock_line, known_line}
 use Rattle.clock_lines.specs.Section.{placed_clock, clock_at, clocks_before, is_named, name_word, fault_behind, fault_at}
 use Rattle.clock_lines.specs.Steps.{IsRead}
 use Rattle.clock_lines.specs.Verdict.{HasFault}
-use Rattle.clock_lines.proofs.Fine.{line-fine}
+use Rattle.clock_lines.proofs.Fine.{line-fine, known-said}
 
 -- ## Words
 
 -- no words say no clock, and have no fault
-pub empty-taken : (clocks : List PlacedClock) (place : ℕ) (words : List (List ℕ)) → length words ≡ 0
-    → (fault_behind clocks words ≡ None) × (clocks ≡ clocks ++ option_to_list (placed_clock place words))
+pub empty-taken : (version : ℕ) (clocks : List PlacedClock) (place : ℕ) (words : List (List ℕ)) → length words ≡ 0
+    → (fault_behind version clocks words ≡ None) × (clocks ≡ clocks ++ option_to_list (placed_clock place words))
 unfolding fault_behind placed_clock clock_line
-empty-taken clocks place [] h = (refl, sym (append-nil clocks))
-empty-taken clocks place (word ∷ words) h = absurd (omega arith)
+empty-taken version clocks place [] h = (refl, sym (append-nil clocks))
+empty-taken version clocks place (word ∷ words) h = absurd (omega arith)
 
 -- a line that says a clock has a name that no earlier clock has
-pub fresh-name : (clocks : List PlacedClock) (words : List (List ℕ)) (taken : Bool) (c : SaidClock) → taken ≡ is_named clocks (name_word words)
-    → clock_line taken words ≡ Ok c → is_named clocks c.name ≡ false
-fresh-name clocks words taken c e said =
-    let fine = line-fine taken words c said in
+pub fresh-name : (version : ℕ) (clocks : List PlacedClock) (words : List (List ℕ)) (taken : Bool) (c : SaidClock) → taken ≡ is_named clocks (name_word words)
+    → known_line version (clock_line taken words) ≡ Ok c → is_named clocks c.name ≡ false
+fresh-name version clocks words taken c e known =
+    let fine = line-fine taken words c (known-said version (clock_line taken words) c known) in
     ap (is_named clocks) fine.name_is ∙ (sym e ∙ fine.fresh)
 
 none_either : {R : Type 0} (b : Bool) (o : Option R) → o ≡ None → cond b None o ≡ None
@@ -37,13 +37,14 @@ none_either true o h = refl
 none_either false o h = h
 
 -- such a line has no fault, and its clock goes last
-pub said-taken : (clocks after : List PlacedClock) (place : ℕ) (words : List (List ℕ)) (taken : Bool) (c : SaidClock) → taken ≡ is_named clocks (name_word words)
-    → clock_line taken words ≡ Ok c → after ≡ clocks ++ record { place = place; clock = c } ∷ []
-    → (fault_behind clocks words ≡ None) × (after ≡ clocks ++ option_to_list (placed_clock place words))
+pub said-taken : (version : ℕ) (clocks after : List PlacedClock) (place : ℕ) (words : List (List ℕ)) (taken : Bool) (c : SaidClock) → taken ≡ is_named clocks (name_word words)
+    → known_line version (clock_line taken words) ≡ Ok c → after ≡ clocks ++ record { place = place; clock = c } ∷ []
+    → (fault_behind version clocks words ≡ None) × (after ≡ clocks ++ option_to_list (placed_clock place words))
 unfolding fault_behind placed_clock
-said-taken clocks after place words taken c e said more =
+said-taken version clocks after place words taken c e known more =
+    let said : clock_line taken words ≡ Ok c = known-said version (clock_line taken words) c known in
     let fine = line-fine taken words c said in
-    let here : clock_line (is_named clocks (name_word words)) words ≡ Ok c = ap (λ b. clock_line b words) (sym e) ∙ said in
+    let here : known_line version (clock_line (is_named clocks (name_word words)) words) ≡ Ok c = ap (λ b. known_line version (clock_line b words)) (sym e) ∙ known in
     let free : clock_line false words ≡ Ok c = ap (λ b. clock_line b words) (sym fine.fresh) ∙ said in (
       none_either _ _ (ap result_err here),
       more ∙ ap (λ r. clocks ++ option_to_list (option_map (λ (clock : SaidClock). record { place = place; clock = clock }) (result_ok r))) (sym free),
@@ -62,27 +63,27 @@ pub length-section : (ls : List (List ℕ)) (from to : ℕ) → from ≤ to → 
 length-section ls from to order within = omega (arith, length-take (to - from) (drop from ls), length-drop from ls)
 
 -- the line at the next place has no fault, and its clock goes last
-pub read-more : (section : List (List ℕ)) (place : ℕ) (clocks after : List PlacedClock) (words : List (List ℕ)) → IsRead section place clocks → words ≡ said_words (line_at section place)
-    → fault_behind clocks words ≡ None → after ≡ clocks ++ option_to_list (placed_clock place words) → IsRead section (place + 1) after
+pub read-more : (version : ℕ) (section : List (List ℕ)) (place : ℕ) (clocks after : List PlacedClock) (words : List (List ℕ)) → IsRead version section place clocks → words ≡ said_words (line_at section place)
+    → fault_behind version clocks words ≡ None → after ≡ clocks ++ option_to_list (placed_clock place words) → IsRead version section (place + 1) after
 unfolding fault_at clocks_before clock_at
-read-more section place clocks after words read said none more =
-    let here : fault_at section place ≡ None = ap (λ cs. fault_behind cs (said_words (line_at section place))) (sym read.clocks_are) ∙ (ap (fault_behind clocks) (sym said) ∙ none) in
+read-more version section place clocks after words read said none more =
+    let here : fault_at version section place ≡ None = ap (λ cs. fault_behind version cs (said_words (line_at section place))) (sym read.clocks_are) ∙ (ap (fault_behind version clocks) (sym said) ∙ none) in
     record {
-      kept = KeepsBelow-more (fault_at section) place read.kept here;
+      kept = KeepsBelow-more (fault_at version section) place read.kept here;
       clocks_are =
           more ∙ (ap (λ cs. cs ++ option_to_list (placed_clock place words)) read.clocks_are
           ∙ (ap (λ ws. clocks_before section place ++ option_to_list (placed_clock place ws)) said ∙ sym (said_from-next (clock_at section) 0 place place (omega arith))));
     }
 
 -- the line at the next place has this fault
-pub read-fault : (from : ℕ) (section : List (List ℕ)) (place : ℕ) (clocks : List PlacedClock) (words : List (List ℕ)) (reason : Reason) → place < length section → IsRead section place clocks
-    → words ≡ said_words (line_at section place) → fault_behind clocks words ≡ Some reason → HasFault from section (from + place + 1) reason
+pub read-fault : (version from : ℕ) (section : List (List ℕ)) (place : ℕ) (clocks : List PlacedClock) (words : List (List ℕ)) (reason : Reason) → place < length section → IsRead version section place clocks
+    → words ≡ said_words (line_at section place) → fault_behind version clocks words ≡ Some reason → HasFault version from section (from + place + 1) reason
 unfolding fault_at
-read-fault from section place clocks words reason within read said wrong =
-    let here : fault_at section place ≡ Some reason = ap (λ cs. fault_behind cs (said_words (line_at section place))) (sym read.clocks_are) ∙ (ap (fault_behind clocks) (sym said) ∙ wrong) in
+read-fault version from section place clocks words reason within read said wrong =
+    let here : fault_at version section place ≡ Some reason = ap (λ cs. fault_behind version cs (said_words (line_at section place))) (sym read.clocks_are) ∙ (ap (fault_behind version clocks) (sym said) ∙ wrong) in
     record { place = place; first = record { within = within; before = read.kept; found = here }; line_is = refl }
 
 -- no line was read
-pub read-none : (section : List (List ℕ)) → IsRead section 0 []
+pub read-none : (version : ℕ) (section : List (List ℕ)) → IsRead version section 0 []
 unfolding clocks_before
-read-none section = record { kept = λ k lt. absurd (omega arith); clocks_are = refl }
+read-none version section = record { kept = λ k lt. absurd (omega arith); clocks_are = refl }

@@ -20,12 +20,12 @@ use Rattle.bundle_text.specs.declared.reason.Reason.TheVariants.{UnknownName}
 use Rattle.bundle_text.specs.declared.fault.BundleFault.{BundleFault}
 use Rattle.bundle_text.specs.declared.fault.BundleFault.TheVariants.{Refused, NoMemory}
 use Rattle.clock_lines.specs.Said.{SaidClock, PlacedClock}
-use Rattle.clock_lines.specs.ClockLines.{clock_line}
+use Rattle.clock_lines.specs.ClockLines.{clock_line, known_line}
 use Rattle.clock_lines.specs.Section.{placed_clock, clock_at, clocks_before, all_clocks, names_of, is_named, name_word, fault_behind, fault_at, finds_parents, parent_fault, parent_fault_at, place_of, clock_in, desc_of, lines_of}
 use Rattle.clock_lines.specs.Steps.{IsRead, no_clock, clock_number, StandApart, HaveLines, FindParents, IsFirstLacking, Lacks}
 use Rattle.clock_lines.specs.Verdict.{Spells, LacksParent, Refuses}
 use Rattle.bundle_text.specs.Faults.{Tells}
-use Rattle.clock_lines.proofs.Fine.{line-fine}
+use Rattle.clock_lines.proofs.Fine.{line-fine, known-said}
 use Rattle.clock_lines.proofs.Indices.{said-at, number-of}
 use Rattle.bundle_text.proofs.Found.{any_within}
 use Rattle.bundle_text.proofs.Rows.{length-said_from}
@@ -49,19 +49,22 @@ unfolding placed_clock clock_line
 nothing_placed place placed said = none-some placed said
 
 -- words are judged
-judged : (earlier : List PlacedClock) (word : List ℕ) (rest : List (List ℕ)) → fault_behind earlier (word ∷ rest) ≡ result_err (clock_line (is_named earlier (name_word (word ∷ rest))) (word ∷ rest))
+judged : (version : ℕ) (earlier : List PlacedClock) (word : List ℕ) (rest : List (List ℕ))
+    → fault_behind version earlier (word ∷ rest) ≡ result_err (known_line version (clock_line (is_named earlier (name_word (word ∷ rest))) (word ∷ rest)))
 unfolding fault_behind
-judged earlier word rest =
+judged version earlier word rest =
     cond-false _ _ _ (false_from_ne_true (eqb (length (word ∷ rest)) 0) (λ e. let none : length (word ∷ rest) ≡ 0 = eqb-true (length (word ∷ rest)) 0 e in absurd (omega arith)))
 
-clock-of : (earlier : List PlacedClock) (place : ℕ) (words : List (List ℕ)) (placed : PlacedClock) → fault_behind earlier words ≡ None → placed_clock place words ≡ Some placed → IsClockOf earlier place placed
+clock-of : (version : ℕ) (earlier : List PlacedClock) (place : ℕ) (words : List (List ℕ)) (placed : PlacedClock) → fault_behind version earlier words ≡ None → placed_clock place words ≡ Some placed → IsClockOf earlier place placed
 unfolding placed_clock
-clock-of earlier place [] placed kept said = absurd (nothing_placed place placed said)
-clock-of earlier place (word ∷ rest) placed kept said =
+clock-of version earlier place [] placed kept said = absurd (nothing_placed place placed said)
+clock-of version earlier place (word ∷ rest) placed kept said =
     let words = word ∷ rest in
-    let ok = err_none (clock_line (is_named earlier (name_word words)) words) (sym (judged earlier word rest) ∙ kept) in
-    let fine = line-fine (is_named earlier (name_word words)) words ok.0 ok.1 in
-    let free : clock_line false words ≡ Ok ok.0 = ap (λ b. clock_line b words) (sym fine.fresh) ∙ ok.1 in
+    let line = clock_line (is_named earlier (name_word words)) words in
+    let ok = err_none (known_line version line) (sym (judged version earlier word rest) ∙ kept) in
+    let whole : line ≡ Ok ok.0 = known-said version line ok.0 ok.1 in
+    let fine = line-fine (is_named earlier (name_word words)) words ok.0 whole in
+    let free : clock_line false words ≡ Ok ok.0 = ap (λ b. clock_line b words) (sym fine.fresh) ∙ whole in
     let made : PlacedClock = record { place = place; clock = ok.0 } in
     let same : made ≡ placed =
     same_Some made placed (sym (ap (λ r. option_map (λ (clock : SaidClock). record { place = place; clock = clock }) (result_ok r)) free) ∙ said) in
@@ -70,9 +73,9 @@ clock-of earlier place (word ∷ rest) placed kept said =
 -- ## The clocks by their numbers
 
 -- there are at most as many clocks as lines
-pub few-clocks : (section : List (List ℕ)) (clocks : List PlacedClock) → IsRead section (length section) clocks → length clocks ≤ length section
+pub few-clocks : (version : ℕ) (section : List (List ℕ)) (clocks : List PlacedClock) → IsRead version section (length section) clocks → length clocks ≤ length section
 unfolding clocks_before
-few-clocks section clocks read = omega (arith, ap length read.clocks_are, length-said_from (clock_at section) 0 (length section))
+few-clocks version section clocks read = omega (arith, ap length read.clocks_are, length-said_from (clock_at section) 0 (length section))
 
 -- the clock of a number has a line
 pub record HasLine (section : List (List ℕ)) (clocks : List PlacedClock) (j : ℕ) : Type 0 where
@@ -82,9 +85,9 @@ pub record HasLine (section : List (List ℕ)) (clocks : List PlacedClock) (j : 
   pub earlier : clocks_before section place ≡ take j clocks
   pub clock : IsClockOf (take j clocks) place (clock_number clocks j)
 
-has-line : (section : List (List ℕ)) (j : ℕ) → KeepsBelow (fault_at section) (length section) → j < length (all_clocks section) → HasLine section (all_clocks section) j
+has-line : (version : ℕ) (section : List (List ℕ)) (j : ℕ) → KeepsBelow (fault_at version section) (length section) → j < length (all_clocks section) → HasLine section (all_clocks section) j
 unfolding clocks_before clock_at fault_at
-has-line section j kept lt =
+has-line version section j kept lt =
     let all = all_clocks section in
     let at = said-at (clock_at section) 0 (length section) j no_clock lt in
     let x = clock_number all j in
@@ -95,20 +98,20 @@ has-line section j kept lt =
       within = at.within;
       said = said;
       earlier = at.earlier;
-      clock = clock-of (take j all) at.steps (said_words (line_at section at.steps)) x (ap (λ cs. fault_behind cs (said_words (line_at section at.steps))) (sym at.earlier) ∙ kept at.steps at.within) said;
+      clock = clock-of version (take j all) at.steps (said_words (line_at section at.steps)) x (ap (λ cs. fault_behind version cs (said_words (line_at section at.steps))) (sym at.earlier) ∙ kept at.steps at.within) said;
     }
 
 -- the same of the clocks that were read
-pub line-of : (section : List (List ℕ)) (clocks : List PlacedClock) (j : ℕ) → IsRead section (length section) clocks → j < length clocks → HasLine section clocks j
-line-of section clocks j read lt =
-    subst (λ cs. HasLine section cs j) (sym read.clocks_are) (has-line section j read.kept (omega (arith, ap length read.clocks_are)))
+pub line-of : (version : ℕ) (section : List (List ℕ)) (clocks : List PlacedClock) (j : ℕ) → IsRead version section (length section) clocks → j < length clocks → HasLine section clocks j
+line-of version section clocks j read lt =
+    subst (λ cs. HasLine section cs j) (sym read.clocks_are) (has-line version section j read.kept (omega (arith, ap length read.clocks_are)))
 
-pub stand-apart : (section : List (List ℕ)) (clocks : List PlacedClock) → IsRead section (length section) clocks → StandApart clocks
-stand-apart section clocks read j lt = (line-of section clocks j read lt).clock.fresh
+pub stand-apart : (version : ℕ) (section : List (List ℕ)) (clocks : List PlacedClock) → IsRead version section (length section) clocks → StandApart clocks
+stand-apart version section clocks read j lt = (line-of version section clocks j read lt).clock.fresh
 
-pub have-lines : (section : List (List ℕ)) (clocks : List PlacedClock) (from to : ℕ) → IsRead section (length section) clocks → from + length section ≡ to → to < 4294967295 → HaveLines from clocks
-have-lines section clocks from to read end few j lt =
-    let line = line-of section clocks j read lt in
+pub have-lines : (version : ℕ) (section : List (List ℕ)) (clocks : List PlacedClock) (from to : ℕ) → IsRead version section (length section) clocks → from + length section ≡ to → to < 4294967295 → HaveLines from clocks
+have-lines version section clocks from to read end few j lt =
+    let line = line-of version section clocks j read lt in
     omega (arith, line.within, line.clock.place_is)
 
 -- ## Parents
@@ -147,11 +150,11 @@ lines-find section n j within found earlier k lt =
     ap (finds_parents all) (sym same) ∙ found of.0 low)
 
 -- the first clock that lacks a parent has the first line that does
-pub lacks-parent : (from : ℕ) (section : List (List ℕ)) (line : ℕ) (reason : Reason) → KeepsBelow (fault_at section) (length section) → IsFirstLacking from (all_clocks section) line reason → LacksParent from section line reason
+pub lacks-parent : (version from : ℕ) (section : List (List ℕ)) (line : ℕ) (reason : Reason) → KeepsBelow (fault_at version section) (length section) → IsFirstLacking from (all_clocks section) line reason → LacksParent version from section line reason
 unfolding parent_fault_at
-lacks-parent from section line reason kept lacking =
+lacks-parent version from section line reason kept lacking =
     let all = all_clocks section in
-    let line_of = has-line section lacking.number kept lacking.within in
+    let line_of = has-line version section lacking.number kept lacking.within in
     let found : parent_fault_at section line_of.place ≡ Some reason =
     ap (λ o. option_map_or (parent_fault all) o None) line_of.said ∙ (one_parent_fault all (clock_number all lacking.number) lacking.lacks ∙ ap Some (sym lacking.reason_is)) in
     record {
@@ -161,18 +164,18 @@ lacks-parent from section line reason kept lacking =
       line_is = lacking.line_is ∙ ap (λ p. from + p + 1) line_of.clock.place_is;
     }
 
-pub lacks-fault : (from : ℕ) (section : List (List ℕ)) (clocks : List PlacedClock) (fault : BundleFault) → IsRead section (length section) clocks → Lacks from clocks fault → Tells (Refuses from section) fault
-lacks-fault from section clocks (Refused line reason) read lacks =
-    inr (lacks-parent from section line reason read.kept (subst (λ cs. IsFirstLacking from cs line reason) read.clocks_are lacks))
-lacks-fault from section clocks NoMemory read lacks = tt
+pub lacks-fault : (version from : ℕ) (section : List (List ℕ)) (clocks : List PlacedClock) (fault : BundleFault) → IsRead version section (length section) clocks → Lacks from clocks fault → Tells (Refuses version from section) fault
+lacks-fault version from section clocks (Refused line reason) read lacks =
+    inr (lacks-parent version from section line reason read.kept (subst (λ cs. IsFirstLacking from cs line reason) read.clocks_are lacks))
+lacks-fault version from section clocks NoMemory read lacks = tt
 
 -- ## The description
 
 -- lines without a fault whose clocks find their parents spell their description
-pub spells : (from : ℕ) (section : List (List ℕ)) (clocks : List PlacedClock) (desc : Description) (lines : List ℕ) → IsRead section (length section) clocks → FindParents clocks (length clocks)
-    → desc ≡ map (clock_in clocks) clocks → lines ≡ map (λ placed. from + placed.place + 1) clocks → Spells from section desc lines
+pub spells : (version from : ℕ) (section : List (List ℕ)) (clocks : List PlacedClock) (desc : Description) (lines : List ℕ) → IsRead version section (length section) clocks → FindParents clocks (length clocks)
+    → desc ≡ map (clock_in clocks) clocks → lines ≡ map (λ placed. from + placed.place + 1) clocks → Spells version from section desc lines
 unfolding desc_of lines_of
-spells from section clocks desc lines read found desc_is lines_are =
+spells version from section clocks desc lines read found desc_is lines_are =
     let all = all_clocks section in
     let whole : clocks_before section (length section) ≡ take (length all) all = sym (take_all (length all) all (omega arith)) in
     record {
@@ -191,15 +194,15 @@ places_within clocks size (name ∷ names) same h =
     and_from _ _ (lt-ltb _ _ low) (places_within clocks size names same parts.1)
 
 -- each clock of the description has its parents
-pub each-has_parents : (section : List (List ℕ)) (clocks : List PlacedClock) (desc : Description) → IsRead section (length section) clocks → FindParents clocks (length clocks)
+pub each-has_parents : (version : ℕ) (section : List (List ℕ)) (clocks : List PlacedClock) (desc : Description) → IsRead version section (length section) clocks → FindParents clocks (length clocks)
     → desc ≡ map (clock_in clocks) clocks → EachClock desc (has_its_parents desc)
 unfolding clock_in finds_parents
-each-has_parents section clocks desc read found desc_is c lt =
+each-has_parents version section clocks desc read found desc_is c lt =
     let size : length desc ≡ length clocks = ap length desc_is ∙ length-map clocks (clock_in clocks) in
     let low : c < length clocks = omega arith in
     let x = clock_number clocks c in
     let def : def_of desc c ≡ clock_in clocks x = ap (λ ds. def_of ds c) desc_is ∙ get_or-map (clock_in clocks) clocks c no_clock nobody low in
-    let line = line-of section clocks c read low in
+    let line = line-of version section clocks c read low in
     let count : length (map (place_of clocks) x.clock.parents) ≡ length x.clock.parents = length-map x.clock.parents (place_of clocks) in
     subst (λ (d : ClockDef). IsTrue (can_have_parents d.kind (length d.parents) && list_all (λ p. nat_lt p (length desc)) d.parents)) (sym def)
     (and_from _ _ (ap (can_have_parents x.clock.kind) count ∙ line.clock.parents) (places_within clocks (length desc) x.clock.parents size (found c low)))
@@ -207,11 +210,11 @@ each-has_parents section clocks desc read found desc_is c lt =
 -- ## Names
 
 -- each clock of the description has a clock's name
-pub each-has_name : (section : List (List ℕ)) (clocks : List PlacedClock) (desc : Description) → IsRead section (length section) clocks → desc ≡ map (clock_in clocks) clocks
+pub each-has_name : (version : ℕ) (section : List (List ℕ)) (clocks : List PlacedClock) (desc : Description) → IsRead version section (length section) clocks → desc ≡ map (clock_in clocks) clocks
     → EachClock desc (λ c. is_clock_name (name_of desc c))
 unfolding clock_in
-each-has_name section clocks desc read desc_is c lt =
+each-has_name version section clocks desc read desc_is c lt =
     let low : c < length clocks = omega (arith, ap length desc_is, length-map clocks (clock_in clocks)) in
     let x = clock_number clocks c in
     let def : def_of desc c ≡ clock_in clocks x = ap (λ ds. def_of ds c) desc_is ∙ get_or-map (clock_in clocks) clocks c no_clock nobody low in
-    subst (λ (d : ClockDef). IsTrue (is_clock_name d.name)) (sym def) (line-of section clocks c read low).clock.named
+    subst (λ (d : ClockDef). IsTrue (is_clock_name d.name)) (sym def) (line-of version section clocks c read low).clock.named

@@ -1,4 +1,4 @@
--- A clock line by itself: the clock that its words say, or the first thing that is wrong with them. `taken` tells whether a clock of an earlier line has the name.
+-- A clock line by itself: the clock that its words say, or the first thing that is wrong with them. `taken` tells whether a clock of an earlier line has the name. Each version reads a line in the same way; what a version doesn't know is judged last.
 use Rattle.std.specs.Prelude.{ℕ, Bool, not, nat_lt, List, [], ◌∷◌, length, take, drop, Option, Some, None, Result, Ok, Err, codes, if◌then◌else◌}
 use Rattle.std.specs.Str.{bytes_eq}
 use Rattle.clk_base.specs.declared.clock.Kind.{Kind}
@@ -7,7 +7,7 @@ use Rattle.bundle_text.specs.Numbers.{number_within}
 use Rattle.bundle_text.specs.declared.reason.Reason.{Reason}
 use Rattle.bundle_text.specs.declared.reason.Reason.TheVariants.{UnknownKind, BadWords, BadName, TwiceNamed, BadNumber, BadFlag}
 use Rattle.clock_lines.specs.Said.{SaidClock}
-use Rattle.clock_lines.specs.FlagWords.{are_flags, flags_of_words}
+use Rattle.clock_lines.specs.FlagWords.{are_flags, flags_of_words, are_known}
 use Rattle.clock_lines.specs.Kinds.{field_said, fixed_kind, factor_kind, gate_kind, mux_kind, divider_kind, pll_kind}
 
 -- the clock of a kind whose numbers can be read, with the flags that stand behind the parameters
@@ -78,3 +78,8 @@ clock_line taken (kind ∷ rest) =
     else if bytes_eq kind (codes "divider") then divider_line taken rest
     else if bytes_eq kind (codes "pll") then pll_line taken rest
     else Err UnknownKind
+
+-- what a line says in a bundle of this version: a clock whose flags the version knows
+unfoldable pub known_line : ℕ → Result SaidClock Reason → Result SaidClock Reason
+known_line version (Err reason) = Err reason
+known_line version (Ok clock) = if are_known version clock.flags then Ok clock else Err BadFlag

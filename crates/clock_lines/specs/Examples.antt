@@ -1,12 +1,12 @@
 -- Worked rows: what lines say, by computation.
-use Rattle.std.specs.Prelude.{◌≡◌, true, false, List, [], ◌∷◌, map, Some, None, take, Ok, Err, codes, refl}
+use Rattle.std.specs.Prelude.{◌≡◌, ℕ, true, false, List, [], ◌∷◌, map, Some, None, take, Ok, Err, codes, refl}
 use Rattle.clk_base.specs.declared.clock.Kind.TheVariants.{FixedRate, Gate, Mux}
 use Rattle.bundle_text.specs.Names.{is_clock_name}
 use Rattle.bundle_text.specs.Numbers.{number_up_to, hexadecimal_up_to, behind_0x, written_up_to, number_within}
 use Rattle.bundle_text.specs.declared.reason.Reason.TheVariants.{UnknownKind, BadWords, TwiceNamed, BadNumber, BadFlag}
-use Rattle.clock_lines.specs.FlagWords.{is_common_flag, is_own_flag, are_flags, flags_of_words}
+use Rattle.clock_lines.specs.FlagWords.{is_common_flag, is_own_flag, are_flags, flags_of_words, are_known}
 use Rattle.clock_lines.specs.Kinds.{field_said, fixed_kind, gate_kind, mux_kind}
-use Rattle.clock_lines.specs.ClockLines.{with_flags, clock_said, fixed_line, gate_line, mux_rest, mux_counted, mux_line, clock_line}
+use Rattle.clock_lines.specs.ClockLines.{with_flags, clock_said, fixed_line, gate_line, mux_rest, mux_counted, mux_line, clock_line, known_line}
 use Rattle.clock_lines.specs.Said.{PlacedClock}
 use Rattle.clock_lines.specs.Section.{fault_behind, finds_parents, clock_in}
 
@@ -51,6 +51,18 @@ pub flag-row : clock_line false (codes "fixed" ∷ codes "osc" ∷ codes "5" ∷
 unfolding clock_line fixed_line clock_said with_flags fixed_kind are_flags is_common_flag is_own_flag is_clock_name number_within written_up_to behind_0x number_up_to
 flag-row = refl
 
+-- `fixed osc 5 set-rate-ungate` says a clock with a flag that version 2 knows, and version 1 doesn't
+abbrev ungated : List (List ℕ)
+ungated = codes "fixed" ∷ codes "osc" ∷ codes "5" ∷ codes "set-rate-ungate" ∷ []
+
+pub ungate-row : known_line 2 (clock_line false ungated) ≡ Ok (record { name = codes "osc"; kind = FixedRate 5; flags = record { 0 = 128 }; parents = [] })
+unfolding known_line clock_line fixed_line clock_said with_flags fixed_kind are_flags is_common_flag is_own_flag flags_of_words are_known is_clock_name number_within written_up_to behind_0x number_up_to
+ungate-row = refl
+
+pub older-row : known_line 1 (clock_line false ungated) ≡ Err BadFlag
+unfolding known_line clock_line fixed_line clock_said with_flags fixed_kind are_flags is_common_flag is_own_flag flags_of_words are_known is_clock_name number_within written_up_to behind_0x number_up_to
+older-row = refl
+
 -- `clock osc 5` has no kind
 pub kind-row : clock_line false (codes "clock" ∷ codes "osc" ∷ codes "5" ∷ []) ≡ Err UnknownKind
 unfolding clock_line
@@ -78,10 +90,10 @@ unfolding finds_parents
 lacking-row = refl
 
 -- behind them a third clock has a fault where it has one of their names, and no words have none
-pub twice-row : fault_behind forward (codes "fixed" ∷ codes "g" ∷ codes "6" ∷ []) ≡ Some TwiceNamed
-unfolding fault_behind clock_line fixed_line clock_said is_clock_name
+pub twice-row : fault_behind 1 forward (codes "fixed" ∷ codes "g" ∷ codes "6" ∷ []) ≡ Some TwiceNamed
+unfolding fault_behind known_line clock_line fixed_line clock_said is_clock_name
 twice-row = refl
 
-pub empty-row : fault_behind forward [] ≡ None
+pub empty-row : fault_behind 1 forward [] ≡ None
 unfolding fault_behind
 empty-row = refl

@@ -1,4 +1,4 @@
--- The lines of a section of clocks, each judged by its place in the section, from 0.
+-- The lines of a section of clocks, each judged by its place in the section, from 0, and by the version of the bundle.
 use Rattle.std.specs.Prelude.{ℕ, ◌+◌, ◌==◌, Bool, false, List, [], length, map, slice_index_or, Option, Some, None, if◌then◌else◌}
 use Rattle.std.specs.List.{list_all, list_any, position_or_len}
 use Rattle.std.specs.Option.{option_map, option_map_or}
@@ -12,7 +12,7 @@ use Rattle.bundle_text.specs.Words.{said_words}
 use Rattle.bundle_text.specs.declared.reason.Reason.{Reason}
 use Rattle.bundle_text.specs.declared.reason.Reason.TheVariants.{UnknownName}
 use Rattle.clock_lines.specs.Said.{PlacedClock}
-use Rattle.clock_lines.specs.ClockLines.{clock_line}
+use Rattle.clock_lines.specs.ClockLines.{clock_line, known_line}
 
 -- the clock that the words of a line say where they have a form, with the place of the line
 unfoldable pub placed_clock : ℕ → List (List ℕ) → Option PlacedClock
@@ -43,13 +43,13 @@ abbrev pub name_word : List (List ℕ) → List ℕ
 name_word words = slice_index_or words 1 []
 
 -- what is wrong with words, if there are any, behind the clocks of the earlier lines
-unfoldable pub fault_behind : List PlacedClock → List (List ℕ) → Option Reason
-fault_behind earlier words =
-    if length words == 0 then None else result_err (clock_line (is_named earlier (name_word words)) words)
+unfoldable pub fault_behind : ℕ → List PlacedClock → List (List ℕ) → Option Reason
+fault_behind version earlier words =
+    if length words == 0 then None else result_err (known_line version (clock_line (is_named earlier (name_word words)) words))
 
 -- what is wrong with the line at a place by itself and by the names of the lines before it
-unfoldable pub fault_at : List (List ℕ) → ℕ → Option Reason
-fault_at section k = fault_behind (clocks_before section k) (said_words (line_at section k))
+unfoldable pub fault_at : ℕ → List (List ℕ) → ℕ → Option Reason
+fault_at version section k = fault_behind version (clocks_before section k) (said_words (line_at section k))
 
 -- each parent of the clock is the name of one of the clocks
 unfoldable pub finds_parents : List PlacedClock → PlacedClock → Bool

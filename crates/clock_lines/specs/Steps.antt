@@ -1,5 +1,5 @@
 -- What the steps of the reader promise.
-use Rattle.std.specs.Prelude.{◌≡◌, ℕ, ◌+◌, ◌<◌, ◌^◌, true, false, List, [], ◌++◌, length, map, take, slice_index_or, Option, Some, None, Result, Ok, Err, if◌then◌else◌}
+use Rattle.std.specs.Prelude.{◌≡◌, ℕ, ◌+◌, ◌<◌, ◌^◌, true, false, List, [], ◌++◌, length, map, take, slice_index_or, slice_range, Option, Some, None, Result, Ok, Err, if◌then◌else◌}
 use Rattle.std.specs.List.{list_all}
 use Rattle.std.specs.Option.{option_to_list}
 use Rattle.bundle_text.specs.Faults.{Tells}
@@ -10,6 +10,7 @@ use Rattle.bundle_text.specs.declared.reason.Reason.TheVariants.{UnknownName}
 use Rattle.bundle_text.specs.declared.fault.BundleFault.{BundleFault}
 use Rattle.clock_lines.specs.declared.stop.LineStop.{LineStop}
 use Rattle.clock_lines.specs.declared.stop.LineStop.TheVariants as stops
+use Rattle.clock_lines.specs.declared.reading.SectionLines.{SectionLines}
 use Rattle.clock_lines.specs.Said.{PlacedClock}
 use Rattle.clock_lines.specs.Section.{placed_clock, clocks_before, is_named, fault_behind, fault_at, finds_parents, place_of}
 
@@ -22,15 +23,19 @@ abbrev pub clock_number : List PlacedClock → ℕ → PlacedClock
 clock_number clocks j = slice_index_or clocks j no_clock
 
 -- the clocks behind the words of a line: with the one that they say, if they say one, or why not
-abbrev pub TakesWords : List PlacedClock → ℕ → List (List ℕ) → Result (List PlacedClock) LineStop → Type 0
-TakesWords earlier place words (Ok clocks) =
-    (fault_behind earlier words ≡ None) × (clocks ≡ earlier ++ option_to_list (placed_clock place words))
-TakesWords earlier place words (Err (stops.Wrong reason)) = fault_behind earlier words ≡ Some reason
-TakesWords earlier place words (Err stops.NoMemory) = Unit {0}
+abbrev pub TakesWords : ℕ → List PlacedClock → ℕ → List (List ℕ) → Result (List PlacedClock) LineStop → Type 0
+TakesWords version earlier place words (Ok clocks) =
+    (fault_behind version earlier words ≡ None) × (clocks ≡ earlier ++ option_to_list (placed_clock place words))
+TakesWords version earlier place words (Err (stops.Wrong reason)) = fault_behind version earlier words ≡ Some reason
+TakesWords version earlier place words (Err stops.NoMemory) = Unit {0}
+
+-- the lines of a section of a text
+abbrev pub lines_in : SectionLines → List (List ℕ)
+lines_in section = slice_range section.lines.now section.from section.to
 
 -- no line below a place has a fault, and these are the clocks of those lines
-pub record IsRead (section : List (List ℕ)) (place : ℕ) (clocks : List PlacedClock) : Type 0 where
-  pub kept : KeepsBelow (fault_at section) place
+pub record IsRead (version : ℕ) (section : List (List ℕ)) (place : ℕ) (clocks : List PlacedClock) : Type 0 where
+  pub kept : KeepsBelow (fault_at version section) place
   pub clocks_are : clocks ≡ clocks_before section place
 
 -- no clock has the name of an earlier one

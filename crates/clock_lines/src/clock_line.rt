@@ -2,11 +2,11 @@
 
 ghost use Rattle.std.specs.Prelude.{◌≡◌, []};
 ghost use Rattle.bundle_text.specs.Words.{texts};
-ghost use Rattle.clock_lines.specs.ClockLines.{with_flags, clock_said, fixed_line, factor_line, gate_line, mux_rest, mux_counted, mux_line, divider_line, pll_line, clock_line};
+ghost use Rattle.clock_lines.specs.ClockLines.{with_flags, clock_said, fixed_line, factor_line, gate_line, mux_rest, mux_counted, mux_line, divider_line, pll_line, clock_line, known_line};
 ghost use Rattle.clock_lines.specs.Shown.{shown_line};
 
 use crate::field::field_said;
-use crate::flag_words::{are_flags, flags_of_words};
+use crate::flag_words::{are_flags, are_known, flags_of_words};
 use crate::kinds::{divider_kind, factor_kind, fixed_kind, gate_kind, mux_kind, pll_kind};
 use bundle_text::{Reason, is_clock_name, small_number_within};
 use clk_base::{ClkFlags, Kind};
@@ -192,10 +192,10 @@ fn pll_line<'w, 'a>(taken: bool, rest: &'w [&'a str]) -> Said<'w, 'a>
     }
 }
 
-/// What the words of a clock line say, or the first thing that is wrong with them. `taken` tells
-/// whether an earlier line has its name.
+// What the words of a clock line say, or the first thing that is wrong with them, but for flags that
+// a version doesn't know. `taken` tells whether an earlier line has its name.
 #[tactic(auto, unfolding(crate::specs::ClockLines::clock_line))]
-pub(crate) fn clock_line<'w, 'a>(taken: bool, words: &'w [&'a str]) -> Said<'w, 'a>
+fn clock_line<'w, 'a>(taken: bool, words: &'w [&'a str]) -> Said<'w, 'a>
     ensures { shown_line result ≡ clock_line taken (texts words.now) }
 {
     let [kind, rest @ ..] = words else {
@@ -209,5 +209,23 @@ pub(crate) fn clock_line<'w, 'a>(taken: bool, words: &'w [&'a str]) -> Said<'w, 
         "divider" => divider_line(taken, rest),
         "pll" => pll_line(taken, rest),
         _ => Err(Reason::UnknownKind),
+    }
+}
+
+/// What the words of a clock line say in a bundle of this version, or the first thing that is wrong
+/// with them. `taken` tells whether an earlier line has its name.
+#[tactic(auto, unfolding(crate::specs::ClockLines::known_line))]
+pub(crate) fn known_line<'w, 'a>(version: u32, taken: bool, words: &'w [&'a str]) -> Said<'w, 'a>
+    ensures { shown_line result ≡ known_line version (clock_line taken (texts words.now)) }
+{
+    match clock_line(taken, words) {
+        Ok(line) => {
+            if are_known(version, line.flags) {
+                Ok(line)
+            } else {
+                Err(Reason::BadFlag)
+            }
+        }
+        Err(reason) => Err(reason),
     }
 }

@@ -3,7 +3,7 @@
 ghost use Rattle.std.specs.Prelude.{◌≡◌, ◌||◌, ◌&&◌, ◌==◌, count_by};
 ghost use Rattle.std.specs.Str.{bytes_eq};
 ghost use Rattle.bundle_text.specs.Words.{texts};
-ghost use Rattle.clock_lines.specs.FlagWords.{stands, is_common_flag, is_own_flag, are_flags, flag_bit, flags_of_words};
+ghost use Rattle.clock_lines.specs.FlagWords.{stands, is_common_flag, is_own_flag, are_flags, flag_bit, flags_of_words, are_known};
 
 use bitflags::Flags;
 use clk_base::{ClkFlags, Kind};
@@ -33,6 +33,8 @@ fn is_common_flag(word: &str) -> bool
         || word == "ignore-unused"
         || word == "no-reparent"
         || word == "critical"
+        || word == "ops-parent-enable"
+        || word == "set-rate-ungate"
 }
 
 // The word is a flag of this kind alone.
@@ -57,7 +59,7 @@ fn is_flag_once(kind: Kind, word: &str, words: &[&str]) -> bool
     (is_common_flag(word) || is_own_flag(kind, word)) && times(word, words) == 1
 }
 
-/// Each word is a flag word that a clock of this kind may have, and stands once. At most eight words
+/// Each word is a flag word that a clock of this kind may have, and stands once. At most ten words
 /// pass before one fails, so this takes time in proportion to the words.
 #[tactic(auto, unfolding(crate::specs::FlagWords::are_flags))]
 pub(crate) fn are_flags(kind: Kind, words: &[&str]) -> bool
@@ -88,8 +90,21 @@ pub(crate) fn flags_of_words(words: &[&str]) -> ClkFlags
     let unused = flag_of(ClkFlags::IGNORE_UNUSED, "ignore-unused", words);
     let no_reparent = flag_of(ClkFlags::NO_REPARENT, "no-reparent", words);
     let critical = flag_of(ClkFlags::CRITICAL, "critical", words);
+    let parent_enable = flag_of(ClkFlags::OPS_PARENT_ENABLE, "ops-parent-enable", words);
+    let ungate = flag_of(ClkFlags::SET_RATE_UNGATE, "set-rate-ungate", words);
     let gates = rate_gate.union(parent_gate);
     let rates = rate_parent.union(unused);
     let rest = no_reparent.union(critical);
-    gates.union(rates).union(rest)
+    let runs = parent_enable.union(ungate);
+    gates.union(rates).union(rest.union(runs))
+}
+
+/// A bundle of this version knows these flags.
+#[tactic(auto, unfolding(crate::specs::FlagWords::are_known))]
+pub(crate) fn are_known(version: u32, flags: ClkFlags) -> bool
+    ensures { result ≡ are_known version flags }
+{
+    version == 2
+        || !(flags.contains(ClkFlags::OPS_PARENT_ENABLE)
+            || flags.contains(ClkFlags::SET_RATE_UNGATE))
 }

@@ -1,11 +1,12 @@
 -- Small nodes, and what they say of clocks, computed.
-use Rattle.std.specs.Prelude.{◌≡◌, ℕ, true, false, Some, Ok, Err, List, [], ◌∷◌, codes, refl}
+use Rattle.std.specs.Prelude.{◌≡◌, ℕ, true, false, Some, None, Ok, Err, List, [], ◌∷◌, codes, refl}
 use Rattle.clk_base.specs.declared.clock.Kind.TheVariants as kinds
 use Rattle.dts_tree.specs.declared.tree.Cell.TheVariants as cells
 use Rattle.dts_tree.specs.Tree.{SeenValue, SeenText, SeenCells, SeenProperty, SeenNode}
 use Rattle.dts_bindings.specs.declared.bound.Wants.TheVariants as wants
 use Rattle.dts_bindings.specs.declared.fault.BindingFault.TheVariants as faults
 use Rattle.dts_bindings.specs.Properties.{cells_in, numbers_in, all_numbers, one_number, has_backslash, property_named, has_property, values_of, is_provider, is_consumer, clock_cells_of}
+use Rattle.dts_bindings.specs.Versions.{knows, known}
 use Rattle.dts_bindings.specs.Formed.{has_good_phandle, has_good_assigned, is_sound, has_good_clocks, is_formed}
 use Rattle.dts_bindings.specs.Table.{row_named, row_of, states_cells}
 use Rattle.dts_bindings.specs.Kinds.{number, mark, fixed_kind, flag, flags_in}
@@ -57,6 +58,16 @@ bank-bound : binding_of bank ≡ Ok (record {
 })
 unfolding binding_of binding_as row_of row_named states_cells clock_cells_of one_number all_numbers numbers_in cells_in values_of property_named filled is_sound has_good_phandle has_good_assigned inputs_in clocks_in gates number names_in has_backslash identifiers as_many row_flags flags_in flag mark
 bank-bound = refl
+
+-- a node with a mark that only version 2 knows, and one that each version knows
+abbrev pub fed : List SeenValue → SeenNode
+fed values = node (codes "half") (property (codes "bank,ops-parent-enable") values ∷ property (codes "bank,critical") [] ∷ [])
+
+-- in version 1 the mark is passed over, also if it has a value, as no mark may in version 2
+marks-known : (flags_in (known 2 (fed [])) ≡ Some (record { 0 = 96 })) × (flags_in (known 1 (fed [])) ≡ Some (record { 0 = 32 }))
+    × (flags_in (known 2 (fed (SeenCells [] ∷ []))) ≡ None) × (flags_in (known 1 (fed (SeenCells [] ∷ []))) ≡ Some (record { 0 = 32 }))
+unfolding known knows flags_in flag mark property_named
+marks-known = (refl, refl, refl, refl)
 
 -- a node without a string of the table
 abbrev pub unknown : SeenNode

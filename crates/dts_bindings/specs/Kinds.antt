@@ -68,4 +68,5 @@ unfoldable pub flags_in : SeenNode → Option ClkFlags
 flags_in node =
     flag (codes "bank,set-rate-gate") 1 node >>= λ a. flag (codes "bank,set-parent-gate") 2 node >>= λ b. flag (codes "bank,set-rate-parent") 4 node >>= λ c.
     flag (codes "bank,ignore-unused") 8 node >>= λ d. flag (codes "bank,no-reparent") 16 node >>= λ e. flag (codes "bank,critical") 32 node >>= λ f.
-    Some (record { 0 = bit_or (bit_or (bit_or (bit_or (bit_or a b) c) d) e) f })
+    flag (codes "bank,ops-parent-enable") 64 node >>= λ g. flag (codes "bank,set-rate-ungate") 128 node >>= λ h.
+    Some (record { 0 = bit_or (bit_or (bit_or (bit_or (bit_or (bit_or (bit_or a b) c) d) e) f) g) h })

@@ -1,3 +1,4 @@
+pub mod Versions
 pub mod Properties
 pub mod Alone
 pub mod Formed

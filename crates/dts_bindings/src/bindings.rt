@@ -4,26 +4,27 @@ ghost use Rattle.std.specs.Prelude.{◌≡◌, map, IfOk};
 ghost use Rattle.std.specs.List.{list_all};
 ghost use Rattle.std.specs.Option.{option_map};
 ghost use Rattle.dts_bindings.specs.Binding.{seen_binding, inputs_in, row_flags, is_clean, filled, binding_as, binding_of, Binds};
-ghost use Rattle.dts_tree.specs.Tree.{seen_value, seen_node};
+ghost use Rattle.dts_tree.specs.Tree.{seen_value};
 
 use crate::bound::Binding;
 use crate::clocks::clocks;
 use crate::fault::BindingFault;
 use crate::formed::{has_backslash, is_sound};
 use crate::kinds::flags;
+use crate::node::Node;
 use crate::properties::values;
 use crate::reading::cells;
 use crate::table::{Row, row_of};
 use bitflags::Flags;
 use clk_base::ClkFlags;
 use clk_io::NoMemory;
-use dts_tree::{Cell, DtsNode, DtsValue};
+use dts_tree::{Cell, DtsValue};
 use std::alloc::Global;
 
 // The cells of `clocks`, one at least; a fixed clock reads none.
 #[tactic(auto, unfolding(crate::specs::Binding::inputs_in))]
-fn inputs(alloc: Global, row: Row, node: &DtsNode) -> Result<Option<Vec<Cell>>, NoMemory>
-    ensures { IfOk result (λ found. option_map (λ v. v.items) found ≡ inputs_in row (seen_node node.now)) }
+fn inputs(alloc: Global, row: Row, node: &Node<'_>) -> Result<Option<Vec<Cell>>, NoMemory>
+    ensures { IfOk result (λ found. option_map (λ v. v.items) found ≡ inputs_in row node.now) }
 {
     if row == Row::Fixed {
         return Ok(Some(Vec::new(alloc)));
@@ -39,8 +40,8 @@ fn inputs(alloc: Global, row: Row, node: &DtsNode) -> Result<Option<Vec<Cell>>, 
 
 // The flags of a row's clocks; a fixed clock has none.
 #[tactic(auto, unfolding(crate::specs::Binding::row_flags))]
-fn row_flags(row: Row, node: &DtsNode) -> Option<ClkFlags>
-    ensures { result ≡ row_flags row (seen_node node.now) }
+fn row_flags(row: Row, node: &Node<'_>) -> Option<ClkFlags>
+    ensures { result ≡ row_flags row node.now }
 {
     match row {
         Row::Fixed => Some(ClkFlags::empty()),
@@ -67,8 +68,8 @@ fn are_clean(values: &[DtsValue]) -> bool
 
 // What the properties of a row say, where all of them are as they have to be.
 #[tactic(auto, unfolding(crate::specs::Binding::filled))]
-fn filled(alloc: Global, row: Row, node: &DtsNode) -> Result<Option<Binding>, NoMemory>
-    ensures { IfOk result (λ found. option_map seen_binding found ≡ filled row (seen_node node.now)) }
+fn filled(alloc: Global, row: Row, node: &Node<'_>) -> Result<Option<Binding>, NoMemory>
+    ensures { IfOk result (λ found. option_map seen_binding found ≡ filled row node.now) }
 {
     if !(is_sound(node) && are_clean(values(node, "compatible"))) {
         return Ok(None);
@@ -93,8 +94,8 @@ fn filled(alloc: Global, row: Row, node: &DtsNode) -> Result<Option<Binding>, No
 
 // What a node of this row says.
 #[tactic(auto, unfolding(crate::specs::Binding::binding_as))]
-fn binding_as(alloc: Global, row: Row, node: &DtsNode) -> Result<Binding, BindingFault>
-    ensures { Binds result (binding_as row (seen_node node.now)) }
+fn binding_as(alloc: Global, row: Row, node: &Node<'_>) -> Result<Binding, BindingFault>
+    ensures { Binds result (binding_as row node.now) }
 {
     if !row.has_its_cells(node) {
         return Err(BindingFault::NoCells);
@@ -107,8 +108,8 @@ fn binding_as(alloc: Global, row: Row, node: &DtsNode) -> Result<Binding, Bindin
 
 /// What a provider's node says of its clocks by itself.
 #[tactic(auto, unfolding(crate::specs::Binding::binding_of))]
-pub fn binding(alloc: Global, node: &DtsNode) -> Result<Binding, BindingFault>
-    ensures { Binds result (binding_of (seen_node node.now)) }
+pub fn binding(alloc: Global, node: &Node<'_>) -> Result<Binding, BindingFault>
+    ensures { Binds result (binding_of node.now) }
 {
     match row_of(node) {
         Some(row) => binding_as(alloc, row, node),

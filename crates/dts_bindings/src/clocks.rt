@@ -4,17 +4,18 @@ ghost use Rattle.std.specs.Prelude.{◌≡◌, ◌==◌, map, IfOk};
 ghost use Rattle.std.specs.List.{before_first, range_with_len, zip};
 ghost use Rattle.std.specs.Option.{option_map};
 ghost use Rattle.dts_bindings.specs.Clocks.{seen_clock, seen_clocks, names_in, only_name, own_name, one_clock, as_many, identifiers, gate_at, gates, clocks_in};
-ghost use Rattle.dts_tree.specs.Tree.{seen_value, seen_node};
+ghost use Rattle.dts_tree.specs.Tree.{seen_value};
 
 use crate::bound::BoundClock;
 use crate::formed::{are_plain, has_backslash};
 use crate::kinds::{divider_kind, factor_kind, fixed_kind, gate_kind, mux_kind, number, pll_kind};
-use crate::properties::{property, values};
+use crate::node::Node;
+use crate::properties::values;
 use crate::reading::{kept_texts, numbers};
 use crate::table::Row;
 use clk_base::Kind;
 use clk_io::NoMemory;
-use dts_tree::{DtsNode, DtsValue};
+use dts_tree::DtsValue;
 use std::alloc::Global;
 
 // What stands before the first `@`.
@@ -56,12 +57,12 @@ fn only_name(values: &[DtsValue]) -> Option<&str>
 
 // The name of a provider's one clock: the one that it states, else its own before the `@`.
 #[tactic(auto, unfolding(crate::specs::Clocks::own_name))]
-fn own_name(node: &DtsNode) -> Option<&str>
-    ensures { option_map (λ t. t.now) result ≡ own_name (seen_node node.now) }
+fn own_name<'a>(node: &Node<'a>) -> Option<&'a str>
+    ensures { option_map (λ t. t.now) result ≡ own_name node.now }
 {
-    match property(node, "clock-output-names") {
+    match node.property("clock-output-names") {
         Some(stated) => only_name(&stated.values),
-        None => Some(before_address(node.name.as_str())),
+        None => Some(before_address(node.name())),
     }
 }
 
@@ -82,9 +83,9 @@ fn clock(alloc: Global, name: &str, identifier: u32, kind: Kind) -> Result<Bound
 fn one_clock(
     alloc: Global,
     kind: Option<Kind>,
-    node: &DtsNode,
+    node: &Node<'_>,
 ) -> Result<Option<Vec<BoundClock>>, NoMemory>
-    ensures { IfOk result (λ found. option_map seen_clocks found ≡ one_clock kind (seen_node node.now)) }
+    ensures { IfOk result (λ found. option_map seen_clocks found ≡ one_clock kind node.now) }
 {
     let Some(kind) = kind else {
         return Ok(None);
@@ -123,10 +124,10 @@ fn stated(alloc: Global, count: usize, values: &[DtsValue]) -> Result<Option<Vec
 
 // The identifiers of so many gates: those that are stated, else 0, 1 and on.
 #[tactic(auto, unfolding(crate::specs::Clocks::identifiers))]
-fn identifiers(alloc: Global, count: usize, node: &DtsNode) -> Result<Option<Vec<u32>>, NoMemory>
-    ensures { IfOk result (λ found. option_map (λ v. v.items) found ≡ identifiers count (seen_node node.now)) }
+fn identifiers(alloc: Global, count: usize, node: &Node<'_>) -> Result<Option<Vec<u32>>, NoMemory>
+    ensures { IfOk result (λ found. option_map (λ v. v.items) found ≡ identifiers count node.now) }
 {
-    match property(node, "clock-indices") {
+    match node.property("clock-indices") {
         Some(indices) => stated(alloc, count, &indices.values),
         None => Ok(Some(counted(alloc, count)?)),
     }
@@ -165,8 +166,8 @@ fn gates_of(
 
 // The clocks of a `bank,gates-clock`.
 #[tactic(auto, unfolding(crate::specs::Clocks::gates))]
-fn gates(alloc: Global, node: &DtsNode) -> Result<Option<Vec<BoundClock>>, NoMemory>
-    ensures { IfOk result (λ found. option_map seen_clocks found ≡ gates (seen_node node.now)) }
+fn gates(alloc: Global, node: &Node<'_>) -> Result<Option<Vec<BoundClock>>, NoMemory>
+    ensures { IfOk result (λ found. option_map seen_clocks found ≡ gates node.now) }
 {
     let Some(word) = number(node, "bank,reg") else {
         return Ok(None);
@@ -185,9 +186,9 @@ fn gates(alloc: Global, node: &DtsNode) -> Result<Option<Vec<BoundClock>>, NoMem
 pub(crate) fn clocks(
     alloc: Global,
     row: Row,
-    node: &DtsNode,
+    node: &Node<'_>,
 ) -> Result<Option<Vec<BoundClock>>, NoMemory>
-    ensures { IfOk result (λ found. option_map seen_clocks found ≡ clocks_in row (seen_node node.now)) }
+    ensures { IfOk result (λ found. option_map seen_clocks found ≡ clocks_in row node.now) }
 {
     match row {
         Row::Fixed => one_clock(alloc, fixed_kind(node), node),

@@ -4,12 +4,13 @@ ghost use Rattle.std.specs.Prelude.{◌≡◌, map};
 ghost use Rattle.std.specs.List.{list_all};
 ghost use Rattle.dts_bindings.specs.Formed.{is_numbers, has_good_phandle, has_good_assigned, is_sound, has_good_clocks, is_formed};
 ghost use Rattle.dts_bindings.specs.Properties.{has_backslash, is_plain};
-ghost use Rattle.dts_tree.specs.Tree.{seen_value, seen_node};
+ghost use Rattle.dts_tree.specs.Tree.{seen_value};
 
+use crate::node::Node;
 use crate::nodes::is_consumer;
-use crate::properties::{property, values};
+use crate::properties::values;
 use crate::reading::{are_cells, are_numbers, one_number};
-use dts_tree::{DtsNode, DtsValue};
+use dts_tree::DtsValue;
 
 /// Whether a backslash stands in a text.
 #[tactic(auto, unfolding(crate::specs::Properties::has_backslash))]
@@ -55,10 +56,10 @@ fn are_all_numbers(values: &[DtsValue]) -> bool
 
 // Whether a `phandle`, where there is one, is one number cell.
 #[tactic(auto, unfolding(crate::specs::Formed::has_good_phandle))]
-fn has_good_phandle(node: &DtsNode) -> bool
-    ensures { result ≡ has_good_phandle (seen_node node.now) }
+fn has_good_phandle(node: &Node<'_>) -> bool
+    ensures { result ≡ has_good_phandle node.now }
 {
-    match property(node, "phandle") {
+    match node.property("phandle") {
         Some(phandle) => one_number(&phandle.values).is_some(),
         None => true,
     }
@@ -66,8 +67,8 @@ fn has_good_phandle(node: &DtsNode) -> bool
 
 // Whether clocks and parents that are assigned are cells, and rates number cells.
 #[tactic(auto, unfolding(crate::specs::Formed::has_good_assigned))]
-fn has_good_assigned(node: &DtsNode) -> bool
-    ensures { result ≡ has_good_assigned (seen_node node.now) }
+fn has_good_assigned(node: &Node<'_>) -> bool
+    ensures { result ≡ has_good_assigned node.now }
 {
     are_cells(values(node, "assigned-clocks"))
         && are_cells(values(node, "assigned-clock-parents"))
@@ -76,16 +77,16 @@ fn has_good_assigned(node: &DtsNode) -> bool
 
 /// Whether the properties that any node may have are formed.
 #[tactic(auto, unfolding(crate::specs::Formed::is_sound))]
-pub(crate) fn is_sound(node: &DtsNode) -> bool
-    ensures { result ≡ is_sound (seen_node node.now) }
+pub(crate) fn is_sound(node: &Node<'_>) -> bool
+    ensures { result ≡ is_sound node.now }
 {
     has_good_phandle(node) && has_good_assigned(node)
 }
 
 // Whether a consumer's clocks are cells, and their names strings without a backslash.
 #[tactic(auto, unfolding(crate::specs::Formed::has_good_clocks))]
-fn has_good_clocks(node: &DtsNode) -> bool
-    ensures { result ≡ has_good_clocks (seen_node node.now) }
+fn has_good_clocks(node: &Node<'_>) -> bool
+    ensures { result ≡ has_good_clocks node.now }
 {
     are_cells(values(node, "clocks")) && are_plain(values(node, "clock-names"))
 }
@@ -94,8 +95,8 @@ fn has_good_clocks(node: &DtsNode) -> bool
 /// assigned rates are number cells, and, where the node is a consumer, its clocks are cells and their
 /// names strings without a backslash. Of a provider's own properties it asks nothing.
 #[tactic(auto, unfolding(crate::specs::Formed::is_formed))]
-pub fn is_formed(node: &DtsNode) -> bool
-    ensures { result ≡ is_formed (seen_node node.now) }
+pub fn is_formed(node: &Node<'_>) -> bool
+    ensures { result ≡ is_formed node.now }
 {
     is_sound(node) && (!is_consumer(node) || has_good_clocks(node))
 }

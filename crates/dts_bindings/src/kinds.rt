@@ -3,36 +3,35 @@
 ghost use Rattle.std.specs.Prelude.{◌≡◌};
 ghost use Rattle.std.specs.Option.{option_map};
 ghost use Rattle.dts_bindings.specs.Kinds.{number, pair, mark, fixed_kind, factor_kind, gate_kind, mux_kind, divider_kind, pll_kind, flag, flags_in};
-ghost use Rattle.dts_tree.specs.Tree.{seen_node};
 
-use crate::properties::{property, values};
+use crate::node::Node;
+use crate::properties::values;
 use crate::reading::{one_number, two_numbers};
 use bitflags::Flags;
 use clk_base::{ClkFlags, Kind};
-use dts_tree::DtsNode;
 
 /// The number of a property that is one number cell.
 #[tactic(auto, unfolding(crate::specs::Kinds::number))]
-pub(crate) fn number(node: &DtsNode, name: &str) -> Option<u32>
-    ensures { result ≡ number name.now (seen_node node.now) }
+pub(crate) fn number(node: &Node<'_>, name: &str) -> Option<u32>
+    ensures { result ≡ number name.now node.now }
 {
     one_number(values(node, name))
 }
 
 // The numbers of a property that is two number cells.
 #[tactic(auto, unfolding(crate::specs::Kinds::pair))]
-fn pair(node: &DtsNode, name: &str) -> Option<(u32, u32)>
-    ensures { result ≡ pair name.now (seen_node node.now) }
+fn pair(node: &Node<'_>, name: &str) -> Option<(u32, u32)>
+    ensures { result ≡ pair name.now node.now }
 {
     two_numbers(values(node, name))
 }
 
 // Whether a mark is there; None where it has a value.
 #[tactic(auto, unfolding(crate::specs::Kinds::mark))]
-fn mark(node: &DtsNode, name: &str) -> Option<bool>
-    ensures { result ≡ mark name.now (seen_node node.now) }
+fn mark(node: &Node<'_>, name: &str) -> Option<bool>
+    ensures { result ≡ mark name.now node.now }
 {
-    match property(node, name) {
+    match node.property(name) {
         Some(property) => {
             if property.values.is_empty() {
                 Some(true)
@@ -46,8 +45,8 @@ fn mark(node: &DtsNode, name: &str) -> Option<bool>
 
 /// A `fixed-clock`.
 #[tactic(auto, unfolding(crate::specs::Kinds::fixed_kind))]
-pub(crate) fn fixed_kind(node: &DtsNode) -> Option<Kind>
-    ensures { result ≡ fixed_kind (seen_node node.now) }
+pub(crate) fn fixed_kind(node: &Node<'_>) -> Option<Kind>
+    ensures { result ≡ fixed_kind node.now }
 {
     let rate = number(node, "clock-frequency")?;
     Some(Kind::FixedRate {
@@ -57,8 +56,8 @@ pub(crate) fn fixed_kind(node: &DtsNode) -> Option<Kind>
 
 /// A `fixed-factor-clock`.
 #[tactic(auto, unfolding(crate::specs::Kinds::factor_kind))]
-pub(crate) fn factor_kind(node: &DtsNode) -> Option<Kind>
-    ensures { result ≡ factor_kind (seen_node node.now) }
+pub(crate) fn factor_kind(node: &Node<'_>) -> Option<Kind>
+    ensures { result ≡ factor_kind node.now }
 {
     let mult = number(node, "clock-mult")?;
     let div = number(node, "clock-div")?;
@@ -67,8 +66,8 @@ pub(crate) fn factor_kind(node: &DtsNode) -> Option<Kind>
 
 /// A `bank,gate-clock`.
 #[tactic(auto, unfolding(crate::specs::Kinds::gate_kind))]
-pub(crate) fn gate_kind(node: &DtsNode) -> Option<Kind>
-    ensures { result ≡ gate_kind (seen_node node.now) }
+pub(crate) fn gate_kind(node: &Node<'_>) -> Option<Kind>
+    ensures { result ≡ gate_kind node.now }
 {
     let word = number(node, "bank,reg")?;
     let bit = number(node, "bank,bit")?;
@@ -82,8 +81,8 @@ pub(crate) fn gate_kind(node: &DtsNode) -> Option<Kind>
 
 /// A `bank,mux-clock`.
 #[tactic(auto, unfolding(crate::specs::Kinds::mux_kind))]
-pub(crate) fn mux_kind(node: &DtsNode) -> Option<Kind>
-    ensures { result ≡ mux_kind (seen_node node.now) }
+pub(crate) fn mux_kind(node: &Node<'_>) -> Option<Kind>
+    ensures { result ≡ mux_kind node.now }
 {
     let word = number(node, "bank,reg")?;
     let shift = number(node, "bank,shift")?;
@@ -99,8 +98,8 @@ pub(crate) fn mux_kind(node: &DtsNode) -> Option<Kind>
 
 /// A `bank,divider-clock`.
 #[tactic(auto, unfolding(crate::specs::Kinds::divider_kind))]
-pub(crate) fn divider_kind(node: &DtsNode) -> Option<Kind>
-    ensures { result ≡ divider_kind (seen_node node.now) }
+pub(crate) fn divider_kind(node: &Node<'_>) -> Option<Kind>
+    ensures { result ≡ divider_kind node.now }
 {
     let word = number(node, "bank,reg")?;
     let shift = number(node, "bank,shift")?;
@@ -118,8 +117,8 @@ pub(crate) fn divider_kind(node: &DtsNode) -> Option<Kind>
 
 /// A `bank,pll-clock`.
 #[tactic(auto, unfolding(crate::specs::Kinds::pll_kind))]
-pub(crate) fn pll_kind(node: &DtsNode) -> Option<Kind>
-    ensures { result ≡ pll_kind (seen_node node.now) }
+pub(crate) fn pll_kind(node: &Node<'_>) -> Option<Kind>
+    ensures { result ≡ pll_kind node.now }
 {
     let word = number(node, "bank,reg")?;
     let shift = number(node, "bank,shift")?;
@@ -141,8 +140,8 @@ pub(crate) fn pll_kind(node: &DtsNode) -> Option<Kind>
 
 // A flag, where its mark is there.
 #[tactic(auto, unfolding(crate::specs::Kinds::flag))]
-fn flag(node: &DtsNode, name: &str, meant: ClkFlags) -> Option<ClkFlags>
-    ensures { option_map (λ f. f.0) result ≡ flag name.now meant.0 (seen_node node.now) }
+fn flag(node: &Node<'_>, name: &str, meant: ClkFlags) -> Option<ClkFlags>
+    ensures { option_map (λ f. f.0) result ≡ flag name.now meant.0 node.now }
 {
     if mark(node, name)? {
         Some(meant)
@@ -153,8 +152,8 @@ fn flag(node: &DtsNode, name: &str, meant: ClkFlags) -> Option<ClkFlags>
 
 /// The flags of a node.
 #[tactic(auto, unfolding(crate::specs::Kinds::flags_in))]
-pub(crate) fn flags(node: &DtsNode) -> Option<ClkFlags>
-    ensures { result ≡ flags_in (seen_node node.now) }
+pub(crate) fn flags(node: &Node<'_>) -> Option<ClkFlags>
+    ensures { result ≡ flags_in node.now }
 {
     let mut flags = flag(node, "bank,set-rate-gate", ClkFlags::SET_RATE_GATE)?;
     flags.insert(flag(node, "bank,set-parent-gate", ClkFlags::SET_PARENT_GATE)?);
@@ -162,5 +161,7 @@ pub(crate) fn flags(node: &DtsNode) -> Option<ClkFlags>
     flags.insert(flag(node, "bank,ignore-unused", ClkFlags::IGNORE_UNUSED)?);
     flags.insert(flag(node, "bank,no-reparent", ClkFlags::NO_REPARENT)?);
     flags.insert(flag(node, "bank,critical", ClkFlags::CRITICAL)?);
+    flags.insert(flag(node, "bank,ops-parent-enable", ClkFlags::OPS_PARENT_ENABLE)?);
+    flags.insert(flag(node, "bank,set-rate-ungate", ClkFlags::SET_RATE_UNGATE)?);
     Some(flags)
 }

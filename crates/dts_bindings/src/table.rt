@@ -3,12 +3,13 @@
 ghost use Rattle.std.specs.Prelude.{◌≡◌, map, slice_get};
 ghost use Rattle.std.specs.List.{filter_map};
 ghost use Rattle.dts_bindings.specs.Table.{row_named, row_in, row_of, cells_behind, states_cells, wants_of};
-ghost use Rattle.dts_tree.specs.Tree.{seen_value, seen_node};
+ghost use Rattle.dts_tree.specs.Tree.{seen_value};
 
 use crate::bound::Wants;
+use crate::node::Node;
 use crate::nodes::clock_cells;
 use crate::properties::values;
-use dts_tree::{DtsNode, DtsValue};
+use dts_tree::DtsValue;
 
 /// A row of the table, named after the clocks that it binds.
 #[derive(Clone, Copy, Debug, PartialEq, Eq)]
@@ -70,8 +71,8 @@ fn first_row(values: &[DtsValue]) -> Option<Row>
 
 /// The row of a node: the first string of its `compatible` that names one decides.
 #[tactic(auto, unfolding(crate::specs::Table::row_of))]
-pub(crate) fn row_of(node: &DtsNode) -> Option<Row>
-    ensures { result ≡ row_of (seen_node node.now) }
+pub(crate) fn row_of(node: &Node<'_>) -> Option<Row>
+    ensures { result ≡ row_of node.now }
 {
     first_row(values(node, "compatible"))
 }
@@ -91,8 +92,8 @@ impl Row {
 
     /// Whether a node states these cells.
     #[tactic(auto, unfolding(crate::specs::Table::states_cells))]
-    pub(crate) fn has_its_cells(self, node: &DtsNode) -> bool
-        ensures { result ≡ states_cells self (seen_node node.now) }
+    pub(crate) fn has_its_cells(self, node: &Node<'_>) -> bool
+        ensures { result ≡ states_cells self node.now }
     {
         match clock_cells(node) {
             Some(stated) => stated == self.cells(),

@@ -15,7 +15,7 @@ pub(crate) fn parent_of(nodes: &Nodes<'_>, at: usize) -> Option<usize>
     requires { at < length nodes.now }
     ensures { result ≡ parent_of nodes.now at }
 {
-    match nodes.node(at).parent {
+    match nodes.node(at).parent() {
         Some(parent) => {
             if (parent as usize) < at {
                 Some(parent as usize)
@@ -33,7 +33,7 @@ fn is_passed(nodes: &Nodes<'_>, passed: &[bool], at: usize) -> bool
     requires known { passed.now ≡ listed (is_passed nodes.now) at }
     ensures { result ≡ is_passed nodes.now at }
 {
-    if !is_okay(nodes.node(at)) {
+    if !is_okay(&nodes.node(at)) {
         return true;
     }
     match parent_of(nodes, at) {
@@ -74,7 +74,7 @@ pub(crate) fn path_of(alloc: Global, nodes: &Nodes<'_>, at: usize) -> Result<Str
     let mut path = String::new(alloc);
     let mut place = at;
     while let Some(parent) = parent_of(nodes, place) {
-        path = below(alloc, nodes.node(place).name.as_str(), path.as_str())?;
+        path = below(alloc, nodes.node(place).name(), path.as_str())?;
         place = parent;
     }
     if path.is_empty() {

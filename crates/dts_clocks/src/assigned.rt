@@ -2,7 +2,6 @@
 
 ghost use Rattle.std.specs.Prelude.{◌≡◌, ◌<◌, ◌++◌, Some, None, map, length, IfOk, OnOk, slice_get};
 ghost use Rattle.std.specs.Option.{option_map};
-ghost use Rattle.dts_tree.specs.Tree.{seen_node};
 ghost use Rattle.dts_clocks.specs.Assigned.{seen_lists, seen_assigned, rates_of, lists_of, lacks_clocks, is_too_long, clock_at, parent_step, rate_step, steps_of, assigned_of};
 ghost use Rattle.dts_clocks.specs.Joined.{joined};
 
@@ -11,8 +10,7 @@ use crate::loaded::{Assigned, AssignedStep};
 use crate::specifiers::Named;
 use clk_base::ClockId;
 use clk_io::NoMemory;
-use dts_bindings::{has_property, numbers, values};
-use dts_tree::DtsNode;
+use dts_bindings::{Node, has_property, numbers, values};
 use std::alloc::Global;
 
 /// The three lists of a node, a null as None.
@@ -25,8 +23,8 @@ pub(crate) struct Lists {
 
 // The numbers of `assigned-clock-rates`.
 #[tactic(auto, unfolding(crate::specs::Assigned::rates_of))]
-fn rates_of(alloc: Global, node: &DtsNode) -> Result<Vec<u32>, NoMemory>
-    ensures { IfOk result (λ rates. rates.items ≡ rates_of (seen_node node.now)) }
+fn rates_of(alloc: Global, node: &Node<'_>) -> Result<Vec<u32>, NoMemory>
+    ensures { IfOk result (λ rates. rates.items ≡ rates_of node.now) }
 {
     match numbers(alloc, values(node, "assigned-clock-rates"))? {
         Some(rates) => Ok(rates),
@@ -39,9 +37,9 @@ fn rates_of(alloc: Global, node: &DtsNode) -> Result<Vec<u32>, NoMemory>
 pub(crate) fn lists_of(
     alloc: Global,
     chart: &Named<'_>,
-    node: &DtsNode,
+    node: &Node<'_>,
 ) -> Result<Option<Lists>, NoMemory>
-    ensures { IfOk result (λ lists. option_map seen_lists lists ≡ lists_of chart.now (seen_node node.now)) }
+    ensures { IfOk result (λ lists. option_map seen_lists lists ≡ lists_of chart.now node.now) }
 {
     let Some(clocks) = clocks_in(alloc, chart, "assigned-clocks", node)? else {
         return Ok(None);
@@ -59,8 +57,8 @@ pub(crate) fn lists_of(
 
 /// Whether there are parents or rates, and no assigned clocks.
 #[tactic(auto, unfolding(crate::specs::Assigned::lacks_clocks))]
-pub(crate) fn lacks_clocks(node: &DtsNode) -> bool
-    ensures { result ≡ lacks_clocks (seen_node node.now) }
+pub(crate) fn lacks_clocks(node: &Node<'_>) -> bool
+    ensures { result ≡ lacks_clocks node.now }
 {
     !has_property(node, "assigned-clocks")
         && (has_property(node, "assigned-clock-parents")
@@ -160,17 +158,17 @@ fn steps_of(alloc: Global, lists: &Lists) -> Result<Vec<AssignedStep>, NoMemory>
 #[tactic(auto, unfolding(crate::specs::Assigned::assigned_of))]
 pub(crate) fn assigned_of(
     alloc: Global,
-    node: &DtsNode,
+    node: &Node<'_>,
     lists: &Lists,
 ) -> Result<Option<Assigned>, NoMemory>
-    ensures { IfOk result (λ assigned. option_map seen_assigned assigned ≡ assigned_of (seen_node node.now) (seen_lists lists.now)) }
+    ensures { IfOk result (λ assigned. option_map seen_assigned assigned ≡ assigned_of node.now (seen_lists lists.now)) }
 {
     if !has_property(node, "assigned-clocks") {
         return Ok(None);
     }
     let steps = steps_of(alloc, lists)?;
     Ok(Some(Assigned {
-        line: node.line,
+        line: node.line(),
         steps,
     }))
 }

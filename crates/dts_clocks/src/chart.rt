@@ -3,6 +3,7 @@
 ghost use Rattle.std.specs.Prelude.{◌≡◌, ◌<◌, ◌==◌, ℕ, Some, None, map, length, IfOk, OnOk, nat_eq, slice_get, string_bytes, if◌then◌else◌, false};
 ghost use Rattle.std.specs.HashMap.{get};
 ghost use Rattle.std.specs.Option.{option_or, option_map_or, unwrap_or};
+ghost use Rattle.dts_bindings.specs.Versions.{all_known};
 ghost use Rattle.dts_tree.specs.Tree.{seen_node};
 ghost use Rattle.dts_clocks.specs.Above.{is_passed, path_of};
 ghost use Rattle.dts_clocks.specs.Joined.{listed};
@@ -12,7 +13,7 @@ use crate::above::{passed_nodes, path_of};
 use crate::nodes::Nodes;
 use crate::reference::Reference;
 use clk_io::NoMemory;
-use dts_bindings::{clock_cells, is_provider, phandle};
+use dts_bindings::{Node, clock_cells, is_provider, phandle};
 use dts_tree::{Cell, DtsNode};
 use std::alloc::Global;
 use std::collections::HashMap;
@@ -62,7 +63,7 @@ fn nodes_by_phandle(alloc: Global, nodes: &Nodes<'_>) -> Result<HashMap<u32, usi
 {
     let mut places = HashMap::new(alloc);
     for at in 0..nodes.len() {
-        note(&mut places, phandle(nodes.node(at)), at)?;
+        note(&mut places, phandle(&nodes.node(at)), at)?;
     }
     Ok(places)
 }
@@ -85,13 +86,13 @@ fn source_at(nodes: &Nodes<'_>, passed: &[bool], at: usize) -> Reference
     ensures { result ≡ source_at nodes.now at }
 {
     let node = nodes.node(at);
-    if !is_provider(node) {
+    if !is_provider(&node) {
         return Reference::Lacking;
     }
     if passed[at] {
         return Reference::Lacking;
     }
-    source_by(at, clock_cells(node))
+    source_by(at, clock_cells(&node))
 }
 
 // The element of a place, or no provider behind the end.
@@ -118,11 +119,15 @@ fn sources(alloc: Global, nodes: &Nodes<'_>, passed: &[bool]) -> Result<Vec<Refe
 }
 
 impl<'a> Chart<'a> {
-    /// The chart of these nodes.
-    pub(crate) fn new(alloc: Global, nodes: &'a [DtsNode]) -> Result<Chart<'a>, NoMemory>
-        ensures { IfOk result (λ chart. chart ≡ map seen_node nodes.now) }
+    /// The chart of these nodes, in a bundle of this version.
+    pub(crate) fn new(
+        alloc: Global,
+        nodes: &'a [DtsNode],
+        version: u32,
+    ) -> Result<Chart<'a>, NoMemory>
+        ensures { IfOk result (λ chart. chart ≡ all_known version (map seen_node nodes.now)) }
     {
-        let nodes = Nodes::new(nodes);
+        let nodes = Nodes::new(nodes, version);
         let passed = passed_nodes(alloc, &nodes)?;
         let phandles = nodes_by_phandle(alloc, &nodes)?;
         let sources = sources(alloc, &nodes, &passed)?;
@@ -142,9 +147,9 @@ impl<'a> Chart<'a> {
     }
 
     /// The node of a place.
-    pub(crate) fn node(&self, at: usize) -> &'a DtsNode
+    pub(crate) fn node(&self, at: usize) -> Node<'a>
         requires { at < length self.now }
-        ensures { slice_get self.now at ≡ Some (seen_node result.now) }
+        ensures { slice_get self.now at ≡ Some result }
     {
         self.nodes.node(at)
     }

@@ -2,7 +2,6 @@
 
 ghost use Rattle.std.specs.Prelude.{◌≡◌, ◌<◌, Some, None, map, length, IfOk, string_bytes};
 ghost use Rattle.std.specs.Option.{option_map};
-ghost use Rattle.dts_tree.specs.Tree.{seen_node};
 ghost use Rattle.dts_clocks.specs.Above.{path_of};
 ghost use Rattle.dts_clocks.specs.Consumers.{seen_name, seen_consumer, clocks_in, name_at, named, names_of, consumer_of};
 
@@ -10,8 +9,7 @@ use crate::loaded::{Consumer, ConsumerName};
 use crate::specifiers::Named;
 use clk_base::ClockId;
 use clk_io::NoMemory;
-use dts_bindings::{cells, is_consumer, texts, values};
-use dts_tree::DtsNode;
+use dts_bindings::{Node, cells, is_consumer, texts, values};
 use std::alloc::Global;
 
 /// The clocks that the cells of a property name.
@@ -20,9 +18,9 @@ pub(crate) fn clocks_in(
     alloc: Global,
     chart: &Named<'_>,
     name: &str,
-    node: &DtsNode,
+    node: &Node<'_>,
 ) -> Result<Option<Vec<Option<ClockId>>>, NoMemory>
-    ensures { IfOk result (λ clocks. option_map (λ v. v.items) clocks ≡ clocks_in chart.now name.now (seen_node node.now)) }
+    ensures { IfOk result (λ clocks. option_map (λ v. v.items) clocks ≡ clocks_in chart.now name.now node.now) }
 {
     let Some(cells) = cells(alloc, values(node, name))? else {
         return Ok(None);
@@ -68,9 +66,9 @@ fn named(
 fn names_of(
     alloc: Global,
     chart: &Named<'_>,
-    node: &DtsNode,
+    node: &Node<'_>,
 ) -> Result<Option<Vec<ConsumerName>>, NoMemory>
-    ensures { IfOk result (λ names. option_map (λ v. map seen_name v.items) names ≡ names_of chart.now (seen_node node.now)) }
+    ensures { IfOk result (λ names. option_map (λ v. map seen_name v.items) names ≡ names_of chart.now node.now) }
 {
     let Some(clocks) = clocks_in(alloc, chart, "clocks", node)? else {
         return Ok(None);
@@ -91,10 +89,10 @@ pub(crate) fn consumer_of(
     alloc: Global,
     chart: &Named<'_>,
     at: usize,
-    node: &DtsNode,
+    node: &Node<'_>,
 ) -> Result<Option<Option<Consumer>>, NoMemory>
     requires { at < length chart.now }
-    ensures { IfOk result (λ consumer. option_map (option_map seen_consumer) consumer ≡ consumer_of chart.now at (seen_node node.now)) }
+    ensures { IfOk result (λ consumer. option_map (option_map seen_consumer) consumer ≡ consumer_of chart.now at node.now) }
 {
     if !is_consumer(node) {
         return Ok(Some(None));

@@ -6,7 +6,6 @@ ghost use Rattle.std.specs.List.{list_all};
 ghost use Rattle.std.specs.Option.{option_map, option_map_or};
 ghost use Rattle.bundle_text.specs.Firsts.{KeepsBelow};
 ghost use Rattle.bundle_text.specs.Names.{is_clock_name};
-ghost use Rattle.dts_tree.specs.Tree.{seen_node};
 ghost use Rattle.dts_bindings.specs.Binding.{seen_binding, binding_of};
 ghost use Rattle.dts_bindings.specs.Clocks.{seen_clock};
 ghost use Rattle.dts_bindings.specs.Properties.{is_provider};
@@ -21,8 +20,10 @@ use crate::reference::Reference;
 use crate::taken::TakenNames;
 use bundle_text::is_clock_name;
 use clk_io::NoMemory;
-use dts_bindings::{Binding, BindingFault, BoundClock, Wants, binding, is_formed, is_provider};
-use dts_tree::{Cell, DtsNode};
+use dts_bindings::{
+    Binding, BindingFault, BoundClock, Node, Wants, binding, is_formed, is_provider,
+};
+use dts_tree::Cell;
 use std::alloc::Global;
 
 // Whether the first specifier can be read, and cells are left over.
@@ -137,19 +138,19 @@ fn provider(
     alloc: Global,
     chart: &Chart<'_>,
     taken: &mut TakenNames,
-    node: &DtsNode,
+    node: &Node<'_>,
 ) -> Result<Binding, DtsFault>
-    ensures binding { IfOk result (λ b. binding_of (seen_node node.now) ≡ Ok (seen_binding b)) }
-    ensures none { OnOk result (provider_fault chart.now taken.old node.now.line (binding_of (seen_node node.now)) ≡ None) }
+    ensures binding { IfOk result (λ b. binding_of node.now ≡ Ok (seen_binding b)) }
+    ensures none { OnOk result (provider_fault chart.now taken.old node.now.line (binding_of node.now) ≡ None) }
     ensures taken { IfOk result (λ b. taken.new ≡ taken.old ++ names_in (seen_binding b)) }
-    ensures err { IfErr result (λ e. Tells e (provider_fault chart.now taken.old node.now.line (binding_of (seen_node node.now)))) }
+    ensures err { IfErr result (λ e. Tells e (provider_fault chart.now taken.old node.now.line (binding_of node.now))) }
 {
     match binding(alloc, node) {
         Ok(binding) => {
-            judge(alloc, chart, taken, node.line, &binding)?;
+            judge(alloc, chart, taken, node.line(), &binding)?;
             Ok(binding)
         }
-        Err(fault) => Err(own_fault(node.line, fault)),
+        Err(fault) => Err(own_fault(node.line(), fault)),
     }
 }
 
@@ -159,19 +160,19 @@ fn look_at(
     alloc: Global,
     chart: &Chart<'_>,
     taken: &mut TakenNames,
-    node: &DtsNode,
+    node: &Node<'_>,
 ) -> Result<Option<Binding>, DtsFault>
-    ensures binding { IfOk result (λ b. option_map seen_binding b ≡ own_binding (seen_node node.now)) }
-    ensures none { OnOk result (node_fault chart.now taken.old (seen_node node.now) ≡ None) }
+    ensures binding { IfOk result (λ b. option_map seen_binding b ≡ own_binding node.now) }
+    ensures none { OnOk result (node_fault chart.now taken.old node.now ≡ None) }
     ensures taken { IfOk result (λ b. taken.new ≡ taken.old ++ option_map_or (λ k. names_in (seen_binding k)) b []) }
-    ensures err { IfErr result (λ e. Tells e (node_fault chart.now taken.old (seen_node node.now))) }
+    ensures err { IfErr result (λ e. Tells e (node_fault chart.now taken.old node.now)) }
 {
     if is_provider(node) {
         let binding = provider(alloc, chart, taken, node)?;
         return Ok(Some(binding));
     }
     if !is_formed(node) {
-        return Err(DtsFault::MissingProperty(node.line));
+        return Err(DtsFault::MissingProperty(node.line()));
     }
     Ok(None)
 }
@@ -193,7 +194,7 @@ fn look(
     if chart.is_passed(at) {
         return Ok(None);
     }
-    look_at(alloc, chart, taken, chart.node(at))
+    look_at(alloc, chart, taken, &chart.node(at))
 }
 
 /// The bindings of the providers that aren't passed over, by their nodes.

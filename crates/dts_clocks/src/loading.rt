@@ -4,7 +4,6 @@ ghost use Rattle.std.specs.Prelude.{◌≡◌, ◌<◌, ◌≤◌, ◌+◌, ◌+
 ghost use Rattle.std.specs.Option.{option_map, option_map_or, option_to_list};
 ghost use Rattle.bundle_text.specs.Firsts.{KeepsBelow};
 ghost use Rattle.clk_base.specs.Description.{has_name};
-ghost use Rattle.dts_tree.specs.Tree.{seen_node};
 ghost use Rattle.dts_bindings.specs.Binding.{seen_binding};
 ghost use Rattle.dts_bindings.specs.Clocks.{seen_clock};
 ghost use Rattle.dts_clocks.specs.Assigned.{seen_lists, seen_assigned, assigned_of, entries};
@@ -22,8 +21,7 @@ use crate::second_pass::{Links, look};
 use crate::specifiers::Named;
 use clk_base::{AddFault, ClkFlags, ClockDef, ClockId, ClockName, Desc, Parents};
 use clk_io::{NoMemory, push_some};
-use dts_bindings::{Binding, BoundClock};
-use dts_tree::DtsNode;
+use dts_bindings::{Binding, BoundClock, Node};
 use std::alloc::Global;
 
 /// The greatest number of a clock; the first one is 0.
@@ -110,7 +108,7 @@ fn push_bound(
 fn add(
     alloc: Global,
     loaded: &mut Loaded,
-    node: &DtsNode,
+    node: &Node<'_>,
     binding: &Option<Binding>,
     links: Links,
 ) -> Result<(), NoMemory>
@@ -119,7 +117,7 @@ fn add(
     ensures lines { OnOk result (loaded.new.lines.items ≡ loaded.old.lines.items ++ option_map_or (lines_with node.now.line) (option_map seen_binding binding.now) []) }
     ensures consumers { OnOk result (loaded.new.consumers.items ≡ loaded.old.consumers.items ++ option_to_list links.consumer) }
     ensures assigned { OnOk result (map seen_assigned loaded.new.assigned.items
-        ≡ map seen_assigned loaded.old.assigned.items ++ option_to_list (assigned_of (seen_node node.now) (seen_lists links.lists))) }
+        ≡ map seen_assigned loaded.old.assigned.items ++ option_to_list (assigned_of node.now (seen_lists links.lists))) }
 {
     let Links {
         parents,
@@ -130,7 +128,7 @@ fn add(
         alloc,
         &mut loaded.desc,
         &mut loaded.lines,
-        node.line,
+        node.line(),
         binding,
         &parents,
     )?;
@@ -174,7 +172,7 @@ fn add_at(
         return Ok(before);
     };
     let entries = entries_with(before, &links.lists);
-    add(alloc, loaded, chart.node(at), binding, links)?;
+    add(alloc, loaded, &chart.node(at), binding, links)?;
     Ok(entries)
 }
 

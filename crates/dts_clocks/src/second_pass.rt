@@ -4,7 +4,6 @@ ghost use Rattle.std.specs.Prelude.{◌≡◌, ◌<◌, ◌≤◌, ◌+◌, [], 
 ghost use Rattle.std.specs.List.{list_all};
 ghost use Rattle.std.specs.Option.{option_map, option_map_or};
 ghost use Rattle.clk_base.specs.Valid.{can_have_parents};
-ghost use Rattle.dts_tree.specs.Tree.{seen_node};
 ghost use Rattle.dts_bindings.specs.Binding.{seen_binding};
 ghost use Rattle.dts_clocks.specs.Assigned.{seen_lists, entries, is_too_long, lacks_clocks};
 ghost use Rattle.dts_clocks.specs.Clocks.{binding_at};
@@ -19,8 +18,7 @@ use crate::loaded::Consumer;
 use crate::specifiers::Named;
 use clk_base::{ClockId, Kind};
 use clk_io::NoMemory;
-use dts_bindings::{Binding, BoundClock};
-use dts_tree::DtsNode;
+use dts_bindings::{Binding, BoundClock, Node};
 use std::alloc::Global;
 
 /// The most entries of assigned clocks.
@@ -113,11 +111,11 @@ fn links_of(
     chart: &Named<'_>,
     binding: &Option<Binding>,
     at: usize,
-    node: &DtsNode,
+    node: &Node<'_>,
 ) -> Result<Option<Links>, NoMemory>
     requires within { at < length chart.now }
     requires bound { option_map seen_binding binding.now ≡ binding_at chart.now at }
-    ensures { IfOk result (λ links. option_map seen_links links ≡ links_of chart.now at (seen_node node.now)) }
+    ensures { IfOk result (λ links. option_map seen_links links ≡ links_of chart.now at node.now) }
 {
     let Some(parents) = parents_by(alloc, chart, binding)? else {
         return Ok(None);
@@ -152,9 +150,9 @@ fn are_too_many(before: usize, lists: &Lists) -> bool
 }
 
 // Whether the assigned clocks of a node are bad, by the entries so far.
-fn is_bad(before: usize, node: &DtsNode, lists: &Lists) -> bool
+fn is_bad(before: usize, node: &Node<'_>, lists: &Lists) -> bool
     requires { before ≤ 4096 }
-    ensures { result ≡ (is_too_long (seen_lists lists.now) || lacks_clocks (seen_node node.now) || nat_lt most_entries (before + entries (seen_lists lists.now))) }
+    ensures { result ≡ (is_too_long (seen_lists lists.now) || lacks_clocks node.now || nat_lt most_entries (before + entries (seen_lists lists.now))) }
 {
     is_too_long(lists) || lacks_clocks(node) || are_too_many(before, lists)
 }
@@ -180,11 +178,11 @@ pub(crate) fn look(
         return Ok(None);
     }
     let node = chart.node(at);
-    let Some(links) = links_of(alloc, chart, binding, at, node)? else {
-        return Err(DtsFault::BadSpecifier(node.line));
+    let Some(links) = links_of(alloc, chart, binding, at, &node)? else {
+        return Err(DtsFault::BadSpecifier(node.line()));
     };
-    if is_bad(before, node, &links.lists) {
-        return Err(DtsFault::BadAssigned(node.line));
+    if is_bad(before, &node, &links.lists) {
+        return Err(DtsFault::BadAssigned(node.line()));
     }
     Ok(Some(links))
 }

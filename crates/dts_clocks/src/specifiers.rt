@@ -2,7 +2,6 @@
 
 ghost use Rattle.std.specs.Prelude.{◌≡◌, ◌<◌, ◌∷◌, Some, map, length, drop, slice_get, string_bytes, IfOk, IfSome};
 ghost use Rattle.std.specs.Option.{option_map, option_and_then};
-ghost use Rattle.dts_tree.specs.Tree.{seen_node};
 ghost use Rattle.dts_clocks.specs.Above.{is_passed, path_of};
 ghost use Rattle.dts_clocks.specs.Clocks.{bindings_of, seen_bindings, clock_of, identified, clocks_named};
 ghost use Rattle.dts_clocks.specs.References.{reference};
@@ -12,8 +11,8 @@ use crate::numbers::specifier_numbers;
 use crate::reference::{Front, Reference, Specifier};
 use clk_base::ClockId;
 use clk_io::NoMemory;
-use dts_bindings::Binding;
-use dts_tree::{Cell, DtsNode};
+use dts_bindings::{Binding, Node};
+use dts_tree::Cell;
 use std::alloc::Global;
 use std::collections::HashMap;
 use std::marker::Model;
@@ -76,9 +75,9 @@ impl<'a> Named<'a> {
     }
 
     /// The node of a place.
-    pub(crate) fn node(&self, at: usize) -> &'a DtsNode
+    pub(crate) fn node(&self, at: usize) -> Node<'a>
         requires { at < length self.now }
-        ensures { slice_get self.now at ≡ Some (seen_node result.now) }
+        ensures { slice_get self.now at ≡ Some result }
     {
         self.chart.node(at)
     }

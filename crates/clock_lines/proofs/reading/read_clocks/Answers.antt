@@ -14,50 +14,50 @@ pub describe-requires-clause-few : goal.describe-requires-clause-few
 describe-requires-clause-few c =
     let section = slice_range c.args.lines.now c.args.from c.args.to in
     let size = length-section c.args.lines.now c.args.from c.args.to c.requires.order c.requires.within in
-    omega (arith, few-clocks section c.in_ok-clocks.clocks c.in_ok-clocks.ensures)
+    omega (arith, few-clocks c.args.version section c.in_ok-clocks.clocks c.in_ok-clocks.ensures)
 
 pub describe-requires-clause-apart : goal.describe-requires-clause-apart
 describe-requires-clause-apart c =
-    stand-apart (slice_range c.args.lines.now c.args.from c.args.to) c.in_ok-clocks.clocks c.in_ok-clocks.ensures
+    stand-apart c.args.version (slice_range c.args.lines.now c.args.from c.args.to) c.in_ok-clocks.clocks c.in_ok-clocks.ensures
 
 pub describe-requires-clause-lines : goal.describe-requires-clause-lines
 describe-requires-clause-lines c =
     let section = slice_range c.args.lines.now c.args.from c.args.to in
     let size = length-section c.args.lines.now c.args.from c.args.to c.requires.order c.requires.within in
-    have-lines section c.in_ok-clocks.clocks c.args.from c.args.to c.in_ok-clocks.ensures (omega arith) (omega arith)
+    have-lines c.args.version section c.in_ok-clocks.clocks c.args.from c.args.to c.in_ok-clocks.ensures (omega arith) (omega arith)
 
 pub line_numbers-requires : goal.line_numbers-requires
 line_numbers-requires c =
     let section = slice_range c.args.lines.now c.args.from c.args.to in
     let size = length-section c.args.lines.now c.args.from c.args.to c.requires.order c.requires.within in
-    record { lines = have-lines section c.in_ok-clocks.clocks c.args.from c.args.to c.in_ok-clocks.ensures (omega arith) (omega arith) }
+    record { lines = have-lines c.args.version section c.in_ok-clocks.clocks c.args.from c.args.to c.in_ok-clocks.ensures (omega arith) (omega arith) }
 
 pub returns-in_err-desc-clause-fault : goal.returns-in_err-desc-clause-fault
 returns-in_err-desc-clause-fault c =
     let section = slice_range c.args.lines.now c.args.from c.args.to in
     let p = err_from_is_err_and c.from_residual-in_err-desc.result c.from_residual-in_err-desc.ensures.1 in
-    rw p.1 (subst (Tells (Refuses c.args.from section)) (sym p.2) (lacks-fault c.args.from section c.in_ok-clocks.clocks _ c.in_ok-clocks.ensures c.in_err-desc.ensures))
+    rw p.1 (subst (Tells (Refuses c.args.version c.args.from section)) (sym p.2) (lacks-fault c.args.version c.args.from section c.in_ok-clocks.clocks _ c.in_ok-clocks.ensures c.in_err-desc.ensures))
 
 pub returns-clause-ok : goal.returns-clause-ok
 returns-clause-ok c =
     let section = slice_range c.args.lines.now c.args.from c.args.to in
     let h = c.in_ok-desc.ensures in
-    spells c.args.from section c.in_ok-clocks.clocks c.in_ok-desc.desc c.in_ok-lines.lines.items c.in_ok-clocks.ensures h.0 h.1 c.in_ok-lines.ensures
+    spells c.args.version c.args.from section c.in_ok-clocks.clocks c.in_ok-desc.desc c.in_ok-lines.lines.items c.in_ok-clocks.ensures h.0 h.1 c.in_ok-lines.ensures
 
 pub returns-clause-parents : goal.returns-clause-parents
 returns-clause-parents c =
     let section = slice_range c.args.lines.now c.args.from c.args.to in
     let h = c.in_ok-desc.ensures in
-    each-has_parents section c.in_ok-clocks.clocks c.in_ok-desc.desc c.in_ok-clocks.ensures h.0 h.1
+    each-has_parents c.args.version section c.in_ok-clocks.clocks c.in_ok-desc.desc c.in_ok-clocks.ensures h.0 h.1
 
 pub returns-clause-names : goal.returns-clause-names
 returns-clause-names c =
     let section = slice_range c.args.lines.now c.args.from c.args.to in
-    each-has_name section c.in_ok-clocks.clocks c.in_ok-desc.desc c.in_ok-clocks.ensures c.in_ok-desc.ensures.1
+    each-has_name c.args.version section c.in_ok-clocks.clocks c.in_ok-desc.desc c.in_ok-clocks.ensures c.in_ok-desc.ensures.1
 
 pub returns-clause-fits : goal.returns-clause-fits
 returns-clause-fits c =
     let section = slice_range c.args.lines.now c.args.from c.args.to in
     let size = length-section c.args.lines.now c.args.from c.args.to c.requires.order c.requires.within in
     let h = c.in_ok-desc.ensures in
-    omega (arith, few-clocks section c.in_ok-clocks.clocks c.in_ok-clocks.ensures, ap length h.1, length-map c.in_ok-clocks.clocks (clock_in c.in_ok-clocks.clocks))
+    omega (arith, few-clocks c.args.version section c.in_ok-clocks.clocks c.in_ok-clocks.ensures, ap length h.1, length-map c.in_ok-clocks.clocks (clock_in c.in_ok-clocks.clocks))

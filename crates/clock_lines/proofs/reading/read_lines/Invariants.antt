@@ -1,7 +1,6 @@
 -- the lines so far have no fault, and their clocks are gathered
-use Rattle.std.specs.Prelude.{slice_range}
-use Rattle.clock_lines.specs.Steps.{IsRead}
+use Rattle.clock_lines.specs.Steps.{IsRead, lines_in}
 use Rattle.clock_lines.proofs.reading.read_lines.Given as goal
 
 abbrev pub invariant-loop-place : goal.invariant-loop-place
-invariant-loop-place l = IsRead (slice_range l.lines l.from l.to) l.place l.clocks
+invariant-loop-place l = IsRead l.section.version (lines_in l.section) l.place l.clocks

@@ -12,13 +12,13 @@ use Rattle.clock_lines.proofs.reading.with_words.Goals as goal
 pub returns-then-is_empty : goal.returns-then-is_empty
 returns-then-is_empty c =
     let none : length c.args.words.now ≡ 0 = eqb-true (length c.args.words.now) 0 (sym c.is_empty.ensures ∙ c.if-is_empty.true) in
-    empty-taken c.args.clocks c.args.place (texts c.args.words.now) (length-map c.args.words.now (λ (w : Bor (List ℕ)). w.now) ∙ none)
+    empty-taken c.args.version c.args.clocks c.args.place (texts c.args.words.now) (length-map c.args.words.now (λ (w : Bor (List ℕ)). w.now) ∙ none)
 
 pub with-requires : goal.with-requires
 with-requires c =
-    fresh-name c.args.clocks (texts c.args.words.now) _ (shown c.in-Ok.line) (c.is_named-taken.ensures ∙ ap (is_named c.args.clocks) c.name_word.ensures) (sym c.in-Ok.ensures)
+    fresh-name c.args.version c.args.clocks (texts c.args.words.now) _ (shown c.in-Ok.line) (c.is_named-taken.ensures ∙ ap (is_named c.args.clocks) c.name_word.ensures) (sym c.in-Ok.ensures)
 
 pub returns : goal.returns
 returns c =
-    said-taken c.args.clocks c.in_ok-clocks-in-Ok.clocks c.args.place (texts c.args.words.now) _ (shown c.in-Ok.line)
+    said-taken c.args.version c.args.clocks c.in_ok-clocks-in-Ok.clocks c.args.place (texts c.args.words.now) _ (shown c.in-Ok.line)
     (c.is_named-taken.ensures ∙ ap (is_named c.args.clocks) c.name_word.ensures) (sym c.in-Ok.ensures) c.in_ok-clocks-in-Ok.ensures

@@ -1,6 +1,5 @@
 use Rattle.std.proofs.Common.{sym, ◌∙◌, arith, string_bytes, ap, ◌∷◌, ◌++◌}
 use Rattle.std.specs.Prelude.{◌==◌}
-use Rattle.dts_tree.specs.Tree.{seen_node}
 use Rattle.dts_clocks.proofs.Uplines.{parent_of-before, path_more, path_whole, slash_for, path_for}
 use Rattle.dts_clocks.proofs.above.path_of.Goals as goal
 
@@ -12,8 +11,8 @@ loop-parent-preserved c =
     let before = parent_of-before c.args.nodes.now c.loop-parent.place c.in-Some.parent (sym c.parent_of.ensures ∙ c.in-Some.is) in
     record {
       within = omega (arith, before, c.loop-parent.invariant.within);
-      so_far = path_more c.args.nodes.now c.loop-parent.place c.in-Some.parent (seen_node c.node.result.now) _ c.as_str.result.now (string_bytes c.loop-parent.path) (string_bytes c.in_ok-path.path) c.node.ensures (sym c.in-Some.is ∙ c.parent_of.ensures) c.as_str.ensures.value
-          (c.in_ok-path.ensures ∙ ap (λ t. (47 ∷ c.as_str.result.now) ++ t) c.as_str-in-Some.ensures.value) c.loop-parent.invariant.so_far;
+      so_far = path_more c.args.nodes.now c.loop-parent.place c.in-Some.parent c.node.result _ c.name.result.now (string_bytes c.loop-parent.path) (string_bytes c.in_ok-path.path) c.node.ensures (sym c.in-Some.is ∙ c.parent_of.ensures) c.name.ensures
+          (c.in_ok-path.ensures ∙ ap (λ t. (47 ∷ c.name.result.now) ++ t) c.as_str.ensures.value) c.loop-parent.invariant.so_far;
     }
 
 pub returns-then-is_empty : goal.returns-then-is_empty

@@ -1,6 +1,5 @@
 use Rattle.std.proofs.Common.{ap, sym, ◌∙◌}
 use Rattle.std.specs.Option.{option_map}
-use Rattle.dts_tree.specs.Tree.{seen_node}
 use Rattle.dts_tree.proofs.Shown.{map_some}
 use Rattle.dts_bindings.specs.Binding.{seen_binding}
 use Rattle.dts_clocks.specs.Consumers.{seen_consumer}
@@ -24,7 +23,7 @@ returns-in_default-clause-entries c =
 
 pub returns-clause-loaded : goal.returns-clause-loaded
 returns-clause-loaded c =
-    loaded_more c.args.chart.now c.args.at (seen_node c.node.result.now) (seen_links c.in-Some.links) (option_map seen_binding c.args.binding.now) (seen_loaded c.args.loaded.now)
+    loaded_more c.args.chart.now c.args.at c.node.result (seen_links c.in-Some.links) (option_map seen_binding c.args.binding.now) (seen_loaded c.args.loaded.now)
     (seen_loaded c.add.new.loaded) c.node.ensures (ap (option_map seen_links) (sym c.in-Some.is) ∙ c.in_ok-links.ensures.links) c.requires.bound c.requires.so_far c.in_ok-add.ensures.defs
     c.in_ok-add.ensures.lines (map_some seen_consumer c.args.loaded.now.consumers.items c.add.new.loaded.consumers.items c.in-Some.links.consumer c.in_ok-add.ensures.consumers) c.in_ok-add.ensures.assigned
 
