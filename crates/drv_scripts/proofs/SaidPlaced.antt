@@ -29,10 +29,8 @@ use Rattle.drv_scripts.specs.CommandLines.{
   sweeps,
   rate_of,
   id_of,
-  plain_act,
   plain_line,
   get_line,
-  rated_act,
   acts_if,
   rated_line,
   range_act,
@@ -46,10 +44,15 @@ use Rattle.drv_scripts.specs.CommandLines.{
   unnotify_line,
   probe_line,
   sweep_line,
-  other_line,
   verb_line,
+  line_if,
   command_line,
 }
+use Rattle.drv_scripts.specs.Verbs.{rated_act, verb_of}
+use Rattle.drv_scripts.specs.declared.verb.RateVerb.{RateVerb}
+use Rattle.drv_scripts.specs.declared.verb.RateVerb.TheVariants.{Round, Set, SetExclusive}
+use Rattle.drv_scripts.specs.declared.verb.Verb.{Verb}
+use Rattle.drv_scripts.specs.declared.verb.Verb.TheVariants as verbs
 use Rattle.drv_scripts.specs.Commands.{clock_for, act_in, has_variable, variable_of, known_command, said_at, variables_before, command_at, commands_of}
 use Rattle.drv_scripts.specs.Placed.{NamesPlace, NamePlaces}
 use Rattle.dts_clocks.proofs.Parented.{is_below, passes_both}
@@ -72,25 +75,6 @@ either P false x y p q = q
 either_said : {X : Type 0} (P : X → Type 0) (b : Bool) (x y : Result X Reason) → IfOk x P → IfOk y P → IfOk (cond b x y) P
 either_said P true x y p q = p
 either_said P false x y p q = q
-
-either_act : (P : Act → Type 0) (b : Bool) (x y : Act) → P x → P y → P (cond b x y)
-either_act P true x y p q = p
-either_act P false x y p q = q
-
-plain_act-named : (clocks : ℕ) (verb : List ℕ) → IfSome (plain_act verb) (NamesPlace clocks)
-unfolding plain_act
-plain_act-named clocks verb =
-    let P = NamesPlace clocks in
-    either P (bytes_eq verb (codes "put")) _ _ tt
-    (either P (bytes_eq verb (codes "prepare")) _ _ tt
-    (either P (bytes_eq verb (codes "unprepare")) _ _ tt
-    (either P (bytes_eq verb (codes "enable")) _ _ tt
-    (either P (bytes_eq verb (codes "disable")) _ _ tt
-    (either P (bytes_eq verb (codes "running")) _ _ tt
-    (either P (bytes_eq verb (codes "rate")) _ _ tt
-    (either P (bytes_eq verb (codes "parent")) _ _ tt
-    (either P (bytes_eq verb (codes "lock")) _ _ tt
-    (either P (bytes_eq verb (codes "unlock")) _ _ tt tt)))))))))
 
 plain_line-named : (clocks : ℕ) (act : Act) (rest : List (List ℕ)) → NamesPlace clocks act → IfOk (plain_line act rest) (NamesNone clocks)
 unfolding plain_line
@@ -117,16 +101,17 @@ unfolding acts_if
 acts_if-named clocks var None h = tt
 acts_if-named clocks var (Some act) h = h
 
-rated_act-named : (clocks : ℕ) (verb : List ℕ) (rate : ℕ) → NamesPlace clocks (rated_act verb rate)
+rated_act-named : (clocks : ℕ) (verb : RateVerb) (rate : ℕ) → NamesPlace clocks (rated_act verb rate)
 unfolding rated_act
-rated_act-named clocks verb rate =
-    either_act (NamesPlace clocks) (bytes_eq verb (codes "round")) _ _ tt (either_act (NamesPlace clocks) (bytes_eq verb (codes "set")) _ _ tt tt)
+rated_act-named clocks Round rate = tt
+rated_act-named clocks Set rate = tt
+rated_act-named clocks SetExclusive rate = tt
 
 mapped : {X : Type 0} (clocks : ℕ) (f : X → Act) (o : Option X) → ((x : X) → NamesPlace clocks (f x)) → IfSome (option_map f o) (NamesPlace clocks)
 mapped clocks f None each = tt
 mapped clocks f (Some x) each = each x
 
-rated_line-named : (clocks : ℕ) (verb : List ℕ) (rest : List (List ℕ)) → IfOk (rated_line verb rest) (NamesNone clocks)
+rated_line-named : (clocks : ℕ) (verb : RateVerb) (rest : List (List ℕ)) → IfOk (rated_line verb rest) (NamesNone clocks)
 unfolding rated_line
 rated_line-named clocks verb [] = tt
 rated_line-named clocks verb (var ∷ []) = tt
@@ -185,30 +170,57 @@ unfolding sweep_line
 sweep_line-named clocks [] = tt
 sweep_line-named clocks (word ∷ rest) = tt
 
-other_line-named : (clocks : ℕ) (verb : List ℕ) (rest : List (List ℕ)) → IfOk (other_line verb rest) (NamesNone clocks)
-unfolding other_line
-other_line-named clocks verb rest =
-    let P = NamesNone clocks in
-    either_said P (bytes_eq verb (codes "get")) _ _ (get_line-named clocks rest)
-    (either_said P (bytes_eq verb (codes "round")) _ _ (rated_line-named clocks verb rest)
-    (either_said P (bytes_eq verb (codes "set")) _ _ (rated_line-named clocks verb rest)
-    (either_said P (bytes_eq verb (codes "setx")) _ _ (rated_line-named clocks verb rest)
-    (either_said P (bytes_eq verb (codes "range")) _ _ (range_line-named clocks rest)
-    (either_said P (bytes_eq verb (codes "reparent")) _ _ (reparent_line-named clocks rest)
-    (either_said P (bytes_eq verb (codes "notify")) _ _ (notify_line-named clocks rest)
-    (either_said P (bytes_eq verb (codes "unnotify")) _ _ (unnotify_line-named clocks rest)
-    (either_said P (bytes_eq verb (codes "probe")) _ _ (probe_line-named clocks rest)
-    (either_said P (bytes_eq verb (codes "sweep")) _ _ (sweep_line-named clocks rest) tt)))))))))
+-- an act that a verb brings along names no clock
+abbrev BringsNone : ℕ → Verb → Type 0
+BringsNone clocks (verbs.Acts act) = NamesPlace clocks act
+BringsNone clocks _ = Unit {0}
 
-verb_line-named : (clocks : ℕ) (act : Option Act) (verb : List ℕ) (rest : List (List ℕ)) → IfSome act (NamesPlace clocks) → IfOk (verb_line act verb rest) (NamesNone clocks)
+verb_of-named : (clocks : ℕ) (word : List ℕ) → IfSome (verb_of word) (BringsNone clocks)
+unfolding verb_of
+verb_of-named clocks word =
+    let P = BringsNone clocks in
+    either P (bytes_eq word (codes "put")) _ _ tt
+    (either P (bytes_eq word (codes "prepare")) _ _ tt
+    (either P (bytes_eq word (codes "unprepare")) _ _ tt
+    (either P (bytes_eq word (codes "enable")) _ _ tt
+    (either P (bytes_eq word (codes "disable")) _ _ tt
+    (either P (bytes_eq word (codes "running")) _ _ tt
+    (either P (bytes_eq word (codes "rate")) _ _ tt
+    (either P (bytes_eq word (codes "parent")) _ _ tt
+    (either P (bytes_eq word (codes "lock")) _ _ tt
+    (either P (bytes_eq word (codes "unlock")) _ _ tt
+    (either P (bytes_eq word (codes "get")) _ _ tt
+    (either P (bytes_eq word (codes "round")) _ _ tt
+    (either P (bytes_eq word (codes "set")) _ _ tt
+    (either P (bytes_eq word (codes "setx")) _ _ tt
+    (either P (bytes_eq word (codes "range")) _ _ tt
+    (either P (bytes_eq word (codes "reparent")) _ _ tt
+    (either P (bytes_eq word (codes "notify")) _ _ tt
+    (either P (bytes_eq word (codes "unnotify")) _ _ tt
+    (either P (bytes_eq word (codes "probe")) _ _ tt
+    (either P (bytes_eq word (codes "sweep")) _ _ tt tt)))))))))))))))))))
+
+verb_line-named : (clocks : ℕ) (verb : Verb) (rest : List (List ℕ)) → BringsNone clocks verb → IfOk (verb_line verb rest) (NamesNone clocks)
 unfolding verb_line
-verb_line-named clocks None verb rest h = other_line-named clocks verb rest
-verb_line-named clocks (Some act) verb rest h = plain_line-named clocks act rest h
+verb_line-named clocks (verbs.Acts act) rest h = plain_line-named clocks act rest h
+verb_line-named clocks verbs.Get rest h = get_line-named clocks rest
+verb_line-named clocks (verbs.Rated verb) rest h = rated_line-named clocks verb rest
+verb_line-named clocks verbs.Range rest h = range_line-named clocks rest
+verb_line-named clocks verbs.Reparent rest h = reparent_line-named clocks rest
+verb_line-named clocks verbs.Notify rest h = notify_line-named clocks rest
+verb_line-named clocks verbs.Unnotify rest h = unnotify_line-named clocks rest
+verb_line-named clocks verbs.Probe rest h = probe_line-named clocks rest
+verb_line-named clocks verbs.Sweep rest h = sweep_line-named clocks rest
+
+line_if-named : (clocks : ℕ) (verb : Option Verb) (rest : List (List ℕ)) → IfSome verb (BringsNone clocks) → IfOk (line_if verb rest) (NamesNone clocks)
+unfolding line_if
+line_if-named clocks None rest h = tt
+line_if-named clocks (Some verb) rest h = verb_line-named clocks verb rest h
 
 command_line-named : (clocks : ℕ) (words : List (List ℕ)) → IfOk (command_line words) (NamesNone clocks)
 unfolding command_line
 command_line-named clocks [] = tt
-command_line-named clocks (verb ∷ rest) = verb_line-named clocks (plain_act verb) verb rest (plain_act-named clocks verb)
+command_line-named clocks (word ∷ rest) = line_if-named clocks (verb_of word) rest (verb_of-named clocks word)
 
 -- ## What it means
 

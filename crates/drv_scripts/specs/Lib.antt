@@ -1,5 +1,6 @@
 pub mod Judged
 pub mod BankLines
+pub mod Verbs
 pub mod CommandLines
 pub mod Commands
 pub mod ListLines

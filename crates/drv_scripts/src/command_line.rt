@@ -2,10 +2,11 @@
 
 ghost use Rattle.std.specs.Prelude.{◌≡◌};
 ghost use Rattle.bundle_text.specs.Words.{texts};
-ghost use Rattle.drv_scripts.specs.CommandLines.{plain_act, plain_line, get_line, rated_act, acts_if, rated_of, rated_line, removal_of, rate_of, id_of, range_act, range_line, reparent_line, notify_act, notify_said, notify_line, unnotify_line, probe_line, sweep_line, other_line, verb_line, command_line};
+ghost use Rattle.drv_scripts.specs.CommandLines.{plain_line, get_line, acts_if, rated_of, rated_line, removal_of, rate_of, id_of, range_act, range_line, reparent_line, notify_act, notify_said, notify_line, unnotify_line, probe_line, sweep_line, verb_line, line_if, command_line};
 ghost use Rattle.drv_scripts.specs.Said.{shown_command};
 
 use crate::policy_line::{policy_line, priority_of};
+use crate::verb::{RateVerb, Verb, verb_of};
 use bundle_text::{Reason, is_variable, number_within, small_number_within};
 use clk_base::{Act, Policy};
 
@@ -27,27 +28,7 @@ pub(crate) enum CommandLine<'a> {
 // What words say, or what is wrong with them.
 type Said<'a> = Result<CommandLine<'a>, Reason>;
 
-// The act of a command that is a first word and a variable.
-#[tactic(auto, unfolding(crate::specs::CommandLines::plain_act))]
-fn plain_act(verb: &str) -> Option<Act>
-    ensures { result ≡ plain_act verb.now }
-{
-    match verb {
-        "put" => Some(Act::Put),
-        "prepare" => Some(Act::Prepare),
-        "unprepare" => Some(Act::Unprepare),
-        "enable" => Some(Act::Enable),
-        "disable" => Some(Act::Disable),
-        "running" => Some(Act::Running),
-        "rate" => Some(Act::GetRate),
-        "parent" => Some(Act::GetParent),
-        "lock" => Some(Act::ExclusiveGet),
-        "unlock" => Some(Act::ExclusivePut),
-        _ => None,
-    }
-}
-
-// What stands behind such a first word.
+// What stands after the first word of an act that needs a variable alone.
 #[tactic(auto, unfolding(crate::specs::CommandLines::plain_line))]
 fn plain_line<'a>(act: Act, rest: &[&'a str]) -> Said<'a>
     ensures { shown_command result ≡ plain_line act (texts rest.now) }
@@ -64,7 +45,7 @@ fn plain_line<'a>(act: Act, rest: &[&'a str]) -> Said<'a>
     }
 }
 
-// What stands behind `get`.
+// What stands after `get`.
 #[tactic(auto, unfolding(crate::specs::CommandLines::get_line))]
 fn get_line<'a>(rest: &[&'a str]) -> Said<'a>
     ensures { shown_command result ≡ get_line (texts rest.now) }
@@ -81,19 +62,7 @@ fn get_line<'a>(rest: &[&'a str]) -> Said<'a>
     }
 }
 
-// The act of `round`, of `set` and of `setx` with a rate.
-#[tactic(auto, unfolding(crate::specs::CommandLines::rated_act))]
-fn rated_act(verb: &str, rate: u64) -> Act
-    ensures { result ≡ rated_act verb.now rate }
-{
-    match verb {
-        "round" => Act::RoundRate(rate),
-        "set" => Act::SetRate(rate),
-        _ => Act::SetRateExclusive(rate),
-    }
-}
-
-// An act on a variable, where its numbers could be read.
+// An act on a variable, if its numbers could be read.
 #[tactic(auto, unfolding(crate::specs::CommandLines::acts_if))]
 fn acts_if<'a>(var: &'a str, act: Option<Act>) -> Said<'a>
     ensures { shown_command result ≡ acts_if var.now act }
@@ -119,17 +88,17 @@ fn id_of(word: &str) -> Option<u32>
 }
 
 // The act of one of these with the rate that a word writes.
-fn rated_of(verb: &str, word: &str) -> Option<Act>
-    ensures { result ≡ rated_of verb.now word.now }
+fn rated_of(verb: RateVerb, word: &str) -> Option<Act>
+    ensures { result ≡ rated_of verb word.now }
 {
     let rate = rate_of(word)?;
-    Some(rated_act(verb, rate))
+    Some(verb.act(rate))
 }
 
-// What stands behind `round`, `set` and `setx`.
+// What stands after `round`, `set` and `setx`.
 #[tactic(auto, unfolding(crate::specs::CommandLines::rated_line))]
-fn rated_line<'a>(verb: &str, rest: &[&'a str]) -> Said<'a>
-    ensures { shown_command result ≡ rated_line verb.now (texts rest.now) }
+fn rated_line<'a>(verb: RateVerb, rest: &[&'a str]) -> Said<'a>
+    ensures { shown_command result ≡ rated_line verb (texts rest.now) }
 {
     match rest {
         [var, rate] => {
@@ -142,7 +111,7 @@ fn rated_line<'a>(verb: &str, rest: &[&'a str]) -> Said<'a>
     }
 }
 
-// The act of `range` with two rates, where both are numbers.
+// The act of `range` with two rates, if both are numbers.
 #[tactic(auto, unfolding(crate::specs::CommandLines::range_act))]
 fn range_act(least: Option<u64>, most: Option<u64>) -> Option<Act>
     ensures { result ≡ range_act least most }
@@ -153,7 +122,7 @@ fn range_act(least: Option<u64>, most: Option<u64>) -> Option<Act>
     }
 }
 
-// What stands behind `range`.
+// What stands after `range`.
 #[tactic(auto, unfolding(crate::specs::CommandLines::range_line))]
 fn range_line<'a>(rest: &[&'a str]) -> Said<'a>
     ensures { shown_command result ≡ range_line (texts rest.now) }
@@ -169,7 +138,7 @@ fn range_line<'a>(rest: &[&'a str]) -> Said<'a>
     }
 }
 
-// What stands behind `reparent`.
+// What stands after `reparent`.
 #[tactic(auto, unfolding(crate::specs::CommandLines::reparent_line))]
 fn reparent_line<'a>(rest: &[&'a str]) -> Said<'a>
     ensures { shown_command result ≡ reparent_line (texts rest.now) }
@@ -186,7 +155,7 @@ fn reparent_line<'a>(rest: &[&'a str]) -> Said<'a>
     }
 }
 
-// The act of `notify` with this identifier, priority and policy, where both are numbers.
+// The act of `notify` with this identifier, priority and policy, if both are numbers.
 #[tactic(auto, unfolding(crate::specs::CommandLines::notify_act))]
 fn notify_act(id: Option<u32>, priority: Option<i32>, policy: Policy) -> Option<Act>
     ensures { result ≡ notify_act id priority policy }
@@ -213,7 +182,7 @@ fn notify_said<'a>(
     }
 }
 
-// What stands behind `notify`.
+// What stands after `notify`.
 #[tactic(auto, unfolding(crate::specs::CommandLines::notify_line))]
 fn notify_line<'a>(rest: &[&'a str]) -> Said<'a>
     ensures { shown_command result ≡ notify_line (texts rest.now) }
@@ -237,7 +206,7 @@ fn removal_of(word: &str) -> Option<Act>
     Some(Act::NotifierRemove(id))
 }
 
-// What stands behind `unnotify`.
+// What stands after `unnotify`.
 #[tactic(auto, unfolding(crate::specs::CommandLines::unnotify_line))]
 fn unnotify_line<'a>(rest: &[&'a str]) -> Said<'a>
     ensures { shown_command result ≡ unnotify_line (texts rest.now) }
@@ -253,7 +222,7 @@ fn unnotify_line<'a>(rest: &[&'a str]) -> Said<'a>
     }
 }
 
-// What stands behind `probe`.
+// What stands after `probe`.
 #[tactic(auto, unfolding(crate::specs::CommandLines::probe_line))]
 fn probe_line<'a>(rest: &[&'a str]) -> Said<'a>
     ensures { shown_command result ≡ probe_line (texts rest.now) }
@@ -264,7 +233,7 @@ fn probe_line<'a>(rest: &[&'a str]) -> Said<'a>
     }
 }
 
-// What stands behind `sweep`.
+// What stands after `sweep`.
 #[tactic(auto, unfolding(crate::specs::CommandLines::sweep_line))]
 fn sweep_line<'a>(rest: &[&'a str]) -> Said<'a>
     ensures { shown_command result ≡ sweep_line (texts rest.now) }
@@ -275,34 +244,32 @@ fn sweep_line<'a>(rest: &[&'a str]) -> Said<'a>
     }
 }
 
-// What a first word that isn't one of the plain ones says, with what stands behind it.
-#[tactic(auto, unfolding(crate::specs::CommandLines::other_line))]
-fn other_line<'a>(verb: &str, rest: &[&'a str]) -> Said<'a>
-    ensures { shown_command result ≡ other_line verb.now (texts rest.now) }
+// What a verb says with the words after it.
+#[tactic(auto, unfolding(crate::specs::CommandLines::verb_line))]
+fn verb_line<'a>(verb: Verb, rest: &[&'a str]) -> Said<'a>
+    ensures { shown_command result ≡ verb_line verb (texts rest.now) }
 {
     match verb {
-        "get" => get_line(rest),
-        "round" => rated_line(verb, rest),
-        "set" => rated_line(verb, rest),
-        "setx" => rated_line(verb, rest),
-        "range" => range_line(rest),
-        "reparent" => reparent_line(rest),
-        "notify" => notify_line(rest),
-        "unnotify" => unnotify_line(rest),
-        "probe" => probe_line(rest),
-        "sweep" => sweep_line(rest),
-        _ => Err(Reason::UnknownCommand),
+        Verb::Acts(act) => plain_line(act, rest),
+        Verb::Get => get_line(rest),
+        Verb::Rated(rated) => rated_line(rated, rest),
+        Verb::Range => range_line(rest),
+        Verb::Reparent => reparent_line(rest),
+        Verb::Notify => notify_line(rest),
+        Verb::Unnotify => unnotify_line(rest),
+        Verb::Probe => probe_line(rest),
+        Verb::Sweep => sweep_line(rest),
     }
 }
 
-// What a first word says with what stands behind it, where it may be a plain one.
-#[tactic(auto, unfolding(crate::specs::CommandLines::verb_line))]
-fn verb_line<'a>(act: Option<Act>, verb: &str, rest: &[&'a str]) -> Said<'a>
-    ensures { shown_command result ≡ verb_line act verb.now (texts rest.now) }
+// What a verb says with the words after it, if the first word is one.
+#[tactic(auto, unfolding(crate::specs::CommandLines::line_if))]
+fn line_if<'a>(verb: Option<Verb>, rest: &[&'a str]) -> Said<'a>
+    ensures { shown_command result ≡ line_if verb (texts rest.now) }
 {
-    match act {
-        Some(act) => plain_line(act, rest),
-        None => other_line(verb, rest),
+    match verb {
+        Some(verb) => verb_line(verb, rest),
+        None => Err(Reason::UnknownCommand),
     }
 }
 
@@ -312,7 +279,7 @@ pub(crate) fn command_line<'a>(words: &[&'a str]) -> Said<'a>
     ensures { shown_command result ≡ command_line (texts words.now) }
 {
     match words {
-        [verb, rest @ ..] => verb_line(plain_act(verb), verb, rest),
+        [word, rest @ ..] => line_if(verb_of(word), rest),
         [] => Err(Reason::UnknownCommand),
     }
 }

@@ -27,6 +27,7 @@ mod rules;
 mod sections;
 mod stop;
 mod variables;
+mod verb;
 mod verdict;
 
 pub use bundle::{Bundle, DriverName, LateLine, LockLine, Script};

@@ -1,5 +1,5 @@
 -- What the line of a clock says by itself.
-use Rattle.std.proofs.Common.{◌≡◌, ℕ, ◌^◌, ◌<◌, ◌≤◌, ◌==◌, nat_le, true, false, cond, List, [], ◌∷◌, length, map, decimal, Some, None, Ok, refl, ap, ◌∙◌, arith}
+use Rattle.std.proofs.Common.{◌≡◌, ℕ, ◌^◌, ◌<◌, ◌≤◌, ◌==◌, nat_le, Bool, true, false, cond, List, [], ◌∷◌, length, map, decimal, Some, None, Ok, refl, ap, ◌∙◌, arith}
 use Rattle.std.specs.Prelude.{codes}
 use Rattle.std.specs.Result.{result_err}
 use Rattle.std.proofs.lemmas.Bool.{ne_eqb, le-leb}
@@ -7,8 +7,8 @@ use Rattle.std.proofs.lemmas.Fmt.{length-decimal-le}
 use Rattle.bundle_text.specs.Names.{is_seen, is_clock_name}
 use Rattle.bundle_text.specs.Numbers.{number_up_to, behind_0x, written_up_to, number_within}
 use Rattle.clk_gen.specs.Generated.{first_word, second_word}
-use Rattle.clock_lines.specs.ClockLines.{clock_line, fixed_line, pll_line, divider_line, gate_line, clock_said, with_flags}
-use Rattle.clock_lines.specs.FlagWords.{are_flags, is_common_flag, flags_of_words}
+use Rattle.clock_lines.specs.ClockLines.{clock_line, fixed_line, pll_line, divider_line, gate_line, clock_said, with_flags, known_line}
+use Rattle.clock_lines.specs.FlagWords.{are_flags, is_common_flag, flags_of_words, are_known}
 use Rattle.clock_lines.specs.Kinds.{number, fixed_kind, pll_kind, divider_kind, gate_kind, field_said, most_number}
 use Rattle.clock_lines.specs.Said.{SaidClock, PlacedClock}
 use Rattle.clock_lines.specs.Section.{is_named, name_word, fault_behind}
@@ -98,11 +98,20 @@ name-second (pll k) = refl
 name-second (divider k) = refl
 name-second (gate k) = refl
 
+-- version 1 knows its flags
+part-known : (part : Part) → known_line 1 (Ok (said_of part)) ≡ Ok (said_of part)
+unfolding known_line are_known
+part-known root = refl
+part-known (pll k) = refl
+part-known (divider k) = refl
+part-known (gate k) = refl
+
 -- behind clocks of other names the line has no fault
-pub part-fine : (earlier : List PlacedClock) (part : Part) → IsFew part → is_named earlier (name_of part) ≡ false → fault_behind earlier (part_row part) ≡ None
+pub part-fine : (earlier : List PlacedClock) (part : Part) → IsFew part → is_named earlier (name_of part) ≡ false → fault_behind 1 earlier (part_row part) ≡ None
 unfolding fault_behind
 part-fine earlier part few new =
+    let judged = λ (t : Bool). result_err (known_line 1 (clock_line t (part_row part))) in
     let taken : is_named earlier (name_word (part_row part)) ≡ false = ap (is_named earlier) (name-second part) ∙ new in
-    let said : result_err (clock_line (is_named earlier (name_word (part_row part))) (part_row part)) ≡ None =
-    ap (λ t. result_err (clock_line t (part_row part))) taken ∙ ap result_err (part-said part few) in
-    ap (λ b. cond b None (result_err (clock_line (is_named earlier (name_word (part_row part))) (part_row part)))) (words-some part) ∙ said
+    let said : judged (is_named earlier (name_word (part_row part))) ≡ None =
+    ap judged taken ∙ (ap (λ r. result_err (known_line 1 r)) (part-said part few) ∙ ap result_err (part-known part)) in
+    ap (λ b. cond b None (judged (is_named earlier (name_word (part_row part))))) (words-some part) ∙ said

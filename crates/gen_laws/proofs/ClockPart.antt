@@ -104,11 +104,11 @@ new-name n k few within =
     ∙ (ap (list_any (bytes_eq name)) (names-of n (range_with_len 0 k)) ∙ list_any_none (bytes_eq name) names each)
 
 -- no line has a fault by itself
-kept : (n : ℕ) → n ≤ 64 → KeepsBelow (fault_at (clock_section n)) (length (clock_section n))
+kept : (n : ℕ) → n ≤ 64 → KeepsBelow (fault_at 1 (clock_section n)) (length (clock_section n))
 unfolding fault_at
 kept n few k within =
     let low : k < 3 * n + 1 = omega (arith, length-section n) in
-    ap (fault_behind (clocks_before (clock_section n) k)) (line-words n k few low)
+    ap (fault_behind 1 (clocks_before (clock_section n) k)) (line-words n k few low)
     ∙ part-fine (clocks_before (clock_section n) k) (part_at n k) (few-at n k few low) (new-name n k few low)
 
 -- a clock is found by its name, at its place
@@ -195,5 +195,5 @@ desc-is n few =
     ∙ ap (map (clock_in all)) (sym (clocks-all n few))
 
 -- the lines of the section spell the description
-pub section-spells : (n from : ℕ) → n ≤ 64 → Spells from (clock_section n) (clocks n) (lines_of from (clock_section n))
+pub section-spells : (n from : ℕ) → n ≤ 64 → Spells 1 from (clock_section n) (clocks n) (lines_of from (clock_section n))
 section-spells n from few = record { kept = kept n few; found = found n few; desc_is = desc-is n few; lines_are = refl }

@@ -1,7 +1,7 @@
 -- The commands of a driver, line by line.
 use Rattle.std.proofs.Common.{◌≡◌, ℕ, zero, suc, ◌+◌, ◌-◌, ◌^◌, ◌<◌, ◌≤◌, ◌==◌, false, cond, List, [], ◌∷◌, length, fold, get_or, decimal, Option, Some, None, Result, Ok, refl, ap, ◌∙◌, arith}
 use Rattle.std.specs.Prelude.{codes}
-use Rattle.std.specs.Option.{option_map, option_and_then}
+use Rattle.std.specs.Option.{option_and_then}
 use Rattle.std.specs.Result.{result_ok}
 use Rattle.std.proofs.lemmas.Bool.{or_from, lt-leb}
 use Rattle.std.proofs.lemmas.List.{get_or-map}
@@ -17,7 +17,8 @@ use Rattle.clk_base.specs.declared.command.Act.{Act}
 use Rattle.clk_base.specs.declared.command.Act.TheVariants.{Get, Put, Prepare, Unprepare, Enable, Disable, Running, SetRate}
 use Rattle.clk_base.specs.declared.command.Command.{Command}
 use Rattle.clk_base.specs.Description.{Description}
-use Rattle.drv_scripts.specs.CommandLines.{CommandLine, gets, acts, command_line, plain_act, verb_line, plain_line, other_line, get_line, rated_line, rated_act, rate_of, acts_if}
+use Rattle.drv_scripts.specs.CommandLines.{CommandLine, gets, acts, command_line, line_if, verb_line, plain_line, get_line, rated_line, rate_of, acts_if}
+use Rattle.drv_scripts.specs.Verbs.{verb_of, rated_act}
 use Rattle.drv_scripts.specs.Commands.{clock_for, act_in, after_command, has_variable, variable_of, known_command, is_full, known_fault, said_fault, said_at, said_before, variables_before, command_fault, command_at, commands_of}
 use Rattle.drv_scripts.specs.Judged.{words_say, KeepsBetween}
 use Rattle.gen_laws.specs.Clocks.{gate, name_of}
@@ -34,12 +35,12 @@ abbrev pub own : List ℕ
 own = codes "x"
 
 get-said : (k : ℕ) → command_line (get_row k) ≡ Ok (gets own (name_of (gate k)))
-unfolding command_line plain_act verb_line other_line get_line is_variable
+unfolding command_line verb_of line_if verb_line get_line is_variable
 get-said k = refl
 
 -- the act that a driver does with its gate, as its line says it
 pub act-said : (a : Act) → IsHeld a → command_line (act_row a) ≡ Ok (acts a own)
-unfolding IsHeld command_line plain_act verb_line plain_line other_line rated_line rated_act acts_if is_variable
+unfolding IsHeld command_line verb_of line_if verb_line plain_line rated_line rated_act acts_if is_variable
 act-said Put h = refl
 act-said Prepare h = refl
 act-said Unprepare h = refl
@@ -48,7 +49,7 @@ act-said Disable h = refl
 act-said Running h = refl
 act-said (SetRate rate) h =
     let read : rate_of (decimal rate) ≡ Some rate = number-decimal 0 (2 ^ 64 - 1) rate h (omega arith) (omega arith) in
-    ap (λ o. acts_if own (option_map (rated_act (codes "set")) o)) read
+    rw read refl
 act-said _ h = absurd h
 
 -- what a line of a driver says, by its place behind the header

@@ -5,6 +5,7 @@ use Rattle.std.specs.Str.Lines.{lines}
 use Rattle.std.proofs.lemmas.Bool.{cases_lt, cond-true, cond-false, lt-ltb, le-ltb}
 use Rattle.std.proofs.lemmas.List.{append-nil, map-append, take_at}
 use Rattle.bundle_text.specs.Firsts.{KeepsBelow}
+use Rattle.bundle_sections.specs.Sections.{version_of}
 use Rattle.bundle_sections.specs.Verdict as section_verdict
 use Rattle.bundle_clocks.specs.Said.{SaidClocks}
 use Rattle.bundle_clocks.specs.Source.{lines_in}
@@ -61,12 +62,18 @@ lines-are n few = sym (lines-from n 0 (3 * n + 1)) ∙ sym (ap (map (λ p. 2 + p
 abbrev said : ℕ → SaidClocks
 said n = record { defs = clocks n; lines = range_with_len 3 (3 * n + 1); consumers = []; assigned = [] }
 
+version-is : (n : ℕ) → version_of (bundle_lines n) ≡ 1
+unfolding version_of
+version-is n = refl
+
 clocks-say : (n : ℕ) → n ≤ 64 → LinesSay (bundle_lines n) (clocks_part n) (said n)
 clocks-say n few =
     let here = section-spells n 2 few in
-    let own : Spells 2 (clock_section n) (clocks n) (range_with_len 3 (3 * n + 1)) = record { kept = here.kept; found = here.found; desc_is = here.desc_is; lines_are = lines-are n few } in
+    let own : Spells 1 2 (clock_section n) (clocks n) (range_with_len 3 (3 * n + 1)) = record { kept = here.kept; found = here.found; desc_is = here.desc_is; lines_are = lines-are n few } in
     record {
-      spelled = subst (λ ls. Spells 2 ls (clocks n) (range_with_len 3 (3 * n + 1))) (sym (lines-in n)) own;
+      spelled =
+          subst (λ v. Spells v 2 (lines_in (bundle_lines n) (clocks_part n)) (clocks n) (range_with_len 3 (3 * n + 1))) (sym (version-is n))
+          (subst (λ ls. Spells 1 2 ls (clocks n) (range_with_len 3 (3 * n + 1))) (sym (lines-in n)) own);
       consumers = refl;
       assigned = refl;
     }
