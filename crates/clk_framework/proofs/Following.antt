@@ -12,12 +12,12 @@ use Rattle.clk_base.specs.declared.event.Turn.TheVariants as turns
 use Rattle.clk_model.specs.State.{State}
 use Rattle.clk_model.specs.Machine.{next}
 use Rattle.clk_model.specs.Journal.{Legal, replay, slotless}
-use Rattle.clk_model.specs.Laws.Twins.{IsTwin}
+use Rattle.clk_model.specs.Laws.Shadows.{GoesBy}
 use Rattle.clk_model.specs.Prep.{prep}
 use Rattle.clk_model.proofs.JournalLaws.{replay-append}
 use Rattle.clk_model.proofs.OutcomeLaws.{not_false}
+use Rattle.clk_model.proofs.ShadowLaws.{goes_by_stays}
 use Rattle.clk_model.proofs.TierLaws.{enable_tier_leaves_prep}
-use Rattle.clk_model.proofs.TwinLaws.{twins_stay}
 use Rattle.clk_machine.specs.Copied.{Copy, Copies, DecidesFor, Follows, IsCopyOf, IsDecided, IsOfCall, StaysCopy, room_after}
 use Rattle.clk_machine.specs.Run.{Run, now_of}
 use Rattle.clk_machine.specs.Sound.{IsPlaced, IsReached}
@@ -40,12 +40,12 @@ replay_more : (s : State) (a b : List Entry) → replay s (a ++ b) ≡ replay (r
 replay_more s [] b = refl
 replay_more s (e ∷ a) b = replay_more (option_map_or (λ x. x.0) (next s e.driver e.event) s) a b
 
--- one leaves a twin a twin, and the prepare tier's part as it is
-one_beside : (t s : State) (e : Entry) → is_prepare_tier e ≡ false → IsTwin t s → IsTwin t (option_map_or (λ x. x.0) (next s e.driver e.event) s)
-one_beside t s e none twin = by (next s e.driver e.event) refl where
-  by : (o : Option (State × Turn)) → next s e.driver e.event ≡ o → IsTwin t (option_map_or (λ x. x.0) o s)
-  by None is = twin
-  by (Some (u, x)) is = twins_stay s t u e.driver e.event x twin (not_false _ none) is
+-- one leaves it that a state goes by another, and the prepare tier's part as it is
+one_beside : (t s : State) (e : Entry) → is_prepare_tier e ≡ false → GoesBy t s → GoesBy t (option_map_or (λ x. x.0) (next s e.driver e.event) s)
+one_beside t s e none goes = by (next s e.driver e.event) refl where
+  by : (o : Option (State × Turn)) → next s e.driver e.event ≡ o → GoesBy t (option_map_or (λ x. x.0) o s)
+  by None is = goes
+  by (Some (u, x)) is = goes_by_stays s t u e.driver e.event x goes (not_false _ none) is
 
 one_leaves : (s : State) (e : Entry) → is_prepare_tier e ≡ false → prep (option_map_or (λ x. x.0) (next s e.driver e.event) s) ≡ prep s
 one_leaves s e none = by (next s e.driver e.event) refl where
@@ -54,11 +54,11 @@ one_leaves s e none = by (next s e.driver e.event) refl where
   by (Some (u, x)) is = enable_tier_leaves_prep s u e.driver e.event x (not_false _ none) is
 
 -- so do several
-twin_beside : (t s : State) (es : List Entry) → All (λ e. is_prepare_tier e ≡ false) es → IsTwin t s → IsTwin t (replay s es)
-twin_beside t s [] all twin = twin
-twin_beside t s (e ∷ es) all twin =
-    twin_beside t (option_map_or (λ x. x.0) (next s e.driver e.event) s) es (All-tail (λ f. is_prepare_tier f ≡ false) e es all)
-    (one_beside t s e (All-head (λ f. is_prepare_tier f ≡ false) e es all) twin)
+goes_beside : (t s : State) (es : List Entry) → All (λ e. is_prepare_tier e ≡ false) es → GoesBy t s → GoesBy t (replay s es)
+goes_beside t s [] all goes = goes
+goes_beside t s (e ∷ es) all goes =
+    goes_beside t (option_map_or (λ x. x.0) (next s e.driver e.event) s) es (All-tail (λ f. is_prepare_tier f ≡ false) e es all)
+    (one_beside t s e (All-head (λ f. is_prepare_tier f ≡ false) e es all) goes)
 
 prep_beside : (s : State) (es : List Entry) → All (λ e. is_prepare_tier e ≡ false) es → prep (replay s es) ≡ prep s
 prep_beside s [] all = refl
@@ -76,7 +76,7 @@ copies_beside : (s : State) (old log : List Entry) (copy : Copy) → AddsEnables
 copies_beside s old log copy adds copies = record {
   twin = copies.twin;
   stands = copies.stands;
-  is = subst (λ (u : State). IsTwin copies.twin u) (sym (replay_beside s old log adds)) (twin_beside copies.twin (replay s old) adds.rest adds.enable copies.is);
+  is = subst (λ (u : State). GoesBy copies.twin u) (sym (replay_beside s old log adds)) (goes_beside copies.twin (replay s old) adds.rest adds.enable copies.is);
 }
 
 -- a copy is of the state after them too

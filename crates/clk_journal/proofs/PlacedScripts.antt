@@ -7,27 +7,28 @@ use Rattle.clk_base.specs.declared.call.Micro.{Micro}
 use Rattle.clk_base.specs.declared.call.Micro.TheVariants as micro
 use Rattle.clk_base.specs.declared.call.Notice.TheVariants as notice
 use Rattle.clk_base.specs.declared.call.Sleeping.{Sleeping}
+use Rattle.clk_base.specs.declared.call.Sleeping.TheVariants as call
 use Rattle.clk_base.specs.Description.{kind_of, parents_of}
-use Rattle.clk_base.specs.Flags.{is_critical, ignores_unused}
+use Rattle.clk_base.specs.Flags.{is_critical, ignores_unused, runs_parent, runs_to_set}
 use Rattle.clk_base.specs.Levels.{depth}
 use Rattle.clk_model.specs.Lists.{is_in, is_at}
 use Rattle.clk_model.specs.State.{State, ChainStep, NotifierRow, registered, link_in}
 use Rattle.clk_model.specs.Tree.{children, roots, orphans, is_orphan, link_given, path_within, path, path_to_be}
-use Rattle.clk_model.specs.Kinds.{is_fixed}
+use Rattle.clk_model.specs.Kinds.{is_fixed, has_setting}
 use Rattle.clk_model.specs.Holders.{active, prepared}
 use Rattle.clk_model.specs.Round.{Wiring, wiring}
 use Rattle.clk_model.specs.Chain.{clock_id, moves, outcome, place_of}
 use Rattle.clk_model.specs.Walk.{top_of, moves_away, movers_to, kids_after, below_within, walk, differs, changing, rates_in}
 use Rattle.clk_model.specs.Notices.{Rates, vetoes, notifiers_of, until_veto, is_veto, pre_list, abort_list, post_list}
-use Rattle.clk_model.specs.Script.{planned, move, move_of, adoption, adoptable, adoption_order, probe_script, tree_within, sweep_order, lets_through, runs, sweep_script}
-use Rattle.clk_model.specs.Step.{cut_short}
+use Rattle.clk_model.specs.Script.{planned, unfeed, fed_step, runs_for, visit_of, close_of, move, move_of, adoption, adoptable, adoption_order, probe_script, tree_within, sweep_order, lets_through, runs, sweep_script}
+use Rattle.clk_model.specs.Step.{cut_short, from_first, behind_first, behind_lets, first_alone, lets_go, is_end, is_register, is_settle, is_close, is_visit}
 use Rattle.clk_model.specs.Laws.Plans.{LeadsFrom, LeadsUp, HasParent}
 use Rattle.clk_model.proofs.PathLaws.{path_all}
 use Rattle.clk_model.proofs.PllLaws.{link_given_possible}
-use Rattle.clk_model.proofs.BalancedScripts.{short_is_end}
 use Rattle.clk_model.proofs.AdoptGoLaws.{ordered_in}
 use Rattle.clk_model.proofs.ProbeGoLaws.{can_adopt}
-use Rattle.clk_journal.proofs.PlacedClocks.{ArePlaced, StepsName, none_placed, one_more, both_placed, chosen_placed, each_placed, both_name, end_names, either_names, map_names, map_in_names, flat_names}
+use Rattle.clk_journal.specs.Sized.{clocks_in_step}
+use Rattle.clk_journal.proofs.PlacedClocks.{ArePlaced, AreNamed, StepsName, none_placed, one_more, both_placed, chosen_placed, each_placed, both_name, either_names, map_names, map_in_names, flat_names}
 
 -- a tree of so many clocks: links and possible parents are among them, and so is what the order of attaching lists
 pub record IsTree (n : ℕ) (s : State) : Type 0 where
@@ -55,8 +56,29 @@ posts_name n rates ns c low =
     map_names n (λ (r : NotifierRow). micro.Notify notice.Post (clock_id c) r.id (slice_index rates.before c) (slice_index rates.outcome c)) (notifiers_of ns c) (λ r. (low, tt))
 
 -- what a timeout leaves of a script
+from_names : (n : ℕ) (test : Micro → Bool) (ms : List Micro) → StepsName n ms → StepsName n (from_first test ms)
+from_names n test [] all = tt
+from_names n test (m ∷ ms) all = either_names n (test m) (m ∷ ms) (from_first test ms) all (from_names n test ms all.1)
+
+after_names : (n : ℕ) (test : Micro → Bool) (ms : List Micro) → StepsName n ms → StepsName n (behind_first test ms)
+after_names n test [] all = tt
+after_names n test (m ∷ ms) all = either_names n (test m) ms (behind_first test ms) all.1 (after_names n test ms all.1)
+
+lets_names : (n : ℕ) (ms : List Micro) → StepsName n ms → StepsName n (behind_lets ms)
+lets_names n [] all = tt
+lets_names n (m ∷ ms) all = either_names n (lets_go m) (behind_lets ms) (m ∷ ms) (lets_names n ms all.1) all
+
+alone_names : (n : ℕ) (ms : List Micro) → StepsName n ms → StepsName n (first_alone ms)
+alone_names n [] all = tt
+alone_names n (m ∷ ms) all = (all.0, lets_names n ms all.1)
+
 pub cut_names : (n : ℕ) (what : Sleeping) (ms : List Micro) → StepsName n ms → StepsName n (cut_short what ms)
-cut_names n what ms all = let at = short_is_end what ms in end_names n at.0 (cut_short what ms) (subst (StepsName n) at.1 all)
+cut_names n (call.Prepare h) ms all = from_names n is_end ms all
+cut_names n (call.SetParent h p) ms all = from_names n is_end ms all
+cut_names n (call.Probe c) ms all =
+    either_names n (list_any is_register ms) (from_first is_end ms) (behind_first is_settle ms) (from_names n is_end ms all) (after_names n is_settle ms all)
+cut_names n call.Sweep ms all = lets_names n (behind_first is_close ms) (after_names n is_close ms all)
+cut_names n _ ms all = alone_names n (from_first is_visit ms) (from_names n is_visit ms all)
 
 -- ---- plans
 
@@ -120,18 +142,65 @@ module _ (n : ℕ) (s : State) (tree : IsTree n s) where
         (λ p. chosen_placed n (differs (wiring s) ks) (kids_after s.order s.clocks ks p) (kids_placed ks chain.steps p)) chain.top
     by false = none_placed n
 
+  -- a step within what keeps a clock running for it
+  fed_names : (o : Option ℕ) (m : Micro) → ((x : ℕ) → o ≡ Some x → x < n) → AreNamed n (clocks_in_step m) → StepsName n (fed_step o m)
+  fed_names None m runs own = (own, tt)
+  fed_names (Some x) m runs own =
+      let low : x < n = runs x refl in
+      ((low, tt), ((low, tt), ((low, tt), (own, ((low, tt), ((low, tt), ((low, tt), tt)))))))
+
+  unfed_names : (o : Option ℕ) → ((x : ℕ) → o ≡ Some x → x < n) → StepsName n (option_map_or unfeed o [])
+  unfed_names None runs = tt
+  unfed_names (Some x) runs = let low : x < n = runs x refl in ((low, tt), ((low, tt), ((low, tt), tt)))
+
   move_names : (prep : ℕ → Bool) (c p : ℕ) → c < n → p < n → StepsName n (move s.defs s.clocks prep c p)
-  move_names prep c p low high = by (prep c) (link_in s.clocks c) refl where
-    by : (b : Bool) (l : Option ℕ) → link_in s.clocks c ≡ l → StepsName n (if b
-        then micro.Raise (clock_id p) ∷ micro.HoldPrepare (clock_id p) ∷ micro.HoldEnable (clock_id p) ∷ micro.HoldEnable (clock_id c)
+  move_names prep c p low high = either_names n (prep c) _ _ held (either_names n (runs_parent s.defs c) _ _ fed ((low, (high, tt)), ((low, tt), tt))) where
+    old : StepsName n (option_map_or unfeed (link_in s.clocks c) [])
+    old = unfed_names (link_in s.clocks c) (tree.links c)
+
+    held : StepsName n (micro.Raise (clock_id p) ∷ micro.HoldPrepare (clock_id p) ∷ micro.HoldEnable (clock_id p) ∷ micro.HoldEnable (clock_id c)
         ∷ micro.Relink (clock_id c) (clock_id p) ∷ micro.WriteMux (clock_id c) (place_of s.defs c p) ∷ micro.DropEnable (clock_id c)
-        ∷ option_map_or (λ o. micro.DropEnable (clock_id o) ∷ micro.DropPrepare (clock_id o) ∷ micro.Lower (clock_id o) ∷ []) l []
-        else micro.Relink (clock_id c) (clock_id p) ∷ micro.WriteMux (clock_id c) (place_of s.defs c p) ∷ [])
-    by true None at = ((high, tt), ((high, tt), ((high, tt), ((low, tt), ((low, (high, tt)), ((low, tt), ((low, tt), tt)))))))
-    by true (Some o) at =
-        let old : o < n = tree.links c o at in
-        ((high, tt), ((high, tt), ((high, tt), ((low, tt), ((low, (high, tt)), ((low, tt), ((low, tt), ((old, tt), ((old, tt), ((old, tt), tt))))))))))
-    by false l at = ((low, (high, tt)), ((low, tt), tt))
+        ∷ option_map_or unfeed (link_in s.clocks c) [])
+    held = ((high, tt), ((high, tt), ((high, tt), ((low, tt), ((low, (high, tt)), ((low, tt), ((low, tt), old)))))))
+
+    fed : StepsName n (micro.Raise (clock_id c) ∷ micro.Raise (clock_id p) ∷ micro.HoldPrepare (clock_id c) ∷ micro.HoldEnable (clock_id c)
+        ∷ micro.HoldPrepare (clock_id p) ∷ micro.HoldEnable (clock_id p)
+        ∷ micro.Relink (clock_id c) (clock_id p) ∷ micro.WriteMux (clock_id c) (place_of s.defs c p)
+        ∷ option_map_or unfeed (link_in s.clocks c) [] ++ unfeed c)
+    fed = (
+      (low, tt),
+      (
+        (high, tt),
+        (
+          (low, tt),
+          (
+            (low, tt),
+            (
+              (high, tt),
+              (
+                (high, tt),
+                (
+                  (low, (high, tt)),
+                  (
+                    (low, tt),
+                    both_name n (option_map_or unfeed (link_in s.clocks c) []) (unfeed c) old ((low, tt), ((low, tt), ((low, tt), tt))),
+                  ),
+                ),
+              ),
+            ),
+          ),
+        ),
+      ),
+    )
+
+  visit_names : (ks : List ChainStep) (c : ℕ) → c < n → StepsName n (visit_of s.defs s.clocks ks c)
+  visit_names ks c low =
+      fed_names (runs_for s.defs s.clocks ks c) (micro.Visit (clock_id c)) (λ x at. runs (list_any (λ k. k.clock == c) ks && has_setting (kind_of s.defs c)) (runs_to_set s.defs c) (runs_parent s.defs c) x at) (low, tt) where
+        runs : (t u v : Bool) (x : ℕ) → (if t then (if u then Some c else if v then link_in s.clocks c else None) else None) ≡ Some x → x < n
+        runs true true v x at = let same : c ≡ x = cc in subst (λ (y : ℕ). y < n) same low
+        runs true false true x at = tree.links c x at
+        runs true false false x at = absurd cc
+        runs false u v x at = absurd cc
 
   moves_name : (prep : ℕ → Bool) (ks : List ChainStep) (c : ℕ) → c < n → AllByRecursion (IsPlacedStep n) ks → StepsName n (move_of s.defs s.clocks prep ks c)
   moves_name prep [] c low all = tt
@@ -154,7 +223,7 @@ module _ (n : ℕ) (s : State) (tree : IsTree n s) where
       let rates : Rates = record { before = rates_in w; outcome = rates_in (outcome ks w) } in
       let clocks : List ℕ = changing s.order w ks in
       let pres : List Micro = pre_list rates s.notifiers clocks in
-      let visited : ℕ → List Micro = (λ c. move_of s.defs s.clocks (prepared s) ks c ++ micro.Visit (clock_id c) ∷ []) in
+      let visited : ℕ → List Micro = (λ c. move_of s.defs s.clocks (prepared s) ks c ++ visit_of s.defs s.clocks ks c) in
       let going : List Micro = flat_map visited (walk s.order w ks) ++ settles in
       let middle : List Micro = cond (list_any is_veto pres) (abort_list rates s.notifiers clocks) going in
       both_name n (pres ++ middle) (micro.End ∷ [])
@@ -162,7 +231,8 @@ module _ (n : ℕ) (s : State) (tree : IsTree n s) where
       (either_names n (list_any is_veto pres) (abort_list rates s.notifiers clocks) going (aborts_name n rates s.notifiers clocks (changing_placed ks chain))
       (both_name n (flat_map visited (walk s.order w ks)) settles
       (flat_names n visited (walk s.order w ks) (λ c m.
-      both_name n (move_of s.defs s.clocks (prepared s) ks c) (micro.Visit (clock_id c) ∷ []) (moves_name (prepared s) ks c (walk_placed ks chain c m) chain.steps) ((walk_placed ks chain c m, tt), tt))) ending)))
+      both_name n (move_of s.defs s.clocks (prepared s) ks c) (visit_of s.defs s.clocks ks c) (moves_name (prepared s) ks c (walk_placed ks chain c m) chain.steps)
+      (visit_names ks c (walk_placed ks chain c m)))) ending)))
       (tt, tt)
 
   -- ---- registrations
@@ -209,15 +279,21 @@ module _ (n : ℕ) (s : State) (tree : IsTree n s) where
       (λ x m. trees_placed depth x (both_placed n (roots s.defs s.order) (orphans s.defs s.order s.clocks)
       (chosen_placed n (λ c. is_fixed (kind_of s.defs c)) s.order tree.order) (chosen_placed n (is_orphan s.defs s.clocks) s.order tree.order) x m))
 
+  close_names : (c : ℕ) → c < n → StepsName n (close_of s.defs s.clocks c)
+  close_names c low = fed_names (if runs_parent s.defs c then link_in s.clocks c else None) (micro.Close (clock_id c)) (λ x at. runs (runs_parent s.defs c) x at) (low, tt) where
+    runs : (t : Bool) (x : ℕ) → (if t then link_in s.clocks c else None) ≡ Some x → x < n
+    runs true x at = tree.links c x at
+    runs false x at = absurd cc
+
   pub sweep_names : StepsName n (sweep_script s)
   unfolding sweep_script
   sweep_names =
       let closed : List ℕ = filter (λ c. not (ignores_unused s.defs c) && lets_through s.defs s.regs c && not (active s c)) (sweep_order s) in
       let unpowered : List ℕ = filter (λ c. not (ignores_unused s.defs c) && runs s.defs s.regs c && not (prepared s c)) (sweep_order s) in
-      both_name n (map (λ c. micro.Close (clock_id c)) closed ++ map (λ c. micro.Unpower (clock_id c)) unpowered) (micro.End ∷ [])
-      (both_name n (map (λ c. micro.Close (clock_id c)) closed) (map (λ c. micro.Unpower (clock_id c)) unpowered)
-      (map_in_names n (λ c. micro.Close (clock_id c)) closed
-      (λ c m. (chosen_placed n (λ d. not (ignores_unused s.defs d) && lets_through s.defs s.regs d && not (active s d)) (sweep_order s) swept_placed c m, tt)))
+      both_name n (flat_map (close_of s.defs s.clocks) closed ++ map (λ c. micro.Unpower (clock_id c)) unpowered) (micro.End ∷ [])
+      (both_name n (flat_map (close_of s.defs s.clocks) closed) (map (λ c. micro.Unpower (clock_id c)) unpowered)
+      (flat_names n (close_of s.defs s.clocks) closed
+      (λ c m. close_names c (chosen_placed n (λ d. not (ignores_unused s.defs d) && lets_through s.defs s.regs d && not (active s d)) (sweep_order s) swept_placed c m)))
       (map_in_names n (λ c. micro.Unpower (clock_id c)) unpowered
       (λ c m. (chosen_placed n (λ d. not (ignores_unused s.defs d) && runs s.defs s.regs d && not (prepared s d)) (sweep_order s) swept_placed c m, tt))))
       (tt, tt)
