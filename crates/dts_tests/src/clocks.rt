@@ -1,17 +1,18 @@
 //! What boards say of clocks, and the faults for which boards are refused.
 
 use crate::trees::tree_of;
-use clk_base::ClockId;
+use bitflags::Flags;
+use clk_base::{ClkFlags, ClockId};
 use dts_clocks::{DtsFault, Loaded, read_desc};
 use dts_tree::DtsTree;
 use std::alloc::Global;
 use std::process::Abort;
 use std::test::Fail;
 
-// What a source says of clocks; `None` where it is no tree.
-fn read(alloc: Global, source: &str) -> Option<Result<Loaded, DtsFault>> {
+// What a source says of clocks in a version; `None` if it is no tree.
+fn read(alloc: Global, version: u32, source: &str) -> Option<Result<Loaded, DtsFault>> {
     match tree_of(alloc, source) {
-        Some(Ok(tree)) => Some(read_desc(alloc, &tree)),
+        Some(Ok(tree)) => Some(read_desc(alloc, &tree, version)),
         _ => None,
     }
 }
@@ -34,7 +35,7 @@ const SAID: &str = "[3, 4, 4, 5]
 #[test]
 fn a_board_is_read(rt: HostRuntime) -> Result<(), Fail> {
     let alloc = rt.alloc();
-    match read(alloc, BOARD) {
+    match read(alloc, 1, BOARD) {
         Some(Ok(loaded)) => {
             assert!(rt; loaded.desc.len() == 4);
             match loaded.desc.as_slice().last() {
@@ -63,7 +64,7 @@ clk { compatible = \"bank,gates-clock\"; #clock-cells = <1>; clocks = <&osc>; ba
 
 // Whether a tree is read, and its description is valid for a bank of so many words.
 fn is_valid(alloc: Global, tree: &DtsTree, words: u32) -> bool {
-    match read_desc(alloc, tree) {
+    match read_desc(alloc, tree, 1) {
         Ok(loaded) => loaded.desc.check(alloc, words).is_ok(),
         Err(_) => false,
     }
@@ -81,16 +82,53 @@ fn a_description_that_is_read_can_be_checked(rt: HostRuntime) {
     }
 }
 
-// A board with these nodes beside its oscillator `o` on line 1 is refused for this fault.
+// A board with a divider `d` of these flags, which stands on line 2, in a version: the bits of its
+// flags, or the fault.
+fn divider_flags(
+    alloc: Global,
+    version: u32,
+    flags: &str,
+) -> Result<Option<Result<ClkFlags, DtsFault>>, Fail> {
+    let source = format!(in alloc;
+        "/dts-v1/;/{{ o: o {{ compatible = \"fixed-clock\"; #clock-cells = <0>; clock-frequency = <1>; }};\n\
+d {{ compatible = \"bank,divider-clock\"; #clock-cells = <0>; clocks = <&o>; bank,reg = <0>; bank,shift = <0>; bank,width = <3>; {flags} }}; }};"
+    )?;
+    match read(alloc, version, source.as_str()) {
+        Some(Ok(loaded)) => Ok(loaded.desc.as_slice().last().map(|def| Ok(def.flags))),
+        Some(Err(fault)) => Ok(Some(Err(fault))),
+        None => Ok(None),
+    }
+}
+
+#[test]
+fn a_board_is_read_in_its_version(rt: HostRuntime) -> Result<(), Fail> {
+    let alloc = rt.alloc();
+    let flags = "bank,critical; bank,set-rate-ungate;";
+    let all = ClkFlags::CRITICAL.union(ClkFlags::SET_RATE_UNGATE);
+    assert!(rt; divider_flags(alloc, 1, flags)? == Some(Ok(ClkFlags::CRITICAL)));
+    assert!(rt; divider_flags(alloc, 2, flags)? == Some(Ok(all)));
+    let parent = "bank,ops-parent-enable;";
+    assert!(rt; divider_flags(alloc, 1, parent)? == Some(Ok(ClkFlags::empty())));
+    assert!(rt; divider_flags(alloc, 2, parent)? == Some(Ok(ClkFlags::OPS_PARENT_ENABLE)));
+    let formless = "bank,ops-parent-enable = <1>;";
+    assert!(rt; divider_flags(alloc, 1, formless)? == Some(Ok(ClkFlags::empty())));
+    assert!(rt; divider_flags(alloc, 2, formless)? == Some(Err(DtsFault::MissingProperty(2))));
+    Ok(())
+}
+
+// A board with these nodes beside its oscillator `o` on line 1 is refused for this fault, in each
+// version.
 fn are_refused(rt: &impl Abort, alloc: Global, rows: &[(&str, DtsFault)]) -> Result<(), Fail> {
-    for (nodes, wanted) in rows {
-        let source = format!(in alloc;
-            "/dts-v1/;/{{ o: o {{ compatible = \"fixed-clock\"; #clock-cells = <0>; clock-frequency = <1>; }};{nodes}}};"
-        )?;
-        match read(alloc, source.as_str()) {
-            Some(Ok(_)) => assert!(rt; false, "accepted: {nodes}"),
-            Some(Err(fault)) => assert!(rt; fault == *wanted, "{fault} in {nodes}"),
-            None => assert!(rt; false, "no tree: {nodes}"),
+    for version in 1..3 {
+        for (nodes, wanted) in rows {
+            let source = format!(in alloc;
+                "/dts-v1/;/{{ o: o {{ compatible = \"fixed-clock\"; #clock-cells = <0>; clock-frequency = <1>; }};{nodes}}};"
+            )?;
+            match read(alloc, version, source.as_str()) {
+                Some(Ok(_)) => assert!(rt; false, "accepted: {nodes}"),
+                Some(Err(fault)) => assert!(rt; fault == *wanted, "{fault} in {nodes}"),
+                None => assert!(rt; false, "no tree: {nodes}"),
+            }
         }
     }
     Ok(())

@@ -1,4 +1,5 @@
-//! Each kind of provider: with all its properties, with each out of its form, and without each.
+//! Each kind of provider: with all its properties, with each out of its form, and without each, in
+//! each version; and its flags of version 2.
 
 use crate::nodes::{said, says};
 use std::alloc::Global;
@@ -47,7 +48,7 @@ fn changed(
 }
 
 // All properties together say what is wanted; each one out of its form is refused, and each one
-// left out where it has to be there.
+// left out if it has to be there. It is so in each version.
 fn judges(
     rt: &impl Abort,
     alloc: Global,
@@ -61,9 +62,11 @@ fn judges(
         let wrong = changed(alloc, head, cases, k, case.bad)?;
         says(rt, alloc, &[(wrong.as_str(), "MissingProperty")])?;
         let without = changed(alloc, head, cases, k, "")?;
-        let text = said(alloc, without.as_str())?;
-        let refused = text.as_str() == "MissingProperty";
-        assert!(rt; refused == case.needed, "of {without}");
+        for version in 1..3 {
+            let text = said(alloc, version, without.as_str())?;
+            let refused = text.as_str() == "MissingProperty";
+            assert!(rt; refused == case.needed, "of {without}");
+        }
     }
     Ok(())
 }
@@ -73,7 +76,7 @@ fn each_property_of_an_oscillator_has_its_form(rt: HostRuntime) -> Result<(), Fa
     judges(
         &rt,
         rt.alloc(),
-        "compatible = \"vendor,osc\", \"fixed-clock\"; #clock-cells = <0x0>; clocks = \"not read\"; bank,critical = <1>;",
+        "compatible = \"vendor,osc\", \"fixed-clock\"; #clock-cells = <0x0>; clocks = \"not read\"; bank,critical = <1>; bank,set-rate-ungate = <1>; bank,ops-parent-enable = <1>;",
         &[
             needed(
                 "clock-frequency = <24000000>;",
@@ -230,4 +233,68 @@ fn each_property_of_a_pll_has_its_form(rt: HostRuntime) -> Result<(), Fail> {
         ],
         "Binding { cells: 0, wants: One, inputs: [Number(1)], clocks: [BoundClock { name: \"p\", identifier: 0, kind: Pll { word: 3, shift: 4, width: 9, power_word: 5, power_bit: 31, least: 100, most: 400, m: 24 } }], flags: ClkFlags(32) }",
     )
+}
+
+// Providers of each kind that has flags, and what is said of them up to the bits of their flags.
+const PROVIDERS: [(&str, &str); 6] = [
+    (
+        "compatible = \"fixed-factor-clock\"; #clock-cells = <0>; clocks = <1>; clock-mult = <1>; clock-div = <2>;",
+        "Binding { cells: 0, wants: One, inputs: [Number(1)], clocks: [BoundClock { name: \"clk\", identifier: 0, kind: Factor { mult: 1, div: 2 } }]",
+    ),
+    (
+        "compatible = \"bank,gate-clock\"; #clock-cells = <0>; clocks = <1>; bank,reg = <3>; bank,bit = <4>;",
+        "Binding { cells: 0, wants: One, inputs: [Number(1)], clocks: [BoundClock { name: \"clk\", identifier: 0, kind: Gate { word: 3, bit: 4, set_to_disable: false } }]",
+    ),
+    (
+        "compatible = \"bank,gates-clock\"; #clock-cells = <1>; clocks = <1>; bank,reg = <3>; clock-output-names = \"a\";",
+        "Binding { cells: 1, wants: One, inputs: [Number(1)], clocks: [BoundClock { name: \"a\", identifier: 0, kind: Gate { word: 3, bit: 0, set_to_disable: false } }]",
+    ),
+    (
+        "compatible = \"bank,mux-clock\"; #clock-cells = <0>; clocks = <1>; bank,reg = <3>; bank,shift = <4>; bank,width = <1>;",
+        "Binding { cells: 0, wants: Some, inputs: [Number(1)], clocks: [BoundClock { name: \"clk\", identifier: 0, kind: Mux { word: 3, shift: 4, width: 1, read_only: false } }]",
+    ),
+    (
+        "compatible = \"bank,divider-clock\"; #clock-cells = <0>; clocks = <1>; bank,reg = <3>; bank,shift = <4>; bank,width = <2>;",
+        "Binding { cells: 0, wants: One, inputs: [Number(1)], clocks: [BoundClock { name: \"clk\", identifier: 0, kind: Divider { word: 3, shift: 4, width: 2, one_based: false, power_of_two: false } }]",
+    ),
+    (
+        "compatible = \"bank,pll-clock\"; #clock-cells = <0>; clocks = <1>; bank,reg = <3>; bank,shift = <4>; bank,width = <9>; bank,power = <5 31>; bank,n-range = <1 2>; bank,m = <3>;",
+        "Binding { cells: 0, wants: One, inputs: [Number(1)], clocks: [BoundClock { name: \"clk\", identifier: 0, kind: Pll { word: 3, shift: 4, width: 9, power_word: 5, power_bit: 31, least: 1, most: 2, m: 3 } }]",
+    ),
+];
+
+// Flags, and their bits in version 1 and in version 2; in version 2 none if one hasn't its form.
+const FLAGS: [(&str, u8, Option<u8>); 8] = [
+    ("", 0, Some(0)),
+    ("bank,critical;", 32, Some(32)),
+    ("bank,ops-parent-enable;", 0, Some(64)),
+    ("bank,set-rate-ungate;", 0, Some(128)),
+    (
+        "bank,set-rate-ungate; bank,set-rate-gate; bank,ops-parent-enable; bank,critical;",
+        33,
+        Some(225),
+    ),
+    ("bank,ops-parent-enable = <1>;", 0, None),
+    ("bank,critical; bank,set-rate-ungate = <>;", 32, None),
+    ("bank,set-rate-ungate = \"yes\", &l;", 0, None),
+];
+
+#[test]
+fn version_2_alone_knows_the_flags_that_keep_clocks_running(rt: HostRuntime) -> Result<(), Fail> {
+    let alloc = rt.alloc();
+    for (provider, start) in PROVIDERS {
+        for (flags, first, second) in FLAGS {
+            let source = format!(in alloc; "{provider} {flags}")?;
+            let text = said(alloc, 1, source.as_str())?;
+            let wanted = format!(in alloc; "{start}, flags: ClkFlags({first}) }}")?;
+            assert!(rt; text.as_str() == wanted.as_str(), "of {source}: {text}");
+            let text = said(alloc, 2, source.as_str())?;
+            let wanted = match second {
+                Some(bits) => format!(in alloc; "{start}, flags: ClkFlags({bits}) }}")?,
+                None => String::from_str(alloc, "MissingProperty")?,
+            };
+            assert!(rt; text.as_str() == wanted.as_str(), "of {source}: {text}");
+        }
+    }
+    Ok(())
 }

@@ -3,8 +3,8 @@
 
 use crate::trees::tree_of;
 use dts_bindings::{
-    binding, cells, clock_cells, has_property, is_consumer, is_formed, is_okay, is_provider,
-    numbers, one_number, phandle, property, texts, two_numbers, values,
+    Node, binding, cells, clock_cells, has_property, is_consumer, is_formed, is_okay, is_provider,
+    numbers, one_number, phandle, texts, two_numbers, values,
 };
 use dts_tree::DtsNode;
 use std::alloc::Global;
@@ -20,10 +20,10 @@ fn node(alloc: Global, properties: &str) -> Result<Option<DtsNode>, Fail> {
     }
 }
 
-/// The debug text of what a node of these properties says.
-pub(crate) fn said(alloc: Global, properties: &str) -> Result<String, Fail> {
+/// The debug text of what a node of these properties says in a version.
+pub(crate) fn said(alloc: Global, version: u32, properties: &str) -> Result<String, Fail> {
     match node(alloc, properties)? {
-        Some(node) => match binding(alloc, &node) {
+        Some(node) => match binding(alloc, &Node::new(&node, version)) {
             Ok(bound) => Ok(format!(in alloc; "{bound:?}")?),
             Err(fault) => Ok(format!(in alloc; "{fault:?}")?),
         },
@@ -31,11 +31,13 @@ pub(crate) fn said(alloc: Global, properties: &str) -> Result<String, Fail> {
     }
 }
 
-/// A node of these properties says this.
+/// A node of these properties says this, in each version.
 pub(crate) fn says(rt: &impl Abort, alloc: Global, rows: &[(&str, &str)]) -> Result<(), Fail> {
-    for (properties, wanted) in rows {
-        let text = said(alloc, properties)?;
-        assert!(rt; text.as_str() == *wanted, "of {properties}: {text}");
+    for version in 1..3 {
+        for (properties, wanted) in rows {
+            let text = said(alloc, version, properties)?;
+            assert!(rt; text.as_str() == *wanted, "of {properties}: {text}");
+        }
     }
     Ok(())
 }
@@ -94,6 +96,7 @@ fn judges(rt: &impl Abort, alloc: Global, rows: &[(&str, bool, bool, bool)]) -> 
     for (properties, formed, okay, consumer) in rows {
         match node(alloc, properties)? {
             Some(node) => {
+                let node = Node::new(&node, 1);
                 assert!(rt; is_formed(&node) == *formed, "formed: {properties}");
                 assert!(rt; is_okay(&node) == *okay, "okay: {properties}");
                 assert!(rt; is_consumer(&node) == *consumer, "consumer: {properties}");
@@ -162,12 +165,13 @@ fn properties_are_read_by_their_names(rt: HostRuntime) -> Result<(), Fail> {
         assert!(rt; false, "no node");
         return Ok(());
     };
+    let node = Node::new(&node, 1);
     let all = cells(alloc, values(&node, "c"))?;
     let three = numbers(alloc, values(&node, "a"))?;
     let not_numbers = numbers(alloc, values(&node, "c"))?;
     let two = texts(alloc, values(&node, "b"))?;
     let not_texts = texts(alloc, values(&node, "a"))?;
-    let line = property(&node, "d").map(|d| d.line);
+    let line = node.property("d").map(|d| d.line);
     let text = format!(in alloc;
         "{all:?} {three:?} {not_numbers:?} {two:?} {not_texts:?} {line:?}"
     )?;
@@ -183,5 +187,33 @@ fn properties_are_read_by_their_names(rt: HostRuntime) -> Result<(), Fail> {
     assert!(rt; is_provider(&node));
     assert!(rt; has_property(&node, "d"));
     assert!(rt; !has_property(&node, "e"));
+    assert!(rt; node.name() == "clk@10");
+    assert!(rt; node.line() == 1);
+    assert!(rt; node.parent() == Some(0));
+    Ok(())
+}
+
+#[test]
+fn version_1_passes_the_properties_of_version_2_over(rt: HostRuntime) -> Result<(), Fail> {
+    let alloc = rt.alloc();
+    let source =
+        "bank,ops-parent-enable; bank,critical; bank,set-rate-ungate = <1>; bank,set-rate;";
+    let Some(read) = node(alloc, source)? else {
+        assert!(rt; false, "no node");
+        return Ok(());
+    };
+    for (name, first, second) in [
+        ("bank,ops-parent-enable", false, true),
+        ("bank,set-rate-ungate", false, true),
+        ("bank,critical", true, true),
+        ("bank,set-rate", true, true),
+        ("bank,set-rate-gate", false, false),
+    ] {
+        assert!(rt; has_property(&Node::new(&read, 1), name) == first, "{name}");
+        assert!(rt;
+            has_property(&Node::new(&read, 2), name) == second,
+            "{name}"
+        );
+    }
     Ok(())
 }

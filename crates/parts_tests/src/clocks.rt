@@ -13,7 +13,7 @@ use std::alloc::Global;
 use std::process::Abort;
 use std::test::Fail;
 
-/// The description of these clock lines, over so many words of registers.
+/// The description of these clock lines of version 2, over so many words of registers.
 pub(crate) fn described(
     rt: &impl Abort,
     alloc: Global,
@@ -24,7 +24,7 @@ pub(crate) fn described(
 {
     let lines = TextLines::new(alloc, text.as_bytes())?;
     assert!(rt; lines.len() <= 100);
-    let list = read_clocks(alloc, &lines, 0, lines.len())?;
+    let list = read_clocks(alloc, &lines, 0, lines.len(), 2)?;
     Ok(list.desc.check(alloc, words)?)
 }
 

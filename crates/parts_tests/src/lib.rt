@@ -9,6 +9,8 @@ mod beside;
 #[cfg(test)]
 mod clocks;
 #[cfg(test)]
+mod closest;
+#[cfg(test)]
 mod descriptions;
 #[cfg(test)]
 mod kinds;

@@ -3,12 +3,14 @@
 ghost use Rattle.std.specs.Prelude.{◌≡◌, ◌≤◌, length, false, IfOk};
 ghost use Rattle.clk_tree.specs.Plans.{AreThere};
 
+mod flagged;
 mod rows;
 
 use crate::clocks::{attach_all, bank_of, described, is_possible};
 use change_walk::{StepList, script};
 use clk_base::{ClockId, Micro, Notice, Policy, ValidDesc};
 use clk_tree::{Plan, Tree, View};
+use flagged::FLAGGED;
 use notifiers::Notifiers;
 use orphans::{adoptable, link_of};
 use rate_planner::{Planning, plan_now, plan_parent};
@@ -280,6 +282,14 @@ fn expect_row(rt: &impl Abort, alloc: Global, row: &Row<'_>) -> Result<(), Fail>
 #[test]
 fn scripts_and_orders_are_as_worked_out(rt: HostRuntime) -> Result<(), Fail> {
     for row in &ROWS {
+        expect_row(&rt, rt.alloc(), row)?;
+    }
+    Ok(())
+}
+
+#[test]
+fn flagged_clocks_run_meanwhile(rt: HostRuntime) -> Result<(), Fail> {
+    for row in &FLAGGED {
         expect_row(&rt, rt.alloc(), row)?;
     }
     Ok(())

@@ -1,7 +1,8 @@
 //! Bundles that are read whole, and those that no line of text can show.
 
+use bitflags::Flags;
 use bundle_text::{BundleFault, Reason};
-use clk_base::{Act, ClockId, Command, Policy};
+use clk_base::{Act, ClkFlags, ClockId, Command, Policy};
 use drv_scripts::{Bundle, DriverName, LateLine, Listed, LockLine, one_verdict, read_bundle};
 use std::process::Abort;
 use std::test::Fail;
@@ -255,6 +256,59 @@ fn reads_a_device_tree_source(rt: HostRuntime) -> Result<(), Fail> {
     assert!(rt; bundle.desc.find("ahb_uart") == Some(ClockId(2)));
     let get = command(28, 0, Act::Get(Some(ClockId(2))));
     check_driver(&rt, &bundle, "A", get, get);
+    Ok(())
+}
+
+// The flags of the second clock of a bundle, if it has two.
+fn second_flags(bundle: &Bundle) -> Option<ClkFlags> {
+    if bundle.desc.len() < 2 {
+        return None;
+    }
+    Some(bundle.desc.def(ClockId(1)).flags)
+}
+
+// Checks the flags of the second clock of a bundle in a version, and that it stands on line 4.
+fn check_flags<R: Abort + AllocGlobal>(
+    rt: &R,
+    version: u32,
+    rest: &str,
+    flags: ClkFlags,
+) -> Result<(), Fail> {
+    let text = format!(in rt.alloc(); "%bundle {version}\n{rest}")?;
+    let bundle = read_bundle(rt.alloc(), text.as_bytes())?;
+    assert!(rt; second_flags(&bundle) == Some(flags), "of {text}");
+    assert!(rt;
+        bundle.clock_lines.as_slice().last() == Some(&4),
+        "of {text}"
+    );
+    Ok(())
+}
+
+const UNGATED_LINES: &str =
+    "%clocks\nfixed ref 100\ndivider d ref 0 0 3 set-rate-ungate\n%regs 1\n";
+
+const UNGATED_SOURCE: &str =
+    "%dts\n/dts-v1/; / { ref: ref { compatible = \"fixed-clock\"; #clock-cells = <0>; clock-frequency = <100>; };\n\
+d { compatible = \"bank,divider-clock\"; #clock-cells = <0>; clocks = <&ref>; bank,reg = <0>; bank,shift = <0>; bank,width = <3>; bank,critical; bank,set-rate-ungate; bank,ops-parent-enable; }; };\n\
+%regs 1\n";
+
+const FORMLESS_SOURCE: &str =
+    "%dts\n/dts-v1/; / { ref: ref { compatible = \"fixed-clock\"; #clock-cells = <0>; clock-frequency = <100>; };\n\
+d { compatible = \"bank,divider-clock\"; #clock-cells = <0>; clocks = <&ref>; bank,reg = <0>; bank,shift = <0>; bank,width = <3>; bank,set-rate-ungate = <1>; }; };\n\
+%regs 1\n";
+
+#[test]
+fn the_version_of_a_bundle_decides_which_flags_its_clocks_may_have(
+    rt: HostRuntime,
+) -> Result<(), Fail> {
+    check_flags(&rt, 2, UNGATED_LINES, ClkFlags::SET_RATE_UNGATE)?;
+    let lines = format!(in rt.alloc(); "%bundle 1\n{UNGATED_LINES}")?;
+    check_refusal(&rt, lines.as_bytes(), 4, Reason::BadFlag);
+    check_flags(&rt, 2, UNGATED_SOURCE, ClkFlags::from_bits_retain(224))?;
+    check_flags(&rt, 1, UNGATED_SOURCE, ClkFlags::CRITICAL)?;
+    check_flags(&rt, 1, FORMLESS_SOURCE, ClkFlags::empty())?;
+    let source = format!(in rt.alloc(); "%bundle 2\n{FORMLESS_SOURCE}")?;
+    check_refusal(&rt, source.as_bytes(), 4, Reason::MissingProperty);
     Ok(())
 }
 

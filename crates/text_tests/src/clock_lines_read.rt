@@ -1,4 +1,5 @@
-//! Clock lines that are read: each kind, its flags, its numbers, its name and its parents.
+//! Clock lines that are read: each kind, its flags in each version, its numbers, its name and its
+//! parents.
 
 use crate::clocks::{check_clock, check_refusal, read};
 use bitflags::Flags;
@@ -78,58 +79,134 @@ const A: ClockId = ClockId(0);
 
 const B: ClockId = ClockId(1);
 
-// Checks each line behind two others against the kind, the flag bits and the parents of its clock.
+// Checks each line after two others against the kind, the flag bits and the parents of its clock.
 fn check_clocks<R: Abort + AllocGlobal>(
     rt: &R,
     rows: &[(&str, Kind, u8, &[ClockId])],
 ) -> Result<(), Fail> {
     for (line, kind, bits, parents) in rows {
-        check_clock(rt, line, *kind, ClkFlags::from_bits_retain(*bits), parents)?;
+        let flags = ClkFlags::from_bits_retain(*bits);
+        check_clock(rt, 1, line, *kind, flags, parents)?;
     }
     Ok(())
 }
 
-// Checks a line by itself, with each flag that every kind has, and with all of them.
+// Flag words that every kind may have in each version, with their bits.
+const FLAGS: [(&str, u8); 8] = [
+    ("", 0),
+    ("set-rate-gate", 1),
+    ("set-parent-gate", 2),
+    ("set-rate-parent", 4),
+    ("ignore-unused", 8),
+    ("no-reparent", 16),
+    ("critical", 32),
+    (
+        "critical no-reparent set-rate-parent ignore-unused set-rate-gate set-parent-gate",
+        63,
+    ),
+];
+
+// Flag words that every kind may have in version 2 alone, with their bits.
+const LATER_FLAGS: [(&str, u8); 5] = [
+    ("ops-parent-enable", 64),
+    ("set-rate-ungate", 128),
+    ("set-rate-ungate ops-parent-enable", 192),
+    ("critical ops-parent-enable set-rate-gate", 97),
+    (
+        "critical no-reparent set-rate-ungate set-rate-parent ignore-unused ops-parent-enable set-rate-gate set-parent-gate",
+        255,
+    ),
+];
+
+// Checks a line in a version with each of these flag words.
 fn check_flags<R: Abort + AllocGlobal>(
+    rt: &R,
+    version: u32,
+    flags: &[(&str, u8)],
+    line: &str,
+    kind: Kind,
+    parents: &[ClockId],
+) -> Result<(), Fail> {
+    for (words, bits) in flags {
+        let flagged = format!(in rt.alloc(); "{line} {words}")?;
+        let flags = ClkFlags::from_bits_retain(*bits);
+        check_clock(rt, version, &flagged, kind, flags, parents)?;
+    }
+    Ok(())
+}
+
+// Checks a line by itself, with each flag that every kind has in each version, and with all of them;
+// in version 1 the flag words of version 2 alone are refused.
+fn check_versions<R: Abort + AllocGlobal>(
     rt: &R,
     line: &str,
     kind: Kind,
     parents: &[ClockId],
 ) -> Result<(), Fail> {
-    let flags: &[(&str, u8)] = &[
-        ("", 0),
-        ("set-rate-gate", 1),
-        ("set-parent-gate", 2),
-        ("set-rate-parent", 4),
-        ("ignore-unused", 8),
-        ("no-reparent", 16),
-        ("critical", 32),
-        (
-            "critical no-reparent set-rate-parent ignore-unused set-rate-gate set-parent-gate",
-            63,
-        ),
-    ];
-    for (words, bits) in flags {
-        let flagged = format!(in rt.alloc(); "{line} {words}")?;
-        check_clock(
-            rt,
-            &flagged,
-            kind,
-            ClkFlags::from_bits_retain(*bits),
-            parents,
-        )?;
+    check_flags(rt, 1, &FLAGS, line, kind, parents)?;
+    check_flags(rt, 2, &FLAGS, line, kind, parents)?;
+    check_flags(rt, 2, &LATER_FLAGS, line, kind, parents)?;
+    for (words, _) in LATER_FLAGS {
+        let text = format!(in rt.alloc(); "fixed a 1\nfixed b 2\n\n{line} {words}\n")?;
+        check_refusal(rt, 1, &text, 4, Reason::BadFlag);
     }
     Ok(())
 }
 
 #[test]
 fn each_kind_without_flags_with_each_and_with_all(rt: HostRuntime) -> Result<(), Fail> {
-    check_flags(&rt, "fixed c 24000000", fixed(24000000), &[])?;
-    check_flags(&rt, "factor c a 3 4", FACTOR, &[A])?;
-    check_flags(&rt, "gate c b 3 7", GATE, &[B])?;
-    check_flags(&rt, "mux c 3 4 2 3 b a b", MUX, &[B, A, B])?;
-    check_flags(&rt, "divider c a 3 4 2", divider(false, false), &[A])?;
-    check_flags(&rt, "pll c b 3 4 9 5 31 100 400 24", PLL, &[B])
+    check_versions(&rt, "fixed c 24000000", fixed(24000000), &[])?;
+    check_versions(&rt, "factor c a 3 4", FACTOR, &[A])?;
+    check_versions(&rt, "gate c b 3 7", GATE, &[B])?;
+    check_versions(&rt, "mux c 3 4 2 3 b a b", MUX, &[B, A, B])?;
+    check_versions(&rt, "divider c a 3 4 2", divider(false, false), &[A])?;
+    check_versions(&rt, "pll c b 3 4 9 5 31 100 400 24", PLL, &[B])
+}
+
+#[test]
+fn a_flag_that_a_version_does_not_know_is_told_last_of_its_line(rt: HostRuntime) {
+    for (version, text, line, reason) in [
+        (1, "clock a 1 set-rate-ungate", 1, Reason::UnknownKind),
+        (1, "fixed set-rate-ungate", 1, Reason::BadWords),
+        (1, "fixed \u{e9} 1 set-rate-ungate", 1, Reason::BadName),
+        (
+            1,
+            "fixed a 1\nfixed a 1 set-rate-ungate",
+            2,
+            Reason::TwiceNamed,
+        ),
+        (1, "fixed a x set-rate-ungate", 1, Reason::BadNumber),
+        (1, "mux a 0 0 1 x ops-parent-enable", 1, Reason::BadNumber),
+        (
+            1,
+            "gate a none 0 0 set-rate-ungate\nfixed b x",
+            1,
+            Reason::BadFlag,
+        ),
+        (
+            1,
+            "gate a none 0 0\nfixed b 1 ops-parent-enable",
+            2,
+            Reason::BadFlag,
+        ),
+        (
+            2,
+            "gate a none 0 0 set-rate-ungate\nfixed b 1 ops-parent-enable",
+            1,
+            Reason::UnknownName,
+        ),
+        (
+            2,
+            "fixed a 1 set-rate-ungate set-rate-ungate",
+            1,
+            Reason::BadFlag,
+        ),
+        (2, "fixed a 1 ops-parent-enabled", 1, Reason::BadFlag),
+        (2, "fixed a 1 OPS-PARENT-ENABLE", 1, Reason::BadFlag),
+        (2, "fixed a 1 set-rate-ungate read-only", 1, Reason::BadFlag),
+    ] {
+        check_refusal(&rt, version, text, line, reason);
+    }
 }
 
 #[test]
@@ -177,15 +254,15 @@ fn sixty_four_parents_are_the_most(rt: HostRuntime) -> Result<(), Fail> {
     for _ in 0..63 {
         many.push_str(" b")?;
     }
-    check_refusal(&rt, &many, 2, Reason::BadWords);
+    check_refusal(&rt, 1, &many, 2, Reason::BadWords);
     many.push_str(" b")?;
-    let list = read(&rt, &many)?;
+    let list = read(&rt, 1, &many)?;
     assert!(rt; list.desc.len() == 2);
     for def in list.desc.as_slice().last() {
         assert!(rt; def.parents.as_slice().len() == 64);
     }
     many.push_str(" b")?;
-    check_refusal(&rt, &many, 2, Reason::BadFlag);
+    check_refusal(&rt, 1, &many, 2, Reason::BadFlag);
     Ok(())
 }
 
@@ -193,6 +270,7 @@ fn sixty_four_parents_are_the_most(rt: HostRuntime) -> Result<(), Fail> {
 fn a_parent_may_stand_on_a_later_line_or_be_the_clock_itself(rt: HostRuntime) -> Result<(), Fail> {
     let list = read(
         &rt,
+        1,
         "gate a c 0 0\nmux b 1 0 1 2 a c\nfixed c 5\ngate d d 0 0\n",
     )?;
     assert!(rt; list.desc.len() == 4);
@@ -208,20 +286,20 @@ fn a_parent_may_stand_on_a_later_line_or_be_the_clock_itself(rt: HostRuntime) ->
 fn names_are_1_to_64_seen_characters(rt: HostRuntime) -> Result<(), Fail> {
     let longest = "n23456789012345678901234567890123456789012345678901234567890123\u{7e}";
     let text = format!(in rt.alloc(); "fixed {longest} 1\ngate %# {longest} 0 0\n")?;
-    let list = read(&rt, &text)?;
+    let list = read(&rt, 1, &text)?;
     assert!(rt; list.desc.len() == 2);
     let text = format!(in rt.alloc(); "fixed {longest}5 1\n")?;
-    check_refusal(&rt, &text, 1, Reason::BadName);
+    check_refusal(&rt, 1, &text, 1, Reason::BadName);
     Ok(())
 }
 
 #[test]
 fn blanks_comments_and_empty_lines_are_passed_over(rt: HostRuntime) -> Result<(), Fail> {
     let text = "\t\n#\n\tfixed \t a  0x10 \r\n   # gate\n\n gate\tg a 0 1\tcritical\t";
-    let list = read(&rt, text)?;
+    let list = read(&rt, 1, text)?;
     assert!(rt; list.lines.as_slice() == [3, 6].as_slice());
     assert!(rt; list.desc.len() == 2);
-    let none = read(&rt, "# nothing\n\n")?;
+    let none = read(&rt, 1, "# nothing\n\n")?;
     assert!(rt; none.desc.is_empty());
     assert!(rt; none.lines.is_empty());
     Ok(())
@@ -233,17 +311,17 @@ fn lines_outside_of_the_section_are_not_read(rt: HostRuntime) -> Result<(), Fail
     let lines = TextLines::new(rt.alloc(), text.as_bytes())?;
     let len = lines.len();
     assert!(rt; len == 6);
-    let list = read_clocks(rt.alloc(), &lines, 2, 5)?;
+    let list = read_clocks(rt.alloc(), &lines, 2, 5, 1)?;
     assert!(rt; list.lines.as_slice() == [3, 5].as_slice());
     let header = BundleFault::Refused {
         line: 6,
         reason: Reason::UnknownKind,
     };
-    assert!(rt; read_clocks(rt.alloc(), &lines, 2, 6).is_err_and(|fault| fault == header));
+    assert!(rt; read_clocks(rt.alloc(), &lines, 2, 6, 1).is_err_and(|fault| fault == header));
     let unknown = BundleFault::Refused {
         line: 5,
         reason: Reason::UnknownName,
     };
-    assert!(rt; read_clocks(rt.alloc(), &lines, 3, 5).is_err_and(|fault| fault == unknown));
+    assert!(rt; read_clocks(rt.alloc(), &lines, 3, 5, 1).is_err_and(|fault| fault == unknown));
     Ok(())
 }

@@ -1,6 +1,8 @@
 //! The sections of a bundle, and which line is out of place.
 
-use bundle_sections::{BankSection, ClockSection, ClockText, Header, one_verdict, read_sections};
+use bundle_sections::{
+    BankSection, ClockSection, ClockText, Header, one_verdict, read_sections, version_of,
+};
 use bundle_text::{BundleFault, Reason, TextLines};
 use clk_io::line_feeds;
 use std::process::Abort;
@@ -110,6 +112,52 @@ fn lines_must_be_utf_8_before_all_else(rt: HostRuntime) -> Result<(), Fail> {
         check_refusal(&rt, text, line, Reason::NotUtf8)?;
     }
     Ok(())
+}
+
+#[test]
+fn the_first_line_states_version_1_or_2(rt: HostRuntime) -> Result<(), Fail> {
+    for (text, version) in [
+        (b"%bundle 1\n%clocks\n%regs 1\n".as_slice(), 1),
+        (b"%bundle 1\r\n%clocks\r\n%regs 1\r\n", 1),
+        (b"%bundle 2\n%clocks\n%regs 1\n", 2),
+        (b"%bundle 2\r\n%dts\r\n%regs 1\r\n", 2),
+        (b"%bundle 2\n# %bundle 1\n%dts\n%regs 1", 2),
+    ] {
+        let lines = TextLines::new(rt.alloc(), text)?;
+        assert!(rt; lines.len() < 1000);
+        let sections = read_sections(rt.alloc(), &lines, 9)?;
+        assert!(rt; sections.bank().words == 1);
+        assert!(rt; version_of(&lines) == version);
+    }
+    Ok(())
+}
+
+#[test]
+fn any_other_first_line_is_a_bad_version(rt: HostRuntime) -> Result<(), Fail> {
+    for text in [
+        b"".as_slice(),
+        b"\n%bundle 2\n%clocks\n%regs 1\n",
+        b"%bundle 3\n%clocks\n%regs 1\n",
+        b"%bundle 0\n%clocks\n%regs 1\n",
+        b"%bundle 21\n%clocks\n%regs 1\n",
+        b"%bundle 12\n%clocks\n%regs 1\n",
+        b"%bundle 2 \n%clocks\n%regs 1\n",
+        b"%bundle 2\t\n%clocks\n%regs 1\n",
+        b" %bundle 2\n%clocks\n%regs 1\n",
+        b"%bundle  2\n%clocks\n%regs 1\n",
+        b"%bundle\t2\n%clocks\n%regs 1\n",
+        b"%bundle 02\n%clocks\n%regs 1\n",
+        b"%bundle 0x2\n%clocks\n%regs 1\n",
+        b"%bundle 2 1\n%clocks\n%regs 1\n",
+        b"%bundle 2.0\n%clocks\n%regs 1\n",
+        b"%Bundle 2\n%clocks\n%regs 1\n",
+        b"%bundle\n%clocks\n%regs 1\n",
+        b"\xef\xbb\xbf%bundle 2\n%clocks\n%regs 1\n",
+    ] {
+        check_refusal(&rt, text, 1, Reason::BadVersion)?;
+    }
+    check_refusal(&rt, b"%bundle 2", 1, Reason::MissingSection)?;
+    check_refusal(&rt, b"%bundle 2\n%bundle 2\n", 2, Reason::UnknownSection)
 }
 
 // A bundle of so many drivers that states no order.

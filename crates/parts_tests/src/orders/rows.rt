@@ -3,12 +3,12 @@
 use super::{Row, Still};
 use clk_base::{ClockId, Micro, Notice, Policy};
 
-const STILL: Still = Still {
+pub(super) const STILL: Still = Still {
     clocks: 0,
     prepared: false,
 };
 
-const EMPTY: Row<'static> = Row {
+pub(super) const EMPTY: Row<'static> = Row {
     name: "",
     clocks: "",
     words: [0, 0, 0],
